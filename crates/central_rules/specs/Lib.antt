@@ -1,0 +1,6 @@
+pub mod InClass
+pub mod Readings
+pub mod Trying
+pub mod Knowledge
+pub mod Meaning
+pub mod WordRows

@@ -1,0 +1,24 @@
+//! The central rules: labels of nodes, the rule that an operation breaks, and what is decided over every
+//! reading of the positions.
+#![tactic(auto)]
+
+mod alike;
+mod judge;
+#[cfg(test)]
+mod judge_tests;
+mod labelling;
+mod plain;
+mod rules;
+mod supply;
+#[cfg(test)]
+mod tests;
+mod trying;
+mod verdict;
+
+pub use alike::alike_positions;
+pub use judge::{Judge, known_by_words};
+pub use labelling::labels;
+pub use plain::{PLAIN_SWITCHES, PlainJudge, fits_plain};
+pub use rules::breaks;
+pub use trying::trial;
+pub use verdict::Verdict;

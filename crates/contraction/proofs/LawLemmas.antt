@@ -1,0 +1,241 @@
+-- A composition and a restriction respect each view.
+use Rattle.std.proofs.Common.{◌≡◌, ℕ, ◌<◌, ◌⊎◌, ◌↔◌, zero, suc, Bool, List, [], ◌∷◌, slice_index, refl, sym, subst, inl, inr, arith}
+use Rattle.std.proofs.lemmas.Bool.{cases_eq, cases_lt}
+use Rattle.std.proofs.lemmas.Option.{slice_get_within, get_or_from_slice_get}
+use Rattle.station_graph.specs.Diagram.{Diagram}
+use Rattle.station_graph.specs.Connection.{Item, Linked}
+use Rattle.station_graph.specs.Nodes.{Rises}
+use Rattle.station_graph.specs.Views.{Supply, fed, CoupledBy, JoinedBy, BondedBy, EnergisableBy, EarthableBy, FedBy, TappedBy}
+use Rattle.station_graph.proofs.LinkedLemmas.{linked_weaker}
+use Rattle.contraction.specs.Answers.{Answers, IsAt, Keeps, SameAt, MarkedAt, SaysCoupled, SaysJoined, SaysBonded, SaysEnergisable, SaysEarthable, SaysFed, SaysLoaded, SaysSupply, IsContraction, SameGap, SameLoad}
+use Rattle.contraction.specs.Stands.{GapStandsFor, LoadStandsFor}
+use Rattle.contraction.specs.Composing.{SameInEither, LabelsCompose, MarksCompose, Composes, Restricts}
+use Rattle.contraction.proofs.ComposeLemmas.{keeps_first, keeps_second, keeps_marked}
+use Rattle.contraction.proofs.KeepLemmas.{via}
+use Rattle.contraction.proofs.ViewLemmas.{back, supplies_say, loaded_same}
+
+rises_tail : (x : ℕ) (xs : List ℕ) → Rises (x ∷ xs) → Rises xs
+rises_tail x xs r j k less k_in = r (suc j) (suc k) (omega arith) (omega arith)
+
+keeps_here : (x : ℕ) (xs : List ℕ) → Keeps (x ∷ xs) x
+keeps_here x xs = record { place = 0; at = refl }
+
+keeps_more : (x : ℕ) (xs : List ℕ) (n : ℕ) → Keeps xs n → Keeps (x ∷ xs) n
+keeps_more x xs n k = record { place = suc k.place; at = k.at }
+
+at_cases : (x : ℕ) (xs : List ℕ) (n p : ℕ) → IsAt (x ∷ xs) p n → (n ≡ x) ⊎ Keeps xs n
+at_cases x xs n zero e = inl (cc)
+at_cases x xs n (suc p) e = inr (record { place = p; at = e })
+
+keeps_cases : (x : ℕ) (xs : List ℕ) (n : ℕ) → Keeps (x ∷ xs) n → (n ≡ x) ⊎ Keeps xs n
+keeps_cases x xs n k = at_cases x xs n k.place k.at
+
+-- the head of a rising list is less than the others
+above_head : (x : ℕ) (xs : List ℕ) (n : ℕ) → Rises (x ∷ xs) → Keeps xs n → x < n
+above_head x xs n r k =
+    let k_in = slice_get_within xs k.place n k.at in
+    let up : slice_index (x ∷ xs) 0 < slice_index (x ∷ xs) (suc k.place) = r 0 (suc k.place) (omega arith) (omega arith) in
+    omega (arith, up, get_or_from_slice_get xs k.place n 0 k.at)
+
+none_kept : (n : ℕ) → Keeps [] n → ⊥
+none_kept n k = let e : IsAt [] k.place n = k.at in cc
+
+-- in two rising lists with the same heads and entries the tails have the same entries
+tail_keeps : (x : ℕ) (xs ys : List ℕ) → Rises (x ∷ xs) → ((n : ℕ) → Keeps (x ∷ xs) n → Keeps (x ∷ ys) n) → (n : ℕ) → Keeps xs n → Keeps ys n
+tail_keeps x xs ys r into n k = elim (keeps_cases x ys n (into n (keeps_more x xs n k))) [
+  | inl e ↦ absurd (omega (arith, above_head x xs n r k, e))
+  | inr there ↦ there
+]
+
+head_most : (x y : ℕ) (xs ys : List ℕ) → Rises (y ∷ ys) → Keeps (y ∷ ys) x → (x < y) → ⊥
+head_most x y xs ys r k less = elim (keeps_cases y ys x k) [
+  | inl e ↦ omega (arith, e)
+  | inr there ↦ omega (arith, above_head y ys x r there)
+]
+
+-- rising lists with the same entries are equal
+rising_equal : (xs ys : List ℕ) → Rises xs → Rises ys → ((n : ℕ) → Keeps xs n ↔ Keeps ys n) → xs ≡ ys
+rising_equal [] [] r s h = refl
+rising_equal [] (y ∷ ys) r s h = absurd (none_kept y ((h y).1 (keeps_here y ys)))
+rising_equal (x ∷ xs) [] r s h = absurd (none_kept x ((h x).0 (keeps_here x xs)))
+rising_equal (x ∷ xs) (y ∷ ys) r s h =
+    let same : x ≡ y = elim (cases_lt x y) [
+      | inl less ↦ absurd (head_most x y xs ys s ((h x).0 (keeps_here x xs)) less)
+      | inr more ↦ elim (cases_eq x y) [
+        | inl e ↦ e
+        | inr ne ↦ absurd (head_most y x ys xs r ((h y).1 (keeps_here y ys)) (omega arith))
+      ]
+    ] in
+    let h1 : (n : ℕ) → Keeps (x ∷ xs) n ↔ Keeps (x ∷ ys) n = subst (λ z. (n : ℕ) → Keeps (x ∷ xs) n ↔ Keeps (z ∷ ys) n) (sym same) h in
+    let s1 : Rises (x ∷ ys) = subst (λ z. Rises (z ∷ ys)) (sym same) s in
+    let rest : xs ≡ ys = rising_equal xs ys (rises_tail x xs r) (rises_tail y ys s) (λ n. (
+      tail_keeps x xs ys r (λ m. (h1 m).0) n,
+      tail_keeps x ys xs s1 (λ m. (h1 m).1) n,
+    )) in
+    cc (same, rest)
+
+keeps_on : (k1 k2 : List ℕ) → k1 ≡ k2 → (n : ℕ) → Keeps k1 n ↔ Keeps k2 n
+keeps_on k1 k2 e n = (λ k. subst (λ l. Keeps l n) e k, λ k. subst (λ l. Keeps l n) (sym e) k)
+
+-- compositions of values that keep the same keep the same
+kept_same : (x1 y1 c1 x2 y2 c2 : Answers) → IsContraction c1 → IsContraction c2 → Composes x1 y1 c1 → Composes x2 y2 c2 → x1.kept ≡ x2.kept → y1.kept ≡ y2.kept → c1.kept ≡ c2.kept
+kept_same x1 y1 c1 x2 y2 c2 w1 w2 m1 m2 ex ey = rising_equal c1.kept c2.kept w1.nodes.rises w2.nodes.rises (λ n. (
+  λ k. (m2.kept n).1 (elim ((m1.kept n).0 k) [ inl a ↦ inl ((keeps_on x1.kept x2.kept ex n).0 a) | inr a ↦ inr ((keeps_on y1.kept y2.kept ey n).0 a) ]),
+  λ k. (m1.kept n).1 (elim ((m2.kept n).0 k) [ inl a ↦ inl ((keeps_on x1.kept x2.kept ex n).1 a) | inr a ↦ inr ((keeps_on y1.kept y2.kept ey n).1 a) ]),
+))
+
+-- Labels and marks of one composition go over to the other, where those of its parts do.
+module _ (xk1 xl1 yk1 yl1 ck1 cl1 xk2 xl2 yk2 yl2 ck2 cl2 : List ℕ) (m1 : LabelsCompose xk1 xl1 yk1 yl1 ck1 cl1) (m2 : LabelsCompose xk2 xl2 yk2 yl2 ck2 cl2) (sx : (a b : ℕ) → SameAt xk1 xl1 a b → SameAt xk2 xl2 a b) (sy : (a b : ℕ) → SameAt yk1 yl1 a b → SameAt yk2 yl2 a b) where
+  linked_follow : (a b : ℕ) → Linked (SameInEither xk1 xl1 yk1 yl1) a b → Linked (SameInEither xk2 xl2 yk2 yl2) a b
+  linked_follow = linked_weaker (SameInEither xk1 xl1 yk1 yl1) (SameInEither xk2 xl2 yk2 yl2) (λ a b h. elim h [ inl s ↦ inl (sx a b s) | inr s ↦ inr (sy a b s) ])
+
+  labels_follow : (a b : ℕ) → Keeps ck1 a → Keeps ck1 b → Keeps ck2 a → Keeps ck2 b → SameAt ck1 cl1 a b → SameAt ck2 cl2 a b
+  labels_follow a b ka kb la lb s = (m2 a b la lb).1 (linked_follow a b ((m1 a b ka kb).0 s))
+
+  marks_follow : (xm1 ym1 cm1 xm2 ym2 cm2 : List Bool) → MarksCompose xk1 xl1 xm1 yk1 yl1 ym1 ck1 cm1 → MarksCompose xk2 xl2 xm2 yk2 yl2 ym2 ck2 cm2 → ((a : ℕ) → MarkedAt xk1 xm1 a → MarkedAt xk2 xm2 a) → ((a : ℕ) → MarkedAt yk1 ym1 a → MarkedAt yk2 ym2 a) → (a : ℕ) → Keeps ck1 a → Keeps ck2 a → MarkedAt ck1 cm1 a → MarkedAt ck2 cm2 a
+  marks_follow xm1 ym1 cm1 xm2 ym2 cm2 n1 n2 mx my a ka la s =
+      let r = (n1 a ka).0 s in
+      (n2 a la).1 (r.0, linked_follow a r.0 r.1, elim r.2 [ inl m ↦ inl (mx r.0 m) | inr m ↦ inr (my r.0 m) ])
+
+-- what is said of kept nodes is said of all
+same_all : (k1 l1 k2 l2 : List ℕ) → ((a b : ℕ) → Keeps k1 a → Keeps k1 b → SameAt k1 l1 a b → SameAt k2 l2 a b) → (a b : ℕ) → SameAt k1 l1 a b → SameAt k2 l2 a b
+same_all k1 l1 k2 l2 h a b s = h a b (keeps_first k1 l1 a b s) (keeps_second k1 l1 a b s) s
+
+marked_all : (k1 : List ℕ) (m1 : List Bool) (k2 : List ℕ) (m2 : List Bool) → ((a : ℕ) → Keeps k1 a → MarkedAt k1 m1 a → MarkedAt k2 m2 a) → (a : ℕ) → MarkedAt k1 m1 a → MarkedAt k2 m2 a
+marked_all k1 m1 k2 m2 h a s = h a (keeps_marked k1 m1 a s) s
+
+gap_back : (x y : Answers) → SameGap x y → SameGap y x
+gap_back x y h = record {
+  kept = sym h.kept;
+  coupled = λ a b ka kb. back (SaysCoupled x a b) (SaysCoupled y a b) (h.coupled a b ((keeps_on x.kept y.kept h.kept a).1 ka) ((keeps_on x.kept y.kept h.kept b).1 kb));
+  energisable = λ a ka. back (SaysEnergisable x a) (SaysEnergisable y a) (h.energisable a ((keeps_on x.kept y.kept h.kept a).1 ka));
+  earthable = λ a ka. back (SaysEarthable x a) (SaysEarthable y a) (h.earthable a ((keeps_on x.kept y.kept h.kept a).1 ka));
+}
+
+load_back : (x y : Answers) → SameLoad x y → SameLoad y x
+load_back x y h = record {
+  kept = sym h.kept;
+  joined = λ a b ka kb. back (SaysJoined x a b) (SaysJoined y a b) (h.joined a b ((keeps_on x.kept y.kept h.kept a).1 ka) ((keeps_on x.kept y.kept h.kept b).1 kb));
+  bonded = λ a b ka kb. back (SaysBonded x a b) (SaysBonded y a b) (h.bonded a b ((keeps_on x.kept y.kept h.kept a).1 ka) ((keeps_on x.kept y.kept h.kept b).1 kb));
+  supply = λ a ka s. back (SaysSupply x a s) (SaysSupply y a s) (h.supply a ((keeps_on x.kept y.kept h.kept a).1 ka) s);
+}
+
+-- one way, for each answer of the gap view
+record GapFollows (x y : Answers) : Type 0 where
+  coupled : (a b : ℕ) → Keeps x.kept a → Keeps x.kept b → SaysCoupled x a b → SaysCoupled y a b
+  energisable : (a : ℕ) → Keeps x.kept a → SaysEnergisable x a → SaysEnergisable y a
+  earthable : (a : ℕ) → Keeps x.kept a → SaysEarthable x a → SaysEarthable y a
+
+gap_follows : (x1 y1 c1 x2 y2 c2 : Answers) → Composes x1 y1 c1 → Composes x2 y2 c2 → SameGap x1 x2 → SameGap y1 y2 → c1.kept ≡ c2.kept → GapFollows c1 c2
+gap_follows x1 y1 c1 x2 y2 c2 m1 m2 gx gy kept =
+    let on : (n : ℕ) → Keeps c1.kept n → Keeps c2.kept n = λ n. (keeps_on c1.kept c2.kept kept n).0 in
+    let sx : (a b : ℕ) → SaysCoupled x1 a b → SaysCoupled x2 a b = same_all x1.kept x1.coupled x2.kept x2.coupled (λ a b ka kb. (gx.coupled a b ka kb).0) in
+    let sy : (a b : ℕ) → SaysCoupled y1 a b → SaysCoupled y2 a b = same_all y1.kept y1.coupled y2.kept y2.coupled (λ a b ka kb. (gy.coupled a b ka kb).0) in
+    record {
+      coupled = λ a b ka kb. labels_follow x1.kept x1.coupled y1.kept y1.coupled c1.kept c1.coupled x2.kept x2.coupled y2.kept y2.coupled c2.kept c2.coupled m1.coupled m2.coupled sx sy a b ka kb (on a ka) (on b kb);
+      energisable = λ a ka. marks_follow x1.kept x1.coupled y1.kept y1.coupled c1.kept c1.coupled x2.kept x2.coupled y2.kept y2.coupled c2.kept c2.coupled m1.coupled m2.coupled sx sy
+          x1.energisable y1.energisable c1.energisable x2.energisable y2.energisable c2.energisable m1.energisable m2.energisable
+          (marked_all x1.kept x1.energisable x2.kept x2.energisable (λ n k. (gx.energisable n k).0)) (marked_all y1.kept y1.energisable y2.kept y2.energisable (λ n k. (gy.energisable n k).0)) a ka (on a ka);
+      earthable = λ a ka. marks_follow x1.kept x1.coupled y1.kept y1.coupled c1.kept c1.coupled x2.kept x2.coupled y2.kept y2.coupled c2.kept c2.coupled m1.coupled m2.coupled sx sy
+          x1.earthable y1.earthable c1.earthable x2.earthable y2.earthable c2.earthable m1.earthable m2.earthable
+          (marked_all x1.kept x1.earthable x2.kept x2.earthable (λ n k. (gx.earthable n k).0)) (marked_all y1.kept y1.earthable y2.kept y2.earthable (λ n k. (gy.earthable n k).0)) a ka (on a ka);
+    }
+
+-- A COMPOSITION RESPECTS THE GAP VIEWS
+pub composition_gap : (x1 y1 c1 x2 y2 c2 : Answers) → IsContraction c1 → IsContraction c2 → Composes x1 y1 c1 → Composes x2 y2 c2 → SameGap x1 x2 → SameGap y1 y2 → SameGap c1 c2
+composition_gap x1 y1 c1 x2 y2 c2 w1 w2 m1 m2 gx gy =
+    let kept : c1.kept ≡ c2.kept = kept_same x1 y1 c1 x2 y2 c2 w1 w2 m1 m2 gx.kept gy.kept in
+    let on : (n : ℕ) → Keeps c1.kept n → Keeps c2.kept n = λ n. (keeps_on c1.kept c2.kept kept n).0 in
+    let there : GapFollows c1 c2 = gap_follows x1 y1 c1 x2 y2 c2 m1 m2 gx gy kept in
+    let again : GapFollows c2 c1 = gap_follows x2 y2 c2 x1 y1 c1 m2 m1 (gap_back x1 x2 gx) (gap_back y1 y2 gy) (sym kept) in
+    record {
+      kept = kept;
+      coupled = λ a b ka kb. (there.coupled a b ka kb, again.coupled a b (on a ka) (on b kb));
+      energisable = λ a ka. (there.energisable a ka, again.energisable a (on a ka));
+      earthable = λ a ka. (there.earthable a ka, again.earthable a (on a ka));
+    }
+
+record LoadFollows (x y : Answers) : Type 0 where
+  joined : (a b : ℕ) → Keeps x.kept a → Keeps x.kept b → SaysJoined x a b → SaysJoined y a b
+  bonded : (a b : ℕ) → Keeps x.kept a → Keeps x.kept b → SaysBonded x a b → SaysBonded y a b
+  fed_too : (a : ℕ) → Keeps x.kept a → SaysFed x a → SaysFed y a
+  loaded_too : (a : ℕ) → Keeps x.kept a → SaysLoaded x a → SaysLoaded y a
+
+load_follows : (x1 y1 c1 x2 y2 c2 : Answers) → IsContraction x1 → IsContraction y1 → IsContraction x2 → IsContraction y2 → Composes x1 y1 c1 → Composes x2 y2 c2 → SameLoad x1 x2 → SameLoad y1 y2 → c1.kept ≡ c2.kept → LoadFollows c1 c2
+load_follows x1 y1 c1 x2 y2 c2 wx1 wy1 wx2 wy2 m1 m2 gx gy kept =
+    let on : (n : ℕ) → Keeps c1.kept n → Keeps c2.kept n = λ n. (keeps_on c1.kept c2.kept kept n).0 in
+    let sx : (a b : ℕ) → SaysJoined x1 a b → SaysJoined x2 a b = same_all x1.kept x1.joined x2.kept x2.joined (λ a b ka kb. (gx.joined a b ka kb).0) in
+    let sy : (a b : ℕ) → SaysJoined y1 a b → SaysJoined y2 a b = same_all y1.kept y1.joined y2.kept y2.joined (λ a b ka kb. (gy.joined a b ka kb).0) in
+    let bx : (a b : ℕ) → SaysBonded x1 a b → SaysBonded x2 a b = same_all x1.kept x1.bonded x2.kept x2.bonded (λ a b ka kb. (gx.bonded a b ka kb).0) in
+    let by_y : (a b : ℕ) → SaysBonded y1 a b → SaysBonded y2 a b = same_all y1.kept y1.bonded y2.kept y2.bonded (λ a b ka kb. (gy.bonded a b ka kb).0) in
+    record {
+      joined = λ a b ka kb. labels_follow x1.kept x1.joined y1.kept y1.joined c1.kept c1.joined x2.kept x2.joined y2.kept y2.joined c2.kept c2.joined m1.joined m2.joined sx sy a b ka kb (on a ka) (on b kb);
+      bonded = λ a b ka kb. labels_follow x1.kept x1.bonded y1.kept y1.bonded c1.kept c1.bonded x2.kept x2.bonded y2.kept y2.bonded c2.kept c2.bonded m1.bonded m2.bonded bx by_y a b ka kb (on a ka) (on b kb);
+      fed_too = λ a ka. marks_follow x1.kept x1.joined y1.kept y1.joined c1.kept c1.joined x2.kept x2.joined y2.kept y2.joined c2.kept c2.joined m1.joined m2.joined sx sy
+          x1.fed y1.fed c1.fed x2.fed y2.fed c2.fed m1.fed m2.fed
+          (marked_all x1.kept x1.fed x2.kept x2.fed (λ n k. (gx.supply n k fed).0)) (marked_all y1.kept y1.fed y2.kept y2.fed (λ n k. (gy.supply n k fed).0)) a ka (on a ka);
+      loaded_too = λ a ka. marks_follow x1.kept x1.joined y1.kept y1.joined c1.kept c1.joined x2.kept x2.joined y2.kept y2.joined c2.kept c2.joined m1.joined m2.joined sx sy
+          x1.loaded y1.loaded c1.loaded x2.loaded y2.loaded c2.loaded m1.loaded m2.loaded
+          (marked_all x1.kept x1.loaded x2.kept x2.loaded (λ n k. (loaded_same x1 x2 wx1 wx2 gx n k).0)) (marked_all y1.kept y1.loaded y2.kept y2.loaded (λ n k. (loaded_same y1 y2 wy1 wy2 gy n k).0)) a ka (on a ka);
+    }
+
+-- A COMPOSITION RESPECTS THE LOAD VIEWS
+pub composition_load : (x1 y1 c1 x2 y2 c2 : Answers) → IsContraction x1 → IsContraction y1 → IsContraction c1 → IsContraction x2 → IsContraction y2 → IsContraction c2 → Composes x1 y1 c1 → Composes x2 y2 c2 → SameLoad x1 x2 → SameLoad y1 y2 → SameLoad c1 c2
+composition_load x1 y1 c1 x2 y2 c2 wx1 wy1 w1 wx2 wy2 w2 m1 m2 gx gy =
+    let kept : c1.kept ≡ c2.kept = kept_same x1 y1 c1 x2 y2 c2 w1 w2 m1 m2 gx.kept gy.kept in
+    let on : (n : ℕ) → Keeps c1.kept n → Keeps c2.kept n = λ n. (keeps_on c1.kept c2.kept kept n).0 in
+    let there : LoadFollows c1 c2 = load_follows x1 y1 c1 x2 y2 c2 wx1 wy1 wx2 wy2 m1 m2 gx gy kept in
+    let again : LoadFollows c2 c1 = load_follows x2 y2 c2 x1 y1 c1 wx2 wy2 wx1 wy1 m2 m1 (load_back x1 x2 gx) (load_back y1 y2 gy) (sym kept) in
+    record {
+      kept = kept;
+      joined = λ a b ka kb. (there.joined a b ka kb, again.joined a b (on a ka) (on b kb));
+      bonded = λ a b ka kb. (there.bonded a b ka kb, again.bonded a b (on a ka) (on b kb));
+      supply = λ a ka s. supplies_say c1 c2 a a (there.fed_too a ka, again.fed_too a (on a ka)) (there.loaded_too a ka, again.loaded_too a (on a ka)) s;
+    }
+
+-- A RESTRICTION RESPECTS EACH VIEW
+module _ (c1 r1 c2 r2 : Answers) (kept : r1.kept ≡ r2.kept) (h1 : Restricts c1 r1) (h2 : Restricts c2 r2) where
+  on : (n : ℕ) → Keeps r1.kept n → Keeps r2.kept n
+  on n = (keeps_on r1.kept r2.kept kept n).0
+
+  pub restriction_gap : SameGap c1 c2 → SameGap r1 r2
+  restriction_gap g = record {
+    kept = kept;
+    coupled = λ a b ka kb. via (SaysCoupled r1 a b) (SaysCoupled c1 a b) (SaysCoupled r2 a b) (h1.coupled a b ka kb) (via (SaysCoupled c1 a b) (SaysCoupled c2 a b) (SaysCoupled r2 a b) (g.coupled a b (h1.kept a ka) (h1.kept b kb)) (back (SaysCoupled r2 a b) (SaysCoupled c2 a b) (h2.coupled a b (on a ka) (on b kb))));
+    energisable = λ a ka. via (SaysEnergisable r1 a) (SaysEnergisable c1 a) (SaysEnergisable r2 a) (h1.energisable a ka) (via (SaysEnergisable c1 a) (SaysEnergisable c2 a) (SaysEnergisable r2 a) (g.energisable a (h1.kept a ka)) (back (SaysEnergisable r2 a) (SaysEnergisable c2 a) (h2.energisable a (on a ka))));
+    earthable = λ a ka. via (SaysEarthable r1 a) (SaysEarthable c1 a) (SaysEarthable r2 a) (h1.earthable a ka) (via (SaysEarthable c1 a) (SaysEarthable c2 a) (SaysEarthable r2 a) (g.earthable a (h1.kept a ka)) (back (SaysEarthable r2 a) (SaysEarthable c2 a) (h2.earthable a (on a ka))));
+  }
+
+  supplied1 : (a : ℕ) → Keeps r1.kept a → (s : Supply) → SaysSupply r1 a s ↔ SaysSupply c1 a s
+  supplied1 a k = supplies_say r1 c1 a a (h1.fed a k) (h1.loaded a k)
+
+  supplied2 : (a : ℕ) → Keeps r2.kept a → (s : Supply) → SaysSupply r2 a s ↔ SaysSupply c2 a s
+  supplied2 a k = supplies_say r2 c2 a a (h2.fed a k) (h2.loaded a k)
+
+  pub restriction_load : SameLoad c1 c2 → SameLoad r1 r2
+  restriction_load g = record {
+    kept = kept;
+    joined = λ a b ka kb. via (SaysJoined r1 a b) (SaysJoined c1 a b) (SaysJoined r2 a b) (h1.joined a b ka kb) (via (SaysJoined c1 a b) (SaysJoined c2 a b) (SaysJoined r2 a b) (g.joined a b (h1.kept a ka) (h1.kept b kb)) (back (SaysJoined r2 a b) (SaysJoined c2 a b) (h2.joined a b (on a ka) (on b kb))));
+    bonded = λ a b ka kb. via (SaysBonded r1 a b) (SaysBonded c1 a b) (SaysBonded r2 a b) (h1.bonded a b ka kb) (via (SaysBonded c1 a b) (SaysBonded c2 a b) (SaysBonded r2 a b) (g.bonded a b (h1.kept a ka) (h1.kept b kb)) (back (SaysBonded r2 a b) (SaysBonded c2 a b) (h2.bonded a b (on a ka) (on b kb))));
+    supply = λ a ka s. via (SaysSupply r1 a s) (SaysSupply c1 a s) (SaysSupply r2 a s) (supplied1 a ka s) (via (SaysSupply c1 a s) (SaysSupply c2 a s) (SaysSupply r2 a s) (g.supply a (h1.kept a ka) s) (back (SaysSupply r2 a s) (SaysSupply c2 a s) (supplied2 a (on a ka) s)));
+  }
+
+-- WHAT A VALUE STANDS FOR EACH WITH THE SAME VIEW STANDS FOR
+pub gap_stands : (These : Item → Type 0) (d : Diagram) (v : List Bool) (x y : Answers) → SameGap x y → GapStandsFor These d v x → GapStandsFor These d v y
+gap_stands These d v x y g s =
+    let on : (n : ℕ) → Keeps y.kept n → Keeps x.kept n = λ n. (keeps_on x.kept y.kept g.kept n).1 in
+    record {
+      coupled = λ a b ka kb. via (SaysCoupled y a b) (SaysCoupled x a b) (CoupledBy These d v a b) (back (SaysCoupled x a b) (SaysCoupled y a b) (g.coupled a b (on a ka) (on b kb))) (s.coupled a b (on a ka) (on b kb));
+      energisable = λ a ka. via (SaysEnergisable y a) (SaysEnergisable x a) (EnergisableBy These d v a) (back (SaysEnergisable x a) (SaysEnergisable y a) (g.energisable a (on a ka))) (s.energisable a (on a ka));
+      earthable = λ a ka. via (SaysEarthable y a) (SaysEarthable x a) (EarthableBy These d v a) (back (SaysEarthable x a) (SaysEarthable y a) (g.earthable a (on a ka))) (s.earthable a (on a ka));
+    }
+
+pub load_stands : (These : Item → Type 0) (d : Diagram) (v : List Bool) (x y : Answers) → IsContraction x → IsContraction y → SameLoad x y → LoadStandsFor These d v x → LoadStandsFor These d v y
+load_stands These d v x y wx wy g s =
+    let on : (n : ℕ) → Keeps y.kept n → Keeps x.kept n = λ n. (keeps_on x.kept y.kept g.kept n).1 in
+    record {
+      joined = λ a b ka kb. via (SaysJoined y a b) (SaysJoined x a b) (JoinedBy These d v a b) (back (SaysJoined x a b) (SaysJoined y a b) (g.joined a b (on a ka) (on b kb))) (s.joined a b (on a ka) (on b kb));
+      bonded = λ a b ka kb. via (SaysBonded y a b) (SaysBonded x a b) (BondedBy These d v a b) (back (SaysBonded x a b) (SaysBonded y a b) (g.bonded a b (on a ka) (on b kb))) (s.bonded a b (on a ka) (on b kb));
+      fed = λ a ka. via (SaysFed y a) (SaysFed x a) (FedBy These d v a) (back (SaysFed x a) (SaysFed y a) (g.supply a (on a ka) fed)) (s.fed a (on a ka));
+      loaded = λ a ka. via (SaysLoaded y a) (SaysLoaded x a) (FedBy These d v a ⊎ TappedBy These d v a) (back (SaysLoaded x a) (SaysLoaded y a) (loaded_same x y wx wy g a (on a ka))) (s.loaded a (on a ka));
+    }

@@ -1,0 +1,9 @@
+pub mod Answers
+pub mod Stands
+pub mod Composing
+pub mod Merging
+pub mod Single
+pub mod Restricting
+pub mod Ends
+pub mod Rows
+pub mod Inside

@@ -1,0 +1,36 @@
+-- Rows of fewer places.
+use Rattle.std.specs.Prelude.{◌≡◌, ◌≢◌, ℕ, ◌<◌, ◌≤◌, ◌↔◌, List, length, slice_get, slice_index, Contains}
+use Rattle.contraction.specs.declared.row.Row.{Row}
+use Rattle.station_graph.specs.Nodes.{Rises}
+use Rattle.contraction.specs.Answers.{AreLabels}
+
+-- Two entries of the row are equal exactly where those of the other row at their places are.
+pub record LabelsRestrict (labels places row : List ℕ) : Type 0 where
+  pub are_labels : AreLabels (length places) row
+  pub same : (i j : ℕ) → i < length places → j < length places → (slice_index row i ≡ slice_index row j) ↔ (slice_index labels (slice_index places i) ≡ slice_index labels (slice_index places j))
+
+-- Entry k of the row is that of the other row at the place k.
+pub record Picks {X : Type 0} (all : List X) (places : List ℕ) (row : List X) : Type 0 where
+  pub len : length row ≡ length places
+  pub told : (k : ℕ) → k < length places → slice_get row k ≡ slice_get all (slice_index places k)
+
+pub record RowRestricts (all : Row) (places : List ℕ) (row : Row) : Type 0 where
+  pub labels : LabelsRestrict all.labels places row.labels
+  pub first : Picks all.first.items places row.first.items
+  pub second : Picks all.second.items places row.second.items
+
+-- The places below i of the list at which one of these nodes stands, rising.
+pub record PlacesBelow (nodes kept : List ℕ) (i : ℕ) (places : List ℕ) : Type 0 where
+  pub below : (k : ℕ) → k < length places → slice_index places k < i
+  pub rises : Rises places
+  pub named : (k : ℕ) → k < length places → Contains nodes (slice_index kept (slice_index places k))
+  pub found : (p : ℕ) → p < i → Contains nodes (slice_index kept p) → (k : ℕ) × (k < length places) × (slice_index places k ≡ p)
+
+abbrev pub PlacesOf : List ℕ → List ℕ → List ℕ → Type 0
+PlacesOf nodes kept places = PlacesBelow nodes kept (length kept) places
+
+-- The first place with the label of place j.
+pub record FirstAt (labels places : List ℕ) (j first : ℕ) : Type 0 where
+  pub most : first ≤ j
+  pub label : slice_index labels (slice_index places first) ≡ slice_index labels (slice_index places j)
+  pub least : (k : ℕ) → k < first → slice_index labels (slice_index places k) ≢ slice_index labels (slice_index places j)

@@ -1,0 +1,34 @@
+-- The rows of a contraction, as bytes.
+use Rattle.std.specs.Prelude.{ℕ, ◌/◌, ◌%◌, Bool, List, [], ◌∷◌, ◌++◌, true, false}
+use Rattle.contraction.specs.Answers.{Answers}
+
+-- Two bytes for each number, the higher one first.
+abbrev pub words : List ℕ → List ℕ
+words [] = []
+words (x ∷ xs) = (x / 256) ∷ (x % 256) ∷ words xs
+
+abbrev pub flag : Bool → ℕ
+flag true = 1
+flag false = 0
+
+-- One byte for each bit.
+abbrev pub flags : List Bool → List ℕ
+flags [] = []
+flags (b ∷ bs) = flag b ∷ flags bs
+
+-- The bytes of the gap view, and of the load view.
+abbrev pub gap_bytes : Answers → List ℕ
+gap_bytes c = words c.coupled ++ flags c.energisable ++ flags c.earthable
+
+abbrev pub load_bytes : Answers → List ℕ
+load_bytes c = words c.joined ++ words c.bonded ++ flags c.fed ++ flags c.loaded
+
+-- The rows: the kept nodes, and one view or both.
+abbrev pub gap_row : Answers → List ℕ
+gap_row c = words c.kept ++ gap_bytes c
+
+abbrev pub load_row : Answers → List ℕ
+load_row c = words c.kept ++ load_bytes c
+
+abbrev pub whole_row : Answers → List ℕ
+whole_row c = words c.kept ++ gap_bytes c ++ load_bytes c

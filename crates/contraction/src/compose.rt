@@ -1,0 +1,78 @@
+//! The contraction of two lists of items together, and that on fewer nodes.
+ghost use Rattle.std.specs.Prelude.{◌↔◌, ◌++◌, ℕ, Bool, List, IfOk, Contains};
+ghost use Rattle.station_graph.specs.Diagram.{Diagram};
+ghost use Rattle.station_graph.specs.Connection.{Item};
+ghost use Rattle.contraction.specs.Answers.{Keeps};
+ghost use Rattle.contraction.specs.Stands.{Among, MeetsKept, GapStandsFor, LoadStandsFor};
+ghost use Rattle.contraction.specs.Composing.{Composes, Restricts};
+
+use crate::labels::{labels_at, labels_of_both};
+use crate::merge::merge;
+use crate::places::{picked, places_of};
+use crate::row::Row;
+use crate::value::Contraction;
+use ilk_base::Memory;
+use station_graph::NodeList;
+use std::alloc::Global;
+
+impl Contraction {
+    /// The contraction of the items of both together, on the nodes that either keeps.
+    ///
+    /// It stands for both lists of items where each value keeps every node that its own items touch
+    /// and that the other's items touch or the other value keeps. Else a path of the items together
+    /// may lead through a common node that neither keeps, and this value says nothing of it. Each view
+    /// follows from that view of the two alone.
+    ///
+    /// Time: the kept nodes, times the classes of more than one of them. Memory: the kept nodes.
+    pub fn compose(&self, alloc: Global, other: &Contraction) -> Result<Contraction, Memory>
+        ensures composes { IfOk result (Composes self.now other.now) }
+        ensures gap { IfOk result (λ c. (items others : List Item) (d : Diagram) (v : List Bool)
+            → MeetsKept (Among items) (Among others) d self.now.kept other.now.kept
+            → GapStandsFor (Among items) d v self.now
+            → GapStandsFor (Among others) d v other.now
+            → GapStandsFor (Among (items ++ others)) d v c) }
+        ensures load { IfOk result (λ c. (items others : List Item) (d : Diagram) (v : List Bool)
+            → MeetsKept (Among items) (Among others) d self.now.kept other.now.kept
+            → LoadStandsFor (Among items) d v self.now
+            → LoadStandsFor (Among others) d v other.now
+            → LoadStandsFor (Among (items ++ others)) d v c) }
+    {
+        let union = merge(alloc, &self.kept, &other.kept)?;
+        let gap = Row::of_both(alloc, &union, &self.gap, &other.gap)?;
+        let load = Row::of_both(alloc, &union, &self.load, &other.load)?;
+        let bonded = labels_of_both(
+            alloc,
+            union.kept.len() as u16,
+            &union.first,
+            self.bonded.numbers(),
+            &union.second,
+            other.bonded.numbers(),
+        )?;
+        Ok(Contraction {
+            kept: union.kept,
+            gap,
+            load,
+            bonded,
+        })
+    }
+
+    /// The contraction of the same items on these of its kept nodes, which may be named in any order.
+    /// Time: the kept nodes times the nodes. Memory: the nodes.
+    pub fn keep_only(&self, alloc: Global, nodes: &NodeList) -> Result<Contraction, Memory>
+        requires { (n : ℕ) → Contains nodes.now n → Keeps self.now.kept n }
+        ensures kept { IfOk result (λ c. (n : ℕ) → Keeps c.kept n ↔ Contains nodes.now n) }
+        ensures restricts { IfOk result (Restricts self.now) }
+        ensures gap { IfOk result (λ c. (items : List Item) (d : Diagram) (v : List Bool)
+            → GapStandsFor (Among items) d v self.now → GapStandsFor (Among items) d v c) }
+        ensures load { IfOk result (λ c. (items : List Item) (d : Diagram) (v : List Bool)
+            → LoadStandsFor (Among items) d v self.now → LoadStandsFor (Among items) d v c) }
+    {
+        let places = places_of(alloc, &self.kept, nodes.numbers())?;
+        Ok(Contraction {
+            kept: picked(alloc, &self.kept, &places)?,
+            gap: self.gap.at(alloc, &places)?,
+            load: self.load.at(alloc, &places)?,
+            bonded: labels_at(alloc, self.bonded.numbers(), &places)?,
+        })
+    }
+}

@@ -1,0 +1,25 @@
+//! Contractions: what any items in any position are to the rest of the station. A contraction is a
+//! small value on a few kept nodes that answers what its items couple, join, bond and supply there. It
+//! composes: the values of two lists of items give that of both lists together, where each keeps the
+//! nodes at which they meet. So a judge decides over all positions of many switches without trying
+//! them.
+#![tactic(auto)]
+
+mod bytes;
+mod compose;
+mod ends;
+mod items;
+mod labels;
+mod laws;
+mod marks;
+mod merge;
+mod places;
+mod row;
+mod supply;
+mod value;
+
+pub use laws::{
+    composition_respects_views, restriction_respects_views, same_views_stand, values_tell_views,
+};
+pub use supply::Supply;
+pub use value::Contraction;

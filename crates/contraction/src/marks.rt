@@ -1,0 +1,88 @@
+//! Rows of marks.
+ghost use Rattle.std.specs.Prelude.{◌≡◌, ℕ, ◌<◌, ◌≤◌, ◌↔◌, length, slice_get, slice_index, Some, true, false, IfOk, replicate};
+ghost use Rattle.contraction.specs.Merging.{Noted, MarkedInEither, MarksOfBoth};
+
+use ilk_base::Memory;
+use std::alloc::Global;
+
+// Notes the classes of the marked entries.
+fn note(classes: &mut [bool], labels: &[u16], places: &[u16], marks: &[bool])
+    requires len { length marks.now ≡ length places.now }
+    requires inside { (k : ℕ) → k < length places.now
+        → slice_index labels.now (slice_index places.now k) < length classes.old }
+    requires places { (k : ℕ) → k < length places.now → slice_index places.now k < length labels.now }
+    ensures { Noted labels.now places.now marks.now (length places.now) classes.old classes.new }
+{
+    for i in 0..places.len() {
+        if marks[i] {
+            let class = labels[places[i] as usize] as usize;
+            classes[class] = true;
+        }
+    }
+}
+
+// Notes the classes of the marked entries of both rows.
+fn note_both(
+    classes: &mut [bool],
+    labels: &[u16],
+    first: &[u16],
+    first_marks: &[bool],
+    second: &[u16],
+    second_marks: &[bool],
+)
+    requires none { classes.old ≡ replicate (length labels.now) false }
+    requires first_len { length first_marks.now ≡ length first.now }
+    requires second_len { length second_marks.now ≡ length second.now }
+    requires first_in { (k : ℕ) → k < length first.now → slice_index first.now k < length labels.now }
+    requires second_in { (k : ℕ) → k < length second.now → slice_index second.now k < length labels.now }
+    requires below { (k : ℕ) → k < length labels.now → slice_index labels.now k ≤ k }
+    ensures { (c : ℕ) → c < length labels.now → (slice_get classes.new c ≡ Some true)
+        ↔ MarkedInEither labels.now first.now first_marks.now (length first.now) second.now second_marks.now (length second.now) c }
+{
+    note(classes, labels, first, first_marks);
+    note(classes, labels, second, second_marks);
+}
+
+// For each place whether its class is noted.
+fn spread(alloc: Global, classes: &[bool], labels: &[u16]) -> Result<Vec<bool>, Memory>
+    requires { (k : ℕ) → k < length labels.now → slice_index labels.now k < length classes.now }
+    ensures len { IfOk result (λ marks. length marks.items ≡ length labels.now) }
+    ensures marks { IfOk result (λ marks. (k : ℕ) → k < length labels.now
+        → slice_get marks.items k ≡ slice_get classes.now (slice_index labels.now k)) }
+{
+    let mut marks = Vec::with_capacity(alloc, labels.len())?;
+    for k in 0..labels.len() {
+        marks.push(classes[labels[k] as usize])?;
+    }
+    Ok(marks)
+}
+
+// The marks of the places of a merged list, from the marks of both lists: a place is marked where an
+// entry of its class was.
+pub(crate) fn marks_of_both(
+    alloc: Global,
+    labels: &[u16],
+    first: &[u16],
+    first_marks: &[bool],
+    second: &[u16],
+    second_marks: &[bool],
+) -> Result<Vec<bool>, Memory>
+    requires first_len { length first_marks.now ≡ length first.now }
+    requires second_len { length second_marks.now ≡ length second.now }
+    requires first_in { (k : ℕ) → k < length first.now → slice_index first.now k < length labels.now }
+    requires second_in { (k : ℕ) → k < length second.now → slice_index second.now k < length labels.now }
+    requires below { (k : ℕ) → k < length labels.now → slice_index labels.now k ≤ k }
+    ensures { IfOk result (λ marks.
+        MarksOfBoth labels.now first.now first_marks.now second.now second_marks.now marks.items) }
+{
+    let mut classes = vec![in alloc; false; labels.len()]?;
+    note_both(
+        &mut classes,
+        labels,
+        first,
+        first_marks,
+        second,
+        second_marks,
+    );
+    spread(alloc, &classes, labels)
+}

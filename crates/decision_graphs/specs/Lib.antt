@@ -1,0 +1,14 @@
+pub mod Label
+pub mod Rows
+pub mod Drafting
+pub mod Shapes
+pub mod Whole
+pub mod Inside
+pub mod DraftInside
+pub mod Reaching
+pub mod Ahead
+pub mod Folding
+pub mod RowIndex
+pub mod FoldedView
+pub mod Assembling
+pub mod Depending

@@ -1,0 +1,211 @@
+ghost use Rattle.std.specs.Prelude.{◌≡◌, ℕ, ◌+◌, ◌<◌, ◌↔◌, length, List, map, IfOk, MatchOption, IsTrue};
+ghost use Rattle.decision_graphs.specs.Label.{DependsOn, layer_at, first_at, HasEdge, IsNode, Reaches, Allows, AreChoices, AreReduced, AreLayers, Layer, label_of, place_after, step};
+ghost use Rattle.decision_graphs.specs.Reaching.{AreSetsOf, AreMarksOf, node_total, IsSet};
+ghost use Rattle.decision_graphs.specs.Whole.{layer_of, IsWhole};
+ghost use Rattle.decision_graphs.specs.Shapes.{AreHomes};
+
+use crate::assemble::reduced;
+use crate::choices::ChoiceList;
+use crate::depend::label_depends_on;
+use crate::find::edge_site;
+use crate::marks::Marks;
+use crate::path::find_path;
+use crate::reach::mark_labels;
+use crate::sets::ChoiceSets;
+use crate::shape::Shape;
+use ilk_base::Memory;
+use std::alloc::Global;
+use std::marker::Model;
+
+/// Layers of nodes: for each node and each choice of its layer one node of the next layer, and a label
+/// for each edge of the last layer. Nodes are numbered from 0 over the whole graph, layer by layer, and
+/// labels from 0. A graph without layers leads to label 0. A `GraphBuilder` makes one.
+///
+/// Contracts see it as its layers, where an edge is a number within the next layer.
+#[derive(Debug, Drop)]
+pub struct Graph {
+    labels: u32,
+    shapes: Vec<Shape>,
+    homes: Vec<u16>,
+    edges: Vec<u32>,
+}
+
+impl Model for Graph {
+    ghost use Rattle.decision_graphs.specs.Label.{Layered};
+
+    ghost Value = { Layered };
+
+    ghost use Rattle.decision_graphs.specs.Inside.{layered_of, IsGraph};
+
+    ghost view = { layered_of };
+
+    ghost invariant = { IsGraph };
+}
+
+impl Graph {
+    /// How many labels there are, at least 1. Every layer has a choice and a node, and each of its edges
+    /// leads to a node of the next layer or to a label. Constant time.
+    pub fn labels(&self) -> u32
+        ensures count { result ≡ self.now.labels }
+        ensures layered { AreLayers self.now.labels self.now.layers }
+    {
+        self.labels
+    }
+
+    /// How many layers there are. Constant time.
+    pub fn layers(&self) -> u16
+        ensures { result ≡ length self.now.layers }
+    {
+        self.shapes.len() as u16
+    }
+
+    /// How many choices each node of a layer has. Constant time.
+    pub fn choices(&self, layer: u16) -> u32
+        requires { layer < length self.now.layers }
+        ensures { result ≡ (layer_at self.now.layers layer).choices }
+    {
+        self.shapes[layer as usize].choices
+    }
+
+    /// The number of a layer's first node, and how many nodes it has. Constant time.
+    pub fn nodes(&self, layer: u16) -> (u32, u32)
+        requires { layer < length self.now.layers }
+        ensures first { result.0 ≡ first_at self.now.layers layer }
+        ensures count { result.1 ≡ length (layer_at self.now.layers layer).rows }
+    {
+        let shape = self.shapes[layer as usize];
+        (shape.first, shape.nodes)
+    }
+
+    /// Where a choice at a node leads: to a node of the next layer, or from the last layer to a label.
+    /// Constant time.
+    pub fn edge(&self, from: u32, choice: u32) -> u32
+        requires { HasEdge self.now from choice }
+        ensures { (j k : ℕ) → IsNode self.now j k from
+            → result ≡ place_after self.now j (step (layer_at self.now.layers j) k choice) }
+    {
+        let site = edge_site(&self.shapes, &self.homes, &self.edges, from, choice);
+        site.next + self.edges[site.place]
+    }
+
+    /// The graph of these layers.
+    pub(crate) fn from_parts(
+        labels: u32,
+        shapes: Vec<Shape>,
+        homes: Vec<u16>,
+        edges: Vec<u32>,
+    ) -> Graph
+        requires whole { IsWhole labels shapes.items edges.items }
+        requires homes { AreHomes shapes.items (length shapes.items) homes.items }
+        ensures { result ≡ record { labels = labels; layers = map (layer_of edges.items) shapes.items } }
+    {
+        Graph {
+            labels,
+            shapes,
+            homes,
+            edges,
+        }
+    }
+
+    /// How many nodes the graph has.
+    pub(crate) fn node_total(&self) -> u32
+        ensures { result ≡ node_total self.now }
+    {
+        self.homes.len() as u32
+    }
+
+    /// Marks exactly the labels to which some list of allowed choices leads, whatever was marked before.
+    /// Where a layer has no allowed choice there is no such list, and no label is marked. The sets and
+    /// the marks were made for this graph. Linear in edges and nodes; takes no memory.
+    pub fn reach(&self, sets: &ChoiceSets, marks: &mut Marks)
+        requires sets { AreSetsOf self.now.layers sets.now }
+        requires marks { AreMarksOf self.now marks.old }
+        ensures same { AreMarksOf self.now marks.new }
+        ensures exact { (goal : ℕ) → goal < self.now.labels
+            → IsSet marks.new.labels goal ↔ Reaches self.now sets.now goal }
+    {
+        marks.mark(self, sets);
+    }
+
+    pub(crate) fn mark(&self, sets: &[Vec<bool>], seen: &mut [bool])
+        requires sets { AreSetsOf self.now.layers (map (λ v. v.items) sets.now) }
+        requires places { length seen.old ≡ node_total self.now + self.now.labels }
+        ensures { (goal : ℕ) → goal < self.now.labels
+            → IsSet seen.new (node_total self.now + goal) ↔ Reaches self.now (map (λ v. v.items) sets.now) goal }
+    {
+        mark_labels(self.labels, &self.shapes, &self.edges, sets, seen);
+    }
+
+    /// A list of allowed choices that leads to the label, None exactly where no such list does. The sets
+    /// were made for this graph. Linear in edges and nodes, with one byte for each node and label.
+    pub fn path_to(
+        &self,
+        alloc: Global,
+        sets: &ChoiceSets,
+        label: u32,
+    ) -> Result<Option<ChoiceList>, Memory>
+        requires sets { AreSetsOf self.now.layers sets.now }
+        requires label { label < self.now.labels }
+        ensures { IfOk result (λ o. MatchOption o (Reaches self.now sets.now label → ⊥)
+            (λ p. Allows sets.now p × (label_of self.now p ≡ label))) }
+    {
+        let nodes = self.node_total();
+        let found = find_path(
+            alloc,
+            nodes,
+            self.labels,
+            &self.shapes,
+            &self.edges,
+            sets.sets(),
+            label,
+        )?;
+        match found {
+            Some(path) => Ok(Some(ChoiceList::from_vec(path))),
+            None => Ok(None),
+        }
+    }
+
+    /// The graph in which nodes of equal edges are one: each list of choices leads to the label it led to,
+    /// and no two nodes of one layer have equal edges. Nodes that no list of choices reaches stay. Linear
+    /// in edges but for hashing; takes about 16 bytes for each edge and 100 for each node while it runs.
+    pub fn reduce(&self, alloc: Global) -> Result<Graph, Memory>
+        ensures labels { IfOk result (λ g. g.labels ≡ self.now.labels) }
+        ensures choices { IfOk result (λ g. map (λ (l : Layer). l.choices) g.layers ≡ map (λ (l : Layer). l.choices) self.now.layers) }
+        ensures label { IfOk result (λ g. (cs : List ℕ) → AreChoices self.now.layers cs → label_of g cs ≡ label_of self.now cs) }
+        ensures reduced { IfOk result (λ g. AreReduced g.layers) }
+    {
+        let assembled = reduced(alloc, self.labels, &self.shapes, &self.edges)?;
+        Ok(Graph::from_parts(
+            self.labels,
+            assembled.shapes,
+            assembled.homes,
+            assembled.edges,
+        ))
+    }
+
+    /// Whether the choice in a layer makes a difference: exactly where two lists of choices that differ in
+    /// that layer alone lead to different labels. It reduces a copy, in the time and memory of `reduce`.
+    pub fn depends_on(&self, alloc: Global, layer: u16) -> Result<bool, Memory>
+        requires { layer < length self.now.layers }
+        ensures { IfOk result (λ b. IsTrue b ↔ DependsOn self.now layer) }
+    {
+        let reduced = self.reduce(alloc)?;
+        let depends = reduced.reduced_depends_on(alloc, layer)?;
+        Ok(depends)
+    }
+
+    fn reduced_depends_on(&self, alloc: Global, layer: u16) -> Result<bool, Memory>
+        requires reduced { AreReduced self.now.layers }
+        requires layer { layer < length self.now.layers }
+        ensures { IfOk result (λ b. IsTrue b ↔ DependsOn self.now layer) }
+    {
+        label_depends_on(
+            alloc,
+            self.homes.len(),
+            self.labels,
+            &self.shapes,
+            &self.edges,
+            layer as usize,
+        )
+    }
+}

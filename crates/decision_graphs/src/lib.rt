@@ -1,0 +1,30 @@
+//! Layered decision graphs. A graph has layers of nodes; each node has, for each choice of its layer, one
+//! edge to a node of the next layer, and from the last layer to a label. So a list with one choice for
+//! each layer leads from the start, node 0 of the first layer, to one label. Nodes are shared, so a
+//! small graph answers a question over very many lists: which labels some list of allowed choices
+//! reaches, by which choices, and whether a layer makes a difference.
+//!
+//! Edges stand in one list of 4 bytes each, beside 2 bytes a node for its layer.
+#![tactic(auto)]
+
+mod assemble;
+mod builder;
+mod choices;
+mod depend;
+mod find;
+mod fold;
+mod fold_all;
+mod graph;
+mod law;
+mod marks;
+mod path;
+mod reach;
+mod sets;
+mod shape;
+
+pub use builder::{GraphBuilder, Unfinished};
+pub use choices::ChoiceList;
+pub use graph::Graph;
+pub use law::reduced_nodes_are_apart;
+pub use marks::Marks;
+pub use sets::ChoiceSets;

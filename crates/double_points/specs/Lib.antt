@@ -1,0 +1,5 @@
+pub mod Rows
+pub mod Left
+pub mod Paths
+pub mod Words
+pub mod Positions

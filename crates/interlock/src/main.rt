@@ -1,0 +1,32 @@
+//! The program: its words, the files of the system and the standard streams, handed to the top call.
+#![tactic(auto)]
+
+use ilk_base::{FileShelf, StdIn, StdOut};
+use interlock_cli::{Status, run};
+use std::alloc::AllocError;
+use std::process::ExitCode;
+use std::{env, io};
+
+// The words of the command line, without the program's name.
+fn words(rt: &HostRuntime) -> io::Result<Vec<String>> {
+    let mut words = Vec::new(rt.alloc());
+    for word in env::args(rt)?.skip(1) {
+        if words.push(word).is_err() {
+            return Err(io::Error::from(AllocError));
+        }
+    }
+    Ok(words)
+}
+
+fn main(rt: HostRuntime) -> ExitCode {
+    let alloc = rt.alloc();
+    let Ok(words) = words(&rt) else {
+        return ExitCode::from(Status::Memory as u8);
+    };
+    let mut shelf = FileShelf::new(alloc, &rt);
+    let mut input = StdIn::new(rt.stdin());
+    let mut out = StdOut::new(rt.stdout());
+    let mut err = StdOut::new(rt.stderr());
+    let status = run(alloc, &words, &mut shelf, &mut input, &mut out, &mut err);
+    ExitCode::from(status as u8)
+}

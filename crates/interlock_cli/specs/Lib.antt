@@ -1,0 +1,6 @@
+pub mod Command
+pub mod CheckText
+pub mod Lines
+pub mod Says
+pub mod Ends
+pub mod Complete

@@ -1,0 +1,16 @@
+//! The top call: what the program does with its words, its files and its streams.
+#![tactic(auto)]
+
+mod check;
+mod end;
+mod loading;
+mod status;
+mod tell;
+mod top;
+mod words;
+
+pub use status::Status;
+pub use top::run;
+
+#[cfg(test)]
+mod tests;

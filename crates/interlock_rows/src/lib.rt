@@ -1,0 +1,8 @@
+//! Worked rows of the program: what each command writes, and how it ends, on small stations. There is
+//! nothing here but tests; what they expect is worked by hand.
+#![tactic(auto)]
+
+#[cfg(test)]
+mod drawings;
+#[cfg(test)]
+mod rows;

@@ -1,0 +1,17 @@
+pub mod Texts
+pub mod Placed
+pub mod Lists
+pub mod Faults
+pub mod Taken
+pub mod Slashes
+pub mod Ended
+pub mod Stepped
+pub mod Linked
+pub mod Once
+pub mod Drawn
+pub mod Numbered
+pub mod Laid
+pub mod Given
+pub mod Ready
+pub mod Items
+pub mod InOrder

@@ -1,0 +1,10 @@
+pub mod Elements
+pub mod Drawn
+pub mod Names
+pub mod Ends
+pub mod Steps
+pub mod Lists
+pub mod StandsFor
+pub mod Laws
+pub mod Seen
+pub mod SeenPaths

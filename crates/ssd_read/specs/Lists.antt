@@ -1,0 +1,32 @@
+-- What steps add, list by list.
+use Rattle.std.specs.Prelude.{ℕ, List, [], ◌∷◌, ◌++◌, Option, Some, None, slice_index_or}
+use Rattle.station_graph.specs.declared.items.Switch.{Switch}
+use Rattle.station_graph.specs.declared.items.Link.{Link}
+use Rattle.station_graph.specs.declared.items.Tap.{Tap}
+use Rattle.ssd_read.specs.Steps.{Step, a_part, a_node, a_switch, a_link, a_tap}
+
+-- The path, switch, link or tap that a step adds to the list of that kind.
+abbrev pub part_path : Step → Option (List ℕ)
+part_path (a_part path) = Some path
+part_path _ = None
+
+abbrev pub node_path : Step → Option (List ℕ)
+node_path (a_node path) = Some path
+node_path _ = None
+
+abbrev pub switch_in : Step → Option Switch
+switch_in (a_switch name x) = Some x
+switch_in _ = None
+
+abbrev pub link_in : Step → Option Link
+link_in (a_link x) = Some x
+link_in _ = None
+
+abbrev pub tap_in : Step → Option Tap
+tap_in (a_tap x) = Some x
+tap_in _ = None
+
+-- The path of a switch among these parts.
+abbrev pub switch_path_in : List (List ℕ) → Step → Option (List ℕ)
+switch_path_in parts (a_switch name x) = Some (slice_index_or parts x.bay.0 [] ++ 47 ∷ name)
+switch_path_in parts _ = None

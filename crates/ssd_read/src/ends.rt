@@ -1,0 +1,227 @@
+//! Where terminals stand.
+
+ghost use Rattle.std.specs.Prelude.{◌≡◌, ℕ, ◌<◌, ◌≤◌, ◌++◌, List, [], ◌∷◌, length, IfOk, OnOk, Option, Some, None, Bool, true, slice_set, slice_index_or, replicate, string_bytes, if◌then◌else◌};
+ghost use Rattle.std.specs.Option.{option_map};
+ghost use Rattle.ssd_read.specs.declared.role.Role.TheVariants.{Terminal};
+ghost use Rattle.ssd_read.specs.Elements.{Element, element_at, same_role};
+ghost use Rattle.ssd_read.specs.Names.{keys_of};
+ghost use Rattle.ssd_read.specs.Ends.{after_slash, is_grounded, with_slash, joined_names, wanted_key, end_of, is_terminal_of, ends_of, node_at, nodes_at};
+ghost use Rattle.ssd_read.specs.Steps.{is_winding_terminal_of, winding_ends_of};
+
+use crate::drawing::Drawing;
+use crate::end_lists::EndLists;
+use crate::paths::Names;
+use crate::role::Role;
+use ilk_base::Memory;
+use std::alloc::Global;
+
+/// Where a terminal stands. The definitions speak of it.
+#[derive(Clone, Copy, Debug, PartialEq, Eq)]
+pub enum End {
+    /// on earth
+    Earth,
+    /// on the node of this number in document order
+    Node(u32),
+    /// on no node of the drawing; the place is where the terminal begins in the text
+    Missing(u32),
+}
+
+/// What equipment is to a station, by its type. The definitions speak of it.
+#[derive(Clone, Copy, Debug, PartialEq, Eq)]
+pub enum Use {
+    /// `CBR`
+    Breaker,
+    /// `DIS`: a disconnector, or an earthing switch where one terminal is grounded
+    Disconnector,
+    /// `IFL` and `GEN`
+    Infeed,
+    /// every other type
+    Other,
+}
+
+/// What follows the last slash, or all.
+fn after_slash(name: &[u8]) -> &[u8]
+    ensures { result.now ≡ after_slash name.now }
+{
+    let mut start = 0;
+    for (i, b) in name.iter().enumerate() {
+        if *b == b'/' {
+            start = i + 1;
+        }
+    }
+    let (_, last) = name.split_at(start);
+    last
+}
+
+/// Whether a terminal is grounded.
+fn is_grounded(alloc: Global, drawing: &Drawing<'_>, i: u32) -> Result<bool, Memory>
+    requires { i < length drawing.now }
+    ensures { IfOk result (λ b. b ≡ is_grounded (element_at drawing.now i).entry) }
+{
+    match drawing.attribute(alloc, i, "cNodeName")? {
+        Some(last) => Ok("grounded" == last.as_str()),
+        None => match drawing.attribute(alloc, i, "connectivityNode")? {
+            Some(key) => Ok("grounded".as_bytes() == after_slash(key.as_bytes())),
+            None => Ok(false),
+        },
+    }
+}
+
+/// Two names joined, where both are there.
+fn joined(front: Option<String>, back: Option<String>) -> Result<Option<String>, Memory>
+    ensures { IfOk result (λ o. option_map string_bytes o ≡ with_slash (option_map string_bytes front) (option_map string_bytes back)) }
+{
+    let Some(mut path) = front else {
+        return Ok(None);
+    };
+    let Some(back) = back else {
+        return Ok(None);
+    };
+    path.push_str("/")?;
+    path.push_str(back.as_str())?;
+    Ok(Some(path))
+}
+
+/// The four names of a terminal joined, where all are there.
+fn joined_names(alloc: Global, drawing: &Drawing<'_>, i: u32) -> Result<Option<String>, Memory>
+    requires { i < length drawing.now }
+    ensures { IfOk result (λ o. option_map string_bytes o ≡ joined_names (element_at drawing.now i).entry) }
+{
+    let substation = drawing.attribute(alloc, i, "substationName")?;
+    let level = drawing.attribute(alloc, i, "voltageLevelName")?;
+    let bay = drawing.attribute(alloc, i, "bayName")?;
+    let node = drawing.attribute(alloc, i, "cNodeName")?;
+    let level = joined(substation, level)?;
+    let bay = joined(level, bay)?;
+    let key = joined(bay, node)?;
+    Ok(key)
+}
+
+/// The key of the node on which a terminal stands, where it says one.
+fn wanted_key(alloc: Global, drawing: &Drawing<'_>, i: u32) -> Result<Option<String>, Memory>
+    requires { i < length drawing.now }
+    ensures { IfOk result (λ o. option_map string_bytes o ≡ wanted_key (element_at drawing.now i).entry) }
+{
+    match drawing.attribute(alloc, i, "connectivityNode")? {
+        Some(key) => Ok(Some(key)),
+        None => joined_names(alloc, drawing, i),
+    }
+}
+
+/// Where a terminal stands.
+fn end_of(alloc: Global, drawing: &Drawing<'_>, keys: &Names, i: u32) -> Result<End, Memory>
+    requires within { i < length drawing.now }
+    requires keys { keys.now ≡ keys_of drawing.now }
+    requires few { length drawing.now ≤ 200000 }
+    ensures { IfOk result (λ e. e ≡ end_of drawing.now (element_at drawing.now i)) }
+{
+    if is_grounded(alloc, drawing, i)? {
+        return Ok(End::Earth);
+    }
+    match wanted_key(alloc, drawing, i)? {
+        None => Ok(End::Missing(drawing.at(i))),
+        Some(key) => match keys.find(key.as_str()) {
+            Some(node) => Ok(End::Node(node as u32)),
+            None => Ok(End::Missing(drawing.at(i))),
+        },
+    }
+}
+
+/// Adds the end of a terminal in a winding to the element that holds the winding.
+fn add_winding_end(
+    drawing: &Drawing<'_>,
+    i: u32,
+    holder: u32,
+    end: End,
+    windings: &mut EndLists,
+) -> Result<(), Memory>
+    requires within { i < length drawing.now }
+    requires is_terminal { same_role (element_at drawing.now i).role Terminal ≡ true }
+    requires holder { (element_at drawing.now i).entry.parent ≡ Some holder }
+    requires holder_within { holder < length drawing.now }
+    requires windings { length windings.old ≡ length drawing.now }
+    ensures windings_len { length windings.new ≡ length windings.old }
+    ensures windings { OnOk result ((j : ℕ) → j < length drawing.now → slice_index_or windings.new j [] ≡ slice_index_or windings.old j [] ++ (if is_winding_terminal_of drawing.now j (element_at drawing.now i) then end ∷ [] else [])) }
+{
+    if drawing.within(i) != Role::TransformerWinding {
+        return Ok(());
+    }
+    let Some(outer) = drawing.parent(holder) else {
+        return Ok(());
+    };
+    if outer >= drawing.count() {
+        return Ok(());
+    }
+    windings.push(outer, end)?;
+    Ok(())
+}
+
+/// Adds the end of a terminal to the element that holds it, and to its winding's transformer.
+fn add_end(
+    alloc: Global,
+    drawing: &Drawing<'_>,
+    keys: &Names,
+    i: u32,
+    own: &mut EndLists,
+    windings: &mut EndLists,
+) -> Result<(), Memory>
+    requires within { i < length drawing.now }
+    requires keys { keys.now ≡ keys_of drawing.now }
+    requires own { length own.old ≡ length drawing.now }
+    requires windings { length windings.old ≡ length drawing.now }
+    ensures own_len { length own.new ≡ length own.old }
+    ensures windings_len { length windings.new ≡ length windings.old }
+    ensures own { OnOk result ((j : ℕ) → j < length drawing.now → slice_index_or own.new j [] ≡ slice_index_or own.old j [] ++ (if is_terminal_of j (element_at drawing.now i) then end_of drawing.now (element_at drawing.now i) ∷ [] else [])) }
+    ensures windings { OnOk result ((j : ℕ) → j < length drawing.now → slice_index_or windings.new j [] ≡ slice_index_or windings.old j [] ++ (if is_winding_terminal_of drawing.now j (element_at drawing.now i) then end_of drawing.now (element_at drawing.now i) ∷ [] else [])) }
+{
+    if drawing.role(i) != Role::Terminal {
+        return Ok(());
+    }
+    let Some(holder) = drawing.parent(i) else {
+        return Ok(());
+    };
+    if holder >= drawing.count() {
+        return Ok(());
+    }
+    let end = end_of(alloc, drawing, keys, i)?;
+    own.push(holder, end)?;
+    add_winding_end(drawing, i, holder, end, windings)
+}
+
+/// The ends of all elements, and of the windings of all elements.
+pub(crate) fn all_ends(
+    alloc: Global,
+    drawing: &Drawing<'_>,
+    keys: &Names,
+) -> Result<(EndLists, EndLists), Memory>
+    requires { keys.now ≡ keys_of drawing.now }
+    ensures own_len { IfOk result (λ r. length r.0 ≡ length drawing.now) }
+    ensures windings_len { IfOk result (λ r. length r.1 ≡ length drawing.now) }
+    ensures own { IfOk result (λ r. (j : ℕ) → j < length drawing.now → slice_index_or r.0 j [] ≡ ends_of drawing.now j) }
+    ensures windings { IfOk result (λ r. (j : ℕ) → j < length drawing.now → slice_index_or r.1 j [] ≡ winding_ends_of drawing.now j) }
+{
+    let mut own = EndLists::new(alloc, drawing.count())?;
+    let mut windings = EndLists::new(alloc, drawing.count())?;
+    for i in 0..drawing.count() {
+        add_end(alloc, drawing, keys, i, &mut own, &mut windings)?;
+    }
+    Ok((own, windings))
+}
+
+/// The node of an end.
+fn node_at(end: End) -> Option<u32>
+    ensures { result ≡ node_at end }
+{
+    match end {
+        End::Node(node) => Some(node),
+        End::Earth | End::Missing(_) => None,
+    }
+}
+
+/// The nodes of the ends that are not grounded.
+pub(crate) fn nodes_at(alloc: Global, ends: &[End]) -> Result<Vec<u32>, Memory>
+    ensures { IfOk result (λ v. v.items ≡ nodes_at ends.now) }
+{
+    let nodes = ends.iter().filter_map(|end| node_at(*end)).collect(alloc)?;
+    Ok(nodes)
+}

@@ -1,0 +1,26 @@
+//! What follows from the definitions alone: that a text stands for one station, and what a station
+//! has of its drawing.
+
+ghost use Rattle.std.specs.Prelude.{◌≡◌, ℕ, ◌<◌, List, length, Option, Some, Result, Ok};
+ghost use Rattle.station_graph.specs.Diagram.{Diagram};
+ghost use Rattle.ssd_text.specs.Nesting.{Entry, IsInOrder};
+ghost use Rattle.ssd_read.specs.declared.refusal.SsdRefusal.{SsdRefusal as Refusal};
+ghost use Rattle.ssd_read.specs.Elements.{elements_of, element_at, front_of_tree};
+ghost use Rattle.ssd_read.specs.StandsFor.{Stands, TreeStandsFor};
+ghost use Rattle.ssd_read.specs.Laws.{HasInOrder, StandsIn};
+
+/// No text has two outcomes: it stands for one station, or it has one first fault.
+pub fn one_station()
+    ensures { (text : List ℕ) (o w : Result Diagram Refusal) → Stands text o → Stands text w → o ≡ w }
+{}
+
+/// A station has what the elements of its drawing give, in document order: the paths of its parts are
+/// those of the elements that are parts, and so on for its nodes, switches, links and taps.
+pub fn has_in_order()
+    ensures { (tree : List Entry) (d : Diagram) → IsInOrder tree → TreeStandsFor tree d → HasInOrder (elements_of tree) d }
+{}
+
+/// What an element of a drawing is, and its path, by the element in which it stands and its own name.
+pub fn stands_in_order()
+    ensures { (tree : List Entry) (i p : ℕ) → IsInOrder tree → i < length tree → (element_at (elements_of tree) i).entry.parent ≡ Some p → StandsIn (elements_of tree) i p (front_of_tree tree) }
+{}

@@ -1,0 +1,142 @@
+//! Pass 1: names that are missing, and names that are there twice.
+
+ghost use Rattle.std.specs.Prelude.{◌≡◌, ℕ, ◌<◌, ◌≤◌, ◌++◌, List, [], ◌∷◌, length, IfOk, OnOk, Bool, not, string_bytes, IsTrue};
+ghost use Rattle.std.specs.List.{list_any, list_all};
+ghost use Rattle.ssd_read.specs.Elements.{Element, element_at};
+ghost use Rattle.ssd_read.specs.Names.{is_shown, is_good_name, lacks_name, is_nameless, key_of, same_path, same_key, counted_paths, keys_of, name_fault, first_fault};
+ghost use Rattle.ssd_read.specs.Seen.{Finds};
+
+use crate::drawing::{Drawing, counted_as};
+use crate::paths::{Names, Paths};
+use crate::refusal::SsdRefusal;
+use crate::role::Role;
+use ilk_base::Memory;
+use std::alloc::Global;
+
+/// Whether a name is not empty and holds neither control characters nor U+007F.
+fn is_good_name(name: &[u8]) -> bool
+    ensures { result ≡ is_good_name name.now }
+{
+    !name.is_empty() && has_shown(name)
+}
+
+fn has_shown(name: &[u8]) -> bool
+    ensures { result ≡ list_all is_shown name.now }
+{
+    name.iter().all(|b| *b >= 32 && *b != 127)
+}
+
+/// Whether an element has no name that is good.
+fn lacks_name(alloc: Global, drawing: &Drawing<'_>, i: u32) -> Result<bool, Memory>
+    requires { i < length drawing.now }
+    ensures { IfOk result (λ b. b ≡ lacks_name (element_at drawing.now i).entry) }
+{
+    match drawing.attribute(alloc, i, "name")? {
+        Some(name) => Ok(!is_good_name(name.as_bytes())),
+        None => Ok(true),
+    }
+}
+
+/// Whether an element lacks a name that it needs, or its type.
+fn is_nameless(alloc: Global, drawing: &Drawing<'_>, i: u32) -> Result<bool, Memory>
+    requires { i < length drawing.now }
+    ensures { IfOk result (λ b. b ≡ is_nameless (element_at drawing.now i)) }
+{
+    let role = drawing.role(i);
+    if counted_as(role).is_none() {
+        return Ok(false);
+    }
+    if lacks_name(alloc, drawing, i)? {
+        return Ok(true);
+    }
+    if role != Role::ConductingEquipment {
+        return Ok(false);
+    }
+    let kind = drawing.attribute(alloc, i, "type")?;
+    Ok(kind.is_none())
+}
+
+/// The key of a node.
+fn key_of(alloc: Global, drawing: &Drawing<'_>, i: u32) -> Result<String, Memory>
+    requires { i < length drawing.now }
+    ensures { IfOk result (λ s. string_bytes s ≡ key_of (element_at drawing.now i)) }
+{
+    match drawing.attribute(alloc, i, "pathName")? {
+        Some(key) => Ok(key),
+        None => {
+            let path = String::from_str(alloc, drawing.path(i))?;
+            Ok(path)
+        }
+    }
+}
+
+/// Adds the path of an element, and says whether no element of its kind had it.
+fn add_path(alloc: Global, drawing: &Drawing<'_>, i: u32, paths: &mut Paths) -> Result<bool, Memory>
+    requires { i < length drawing.now }
+    ensures new { IfOk result (λ b. (before : List Element) → paths.old ≡ counted_paths before → b ≡ not (list_any (same_path (element_at drawing.now i)) before)) }
+    ensures added { IfOk result (λ b. IsTrue b → (before : List Element) → paths.old ≡ counted_paths before → paths.new ≡ counted_paths (before ++ element_at drawing.now i ∷ [])) }
+{
+    match counted_as(drawing.role(i)) {
+        None => Ok(true),
+        Some(kind) => {
+            let path = String::from_str(alloc, drawing.path(i))?;
+            let new = paths.add(kind, path)?;
+            Ok(new)
+        }
+    }
+}
+
+/// Adds the key of a node, and says whether no node had it.
+fn add_key(alloc: Global, drawing: &Drawing<'_>, i: u32, keys: &mut Names) -> Result<bool, Memory>
+    requires { i < length drawing.now }
+    ensures new { IfOk result (λ b. (before : List Element) → keys.old ≡ keys_of before → b ≡ not (list_any (same_key (element_at drawing.now i)) before)) }
+    ensures added { IfOk result (λ b. IsTrue b → (before : List Element) → keys.old ≡ keys_of before → keys.new ≡ keys_of (before ++ element_at drawing.now i ∷ [])) }
+{
+    if drawing.role(i) != Role::ConnectivityNode {
+        return Ok(true);
+    }
+    let key = key_of(alloc, drawing, i)?;
+    let new = keys.add(key)?;
+    Ok(new)
+}
+
+/// Adds the names of an element, or finds its fault.
+fn check_name(
+    alloc: Global,
+    drawing: &Drawing<'_>,
+    i: u32,
+    paths: &mut Paths,
+    keys: &mut Names,
+) -> Result<(), SsdRefusal>
+    requires { i < length drawing.now }
+    ensures fault { (before : List Element) → paths.old ≡ counted_paths before → keys.old ≡ keys_of before → Finds result (name_fault before (element_at drawing.now i)) }
+    ensures paths { OnOk result ((before : List Element) → paths.old ≡ counted_paths before → paths.new ≡ counted_paths (before ++ element_at drawing.now i ∷ [])) }
+    ensures keys { OnOk result ((before : List Element) → keys.old ≡ keys_of before → keys.new ≡ keys_of (before ++ element_at drawing.now i ∷ [])) }
+{
+    if is_nameless(alloc, drawing, i)? {
+        return Err(SsdRefusal::NoName { at: drawing.at(i) });
+    }
+    if !add_path(alloc, drawing, i, paths)? {
+        return Err(SsdRefusal::Twice { at: drawing.at(i) });
+    }
+    if !add_key(alloc, drawing, i, keys)? {
+        return Err(SsdRefusal::Twice { at: drawing.at(i) });
+    }
+    Ok(())
+}
+
+/// The keys of all nodes, or the first fault of names.
+pub(crate) fn check_names(alloc: Global, drawing: &Drawing<'_>) -> Result<Names, SsdRefusal>
+    ensures fault { Finds result (first_fault name_fault [] drawing.now) }
+    ensures keys { IfOk result (λ keys. keys ≡ keys_of drawing.now) }
+{
+    let mut paths = Paths::new(alloc);
+    let mut keys = Names::new(alloc);
+    for i in 0..drawing.count() {
+        match check_name(alloc, drawing, i, &mut paths, &mut keys) {
+            Ok(()) => {}
+            Err(fault) => return Err(fault),
+        }
+    }
+    Ok(keys)
+}

@@ -1,0 +1,106 @@
+//! Why a drawing is refused.
+
+ghost use Rattle.std.specs.Prelude.{◌≡◌};
+ghost use Rattle.ssd_read.specs.declared.refusal.SsdRefusal.TheVariants.{Memory as NoMemory};
+ghost use Rattle.ssd_read.specs.Seen.{refusal_of, refusal_of_text};
+
+use ilk_base::Memory;
+use ssd_text::TextRefusal;
+use station_graph::{BuildFault, What};
+use std::alloc::{AllocError, AllocFailed};
+
+/// The first fault of a drawing, and its place: the number of bytes before it in the file.
+///
+/// The faults that are no want of memory are numbered 1 to 15, as they stand here. The first seven
+/// are those of the text. 8 to 10 are looked for in all elements, then 11 to 14, then 15, each in
+/// document order; a file that is too long is refused with 15 before all others.
+#[derive(Debug, Drop, PartialEq, Eq)]
+pub enum SsdRefusal {
+    /// 1: the text is not UTF-8. The place is the length of its longest front that is.
+    Encoding { at: u32 },
+    /// 2: what begins here is no whole piece of a document, or may not stand here.
+    Syntax { at: u32 },
+    /// 3: a document type declaration.
+    Doctype { at: u32 },
+    /// 4: the start tag of an element inside 64 open ones.
+    Deep { at: u32 },
+    /// 5: an end tag that is not that of the innermost open element.
+    Mismatch { at: u32 },
+    /// 6: the innermost element that does not end.
+    Unclosed { at: u32 },
+    /// 7: the start tag of one element more than 200,000.
+    Many { at: u32 },
+    /// 8: the root element's name, after its prefix, is not `SCL`.
+    Root { at: u32 },
+    /// 9: an element whose name is absent, empty or holds a control character or U+007F, or a
+    /// `ConductingEquipment` without a type.
+    NoName { at: u32 },
+    /// 10: an element with the path of an earlier one of its kind, or a node with the key of an
+    /// earlier node.
+    Twice { at: u32 },
+    /// 11: a terminal that is not grounded and stands on no node of the drawing.
+    NodeMissing { at: u32 },
+    /// 12: a breaker or disconnector without exactly two terminals, with their number; or an infeed
+    /// without exactly one ungrounded terminal, with the number of those.
+    Terminals { at: u32, count: u32 },
+    /// 13: a breaker with a grounded terminal, or a disconnector with two.
+    Grounded { at: u32 },
+    /// 14: a breaker or disconnector whose two ends are one node.
+    Loop { at: u32 },
+    /// 15: one more than a limit of the station, with what is counted and that number.
+    Limit { what: What, count: u32 },
+    /// There was not enough memory.
+    Memory,
+}
+
+impl From<Memory> for SsdRefusal {
+    ghost from_gives = { λ _ e. e ≡ NoMemory };
+
+    fn from(_e: Memory) -> SsdRefusal {
+        SsdRefusal::Memory
+    }
+}
+
+impl From<AllocError> for SsdRefusal {
+    ghost from_gives = { λ _ e. e ≡ NoMemory };
+
+    fn from(_e: AllocError) -> SsdRefusal {
+        SsdRefusal::Memory
+    }
+}
+
+impl<T: Drop> From<AllocFailed<T>> for SsdRefusal {
+    ghost from_gives = { λ _ e. e ≡ NoMemory };
+
+    fn from(_e: AllocFailed<T>) -> SsdRefusal {
+        SsdRefusal::Memory
+    }
+}
+
+impl From<BuildFault> for SsdRefusal {
+    ghost from_gives = { λ f e. e ≡ refusal_of f };
+
+    fn from(fault: BuildFault) -> SsdRefusal {
+        match fault {
+            BuildFault::Memory => SsdRefusal::Memory,
+            BuildFault::Limit { what, count } => SsdRefusal::Limit { what, count },
+        }
+    }
+}
+
+impl From<TextRefusal> for SsdRefusal {
+    ghost from_gives = { λ f e. e ≡ refusal_of_text f };
+
+    fn from(fault: TextRefusal) -> SsdRefusal {
+        match fault {
+            TextRefusal::Encoding { at } => SsdRefusal::Encoding { at },
+            TextRefusal::Syntax { at } => SsdRefusal::Syntax { at },
+            TextRefusal::Doctype { at } => SsdRefusal::Doctype { at },
+            TextRefusal::Deep { at } => SsdRefusal::Deep { at },
+            TextRefusal::Mismatch { at } => SsdRefusal::Mismatch { at },
+            TextRefusal::Unclosed { at } => SsdRefusal::Unclosed { at },
+            TextRefusal::Many { at } => SsdRefusal::Many { at },
+            TextRefusal::Memory => SsdRefusal::Memory,
+        }
+    }
+}

@@ -1,0 +1,17 @@
+pub mod Attributes
+pub mod Differ
+pub mod Fronts
+pub mod Texts
+pub mod Many
+pub mod Nested
+pub mod Sections
+pub mod PieceLaws
+pub mod Whole
+pub mod Few
+pub mod Ordered
+pub mod Elements
+pub mod Decoded
+pub mod Grammatical
+pub mod Accepted
+pub mod Marks
+pub mod RefLemmas

@@ -1,0 +1,14 @@
+pub mod PathLemmas
+pub mod LinkedLemmas
+pub mod ClassesLemmas
+pub mod BreakerLemmas
+pub mod CountLemmas
+pub mod DraftLemmas
+pub mod MarkLemmas
+pub mod PartLemmas
+pub mod PartialEdges
+pub mod Decided
+pub mod WalkLemmas
+pub mod TouchLemmas
+pub mod PartWalks
+pub mod PositionLemmas

@@ -1,0 +1,6 @@
+use Rattle.station_graph.specs.Marking.{Marks, TapsAt}
+use Rattle.station_graph.proofs.marks.mark_taps.Given as goal
+
+abbrev pub invariant-loop-i : goal.invariant-loop-i
+invariant-loop-i l =
+    Marks (TapsAt l.inside l.part.0 l.station l.i) l.initial.marks l.marks

@@ -1,0 +1,13 @@
+pub mod Diagram
+pub mod Nodes
+pub mod Connection
+pub mod Sharing
+pub mod Marking
+pub mod Supply
+pub mod CentralRules
+pub mod Views
+pub mod Alike
+pub mod Classes
+pub mod Inside
+pub mod Building
+pub mod DraftInside

@@ -1,0 +1,25 @@
+//! The limits of a station, by the numbers of `What`. A count may reach its limit and not pass it.
+
+/// 1: the bytes of a file that is read
+pub const BYTES: usize = 8_388_608;
+
+/// 2: the parts of a station
+pub const PARTS: usize = 200;
+
+/// 3: the bays of a station, which are its parts with switches
+pub const BAYS: usize = 64;
+
+/// 4: the connectivity nodes of a station
+pub const NODES: usize = 1024;
+
+/// 5: the switches of a station
+pub const SWITCHES: usize = 20;
+
+/// 6: the switches of one bay
+pub const BAY_SWITCHES: usize = 24;
+
+/// 7: the links of a station
+pub const LINKS: usize = 2048;
+
+/// 8: the taps of a station
+pub const TAPS: usize = 2048;
