@@ -20,5 +20,6 @@ pub use judge::{Judge, known_by_words};
 pub use labelling::labels;
 pub use plain::{PLAIN_SWITCHES, PlainJudge, fits_plain};
 pub use rules::breaks;
+pub use supply::is_live;
 pub use trying::trial;
 pub use verdict::Verdict;

@@ -98,8 +98,9 @@ pub(crate) fn is_earthable(
     closed_in_class(station, vector, Kind::Earthing, coupled, node)
 }
 
-// Whether the node is live, by the labels of what is joined.
-pub(crate) fn is_live(station: &Station, vector: &Vector, joined: &NodeList, node: NodeId) -> bool
+/// Whether the node is live: joined to the node of a closed infeed. `joined` are the labels of what is
+/// joined in this vector. Time: the switches. Takes no memory.
+pub fn is_live(station: &Station, vector: &Vector, joined: &NodeList, node: NodeId) -> bool
     requires vector { length vector.now ≡ length station.now.switches }
     requires node { node.0 < node_count station.now }
     requires joined { LabelsLeast (Touching false station.now vector.now) (node_count station.now) joined.now }

@@ -1,11 +1,11 @@
 -- One line more.
-use Rattle.std.proofs.Common.{◌≡◌, ◌+◌, ℕ, List, [], ◌∷◌, ◌++◌, get_or, arith, length-append, below_more, add-one, append_assoc}
+use Rattle.std.proofs.Common.{◌≡◌, ◌+◌, ℕ, List, [], ◌∷◌, ◌++◌, get_or, arith, length-append, below_more, add-one}
 use Rattle.std.proofs.lemmas.Grind.{flat_map-append}
 use Rattle.std.proofs.Math.Seq.{get_or-append_seam}
 use Rattle.std.proofs.lemmas.List.{get_or_append_left, append-nil}
 use Rattle.ilk_base.specs.declared.words.Dbpos.{Dbpos}
 use Rattle.station_graph.specs.Diagram.{Diagram}
-use Rattle.interlock_cli.specs.CheckText.{AreLines, SwitchLines, texts_below}
+use Rattle.interlock_cli.specs.CheckText.{AreLines, SwitchLines}
 
 pub one_line : (i : ℕ) (d : Diagram) (words : List Dbpos) (lines : List (List ℕ)) (text line : List ℕ) → AreLines i d words lines text → SwitchLines d words i (get_or d.switch_paths i []) line
     → AreLines (i + 1) d words (lines ++ line ∷ []) (text ++ line)
@@ -16,7 +16,3 @@ one_line i d words lines text line are new = record {
       (let e : get_or (lines ++ line ∷ []) i [] ≡ line = rw (← are.count) (get_or-append_seam lines line [] []) in rw e new);
   text_is = rw (are.text_is, flat_map-append, append-nil);
 }
-
--- the text of one place more
-pub texts_more : (text : ℕ → List ℕ) (old now new : List ℕ) (i : ℕ) → now ≡ old ++ texts_below text i → new ≡ now ++ text i → new ≡ old ++ texts_below text (i + 1)
-texts_more text old now new i was is = rw (add-one, is, was) (append_assoc old (texts_below text i) (text i))

@@ -1,5 +1,5 @@
 -- How a call ends: the cause of each fault, and what `out` and `err` took.
-use Rattle.std.specs.Prelude.{◌≡◌, ◌⊎◌, ⊤, ℕ, List, [], Option, Err, IfSome}
+use Rattle.std.specs.Prelude.{◌≡◌, ◌⊎◌, ⊤, ℕ, List, [], Option, Err, IfSome, Contains}
 use Rattle.station_graph.specs.Diagram.{Diagram}
 use Rattle.ssd_read.specs.StandsFor.{Stands}
 use Rattle.double_points.specs.Positions.{IsFault}
@@ -74,6 +74,16 @@ ReadingsStop d held rose (e.Station refusal) = ⊥
 ReadingsStop d held rose e.Done = ⊥
 ReadingsStop d held rose e.Usage = ⊥
 ReadingsStop d held rose e.WriteFault = ⊥
+
+-- why nothing is told of the switch of this path: it is not of the station, which is 11 in no line
+abbrev pub NamedStop : Diagram → List ℕ → End → Type 0
+NamedStop d path e.Memory = ⊤
+NamedStop d path (e.Input refusal) = (¬ Contains d.switch_paths path) × (refusal.number ≡ 11) × (refusal.line ≡ 0)
+NamedStop d path e.ReadFault = ⊥
+NamedStop d path (e.Station refusal) = ⊥
+NamedStop d path e.Done = ⊥
+NamedStop d path e.Usage = ⊥
+NamedStop d path e.WriteFault = ⊥
 
 -- the line was written, or a front of it where the count rose
 abbrev pub Tells : Option (List ℕ) → Option (List ℕ) → ℕ → ℕ → List ℕ → Type 0

@@ -3,6 +3,7 @@
 
 mod check;
 mod end;
+mod explain;
 mod loading;
 mod status;
 mod tell;

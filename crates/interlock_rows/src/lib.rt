@@ -5,4 +5,6 @@
 #[cfg(test)]
 mod drawings;
 #[cfg(test)]
+mod explanations;
+#[cfg(test)]
 mod rows;

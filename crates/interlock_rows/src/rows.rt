@@ -7,7 +7,7 @@ use std::process::Abort;
 use std::test::Fail;
 
 // The words of a line.
-fn words_of(alloc: Global, line: &str) -> Result<Vec<String>, Memory> {
+pub(crate) fn words_of(alloc: Global, line: &str) -> Result<Vec<String>, Memory> {
     let mut words = Vec::new(alloc);
     for word in line.split_whitespace() {
         words.push(String::from_str(alloc, word)?)?;
@@ -17,7 +17,7 @@ fn words_of(alloc: Global, line: &str) -> Result<Vec<String>, Memory> {
 
 // Runs a line of words over the files a.ssd and a.csv, and compares the status, what went to `out` and
 // what went to `err`.
-fn expect(
+pub(crate) fn expect(
     rt: &impl Abort,
     alloc: Global,
     line: &str,
@@ -103,10 +103,10 @@ fn rule_of(sign: u8) -> &'static str {
     }
 }
 
-fn positions_of(alloc: Global, row: &Row) -> Result<Text, Memory> {
+pub(crate) fn positions_of(alloc: Global, on: &[u8; 10]) -> Result<Text, Memory> {
     let mut positions = Text::new(alloc);
     for i in 0..10 {
-        let word = if row.on[i] == b'1' { ",on\n" } else { ",off\n" };
+        let word = if on[i] == b'1' { ",on\n" } else { ",off\n" };
         positions.push(b"S/V1/")?;
         positions.push(TEN[i].as_bytes())?;
         positions.push(word.as_bytes())?;
@@ -132,7 +132,7 @@ fn lines_of(alloc: Global, row: &Row) -> Result<Text, Memory> {
 fn releases_of_two_feeders(rt: HostRuntime) -> Result<(), Fail> {
     let alloc = rt.alloc();
     for row in ROWS {
-        let positions = positions_of(alloc, row)?;
+        let positions = positions_of(alloc, row.on)?;
         let text = lines_of(alloc, row)?;
         let want = (Status::Done, text.bytes(), "");
         let line = "check a.ssd a.csv";
@@ -167,7 +167,7 @@ S/V1/K0/QA1,";
 
 // Positions in which the coupler is on, feeder 1 is on the first busbar and feeder 2 on the second, but
 // for the coupler's breaker, whose word is given.
-fn coupled(alloc: Global, coupler: &str) -> Result<Text, Memory> {
+pub(crate) fn coupled(alloc: Global, coupler: &str) -> Result<Text, Memory> {
     let mut positions = Text::new(alloc);
     positions.push(COUPLED.as_bytes())?;
     positions.push(coupler.as_bytes())?;

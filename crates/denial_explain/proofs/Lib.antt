@@ -1,0 +1,2 @@
+pub mod RuleReasons
+pub mod ClassLemmas

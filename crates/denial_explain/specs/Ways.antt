@@ -1,0 +1,20 @@
+-- Ways: lists of nodes along which a relation leads, each node once, and no list shorter.
+use Rattle.std.specs.Prelude.{◌≡◌, ◌≤◌, ◌<◌, ℕ, List, ◌∷◌, length, slice_get, Some}
+use Rattle.station_graph.specs.Connection.{LeadsTo}
+
+-- Each node stands once in the list.
+abbrev pub Distinct : List ℕ → Type 0
+Distinct nodes = (i j n : ℕ) → slice_get nodes i ≡ Some n → slice_get nodes j ≡ Some n → i ≡ j
+
+-- Each node of the list is one of so many.
+abbrev pub AllBelow : ℕ → List ℕ → Type 0
+AllBelow count nodes = (i n : ℕ) → slice_get nodes i ≡ Some n → n < count
+
+-- The list is a shortest way along R from a to a node at which End holds, which is the last.
+pub record IsWay (R : ℕ → ℕ → Type 0) (End : ℕ → Type 0) (a last : ℕ) (nodes : List ℕ) : Type 0 where
+  pub after : List ℕ
+  pub begins : nodes ≡ a ∷ after
+  pub leads : LeadsTo R a after last
+  pub ends : End last
+  pub distinct : Distinct nodes
+  pub shortest : (other : List ℕ) (m : ℕ) → LeadsTo R a other m → End m → length after ≤ length other

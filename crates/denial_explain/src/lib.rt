@@ -1,0 +1,16 @@
+//! Why an operation is denied: the way by which a node is energised, the way by which it is earthed, the
+//! load on both sides of a gap, and what bonds them not.
+#![tactic(auto)]
+
+mod chain;
+mod chains;
+mod explaining;
+mod explanation;
+mod names;
+mod text;
+
+pub use chain::Chain;
+pub use explaining::explain;
+pub use explanation::Explanation;
+pub use names::{direction_name, is_uncertain, position_name, rule_name};
+pub use text::push_operation;

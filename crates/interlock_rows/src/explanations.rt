@@ -1,0 +1,265 @@
+// What `explain` writes on the drawings, and how it ends. The chains are read off the drawings by hand: of
+// two feeders each has its nodes n1, n2 and n3 in a row from the busbar B, with the disconnector QB1 to the
+// busbar, the breaker QA1 to n2, the line disconnector QB9 to n3, and at n3 the earthing switch QC9 and the
+// infeed E1. On the double busbar QB1 leads to the first busbar and QB2 to the second, and the coupler K0
+// leads over QB1, k1, QA1, k2 and QB2 from one to the other.
+use crate::drawings::{DOUBLE_BUSBAR, TWO_FEEDERS};
+use crate::rows::{coupled, expect, positions_of};
+use interlock_cli::Status;
+use std::test::Fail;
+
+// A row on the two feeders: which switches are on, the words, and what is written.
+struct Row {
+    on: &'static [u8; 10],
+    words: &'static str,
+    text: &'static str,
+}
+
+// The breaker between an energised busbar and an earthed feeder, both directions; an earthing switch
+// behind an open breaker; the disconnector of one of two feeders that are through; the same where only
+// the second side is live; an infeed at an earthed node.
+const ROWS: &[Row] = &[
+    Row {
+        on: b"1011011101",
+        words: "explain a.ssd a.csv close S/V1/Q1/QA1",
+        text: "denied R2 close S/V1/Q1/QA1
+live
+node S/V1/Q1/n1
+node S/V1/W1/B
+node S/V1/Q2/n1
+node S/V1/Q2/n2
+node S/V1/Q2/n3
+by S/V1/Q2/E1
+earthed
+node S/V1/Q1/n1
+node S/V1/Q1/n2
+node S/V1/Q1/n3
+by S/V1/Q1/QC9
+",
+    },
+    Row {
+        on: b"1011011101",
+        words: "explain a.ssd a.csv open S/V1/Q1/QA1",
+        text: "released open S/V1/Q1/QA1\n",
+    },
+    Row {
+        on: b"1010011101",
+        words: "explain a.ssd a.csv close S/V1/Q1/QC9",
+        text: "denied R1 close S/V1/Q1/QC9
+live
+node S/V1/Q1/n3
+node S/V1/Q1/n2
+node S/V1/Q1/n1
+node S/V1/W1/B
+node S/V1/Q2/n1
+node S/V1/Q2/n2
+node S/V1/Q2/n3
+by S/V1/Q2/E1
+",
+    },
+    Row {
+        on: b"1110111101",
+        words: "explain a.ssd a.csv open S/V1/Q1/QB1",
+        text: "denied R3 open S/V1/Q1/QB1
+live
+node S/V1/W1/B
+node S/V1/Q2/n1
+node S/V1/Q2/n2
+node S/V1/Q2/n3
+by S/V1/Q2/E1
+tap
+node S/V1/W1/B
+node S/V1/Q2/n1
+node S/V1/Q2/n2
+node S/V1/Q2/n3
+tap
+node S/V1/Q1/n1
+node S/V1/Q1/n2
+node S/V1/Q1/n3
+bonded
+node S/V1/W1/B
+node S/V1/Q2/n1
+node S/V1/Q2/n2
+node S/V1/Q2/n3
+",
+    },
+    Row {
+        on: b"1110111100",
+        words: "explain a.ssd a.csv open S/V1/Q1/QB1",
+        text: "denied R3 open S/V1/Q1/QB1
+live
+node S/V1/Q1/n1
+node S/V1/Q1/n2
+node S/V1/Q1/n3
+by S/V1/Q1/E1
+tap
+node S/V1/W1/B
+node S/V1/Q2/n1
+node S/V1/Q2/n2
+node S/V1/Q2/n3
+tap
+node S/V1/Q1/n1
+node S/V1/Q1/n2
+node S/V1/Q1/n3
+bonded
+node S/V1/W1/B
+node S/V1/Q2/n1
+node S/V1/Q2/n2
+node S/V1/Q2/n3
+",
+    },
+    Row {
+        on: b"0001000000",
+        words: "explain a.ssd a.csv close S/V1/Q1/E1",
+        text: "denied R2 close S/V1/Q1/E1
+live
+node S/V1/Q1/n3
+by S/V1/Q1/E1
+earthed
+node S/V1/Q1/n3
+by S/V1/Q1/QC9
+",
+    },
+];
+
+#[test]
+fn known_positions(rt: HostRuntime) -> Result<(), Fail> {
+    let alloc = rt.alloc();
+    for row in ROWS {
+        let positions = positions_of(alloc, row.on)?;
+        let want = (Status::Done, row.text.as_bytes(), "");
+        let station = TWO_FEEDERS.as_bytes();
+        expect(&rt, alloc, row.words, station, positions.bytes(), want)?;
+    }
+    Ok(())
+}
+
+// With the coupler's breaker in between, feeder 1 on the first busbar and feeder 2 on the second: closing
+// the disconnector to the second busbar breaks a rule with the coupler off alone, and opening that to the
+// first with the coupler on alone.
+const UNKNOWN: &[(&str, &str)] = &[
+    (
+        "explain a.ssd a.csv close S/V1/Q1/QB2",
+        "denied R3 close S/V1/Q1/QB2
+with off S/V1/K0/QA1
+live
+node S/V1/W2/B
+node S/V1/Q2/n1
+node S/V1/Q2/n2
+node S/V1/Q2/n3
+by S/V1/Q2/E1
+tap
+node S/V1/W2/B
+node S/V1/Q2/n1
+node S/V1/Q2/n2
+node S/V1/Q2/n3
+tap
+node S/V1/Q1/n1
+node S/V1/Q1/n2
+node S/V1/Q1/n3
+bonded
+node S/V1/W2/B
+node S/V1/K0/k2
+node S/V1/Q2/n1
+node S/V1/Q2/n2
+node S/V1/Q2/n3
+",
+    ),
+    (
+        "explain a.ssd a.csv open S/V1/Q1/QB1",
+        "denied R3 open S/V1/Q1/QB1
+with on S/V1/K0/QA1
+live
+node S/V1/W1/B
+node S/V1/K0/k1
+node S/V1/K0/k2
+node S/V1/W2/B
+node S/V1/Q2/n1
+node S/V1/Q2/n2
+node S/V1/Q2/n3
+by S/V1/Q2/E1
+tap
+node S/V1/W1/B
+node S/V1/K0/k1
+node S/V1/K0/k2
+node S/V1/W2/B
+node S/V1/Q2/n1
+node S/V1/Q2/n2
+node S/V1/Q2/n3
+tap
+node S/V1/Q1/n1
+node S/V1/Q1/n2
+node S/V1/Q1/n3
+bonded
+node S/V1/W1/B
+node S/V1/W2/B
+node S/V1/K0/k1
+node S/V1/K0/k2
+node S/V1/Q2/n1
+node S/V1/Q2/n2
+node S/V1/Q2/n3
+",
+    ),
+];
+
+#[test]
+fn unknown_position(rt: HostRuntime) -> Result<(), Fail> {
+    let alloc = rt.alloc();
+    let positions = coupled(alloc, "intermediate")?;
+    for (words, text) in UNKNOWN {
+        let want = (Status::Done, text.as_bytes(), "");
+        let station = DOUBLE_BUSBAR.as_bytes();
+        expect(&rt, alloc, words, station, positions.bytes(), want)?;
+    }
+    Ok(())
+}
+
+// Words that are not of the form of `explain`, and those that name no switch or a file that is missing.
+const ENDS: &[(&str, Status, &str)] = &[
+    (
+        "explain a.ssd a.csv open",
+        Status::Usage,
+        "interlock: usage\n",
+    ),
+    (
+        "explain a.ssd a.csv up S/V1/Q1/QB1",
+        Status::Usage,
+        "interlock: usage\n",
+    ),
+    (
+        "explain a.ssd a.csv open -x",
+        Status::Usage,
+        "interlock: usage\n",
+    ),
+    (
+        "check a.ssd a.csv open S/V1/Q1/QB1",
+        Status::Usage,
+        "interlock: usage\n",
+    ),
+    (
+        "explain a.ssd a.csv open S/V1/Q1/QX",
+        Status::InputRefused,
+        "interlock: input refused 11 line 0\n",
+    ),
+    (
+        "explain a.ssd a.csv close S/V1/Q1",
+        Status::InputRefused,
+        "interlock: input refused 11 line 0\n",
+    ),
+    (
+        "explain b.ssd a.csv open S/V1/Q1/QX",
+        Status::ReadFault,
+        "interlock: read fault\n",
+    ),
+];
+
+#[test]
+fn other_ends(rt: HostRuntime) -> Result<(), Fail> {
+    let alloc = rt.alloc();
+    for (words, status, line) in ENDS {
+        let want = (*status, b"".as_slice(), *line);
+        let station = TWO_FEEDERS.as_bytes();
+        expect(&rt, alloc, words, station, b"", want)?;
+    }
+    Ok(())
+}
