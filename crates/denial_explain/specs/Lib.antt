@@ -1,0 +1,4 @@
+pub mod Ways
+pub mod Chains
+pub mod Listing
+pub mod Stepping
