@@ -1,0 +1,6 @@
+pub mod Places
+pub mod ListingLemmas
+pub mod ReachLemmas
+pub mod PassLemmas
+pub mod WayLemmas
+pub mod EndLemmas

@@ -33,6 +33,7 @@ fn reach(
     Ok(())
 }
 
+// The same for each of these nodes, in their order.
 fn reach_all(
     nodes: &[u16],
     next: u16,
@@ -48,7 +49,7 @@ fn reach_all(
     Ok(())
 }
 
-// Reaches the neighbours of the node, one step after it.
+// The turn of a node: it reaches its neighbours, which get one step more than it has.
 fn spread(
     neighbours: &Neighbours,
     node: NodeId,
@@ -67,7 +68,7 @@ fn spread(
     }
 }
 
-// The pass: from the ends on, each node in its turn reaches its neighbours.
+// The pass, breadth first: from the ends on, each node of the queue has its turn.
 fn spread_all(
     neighbours: &Neighbours,
     ends: &NodeList,
@@ -150,6 +151,7 @@ pub(crate) fn follow(
     Ok(Way { nodes, last })
 }
 
+// The steps of a node that has some.
 fn steps_at(steps: &[Option<u16>], node: NodeId) -> u16
     requires { (k : ℕ) × HasSteps steps.now node.0 k }
     ensures { HasSteps steps.now node.0 result }
