@@ -5,21 +5,21 @@ use Rattle.std.proofs.lemmas.List.{length_push, get_or_append_left, get_or_push}
 use Rattle.std.proofs.lemmas.List.Elements.{Contains-push, Contains-push_cases, Contains-append_left}
 use Rattle.station_graph.specs.Nodes.{Rises}
 
-pub record Gathers (P : ℕ → Type 0) (i : ℕ) (nodes : List ℕ) : Type 0 where
+pub record Picks (P : ℕ → Type 0) (i : ℕ) (nodes : List ℕ) : Type 0 where
   pub rises : Rises nodes
   pub below : (k : ℕ) → k < length nodes → slice_index nodes k < i
   pub exact : (n : ℕ) → Contains nodes n ↔ ((n < i) × P n)
 
-pub Gathers-none : (P : ℕ → Type 0) → Gathers P 0 []
-Gathers-none P = record {
+pub Picks-none : (P : ℕ → Type 0) → Picks P 0 []
+Picks-none P = record {
   rises = λ j k jk k_in. absurd (omega arith);
   below = λ k k_in. absurd (omega arith);
   exact = λ n. (λ h. absurd (omega (arith, h.1)), λ h. absurd (omega (arith, h.0)));
 }
 
-module _ (P : ℕ → Type 0) (i : ℕ) (nodes : List ℕ) (h : Gathers P i nodes) where
-  pub Gathers-push : P i → Gathers P (i + 1) (nodes ++ i ∷ [])
-  Gathers-push yes =
+module _ (P : ℕ → Type 0) (i : ℕ) (nodes : List ℕ) (h : Picks P i nodes) where
+  pub Picks-push : P i → Picks P (i + 1) (nodes ++ i ∷ [])
+  Picks-push yes =
       let len : length (nodes ++ i ∷ []) ≡ length nodes + 1 = length_push nodes i in
       record {
         rises = λ j k jk k_in. elim (cases_lt k (length nodes)) [
@@ -57,8 +57,8 @@ module _ (P : ℕ → Type 0) (i : ℕ) (nodes : List ℕ) (h : Gathers P i node
         );
       }
 
-  pub Gathers-pass : ¬ P i → Gathers P (i + 1) nodes
-  Gathers-pass fails = record {
+  pub Picks-pass : ¬ P i → Picks P (i + 1) nodes
+  Picks-pass fails = record {
     rises = h.rises;
     below = λ k k_in. omega (arith, h.below k k_in);
     exact = λ n. (

@@ -1,16 +1,16 @@
--- Where a chain leads.
+-- What a chain shows.
 use Rattle.std.specs.Prelude.{◌≡◌, ℕ, Bool, false, List, Some, None}
 use Rattle.ilk_base.specs.declared.words.Kind.{Kind}
 use Rattle.ilk_base.specs.declared.words.SwitchId.{SwitchId}
 use Rattle.station_graph.specs.Diagram.{Diagram, HasTap}
 use Rattle.station_graph.specs.Connection.{Touching}
 use Rattle.station_graph.specs.Supply.{ClosedAt}
-use Rattle.denial_explain.specs.Ways.{IsWay}
 use Rattle.denial_explain.specs.declared.chain.Chain.{Chain}
+use Rattle.denial_explain.specs.Ways.{IsWay}
 
--- The chain leads from the node to one at which a switch of this kind stands that is closed in v, and
--- names it. Each two neighbours are the ends of a link, or of a breaker or disconnector that is closed in
--- `joining`.
+-- The chain is a shortest way from the node a to a node where a switch of this kind stands that is
+-- closed in v, and it names such a switch at its last node. Each two neighbours in it are the ends of a
+-- breaker or disconnector that is closed in joining, or of a link.
 pub record LeadsToClosed (d : Diagram) (joining v : List Bool) (kind : Kind) (a : ℕ) (c : Chain) : Type 0 where
   pub last : ℕ
   pub way : IsWay (Touching false d joining) (ClosedAt d v kind) a last c.nodes
@@ -19,7 +19,7 @@ pub record LeadsToClosed (d : Diagram) (joining v : List Bool) (kind : Kind) (a 
   pub at : ClosedAt d v kind last
   pub is_by : at.number ≡ by.0
 
--- The chain leads from the node to one that has a tap.
+-- The chain is a shortest way from the node a to a node with a tap, and names no switch.
 pub record LeadsToTap (d : Diagram) (joining : List Bool) (a : ℕ) (c : Chain) : Type 0 where
   pub last : ℕ
   pub way : IsWay (Touching false d joining) (HasTap d) a last c.nodes

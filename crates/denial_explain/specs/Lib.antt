@@ -1,6 +1,8 @@
 pub mod Ways
 pub mod Chains
 pub mod Explained
-pub mod SameClass
 pub mod Names
 pub mod ExplanationText
+pub mod SameClass
+pub mod Listing
+pub mod Stepping

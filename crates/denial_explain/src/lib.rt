@@ -7,6 +7,8 @@ mod chains;
 mod explaining;
 mod explanation;
 mod names;
+mod neighbours;
+mod steps;
 mod text;
 
 pub use chain::Chain;

@@ -1,5 +1,5 @@
 use Rattle.std.proofs.Common.{◌≡◌, ◌<◌, ℕ, length, slice_index, arith, rules, sym, ◌∙◌}
-use Rattle.denial_explain.proofs.ClassLemmas.{Gathers-push, Gathers-pass}
+use Rattle.denial_explain.proofs.ClassLemmas.{Picks-push, Picks-pass}
 use Rattle.denial_explain.proofs.explaining.same_class.Goals as goal
 use Rattle.denial_explain.proofs.explaining.same_class.Goals.{then-eq+in_ok-push, else-eq}
 
@@ -8,8 +8,8 @@ loop-i-preserved c =
     let P : ℕ → Type 0 = λ n. slice_index c.args.labels.now n ≡ c.get-class.result.0 in
     elim c.if-eq.branch [
       | then-eq+in_ok-push w ↦
-          rw (w.nodes-is, w.in_ok-push.ensures.ok) (Gathers-push P c.loop-i.i c.loop-i.nodes c.loop-i.invariant (search rules))
-      | else-eq w ↦ rw w.nodes-is (Gathers-pass P c.loop-i.i c.loop-i.nodes c.loop-i.invariant (search rules))
+          rw (w.nodes-is, w.in_ok-push.ensures.ok) (Picks-push P c.loop-i.i c.loop-i.nodes c.loop-i.invariant (search rules))
+      | else-eq w ↦ rw w.nodes-is (Picks-pass P c.loop-i.i c.loop-i.nodes c.loop-i.invariant (search rules))
     ]
 
 pub returns : goal.returns
