@@ -19,7 +19,7 @@ Picks-none P = record {
 
 module _ (P : ℕ → Type 0) (i : ℕ) (nodes : List ℕ) (h : Picks P i nodes) where
   pub Picks-push : P i → Picks P (i + 1) (nodes ++ i ∷ [])
-  Picks-push yes =
+  Picks-push has =
       let len : length (nodes ++ i ∷ []) ≡ length nodes + 1 = length_push nodes i in
       record {
         rises = λ j k jk k_in. elim (cases_lt k (length nodes)) [
@@ -46,7 +46,7 @@ module _ (P : ℕ → Type 0) (i : ℕ) (nodes : List ℕ) (h : Picks P i nodes)
         exact = λ n. (
           λ c. elim (Contains-push_cases nodes i n c) [
             | inl old ↦ let w = (h.exact n).0 old in (omega (arith, w.0), w.1)
-            | inr e ↦ (omega arith, subst P e yes)
+            | inr e ↦ (omega arith, subst P e has)
           ],
           λ w. elim (cases_lt n i) [
             | inl less ↦ Contains-append_left nodes (i ∷ []) n ((h.exact n).1 (less, w.1))

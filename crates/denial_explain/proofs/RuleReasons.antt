@@ -158,8 +158,8 @@ module _ (d : Diagram) (station : IsStation d) (v : List Bool) (whole : length v
 -- an operation that breaks a rule does not break none
 pub not_none : (d : Diagram) (v : List Bool) (op : Op) (rule : Rule) → Breaks d v op (Some rule) → Breaks d v op None → ⊥
 not_none d v op R1 some none = none.0 some
-not_none d v op R2 some none = none.1.0 some.1
-not_none d v op R3 some none = none.1.1 some.1.1
+not_none d v op R2 some none = none.1 some.1
+not_none d v op R3 some none = none.2 some.2
 
 -- the gap of the moved disconnector carries load
 pub load_gap : (d : Diagram) (v : List Bool) (op : Op) (x : Switch) (n : NodeId) → Moves d op x → x.second ≡ Some n → BreaksLoad d v op → GapCarriesLoad d (before v op) x.first.0 n.0
@@ -195,7 +195,7 @@ pub load_explained : (d : Diagram) (v open_ : List Bool) (op : Op) (x : Switch) 
     → LeadsLive d open_ x.first.0 n.0 live → LeadsToTap d open_ x.first.0 first → LeadsToTap d open_ n.0 second → ((m : ℕ) → Contains bonded m ↔ Bonded d open_ x.first.0 m) → Rises bonded
     → Explains d v op (record { op = op; rule = R3; live = live; earthed = None; taps = Some (first, second); bonded = bonded })
 load_explained d v open_ op x n live first second bonded is broken moves has_second leads to_first to_second all rises =
-    let gap = load_gap d v op x n moves has_second broken.1.1 in
+    let gap = load_gap d v op x n moves has_second broken.2 in
     let exact = subst (λ (u : List Bool). (m : ℕ) → Contains bonded m ↔ Bonded d u x.first.0 m) is all in
     record {
       op_is = refl;
