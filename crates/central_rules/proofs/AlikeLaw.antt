@@ -152,7 +152,7 @@ SameFor-sym d c v w h = record {
 }
 
 -- a switch is of one part
-one_part : (d : Diagram) (p q i : ℕ) → OfPart d p (a_switch i) → OfPart d q (a_switch i) → p ≡ q
+pub one_part : (d : Diagram) (p q i : ℕ) → OfPart d p (a_switch i) → OfPart d q (a_switch i) → p ≡ q
 one_part d p q i (x, at_x, of_x) (y, at_y, of_y) =
     let same : x ≡ y = cc in
     sym of_x ∙ ap (λ (s : Switch). s.bay.0) same ∙ of_y

@@ -4,4 +4,5 @@ pub mod AnswerLemmas
 pub mod AlikeLaw
 pub mod TryingLemmas
 pub mod MeaningLemmas
+pub mod KnownLemmas
 pub mod WordRowLemmas

@@ -1,9 +1,14 @@
 //! What a judge is.
-ghost use Rattle.std.specs.Prelude.{◌≡◌, ◌≢◌, ◌<◌, ◌↔◌, ℕ, Bool, List, Option, length, IfOk, IsTrue, IsFalse};
+ghost use Rattle.std.specs.Prelude.{◌≡◌, ◌≢◌, ◌<◌, ◌↔◌, ℕ, Bool, List, Option, None, length, IfOk, IsTrue, IsFalse};
 ghost use Rattle.ilk_base.specs.declared.words.Dbpos.{Dbpos as Word};
-ghost use Rattle.station_graph.specs.Diagram.{part_count};
+ghost use Rattle.ilk_base.specs.declared.words.Op.{Op as Operation};
+ghost use Rattle.station_graph.specs.Diagram.{part_count, IsStation};
+ghost use Rattle.station_graph.specs.Connection.{a_switch};
+ghost use Rattle.station_graph.specs.Sharing.{OfPart};
+ghost use Rattle.station_graph.specs.CentralRules.{Breaks};
+ghost use Rattle.station_graph.specs.Alike.{SameAnswers};
 ghost use Rattle.central_rules.specs.Readings.{IsReading, Decides};
-ghost use Rattle.central_rules.specs.Knowledge.{Known, IsReadingOf};
+ghost use Rattle.central_rules.specs.Knowledge.{Known, IsReadingOf, Holds};
 ghost use Rattle.central_rules.specs.Meaning.{Meaning, Laws, Summarises, HeardFit, Knows, AreMade, bay_of, IsBay};
 
 use crate::verdict::Verdict;
@@ -69,6 +74,10 @@ pub trait Judge {
         requires all { length readings.now ≡ length (meaning self.now).diagram.switches }
         ensures { IfOk result (Decides (meaning self.now).diagram (IsReading readings.now) op) };
 
+    /// The diagram is that of a station. This is a law: the call does nothing.
+    fn diagram_is_station(&self)
+        ensures { IsStation (meaning self.now).diagram };
+
     /// What a summary allows depends on its own bay alone; a bay that tells another nothing is irrelevant
     /// to it, and exactly the empty summary fits from it, which allows everything.
     ghost lawful: { (j : Self) → Laws (meaning j) };
@@ -81,3 +90,26 @@ pub fn known_by_words<J: Judge>(judge: &J)
         → AreMade (J.meaning judge.now) k heard → Knows (J.meaning judge.now) k.bay k.own heard v
         → IsReadingOf (J.meaning judge.now).diagram k v }
 {}
+
+/// Where the summaries heard are those of the words of what a bay knows, each reading of what it knows has
+/// a vector that its own words and the summaries allow, with the same answers for its operations. The
+/// reading itself need not be allowed: it lets a bay that was heard stand merely alike to a position of
+/// that bay's words, or, where that bay is irrelevant, in any position.
+pub fn words_by_known<J: Judge>(judge: &J)
+    ensures { (k : Known) (heard : List (Option (List ℕ))) (v : List Bool)
+        → AreMade (J.meaning judge.now) k heard → IsReadingOf (J.meaning judge.now).diagram k v
+        → (w : List Bool) × Knows (J.meaning judge.now) k.bay k.own heard w × SameAnswers (J.meaning judge.now).diagram k.bay v w }
+{
+    judge.diagram_is_station();
+}
+
+/// Judging by summaries is judging by words: where the summaries heard are those of the words of what a
+/// bay knows, an operation of the bay holds by what it knows exactly where it breaks no rule in any vector
+/// that its own words and the summaries allow.
+pub fn holds_by_summaries<J: Judge>(judge: &J)
+    ensures { (op : Operation) (k : Known) (heard : List (Option (List ℕ)))
+        → AreMade (J.meaning judge.now) k heard → OfPart (J.meaning judge.now).diagram k.bay (a_switch op.switch.0)
+        → Holds (J.meaning judge.now).diagram op k ↔ ((v : List Bool) → Knows (J.meaning judge.now) k.bay k.own heard v → Breaks (J.meaning judge.now).diagram v op None) }
+{
+    judge.diagram_is_station();
+}

@@ -16,7 +16,7 @@ mod trying;
 mod verdict;
 
 pub use alike::alike_positions;
-pub use judge::{Judge, known_by_words};
+pub use judge::{Judge, holds_by_summaries, known_by_words, words_by_known};
 pub use labelling::labels;
 pub use plain::{PLAIN_SWITCHES, PlainJudge, fits_plain};
 pub use rules::breaks;
