@@ -80,7 +80,10 @@ fn explain_named(
     ensures err { IfErr result (NamedStop station.now path.now) }
 {
     let Some(switch) = station.find_switch(path) else {
-        return Err(End::Input(InputRefusal { number: 11, line: 0 }));
+        return Err(End::Input(InputRefusal {
+            number: 11,
+            line: 0,
+        }));
     };
     match explain_text(alloc, station, readings, Op { switch, direction }) {
         Ok(text) => Ok(text),
