@@ -2,8 +2,10 @@
 #![tactic(auto)]
 
 mod check;
+mod check_command;
 mod end;
 mod explain;
+mod explain_command;
 mod loading;
 mod status;
 mod tell;
