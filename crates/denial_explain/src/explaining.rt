@@ -202,7 +202,14 @@ fn explain_load(
     })
 }
 
-/// Why the operation breaks a rule in this reading of the positions. The chains are as short as can be.
+/// Why the operation breaks a rule in this reading of the positions: for R1 how the node of the earthing
+/// switch is energised, for R2 how the first node of the switch is energised and earthed with the operation
+/// done, for R3 how one side of the disconnector is live with it open, what load each side has, and what is
+/// bonded to its first node. Each chain is as short as can be; of several shortest ones it is any. The
+/// operation breaks a rule in this reading, as a judge's denial shows it. After `Memory` nothing is changed.
+///
+/// Time: that of `breaks`, one breadth-first pass over the nodes and all items for each chain, and for R3
+/// that of `labels` twice. Memory: the nodes and the items.
 pub fn explain(
     alloc: Global,
     station: &Station,
