@@ -1,3 +1,4 @@
 pub mod Cuts
 pub mod AllLines
 pub mod Through
+pub mod Named

@@ -53,7 +53,7 @@ explain_through station positions switch s p direction d words before after (e.I
     let same = same_station s other d stands_too stands in
     elim why [
       | inl fault ↦ absurd (not_both d.switch_paths p words refusal accepted (subst (λ (x : Diagram). IsFault x.switch_paths p refusal) same fault))
-      | inr (others, taken, missing, rest) ↦ absurd (missing (subst (λ (x : Diagram). Contains x.switch_paths switch) (sym same) named))
+      | inr (others, taken, missing, number, line) ↦ absurd (missing (subst (λ (x : Diagram). Contains x.switch_paths switch) (sym same) named))
     ]
 
 pub through : (c : Command) (held : List ℕ → Option (List ℕ)) (before after : FaultCounts) (old new : Option (List ℕ)) (end : End) → Ends c held before after old new end

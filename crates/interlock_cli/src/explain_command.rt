@@ -64,17 +64,19 @@ fn explain_loaded<F: Shelf>(
 // `explain STATION POSITIONS open SWITCH`, or `close`.
 pub(crate) fn explain<F: Shelf, I: Source, O: Sink>(
     alloc: Global,
-    words: (&str, &str, Direction, &str),
+    station: &str,
+    positions: &str,
+    direction: Direction,
+    switch: &str,
     shelf: &mut F,
     _input: &mut I,
     out: &mut O,
 ) -> End
-    ensures { Ends (Explain words.0.now words.1.now words.2 words.3.now) (F.held shelf.old)
+    ensures { Ends (Explain station.now positions.now direction switch.now) (F.held shelf.old)
         record { shelf = F.faults shelf.old; input = I.faults _input.old; out = O.faults out.old }
         record { shelf = F.faults shelf.new; input = I.faults _input.new; out = O.faults out.new }
         (O.took out.old) (O.took out.new) result }
 {
-    let (station, positions, direction, switch) = words;
     let text = match explain_loaded(alloc, station, positions, direction, switch, shelf) {
         Ok(text) => text,
         Err(end) => return end,

@@ -31,7 +31,11 @@ fn command<F: Shelf, I: Source, O: Sink>(
     }
     match explain_words(words) {
         None => End::Usage,
-        Some(named) => explain(alloc, named, shelf, input, out),
+        Some((station, positions, direction, switch)) => {
+            explain(
+                alloc, station, positions, direction, switch, shelf, input, out,
+            )
+        }
     }
 }
 

@@ -55,9 +55,11 @@ pub(crate) fn explain_words(words: &[String]) -> Option<(&str, &str, Direction, 
     let station = station.as_str();
     let positions = positions.as_str();
     let switch = switch.as_str();
-    let direction = direction_of(direction.as_str())?;
-    if name == "explain" && is_plain(station) && is_plain(positions) && is_plain(switch) {
-        return Some((station, positions, direction, switch));
+    if name != "explain" || !is_plain(station) || !is_plain(positions) || !is_plain(switch) {
+        return None;
     }
-    None
+    match direction_of(direction.as_str()) {
+        Some(direction) => Some((station, positions, direction, switch)),
+        None => None,
+    }
 }
