@@ -1,6 +1,6 @@
 -- What a broken rule gives: what is energised, earthed, live and loaded.
-use Rattle.std.proofs.Common.{◌≡◌, ◌≢◌, ◌↔◌, ℕ, ◌+◌, ◌<◌, ◌≤◌, ◌⊎◌, zero, suc, Bool, true, false, List, [], ◌∷◌, length, Contains, slice_get, slice_set, get_or, Option, Some, None, refl, sym, ◌∙◌, ap, subst, inl, inr, arith, length-set}
-use Rattle.std.proofs.lemmas.Bool.{cases_eq, cases_lt}
+use Rattle.std.proofs.Common.{◌≡◌, ◌≢◌, ◌↔◌, ℕ, ◌<◌, ◌≤◌, ◌⊎◌, zero, suc, Bool, true, false, List, [], ◌∷◌, length, Contains, slice_get, Some, None, refl, sym, ◌∙◌, ap, subst, inl, inr, arith, length-set}
+use Rattle.std.proofs.lemmas.Bool.{cases_lt}
 use Rattle.std.proofs.lemmas.List.{get_or-set_same}
 use Rattle.std.proofs.lemmas.Option.{slice_get_within, slice_get-get_or, slice_get_cases}
 use Rattle.ilk_base.specs.declared.words.Kind.{Kind}
@@ -12,10 +12,10 @@ use Rattle.ilk_base.specs.declared.words.NodeId.{NodeId}
 use Rattle.station_graph.specs.declared.items.Switch.{Switch}
 use Rattle.station_graph.specs.declared.items.Tap.{Tap}
 use Rattle.station_graph.specs.Diagram.{Diagram, IsStation, IsTwoEnded, HasTap, node_count}
-use Rattle.station_graph.specs.Sharing.{Touches, TouchedBy}
+use Rattle.station_graph.specs.Sharing.{Touches}
 use Rattle.station_graph.specs.Connection.{Item, a_switch, a_link, a_tap, AnyItem, ItemBetween, Touching, LeadsTo, Linked, Joined, Bonded, Coupled, with_breakers_closed}
-use Rattle.station_graph.specs.Supply.{ClosedAt, Live, Quiet, Energisable, Earthable}
-use Rattle.station_graph.specs.CentralRules.{before, after, Moves, BreaksEarthing, BreaksClosing, BreaksFeeding, BreaksLoad, GapCarriesLoad, Applies, Breaks}
+use Rattle.station_graph.specs.Supply.{ClosedAt, Quiet, Energisable, Earthable}
+use Rattle.station_graph.specs.CentralRules.{before, after, Moves, BreaksEarthing, BreaksLoad, GapCarriesLoad, Applies, Breaks}
 use Rattle.station_graph.specs.Classes.{LabelsLeast}
 use Rattle.station_graph.proofs.LinkedLemmas.{linked_self, linked_weaker}
 use Rattle.station_graph.proofs.PositionLemmas.{slice_get-set_other, close_breakers_at}

@@ -1,17 +1,16 @@
 -- What an explanation says of an operation that breaks a rule in a vector.
-use Rattle.std.specs.Prelude.{◌≡◌, ◌↔◌, ◌⊎◌, ℕ, Bool, List, [], Option, Some, None, Contains}
+use Rattle.std.specs.Prelude.{◌≡◌, ◌↔◌, ◌⊎◌, ℕ, Bool, List, [], Some, None, Contains}
 use Rattle.ilk_base.specs.declared.words.Kind.TheVariants.{Earthing, Infeed}
 use Rattle.ilk_base.specs.declared.words.Rule.{Rule}
 use Rattle.ilk_base.specs.declared.words.Rule.TheVariants.{R1, R2, R3}
 use Rattle.ilk_base.specs.declared.words.Op.{Op}
 use Rattle.ilk_base.specs.declared.words.NodeId.{NodeId}
 use Rattle.station_graph.specs.declared.items.Switch.{Switch}
-use Rattle.station_graph.specs.Diagram.{Diagram, node_count}
+use Rattle.station_graph.specs.Diagram.{Diagram}
 use Rattle.station_graph.specs.Nodes.{Rises}
 use Rattle.station_graph.specs.Connection.{Bonded, with_breakers_closed}
 use Rattle.station_graph.specs.Supply.{Live}
 use Rattle.station_graph.specs.CentralRules.{before, after, Moves, Breaks}
-use Rattle.denial_explain.specs.Ways.{AllBelow}
 use Rattle.denial_explain.specs.Chains.{LeadsToClosed, LeadsToTap}
 use Rattle.denial_explain.specs.declared.chain.Chain.{Chain}
 use Rattle.denial_explain.specs.declared.explanation.Explanation.{Explanation}

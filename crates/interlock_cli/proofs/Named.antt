@@ -1,5 +1,5 @@
 -- How `explain` ends where its switch is not of the station.
-use Rattle.std.proofs.Common.{◌≡◌, ℕ, List, [], Option, Some, None, Ok, refl, inr, subst}
+use Rattle.std.proofs.Common.{ℕ, List, [], Option, Some, None, Ok, refl, inr, subst}
 use Rattle.std.specs.Prelude.{IfSome}
 use Rattle.std.specs.Io.KnownBytes.{Keeps}
 use Rattle.ilk_base.specs.declared.words.Dbpos.{Dbpos}

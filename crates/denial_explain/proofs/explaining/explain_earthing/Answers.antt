@@ -1,4 +1,3 @@
-use Rattle.std.proofs.Common.{◌≡◌}
 use Rattle.station_graph.specs.Diagram.{node_count}
 use Rattle.denial_explain.proofs.RuleReasons.{none_below}
 use Rattle.denial_explain.proofs.explaining.explain_earthing.Goals as goal

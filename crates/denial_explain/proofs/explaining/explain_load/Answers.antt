@@ -1,4 +1,3 @@
-use Rattle.std.proofs.Common.{◌≡◌, subst, sym, List, Bool}
 use Rattle.station_graph.proofs.PartialEdges.{second_fits}
 use Rattle.denial_explain.proofs.RuleReasons.{load_gap, loaded_tap, load_explained}
 use Rattle.denial_explain.proofs.explaining.explain_load.Goals as goal

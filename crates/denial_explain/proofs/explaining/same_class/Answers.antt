@@ -1,4 +1,4 @@
-use Rattle.std.proofs.Common.{◌≡◌, ◌<◌, ℕ, length, slice_index, arith, rules, sym, ◌∙◌}
+use Rattle.std.proofs.Common.{◌≡◌, ℕ, length, slice_index, arith, rules, sym, ◌∙◌}
 use Rattle.denial_explain.proofs.ClassLemmas.{Picks-push, Picks-pass}
 use Rattle.denial_explain.proofs.explaining.same_class.Goals as goal
 use Rattle.denial_explain.proofs.explaining.same_class.Goals.{then-eq+in_ok-push, else-eq}

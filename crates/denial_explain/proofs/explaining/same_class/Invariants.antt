@@ -1,4 +1,4 @@
-use Rattle.std.proofs.Common.{◌≡◌, ℕ, slice_index}
+use Rattle.std.proofs.Common.{◌≡◌, slice_index}
 use Rattle.denial_explain.proofs.ClassLemmas.{Picks}
 use Rattle.denial_explain.proofs.explaining.same_class.Given as goal
 
