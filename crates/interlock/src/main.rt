@@ -1,9 +1,10 @@
 //! The program: its words, the files of the system and the standard streams, handed to the top call.
 #![tactic(auto)]
 
-use ilk_base::{FileShelf, StdIn, StdOut};
+use ilk_base::{FileShelf, StdIn, StdOut, write_all};
 use interlock_cli::{Status, run};
 use std::alloc::AllocError;
+use std::io::ErrorKind;
 use std::process::ExitCode;
 use std::{env, io};
 
@@ -20,13 +21,19 @@ fn words(rt: &HostRuntime) -> io::Result<Vec<String>> {
 
 fn main(rt: HostRuntime) -> ExitCode {
     let alloc = rt.alloc();
-    let Ok(words) = words(&rt) else {
-        return ExitCode::from(Status::Memory as u8);
-    };
     let mut shelf = FileShelf::new(alloc, &rt);
     let mut input = StdIn::new(rt.stdin());
     let mut out = StdOut::new(rt.stdout());
     let mut err = StdOut::new(rt.stderr());
+    let words = match words(&rt) {
+        Ok(words) => words,
+        Err(error) if error.kind() == ErrorKind::OutOfMemory => {
+            let _ = write_all(&mut err, b"interlock: out of memory\n");
+            return ExitCode::from(Status::Memory as u8);
+        }
+        // A word that is no text is a word of no command.
+        Err(_) => Vec::new(alloc),
+    };
     let status = run(alloc, &words, &mut shelf, &mut input, &mut out, &mut err);
     ExitCode::from(status as u8)
 }
