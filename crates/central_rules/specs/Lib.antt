@@ -4,3 +4,4 @@ pub mod Trying
 pub mod Knowledge
 pub mod Meaning
 pub mod WordRows
+pub mod Names

@@ -5,11 +5,12 @@ ghost use Rattle.ilk_base.specs.declared.words.Op.{Op as Operation};
 ghost use Rattle.station_graph.specs.Diagram.{part_count, IsStation};
 ghost use Rattle.station_graph.specs.Connection.{a_switch};
 ghost use Rattle.station_graph.specs.Sharing.{OfPart};
-ghost use Rattle.station_graph.specs.CentralRules.{Breaks};
+ghost use Rattle.station_graph.specs.CentralRules.{Breaks, IsOperation};
 ghost use Rattle.station_graph.specs.Alike.{SameAnswers};
 ghost use Rattle.central_rules.specs.Readings.{IsReading, Decides};
 ghost use Rattle.central_rules.specs.Knowledge.{Known, IsReadingOf, Holds};
 ghost use Rattle.central_rules.specs.Meaning.{Meaning, Laws, Summarises, HeardFit, Knows, AreMade, bay_of, IsBay};
+ghost use Rattle.double_points.specs.Words.{AreWords};
 
 use crate::verdict::Verdict;
 use double_points::Readings;
@@ -43,7 +44,7 @@ pub trait Judge {
     ) -> Result<Summary, Memory>
         requires bay { IsBay (meaning self.now).diagram bay.0 }
         requires to { IsBay (meaning self.now).diagram to.0 }
-        requires all { length readings.now ≡ length (meaning self.now).diagram.switches }
+        requires all { AreWords (meaning self.now).diagram readings.now }
         ensures { IfOk result (λ s. Summarises (meaning self.now) bay.0 to.0 readings.now s) };
 
     /// Whether a summary from the bay to the other has the form of the judge. Takes no memory.
@@ -62,16 +63,16 @@ pub trait Judge {
         own: &Readings,
         heard: &HeardList,
     ) -> Result<Verdict, Memory>
-        requires op { op.switch.0 < length (meaning self.now).diagram.switches }
-        requires own { length own.now ≡ length (meaning self.now).diagram.switches }
+        requires op { IsOperation (meaning self.now).diagram op }
+        requires own { AreWords (meaning self.now).diagram own.now }
         requires heard { length heard.now ≡ part_count (meaning self.now).diagram }
         requires fits { HeardFit (meaning self.now) (bay_of (meaning self.now).diagram op.switch.0) heard.now }
         ensures { IfOk result (Decides (meaning self.now).diagram (Knows (meaning self.now) (bay_of (meaning self.now).diagram op.switch.0) own.now heard.now) op) };
 
     /// The verdict where the word of every switch is known.
     fn judge_all(&self, alloc: Global, op: Op, readings: &Readings) -> Result<Verdict, Memory>
-        requires op { op.switch.0 < length (meaning self.now).diagram.switches }
-        requires all { length readings.now ≡ length (meaning self.now).diagram.switches }
+        requires op { IsOperation (meaning self.now).diagram op }
+        requires all { AreWords (meaning self.now).diagram readings.now }
         ensures { IfOk result (Decides (meaning self.now).diagram (IsReading readings.now) op) };
 
     /// The diagram is that of a station. This is a law: the call does nothing.

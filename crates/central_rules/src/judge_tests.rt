@@ -3,6 +3,7 @@ ghost use Rattle.std.specs.Prelude.{◌≡◌, ◌<◌, length, IfOk, IsTrue};
 ghost use Rattle.station_graph.specs.Diagram.{part_count};
 ghost use Rattle.central_rules.specs.Meaning.{HeardFit, IsBay, bay_of};
 ghost use Rattle.central_rules.specs.WordRows.{by_rows};
+ghost use Rattle.double_points.specs.Words.{AreWords};
 
 use crate::tests::{BARE_STUB, Drawing, TWO_FEEDERS, built, positions, rule_of};
 use crate::{Judge, PlainJudge, Verdict, fits_plain};
@@ -53,7 +54,7 @@ fn word_of(sign: u8) -> Dbpos {
 
 // The words of all switches, a sign for each.
 fn words(rt: &impl Abort, alloc: Global, station: &Station, signs: &[u8]) -> Result<Readings, Fail>
-    ensures { IfOk result (λ r. length r ≡ length station.now.switches) }
+    ensures { IfOk result (λ r. AreWords station.now r) }
 {
     let mut readings = Readings::lost(alloc, station)?;
     assert!(rt; signs.len() == station.switch_count() as usize);
@@ -206,7 +207,7 @@ fn hear(
 ) -> Result<HeardList, Fail>
     requires station { judge.now ≡ station.now }
     requires switch { id.0 < length station.now.switches }
-    requires all { length readings.now ≡ length station.now.switches }
+    requires all { AreWords station.now readings.now }
     ensures count { IfOk result (λ h. length h ≡ part_count station.now) }
     ensures fits { IfOk result (HeardFit (by_rows station.now) (bay_of station.now id.0)) }
 {
@@ -231,7 +232,7 @@ fn released(
     tell: bool,
 ) -> Result<u32, Fail>
     requires station { judge.now ≡ station.now }
-    requires all { length readings.now ≡ length station.now.switches }
+    requires all { AreWords station.now readings.now }
 {
     let mut count = 0u32;
     for i in 0..station.switch_count() {

@@ -3,6 +3,7 @@ ghost use Rattle.std.specs.Prelude.{◌≡◌, ◌↔◌, true, length, IfOk, Is
 ghost use Rattle.station_graph.specs.Diagram.{node_count};
 ghost use Rattle.station_graph.specs.Connection.{Touching};
 ghost use Rattle.station_graph.specs.Classes.{LabelsLeast};
+ghost use Rattle.station_graph.specs.Alike.{IsVector};
 
 use ilk_base::{Memory, SwitchId};
 use station_graph::{Classes, Link, NodeList, Station, Vector};
@@ -18,7 +19,7 @@ pub fn labels(
     vector: &Vector,
     bonds_only: bool,
 ) -> Result<NodeList, Memory>
-    requires { length vector.now ≡ length station.now.switches }
+    requires { IsVector station.now vector.now }
     ensures { IfOk result
         (LabelsLeast (Touching bonds_only station.now vector.now) (node_count station.now)) }
 {

@@ -7,6 +7,7 @@ mod judge;
 #[cfg(test)]
 mod judge_tests;
 mod labelling;
+mod names;
 mod plain;
 mod rules;
 mod supply;
@@ -18,6 +19,7 @@ mod verdict;
 pub use alike::alike_positions;
 pub use judge::{Judge, holds_by_summaries, known_by_words, words_by_known};
 pub use labelling::labels;
+pub use names::{direction_name, is_uncertain, position_name, rule_name, word_name};
 pub use plain::{PLAIN_SWITCHES, PlainJudge, fits_plain};
 pub use rules::breaks;
 pub use supply::is_live;

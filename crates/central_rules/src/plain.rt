@@ -5,6 +5,7 @@ ghost use Rattle.station_graph.specs.Connection.{a_switch};
 ghost use Rattle.station_graph.specs.Sharing.{OfPart};
 ghost use Rattle.central_rules.specs.declared.plain.TheConstants.{PLAIN_SWITCHES};
 ghost use Rattle.central_rules.specs.WordRows.{code_of_word, word_of_code, place_in, heard_word, known_word, FirstAre, IsRow, IsRowOf};
+ghost use Rattle.double_points.specs.Words.{AreWords};
 
 use crate::judge::Judge;
 use crate::trying::trial;
@@ -70,7 +71,7 @@ fn are_codes(row: &[u8]) -> bool
 
 // The row of the bay's words.
 fn row_of(station: &Station, bay: BayId, readings: &Readings) -> Summary
-    requires { length readings.now ≡ length station.now.switches }
+    requires { AreWords station.now readings.now }
     ensures { IsRowOf station.now bay.0 readings.now result }
 {
     let _count = station.switch_count();
@@ -112,7 +113,7 @@ fn word_known(
     id: SwitchId,
 ) -> Dbpos
     requires switch { id.0 < length station.now.switches }
-    requires own { length own.now ≡ length station.now.switches }
+    requires own { AreWords station.now own.now }
     requires heard { length heard.now ≡ part_count station.now }
     ensures { result ≡ known_word station.now bay.0 own.now heard.now id.0 }
 {
@@ -131,9 +132,9 @@ fn words_known(
     own: &Readings,
     heard: &HeardList,
 ) -> Result<Readings, Memory>
-    requires own { length own.now ≡ length station.now.switches }
+    requires own { AreWords station.now own.now }
     requires heard { length heard.now ≡ part_count station.now }
-    ensures count { IfOk result (λ words. length words ≡ length station.now.switches) }
+    ensures count { IfOk result (λ words. AreWords station.now words) }
     ensures each { IfOk result (λ words. FirstAre (known_word station.now bay.0 own.now heard.now) (length words) words) }
 {
     let mut words = Readings::lost(alloc, station)?;

@@ -2,7 +2,8 @@
 ghost use Rattle.std.specs.Prelude.{◌≡◌, ◌<◌, ◌↔◌, length, IsTrue, IfOk};
 ghost use Rattle.station_graph.specs.Diagram.{node_count};
 ghost use Rattle.station_graph.specs.Connection.{Bonded};
-ghost use Rattle.station_graph.specs.CentralRules.{Breaks, BreaksEarthing, BreaksClosing, BreaksFeeding, BreaksLoad, GapCarriesLoad};
+ghost use Rattle.station_graph.specs.CentralRules.{Breaks, BreaksEarthing, BreaksClosing, BreaksFeeding, BreaksLoad, GapCarriesLoad, IsOperation};
+ghost use Rattle.station_graph.specs.Alike.{IsVector};
 
 use crate::labelling::labels;
 use crate::supply::{coupled, is_earthable, is_energisable, is_live, is_loaded};
@@ -17,8 +18,8 @@ fn breaks_earthing(
     vector: &Vector,
     op: Op,
 ) -> Result<bool, Memory>
-    requires vector { length vector.now ≡ length station.now.switches }
-    requires op { op.switch.0 < length station.now.switches }
+    requires vector { IsVector station.now vector.now }
+    requires op { IsOperation station.now op }
     ensures { IfOk result (λ b. IsTrue b ↔ BreaksEarthing station.now vector.now op) }
 {
     let moved = station.switch(op.switch);
@@ -32,8 +33,8 @@ fn breaks_earthing(
 
 // Whether a breaker or disconnector is closed with which its first end is energisable and earthable.
 fn breaks_closing(alloc: Global, station: &Station, vector: &Vector, op: Op) -> Result<bool, Memory>
-    requires vector { length vector.now ≡ length station.now.switches }
-    requires op { op.switch.0 < length station.now.switches }
+    requires vector { IsVector station.now vector.now }
+    requires op { IsOperation station.now op }
     ensures { IfOk result (λ b. IsTrue b ↔ BreaksClosing station.now vector.now op) }
 {
     let moved = station.switch(op.switch);
@@ -50,8 +51,8 @@ fn breaks_closing(alloc: Global, station: &Station, vector: &Vector, op: Op) -> 
 
 // Whether an infeed is set on at a node that is earthable.
 fn breaks_feeding(alloc: Global, station: &Station, vector: &Vector, op: Op) -> Result<bool, Memory>
-    requires vector { length vector.now ≡ length station.now.switches }
-    requires op { op.switch.0 < length station.now.switches }
+    requires vector { IsVector station.now vector.now }
+    requires op { IsOperation station.now op }
     ensures { IfOk result (λ b. IsTrue b ↔ BreaksFeeding station.now vector.now op) }
 {
     let moved = station.switch(op.switch);
@@ -71,7 +72,7 @@ fn gap_carries_load(
     first: NodeId,
     second: NodeId,
 ) -> Result<bool, Memory>
-    requires vector { length vector.now ≡ length station.now.switches }
+    requires vector { IsVector station.now vector.now }
     requires first { first.0 < node_count station.now }
     requires second { second.0 < node_count station.now }
     ensures { IfOk result
@@ -97,7 +98,7 @@ fn is_bonded(
     first: NodeId,
     second: NodeId,
 ) -> Result<bool, Memory>
-    requires vector { length vector.now ≡ length station.now.switches }
+    requires vector { IsVector station.now vector.now }
     requires first { first.0 < node_count station.now }
     requires second { second.0 < node_count station.now }
     ensures { IfOk result (λ b. IsTrue b ↔ Bonded station.now vector.now first.0 second.0) }
@@ -108,8 +109,8 @@ fn is_bonded(
 
 // Whether a disconnector is moved that would make or break load.
 fn breaks_load(alloc: Global, station: &Station, vector: &Vector, op: Op) -> Result<bool, Memory>
-    requires vector { length vector.now ≡ length station.now.switches }
-    requires op { op.switch.0 < length station.now.switches }
+    requires vector { IsVector station.now vector.now }
+    requires op { IsOperation station.now op }
     ensures { IfOk result (λ b. IsTrue b ↔ BreaksLoad station.now vector.now op) }
 {
     let moved = station.switch(op.switch);
@@ -138,8 +139,8 @@ pub fn breaks(
     vector: &Vector,
     op: Op,
 ) -> Result<Option<Rule>, Memory>
-    requires vector { length vector.now ≡ length station.now.switches }
-    requires op { op.switch.0 < length station.now.switches }
+    requires vector { IsVector station.now vector.now }
+    requires op { IsOperation station.now op }
     ensures { IfOk result (Breaks station.now vector.now op) }
 {
     if breaks_earthing(alloc, station, vector, op)? {

@@ -6,6 +6,7 @@ ghost use Rattle.station_graph.specs.Supply.{Live, Quiet, Energisable, Earthable
 ghost use Rattle.station_graph.specs.Classes.{LabelsLeast};
 ghost use Rattle.station_graph.specs.Diagram.{node_count, IsStation};
 ghost use Rattle.central_rules.specs.InClass.{ClosedInClass, TapInClass};
+ghost use Rattle.station_graph.specs.Alike.{IsVector};
 
 use crate::labelling::labels;
 use ilk_base::{Kind, Memory, NodeId, SwitchId};
@@ -20,7 +21,7 @@ pub(crate) fn closed_in_class(
     labels: &NodeList,
     node: NodeId,
 ) -> bool
-    requires vector { length vector.now ≡ length station.now.switches }
+    requires vector { IsVector station.now vector.now }
     requires labels { length labels.now ≡ node_count station.now }
     requires node { node.0 < node_count station.now }
     ensures answer { IsTrue result
@@ -58,7 +59,7 @@ pub(crate) fn tap_in_class(station: &Station, labels: &NodeList, node: NodeId) -
 
 // The labels of what is coupled: each breaker counts as closed.
 pub(crate) fn coupled(alloc: Global, station: &Station, vector: &Vector) -> Result<NodeList, Memory>
-    requires { length vector.now ≡ length station.now.switches }
+    requires { IsVector station.now vector.now }
     ensures { IfOk result (LabelsLeast
         (Touching false station.now (with_breakers_closed station.now vector.now)) (node_count station.now)) }
 {
@@ -73,7 +74,7 @@ pub(crate) fn is_energisable(
     coupled: &NodeList,
     node: NodeId,
 ) -> bool
-    requires vector { length vector.now ≡ length station.now.switches }
+    requires vector { IsVector station.now vector.now }
     requires node { node.0 < node_count station.now }
     requires coupled { LabelsLeast
         (Touching false station.now (with_breakers_closed station.now vector.now)) (node_count station.now) coupled.now }
@@ -89,7 +90,7 @@ pub(crate) fn is_earthable(
     coupled: &NodeList,
     node: NodeId,
 ) -> bool
-    requires vector { length vector.now ≡ length station.now.switches }
+    requires vector { IsVector station.now vector.now }
     requires node { node.0 < node_count station.now }
     requires coupled { LabelsLeast
         (Touching false station.now (with_breakers_closed station.now vector.now)) (node_count station.now) coupled.now }
@@ -101,7 +102,7 @@ pub(crate) fn is_earthable(
 /// Whether the node is live: joined to the node of a closed infeed. `joined` are the labels of what is
 /// joined in this vector. Time: the switches. Takes no memory.
 pub fn is_live(station: &Station, vector: &Vector, joined: &NodeList, node: NodeId) -> bool
-    requires vector { length vector.now ≡ length station.now.switches }
+    requires vector { IsVector station.now vector.now }
     requires node { node.0 < node_count station.now }
     requires joined { LabelsLeast (Touching false station.now vector.now) (node_count station.now) joined.now }
     ensures { IsTrue result ↔ Live station.now vector.now node.0 }

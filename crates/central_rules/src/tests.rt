@@ -1,5 +1,6 @@
 // Worked rows of the rules on small stations. The positions and answers are worked by hand.
 ghost use Rattle.std.specs.Prelude.{◌≡◌, length, IfOk};
+ghost use Rattle.station_graph.specs.Alike.{IsVector};
 
 use crate::{breaks, labels};
 use ilk_base::{BayId, Direction, Kind, NodeId, Op, Rule, SwitchId};
@@ -147,7 +148,7 @@ pub(crate) fn positions(
     station: &Station,
     closed: &[u8],
 ) -> Result<Vector, Fail>
-    ensures { IfOk result (λ v. length v ≡ length station.now.switches) }
+    ensures { IfOk result (λ v. IsVector station.now v) }
 {
     let mut vector = Vector::all_open(alloc, station)?;
     assert!(rt; closed.len() == station.switch_count() as usize);
@@ -176,7 +177,7 @@ fn judge(
     direction: Direction,
     wanted: &[u8],
 ) -> Result<(), Fail>
-    requires { length vector.now ≡ length station.now.switches }
+    requires { IsVector station.now vector.now }
 {
     assert!(rt; wanted.len() == station.switch_count() as usize);
     for i in 0..station.switch_count() {

@@ -1,8 +1,9 @@
 //! The trial of every reading.
 ghost use Rattle.std.specs.Prelude.{◌≡◌, ◌<◌, ◌≤◌, ◌+◌, length, true, false, Some, IfOk, IfSome, IfNone};
-ghost use Rattle.station_graph.specs.CentralRules.{Breaks};
+ghost use Rattle.station_graph.specs.CentralRules.{Breaks, IsOperation};
 ghost use Rattle.central_rules.specs.Readings.{IsReadingFrom, IsReading, Decides};
 ghost use Rattle.central_rules.specs.Trying.{SameBelow, NoneBreaks, NoneBreaksWith};
+ghost use Rattle.double_points.specs.Words.{AreWords};
 
 use crate::rules::breaks;
 use crate::verdict::Verdict;
@@ -23,8 +24,8 @@ fn find_from(
     vector: &mut Vector,
 ) -> Result<Option<Rule>, Memory>
     requires whole { length vector.old ≡ length readings.now }
-    requires all { length readings.now ≡ length station.now.switches }
-    requires op { op.switch.0 < length station.now.switches }
+    requires all { AreWords station.now readings.now }
+    requires op { IsOperation station.now op }
     requires within { at ≤ length readings.now }
     ensures count { length vector.new ≡ length vector.old }
     ensures below { SameBelow at vector.old vector.new }
@@ -52,8 +53,8 @@ fn find_with(
     vector: &mut Vector,
 ) -> Result<Option<Rule>, Memory>
     requires whole { length vector.old ≡ length readings.now }
-    requires all { length readings.now ≡ length station.now.switches }
-    requires op { op.switch.0 < length station.now.switches }
+    requires all { AreWords station.now readings.now }
+    requires op { IsOperation station.now op }
     requires within { at < length readings.now }
     ensures count { length vector.new ≡ length vector.old }
     ensures below { SameBelow at vector.old vector.new }
@@ -77,8 +78,8 @@ pub fn trial(
     readings: &Readings,
     op: Op,
 ) -> Result<Verdict, Memory>
-    requires all { length readings.now ≡ length station.now.switches }
-    requires op { op.switch.0 < length station.now.switches }
+    requires all { AreWords station.now readings.now }
+    requires op { IsOperation station.now op }
     ensures { IfOk result (Decides station.now (IsReading readings.now) op) }
 {
     let mut vector = Vector::all_open(alloc, station)?;

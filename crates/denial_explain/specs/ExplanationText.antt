@@ -6,7 +6,7 @@ use Rattle.ilk_base.specs.declared.words.Rule.{Rule}
 use Rattle.ilk_base.specs.declared.words.Op.{Op}
 use Rattle.ilk_base.specs.declared.words.SwitchId.{SwitchId}
 use Rattle.station_graph.specs.Diagram.{Diagram, node_count}
-use Rattle.denial_explain.specs.Names.{rule_name, direction_name, position_name, is_uncertain, texts_below}
+use Rattle.central_rules.specs.Names.{rule_name, direction_name, position_name, is_uncertain, texts_below}
 use Rattle.denial_explain.specs.Ways.{AllBelow}
 use Rattle.denial_explain.specs.declared.chain.Chain.{Chain}
 use Rattle.denial_explain.specs.declared.explanation.Explanation.{Explanation}

@@ -1,7 +1,6 @@
 pub mod Ways
 pub mod Chains
 pub mod Explained
-pub mod Names
 pub mod ExplanationText
 pub mod SameClass
 pub mod Listing

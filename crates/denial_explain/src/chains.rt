@@ -6,6 +6,7 @@ ghost use Rattle.station_graph.specs.Supply.{ClosedAt};
 ghost use Rattle.denial_explain.specs.Ways.{AllBelow, IsWay};
 ghost use Rattle.denial_explain.specs.Chains.{LeadsToClosed, LeadsToTap};
 ghost use Rattle.denial_explain.specs.ExplanationText.{ChainFits};
+ghost use Rattle.station_graph.specs.Alike.{IsVector};
 
 use crate::chain::Chain;
 use crate::neighbours::Neighbours;
@@ -25,8 +26,8 @@ pub(crate) fn chain_to_closed(
     kind: Kind,
     from: NodeId,
 ) -> Result<Chain, Memory>
-    requires joining { length joining.now ≡ length station.now.switches }
-    requires vector { length vector.now ≡ length station.now.switches }
+    requires joining { IsVector station.now joining.now }
+    requires vector { IsVector station.now vector.now }
     requires from { from.0 < node_count station.now }
     requires there { (m : ℕ) × Joined station.now joining.now from.0 m × ClosedAt station.now vector.now kind m }
     ensures chain { IfOk result (LeadsToClosed station.now joining.now vector.now kind from.0) }
@@ -49,7 +50,7 @@ pub(crate) fn chain_to_tap(
     joining: &Vector,
     from: NodeId,
 ) -> Result<Chain, Memory>
-    requires joining { length joining.now ≡ length station.now.switches }
+    requires joining { IsVector station.now joining.now }
     requires from { from.0 < node_count station.now }
     requires there { (m : ℕ) × Joined station.now joining.now from.0 m × HasTap station.now m }
     ensures chain { IfOk result (LeadsToTap station.now joining.now from.0) }
@@ -71,7 +72,7 @@ fn way_to(
     ends: &NodeList,
     from: NodeId,
 ) -> Result<Way, Memory>
-    requires joining { length joining.now ≡ length station.now.switches }
+    requires joining { IsVector station.now joining.now }
     requires from { from.0 < node_count station.now }
     requires ends { AllBelow (node_count station.now) ends.now }
     requires there { (m : ℕ) × Joined station.now joining.now from.0 m × Contains ends.now m }
@@ -91,7 +92,7 @@ fn closed_nodes(
     vector: &Vector,
     kind: Kind,
 ) -> Result<NodeList, Memory>
-    requires { length vector.now ≡ length station.now.switches }
+    requires { IsVector station.now vector.now }
     ensures exact { IfOk result (λ l. (n : ℕ) → Contains l n ↔ ClosedAt station.now vector.now kind n) }
     ensures station { IsStation station.now }
 {
@@ -119,7 +120,7 @@ fn tap_nodes(alloc: Global, station: &Station) -> Result<NodeList, Memory>
 
 // The first closed switch of this kind at the node, in document order.
 fn closed_at(station: &Station, vector: &Vector, kind: Kind, node: NodeId) -> SwitchId
-    requires vector { length vector.now ≡ length station.now.switches }
+    requires vector { IsVector station.now vector.now }
     requires there { ClosedAt station.now vector.now kind node.0 }
     ensures at { (at : ClosedAt station.now vector.now kind node.0) × (at.number ≡ result.0) }
     ensures first { (at : ClosedAt station.now vector.now kind node.0) → result.0 ≤ at.number }

@@ -6,11 +6,12 @@ ghost use Rattle.station_graph.specs.Diagram.{node_count};
 ghost use Rattle.station_graph.specs.Nodes.{Rises};
 ghost use Rattle.station_graph.specs.Connection.{Bonded, with_breakers_closed};
 ghost use Rattle.station_graph.specs.Supply.{Live};
-ghost use Rattle.station_graph.specs.CentralRules.{Breaks};
+ghost use Rattle.station_graph.specs.CentralRules.{Breaks, IsOperation};
 ghost use Rattle.denial_explain.specs.Ways.{AllBelow};
 ghost use Rattle.denial_explain.specs.Explained.{Explains, LeadsLive};
 ghost use Rattle.denial_explain.specs.SameClass.{IsClassOf};
 ghost use Rattle.denial_explain.specs.ExplanationText.{ChainFits, ExplanationFits};
+ghost use Rattle.station_graph.specs.Alike.{IsVector};
 
 use crate::chain::Chain;
 use crate::chains::{chain_to_closed, chain_to_tap};
@@ -28,19 +29,19 @@ fn moved_to(
     reading: &Vector,
     closed: bool,
 ) -> Result<Vector, Memory>
-    requires reading { length reading.now ≡ length station.now.switches }
-    requires op { op.switch.0 < length station.now.switches }
+    requires reading { IsVector station.now reading.now }
+    requires op { IsOperation station.now op }
     ensures value { IfOk result (λ v. v ≡ slice_set reading.now op.switch.0 closed) }
-    ensures whole { IfOk result (λ v. length v ≡ length station.now.switches) }
+    ensures whole { IfOk result (λ v. IsVector station.now v) }
 {
     reading.with(alloc, op.switch, closed)
 }
 
 // The vector in which what is coupled is joined.
 fn coupling(alloc: Global, station: &Station, vector: &Vector) -> Result<Vector, Memory>
-    requires { length vector.now ≡ length station.now.switches }
+    requires { IsVector station.now vector.now }
     ensures value { IfOk result (λ v. v ≡ with_breakers_closed station.now vector.now) }
-    ensures whole { IfOk result (λ v. length v ≡ length station.now.switches) }
+    ensures whole { IfOk result (λ v. IsVector station.now v) }
 {
     vector.with_breakers_closed(alloc, station)
 }
@@ -52,8 +53,8 @@ fn explain_earthing(
     op: Op,
     reading: &Vector,
 ) -> Result<Explanation, Memory>
-    requires reading { length reading.now ≡ length station.now.switches }
-    requires op { op.switch.0 < length station.now.switches }
+    requires reading { IsVector station.now reading.now }
+    requires op { IsOperation station.now op }
     requires broken { Breaks station.now reading.now op (Some R1) }
     ensures explains { IfOk result (Explains station.now reading.now op) }
     ensures fits { IfOk result (ExplanationFits station.now) }
@@ -79,8 +80,8 @@ fn explain_closing(
     op: Op,
     reading: &Vector,
 ) -> Result<Explanation, Memory>
-    requires reading { length reading.now ≡ length station.now.switches }
-    requires op { op.switch.0 < length station.now.switches }
+    requires reading { IsVector station.now reading.now }
+    requires op { IsOperation station.now op }
     requires broken { Breaks station.now reading.now op (Some R2) }
     ensures explains { IfOk result (Explains station.now reading.now op) }
     ensures fits { IfOk result (ExplanationFits station.now) }
@@ -137,7 +138,7 @@ fn bonded_nodes(
     vector: &Vector,
     node: NodeId,
 ) -> Result<NodeList, Memory>
-    requires vector { length vector.now ≡ length station.now.switches }
+    requires vector { IsVector station.now vector.now }
     requires node { node.0 < node_count station.now }
     ensures exact { IfOk result (λ l. (n : ℕ) → Contains l n ↔ Bonded station.now vector.now node.0 n) }
     ensures rises { IfOk result Rises }
@@ -156,7 +157,7 @@ fn live_chain(
     first: NodeId,
     second: NodeId,
 ) -> Result<Chain, Memory>
-    requires vector { length vector.now ≡ length station.now.switches }
+    requires vector { IsVector station.now vector.now }
     requires first { first.0 < node_count station.now }
     requires second { second.0 < node_count station.now }
     requires live { Live station.now vector.now first.0 ⊎ Live station.now vector.now second.0 }
@@ -177,8 +178,8 @@ fn explain_load(
     op: Op,
     reading: &Vector,
 ) -> Result<Explanation, Memory>
-    requires reading { length reading.now ≡ length station.now.switches }
-    requires op { op.switch.0 < length station.now.switches }
+    requires reading { IsVector station.now reading.now }
+    requires op { IsOperation station.now op }
     requires broken { Breaks station.now reading.now op (Some R3) }
     ensures explains { IfOk result (Explains station.now reading.now op) }
     ensures fits { IfOk result (ExplanationFits station.now) }
@@ -216,8 +217,8 @@ pub fn explain(
     op: Op,
     reading: &Vector,
 ) -> Result<Explanation, Memory>
-    requires reading { length reading.now ≡ length station.now.switches }
-    requires op { op.switch.0 < length station.now.switches }
+    requires reading { IsVector station.now reading.now }
+    requires op { IsOperation station.now op }
     requires broken { (rule : AnyRule) × Breaks station.now reading.now op (Some rule) }
     ensures explains { IfOk result (Explains station.now reading.now op) }
     ensures fits { IfOk result (ExplanationFits station.now) }

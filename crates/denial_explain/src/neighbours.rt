@@ -3,6 +3,7 @@ ghost use Rattle.std.specs.Prelude.{◌≡◌, ℕ, ◌<◌, List, [], length, r
 ghost use Rattle.station_graph.specs.Diagram.{node_count};
 ghost use Rattle.station_graph.specs.Connection.{Touching};
 ghost use Rattle.denial_explain.specs.Listing.{list_at, with_neighbour, with_edge, AreLists};
+ghost use Rattle.station_graph.specs.Alike.{IsVector};
 
 use ilk_base::{Memory, NodeId, SwitchId};
 use station_graph::{NodeList, Station, Vector};
@@ -32,7 +33,7 @@ impl Neighbours {
         station: &Station,
         joining: &Vector,
     ) -> Result<Neighbours, Memory>
-        requires { length joining.now ≡ length station.now.switches }
+        requires { IsVector station.now joining.now }
         ensures { IfOk result
             (AreLists (Touching false station.now joining.now) (node_count station.now)) }
     {

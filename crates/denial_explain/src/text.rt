@@ -1,13 +1,16 @@
 // The text of an explanation.
 ghost use Rattle.std.specs.Prelude.{◌≡◌, ◌<◌, ◌++◌, length, codes, IfOk, OnOk};
 ghost use Rattle.station_graph.specs.Diagram.{node_count};
-ghost use Rattle.denial_explain.specs.Names.{texts_below};
+ghost use Rattle.central_rules.specs.Names.{texts_below};
 ghost use Rattle.denial_explain.specs.Ways.{AllBelow};
 ghost use Rattle.denial_explain.specs.ExplanationText.{operation, denied_line, with_line, switch_path, node_path, node_lines, by_line, chain_lines, earthed_lines, load_lines, explanation_text, ChainFits, ExplanationFits};
+ghost use Rattle.station_graph.specs.CentralRules.{IsOperation};
+ghost use Rattle.double_points.specs.Words.{AreWords};
+ghost use Rattle.station_graph.specs.Alike.{IsVector};
 
 use crate::chain::Chain;
 use crate::explanation::Explanation;
-use crate::names::{direction_name, is_uncertain, position_name, rule_name};
+use central_rules::{direction_name, is_uncertain, position_name, rule_name};
 use double_points::Readings;
 use ilk_base::{Memory, NodeId, Op, Rule, SwitchId, Text};
 use station_graph::{NodeList, Station, Vector};
@@ -34,7 +37,7 @@ fn path_of_node(station: &Station, node: NodeId) -> &[u8]
 /// Appends `open PATH` or `close PATH` and the end of the line: an operation. Time: the length of the
 /// path.
 pub fn push_operation(text: &mut Text, station: &Station, op: Op) -> Result<(), Memory>
-    requires { op.switch.0 < length station.now.switches }
+    requires { IsOperation station.now op }
     ensures { OnOk result (text.new ≡ text.old ++ operation station.now op) }
 {
     text.push(direction_name(op.direction))?;
@@ -45,7 +48,7 @@ pub fn push_operation(text: &mut Text, station: &Station, op: Op) -> Result<(), 
 
 // Appends the line with the rule.
 fn push_denied(text: &mut Text, station: &Station, rule: Rule, op: Op) -> Result<(), Memory>
-    requires { op.switch.0 < length station.now.switches }
+    requires { IsOperation station.now op }
     ensures { OnOk result (text.new ≡ text.old ++ denied_line station.now rule op) }
 {
     text.push(b"denied ")?;
@@ -63,8 +66,8 @@ fn push_with(
     moved: SwitchId,
     id: SwitchId,
 ) -> Result<(), Memory>
-    requires words { length readings.now ≡ length station.now.switches }
-    requires reading { length reading.now ≡ length station.now.switches }
+    requires words { AreWords station.now readings.now }
+    requires reading { IsVector station.now reading.now }
     requires id { id.0 < length station.now.switches }
     ensures { OnOk result (text.new ≡ text.old ++ with_line moved.0 readings.now reading.now station.now id.0) }
 {
@@ -92,8 +95,8 @@ fn push_positions(
     reading: &Vector,
     moved: SwitchId,
 ) -> Result<(), Memory>
-    requires words { length readings.now ≡ length station.now.switches }
-    requires reading { length reading.now ≡ length station.now.switches }
+    requires words { AreWords station.now readings.now }
+    requires reading { IsVector station.now reading.now }
     ensures { OnOk result (text.new ≡ text.old ++ texts_below (with_line moved.0 readings.now reading.now station.now) (length station.now.switches)) }
 {
     for i in 0..station.switch_count() {
@@ -184,8 +187,8 @@ impl Explanation {
         readings: &Readings,
         reading: &Vector,
     ) -> Result<Text, Memory>
-        requires words { length readings.now ≡ length station.now.switches }
-        requires reading { length reading.now ≡ length station.now.switches }
+        requires words { AreWords station.now readings.now }
+        requires reading { IsVector station.now reading.now }
         requires fits { ExplanationFits station.now self.now }
         ensures { IfOk result (λ t. t ≡ explanation_text station.now readings.now reading.now self.now) }
     {

@@ -24,6 +24,10 @@ Agrees Intermediate closed = ⊤
 Agrees Bad closed = ⊤
 Agrees Lost closed = ⊤
 
+-- There is one word for each switch of the station.
+abbrev pub AreWords : Diagram → List Dbpos → Type 0
+AreWords d words = length words ≡ length d.switches
+
 -- The new words are lost for each switch of the bay, and the old ones for each other switch.
 pub record Forgets (d : Diagram) (bay : ℕ) (old new : List Dbpos) : Type 0 where
   pub count : length new ≡ length old

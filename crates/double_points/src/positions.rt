@@ -2,7 +2,7 @@
 ghost use Rattle.std.specs.Prelude.{◌≡◌, ◌≢◌, ◌<◌, ◌≤◌, ℕ, List, [], ◌∷◌, length, map, Some, None, Err, IfOk, IfErr, OnOk, IfSome, IfNone, unwrap_or, slice_index_or, true, false};
 ghost use Rattle.std.specs.Str.{is_utf8};
 ghost use Rattle.csv.specs.Records.{fields_of};
-ghost use Rattle.double_points.specs.Words.{word_of};
+ghost use Rattle.double_points.specs.Words.{word_of, AreWords};
 ghost use Rattle.double_points.specs.Paths.{place_of};
 ghost use Rattle.double_points.specs.Positions.{form_fault, given, IsAccepted, IsFault, ForRefused};
 ghost use Rattle.ilk_base.specs.declared.words.Dbpos.TheVariants as word;
@@ -167,7 +167,7 @@ pub fn read_positions(
 ) -> Result<Readings, PositionsFault>
     ensures ok { IfOk result (λ r. IsAccepted station.now.switch_paths bytes.now r) }
     ensures err { IfErr result (λ e. ForRefused e (IsFault station.now.switch_paths bytes.now)) }
-    ensures count { IfOk result (λ r. length r ≡ length station.now.switches) }
+    ensures count { IfOk result (λ r. AreWords station.now r) }
 {
     if bytes.len() > MOST_BYTES {
         return refused(5, 0);

@@ -1,7 +1,7 @@
 // Words, one for each switch.
 ghost use Rattle.std.specs.Prelude.{◌≡◌, ◌<◌, ◌≤◌, ◌+◌, ◌↔◌, ◌⊎◌, ℕ, List, length, Some, None, IfOk, IsTrue, slice_get, slice_set, replicate};
 ghost use Rattle.station_graph.specs.Diagram.{part_count};
-ghost use Rattle.double_points.specs.Words.{word_of, Agrees, Forgets};
+ghost use Rattle.double_points.specs.Words.{word_of, Agrees, Forgets, AreWords};
 
 use ilk_base::{BayId, Dbpos, Memory, SwitchId};
 use station_graph::Station;
@@ -105,7 +105,7 @@ impl Readings {
     /// Makes all words of the bay lost, and leaves those of the other bays. Time: the bay's
     /// switches.
     pub fn forget(&mut self, station: &Station, bay: BayId)
-        requires each_switch { length self.old ≡ length station.now.switches }
+        requires each_switch { AreWords station.now self.old }
         requires in_range { bay.0 < part_count station.now }
         ensures { Forgets station.now bay.0 self.old self.new }
     {

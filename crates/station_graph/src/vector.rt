@@ -4,6 +4,7 @@ ghost use Rattle.std.specs.Bool.{beq};
 ghost use Rattle.std.specs.Cmp.{partial_equiv_from_equiv, bool_eq_equiv};
 ghost use Rattle.std.specs.Cmp.Lexicographic.{pointwise, lists_equiv};
 ghost use Rattle.station_graph.specs.Connection.{with_breakers_closed};
+ghost use Rattle.station_graph.specs.Alike.{IsVector};
 
 use crate::station::Station;
 use ilk_base::{Kind, Memory, SwitchId};
@@ -56,7 +57,7 @@ impl Vector {
 
     /// The vector with every breaker closed. Time and memory: the switches.
     pub fn with_breakers_closed(&self, alloc: Global, station: &Station) -> Result<Vector, Memory>
-        requires { length self.now ≡ length station.now.switches }
+        requires { IsVector station.now self.now }
         ensures { IfOk result (λ v. v ≡ with_breakers_closed station.now self.now) }
     {
         let mut coupling = self.copy(alloc)?;

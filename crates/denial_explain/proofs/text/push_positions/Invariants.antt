@@ -1,5 +1,5 @@
 use Rattle.std.proofs.Common.{◌≡◌, ◌++◌}
-use Rattle.denial_explain.specs.Names.{texts_below}
+use Rattle.central_rules.specs.Names.{texts_below}
 use Rattle.denial_explain.specs.ExplanationText.{with_line}
 use Rattle.denial_explain.proofs.text.push_positions.Given as goal
 

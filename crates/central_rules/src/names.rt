@@ -1,6 +1,7 @@
-//! What texts call a rule, a direction and a position.
-ghost use Rattle.std.specs.Prelude.{◌≡◌};
-ghost use Rattle.denial_explain.specs.Names.{rule_name, direction_name, position_name, is_uncertain};
+//! What texts call a rule, a direction, a position and a word.
+ghost use Rattle.std.specs.Prelude.{◌≡◌, Some};
+ghost use Rattle.double_points.specs.Words.{word_of};
+ghost use Rattle.central_rules.specs.Names.{rule_name, direction_name, position_name, word_name, is_uncertain};
 
 use ilk_base::{Dbpos, Direction, Rule};
 
@@ -32,6 +33,21 @@ pub fn position_name(closed: bool) -> &'static [u8]
     match closed {
         false => b"off",
         true => b"on",
+    }
+}
+
+/// The text that spells the word: `intermediate`, `off`, `on`, `bad` or `lost`. `word_from` reads it
+/// back.
+pub fn word_name(word: Dbpos) -> &'static [u8]
+    ensures name { result.now ≡ word_name word }
+    ensures read_back { word_of result.now ≡ Some word }
+{
+    match word {
+        Dbpos::Intermediate => b"intermediate",
+        Dbpos::Off => b"off",
+        Dbpos::On => b"on",
+        Dbpos::Bad => b"bad",
+        Dbpos::Lost => b"lost",
     }
 }
 
