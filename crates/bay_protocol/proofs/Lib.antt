@@ -1,0 +1,5 @@
+pub mod Keeping
+pub mod Others
+pub mod RecordRows
+pub mod Sending
+pub mod Showing

@@ -1,0 +1,9 @@
+pub mod State
+pub mod Sends
+pub mod Fits
+pub mod Step
+pub mod Output
+pub mod Counts
+pub mod KeptRow
+pub mod KeptFields
+pub mod OutcomeLines

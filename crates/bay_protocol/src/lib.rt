@@ -1,0 +1,11 @@
+//! The protocol of a bay: frames in, frames out, and what a node keeps, as values and as a relation.
+#![tactic(auto)]
+
+mod law;
+mod lines;
+mod record;
+mod values;
+
+pub use law::{restart_is_resume, resumed_is_node, step_gives, step_keeps};
+pub use record::{is_other, kept_fits};
+pub use values::{Collection, Grant, Kept, LAST_ROUND, Lock, NodeEvent, NodeOutput, Outcome};
