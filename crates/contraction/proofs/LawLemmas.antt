@@ -1,85 +1,21 @@
 -- A composition and a restriction respect each view.
-use Rattle.std.proofs.Common.{◌≡◌, ℕ, ◌<◌, ◌⊎◌, ◌↔◌, zero, suc, Bool, List, [], ◌∷◌, slice_index, refl, sym, subst, inl, inr, arith}
-use Rattle.std.proofs.lemmas.Bool.{cases_eq, cases_lt}
-use Rattle.std.proofs.lemmas.Option.{slice_get_within, get_or_from_slice_get}
+use Rattle.std.proofs.Common.{◌≡◌, ℕ, ◌⊎◌, ◌↔◌, Bool, List, sym, inl, inr}
 use Rattle.station_graph.specs.Diagram.{Diagram}
 use Rattle.station_graph.specs.Connection.{Item, Linked}
-use Rattle.station_graph.specs.Nodes.{Rises}
 use Rattle.station_graph.specs.Views.{Supply, fed, CoupledBy, JoinedBy, BondedBy, EnergisableBy, EarthableBy, FedBy, TappedBy}
 use Rattle.station_graph.proofs.LinkedLemmas.{linked_weaker}
-use Rattle.contraction.specs.Answers.{Answers, IsAt, Keeps, SameAt, MarkedAt, SaysCoupled, SaysJoined, SaysBonded, SaysEnergisable, SaysEarthable, SaysFed, SaysLoaded, SaysSupply, IsContraction, SameGap, SameLoad}
+use Rattle.contraction.specs.Answers.{Answers, Keeps, SameAt, MarkedAt, SaysCoupled, SaysJoined, SaysBonded, SaysEnergisable, SaysEarthable, SaysFed, SaysLoaded, SaysSupply, IsContraction, SameGap, SameLoad}
 use Rattle.contraction.specs.Stands.{GapStandsFor, LoadStandsFor}
 use Rattle.contraction.specs.Composing.{SameInEither, LabelsCompose, MarksCompose, Composes, Restricts}
 use Rattle.contraction.proofs.ComposeLemmas.{keeps_first, keeps_second, keeps_marked}
 use Rattle.contraction.proofs.KeepLemmas.{via}
 use Rattle.contraction.proofs.ViewLemmas.{back, supplies_say, loaded_same}
-
-rises_tail : (x : ℕ) (xs : List ℕ) → Rises (x ∷ xs) → Rises xs
-rises_tail x xs r j k less k_in = r (suc j) (suc k) (omega arith) (omega arith)
-
-keeps_here : (x : ℕ) (xs : List ℕ) → Keeps (x ∷ xs) x
-keeps_here x xs = record { place = 0; at = refl }
-
-keeps_more : (x : ℕ) (xs : List ℕ) (n : ℕ) → Keeps xs n → Keeps (x ∷ xs) n
-keeps_more x xs n k = record { place = suc k.place; at = k.at }
-
-at_cases : (x : ℕ) (xs : List ℕ) (n p : ℕ) → IsAt (x ∷ xs) p n → (n ≡ x) ⊎ Keeps xs n
-at_cases x xs n zero e = inl (cc)
-at_cases x xs n (suc p) e = inr (record { place = p; at = e })
-
-keeps_cases : (x : ℕ) (xs : List ℕ) (n : ℕ) → Keeps (x ∷ xs) n → (n ≡ x) ⊎ Keeps xs n
-keeps_cases x xs n k = at_cases x xs n k.place k.at
-
--- the head of a rising list is less than the others
-above_head : (x : ℕ) (xs : List ℕ) (n : ℕ) → Rises (x ∷ xs) → Keeps xs n → x < n
-above_head x xs n r k =
-    let k_in = slice_get_within xs k.place n k.at in
-    let up : slice_index (x ∷ xs) 0 < slice_index (x ∷ xs) (suc k.place) = r 0 (suc k.place) (omega arith) (omega arith) in
-    omega (arith, up, get_or_from_slice_get xs k.place n 0 k.at)
-
-none_kept : (n : ℕ) → Keeps [] n → ⊥
-none_kept n k = let e : IsAt [] k.place n = k.at in cc
-
--- in two rising lists with the same heads and entries the tails have the same entries
-tail_keeps : (x : ℕ) (xs ys : List ℕ) → Rises (x ∷ xs) → ((n : ℕ) → Keeps (x ∷ xs) n → Keeps (x ∷ ys) n) → (n : ℕ) → Keeps xs n → Keeps ys n
-tail_keeps x xs ys r into n k = elim (keeps_cases x ys n (into n (keeps_more x xs n k))) [
-  | inl e ↦ absurd (omega (arith, above_head x xs n r k, e))
-  | inr there ↦ there
-]
-
-head_most : (x y : ℕ) (xs ys : List ℕ) → Rises (y ∷ ys) → Keeps (y ∷ ys) x → (x < y) → ⊥
-head_most x y xs ys r k less = elim (keeps_cases y ys x k) [
-  | inl e ↦ omega (arith, e)
-  | inr there ↦ omega (arith, above_head y ys x r there)
-]
-
--- rising lists with the same entries are equal
-rising_equal : (xs ys : List ℕ) → Rises xs → Rises ys → ((n : ℕ) → Keeps xs n ↔ Keeps ys n) → xs ≡ ys
-rising_equal [] [] r s h = refl
-rising_equal [] (y ∷ ys) r s h = absurd (none_kept y ((h y).1 (keeps_here y ys)))
-rising_equal (x ∷ xs) [] r s h = absurd (none_kept x ((h x).0 (keeps_here x xs)))
-rising_equal (x ∷ xs) (y ∷ ys) r s h =
-    let same : x ≡ y = elim (cases_lt x y) [
-      | inl less ↦ absurd (head_most x y xs ys s ((h x).0 (keeps_here x xs)) less)
-      | inr more ↦ elim (cases_eq x y) [
-        | inl e ↦ e
-        | inr ne ↦ absurd (head_most y x ys xs r ((h y).1 (keeps_here y ys)) (omega arith))
-      ]
-    ] in
-    let h1 : (n : ℕ) → Keeps (x ∷ xs) n ↔ Keeps (x ∷ ys) n = subst (λ z. (n : ℕ) → Keeps (x ∷ xs) n ↔ Keeps (z ∷ ys) n) (sym same) h in
-    let s1 : Rises (x ∷ ys) = subst (λ z. Rises (z ∷ ys)) (sym same) s in
-    let rest : xs ≡ ys = rising_equal xs ys (rises_tail x xs r) (rises_tail y ys s) (λ n. (
-      tail_keeps x xs ys r (λ m. (h1 m).0) n,
-      tail_keeps x ys xs s1 (λ m. (h1 m).1) n,
-    )) in
-    cc (same, rest)
-
-keeps_on : (k1 k2 : List ℕ) → k1 ≡ k2 → (n : ℕ) → Keeps k1 n ↔ Keeps k2 n
-keeps_on k1 k2 e n = (λ k. subst (λ l. Keeps l n) e k, λ k. subst (λ l. Keeps l n) (sym e) k)
+use Rattle.contraction.proofs.RisingLemmas.{keeps_on, kept_equal}
+use Rattle.contraction.proofs.SameLemmas.{gap_back, load_back}
 
 -- compositions of values that keep the same keep the same
 kept_same : (x1 y1 c1 x2 y2 c2 : Answers) → IsContraction c1 → IsContraction c2 → Composes x1 y1 c1 → Composes x2 y2 c2 → x1.kept ≡ x2.kept → y1.kept ≡ y2.kept → c1.kept ≡ c2.kept
-kept_same x1 y1 c1 x2 y2 c2 w1 w2 m1 m2 ex ey = rising_equal c1.kept c2.kept w1.nodes.rises w2.nodes.rises (λ n. (
+kept_same x1 y1 c1 x2 y2 c2 w1 w2 m1 m2 ex ey = kept_equal c1 c2 w1 w2 (λ n. (
   λ k. (m2.kept n).1 (elim ((m1.kept n).0 k) [ inl a ↦ inl ((keeps_on x1.kept x2.kept ex n).0 a) | inr a ↦ inr ((keeps_on y1.kept y2.kept ey n).0 a) ]),
   λ k. (m1.kept n).1 (elim ((m2.kept n).0 k) [ inl a ↦ inl ((keeps_on x1.kept x2.kept ex n).1 a) | inr a ↦ inr ((keeps_on y1.kept y2.kept ey n).1 a) ]),
 ))
@@ -103,22 +39,6 @@ same_all k1 l1 k2 l2 h a b s = h a b (keeps_first k1 l1 a b s) (keeps_second k1 
 
 marked_all : (k1 : List ℕ) (m1 : List Bool) (k2 : List ℕ) (m2 : List Bool) → ((a : ℕ) → Keeps k1 a → MarkedAt k1 m1 a → MarkedAt k2 m2 a) → (a : ℕ) → MarkedAt k1 m1 a → MarkedAt k2 m2 a
 marked_all k1 m1 k2 m2 h a s = h a (keeps_marked k1 m1 a s) s
-
-gap_back : (x y : Answers) → SameGap x y → SameGap y x
-gap_back x y h = record {
-  kept = sym h.kept;
-  coupled = λ a b ka kb. back (SaysCoupled x a b) (SaysCoupled y a b) (h.coupled a b ((keeps_on x.kept y.kept h.kept a).1 ka) ((keeps_on x.kept y.kept h.kept b).1 kb));
-  energisable = λ a ka. back (SaysEnergisable x a) (SaysEnergisable y a) (h.energisable a ((keeps_on x.kept y.kept h.kept a).1 ka));
-  earthable = λ a ka. back (SaysEarthable x a) (SaysEarthable y a) (h.earthable a ((keeps_on x.kept y.kept h.kept a).1 ka));
-}
-
-load_back : (x y : Answers) → SameLoad x y → SameLoad y x
-load_back x y h = record {
-  kept = sym h.kept;
-  joined = λ a b ka kb. back (SaysJoined x a b) (SaysJoined y a b) (h.joined a b ((keeps_on x.kept y.kept h.kept a).1 ka) ((keeps_on x.kept y.kept h.kept b).1 kb));
-  bonded = λ a b ka kb. back (SaysBonded x a b) (SaysBonded y a b) (h.bonded a b ((keeps_on x.kept y.kept h.kept a).1 ka) ((keeps_on x.kept y.kept h.kept b).1 kb));
-  supply = λ a ka s. back (SaysSupply x a s) (SaysSupply y a s) (h.supply a ((keeps_on x.kept y.kept h.kept a).1 ka) s);
-}
 
 -- one way, for each answer of the gap view
 record GapFollows (x y : Answers) : Type 0 where

@@ -20,3 +20,6 @@ pub mod RowLemmas
 pub mod ViewLemmas
 pub mod EmptyLemmas
 pub mod LawLemmas
+pub mod RisingLemmas
+pub mod SameLemmas
+pub mod MoveLemmas

@@ -1,8 +1,9 @@
 //! The contraction of two lists of items together, and that on fewer nodes.
-ghost use Rattle.std.specs.Prelude.{◌↔◌, ◌++◌, ℕ, Bool, List, IfOk, Contains};
+ghost use Rattle.std.specs.Prelude.{◌≡◌, ◌↔◌, ◌++◌, ℕ, Bool, List, IfOk, Contains};
 ghost use Rattle.station_graph.specs.Diagram.{Diagram};
 ghost use Rattle.station_graph.specs.Connection.{Item};
-ghost use Rattle.contraction.specs.Answers.{Keeps};
+ghost use Rattle.station_graph.specs.Nodes.{Rises};
+ghost use Rattle.contraction.specs.Answers.{Keeps, IsContraction};
 ghost use Rattle.contraction.specs.Stands.{Among, MeetsKept, GapStandsFor, LoadStandsFor};
 ghost use Rattle.contraction.specs.Composing.{Composes, Restricts};
 
@@ -25,6 +26,7 @@ impl Contraction {
     ///
     /// Time: the kept nodes, times the classes of more than one of them. Memory: the kept nodes.
     pub fn compose(&self, alloc: Global, other: &Contraction) -> Result<Contraction, Memory>
+        ensures contraction { IfOk result IsContraction }
         ensures composes { IfOk result (Composes self.now other.now) }
         ensures gap { IfOk result (λ c. (items others : List Item) (d : Diagram) (v : List Bool)
             → MeetsKept (Among items) (Among others) d self.now.kept other.now.kept
@@ -57,10 +59,13 @@ impl Contraction {
     }
 
     /// The contraction of the same items on these of its kept nodes, which may be named in any order.
+    /// Where they rise, they are its list of kept nodes.
     /// Time: the kept nodes times the nodes. Memory: the nodes.
     pub fn keep_only(&self, alloc: Global, nodes: &NodeList) -> Result<Contraction, Memory>
         requires { (n : ℕ) → Contains nodes.now n → Keeps self.now.kept n }
+        ensures contraction { IfOk result IsContraction }
         ensures kept { IfOk result (λ c. (n : ℕ) → Keeps c.kept n ↔ Contains nodes.now n) }
+        ensures list { IfOk result (λ c. Rises nodes.now → c.kept ≡ nodes.now) }
         ensures restricts { IfOk result (Restricts self.now) }
         ensures gap { IfOk result (λ c. (items : List Item) (d : Diagram) (v : List Bool)
             → GapStandsFor (Among items) d v self.now → GapStandsFor (Among items) d v c) }

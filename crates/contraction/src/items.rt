@@ -3,7 +3,7 @@ ghost use Rattle.std.specs.Prelude.{◌≡◌, ◌≢◌, ℕ, ◌<◌, ◌↔�
 ghost use Rattle.station_graph.specs.Diagram.{Diagram};
 ghost use Rattle.station_graph.specs.Connection.{a_switch, a_link, a_tap, unless_breaker};
 ghost use Rattle.station_graph.specs.Sharing.{Touches};
-ghost use Rattle.contraction.specs.Answers.{Keeps, AreNodes};
+ghost use Rattle.contraction.specs.Answers.{Keeps, AreNodes, IsContraction};
 ghost use Rattle.contraction.specs.Stands.{Among, StandsFor};
 ghost use Rattle.contraction.specs.Single.{IsPair, IsSingle};
 
@@ -54,7 +54,8 @@ impl Contraction {
         requires apart { a ≢ b }
         requires first { a < 1024 }
         requires second { b < 1024 }
-        ensures { IfOk result (IsPair a b coupled joined bonded) }
+        ensures pair { IfOk result (IsPair a b coupled joined bonded) }
+        ensures contraction { IfOk result IsContraction }
     {
         Ok(Contraction {
             kept: rising(alloc, a, b)?,
@@ -75,7 +76,8 @@ impl Contraction {
     ) -> Result<Contraction, Memory>
         requires node { node < 1024 }
         requires loaded { fed ≡ true → loaded ≡ true }
-        ensures { IfOk result (IsSingle node energisable earthable fed loaded) }
+        ensures single { IfOk result (IsSingle node energisable earthable fed loaded) }
+        ensures contraction { IfOk result IsContraction }
     {
         Ok(Contraction {
             kept: vec![in alloc; node; 1]?,
@@ -88,6 +90,7 @@ impl Contraction {
     /// The contraction of no item, on these nodes of a station, which rise. Time and memory: the nodes.
     pub fn empty(alloc: Global, kept: &NodeList) -> Result<Contraction, Memory>
         requires { AreNodes kept.now }
+        ensures contraction { IfOk result IsContraction }
         ensures kept { IfOk result (λ c. c.kept ≡ kept.now) }
         ensures stands { IfOk result
             (λ c. (d : Diagram) (v : List Bool) → StandsFor (Among []) d v c) }
@@ -111,6 +114,7 @@ impl Contraction {
         closed: bool,
     ) -> Result<Contraction, Memory>
         requires { id.0 < length station.now.switches }
+        ensures contraction { IfOk result IsContraction }
         ensures kept { IfOk result
             (λ c. (n : ℕ) → Keeps c.kept n ↔ Touches station.now (a_switch id.0) n) }
         ensures stands { IfOk result (λ c. (v : List Bool) → slice_get v id.0 ≡ Some closed
@@ -134,6 +138,7 @@ impl Contraction {
     /// The contraction of one link, on its nodes. Takes a fixed time and memory.
     pub fn of_link(alloc: Global, station: &Station, i: u16) -> Result<Contraction, Memory>
         requires { i < length station.now.links }
+        ensures contraction { IfOk result IsContraction }
         ensures kept { IfOk result
             (λ c. (n : ℕ) → Keeps c.kept n ↔ Touches station.now (a_link i) n) }
         ensures stands { IfOk result
@@ -146,6 +151,7 @@ impl Contraction {
     /// The contraction of one tap, on its node. Takes a fixed time and memory.
     pub fn of_tap(alloc: Global, station: &Station, i: u16) -> Result<Contraction, Memory>
         requires { i < length station.now.taps }
+        ensures contraction { IfOk result IsContraction }
         ensures kept { IfOk result
             (λ c. (n : ℕ) → Keeps c.kept n ↔ Touches station.now (a_tap i) n) }
         ensures stands { IfOk result

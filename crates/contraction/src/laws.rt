@@ -1,10 +1,14 @@
-//! Laws of contractions and their views.
-ghost use Rattle.std.specs.Prelude.{◌≡◌, ◌↔◌, Bool, List};
+//! Laws of contractions and their views. A clause cannot speak of every set of items, so each says it of
+//! lists; the lemmas behind them say it of any set, for proofs above. They are public in `proofs/`:
+//! `ItemSets`, `StandsLemmas` (`compose`), `KeepLemmas` (`keep_only`), `SupplyLemmas` (`supply`),
+//! `ViewLemmas`, `SameLemmas`, `MoveLemmas`, `LawLemmas`, and `RisingLemmas` on lists of kept nodes.
+ghost use Rattle.std.specs.Prelude.{◌≡◌, ◌↔◌, ℕ, Bool, List};
 ghost use Rattle.station_graph.specs.Diagram.{Diagram};
 ghost use Rattle.station_graph.specs.Connection.{Item};
+ghost use Rattle.station_graph.specs.Alike.{SamePositions};
 ghost use Rattle.station_graph.specs.Views.{SameGapView, SameLoadView};
 ghost use Rattle.contraction.specs.Answers.{Answers, Keeps, IsContraction, SameGap, SameLoad};
-ghost use Rattle.contraction.specs.Stands.{Among, GapStandsFor, LoadStandsFor};
+ghost use Rattle.contraction.specs.Stands.{Among, IsItem, GapStandsFor, LoadStandsFor};
 ghost use Rattle.contraction.specs.Composing.{Composes, Restricts};
 
 /// `compose` respects each view: values with the same gap views have compositions with the same gap
@@ -47,4 +51,57 @@ pub fn same_views_stand()
     ensures load { (items : List Item) (d : Diagram) (v : List Bool) (x y : Answers)
         → IsContraction x → IsContraction y
         → SameLoad x y → LoadStandsFor (Among items) d v x → LoadStandsFor (Among items) d v y }
+{}
+
+/// What a value stands for is a matter of which items of the station are in the list, not of their order
+/// or number.
+pub fn same_items_stand()
+    ensures gap { (items others : List Item) (d : Diagram) (v : List Bool) (c : Answers)
+        → ((item : Item) → IsItem d item → Among items item ↔ Among others item)
+        → GapStandsFor (Among items) d v c → GapStandsFor (Among others) d v c }
+    ensures load { (items others : List Item) (d : Diagram) (v : List Bool) (c : Answers)
+        → ((item : Item) → IsItem d item → Among items item ↔ Among others item)
+        → LoadStandsFor (Among items) d v c → LoadStandsFor (Among others) d v c }
+{}
+
+/// What a value stands for is a matter of the positions of the items' own switches alone.
+pub fn own_positions_stand()
+    ensures gap { (items : List Item) (d : Diagram) (v w : List Bool) (c : Answers)
+        → SamePositions (Among items) v w
+        → GapStandsFor (Among items) d v c → GapStandsFor (Among items) d w c }
+    ensures load { (items : List Item) (d : Diagram) (v w : List Bool) (c : Answers)
+        → SamePositions (Among items) v w
+        → LoadStandsFor (Among items) d v c → LoadStandsFor (Among items) d w c }
+{}
+
+/// Values that keep the same nodes have one list of them.
+pub fn same_nodes_are_one_list()
+    ensures { (x y : Answers) → IsContraction x → IsContraction y
+        → ((n : ℕ) → Keeps x.kept n ↔ Keeps y.kept n) → x.kept ≡ y.kept }
+{}
+
+/// A gap view is its own, and values with the gap view of a third have one.
+pub fn gap_views_are_equal()
+    ensures own { (x : Answers) → SameGap x x }
+    ensures back { (x y : Answers) → SameGap x y → SameGap y x }
+    ensures on { (x y z : Answers) → SameGap x y → SameGap y z → SameGap x z }
+{}
+
+/// So for load views.
+pub fn load_views_are_equal()
+    ensures own { (x : Answers) → SameLoad x x }
+    ensures back { (x y : Answers) → SameLoad x y → SameLoad y x }
+    ensures on { (x y z : Answers) → SameLoad x y → SameLoad y z → SameLoad x z }
+{}
+
+/// Items that have one view in two positions on some nodes have one on fewer.
+pub fn fewer_nodes_tell_less()
+    ensures gap { (items : List Item) (d : Diagram) (v w : List Bool) (kept fewer : List ℕ)
+        → ((n : ℕ) → Keeps fewer n → Keeps kept n)
+        → SameGapView (Keeps kept) (Among items) d v w
+        → SameGapView (Keeps fewer) (Among items) d v w }
+    ensures load { (items : List Item) (d : Diagram) (v w : List Bool) (kept fewer : List ℕ)
+        → ((n : ℕ) → Keeps fewer n → Keeps kept n)
+        → SameLoadView (Keeps kept) (Among items) d v w
+        → SameLoadView (Keeps fewer) (Among items) d v w }
 {}

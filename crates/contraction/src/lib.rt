@@ -19,7 +19,9 @@ mod supply;
 mod value;
 
 pub use laws::{
-    composition_respects_views, restriction_respects_views, same_views_stand, values_tell_views,
+    composition_respects_views, fewer_nodes_tell_less, gap_views_are_equal, load_views_are_equal,
+    own_positions_stand, restriction_respects_views, same_items_stand, same_nodes_are_one_list,
+    same_views_stand, values_tell_views,
 };
 pub use supply::Supply;
 pub use value::Contraction;

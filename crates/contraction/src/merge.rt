@@ -48,9 +48,9 @@ pub(crate) fn merge(alloc: Global, first: &[u16], second: &[u16]) -> Result<Unio
     ensures { IfOk result
         (λ u. IsMerged first.now second.now u.kept.items u.first.items u.second.items) }
 {
-    let mut kept = Vec::new(alloc);
-    let mut first_places = Vec::new(alloc);
-    let mut second_places = Vec::new(alloc);
+    let mut kept = Vec::with_capacity(alloc, first.len() + second.len())?;
+    let mut first_places = Vec::with_capacity(alloc, first.len())?;
+    let mut second_places = Vec::with_capacity(alloc, second.len())?;
     'merging: while let Some(node) = least_next(
         first,
         first_places.len(),

@@ -22,3 +22,5 @@ pub mod DependsOnLemmas
 pub mod LayersLemmas
 pub mod LawLemmas
 pub mod SetLemmas
+pub mod RenameLemmas
+pub mod FinishedLemmas

@@ -12,3 +12,5 @@ pub mod RowIndex
 pub mod FoldedView
 pub mod Assembling
 pub mod Depending
+pub mod Renaming
+pub mod Finished

@@ -1,16 +1,19 @@
-ghost use Rattle.std.specs.Prelude.{◌≡◌, ℕ, ◌+◌, ◌<◌, ◌↔◌, length, List, map, IfOk, MatchOption, IsTrue};
+ghost use Rattle.std.specs.Prelude.{◌≡◌, ℕ, ◌+◌, ◌<◌, ◌≤◌, ◌↔◌, length, sum_by, List, map, slice_index, slice_index_or, true, false, IfOk, MatchOption, IsTrue};
 ghost use Rattle.decision_graphs.specs.Label.{DependsOn, layer_at, first_at, HasEdge, IsNode, Reaches, Allows, AreChoices, AreReduced, AreLayers, Layer, label_of, place_after, step};
-ghost use Rattle.decision_graphs.specs.Reaching.{AreSetsOf, AreMarksOf, node_total, IsSet};
+ghost use Rattle.decision_graphs.specs.Reaching.{AreSetsOf, AreMarksOf, MarksReached, node_total, IsSet};
+ghost use Rattle.decision_graphs.specs.Finished.{AreFinished, finished};
 ghost use Rattle.decision_graphs.specs.Whole.{layer_of, IsWhole};
 ghost use Rattle.decision_graphs.specs.Shapes.{AreHomes};
 
 use crate::assemble::reduced;
 use crate::choices::ChoiceList;
-use crate::depend::label_depends_on;
+use crate::depend::{label_depends_on, layers_depended};
 use crate::find::edge_site;
+use crate::finished::{FinishedLayer, joined};
 use crate::marks::Marks;
 use crate::path::find_path;
 use crate::reach::mark_labels;
+use crate::rename::renamed;
 use crate::sets::ChoiceSets;
 use crate::shape::Shape;
 use ilk_base::Memory;
@@ -52,9 +55,10 @@ impl Graph {
         self.labels
     }
 
-    /// How many layers there are. Constant time.
+    /// How many layers there are, and that they have at most 4,294,967,295 nodes. Constant time.
     pub fn layers(&self) -> u16
-        ensures { result ≡ length self.now.layers }
+        ensures count { result ≡ length self.now.layers }
+        ensures few_nodes { node_total self.now ≤ 4294967295 }
     {
         self.shapes.len() as u16
     }
@@ -86,6 +90,23 @@ impl Graph {
     {
         let site = edge_site(&self.shapes, &self.homes, &self.edges, from, choice);
         site.next + self.edges[site.place]
+    }
+
+    /// The graph of finished layers, for a caller that knows how many labels there are only once the last
+    /// layer is done. Without layers it leads to label 0. Linear in edges; takes 4 bytes for each edge,
+    /// 2 for each node and 24 for each layer.
+    pub fn from_layers(
+        alloc: Global,
+        labels: u32,
+        layers: &[FinishedLayer],
+    ) -> Result<Graph, Memory>
+        requires finished { AreFinished labels layers.now }
+        requires few_layers { length layers.now ≤ 65535 }
+        requires few_nodes { sum_by (λ (l : FinishedLayer). l.nodes) layers.now ≤ 4294967295 }
+        ensures { IfOk result (λ g. g ≡ record { labels = labels; layers = map finished layers.now }) }
+    {
+        let parts = joined(alloc, labels, layers)?;
+        Ok(Graph::from_parts(labels, parts.shapes, parts.homes, parts.edges))
     }
 
     /// The graph of these layers.
@@ -121,8 +142,7 @@ impl Graph {
         requires sets { AreSetsOf self.now.layers sets.now }
         requires marks { AreMarksOf self.now marks.old }
         ensures same { AreMarksOf self.now marks.new }
-        ensures exact { (goal : ℕ) → goal < self.now.labels
-            → IsSet marks.new.labels goal ↔ Reaches self.now sets.now goal }
+        ensures exact { MarksReached self.now sets.now marks.new.labels }
     {
         marks.mark(self, sets);
     }
@@ -166,13 +186,15 @@ impl Graph {
     }
 
     /// The graph in which nodes of equal edges are one: each list of choices leads to the label it led to,
-    /// and no two nodes of one layer have equal edges. Nodes that no list of choices reaches stay. Linear
+    /// no two nodes of one layer have equal edges, and no layer has more nodes than before. Nodes that no
+    /// list of choices reaches stay. Linear
     /// in edges but for hashing; takes about 16 bytes for each edge and 100 for each node while it runs.
     pub fn reduce(&self, alloc: Global) -> Result<Graph, Memory>
         ensures labels { IfOk result (λ g. g.labels ≡ self.now.labels) }
         ensures choices { IfOk result (λ g. map (λ (l : Layer). l.choices) g.layers ≡ map (λ (l : Layer). l.choices) self.now.layers) }
         ensures label { IfOk result (λ g. (cs : List ℕ) → AreChoices self.now.layers cs → label_of g cs ≡ label_of self.now cs) }
         ensures reduced { IfOk result (λ g. AreReduced g.layers) }
+        ensures sizes { IfOk result (λ g. (j : ℕ) → length (layer_at g.layers j).rows ≤ length (layer_at self.now.layers j).rows) }
     {
         let assembled = reduced(alloc, self.labels, &self.shapes, &self.edges)?;
         Ok(Graph::from_parts(
@@ -181,6 +203,28 @@ impl Graph {
             assembled.homes,
             assembled.edges,
         ))
+    }
+
+    /// The graph in which each label is replaced by its name, `names[label]`. A graph without layers has
+    /// nothing to replace. Linear in edges; takes 4 bytes for each edge, 2 for each node and 24 for each layer.
+    pub fn rename(&self, alloc: Global, names: &[u32]) -> Result<Graph, Memory>
+        requires count { length names.now ≡ self.now.labels }
+        requires within { (x : ℕ) → x < self.now.labels → slice_index names.now x < self.now.labels }
+        ensures labels { IfOk result (λ g. g.labels ≡ self.now.labels) }
+        ensures choices { IfOk result (λ g. map (λ (l : Layer). l.choices) g.layers ≡ map (λ (l : Layer). l.choices) self.now.layers) }
+        ensures label { IfOk result (λ g. 0 < length self.now.layers → (cs : List ℕ) → AreChoices self.now.layers cs
+            → label_of g cs ≡ slice_index names.now (label_of self.now cs)) }
+        ensures sizes { IfOk result (λ g. (j : ℕ) → length (layer_at g.layers j).rows ≡ length (layer_at self.now.layers j).rows) }
+    {
+        let parts = renamed(
+            alloc,
+            self.labels,
+            &self.shapes,
+            &self.homes,
+            &self.edges,
+            names,
+        )?;
+        Ok(Graph::from_parts(self.labels, parts.shapes, parts.homes, parts.edges))
     }
 
     /// Whether the choice in a layer makes a difference: exactly where two lists of choices that differ in
@@ -192,6 +236,30 @@ impl Graph {
         let reduced = self.reduce(alloc)?;
         let depends = reduced.reduced_depends_on(alloc, layer)?;
         Ok(depends)
+    }
+
+    /// For each layer whether the choice in it makes a difference, as `depends_on` says of one. It reduces one
+    /// copy and goes over it once.
+    pub fn dependencies(&self, alloc: Global) -> Result<Vec<bool>, Memory>
+        ensures count { IfOk result (λ v. length v.items ≡ length self.now.layers) }
+        ensures exact { IfOk result (λ v. (j : ℕ) → j < length self.now.layers
+            → (slice_index_or v.items j false ≡ true) ↔ DependsOn self.now j) }
+    {
+        let reduced = self.reduce(alloc)?;
+        let depended = reduced.reduced_dependencies(alloc)?;
+        Ok(depended)
+    }
+
+    fn reduced_dependencies(&self, alloc: Global) -> Result<Vec<bool>, Memory>
+        requires { AreReduced self.now.layers }
+        ensures count { IfOk result (λ v. length v.items ≡ length self.now.layers) }
+        ensures exact { IfOk result (λ v. (j : ℕ) → j < length self.now.layers
+            → (slice_index_or v.items j false ≡ true) ↔ DependsOn self.now j) }
+    {
+        let mut seen = Vec::new(alloc);
+        seen.resize(self.homes.len() + self.labels as usize, false)?;
+        let depended = layers_depended(alloc, self.labels, &self.shapes, &self.edges, &mut seen)?;
+        Ok(depended)
     }
 
     fn reduced_depends_on(&self, alloc: Global, layer: u16) -> Result<bool, Memory>

@@ -50,6 +50,31 @@ invariant_of-result c =
     let steps = steps_made x y u gap load bonded c.deref.result.now c.deref-2.result.now c.deref-3.result.now c.numbers.result.now c.deref-4.result.now c.numbers-2.result.now c.len.result made in
     composed_well (answers_of x) (answers_of y) z u.first.items u.second.items c.self.invariant c.other.invariant steps
 
+pub returns-clause-contraction : goal.returns-clause-contraction
+returns-clause-contraction c =
+    let x = c.self.inside in
+    let y = c.other.inside in
+    let u = c.in_ok-union.union in
+    let gap = c.in_ok-gap.gap in
+    let load = c.in_ok-load.load in
+    let bonded : List ℕ = c.in_ok-bonded.bonded in
+    let z : Answers = answers_of (record { kept = u.kept; gap = gap; load = load; bonded = bonded }) in
+    let made : Made x y u gap load bonded c.deref.result.now c.deref-2.result.now c.deref-3.result.now c.numbers.result.now c.deref-4.result.now c.numbers-2.result.now c.len.result = record {
+      first_kept = c.deref.ensures.value;
+      second_kept = c.deref-2.ensures.value;
+      merged = c.in_ok-union.ensures;
+      gap_row = c.in_ok-gap.ensures;
+      load_row = c.in_ok-load.ensures;
+      first_places = c.deref-3.ensures.value;
+      first_labels = c.numbers.ensures;
+      second_places = c.deref-4.ensures.value;
+      second_labels = c.numbers-2.ensures;
+      counted = omega arith;
+      bonded_row = c.in_ok-bonded.ensures;
+    } in
+    let steps = steps_made x y u gap load bonded c.deref.result.now c.deref-2.result.now c.deref-3.result.now c.numbers.result.now c.deref-4.result.now c.numbers-2.result.now c.len.result made in
+    composed_well (answers_of x) (answers_of y) z u.first.items u.second.items c.self.invariant c.other.invariant steps
+
 pub returns-clause-composes : goal.returns-clause-composes
 returns-clause-composes c =
     let x = c.self.inside in

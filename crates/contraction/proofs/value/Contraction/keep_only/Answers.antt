@@ -6,6 +6,7 @@ use Rattle.contraction.specs.Inside.{answers_of}
 use Rattle.contraction.proofs.MergeLemmas.{few_nodes}
 use Rattle.contraction.proofs.KeepLemmas.{restricts_gap, restricts_load}
 use Rattle.contraction.proofs.RestrictLemmas.{Kept, RestrictSteps, steps_kept, few_places, restricted, restricted_kept, restricted_well}
+use Rattle.contraction.proofs.RisingLemmas.{kept_is}
 use Rattle.contraction.proofs.value.Contraction.keep_only.Goals as goal
 
 pub places_of-requires : goal.places_of-requires
@@ -22,6 +23,33 @@ labels_at-requires-clause-few c = few_places c.args.nodes.now c.numbers.result.n
 
 pub invariant_of-result : goal.invariant_of-result
 invariant_of-result c =
+    let x = c.self.inside in
+    let places : List ℕ = c.in_ok-places.places.items in
+    let kept : List ℕ = c.in_ok-picked.field-0.items in
+    let gap = c.in_ok-at.field-0 in
+    let load = c.in_ok-at-2.field-0 in
+    let bonded : List ℕ = c.in_ok-labels_at.field-0 in
+    let z : Answers = record { kept = kept; coupled = gap.labels; joined = load.labels; bonded = bonded; energisable = gap.first.items; earthable = gap.second.items; fed = load.first.items; loaded = load.second.items } in
+    let made : Kept c.args.nodes.now x places kept gap load bonded c.numbers.result.now c.deref.result.now c.deref-2.result.now c.deref-3.result.now c.deref-4.result.now c.deref-5.result.now c.numbers-2.result.now c.deref-6.result.now = record {
+      names = c.numbers.ensures;
+      kept_seen = c.deref.ensures.value;
+      places_of = c.in_ok-places.ensures;
+      all_seen = c.deref-2.ensures.value;
+      places1 = c.deref-3.ensures.value;
+      picks = c.in_ok-picked.ensures;
+      places2 = c.deref-4.ensures.value;
+      gap_row = c.in_ok-at.ensures;
+      places3 = c.deref-5.ensures.value;
+      load_row = c.in_ok-at-2.ensures;
+      bonded_seen = c.numbers-2.ensures;
+      places4 = c.deref-6.ensures.value;
+      bonded_row = c.in_ok-labels_at.ensures;
+    } in
+    let steps : RestrictSteps c.args.nodes.now (answers_of x) z places = steps_kept c.args.nodes.now x places kept gap load bonded c.numbers.result.now c.deref.result.now c.deref-2.result.now c.deref-3.result.now c.deref-4.result.now c.deref-5.result.now c.numbers-2.result.now c.deref-6.result.now made in
+    restricted_well c.args.nodes.now (answers_of x) z places c.self.invariant steps
+
+pub returns-clause-contraction : goal.returns-clause-contraction
+returns-clause-contraction c =
     let x = c.self.inside in
     let places : List ℕ = c.in_ok-places.places.items in
     let kept : List ℕ = c.in_ok-picked.field-0.items in
@@ -74,6 +102,36 @@ returns-clause-kept c =
     let steps : RestrictSteps c.args.nodes.now (answers_of x) z places = steps_kept c.args.nodes.now x places kept gap load bonded c.numbers.result.now c.deref.result.now c.deref-2.result.now c.deref-3.result.now c.deref-4.result.now c.deref-5.result.now c.numbers-2.result.now c.deref-6.result.now made in
     restricted_kept c.args.nodes.now (answers_of x) z places c.self.invariant steps
     (λ n has. subst (λ (s : Answers). Keeps s.kept n) (sym c.self.view_is) (c.requires n has))
+
+pub returns-clause-list : goal.returns-clause-list
+returns-clause-list c =
+    let x = c.self.inside in
+    let places : List ℕ = c.in_ok-places.places.items in
+    let kept : List ℕ = c.in_ok-picked.field-0.items in
+    let gap = c.in_ok-at.field-0 in
+    let load = c.in_ok-at-2.field-0 in
+    let bonded : List ℕ = c.in_ok-labels_at.field-0 in
+    let z : Answers = record { kept = kept; coupled = gap.labels; joined = load.labels; bonded = bonded; energisable = gap.first.items; earthable = gap.second.items; fed = load.first.items; loaded = load.second.items } in
+    let made : Kept c.args.nodes.now x places kept gap load bonded c.numbers.result.now c.deref.result.now c.deref-2.result.now c.deref-3.result.now c.deref-4.result.now c.deref-5.result.now c.numbers-2.result.now c.deref-6.result.now = record {
+      names = c.numbers.ensures;
+      kept_seen = c.deref.ensures.value;
+      places_of = c.in_ok-places.ensures;
+      all_seen = c.deref-2.ensures.value;
+      places1 = c.deref-3.ensures.value;
+      picks = c.in_ok-picked.ensures;
+      places2 = c.deref-4.ensures.value;
+      gap_row = c.in_ok-at.ensures;
+      places3 = c.deref-5.ensures.value;
+      load_row = c.in_ok-at-2.ensures;
+      bonded_seen = c.numbers-2.ensures;
+      places4 = c.deref-6.ensures.value;
+      bonded_row = c.in_ok-labels_at.ensures;
+    } in
+    let steps : RestrictSteps c.args.nodes.now (answers_of x) z places = steps_kept c.args.nodes.now x places kept gap load bonded c.numbers.result.now c.deref.result.now c.deref-2.result.now c.deref-3.result.now c.deref-4.result.now c.deref-5.result.now c.numbers-2.result.now c.deref-6.result.now made in
+    kept_is c.args.nodes.now z
+    (restricted_well c.args.nodes.now (answers_of x) z places c.self.invariant steps)
+    (restricted_kept c.args.nodes.now (answers_of x) z places c.self.invariant steps
+    (λ n has. subst (λ (s : Answers). Keeps s.kept n) (sym c.self.view_is) (c.requires n has)))
 
 pub returns-clause-restricts : goal.returns-clause-restricts
 returns-clause-restricts c =

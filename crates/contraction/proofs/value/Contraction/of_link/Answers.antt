@@ -12,7 +12,7 @@ pub returns-clause-kept : goal.returns-clause-kept
 returns-clause-kept c =
     IfOk-weaker c.pair.result _ _
     (λ z is n. link_nodes c.args.station.now c.args.i c.link-link.result z.kept c.link-link.ensures.value is.kept n)
-    c.pair.ensures
+    c.pair.ensures.pair
 
 pub returns-clause-stands : goal.returns-clause-stands
 returns-clause-stands c =
@@ -25,4 +25,4 @@ returns-clause-stands c =
     (pair_stands d (a_link i) v x.first.0 x.second.0 true true x.bond z is
     (joins_always d i x listed (with_breakers_closed d v)) (joins_always d i x listed v) (joins_bond d i x listed v)
     (λ kind n k at. cc (at.among)) (λ n tap. cc (tap.among))))
-    c.pair.ensures
+    c.pair.ensures.pair

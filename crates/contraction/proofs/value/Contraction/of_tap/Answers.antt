@@ -21,4 +21,4 @@ returns-clause-stands c =
     (λ e. absurd (cc))
     (λ m at. refl)
     (λ e. inr (record { number = i; tap = c.tap.result; listed = c.tap.ensures.value; stands = refl; among = refl }))))
-    c.single.ensures
+    c.single.ensures.single

@@ -1,0 +1,67 @@
+//! A graph out of finished layers.
+ghost use Rattle.std.specs.Prelude.{◌≡◌, ℕ, ◌+◌, ◌<◌, ◌≤◌, length, map, sum_by, IfOk};
+ghost use Rattle.decision_graphs.specs.Finished.{AreFinished, IsJoined, finished};
+ghost use Rattle.decision_graphs.specs.Shapes.{AreHomes};
+ghost use Rattle.decision_graphs.specs.Whole.{IsWhole, layer_of};
+
+use crate::assemble::{Assembled, GraphParts, homes_of};
+use crate::shape::Shape;
+use ilk_base::Memory;
+use std::alloc::Global;
+
+/// A layer with all its edges, node by node and within a node by choice: an edge is the number of a node
+/// within the next layer, or from the last layer a label.
+#[derive(Debug, Drop)]
+pub struct FinishedLayer {
+    /// how many choices each node has
+    pub choices: u32,
+    /// how many nodes there are
+    pub nodes: u32,
+    /// the edges, as many as nodes times choices
+    pub edges: Vec<u32>,
+}
+
+// The layers one behind the other.
+fn join(alloc: Global, labels: u32, layers: &[FinishedLayer]) -> Result<Assembled, Memory>
+    requires finished { AreFinished labels layers.now }
+    requires few_layers { length layers.now ≤ 65535 }
+    requires few_nodes { sum_by (λ (l : FinishedLayer). l.nodes) layers.now ≤ 4294967295 }
+    ensures { IfOk result (λ a. IsJoined layers.now a.shapes.items a.edges.items (length layers.now)) }
+{
+    let mut shapes = Vec::new(alloc);
+    let mut edges = Vec::new(alloc);
+    let mut total = 0u32;
+    for layer in layers {
+        shapes.push(Shape {
+            choices: layer.choices,
+            nodes: layer.nodes,
+            first: total,
+            base: edges.len(),
+        })?;
+        edges.extend_from_slice(&layer.edges)?;
+        total += layer.nodes;
+    }
+    Ok(Assembled { shapes, edges })
+}
+
+// What the graph of the layers is made of.
+pub(crate) fn joined(
+    alloc: Global,
+    labels: u32,
+    layers: &[FinishedLayer],
+) -> Result<GraphParts, Memory>
+    requires finished { AreFinished labels layers.now }
+    requires few_layers { length layers.now ≤ 65535 }
+    requires few_nodes { sum_by (λ (l : FinishedLayer). l.nodes) layers.now ≤ 4294967295 }
+    ensures homes { IfOk result (λ a. AreHomes a.shapes.items (length a.shapes.items) a.homes.items) }
+    ensures whole { IfOk result (λ a. IsWhole labels a.shapes.items a.edges.items) }
+    ensures view { IfOk result (λ a. map (layer_of a.edges.items) a.shapes.items ≡ map finished layers.now) }
+{
+    let joined = join(alloc, labels, layers)?;
+    let homes = homes_of(alloc, &joined.shapes)?;
+    Ok(GraphParts {
+        shapes: joined.shapes,
+        homes,
+        edges: joined.edges,
+    })
+}
