@@ -8,3 +8,4 @@ pub mod StandsFor
 pub mod Laws
 pub mod Seen
 pub mod SeenPaths
+pub mod Shown

@@ -53,6 +53,77 @@ pub enum SsdRefusal {
     Memory,
 }
 
+impl SsdRefusal {
+    ghost use Rattle.ssd_read.specs.Shown.{number, place, limit, count};
+
+    /// The number of the fault, from 1 to 15; none for want of memory.
+    pub fn number(&self) -> Option<u8>
+        ensures { result ≡ number self.now }
+    {
+        match self {
+            SsdRefusal::Encoding { .. } => Some(1),
+            SsdRefusal::Syntax { .. } => Some(2),
+            SsdRefusal::Doctype { .. } => Some(3),
+            SsdRefusal::Deep { .. } => Some(4),
+            SsdRefusal::Mismatch { .. } => Some(5),
+            SsdRefusal::Unclosed { .. } => Some(6),
+            SsdRefusal::Many { .. } => Some(7),
+            SsdRefusal::Root { .. } => Some(8),
+            SsdRefusal::NoName { .. } => Some(9),
+            SsdRefusal::Twice { .. } => Some(10),
+            SsdRefusal::NodeMissing { .. } => Some(11),
+            SsdRefusal::Terminals { .. } => Some(12),
+            SsdRefusal::Grounded { .. } => Some(13),
+            SsdRefusal::Loop { .. } => Some(14),
+            SsdRefusal::Limit { .. } => Some(15),
+            SsdRefusal::Memory => None,
+        }
+    }
+
+    /// The number of bytes before the fault; none for a limit and for want of memory.
+    pub fn place(&self) -> Option<u32>
+        ensures { result ≡ place self.now }
+    {
+        match self {
+            SsdRefusal::Encoding { at }
+            | SsdRefusal::Syntax { at }
+            | SsdRefusal::Doctype { at }
+            | SsdRefusal::Deep { at }
+            | SsdRefusal::Mismatch { at }
+            | SsdRefusal::Unclosed { at }
+            | SsdRefusal::Many { at }
+            | SsdRefusal::Root { at }
+            | SsdRefusal::NoName { at }
+            | SsdRefusal::Twice { at }
+            | SsdRefusal::NodeMissing { at }
+            | SsdRefusal::Terminals { at, .. }
+            | SsdRefusal::Grounded { at }
+            | SsdRefusal::Loop { at } => Some(*at),
+            SsdRefusal::Limit { .. } | SsdRefusal::Memory => None,
+        }
+    }
+
+    /// What passed its limit, for a limit alone.
+    pub fn limit(&self) -> Option<What>
+        ensures { result ≡ limit self.now }
+    {
+        match self {
+            SsdRefusal::Limit { what, .. } => Some(*what),
+            _ => None,
+        }
+    }
+
+    /// The number of terminals, or the count that passed its limit; none for the other faults.
+    pub fn count(&self) -> Option<u32>
+        ensures { result ≡ count self.now }
+    {
+        match self {
+            SsdRefusal::Terminals { count, .. } | SsdRefusal::Limit { count, .. } => Some(*count),
+            _ => None,
+        }
+    }
+}
+
 impl From<Memory> for SsdRefusal {
     ghost from_gives = { λ _ e. e ≡ NoMemory };
 

@@ -11,3 +11,4 @@ pub mod Classes
 pub mod Inside
 pub mod Building
 pub mod DraftInside
+pub mod Limits

@@ -27,6 +27,17 @@ pub enum What {
     Taps = 8,
 }
 
+impl What {
+    ghost use Rattle.station_graph.specs.Limits.{limit_number};
+
+    /// The number of its limit, from 1 to 8.
+    pub fn number(self) -> u8
+        ensures { result ≡ limit_number self }
+    {
+        self as u8
+    }
+}
+
 /// Why a builder refused an item.
 #[derive(Clone, Copy, Debug, PartialEq, Eq)]
 pub enum BuildFault {
