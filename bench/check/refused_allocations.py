@@ -9,7 +9,7 @@ library asks again for less, with status 0 and the whole text. With none refused
 
     bench/check/refused_allocations.py          the program as it was built, with a library of a few lines
                                                 of C between it and malloc; it takes seconds, and needs cc.
-                                                Build first: (cd crates/interlock && rt run -- help)
+                                                Build first: ./interlock --prove
     bench/check/refused_allocations.py FIRST LAST   the Nth alone, for N from FIRST to LAST, by `rt try
                                                 --fail-alloc N`, which needs no proof, runs with checks of
                                                 each access, and builds anew each time, in up to a minute
@@ -76,7 +76,7 @@ def sweep(folder):
     """Each allocation of the program as it was built."""
     program = CRATE / "out/interlock"
     if not program.exists():
-        sys.exit("build the program first: (cd crates/interlock && rt run -- help)")
+        sys.exit("build the program first: ./interlock --prove")
     source, library = folder / "refuser.c", folder / "refuser.so"
     source.write_text(REFUSER)
     subprocess.run(["cc", "-O1", "-shared", "-fPIC", "-o", library, source], check=True)

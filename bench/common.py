@@ -1,0 +1,118 @@
+"""What the scripts of bench/ share: the programs that they time, drawings, a clock, and the form of a figure.
+
+Each run.py has a docstring (what it measures, and how the program is built), a function `figures` that yields
+`Figure`s, and the line `common.main(__doc__, figures)`. The figures are printed one a line, each with the most
+that it may be, where there is a target; the status is 1 where one is over it. The first argument, if any, is
+the path of the program in place of the one in the repository.
+"""
+import os
+import pathlib
+import subprocess
+import sys
+import tempfile
+import time
+from typing import NamedTuple, Optional
+
+sys.dont_write_bytecode = True
+TOP = pathlib.Path(__file__).resolve().parents[1]
+LIMIT = 8_388_608
+
+
+class Figure(NamedTuple):
+    what: str
+    value: float
+    unit: str
+    most: Optional[float] = None
+    note: str = ""
+
+    def __str__(self):
+        size = abs(self.value)
+        shown = f"{self.value:,.0f}" if size >= 100 else f"{self.value:.3g}"
+        target = f"  (at most {self.most:g})" if self.most is not None else ""
+        return f"{self.what:52} {shown:>10} {self.unit}{target}{'  ' + self.note if self.note else ''}"
+
+
+class Run(NamedTuple):
+    seconds: float
+    peak: float
+    status: int
+
+
+def main(doc, figures):
+    """Prints the figures; ends with 1 where one is over its target."""
+    if "-h" in sys.argv or "--help" in sys.argv:
+        sys.exit(doc.strip())
+    over = False
+    for figure in figures():
+        print(figure, flush=True)
+        over |= figure.most is not None and figure.value > figure.most
+    sys.exit(1 if over else 0)
+
+
+def program(crate="interlock"):
+    """The program of a crate as it was proved and built."""
+    path = pathlib.Path(sys.argv[1]) if len(sys.argv) > 1 else TOP / f"crates/{crate}/out/{crate}"
+    if not path.exists():
+        how = "./interlock --prove" if crate == "interlock" else f"(cd crates/{crate} && rt run)"
+        sys.exit(f"{path} is not there; build it first: {how}")
+    return path.resolve()
+
+
+def folder():
+    """A folder of its own, which goes at the end."""
+    return tempfile.TemporaryDirectory(prefix="bench-")
+
+
+def run(words):
+    """Runs the words with nothing on the streams: seconds, the most memory at once in MiB, and the status."""
+    null = os.open(os.devnull, os.O_WRONLY)
+    actions = [(os.POSIX_SPAWN_DUP2, null, 1), (os.POSIX_SPAWN_DUP2, null, 2)]
+    words = [str(word) for word in words]
+    start = time.monotonic()
+    child = os.posix_spawn(words[0], words, os.environ, file_actions=actions)
+    _, status, usage = os.wait4(child, 0)
+    seconds = time.monotonic() - start
+    os.close(null)
+    return Run(seconds, usage.ru_maxrss / 1024, os.waitstatus_to_exitcode(status))
+
+
+def best(words, times=7, status=0):
+    """The shortest of several runs, each of which must end with the status."""
+    runs = [run(words) for _ in range(times)]
+    wrong = [r.status for r in runs if r.status != status]
+    if wrong:
+        sys.exit(f"status {wrong[0]}, not {status}: {' '.join(map(str, words))}")
+    return min(runs)
+
+
+def printed(words, **more):
+    """What the words print; they must end with 0."""
+    words = [str(word) for word in words]
+    return subprocess.run(words, capture_output=True, text=True, check=True, **more).stdout
+
+
+# ---- drawings
+
+def node(name):
+    return f'<ConnectivityNode name="{name}"/>'
+
+
+def equipment(name, kind, terminals, level="S/V1"):
+    """Equipment whose terminals are named BAY/NODE."""
+    ends = "".join(f'<Terminal connectivityNode="{level}/{t}" cNodeName="{t.split("/")[1]}"/>' for t in terminals)
+    return f'<ConductingEquipment name="{name}" type="{kind}">{ends}</ConductingEquipment>'
+
+
+def bay(name, nodes, items):
+    return f'<Bay name="{name}">{"".join(map(node, nodes))}{"".join(items)}</Bay>'
+
+
+def drawing(bays):
+    """The drawing of a substation S with one voltage level V1."""
+    level = f'<VoltageLevel name="V1">{"".join(bays)}</VoltageLevel>'
+    return f'<SCL><Substation name="S">{level}</Substation></SCL>'
+
+
+def positions(words):
+    """The positions file of these words by path."""
+    return "".join(f"{path},{word}\n" for path, word in words.items())
