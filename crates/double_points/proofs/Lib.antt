@@ -1,3 +1,4 @@
 pub mod Next
 pub mod Records
 pub mod Places
+pub mod BayLemmas

@@ -3,3 +3,4 @@ pub mod Left
 pub mod Paths
 pub mod Words
 pub mod Positions
+pub mod Filled

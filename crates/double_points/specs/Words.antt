@@ -3,7 +3,9 @@ use Rattle.std.specs.Prelude.{◌≡◌, ◌≢◌, ⊤, ℕ, List, Option, Some
 use Rattle.std.specs.Str.{bytes_eq}
 use Rattle.ilk_base.specs.declared.words.Dbpos.{Dbpos}
 use Rattle.ilk_base.specs.declared.words.Dbpos.TheVariants.{Intermediate, Off, On, Bad, Lost}
-use Rattle.station_graph.specs.Diagram.{Diagram}
+use Rattle.station_graph.specs.Diagram.{Diagram, switches_in, place_in}
+use Rattle.station_graph.specs.Connection.{a_switch}
+use Rattle.station_graph.specs.Sharing.{OfPart}
 use Rattle.station_graph.specs.declared.items.Switch.{Switch}
 
 -- the word that a text spells
@@ -27,6 +29,11 @@ Agrees Lost closed = ⊤
 -- There is one word for each switch of the station.
 abbrev pub AreWords : Diagram → List Dbpos → Type 0
 AreWords d words = length words ≡ length d.switches
+
+-- The row is that of the bay's words: one for each of its switches, in their order.
+pub record AreWordsOf (d : Diagram) (bay : ℕ) (words row : List Dbpos) : Type 0 where
+  pub count : length row ≡ switches_in d bay
+  pub each : (i : ℕ) (word : Dbpos) → OfPart d bay (a_switch i) → slice_get words i ≡ Some word → slice_get row (place_in d bay i) ≡ Some word
 
 -- The new words are lost for each switch of the bay, and the old ones for each other switch.
 pub record Forgets (d : Diagram) (bay : ℕ) (old new : List Dbpos) : Type 0 where

@@ -10,7 +10,7 @@ ghost use Rattle.ilk_base.specs.declared.words.Dbpos.TheVariants as word;
 use crate::readings::{Readings, readings_of, word_from};
 use crate::rows::Rows;
 use csv::ByteRecord;
-use ilk_base::{Dbpos, InputRefusal, Memory};
+use ilk_base::{Dbpos, InputRefusal, Memory, SwitchId};
 use station_graph::Station;
 use std::alloc::{AllocError, Global};
 
@@ -46,8 +46,8 @@ impl From<AllocError> for PositionsFault {
 // The most bytes that a file may have.
 const MOST_BYTES: usize = 8_388_608;
 
-// The bytes as text, where they are UTF-8.
-fn text_of(bytes: &[u8]) -> Option<&str>
+/// The bytes as text, where they are UTF-8. Time: their length.
+pub fn text_of(bytes: &[u8]) -> Option<&str>
     ensures text { IfSome result (λ s. s.now ≡ bytes.entry.now) }
     ensures some { IfSome result (λ s. is_utf8 bytes.entry.now ≡ true) }
     ensures none { IfNone result (is_utf8 bytes.entry.now ≡ false) }
@@ -75,15 +75,15 @@ fn two_fields(row: &ByteRecord) -> Option<(&[u8], &[u8])>
     Some((path, word))
 }
 
-// The place of the switch that a text names.
-fn named(station: &Station, path: &str) -> Option<usize>
-    ensures place { result ≡ place_of path.now station.now.switch_paths }
-    ensures within { IfSome result (λ i. i < length station.now.switch_paths) }
+/// The switch that a text names by its path, if there is one: its number is the place of the path among
+/// those of the switches. Time: the length of the path, by a hash.
+pub fn switch_named(station: &Station, path: &str) -> Option<SwitchId>
+    ensures place { IfSome result (λ id. place_of path.now station.now.switch_paths ≡ Some id.0) }
+    ensures listed { IfSome result (λ id. id.0 < length station.now.switch_paths) }
+    ensures within { IfSome result (λ id. id.0 < length station.now.switches) }
+    ensures none { IfNone result (place_of path.now station.now.switch_paths ≡ None) }
 {
-    match station.find_switch(path) {
-        Some(id) => Some(usize::from(id.0)),
-        None => None,
-    }
+    station.find_switch(path)
 }
 
 // The place of the switch and the word of two fields, or the number of the fault.
@@ -100,13 +100,13 @@ fn parsed_fields(station: &Station, path: &[u8], word: &[u8]) -> Result<(usize, 
     let Some(_) = text_of(word) else {
         return Err(1);
     };
-    let Some(place) = named(station, path) else {
+    let Some(id) = switch_named(station, path) else {
         return Err(2);
     };
     let Some(word) = word_from(word) else {
         return Err(3);
     };
-    Ok((place, word))
+    Ok((usize::from(id.0), word))
 }
 
 // The place of the switch and the word of a record, or the number of its fault, but for a switch that was named
@@ -172,7 +172,7 @@ pub fn read_positions(
     if bytes.len() > MOST_BYTES {
         return refused(5, 0);
     }
-    let _count = station.switch_count();
+    station.is_station();
     let mut rows = Rows::new(alloc, bytes);
     let mut row = ByteRecord::new(alloc);
     let mut found = no_words(alloc, station)?;

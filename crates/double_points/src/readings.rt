@@ -1,8 +1,9 @@
 // Words, one for each switch.
 ghost use Rattle.std.specs.Prelude.{◌≡◌, ◌<◌, ◌≤◌, ◌+◌, ◌↔◌, ◌⊎◌, ℕ, List, length, Some, None, IfOk, IsTrue, slice_get, slice_set, replicate};
 ghost use Rattle.station_graph.specs.Diagram.{part_count};
-ghost use Rattle.double_points.specs.Words.{word_of, Agrees, Forgets, AreWords};
+ghost use Rattle.double_points.specs.Words.{word_of, Agrees, Forgets, AreWords, AreWordsOf};
 
+use crate::bay_words::BayWords;
 use ilk_base::{BayId, Dbpos, Memory, SwitchId};
 use station_graph::Station;
 use std::alloc::Global;
@@ -84,6 +85,25 @@ impl Readings {
         Ok(Readings {
             words: vec![in alloc; Dbpos::Lost; usize::from(station.switch_count())]?,
         })
+    }
+
+    /// The same readings once more. Time and memory: the switches.
+    pub fn copy(&self, alloc: Global) -> Result<Readings, Memory>
+        ensures { IfOk result (λ r. r ≡ self.now) }
+    {
+        Ok(Readings {
+            words: Vec::from_slice(alloc, &self.words)?,
+        })
+    }
+
+    /// The words of the bay, as a value of its own. Time: the bay's switches. Takes no memory.
+    pub fn of_bay(&self, station: &Station, bay: BayId) -> BayWords
+        requires { AreWords station.now self.now }
+        ensures { AreWordsOf station.now bay.0 self.now result }
+    {
+        let (first, count) = station.switches_of(bay);
+        let first = usize::from(first.0);
+        BayWords::new(&self.words[first..first + usize::from(count)])
     }
 
     /// Sets the word of the switch, at once.

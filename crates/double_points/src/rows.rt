@@ -1,5 +1,5 @@
 // The records of a CSV text, one at a time: no header, any number of fields, blank lines skipped.
-ghost use Rattle.std.specs.Prelude.{◌≡◌, ◌∷◌, ◌≤◌, [], length, IfOk, IfErr, Ok, MatchBool, true};
+ghost use Rattle.std.specs.Prelude.{◌≡◌, ◌∷◌, ◌≤◌, [], length, IfOk, IfErr, OnErr, Ok, MatchBool, true, false};
 ghost use Rattle.csv.specs.Reading.{error_kind, stops_reader};
 ghost use Rattle.csv.specs.Records.{fields_of};
 ghost use Rattle.double_points.specs.Rows.{rows_of};
@@ -56,10 +56,12 @@ impl<'a> Rows<'a> {
         }
     }
 
-    /// Takes the next record, if there is one, in time of its bytes. After want of memory the text
-    /// is at its end.
+    /// Takes the next record, if there is one, in time of its bytes. At the end and after want of
+    /// memory nothing is left.
     pub fn next(&mut self, row: &mut ByteRecord) -> Result<bool, Memory>
-        ensures { IfOk result (λ found. MatchBool found (self.old ≡ fields_of row.new ∷ self.new) (self.old ≡ [])) }
+        ensures next { IfOk result (λ found. MatchBool found (self.old ≡ fields_of row.new ∷ self.new) (self.old ≡ [])) }
+        ensures end { IfOk result (λ found. found ≡ false → self.new ≡ []) }
+        ensures memory { OnErr result (self.new ≡ []) }
     {
         if self.ended {
             return Ok(false);

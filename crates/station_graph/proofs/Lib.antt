@@ -12,3 +12,8 @@ pub mod WalkLemmas
 pub mod TouchLemmas
 pub mod PartWalks
 pub mod PositionLemmas
+pub mod AnswerLemmas
+pub mod GapLemmas
+pub mod ClosingLemmas
+pub mod MixLemmas
+pub mod PlaceLemmas

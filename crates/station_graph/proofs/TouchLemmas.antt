@@ -1,9 +1,11 @@
 -- Items touch what they join, close or tap.
-use Rattle.std.proofs.Common.{ℕ, Bool, List, sym, inl, inr}
+use Rattle.std.proofs.Common.{◌≢◌, ◌<◌, ℕ, Bool, List, Option, subst, sym, inl, inr}
+use Rattle.std.specs.Prelude.{MatchOption}
 use Rattle.ilk_base.specs.declared.words.Kind.{Kind}
-use Rattle.station_graph.specs.Diagram.{Diagram}
+use Rattle.ilk_base.specs.declared.words.NodeId.{NodeId}
+use Rattle.station_graph.specs.Diagram.{Diagram, IsStation, IsTwoEnded, node_count}
 use Rattle.station_graph.specs.Connection.{Item, a_switch, a_link, a_tap, ItemBetween, TouchingBy}
-use Rattle.station_graph.specs.Sharing.{Touches, TouchedBy}
+use Rattle.station_graph.specs.Sharing.{Touches, TouchedBy, IsShared}
 use Rattle.station_graph.specs.Views.{ClosedAtBy, HasTapBy}
 use Rattle.station_graph.proofs.PartialEdges.{by_back}
 
@@ -26,3 +28,16 @@ closed_touches These d v kind n h = record { item = a_switch h.at.number; among 
 
 pub tap_touches : (These : Item → Type 0) (d : Diagram) (n : ℕ) → HasTapBy These d n → TouchedBy These d n
 tap_touches These d n h = record { item = a_tap h.number; among = h.among; touches = (h.tap, h.listed, h.stands) }
+
+-- what an item of a station touches is one of its nodes
+touched_in : (d : Diagram) → IsStation d → (item : Item) (n : ℕ) → Touches d item n → n < node_count d
+touched_in d station (a_switch i) n (x, at, inl e) = subst (λ k. k < node_count d) e (station.items.switches_fit i x at).first_in
+touched_in d station (a_switch i) n (x, at, inr (m, is, e)) =
+    let second = subst (λ (o : Option NodeId). MatchOption o (¬ IsTwoEnded x.kind) (λ k. IsTwoEnded x.kind × (k.0 < node_count d) × (k.0 ≢ x.first.0))) is (station.items.switches_fit i x at).second in
+    subst (λ k. k < node_count d) e second.1
+touched_in d station (a_link i) n (x, at, inl e) = subst (λ k. k < node_count d) e (station.items.links_fit i x at).first_in
+touched_in d station (a_link i) n (x, at, inr e) = subst (λ k. k < node_count d) e (station.items.links_fit i x at).second_in
+touched_in d station (a_tap i) n (x, at, e) = subst (λ k. k < node_count d) e (station.items.taps_fit i x at).node_in
+
+pub shared_in : (d : Diagram) → IsStation d → (part n : ℕ) → IsShared d part n → n < node_count d
+shared_in d station part n h = touched_in d station h.here.item n h.here.touches

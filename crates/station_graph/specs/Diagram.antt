@@ -1,6 +1,6 @@
 -- What a station is: a single-line diagram (IEC 61850-6) as lists of nodes, parts, switches, links and
 -- taps.
-use Rattle.std.specs.Prelude.{◌≡◌, ◌≢◌, ◌↔◌, ℕ, ◌+◌, ◌<◌, ◌≤◌, ◌==◌, nat_lt, count_by, List, [], length, slice_get, Some, MatchOption}
+use Rattle.std.specs.Prelude.{◌≡◌, ◌≢◌, ◌↔◌, ℕ, ◌+◌, ◌<◌, ◌≤◌, ◌==◌, nat_lt, count_by, List, [], length, take, slice_get, Some, MatchOption}
 use Rattle.std.specs.List.{range_with_len}
 use Rattle.ilk_base.specs.declared.words.Kind.{Kind}
 use Rattle.ilk_base.specs.declared.words.Kind.TheVariants.{Breaker, Disconnector, Earthing, Infeed}
@@ -23,9 +23,11 @@ pub record Diagram : Type 0 where
 abbrev pub empty : Diagram
 empty = record { node_paths = []; part_paths = []; switch_paths = []; switches = []; links = []; taps = [] }
 
+-- How many nodes there are.
 abbrev pub node_count : Diagram → ℕ
 node_count d = length d.node_paths
 
+-- How many parts there are.
 abbrev pub part_count : Diagram → ℕ
 part_count d = length d.part_paths
 
@@ -47,12 +49,14 @@ pub record SwitchFits (d : Diagram) (x : Switch) : Type 0 where
   pub part_in : x.bay.0 < part_count d
   pub second : SecondFits (node_count d) x
 
+-- The ends of a link and its part are in range, and its ends differ.
 pub record LinkFits (d : Diagram) (x : Link) : Type 0 where
   pub first_in : x.first.0 < node_count d
   pub second_in : x.second.0 < node_count d
   pub apart : x.first.0 ≢ x.second.0
   pub part_in : x.part.0 < part_count d
 
+-- The node of a tap and its part are in range.
 pub record TapFits (d : Diagram) (x : Tap) : Type 0 where
   pub node_in : x.node.0 < node_count d
   pub part_in : x.part.0 < part_count d
@@ -68,6 +72,10 @@ HasTap d n = TapAmong d.taps n
 -- How many switches a part has.
 abbrev pub switches_in : Diagram → ℕ → ℕ
 switches_in d part = count_by (λ x. x.bay.0 == part) d.switches
+
+-- The place of a switch among those of its part: how many switches of the part stand before it.
+abbrev pub place_in : Diagram → ℕ → ℕ → ℕ
+place_in d part i = count_by (λ x. x.bay.0 == part) (take i d.switches)
 
 -- How many parts have a switch; these are the bays.
 abbrev pub bay_count : Diagram → ℕ

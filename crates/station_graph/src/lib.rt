@@ -7,6 +7,7 @@ mod builder;
 mod classes;
 mod fault;
 mod items;
+mod laws;
 pub mod limits;
 mod marks;
 mod nodes;
@@ -19,6 +20,9 @@ pub use builder::Builder;
 pub use classes::Classes;
 pub use fault::{BuildFault, What};
 pub use items::{Link, Switch, Tap};
+pub use laws::{
+    gap_and_load, moved_switch_is_passed_over, one_answer, parts_mix, soundness_is_kept,
+};
 pub use nodes::NodeList;
 pub use station::Station;
 pub use vector::Vector;

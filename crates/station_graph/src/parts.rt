@@ -1,6 +1,6 @@
 //! What belongs to a part, and what it shares with the others.
 ghost use Rattle.std.specs.Prelude.{◌≡◌, ℕ, ◌<◌, ◌≤◌, ◌↔◌, length, slice_get, Some, IfOk, Contains};
-ghost use Rattle.station_graph.specs.Diagram.{IsOrdered};
+ghost use Rattle.station_graph.specs.Diagram.{node_count, IsOrdered};
 ghost use Rattle.station_graph.specs.Sharing.{IsShared};
 ghost use Rattle.station_graph.specs.Nodes.{Rises};
 
@@ -25,7 +25,9 @@ pub(crate) fn first_from(switches: &[Switch], part: u16) -> usize
 pub(crate) fn shared(alloc: Global, station: &Station, part: BayId) -> Result<NodeList, Memory>
     ensures exact { IfOk result (λ l. (n : ℕ) → Contains l n ↔ IsShared station.now part.0 n) }
     ensures rises { IfOk result Rises }
+    ensures within { IfOk result (λ l. (n : ℕ) → Contains l n → n < node_count station.now) }
 {
+    station.is_station();
     let here = touched(alloc, station, part, true)?;
     let elsewhere = touched(alloc, station, part, false)?;
     marked_twice(alloc, &here, &elsewhere)

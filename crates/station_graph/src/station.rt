@@ -37,6 +37,13 @@ impl Model for Station {
 }
 
 impl Station {
+    /// Its diagram is that of a station. This is a law: the call does nothing.
+    pub fn is_station(&self)
+        ensures { IsStation self.now }
+    {
+        let _ = &self.switches;
+    }
+
     /// How many switches there are, at once.
     pub fn switch_count(&self) -> u16
         ensures count { result ≡ length self.now.switches }
@@ -183,6 +190,7 @@ impl Station {
     pub fn shared_nodes(&self, alloc: Global, part: BayId) -> Result<NodeList, Memory>
         ensures exact { IfOk result (λ l. (n : ℕ) → Contains l n ↔ IsShared self.now part.0 n) }
         ensures rises { IfOk result Rises }
+        ensures within { IfOk result (λ l. (n : ℕ) → Contains l n → n < node_count self.now) }
         ensures station { IsStation self.now }
     {
         let _ = &self.taps;

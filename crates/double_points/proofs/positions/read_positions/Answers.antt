@@ -24,7 +24,7 @@ pub returns-in-Err-clause-err : goal.returns-in-Err-clause-err
 returns-in-Err-clause-err c =
     let all = rows_of c.args.bytes.now in
     let inv = c.loop-found.invariant in
-    let t = turn all c.loop-found.rows c.next.new.self c.loop-found.line (fields_of c.next.new.row) inv.rest (rw c.if-branch.true at c.in_ok-next.ensures) in
+    let t = turn all c.loop-found.rows c.next.new.self c.loop-found.line (fields_of c.next.new.row) inv.rest (rw c.if-branch.true at c.in_ok-next.ensures.next) in
     rw c.refused-in-Err.ensures (inr (
       inv.short,
       refused_here c.args.station.now.switch_paths all c.loop-found.line c.in-Err.number t.within
@@ -37,8 +37,8 @@ returns-then-is_some-clause-err c =
     let inv = c.loop-found.invariant in
     let row = fields_of c.next.new.row in
     let before = take c.loop-found.line all in
-    let t = turn all c.loop-found.rows c.next.new.self c.loop-found.line row inv.rest (rw c.if-branch.true at c.in_ok-next.ensures) in
-    let m = one_more c.args.station.now.switch_paths before row c.in-Ok.p.0 c.in-Ok.p.1 (distinct _ c.switch_count-count.ensures.station.paths_differ.switches) c.in-Ok.ensures.place c.in-Ok.ensures.word in
+    let t = turn all c.loop-found.rows c.next.new.self c.loop-found.line row inv.rest (rw c.if-branch.true at c.in_ok-next.ensures.next) in
+    let m = one_more c.args.station.now.switch_paths before row c.in-Ok.p.0 c.in-Ok.p.1 (distinct _ c.is_station.ensures.paths_differ.switches) c.in-Ok.ensures.place c.in-Ok.ensures.word in
     rw c.refused-then-is_some.ensures (inr (
       inv.short,
       refused_here c.args.station.now.switch_paths all c.loop-found.line 4 t.within
@@ -51,8 +51,8 @@ loop-found-preserved c =
     let inv = c.loop-found.invariant in
     let row = fields_of c.next.new.row in
     let before = take c.loop-found.line all in
-    let t = turn all c.loop-found.rows c.next.new.self c.loop-found.line row inv.rest (rw c.if-branch.true at c.in_ok-next.ensures) in
-    let m = one_more c.args.station.now.switch_paths before row c.in-Ok.p.0 c.in-Ok.p.1 (distinct _ c.switch_count-count.ensures.station.paths_differ.switches) c.in-Ok.ensures.place c.in-Ok.ensures.word in
+    let t = turn all c.loop-found.rows c.next.new.self c.loop-found.line row inv.rest (rw c.if-branch.true at c.in_ok-next.ensures.next) in
+    let m = one_more c.args.station.now.switch_paths before row c.in-Ok.p.0 c.in-Ok.p.1 (distinct _ c.is_station.ensures.paths_differ.switches) c.in-Ok.ensures.place c.in-Ok.ensures.word in
     let fresh : list_any (names (get_or row 0 [])) before ≡ false = named_is c.args.station.now.switch_paths before row c.in-Ok.p.0 c.index.result.now _ false inv.found m.within m.path_is inv.words c.index.ensures (sym c.is_some.ensures ∙ c.if-is_some.false) in
     record {
       short = inv.short;
@@ -68,6 +68,6 @@ pub returns-clause-ok : goal.returns-clause-ok
 returns-clause-ok c =
     let all = rows_of c.args.bytes.now in
     let inv = c.loop-found.invariant in
-    let ended = rw c.if-branch.false at c.in_ok-next.ensures in
+    let ended = rw c.if-branch.false at c.in_ok-next.ensures.next in
     let done = at_last c.args.station.now.switch_paths all c.loop-found.rows c.loop-found.line c.loop-found.found.items c.in_ok-filled.field-0.items inv.rest ended inv.within inv.found (c.in_ok-filled.ensures ∙ ap (map (λ o. unwrap_or o Lost)) c.deref.ensures.value) inv.before in
     (inv.short, done.0, c.readings_of.ensures ∙ done.1)

@@ -1,7 +1,9 @@
-use Rattle.std.proofs.Common.{◌≡◌, ◌↔◌, ℕ, List, Bool, true, Contains, slice_get, Some, subst, sym}
+use Rattle.std.proofs.Common.{◌≡◌, ◌↔◌, ◌<◌, ℕ, List, Bool, true, Contains, slice_get, Some, subst, sym}
 use Rattle.std.proofs.lemmas.Result.{IfOk-weaker}
+use Rattle.station_graph.specs.Diagram.{node_count}
 use Rattle.station_graph.specs.Sharing.{IsShared}
 use Rattle.station_graph.proofs.PartLemmas.{IsShared-from_marks, marks_from_IsShared}
+use Rattle.station_graph.proofs.TouchLemmas.{shared_in}
 use Rattle.station_graph.proofs.parts.shared.Goals as goal
 
 pub returns-clause-exact : goal.returns-clause-exact
@@ -26,3 +28,13 @@ returns-clause-exact c =
           (h n).1 (out_here ((c.in_ok-here.ensures.exact n).1 w.0), out_elsewhere ((c.in_ok-elsewhere.ensures.exact n).1 w.1)),
     ))
     c.marked_twice.ensures.exact
+
+pub returns-clause-within : goal.returns-clause-within
+returns-clause-within c =
+    let d = c.args.station.now in
+    let part = c.args.part.0 in
+    IfOk-weaker c.marked_twice.result
+    (λ l. (n : ℕ) → Contains l n ↔ IsShared d part n)
+    (λ l. (n : ℕ) → Contains l n → n < node_count d)
+    (λ l exact n there. shared_in d c.is_station.ensures part n ((exact n).0 there))
+    (returns-clause-exact c)

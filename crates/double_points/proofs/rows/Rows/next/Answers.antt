@@ -20,15 +20,15 @@ invariant_of-self-then-found c = λ _.
     let was = c.in_ok-found.ensures ∙ ap Ok c.if-found.true in
     (goes_on _ c.read_byte_record.new.self _ i (rw was at e.reads i.plain i.ready) (rw was at e.ready i.plain) (rw was at e.flexible)).0
 
-pub returns-then-found : goal.returns-then-found
-returns-then-found c =
+pub returns-then-found-clause-next : goal.returns-then-found-clause-next
+returns-then-found-clause-next c =
     let i = c.self.invariant c.if-self.false in
     let e = c.read_byte_record.ensures in
     let was = c.in_ok-found.ensures ∙ ap Ok c.if-found.true in
     rw (← c.self.view_is, c.if-self.false) ((goes_on _ c.read_byte_record.new.self _ i (rw was at e.reads i.plain i.ready) (rw was at e.ready i.plain) (rw was at e.flexible)).1)
 
-pub returns : goal.returns
-returns c =
+pub returns-clause-next : goal.returns-clause-next
+returns-clause-next c =
     let i = c.self.invariant c.if-self.false in
     let e = c.read_byte_record.ensures in
     let was = c.in_ok-found.ensures ∙ ap Ok c.if-found.false in
