@@ -13,7 +13,7 @@ no_true zero k e = cc
 no_true (suc n) zero e = cc
 no_true (suc n) (suc k) e = no_true n k e
 
-length-replicate_false : (n : ℕ) → length (replicate n false) ≡ n
+pub length-replicate_false : (n : ℕ) → length (replicate n false) ≡ n
 length-replicate_false zero = refl
 length-replicate_false (suc n) = ap suc (length-replicate_false n)
 

@@ -6,12 +6,13 @@ use Rattle.station_graph.specs.Views.{Supply, fed, CoupledBy, JoinedBy, BondedBy
 use Rattle.station_graph.proofs.LinkedLemmas.{linked_weaker}
 use Rattle.contraction.specs.Answers.{Answers, Keeps, SameAt, MarkedAt, SaysCoupled, SaysJoined, SaysBonded, SaysEnergisable, SaysEarthable, SaysFed, SaysLoaded, SaysSupply, IsContraction, SameGap, SameLoad}
 use Rattle.contraction.specs.Stands.{GapStandsFor, LoadStandsFor}
-use Rattle.contraction.specs.Composing.{SameInEither, LabelsCompose, MarksCompose, Composes, Restricts}
+use Rattle.contraction.specs.Composing.{SameInEither, LabelsCompose, MarksCompose, Composes, Restricts, ComposesGap, ComposesLoad}
 use Rattle.contraction.proofs.ComposeLemmas.{keeps_first, keeps_second, keeps_marked}
-use Rattle.contraction.proofs.KeepLemmas.{via}
+use Rattle.contraction.proofs.KeepLemmas.{via, gap_on_fewer, load_on_fewer}
+use Rattle.contraction.proofs.StandsLemmas.{gap_half, load_half}
 use Rattle.contraction.proofs.ViewLemmas.{back, supplies_say, loaded_same}
 use Rattle.contraction.proofs.RisingLemmas.{keeps_on, kept_equal}
-use Rattle.contraction.proofs.SameLemmas.{gap_back, load_back}
+use Rattle.contraction.proofs.SameLemmas.{gap_self, load_self, gap_back, load_back}
 
 -- compositions of values that keep the same keep the same
 kept_same : (x1 y1 c1 x2 y2 c2 : Answers) → IsContraction c1 → IsContraction c2 → Composes x1 y1 c1 → Composes x2 y2 c2 → x1.kept ≡ x2.kept → y1.kept ≡ y2.kept → c1.kept ≡ c2.kept
@@ -46,7 +47,7 @@ record GapFollows (x y : Answers) : Type 0 where
   energisable : (a : ℕ) → Keeps x.kept a → SaysEnergisable x a → SaysEnergisable y a
   earthable : (a : ℕ) → Keeps x.kept a → SaysEarthable x a → SaysEarthable y a
 
-gap_follows : (x1 y1 c1 x2 y2 c2 : Answers) → Composes x1 y1 c1 → Composes x2 y2 c2 → SameGap x1 x2 → SameGap y1 y2 → c1.kept ≡ c2.kept → GapFollows c1 c2
+gap_follows : (x1 y1 c1 x2 y2 c2 : Answers) → ComposesGap x1 y1 c1 → ComposesGap x2 y2 c2 → SameGap x1 x2 → SameGap y1 y2 → c1.kept ≡ c2.kept → GapFollows c1 c2
 gap_follows x1 y1 c1 x2 y2 c2 m1 m2 gx gy kept =
     let on : (n : ℕ) → Keeps c1.kept n → Keeps c2.kept n = λ n. (keeps_on c1.kept c2.kept kept n).0 in
     let sx : (a b : ℕ) → SaysCoupled x1 a b → SaysCoupled x2 a b = same_all x1.kept x1.coupled x2.kept x2.coupled (λ a b ka kb. (gx.coupled a b ka kb).0) in
@@ -62,9 +63,8 @@ gap_follows x1 y1 c1 x2 y2 c2 m1 m2 gx gy kept =
     }
 
 -- A COMPOSITION RESPECTS THE GAP VIEWS
-pub composition_gap : (x1 y1 c1 x2 y2 c2 : Answers) → IsContraction c1 → IsContraction c2 → Composes x1 y1 c1 → Composes x2 y2 c2 → SameGap x1 x2 → SameGap y1 y2 → SameGap c1 c2
-composition_gap x1 y1 c1 x2 y2 c2 w1 w2 m1 m2 gx gy =
-    let kept : c1.kept ≡ c2.kept = kept_same x1 y1 c1 x2 y2 c2 w1 w2 m1 m2 gx.kept gy.kept in
+pub gap_respected : (x1 y1 c1 x2 y2 c2 : Answers) → c1.kept ≡ c2.kept → ComposesGap x1 y1 c1 → ComposesGap x2 y2 c2 → SameGap x1 x2 → SameGap y1 y2 → SameGap c1 c2
+gap_respected x1 y1 c1 x2 y2 c2 kept m1 m2 gx gy =
     let on : (n : ℕ) → Keeps c1.kept n → Keeps c2.kept n = λ n. (keeps_on c1.kept c2.kept kept n).0 in
     let there : GapFollows c1 c2 = gap_follows x1 y1 c1 x2 y2 c2 m1 m2 gx gy kept in
     let again : GapFollows c2 c1 = gap_follows x2 y2 c2 x1 y1 c1 m2 m1 (gap_back x1 x2 gx) (gap_back y1 y2 gy) (sym kept) in
@@ -75,13 +75,17 @@ composition_gap x1 y1 c1 x2 y2 c2 w1 w2 m1 m2 gx gy =
       earthable = λ a ka. (there.earthable a ka, again.earthable a (on a ka));
     }
 
+pub composition_gap : (x1 y1 c1 x2 y2 c2 : Answers) → IsContraction c1 → IsContraction c2 → Composes x1 y1 c1 → Composes x2 y2 c2 → SameGap x1 x2 → SameGap y1 y2 → SameGap c1 c2
+composition_gap x1 y1 c1 x2 y2 c2 w1 w2 m1 m2 gx gy =
+    gap_respected x1 y1 c1 x2 y2 c2 (kept_same x1 y1 c1 x2 y2 c2 w1 w2 m1 m2 gx.kept gy.kept) (gap_half x1 y1 c1 m1) (gap_half x2 y2 c2 m2) gx gy
+
 record LoadFollows (x y : Answers) : Type 0 where
   joined : (a b : ℕ) → Keeps x.kept a → Keeps x.kept b → SaysJoined x a b → SaysJoined y a b
   bonded : (a b : ℕ) → Keeps x.kept a → Keeps x.kept b → SaysBonded x a b → SaysBonded y a b
   fed_too : (a : ℕ) → Keeps x.kept a → SaysFed x a → SaysFed y a
   loaded_too : (a : ℕ) → Keeps x.kept a → SaysLoaded x a → SaysLoaded y a
 
-load_follows : (x1 y1 c1 x2 y2 c2 : Answers) → IsContraction x1 → IsContraction y1 → IsContraction x2 → IsContraction y2 → Composes x1 y1 c1 → Composes x2 y2 c2 → SameLoad x1 x2 → SameLoad y1 y2 → c1.kept ≡ c2.kept → LoadFollows c1 c2
+load_follows : (x1 y1 c1 x2 y2 c2 : Answers) → IsContraction x1 → IsContraction y1 → IsContraction x2 → IsContraction y2 → ComposesLoad x1 y1 c1 → ComposesLoad x2 y2 c2 → SameLoad x1 x2 → SameLoad y1 y2 → c1.kept ≡ c2.kept → LoadFollows c1 c2
 load_follows x1 y1 c1 x2 y2 c2 wx1 wy1 wx2 wy2 m1 m2 gx gy kept =
     let on : (n : ℕ) → Keeps c1.kept n → Keeps c2.kept n = λ n. (keeps_on c1.kept c2.kept kept n).0 in
     let sx : (a b : ℕ) → SaysJoined x1 a b → SaysJoined x2 a b = same_all x1.kept x1.joined x2.kept x2.joined (λ a b ka kb. (gx.joined a b ka kb).0) in
@@ -100,9 +104,8 @@ load_follows x1 y1 c1 x2 y2 c2 wx1 wy1 wx2 wy2 m1 m2 gx gy kept =
     }
 
 -- A COMPOSITION RESPECTS THE LOAD VIEWS
-pub composition_load : (x1 y1 c1 x2 y2 c2 : Answers) → IsContraction x1 → IsContraction y1 → IsContraction c1 → IsContraction x2 → IsContraction y2 → IsContraction c2 → Composes x1 y1 c1 → Composes x2 y2 c2 → SameLoad x1 x2 → SameLoad y1 y2 → SameLoad c1 c2
-composition_load x1 y1 c1 x2 y2 c2 wx1 wy1 w1 wx2 wy2 w2 m1 m2 gx gy =
-    let kept : c1.kept ≡ c2.kept = kept_same x1 y1 c1 x2 y2 c2 w1 w2 m1 m2 gx.kept gy.kept in
+pub load_respected : (x1 y1 c1 x2 y2 c2 : Answers) → IsContraction x1 → IsContraction y1 → IsContraction x2 → IsContraction y2 → c1.kept ≡ c2.kept → ComposesLoad x1 y1 c1 → ComposesLoad x2 y2 c2 → SameLoad x1 x2 → SameLoad y1 y2 → SameLoad c1 c2
+load_respected x1 y1 c1 x2 y2 c2 wx1 wy1 wx2 wy2 kept m1 m2 gx gy =
     let on : (n : ℕ) → Keeps c1.kept n → Keeps c2.kept n = λ n. (keeps_on c1.kept c2.kept kept n).0 in
     let there : LoadFollows c1 c2 = load_follows x1 y1 c1 x2 y2 c2 wx1 wy1 wx2 wy2 m1 m2 gx gy kept in
     let again : LoadFollows c2 c1 = load_follows x2 y2 c2 x1 y1 c1 wx2 wy2 wx1 wy1 m2 m1 (load_back x1 x2 gx) (load_back y1 y2 gy) (sym kept) in
@@ -112,6 +115,17 @@ composition_load x1 y1 c1 x2 y2 c2 wx1 wy1 w1 wx2 wy2 w2 m1 m2 gx gy =
       bonded = λ a b ka kb. (there.bonded a b ka kb, again.bonded a b (on a ka) (on b kb));
       supply = λ a ka s. supplies_say c1 c2 a a (there.fed_too a ka, again.fed_too a (on a ka)) (there.loaded_too a ka, again.loaded_too a (on a ka)) s;
     }
+
+pub composition_load : (x1 y1 c1 x2 y2 c2 : Answers) → IsContraction x1 → IsContraction y1 → IsContraction c1 → IsContraction x2 → IsContraction y2 → IsContraction c2 → Composes x1 y1 c1 → Composes x2 y2 c2 → SameLoad x1 x2 → SameLoad y1 y2 → SameLoad c1 c2
+composition_load x1 y1 c1 x2 y2 c2 wx1 wy1 w1 wx2 wy2 w2 m1 m2 gx gy =
+    load_respected x1 y1 c1 x2 y2 c2 wx1 wy1 wx2 wy2 (kept_same x1 y1 c1 x2 y2 c2 w1 w2 m1 m2 gx.kept gy.kept) (load_half x1 y1 c1 m1) (load_half x2 y2 c2 m2) gx gy
+
+-- ONE VIEW COMPOSED ALONE IS THAT OF THE COMPOSITION ON THE SAME NODES
+pub gap_alone : (x y c r g : Answers) → Composes x y c → Restricts c r → ComposesGap x y g → r.kept ≡ g.kept → SameGap r g
+gap_alone x y c r g composes restricts alone kept = gap_respected x y r x y g kept (gap_on_fewer x y c r restricts (gap_half x y c composes)) alone (gap_self x) (gap_self y)
+
+pub load_alone : (x y c r l : Answers) → IsContraction x → IsContraction y → Composes x y c → Restricts c r → ComposesLoad x y l → r.kept ≡ l.kept → SameLoad r l
+load_alone x y c r l wx wy composes restricts alone kept = load_respected x y r x y l wx wy wx wy kept (load_on_fewer x y c r restricts (load_half x y c composes)) alone (load_self x) (load_self y)
 
 -- A RESTRICTION RESPECTS EACH VIEW
 module _ (c1 r1 c2 r2 : Answers) (kept : r1.kept ≡ r2.kept) (h1 : Restricts c1 r1) (h2 : Restricts c2 r2) where

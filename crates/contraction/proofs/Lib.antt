@@ -23,3 +23,4 @@ pub mod LawLemmas
 pub mod RisingLemmas
 pub mod SameLemmas
 pub mod MoveLemmas
+pub mod OneViewLemmas

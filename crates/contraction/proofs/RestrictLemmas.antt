@@ -168,7 +168,7 @@ module _ (nodes : List ℕ) (c r : Answers) (places : List ℕ) (w : IsContracti
 picks_at : {X : Type 0} (l l1 : List X) (p p1 : List ℕ) (row : List X) → l ≡ l1 → p ≡ p1 → Picks l p row → Picks l1 p1 row
 picks_at l l1 p p1 row el ep h = subst (λ x. Picks x p1 row) el (subst (λ x. Picks l x row) ep h)
 
-row_restricts_at : (l : Row) (p p1 : List ℕ) (row : Row) → p ≡ p1 → RowRestricts l p row → RowRestricts l p1 row
+pub row_restricts_at : (l : Row) (p p1 : List ℕ) (row : Row) → p ≡ p1 → RowRestricts l p row → RowRestricts l p1 row
 row_restricts_at l p p1 row ep h = subst (λ x. RowRestricts l x row) ep h
 
 labels_restrict_at : (l l1 p p1 row : List ℕ) → l ≡ l1 → p ≡ p1 → LabelsRestrict l p row → LabelsRestrict l1 p1 row

@@ -8,16 +8,16 @@ use Rattle.station_graph.specs.Views.{ClosedAtBy, HasTapBy}
 use Rattle.station_graph.specs.Sharing.{TouchedBy}
 use Rattle.contraction.specs.Answers.{Answers, Keeps, SameAt, MarkedAt}
 use Rattle.contraction.specs.Stands.{GapStandsFor, LoadStandsFor, StandsFor, MeetsKept}
-use Rattle.contraction.specs.Composing.{LabelsCompose, MarksCompose, Composes}
+use Rattle.contraction.specs.Composing.{LabelsCompose, MarksCompose, Composes, ComposesGap, ComposesLoad}
 use Rattle.contraction.proofs.ItemSets.{Either}
 use Rattle.station_graph.proofs.TouchLemmas.{closed_touches, tap_touches}
 use Rattle.contraction.proofs.ComposeLemmas.{Of, both_from_same, same_from_both, marked_from_source, source_from_marked}
 
-module _ (These Those : Item → Type 0) (d : Diagram) (v : List Bool) (x y c : Answers) (meets : MeetsKept These Those d x.kept y.kept) (kept : (n : ℕ) → Keeps c.kept n ↔ (Keeps x.kept n ⊎ Keeps y.kept n)) where
+module _ (These Those : Item → Type 0) (d : Diagram) (v : List Bool) (x y c : Answers) (meets : MeetsKept These Those d x.kept y.kept) (kept : (n : ℕ) → Keeps c.kept n → Keeps x.kept n ⊎ Keeps y.kept n) where
   labels_stand : (bonds_only : Bool) (u : List Bool) (lx ly lc : List ℕ) → ((a b : ℕ) → Keeps x.kept a → Keeps x.kept b → SameAt x.kept lx a b ↔ Linked (TouchingBy These bonds_only d u) a b) → ((a b : ℕ) → Keeps y.kept a → Keeps y.kept b → SameAt y.kept ly a b ↔ Linked (TouchingBy Those bonds_only d u) a b) → LabelsCompose x.kept lx y.kept ly c.kept lc → (a b : ℕ) → Keeps c.kept a → Keeps c.kept b → SameAt c.kept lc a b ↔ Linked (TouchingBy (Either These Those) bonds_only d u) a b
   labels_stand bonds_only u lx ly lc sx sy composes a b ka kb = (
     λ s. both_from_same These Those d x.kept y.kept meets bonds_only u lx ly sx sy a b ((composes a b ka kb).0 s),
-    λ l. (composes a b ka kb).1 (same_from_both These Those d x.kept y.kept meets bonds_only u lx ly sx sy a b ((kept a).0 ka) ((kept b).0 kb) l),
+    λ l. (composes a b ka kb).1 (same_from_both These Those d x.kept y.kept meets bonds_only u lx ly sx sy a b (kept a ka) (kept b kb) l),
   )
 
   module _ (u : List Bool) (lx ly : List ℕ) (sx : (a b : ℕ) → Keeps x.kept a → Keeps x.kept b → SameAt x.kept lx a b ↔ Linked (TouchingBy These false d u) a b) (sy : (a b : ℕ) → Keeps y.kept a → Keeps y.kept b → SameAt y.kept ly a b ↔ Linked (TouchingBy Those false d u) a b) where
@@ -30,7 +30,7 @@ module _ (These Those : Item → Type 0) (d : Diagram) (v : List Bool) (x y c : 
           let r = (composes a ka).0 k in
           source_from_marked These Those d x.kept y.kept meets false u lx ly sx sy S touches mx my ex ey a r.0 r.1 r.2,
       λ (i, m, l, s).
-          (composes a ka).1 (marked_from_source These Those d x.kept y.kept meets false u lx ly sx sy S touches mx my ex ey a ((kept a).0 ka) i m l s),
+          (composes a ka).1 (marked_from_source These Those d x.kept y.kept meets false u lx ly sx sy S touches mx my ex ey a (kept a ka) i m l s),
     )
 
     -- closed switches of one kind
@@ -117,8 +117,8 @@ module _ (These Those : Item → Type 0) (d : Diagram) (v : List Bool) (x y c : 
         )
 
 -- THE COMPOSITION OF TWO VALUES STANDS FOR BOTH LISTS TOGETHER, VIEW BY VIEW
-pub composes_gap : (These Those : Item → Type 0) (d : Diagram) (v : List Bool) (x y c : Answers) → MeetsKept These Those d x.kept y.kept → Composes x y c → GapStandsFor These d v x → GapStandsFor Those d v y → GapStandsFor (Either These Those) d v c
-composes_gap These Those d v x y c meets composes sx sy =
+pub gap_composes : (These Those : Item → Type 0) (d : Diagram) (v : List Bool) (x y c : Answers) → MeetsKept These Those d x.kept y.kept → ComposesGap x y c → GapStandsFor These d v x → GapStandsFor Those d v y → GapStandsFor (Either These Those) d v c
+gap_composes These Those d v x y c meets composes sx sy =
     let u : List Bool = with_breakers_closed d v in
     let kept = composes.kept in
     record {
@@ -127,8 +127,8 @@ composes_gap These Those d v x y c meets composes sx sy =
       earthable = closed_stand These Those d v x y c meets kept u x.coupled y.coupled sx.coupled sy.coupled Earthing x.earthable y.earthable c.earthable sx.earthable sy.earthable composes.earthable;
     }
 
-pub composes_load : (These Those : Item → Type 0) (d : Diagram) (v : List Bool) (x y c : Answers) → MeetsKept These Those d x.kept y.kept → Composes x y c → LoadStandsFor These d v x → LoadStandsFor Those d v y → LoadStandsFor (Either These Those) d v c
-composes_load These Those d v x y c meets composes sx sy =
+pub load_composes : (These Those : Item → Type 0) (d : Diagram) (v : List Bool) (x y c : Answers) → MeetsKept These Those d x.kept y.kept → ComposesLoad x y c → LoadStandsFor These d v x → LoadStandsFor Those d v y → LoadStandsFor (Either These Those) d v c
+load_composes These Those d v x y c meets composes sx sy =
     let kept = composes.kept in
     record {
       joined = labels_stand These Those d v x y c meets kept false v x.joined y.joined c.joined sx.joined sy.joined composes.joined;
@@ -136,6 +136,19 @@ composes_load These Those d v x y c meets composes sx sy =
       fed = closed_stand These Those d v x y c meets kept v x.joined y.joined sx.joined sy.joined Infeed x.fed y.fed c.fed sx.fed sy.fed composes.fed;
       loaded = loaded_stand These Those d v x y c meets kept v x.joined y.joined sx.joined sy.joined x.loaded y.loaded c.loaded sx.loaded sy.loaded composes.loaded;
     }
+
+-- each half of a composition
+pub gap_half : (x y c : Answers) → Composes x y c → ComposesGap x y c
+gap_half x y c h = record { kept = λ n. (h.kept n).0; coupled = h.coupled; energisable = h.energisable; earthable = h.earthable }
+
+pub load_half : (x y c : Answers) → Composes x y c → ComposesLoad x y c
+load_half x y c h = record { kept = λ n. (h.kept n).0; joined = h.joined; bonded = h.bonded; fed = h.fed; loaded = h.loaded }
+
+pub composes_gap : (These Those : Item → Type 0) (d : Diagram) (v : List Bool) (x y c : Answers) → MeetsKept These Those d x.kept y.kept → Composes x y c → GapStandsFor These d v x → GapStandsFor Those d v y → GapStandsFor (Either These Those) d v c
+composes_gap These Those d v x y c meets composes = gap_composes These Those d v x y c meets (gap_half x y c composes)
+
+pub composes_load : (These Those : Item → Type 0) (d : Diagram) (v : List Bool) (x y c : Answers) → MeetsKept These Those d x.kept y.kept → Composes x y c → LoadStandsFor These d v x → LoadStandsFor Those d v y → LoadStandsFor (Either These Those) d v c
+composes_load These Those d v x y c meets composes = load_composes These Those d v x y c meets (load_half x y c composes)
 
 pub composes_stands : (These Those : Item → Type 0) (d : Diagram) (v : List Bool) (x y c : Answers) → MeetsKept These Those d x.kept y.kept → Composes x y c → StandsFor These d v x → StandsFor Those d v y → StandsFor (Either These Those) d v c
 composes_stands These Those d v x y c meets composes sx sy = record {

@@ -1,7 +1,9 @@
 -- How the answers of a composition and of a restriction follow from those of what they were made of.
-use Rattle.std.specs.Prelude.{ℕ, ◌⊎◌, ◌↔◌, Bool, List}
+use Rattle.std.specs.Prelude.{ℕ, ◌⊎◌, ◌↔◌, Bool, List, [], Contains}
+use Rattle.station_graph.specs.Diagram.{Diagram}
 use Rattle.station_graph.specs.Connection.{Linked}
-use Rattle.contraction.specs.Answers.{Answers, Keeps, SameAt, MarkedAt, SaysCoupled, SaysJoined, SaysBonded, SaysEnergisable, SaysEarthable, SaysFed, SaysLoaded}
+use Rattle.contraction.specs.Answers.{Answers, Keeps, SameAt, MarkedAt, SaysCoupled, SaysJoined, SaysBonded, SaysEnergisable, SaysEarthable, SaysFed, SaysLoaded, IsContraction}
+use Rattle.contraction.specs.Stands.{Among, GapStandsFor, LoadStandsFor}
 
 -- One of two values gives two nodes one label.
 abbrev pub SameInEither : List ℕ → List ℕ → List ℕ → List ℕ → ℕ → ℕ → Type 0
@@ -40,3 +42,32 @@ pub record Restricts (c r : Answers) : Type 0 where
   pub earthable : (a : ℕ) → Keeps r.kept a → SaysEarthable r a ↔ SaysEarthable c a
   pub fed : (a : ℕ) → Keeps r.kept a → SaysFed r a ↔ SaysFed c a
   pub loaded : (a : ℕ) → Keeps r.kept a → SaysLoaded r a ↔ SaysLoaded c a
+
+-- In the gap view alone the third value is the first two together, on some of the nodes that they keep.
+pub record ComposesGap (x y c : Answers) : Type 0 where
+  pub kept : (n : ℕ) → Keeps c.kept n → Keeps x.kept n ⊎ Keeps y.kept n
+  pub coupled : LabelsCompose x.kept x.coupled y.kept y.coupled c.kept c.coupled
+  pub energisable : MarksCompose x.kept x.coupled x.energisable y.kept y.coupled y.energisable c.kept c.energisable
+  pub earthable : MarksCompose x.kept x.coupled x.earthable y.kept y.coupled y.earthable c.kept c.earthable
+
+-- In the load view alone the third value is the first two together, on some of the nodes that they keep.
+pub record ComposesLoad (x y c : Answers) : Type 0 where
+  pub kept : (n : ℕ) → Keeps c.kept n → Keeps x.kept n ⊎ Keeps y.kept n
+  pub joined : LabelsCompose x.kept x.joined y.kept y.joined c.kept c.joined
+  pub bonded : LabelsCompose x.kept x.bonded y.kept y.bonded c.kept c.bonded
+  pub fed : MarksCompose x.kept x.joined x.fed y.kept y.joined y.fed c.kept c.fed
+  pub loaded : MarksCompose x.kept x.joined x.loaded y.kept y.joined y.loaded c.kept c.loaded
+
+-- The value on exactly these nodes has the gap view of two values together, and the load view of no item.
+pub record IsGapOfBoth (nodes : List ℕ) (x y c : Answers) : Type 0 where
+  pub contraction : IsContraction c
+  pub kept : (n : ℕ) → Keeps c.kept n ↔ Contains nodes n
+  pub composes : ComposesGap x y c
+  pub bare : (d : Diagram) (v : List Bool) → LoadStandsFor (Among []) d v c
+
+-- The value on exactly these nodes has the load view of two values together, and the gap view of no item.
+pub record IsLoadOfBoth (nodes : List ℕ) (x y c : Answers) : Type 0 where
+  pub contraction : IsContraction c
+  pub kept : (n : ℕ) → Keeps c.kept n ↔ Contains nodes n
+  pub composes : ComposesLoad x y c
+  pub bare : (d : Diagram) (v : List Bool) → GapStandsFor (Among []) d v c

@@ -7,3 +7,4 @@ pub mod Restricting
 pub mod Ends
 pub mod Rows
 pub mod Inside
+pub mod Selecting

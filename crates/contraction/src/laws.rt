@@ -9,7 +9,7 @@ ghost use Rattle.station_graph.specs.Alike.{SamePositions};
 ghost use Rattle.station_graph.specs.Views.{SameGapView, SameLoadView};
 ghost use Rattle.contraction.specs.Answers.{Answers, Keeps, IsContraction, SameGap, SameLoad};
 ghost use Rattle.contraction.specs.Stands.{Among, IsItem, GapStandsFor, LoadStandsFor};
-ghost use Rattle.contraction.specs.Composing.{Composes, Restricts};
+ghost use Rattle.contraction.specs.Composing.{Composes, Restricts, ComposesGap, ComposesLoad};
 
 /// `compose` respects each view: values with the same gap views have compositions with the same gap
 /// view, and so for load views.
@@ -20,6 +20,23 @@ pub fn composition_respects_views()
         → IsContraction x1 → IsContraction y1 → IsContraction c1
         → IsContraction x2 → IsContraction y2 → IsContraction c2
         → Composes x1 y1 c1 → Composes x2 y2 c2 → SameLoad x1 x2 → SameLoad y1 y2 → SameLoad c1 c2 }
+{}
+
+/// So do `compose_gap` and `compose_load`, on the same nodes.
+pub fn one_view_respects_it()
+    ensures gap { (x1 y1 c1 x2 y2 c2 : Answers) → c1.kept ≡ c2.kept
+        → ComposesGap x1 y1 c1 → ComposesGap x2 y2 c2 → SameGap x1 x2 → SameGap y1 y2 → SameGap c1 c2 }
+    ensures load { (x1 y1 c1 x2 y2 c2 : Answers)
+        → IsContraction x1 → IsContraction y1 → IsContraction x2 → IsContraction y2 → c1.kept ≡ c2.kept
+        → ComposesLoad x1 y1 c1 → ComposesLoad x2 y2 c2 → SameLoad x1 x2 → SameLoad y1 y2 → SameLoad c1 c2 }
+{}
+
+/// A view that is composed alone is that of the composition, on the same nodes.
+pub fn one_view_is_that_of_both()
+    ensures gap { (x y c r g : Answers)
+        → Composes x y c → Restricts c r → ComposesGap x y g → r.kept ≡ g.kept → SameGap r g }
+    ensures load { (x y c r l : Answers) → IsContraction x → IsContraction y
+        → Composes x y c → Restricts c r → ComposesLoad x y l → r.kept ≡ l.kept → SameLoad r l }
 {}
 
 /// `keep_only` respects each view.

@@ -13,15 +13,18 @@ mod labels;
 mod laws;
 mod marks;
 mod merge;
+mod one_view;
 mod places;
 mod row;
+mod selection;
 mod supply;
 mod value;
 
 pub use laws::{
     composition_respects_views, fewer_nodes_tell_less, gap_views_are_equal, load_views_are_equal,
-    own_positions_stand, restriction_respects_views, same_items_stand, same_nodes_are_one_list,
-    same_views_stand, values_tell_views,
+    one_view_is_that_of_both, one_view_respects_it, own_positions_stand,
+    restriction_respects_views, same_items_stand, same_nodes_are_one_list, same_views_stand,
+    values_tell_views,
 };
 pub use supply::Supply;
 pub use value::Contraction;
