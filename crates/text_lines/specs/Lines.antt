@@ -1,7 +1,7 @@
 -- The lines of a text in bytes, and which of them are not empty. What a line is, is said by `lines` of the
 -- standard library: a line ends with LF or CR LF, the last may end with the text, and a CR is part of the
 -- end only before LF.
-use Rattle.std.specs.Prelude.{ℕ, ◌+◌, Bool, true, false, List, [], ◌∷◌, filter, length}
+use Rattle.std.specs.Prelude.{◌≡◌, ℕ, ◌+◌, ◌<◌, ◌++◌, Bool, true, false, List, [], ◌∷◌, filter, length}
 use Rattle.std.specs.List.{enumerate_from}
 use Rattle.std.specs.Str.Lines.{lines}
 
@@ -30,3 +30,8 @@ filled_left u = filled_from (u.passed + 1) u.left
 -- How many lines there are, passed and left.
 abbrev pub line_count : Unread → ℕ
 line_count u = u.passed + length u.left
+
+-- The line is this head and what follows it, and something follows.
+pub record Continues (head rest line : List ℕ) : Type 0 where
+  pub is : line ≡ head ++ rest
+  pub filled : 0 < length rest

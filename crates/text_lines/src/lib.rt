@@ -1,8 +1,10 @@
 //! The lines of a text in bytes.
 #![tactic(auto)]
 
+mod heads;
 mod lines;
 
+pub use heads::after;
 pub use lines::{Lines, MOST_BYTES};
 
 #[cfg(test)]
