@@ -18,6 +18,7 @@ use Rattle.station_graph.specs.Sharing.{OfPart, TouchedBy, IsShared}
 use Rattle.station_graph.specs.Views.{CoupledBy, ClosedAtBy, HasTapBy, FedBy, tapped, fed, SupplyBy, SameGapView, SameLoadView}
 use Rattle.station_graph.specs.Alike.{SamePositions, SameAnswers, SameFor}
 use Rattle.station_graph.proofs.WalkLemmas.{Hop, Reaches, reaches, hops_between, any_from_hops, any_from_within}
+use Rattle.station_graph.proofs.MixLemmas.{one_part}
 use Rattle.station_graph.proofs.PositionLemmas.{slice_get-set_other, slice_get-set_both, SamePositions-sym, SameGapView-positions, SameLoadView-positions, SameGapView-sym, SameLoadView-sym, SameGapView-trans, SameLoadView-trans}
 use Rattle.station_graph.proofs.PartWalks.{JoinsIn, parts_from_station, station_from_parts, MattersTo, parts_meet}
 use Rattle.station_graph.proofs.TouchLemmas.{closed_touches, tap_touches}
@@ -150,12 +151,6 @@ SameFor-sym d c v w h = record {
     load = SameLoadView-sym (IsShared d part) (OfPart d part) d v w (h.others part ne).load;
   };
 }
-
--- a switch is of one part
-pub one_part : (d : Diagram) (p q i : ℕ) → OfPart d p (a_switch i) → OfPart d q (a_switch i) → p ≡ q
-one_part d p q i (x, at_x, of_x) (y, at_y, of_y) =
-    let same : x ≡ y = cc in
-    sym of_x ∙ ap (λ (s : Switch). s.bay.0) same ∙ of_y
 
 -- where a switch of c is moved alike in both, they stay the same for c
 SameFor-moved : (d : Diagram) (c : ℕ) (v w : List Bool) (i : ℕ) (b : Bool) → OfPart d c (a_switch i) → SameFor d c v w → SameFor d c (slice_set v i b) (slice_set w i b)

@@ -17,46 +17,10 @@ use Rattle.station_graph.specs.Alike.{Alike, Irrelevant, IsVector, SamePositions
 use Rattle.station_graph.proofs.PositionLemmas.{SamePositions-sym, SameGapView-positions, SameLoadView-positions, SameGapView-trans, SameLoadView-trans}
 use Rattle.central_rules.specs.Knowledge.{BayAgrees, StandsAlike, Known, IsReadingOf, Holds}
 use Rattle.central_rules.specs.Meaning.{Meaning, Laws, Knows, AreMade, IsMade}
-use Rattle.central_rules.proofs.AlikeLaw.{one_part, same_answers}
+use Rattle.central_rules.proofs.AlikeLaw.{same_answers}
+use Rattle.station_graph.proofs.MixLemmas.{mix, length_mix, mix_there, mix_else, one_part}
 use Rattle.central_rules.proofs.MeaningLemmas.{reading_of}
-
--- ---- the positions of one bay's switches from w, and all others from v
-
-mix : List Switch → ℕ → List Bool → List Bool → List Bool
-mix [] b w v = []
-mix (x ∷ xs) b [] v = []
-mix (x ∷ xs) b (p ∷ w) [] = []
-mix (x ∷ xs) b (p ∷ w) (q ∷ v) = cond (eqb x.bay.0 b) p q ∷ mix xs b w v
-
-length_mix : (xs : List Switch) (b : ℕ) (w v : List Bool) → length w ≡ length xs → length v ≡ length xs → length (mix xs b w v) ≡ length xs
-unfolding mix
-length_mix [] b w v e f = refl
-length_mix (x ∷ xs) b [] v e f = absurd (omega (arith, e))
-length_mix (x ∷ xs) b (p ∷ w) [] e f = absurd (omega (arith, f))
-length_mix (x ∷ xs) b (p ∷ w) (q ∷ v) e f = ap (λ n. suc n) (length_mix xs b w v (omega (arith, e)) (omega (arith, f)))
-
--- those of the bay
-mix_there : (xs : List Switch) (b : ℕ) (w v : List Bool) → length w ≡ length xs → length v ≡ length xs → (i : ℕ) (x : Switch) → slice_get xs i ≡ Some x → x.bay.0 ≡ b → slice_get w i ≡ slice_get (mix xs b w v) i
-unfolding mix
-mix_there [] b w v e f i x at of_b = absurd (none-some x at)
-mix_there (y ∷ xs) b [] v e f i x at of_b = absurd (omega (arith, e))
-mix_there (y ∷ xs) b (p ∷ w) [] e f i x at of_b = absurd (omega (arith, f))
-mix_there (y ∷ xs) b (p ∷ w) (q ∷ v) e f zero x at of_b =
-    let yes : eqb y.bay.0 b ≡ true = eq-eqb y.bay.0 b (ap (λ (s : Switch). s.bay.0) (same_Some y x at) ∙ of_b) in
-    rw yes refl
-mix_there (y ∷ xs) b (p ∷ w) (q ∷ v) e f (suc i) x at of_b = mix_there xs b w v (omega (arith, e)) (omega (arith, f)) i x at of_b
-
--- and the others
-mix_else : (xs : List Switch) (b : ℕ) (w v : List Bool) → length w ≡ length xs → length v ≡ length xs → (i : ℕ) → ¬ ((x : Switch) × (slice_get xs i ≡ Some x) × (x.bay.0 ≡ b)) → slice_get v i ≡ slice_get (mix xs b w v) i
-unfolding mix
-mix_else [] b w [] e f i not_of = refl
-mix_else [] b w (q ∷ v) e f i not_of = absurd (omega (arith, f))
-mix_else (y ∷ xs) b [] v e f i not_of = absurd (omega (arith, e))
-mix_else (y ∷ xs) b (p ∷ w) [] e f i not_of = absurd (omega (arith, f))
-mix_else (y ∷ xs) b (p ∷ w) (q ∷ v) e f zero not_of =
-    let not_b : eqb y.bay.0 b ≡ false = ne_eqb y.bay.0 b (λ is. not_of (y, refl, is)) in
-    rw not_b refl
-mix_else (y ∷ xs) b (p ∷ w) (q ∷ v) e f (suc i) not_of = mix_else xs b w v (omega (arith, e)) (omega (arith, f)) i not_of
+use Rattle.central_rules.proofs.SameAnswerLemmas.{SameAnswers-trans, alike_same, alike_trans, alike_differ}
 
 -- ---- a vector that agrees with words
 
@@ -95,37 +59,6 @@ agreeing_agrees (suc n) (x ∷ words) zero word closed at at_v =
     let here : place x ≡ closed = same_Some (place x) closed at_v in
     subst (λ y. Agrees y closed) is (subst (λ y. Agrees x y) here (place_agrees x))
 agreeing_agrees (suc n) (x ∷ words) (suc i) word closed at at_v = agreeing_agrees n words i word closed at at_v
-
--- ---- the same answers
-
-SameAnswers-trans : (d : Diagram) (c : ℕ) (u v w : List Bool) → SameAnswers d c u v → SameAnswers d c v w → SameAnswers d c u w
-SameAnswers-trans d c u v w f g op of_c answer = (
-  λ b. (g op of_c answer).0 ((f op of_c answer).0 b),
-  λ b. (f op of_c answer).1 ((g op of_c answer).1 b),
-)
-
--- where the same positions stand, a part stands alike
-alike_same : (d : Diagram) (part : ℕ) (v w : List Bool) → SamePositions (OfPart d part) v w → Alike d part v w
-alike_same d part v w same = record {
-  gap = SameGapView-positions (IsShared d part) (OfPart d part) d v w same;
-  load = SameLoadView-positions (IsShared d part) (OfPart d part) d v w same;
-}
-
-alike_trans : (d : Diagram) (part : ℕ) (u v w : List Bool) → Alike d part u v → Alike d part v w → Alike d part u w
-alike_trans d part u v w f g = record {
-  gap = SameGapView-trans (IsShared d part) (OfPart d part) d u v w f.gap g.gap;
-  load = SameLoadView-trans (IsShared d part) (OfPart d part) d u v w f.load g.load;
-}
-
--- vectors that differ in one part alone, which stands alike in both, are the same for each other bay
-alike_differ : (d : Diagram) (part c : ℕ) (v w : List Bool) → part ≢ c → DifferInPart d part v w → Alike d part v w → SameFor d c v w
-alike_differ d part c v w ne differ alike = record {
-  own = λ i of_c. differ i (λ of_part. ne (one_part d part c i of_part of_c));
-  others = λ other not_c. elim (cases_eq other part) [
-    | inl e ↦ subst (λ p. Alike d p v w) (sym e) alike
-    | inr apart ↦ alike_same d other v w (λ i of_other. differ i (λ of_part. apart (one_part d other part i of_other of_part)))
-  ];
-}
 
 -- ---- bay by bay
 

@@ -1,8 +1,9 @@
 pub mod InClassLemmas
 pub mod RuleLemmas
-pub mod AnswerLemmas
 pub mod AlikeLaw
 pub mod TryingLemmas
 pub mod MeaningLemmas
+pub mod SameAnswerLemmas
 pub mod KnownLemmas
+pub mod FullLemmas
 pub mod WordRowLemmas

@@ -19,7 +19,7 @@ reading_of m laws k heard v made knows = record {
   where
     of_bay : (b : ℕ) (words : List Dbpos) → b ≢ k.bay → IsMade m b k.bay words heard → Irrelevant m.diagram b k.bay ⊎ StandsAlike m.diagram b words v
     of_bay b words other it = elim it.made.no_more [
-      | inl silent ↦ inl (laws.irrelevant b k.bay silent.0)
+      | inl silent ↦ inl (laws.irrelevant b k.bay other silent.0)
       | inr alike ↦ inr (alike v knows.whole (knows.heard_allow b it.summary other it.stands))
     ]
 

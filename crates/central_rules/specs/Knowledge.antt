@@ -1,6 +1,7 @@
 -- What a bay knows of the station by words, and what holds of an operation by it.
 use Rattle.std.specs.Prelude.{◌≡◌, ◌≢◌, ◌⊎◌, ℕ, Bool, List, slice_get, Option, Some, None}
 use Rattle.ilk_base.specs.declared.words.Dbpos.{Dbpos}
+use Rattle.ilk_base.specs.declared.words.Dbpos.TheVariants.{Off, On}
 use Rattle.ilk_base.specs.declared.words.Op.{Op}
 use Rattle.double_points.specs.Words.{Agrees}
 use Rattle.station_graph.specs.Diagram.{Diagram}
@@ -38,3 +39,12 @@ pub record IsReadingOf (d : Diagram) (k : Known) (v : List Bool) : Type 0 where
 -- The operation breaks no rule in any reading of what is known.
 abbrev pub Holds : Diagram → Op → Known → Type 0
 Holds d op k = (v : List Bool) → IsReadingOf d k v → Breaks d v op None
+
+-- Each switch of the bay has a word that is off or on.
+abbrev pub AllCertain : Diagram → ℕ → List Dbpos → Type 0
+AllCertain d b words = (i : ℕ) → OfPart d b (a_switch i) → (slice_get words i ≡ Some On) ⊎ (slice_get words i ≡ Some Off)
+
+-- Full knowledge: the own words are off or on, and words were heard of each other bay, all off or on.
+pub record IsFull (d : Diagram) (k : Known) : Type 0 where
+  pub own : AllCertain d k.bay k.own
+  pub others : (b i : ℕ) → b ≢ k.bay → OfPart d b (a_switch i) → (words : List Dbpos) × (slice_get k.heard b ≡ Some (Some words)) × AllCertain d b words

@@ -19,16 +19,16 @@ pub record Meaning : Type 1 where
   -- a summary of the bay allows the positions that the vector gives the bay
   pub Allows : ℕ → List ℕ → List Bool → Type 0
 
--- What holds of each judge.
+-- What holds of each judge. Where it speaks of two bays, they differ: a bay tells itself nothing.
 pub record Laws (m : Meaning) : Type 0 where
   -- what a summary allows depends on the positions of its own bay alone
   pub local : (b : ℕ) (s : List ℕ) (v w : List Bool) → IsVector m.diagram v → IsVector m.diagram w → SamePositions (OfPart m.diagram b) v w → m.Allows b s v → m.Allows b s w
   -- a bay that tells another nothing is irrelevant to it
-  pub irrelevant : (b to : ℕ) → m.Silent b to → Irrelevant m.diagram b to
+  pub irrelevant : (b to : ℕ) → b ≢ to → m.Silent b to → Irrelevant m.diagram b to
   -- from such a bay exactly the empty summary fits
-  pub empty_fits : (b to : ℕ) (s : List ℕ) → m.Silent b to → m.Fits b to s ↔ (s ≡ [])
+  pub empty_fits : (b to : ℕ) (s : List ℕ) → b ≢ to → m.Silent b to → m.Fits b to s ↔ (s ≡ [])
   -- and it allows each vector
-  pub empty_allows : (b to : ℕ) (v : List Bool) → m.Silent b to → IsVector m.diagram v → m.Allows b [] v
+  pub empty_allows : (b to : ℕ) (v : List Bool) → b ≢ to → m.Silent b to → IsVector m.diagram v → m.Allows b [] v
 
 -- A summary allows no more than what the words say: the bay stands in each vector that it allows alike to a
 -- position in which it agrees with the words.

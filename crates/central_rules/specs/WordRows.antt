@@ -1,10 +1,10 @@
 -- The plain summary: a row of words, one for each switch of the bay.
-use Rattle.std.specs.Prelude.{◌≡◌, ◌<◌, ◌≤◌, ◌==◌, ℕ, Bool, List, length, take, count_by, EachIndex, Option, Some, None, slice_get, slice_index, slice_index_or, if◌then◌else◌}
+use Rattle.std.specs.Prelude.{◌≡◌, ◌<◌, ◌≤◌, ◌==◌, ℕ, Bool, List, length, EachIndex, Option, Some, None, slice_get, slice_index, slice_index_or, if◌then◌else◌}
 use Rattle.std.proofs.Common.{◌∙◌}
 use Rattle.ilk_base.specs.declared.words.Dbpos.{Dbpos}
 use Rattle.ilk_base.specs.declared.words.Dbpos.TheVariants.{Intermediate, Off, On, Bad, Lost}
 use Rattle.double_points.specs.Words.{Agrees}
-use Rattle.station_graph.specs.Diagram.{Diagram, switches_in}
+use Rattle.station_graph.specs.Diagram.{Diagram, switches_in, place_in}
 use Rattle.station_graph.specs.Connection.{a_switch}
 use Rattle.station_graph.specs.Sharing.{OfPart}
 use Rattle.central_rules.specs.Meaning.{Meaning, Laws, bay_of}
@@ -21,10 +21,6 @@ code_of_word Lost = 4
 -- The word of a code.
 abbrev pub word_of_code : ℕ → Dbpos
 word_of_code c = if c == 0 then Intermediate else if c == 1 then Off else if c == 2 then On else if c == 3 then Bad else Lost
-
--- The place of a switch in its bay's row: how many switches of the bay stand before it.
-abbrev pub place_in : Diagram → ℕ → ℕ → ℕ
-place_in d b i = count_by (λ x. x.bay.0 == b) (take i d.switches)
 
 -- The bytes are a row of words of the bay: one code for each of its switches.
 pub record IsRow (d : Diagram) (b : ℕ) (s : List ℕ) : Type 0 where
@@ -49,9 +45,9 @@ by_rows d = record {
 pub by_rows_lawful : (d : Diagram) → Laws (by_rows d)
 by_rows_lawful d = record {
   local = λ b s v w whole_v whole_w same allows i code closed of_b at_s at_w. allows i code closed of_b at_s (same i of_b ∙ at_w);
-  irrelevant = λ b to never. absurd never;
-  empty_fits = λ b to s never. absurd never;
-  empty_allows = λ b to v never. absurd never;
+  irrelevant = λ b to other never. absurd never;
+  empty_fits = λ b to s other never. absurd never;
+  empty_allows = λ b to v other never. absurd never;
 }
 
 -- The word in a place of what was heard of a bay; lost where nothing was heard.

@@ -26,11 +26,12 @@ pub trait Judge {
     /// The station, which bays tell which nothing, which summaries fit, and what they allow.
     ghost meaning: { Self → Meaning };
 
-    /// Whether the bay tells the other of its positions. Where it does not, it is irrelevant to the other;
+    /// Whether the bay tells the other, another than itself, of its positions. Where it does not, it is irrelevant to the other;
     /// so it tells wherever it is a partner. Takes no memory.
     fn tells(&self, bay: BayId, to: BayId) -> bool
         requires bay { IsBay (meaning self.now).diagram bay.0 }
         requires to { IsBay (meaning self.now).diagram to.0 }
+        requires other { bay.0 ≢ to.0 }
         ensures tells { IsTrue result → ¬ (meaning self.now).Silent bay.0 to.0 }
         ensures silent { IsFalse result → (meaning self.now).Silent bay.0 to.0 };
 
@@ -44,6 +45,7 @@ pub trait Judge {
     ) -> Result<Summary, Memory>
         requires bay { IsBay (meaning self.now).diagram bay.0 }
         requires to { IsBay (meaning self.now).diagram to.0 }
+        requires other { bay.0 ≢ to.0 }
         requires all { AreWords (meaning self.now).diagram readings.now }
         ensures { IfOk result (λ s. Summarises (meaning self.now) bay.0 to.0 readings.now s) };
 
@@ -51,6 +53,7 @@ pub trait Judge {
     fn fits(&self, bay: BayId, to: BayId, summary: &Summary) -> bool
         requires bay { IsBay (meaning self.now).diagram bay.0 }
         requires to { IsBay (meaning self.now).diagram to.0 }
+        requires other { bay.0 ≢ to.0 }
         ensures { IsTrue result ↔ (meaning self.now).Fits bay.0 to.0 summary.now };
 
     /// The verdict by what the bay of the operation knows: by its own words, and by what it has heard of

@@ -1,5 +1,5 @@
 // Worked rows of the judges. The positions, verdicts and counts are worked by hand.
-ghost use Rattle.std.specs.Prelude.{◌≡◌, ◌<◌, length, IfOk, IsTrue};
+ghost use Rattle.std.specs.Prelude.{◌≡◌, ◌≢◌, ◌<◌, length, IfOk, IsTrue};
 ghost use Rattle.station_graph.specs.Diagram.{part_count};
 ghost use Rattle.central_rules.specs.Meaning.{HeardFit, IsBay, bay_of};
 ghost use Rattle.central_rules.specs.WordRows.{by_rows};
@@ -195,6 +195,14 @@ fn is_bay(station: &Station, part: BayId) -> bool
     u16::from(part.0) < station.part_count() && count > 0
 }
 
+// Whether the part is another bay than this one.
+fn is_other(station: &Station, part: BayId, bay: BayId) -> bool
+    ensures bay { IsTrue result → IsBay station.now part.0 }
+    ensures other { IsTrue result → part.0 ≢ bay.0 }
+{
+    part.0 != bay.0 && is_bay(station, part)
+}
+
 // What the bay of a switch hears where each bay tells it of its words, or where none does.
 fn hear(
     rt: &impl Abort,
@@ -215,7 +223,7 @@ fn hear(
     assert!(rt; is_bay(station, to));
     let mut heard = HeardList::none(alloc, station.part_count() as u8)?;
     for i in 0..station.part_count() as u8 {
-        if tell && is_bay(station, BayId(i)) {
+        if tell && is_other(station, BayId(i), to) {
             heard.set(BayId(i), judge.summarise(alloc, BayId(i), to, readings)?);
         }
     }
@@ -266,15 +274,22 @@ fn expect_released(
 }
 
 // Whether the row fits from the bay to another.
-fn fits(rt: &impl Abort, judge: &PlainJudge<'_>, station: &Station, bay: u8, row: &[u8]) -> bool
+fn fits(
+    rt: &impl Abort,
+    judge: &PlainJudge<'_>,
+    station: &Station,
+    bay: u8,
+    to: u8,
+    row: &[u8],
+) -> bool
     requires { judge.now ≡ station.now }
 {
-    assert!(rt; is_bay(station, BayId(bay)));
-    assert!(rt; is_bay(station, BayId(3)));
-    assert!(rt; judge.tells(BayId(bay), BayId(3)));
+    assert!(rt; is_other(station, BayId(bay), BayId(to)));
+    assert!(rt; is_bay(station, BayId(to)));
+    assert!(rt; judge.tells(BayId(bay), BayId(to)));
     assert!(rt; row.len() <= 32);
     let summary = Summary::new(row).unwrap();
-    judge.fits(BayId(bay), BayId(3), &summary)
+    judge.fits(BayId(bay), BayId(to), &summary)
 }
 
 // The row of a bay's words, and which rows fit.
@@ -282,15 +297,15 @@ fn expect_rows(rt: &impl Abort, alloc: Global, station: &Station) -> Result<(), 
     assert!(rt; fits_plain(station));
     let judge = PlainJudge::new(station);
     let readings = words(rt, alloc, station, b"11110ilb1011101")?;
-    assert!(rt; is_bay(station, BayId(3)));
+    assert!(rt; is_other(station, BayId(3), BayId(2)));
     assert!(rt; is_bay(station, BayId(2)));
     let summary = judge.summarise(alloc, BayId(3), BayId(2), &readings)?;
     let row = summary.bytes();
     assert!(rt; row == b"\x02\x01\x00\x04\x03\x02".as_slice());
-    assert!(rt; fits(rt, &judge, station, 3, row));
-    assert!(rt; !fits(rt, &judge, station, 2, row));
-    assert!(rt; fits(rt, &judge, station, 2, b"\x02\x01\x04"));
-    assert!(rt; !fits(rt, &judge, station, 2, b"\x02\x01\x05"));
+    assert!(rt; fits(rt, &judge, station, 3, 2, row));
+    assert!(rt; !fits(rt, &judge, station, 2, 3, row));
+    assert!(rt; fits(rt, &judge, station, 2, 3, b"\x02\x01\x04"));
+    assert!(rt; !fits(rt, &judge, station, 2, 3, b"\x02\x01\x05"));
     Ok(())
 }
 

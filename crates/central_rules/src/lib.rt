@@ -16,7 +16,7 @@ mod tests;
 mod trying;
 mod verdict;
 
-pub use alike::alike_positions;
+pub use alike::{alike_positions, full_knowledge};
 pub use judge::{Judge, holds_by_summaries, known_by_words, words_by_known};
 pub use labelling::labels;
 pub use names::{direction_name, is_uncertain, position_name, rule_name, word_name};

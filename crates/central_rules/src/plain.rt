@@ -1,10 +1,10 @@
 //! The judge of small stations: a summary is a row of words, and every reading is tried.
 ghost use Rattle.std.specs.Prelude.{◌≡◌, ◌<◌, ◌≤◌, ◌↔◌, ℕ, length, Some, IfOk, IsTrue, EachIndex, slice_get, slice_index, slice_index_or};
-ghost use Rattle.station_graph.specs.Diagram.{part_count};
+ghost use Rattle.station_graph.specs.Diagram.{part_count, place_in};
 ghost use Rattle.station_graph.specs.Connection.{a_switch};
 ghost use Rattle.station_graph.specs.Sharing.{OfPart};
 ghost use Rattle.central_rules.specs.declared.plain.TheConstants.{PLAIN_SWITCHES};
-ghost use Rattle.central_rules.specs.WordRows.{code_of_word, word_of_code, place_in, heard_word, known_word, FirstAre, IsRow, IsRowOf};
+ghost use Rattle.central_rules.specs.WordRows.{code_of_word, word_of_code, heard_word, known_word, FirstAre, IsRow, IsRowOf};
 ghost use Rattle.double_points.specs.Words.{AreWords};
 
 use crate::judge::Judge;
@@ -74,7 +74,7 @@ fn row_of(station: &Station, bay: BayId, readings: &Readings) -> Summary
     requires { AreWords station.now readings.now }
     ensures { IsRowOf station.now bay.0 readings.now result }
 {
-    let _count = station.switch_count();
+    station.is_station();
     let (first, count) = station.switches_of(bay);
     let mut row = [0; 32];
     for k in 0..count {
@@ -217,6 +217,6 @@ impl<'a> Judge for PlainJudge<'a> {
     }
 
     fn diagram_is_station(&self) {
-        let _count = self.station.switch_count();
+        self.station.is_station();
     }
 }

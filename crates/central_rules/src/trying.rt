@@ -64,7 +64,7 @@ fn find_with(
     if !agrees(readings.word(SwitchId(at)), closed) {
         return Ok(None);
     }
-    let _count = station.switch_count();
+    station.is_station();
     vector.set(SwitchId(at), closed);
     find_from(alloc, station, readings, op, at + 1, vector)
 }

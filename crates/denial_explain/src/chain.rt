@@ -10,6 +10,7 @@ use station_graph::NodeList;
 pub struct Chain {
     /// its nodes, from the first to the last, no node twice
     pub nodes: NodeList,
-    /// the closed switch at its last node for which it was sought; none where it leads to a tap
+    /// the closed switch at its last node for which it was sought, the first in document order; none where
+    /// it leads to a tap
     pub by: Option<SwitchId>,
 }

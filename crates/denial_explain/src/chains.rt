@@ -79,7 +79,7 @@ fn way_to(
     ensures way { IfOk result (λ w. IsWay (Touching false station.now joining.now) (Contains ends.now) from.0 w.last.0 w.nodes) }
     ensures nodes { IfOk result (λ w. AllBelow (node_count station.now) w.nodes) }
 {
-    let _count = station.node_count();
+    station.is_station();
     let neighbours = Neighbours::of(alloc, station, joining)?;
     let steps = steps_to(alloc, &neighbours, ends)?;
     follow(alloc, &neighbours, &steps, from)

@@ -145,7 +145,7 @@ fn bonded_nodes(
     ensures nodes { IfOk result (AllBelow (node_count station.now)) }
 {
     let labels = labels(alloc, station, vector, true)?;
-    let _count = station.node_count();
+    station.is_station();
     same_class(alloc, &labels, node)
 }
 

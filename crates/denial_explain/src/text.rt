@@ -35,7 +35,7 @@ fn path_of_node(station: &Station, node: NodeId) -> &[u8]
 }
 
 /// Appends `open PATH` or `close PATH` and the end of the line: an operation. Time: the length of the
-/// path.
+/// path. After `Memory` the text may end with a front of the line.
 pub fn push_operation(text: &mut Text, station: &Station, op: Op) -> Result<(), Memory>
     requires { IsOperation station.now op }
     ensures { OnOk result (text.new ≡ text.old ++ operation station.now op) }

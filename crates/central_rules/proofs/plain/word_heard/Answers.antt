@@ -1,5 +1,5 @@
 use Rattle.std.proofs.Common.{◌∙◌, refl}
-use Rattle.central_rules.proofs.WordRowLemmas.{placed}
+use Rattle.station_graph.proofs.PlaceLemmas.{placed}
 use Rattle.central_rules.proofs.plain.word_heard.Goals as goal
 
 pub returns-in-Some : goal.returns-in-Some

@@ -29,6 +29,7 @@ returns-clause-chain c =
       named = refl;
       at = c.closed_at-by.ensures.at.0;
       is_by = c.closed_at-by.ensures.at.1;
+      first = c.closed_at-by.ensures.first;
     }
 
 pub returns-clause-fits : goal.returns-clause-fits

@@ -9,11 +9,11 @@ use Rattle.denial_explain.proofs.chains.way_to.Goals as goal
 
 pub steps_to-requires-clause-lists : goal.steps_to-requires-clause-lists
 steps_to-requires-clause-lists c =
-    IsUndirected-station c.args.station.now c.node_count-count.ensures.station c.args.joining.now c.in_ok-neighbours.neighbours c.in_ok-neighbours.ensures
+    IsUndirected-station c.args.station.now c.is_station.ensures c.args.joining.now c.in_ok-neighbours.neighbours c.in_ok-neighbours.ensures
 
 pub follow-requires-clause-lists : goal.follow-requires-clause-lists
 follow-requires-clause-lists c =
-    IsUndirected-station c.args.station.now c.node_count-count.ensures.station c.args.joining.now c.in_ok-neighbours.neighbours c.in_ok-neighbours.ensures
+    IsUndirected-station c.args.station.now c.is_station.ensures c.args.joining.now c.in_ok-neighbours.neighbours c.in_ok-neighbours.ensures
 
 pub follow-requires-clause-steps : goal.follow-requires-clause-steps
 follow-requires-clause-steps c =
