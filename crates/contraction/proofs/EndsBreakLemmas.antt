@@ -12,12 +12,12 @@ use Rattle.station_graph.specs.declared.items.Switch.{Switch}
 use Rattle.station_graph.specs.Diagram.{Diagram, IsStation, IsTwoEnded, SwitchFits, node_count}
 use Rattle.station_graph.specs.Connection.{a_switch, Coupled}
 use Rattle.station_graph.specs.Supply.{Quiet, ClosedAt}
-use Rattle.station_graph.specs.CentralRules.{before, after, Moves, BreaksEarthing, BreaksClosing, BreaksFeeding, BreaksLoad, GapCarriesLoad, Applies, Breaks}
+use Rattle.station_graph.specs.CentralRules.{before, after, Moves, BreaksEarthing, BreaksClosing, BreaksFeeding, BreaksLoad, GapCarriesLoad, Applies, GapBreaks}
 use Rattle.station_graph.proofs.PartialEdges.{second_fits}
 use Rattle.contraction.specs.Answers.{Answers, Keeps, MarkedAt}
 use Rattle.station_graph.specs.Nodes.{Rises}
 use Rattle.contraction.specs.Stands.{AllBut, GapStandsFor, LoadStandsFor}
-use Rattle.contraction.specs.Ends.{EndsKept, EndsEarthing, EndsFeeding, EndsClosing, EndsLoad, EndsGap, GapBreaks}
+use Rattle.contraction.specs.Ends.{EndsKept, EndsEarthing, EndsFeeding, EndsClosing, EndsLoad, EndsGap}
 use Rattle.contraction.proofs.SupplyLemmas.{marked_or_not}
 use Rattle.contraction.proofs.EndsLemmas.{coupled_to_rest, open_rest, live_rest, loaded_rest, quiet_rest, closed_coupled_to}
 
@@ -218,9 +218,3 @@ module _ (d : Diagram) (station : IsStation d) (v : List Bool) (fits : length v 
     -- THE ENDS TELL THE THIRD RULE BY THE LOAD VIEW
     pub load_tells : EndsLoad c x ↔ Applies R3 d v op
     load_tells = (load_there, load_back)
-
--- the two halves are the whole
-pub gap_breaks : (d : Diagram) (v : List Bool) (op : Op) (rule : Rule) → GapBreaks d v op (Some rule) → Breaks d v op (Some rule)
-gap_breaks d v op R1 h = h
-gap_breaks d v op R2 h = h
-gap_breaks d v op R3 h = absurd h

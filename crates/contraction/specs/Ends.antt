@@ -1,23 +1,13 @@
 -- What the answers of all items but one switch say of moving it.
-use Rattle.std.specs.Prelude.{◌≡◌, ℕ, ◌⊎◌, Bool, List, Option, Some, None}
+use Rattle.std.specs.Prelude.{◌≡◌, ℕ, ◌⊎◌, List, Option, Some, None}
 use Rattle.ilk_base.specs.declared.words.Kind.TheVariants.{Disconnector, Earthing, Infeed}
 use Rattle.ilk_base.specs.declared.words.Direction.{Direction}
 use Rattle.ilk_base.specs.declared.words.Direction.TheVariants.{ToOn}
-use Rattle.ilk_base.specs.declared.words.Op.{Op}
 use Rattle.ilk_base.specs.declared.words.Rule.{Rule}
 use Rattle.ilk_base.specs.declared.words.Rule.TheVariants.{R1, R2, R3}
 use Rattle.ilk_base.specs.declared.words.NodeId.{NodeId}
 use Rattle.station_graph.specs.declared.items.Switch.{Switch}
-use Rattle.station_graph.specs.Diagram.{Diagram}
-use Rattle.station_graph.specs.CentralRules.{Applies}
 use Rattle.contraction.specs.Answers.{Answers, Keeps, SaysEnergisable, SaysEarthable, SaysFed, SaysLoaded, SaysBonded}
-
--- What the first two rules give: the first of them that applies, or none.
-abbrev pub GapBreaks : Diagram → List Bool → Op → Option Rule → Type 0
-GapBreaks d v op None = (¬ Applies R1 d v op) × (¬ Applies R2 d v op)
-GapBreaks d v op (Some R1) = Applies R1 d v op
-GapBreaks d v op (Some R2) = (¬ Applies R1 d v op) × Applies R2 d v op
-GapBreaks d v op (Some R3) = ⊥
 
 -- The ends of the switch are kept.
 pub record EndsKept (kept : List ℕ) (x : Switch) : Type 0 where

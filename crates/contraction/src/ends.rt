@@ -1,13 +1,12 @@
 //! What the contraction of all other items says of moving a switch.
 ghost use Rattle.std.specs.Prelude.{◌≡◌, ◌<◌, ◌↔◌, Bool, Some, List, length, slice_get, IsTrue};
-ghost use Rattle.ilk_base.specs.declared.words.Rule.TheVariants.{R3};
 ghost use Rattle.station_graph.specs.declared.items.Switch.{Switch};
 ghost use Rattle.station_graph.specs.Alike.{IsVector};
 ghost use Rattle.station_graph.specs.Connection.{a_switch};
-ghost use Rattle.station_graph.specs.CentralRules.{Applies, Breaks, Moves};
+ghost use Rattle.station_graph.specs.CentralRules.{Breaks, GapBreaks, LoadBreaks, Moves};
 ghost use Rattle.contraction.specs.Answers.{Keeps};
 ghost use Rattle.contraction.specs.Stands.{AllBut, GapStandsFor, LoadStandsFor, StandsFor};
-ghost use Rattle.contraction.specs.Ends.{EndsKept, Meets, CarriesLoad, EndsEarthing, EndsFeeding, EndsClosing, EndsLoad, EndsGap, GapBreaks};
+ghost use Rattle.contraction.specs.Ends.{EndsKept, Meets, CarriesLoad, EndsEarthing, EndsFeeding, EndsClosing, EndsLoad, EndsGap};
 
 use crate::value::Contraction;
 use ilk_base::{Direction, Kind, NodeId, Op, Rule, SwitchId};
@@ -141,7 +140,7 @@ impl Contraction {
         requires ends { (x : Switch) → Moves station.now op x → EndsKept self.now.kept x }
         ensures { (v : List Bool) → IsVector station.now v
             → LoadStandsFor (AllBut (a_switch op.switch.0)) station.now v self.now
-            → IsTrue result ↔ Applies R3 station.now v op }
+            → IsTrue result ↔ LoadBreaks station.now v op }
     {
         let _ = &self.kept;
         self.ends_load(station.switch(op.switch))
