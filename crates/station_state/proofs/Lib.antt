@@ -1,0 +1,5 @@
+pub mod GrowLemmas
+pub mod ExtremeLemmas
+mod MarkedLemmas
+mod StateLemmas
+mod TextLemmas
