@@ -4,7 +4,7 @@ use Rattle.text_lines.specs.Lines.{Continues}
 use Rattle.ilk_base.specs.declared.words.Direction.{Direction}
 use Rattle.ilk_base.specs.declared.words.Op.{Op}
 use Rattle.station_graph.specs.Diagram.{Diagram}
-use Rattle.denial_explain.specs.Names.{direction_name}
+use Rattle.central_rules.specs.Names.{direction_name}
 use Rattle.operation_lines.specs.declared.operation.LineFault.{LineFault}
 use Rattle.operation_lines.specs.declared.operation.LineFault.TheVariants.{Form, Unknown}
 

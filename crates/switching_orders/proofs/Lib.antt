@@ -1,0 +1,5 @@
+pub mod Steps
+pub mod UndoLemmas
+pub mod RulingLemmas
+pub mod LineLemmas
+pub mod TextLemmas

@@ -1,0 +1,6 @@
+pub mod OrderRuling
+pub mod Undoing
+pub mod OrderLines
+pub mod OrderText
+pub mod Certain
+pub mod OrderFaults

@@ -1,0 +1,14 @@
+//! The laws on orders.
+ghost use Rattle.std.specs.Prelude.{◌≡◌, ℕ, List, Bool, take, slice_get, Some};
+ghost use Rattle.ilk_base.specs.declared.words.Op.{Op};
+ghost use Rattle.station_graph.specs.Diagram.{Diagram};
+ghost use Rattle.switching_orders.specs.OrderRuling.{after_all, IsIdle, IsAccepted};
+ghost use Rattle.switching_orders.specs.Undoing.{undone};
+
+/// An order undone gives the start: from a vector from which an order is accepted, its steps and then the
+/// steps of the order undone lead back to that vector, and no step of the order undone is idle.
+pub fn undone_gives_start()
+    ensures start { (d : Diagram) (v : List Bool) (ops : List Op) → IsAccepted d v ops → after_all (after_all v ops) (undone ops) ≡ v }
+    ensures never_idle { (d : Diagram) (v : List Bool) (ops : List Op) → IsAccepted d v ops
+        → (k : ℕ) (op : Op) → slice_get (undone ops) k ≡ Some op → ¬ IsIdle (after_all (after_all v ops) (take k (undone ops))) op }
+{}

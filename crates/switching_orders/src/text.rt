@@ -1,0 +1,174 @@
+//! The text of `order`.
+ghost use Rattle.std.specs.Prelude.{◌≡◌, ◌<◌, ◌≤◌, ◌++◌, ◌+◌, length, take, slice_get, codes, decimal, Some, None, IfOk, OnOk};
+ghost use Rattle.station_graph.specs.CentralRules.{IsOperation};
+ghost use Rattle.switching_orders.specs.OrderRuling.{after_all, IsRuling, AreOperations};
+ghost use Rattle.switching_orders.specs.Undoing.{undone};
+ghost use Rattle.switching_orders.specs.OrderText.{ruling_words, step_line, ok_lines, stop_of, back_line, IsOrderText};
+
+use crate::judging::judge_order;
+use crate::order::Order;
+use crate::ruling::{Ruling, Step};
+use central_rules::rule_name;
+use denial_explain::push_operation;
+use ilk_base::{Memory, Op, Text};
+use itoa::Buffer;
+use station_graph::{Station, Vector};
+use std::alloc::Global;
+
+/// What is told of an order.
+#[derive(Debug, Drop)]
+pub struct OrderReport {
+    /// the lines
+    pub text: Text,
+    /// whether a step of the order is denied or idle
+    pub differs: bool,
+}
+
+// Appends a number.
+fn push_number(text: &mut Text, number: u32) -> Result<(), Memory>
+    ensures { OnOk result (text.new ≡ text.old ++ decimal number) }
+{
+    let mut digits = Buffer::new();
+    text.push(digits.format(number).as_bytes())
+}
+
+// Appends what is written of a ruling.
+fn push_ruling(text: &mut Text, step: Step) -> Result<(), Memory>
+    ensures { OnOk result (text.new ≡ text.old ++ ruling_words step) }
+{
+    match step {
+        Step::Ok => text.push(b" ok "),
+        Step::Denied(rule) => {
+            text.push(b" denied ")?;
+            text.push(rule_name(rule))?;
+            text.push(b" ")
+        }
+        Step::Idle => text.push(b" idle "),
+    }
+}
+
+// Appends the line of a step.
+fn push_step(
+    text: &mut Text,
+    station: &Station,
+    number: u32,
+    step: Step,
+    op: Op,
+) -> Result<(), Memory>
+    requires { IsOperation station.now op }
+    ensures { OnOk result (text.new ≡ text.old ++ step_line station.now number step op) }
+{
+    push_number(text, number)?;
+    push_ruling(text, step)?;
+    push_operation(text, station, op)
+}
+
+// Appends the lines of the first steps, which are ok.
+fn push_passed(text: &mut Text, station: &Station, order: &Order, passed: u32) -> Result<(), Memory>
+    requires order { AreOperations station.now order.now }
+    requires within { passed ≤ length order.now }
+    ensures { OnOk result (text.new ≡ text.old ++ ok_lines station.now (take passed order.now)) }
+{
+    for i in 0..passed {
+        push_step(text, station, i + 1, Step::Ok, order.step(i))?;
+    }
+    Ok(())
+}
+
+// Appends the line of the step that is not ok, if there is one.
+fn push_stop(
+    text: &mut Text,
+    station: &Station,
+    order: &Order,
+    ruling: Ruling,
+) -> Result<(), Memory>
+    requires order { AreOperations station.now order.now }
+    ensures { OnOk result (text.new ≡ text.old ++ stop_of station.now order.now ruling) }
+{
+    let Some(step) = ruling.stopped else {
+        return Ok(());
+    };
+    if ruling.passed >= order.len() {
+        return Ok(());
+    }
+    push_step(
+        text,
+        station,
+        ruling.passed + 1,
+        step,
+        order.step(ruling.passed),
+    )
+}
+
+// Appends the ruling on the order undone.
+fn push_back(text: &mut Text, station: &Station, order: &Order, back: Ruling) -> Result<(), Memory>
+    requires order { AreOperations station.now order.now }
+    ensures { OnOk result (text.new ≡ text.old ++ back_line station.now order.now back back.stopped) }
+{
+    if back.stopped.is_none() {
+        return text.push(b"back accepted\n");
+    }
+    text.push(b"back ")?;
+    push_stop(text, station, order, back)
+}
+
+// Appends the count of the steps.
+fn push_accepted(text: &mut Text, count: u32) -> Result<(), Memory>
+    ensures { OnOk result (text.new ≡ text.old ++ codes "accepted " ++ decimal count ++ codes "\n") }
+{
+    text.push(b"accepted ")?;
+    push_number(text, count)?;
+    text.push(b"\n")
+}
+
+// The ruling on the order undone, from the vector at the end of the order.
+fn judge_back(
+    alloc: Global,
+    station: &Station,
+    start: &Vector,
+    order: &Order,
+    back: &Order,
+) -> Result<Ruling, Memory>
+    requires start { length start.now ≡ length station.now.switches }
+    requires order { AreOperations station.now order.now }
+    requires back { AreOperations station.now back.now }
+    ensures { IfOk result (IsRuling station.now (after_all start.now order.now) back.now) }
+{
+    let mut end = start.copy(alloc)?;
+    order.apply(&mut end);
+    judge_order(alloc, station, &end, back)
+}
+
+/// The text of `order` for an order from a start: a line for each step that is ok; then the line of the
+/// first that is not, or the count of the steps and the ruling on the order undone. The order and the start
+/// are of the station. Time: that of `judge_order`, twice, and the text. Memory: the text, and that of
+/// `judge_order`.
+pub fn order_text(
+    alloc: Global,
+    station: &Station,
+    start: &Vector,
+    order: &Order,
+) -> Result<OrderReport, Memory>
+    requires start { length start.now ≡ length station.now.switches }
+    requires order { AreOperations station.now order.now }
+    ensures { IfOk result (IsOrderText station.now start.now order.now) }
+{
+    let ruling = judge_order(alloc, station, start, order)?;
+    let mut text = Text::new(alloc);
+    push_passed(&mut text, station, order, ruling.passed)?;
+    if ruling.stopped.is_some() {
+        push_stop(&mut text, station, order, ruling)?;
+        return Ok(OrderReport {
+            text,
+            differs: true,
+        });
+    }
+    push_accepted(&mut text, order.len())?;
+    let back = order.reversed(alloc)?;
+    let ruling = judge_back(alloc, station, start, order, &back)?;
+    push_back(&mut text, station, &back, ruling)?;
+    Ok(OrderReport {
+        text,
+        differs: false,
+    })
+}
