@@ -6,11 +6,11 @@ use Rattle.ilk_base.specs.declared.words.Rule.{Rule}
 use Rattle.ilk_base.specs.declared.words.Rule.TheVariants.{R1, R2, R3}
 use Rattle.ilk_base.specs.declared.words.Op.{Op}
 use Rattle.station_graph.specs.Diagram.{Diagram}
-use Rattle.station_graph.specs.CentralRules.{Breaks}
+use Rattle.station_graph.specs.CentralRules.{carried_out, Breaks}
 use Rattle.switching_orders.specs.declared.ruling.Step.{Step}
 use Rattle.switching_orders.specs.declared.ruling.Step.TheVariants as step
 use Rattle.switching_orders.specs.declared.ruling.Ruling.{Ruling}
-use Rattle.switching_orders.specs.OrderRuling.{moved, after_all, Rules, IsAccepted, StopsAt, IsRuling}
+use Rattle.switching_orders.specs.OrderRuling.{after_all, Rules, IsAccepted, StopsAt, IsRuling}
 use Rattle.switching_orders.proofs.Steps.{EachAfter, EachAfter-push, index-from_EachAfter, after_all-append, take-next}
 
 abbrev pub IsOk : Diagram → List Bool → Op → Type 0
@@ -22,8 +22,8 @@ each-next d v w ops k op at is each ok =
     subst (EachAfter (IsOk d) v) (sym (take-next ops k op at))
     (EachAfter-push (IsOk d) v (take k ops) op each (subst (λ u. Rules d u op step.Ok) is ok))
 
-pub after-next : (v w : List Bool) (ops : List Op) (k : ℕ) (op : Op) → slice_get ops k ≡ Some op → w ≡ after_all v (take k ops) → moved w op ≡ after_all v (take (k + 1) ops)
-after-next v w ops k op at is = ap (λ u. moved u op) is ∙ sym (ap (after_all v) (take-next ops k op at) ∙ after_all-append v (take k ops) (op ∷ []))
+pub after-next : (v w : List Bool) (ops : List Op) (k : ℕ) (op : Op) → slice_get ops k ≡ Some op → w ≡ after_all v (take k ops) → carried_out w op ≡ after_all v (take (k + 1) ops)
+after-next v w ops k op at is = ap (λ u. carried_out u op) is ∙ sym (ap (after_all v) (take-next ops k op at) ∙ after_all-append v (take k ops) (op ∷ []))
 
 pub stopped : (d : Diagram) (v w : List Bool) (ops : List Op) (k : ℕ) (op : Op) (s : Step) → k ≤ length ops → slice_get ops k ≡ Some op → w ≡ after_all v (take k ops) → EachAfter (IsOk d) v (take k ops) → Rules d w op s → s ≢ step.Ok → IsRuling d v ops (record { passed = k; stopped = Some s })
 stopped d v w ops k op s within at is each rules stops = record {

@@ -4,29 +4,30 @@ use Rattle.std.proofs.lemmas.List.{length-set}
 use Rattle.std.specs.Prelude.{slice_get, fold, ⊤}
 use Rattle.std.proofs.lemmas.Option.{none-some, same_Some}
 use Rattle.ilk_base.specs.declared.words.Op.{Op}
-use Rattle.switching_orders.specs.OrderRuling.{position_of, moved, after_all}
+use Rattle.station_graph.specs.CentralRules.{wanted_end, carried_out}
+use Rattle.switching_orders.specs.OrderRuling.{after_all}
 
 -- it holds of each operation in the vector after those before it
 abbrev pub EachAfter : (List Bool → Op → Type 0) → List Bool → List Op → Type 0
 EachAfter P v [] = ⊤
-EachAfter P v (op ∷ ops) = P v op × EachAfter P (moved v op) ops
+EachAfter P v (op ∷ ops) = P v op × EachAfter P (carried_out v op) ops
 
 pub EachAfter-from_index : (P : List Bool → Op → Type 0) (v : List Bool) (ops : List Op) → ((k : ℕ) (op : Op) → slice_get ops k ≡ Some op → P (after_all v (take k ops)) op) → EachAfter P v ops
 EachAfter-from_index P v [] each = tt
-EachAfter-from_index P v (op ∷ ops) each = (each zero op refl, EachAfter-from_index P (moved v op) ops (λ k next at. each (suc k) next at))
+EachAfter-from_index P v (op ∷ ops) each = (each zero op refl, EachAfter-from_index P (carried_out v op) ops (λ k next at. each (suc k) next at))
 
 pub index-from_EachAfter : (P : List Bool → Op → Type 0) (v : List Bool) (ops : List Op) → EachAfter P v ops → (k : ℕ) (op : Op) → slice_get ops k ≡ Some op → P (after_all v (take k ops)) op
 index-from_EachAfter P v [] each k op at = absurd (none-some op at)
 index-from_EachAfter P v (first ∷ ops) each zero op at = subst (P v) (same_Some first op at) each.0
-index-from_EachAfter P v (first ∷ ops) each (suc k) op at = index-from_EachAfter P (moved v first) ops each.1 k op at
+index-from_EachAfter P v (first ∷ ops) each (suc k) op at = index-from_EachAfter P (carried_out v first) ops each.1 k op at
 
 pub EachAfter-push : (P : List Bool → Op → Type 0) (v : List Bool) (ops : List Op) (op : Op) → EachAfter P v ops → P (after_all v ops) op → EachAfter P v (ops ++ op ∷ [])
 EachAfter-push P v [] op each last = (last, tt)
-EachAfter-push P v (first ∷ ops) op each last = (each.0, EachAfter-push P (moved v first) ops op each.1 last)
+EachAfter-push P v (first ∷ ops) op each last = (each.0, EachAfter-push P (carried_out v first) ops op each.1 last)
 
 pub after_all-append : (v : List Bool) (xs ys : List Op) → after_all v (xs ++ ys) ≡ after_all (after_all v xs) ys
 after_all-append v [] ys = refl
-after_all-append v (x ∷ xs) ys = after_all-append (moved v x) xs ys
+after_all-append v (x ∷ xs) ys = after_all-append (carried_out v x) xs ys
 
 take-suc : {X : Type 0} (xs : List X) (k : ℕ) (x : X) → slice_get xs k ≡ Some x → take (suc k) xs ≡ take k xs ++ x ∷ []
 take-suc [] k x at = absurd (none-some x at)
@@ -38,4 +39,4 @@ take-next xs k x at = ap (λ n. take n xs) (add-one k) ∙ take-suc xs k x at
 
 pub length-after_all : (v : List Bool) (ops : List Op) → length (after_all v ops) ≡ length v
 length-after_all v [] = refl
-length-after_all v (op ∷ ops) = length-after_all (moved v op) ops ∙ length-set v op.switch.0 (position_of op.direction)
+length-after_all v (op ∷ ops) = length-after_all (carried_out v op) ops ∙ length-set v op.switch.0 (wanted_end op.direction)

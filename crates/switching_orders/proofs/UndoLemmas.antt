@@ -7,11 +7,12 @@ use Rattle.std.proofs.lemmas.List.Elements.{All-head, All-tail, All-push}
 use Rattle.ilk_base.specs.declared.words.Direction.{Direction}
 use Rattle.ilk_base.specs.declared.words.Direction.TheVariants.{ToOff, ToOn}
 use Rattle.ilk_base.specs.declared.words.Op.{Op}
-use Rattle.switching_orders.specs.OrderRuling.{position_of, moved, after_all, IsIdle, MoveSwitches}
+use Rattle.station_graph.specs.CentralRules.{wanted_end, carried_out}
+use Rattle.switching_orders.specs.OrderRuling.{after_all, IsIdle, MoveSwitches}
 use Rattle.switching_orders.specs.Undoing.{other_way, opposite, undone}
 use Rattle.switching_orders.proofs.Steps.{EachAfter, EachAfter-push, after_all-append}
 
-other_position : (way : Direction) → position_of way ≢ position_of (other_way way)
+other_position : (way : Direction) → wanted_end way ≢ wanted_end (other_way way)
 other_position ToOff e = cc
 other_position ToOn e = cc
 
@@ -36,11 +37,11 @@ get_set [] (suc i) b c differ e = none-some c e
 get_set (x ∷ v) zero b c differ e = differ (same_Some b c e)
 get_set (x ∷ v) (suc i) b c differ e = get_set v i b c differ e
 
-moved_back : (v : List Bool) (op : Op) → ¬ IsIdle v op → moved (moved v op) (opposite op) ≡ v
-moved_back v op idle = set_back v op.switch.0 (position_of op.direction) (position_of (other_way op.direction)) idle (other_position op.direction)
+moved_back : (v : List Bool) (op : Op) → ¬ IsIdle v op → carried_out (carried_out v op) (opposite op) ≡ v
+moved_back v op idle = set_back v op.switch.0 (wanted_end op.direction) (wanted_end (other_way op.direction)) idle (other_position op.direction)
 
-not_idle_back : (v : List Bool) (op : Op) → ¬ IsIdle (moved v op) (opposite op)
-not_idle_back v op = get_set v op.switch.0 (position_of op.direction) (position_of (other_way op.direction)) (other_position op.direction)
+not_idle_back : (v : List Bool) (op : Op) → ¬ IsIdle (carried_out v op) (opposite op)
+not_idle_back v op = get_set v op.switch.0 (wanted_end op.direction) (wanted_end (other_way op.direction)) (other_position op.direction)
 
 pub map-append_one : {A B : Type 0} (f : A → B) (xs : List A) (x : A) → map f (xs ++ x ∷ []) ≡ map f xs ++ f x ∷ []
 map-append_one f [] x = refl
@@ -55,17 +56,17 @@ Moves v op = ¬ IsIdle v op
 pub leads_back : (v : List Bool) (ops : List Op) → EachAfter Moves v ops → after_all (after_all v ops) (undone ops) ≡ v
 leads_back v [] each = refl
 leads_back v (op ∷ ops) each =
-    ap (after_all (after_all (moved v op) ops)) (undone-cons op ops)
-    ∙ after_all-append (after_all (moved v op) ops) (undone ops) (opposite op ∷ [])
-    ∙ ap (λ w. moved w (opposite op)) (leads_back (moved v op) ops each.1)
+    ap (after_all (after_all (carried_out v op) ops)) (undone-cons op ops)
+    ∙ after_all-append (after_all (carried_out v op) ops) (undone ops) (opposite op ∷ [])
+    ∙ ap (λ w. carried_out w (opposite op)) (leads_back (carried_out v op) ops each.1)
     ∙ moved_back v op each.0
 
 pub moves_back : (v : List Bool) (ops : List Op) → EachAfter Moves v ops → EachAfter Moves (after_all v ops) (undone ops)
 moves_back v [] each = tt
 moves_back v (op ∷ ops) each =
-    subst (EachAfter Moves (after_all (moved v op) ops)) (sym (undone-cons op ops))
-    (EachAfter-push Moves (after_all (moved v op) ops) (undone ops) (opposite op) (moves_back (moved v op) ops each.1)
-    (subst (λ w. Moves w (opposite op)) (sym (leads_back (moved v op) ops each.1)) (not_idle_back v op)))
+    subst (EachAfter Moves (after_all (carried_out v op) ops)) (sym (undone-cons op ops))
+    (EachAfter-push Moves (after_all (carried_out v op) ops) (undone ops) (opposite op) (moves_back (carried_out v op) ops each.1)
+    (subst (λ w. Moves w (opposite op)) (sym (leads_back (carried_out v op) ops each.1)) (not_idle_back v op)))
 
 -- the order undone moves the same switches
 pub MoveSwitches-undone : (count : ℕ) (ops : List Op) → MoveSwitches count ops → MoveSwitches count (undone ops)

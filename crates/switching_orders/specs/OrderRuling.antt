@@ -1,30 +1,19 @@
 -- How an order of switching is ruled on, step by step.
-use Rattle.std.specs.Prelude.{◌≡◌, ◌≢◌, ◌<◌, ◌≤◌, ℕ, Bool, true, false, ⊤, List, length, take, fold, All, slice_get, slice_set, Option, Some, None}
-use Rattle.ilk_base.specs.declared.words.Direction.{Direction}
-use Rattle.ilk_base.specs.declared.words.Direction.TheVariants.{ToOff, ToOn}
+use Rattle.std.specs.Prelude.{◌≡◌, ◌≢◌, ◌<◌, ◌≤◌, ℕ, Bool, ⊤, List, length, take, fold, All, slice_get, Option, Some, None}
 use Rattle.ilk_base.specs.declared.words.Op.{Op}
 use Rattle.station_graph.specs.Diagram.{Diagram}
-use Rattle.station_graph.specs.CentralRules.{Breaks}
+use Rattle.station_graph.specs.CentralRules.{wanted_end, carried_out, Breaks}
 use Rattle.switching_orders.specs.declared.ruling.Step.{Step}
 use Rattle.switching_orders.specs.declared.ruling.Step.TheVariants as step
 use Rattle.switching_orders.specs.declared.ruling.Ruling.{Ruling}
 
--- The position to which an operation in this direction moves its switch: whether it is closed.
-abbrev pub position_of : Direction → Bool
-position_of ToOff = false
-position_of ToOn = true
-
--- The vector after the operation.
-abbrev pub moved : List Bool → Op → List Bool
-moved v op = slice_set v op.switch.0 (position_of op.direction)
-
 -- The vector after all these operations.
 abbrev pub after_all : List Bool → List Op → List Bool
-after_all v ops = fold moved v ops
+after_all v ops = fold carried_out v ops
 
 -- The switch has the wanted position already.
 abbrev pub IsIdle : List Bool → Op → Type 0
-IsIdle v op = slice_get v op.switch.0 ≡ Some (position_of op.direction)
+IsIdle v op = slice_get v op.switch.0 ≡ Some (wanted_end op.direction)
 
 -- The ruling on an operation from a vector: idle, else denied with the rule that it breaks, else ok.
 abbrev pub Rules : Diagram → List Bool → Op → Step → Type 0

@@ -3,7 +3,7 @@ ghost use Rattle.std.specs.Prelude.{◌≡◌, ◌<◌, ◌↔◌, length, Some,
 ghost use Rattle.station_graph.specs.CentralRules.{IsOperation};
 ghost use Rattle.switching_orders.specs.OrderRuling.{Rules, IsIdle, IsAccepted, IsRuling, AreOperations};
 
-use crate::order::{Order, position_of};
+use crate::order::{Order, wanted_end};
 use crate::ruling::{Ruling, Step};
 use central_rules::breaks;
 use ilk_base::{Memory, Op};
@@ -15,7 +15,7 @@ fn is_idle(vector: &Vector, op: Op) -> bool
     requires { op.switch.0 < length vector.now }
     ensures { IsTrue result ↔ IsIdle vector.now op }
 {
-    vector.closed(op.switch) == position_of(op.direction)
+    vector.closed(op.switch) == wanted_end(op.direction)
 }
 
 // The ruling on one step.
@@ -61,7 +61,7 @@ pub fn judge_order(
     for i in 0..order.len() {
         let op = order.step(i);
         match rule(alloc, station, &vector, op)? {
-            Step::Ok => vector.set(op.switch, position_of(op.direction)),
+            Step::Ok => vector.set(op.switch, wanted_end(op.direction)),
             Step::Denied(rule) => return Ok(stop(i, Step::Denied(rule))),
             Step::Idle => return Ok(stop(i, Step::Idle)),
         }

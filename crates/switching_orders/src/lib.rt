@@ -11,7 +11,7 @@ mod text;
 
 pub use certain::certain_positions;
 pub use judging::judge_order;
-pub use laws::undone_gives_start;
+pub use laws::{accepted_keeps_apart, undone_gives_start};
 pub use order::{MOST_STEPS, Order};
 pub use reading::{OrderFault, read_order};
 pub use ruling::{Ruling, Step};

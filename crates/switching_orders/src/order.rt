@@ -1,7 +1,8 @@
 //! An order.
 ghost use Rattle.std.specs.Prelude.{◌≡◌, ◌<◌, ◌≤◌, ℕ, length, slice_get, Some, IfOk};
 ghost use Rattle.switching_orders.specs.declared.order.TheConstants.{MOST_STEPS};
-ghost use Rattle.switching_orders.specs.OrderRuling.{position_of, after_all, MoveSwitches};
+ghost use Rattle.station_graph.specs.CentralRules.{wanted_end};
+ghost use Rattle.switching_orders.specs.OrderRuling.{after_all, MoveSwitches};
 ghost use Rattle.switching_orders.specs.Undoing.{other_way, opposite, undone};
 
 use ilk_base::{Direction, Memory, Op};
@@ -13,8 +14,8 @@ use std::marker::Model;
 pub const MOST_STEPS: usize = 20_000;
 
 // The position to which an operation in this direction moves its switch.
-pub(crate) fn position_of(direction: Direction) -> bool
-    ensures { result ≡ position_of direction }
+pub(crate) fn wanted_end(direction: Direction) -> bool
+    ensures { result ≡ wanted_end direction }
 {
     match direction {
         Direction::ToOff => false,
@@ -58,7 +59,7 @@ fn move_all(steps: &[Op], vector: &mut Vector)
     ensures moved { vector.new ≡ after_all vector.old steps.now }
 {
     for op in steps {
-        vector.set(op.switch, position_of(op.direction));
+        vector.set(op.switch, wanted_end(op.direction));
     }
 }
 

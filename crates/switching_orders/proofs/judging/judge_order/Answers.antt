@@ -3,7 +3,8 @@ use Rattle.std.specs.Prelude.{slice_set}
 use Rattle.std.proofs.lemmas.List.{length-set}
 use Rattle.ilk_base.specs.declared.words.Rule.{Rule}
 use Rattle.switching_orders.specs.declared.ruling.Step.TheVariants as step
-use Rattle.switching_orders.specs.OrderRuling.{IsRuling, Rules, moved}
+use Rattle.station_graph.specs.CentralRules.{carried_out}
+use Rattle.switching_orders.specs.OrderRuling.{IsRuling, Rules}
 use Rattle.switching_orders.proofs.RulingLemmas.{each-next, after-next, stopped, all_passed, accepted}
 use Rattle.switching_orders.proofs.judging.judge_order.Goals as goal
 
@@ -25,7 +26,7 @@ returns-in-Idle-clause-ruling c =
 
 pub loop-i-preserved : goal.loop-i-preserved
 loop-i-preserved c =
-    let is_moved : c.set.new.self ≡ moved c.loop-i.vector c.step-op.result = c.set.ensures ∙ ap (slice_set c.loop-i.vector c.step-op.result.switch.0) c.position_of.ensures in
+    let is_moved : c.set.new.self ≡ carried_out c.loop-i.vector c.step-op.result = c.set.ensures ∙ ap (slice_set c.loop-i.vector c.step-op.result.switch.0) c.wanted_end.ensures in
     record {
       count = ap length c.set.ensures ∙ length-set c.loop-i.vector _ _ ∙ c.loop-i.invariant.count;
       is = is_moved ∙ after-next c.args.start.now c.loop-i.vector c.args.order.now c.loop-i.i c.step-op.result c.step-op.ensures c.loop-i.invariant.is;
