@@ -14,9 +14,7 @@ which is made once for all examples, in about a minute. Status 1 where anything 
 import importlib.machinery
 import importlib.util
 import pathlib
-import subprocess
 import sys
-import tempfile
 
 sys.dont_write_bytecode = True
 import by_definition
@@ -33,32 +31,6 @@ def interlock_script():
     module = importlib.util.module_from_spec(importlib.util.spec_from_loader("interlock", loader))
     loader.exec_module(module)
     return module
-
-
-def run_proved(program, names):
-    """What the program writes for each example, by name."""
-    answers = {}
-    for name in names:
-        words = [program, "check", f"{name}.ssd", f"{name}.csv"]
-        answers[name] = subprocess.run(words, cwd=HERE, capture_output=True, text=True, check=True).stdout
-    return answers
-
-
-def run_checked(names):
-    """The same by the checked build, which `rt try --cases` makes once: each case prints below its name."""
-    words = ["rt", "try", "--steps", "1"]
-    for name in names:
-        for file in (f"{name}.ssd", f"{name}.csv"):
-            words += ["--data", f"{file}={HERE / file}"]
-    with tempfile.TemporaryDirectory() as folder:
-        for name in names:
-            pathlib.Path(folder, name).write_text("")
-            pathlib.Path(folder, f"{name}.args").write_text(f"check\n{name}.ssd\n{name}.csv\n")
-        done = subprocess.run([*words, "--cases", folder], cwd=CRATE, capture_output=True, text=True)
-    if done.returncode != 0:
-        sys.exit(done.stderr)
-    parts = ("\n" + done.stdout).split("\n== ")[1:]
-    return {head: text.rstrip("\n") + "\n" for head, _, text in (part.partition("\n") for part in parts)}
 
 
 def gate_differences():
@@ -95,8 +67,9 @@ def main(words):
     names = sorted(file.stem for file in HERE.glob("*.ssd"))
     script = interlock_script()
     proved = script.is_proved()
-    answers = run_proved(script.PROGRAM, names) if proved else run_checked(names)
-    found = [d for name in names for d in example_differences(name, answers.get(name, ""), words == ["--store"])]
+    commands = [["check", str(HERE / f"{name}.ssd"), str(HERE / f"{name}.csv")] for name in names]
+    answers = {name: text for name, (_, text) in zip(names, script.answers(commands))}
+    found = [d for name in names for d in example_differences(name, answers[name], words == ["--store"])]
     found += gate_differences()
     print("\n".join(found), end="\n" if found else "")
     program = "the proved program" if proved else "the checked build, not the proved program"
