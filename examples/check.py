@@ -5,6 +5,7 @@
                                  - that text with the definitions, by a second way (by_definition.py)
                                  - the stored run of the program in the gate (crates/interlock) with the
                                    example double_busbar
+                                 - the lines that README.md here and at the top cite, with the stored texts
     examples/check.py --store    writes what the program says as the stored texts, where the definitions
                                  allow it; look at each difference by hand before you commit it
 
@@ -14,6 +15,7 @@ which is made once for all examples, in about a minute. Status 1 where anything 
 import importlib.machinery
 import importlib.util
 import pathlib
+import re
 import sys
 
 sys.dont_write_bytecode = True
@@ -49,6 +51,15 @@ def gate_differences():
             yield f"crates/interlock/data/{file.name} is of no example"
 
 
+def cited_differences(names):
+    """Lines of an answer that a README cites and no example has."""
+    stored = {line for name in names for line in (HERE / f"{name}.txt").read_text().splitlines()}
+    for page in (HERE / "README.md", TOP / "README.md"):
+        for line in re.findall(r"`([01] [01] \S+ \S+ [^`]+|\+ (?:open|close) [^`]+)`", page.read_text()):
+            if line not in stored and "PATH" not in line:
+                yield f"{page.relative_to(TOP)} cites '{line}', which no example has"
+
+
 def example_differences(name, answer, store):
     stored = HERE / f"{name}.txt"
     station = by_definition.Station(HERE / f"{name}.ssd")
@@ -70,7 +81,7 @@ def main(words):
     commands = [["check", str(HERE / f"{name}.ssd"), str(HERE / f"{name}.csv")] for name in names]
     answers = {name: text for name, (_, text) in zip(names, script.answers(commands))}
     found = [d for name in names for d in example_differences(name, answers[name], words == ["--store"])]
-    found += gate_differences()
+    found += [*gate_differences(), *cited_differences(names)]
     print("\n".join(found), end="\n" if found else "")
     program = "the proved program" if proved else "the checked build, not the proved program"
     print(f"{len(names)} examples by {program}: {'all as stored' if not found else f'{len(found)} differences'}")
