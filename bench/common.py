@@ -10,7 +10,6 @@ import pathlib
 import subprocess
 import sys
 import tempfile
-import time
 from typing import NamedTuple, Optional
 
 sys.dont_write_bytecode = True
@@ -63,17 +62,23 @@ def folder():
     return tempfile.TemporaryDirectory(prefix="bench-")
 
 
+# A small process of its own starts what is measured, since Linux counts the memory of the one that starts a process as
+# that process's own until it begins: what is below some 10 MiB is not seen.
+STARTER = """
+import os, sys, time
+null = os.open(os.devnull, os.O_WRONLY)
+actions = [(os.POSIX_SPAWN_DUP2, null, 1), (os.POSIX_SPAWN_DUP2, null, 2)]
+start = time.monotonic()
+child = os.posix_spawn(sys.argv[1], sys.argv[1:], os.environ, file_actions=actions)
+_, status, usage = os.wait4(child, 0)
+print(time.monotonic() - start, usage.ru_maxrss / 1024, os.waitstatus_to_exitcode(status))
+"""
+
+
 def run(words):
     """Runs the words with nothing on the streams: seconds, the most memory at once in MiB, and the status."""
-    null = os.open(os.devnull, os.O_WRONLY)
-    actions = [(os.POSIX_SPAWN_DUP2, null, 1), (os.POSIX_SPAWN_DUP2, null, 2)]
-    words = [str(word) for word in words]
-    start = time.monotonic()
-    child = os.posix_spawn(words[0], words, os.environ, file_actions=actions)
-    _, status, usage = os.wait4(child, 0)
-    seconds = time.monotonic() - start
-    os.close(null)
-    return Run(seconds, usage.ru_maxrss / 1024, os.waitstatus_to_exitcode(status))
+    seconds, peak, status = printed([sys.executable, "-S", "-c", STARTER, *words]).split()
+    return Run(float(seconds), float(peak), int(status))
 
 
 def best(words, times=7, status=0):

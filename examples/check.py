@@ -5,6 +5,7 @@
                                  - that text with the definitions, by a second way (by_definition.py)
                                  - the stored run of the program in the gate (crates/interlock) with the
                                    example double_busbar
+                                 - the lines that README.md here and at the top cite, with the stored texts
     examples/check.py --store    writes what the program says as the stored texts, where the definitions
                                  allow it; look at each difference by hand before you commit it
 
@@ -14,9 +15,8 @@ which is made once for all examples, in about a minute. Status 1 where anything 
 import importlib.machinery
 import importlib.util
 import pathlib
-import subprocess
+import re
 import sys
-import tempfile
 
 sys.dont_write_bytecode = True
 import by_definition
@@ -35,32 +35,6 @@ def interlock_script():
     return module
 
 
-def run_proved(program, names):
-    """What the program writes for each example, by name."""
-    answers = {}
-    for name in names:
-        words = [program, "check", f"{name}.ssd", f"{name}.csv"]
-        answers[name] = subprocess.run(words, cwd=HERE, capture_output=True, text=True, check=True).stdout
-    return answers
-
-
-def run_checked(names):
-    """The same by the checked build, which `rt try --cases` makes once: each case prints below its name."""
-    words = ["rt", "try", "--steps", "1"]
-    for name in names:
-        for file in (f"{name}.ssd", f"{name}.csv"):
-            words += ["--data", f"{file}={HERE / file}"]
-    with tempfile.TemporaryDirectory() as folder:
-        for name in names:
-            pathlib.Path(folder, name).write_text("")
-            pathlib.Path(folder, f"{name}.args").write_text(f"check\n{name}.ssd\n{name}.csv\n")
-        done = subprocess.run([*words, "--cases", folder], cwd=CRATE, capture_output=True, text=True)
-    if done.returncode != 0:
-        sys.exit(done.stderr)
-    parts = ("\n" + done.stdout).split("\n== ")[1:]
-    return {head: text.rstrip("\n") + "\n" for head, _, text in (part.partition("\n") for part in parts)}
-
-
 def gate_differences():
     """Where the stored run of the program in the gate is not the example of that name."""
     expected = {
@@ -75,6 +49,15 @@ def gate_differences():
     for file in CRATE.glob("data/*"):
         if f"data/{file.name}" not in expected:
             yield f"crates/interlock/data/{file.name} is of no example"
+
+
+def cited_differences(names):
+    """Lines of an answer that a README cites and no example has."""
+    stored = {line for name in names for line in (HERE / f"{name}.txt").read_text().splitlines()}
+    for page in (HERE / "README.md", TOP / "README.md"):
+        for line in re.findall(r"`([01] [01] \S+ \S+ [^`]+|\+ (?:open|close) [^`]+)`", page.read_text()):
+            if line not in stored and "PATH" not in line:
+                yield f"{page.relative_to(TOP)} cites '{line}', which no example has"
 
 
 def example_differences(name, answer, store):
@@ -95,9 +78,10 @@ def main(words):
     names = sorted(file.stem for file in HERE.glob("*.ssd"))
     script = interlock_script()
     proved = script.is_proved()
-    answers = run_proved(script.PROGRAM, names) if proved else run_checked(names)
-    found = [d for name in names for d in example_differences(name, answers.get(name, ""), words == ["--store"])]
-    found += gate_differences()
+    commands = [["check", str(HERE / f"{name}.ssd"), str(HERE / f"{name}.csv")] for name in names]
+    answers = {name: text for name, (_, text) in zip(names, script.answers(commands))}
+    found = [d for name in names for d in example_differences(name, answers[name], words == ["--store"])]
+    found += [*gate_differences(), *cited_differences(names)]
     print("\n".join(found), end="\n" if found else "")
     program = "the proved program" if proved else "the checked build, not the proved program"
     print(f"{len(names)} examples by {program}: {'all as stored' if not found else f'{len(found)} differences'}")
