@@ -1,0 +1,13 @@
+-- How the fields of an alphabet are seen.
+use Rattle.bay_contract.specs.PartAlphabets.{PartAlphabet}
+use Rattle.bay_contract.specs.declared.alphabet.Alphabet.TheInside.{Inside}
+
+abbrev pub seen_as : Inside → PartAlphabet
+seen_as a = record {
+  switches = a.switches;
+  first = a.first;
+  count = a.count;
+  letters = a.letters.items;
+  examples = a.examples.items;
+  forks = a.forks.items;
+}

@@ -1,0 +1,62 @@
+-- The alphabets of the parts of a station, as callers see them.
+use Rattle.std.specs.Prelude.{◌≡◌, ℕ, ◌^◌, ◌<◌, ◌≤◌, Bool, List, [], Option, Some, None, length, slice_get, slice_index}
+use Rattle.contraction.specs.Answers.{Answers}
+use Rattle.bay_contract.specs.declared.fork.Fork.{Fork}
+use Rattle.bay_contract.specs.Layers.{rank, bits}
+
+-- The alphabet of one part: how many switches the station has, the part's first switch and how many it
+-- has, its letters, for each of them an example, and the forks of its decision diagram.
+pub record PartAlphabet : Type 0 where
+  pub switches : ℕ
+  pub first : ℕ
+  pub count : ℕ
+  pub letters : List Answers
+  pub examples : List ℕ
+  pub forks : List Fork
+
+-- The alphabets of all parts, and how many switches the station has.
+pub record Alphabets : Type 0 where
+  pub switches : ℕ
+  pub parts : List PartAlphabet
+
+abbrev pub nothing : PartAlphabet
+nothing = record { switches = 0; first = 0; count = 0; letters = []; examples = []; forks = [] }
+
+abbrev pub or_nothing : Option PartAlphabet → PartAlphabet
+or_nothing (Some x) = x
+or_nothing None = nothing
+
+-- The alphabet of this part.
+abbrev pub part_at : Alphabets → ℕ → PartAlphabet
+part_at a part = or_nothing (slice_get a.parts part)
+
+-- The letters of a part are the contractions of its indices.
+abbrev pub letters_of : Alphabets → ℕ → List Answers
+letters_of a part = (part_at a part).letters
+
+abbrev pub size_of : Alphabets → ℕ → ℕ
+size_of a part = length (letters_of a part)
+
+abbrev pub example_of : Alphabets → ℕ → ℕ → ℕ
+example_of a part index = slice_index (part_at a part).examples index
+
+abbrev pub forks_of : Alphabets → ℕ → List Fork
+forks_of a part = (part_at a part).forks
+
+abbrev pub first_of : Alphabets → ℕ → ℕ
+first_of a part = (part_at a part).first
+
+abbrev pub count_of : Alphabets → ℕ → ℕ
+count_of a part = (part_at a part).count
+
+-- The number is a position of the part: it has no bit but one for each of its switches.
+abbrev pub IsPosition : Alphabets → ℕ → ℕ → Type 0
+IsPosition a part n = n < 2 ^ count_of a part
+
+-- In v the part stands at this position: bit i is set exactly where switch i of the part is closed.
+abbrev pub StandsAt : Alphabets → ℕ → ℕ → List Bool → Type 0
+StandsAt a part n v = bits (first_of a part) (count_of a part) v ≡ n
+
+-- The part's position in v, compared with others from the first switch on, off before on.
+abbrev pub rank_of : Alphabets → ℕ → List Bool → ℕ
+rank_of a part v = rank (first_of a part) (count_of a part) v

@@ -1,0 +1,6 @@
+-- How the alphabets of the parts are seen.
+use Rattle.bay_contract.specs.PartAlphabets.{Alphabets}
+use Rattle.bay_contract.specs.declared.parts.Parts.TheInside.{Inside}
+
+abbrev pub alphabets_in : Inside → Alphabets
+alphabets_in p = record { switches = p.switches; parts = p.alphabets.items }

@@ -1,0 +1,149 @@
+//! Which indices are possible where words tell of the positions.
+ghost use Rattle.std.specs.Prelude.{◌≡◌, ℕ, ◌+◌, ◌-◌, ◌^◌, ◌<◌, ◌≤◌, ◌↔◌, List, Option, None, Some, length, slice_get, IfOk, IsTrue, MatchOption};
+ghost use Rattle.bay_contract.specs.PartAlphabets.{PartAlphabet};
+ghost use Rattle.bay_contract.specs.Paths.{NotesOne, NotesBoth, PathsTo, IsNoted, HasPath, MayLead, IsWay};
+ghost use Rattle.bay_contract.specs.Alphabets.{InSet};
+
+use crate::alphabet::Alphabet;
+use crate::fork::Fork;
+use double_points::{Readings, agrees};
+use ilk_base::Memory;
+use std::alloc::Global;
+use std::marker::Model;
+
+/// A set of indices of a part, seen as a list with a mark for each index.
+#[derive(Debug, Drop)]
+pub struct IndexSet {
+    marks: Vec<bool>,
+}
+
+impl Model for IndexSet {
+    ghost use Rattle.std.specs.Prelude.{List, Bool};
+
+    ghost Value = { List Bool };
+
+    ghost view = { λ s. s.marks.items };
+}
+
+impl IndexSet {
+    /// Whether the index is in the set, at once. Takes no memory.
+    pub fn holds(&self, index: u8) -> bool
+        ensures { IsTrue result ↔ InSet self.now index }
+    {
+        let place = index as usize;
+        place < self.marks.len() && self.marks[place]
+    }
+}
+
+// Notes the position at this number, where the answer is yes.
+fn note(paths: &mut [Option<u32>], at: usize, yes: bool, position: u32)
+    requires { at < length paths.old }
+    ensures { NotesOne yes at position paths.old paths.new }
+{
+    if yes {
+        paths[at] = Some(position);
+    }
+}
+
+// Notes where the step leads in each position that agrees with the word of its switch.
+fn note_fork(fork: Fork, readings: &Readings, position: u32, bit: u32, paths: &mut [Option<u32>])
+    requires switch { fork.switch.0 < length readings.now }
+    requires off { fork.off < length paths.old }
+    requires on { fork.on < length paths.old }
+    requires room { position + bit < 2 ^ 32 }
+    ensures { NotesBoth fork readings.now position bit paths.old paths.new }
+{
+    let word = readings.word(fork.switch);
+    let open = agrees(word, false);
+    let closed = agrees(word, true);
+    note(paths, fork.off as usize, open, position);
+    note(paths, fork.on as usize, closed, position + bit);
+}
+
+// So many numbers without a position.
+fn unnoted(alloc: Global, count: usize) -> Result<Vec<Option<u32>>, Memory>
+    ensures count { IfOk result (λ m. length m.items ≡ count) }
+    ensures bare { IfOk result (λ m. (t p : ℕ) → IsNoted m.items t p → ⊥) }
+{
+    let mut paths = Vec::new(alloc);
+    'numbers: while paths.len() < count {
+        paths.push(None)?;
+    }
+    Ok(paths)
+}
+
+// The indices at which a position is noted: those after so many steps.
+fn noted(alloc: Global, paths: &[Option<u32>], steps: usize) -> Result<IndexSet, Memory>
+    requires { steps ≤ length paths.now }
+    ensures count { IfOk result (λ s. length s ≡ length paths.now - steps) }
+    ensures exact { IfOk result (λ s. (i : ℕ) → InSet s i ↔ HasPath paths.now (steps + i)) }
+{
+    let mut marks = Vec::new(alloc);
+    'numbers: for i in steps..paths.len() {
+        marks.push(paths[i].is_some())?;
+    }
+    Ok(IndexSet { marks })
+}
+
+impl Alphabet {
+    // Goes over one step: notes where it may lead, where a position leads to it.
+    fn pass(&self, i: usize, readings: &Readings, paths: &mut [Option<u32>])
+        requires readings { length readings.now ≡ self.now.switches }
+        requires place { i < length self.now.forks }
+        requires paths { PathsTo self.now readings.now i paths.old }
+        ensures { PathsTo self.now readings.now (i + 1) paths.new }
+    {
+        if let Some(position) = paths[i] {
+            let fork = self.forks[i];
+            let bit = 1u32 << (fork.switch.0 - self.first);
+            note_fork(fork, readings, position, bit, paths);
+        }
+    }
+
+    // For each step and each index a position that leads there and agrees with the words, if there is
+    // one. Time and memory: the steps.
+    pub(crate) fn paths(
+        &self,
+        alloc: Global,
+        readings: &Readings,
+    ) -> Result<Vec<Option<u32>>, Memory>
+        requires { length readings.now ≡ self.now.switches }
+        ensures { IfOk result (λ m. PathsTo self.now readings.now (length self.now.forks) m.items) }
+    {
+        let mut paths = unnoted(alloc, self.forks.len() + self.letters.len())?;
+        paths[0] = Some(0);
+        'steps: for i in 0..self.forks.len() {
+            self.pass(i, readings, &mut paths);
+        }
+        Ok(paths)
+    }
+
+    // Exactly the indices of positions that agree with the words. Time and memory: the steps.
+    pub(crate) fn possible(&self, alloc: Global, readings: &Readings) -> Result<IndexSet, Memory>
+        requires { length readings.now ≡ self.now.switches }
+        ensures count { IfOk result (λ s. length s ≡ length self.now.letters) }
+        ensures exact { IfOk result (λ s. (i : ℕ) → InSet s i ↔ MayLead self.now readings.now i) }
+    {
+        let paths = self.paths(alloc, readings)?;
+        let marks = noted(alloc, &paths, self.forks.len())?;
+        Ok(marks)
+    }
+
+    // A position that agrees with the words and has the index, if there is one. Time and memory: the
+    // steps.
+    pub(crate) fn agreeing(
+        &self,
+        alloc: Global,
+        readings: &Readings,
+        index: u8,
+    ) -> Result<Option<u32>, Memory>
+        requires readings { length readings.now ≡ self.now.switches }
+        requires index { index < length self.now.letters }
+        ensures { IfOk result (λ o. MatchOption o (¬ MayLead self.now readings.now index)
+            (IsWay self.now readings.now index)) }
+    {
+        let paths = self.paths(alloc, readings)?;
+        let place = self.forks.len() + index as usize;
+        Ok(paths[place])
+    }
+}
