@@ -64,6 +64,12 @@ finished_read labels [] j l are lt is = absurd (omega (arith, lt))
 finished_read labels (x ∷ ls) zero l are lt is = subst (λ (m : FinishedLayer). (0 < m.choices) × (length m.edges.items ≡ m.nodes * m.choices)) (sym is) (are.0.choice, are.0.counted)
 finished_read labels (x ∷ ls) (suc j) l are lt is = finished_read labels ls j l are.1 (omega (arith, lt)) is
 
+-- For callers: one finished layer more.
+pub AreFinished-push : (labels labels' : ℕ) (ls : List FinishedLayer) (l : FinishedLayer) → AreFinished labels ls → l.nodes ≡ labels → IsFinished labels' l → 0 < labels' → AreFinished labels' (ls ++ l ∷ [])
+AreFinished-push labels labels' [] l are same fits some = (fits, some)
+AreFinished-push labels labels' (x ∷ []) l are same fits some = (subst (λ n. IsFinished n x) (sym same) are.0, (fits, some))
+AreFinished-push labels labels' (x ∷ y ∷ ls) l are same fits some = (are.0, AreFinished-push labels labels' (y ∷ ls) l are.1 same fits some)
+
 any_label : (labels : ℕ) (ls : List FinishedLayer) → AreFinished labels ls → 0 < labels
 any_label labels [] are = are
 any_label labels (l ∷ ls) are = any_label labels ls are.1

@@ -7,7 +7,7 @@ use Rattle.decision_graphs.specs.Label.{Layer, step, leads, AreChoices, size_at,
 use Rattle.decision_graphs.specs.Shapes.{shape_at, base_of, place}
 use Rattle.decision_graphs.specs.Whole.{layer_of, IsWhole}
 use Rattle.decision_graphs.specs.Renaming.{last_base, AreRenamed, HasRenamedLabels}
-use Rattle.decision_graphs.proofs.ShapeLemmas.{place_in, place_before, size_of-past, base_of-suc}
+use Rattle.decision_graphs.proofs.ShapeLemmas.{place_in, place_before, size_of-in, size_of-past, base_of-suc}
 use Rattle.decision_graphs.proofs.ViewLemmas.{step-view, rows-view}
 use Rattle.decision_graphs.proofs.GraphLemmas.{choices-view}
 use Rattle.decision_graphs.proofs.LayersLemmas.{AreLayers-view}
@@ -57,17 +57,17 @@ module _ (labels : ℕ) (ss : List Shape) (es names new : List ℕ) (whole : IsW
       are.each (place (shape_at ss j) k c) (place_in ss es j k c whole.laid (omega (arith, last)) in_k in_c)
       ∙ ap (λ t. cond t (get_or es (place (shape_at ss j) k c) 0) (get_or names (get_or es (place (shape_at ss j) k c) 0) 0)) (le-ltb (place (shape_at ss j) k c) (last_base ss) from)
 
-  pub IsWhole-renamed : ((x : ℕ) → x < labels → get_or names x 0 < labels) → IsWhole labels ss new
-  IsWhole-renamed within = record {
+  pub IsWhole-renamed : (labels' : ℕ) → 0 < labels' → labels' < 4294967296 → ((x : ℕ) → x < labels → get_or names x 0 < labels') → IsWhole labels' ss new
+  IsWhole-renamed labels' some small within = record {
     laid = record { stands = whole.laid.stands; ends = are.len ∙ whole.laid.ends; nodes = whole.laid.nodes; layers = whole.laid.layers };
-    any_label = whole.any_label;
-    range = whole.range;
+    any_label = some;
+    range = small;
     filled = whole.filled;
     edges = λ j k c lt in_k in_c. elim (cases_lt (suc j) (length ss)) [
-      | inl more ↦ rw (edge_before j k c more in_k in_c) (whole.edges j k c lt in_k in_c)
+      | inl more ↦ omega (arith, edge_before j k c more in_k in_c, whole.edges j k c lt in_k in_c, size_of-in labels ss (suc j) more, size_of-in labels' ss (suc j) more)
       | inr past ↦
           (let last : suc j ≡ length ss = omega (arith, past, lt) in
-          omega (arith, edge_last j k c last in_k in_c, within (get_or es (place (shape_at ss j) k c) 0) (omega (arith, whole.edges j k c lt in_k in_c, size_of-past labels ss (suc j) past)), size_of-past labels ss (suc j) past))
+          omega (arith, edge_last j k c last in_k in_c, within (get_or es (place (shape_at ss j) k c) 0) (omega (arith, whole.edges j k c lt in_k in_c, size_of-past labels ss (suc j) past)), size_of-past labels' ss (suc j) past))
     ];
   }
 

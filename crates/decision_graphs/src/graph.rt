@@ -205,12 +205,14 @@ impl Graph {
         ))
     }
 
-    /// The graph in which each label is replaced by its name, `names[label]`. A graph without layers has
-    /// nothing to replace. Linear in edges; takes 4 bytes for each edge, 2 for each node and 24 for each layer.
-    pub fn rename(&self, alloc: Global, names: &[u32]) -> Result<Graph, Memory>
+    /// The graph with so many labels in which each label is replaced by its name, `names[label]`. A graph
+    /// without layers has nothing to replace. Linear in edges; takes 4 bytes for each edge, 2 for each node
+    /// and 24 for each layer.
+    pub fn rename(&self, alloc: Global, labels: u32, names: &[u32]) -> Result<Graph, Memory>
+        requires some { 0 < labels }
         requires count { length names.now ≡ self.now.labels }
-        requires within { (x : ℕ) → x < self.now.labels → slice_index names.now x < self.now.labels }
-        ensures labels { IfOk result (λ g. g.labels ≡ self.now.labels) }
+        requires within { (x : ℕ) → x < self.now.labels → slice_index names.now x < labels }
+        ensures labels { IfOk result (λ g. g.labels ≡ labels) }
         ensures choices { IfOk result (λ g. map (λ (l : Layer). l.choices) g.layers ≡ map (λ (l : Layer). l.choices) self.now.layers) }
         ensures label { IfOk result (λ g. 0 < length self.now.layers → (cs : List ℕ) → AreChoices self.now.layers cs
             → label_of g cs ≡ slice_index names.now (label_of self.now cs)) }
@@ -219,12 +221,13 @@ impl Graph {
         let parts = renamed(
             alloc,
             self.labels,
+            labels,
             &self.shapes,
             &self.homes,
             &self.edges,
             names,
         )?;
-        Ok(Graph::from_parts(self.labels, parts.shapes, parts.homes, parts.edges))
+        Ok(Graph::from_parts(labels, parts.shapes, parts.homes, parts.edges))
     }
 
     /// Whether the choice in a layer makes a difference: exactly where two lists of choices that differ in

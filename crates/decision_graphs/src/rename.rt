@@ -54,6 +54,7 @@ fn renamed_edges(
 pub(crate) fn renamed(
     alloc: Global,
     labels: u32,
+    new_labels: u32,
     shapes: &[Shape],
     homes: &[u16],
     edges: &[u32],
@@ -61,10 +62,11 @@ pub(crate) fn renamed(
 ) -> Result<GraphParts, Memory>
     requires whole { IsWhole labels shapes.now edges.now }
     requires homes { AreHomes shapes.now (length shapes.now) homes.now }
+    requires some { 0 < new_labels }
     requires count { length names.now ≡ labels }
-    requires within { (x : ℕ) → x < labels → slice_index names.now x < labels }
+    requires within { (x : ℕ) → x < labels → slice_index names.now x < new_labels }
     ensures homes { IfOk result (λ a. AreHomes a.shapes.items (length a.shapes.items) a.homes.items) }
-    ensures whole { IfOk result (λ a. IsWhole labels a.shapes.items a.edges.items) }
+    ensures whole { IfOk result (λ a. IsWhole new_labels a.shapes.items a.edges.items) }
     ensures choices { IfOk result (λ a. map (λ (l : Layer). l.choices) (map (layer_of a.edges.items) a.shapes.items)
         ≡ map (λ (l : Layer). l.choices) (map (layer_of edges.now) shapes.now)) }
     ensures label { IfOk result (λ a. 0 < length shapes.now → (cs : List ℕ) → AreChoices (map (layer_of edges.now) shapes.now) cs
