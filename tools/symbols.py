@@ -100,46 +100,54 @@ class Picture:
     # ---- drawing
 
     def wire(self, item, end, port):
-        """Draws the way from a terminal to its node, and gives the points at which it meets others."""
+        """Draws the way from a terminal to its node."""
         style = self.style_of(end)
         x, y = port
         nx, ny = self.at(self.layout.bar_place(end, item))
-        dots = []
         if end in self.layout.bars:
-            points = [port, (x, ny)] if y != ny else [port]
-            dots = [(x, ny)]
-        elif self.layout.upright[item]:
-            points = [port, (x, ny), (nx, ny)]
-            dots = [(nx, ny)]
-        else:
-            points = [port, (nx, y), (nx, ny)]
-            dots = [(nx, ny), (nx, y)]
-        if item in self.layout.bends and end not in self.layout.bars and nx != x:
+            points = [port, (x, ny)]
+        elif item in self.layout.bends and nx != x:
             mid = y + (14 if ny > y else -14)
             points = [port, (x, mid), (nx, mid), (nx, ny)]
+        elif self.layout.upright[item]:
+            points = [port, (x, ny), (nx, ny)]
+        else:
+            points = [port, (nx, y), (nx, ny)]
         points = [p for i, p in enumerate(points) if i == 0 or p != points[i - 1]]
         if len(points) > 1:
             self.line(points, style)
             self.wires += [(item, end, a, b) for a, b in zip(points, points[1:])]
-        return dots
+
+    def dots(self):
+        """Where the lines of a node meet from three sides or more."""
+        lines = {}
+        for _, end, a, b in self.wires:
+            lines.setdefault(end, []).append((a, b))
+        for item in self.drawing.items:
+            for end, port in zip(item.ends, self.ports(item)):
+                lines.setdefault(end, []).append((port, self.at(self.layout.items[item])))
+        for end, pieces in lines.items():
+            for x, y in {point for piece in pieces for point in piece}:
+                sides = set()
+                for (a, b), (c, d) in pieces:
+                    if min(a, c) <= x <= max(a, c) and min(b, d) <= y <= max(b, d):
+                        sides |= {((u > x) - (u < x), (v > y) - (v < y)) for u, v in ((a, b), (c, d))} - {(0, 0)}
+                if len(sides) > 2:
+                    yield end, x, y
 
     def render(self):
         spans = self.reach_bars()
-        count, dots = {}, {}
         for item in self.drawing.items:
             for end, port in zip(item.ends, self.ports(item)):
                 if end in self.layout.nodes:
-                    count[end] = count.get(end, 0) + 1
-                    dots.setdefault(end, set()).update(self.wire(item, end, port))
+                    self.wire(item, end, port)
         for (bar, place), (low, high) in spans.items():
             colour, width, dashes = self.style_of(bar)
             y = self.at(place)[1]
             self.line([(low, y), (high, y)], (colour, width + 2, dashes), ' stroke-linecap="round"')
             self.wires.append((None, bar, (low, y), (high, y)))
-        for end, points in dots.items():
-            if count[end] > 2 or end in self.layout.bars:
-                for x, y in points:
-                    self.add(f'<circle cx="{x:.1f}" cy="{y:.1f}" r="3.5" fill="{self.style_of(end)[0]}"/>')
+        for end, x, y in self.dots():
+            self.add(f'<circle cx="{x:.1f}" cy="{y:.1f}" r="3.5" fill="{self.style_of(end)[0]}"/>')
         for item in self.drawing.items:
             self.symbol(item)
         for (bar, place), (low, high) in spans.items():
@@ -163,7 +171,10 @@ class Picture:
         half = (10, long) if turn in (0, 180) else (long, 10)
         if item.kind == "PTR":
             half = (14, 20)
-        self.boxes.append((item, x - half[0], y - half[1], x + half[0], y + half[1]))
+        left, top = half
+        if item.kind in ("CBR", "DIS") and self.words.get(item.path) not in ("on", "off"):
+            left, top = (left + 9, top) if turn in (0, 180) else (left, top + 9)
+        self.boxes.append((item, x - left, y - top, x + half[0], y + half[1]))
         self.add(f'<g transform="translate({x:.1f} {y:.1f}) rotate({turn})"><title>{escape(self.title(item))}</title>')
         self.add('<rect x="-13" y="-16" width="26" height="32" fill="none" stroke="none" pointer-events="all"/>')
         draw = {"CBR": contact, "DIS": contact, "IFL": infeed, "GEN": machine, "MOT": machine, "PTR": windings, "CTR": current_transformer, "VTR": voltage_transformer, "SAR": arrester, "CAB": cable, "LIN": line_end, "CAP": capacitor}.get(item.kind, box)
@@ -318,7 +329,8 @@ def contact(item, word, colour, other, turn):
         yield f'<path d="M0 9L-9 -7" {stroke(other, 2.2)}/>'
     else:
         yield f'<path d="M0 9L-5 -8" {stroke("#b36200", 2.2)} stroke-dasharray="3 2"/>'
-        yield f'<text x="-13" y="5" font-size="14" font-weight="bold" text-anchor="middle" fill="#b36200"{upright(turn, -13, 0)}>?</text>'
+        side = -14 if turn in (0, 90) else 14
+        yield f'<text x="{side}" y="5" font-size="14" font-weight="bold" text-anchor="middle" fill="#b36200"{upright(turn, side, 0)}>?</text>'
     if item.grounded:
         earth = "#16874a" if word == "on" else TEXT
         yield f'<path d="M0 8V12M-7 12H7M-4.5 14.5H4.5M-2 17H2" {stroke(earth)}/>'
