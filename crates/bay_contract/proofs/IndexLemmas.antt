@@ -6,7 +6,7 @@ use Rattle.station_graph.specs.Diagram.{Diagram, AreSwitchesOf, part_count}
 use Rattle.station_graph.specs.Connection.{Item, a_switch}
 use Rattle.station_graph.specs.Sharing.{OfPart, IsShared}
 use Rattle.station_graph.specs.Views.{SameGapView, SameLoadView}
-use Rattle.station_graph.specs.Alike.{IsVector, Alike, DifferInPart}
+use Rattle.station_graph.specs.Alike.{IsVector, Alike, SamePositions, DifferInPart}
 use Rattle.contraction.specs.Answers.{Answers, IsContraction, Keeps, SameGap, SameLoad}
 use Rattle.contraction.specs.Stands.{StandsFor}
 use Rattle.contraction.proofs.ViewLemmas.{gap_told, load_told}
@@ -17,10 +17,11 @@ use Rattle.bay_contract.specs.Counting.{AreStepSizes}
 use Rattle.bay_contract.specs.Building.{IsBuilt, IsBuiltFor}
 use Rattle.bay_contract.specs.PartAlphabets.{PartAlphabet, Alphabets, or_nothing, part_at, letters_of, size_of, example_of, forks_of, first_of, count_of, StandsAt}
 use Rattle.bay_contract.specs.Alphabets.{IsLetter, HasIndex, IsExample, IsAlphabet, AreAlphabets}
-use Rattle.bay_contract.proofs.RisingLemmas.{rising_equal}
+use Rattle.contraction.proofs.RisingLemmas.{rising_equal}
+use Rattle.contraction.proofs.SameLemmas.{gap_self, load_self, gap_fewer, load_fewer}
+use Rattle.contraction.proofs.MoveLemmas.{stands_moves}
 use Rattle.bay_contract.proofs.NextLemmas.{some_at}
 use Rattle.bay_contract.proofs.AlphabetLemmas.{bits_below}
-use Rattle.bay_contract.proofs.ViewIndexLemmas.{gap_fewer, load_fewer, gap_self, load_self}
 
 pub alike_self : (d : Diagram) (part : ℕ) (v : List Bool) → Alike d part v v
 alike_self d part v = record {
@@ -65,6 +66,10 @@ index_alike d a part is v w i k hv hw = (
 -- a vector has one index
 pub one_index : (d : Diagram) (a : Alphabets) (part : ℕ) → AreLetters d a part → (v : List Bool) (i k : ℕ) → HasIndex d a part i v → HasIndex d a part k v → i ≡ k
 one_index d a part is v i k h g = (index_alike d a part is v v i k h g).0 (alike_self d part v)
+
+-- the index is a matter of the positions of the part's switches alone
+pub index_moves : (d : Diagram) (a : Alphabets) (part i : ℕ) (v w : List Bool) → SamePositions (OfPart d part) v w → HasIndex d a part i v → HasIndex d a part i w
+index_moves d a part i v w same h = record { letter = h.letter; listed = h.listed; stands = stands_moves (OfPart d part) d v w same h.letter h.stands }
 
 -- WHAT IS BUILT IS THE ALPHABET
 module _ (d : Diagram) (a : Alphabets) (part : ℕ) (b : IsBuiltFor d part (part_at a part)) (steps : AreStepSizes d part (length (forks_of a part))) where

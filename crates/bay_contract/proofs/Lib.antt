@@ -6,7 +6,6 @@ pub mod BaseLemmas
 pub mod TableLemmas
 pub mod SortLemmas
 pub mod ForkLemmas
-pub mod RisingLemmas
 pub mod ViewIndexLemmas
 pub mod NextLemmas
 pub mod PastLemmas

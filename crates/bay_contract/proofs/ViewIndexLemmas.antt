@@ -18,28 +18,8 @@ use Rattle.bay_contract.specs.Sorting.{KeepsAt}
 use Rattle.bay_contract.specs.Counting.{AreDistinct, HasSame, AreSoMany}
 use Rattle.bay_contract.specs.Building.{Stops, IsLayer}
 use Rattle.bay_contract.proofs.DiagramLemmas.{leads_one}
-use Rattle.bay_contract.proofs.RisingLemmas.{rising_equal}
-
--- views on fewer nodes
-pub gap_fewer : (K L : ℕ → Type 0) (These : Item → Type 0) (d : Diagram) (v w : List Bool) → ((n : ℕ) → L n → K n) → SameGapView K These d v w → SameGapView L These d v w
-gap_fewer K L These d v w fewer h = record {
-  coupled = λ a b ka kb. h.coupled a b (fewer a ka) (fewer b kb);
-  energisable = λ a ka. h.energisable a (fewer a ka);
-  earthable = λ a ka. h.earthable a (fewer a ka);
-}
-
-pub load_fewer : (K L : ℕ → Type 0) (These : Item → Type 0) (d : Diagram) (v w : List Bool) → ((n : ℕ) → L n → K n) → SameLoadView K These d v w → SameLoadView L These d v w
-load_fewer K L These d v w fewer h = record {
-  joined = λ a b ka kb. h.joined a b (fewer a ka) (fewer b kb);
-  bonded = λ a b ka kb. h.bonded a b (fewer a ka) (fewer b kb);
-  supply = λ a ka s. h.supply a (fewer a ka) s;
-}
-
-pub gap_self : (x : Answers) → SameGap x x
-gap_self x = record { kept = refl; coupled = λ a b ka kb. (λ h. h, λ h. h); energisable = λ a ka. (λ h. h, λ h. h); earthable = λ a ka. (λ h. h, λ h. h) }
-
-pub load_self : (x : Answers) → SameLoad x x
-load_self x = record { kept = refl; joined = λ a b ka kb. (λ h. h, λ h. h); bonded = λ a b ka kb. (λ h. h, λ h. h); supply = λ a ka s. (λ h. h, λ h. h) }
+use Rattle.contraction.proofs.RisingLemmas.{rising_equal}
+use Rattle.contraction.proofs.SameLemmas.{gap_self, load_self, gap_fewer, load_fewer}
 
 -- values on the nodes that matter keep one list
 pub one_list : (d : Diagram) (part bound : ℕ) (x y : Answers) → KeepsAt d part bound x → KeepsAt d part bound y → x.kept ≡ y.kept

@@ -7,13 +7,13 @@ ghost use Rattle.bay_contract.specs.Counting.{PartFits, AreStepSizes};
 ghost use Rattle.bay_contract.specs.Building.{IsLayer, AreReversed, IsBuiltFor};
 ghost use Rattle.bay_contract.specs.Refusing.{IsRefusalOf};
 
-use crate::base::base;
+use crate::bases::base;
 use crate::fork::Fork;
 use crate::kept::kept_nodes;
 use crate::layer::{Layer, next_layer};
 use crate::refusal::PartsRefusal;
 use contraction::Contraction;
-use ilk_base::{BayId, Memory, NodeId};
+use ilk_base::{BayId, Memory};
 use station_graph::{NodeList, Station};
 use std::alloc::Global;
 use std::marker::Model;
@@ -96,7 +96,6 @@ fn first_layer(
 {
     let kept = kept_nodes(alloc, station, part, shared, first)?;
     let value = base(alloc, station, part, &kept)?;
-    let _ = value.keeps(NodeId(0));
     let mut values = Vec::new(alloc);
     values.push(value)?;
     let mut ranks = Vec::new(alloc);

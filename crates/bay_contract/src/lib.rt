@@ -5,7 +5,7 @@
 #![tactic(auto)]
 
 mod alphabet;
-mod base;
+mod bases;
 mod fork;
 mod kept;
 mod laws;
@@ -18,6 +18,7 @@ mod sorted;
 mod table;
 mod walk;
 
+pub use bases::base;
 pub use fork::{PartStep, Target};
 pub use laws::contractions_are_so_many;
 pub use parts::Parts;
