@@ -4,8 +4,10 @@
 mod law;
 mod lines;
 mod record;
+#[cfg(test)]
+mod tests;
 mod values;
 
 pub use law::{restart_is_resume, resumed_is_node, step_gives, step_keeps};
-pub use record::{is_other, kept_fits};
+pub use record::{is_bay, is_other, is_own, kept_fits};
 pub use values::{Collection, Grant, Kept, LAST_ROUND, Lock, NodeEvent, NodeOutput, Outcome};

@@ -1,7 +1,7 @@
 // The record that a node keeps, as bytes and against the station.
 ghost use Rattle.std.specs.Prelude.{◌≡◌, ◌<◌, ◌+◌, ◌↔◌, ◌^◌, ℕ, [], ◌∷◌, length, Some, None, IfSome, IsTrue, slice_index};
 ghost use Rattle.std.specs.Int.{w16, w32, to_be_bytes};
-ghost use Rattle.station_graph.specs.Diagram.{part_count};
+ghost use Rattle.central_rules.specs.Meaning.{IsBay};
 ghost use Rattle.bay_protocol.specs.declared.values.Kept.{Kept as Record};
 ghost use Rattle.bay_protocol.specs.Fits.{IsOwn, KeptFits, LockFits, GrantFits};
 ghost use Rattle.bay_protocol.specs.State.{IsOther};
@@ -12,16 +12,25 @@ use crate::values::{Grant, Kept, Lock};
 use ilk_base::{BayId, Direction, Op, SwitchId};
 use station_graph::Station;
 
-/// Whether a part is another bay of the station than this one. Time: the logarithm of the switches.
+/// Whether a number is that of a bay: of a part of the station with switches. Time: the logarithm of the
+/// switches. Takes no memory.
+pub fn is_bay(station: &Station, part: BayId) -> bool
+    ensures { IsTrue result ↔ IsBay station.now part.0 }
+{
+    let (_, count) = station.switches_of(part);
+    u16::from(part.0) < station.part_count() && count > 0
+}
+
+/// Whether a number is that of another bay of the station than this one. Time: the logarithm of the switches.
+/// Takes no memory.
 pub fn is_other(station: &Station, bay: BayId, part: BayId) -> bool
     ensures { IsTrue result ↔ IsOther station.now bay.0 part.0 }
 {
-    let (_, count) = station.switches_of(part);
-    u16::from(part.0) < station.part_count() && count > 0 && part.0 != bay.0
+    is_bay(station, part) && part.0 != bay.0
 }
 
-// Whether there is such a switch and the bay has it.
-fn is_own(station: &Station, bay: BayId, id: SwitchId) -> bool
+/// Whether a number is that of a switch of the bay. At once; takes no memory.
+pub fn is_own(station: &Station, bay: BayId, id: SwitchId) -> bool
     ensures { IsTrue result ↔ IsOwn station.now bay.0 id.0 }
 {
     id.0 < station.switch_count() && station.switch(id).bay.0 == bay.0
