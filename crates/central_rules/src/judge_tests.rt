@@ -1,45 +1,19 @@
-// Worked rows of the judges. The positions, verdicts and counts are worked by hand.
+// What the plain judge tells and hears. The words, rows and counts are worked by hand.
 ghost use Rattle.std.specs.Prelude.{◌≡◌, ◌≢◌, ◌<◌, length, IfOk, IsTrue};
 ghost use Rattle.station_graph.specs.Diagram.{part_count};
 ghost use Rattle.central_rules.specs.Meaning.{HeardFit, IsBay, bay_of};
 ghost use Rattle.central_rules.specs.WordRows.{by_rows};
 ghost use Rattle.double_points.specs.Words.{AreWords};
+ghost use Rattle.station_graph.specs.CentralRules.{IsOperation};
 
-use crate::tests::{BARE_STUB, Drawing, TWO_FEEDERS, built, positions, rule_of};
+use crate::drawings::{Example, built};
 use crate::{Judge, PlainJudge, Verdict, fits_plain};
 use double_points::Readings;
-use ilk_base::{BayId, Dbpos, Direction, HeardList, Kind, Op, Summary, SwitchId};
+use ilk_base::{BayId, Dbpos, Direction, HeardList, Memory, Op, Summary, SwitchId};
 use station_graph::Station;
 use std::alloc::Global;
 use std::process::Abort;
 use std::test::Fail;
-
-// Two busbars, a coupler between them, and two feeders with a disconnector to each busbar.
-const TWO_BUSBARS: Drawing = Drawing {
-    parts: &["S/V1/W1", "S/V1/W2", "S/V1/K0", "S/V1/Q1", "S/V1/Q2"],
-    nodes: &[
-        "W1/B", "W2/B", "K0/k1", "K0/k2", "Q1/n1", "Q1/n2", "Q1/n3", "Q2/n1", "Q2/n2", "Q2/n3",
-    ],
-    switches: &[
-        ("QB1", Kind::Disconnector, 2, 0, Some(2)),
-        ("QA1", Kind::Breaker, 2, 2, Some(3)),
-        ("QB2", Kind::Disconnector, 2, 3, Some(1)),
-        ("QB1", Kind::Disconnector, 3, 0, Some(4)),
-        ("QB2", Kind::Disconnector, 3, 1, Some(4)),
-        ("QA1", Kind::Breaker, 3, 4, Some(5)),
-        ("QB9", Kind::Disconnector, 3, 5, Some(6)),
-        ("QC9", Kind::Earthing, 3, 6, None),
-        ("E1", Kind::Infeed, 3, 6, None),
-        ("QB1", Kind::Disconnector, 4, 0, Some(7)),
-        ("QB2", Kind::Disconnector, 4, 1, Some(7)),
-        ("QA1", Kind::Breaker, 4, 7, Some(8)),
-        ("QB9", Kind::Disconnector, 4, 8, Some(9)),
-        ("QC9", Kind::Earthing, 4, 9, None),
-        ("E1", Kind::Infeed, 4, 9, None),
-    ],
-    links: &[],
-    taps: &[(3, 6), (4, 9)],
-};
 
 // What a sign of a row of words stands for.
 fn word_of(sign: u8) -> Dbpos {
@@ -62,129 +36,6 @@ fn words(rt: &impl Abort, alloc: Global, station: &Station, signs: &[u8]) -> Res
         readings.sense(SwitchId(i), word_of(signs[i as usize]));
     }
     Ok(readings)
-}
-
-// A row: the words, and the rule that both operations of a switch break, with the reading of the denial.
-struct Row {
-    drawing: Drawing,
-    words: &'static [u8],
-    switch: u16,
-    rule: u8,
-    reading: &'static [u8],
-}
-
-// The rows are: the coupler of two busbars closed; the coupler unknown, for each busbar disconnector of a
-// feeder; released in spite of an unknown earthing switch; and the three switches of the bare stub with a
-// disconnector unknown: either the stub is quiet or it is bonded.
-const ROWS: &[Row] = &[
-    Row {
-        drawing: TWO_BUSBARS,
-        words: b"111101101011101",
-        switch: 4,
-        rule: b'.',
-        reading: b"",
-    },
-    Row {
-        drawing: TWO_BUSBARS,
-        words: b"1i1101101011101",
-        switch: 4,
-        rule: b'3',
-        reading: b"101101101011101",
-    },
-    Row {
-        drawing: TWO_BUSBARS,
-        words: b"1i1101101011101",
-        switch: 3,
-        rule: b'3',
-        reading: b"111101101011101",
-    },
-    Row {
-        drawing: TWO_FEEDERS,
-        words: b"01101100b0",
-        switch: 0,
-        rule: b'.',
-        reading: b"",
-    },
-    Row {
-        drawing: BARE_STUB,
-        words: b"0i1",
-        switch: 0,
-        rule: b'.',
-        reading: b"",
-    },
-    Row {
-        drawing: BARE_STUB,
-        words: b"0i1",
-        switch: 1,
-        rule: b'.',
-        reading: b"",
-    },
-    Row {
-        drawing: BARE_STUB,
-        words: b"0i1",
-        switch: 2,
-        rule: b'.',
-        reading: b"",
-    },
-];
-
-// Whether the verdict is that of the row.
-fn is_wanted(
-    rt: &impl Abort,
-    alloc: Global,
-    station: &Station,
-    row: &Row,
-    verdict: Verdict,
-) -> Result<bool, Fail> {
-    match verdict {
-        Verdict::Release => Ok(row.rule == b'.'),
-        Verdict::Denied { rule, reading } => {
-            let wanted = positions(rt, alloc, station, row.reading)?;
-            Ok(rule_of(row.rule) == Some(rule) && reading == wanted)
-        }
-    }
-}
-
-// The verdict by the words of the row.
-fn verdict_of(
-    rt: &impl Abort,
-    alloc: Global,
-    station: &Station,
-    row: &Row,
-    direction: Direction,
-) -> Result<Verdict, Fail> {
-    assert!(rt; fits_plain(station));
-    assert!(rt; row.switch < station.switch_count());
-    let readings = words(rt, alloc, station, row.words)?;
-    let op = Op {
-        switch: SwitchId(row.switch),
-        direction,
-    };
-    let verdict = PlainJudge::new(station).judge_all(alloc, op, &readings)?;
-    Ok(verdict)
-}
-
-fn expect_row(
-    rt: &impl Abort,
-    alloc: Global,
-    station: &Station,
-    row: &Row,
-    direction: Direction,
-) -> Result<(), Fail> {
-    let verdict = verdict_of(rt, alloc, station, row, direction)?;
-    let same = is_wanted(rt, alloc, station, row, verdict)?;
-    assert!(rt; same);
-    Ok(())
-}
-
-#[test]
-fn every_reading(rt: HostRuntime) -> Result<(), Fail> {
-    for row in ROWS {
-        let station = built(&rt, rt.alloc(), &row.drawing)?;
-        expect_row(&rt, rt.alloc(), &station, row, Direction::ToOff)?;
-        expect_row(&rt, rt.alloc(), &station, row, Direction::ToOn)?;
-    }
-    Ok(())
 }
 
 // Whether the part has switches.
@@ -230,6 +81,72 @@ fn hear(
     Ok(heard)
 }
 
+// Whether an operation is released by what its bay knows: 1 or 0.
+fn releases(
+    alloc: Global,
+    judge: &PlainJudge<'_>,
+    station: &Station,
+    op: Op,
+    readings: &Readings,
+    heard: &HeardList,
+) -> Result<u32, Memory>
+    requires station { judge.now ≡ station.now }
+    requires op { IsOperation station.now op }
+    requires all { AreWords station.now readings.now }
+    requires count { length heard.now ≡ part_count station.now }
+    requires fits { HeardFit (by_rows station.now) (bay_of station.now op.switch.0) heard.now }
+{
+    match judge.judge(alloc, op, readings, heard)? {
+        Verdict::Release => Ok(1),
+        Verdict::Denied { .. } => Ok(0),
+    }
+}
+
+// How many of the two operations of a switch are released by what its bay knows.
+fn releases_both(
+    alloc: Global,
+    judge: &PlainJudge<'_>,
+    station: &Station,
+    switch: SwitchId,
+    readings: &Readings,
+    heard: &HeardList,
+) -> Result<u32, Memory>
+    requires station { judge.now ≡ station.now }
+    requires switch { switch.0 < length station.now.switches }
+    requires all { AreWords station.now readings.now }
+    requires count { length heard.now ≡ part_count station.now }
+    requires fits { HeardFit (by_rows station.now) (bay_of station.now switch.0) heard.now }
+{
+    let open = Op {
+        switch,
+        direction: Direction::ToOff,
+    };
+    let close = Op {
+        switch,
+        direction: Direction::ToOn,
+    };
+    let opened = releases(alloc, judge, station, open, readings, heard)?;
+    let closed = releases(alloc, judge, station, close, readings, heard)?;
+    Ok(opened.saturating_add(closed))
+}
+
+fn releases_of(
+    rt: &impl Abort,
+    alloc: Global,
+    judge: &PlainJudge<'_>,
+    station: &Station,
+    switch: SwitchId,
+    readings: &Readings,
+    tell: bool,
+) -> Result<u32, Fail>
+    requires station { judge.now ≡ station.now }
+    requires switch { switch.0 < length station.now.switches }
+    requires all { AreWords station.now readings.now }
+{
+    let heard = hear(rt, alloc, judge, station, switch, readings, tell)?;
+    Ok(releases_both(alloc, judge, station, switch, readings, &heard)?)
+}
+
 // How many operations are released by what each bay knows.
 fn released(
     rt: &impl Abort,
@@ -244,16 +161,8 @@ fn released(
 {
     let mut count = 0u32;
     for i in 0..station.switch_count() {
-        let heard = hear(rt, alloc, judge, station, SwitchId(i), readings, tell)?;
-        for direction in [Direction::ToOff, Direction::ToOn] {
-            let op = Op {
-                switch: SwitchId(i),
-                direction,
-            };
-            if let Verdict::Release = judge.judge(alloc, op, readings, &heard)? {
-                count = count.saturating_add(1);
-            }
-        }
+        let more = releases_of(rt, alloc, judge, station, SwitchId(i), readings, tell)?;
+        count = count.saturating_add(more);
     }
     Ok(count)
 }
@@ -262,13 +171,15 @@ fn expect_released(
     rt: &impl Abort,
     alloc: Global,
     station: &Station,
+    readings: &Readings,
     tell: bool,
     wanted: u32,
-) -> Result<(), Fail> {
+) -> Result<(), Fail>
+    requires { AreWords station.now readings.now }
+{
     assert!(rt; fits_plain(station));
     let judge = PlainJudge::new(station);
-    let readings = words(rt, alloc, station, b"111101101011101")?;
-    let count = released(rt, alloc, &judge, station, &readings, tell)?;
+    let count = released(rt, alloc, &judge, station, readings, tell)?;
     assert_eq!(rt; count, wanted);
     Ok(())
 }
@@ -292,30 +203,75 @@ fn fits(
     judge.fits(BayId(bay), BayId(to), &summary)
 }
 
+// Which rows fit.
+fn expect_fits(
+    rt: &impl Abort,
+    judge: &PlainJudge<'_>,
+    station: &Station,
+    row: &[u8],
+) -> Result<(), Fail>
+    requires { judge.now ≡ station.now }
+{
+    assert!(rt; row == b"\x02\x01\x00\x04\x03\x02".as_slice());
+    assert!(rt; fits(rt, judge, station, 3, 2, row));
+    assert!(rt; !fits(rt, judge, station, 2, 3, row));
+    assert!(rt; fits(rt, judge, station, 2, 3, b"\x02\x01\x04"));
+    assert!(rt; !fits(rt, judge, station, 2, 3, b"\x02\x01\x05"));
+    Ok(())
+}
+
 // The row of a bay's words, and which rows fit.
-fn expect_rows(rt: &impl Abort, alloc: Global, station: &Station) -> Result<(), Fail> {
+fn expect_rows(
+    rt: &impl Abort,
+    alloc: Global,
+    station: &Station,
+    readings: &Readings,
+) -> Result<(), Fail>
+    requires { AreWords station.now readings.now }
+{
     assert!(rt; fits_plain(station));
     let judge = PlainJudge::new(station);
-    let readings = words(rt, alloc, station, b"11110ilb1011101")?;
     assert!(rt; is_other(station, BayId(3), BayId(2)));
     assert!(rt; is_bay(station, BayId(2)));
-    let summary = judge.summarise(alloc, BayId(3), BayId(2), &readings)?;
-    let row = summary.bytes();
-    assert!(rt; row == b"\x02\x01\x00\x04\x03\x02".as_slice());
-    assert!(rt; fits(rt, &judge, station, 3, 2, row));
-    assert!(rt; !fits(rt, &judge, station, 2, 3, row));
-    assert!(rt; fits(rt, &judge, station, 2, 3, b"\x02\x01\x04"));
-    assert!(rt; !fits(rt, &judge, station, 2, 3, b"\x02\x01\x05"));
-    Ok(())
+    let summary = judge.summarise(alloc, BayId(3), BayId(2), readings)?;
+    expect_fits(rt, &judge, station, summary.bytes())
+}
+
+fn expect_told(rt: &impl Abort, alloc: Global, station: &Station) -> Result<(), Fail> {
+    let readings = words(rt, alloc, station, b"11110ilb1011101")?;
+    expect_rows(rt, alloc, station, &readings)
+}
+
+fn expect_counts(
+    rt: &impl Abort,
+    alloc: Global,
+    station: &Station,
+    readings: &Readings,
+) -> Result<(), Fail>
+    requires { AreWords station.now readings.now }
+{
+    expect_released(rt, alloc, station, readings, true, 16)?;
+    expect_released(rt, alloc, station, readings, false, 7)
+}
+
+fn expect_heard(rt: &impl Abort, alloc: Global, station: &Station) -> Result<(), Fail> {
+    let readings = words(rt, alloc, station, b"111101101011101")?;
+    expect_counts(rt, alloc, station, &readings)
+}
+
+fn expect_busbars(rt: &impl Abort, alloc: Global, station: &Station) -> Result<(), Fail> {
+    expect_told(rt, alloc, station)?;
+    expect_heard(rt, alloc, station)
+}
+
+fn expect_two_busbars(rt: &impl Abort, alloc: Global) -> Result<(), Fail> {
+    let station = built(rt, alloc, Example::TwoBusbars)?;
+    expect_busbars(rt, alloc, &station)
 }
 
 // By what the bays tell each other as much is released as by the words of all switches, and by their own
 // words alone little is.
 #[test]
 fn what_is_heard(rt: HostRuntime) -> Result<(), Fail> {
-    let station = built(&rt, rt.alloc(), &TWO_BUSBARS)?;
-    expect_rows(&rt, rt.alloc(), &station)?;
-    expect_released(&rt, rt.alloc(), &station, true, 16)?;
-    expect_released(&rt, rt.alloc(), &station, false, 7)?;
-    Ok(())
+    expect_two_busbars(&rt, rt.alloc())
 }

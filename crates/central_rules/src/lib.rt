@@ -3,6 +3,8 @@
 #![tactic(auto)]
 
 mod alike;
+#[cfg(test)]
+mod drawings;
 mod judge;
 #[cfg(test)]
 mod judge_tests;

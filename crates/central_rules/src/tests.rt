@@ -1,148 +1,18 @@
 // Worked rows of the rules on small stations. The positions and answers are worked by hand.
 ghost use Rattle.std.specs.Prelude.{◌≡◌, length, IfOk};
 ghost use Rattle.station_graph.specs.Alike.{IsVector};
+ghost use Rattle.station_graph.specs.CentralRules.{IsOperation};
 
+use crate::drawings::{Example, built};
 use crate::{breaks, labels};
-use ilk_base::{BayId, Direction, Kind, NodeId, Op, Rule, SwitchId};
-use station_graph::{Builder, Link, Station, Switch, Tap, Vector};
+use ilk_base::{Direction, Op, Rule, SwitchId};
+use station_graph::{NodeList, Station, Vector};
 use std::alloc::Global;
 use std::process::Abort;
 use std::test::Fail;
 
-// The name, kind, part, first and second end of a switch.
-pub(crate) type SwitchLine = (&'static str, Kind, u8, u16, Option<u16>);
-
-// A station: the paths of its parts and nodes, its switches, the part and ends of each link, which is
-// no bond, and the part and node of each tap.
-pub(crate) struct Drawing {
-    pub(crate) parts: &'static [&'static str],
-    pub(crate) nodes: &'static [&'static str],
-    pub(crate) switches: &'static [SwitchLine],
-    pub(crate) links: &'static [(u8, u16, u16)],
-    pub(crate) taps: &'static [(u8, u16)],
-}
-
-// A busbar and two feeders: of each the busbar disconnector, the breaker, the line disconnector, the
-// earthing switch and the infeed, at three nodes in a row.
-pub(crate) const TWO_FEEDERS: Drawing = Drawing {
-    parts: &["S/V1/W1", "S/V1/Q1", "S/V1/Q2"],
-    nodes: &["W1/B", "Q1/n1", "Q1/n2", "Q1/n3", "Q2/n1", "Q2/n2", "Q2/n3"],
-    switches: &[
-        ("QB1", Kind::Disconnector, 1, 0, Some(1)),
-        ("QA1", Kind::Breaker, 1, 1, Some(2)),
-        ("QB9", Kind::Disconnector, 1, 2, Some(3)),
-        ("QC9", Kind::Earthing, 1, 3, None),
-        ("E1", Kind::Infeed, 1, 3, None),
-        ("QB1", Kind::Disconnector, 2, 0, Some(4)),
-        ("QA1", Kind::Breaker, 2, 4, Some(5)),
-        ("QB9", Kind::Disconnector, 2, 5, Some(6)),
-        ("QC9", Kind::Earthing, 2, 6, None),
-        ("E1", Kind::Infeed, 2, 6, None),
-    ],
-    links: &[],
-    taps: &[(1, 3), (2, 6)],
-};
-
-// A fed busbar and a stub on it by two disconnectors in parallel.
-pub(crate) const BARE_STUB: Drawing = Drawing {
-    parts: &["S/V1/W1", "S/V1/Q1"],
-    nodes: &["W1/B", "Q1/s"],
-    switches: &[
-        ("QB1", Kind::Disconnector, 1, 0, Some(1)),
-        ("QB2", Kind::Disconnector, 1, 0, Some(1)),
-        ("E1", Kind::Infeed, 1, 0, None),
-    ],
-    links: &[],
-    taps: &[(1, 0)],
-};
-
-// Two busbars of one voltage with a disconnector between them, each with a transformer to the same
-// busbar of another voltage.
-const TWO_TRANSFORMERS: Drawing = Drawing {
-    parts: &["S/T1", "S/T2", "S/V1/W1", "S/V1/W2", "S/V1/Q1", "S/V2/W1"],
-    nodes: &["V1/W1/H", "V1/W2/H", "V2/W1/L"],
-    switches: &[
-        ("QB1", Kind::Disconnector, 4, 0, Some(1)),
-        ("E1", Kind::Infeed, 4, 0, None),
-    ],
-    links: &[(0, 0, 2), (1, 1, 2)],
-    taps: &[(0, 0), (0, 2), (1, 1), (1, 2), (4, 0)],
-};
-
-fn add_parts(rt: &impl Abort, builder: &mut Builder, paths: &[&str]) -> Result<(), Fail> {
-    for path in paths {
-        assert!(rt; builder.accepts_part(path));
-        builder.part(path)?;
-    }
-    Ok(())
-}
-
-fn add_nodes(rt: &impl Abort, builder: &mut Builder, paths: &[&str]) -> Result<(), Fail> {
-    for path in paths {
-        assert!(rt; builder.accepts_node(path));
-        builder.node(path)?;
-    }
-    Ok(())
-}
-
-fn add_switches(
-    rt: &impl Abort,
-    alloc: Global,
-    builder: &mut Builder,
-    switches: &[SwitchLine],
-) -> Result<(), Fail> {
-    for (name, kind, part, first, second) in switches {
-        let item = Switch {
-            kind: *kind,
-            first: NodeId(*first),
-            second: second.map(NodeId),
-            bay: BayId(*part),
-        };
-        assert!(rt; builder.accepts_switch(alloc, name, item)?);
-        builder.switch(name, item)?;
-    }
-    Ok(())
-}
-
-fn add_links(rt: &impl Abort, builder: &mut Builder, links: &[(u8, u16, u16)]) -> Result<(), Fail> {
-    for (part, first, second) in links {
-        let item = Link {
-            first: NodeId(*first),
-            second: NodeId(*second),
-            bond: false,
-            part: BayId(*part),
-        };
-        assert!(rt; builder.accepts_link(item));
-        builder.link(item)?;
-    }
-    Ok(())
-}
-
-fn add_taps(rt: &impl Abort, builder: &mut Builder, taps: &[(u8, u16)]) -> Result<(), Fail> {
-    for (part, node) in taps {
-        let item = Tap {
-            node: NodeId(*node),
-            part: BayId(*part),
-        };
-        assert!(rt; builder.accepts_tap(item));
-        builder.tap(item)?;
-    }
-    Ok(())
-}
-
-pub(crate) fn built(rt: &impl Abort, alloc: Global, drawing: &Drawing) -> Result<Station, Fail> {
-    let mut builder = Builder::new(alloc);
-    add_parts(rt, &mut builder, drawing.parts)?;
-    add_nodes(rt, &mut builder, drawing.nodes)?;
-    add_switches(rt, alloc, &mut builder, drawing.switches)?;
-    add_links(rt, &mut builder, drawing.links)?;
-    add_taps(rt, &mut builder, drawing.taps)?;
-    assert!(rt; builder.is_complete());
-    Ok(builder.finish())
-}
-
 // The vector of these positions, a sign for each switch: 1 is closed.
-pub(crate) fn positions(
+fn positions(
     rt: &impl Abort,
     alloc: Global,
     station: &Station,
@@ -159,7 +29,7 @@ pub(crate) fn positions(
 }
 
 // What a sign of a row stands for.
-pub(crate) fn rule_of(sign: u8) -> Option<Rule> {
+fn rule_of(sign: u8) -> Option<Rule> {
     match sign {
         b'1' => Some(Rule::R1),
         b'2' => Some(Rule::R2),
@@ -168,131 +38,144 @@ pub(crate) fn rule_of(sign: u8) -> Option<Rule> {
     }
 }
 
-// The rules that the operations of all switches in this direction break, a sign for each.
-fn judge(
-    rt: &impl Abort,
-    alloc: Global,
-    station: &Station,
-    vector: &Vector,
-    direction: Direction,
-    wanted: &[u8],
-) -> Result<(), Fail>
-    requires { IsVector station.now vector.now }
-{
-    assert!(rt; wanted.len() == station.switch_count() as usize);
-    for i in 0..station.switch_count() {
-        let op = Op {
-            switch: SwitchId(i),
-            direction,
-        };
-        let answer = breaks(alloc, station, vector, op)?;
-        assert!(rt; answer == rule_of(wanted[i as usize]), "switch {i}");
-    }
-    Ok(())
-}
-
 // A row: the positions, and for each switch the rule that opening it breaks and that closing it breaks.
 struct Row {
-    drawing: Drawing,
+    drawing: Example,
     closed: &'static [u8],
     opening: &'static [u8],
     closing: &'static [u8],
 }
 
-// The switches of a feeder are in order QB1, QA1, QB9, QC9, E1. The rows are: all off; an infeed on; an
-// earthing switch on; earthed behind an open breaker, apart from the busbar and on it; both feeders
-// through; the path through transformers, which is no bond; the bare stub, with the other disconnector
-// open and closed.
+// The switches of a feeder are in order QB1, QA1, QB9, QC9, E1. The rows are: earthed behind an open breaker on the busbar, and fed
+// from the other feeder; both feeders through; the path through
+// transformers, which is no bond; the bare stub with the other disconnector closed.
 const ROWS: &[Row] = &[
     Row {
-        drawing: TWO_FEEDERS,
-        closed: b"0000000000",
-        opening: b"..........",
-        closing: b"..........",
-    },
-    Row {
-        drawing: TWO_FEEDERS,
-        closed: b"0000100000",
-        opening: b"..........",
-        closing: b"...1......",
-    },
-    Row {
-        drawing: TWO_FEEDERS,
-        closed: b"0001000000",
-        opening: b"..........",
-        closing: b"....2.....",
-    },
-    Row {
-        drawing: TWO_FEEDERS,
-        closed: b"0011011101",
-        opening: b"..........",
-        closing: b"2...2...1.",
-    },
-    Row {
-        drawing: TWO_FEEDERS,
+        drawing: Example::TwoFeeders,
         closed: b"1011011101",
         opening: b"..........",
         closing: b"2221222212",
     },
     Row {
-        drawing: TWO_FEEDERS,
+        drawing: Example::TwoFeeders,
         closed: b"1110111101",
         opening: b"3.3..3.3..",
         closing: b"3.31.3.31.",
     },
     Row {
-        drawing: TWO_TRANSFORMERS,
+        drawing: Example::TwoTransformers,
         closed: b"11",
         opening: b"3.",
         closing: b"3.",
     },
     Row {
-        drawing: BARE_STUB,
-        closed: b"001",
-        opening: b"...",
-        closing: b"...",
-    },
-    Row {
-        drawing: BARE_STUB,
+        drawing: Example::BareStub,
         closed: b"011",
         opening: b"...",
         closing: b"...",
     },
 ];
 
+// The rule that one operation breaks.
+fn expect_rule(
+    rt: &impl Abort,
+    alloc: Global,
+    station: &Station,
+    vector: &Vector,
+    op: Op,
+    sign: u8,
+) -> Result<(), Fail>
+    requires vector { IsVector station.now vector.now }
+    requires op { IsOperation station.now op }
+{
+    let answer = breaks(alloc, station, vector, op)?;
+    assert!(rt; answer == rule_of(sign));
+    Ok(())
+}
+
+// The rules that the operations of all switches in this direction break, a sign for each.
+fn expect_rules(
+    rt: &impl Abort,
+    alloc: Global,
+    station: &Station,
+    vector: &Vector,
+    direction: Direction,
+    signs: &[u8],
+) -> Result<(), Fail>
+    requires { IsVector station.now vector.now }
+{
+    assert!(rt; signs.len() == station.switch_count() as usize);
+    for i in 0..station.switch_count() {
+        let op = Op {
+            switch: SwitchId(i),
+            direction,
+        };
+        expect_rule(rt, alloc, station, vector, op, signs[i as usize])?;
+    }
+    Ok(())
+}
+
+fn expect_both(
+    rt: &impl Abort,
+    alloc: Global,
+    station: &Station,
+    vector: &Vector,
+    row: &Row,
+) -> Result<(), Fail>
+    requires { IsVector station.now vector.now }
+{
+    expect_rules(rt, alloc, station, vector, Direction::ToOff, row.opening)?;
+    expect_rules(rt, alloc, station, vector, Direction::ToOn, row.closing)
+}
+
+fn expect_row(rt: &impl Abort, alloc: Global, station: &Station, row: &Row) -> Result<(), Fail> {
+    let vector = positions(rt, alloc, station, row.closed)?;
+    expect_both(rt, alloc, station, &vector, row)
+}
+
+fn expect_drawn(rt: &impl Abort, alloc: Global, row: &Row) -> Result<(), Fail> {
+    let station = built(rt, alloc, row.drawing)?;
+    expect_row(rt, alloc, &station, row)
+}
+
 #[test]
 fn worked_rows(rt: HostRuntime) -> Result<(), Fail> {
     for row in ROWS {
-        let station = built(&rt, rt.alloc(), &row.drawing)?;
-        let vector = positions(&rt, rt.alloc(), &station, row.closed)?;
-        judge(
-            &rt,
-            rt.alloc(),
-            &station,
-            &vector,
-            Direction::ToOff,
-            row.opening,
-        )?;
-        judge(
-            &rt,
-            rt.alloc(),
-            &station,
-            &vector,
-            Direction::ToOn,
-            row.closing,
-        )?;
+        expect_drawn(&rt, rt.alloc(), row)?;
     }
     Ok(())
+}
+
+fn expect_numbers(rt: &impl Abort, nodes: &NodeList, numbers: &[u16]) -> Result<(), Fail> {
+    assert_eq!(rt; nodes.numbers(), numbers);
+    Ok(())
+}
+
+// The least nodes to which the nodes are joined, or bonded.
+fn expect_labels(
+    rt: &impl Abort,
+    alloc: Global,
+    station: &Station,
+    bonds_only: bool,
+    numbers: &[u16],
+) -> Result<(), Fail> {
+    let vector = positions(rt, alloc, station, b"10")?;
+    let least = labels(alloc, station, &vector, bonds_only)?;
+    expect_numbers(rt, &least, numbers)
+}
+
+fn expect_least(rt: &impl Abort, alloc: Global, station: &Station) -> Result<(), Fail> {
+    expect_labels(rt, alloc, station, false, &[0, 0, 0])?;
+    expect_labels(rt, alloc, station, true, &[0, 0, 2])
+}
+
+fn expect_transformers(rt: &impl Abort, alloc: Global) -> Result<(), Fail> {
+    let station = built(rt, alloc, Example::TwoTransformers)?;
+    expect_least(rt, alloc, &station)
 }
 
 // What is joined and what is bonded, where two transformers join three busbars.
 #[test]
 fn least_nodes(rt: HostRuntime) -> Result<(), Fail> {
-    let station = built(&rt, rt.alloc(), &TWO_TRANSFORMERS)?;
-    let vector = positions(&rt, rt.alloc(), &station, b"10")?;
-    let joined = labels(rt.alloc(), &station, &vector, false)?;
-    assert_eq!(rt; joined.numbers(), [0, 0, 0].as_slice());
-    let bonded = labels(rt.alloc(), &station, &vector, true)?;
-    assert_eq!(rt; bonded.numbers(), [0, 0, 2].as_slice());
-    Ok(())
+    expect_transformers(&rt, rt.alloc())
 }
