@@ -1,5 +1,5 @@
 -- A file that was read up to a number of bytes, and the whole of it.
-use Rattle.std.proofs.Common.{◌≡◌, ◌<◌, ℕ, List, length, take, Option, Some, None, Result, Ok, Err, ap, ◌∙◌, arith, inl, inr, subst}
+use Rattle.std.proofs.Common.{◌≡◌, ◌<◌, ℕ, List, length, take, Option, Some, None, Result, Ok, Err, ap, ◌∙◌, arith, inl, inr, subst, refl}
 use Rattle.std.specs.Prelude.{IfSome, IfOk, IfErr}
 use Rattle.std.proofs.lemmas.List.{take_all, length-take}
 use Rattle.ilk_base.specs.declared.words.Dbpos.{Dbpos}
@@ -10,7 +10,9 @@ use Rattle.ssd_read.specs.StandsFor.{Stands}
 use Rattle.double_points.specs.Positions.{IsAccepted, IsFault}
 use Rattle.interlock_cli.specs.declared.end.End.{End}
 use Rattle.interlock_cli.specs.declared.end.End.TheVariants as e
-use Rattle.interlock_cli.specs.Ends.{StationStop}
+use Rattle.interlock_cli.specs.Formats.{Format, Drawing, Positions, SwitchOf, Value, Accepts, Refuses}
+use Rattle.interlock_cli.specs.Judging.{JudgeFails}
+use Rattle.interlock_cli.specs.Form.{File, Given, Fails}
 
 -- fewer bytes than were asked for are all
 take_short : (n : ℕ) (b : List ℕ) → length (take n b) < n → take n b ≡ b
@@ -22,41 +24,60 @@ cut_stands n b v o e h (inr short) =
     let whole : v ≡ b = h ∙ take_short n b (omega (arith, e, ap length h, short.0)) in
     subst (λ (x : List ℕ). Stands x o) whole (inr short)
 
-pub cut_station : (n : ℕ) (held : Option (List ℕ)) (v : List ℕ) (o : Result Diagram SsdRefusal) → n ≡ 8388609 → IfSome held (λ b. v ≡ take n b) → Stands v o → IfSome held (λ b. Stands b o)
-cut_station n None v o e h a = tt
-cut_station n (Some b) v o e h a = cut_stands n b v o e h a
-
-pub cut_accepted : (n : ℕ) (held : Option (List ℕ)) (v : List ℕ) (paths : List (List ℕ)) (words : List Dbpos) → n ≡ 8388609 → IfSome held (λ b. v ≡ take n b) → IsAccepted paths v words
-    → IfSome held (λ b. IsAccepted paths b words)
-cut_accepted n None v paths words e h a = tt
-cut_accepted n (Some b) v paths words e h a =
+cut_accepted : (n : ℕ) (b v : List ℕ) (paths : List (List ℕ)) (words : List Dbpos) → n ≡ 8388609 → v ≡ take n b → IsAccepted paths v words → IsAccepted paths b words
+cut_accepted n b v paths words e h a =
     let whole : v ≡ b = h ∙ take_short n b (omega (arith, e, ap length h, a.0)) in
     subst (λ (x : List ℕ). IsAccepted paths x words) whole a
 
-cut_fault_of : (n : ℕ) (b v : List ℕ) (paths : List (List ℕ)) (r : InputRefusal) → n ≡ 8388609 → v ≡ take n b → IsFault paths v r → IsFault paths b r
-cut_fault_of n b v paths r e h (inl long) = inl (omega (arith, long.0, ap length h, length-take n b), long.1)
-cut_fault_of n b v paths r e h (inr short) =
+cut_fault : (n : ℕ) (b v : List ℕ) (paths : List (List ℕ)) (r : InputRefusal) → n ≡ 8388609 → v ≡ take n b → IsFault paths v r → IsFault paths b r
+cut_fault n b v paths r e h (inl long) = inl (omega (arith, long.0, ap length h, length-take n b), long.1)
+cut_fault n b v paths r e h (inr short) =
     let whole : v ≡ b = h ∙ take_short n b (omega (arith, e, ap length h, short.0)) in
     subst (λ (x : List ℕ). IsFault paths x r) whole (inr short)
 
-pub cut_fault : (n : ℕ) (held : Option (List ℕ)) (v : List ℕ) (paths : List (List ℕ)) (r : InputRefusal) → n ≡ 8388609 → IfSome held (λ b. v ≡ take n b) → IsFault paths v r
-    → IfSome held (λ b. IsFault paths b r)
-cut_fault n None v paths r e h a = tt
-cut_fault n (Some b) v paths r e h a = cut_fault_of n b v paths r e h a
+-- the first 8,388,609 bytes of a content tell what it is
+pub record Cuts (f : Format) : Type 0 where
+  pub accepts : (b v : List ℕ) (value : Value f) → v ≡ take 8388609 b → Accepts f v value → Accepts f b value
+  pub refuses : (b v : List ℕ) (end : End) → v ≡ take 8388609 b → Refuses f v end → Refuses f b end
 
-pub cut_judged : (n : ℕ) (held : Option (List ℕ)) (v : List ℕ) (r : Result Diagram End) → n ≡ 8388609 → IfSome held (λ b. v ≡ take n b) → IfOk r (λ d. Stands v (Ok d)) → IfOk r (λ d. IfSome held (λ b. Stands b (Ok d)))
-cut_judged n held v (Ok d) e h a = cut_station n held v (Ok d) e h a
-cut_judged n held v (Err end) e h a = tt
+refuses_drawing : (b v : List ℕ) (end : End) → v ≡ take 8388609 b → Refuses Drawing v end → Refuses Drawing b end
+refuses_drawing b v (e.Station refusal) h r = cut_stands 8388609 b v (Err refusal) refl h r
+refuses_drawing b v _ h r = r
 
-stop_cut : (n : ℕ) (held : Option (List ℕ)) (v : List ℕ) (rose : Type 0) (end : End) → n ≡ 8388609 → IfSome held (λ b. v ≡ take n b) → StationStop (Some v) ⊥ end → StationStop held rose end
-stop_cut n held v rose e.Memory eq h a = tt
-stop_cut n held v rose e.ReadFault eq h a = absurd a
-stop_cut n held v rose (e.Station refusal) eq h a = cut_station n held v (Err refusal) eq h a
-stop_cut n held v rose (e.Input refusal) eq h a = a
-stop_cut n held v rose e.Done eq h a = a
-stop_cut n held v rose e.Usage eq h a = a
-stop_cut n held v rose e.WriteFault eq h a = a
+refuses_positions : (d : Diagram) (b v : List ℕ) (end : End) → v ≡ take 8388609 b → Refuses (Positions d) v end → Refuses (Positions d) b end
+refuses_positions d b v (e.Input refusal) h r = cut_fault 8388609 b v d.switch_paths refusal refl h r
+refuses_positions d b v _ h r = r
 
-pub cut_stopped : (n : ℕ) (held : Option (List ℕ)) (v : List ℕ) (rose : Type 0) (r : Result Diagram End) → n ≡ 8388609 → IfSome held (λ b. v ≡ take n b) → IfErr r (StationStop (Some v) ⊥) → IfErr r (StationStop held rose)
-cut_stopped n held v rose (Ok d) e h a = tt
-cut_stopped n held v rose (Err end) e h a = stop_cut n held v rose end e h a
+pub drawing : Cuts Drawing
+drawing = record { accepts = λ b v d h a. cut_stands 8388609 b v (Ok d) refl h a; refuses = refuses_drawing }
+
+pub positions : (d : Diagram) → Cuts (Positions d)
+positions d = record { accepts = λ b v words h a. cut_accepted 8388609 b v d.switch_paths words refl h a; refuses = refuses_positions d }
+
+-- no content is refused by a fault of its read
+pub no_fault : (f : Format) (v : List ℕ) → Refuses f v e.ReadFault → ⊥
+no_fault Drawing v r = r
+no_fault (Positions d) v r = r
+no_fault (SwitchOf d) v r = r
+
+module _ (f : Format) (cuts : Cuts f) where
+  whole : (known : Option (List ℕ)) (v : List ℕ) (value : Value f) → IfSome known (λ b. v ≡ take 8388609 b) → Accepts f v value → (content : List ℕ) × IfSome known (λ h. h ≡ content) × Accepts f content value
+  whole None v value h a = (v, tt, a)
+  whole (Some b) v value h a = (b, refl, cuts.accepts b v value h a)
+
+  whole_refused : (known : Option (List ℕ)) (v : List ℕ) (end : End) → IfSome known (λ b. v ≡ take 8388609 b) → Refuses f v end → (content : List ℕ) × IfSome known (λ h. h ≡ content) × Refuses f content end
+  whole_refused None v end h a = (v, tt, a)
+  whole_refused (Some b) v end h a = (b, refl, cuts.refuses b v end h a)
+
+  pub given : (held : List ℕ → Option (List ℕ)) (name v : List ℕ) (r : Result (Value f) End) → IfSome (held name) (λ b. v ≡ take 8388609 b) → IfOk r (Accepts f v) → IfOk r (Given held (File name) f)
+  given held name v (Ok value) h a = whole (held name) v value h a
+  given held name v (Err end) h a = tt
+
+  fails : (held : List ℕ → Option (List ℕ)) (before after : List ℕ → ℕ) (name v : List ℕ) (end : End) → IfSome (held name) (λ b. v ≡ take 8388609 b) → JudgeFails f v end → Fails held before after (File name) f end
+  fails held before after name v e.Memory h a = tt
+  fails held before after name v e.ReadFault h a = absurd (no_fault f v a)
+  fails held before after name v end h a = whole_refused (held name) v end h a
+
+  pub failed : (held : List ℕ → Option (List ℕ)) (before after : List ℕ → ℕ) (name v : List ℕ) (r : Result (Value f) End) → IfSome (held name) (λ b. v ≡ take 8388609 b) → IfErr r (JudgeFails f v) → IfErr r (Fails held before after (File name) f)
+  failed held before after name v (Ok value) h a = tt
+  failed held before after name v (Err end) h a = fails held before after name v end h a

@@ -1,4 +1,5 @@
-pub mod Cuts
 pub mod AllLines
+pub mod Cuts
+pub mod Later
+pub mod Pieces
 pub mod Through
-pub mod Named

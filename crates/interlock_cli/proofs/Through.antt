@@ -1,17 +1,22 @@
 -- A call that ends otherwise than by its text or for memory has a cause.
-use Rattle.std.proofs.Common.{◌≡◌, ◌-◌, ℕ, List, Option, Some, Ok, Err, Contains, refl, sym, arith, inl, inr, subst}
+use Rattle.std.proofs.Common.{◌≡◌, ◌↔◌, ◌-◌, ℕ, List, Option, Some, None, Ok, Err, refl, sym, ap, ◌∙◌, arith, inl, inr, subst}
 use Rattle.ilk_base.specs.declared.words.Dbpos.{Dbpos}
-use Rattle.ilk_base.specs.declared.words.Direction.{Direction}
 use Rattle.ilk_base.specs.declared.words.InputRefusal.{InputRefusal}
 use Rattle.station_graph.specs.Diagram.{Diagram}
 use Rattle.ssd_read.specs.declared.refusal.SsdRefusal.{SsdRefusal}
 use Rattle.ssd_read.specs.StandsFor.{Stands}
 use Rattle.ssd_read.proofs.Once.{one_station}
 use Rattle.double_points.specs.Positions.{IsAccepted, IsFault}
-use Rattle.interlock_cli.specs.Command.{Command, Usage, Check, Explain}
-use Rattle.interlock_cli.specs.Says.{CheckSays, ExplainSays}
-use Rattle.interlock_cli.specs.Ends.{Ends, HasCause, FaultCounts}
-use Rattle.interlock_cli.specs.Complete.{IsAnswered, IsCalm, GoesThrough}
+use Rattle.interlock_cli.specs.Formats.{Format, Drawing, Positions, SwitchOf, Value, Accepts, Refuses}
+use Rattle.interlock_cli.specs.Form.{Form, Write, Take, Origin, File, Word, IsContent, Fails, Stops, ReadRose}
+use Rattle.interlock_cli.specs.Commands.{Command, form_of}
+use Rattle.interlock_cli.specs.Lines.{status_of}
+use Rattle.interlock_cli.specs.Ends.{Call, FormEnds, Ends}
+use Rattle.interlock_cli.specs.Complete.{IsTold, IsAnswered, ReadsCalm, Completes}
+use Rattle.interlock_cli.specs.declared.status.Status.{Status}
+use Rattle.interlock_cli.specs.declared.status.Status.TheVariants.{Usage}
+use Rattle.interlock_cli.specs.declared.end.Outcome.{Outcome}
+use Rattle.interlock_cli.specs.declared.end.Outcome.TheVariants.{Done, Differs}
 use Rattle.interlock_cli.specs.declared.end.End.{End}
 use Rattle.interlock_cli.specs.declared.end.End.TheVariants as e
 
@@ -28,40 +33,68 @@ not_refused s d refusal stands refused = let same = one_station s (Ok d) (Err re
 same_station : (s : List ℕ) (d f : Diagram) → Stands s (Ok d) → Stands s (Ok f) → d ≡ f
 same_station s d f a b = let same = one_station s (Ok d) (Ok f) a b in cc same
 
-check_through : (station positions s p : List ℕ) (d : Diagram) (words : List Dbpos) (before after : FaultCounts) (end : End) (text : List ℕ) → Stands s (Ok d) → IsAccepted d.switch_paths p words
-    → IsCalm (Check station positions) before after → HasCause (Check station positions) before after end → CheckSays s (Some p) end text → GoesThrough end
-check_through station positions s p d words before after e.Done text stands accepted calm cause says = inl refl
-check_through station positions s p d words before after e.Memory text stands accepted calm cause says = inr refl
-check_through station positions s p d words before after e.Usage text stands accepted calm cause says = absurd says
-check_through station positions s p d words before after e.ReadFault text stands accepted calm cause says = absurd (calm.reads cause)
-check_through station positions s p d words before after e.WriteFault text stands accepted calm cause says = absurd (calm.out cause)
-check_through station positions s p d words before after (e.Station refusal) text stands accepted calm cause says = absurd (not_refused s d refusal stands says.1)
-check_through station positions s p d words before after (e.Input refusal) text stands accepted calm cause says =
-    let (other, stands_too, fault) = says.1 in
-    absurd (not_both d.switch_paths p words refusal accepted (subst (λ (x : Diagram). IsFault x.switch_paths p refusal) (same_station s other d stands_too stands) fault))
+-- a content is accepted as one value
+pub single : (f : Format) (content : List ℕ) (a b : Value f) → Accepts f content a → Accepts f content b → a ≡ b
+single Drawing content a b p q = same_station content a b p q
+single (Positions d) content a b p q = p.2 ∙ sym q.2
+single (SwitchOf d) content a b p q = p.1 ∙ sym q.1
 
-explain_through : (station positions switch s p : List ℕ) (direction : Direction) (d : Diagram) (words : List Dbpos) (before after : FaultCounts) (end : End) (text : List ℕ) → Stands s (Ok d) → IsAccepted d.switch_paths p words → Contains d.switch_paths switch
-    → IsCalm (Explain station positions direction switch) before after → HasCause (Explain station positions direction switch) before after end → ExplainSays s (Some p) direction switch end text → GoesThrough end
-explain_through station positions switch s p direction d words before after e.Done text stands accepted named calm cause says = inl refl
-explain_through station positions switch s p direction d words before after e.Memory text stands accepted named calm cause says = inr refl
-explain_through station positions switch s p direction d words before after e.Usage text stands accepted named calm cause says = absurd says
-explain_through station positions switch s p direction d words before after e.ReadFault text stands accepted named calm cause says = absurd (calm.reads cause)
-explain_through station positions switch s p direction d words before after e.WriteFault text stands accepted named calm cause says = absurd (calm.out cause)
-explain_through station positions switch s p direction d words before after (e.Station refusal) text stands accepted named calm cause says = absurd (not_refused s d refusal stands says.1)
-explain_through station positions switch s p direction d words before after (e.Input refusal) text stands accepted named calm cause says =
-    let (other, stands_too, why) = says.1 in
-    let same = same_station s other d stands_too stands in
-    elim why [
-      | inl fault ↦ absurd (not_both d.switch_paths p words refusal accepted (subst (λ (x : Diagram). IsFault x.switch_paths p refusal) same fault))
-      | inr (others, taken, missing, number, line) ↦ absurd (missing (subst (λ (x : Diagram). Contains x.switch_paths switch) (sym same) named))
-    ]
+-- no content is accepted and refused
+pub one_verdict : (f : Format) (content : List ℕ) (a : Value f) (end : End) → Accepts f content a → Refuses f content end → ⊥
+one_verdict Drawing content a (e.Station refusal) p r = not_refused content a refusal p r
+one_verdict (Positions d) content a (e.Input refusal) p r = not_both d.switch_paths content a refusal p r
+one_verdict (SwitchOf d) content a (e.Input refusal) p r = r.0 p.0
+one_verdict f content a end p r = r
 
-pub through : (c : Command) (held : List ℕ → Option (List ℕ)) (before after : FaultCounts) (old new : Option (List ℕ)) (end : End) → Ends c held before after old new end
-    → IsAnswered c held → IsCalm c before after → GoesThrough end
-through Usage held before after old new end ends answered calm = absurd answered
-through (Check station positions) held before after old new end ends answered calm =
-    let (s, p, hs, hp, d, stands, words, accepted) = answered in
-    check_through station positions s p d words before after end ends.text stands accepted calm ends.cause (rw (hs, hp) at ends.told)
-through (Explain station positions direction switch) held before after old new end ends answered calm =
-    let (s, p, hs, hp, d, stands, words, accepted, named) = answered in
-    explain_through station positions switch s p direction d words before after end ends.text stands accepted named calm ends.cause (rw (hs, hp) at ends.told)
+same_content : (held : List ℕ → Option (List ℕ)) (origin : Origin) (a b : List ℕ) → IsTold held origin a → IsContent held origin b → b ≡ a
+same_content held (File name) a b told is = let h = rw told at is in sym h
+same_content held (Word word) a b told is = sym is ∙ told
+
+module _ (held : List ℕ → Option (List ℕ)) (before after : List ℕ → ℕ) where
+  fails_memory : (origin : Origin) (f : Format) (content : List ℕ) (value : Value f) (end : End) → IsTold held origin content → Accepts f content value → (¬ ReadRose before after origin) → Fails held before after origin f end → end ≡ e.Memory
+  fails_memory origin f content value e.Memory told accepts calm fails = refl
+  fails_memory origin f content value e.ReadFault told accepts calm fails = absurd (calm fails)
+  fails_memory origin f content value end told accepts calm (other, is, refuses) =
+      let same = same_content held origin content other told is in
+      absurd (one_verdict f content value end accepts (subst (λ (x : List ℕ). Refuses f x end) same refuses))
+
+  stops_memory : (form : Form) (end : End) → IsAnswered form held → ReadsCalm form before after → Stops form held before after end → end ≡ e.Memory
+  stops_memory (Write writes) end answered calm stops = stops
+  stops_memory (Take origin f next) end (content, told, value, accepts, more) calm (inl fails) = fails_memory origin f content value end told accepts calm.0 fails
+  stops_memory (Take origin f next) end (content, told, value, accepts, more) calm (inr (found, (other, is, accepted), stops)) =
+      let same = same_content held origin content other told is in
+      let one : found ≡ value = single f content found value (subst (λ (x : List ℕ). Accepts f x found) same accepted) accepts in
+      stops_memory (next value) end more (calm.1 value) (subst (λ (x : Value f). Stops (next x) held before after end) one stops)
+
+completes_form : (status : Status) (command : Command) (c : Call) (end : End) → status ≡ status_of end → FormEnds (form_of command) c end → Completes status (Some command) c
+completes_form status command c (e.Written outcome) is (text, tells, took) = λ answered reads out. inl (outcome, text, tells, is)
+completes_form status command c e.WriteFault is ends = λ answered reads out. absurd (out ends.0)
+completes_form status command c e.Usage is ends = absurd ends
+completes_form status command c end is ends =
+    λ answered reads out. inr (is ∙ ap status_of (stops_memory c.held c.reads_before c.reads_after (form_of command) end answered reads ends.0))
+
+pub completes : (status : Status) (command : Option Command) (c : Call) (end : End) → status ≡ status_of end → Ends command c end → Completes status command c
+completes status None c end is ends = tt
+completes status (Some command) c end is ends = completes_form status command c end is ends
+
+outcome_usage : (outcome : Outcome) → status_of (e.Written outcome) ≡ Usage → ⊥
+outcome_usage Done is = cc is
+outcome_usage Differs is = cc is
+
+some_usage : (command : Command) (c : Call) (end : End) → end ≡ e.Usage → Ends (Some command) c end → ⊥
+some_usage command c end is ends = subst (λ (x : End). Ends (Some command) c x) is ends
+
+usage_end : (end : End) → status_of end ≡ Usage → end ≡ e.Usage
+usage_end (e.Written outcome) is = absurd (outcome_usage outcome is)
+usage_end e.Usage is = refl
+usage_end e.ReadFault is = cc is
+usage_end e.WriteFault is = cc is
+usage_end (e.Station refusal) is = cc is
+usage_end (e.Input refusal) is = cc is
+usage_end e.Memory is = cc is
+
+-- the call is Usage exactly where the words name no command
+pub usage : (status : Status) (command : Option Command) (c : Call) (end : End) → status ≡ status_of end → Ends command c end → (status ≡ Usage) ↔ (command ≡ None)
+usage status None c end is ends = ((λ _. refl), (λ _. is ∙ ap status_of ends.0))
+usage status (Some command) c end is ends =
+    ((λ u. absurd (some_usage command c end (usage_end end (sym is ∙ u)) ends)), (λ none. cc none))

@@ -1,29 +1,33 @@
--- A call without faults of the outside goes through, or wants memory.
-use Rattle.std.specs.Prelude.{◌≡◌, ◌⊎◌, ℕ, List, Option, Some, Ok, Contains}
+-- A call without faults of the outside, whose files are told and accepted, goes through, or wants memory.
+use Rattle.std.specs.Prelude.{◌≡◌, ◌⊎◌, ⊤, ℕ, List, Option, Some, None}
 use Rattle.ilk_base.specs.Outside.{Rose}
-use Rattle.interlock_cli.specs.Command.{Command, Usage, Check, Explain}
-use Rattle.ilk_base.specs.declared.words.Dbpos.{Dbpos}
-use Rattle.station_graph.specs.Diagram.{Diagram}
-use Rattle.ssd_read.specs.StandsFor.{Stands}
-use Rattle.double_points.specs.Positions.{IsAccepted}
-use Rattle.interlock_cli.specs.Ends.{FaultCounts, ReadRose}
-use Rattle.interlock_cli.specs.declared.end.End.{End}
-use Rattle.interlock_cli.specs.declared.end.End.TheVariants as e
+use Rattle.interlock_cli.specs.Formats.{Value, Accepts}
+use Rattle.interlock_cli.specs.Form.{Form, Write, Take, Origin, File, Word, ReadRose, Says}
+use Rattle.interlock_cli.specs.Commands.{Command, form_of}
+use Rattle.interlock_cli.specs.Ends.{Call}
+use Rattle.interlock_cli.specs.Lines.{outcome_status}
+use Rattle.interlock_cli.specs.declared.end.Outcome.{Outcome}
+use Rattle.interlock_cli.specs.declared.status.Status.{Status}
+use Rattle.interlock_cli.specs.declared.status.Status.TheVariants.{Memory}
 
--- the bytes that a command reads are told, and nothing in them is refused
-abbrev pub IsAnswered : Command → (List ℕ → Option (List ℕ)) → Type 0
-IsAnswered Usage held = ⊥
-IsAnswered (Check station positions) held =
-    (s : List ℕ) × (p : List ℕ) × (held station ≡ Some s) × (held positions ≡ Some p)
-    × (d : Diagram) × Stands s (Ok d) × (words : List Dbpos) × IsAccepted d.switch_paths p words
-IsAnswered (Explain station positions direction switch) held =
-    (s : List ℕ) × (p : List ℕ) × (held station ≡ Some s) × (held positions ≡ Some p)
-    × (d : Diagram) × Stands s (Ok d) × (words : List Dbpos) × IsAccepted d.switch_paths p words × Contains d.switch_paths switch
+-- the content of the origin is told, and is this
+abbrev pub IsTold : (List ℕ → Option (List ℕ)) → Origin → List ℕ → Type 0
+IsTold held (File name) content = held name ≡ Some content
+IsTold held (Word word) content = word ≡ content
 
--- no count rose of what the command reads or writes
-pub record IsCalm (command : Command) (before after : FaultCounts) : Type 0 where
-  pub reads : ¬ ReadRose command before after
-  pub out : ¬ Rose before.out after.out
+-- all that the form names is told and accepted
+abbrev pub IsAnswered : Form → (List ℕ → Option (List ℕ)) → Type 0
+IsAnswered (Write writes) held = ⊤
+IsAnswered (Take origin f next) held =
+    (content : List ℕ) × IsTold held origin content × (value : Value f) × Accepts f content value × IsAnswered (next value) held
 
-abbrev pub GoesThrough : End → Type 0
-GoesThrough end = (end ≡ e.Done) ⊎ (end ≡ e.Memory)
+-- no count rose of what the form reads
+abbrev pub ReadsCalm : Form → (List ℕ → ℕ) → (List ℕ → ℕ) → Type 0
+ReadsCalm (Write writes) before after = ⊤
+ReadsCalm (Take origin f next) before after = (¬ ReadRose before after origin) × ((value : Value f) → ReadsCalm (next value) before after)
+
+-- where all is told, accepted and calm, the call ends as its text says, or wants memory
+abbrev pub Completes : Status → Option Command → Call → Type 0
+Completes status None c = ⊤
+Completes status (Some command) c = IsAnswered (form_of command) c.held → ReadsCalm (form_of command) c.reads_before c.reads_after → ¬ Rose c.writes_before c.writes_after
+    → ((outcome : Outcome) × (text : List ℕ) × Says (form_of command) c.held outcome text × (status ≡ outcome_status outcome)) ⊎ (status ≡ Memory)

@@ -1,98 +1,56 @@
--- How a call ends: the cause of each fault, and what `out` and `err` took.
-use Rattle.std.specs.Prelude.{◌≡◌, ◌⊎◌, ⊤, ℕ, List, [], Option, Err, IfSome, Contains}
-use Rattle.station_graph.specs.Diagram.{Diagram}
-use Rattle.ssd_read.specs.StandsFor.{Stands}
-use Rattle.double_points.specs.Positions.{IsFault}
+-- How a call ends: the cause of each end, and what `out` and `err` took. Said once, for all commands.
+use Rattle.std.specs.Prelude.{◌≡◌, ◌⊎◌, ℕ, List, [], Option, Some, None}
 use Rattle.std.specs.Io.KnownBytes.{Appends}
 use Rattle.ilk_base.specs.Outside.{Rose, AppendsFront}
-use Rattle.interlock_cli.specs.Command.{Command, IsNamed, ReadsInput}
-use Rattle.interlock_cli.specs.Says.{Says}
+use Rattle.interlock_cli.specs.Form.{Form, Says, Stops}
+use Rattle.interlock_cli.specs.Commands.{Command, form_of}
 use Rattle.interlock_cli.specs.Lines.{line_of, status_of}
+use Rattle.interlock_cli.specs.declared.end.Outcome.{Outcome}
+use Rattle.interlock_cli.specs.declared.end.Output.{Output}
 use Rattle.interlock_cli.specs.declared.end.End.{End}
 use Rattle.interlock_cli.specs.declared.end.End.TheVariants as e
 use Rattle.interlock_cli.specs.declared.status.Status.{Status}
 
--- the counts of faults of all that a command may call
-pub record FaultCounts : Type 0 where
-  pub shelf : List ℕ → ℕ
-  pub input : ℕ
-  pub out : ℕ
+-- what a call finds outside and leaves there, where that is told
+pub record Call : Type 0 where
+  -- what the files hold, by their names
+  pub held : List ℕ → Option (List ℕ)
+  -- the counts of faults of the files, and of `out`
+  pub reads_before : List ℕ → ℕ
+  pub reads_after : List ℕ → ℕ
+  pub writes_before : ℕ
+  pub writes_after : ℕ
+  -- what `out` took
+  pub out_old : Option (List ℕ)
+  pub out_new : Option (List ℕ)
 
--- the count of a file that the command names rose, or that of the input where the command reads it
-abbrev pub ReadRose : Command → FaultCounts → FaultCounts → Type 0
-ReadRose command before after =
-    ((name : List ℕ) × IsNamed command name × Rose (before.shelf name) (after.shelf name)) ⊎ (ReadsInput command × Rose before.input after.input)
+-- `out` takes nothing before all is accepted; then the text, or after a fault of the write a front of it
+-- that is not all
+abbrev pub FormEnds : Form → Call → End → Type 0
+FormEnds form c (e.Written outcome) = (text : List ℕ) × Says form c.held outcome text × Appends c.out_old c.out_new text
+FormEnds form c e.WriteFault =
+    Rose c.writes_before c.writes_after × (outcome : Outcome) × (text : List ℕ) × Says form c.held outcome text × AppendsFront c.out_old c.out_new text
+FormEnds form c e.Usage = ⊥
+FormEnds form c end = Stops form c.held c.reads_before c.reads_after end × Appends c.out_old c.out_new []
 
--- a fault of the outside comes only where its count rose
-abbrev pub HasCause : Command → FaultCounts → FaultCounts → End → Type 0
-HasCause command before after e.ReadFault = ReadRose command before after
-HasCause command before after e.WriteFault = Rose before.out after.out
-HasCause command before after e.Done = ⊤
-HasCause command before after e.Usage = ⊤
-HasCause command before after (e.Station refusal) = ⊤
-HasCause command before after (e.Input refusal) = ⊤
-HasCause command before after e.Memory = ⊤
+-- words that name no command are Usage, and no others
+abbrev pub Ends : Option Command → Call → End → Type 0
+Ends None c end = (end ≡ e.Usage) × Appends c.out_old c.out_new []
+Ends (Some command) c end = FormEnds (form_of command) c end
 
--- `out` took the text; after a fault of the write, a front of it that is not all
-abbrev pub Took : Option (List ℕ) → Option (List ℕ) → List ℕ → End → Type 0
-Took old new text e.WriteFault = AppendsFront old new text
-Took old new text e.ReadFault = Appends old new text
-Took old new text e.Done = Appends old new text
-Took old new text e.Usage = Appends old new text
-Took old new text (e.Station refusal) = Appends old new text
-Took old new text (e.Input refusal) = Appends old new text
-Took old new text e.Memory = Appends old new text
-
--- a command ends by its cause, with a text that it says
-pub record Ends (command : Command) (held : List ℕ → Option (List ℕ)) (before after : FaultCounts) (old new : Option (List ℕ)) (end : End) : Type 0 where
-  pub cause : HasCause command before after end
-  pub text : List ℕ
-  pub told : Says command held end text
-  pub took : Took old new text end
-
--- how a command may end before it writes: by its cause, with no text
-pub record Stops (command : Command) (held : List ℕ → Option (List ℕ)) (before after : List ℕ → ℕ) (end : End) : Type 0 where
-  pub cause : HasCause command (record { shelf = before; input = 0; out = 0 }) (record { shelf = after; input = 0; out = 0 }) end
-  pub told : Says command held end []
-
--- why there is no station: a fault of the read, or what the bytes are
-abbrev pub StationStop : Option (List ℕ) → Type 0 → End → Type 0
-StationStop held rose e.Memory = ⊤
-StationStop held rose e.ReadFault = rose
-StationStop held rose (e.Station refusal) = IfSome held (λ b. Stands b (Err refusal))
-StationStop held rose (e.Input refusal) = ⊥
-StationStop held rose e.Done = ⊥
-StationStop held rose e.Usage = ⊥
-StationStop held rose e.WriteFault = ⊥
-
--- why there are no readings
-abbrev pub ReadingsStop : Diagram → Option (List ℕ) → Type 0 → End → Type 0
-ReadingsStop d held rose e.Memory = ⊤
-ReadingsStop d held rose e.ReadFault = rose
-ReadingsStop d held rose (e.Input refusal) = IfSome held (λ b. IsFault d.switch_paths b refusal)
-ReadingsStop d held rose (e.Station refusal) = ⊥
-ReadingsStop d held rose e.Done = ⊥
-ReadingsStop d held rose e.Usage = ⊥
-ReadingsStop d held rose e.WriteFault = ⊥
-
--- why nothing is told of the switch of this path: it is not of the station, which is 11 in no line
-abbrev pub NamedStop : Diagram → List ℕ → End → Type 0
-NamedStop d path e.Memory = ⊤
-NamedStop d path (e.Input refusal) = (¬ Contains d.switch_paths path) × (refusal.number ≡ 11) × (refusal.line ≡ 0)
-NamedStop d path e.ReadFault = ⊥
-NamedStop d path (e.Station refusal) = ⊥
-NamedStop d path e.Done = ⊥
-NamedStop d path e.Usage = ⊥
-NamedStop d path e.WriteFault = ⊥
+-- what is to be written was written, or a front of it where the count rose
+abbrev pub Wrote : Output → ℕ → ℕ → Option (List ℕ) → Option (List ℕ) → End → Type 0
+Wrote output before after old new (e.Written outcome) = (outcome ≡ output.outcome) × Appends old new output.text
+Wrote output before after old new e.WriteFault = Rose before after × AppendsFront old new output.text
+Wrote output before after old new _ = ⊥
 
 -- the line was written, or a front of it where the count rose
-abbrev pub Tells : Option (List ℕ) → Option (List ℕ) → ℕ → ℕ → List ℕ → Type 0
-Tells old new before after line = Appends old new line ⊎ (Rose before after × AppendsFront old new line)
+abbrev pub WroteLine : Option (List ℕ) → Option (List ℕ) → ℕ → ℕ → List ℕ → Type 0
+WroteLine old new before after line = Appends old new line ⊎ (Rose before after × AppendsFront old new line)
 
--- the call answers the status of an end that has its cause, and its line was told on `err`
-pub record Answers (status : Status) (command : Command) (held : List ℕ → Option (List ℕ)) (before after : FaultCounts)
-    (out_old out_new err_old err_new : Option (List ℕ)) (err_before err_after : ℕ) : Type 0 where
+-- the call answers the status of an end that has its cause, and the line of this end went to `err`
+pub record Answers (status : Status) (command : Option Command) (c : Call) (err_old err_new : Option (List ℕ)) (err_before err_after : ℕ) : Type 0 where
   pub end : End
   pub status_is : status ≡ status_of end
-  pub ends : Ends command held before after out_old out_new end
-  pub tells : Tells err_old err_new err_before err_after (line_of end)
+  pub ends : Ends command c end
+  pub line : WroteLine err_old err_new err_before err_after (line_of end)

@@ -1,7 +1,11 @@
-pub mod Command
+pub mod Formats
+pub mod Form
+pub mod Judging
 pub mod CheckText
 pub mod ExplainText
+pub mod Commands
+pub mod Seen
 pub mod Lines
-pub mod Says
+pub mod Pieces
 pub mod Ends
 pub mod Complete

@@ -1,15 +1,29 @@
 // How a call ends.
 ghost use Rattle.std.specs.Prelude.{◌≡◌};
-ghost use Rattle.interlock_cli.specs.Lines.{status_of};
+ghost use Rattle.interlock_cli.specs.Lines.{outcome_status, status_of};
 
 use crate::status::Status;
-use ilk_base::InputRefusal;
+use ilk_base::{InputRefusal, Text};
 use ssd_read::SsdRefusal;
 
-// How a call ends, with what its line tells.
+// How a call ends whose text is written.
+#[derive(Clone, Copy, Debug)]
+pub enum Outcome {
+    Done,
+    Differs,
+}
+
+// What a call has to write once all is accepted, and how it then ends.
+#[derive(Debug, Drop)]
+pub struct Output {
+    pub outcome: Outcome,
+    pub text: Text,
+}
+
+// How a call ends, with what its line shows.
 #[derive(Debug, Drop)]
 pub enum End {
-    Done,
+    Written(Outcome),
     Usage,
     ReadFault,
     WriteFault,
@@ -18,12 +32,22 @@ pub enum End {
     Memory,
 }
 
+// The status of a call whose text is written.
+fn outcome_status(outcome: Outcome) -> Status
+    ensures { result ≡ outcome_status outcome }
+{
+    match outcome {
+        Outcome::Done => Status::Done,
+        Outcome::Differs => Status::Differs,
+    }
+}
+
 // The status of an end.
 pub(crate) fn make_status(end: &End) -> Status
     ensures { result ≡ status_of end.now }
 {
     match end {
-        End::Done => Status::Done,
+        End::Written(outcome) => outcome_status(*outcome),
         End::Usage => Status::Usage,
         End::ReadFault => Status::ReadFault,
         End::WriteFault => Status::WriteFault,

@@ -1,14 +1,14 @@
-// The files that a command names, read and judged.
-ghost use Rattle.std.specs.Prelude.{◌≡◌, ◌≤◌, List, ℕ, Some, Ok, length, IfOk, IfErr, IfSome};
-ghost use Rattle.std.specs.Io.KnownBytes.{Keeps};
+// What a command is given, read and judged.
+ghost use Rattle.std.specs.Prelude.{◌≡◌, ◌<◌, length, take, slice_get, Some, IfOk, IfErr, IfSome};
 ghost use Rattle.ilk_base.specs.Outside.{Rose};
-ghost use Rattle.ssd_read.specs.StandsFor.{Stands};
-ghost use Rattle.double_points.specs.Positions.{IsAccepted};
-ghost use Rattle.interlock_cli.specs.Ends.{StationStop, ReadingsStop};
+ghost use Rattle.double_points.specs.Words.{AreWords};
+ghost use Rattle.interlock_cli.specs.Formats.{Accepts, Drawing, Positions, SwitchOf};
+ghost use Rattle.interlock_cli.specs.Form.{Given, Fails, File};
+ghost use Rattle.interlock_cli.specs.Judging.{ReadFails, JudgeFails, Onward};
 
 use crate::end::End;
 use double_points::{PositionsFault, Readings, read_positions};
-use ilk_base::{ReadTrouble, Shelf};
+use ilk_base::{InputRefusal, ReadTrouble, Shelf, SwitchId};
 use ssd_read::{SsdRefusal, read_ssd};
 use station_graph::Station;
 use std::alloc::Global;
@@ -16,15 +16,41 @@ use std::alloc::Global;
 // One byte more than a file may have, so that a file that is too long is seen to be.
 const MOST: u32 = 8_388_609;
 
+// As many bytes of a file as tell what it is.
+fn read_file<F: Shelf>(name: &str, shelf: &mut F) -> Result<Vec<u8>, End>
+    ensures ok { IfOk result (λ v. IfSome (F.held shelf.old name.now) (λ b. v.items ≡ take 8388609 b)) }
+    ensures err { IfErr result (ReadFails (Rose (F.faults shelf.old name.now) (F.faults shelf.new name.now))) }
+    ensures onward { Onward (F.held shelf.old) (F.held shelf.new) (F.faults shelf.old) (F.faults shelf.new) }
+{
+    match shelf.read(name, MOST) {
+        Ok(bytes) => Ok(bytes),
+        Err(ReadTrouble::Memory) => Err(End::Memory),
+        Err(ReadTrouble::Failed) => Err(End::ReadFault),
+    }
+}
+
 // The station of a drawing's bytes.
-fn judged_station(alloc: Global, bytes: &[u8]) -> Result<Station, End>
-    ensures ok { IfOk result (λ d. Stands bytes.now (Ok d)) }
-    ensures err { IfErr result (StationStop (Some bytes.now) ⊥) }
+fn judge_station(alloc: Global, bytes: &[u8]) -> Result<Station, End>
+    ensures ok { IfOk result (Accepts Drawing bytes.now) }
+    ensures err { IfErr result (JudgeFails Drawing bytes.now) }
 {
     match read_ssd(alloc, bytes) {
         Ok(station) => Ok(station),
         Err(SsdRefusal::Memory) => Err(End::Memory),
         Err(refusal) => Err(End::Station(refusal)),
+    }
+}
+
+// The readings of the bytes of a file of positions.
+fn judge_positions(alloc: Global, station: &Station, bytes: &[u8]) -> Result<Readings, End>
+    ensures ok { IfOk result (Accepts (Positions station.now) bytes.now) }
+    ensures count { IfOk result (AreWords station.now) }
+    ensures err { IfErr result (JudgeFails (Positions station.now) bytes.now) }
+{
+    match read_positions(alloc, station, bytes) {
+        Ok(readings) => Ok(readings),
+        Err(PositionsFault::Memory) => Err(End::Memory),
+        Err(PositionsFault::Refused(refusal)) => Err(End::Input(refusal)),
     }
 }
 
@@ -34,17 +60,15 @@ pub(crate) fn load_station<F: Shelf>(
     name: &str,
     shelf: &mut F,
 ) -> Result<Station, End>
-    ensures ok { IfOk result (λ d. IfSome (F.held shelf.old name.now) (λ b. Stands b (Ok d))) }
-    ensures err { IfErr result (StationStop (F.held shelf.old name.now) (Rose (F.faults shelf.old name.now) (F.faults shelf.new name.now))) }
-    ensures kept { (n : List ℕ) → Keeps (F.held shelf.old n) (F.held shelf.new n) }
-    ensures grows { (n : List ℕ) → F.faults shelf.old n ≤ F.faults shelf.new n }
+    ensures ok { IfOk result (Given (F.held shelf.old) (File name.now) Drawing) }
+    ensures err { IfErr result (Fails (F.held shelf.old) (F.faults shelf.old) (F.faults shelf.new) (File name.now) Drawing) }
+    ensures onward { Onward (F.held shelf.old) (F.held shelf.new) (F.faults shelf.old) (F.faults shelf.new) }
 {
-    let bytes = match shelf.read(name, MOST) {
+    let bytes = match read_file(name, shelf) {
         Ok(bytes) => bytes,
-        Err(ReadTrouble::Memory) => return Err(End::Memory),
-        Err(ReadTrouble::Failed) => return Err(End::ReadFault),
+        Err(end) => return Err(end),
     };
-    judged_station(alloc, &bytes)
+    judge_station(alloc, &bytes)
 }
 
 // The readings of a file.
@@ -54,19 +78,30 @@ pub(crate) fn load_readings<F: Shelf>(
     name: &str,
     shelf: &mut F,
 ) -> Result<Readings, End>
-    ensures ok { IfOk result (λ r. IfSome (F.held shelf.old name.now) (λ b. IsAccepted station.now.switch_paths b r)) }
-    ensures count { IfOk result (λ r. length r ≡ length station.now.switches) }
-    ensures err { IfErr result (ReadingsStop station.now (F.held shelf.old name.now) (Rose (F.faults shelf.old name.now) (F.faults shelf.new name.now))) }
-    ensures grows { (n : List ℕ) → F.faults shelf.old n ≤ F.faults shelf.new n }
+    ensures ok { IfOk result (Given (F.held shelf.old) (File name.now) (Positions station.now)) }
+    ensures count { IfOk result (AreWords station.now) }
+    ensures err { IfErr result (Fails (F.held shelf.old) (F.faults shelf.old) (F.faults shelf.new) (File name.now) (Positions station.now)) }
+    ensures onward { Onward (F.held shelf.old) (F.held shelf.new) (F.faults shelf.old) (F.faults shelf.new) }
 {
-    let bytes = match shelf.read(name, MOST) {
+    let bytes = match read_file(name, shelf) {
         Ok(bytes) => bytes,
-        Err(ReadTrouble::Memory) => return Err(End::Memory),
-        Err(ReadTrouble::Failed) => return Err(End::ReadFault),
+        Err(end) => return Err(end),
     };
-    match read_positions(alloc, station, &bytes) {
-        Ok(readings) => Ok(readings),
-        Err(PositionsFault::Memory) => Err(End::Memory),
-        Err(PositionsFault::Refused(refusal)) => Err(End::Input(refusal)),
+    judge_positions(alloc, station, &bytes)
+}
+
+// The switch of a path that the words name.
+pub(crate) fn named_switch(station: &Station, path: &str) -> Result<SwitchId, End>
+    ensures ok { IfOk result (λ id. slice_get station.now.switch_paths id.0 ≡ Some path.now) }
+    ensures within { IfOk result (λ id. id.0 < length station.now.switches) }
+    ensures accepts { IfOk result (λ id. Accepts (SwitchOf station.now) path.now path.now) }
+    ensures err { IfErr result (JudgeFails (SwitchOf station.now) path.now) }
+{
+    match station.find_switch(path) {
+        Some(id) => Ok(id),
+        None => Err(End::Input(InputRefusal {
+            number: 11,
+            line: 0,
+        })),
     }
 }

@@ -1,15 +1,94 @@
 // The line that a call writes of its end, without memory.
-ghost use Rattle.std.specs.Prelude.{◌≡◌, ◌≤◌, ◌++◌, OnOk, OnErr, codes};
+ghost use Rattle.std.specs.Prelude.{◌≡◌, ◌≤◌, ◌++◌, OnOk, OnErr, codes, option_map};
 ghost use Rattle.std.specs.Fmt.{decimal};
 ghost use Rattle.std.specs.Io.KnownBytes.{Appends};
 ghost use Rattle.ilk_base.specs.Outside.{Rose, AppendsFront};
-ghost use Rattle.interlock_cli.specs.Lines.{line_of, limit_number, place_line, station_line};
+ghost use Rattle.station_graph.specs.Limits.{limit_number};
+ghost use Rattle.ssd_read.specs.Shown.{limit};
+ghost use Rattle.interlock_cli.specs.Lines.{fault_line, line_of, station_line};
+ghost use Rattle.interlock_cli.specs.Pieces.{label_of, digits_of};
 
 use crate::end::End;
 use ilk_base::{Failed, Sink, write_all, write_pieces};
 use itoa::Buffer;
 use ssd_read::SsdRefusal;
-use station_graph::What;
+
+// The label of a number that is there.
+fn label_of(label: &[u8], number: Option<u32>) -> &[u8]
+    ensures { result.now ≡ label_of label.now number }
+{
+    match number {
+        Some(_) => label,
+        None => b"",
+    }
+}
+
+// The digits of a number that is there.
+fn digits_of(buffer: &mut Buffer, number: Option<u32>) -> &[u8]
+    ensures { result.now ≡ digits_of number }
+{
+    match number {
+        Some(number) => buffer.format(number).as_bytes(),
+        None => b"",
+    }
+}
+
+// The number of the limit that is passed.
+fn limit_of(refusal: &SsdRefusal) -> Option<u32>
+    ensures { result ≡ option_map limit_number (limit refusal.now) }
+{
+    match refusal.limit() {
+        Some(what) => Some(u32::from(what.number())),
+        None => None,
+    }
+}
+
+// Writes the line of a fault of the drawing.
+fn tell_fault<S: Sink>(
+    sink: &mut S,
+    number: u8,
+    place: Option<u32>,
+    limit: Option<u32>,
+    count: Option<u32>,
+) -> Result<(), Failed>
+    ensures ok { OnOk result (Appends (S.took sink.old) (S.took sink.new) (fault_line number place limit count)) }
+    ensures err { OnErr result (AppendsFront (S.took sink.old) (S.took sink.new) (fault_line number place limit count)) }
+    ensures grows { S.faults sink.old ≤ S.faults sink.new }
+    ensures failed { OnErr result (Rose (S.faults sink.old) (S.faults sink.new)) }
+{
+    let mut number_digits = Buffer::new();
+    let mut place_digits = Buffer::new();
+    let mut limit_digits = Buffer::new();
+    let mut count_digits = Buffer::new();
+    write_pieces(
+        sink,
+        &[
+            b"interlock: station refused ".as_slice(),
+            number_digits.format(number).as_bytes(),
+            label_of(b" at ", place),
+            digits_of(&mut place_digits, place),
+            label_of(b" limit ", limit),
+            digits_of(&mut limit_digits, limit),
+            label_of(b" count ", count),
+            digits_of(&mut count_digits, count),
+            b"\n".as_slice(),
+        ],
+    )
+}
+
+// Writes the line of a drawing that is refused.
+fn tell_station<S: Sink>(sink: &mut S, refusal: &SsdRefusal) -> Result<(), Failed>
+    ensures ok { OnOk result (Appends (S.took sink.old) (S.took sink.new) (station_line refusal.now)) }
+    ensures err { OnErr result (AppendsFront (S.took sink.old) (S.took sink.new) (station_line refusal.now)) }
+    ensures grows { S.faults sink.old ≤ S.faults sink.new }
+    ensures failed { OnErr result (Rose (S.faults sink.old) (S.faults sink.new)) }
+{
+    let (place, limit, count) = (refusal.place(), limit_of(refusal), refusal.count());
+    match refusal.number() {
+        Some(number) => tell_fault(sink, number, place, limit, count),
+        None => write_all(sink, b"interlock: out of memory\n"),
+    }
+}
 
 // Writes a line of two numbers.
 fn tell_two<S: Sink>(
@@ -31,74 +110,7 @@ fn tell_two<S: Sink>(
     write_pieces(sink, &[head, first, middle, second, b"\n".as_slice()])
 }
 
-// Writes the line of a refusal that has a place.
-fn tell_place<S: Sink>(sink: &mut S, number: u32, at: u32) -> Result<(), Failed>
-    ensures ok { OnOk result (Appends (S.took sink.old) (S.took sink.new) (place_line number at)) }
-    ensures err { OnErr result (AppendsFront (S.took sink.old) (S.took sink.new) (place_line number at)) }
-    ensures grows { S.faults sink.old ≤ S.faults sink.new }
-    ensures failed { OnErr result (Rose (S.faults sink.old) (S.faults sink.new)) }
-{
-    tell_two(sink, b"interlock: station refused ", number, b" at ", at)
-}
-
-// The number of a limit.
-fn limit_number(what: What) -> u32
-    ensures { result ≡ limit_number what }
-{
-    match what {
-        What::Bytes => 1,
-        What::Parts => 2,
-        What::Bays => 3,
-        What::Nodes => 4,
-        What::Switches => 5,
-        What::BaySwitches => 6,
-        What::Links => 7,
-        What::Taps => 8,
-    }
-}
-
-// Writes the line of a drawing that is refused.
-fn tell_station<S: Sink>(sink: &mut S, refusal: &SsdRefusal) -> Result<(), Failed>
-    ensures ok { OnOk result (Appends (S.took sink.old) (S.took sink.new) (station_line refusal.now)) }
-    ensures err { OnErr result (AppendsFront (S.took sink.old) (S.took sink.new) (station_line refusal.now)) }
-    ensures grows { S.faults sink.old ≤ S.faults sink.new }
-    ensures failed { OnErr result (Rose (S.faults sink.old) (S.faults sink.new)) }
-{
-    match refusal {
-        SsdRefusal::Encoding { at } => tell_place(sink, 1, *at),
-        SsdRefusal::Syntax { at } => tell_place(sink, 2, *at),
-        SsdRefusal::Doctype { at } => tell_place(sink, 3, *at),
-        SsdRefusal::Deep { at } => tell_place(sink, 4, *at),
-        SsdRefusal::Mismatch { at } => tell_place(sink, 5, *at),
-        SsdRefusal::Unclosed { at } => tell_place(sink, 6, *at),
-        SsdRefusal::Many { at } => tell_place(sink, 7, *at),
-        SsdRefusal::Root { at } => tell_place(sink, 8, *at),
-        SsdRefusal::NoName { at } => tell_place(sink, 9, *at),
-        SsdRefusal::Twice { at } => tell_place(sink, 10, *at),
-        SsdRefusal::NodeMissing { at } => tell_place(sink, 11, *at),
-        SsdRefusal::Terminals { at, count } => {
-            tell_two(
-                sink,
-                b"interlock: station refused 12 at ",
-                *at,
-                b" count ",
-                *count,
-            )
-        }
-        SsdRefusal::Grounded { at } => tell_place(sink, 13, *at),
-        SsdRefusal::Loop { at } => tell_place(sink, 14, *at),
-        SsdRefusal::Limit { what, count } => tell_two(
-            sink,
-            b"interlock: station refused 15 limit ",
-            limit_number(*what),
-            b" count ",
-            *count,
-        ),
-        SsdRefusal::Memory => write_all(sink, b"interlock: out of memory\n"),
-    }
-}
-
-// Writes the line of an end; nothing where the call is done.
+// Writes the line of an end; nothing where the text is written.
 pub(crate) fn tell<S: Sink>(sink: &mut S, end: &End) -> Result<(), Failed>
     ensures ok { OnOk result (Appends (S.took sink.old) (S.took sink.new) (line_of end.now)) }
     ensures err { OnErr result (AppendsFront (S.took sink.old) (S.took sink.new) (line_of end.now)) }
@@ -106,7 +118,7 @@ pub(crate) fn tell<S: Sink>(sink: &mut S, end: &End) -> Result<(), Failed>
     ensures failed { OnErr result (Rose (S.faults sink.old) (S.faults sink.new)) }
 {
     match end {
-        End::Done => write_all(sink, b""),
+        End::Written(_) => write_all(sink, b""),
         End::Usage => write_all(sink, b"interlock: usage\n"),
         End::ReadFault => write_all(sink, b"interlock: read fault\n"),
         End::WriteFault => write_all(sink, b"interlock: write fault\n"),

@@ -1,59 +1,86 @@
 // The top call.
-ghost use Rattle.std.specs.Prelude.{◌≡◌, ◌⊎◌, map, string_bytes};
-ghost use Rattle.interlock_cli.specs.Command.{command_of};
-ghost use Rattle.interlock_cli.specs.Ends.{Answers, Ends};
-ghost use Rattle.interlock_cli.specs.Complete.{IsAnswered, IsCalm};
+ghost use Rattle.std.specs.Prelude.{◌≡◌, ◌↔◌, map, string_bytes, None, IfOk, IfErr};
+ghost use Rattle.interlock_cli.specs.Commands.{command_of, form_of};
+ghost use Rattle.interlock_cli.specs.Seen.{seen};
+ghost use Rattle.interlock_cli.specs.Form.{Gives, Stops};
+ghost use Rattle.interlock_cli.specs.Ends.{Answers, Ends, Wrote};
+ghost use Rattle.interlock_cli.specs.Complete.{Completes};
 
 use crate::check_command::check;
-use crate::end::{End, make_status};
+use crate::end::{End, Output, make_status};
 use crate::explain_command::explain;
 use crate::status::Status;
 use crate::tell::tell;
-use crate::words::{check_words, explain_words};
-use ilk_base::{Shelf, Sink, Source};
+use crate::words::{Command, make_command};
+use ilk_base::{Shelf, Sink, Source, write_all};
 use std::alloc::Global;
 
-// What the command that the words name writes, and how it ends.
-fn command<F: Shelf, I: Source, O: Sink>(
-    alloc: Global,
-    words: &[String],
-    shelf: &mut F,
-    input: &mut I,
-    out: &mut O,
-) -> End
-    ensures { Ends (command_of (map string_bytes words.now)) (F.held shelf.old)
-        record { shelf = F.faults shelf.old; input = I.faults input.old; out = O.faults out.old }
-        record { shelf = F.faults shelf.new; input = I.faults input.new; out = O.faults out.new }
-        (O.took out.old) (O.took out.new) result }
+// What a command has to write, or how it ends before it writes.
+fn output_of<F: Shelf>(alloc: Global, command: &Command, shelf: &mut F) -> Result<Output, End>
+    ensures ok { IfOk result (Gives (form_of (seen command.now)) (F.held shelf.old)) }
+    ensures err { IfErr result (Stops (form_of (seen command.now)) (F.held shelf.old) (F.faults shelf.old) (F.faults shelf.new)) }
 {
-    if let Some((station, positions)) = check_words(words) {
-        return check(alloc, station, positions, shelf, input, out);
+    match *command {
+        Command::Check { station, positions } => check(alloc, station, positions, shelf),
+        Command::Explain {
+            station,
+            positions,
+            direction,
+            switch,
+        } => explain(alloc, station, positions, direction, switch, shelf),
     }
-    match explain_words(words) {
-        None => End::Usage,
-        Some((station, positions, direction, switch)) => {
-            explain(
-                alloc, station, positions, direction, switch, shelf, input, out,
-            )
+}
+
+// Writes what a call has to write.
+fn write_output<O: Sink>(output: &Output, out: &mut O) -> End
+    ensures { Wrote output.now (O.faults out.old) (O.faults out.new) (O.took out.old) (O.took out.new) result }
+{
+    match write_all(out, output.text.bytes()) {
+        Ok(()) => End::Written(output.outcome),
+        Err(_) => End::WriteFault,
+    }
+}
+
+// Does what the words say, and tells how it ended.
+fn call<F: Shelf, O: Sink>(alloc: Global, words: &[String], shelf: &mut F, out: &mut O) -> End
+    ensures ends { Ends (command_of (map string_bytes words.now))
+        record {
+          held = F.held shelf.old;
+          reads_before = F.faults shelf.old;
+          reads_after = F.faults shelf.new;
+          writes_before = O.faults out.old;
+          writes_after = O.faults out.new;
+          out_old = O.took out.old;
+          out_new = O.took out.new;
         }
+        result }
+    ensures unread { command_of (map string_bytes words.now) ≡ None → shelf.new ≡ shelf.old }
+{
+    let Some(command) = make_command(words) else {
+        return End::Usage;
+    };
+    match output_of(alloc, &command, shelf) {
+        Ok(output) => write_output(&output, out),
+        Err(end) => end,
     }
 }
 
 /// Does what the words say, and answers with what status the program ends.
 ///
-/// The words are those of the command line, without the program's name. They are of the written form
-/// of a command where they are `check STATION POSITIONS`, or `explain STATION POSITIONS open SWITCH` (or
-/// `close`), no word empty or beginning with `-`; all else is `Usage`. The files are asked of the shelf
-/// in the order of the words, each judged before the next is read, then the switch that the words name
-/// is judged, and nothing is written before all are. On every status but `Done` one line goes to `err`,
-/// made without memory.
+/// The words are those of the command line, without the program's name. Where no word is empty or begins
+/// with `-`, and they are `check STATION POSITIONS`, or `explain STATION POSITIONS open SWITCH` (or
+/// `close`), they name that command; all else is `Usage`. What a command is given is judged in the order
+/// of the words, but for a switch that they name, which comes last. Each file is judged before the next is
+/// read, and nothing is written before all is accepted. On every status but `Done` and `Differs` one line
+/// goes to `err`, made without memory.
 ///
-/// The first clause says for which end the status stands, that the end has its cause (a fault only where
-/// a count of faults rose, a refusal exactly where the bytes have that fault), that `out` took the text
-/// that the command says for this end, or after a fault of the write a front of it, and that `err` took
-/// the end's line, or a front of it where its own count rose. The second says that a call of whose
-/// files the bytes are told and without fault, and in which no count rose, ends with `Done`, or wants
-/// memory.
+/// `answers` says for which end the status stands, that the end has its cause (a fault only where the
+/// count of what was asked rose, a refusal exactly where the content has that fault), that `out` took the
+/// text of the command, or after a fault of the write a front of it, and at every other end nothing, and
+/// that `err` took the end's line, or a front of it where its own count rose. Where a file is not told, it
+/// says the same of some content. `usage` and `unread` say that the call is `Usage` exactly where the words
+/// name no command, and then reads no file. `complete` says that a call whose files are told and accepted,
+/// and in which no count rose, ends as its text says, or wants memory. No command reads the input (`input`).
 pub fn run<F: Shelf, I: Source, O: Sink, E: Sink>(
     alloc: Global,
     words: &[String],
@@ -62,17 +89,33 @@ pub fn run<F: Shelf, I: Source, O: Sink, E: Sink>(
     out: &mut O,
     err: &mut E,
 ) -> Status
-    ensures answers { Answers result (command_of (map string_bytes words.now)) (F.held shelf.old)
-        record { shelf = F.faults shelf.old; input = I.faults input.old; out = O.faults out.old }
-        record { shelf = F.faults shelf.new; input = I.faults input.new; out = O.faults out.new }
-        (O.took out.old) (O.took out.new) (E.took err.old) (E.took err.new) (E.faults err.old) (E.faults err.new) }
-    ensures complete { IsAnswered (command_of (map string_bytes words.now)) (F.held shelf.old)
-        → IsCalm (command_of (map string_bytes words.now))
-        record { shelf = F.faults shelf.old; input = I.faults input.old; out = O.faults out.old }
-        record { shelf = F.faults shelf.new; input = I.faults input.new; out = O.faults out.new }
-        → (result ≡ Status.Done) ⊎ (result ≡ Status.Memory) }
+    ensures answers { Answers result (command_of (map string_bytes words.now))
+        record {
+          held = F.held shelf.old;
+          reads_before = F.faults shelf.old;
+          reads_after = F.faults shelf.new;
+          writes_before = O.faults out.old;
+          writes_after = O.faults out.new;
+          out_old = O.took out.old;
+          out_new = O.took out.new;
+        }
+        (E.took err.old) (E.took err.new) (E.faults err.old) (E.faults err.new) }
+    ensures usage { (result ≡ Status.Usage) ↔ (command_of (map string_bytes words.now) ≡ None) }
+    ensures unread { command_of (map string_bytes words.now) ≡ None → shelf.new ≡ shelf.old }
+    ensures complete { Completes result (command_of (map string_bytes words.now))
+        record {
+          held = F.held shelf.old;
+          reads_before = F.faults shelf.old;
+          reads_after = F.faults shelf.new;
+          writes_before = O.faults out.old;
+          writes_after = O.faults out.new;
+          out_old = O.took out.old;
+          out_new = O.took out.new;
+        } }
+    ensures input { input.new ≡ input.old }
 {
-    let end = command(alloc, words, shelf, input, out);
+    let _ = input;
+    let end = call(alloc, words, shelf, out);
     let _ = tell(err, &end);
     make_status(&end)
 }

@@ -1,9 +1,25 @@
 // What the words name.
-ghost use Rattle.std.specs.Prelude.{◌≡◌, ◌≢◌, ℕ, List, map, string_bytes, IfSome, IfNone};
-ghost use Rattle.ilk_base.specs.declared.words.Direction.{Direction as AnyDirection};
-ghost use Rattle.interlock_cli.specs.Command.{Check, Explain, command_of, direction_of, is_plain};
+ghost use Rattle.std.specs.Prelude.{◌≡◌, map, option_map, string_bytes};
+ghost use Rattle.std.specs.List.{list_all};
+ghost use Rattle.interlock_cli.specs.Commands.{check_of, command_of, direction_of, explain_of, is_plain, named};
+ghost use Rattle.interlock_cli.specs.Seen.{seen};
 
 use ilk_base::Direction;
+
+// A command, with its words.
+#[derive(Clone, Copy)]
+pub enum Command<'a> {
+    Check {
+        station: &'a str,
+        positions: &'a str,
+    },
+    Explain {
+        station: &'a str,
+        positions: &'a str,
+        direction: Direction,
+        switch: &'a str,
+    },
+}
 
 // Whether a word is not empty and does not begin with `-`.
 fn is_plain(word: &str) -> bool
@@ -15,21 +31,14 @@ fn is_plain(word: &str) -> bool
     }
 }
 
-// The two files of `check`, where the words are of its form.
-pub(crate) fn check_words(words: &[String]) -> Option<(&str, &str)>
-    ensures none { IfNone result ((s p : List ℕ) → command_of (map string_bytes words.entry.now) ≢ Check s p) }
-    ensures some { IfSome result (λ p. command_of (map string_bytes words.entry.now) ≡ Check p.0.now p.1.now) }
+// Whether no word is empty or begins with `-`.
+fn are_plain(words: &[String]) -> bool
+    ensures { result ≡ list_all is_plain (map string_bytes words.now) }
 {
-    let [name, station, positions] = words else {
-        return None;
-    };
-    let name = name.as_str();
-    let station = station.as_str();
-    let positions = positions.as_str();
-    if name == "check" && is_plain(station) && is_plain(positions) {
-        return Some((station, positions));
+    match words {
+        [] => true,
+        [first, rest @ ..] => is_plain(first.as_str()) && are_plain(rest),
     }
-    None
 }
 
 // The direction that a word names.
@@ -43,23 +52,54 @@ fn direction_of(word: &str) -> Option<Direction>
     }
 }
 
-// The two files, the direction and the switch of `explain`, where the words are of its form.
-pub(crate) fn explain_words(words: &[String]) -> Option<(&str, &str, Direction, &str)>
-    ensures none { IfNone result ((s p : List ℕ) (d : AnyDirection) (w : List ℕ) → command_of (map string_bytes words.entry.now) ≢ Explain s p d w) }
-    ensures some { IfSome result (λ w. command_of (map string_bytes words.entry.now) ≡ Explain w.0.now w.1.now w.2 w.3.now) }
+// `check STATION POSITIONS`.
+fn check_words(rest: &[String]) -> Option<Command<'_>>
+    ensures { check_of (map string_bytes rest.entry.now) ≡ option_map seen result }
 {
-    let [name, station, positions, direction, switch] = words else {
+    let [station, positions] = rest else {
         return None;
     };
-    let name = name.as_str();
-    let station = station.as_str();
-    let positions = positions.as_str();
-    let switch = switch.as_str();
-    if name != "explain" || !is_plain(station) || !is_plain(positions) || !is_plain(switch) {
+    Some(Command::Check {
+        station: station.as_str(),
+        positions: positions.as_str(),
+    })
+}
+
+// `explain STATION POSITIONS open SWITCH`, or `close`.
+fn explain_words(rest: &[String]) -> Option<Command<'_>>
+    ensures { explain_of (map string_bytes rest.entry.now) ≡ option_map seen result }
+{
+    let [station, positions, direction, switch] = rest else {
         return None;
-    }
+    };
     match direction_of(direction.as_str()) {
-        Some(direction) => Some((station, positions, direction, switch)),
+        Some(direction) => Some(Command::Explain {
+            station: station.as_str(),
+            positions: positions.as_str(),
+            direction,
+            switch: switch.as_str(),
+        }),
         None => None,
     }
+}
+
+// The command of words of which none is empty or begins with `-`.
+fn named(words: &[String]) -> Option<Command<'_>>
+    ensures { named (map string_bytes words.entry.now) ≡ option_map seen result }
+{
+    let [name, rest @ ..] = words else {
+        return None;
+    };
+    match name.as_str() {
+        "check" => check_words(rest),
+        "explain" => explain_words(rest),
+        _ => None,
+    }
+}
+
+// The command that the words name.
+pub(crate) fn make_command(words: &[String]) -> Option<Command<'_>>
+    ensures { command_of (map string_bytes words.entry.now) ≡ option_map seen result }
+{
+    if are_plain(words) { named(words) } else { None }
 }

@@ -7,4 +7,8 @@ mod drawings;
 #[cfg(test)]
 mod explanations;
 #[cfg(test)]
+mod hostile;
+#[cfg(test)]
+mod refusals;
+#[cfg(test)]
 mod rows;

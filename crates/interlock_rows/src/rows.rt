@@ -48,11 +48,19 @@ const TEN: [&str; 10] = [
 
 // A row on the two feeders: which switches are on, and for each switch the rule that opening it breaks
 // and that closing it breaks, or a point.
-struct Row {
-    on: &'static [u8; 10],
+#[derive(Clone, Copy)]
+pub(crate) struct Row {
+    pub(crate) on: &'static [u8; 10],
     opening: &'static [u8; 10],
     closing: &'static [u8; 10],
 }
+
+// Both feeders through: the four switches of each from the busbar to the line, and the infeeds, are on.
+pub(crate) const BOTH_THROUGH: Row = Row {
+    on: b"1110111101",
+    opening: b"3.3..3.3..",
+    closing: b"3.31.3.31.",
+};
 
 // All off; an infeed on; an earthing switch on; earthed behind an open breaker, apart from the busbar
 // and on it; both feeders through.
@@ -82,11 +90,7 @@ const ROWS: &[Row] = &[
         opening: b"..........",
         closing: b"2221222212",
     },
-    Row {
-        on: b"1110111101",
-        opening: b"3.3..3.3..",
-        closing: b"3.31.3.31.",
-    },
+    BOTH_THROUGH,
 ];
 
 // What is printed of a release, and of the rule that its denial breaks.
@@ -114,7 +118,7 @@ pub(crate) fn positions_of(alloc: Global, on: &[u8; 10]) -> Result<Text, Memory>
     Ok(positions)
 }
 
-fn lines_of(alloc: Global, row: &Row) -> Result<Text, Memory> {
+pub(crate) fn lines_of(alloc: Global, row: &Row) -> Result<Text, Memory> {
     let mut text = Text::new(alloc);
     for i in 0..10 {
         text.push(release_of(row.opening[i]).as_bytes())?;
@@ -253,119 +257,6 @@ fn whole_answers(rt: HostRuntime) -> Result<(), Fail> {
             positions.as_bytes(),
             want,
         )?;
-    }
-    Ok(())
-}
-
-#[test]
-fn refusals(rt: HostRuntime) -> Result<(), Fail> {
-    let alloc = rt.alloc();
-    let line = "check a.ssd a.csv";
-    for (station, text) in [
-        (b"".as_slice(), "interlock: station refused 2 at 0\n"),
-        (
-            b"<SCL><Substation name=\"S\"",
-            "interlock: station refused 2 at 5\n",
-        ),
-        (b"\xFF\xFE\x3C\x00", "interlock: station refused 1 at 0\n"),
-        (
-            b"<!DOCTYPE SCL><SCL/>",
-            "interlock: station refused 3 at 0\n",
-        ),
-        (b"<A/>", "interlock: station refused 8 at 0\n"),
-        (
-            b"<SCL><Substation name=\"S\"><VoltageLevel name=\"V\"><Bay name=\"Q\"><ConnectivityNode name=\"a\"/><ConductingEquipment name=\"E\" type=\"DIS\"><Terminal connectivityNode=\"S/V/Q/a\" cNodeName=\"a\"/></ConductingEquipment></Bay></VoltageLevel></Substation></SCL>",
-            "interlock: station refused 12 at 91 count 1\n",
-        ),
-    ] {
-        expect(
-            &rt,
-            alloc,
-            line,
-            station,
-            b"",
-            (Status::StationRefused, b"", text),
-        )?;
-    }
-    let station = TWO_FEEDERS.as_bytes();
-    for (positions, text) in [
-        (
-            b"S/V1/Q1/QX,on".as_slice(),
-            "interlock: input refused 2 line 1\n",
-        ),
-        (
-            b"S/V1/Q1/QB1,on\nS/V1/Q1/QB1,on\n",
-            "interlock: input refused 4 line 2\n",
-        ),
-        (b"S/V1/Q1/QB1,up", "interlock: input refused 3 line 1\n"),
-        (b"S/V1/Q1/QB1", "interlock: input refused 1 line 1\n"),
-        (b"S/V1/Q1/QB1\xFF,on", "interlock: input refused 1 line 1\n"),
-    ] {
-        let want = (Status::InputRefused, b"".as_slice(), text);
-        expect(&rt, alloc, line, station, positions, want)?;
-    }
-    for (words, status, text) in [
-        ("", Status::Usage, "interlock: usage\n"),
-        ("check a.ssd", Status::Usage, "interlock: usage\n"),
-        ("check a.ssd -p", Status::Usage, "interlock: usage\n"),
-        (
-            "check a.ssd a.csv more",
-            Status::Usage,
-            "interlock: usage\n",
-        ),
-        ("help", Status::Usage, "interlock: usage\n"),
-        (
-            "check b.ssd a.csv",
-            Status::ReadFault,
-            "interlock: read fault\n",
-        ),
-        (
-            "check a.ssd b.csv",
-            Status::ReadFault,
-            "interlock: read fault\n",
-        ),
-    ] {
-        expect(&rt, alloc, words, station, b"", (status, b"", text))?;
-    }
-    Ok(())
-}
-
-#[test]
-fn failing_calls(rt: HostRuntime) -> Result<(), Fail> {
-    let alloc = rt.alloc();
-    let words = words_of(alloc, "check a.ssd a.csv")?;
-    let text = "1 0 - R1 S/V1/Q1/QC9\n1 1 - - S/V1/Q1/E1\n".as_bytes();
-    for call in 1..21 {
-        let mut shelf = MemShelf::new(alloc);
-        shelf.put("a.ssd", AS_A_TOOL_WRITES.as_bytes())?;
-        shelf.put("a.csv", b"S/V1/Q1/QC9,off\nS/V1/Q1/E1,on\n")?;
-        let mut input = MemSource::new(alloc, b"", 1)?;
-        // the write of that number fails, and one byte is taken in each call
-        let mut out = MemSink::new(alloc, 100, 1)?;
-        out.fail(call)?;
-        let mut err = MemSink::new(alloc, 100, 100)?;
-        let status = run(alloc, &words, &mut shelf, &mut input, &mut out, &mut err);
-        assert_eq!(rt; status, Status::WriteFault);
-        assert_eq!(rt; out.bytes().len() + 1, call as usize);
-        assert!(rt; text.starts_with(out.bytes()));
-        assert_eq!(rt; err.bytes(), b"interlock: write fault\n".as_slice());
-        // the read of that number fails, of which there are two; and each write to `err` fails
-        let mut shelf = MemShelf::new(alloc);
-        shelf.put("a.ssd", AS_A_TOOL_WRITES.as_bytes())?;
-        shelf.put("a.csv", b"S/V1/Q1/QC9,off\nS/V1/Q1/E1,on\n")?;
-        shelf.fail(call)?;
-        let mut out = MemSink::new(alloc, 100, 100)?;
-        let mut err = MemSink::new(alloc, 0, 1)?;
-        let status = run(alloc, &words, &mut shelf, &mut input, &mut out, &mut err);
-        let want = if call < 3 {
-            Status::ReadFault
-        } else {
-            Status::Done
-        };
-        let written = if call < 3 { b"".as_slice() } else { text };
-        assert_eq!(rt; status, want);
-        assert_eq!(rt; out.bytes(), written);
-        assert_eq!(rt; err.bytes(), b"".as_slice());
     }
     Ok(())
 }

@@ -1,0 +1,44 @@
+-- What is found after a first read holds of what stood there before it.
+use Rattle.std.proofs.Common.{◌≡◌, ◌≤◌, ℕ, List, Option, Some, None, refl, sym, ◌∙◌, arith, inl, inr}
+use Rattle.std.specs.Prelude.{IfSome}
+use Rattle.std.specs.Io.KnownBytes.{Keeps}
+use Rattle.ilk_base.specs.Outside.{Rose}
+use Rattle.interlock_cli.specs.Formats.{Format, Value}
+use Rattle.interlock_cli.specs.Judging.{JudgeFails, Onward}
+use Rattle.interlock_cli.specs.Form.{Origin, File, Word, IsContent, Given, ReadRose, Fails}
+use Rattle.interlock_cli.specs.declared.end.End.{End}
+use Rattle.interlock_cli.specs.declared.end.End.TheVariants as e
+use Rattle.interlock_cli.proofs.Cuts.{no_fault}
+
+kept_content : (a b : Option (List ℕ)) (content : List ℕ) → Keeps a b → IfSome b (λ h. h ≡ content) → IfSome a (λ h. h ≡ content)
+kept_content None b content k is = tt
+kept_content (Some x) None content k is = absurd k
+kept_content (Some x) (Some y) content k is = sym k ∙ is
+
+rose_later : (a b c : ℕ) → a ≤ b → Rose b c → Rose a c
+rose_later a b c le (inl lt) = inl (omega (arith, le, lt))
+rose_later a b c le (inr top) = inr top
+
+module _ {held later : List ℕ → Option (List ℕ)} {before between : List ℕ → ℕ} (onward : Onward held later before between) where
+  content_later : (origin : Origin) (content : List ℕ) → IsContent later origin content → IsContent held origin content
+  content_later (File name) content is = kept_content (held name) (later name) content (onward.keeps name) is
+  content_later (Word word) content is = is
+
+  pub given_later : (origin : Origin) (f : Format) (value : Value f) → Given later origin f value → Given held origin f value
+  given_later origin f value (content, is, accepts) = (content, content_later origin content is, accepts)
+
+  module _ (after : List ℕ → ℕ) where
+    read_later : (origin : Origin) → ReadRose between after origin → ReadRose before after origin
+    read_later (File name) rose = rose_later _ _ _ (onward.grows name) rose
+    read_later (Word word) rose = rose
+
+    pub fails_later : (origin : Origin) (f : Format) (end : End) → Fails later between after origin f end → Fails held before after origin f end
+    fails_later origin f e.Memory fails = tt
+    fails_later origin f e.ReadFault fails = read_later origin fails
+    fails_later origin f end (content, is, refuses) = (content, content_later origin content is, refuses)
+
+-- a word that is not accepted
+pub word_fails : (held : List ℕ → Option (List ℕ)) (before after : List ℕ → ℕ) (f : Format) (word : List ℕ) (end : End) → JudgeFails f word end → Fails held before after (Word word) f end
+word_fails held before after f word e.Memory fails = tt
+word_fails held before after f word e.ReadFault fails = absurd (no_fault f word fails)
+word_fails held before after f word end fails = (word, refl, fails)

@@ -1,0 +1,58 @@
+-- The commands: one constructor, one row of words and one form for each.
+use Rattle.std.specs.Prelude.{◌≡◌, ◌==◌, ℕ, Bool, false, not, List, [], ◌∷◌, Option, Some, None, option_map, codes, if◌then◌else◌}
+use Rattle.std.specs.List.{list_all}
+use Rattle.std.specs.Str.{bytes_eq}
+use Rattle.ilk_base.specs.declared.words.Direction.{Direction}
+use Rattle.ilk_base.specs.declared.words.Direction.TheVariants.{ToOff, ToOn}
+use Rattle.interlock_cli.specs.Formats.{Drawing, Positions, SwitchOf}
+use Rattle.interlock_cli.specs.Form.{Form, Write, Take, File, Word}
+use Rattle.interlock_cli.specs.CheckText.{IsCheckText}
+use Rattle.interlock_cli.specs.ExplainText.{IsExplainText}
+use Rattle.interlock_cli.specs.declared.end.Outcome.{Outcome}
+use Rattle.interlock_cli.specs.declared.end.Outcome.TheVariants.{Done}
+
+pub data Command : Type 0 where
+  -- `check STATION POSITIONS`
+  Check : List ℕ → List ℕ → Command
+  -- `explain STATION POSITIONS open SWITCH`, or `close`
+  Explain : List ℕ → List ℕ → Direction → List ℕ → Command
+
+-- a word that is not empty and does not begin with `-`
+abbrev pub is_plain : List ℕ → Bool
+is_plain [] = false
+is_plain (c ∷ cs) = not (c == 45)
+
+-- the direction that a word names
+abbrev pub direction_of : List ℕ → Option Direction
+direction_of word = if bytes_eq word (codes "open") then Some ToOff else (if bytes_eq word (codes "close") then Some ToOn else None)
+
+abbrev pub check_of : List (List ℕ) → Option Command
+check_of (station ∷ positions ∷ []) = Some (Check station positions)
+check_of _ = None
+
+abbrev pub explain_of : List (List ℕ) → Option Command
+explain_of (station ∷ positions ∷ direction ∷ switch ∷ []) = option_map (λ d. Explain station positions d switch) (direction_of direction)
+explain_of _ = None
+
+-- what the words name, the command's name first
+abbrev pub named : List (List ℕ) → Option Command
+named [] = None
+named (name ∷ rest) =
+    if bytes_eq name (codes "check") then check_of rest
+    else if bytes_eq name (codes "explain") then explain_of rest
+    else None
+
+-- what the words name, where no word is empty or begins with `-`
+abbrev pub command_of : List (List ℕ) → Option Command
+command_of words = if list_all is_plain words then named words else None
+
+-- a text with which the call ends Done
+abbrev pub IsDone : (List ℕ → Type 0) → Outcome → List ℕ → Type 0
+IsDone IsText outcome text = (outcome ≡ Done) × IsText text
+
+abbrev pub form_of : Command → Form
+form_of (Check station positions) =
+    Take (File station) Drawing (λ d. Take (File positions) (Positions d) (λ words. Write (IsDone (IsCheckText d words))))
+form_of (Explain station positions direction switch) =
+    Take (File station) Drawing (λ d. Take (File positions) (Positions d) (λ words.
+    Take (Word switch) (SwitchOf d) (λ path. Write (IsDone (IsExplainText d words direction path)))))

@@ -1,0 +1,59 @@
+-- The form of a command: what it is given, in the order in which it is judged, and what it then writes.
+-- What a form means is said here once, for all commands.
+use Rattle.std.specs.Prelude.{◌≡◌, ◌⊎◌, ⊤, ℕ, List, Option, IfSome}
+use Rattle.ilk_base.specs.Outside.{Rose}
+use Rattle.interlock_cli.specs.Formats.{Format, Value, Accepts, Refuses}
+use Rattle.interlock_cli.specs.declared.end.Outcome.{Outcome}
+use Rattle.interlock_cli.specs.declared.end.Output.{Output}
+use Rattle.interlock_cli.specs.declared.end.End.{End}
+use Rattle.interlock_cli.specs.declared.end.End.TheVariants as e
+
+-- where a content comes from: a file of this name, or this word itself
+pub data Origin : Type 0 where
+  File : List ℕ → Origin
+  Word : List ℕ → Origin
+
+pub data Form : Type 1 where
+  -- all is accepted: the command writes a text, and ends so
+  Write : (Outcome → List ℕ → Type 0) → Form
+  -- this content is judged next, and what it is accepted as says how the command goes on
+  Take : Origin → (f : Format) → (Value f → Form) → Form
+
+-- the content of the origin is this, where it is told
+abbrev pub IsContent : (List ℕ → Option (List ℕ)) → Origin → List ℕ → Type 0
+IsContent held (File name) content = IfSome (held name) (λ h. h ≡ content)
+IsContent held (Word word) content = word ≡ content
+
+-- a content of the origin is accepted, as this
+abbrev pub Given : (List ℕ → Option (List ℕ)) → Origin → (f : Format) → Value f → Type 0
+Given held origin f value = (content : List ℕ) × IsContent held origin content × Accepts f content value
+
+-- a content of the origin is refused, and the call ends so
+abbrev pub Refused : (List ℕ → Option (List ℕ)) → Origin → Format → End → Type 0
+Refused held origin f end = (content : List ℕ) × IsContent held origin content × Refuses f content end
+
+-- the count of faults of the origin rose
+abbrev pub ReadRose : (List ℕ → ℕ) → (List ℕ → ℕ) → Origin → Type 0
+ReadRose before after (File name) = Rose (before name) (after name)
+ReadRose before after (Word word) = ⊥
+
+-- why a content is not accepted: for memory, by a fault of its read, or it is refused
+abbrev pub Fails : (List ℕ → Option (List ℕ)) → (List ℕ → ℕ) → (List ℕ → ℕ) → Origin → Format → End → Type 0
+Fails held before after origin f e.Memory = ⊤
+Fails held before after origin f e.ReadFault = ReadRose before after origin
+Fails held before after origin f end = Refused held origin f end
+
+-- all that the form names is accepted, and it then writes this text and ends so
+abbrev pub Says : Form → (List ℕ → Option (List ℕ)) → Outcome → List ℕ → Type 0
+Says (Write writes) held outcome text = writes outcome text
+Says (Take origin f next) held outcome text = (value : Value f) × Given held origin f value × Says (next value) held outcome text
+
+-- the same, of what a call has to write
+abbrev pub Gives : Form → (List ℕ → Option (List ℕ)) → Output → Type 0
+Gives form held output = Says form held output.outcome output.text
+
+-- the form ends before it writes: at the first content that is not accepted, or for memory
+abbrev pub Stops : Form → (List ℕ → Option (List ℕ)) → (List ℕ → ℕ) → (List ℕ → ℕ) → End → Type 0
+Stops (Write writes) held before after end = end ≡ e.Memory
+Stops (Take origin f next) held before after end =
+    Fails held before after origin f end ⊎ ((value : Value f) × Given held origin f value × Stops (next value) held before after end)

@@ -1,0 +1,11 @@
+-- A number of a line in two pieces: its label and its digits, both empty where there is none.
+use Rattle.std.specs.Prelude.{ℕ, List, [], Option, Some, None}
+use Rattle.std.specs.Fmt.{decimal}
+
+abbrev pub label_of : List ℕ → Option ℕ → List ℕ
+label_of label None = []
+label_of label (Some n) = label
+
+abbrev pub digits_of : Option ℕ → List ℕ
+digits_of None = []
+digits_of (Some n) = decimal n

@@ -1,0 +1,8 @@
+-- What a contract sees of a command.
+use Rattle.interlock_cli.specs.Commands as c
+use Rattle.interlock_cli.specs.declared.words.Command.{Command}
+use Rattle.interlock_cli.specs.declared.words.Command.TheVariants.{Check, Explain}
+
+abbrev pub seen : Command → c.Command
+seen (Check station positions) = c.Check station.now positions.now
+seen (Explain station positions direction switch) = c.Explain station.now positions.now direction switch.now
