@@ -1,7 +1,7 @@
 -- The lines of a text in bytes, and which of them are not empty. What a line is, is said by `lines` of the
 -- standard library: a line ends with LF or CR LF, the last may end with the text, and a CR is part of the
 -- end only before LF.
-use Rattle.std.specs.Prelude.{◌≡◌, ℕ, ◌+◌, ◌<◌, ◌++◌, Bool, true, false, List, [], ◌∷◌, filter, length}
+use Rattle.std.specs.Prelude.{◌≡◌, ◌≢◌, ℕ, ◌+◌, ◌-◌, ◌++◌, Bool, true, false, List, [], ◌∷◌, filter, length, slice_get, Some}
 use Rattle.std.specs.List.{enumerate_from}
 use Rattle.std.specs.Str.Lines.{lines}
 
@@ -31,7 +31,11 @@ filled_left u = filled_from (u.passed + 1) u.left
 abbrev pub line_count : Unread → ℕ
 line_count u = u.passed + length u.left
 
--- The line is this head and what follows it, and something follows.
+-- There is a last byte, and it is not CR, which is part of the end of a line only before LF.
+abbrev pub EndsPlainly : List ℕ → Type 0
+EndsPlainly bytes = (last : ℕ) × (slice_get bytes (length bytes - 1) ≡ Some last) × (last ≢ 13)
+
+-- The line is this head and what follows it; something follows, and it does not end with CR.
 pub record Continues (head rest line : List ℕ) : Type 0 where
   pub is : line ≡ head ++ rest
-  pub filled : 0 < length rest
+  pub ends : EndsPlainly rest

@@ -1,9 +1,19 @@
 //! What a line begins with.
-ghost use Rattle.std.specs.Prelude.{List, ℕ, IfSome, IfNone};
-ghost use Rattle.text_lines.specs.Lines.{Continues};
+ghost use Rattle.std.specs.Prelude.{List, ℕ, ◌↔◌, IsTrue, IfSome, IfNone};
+ghost use Rattle.text_lines.specs.Lines.{EndsPlainly, Continues};
 
-/// What follows the head in the line; none where the line begins otherwise, or where nothing follows.
-/// Time: the length of the head.
+// Whether there is a last byte, and it is not CR.
+fn ends_plainly(bytes: &[u8]) -> bool
+    ensures { IsTrue result ↔ EndsPlainly bytes.now }
+{
+    match bytes.last() {
+        Some(byte) => *byte != b'\r',
+        None => false,
+    }
+}
+
+/// What follows the head in the line; none where the line begins otherwise, where nothing follows, or where
+/// the line ends with CR, which is part of the end of a line only before LF. Time: the length of the head.
 pub fn after<'a>(line: &'a [u8], head: &[u8]) -> Option<&'a [u8]>
     ensures some { IfSome result (λ rest. Continues head.now rest.now line.now) }
     ensures none { IfNone result ((rest : List ℕ) → ¬ Continues head.now rest line.now) }
@@ -11,7 +21,7 @@ pub fn after<'a>(line: &'a [u8], head: &[u8]) -> Option<&'a [u8]>
     let Some(rest) = line.strip_prefix(head) else {
         return None;
     };
-    if rest.is_empty() {
+    if !ends_plainly(rest) {
         return None;
     }
     Some(rest)

@@ -1,5 +1,5 @@
 // Which lines a text has. The expected lines are written out by hand.
-use crate::Lines;
+use crate::{Lines, after};
 use std::test::Fail;
 
 // The texts and their lines that are not empty, with their numbers.
@@ -21,6 +21,24 @@ fn filled_lines(rt: HostRuntime) -> Result<(), Fail> {
             assert_eq!(rt; lines.next_filled(), Some((*number, *line)));
         }
         assert_eq!(rt; lines.next_filled(), None);
+    }
+    Ok(())
+}
+
+// Lines and what follows `open ` in them.
+const HEADS: &[(&[u8], Option<&[u8]>)] = &[
+    (b"open a b", Some(b"a b")),
+    (b"open \ra", Some(b"\ra")),
+    (b"open a\r", None),
+    (b"open ", None),
+    (b"ope", None),
+    (b"close a", None),
+];
+
+#[test]
+fn what_follows_a_head(rt: HostRuntime) -> Result<(), Fail> {
+    for (line, wanted) in HEADS {
+        assert_eq!(rt; after(line, b"open "), *wanted);
     }
     Ok(())
 }

@@ -1,25 +1,24 @@
-use Rattle.std.proofs.Common.{◌≡◌, ◌∙◌, sym, ap, ℕ, ◌<◌, List, ◌++◌, length, arith, None, Some}
-use borrow.Author.Tests.{eqb-true, eqb-false}
+use Rattle.std.proofs.Common.{◌≢◌, ◌∙◌, sym, subst, true, false, None, Some}
+use Rattle.std.proofs.lemmas.List.{append_cancel_left}
 use Rattle.std.proofs.lemmas.Slice.Eq.{strip_prefix_is}
 use Rattle.std.proofs.lemmas.Bool.Decides.{Decides-eqb}
-use Rattle.std.proofs.lemmas.List.{length-append}
-use Rattle.text_lines.specs.Lines.{Continues}
+use Rattle.text_lines.specs.Lines.{EndsPlainly}
 use Rattle.text_lines.proofs.heads.after.Goals as goal
 
--- what stands after the head is as long as what was found there
-no_longer : (head found rest line : List ℕ) → line ≡ head ++ found → Continues head rest line → 0 < length found
-no_longer head found rest line is continues = omega (arith, continues.filled, ap length (sym is ∙ continues.is), length-append head found, length-append head rest)
+true_is_not_false : true ≢ false
+true_is_not_false e = cc
 
 pub returns-in_default-clause-none : goal.returns-in_default-clause-none
 returns-in_default-clause-none c = λ rest continues. strip_prefix_is Decides-eqb c.args.line.now c.args.head.now None c.in_default.ensures.cases rest continues.is
 
-pub returns-then-is_empty-clause-none : goal.returns-then-is_empty-clause-none
-returns-then-is_empty-clause-none c = λ rest continues.
+pub returns-then-not-ends_plainly-clause-none : goal.returns-then-not-ends_plainly-clause-none
+returns-then-not-ends_plainly-clause-none c = λ rest continues.
     let found = strip_prefix_is Decides-eqb c.args.line.now c.args.head.now (Some c.in-Some.rest) c.in-Some.ensures.cases in
-    omega (arith, no_longer _ _ rest _ found continues, eqb-true _ _ (sym c.is_empty.ensures ∙ c.if-is_empty.true))
+    let same = append_cancel_left c.args.head.now rest c.in-Some.rest.now (sym continues.is ∙ found) in
+    true_is_not_false (sym (c.ends_plainly.ensures.1 (subst EndsPlainly same continues.ends)) ∙ c.if-not-ends_plainly.true)
 
 pub returns-clause-some : goal.returns-clause-some
 returns-clause-some c = record {
   is = strip_prefix_is Decides-eqb c.args.line.now c.args.head.now (Some c.in-Some.rest) c.in-Some.ensures.cases;
-  filled = omega (arith, eqb-false _ _ (sym c.is_empty.ensures ∙ c.if-is_empty.false));
+  ends = c.ends_plainly.ensures.0 c.if-not-ends_plainly.false;
 }
