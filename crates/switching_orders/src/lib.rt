@@ -16,3 +16,6 @@ pub use order::{MOST_STEPS, Order};
 pub use reading::{OrderFault, read_order};
 pub use ruling::{Ruling, Step};
 pub use text::{OrderReport, order_text};
+
+#[cfg(test)]
+mod tests;
