@@ -1,6 +1,7 @@
 // Deciding a command.
 ghost use Rattle.std.specs.Prelude.{◌≡◌, ◌≢◌, ◌<◌, length, IfOk, OnErr};
 ghost use Rattle.station_graph.specs.Diagram.{part_count};
+ghost use Rattle.double_points.specs.Words.{AreWords};
 ghost use Rattle.central_rules.specs.Meaning.{HeardFit, Knows};
 ghost use Rattle.central_rules.specs.Readings.{Decides};
 ghost use Rattle.bay_protocol.specs.State.{collects, opens, fresh};
@@ -38,7 +39,7 @@ fn verdict<J: Judge>(
     heard: &HeardList,
 ) -> Result<Verdict, Memory>
     requires own { IsOwn (J.meaning judge.now).diagram bay.0 op.switch.0 }
-    requires words { length words.now ≡ length (J.meaning judge.now).diagram.switches }
+    requires words { AreWords (J.meaning judge.now).diagram words.now }
     requires heard { length heard.now ≡ part_count (J.meaning judge.now).diagram }
     requires fits { HeardFit (J.meaning judge.now) bay.0 heard.now }
     ensures { IfOk result (Decides (J.meaning judge.now).diagram (Knows (J.meaning judge.now) bay.0 words.now heard.now) op) }
@@ -57,7 +58,7 @@ impl Node {
     ) -> Result<NodeOutput, Memory>
         requires same { (J.meaning judge.now).diagram ≡ station.now }
         requires own { IsOwn station.now self.old.bay collection.now.op.switch.0 }
-        requires words { length self.old.words ≡ length station.now.switches }
+        requires words { AreWords station.now self.old.words }
         requires heard { length collection.now.heard ≡ part_count station.now }
         requires fits { HeardFit (J.meaning judge.now) self.old.bay collection.now.heard }
         ensures step { IfOk result (λ out. Deciding (J.meaning judge.now) station.now (collects self.old collection.now.round collection.now) collection.now (turn self.new out)) }
@@ -168,7 +169,7 @@ impl Node {
     ) -> Result<NodeOutput, Memory>
         requires same { (J.meaning judge.now).diagram ≡ station.now }
         requires own { IsOwn station.now self.old.bay collection.op.switch.0 }
-        requires words { length self.old.words ≡ length station.now.switches }
+        requires words { AreWords station.now self.old.words }
         requires heard { length collection.heard ≡ part_count station.now }
         requires fits { HeardFit (J.meaning judge.now) self.old.bay collection.heard }
         ensures step { IfOk result (λ out. Deciding (J.meaning judge.now) station.now (collects self.old collection.round collection) collection (turn self.new out)) }

@@ -1,5 +1,6 @@
 // What is read, withdrawn, stopped or restarted.
 ghost use Rattle.std.specs.Prelude.{◌≡◌, ◌<◌, [], length, IfOk, OnErr, replicate};
+ghost use Rattle.double_points.specs.Words.{AreWords};
 ghost use Rattle.bay_protocol.specs.State.{restarts, ends, senses};
 ghost use Rattle.bay_protocol.specs.Sends.{overs};
 ghost use Rattle.bay_protocol.specs.Fits.{IsNode};
@@ -18,7 +19,7 @@ use std::alloc::Global;
 
 // Makes all words lost.
 fn forget_all(words: &mut Readings, station: &Station)
-    requires { length words.old ≡ length station.now.switches }
+    requires { AreWords station.now words.old }
     ensures { words.new ≡ replicate (length words.old) Dbpos.Lost }
 {
     for part in 0..part_count(station) {
@@ -124,7 +125,7 @@ impl Node {
 
     // Forgets what is not kept.
     pub(crate) fn restart(&mut self, alloc: Global, station: &Station) -> NodeOutput
-        requires { length self.old.words ≡ length station.now.switches }
+        requires { AreWords station.now self.old.words }
         ensures { Ends (turn self.new result) (restarts self.old) Outcome.Quiet [] }
     {
         self.collecting = None;

@@ -1,5 +1,6 @@
 // The frames that arrive.
 ghost use Rattle.std.specs.Prelude.{◌≡◌, ◌≢◌, ◌<◌, length, IfOk, OnErr};
+ghost use Rattle.double_points.specs.Words.{AreWords};
 ghost use Rattle.central_rules.specs.Meaning.{IsBay, Summarises};
 ghost use Rattle.bay_protocol.specs.State.{IsOther};
 ghost use Rattle.bay_protocol.specs.Sends.{frame};
@@ -40,7 +41,7 @@ impl Node {
     ) -> Result<NodeOutput, Memory>
         requires bay { IsBay (J.meaning judge.now).diagram self.old.bay }
         requires other { IsOther (J.meaning judge.now).diagram self.old.bay from.0 }
-        requires words { length self.old.words ≡ length (J.meaning judge.now).diagram.switches }
+        requires words { AreWords (J.meaning judge.now).diagram self.old.words }
         ensures step { IfOk result (λ out. Answering (J.meaning judge.now) self.old from.0 round (turn self.new out)) }
         ensures err { OnErr result (self.new ≡ self.old) }
     {
@@ -62,7 +63,7 @@ impl Node {
     ) -> Result<NodeOutput, Memory>
         requires bay { IsBay (J.meaning judge.now).diagram self.old.bay }
         requires other { IsOther (J.meaning judge.now).diagram self.old.bay from.0 }
-        requires words { length self.old.words ≡ length (J.meaning judge.now).diagram.switches }
+        requires words { AreWords (J.meaning judge.now).diagram self.old.words }
         ensures step { IfOk result (λ out. ReserveStep (J.meaning judge.now) self.old from.0 round (turn self.new out)) }
         ensures err { OnErr result (self.new ≡ self.old) }
     {

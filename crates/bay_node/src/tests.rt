@@ -15,11 +15,11 @@ mod reserving_rows;
 mod rows;
 
 use crate::tests::command_rows::COMMANDS;
-use crate::tests::drawings::built;
+use crate::tests::drawings::{Drawing, built};
 use crate::tests::event_rows::EVENTS;
 use crate::tests::frame_rows::FRAMES;
 use crate::tests::reserving_rows::RESERVING;
-use crate::tests::rows::{Happens, Row};
+use crate::tests::rows::{HIGHEST_0, Happens, Row};
 use crate::{Kept, Node, NodeEvent, NodeOutput, kept_fits};
 use bay_frames::FrameList;
 use bay_protocol::{is_bay, is_own};
@@ -239,6 +239,20 @@ fn try_rows(rt: &impl Abort, alloc: Global, rows: &[Row]) -> Result<(), Fail> {
         try_row(rt, alloc, row)?;
     }
     Ok(())
+}
+
+fn expect_new(rt: &impl Abort, alloc: Global, station: &Station) -> Result<(), Fail> {
+    assert!(rt; is_bay(station, BayId(1)));
+    let node = Node::new(alloc, station, BayId(1))?;
+    assert_eq!(rt; node.kept().to_bytes(), *HIGHEST_0);
+    assert_eq!(rt; node.collecting(), None);
+    Ok(())
+}
+
+#[test]
+fn nothing_at_first(rt: HostRuntime) -> Result<(), Fail> {
+    let station = built(&rt, rt.alloc(), Drawing::TwoFeeders)?;
+    expect_new(&rt, rt.alloc(), &station)
 }
 
 #[test]
