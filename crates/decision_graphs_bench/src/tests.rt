@@ -136,6 +136,16 @@ fn dependence(alloc: Global, graph: &Graph) -> Result<Vec<bool>, Memory> {
     Ok(depends)
 }
 
+/// The graph with each label replaced by its name.
+fn renamed(alloc: Global, graph: &Graph, names: &[u32]) -> anyhow::Result<Graph> {
+    let labels = graph.labels();
+    if names.len() != labels as usize || !names.iter().all(|name| *name < labels) {
+        bail!("no names of the labels");
+    }
+    let copy = graph.rename(alloc, labels, names)?;
+    Ok(copy)
+}
+
 // The start has two choices, and each of the two nodes after it two more: the label is the sum of the
 // choices, and label 3 is never reached.
 const SUM: [Option<u32>; 6] = [Some(0), Some(1), Some(0), Some(1), Some(1), Some(2)];
@@ -167,6 +177,19 @@ fn every_list_of_choices_ends_at_its_sum(rt: HostRuntime) -> anyhow::Result<()> 
         assert_eq!(rt; reached(alloc, &graph, &sets)?.as_slice(), want);
         assert_eq!(rt; ends(alloc, &graph, &sets)?.as_slice(), want);
     }
+    Ok(())
+}
+
+// Sums 0 and 2 change places, and the inner edges stay.
+#[test]
+fn a_renamed_label_stands_in_the_last_layer(rt: HostRuntime) -> anyhow::Result<()> {
+    let alloc = rt.alloc();
+    let graph = graph_of(alloc, 4, &[2, 2], &[1, 2], &SUM)?;
+    let copy = renamed(alloc, &graph, &[2, 1, 0, 3])?;
+    assert_eq!(rt;
+        all_edges(alloc, &copy)?.as_slice(),
+        [Some(1), Some(2), Some(2), Some(1), Some(1), Some(0)].as_slice()
+    );
     Ok(())
 }
 
@@ -210,6 +233,7 @@ fn reduces_and_tells_dependence(rt: HostRuntime) -> anyhow::Result<()> {
         let small = graph.reduce(alloc)?;
         assert_eq!(rt; node_total(&small), want);
         assert_eq!(rt; dependence(alloc, &graph)?.as_slice(), depends);
+        assert_eq!(rt; graph.dependencies(alloc)?.as_slice(), depends);
     }
     Ok(())
 }

@@ -1,0 +1,58 @@
+-- The inner graphs of a bay, one by one.
+use Rattle.std.proofs.Common.{◌≡◌, ℕ, ◌+◌, ◌-◌, ◌<◌, zero, suc, List, [], ◌∷◌, ◌++◌, get_or, slice_get, Some, refl, sym, ◌∙◌, subst, inl, inr, arith}
+use Rattle.std.proofs.lemmas.List.{length_push}
+use Rattle.std.proofs.lemmas.Option.{slice_get-get_or}
+use Rattle.station_graph.specs.Diagram.{Diagram, AreSwitchesOf}
+use Rattle.station_graph.proofs.PathLemmas.{slice_get-push}
+use Rattle.contraction.specs.Answers.{Answers}
+use Rattle.decision_graphs.specs.Label.{Layered}
+use Rattle.release_compile.specs.declared.view.View.{View}
+use Rattle.release_compile.specs.Lettered.{Lettered}
+use Rattle.release_compile.specs.Graphs.{IsOwn}
+use Rattle.release_compile.specs.Built.{BayOf, IsInnerAt, AreInner, AreBayGraphs, AreBays}
+
+-- one of so many switches of the bay
+pub own_of : (d : Diagram) (b first count i : ℕ) → AreSwitchesOf d b first count → i < count → IsOwn d b (first + i) first (count - 1)
+own_of d b first count i are lt = (let e : count ≡ suc (count - 1) = omega (arith, lt) in record {
+  those = subst (λ n. AreSwitchesOf d b first n) e are;
+  from = omega arith;
+  below = omega (arith, lt);
+})
+
+pub inner_none : (view : View) (a : Lettered) (b first count : ℕ) (names : List Answers) → AreInner view a b first count names [] 0
+inner_none view a b first count names = record { len = refl; each = λ i g at. absurd (no_graph i g at) }
+  where
+    no_graph : (i : ℕ) (g : Layered) → slice_get {X = Layered} [] i ≡ Some g → ⊥
+    no_graph zero g at = cc
+    no_graph (suc i) g at = cc
+
+pub inner_more : (view : View) (a : Lettered) (b first count : ℕ) (names : List Answers) (graphs : List Layered) (n : ℕ) (g : Layered) → AreInner view a b first count names graphs n → IsInnerAt view a b first count names n g → AreInner view a b first count names (graphs ++ g ∷ []) (n + 1)
+inner_more view a b first count names graphs n g are new = record {
+  len = omega (arith, length_push graphs g, are.len);
+  each = λ i h at. elim (slice_get-push graphs g h i at) [
+    | inl before ↦ are.each i h before
+    | inr here ↦ (let e : n ≡ i = sym (here.0 ∙ are.len) in subst (λ x. IsInnerAt view a b first count names i x) here.1 (subst (λ k. IsInnerAt view a b first count names k g) e new))
+  ];
+}
+
+-- ---- the bays of a station
+
+pub bays_none : (a : Lettered) → AreBays a [] 0
+bays_none a = record { len = refl; each = λ b g at. absurd (no_bay b g at) }
+  where
+    no_bay : (b : ℕ) (g : BayOf) → slice_get {X = BayOf} [] b ≡ Some g → ⊥
+    no_bay zero g at = cc
+    no_bay (suc b) g at = cc
+
+pub bays_more : (a : Lettered) (bays : List BayOf) (n : ℕ) (g : BayOf) → AreBays a bays n → AreBayGraphs a n g → AreBays a (bays ++ g ∷ []) (n + 1)
+bays_more a bays n g are new = record {
+  len = omega (arith, length_push bays g, are.len);
+  each = λ b h at. elim (slice_get-push bays g h b at) [
+    | inl before ↦ are.each b h before
+    | inr here ↦ (let e : n ≡ b = sym (here.0 ∙ are.len) in subst (λ x. AreBayGraphs a b x) here.1 (subst (λ k. AreBayGraphs a k g) e new))
+  ];
+}
+
+-- the graphs of a bay of the station
+pub bay_listed : (a : Lettered) (bays : List BayOf) (n b : ℕ) (d : BayOf) → AreBays a bays n → b < n → AreBayGraphs a b (get_or bays b d)
+bay_listed a bays n b d are lt = are.each b (get_or bays b d) (slice_get-get_or bays b d (omega (arith, lt, are.len)))

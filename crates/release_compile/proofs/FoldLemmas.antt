@@ -1,0 +1,94 @@
+-- A LAYER MORE IS EXACT: where each state answers for the items so far and each letter for the new ones, the next
+-- states answer for both.
+use Rattle.std.proofs.Common.{◌≡◌, ℕ, ◌+◌, ◌*◌, ◌<◌, ◌↔◌, suc, Bool, List, [], ◌∷◌, ◌++◌, length, get_or, slice_get, Some, sym, ap, ◌∙◌, subst, inl, inr, arith}
+use Rattle.std.specs.Prelude.{Contains}
+use Rattle.std.proofs.lemmas.Nat.{div-mul-add, mod-mul-add}
+use Rattle.std.proofs.lemmas.List.{length-append}
+use Rattle.std.proofs.lemmas.Option.{slice_get_within, slice_get_cases}
+use Rattle.station_graph.specs.Diagram.{Diagram}
+use Rattle.station_graph.specs.Connection.{Item}
+use Rattle.station_graph.specs.Alike.{IsVector}
+use Rattle.contraction.specs.Answers.{Answers}
+use Rattle.contraction.specs.Stands.{Among, MeetsKept}
+use Rattle.decision_graphs.specs.Label.{Layer, leads, AreLayers, LayerFits}
+use Rattle.decision_graphs.proofs.RowLemmas.{length-rows_of, element-rows_of, row_end, length-row}
+use Rattle.release_compile.specs.declared.view.View.{View}
+use Rattle.release_compile.specs.Seen.{SeenFor}
+use Rattle.release_compile.specs.Folding.{Carried, IsStep, StandsIn, AreChosen, IsExact}
+use Rattle.decision_graphs.specs.Finished.{layer_with}
+use Rattle.release_compile.proofs.LayerLemmas.{snoc, get_front, get_last, leads_more, layers_more}
+
+-- the element at a place that is within the list
+element : {X : Type 0} (xs : List X) (i : ℕ) → i < length xs → (x : X) × (slice_get xs i ≡ Some x)
+element xs i h = elim ((slice_get_cases xs i).1) [ inl w ↦ (w.0, w.2) | inr w ↦ absurd (omega (arith, w.0)) ]
+
+-- the edge of a state and a choice
+module _ (view : View) (keep : List ℕ) (states letters next : List Answers) (edges : List ℕ) (s : IsStep view keep states letters next edges) where
+  edge_in : (k c : ℕ) → k < length states → c < length letters → k * length letters + c < length edges
+  edge_in k c k_in c_in = omega (arith, s.len, row_end (length letters) (length states) k c k_in c_in)
+
+  pub carried_at : (k c : ℕ) (x y : Answers) → slice_get states k ≡ Some x → slice_get letters c ≡ Some y → Carried view x y next (get_or edges (k * length letters + c) 0)
+  carried_at k c x y at_k at_c =
+      let k_in = slice_get_within states k x at_k in
+      let c_in = slice_get_within letters c y at_c in
+      s.carried (k * length letters + c) x y (edge_in k c k_in c_in)
+      (ap (slice_get states) (div-mul-add k (length letters) c c_in) ∙ at_k)
+      (ap (slice_get letters) (mod-mul-add k (length letters) c c_in) ∙ at_c)
+
+  pub layer_fits : 0 < length states → 0 < length letters → LayerFits (length next) (layer_with (length letters) (length states) edges)
+  layer_fits some_state some_letter = record {
+    choices = some_letter;
+    nodes = omega (arith, length-rows_of (length letters) (length states) edges);
+    rows = λ k k_in. length-row (length letters) (length states) edges k (omega (arith, k_in, length-rows_of (length letters) (length states) edges)) (omega (arith, s.len));
+    edges = λ k c k_in c_in.
+        let k_st : k < length states = omega (arith, k_in, length-rows_of (length letters) (length states) edges) in
+        let x = element states k k_st in
+        let y = element letters c c_in in
+        let t = carried_at k c x.0 y.0 x.1 y.1 in
+        let within = slice_get_within next (get_or edges (k * length letters + c) 0) t.value t.listed in
+        omega (arith, within, element-rows_of (length letters) (length states) edges k c 0 k_st c_in);
+  }
+
+-- the front of chosen choices is chosen
+chosen_front : (Chosen : ℕ → ℕ → List Bool → Type 0) (v : List Bool) (cs front : List ℕ) (last : ℕ) → cs ≡ front ++ last ∷ [] → AreChosen Chosen v cs → AreChosen Chosen v front
+chosen_front Chosen v cs front last e chosen i c at = chosen i c (ap (λ xs. slice_get xs i) e ∙ get_front front (last ∷ []) i c at)
+
+chosen_last : (Chosen : ℕ → ℕ → List Bool → Type 0) (v : List Bool) (cs front : List ℕ) (last : ℕ) → cs ≡ front ++ last ∷ [] → AreChosen Chosen v cs → Chosen (length front) last v
+chosen_last Chosen v cs front last e chosen = chosen (length front) last (ap (λ xs. slice_get xs (length front)) e ∙ get_last front last)
+
+longer : (j : ℕ) (xs : List Layer) (l : Layer) → length xs ≡ j → length (xs ++ l ∷ []) ≡ suc j
+longer j xs l e = simp (length-append) (omega arith)
+
+module _ (view : View) (d : Diagram) (Chosen : ℕ → ℕ → List Bool → Type 0) (items : ℕ → List Item) (Needed : ℕ → ℕ → Type 0) (j : ℕ) (new : List Item) where
+  pub fold_step : (ls : List Layer) (keep : List ℕ) (states letters next : List Answers) (edges : List ℕ)
+      → IsExact view d Chosen items Needed j ls states
+      → IsStep view keep states letters next edges
+      → 0 < length states → 0 < length letters
+      → items (suc j) ≡ items j ++ new
+      → ((n : ℕ) → Contains keep n ↔ Needed (suc j) n)
+      → ((c : ℕ) (v : List Bool) → IsVector d v → Chosen j c v → StandsIn view (Among new) d v letters c)
+      → ((k c : ℕ) (x y : Answers) → slice_get states k ≡ Some x → slice_get letters c ≡ Some y → MeetsKept (Among (items j)) (Among new) d x.kept y.kept)
+      → IsExact view d Chosen items Needed (suc j) (ls ++ layer_with (length letters) (length states) edges ∷ []) next
+  fold_step ls keep states letters next edges old s some_state some_letter more needed letter meets = record {
+    count = longer j ls (layer_with (length letters) (length states) edges) old.count;
+    fits = layers_more (length next) ls (layer_with (length letters) (length states) edges) (subst (λ n. AreLayers n ls) (sym (length-rows_of (length letters) (length states) edges)) old.fits) (layer_fits view keep states letters next edges s some_state some_letter);
+    kept = λ t r at n. (λ k. (needed n).0 ((s.kept t r at n).0 k), λ h. (s.kept t r at n).1 ((needed n).1 h));
+    well = s.well;
+    apart = s.apart;
+    stands = λ v cs whole len chosen.
+        let parts = snoc j cs len in
+        let front = parts.0 in
+        let last = parts.1 in
+        let before : StandsIn view (Among (items j)) d v states (leads ls 0 front) = old.stands v front whole parts.3 (chosen_front Chosen v cs front last parts.2 chosen) in
+        let here : StandsIn view (Among new) d v letters last = letter last v whole (subst (λ i. Chosen i last v) parts.3 (chosen_last Chosen v cs front last parts.2 chosen)) in
+        let r = carried_at view keep states letters next edges s (leads ls 0 front) last before.value here.value before.listed here.listed in
+        let k_in = slice_get_within states (leads ls 0 front) before.value before.listed in
+        let c_in = slice_get_within letters last here.value here.listed in
+        let led : leads (ls ++ (layer_with (length letters) (length states) edges) ∷ []) 0 cs ≡ get_or edges (leads ls 0 front * length letters + last) 0 =
+        ap (leads (ls ++ (layer_with (length letters) (length states) edges) ∷ []) 0) parts.2 ∙ (leads_more ls (layer_with (length letters) (length states) edges) 0 last front (old.count ∙ sym parts.3) ∙ element-rows_of (length letters) (length states) edges (leads ls 0 front) last 0 k_in c_in) in
+        record {
+          value = r.value;
+          listed = ap (slice_get next) led ∙ r.listed;
+          stands = subst (λ xs. SeenFor view (Among xs) d v r.value) (sym more) (r.carries (items j) new d v (meets (leads ls 0 front) last before.value here.value before.listed here.listed) before.stands here.stands);
+        };
+  }

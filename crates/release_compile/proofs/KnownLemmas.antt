@@ -1,0 +1,58 @@
+-- What a bay knows by index sets is what its sets allow.
+use Rattle.std.proofs.Common.{◌≡◌, ℕ, ◌<◌, suc, Bool, List, length, slice_get, Option, Some, None, refl, sym, ap, ◌∙◌, subst, arith}
+use Rattle.std.proofs.lemmas.Option.{slice_get_within}
+use Rattle.ilk_base.specs.declared.words.Dbpos.{Dbpos}
+use Rattle.ilk_base.specs.declared.words.Op.{Op}
+use Rattle.station_graph.specs.Diagram.{part_count}
+use Rattle.release_compile.specs.Lettered.{Lettered, AreLettered, PartHas}
+use Rattle.central_rules.specs.declared.verdict.Verdict.{Verdict}
+use Rattle.central_rules.specs.declared.verdict.Verdict.TheVariants.{Release, Denied}
+use Rattle.central_rules.specs.Readings.{Decides}
+use Rattle.central_rules.specs.Meaning.{Knows}
+use Rattle.decision_graphs.specs.Reaching.{IsSet, set_at}
+use Rattle.release_compile.specs.Graphs.{other_of, PartChosen, Within}
+use Rattle.release_compile.specs.Summaries.{by_indices, HeardAllows, AreHeardSets}
+use Rattle.release_compile.proofs.VerdictLemmas.{other_in}
+use Rattle.release_compile.proofs.OuterLemmas.{other_not}
+use Rattle.release_compile.proofs.OuterFits.{place_of_part}
+
+module _ (a : Lettered) (alphabets : AreLettered a) (bay n : ℕ) (count : suc n ≡ part_count a.diagram) (bay_in : bay < part_count a.diagram) (own : List Dbpos) (heard : List (Option (List ℕ))) (heard_count : length heard ≡ part_count a.diagram) (sets : List (List Bool)) (are : AreHeardSets a bay heard sets) where
+  pub within_known : (v : List Bool) → Knows (by_indices a) bay own heard v → Within a bay own sets v
+  within_known v k = record {
+    whole = k.whole;
+    own = k.own_agree;
+    others = λ j lt. by j lt (slice_get heard (other_of 0 bay j)) refl;
+  }
+    where
+      by : (j : ℕ) → suc j < part_count a.diagram → (o : Option (Option (List ℕ))) → slice_get heard (other_of 0 bay j) ≡ o → (c : ℕ) × PartChosen a bay j c v × IsSet (set_at sets j) c
+      by j lt (Some (Some s)) told =
+          let h = k.heard_allow (other_of 0 bay j) s (other_not bay j) told in
+          (h.index, h.has, (are j h.index lt).1 (slice_get_within _ h.index h.has.letter h.has.listed, subst (λ o. HeardAllows o h.index) (sym told) h.bit))
+      by j lt (Some None) told =
+          let i = (alphabets.alphabets.each (other_of 0 bay j) (omega (arith, (other_in 0 bay n j (omega (arith, lt, count))).1, count))).indexed v k.whole in
+          (i.0, i.1, (are j i.0 lt).1 (slice_get_within _ i.0 i.1.letter i.1.listed, subst (λ o. HeardAllows o i.0) (sym told) tt))
+      by j lt None told =
+          let i = (alphabets.alphabets.each (other_of 0 bay j) (omega (arith, (other_in 0 bay n j (omega (arith, lt, count))).1, count))).indexed v k.whole in
+          (i.0, i.1, (are j i.0 lt).1 (slice_get_within _ i.0 i.1.letter i.1.listed, subst (λ o. HeardAllows o i.0) (sym told) tt))
+
+  pub known_within : (v : List Bool) → Within a bay own sets v → Knows (by_indices a) bay own heard v
+  known_within v w = record {
+    whole = w.whole;
+    own_agree = w.own;
+    heard_allow = λ b s ne told.
+        let b_in : b < suc n = omega (arith, slice_get_within heard b (Some s) told, heard_count, count) in
+        let r = place_of_part bay b n (omega (arith, bay_in, count)) ne b_in in
+        let lt : suc r.0 < part_count a.diagram = omega (arith, r.1, count) in
+        let h = w.others r.0 lt in
+        let allows = ((are r.0 h.0 lt).0 h.2).1 in
+        record {
+          index = h.0;
+          has = subst (λ p. PartHas a p h.0 v) r.2 h.1;
+          bit = subst (λ o. HeardAllows o h.0) (ap (slice_get heard) r.2 ∙ told) allows;
+        };
+  }
+
+  -- the verdict over what the sets allow is that over what is known
+  pub decides_known : (op : Op) (r : Verdict) → Decides a.diagram (Within a bay own sets) op r → Decides a.diagram (Knows (by_indices a) bay own heard) op r
+  decides_known op Release h = λ v k. h v (within_known v k)
+  decides_known op (Denied rule v) h = (known_within v h.0, h.1)

@@ -1,0 +1,72 @@
+-- Vectors that give choices.
+use Rattle.std.proofs.Common.{◌≡◌, ◌≢◌, ℕ, ◌+◌, ◌<◌, suc, Bool, List, [], ◌∷◌, length, drop, get_or, eqb, slice_get, slice_set, Some, refl, sym, ap, ◌∙◌, subst, inl, inr, arith}
+use Rattle.std.proofs.lemmas.Bool.{cases_lt}
+use Rattle.std.proofs.lemmas.Option.{slice_get_within, slice_get-get_or, get_or_from_slice_get, same_Some}
+use Rattle.station_graph.specs.declared.items.Switch.{Switch}
+use Rattle.station_graph.specs.Diagram.{Diagram}
+use Rattle.station_graph.specs.Sharing.{OfPart}
+use Rattle.station_graph.specs.Alike.{IsVector, SamePositions, DifferInPart}
+use Rattle.station_graph.proofs.PositionLemmas.{slice_get-set_other}
+use Rattle.contraction.proofs.MarkLemmas.{slice_get-set_same}
+use Rattle.bay_contract.specs.PartAlphabets.{StandsAt}
+use Rattle.bay_contract.specs.Alphabets.{IsExample}
+use Rattle.release_compile.specs.Lettered.{Lettered, PartHas}
+use Rattle.release_compile.specs.Graphs.{other_of, PartChosen, SwitchChosen}
+use Rattle.release_compile.specs.Folding.{AreChosen}
+use Rattle.release_compile.proofs.MoveLemmas.{index_moves}
+use Rattle.release_compile.proofs.OuterLemmas.{others_apart}
+use Rattle.release_compile.proofs.VerdictLemmas.{other_cases, length_after}
+
+-- the first n choices are those of the vector
+pub ChosenBelow : (ℕ → ℕ → List Bool → Type 0) → ℕ → List Bool → List ℕ → Type 0
+ChosenBelow Chosen n v cs = (i c : ℕ) → i < n → slice_get cs i ≡ Some c → Chosen i c v
+
+pub below_none : (Chosen : ℕ → ℕ → List Bool → Type 0) (v : List Bool) (cs : List ℕ) → ChosenBelow Chosen 0 v cs
+unfolding ChosenBelow
+below_none Chosen v cs i c lt at = absurd (omega (arith, lt))
+
+pub below_all : (Chosen : ℕ → ℕ → List Bool → Type 0) (n : ℕ) (v : List Bool) (cs : List ℕ) → length cs ≡ n → ChosenBelow Chosen n v cs → AreChosen Chosen v cs
+unfolding ChosenBelow
+below_all Chosen n v cs len h i c at = h i c (omega (arith, slice_get_within cs i c at, len)) at
+
+-- the positions of one part stay where only those of another are moved
+part_stays : (d : Diagram) (p q : ℕ) (v w : List Bool) → p ≢ q → DifferInPart d q v w → SamePositions (OfPart d p) v w
+part_stays d p q v w ne stay i of_p = stay i (λ of_q. ne (sym of_p.2 ∙ (ap (λ (x : Switch). x.bay.0) (same_Some of_p.0 of_q.0 (sym of_p.1 ∙ of_q.1)) ∙ of_q.2)))
+
+pub parts_more : (a : Lettered) (b n index bits : ℕ) (v w : List Bool) (cs : List ℕ) → ChosenBelow (PartChosen a b) n v cs → get_or cs n 0 ≡ index → IsExample a.diagram a.alphabets (other_of 0 b n) index bits → IsVector a.diagram w → StandsAt a.alphabets (other_of 0 b n) bits w → DifferInPart a.diagram (other_of 0 b n) v w → ChosenBelow (PartChosen a b) (n + 1) w cs
+unfolding ChosenBelow
+parts_more a b n index bits v w cs h is example whole stands stay i c lt at = elim (cases_lt i n) [
+  | inl less ↦ index_moves a (other_of 0 b i) c v w (part_stays a.diagram (other_of 0 b i) (other_of 0 b n) v w (others_apart b i n less) stay) (h i c less at)
+  | inr last ↦
+      let e : n ≡ i = omega (arith, lt) in
+      let ec : index ≡ c = sym is ∙ (ap (λ k. get_or cs k 0) e ∙ get_or_from_slice_get cs i c 0 at) in
+      subst (λ k. PartHas a (other_of 0 b k) c w) e (subst (λ k. PartHas a (other_of 0 b n) k w) ec (example.has w whole stands))
+]
+
+-- the other switches have different numbers, none of them the moved one
+pub switches_apart : (first m i j : ℕ) → i < j → other_of first m i ≢ other_of first m j
+switches_apart first m i j lt e = elim (other_cases first m i) [
+  | inl x ↦ elim (other_cases first m j) [ inl y ↦ omega (arith, lt, e, x.1, y.1) | inr y ↦ omega (arith, lt, e, x.1, y.1) ]
+  | inr x ↦ elim (other_cases first m j) [ inl y ↦ omega (arith, lt, e, x.0, x.1, y.0, y.1) | inr y ↦ omega (arith, lt, e, x.1, y.1) ]
+]
+
+pub switch_not : (first m i : ℕ) → other_of first m i ≢ m
+switch_not first m i e = elim (other_cases first m i) [ inl x ↦ omega (arith, e, x.0, x.1) | inr x ↦ omega (arith, e, x.0, x.1) ]
+
+behind_first : (xs : List ℕ) (j : ℕ) → get_or (drop 1 xs) j 0 ≡ get_or xs (j + 1) 0
+behind_first [] j = refl
+behind_first (x ∷ xs) j = (let e : j + 1 ≡ suc j = omega arith in ap (λ q. get_or (x ∷ xs) q 0) (sym e))
+
+-- a choice behind the first
+pub choice_at : (all : List ℕ) (others n c : ℕ) → length all ≡ suc others → n < others → get_or all (n + 1) 0 ≡ c → slice_get (drop 1 all) n ≡ Some c
+choice_at all others n c len lt is = slice_get-get_or (drop 1 all) n 0 (omega (arith, lt, length_after others all len)) ∙ ap Some (behind_first all n ∙ is)
+
+pub own_more : (first m n : ℕ) (v : List Bool) (all : List ℕ) (c : ℕ) → ChosenBelow (SwitchChosen first m) n v (drop 1 all) → get_or all (n + 1) 0 ≡ c → c < 2 → other_of first m n < length v → ChosenBelow (SwitchChosen first m) (n + 1) (slice_set v (other_of first m n) (eqb c 1)) (drop 1 all)
+unfolding ChosenBelow
+own_more first m n v all c h is small o_in i k lt at = elim (cases_lt i n) [
+  | inl less ↦ record { small = (h i k less at).small; stands = slice_get-set_other v (other_of first m n) (other_of first m i) (eqb c 1) (switches_apart first m i n less) ∙ (h i k less at).stands }
+  | inr last ↦
+      let e : i ≡ n = omega (arith, lt) in
+      let ek : k ≡ c = sym (get_or_from_slice_get (drop 1 all) i k 0 at) ∙ (behind_first all i ∙ (ap (λ j. get_or all (j + 1) 0) e ∙ is)) in
+      record { small = omega (arith, small, ek); stands = ap (λ j. slice_get (slice_set v (other_of first m n) (eqb c 1)) (other_of first m j)) e ∙ (slice_get-set_same v (other_of first m n) (eqb c 1) o_in ∙ ap (λ j. Some (eqb j 1)) (sym ek)) }
+]

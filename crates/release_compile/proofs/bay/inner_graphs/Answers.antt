@@ -1,0 +1,59 @@
+use Rattle.std.proofs.Common.{◌≡◌, ◌+◌, ◌-◌, ◌∙◌, List, sym, ap, subst, arith}
+use Rattle.contraction.specs.Answers.{Answers}
+use Rattle.decision_graphs.specs.Label.{Layered}
+use Rattle.release_compile.specs.Lettered.{lettered}
+use Rattle.release_compile.specs.Layering.{values_at}
+use Rattle.release_compile.specs.Graphs.{IsInner}
+use Rattle.release_compile.specs.Coding.{labels_of}
+use Rattle.release_compile.specs.Built.{IsInnerAt, AreInner}
+use Rattle.release_compile.proofs.LayeringLemmas.{grew_same, grew_more}
+use Rattle.release_compile.proofs.PlanLemmas.{values_more}
+use Rattle.release_compile.proofs.InputsLemmas.{names_stay}
+use Rattle.release_compile.proofs.BayLemmas.{own_of, inner_none, inner_more}
+use Rattle.release_compile.proofs.bay.inner_graphs.Goals as goal
+
+pub loop-i-init : goal.loop-i-init
+loop-i-init c = record {
+  grew = grew_same c.args.pool.now c.requires.pool;
+  left = omega arith;
+  inner = λ a. subst (λ (gs : List Layered). AreInner c.args.pool.now.view (lettered c.args.station.now a) c.args.bay.0 c.args.first c.args.count (values_at c.args.pool.now.values.items c.args.names.now) gs 0) (sym c.new-graphs.ensures.items) (inner_none c.args.pool.now.view (lettered c.args.station.now a) c.args.bay.0 c.args.first c.args.count (values_at c.args.pool.now.values.items c.args.names.now));
+}
+
+pub inner_graph-requires-clause-own : goal.inner_graph-requires-clause-own
+inner_graph-requires-clause-own c = own_of c.args.station.now c.args.bay.0 c.args.first c.args.count c.loop-i.i c.requires.switches c.loop-i-test.true
+
+pub inner_graph-requires-clause-names : goal.inner_graph-requires-clause-names
+inner_graph-requires-clause-names c = names_stay c.args.pool.now c.loop-i.pool c.loop-i.invariant.grew c.args.station.now c.args.bay.0 c.args.names.now c.requires.names
+
+pub loop-i-preserved : goal.loop-i-preserved
+loop-i-preserved c =
+    let p0 = c.args.pool.now in
+    let p = c.loop-i.pool in
+    let q = c.inner_graph.new.pool in
+    let g = c.in_ok-made.ensures.grew in
+    let i = c.loop-i.i in
+    let made : Layered = c.in_ok-made.made.graph in
+    let old : List Answers = values_at p0.values.items c.args.names.now in
+    let same = values_more p0.values.items p.values.items c.args.names.now c.loop-i.invariant.grew.values c.requires.names.within in
+    record {
+      grew = grew_more p0 p q c.loop-i.invariant.grew g;
+      left = omega (arith, c.in_ok-made.ensures.left, c.loop-i.invariant.left);
+      inner = λ a.
+          let here : IsInner p0.view (lettered c.args.station.now a) c.args.bay.0 (c.args.first + i) c.args.first (c.args.count - 1) old made =
+          subst (λ w. IsInner w (lettered c.args.station.now a) c.args.bay.0 (c.args.first + i) c.args.first (c.args.count - 1) old made) c.loop-i.invariant.grew.view
+          (subst (λ xs. IsInner p.view (lettered c.args.station.now a) c.args.bay.0 (c.args.first + i) c.args.first (c.args.count - 1) xs made) same (c.in_ok-made.ensures.inner a)) in
+          let new : IsInnerAt p0.view (lettered c.args.station.now a) c.args.bay.0 c.args.first c.args.count old i made = record {
+            others = c.args.count - 1;
+            one_more = omega (arith, c.loop-i-test.true);
+            graph = here;
+            labels = c.in_ok-made.ensures.labels ∙ ap labels_of c.loop-i.invariant.grew.view;
+            reduced = c.in_ok-made.ensures.reduced;
+          } in
+          subst (λ (gs : List Layered). AreInner p0.view (lettered c.args.station.now a) c.args.bay.0 c.args.first c.args.count old gs (i + 1)) (sym c.in_ok-push.ensures.items)
+          (inner_more p0.view (lettered c.args.station.now a) c.args.bay.0 c.args.first c.args.count old c.loop-i.graphs.items i made (c.loop-i.invariant.inner a) new);
+    }
+
+pub returns-clause-inner : goal.returns-clause-inner
+returns-clause-inner c a =
+    let done : c.loop-i.i ≡ c.args.count = omega (arith, c.loop-i.auto.i-end, c.loop-i-test.false) in
+    subst (λ n. AreInner c.args.pool.now.view (lettered c.args.station.now a) c.args.bay.0 c.args.first c.args.count (values_at c.args.pool.now.values.items c.args.names.now) c.loop-i.graphs.items n) done (c.loop-i.invariant.inner a)

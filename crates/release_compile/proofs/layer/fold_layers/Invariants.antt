@@ -1,0 +1,24 @@
+use Rattle.std.proofs.Common.{◌≡◌, ℕ, suc, ◌+◌, ◌<◌, ◌≤◌, ◌↔◌, List, Some, slice_get, length, map, take}
+use Rattle.std.specs.List.{sum_by}
+use Rattle.decision_graphs.specs.declared.finished.FinishedLayer.{FinishedLayer}
+use Rattle.decision_graphs.specs.Finished.{AreFinished}
+use Rattle.std.specs.Prelude.{Contains}
+use Rattle.contraction.specs.Answers.{Answers, Keeps}
+use Rattle.release_compile.specs.Pooling.{GrewTo}
+use Rattle.release_compile.specs.Layering.{values_at}
+use Rattle.release_compile.specs.Folding.{IsExact}
+use Rattle.release_compile.specs.Plans.{Plan, PlanFits, diagram_of, ChosenBy, items_of, NeededBy, layers_of}
+use Rattle.release_compile.proofs.layer.fold_layers.Given as goal
+
+abbrev pub invariant-layers : goal.invariant-layers
+invariant-layers l = record {
+  grew : GrewTo l.fn.pool l.pool;
+  states_in : (t i : ℕ) → slice_get l.states.items t ≡ Some i → i < length l.pool.values.items;
+  some : 0 < length l.states.items;
+  few : length l.states.items ≤ suc l.budget;
+  nodes : sum_by (λ (l : FinishedLayer). l.nodes) l.layers.items + l.left ≤ l.budget;
+  choices : map (λ (l : FinishedLayer). l.choices) l.layers.items ≡ map length (take l.j (map (λ v. v.items) l.letters));
+  finished : AreFinished (length l.states.items) l.layers.items;
+  kept : (t i m : ℕ) (x : Answers) (nodes : List ℕ) → slice_get l.states.items t ≡ Some i → slice_get l.pool.values.items i ≡ Some x → slice_get l.keeps l.j ≡ Some m → slice_get l.fn.pool.keeps.items m ≡ Some nodes → (n : ℕ) → Keeps x.kept n ↔ Contains nodes n;
+  exact : (plan : Plan) → PlanFits plan l.fn.pool l.start (map (λ v. v.items) l.letters) l.keeps → IsExact l.fn.pool.view (diagram_of plan) (ChosenBy plan) (items_of plan) (NeededBy plan) l.j (layers_of l.layers.items) (values_at l.pool.values.items l.states.items);
+}

@@ -1,0 +1,54 @@
+-- The graphs of a bay, and of a station.
+use Rattle.std.specs.Prelude.{◌≡◌, ℕ, suc, ◌+◌, List, length, slice_get, Some}
+use Rattle.station_graph.specs.Diagram.{AreSwitchesOf}
+use Rattle.contraction.specs.Answers.{Answers}
+use Rattle.decision_graphs.specs.Label.{Layered, AreReduced}
+use Rattle.release_compile.specs.declared.view.View.{View}
+use Rattle.release_compile.specs.declared.view.View.TheVariants.{Gap, Load}
+use Rattle.release_compile.specs.Lettered.{Lettered}
+use Rattle.release_compile.specs.Graphs.{IsOuter, IsInner}
+use Rattle.release_compile.specs.Coding.{labels_of}
+
+-- The graphs of one view of a bay: the outer one, and an inner one for each of its switches.
+pub record ViewOf : Type 0 where
+  pub outer : Layered
+  pub inner : List Layered
+
+-- The graphs of a bay, with its first switch and how many it has.
+pub record BayOf : Type 0 where
+  pub first : ℕ
+  pub count : ℕ
+  pub gap : ViewOf
+  pub load : ViewOf
+
+-- The inner graph of the i-th of so many switches of the bay.
+pub record IsInnerAt (view : View) (a : Lettered) (b first count : ℕ) (names : List Answers) (i : ℕ) (g : Layered) : Type 0 where
+  pub others : ℕ
+  pub one_more : suc others ≡ count
+  pub graph : IsInner view a b (first + i) first others names g
+  pub labels : g.labels ≡ labels_of view
+  pub reduced : AreReduced g.layers
+
+-- The first n of the bay's switches have their inner graphs.
+pub record AreInner (view : View) (a : Lettered) (b first count : ℕ) (names : List Answers) (graphs : List Layered) (n : ℕ) : Type 0 where
+  pub len : length graphs ≡ n
+  pub each : (i : ℕ) (g : Layered) → slice_get graphs i ≡ Some g → IsInnerAt view a b first count names i g
+
+-- The graphs of one view of a bay: the labels of the outer one name the views of the other parts, and those of the
+-- inner ones say what holds of a switch.
+pub record AreViewGraphs (view : View) (a : Lettered) (b first count : ℕ) (g : ViewOf) : Type 0 where
+  pub names : List Answers
+  pub outer : IsOuter view a b g.outer names
+  pub outer_reduced : AreReduced g.outer.layers
+  pub inner : AreInner view a b first count names g.inner count
+
+-- The graphs of a bay in both views.
+pub record AreBayGraphs (a : Lettered) (b : ℕ) (g : BayOf) : Type 0 where
+  pub switches : AreSwitchesOf a.diagram b g.first g.count
+  pub gap : AreViewGraphs Gap a b g.first g.count g.gap
+  pub load : AreViewGraphs Load a b g.first g.count g.load
+
+-- The first n bays have their graphs.
+pub record AreBays (a : Lettered) (bays : List BayOf) (n : ℕ) : Type 0 where
+  pub len : length bays ≡ n
+  pub each : (b : ℕ) (g : BayOf) → slice_get bays b ≡ Some g → AreBayGraphs a b g

@@ -1,0 +1,10 @@
+-- How the graphs of a bay are seen.
+use Rattle.release_compile.specs.declared.bay.ViewGraphs.{ViewGraphs}
+use Rattle.release_compile.specs.declared.bay.BayGraphs.{BayGraphs}
+use Rattle.release_compile.specs.Built.{ViewOf, BayOf}
+
+abbrev pub view_of : ViewGraphs → ViewOf
+view_of g = record { outer = g.outer; inner = g.inner.items }
+
+abbrev pub seen_bay : BayGraphs → BayOf
+seen_bay g = record { first = g.first; count = g.count; gap = view_of g.gap; load = view_of g.load }

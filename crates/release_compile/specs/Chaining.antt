@@ -1,0 +1,57 @@
+-- Two graphs in a row: a label of the first is the first choice of the second.
+use Rattle.std.specs.Prelude.{◌≡◌, ℕ, ◌<◌, ◌↔◌, List, ◌∷◌, length, drop, Bool}
+use Rattle.decision_graphs.specs.Label.{Layered, layer_at, label_of, Allows}
+use Rattle.decision_graphs.specs.Reaching.{IsSet, set_at, AreSetsOf, MarksReached}
+use Rattle.ilk_base.specs.declared.words.Direction.{Direction}
+use Rattle.ilk_base.specs.declared.words.Direction.TheVariants.{ToOn}
+use Rattle.ilk_base.specs.declared.words.Rule.{Rule}
+use Rattle.ilk_base.specs.declared.words.Rule.TheVariants.{R1, R2, R3}
+use Rattle.release_compile.specs.declared.search.Side.{Side}
+
+-- The labels of the first graph are the choices of the second graph's first layer.
+pub record AreInARow (outer inner : Layered) : Type 0 where
+  pub some : 0 < length inner.layers
+  pub labels : (layer_at inner.layers 0).choices ≡ outer.labels
+
+-- The first set allows the marked labels.
+abbrev pub FirstAllows : List (List Bool) → List Bool → Type 0
+FirstAllows sets marks = (label : ℕ) → IsSet (set_at sets 0) label ↔ IsSet marks label
+
+-- These choices are allowed, and lead through both graphs to the label.
+pub record LeadThrough (outer inner : Layered) (sets inner_sets : List (List Bool)) (goal : ℕ) (cs ds : List ℕ) : Type 0 where
+  pub outer_allows : Allows sets cs
+  pub inner_allows : Allows (drop 1 inner_sets) ds
+  pub led : label_of inner (label_of outer cs ∷ ds) ≡ goal
+
+-- Such choices, where the list for the second graph begins with the label of the first.
+pub record IsChain (outer inner : Layered) (sets inner_sets : List (List Bool)) (goal : ℕ) (cs all : List ℕ) : Type 0 where
+  pub rest : List ℕ
+  pub split : all ≡ label_of outer cs ∷ rest
+  pub leads : LeadThrough outer inner sets inner_sets goal cs rest
+
+abbrev pub NoneLeads : Layered → Layered → List (List Bool) → List (List Bool) → ℕ → Type 0
+NoneLeads outer inner sets inner_sets goal = (cs ds : List ℕ) → LeadThrough outer inner sets inner_sets goal cs ds → ⊥
+
+-- The marks and the inner sets of a side were made of the sets.
+pub record IsReady (s : Side) (sets : List (List Bool)) : Type 0 where
+  pub fits : AreSetsOf s.outer.now.layers sets
+  pub inner_fits : AreSetsOf s.inner.now.layers s.inner_sets
+  pub reached : MarksReached s.outer.now sets s.marks.labels
+  pub first : FirstAllows s.inner_sets s.marks.labels
+  pub row : AreInARow s.outer.now s.inner.now
+
+abbrev pub NoneLeadsTo : Side → List (List Bool) → ℕ → Type 0
+NoneLeadsTo s sets goal = NoneLeads s.outer.now s.inner.now sets s.inner_sets goal
+
+abbrev pub IsChainOf : Side → List (List Bool) → ℕ → List ℕ → List ℕ → Type 0
+IsChainOf s sets goal cs all = IsChain s.outer.now s.inner.now sets s.inner_sets goal cs all
+
+-- Closing breaks neither of the first two rules.
+abbrev pub GapFree : Direction → Side → List (List Bool) → Type 0
+GapFree direction gap sets = direction ≡ ToOn → NoneLeadsTo gap sets 1 × NoneLeadsTo gap sets 2
+
+-- Choices that lead to a label that says this rule, the first of those that can be led to.
+abbrev pub IsFound : Direction → Side → Side → List (List Bool) → Rule → List ℕ → List ℕ → Type 0
+IsFound direction gap load sets R1 cs all = (direction ≡ ToOn) × IsChainOf gap sets 1 cs all
+IsFound direction gap load sets R2 cs all = (direction ≡ ToOn) × IsChainOf gap sets 2 cs all
+IsFound direction gap load sets R3 cs all = GapFree direction gap sets × IsChainOf load sets 1 cs all

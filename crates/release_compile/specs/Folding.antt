@@ -1,0 +1,60 @@
+-- A graph whose nodes are values, layer by layer: each layer takes more items in.
+use Rattle.std.specs.Prelude.{◌≡◌, ℕ, ◌*◌, ◌/◌, ◌%◌, ◌<◌, ◌↔◌, Bool, List, length, slice_get, slice_index, Some, Contains}
+use Rattle.station_graph.specs.Diagram.{Diagram}
+use Rattle.station_graph.specs.Connection.{Item}
+use Rattle.station_graph.specs.Alike.{IsVector}
+use Rattle.contraction.specs.Answers.{Answers, Keeps, IsContraction}
+use Rattle.contraction.specs.Stands.{Among}
+use Rattle.decision_graphs.specs.Label.{Layer, leads, AreLayers}
+use Rattle.release_compile.specs.declared.view.View.{View}
+use Rattle.release_compile.specs.Seen.{SeenFor, SameSeen, Carries}
+
+-- The value of this number carries the two on.
+pub record Carried (view : View) (x y : Answers) (values : List Answers) (t : ℕ) : Type 0 where
+  pub value : Answers
+  pub listed : slice_get values t ≡ Some value
+  pub carries : Carries view x y value
+
+-- Each value keeps exactly these nodes.
+abbrev pub AllKeep : List Answers → List ℕ → Type 0
+AllKeep values keep = (t : ℕ) (r : Answers) → slice_get values t ≡ Some r → (n : ℕ) → Keeps r.kept n ↔ Contains keep n
+
+abbrev pub AreWell : List Answers → Type 0
+AreWell values = (t : ℕ) (r : Answers) → slice_get values t ≡ Some r → IsContraction r
+
+-- No two values are the same in this view.
+abbrev pub AreApart : View → List Answers → Type 0
+AreApart view values = (t u : ℕ) (x y : Answers) → slice_get values t ≡ Some x → slice_get values u ≡ Some y → SameSeen view x y → t ≡ u
+
+-- From the states of a layer, by the letters of its choices, to those of the next. The edges stand state by state.
+pub record IsStep (view : View) (keep : List ℕ) (states letters next : List Answers) (edges : List ℕ) : Type 0 where
+  pub len : length edges ≡ length states * length letters
+  pub carried : (p : ℕ) (x y : Answers) → p < length edges → slice_get states (p / length letters) ≡ Some x → slice_get letters (p % length letters) ≡ Some y → Carried view x y next (slice_index edges p)
+  pub kept : AllKeep next keep
+  pub well : AreWell next
+  pub apart : AreApart view next
+  pub hit : (t : ℕ) (r : Answers) → slice_get next t ≡ Some r → (p : ℕ) × (p < length edges) × (slice_index edges p ≡ t)
+
+-- The value of this number answers for these items in v.
+pub record StandsIn (view : View) (These : Item → Type 0) (d : Diagram) (v : List Bool) (values : List Answers) (t : ℕ) : Type 0 where
+  pub value : Answers
+  pub listed : slice_get values t ≡ Some value
+  pub stands : SeenFor view These d v value
+
+-- These are choices that the vector gives, layer by layer from the first.
+abbrev pub AreChosen : (ℕ → ℕ → List Bool → Type 0) → List Bool → List ℕ → Type 0
+AreChosen Chosen v cs = (i c : ℕ) → slice_get cs i ≡ Some c → Chosen i c v
+
+-- The layers are exact: for every vector, the choices that it gives lead to a state that answers for the items so far.
+-- `Chosen i c v`: v gives choice c in layer i. `items j`: the items before layer j. `Needed j n`: node n is kept before layer j.
+pub record IsExact (view : View) (d : Diagram) (Chosen : ℕ → ℕ → List Bool → Type 0) (items : ℕ → List Item) (Needed : ℕ → ℕ → Type 0) (j : ℕ) (ls : List Layer) (states : List Answers) : Type 0 where
+  pub count : length ls ≡ j
+  pub fits : AreLayers (length states) ls
+  pub kept : (t : ℕ) (r : Answers) → slice_get states t ≡ Some r → (n : ℕ) → Keeps r.kept n ↔ Needed j n
+  pub well : AreWell states
+  pub apart : AreApart view states
+  pub stands : (v : List Bool) (cs : List ℕ) → IsVector d v → length cs ≡ j → AreChosen Chosen v cs → StandsIn view (Among (items j)) d v states (leads ls 0 cs)
+
+-- Each state answers for the items in some vector: so there are no more states than distinct views.
+abbrev pub AreMade : View → Diagram → List Item → List Answers → Type 0
+AreMade view d items states = (t : ℕ) (r : Answers) → slice_get states t ≡ Some r → (v : List Bool) × IsVector d v × SeenFor view (Among items) d v r

@@ -1,0 +1,40 @@
+-- The nodes that are kept before each layer of a graph.
+use Rattle.std.specs.Prelude.{◌≡◌, ℕ, zero, suc, ◌<◌, ◌≤◌, ◌⊎◌, ◌↔◌, List, length, slice_get, Some, Contains}
+use Rattle.station_graph.specs.Diagram.{Diagram, part_count}
+use Rattle.station_graph.specs.Connection.{a_switch}
+use Rattle.station_graph.specs.Sharing.{OfPart, Touches, TouchedBy, IsShared}
+use Rattle.contraction.specs.Stands.{Among}
+use Rattle.release_compile.specs.Graphs.{other_of}
+use Rattle.release_compile.specs.Listing.{part_items, parts_before}
+
+-- For each part the list of the nodes that it shares.
+pub record AreShared (d : Diagram) (shared : List (List ℕ)) : Type 0 where
+  pub count : length shared ≡ part_count d
+  pub each : (part : ℕ) (nodes : List ℕ) → slice_get shared part ≡ Some nodes → (n : ℕ) → Contains nodes n ↔ IsShared d part n
+
+-- One of the other parts between two places has the node in its list.
+pub record SharesFrom (shared : List (List ℕ)) (b from to n : ℕ) : Type 0 where
+  pub place : ℕ
+  pub nodes : List ℕ
+  pub after : from ≤ place
+  pub before : place < to
+  pub listed : slice_get shared (other_of 0 b place) ≡ Some nodes
+  pub has : Contains nodes n
+
+-- The node is touched by one of the first j other parts, and by the bay or one of the other parts from j on.
+pub record IsNeededOuter (d : Diagram) (b j n : ℕ) : Type 0 where
+  pub before : TouchedBy (Among (parts_before d b j)) d n
+  pub after : TouchedBy (OfPart d b) d n ⊎ ((i : ℕ) × (j ≤ i) × TouchedBy (Among (part_items d (other_of 0 b i))) d n)
+
+-- One of the bay's other switches from the j-th on touches the node.
+abbrev pub TouchesOther : Diagram → ℕ → ℕ → ℕ → ℕ → ℕ → Type 0
+TouchesOther d m first others j n = (i : ℕ) × (j ≤ i) × (i < others) × Touches d (a_switch (other_of first m i)) n
+
+-- The switch m touches the node, or one of the bay's other switches from the j-th on does.
+abbrev pub IsNeededInner : Diagram → ℕ → ℕ → ℕ → ℕ → ℕ → Type 0
+IsNeededInner d m first others j n = Touches d (a_switch m) n ⊎ TouchesOther d m first others j n
+
+-- What an inner graph of switch m keeps before layer j: before the first what the bay shares or its switches touch.
+abbrev pub InnerNeeds : Diagram → ℕ → ℕ → ℕ → ℕ → ℕ → ℕ → Type 0
+InnerNeeds d b m first others zero n = IsShared d b n ⊎ IsNeededInner d m first others 0 n
+InnerNeeds d b m first others (suc j) n = IsNeededInner d m first others j n

@@ -1,0 +1,100 @@
+-- What the layers of a graph are made of.
+use Rattle.std.specs.Prelude.{◌≡◌, ℕ, zero, suc, ◌-◌, ◌<◌, ◌⊎◌, ◌↔◌, Bool, List, [], ◌∷◌, ◌++◌, length, map, slice_get, Some, Contains}
+use Rattle.station_graph.specs.Diagram.{Diagram, IsStation, part_count}
+use Rattle.station_graph.specs.Connection.{Item, a_switch}
+use Rattle.station_graph.specs.Alike.{IsVector}
+use Rattle.contraction.specs.Answers.{Answers, Keeps}
+use Rattle.contraction.specs.Stands.{Among, MeetsKept}
+use Rattle.release_compile.specs.Lettered.{Lettered, AreLettered}
+use Rattle.release_compile.specs.Pooling.{IsPool}
+use Rattle.release_compile.specs.Inputs.{AreRows, AreKeeps, HasNothing, AreNames, AreInnerRows, HasLinks}
+use Rattle.decision_graphs.specs.Label.{Layer}
+use Rattle.release_compile.specs.declared.view.View.{View}
+use Rattle.release_compile.specs.Listing.{own_links, part_items, parts_before}
+use Rattle.release_compile.specs.Needing.{IsNeededOuter, InnerNeeds}
+use Rattle.release_compile.specs.declared.pool.Pool.{Pool}
+use Rattle.decision_graphs.specs.declared.finished.FinishedLayer.{FinishedLayer}
+use Rattle.decision_graphs.specs.Finished.{finished}
+use Rattle.release_compile.specs.Seen.{SeenFor}
+use Rattle.release_compile.specs.Folding.{StandsIn}
+use Rattle.release_compile.specs.Layering.{values_at}
+use Rattle.release_compile.specs.Graphs.{other_of, OfOthers, PartChosen, SwitchChosen, IsOwn}
+
+-- The four kinds of graphs: the outer graphs of a bay, and the inner graphs of a switch m of it, whose first layer's
+-- choices are the labels of an outer graph with these names.
+pub data Plan : Type 0 where
+  outer_plan : Lettered → ℕ → Plan
+  inner_plan : View → Lettered → ℕ → ℕ → ℕ → ℕ → List Answers → Plan
+
+abbrev pub diagram_of : Plan → Diagram
+diagram_of (outer_plan a b) = a.diagram
+diagram_of (inner_plan view a b m first others names) = a.diagram
+
+-- The vector gives choice c in layer j.
+abbrev pub ChosenBy : Plan → ℕ → ℕ → List Bool → Type 0
+ChosenBy (outer_plan a b) j c v = PartChosen a b j c v
+ChosenBy (inner_plan view a b m first others names) zero c v = StandsIn view (OfOthers a.diagram b) a.diagram v names c
+ChosenBy (inner_plan view a b m first others names) (suc j) c v = SwitchChosen first m j c v
+
+-- The items before the first layer, and those that layer j takes in.
+abbrev pub base_of : Plan → List Item
+base_of (outer_plan a b) = []
+base_of (inner_plan view a b m first others names) = own_links a.diagram b
+
+abbrev pub new_of : Plan → ℕ → List Item
+new_of (outer_plan a b) j = part_items a.diagram (other_of 0 b j)
+new_of (inner_plan view a b m first others names) zero = parts_before a.diagram b (part_count a.diagram - 1)
+new_of (inner_plan view a b m first others names) (suc j) = a_switch (other_of first m j) ∷ []
+
+abbrev pub items_of : Plan → ℕ → List Item
+items_of plan zero = base_of plan
+items_of plan (suc j) = items_of plan j ++ new_of plan j
+
+-- The node is kept before layer j.
+abbrev pub NeededBy : Plan → ℕ → ℕ → Type 0
+NeededBy (outer_plan a b) j n = IsNeededOuter a.diagram b j n
+NeededBy (inner_plan view a b m first others names) j n = InnerNeeds a.diagram b m first others j n
+
+-- The start, the letters of each layer and the nodes kept before and after each are numbers of the pool, and each node
+-- that is kept after a layer was kept before it or by each of its letters.
+pub record AreLinked (p : Pool) (start : ℕ) (letters : List (List ℕ)) (keeps : List ℕ) : Type 0 where
+  pub start_in : start < length p.values.items
+  pub count : length keeps ≡ suc (length letters)
+  pub keeps_in : (j k : ℕ) → slice_get keeps j ≡ Some k → k < length p.keeps.items
+  pub letters_in : (j c i : ℕ) (ids : List ℕ) → slice_get letters j ≡ Some ids → slice_get ids c ≡ Some i → i < length p.values.items
+  pub some : (j : ℕ) (ids : List ℕ) → slice_get letters j ≡ Some ids → 0 < length ids
+  pub start_kept : (x : Answers) (k : ℕ) (nodes : List ℕ) → slice_get p.values.items start ≡ Some x → slice_get keeps 0 ≡ Some k → slice_get p.keeps.items k ≡ Some nodes → (n : ℕ) → Keeps x.kept n ↔ Contains nodes n
+  pub chain : (j k h c i : ℕ) (ids nodes after : List ℕ) (y : Answers) → slice_get letters j ≡ Some ids → slice_get keeps j ≡ Some k → slice_get keeps (suc j) ≡ Some h → slice_get p.keeps.items k ≡ Some nodes → slice_get p.keeps.items h ≡ Some after → slice_get ids c ≡ Some i → slice_get p.values.items i ≡ Some y → (n : ℕ) → Contains after n → Contains nodes n ⊎ Keeps y.kept n
+
+-- They are those of the plan.
+pub record PlanFits (plan : Plan) (p : Pool) (start : ℕ) (letters : List (List ℕ)) (keeps : List ℕ) : Type 0 where
+  pub start_stands : (x : Answers) (v : List Bool) → slice_get p.values.items start ≡ Some x → IsVector (diagram_of plan) v → SeenFor p.view (Among (base_of plan)) (diagram_of plan) v x
+  pub needed : (j k : ℕ) (nodes : List ℕ) → slice_get keeps j ≡ Some k → slice_get p.keeps.items k ≡ Some nodes → (n : ℕ) → Contains nodes n ↔ NeededBy plan j n
+  pub letter : (j c : ℕ) (ids : List ℕ) (v : List Bool) → slice_get letters j ≡ Some ids → IsVector (diagram_of plan) v → ChosenBy plan j c v → StandsIn p.view (Among (new_of plan j)) (diagram_of plan) v (values_at p.values.items ids) c
+  pub meets : (j c : ℕ) (ids : List ℕ) (x y : Answers) → slice_get letters j ≡ Some ids → ((n : ℕ) → Keeps x.kept n ↔ NeededBy plan j n) → slice_get (values_at p.values.items ids) c ≡ Some y → MeetsKept (Among (items_of plan j)) (Among (new_of plan j)) (diagram_of plan) x.kept y.kept
+
+-- The layers of a graph that are finished.
+abbrev pub layers_of : List FinishedLayer → List Layer
+layers_of drafts = map finished drafts
+
+-- The letters of each layer are those of the other part's alphabet, and the nodes are those that are needed.
+pub record IsOuterReady (a : Lettered) (b : ℕ) (p : Pool) (start : ℕ) (letters : List (List ℕ)) (keeps : List ℕ) : Type 0 where
+  pub lettered : AreLettered a
+  pub pool : IsPool p
+  pub count : suc (length letters) ≡ part_count a.diagram
+  pub bay_in : b < part_count a.diagram
+  pub rows : AreRows a b p letters (length letters)
+  pub needed : AreKeeps (IsNeededOuter a.diagram b) p keeps (suc (length letters))
+  pub begins : HasNothing p start
+
+-- The letters are the outer graph's names, and then for each other switch of the bay its two positions; the start
+-- answers for the bay's links and taps, and the nodes are those that are needed.
+pub record IsInnerReady (a : Lettered) (b m first others : ℕ) (p : Pool) (start : ℕ) (names : List ℕ) (letters : List (List ℕ)) (keeps : List ℕ) : Type 0 where
+  pub station : IsStation a.diagram
+  pub pool : IsPool p
+  pub bay_in : b < part_count a.diagram
+  pub own : IsOwn a.diagram b m first others
+  pub named : AreNames p a.diagram b names
+  pub rows : AreInnerRows a.diagram m first p names letters others
+  pub needed : AreKeeps (InnerNeeds a.diagram b m first others) p keeps (suc (suc others))
+  pub begins : HasLinks p a.diagram b (InnerNeeds a.diagram b m first others 0) start

@@ -1,0 +1,46 @@
+-- The summary of an index set.
+use Rattle.std.specs.Prelude.{◌≡◌, ℕ, ◌+◌, ◌-◌, ◌*◌, ◌/◌, ◌%◌, ◌^◌, ◌<◌, ◌==◌, ◌↔◌, suc, Bool, true, List, length, slice_get, slice_index, Option, Some, None}
+use Rattle.station_graph.specs.Diagram.{part_count}
+use Rattle.decision_graphs.specs.Reaching.{IsSet, set_at}
+use Rattle.release_compile.specs.Graphs.{other_of}
+use Rattle.release_compile.specs.Lettered.{Lettered, index_count, PartHas}
+use Rattle.central_rules.specs.Meaning.{Meaning}
+
+-- Index i has bit i, of which bit 0 is the highest bit of the first byte.
+abbrev pub has_bit : List ℕ → ℕ → Bool
+has_bit s i = ((slice_index s (i / 8) / 2 ^ (7 - i % 8)) % 2) == 1
+
+-- As many bytes as hold a bit for each of so many indices.
+abbrev pub byte_count : ℕ → ℕ
+byte_count size = (size + 7) / 8
+
+-- The bytes are an index set of the part: so many bytes as its indices need, some index, and no other bit.
+pub record IsIndexSet (a : Lettered) (b : ℕ) (s : List ℕ) : Type 0 where
+  pub count : length s ≡ byte_count (index_count a b)
+  pub some : (i : ℕ) × (i < index_count a b) × (has_bit s i ≡ true)
+  pub no_more : (i : ℕ) → i < 8 * length s → has_bit s i ≡ true → i < index_count a b
+
+-- The set allows each vector in which the part has an index of it.
+pub record SetAllows (a : Lettered) (b : ℕ) (s : List ℕ) (v : List Bool) : Type 0 where
+  pub index : ℕ
+  pub has : PartHas a b index v
+  pub bit : has_bit s index ≡ true
+
+-- What the summaries of the graph judge mean, where every bay tells every other.
+abbrev pub by_indices : Lettered → Meaning
+by_indices a = record {
+  diagram = a.diagram;
+  Silent = λ b to. ⊥;
+  Fits = λ b to s. IsIndexSet a b s;
+  Allows = λ b s v. SetAllows a b s v;
+}
+
+-- What was heard of a part allows the index.
+abbrev pub HeardAllows : Option (Option (List ℕ)) → ℕ → Type 0
+HeardAllows (Some (Some s)) c = has_bit s c ≡ true
+HeardAllows (Some None) c = Unit {0}
+HeardAllows None c = Unit {0}
+
+-- The sets allow, of each other part, the indices that what was heard of it allows.
+abbrev pub AreHeardSets : Lettered → ℕ → List (Option (List ℕ)) → List (List Bool) → Type 0
+AreHeardSets a bay heard sets = (j c : ℕ) → suc j < part_count a.diagram → IsSet (set_at sets j) c ↔ ((c < index_count a (other_of 0 bay j)) × HeardAllows (slice_get heard (other_of 0 bay j)) c)

@@ -1,0 +1,194 @@
+//! The graphs of the bays.
+ghost use Rattle.std.specs.Prelude.{◌≡◌, ◌+◌, ◌<◌, ◌≤◌, ◌↔◌, ℕ, suc, length, IfOk, OnOk, Contains};
+ghost use Rattle.station_graph.specs.Diagram.{part_count, AreSwitchesOf};
+ghost use Rattle.station_graph.specs.Sharing.{IsShared};
+ghost use Rattle.bay_contract.specs.PartAlphabets.{Alphabets};
+ghost use Rattle.bay_contract.specs.Alphabets.{AreAlphabets};
+ghost use Rattle.release_compile.specs.Lettered.{lettered};
+ghost use Rattle.release_compile.specs.Pooling.{IsPool, GrewTo};
+ghost use Rattle.release_compile.specs.Layering.{values_at};
+ghost use Rattle.release_compile.specs.Needing.{AreShared};
+ghost use Rattle.release_compile.specs.Inputs.{AreNames};
+ghost use Rattle.release_compile.specs.Built.{AreInner, AreViewGraphs, AreBayGraphs};
+ghost use Rattle.release_compile.specs.BuiltView.{view_of, seen_bay};
+
+use crate::inner::inner_graph;
+use crate::layer::Trouble;
+use crate::outer::outer_graph;
+use crate::pool::Pool;
+use crate::view::View;
+use bay_contract::Parts;
+use decision_graphs::Graph;
+use ilk_base::BayId;
+use station_graph::{NodeList, Station};
+use std::alloc::Global;
+
+// The graphs of one view of a bay: the outer one, and an inner one for each of its switches.
+#[derive(Debug, Drop)]
+pub(crate) struct ViewGraphs {
+    pub(crate) outer: Graph,
+    pub(crate) inner: Vec<Graph>,
+}
+
+// The graphs of a bay, with its first switch and how many it has.
+#[derive(Debug, Drop)]
+pub(crate) struct BayGraphs {
+    pub(crate) first: u16,
+    pub(crate) count: u16,
+    pub(crate) gap: ViewGraphs,
+    pub(crate) load: ViewGraphs,
+}
+
+// Inner graphs, and how many edges are left of those that may be made.
+#[derive(Drop)]
+struct Inners {
+    graphs: Vec<Graph>,
+    left: usize,
+}
+
+// The graphs of one view, and how many edges are left.
+#[derive(Drop)]
+struct Viewed {
+    graphs: ViewGraphs,
+    left: usize,
+}
+
+// The graphs of a bay, and how many edges are left.
+#[derive(Drop)]
+pub(crate) struct Bay {
+    pub(crate) graphs: BayGraphs,
+    pub(crate) left: usize,
+}
+
+// The inner graphs of one view.
+fn inner_graphs(
+    alloc: Global,
+    pool: &mut Pool,
+    station: &Station,
+    shared: &NodeList,
+    bay: BayId,
+    first: u16,
+    count: u16,
+    names: &[usize],
+    left: usize,
+) -> Result<Inners, Trouble>
+    requires pool { IsPool pool.old }
+    requires bay { bay.0 < part_count station.now }
+    requires switches { AreSwitchesOf station.now bay.0 first count }
+    requires shared { (n : ℕ) → Contains shared.now n ↔ IsShared station.now bay.0 n }
+    requires names { AreNames pool.old station.now bay.0 names.now }
+    requires few { length names.now ≤ 8000001 }
+    requires left { left ≤ 8000000 }
+    ensures inner { IfOk result (λ r. (a : Alphabets) → AreInner pool.old.view (lettered station.now a) bay.0 first count (values_at pool.old.values.items names.now) r.graphs.items count) }
+    ensures left { IfOk result (λ r. r.left ≤ left) }
+{
+    let _count = station.switch_count();
+    let mut graphs = Vec::new(alloc);
+    let mut rest = left;
+    for i in 0..count {
+        let others = count - 1;
+        let moved = first + i;
+        let made = inner_graph(
+            alloc, pool, station, shared, bay, first, moved, others, names, rest,
+        )?;
+        rest = made.left;
+        graphs.push(made.graph)?;
+    }
+    Ok(Inners { graphs, left: rest })
+}
+
+// The graphs of one view of a bay.
+fn view_graphs(
+    alloc: Global,
+    view: View,
+    station: &Station,
+    parts: &Parts,
+    shared: &[NodeList],
+    bay: BayId,
+    first: u16,
+    count: u16,
+    left: usize,
+) -> Result<Viewed, Trouble>
+    requires lettered { AreAlphabets station.now parts.now }
+    requires shared { AreShared station.now shared.now }
+    requires bay { bay.0 < part_count station.now }
+    requires switches { AreSwitchesOf station.now bay.0 first count }
+    requires left { left ≤ 8000000 }
+    ensures graphs { IfOk result (λ r. AreViewGraphs view (lettered station.now parts.now) bay.0 first count (view_of r.graphs)) }
+    ensures left { IfOk result (λ r. r.left ≤ left) }
+{
+    let others = station.part_count() - 1;
+    let mut pool = Pool::new(alloc, view, Vec::new(alloc));
+    let outer = outer_graph(alloc, &mut pool, station, parts, shared, bay, others, left)?;
+    let place = usize::from(bay.0);
+    let nodes = &shared[place];
+    let inners = inner_graphs(
+        alloc,
+        &mut pool,
+        station,
+        nodes,
+        bay,
+        first,
+        count,
+        &outer.names,
+        outer.left,
+    )?;
+    Ok(Viewed {
+        graphs: ViewGraphs {
+            outer: outer.graph,
+            inner: inners.graphs,
+        },
+        left: inners.left,
+    })
+}
+
+// The graphs of a bay. They are built with at most so many counted edges.
+pub(crate) fn bay_graphs(
+    alloc: Global,
+    station: &Station,
+    parts: &Parts,
+    shared: &[NodeList],
+    bay: BayId,
+    left: usize,
+) -> Result<Bay, Trouble>
+    requires lettered { AreAlphabets station.now parts.now }
+    requires shared { AreShared station.now shared.now }
+    requires bay { bay.0 < part_count station.now }
+    requires left { left ≤ 8000000 }
+    ensures graphs { IfOk result (λ r. AreBayGraphs (lettered station.now parts.now) bay.0 (seen_bay r.graphs)) }
+    ensures left { IfOk result (λ r. r.left ≤ left) }
+{
+    let (id, count) = station.switches_of(bay);
+    let first = id.0;
+    let gap = view_graphs(
+        alloc,
+        View::Gap,
+        station,
+        parts,
+        shared,
+        bay,
+        first,
+        count,
+        left,
+    )?;
+    let load = view_graphs(
+        alloc,
+        View::Load,
+        station,
+        parts,
+        shared,
+        bay,
+        first,
+        count,
+        gap.left,
+    )?;
+    Ok(Bay {
+        graphs: BayGraphs {
+            first,
+            count,
+            gap: gap.graphs,
+            load: load.graphs,
+        },
+        left: load.left,
+    })
+}

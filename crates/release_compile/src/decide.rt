@@ -1,0 +1,118 @@
+//! The verdict by four graphs.
+ghost use Rattle.std.specs.Prelude.{◌≡◌, ℕ, suc, ◌<◌, drop, length, slice_get, Some, IfOk};
+ghost use Rattle.station_graph.specs.Diagram.{part_count};
+ghost use Rattle.central_rules.specs.Readings.{Decides};
+ghost use Rattle.bay_contract.specs.PartAlphabets.{size_of};
+ghost use Rattle.bay_contract.specs.Alphabets.{AreAlphabets};
+ghost use Rattle.decision_graphs.specs.Reaching.{IsSet, set_at};
+ghost use Rattle.release_compile.specs.declared.view.View.TheVariants.{Gap, Load};
+ghost use Rattle.release_compile.specs.Lettered.{lettered};
+ghost use Rattle.release_compile.specs.Chaining.{IsReady};
+ghost use Rattle.release_compile.specs.Graphs.{other_of, IsOwn, IsSide, Within, GivesChoices};
+
+use crate::chain::Through;
+use crate::placing::{place_others, place_own};
+use crate::search::{Side, search};
+use bay_contract::Parts;
+use central_rules::Verdict;
+use decision_graphs::ChoiceSets;
+use double_points::{Readings, agrees};
+use ilk_base::{BayId, Memory, Op};
+use station_graph::{Station, Vector};
+use std::alloc::Global;
+
+// Whose operation is decided: the bay, its first switch and how many it has beside the moved one, and how many
+// other parts there are.
+#[derive(Clone, Copy)]
+pub(crate) struct Place {
+    pub(crate) bay: BayId,
+    pub(crate) first: u16,
+    pub(crate) others: u16,
+    pub(crate) parts: u16,
+}
+
+// A vector that gives the choices.
+fn vector_of(
+    alloc: Global,
+    station: &Station,
+    parts: &Parts,
+    place: Place,
+    op: Op,
+    own: &Readings,
+    choices: &Through,
+) -> Result<Vector, Memory>
+    requires lettered { AreAlphabets station.now parts.now }
+    requires words { length own.now ≡ length station.now.switches }
+    requires count { suc place.parts ≡ part_count station.now }
+    requires bay { place.bay.0 < part_count station.now }
+    requires own { IsOwn station.now place.bay.0 op.switch.0 place.first place.others }
+    requires outer { length choices.now.outer ≡ place.parts }
+    requires indices { (j c : ℕ) → slice_get choices.now.outer j ≡ Some c → c < size_of parts.now (other_of 0 place.bay.0 j) }
+    requires inner { length choices.now.inner ≡ suc place.others }
+    requires small { (i c : ℕ) → slice_get (drop 1 choices.now.inner) i ≡ Some c → c < 2 }
+    ensures { IfOk result (GivesChoices (lettered station.now parts.now) place.bay.0 op.switch.0 place.first own.now choices.now.outer (drop 1 choices.now.inner)) }
+{
+    let _count = station.switch_count();
+    let mut vector = Vector::all_open(alloc, station)?;
+    place_others(
+        station,
+        parts,
+        place.bay,
+        place.parts,
+        &choices.outer,
+        &mut vector,
+    );
+    place_own(
+        place.first,
+        op.switch.0,
+        place.others,
+        &choices.inner,
+        &mut vector,
+    );
+    vector.set(op.switch, !agrees(own.word(op.switch), false));
+    Ok(vector)
+}
+
+// The verdict over all vectors in which the bay's switches agree with its words and each other part has an allowed
+// index.
+pub(crate) fn decide(
+    alloc: Global,
+    station: &Station,
+    parts: &Parts,
+    place: Place,
+    op: Op,
+    own: &Readings,
+    gap: &Side,
+    load: &Side,
+    sets: &ChoiceSets,
+) -> Result<Verdict, Memory>
+    requires lettered { AreAlphabets station.now parts.now }
+    requires words { length own.now ≡ length station.now.switches }
+    requires count { suc place.parts ≡ part_count station.now }
+    requires bay { place.bay.0 < part_count station.now }
+    requires own { IsOwn station.now place.bay.0 op.switch.0 place.first place.others }
+    requires gap { IsReady gap.now sets.now }
+    requires load { IsReady load.now sets.now }
+    requires gap_labels { gap.now.inner.now.labels ≡ 3 }
+    requires load_labels { load.now.inner.now.labels ≡ 2 }
+    requires sets { length sets.now ≡ place.parts }
+    requires indices { (j c : ℕ) → IsSet (set_at sets.now j) c → c < size_of parts.now (other_of 0 place.bay.0 j) }
+    requires gap_inner { length gap.now.inner.now.layers ≡ suc place.others }
+    requires load_inner { length load.now.inner.now.layers ≡ suc place.others }
+    requires gap_small { (i c : ℕ) → IsSet (set_at gap.now.inner_sets (suc i)) c → c < 2 }
+    requires load_small { (i c : ℕ) → IsSet (set_at load.now.inner_sets (suc i)) c → c < 2 }
+    ensures { IfOk result (λ r. IsSide Gap (lettered station.now parts.now) place.bay.0 op.switch.0 place.first place.others own.now sets.now gap.now
+        → IsSide Load (lettered station.now parts.now) place.bay.0 op.switch.0 place.first place.others own.now sets.now load.now
+        → Decides station.now (Within (lettered station.now parts.now) place.bay.0 own.now sets.now) op r) }
+{
+    match search(alloc, op.direction, gap, load, sets)? {
+        None => Ok(Verdict::Release),
+        Some(found) => {
+            let reading = vector_of(alloc, station, parts, place, op, own, &found.choices)?;
+            Ok(Verdict::Denied {
+                rule: found.rule,
+                reading,
+            })
+        }
+    }
+}

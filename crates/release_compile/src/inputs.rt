@@ -1,0 +1,225 @@
+//! What the layers of a graph take in: values and lists of nodes, by their numbers in a pool.
+ghost use Rattle.std.specs.Prelude.{◌≡◌, ℕ, suc, ◌+◌, ◌<◌, ◌≤◌, ◌↔◌, length, map, slice_get, Some, OnOk, IfOk, Contains, true, false};
+ghost use Rattle.station_graph.specs.Diagram.{part_count};
+ghost use Rattle.station_graph.specs.Sharing.{IsShared};
+ghost use Rattle.contraction.specs.Answers.{Answers, Keeps, AreNodes};
+ghost use Rattle.bay_contract.specs.Alphabets.{AreAlphabets};
+ghost use Rattle.release_compile.specs.Lettered.{lettered};
+ghost use Rattle.release_compile.specs.Pooling.{IsPool, GrewTo};
+ghost use Rattle.release_compile.specs.Needing.{AreShared, IsNeededOuter, InnerNeeds};
+ghost use Rattle.release_compile.specs.Inputs.{AreKeeps, AreCopies, AreRows, HasNothing, HasLinks, HasSwitch, HasPair, AreInnerRows};
+
+use crate::needed::{inner_nodes, outer_nodes, start_nodes};
+use crate::placing::other_number;
+use crate::pool::Pool;
+use bay_contract::{Parts, base};
+use contraction::Contraction;
+use ilk_base::{BayId, Memory, SwitchId};
+use station_graph::{NodeList, Station};
+use std::alloc::Global;
+
+// The numbers of the nodes that are kept before each layer of an outer graph.
+pub(crate) fn outer_keeps(
+    alloc: Global,
+    pool: &mut Pool,
+    station: &Station,
+    shared: &[NodeList],
+    bay: BayId,
+    others: u16,
+) -> Result<Vec<usize>, Memory>
+    requires pool { IsPool pool.old }
+    requires shared { AreShared station.now shared.now }
+    requires count { suc others ≡ part_count station.now }
+    requires bay { bay.0 < part_count station.now }
+    ensures grew { OnOk result (GrewTo pool.old pool.new) }
+    ensures keeps { IfOk result (λ v. AreKeeps (IsNeededOuter station.now bay.0) pool.new v.items (suc others)) }
+{
+    let _count = station.part_count();
+    let mut keeps = Vec::new(alloc);
+    let count = others + 1;
+    for place in 0..count {
+        let nodes = outer_nodes(alloc, station, shared, bay, place, others)?;
+        let id = pool.keep(nodes)?;
+        keeps.push(id)?;
+    }
+    Ok(keeps)
+}
+
+// The numbers of copies of these values.
+fn copies(
+    alloc: Global,
+    pool: &mut Pool,
+    values: &[Contraction],
+    nodes: &NodeList,
+) -> Result<Vec<usize>, Memory>
+    requires pool { IsPool pool.old }
+    requires nodes { (c : ℕ) (x : Answers) → slice_get values.now c ≡ Some x → (n : ℕ) → Keeps x.kept n ↔ Contains nodes.now n }
+    ensures grew { OnOk result (GrewTo pool.old pool.new) }
+    ensures copies { IfOk result (λ v. AreCopies pool.new values.now v.items) }
+{
+    let mut ids = Vec::new(alloc);
+    let count = values.len();
+    for place in 0..count {
+        let value = &values[place];
+        let id = pool.copy(alloc, value, nodes)?;
+        ids.push(id)?;
+    }
+    Ok(ids)
+}
+
+// The numbers of the letters of each other part.
+pub(crate) fn letter_rows(
+    alloc: Global,
+    pool: &mut Pool,
+    station: &Station,
+    parts: &Parts,
+    shared: &[NodeList],
+    bay: BayId,
+    others: u16,
+) -> Result<Vec<Vec<usize>>, Memory>
+    requires pool { IsPool pool.old }
+    requires lettered { AreAlphabets station.now parts.now }
+    requires shared { AreShared station.now shared.now }
+    requires count { suc others ≡ part_count station.now }
+    requires bay { bay.0 < part_count station.now }
+    ensures grew { OnOk result (GrewTo pool.old pool.new) }
+    ensures rows { IfOk result (λ v. AreRows (lettered station.now parts.now) bay.0 pool.new (map (λ r. r.items) v.items) others) }
+{
+    let _count = station.part_count();
+    let mut rows = Vec::new(alloc);
+    for j in 0..others {
+        let part = other_number(0, u16::from(bay.0), j);
+        let place = usize::from(part);
+        let nodes = &shared[place];
+        let letters = parts.letters(BayId(part as u8));
+        let ids = copies(alloc, pool, letters, nodes)?;
+        rows.push(ids)?;
+    }
+    Ok(rows)
+}
+
+// The number of the value of no item.
+pub(crate) fn nothing(alloc: Global, pool: &mut Pool) -> Result<usize, Memory>
+    requires { IsPool pool.old }
+    ensures grew { OnOk result (GrewTo pool.old pool.new) }
+    ensures nothing { IfOk result (HasNothing pool.new) }
+{
+    let nodes = NodeList::new(alloc);
+    let value = Contraction::empty(alloc, &nodes)?;
+    let id = pool.intern(alloc, value)?;
+    Ok(id)
+}
+
+// The numbers of the nodes that are kept before each layer of an inner graph.
+pub(crate) fn inner_keeps(
+    alloc: Global,
+    pool: &mut Pool,
+    station: &Station,
+    bay: BayId,
+    start: NodeList,
+    first: u16,
+    moved: u16,
+    others: u16,
+) -> Result<Vec<usize>, Memory>
+    requires pool { IsPool pool.old }
+    requires moved { moved < length station.now.switches }
+    requires those { first + others < length station.now.switches }
+    requires start { (n : ℕ) → Contains start n ↔ InnerNeeds station.now bay.0 moved first others 0 n }
+    ensures grew { OnOk result (GrewTo pool.old pool.new) }
+    ensures keeps { IfOk result (λ v. AreKeeps (InnerNeeds station.now bay.0 moved first others) pool.new v.items (suc (suc others))) }
+{
+    let _count = station.switch_count();
+    let mut keeps = Vec::new(alloc);
+    let id = pool.keep(start)?;
+    keeps.push(id)?;
+    let count = others + 1;
+    for from in 0..count {
+        let nodes = inner_nodes(alloc, station, first, moved, from, others)?;
+        let id = pool.keep(nodes)?;
+        keeps.push(id)?;
+    }
+    Ok(keeps)
+}
+
+// The number of the value of the bay's links and taps, on these nodes.
+pub(crate) fn links(
+    alloc: Global,
+    pool: &mut Pool,
+    station: &Station,
+    bay: BayId,
+    nodes: &NodeList,
+) -> Result<usize, Memory>
+    requires pool { IsPool pool.old }
+    requires nodes { AreNodes nodes.now }
+    ensures grew { OnOk result (GrewTo pool.old pool.new) }
+    ensures links { IfOk result (HasLinks pool.new station.now bay.0 (Contains nodes.now)) }
+{
+    let value = base(alloc, station, bay, nodes)?;
+    let id = pool.intern(alloc, value)?;
+    Ok(id)
+}
+
+// The number of the value of a switch in a position.
+fn switch_id(
+    alloc: Global,
+    pool: &mut Pool,
+    station: &Station,
+    id: SwitchId,
+    closed: bool,
+) -> Result<usize, Memory>
+    requires pool { IsPool pool.old }
+    requires switch { id.0 < length station.now.switches }
+    ensures grew { OnOk result (GrewTo pool.old pool.new) }
+    ensures has { IfOk result (HasSwitch pool.new station.now id.0 closed) }
+{
+    let value = Contraction::of_switch(alloc, station, id, closed)?;
+    let place = pool.intern(alloc, value)?;
+    Ok(place)
+}
+
+// The numbers of the values of a switch, open and closed.
+fn switch_pair(
+    alloc: Global,
+    pool: &mut Pool,
+    station: &Station,
+    id: SwitchId,
+) -> Result<Vec<usize>, Memory>
+    requires pool { IsPool pool.old }
+    requires switch { id.0 < length station.now.switches }
+    ensures grew { OnOk result (GrewTo pool.old pool.new) }
+    ensures pair { IfOk result (λ v. HasPair pool.new station.now id.0 v.items) }
+{
+    let off = switch_id(alloc, pool, station, id, false)?;
+    let on = switch_id(alloc, pool, station, id, true)?;
+    let mut ids = Vec::new(alloc);
+    ids.push(off)?;
+    ids.push(on)?;
+    Ok(ids)
+}
+
+// The names, and the numbers of the values of the bay's other switches.
+pub(crate) fn inner_rows(
+    alloc: Global,
+    pool: &mut Pool,
+    station: &Station,
+    names: &[usize],
+    first: u16,
+    moved: u16,
+    others: u16,
+) -> Result<Vec<Vec<usize>>, Memory>
+    requires pool { IsPool pool.old }
+    requires those { first + others < length station.now.switches }
+    ensures grew { OnOk result (GrewTo pool.old pool.new) }
+    ensures rows { IfOk result (λ v. AreInnerRows station.now moved first pool.new names.now (map (λ r. r.items) v.items) others) }
+{
+    let _count = station.switch_count();
+    let mut rows = Vec::new(alloc);
+    let labels = Vec::from_slice(alloc, names)?;
+    rows.push(labels)?;
+    for i in 0..others {
+        let id = SwitchId(other_number(first, moved, i));
+        let pair = switch_pair(alloc, pool, station, id)?;
+        rows.push(pair)?;
+    }
+    Ok(rows)
+}

@@ -1,0 +1,170 @@
+//! One layer of a graph: from the values of its nodes to those of the next.
+ghost use Rattle.std.specs.Prelude.{◌≡◌, [], ◌∷◌, ℕ, suc, ◌+◌, ◌*◌, ◌<◌, ◌≤◌, length, map, slice_get, sum_by, List, Some, IfOk, OnOk, IsFalse};
+ghost use Rattle.decision_graphs.specs.Finished.{AreFinished};
+ghost use Rattle.release_compile.specs.Pooling.{IsPool, GrewTo, EitherKeeps};
+ghost use Rattle.release_compile.specs.Layering.{IsPlaced, AreEdges, values_at};
+ghost use Rattle.release_compile.specs.Folding.{IsExact};
+ghost use Rattle.release_compile.specs.Plans.{Plan, PlanFits, AreLinked, diagram_of, ChosenBy, items_of, NeededBy, layers_of};
+
+use crate::pool::Pool;
+use decision_graphs::FinishedLayer;
+use ilk_base::Memory;
+use indexmap::IndexSet;
+use std::alloc::{AllocError, AllocFailed, Global};
+
+// Why layers were not built.
+#[derive(Clone, Copy, Debug, PartialEq, Eq)]
+pub(crate) enum Trouble {
+    Memory,
+    Wide,
+}
+
+impl From<Memory> for Trouble {
+    fn from(_: Memory) -> Trouble {
+        Trouble::Memory
+    }
+}
+
+impl From<AllocError> for Trouble {
+    fn from(_: AllocError) -> Trouble {
+        Trouble::Memory
+    }
+}
+
+impl<T: Drop> From<AllocFailed<T>> for Trouble {
+    fn from(_: AllocFailed<T>) -> Trouble {
+        Trouble::Memory
+    }
+}
+
+// The edges of a layer, state by state, and the values to which they lead.
+#[derive(Drop)]
+pub(crate) struct Step {
+    pub(crate) next: Vec<usize>,
+    pub(crate) edges: Vec<u32>,
+}
+
+// Layers, the values to which the last one leads, and how many edges are left of those that may be made.
+#[derive(Drop)]
+pub(crate) struct Drafts {
+    pub(crate) layers: Vec<FinishedLayer>,
+    pub(crate) states: Vec<usize>,
+    pub(crate) left: usize,
+}
+
+// The numbers in order.
+fn listed(alloc: Global, ids: &IndexSet<usize>) -> Result<Vec<usize>, Memory>
+    ensures { IfOk result (λ v. v.items ≡ ids.now.keys) }
+{
+    let list = ids.iter().copied().collect(alloc)?;
+    Ok(list)
+}
+
+// The place of the number in the list, at the end where it is new.
+fn place(ids: &mut IndexSet<usize>, id: usize) -> Result<usize, Memory>
+    ensures { IfOk result (IsPlaced ids.old.keys ids.new.keys id) }
+{
+    let (place, _) = ids.insert_full(id)?;
+    Ok(place)
+}
+
+// From the values of a layer, by the letters of its choices, to those of the next layer.
+pub(crate) fn next_layer(
+    alloc: Global,
+    pool: &mut Pool,
+    states: &[usize],
+    letters: &[usize],
+    keep: usize,
+) -> Result<Step, Memory>
+    requires pool { IsPool pool.old }
+    requires states { (k i : ℕ) → slice_get states.now k ≡ Some i → i < length pool.old.values.items }
+    requires letters { (c j : ℕ) → slice_get letters.now c ≡ Some j → j < length pool.old.values.items }
+    requires some { 0 < length letters.now }
+    requires few { length states.now * length letters.now ≤ 80000000 }
+    requires keep { keep < length pool.old.keeps.items }
+    requires nodes { (k c i j : ℕ) → slice_get states.now k ≡ Some i → slice_get letters.now c ≡ Some j → EitherKeeps pool.old i j keep }
+    ensures grew { OnOk result (GrewTo pool.old pool.new) }
+    ensures few { IfOk result (λ s. length s.next.items ≤ length states.now * length letters.now) }
+    ensures edges { IfOk result (λ s. (nodes : List ℕ) → slice_get pool.old.keeps.items keep ≡ Some nodes
+        → AreEdges pool.new.view pool.new.values.items nodes states.now letters.now s.next.items s.edges.items (length states.now * length letters.now)) }
+{
+    let mut next = IndexSet::new(alloc);
+    let mut edges = Vec::new(alloc);
+    let choices = letters.len();
+    'pairs: for p in 0..states.len() * choices {
+        let first = states[p / choices];
+        let second = letters[p % choices];
+        let id = pool.compose(alloc, first, second, keep)?;
+        let to = place(&mut next, id)?;
+        let edge = to as u32;
+        edges.push(edge)?;
+    }
+    let next = listed(alloc, &next)?;
+    Ok(Step { next, edges })
+}
+
+// The list of one number.
+fn list_of(alloc: Global, id: usize) -> Result<Vec<usize>, Memory>
+    ensures { IfOk result (λ v. v.items ≡ id ∷ []) }
+{
+    let mut list = Vec::new(alloc);
+    list.push(id)?;
+    Ok(list)
+}
+
+// Whether so many nodes with so many choices have more than so many edges.
+fn too_many(nodes: usize, choices: usize, most: usize) -> bool
+    ensures { IsFalse result → nodes * choices ≤ most }
+{
+    choices != 0 && nodes > most / choices
+}
+
+// The layers of a graph, from a start value and the letters of each layer, and the values of its labels. It
+// makes at most so many edges.
+pub(crate) fn fold_layers(
+    alloc: Global,
+    pool: &mut Pool,
+    start: usize,
+    letters: &[Vec<usize>],
+    keeps: &[usize],
+    budget: usize,
+) -> Result<Drafts, Trouble>
+    requires pool { IsPool pool.old }
+    requires linked { AreLinked pool.old start (map (λ v. v.items) letters.now) keeps.now }
+    requires budget { budget ≤ 80000000 }
+    ensures grew { OnOk result (GrewTo pool.old pool.new) }
+    ensures exact { IfOk result (λ r. (plan : Plan) → PlanFits plan pool.old start (map (λ v. v.items) letters.now) keeps.now
+        → IsExact pool.old.view (diagram_of plan) (ChosenBy plan) (items_of plan) (NeededBy plan) (length letters.now) (layers_of r.layers.items) (values_at pool.new.values.items r.states.items)) }
+    ensures finished { IfOk result (λ r. AreFinished (length r.states.items) r.layers.items) }
+    ensures choices { IfOk result (λ r. map (λ (l : FinishedLayer). l.choices) r.layers.items ≡ map length (map (λ v. v.items) letters.now)) }
+    ensures few { IfOk result (λ r. sum_by (λ (l : FinishedLayer). l.nodes) r.layers.items + r.left ≤ budget) }
+    ensures states_few { IfOk result (λ r. length r.states.items ≤ suc budget) }
+    ensures states_in { IfOk result (λ r. (t i : ℕ) → slice_get r.states.items t ≡ Some i → i < length pool.new.values.items) }
+{
+    let mut layers = Vec::new(alloc);
+    let mut states = list_of(alloc, start)?;
+    let mut left = budget;
+    'layers: for j in 0..letters.len() {
+        let row = letters[j].as_slice();
+        let held = states.as_slice();
+        let nodes = held.len();
+        let choices = row.len();
+        if too_many(nodes, choices, left) {
+            return Err(Trouble::Wide);
+        }
+        let step = next_layer(alloc, pool, held, row, keeps[j + 1])?;
+        left -= nodes * choices;
+        let layer = FinishedLayer {
+            choices: choices as u32,
+            nodes: nodes as u32,
+            edges: step.edges,
+        };
+        layers.push(layer)?;
+        states = step.next;
+    }
+    Ok(Drafts {
+        layers,
+        states,
+        left,
+    })
+}

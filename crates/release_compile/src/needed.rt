@@ -1,0 +1,204 @@
+//! The nodes that are kept before each layer of a graph.
+ghost use Rattle.std.specs.Prelude.{◌≡◌, ℕ, ◌+◌, ◌<◌, ◌≤◌, ◌⊎◌, ◌↔◌, suc, length, slice_get, Some, IfOk, IsTrue, Contains};
+ghost use Rattle.station_graph.specs.Diagram.{part_count};
+ghost use Rattle.station_graph.specs.Connection.{a_switch};
+ghost use Rattle.station_graph.specs.Sharing.{AtSwitch, Touches, IsShared};
+ghost use Rattle.contraction.specs.Answers.{AreNodes};
+ghost use Rattle.release_compile.specs.Graphs.{other_of, IsOwn};
+ghost use Rattle.release_compile.specs.Needing.{AreShared, SharesFrom, IsNeededOuter, TouchesOther, IsNeededInner};
+
+use crate::placing::other_number;
+use ilk_base::{BayId, Memory, NodeId, SwitchId};
+use station_graph::{NodeList, Station, Switch};
+use std::alloc::Global;
+
+// Whether the switch touches the node.
+fn touches(switch: Switch, node: u16) -> bool
+    ensures { IsTrue result ↔ AtSwitch switch node }
+{
+    if switch.first.0 == node {
+        return true;
+    }
+    match switch.second {
+        Some(second) => second.0 == node,
+        None => false,
+    }
+}
+
+// Whether the switch of this number touches the node.
+fn switch_touches(station: &Station, id: u16, node: u16) -> bool
+    requires { id < length station.now.switches }
+    ensures { IsTrue result ↔ Touches station.now (a_switch id) node }
+{
+    touches(station.switch(SwitchId(id)), node)
+}
+
+// Whether one of the bay's other switches, from a place on, touches the node.
+fn other_touches(
+    station: &Station,
+    first: u16,
+    moved: u16,
+    from: u16,
+    others: u16,
+    node: u16,
+) -> bool
+    requires { first + others < length station.now.switches }
+    ensures { IsTrue result ↔ TouchesOther station.now moved first others from node }
+{
+    let _count = station.switch_count();
+    for i in from..others {
+        if switch_touches(station, other_number(first, moved, i), node) {
+            return true;
+        }
+    }
+    false
+}
+
+// Whether the moved switch touches the node, or one of the bay's other switches from a place on does.
+fn is_needed(station: &Station, first: u16, moved: u16, from: u16, others: u16, node: u16) -> bool
+    requires moved { moved < length station.now.switches }
+    requires those { first + others < length station.now.switches }
+    ensures { IsTrue result ↔ IsNeededInner station.now moved first others from node }
+{
+    switch_touches(station, moved, node) || other_touches(station, first, moved, from, others, node)
+}
+
+// The nodes that the moved switch or one of the bay's other switches from a place on touches, rising.
+pub(crate) fn inner_nodes(
+    alloc: Global,
+    station: &Station,
+    first: u16,
+    moved: u16,
+    from: u16,
+    others: u16,
+) -> Result<NodeList, Memory>
+    requires moved { moved < length station.now.switches }
+    requires those { first + others < length station.now.switches }
+    ensures { IfOk result (λ l. (n : ℕ) → Contains l n ↔ IsNeededInner station.now moved first others from n) }
+{
+    let mut nodes = NodeList::new(alloc);
+    for node in 0..station.node_count() {
+        if is_needed(station, first, moved, from, others, node) {
+            nodes.push(NodeId(node))?;
+        }
+    }
+    Ok(nodes)
+}
+
+// Whether the node is shared, or needed by one of the bay's switches.
+fn is_needed_first(
+    station: &Station,
+    bay: BayId,
+    shared: &NodeList,
+    first: u16,
+    moved: u16,
+    others: u16,
+    node: u16,
+) -> bool
+    requires moved { moved < length station.now.switches }
+    requires those { first + others < length station.now.switches }
+    requires shared { (n : ℕ) → Contains shared.now n ↔ IsShared station.now bay.0 n }
+    ensures { IsTrue result ↔ (IsShared station.now bay.0 node ⊎ IsNeededInner station.now moved first others 0 node) }
+{
+    shared.numbers().contains(&node) || is_needed(station, first, moved, 0, others, node)
+}
+
+// The nodes that the bay shares, and those that its switches touch, rising.
+pub(crate) fn start_nodes(
+    alloc: Global,
+    station: &Station,
+    bay: BayId,
+    shared: &NodeList,
+    first: u16,
+    moved: u16,
+    others: u16,
+) -> Result<NodeList, Memory>
+    requires moved { moved < length station.now.switches }
+    requires those { first + others < length station.now.switches }
+    requires shared { (n : ℕ) → Contains shared.now n ↔ IsShared station.now bay.0 n }
+    ensures exact { IfOk result (λ l. (n : ℕ) → Contains l n ↔ (IsShared station.now bay.0 n ⊎ IsNeededInner station.now moved first others 0 n)) }
+    ensures nodes { IfOk result AreNodes }
+{
+    let mut nodes = NodeList::new(alloc);
+    for node in 0..station.node_count() {
+        if is_needed_first(station, bay, shared, first, moved, others, node) {
+            nodes.push(NodeId(node))?;
+        }
+    }
+    Ok(nodes)
+}
+
+// Whether one of the other parts between two places shares the node.
+fn other_shares(shared: &[NodeList], bay: BayId, from: u16, to: u16, node: u16) -> bool
+    requires few { to < length shared.now }
+    requires most { length shared.now < 65535 }
+    ensures { IsTrue result ↔ SharesFrom shared.now bay.0 from to node }
+{
+    for i in from..to {
+        let nodes = &shared[usize::from(other_number(0, u16::from(bay.0), i))];
+        if nodes.numbers().contains(&node) {
+            return true;
+        }
+    }
+    false
+}
+
+// Whether one of the first other parts shares the node, and the bay or one of the rest shares it too.
+fn is_needed_between(
+    station: &Station,
+    shared: &[NodeList],
+    bay: BayId,
+    place: u16,
+    others: u16,
+    node: u16,
+) -> bool
+    requires shared { AreShared station.now shared.now }
+    requires count { suc others ≡ part_count station.now }
+    requires bay { bay.0 < part_count station.now }
+    requires place { place ≤ others }
+    ensures { IsTrue result ↔ IsNeededOuter station.now bay.0 place node }
+{
+    let _count = station.part_count();
+    if !other_shares(shared, bay, 0, place, node) {
+        return false;
+    }
+    shared[usize::from(bay.0)].numbers().contains(&node)
+        || other_shares(shared, bay, place, others, node)
+}
+
+// The nodes that one of the first other parts touches, and that the bay or one of the rest touches too,
+// rising.
+pub(crate) fn outer_nodes(
+    alloc: Global,
+    station: &Station,
+    shared: &[NodeList],
+    bay: BayId,
+    place: u16,
+    others: u16,
+) -> Result<NodeList, Memory>
+    requires shared { AreShared station.now shared.now }
+    requires count { suc others ≡ part_count station.now }
+    requires bay { bay.0 < part_count station.now }
+    requires place { place ≤ others }
+    ensures { IfOk result (λ l. (n : ℕ) → Contains l n ↔ IsNeededOuter station.now bay.0 place n) }
+{
+    let mut nodes = NodeList::new(alloc);
+    for node in 0..station.node_count() {
+        if is_needed_between(station, shared, bay, place, others, node) {
+            nodes.push(NodeId(node))?;
+        }
+    }
+    Ok(nodes)
+}
+
+// The nodes that each part shares.
+pub(crate) fn all_shared(alloc: Global, station: &Station) -> Result<Vec<NodeList>, Memory>
+    ensures { IfOk result (λ v. AreShared station.now v.items) }
+{
+    let mut lists = Vec::new(alloc);
+    for part in 0..station.part_count() {
+        let nodes = station.shared_nodes(alloc, BayId(part as u8))?;
+        lists.push(nodes)?;
+    }
+    Ok(lists)
+}

@@ -1,0 +1,201 @@
+//! Values of one view, each kept once.
+ghost use Rattle.std.specs.Prelude.{◌≡◌, ℕ, ◌<◌, ◌⊎◌, ◌↔◌, ◌++◌, List, [], ◌∷◌, length, slice_get, Some, IfOk, IfSome, OnOk, MatchOption, Contains};
+ghost use Rattle.contraction.specs.Answers.{Answers, Keeps};
+ghost use Rattle.release_compile.specs.declared.pool.Made.{Made as Key};
+ghost use Rattle.release_compile.specs.declared.view.View.{View as Seen};
+ghost use Rattle.release_compile.specs.Seen.{Carries, seen_row};
+ghost use Rattle.release_compile.specs.Pooling.{IsRowIndex, NotesAreRight, WasMade, IsMade, IsPool, GrewTo, HasSame, HasCopy, EitherKeeps};
+
+use crate::view::{View, row_in};
+use contraction::Contraction;
+use ilk_base::{Memory, Text};
+use station_graph::NodeList;
+use std::alloc::Global;
+use std::collections::HashMap;
+
+// Of which two values, on which nodes, a value was made.
+#[derive(Clone, Copy, Debug, PartialEq, Eq, Hash)]
+pub(crate) struct Made {
+    pub(crate) first: usize,
+    pub(crate) second: usize,
+    pub(crate) keep: usize,
+}
+
+// Values of one view, each once. Compositions are noted, so that none is made twice.
+#[derive(Drop)]
+pub(crate) struct Pool {
+    pub(crate) view: View,
+    pub(crate) values: Vec<Contraction>,
+    pub(crate) index: HashMap<Text, usize>,
+    pub(crate) keeps: Vec<NodeList>,
+    pub(crate) notes: HashMap<Made, usize>,
+}
+
+// The composition of two values, on these nodes.
+pub(crate) fn composed(
+    alloc: Global,
+    x: &Contraction,
+    y: &Contraction,
+    keep: &NodeList,
+) -> Result<Contraction, Memory>
+    requires { (n : ℕ) → Contains keep.now n → Keeps x.now.kept n ⊎ Keeps y.now.kept n }
+    ensures carries { IfOk result (λ r. (view : Seen) → Carries view x.now y.now r) }
+    ensures kept { IfOk result (λ r. (n : ℕ) → Keeps r.kept n ↔ Contains keep.now n) }
+{
+    let both = x.compose(alloc, y)?;
+    both.keep_only(alloc, keep)
+}
+
+// The number that the index has for a row.
+fn find_row(index: &HashMap<Text, usize>, row: &Text) -> Option<usize>
+    ensures { (view : Seen) (values : List Answers) → IsRowIndex view values index.now → MatchOption result
+        ((i : ℕ) (x : Answers) → slice_get values i ≡ Some x → row.now ≡ seen_row view x → ⊥)
+        (λ i. (x : Answers) × (slice_get values i ≡ Some x) × (row.now ≡ seen_row view x)) }
+{
+    match index.get(row) {
+        Some(place) => Some(*place),
+        None => None,
+    }
+}
+
+// Makes the index know the row of a new value.
+fn note_row(index: &mut HashMap<Text, usize>, row: Text, place: usize) -> Result<(), Memory>
+    ensures { OnOk result ((view : Seen) (values : List Answers) (x : Answers) → IsRowIndex view values index.old
+        → place ≡ length values → row ≡ seen_row view x → IsRowIndex view (values ++ x ∷ []) index.new) }
+{
+    index.insert(row, place)?;
+    Ok(())
+}
+
+// The number of the value that was made so, if it is noted.
+fn find_made(notes: &HashMap<Made, usize>, key: Made) -> Option<usize>
+    ensures { (view : Seen) (values : List Answers) (keeps : List (List ℕ)) → NotesAreRight view values keeps notes.now
+        → IfSome result (WasMade view values keeps key) }
+{
+    match notes.get(&key) {
+        Some(place) => Some(*place),
+        None => None,
+    }
+}
+
+// Notes how a value was made.
+fn note_made(notes: &mut HashMap<Made, usize>, key: Made, place: usize) -> Result<(), Memory>
+    ensures { OnOk result ((view : Seen) (values : List Answers) (keeps : List (List ℕ))
+        → NotesAreRight view values keeps notes.old → WasMade view values keeps key place
+        → NotesAreRight view values keeps notes.new) }
+{
+    notes.insert(key, place)?;
+    Ok(())
+}
+
+impl Pool {
+    // A pool without values, for these lists of nodes.
+    pub(crate) fn new(alloc: Global, view: View, keeps: Vec<NodeList>) -> Pool
+        ensures pool { IsPool result }
+        ensures view { result.view ≡ view }
+        ensures keeps { result.keeps.items ≡ keeps.items }
+        ensures empty { result.values.items ≡ [] }
+    {
+        Pool {
+            view,
+            values: Vec::new(alloc),
+            index: HashMap::new(alloc),
+            keeps,
+            notes: HashMap::new(alloc),
+        }
+    }
+
+    // The number of the value that is the same in the view.
+    pub(crate) fn intern(&mut self, alloc: Global, value: Contraction) -> Result<usize, Memory>
+        requires { IsPool self.old }
+        ensures grew { OnOk result (GrewTo self.old self.new) }
+        ensures same { IfOk result (HasSame self.new value) }
+    {
+        let row = row_in(alloc, self.view, &value)?;
+        match find_row(&self.index, &row) {
+            Some(place) => Ok(place),
+            None => {
+                let held = self.values.as_slice();
+                let place = held.len();
+                note_row(&mut self.index, row, place)?;
+                self.values.push(value)?;
+                Ok(place)
+            }
+        }
+    }
+
+    // The number of one more list of nodes.
+    pub(crate) fn keep(&mut self, nodes: NodeList) -> Result<usize, Memory>
+        requires { IsPool self.old }
+        ensures grew { OnOk result (GrewTo self.old self.new) }
+        ensures kept { IfOk result (λ k. slice_get self.new.keeps.items k ≡ Some nodes) }
+    {
+        let held = self.keeps.as_slice();
+        let place = held.len();
+        self.keeps.push(nodes)?;
+        Ok(place)
+    }
+
+    // The number of a copy of the value, which keeps these nodes.
+    pub(crate) fn copy(
+        &mut self,
+        alloc: Global,
+        value: &Contraction,
+        nodes: &NodeList,
+    ) -> Result<usize, Memory>
+        requires pool { IsPool self.old }
+        requires nodes { (n : ℕ) → Keeps value.now.kept n ↔ Contains nodes.now n }
+        ensures grew { OnOk result (GrewTo self.old self.new) }
+        ensures copy { IfOk result (HasCopy self.new value.now) }
+    {
+        let same = value.keep_only(alloc, nodes)?;
+        let id = self.intern(alloc, same)?;
+        Ok(id)
+    }
+
+    // The number of the value that stands for both together, on these of their nodes. It is composed
+    // once.
+    pub(crate) fn compose(
+        &mut self,
+        alloc: Global,
+        first: usize,
+        second: usize,
+        keep: usize,
+    ) -> Result<usize, Memory>
+        requires pool { IsPool self.old }
+        requires first { first < length self.old.values.items }
+        requires second { second < length self.old.values.items }
+        requires keep { keep < length self.old.keeps.items }
+        requires nodes { EitherKeeps self.old first second keep }
+        ensures grew { OnOk result (GrewTo self.old self.new) }
+        ensures made { IfOk result (λ t. WasMade self.new.view self.new.values.items self.new.keeps.items (record { first = first; second = second; keep = keep }) t) }
+    {
+        let key = Made {
+            first,
+            second,
+            keep,
+        };
+        if let Some(place) = find_made(&self.notes, key) {
+            return Ok(place);
+        }
+        self.make(alloc, key)
+    }
+
+    // Composes and notes it.
+    fn make(&mut self, alloc: Global, key: Made) -> Result<usize, Memory>
+        requires pool { IsPool self.old }
+        requires first { key.first < length self.old.values.items }
+        requires second { key.second < length self.old.values.items }
+        requires keep { key.keep < length self.old.keeps.items }
+        requires nodes { EitherKeeps self.old key.first key.second key.keep }
+        ensures grew { OnOk result (GrewTo self.old self.new) }
+        ensures made { IfOk result (λ t. WasMade self.new.view self.new.values.items self.new.keeps.items key t) }
+    {
+        let x = &self.values[key.first];
+        let y = &self.values[key.second];
+        let value = composed(alloc, x, y, &self.keeps[key.keep])?;
+        let place = self.intern(alloc, value)?;
+        note_made(&mut self.notes, key, place)?;
+        Ok(place)
+    }
+}
