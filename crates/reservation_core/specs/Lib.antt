@@ -1,0 +1,5 @@
+pub mod Premises
+pub mod World
+pub mod RoundFacts
+pub mod Happens
+pub mod Start
