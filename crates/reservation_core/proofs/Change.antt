@@ -13,7 +13,7 @@ use Rattle.bay_protocol.specs.State.{State, under_way}
 use Rattle.bay_protocol.specs.Fits.{IsNode}
 use Rattle.reservation_core.specs.World.{World, node, at_node, runs}
 use Rattle.reservation_core.specs.RoundFacts.{RoundFacts, Shape, Bounds, IsLockedFor, Driven, HeardSent, round_bay}
-use Rattle.reservation_core.proofs.Nodes.{each_node}
+use Rattle.reservation_core.proofs.Nodes.{each_node, got_set}
 
 -- node b may become s
 pub record MayBecome (m : Meaning) (w : World) (b : ℕ) (s : State) : Type 0 where
@@ -53,6 +53,10 @@ shape_at m w b s facts may = record {
   ];
   truth = facts.shape.truth;
   drives = facts.shape.drives;
+  only = λ c n got. elim (got_set w.nodes b (Some s) c (Some n) got) [
+    | inl p ↦ subst (IsBay m.diagram) (may.name ∙ sym p.0) may.sound.bay
+    | inr was ↦ facts.shape.only c n was
+  ];
   named = each_node m.diagram w b s (λ x n. n.bay ≡ x) may.within may.name (λ c other. facts.shape.named c);
 }
 

@@ -5,3 +5,10 @@ pub mod Sends
 pub mod Steps
 pub mod Events
 pub mod Keeping
+pub mod Effects
+pub mod Truths
+pub mod Ways
+pub mod Noting
+pub mod Plain
+pub mod Soundness
+pub mod Starting

@@ -53,3 +53,10 @@ pub set_set : {X : Type 0} (xs : List X) (i : ℕ) (y z : X) → set (set xs i y
 set_set [] i y z = refl
 set_set (a ∷ xs) zero y z = refl
 set_set (a ∷ xs) (suc i) y z = ap (λ l. a ∷ l) (set_set xs i y z)
+
+-- a node with a granted operation is there
+pub has_node : (xs : List (Option State)) (c : ℕ) (n : State) (g : Grant) → n.granted ≡ None → (unwrap_or (get_or xs c None) n).granted ≡ Some g → (s : State) × (slice_get xs c ≡ Some (Some s))
+has_node [] c n g free is = absurd (cc (free, is))
+has_node (None ∷ xs) zero n g free is = absurd (cc (free, is))
+has_node (Some s ∷ xs) zero n g free is = (s, refl)
+has_node (x ∷ xs) (suc c) n g free is = has_node xs c n g free is

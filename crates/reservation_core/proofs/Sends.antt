@@ -28,7 +28,7 @@ facts_posts m w frames facts may =
     let each : (P : Frame → Type 0) → ((f : Frame) → Contains w.sent f → P f) → ((f : Frame) → MaySend m w f → P f) → (f : Frame) → Contains (w.sent ++ frames) f → P f =
     λ P old new f there. elim (Contains-append_cases w.sent frames f there) [ inl a ↦ old f a | inr b ↦ new f (may f b) ] in
     record {
-      shape = record { nodes = facts.shape.nodes; present = facts.shape.present; truth = facts.shape.truth; drives = facts.shape.drives; named = facts.shape.named };
+      shape = record { nodes = facts.shape.nodes; present = facts.shape.present; only = facts.shape.only; truth = facts.shape.truth; drives = facts.shape.drives; named = facts.shape.named };
       rounds = facts.rounds;
       bounds = record {
         frames = each (λ f. f.round ≤ (node m.diagram w (round_bay f f.body)).highest) facts.bounds.frames (λ f s. s.bound);
@@ -47,7 +47,7 @@ facts_moves m w i g at running facts lt has switch between =
     let inside : i < length w.truth = omega (arith, lt, facts.shape.truth) in
     let inside' : i < length w.drives = omega (arith, lt, facts.shape.drives) in
     record {
-      shape = record { nodes = facts.shape.nodes; present = facts.shape.present; truth = length-set w.truth i at ∙ facts.shape.truth; drives = length-set w.drives i running ∙ facts.shape.drives; named = facts.shape.named };
+      shape = record { nodes = facts.shape.nodes; present = facts.shape.present; only = facts.shape.only; truth = length-set w.truth i at ∙ facts.shape.truth; drives = length-set w.drives i running ∙ facts.shape.drives; named = facts.shape.named };
       rounds = facts.rounds;
       bounds = record { frames = facts.bounds.frames; fit = facts.bounds.fit; locks = facts.bounds.locks };
       overs = facts.overs;
@@ -66,7 +66,7 @@ facts_moves m w i g at running facts lt has switch between =
 -- a drive stops
 pub facts_stops : (m : Meaning) (w : World) (i : ℕ) → RoundFacts m w → RoundFacts m (stops w i)
 facts_stops m w i facts = record {
-  shape = record { nodes = facts.shape.nodes; present = facts.shape.present; truth = facts.shape.truth; drives = length-set w.drives i false ∙ facts.shape.drives; named = facts.shape.named };
+  shape = record { nodes = facts.shape.nodes; present = facts.shape.present; only = facts.shape.only; truth = facts.shape.truth; drives = length-set w.drives i false ∙ facts.shape.drives; named = facts.shape.named };
   rounds = facts.rounds;
   bounds = record { frames = facts.bounds.frames; fit = facts.bounds.fit; locks = facts.bounds.locks };
   overs = facts.overs;
@@ -81,7 +81,7 @@ facts_stops m w i facts = record {
 -- a switch is open from here, and its drive stands still
 pub facts_opens : (m : Meaning) (w : World) (i : ℕ) → RoundFacts m w → RoundFacts m (moves w i Open false)
 facts_opens m w i facts = record {
-  shape = record { nodes = facts.shape.nodes; present = facts.shape.present; truth = length-set w.truth i Open ∙ facts.shape.truth; drives = length-set w.drives i false ∙ facts.shape.drives; named = facts.shape.named };
+  shape = record { nodes = facts.shape.nodes; present = facts.shape.present; only = facts.shape.only; truth = length-set w.truth i Open ∙ facts.shape.truth; drives = length-set w.drives i false ∙ facts.shape.drives; named = facts.shape.named };
   rounds = facts.rounds;
   bounds = record { frames = facts.bounds.frames; fit = facts.bounds.fit; locks = facts.bounds.locks };
   overs = facts.overs;

@@ -82,6 +82,10 @@ pub record IsOpenOperation (s : State) (i : ℕ) (g : Grant) : Type 0 where
   pub granted : s.granted ≡ Some g
   pub switch : g.op.switch.0 ≡ i
 
+-- An operation of switch i is open.
+abbrev pub IsOpened : State → ℕ → Type 0
+IsOpened s i = (g : Grant) × IsOpenOperation s i g
+
 pub data BeginHappens (d : Diagram) (old : World) (i : ℕ) (new : World) (outcome : WorldOutcome) : Type 0 where
   not_open : NotGranted (node d old (bay_of d i)) i → IsRefused old new outcome Begun → BeginHappens d old i new outcome
   running : runs old.drives i ≡ true → IsRefused old new outcome Begun → BeginHappens d old i new outcome

@@ -23,11 +23,12 @@ round_bay f (Answer summary) = f.to.0
 round_bay f (Busy holder q) = f.to.0
 round_bay f Query = f.to.0
 
--- The world is one of the station: there is a node for each bay, which is its own, and a true position and a
--- drive for each switch.
+-- The world is one of the station: each bay has a node, which is its own, and no other part has one; there are
+-- a true position and a drive for each switch.
 pub record Shape (d : Diagram) (w : World) : Type 0 where
   pub nodes : length w.nodes ≡ part_count d
   pub present : (b : ℕ) → IsBay d b → (s : State) × (slice_get w.nodes b ≡ Some (Some s))
+  pub only : (b : ℕ) (s : State) → slice_get w.nodes b ≡ Some (Some s) → IsBay d b
   pub named : (b : ℕ) → (node d w b).bay ≡ b
   pub truth : length w.truth ≡ length d.switches
   pub drives : length w.drives ≡ length d.switches

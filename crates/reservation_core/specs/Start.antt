@@ -1,7 +1,8 @@
 -- The world before anything happens.
-use Rattle.std.specs.Prelude.{◌≡◌, ◌<◌, ℕ, Bool, false, List, [], length, slice_index_or, slice_get, Some, None, if◌then◌else◌}
+use Rattle.std.specs.Prelude.{◌≡◌, ◌<◌, ℕ, Bool, false, List, [], length, slice_index_or, slice_get, Option, Some, None, if◌then◌else◌}
 use Rattle.station_graph.specs.Diagram.{Diagram, part_count}
 use Rattle.central_rules.specs.Meaning.{IsBay}
+use Rattle.bay_protocol.specs.State.{State}
 use Rattle.reservation_core.specs.World.{World, new_node, true_at, runs}
 use Rattle.reservation_core.specs.declared.values.Position.{Position}
 use Rattle.reservation_core.specs.declared.values.Position.TheVariants.{Open, Closed}
@@ -10,11 +11,19 @@ use Rattle.reservation_core.specs.declared.values.Position.TheVariants.{Open, Cl
 abbrev pub position_of : Bool → Position
 position_of closed = if closed then Closed else Open
 
--- To no bay anything has happened, each switch stands as the vector says, no drive runs, and nothing was sent.
+-- The node of part b is one to which nothing has happened, or b is no bay and has none.
+abbrev pub IsNew : Diagram → ℕ → Option State → Type 0
+IsNew d b (Some s) = IsBay d b × (s ≡ new_node d b)
+IsNew d b None = ¬ IsBay d b
+
+-- There is a new node for each part that is a bay.
+pub record AreNew (d : Diagram) (nodes : List (Option State)) : Type 0 where
+  pub count : length nodes ≡ part_count d
+  pub each : (b : ℕ) (place : Option State) → slice_get nodes b ≡ Some place → IsNew d b place
+
+-- Nothing has happened to any bay, each switch stands as the vector says, no drive runs, and nothing was sent.
 pub record IsStart (d : Diagram) (start : List Bool) (w : World) : Type 0 where
-  pub nodes : length w.nodes ≡ part_count d
-  pub fresh : (b : ℕ) → IsBay d b → slice_get w.nodes b ≡ Some (Some (new_node d b))
-  pub no_other : (b : ℕ) → b < part_count d → ¬ IsBay d b → slice_get w.nodes b ≡ Some None
+  pub nodes : AreNew d w.nodes
   pub truth : length w.truth ≡ length d.switches
   pub stands : (i : ℕ) → i < length d.switches → true_at w.truth i ≡ position_of (slice_index_or start i false)
   pub drives : length w.drives ≡ length d.switches
