@@ -155,7 +155,8 @@ fn expect_texts(rt: &impl Abort, alloc: Global, station: &Station) -> Result<(),
 }
 
 fn expect_text(rt: &impl Abort, alloc: Global, station: &Station, row: &Row) -> Result<(), Fail> {
-    let words = words(rt, alloc, station, row.words)?;
+    let signs = row.words;
+    let words = words(rt, alloc, station, signs)?;
     expect_from_words(rt, alloc, station, &words, row)
 }
 
