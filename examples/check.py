@@ -6,6 +6,8 @@
                                  - the stored run of the program in the gate (crates/interlock) with the
                                    example double_busbar
                                  - the lines that README.md here and at the top cite, with the stored texts
+                                 and what `order` says of each order in examples/orders with its stored text,
+                                 which was worked by hand
     examples/check.py --store    writes what the program says as the stored texts, where the definitions
                                  allow it; look at each difference by hand before you commit it
 
@@ -25,6 +27,8 @@ HERE = pathlib.Path(__file__).resolve().parent
 TOP = HERE.parent
 CRATE = TOP / "crates/interlock"
 IN_GATE = "double_busbar"
+# The drawing of the orders in examples/orders.
+ORDERED = "double_busbar.ssd"
 
 
 def interlock_script():
@@ -78,9 +82,16 @@ def main(words):
     names = sorted(file.stem for file in HERE.glob("*.ssd"))
     script = interlock_script()
     proved = script.is_proved()
+    orders = sorted((HERE / "orders").glob("*.order"))
     commands = [["check", str(HERE / f"{name}.ssd"), str(HERE / f"{name}.csv")] for name in names]
-    answers = {name: text for name, (_, text) in zip(names, script.answers(commands))}
-    found = [d for name in names for d in example_differences(name, answers[name], words == ["--store"])]
+    commands += [["order", str(HERE / ORDERED), str(order.with_suffix(".csv")), str(order)] for order in orders]
+    answers = [text for _, text in script.answers(commands)]
+    found = [d for name, text in zip(names, answers) for d in example_differences(name, text, words == ["--store"])]
+    found += [
+        f"{order.stem}: the program does not say what examples/orders/{order.stem}.txt says"
+        for order, text in zip(orders, answers[len(names):])
+        if order.with_suffix(".txt").read_text() != text
+    ]
     found += [*gate_differences(), *cited_differences(names)]
     print("\n".join(found), end="\n" if found else "")
     program = "the proved program" if proved else "the checked build, not the proved program"
