@@ -4,13 +4,15 @@ use Rattle.std.specs.Prelude.{IfSome, IfOk, IfErr}
 use Rattle.std.proofs.lemmas.List.{take_all, length-take}
 use Rattle.ilk_base.specs.declared.words.Dbpos.{Dbpos}
 use Rattle.ilk_base.specs.declared.words.InputRefusal.{InputRefusal}
+use Rattle.ilk_base.specs.declared.words.Op.{Op}
 use Rattle.station_graph.specs.Diagram.{Diagram}
 use Rattle.ssd_read.specs.declared.refusal.SsdRefusal.{SsdRefusal}
 use Rattle.ssd_read.specs.StandsFor.{Stands}
 use Rattle.double_points.specs.Positions.{IsAccepted, IsFault}
+use Rattle.switching_orders.specs.OrderLines.{IsOrder, IsOrderFault}
 use Rattle.interlock_cli.specs.declared.end.End.{End}
 use Rattle.interlock_cli.specs.declared.end.End.TheVariants as e
-use Rattle.interlock_cli.specs.Formats.{Format, Drawing, Positions, SwitchOf, Value, Accepts, Refuses}
+use Rattle.interlock_cli.specs.Formats.{Format, Drawing, Positions, CertainPositions, OrderOf, SwitchOf, Value, Accepts, Refuses}
 use Rattle.interlock_cli.specs.Judging.{JudgeFails}
 use Rattle.interlock_cli.specs.Form.{File, Given, Fails}
 
@@ -40,6 +42,17 @@ pub record Cuts (f : Format) : Type 0 where
   pub accepts : (b v : List ℕ) (value : Value f) → v ≡ take 8388609 b → Accepts f v value → Accepts f b value
   pub refuses : (b v : List ℕ) (end : End) → v ≡ take 8388609 b → Refuses f v end → Refuses f b end
 
+cut_order : (d : Diagram) (n : ℕ) (b v : List ℕ) (steps : List Op) → n ≡ 8388609 → v ≡ take n b → IsOrder d v steps → IsOrder d b steps
+cut_order d n b v steps e h order =
+    let whole : v ≡ b = h ∙ take_short n b (omega (arith, e, ap length h, order.few_bytes)) in
+    subst (λ (x : List ℕ). IsOrder d x steps) whole order
+
+cut_order_fault : (d : Diagram) (n : ℕ) (b v : List ℕ) (r : InputRefusal) → n ≡ 8388609 → v ≡ take n b → IsOrderFault d v r → IsOrderFault d b r
+cut_order_fault d n b v r e h (inl long) = inl (omega (arith, long.0, ap length h, length-take n b), long.1)
+cut_order_fault d n b v r e h (inr short) =
+    let whole : v ≡ b = h ∙ take_short n b (omega (arith, e, ap length h, short.0)) in
+    subst (λ (x : List ℕ). IsOrderFault d x r) whole (inr short)
+
 refuses_drawing : (b v : List ℕ) (end : End) → v ≡ take 8388609 b → Refuses Drawing v end → Refuses Drawing b end
 refuses_drawing b v (e.Station refusal) h r = cut_stands 8388609 b v (Err refusal) refl h r
 refuses_drawing b v _ h r = r
@@ -48,16 +61,36 @@ refuses_positions : (d : Diagram) (b v : List ℕ) (end : End) → v ≡ take 83
 refuses_positions d b v (e.Input refusal) h r = cut_fault 8388609 b v d.switch_paths refusal refl h r
 refuses_positions d b v _ h r = r
 
+refuses_certain : (d : Diagram) (b v : List ℕ) (end : End) → v ≡ take 8388609 b → Refuses (CertainPositions d) v end → Refuses (CertainPositions d) b end
+refuses_certain d b v (e.Input refusal) h (inl fault) = inl (cut_fault 8388609 b v d.switch_paths refusal refl h fault)
+refuses_certain d b v (e.Input refusal) h (inr (words, accepted, unsure, is)) = inr (words, cut_accepted 8388609 b v d.switch_paths words refl h accepted, unsure, is)
+refuses_certain d b v _ h r = r
+
+refuses_order : (d : Diagram) (b v : List ℕ) (end : End) → v ≡ take 8388609 b → Refuses (OrderOf d) v end → Refuses (OrderOf d) b end
+refuses_order d b v (e.Input refusal) h r = cut_order_fault d 8388609 b v refusal refl h r
+refuses_order d b v _ h r = r
+
 pub drawing : Cuts Drawing
 drawing = record { accepts = λ b v d h a. cut_stands 8388609 b v (Ok d) refl h a; refuses = refuses_drawing }
 
 pub positions : (d : Diagram) → Cuts (Positions d)
 positions d = record { accepts = λ b v words h a. cut_accepted 8388609 b v d.switch_paths words refl h a; refuses = refuses_positions d }
 
+pub certain_positions : (d : Diagram) → Cuts (CertainPositions d)
+certain_positions d = record {
+  accepts = λ b v start h (words, accepted, are). (words, cut_accepted 8388609 b v d.switch_paths words refl h accepted, are);
+  refuses = refuses_certain d;
+}
+
+pub order : (d : Diagram) → Cuts (OrderOf d)
+order d = record { accepts = λ b v steps h a. cut_order d 8388609 b v steps refl h a; refuses = refuses_order d }
+
 -- no content is refused by a fault of its read
 pub no_fault : (f : Format) (v : List ℕ) → Refuses f v e.ReadFault → ⊥
 no_fault Drawing v r = r
 no_fault (Positions d) v r = r
+no_fault (CertainPositions d) v r = r
+no_fault (OrderOf d) v r = r
 no_fault (SwitchOf d) v r = r
 
 module _ (f : Format) (cuts : Cuts f) where

@@ -19,6 +19,19 @@ rose_later : (a b c : ℕ) → a ≤ b → Rose b c → Rose a c
 rose_later a b c le (inl lt) = inl (omega (arith, le, lt))
 rose_later a b c le (inr top) = inr top
 
+keeps_both : (a b c : Option (List ℕ)) → Keeps a b → Keeps b c → Keeps a c
+keeps_both None b c first second = tt
+keeps_both (Some x) None c first second = absurd first
+keeps_both (Some x) (Some y) None first second = absurd second
+keeps_both (Some x) (Some y) (Some z) first second = second ∙ first
+
+-- after two reads
+pub onward_both : {held later last : List ℕ → Option (List ℕ)} {before between after : List ℕ → ℕ} → Onward held later before between → Onward later last between after → Onward held last before after
+onward_both first second = record {
+  keeps = λ n. keeps_both _ _ _ (first.keeps n) (second.keeps n);
+  grows = λ n. omega (arith, first.grows n, second.grows n);
+}
+
 module _ {held later : List ℕ → Option (List ℕ)} {before between : List ℕ → ℕ} (onward : Onward held later before between) where
   content_later : (origin : Origin) (content : List ℕ) → IsContent later origin content → IsContent held origin content
   content_later (File name) content is = kept_content (held name) (later name) content (onward.keeps name) is

@@ -7,12 +7,14 @@ use Rattle.ssd_read.specs.declared.refusal.SsdRefusal.{SsdRefusal}
 use Rattle.ssd_read.specs.StandsFor.{Stands}
 use Rattle.ssd_read.proofs.Once.{one_station}
 use Rattle.double_points.specs.Positions.{IsAccepted, IsFault}
-use Rattle.interlock_cli.specs.Formats.{Format, Drawing, Positions, SwitchOf, Value, Accepts, Refuses}
+use Rattle.interlock_cli.specs.Formats.{Format, Drawing, Positions, CertainPositions, OrderOf, SwitchOf, Value, Accepts, Refuses}
 use Rattle.interlock_cli.specs.Form.{Form, Write, Take, Origin, File, Word, IsContent, Fails, Stops, ReadRose}
 use Rattle.interlock_cli.specs.Commands.{Command, form_of}
 use Rattle.interlock_cli.specs.Lines.{status_of}
 use Rattle.interlock_cli.specs.Ends.{Call, FormEnds, Ends}
 use Rattle.interlock_cli.specs.Complete.{IsTold, IsAnswered, ReadsCalm, Completes}
+use Rattle.switching_orders.specs.Certain.{IsUnsure}
+use Rattle.interlock_cli.proofs.Orders.{never_unsure, order_not_refused}
 use Rattle.interlock_cli.specs.declared.status.Status.{Status}
 use Rattle.interlock_cli.specs.declared.status.Status.TheVariants.{Usage}
 use Rattle.interlock_cli.specs.declared.end.Outcome.{Outcome}
@@ -30,19 +32,14 @@ not_both paths b words r a (inr short) =
 not_refused : (s : List ℕ) (d : Diagram) (refusal : SsdRefusal) → Stands s (Ok d) → Stands s (Err refusal) → ⊥
 not_refused s d refusal stands refused = let same = one_station s (Ok d) (Err refusal) stands refused in cc same
 
-same_station : (s : List ℕ) (d f : Diagram) → Stands s (Ok d) → Stands s (Ok f) → d ≡ f
-same_station s d f a b = let same = one_station s (Ok d) (Ok f) a b in cc same
-
--- a content is accepted as one value
-pub single : (f : Format) (content : List ℕ) (a b : Value f) → Accepts f content a → Accepts f content b → a ≡ b
-single Drawing content a b p q = same_station content a b p q
-single (Positions d) content a b p q = p.2 ∙ sym q.2
-single (SwitchOf d) content a b p q = p.1 ∙ sym q.1
-
 -- no content is accepted and refused
 pub one_verdict : (f : Format) (content : List ℕ) (a : Value f) (end : End) → Accepts f content a → Refuses f content end → ⊥
 one_verdict Drawing content a (e.Station refusal) p r = not_refused content a refusal p r
 one_verdict (Positions d) content a (e.Input refusal) p r = not_both d.switch_paths content a refusal p r
+one_verdict (CertainPositions d) content v (e.Input refusal) (words, accepted, are) (inl fault) = not_both d.switch_paths content words refusal accepted fault
+one_verdict (CertainPositions d) content v (e.Input refusal) (words, accepted, are) (inr (others, same, unsure, is)) =
+    never_unsure v (subst IsUnsure (same.2 ∙ sym accepted.2 ∙ are) unsure)
+one_verdict (OrderOf d) content steps (e.Input refusal) p r = order_not_refused d content steps refusal p r
 one_verdict (SwitchOf d) content a (e.Input refusal) p r = r.0 p.0
 one_verdict f content a end p r = r
 
@@ -60,11 +57,10 @@ module _ (held : List ℕ → Option (List ℕ)) (before after : List ℕ → �
 
   stops_memory : (form : Form) (end : End) → IsAnswered form held → ReadsCalm form before after → Stops form held before after end → end ≡ e.Memory
   stops_memory (Write writes) end answered calm stops = stops
-  stops_memory (Take origin f next) end (content, told, value, accepts, more) calm (inl fails) = fails_memory origin f content value end told accepts calm.0 fails
-  stops_memory (Take origin f next) end (content, told, value, accepts, more) calm (inr (found, (other, is, accepted), stops)) =
+  stops_memory (Take origin f next) end (content, told, (value, accepts), more) calm (inl fails) = fails_memory origin f content value end told accepts calm.0 fails
+  stops_memory (Take origin f next) end (content, told, acceptable, more) calm (inr (found, (other, is, accepted), stops)) =
       let same = same_content held origin content other told is in
-      let one : found ≡ value = single f content found value (subst (λ (x : List ℕ). Accepts f x found) same accepted) accepts in
-      stops_memory (next value) end more (calm.1 value) (subst (λ (x : Value f). Stops (next x) held before after end) one stops)
+      stops_memory (next found) end (more found (subst (λ (x : List ℕ). Accepts f x found) same accepted)) (calm.1 found) stops
 
 completes_form : (status : Status) (command : Command) (c : Call) (end : End) → status ≡ status_of end → FormEnds (form_of command) c end → Completes status (Some command) c
 completes_form status command c (e.Written outcome) is (text, tells, took) = λ answered reads out. inl (outcome, text, tells, is)

@@ -4,10 +4,12 @@ use Rattle.std.specs.List.{list_all}
 use Rattle.std.specs.Str.{bytes_eq}
 use Rattle.ilk_base.specs.declared.words.Direction.{Direction}
 use Rattle.ilk_base.specs.declared.words.Direction.TheVariants.{ToOff, ToOn}
-use Rattle.interlock_cli.specs.Formats.{Drawing, Positions, SwitchOf}
+use Rattle.station_state.specs.StateText.{IsStateText}
+use Rattle.interlock_cli.specs.Formats.{Drawing, Positions, CertainPositions, OrderOf, SwitchOf}
 use Rattle.interlock_cli.specs.Form.{Form, Write, Take, File, Word}
 use Rattle.interlock_cli.specs.CheckText.{IsCheckText}
 use Rattle.interlock_cli.specs.ExplainText.{IsExplainText}
+use Rattle.interlock_cli.specs.OrderWrites.{OrderWrites}
 use Rattle.interlock_cli.specs.declared.end.Outcome.{Outcome}
 use Rattle.interlock_cli.specs.declared.end.Outcome.TheVariants.{Done}
 
@@ -16,6 +18,10 @@ pub data Command : Type 0 where
   Check : List ℕ → List ℕ → Command
   -- `explain STATION POSITIONS open SWITCH`, or `close`
   Explain : List ℕ → List ℕ → Direction → List ℕ → Command
+  -- `state STATION POSITIONS`
+  State : List ℕ → List ℕ → Command
+  -- `order STATION POSITIONS ORDER`
+  Order : List ℕ → List ℕ → List ℕ → Command
 
 -- a word that is not empty and does not begin with `-`
 abbrev pub is_plain : List ℕ → Bool
@@ -34,12 +40,22 @@ abbrev pub explain_of : List (List ℕ) → Option Command
 explain_of (station ∷ positions ∷ direction ∷ switch ∷ []) = option_map (λ d. Explain station positions d switch) (direction_of direction)
 explain_of _ = None
 
+abbrev pub state_of : List (List ℕ) → Option Command
+state_of (station ∷ positions ∷ []) = Some (State station positions)
+state_of _ = None
+
+abbrev pub order_of : List (List ℕ) → Option Command
+order_of (station ∷ positions ∷ order ∷ []) = Some (Order station positions order)
+order_of _ = None
+
 -- what the words name, the command's name first
 abbrev pub named : List (List ℕ) → Option Command
 named [] = None
 named (name ∷ rest) =
     if bytes_eq name (codes "check") then check_of rest
     else if bytes_eq name (codes "explain") then explain_of rest
+    else if bytes_eq name (codes "state") then state_of rest
+    else if bytes_eq name (codes "order") then order_of rest
     else None
 
 -- what the words name, where no word is empty or begins with `-`
@@ -56,3 +72,8 @@ form_of (Check station positions) =
 form_of (Explain station positions direction switch) =
     Take (File station) Drawing (λ d. Take (File positions) (Positions d) (λ words.
     Take (Word switch) (SwitchOf d) (λ path. Write (IsDone (IsExplainText d words direction path)))))
+form_of (State station positions) =
+    Take (File station) Drawing (λ d. Take (File positions) (Positions d) (λ words. Write (IsDone (IsStateText d words))))
+form_of (Order station positions order) =
+    Take (File station) Drawing (λ d. Take (File positions) (CertainPositions d) (λ start.
+    Take (File order) (OrderOf d) (λ steps. Write (OrderWrites d start steps))))

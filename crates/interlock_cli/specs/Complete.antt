@@ -1,7 +1,7 @@
 -- A call without faults of the outside, whose files are told and accepted, goes through, or wants memory.
 use Rattle.std.specs.Prelude.{◌≡◌, ◌⊎◌, ⊤, ℕ, List, Option, Some, None}
 use Rattle.ilk_base.specs.Outside.{Rose}
-use Rattle.interlock_cli.specs.Formats.{Value, Accepts}
+use Rattle.interlock_cli.specs.Formats.{Format, Value, Accepts}
 use Rattle.interlock_cli.specs.Form.{Form, Write, Take, Origin, File, Word, ReadRose, Says}
 use Rattle.interlock_cli.specs.Commands.{Command, form_of}
 use Rattle.interlock_cli.specs.Ends.{Call}
@@ -15,11 +15,15 @@ abbrev pub IsTold : (List ℕ → Option (List ℕ)) → Origin → List ℕ →
 IsTold held (File name) content = held name ≡ Some content
 IsTold held (Word word) content = word ≡ content
 
--- all that the form names is told and accepted
+-- the content is accepted as something
+abbrev pub IsAcceptable : Format → List ℕ → Type 0
+IsAcceptable f content = (value : Value f) × Accepts f content value
+
+-- all that the form names is told and accepted: this content, and the rest by what it is accepted as
 abbrev pub IsAnswered : Form → (List ℕ → Option (List ℕ)) → Type 0
 IsAnswered (Write writes) held = ⊤
 IsAnswered (Take origin f next) held =
-    (content : List ℕ) × IsTold held origin content × (value : Value f) × Accepts f content value × IsAnswered (next value) held
+    (content : List ℕ) × IsTold held origin content × IsAcceptable f content × ((value : Value f) → Accepts f content value → IsAnswered (next value) held)
 
 -- no count rose of what the form reads
 abbrev pub ReadsCalm : Form → (List ℕ → ℕ) → (List ℕ → ℕ) → Type 0

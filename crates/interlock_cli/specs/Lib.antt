@@ -3,6 +3,7 @@ pub mod Form
 pub mod Judging
 pub mod CheckText
 pub mod ExplainText
+pub mod OrderWrites
 pub mod Commands
 pub mod Seen
 pub mod Lines

@@ -7,6 +7,8 @@ mod end;
 mod explain;
 mod explain_command;
 mod loading;
+mod order_command;
+mod state_command;
 mod status;
 mod tell;
 mod top;

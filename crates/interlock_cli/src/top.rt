@@ -9,6 +9,8 @@ ghost use Rattle.interlock_cli.specs.Complete.{Completes};
 use crate::check_command::check;
 use crate::end::{End, Output, make_status};
 use crate::explain_command::explain;
+use crate::order_command::order;
+use crate::state_command::state;
 use crate::status::Status;
 use crate::tell::tell;
 use crate::words::{Command, make_command};
@@ -28,6 +30,12 @@ fn output_of<F: Shelf>(alloc: Global, command: &Command, shelf: &mut F) -> Resul
             direction,
             switch,
         } => explain(alloc, station, positions, direction, switch, shelf),
+        Command::State { station, positions } => state(alloc, station, positions, shelf),
+        Command::Order {
+            station,
+            positions,
+            order: steps,
+        } => order(alloc, station, positions, steps, shelf),
     }
 }
 
@@ -68,9 +76,10 @@ fn call<F: Shelf, O: Sink>(alloc: Global, words: &[String], shelf: &mut F, out: 
 /// Does what the words say, and answers with what status the program ends.
 ///
 /// The words are those of the command line, without the program's name. Where no word is empty or begins
-/// with `-`, and they are `check STATION POSITIONS`, or `explain STATION POSITIONS open SWITCH` (or
-/// `close`), they name that command; all else is `Usage`. What a command is given is judged in the order
-/// of the words, but for a switch that they name, which comes last. Each file is judged before the next is
+/// with `-`, and they are `check STATION POSITIONS`, `explain STATION POSITIONS open SWITCH` (or `close`),
+/// `state STATION POSITIONS` or `order STATION POSITIONS ORDER`, they name that command; all else is
+/// `Usage`. What a command is given is judged in the order of the words, but for a switch that they name,
+/// which comes last. Each file is judged before the next is
 /// read, and nothing is written before all is accepted. On every status but `Done` and `Differs` one line
 /// goes to `err`, made without memory.
 ///

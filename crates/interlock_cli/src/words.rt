@@ -1,7 +1,7 @@
 // What the words name.
 ghost use Rattle.std.specs.Prelude.{◌≡◌, map, option_map, string_bytes};
 ghost use Rattle.std.specs.List.{list_all};
-ghost use Rattle.interlock_cli.specs.Commands.{check_of, command_of, direction_of, explain_of, is_plain, named};
+ghost use Rattle.interlock_cli.specs.Commands.{check_of, command_of, direction_of, explain_of, is_plain, named, order_of, state_of};
 ghost use Rattle.interlock_cli.specs.Seen.{seen};
 
 use ilk_base::Direction;
@@ -18,6 +18,15 @@ pub enum Command<'a> {
         positions: &'a str,
         direction: Direction,
         switch: &'a str,
+    },
+    State {
+        station: &'a str,
+        positions: &'a str,
+    },
+    Order {
+        station: &'a str,
+        positions: &'a str,
+        order: &'a str,
     },
 }
 
@@ -83,6 +92,33 @@ fn explain_words(rest: &[String]) -> Option<Command<'_>>
     }
 }
 
+// `state STATION POSITIONS`.
+fn state_words(rest: &[String]) -> Option<Command<'_>>
+    ensures { state_of (map string_bytes rest.entry.now) ≡ option_map seen result }
+{
+    let [station, positions] = rest else {
+        return None;
+    };
+    Some(Command::State {
+        station: station.as_str(),
+        positions: positions.as_str(),
+    })
+}
+
+// `order STATION POSITIONS ORDER`.
+fn order_words(rest: &[String]) -> Option<Command<'_>>
+    ensures { order_of (map string_bytes rest.entry.now) ≡ option_map seen result }
+{
+    let [station, positions, order] = rest else {
+        return None;
+    };
+    Some(Command::Order {
+        station: station.as_str(),
+        positions: positions.as_str(),
+        order: order.as_str(),
+    })
+}
+
 // The command of words of which none is empty or begins with `-`.
 fn named(words: &[String]) -> Option<Command<'_>>
     ensures { named (map string_bytes words.entry.now) ≡ option_map seen result }
@@ -93,6 +129,8 @@ fn named(words: &[String]) -> Option<Command<'_>>
     match name.as_str() {
         "check" => check_words(rest),
         "explain" => explain_words(rest),
+        "state" => state_words(rest),
+        "order" => order_words(rest),
         _ => None,
     }
 }

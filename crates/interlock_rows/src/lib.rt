@@ -9,6 +9,8 @@ mod explanations;
 #[cfg(test)]
 mod hostile;
 #[cfg(test)]
+mod orders;
+#[cfg(test)]
 mod refusals;
 #[cfg(test)]
 mod rows;

@@ -1,0 +1,54 @@
+// The command `order`.
+ghost use Rattle.std.specs.Prelude.{◌≡◌, IfOk, IfErr};
+ghost use Rattle.interlock_cli.specs.Commands.{Order, form_of};
+ghost use Rattle.interlock_cli.specs.Form.{Gives, Stops};
+ghost use Rattle.interlock_cli.specs.OrderWrites.{outcome_of};
+
+use crate::end::{End, Outcome, Output};
+use crate::loading::{load_order, load_start, load_station};
+use ilk_base::Shelf;
+use std::alloc::Global;
+use switching_orders::order_text;
+
+// How a call ends that has found a difference from the rules, or none.
+fn outcome_of(differs: bool) -> Outcome
+    ensures { result ≡ outcome_of differs }
+{
+    match differs {
+        false => Outcome::Done,
+        true => Outcome::Differs,
+    }
+}
+
+// What `order STATION POSITIONS ORDER` has to write.
+#[tactic(auto, using(crate::proofs::Later::fails_later))]
+pub(crate) fn order<F: Shelf>(
+    alloc: Global,
+    station: &str,
+    positions: &str,
+    steps: &str,
+    shelf: &mut F,
+) -> Result<Output, End>
+    ensures ok { IfOk result (Gives (form_of (Order station.now positions.now steps.now)) (F.held shelf.old)) }
+    ensures err { IfErr result (Stops (form_of (Order station.now positions.now steps.now)) (F.held shelf.old) (F.faults shelf.old) (F.faults shelf.new)) }
+{
+    let station = match load_station(alloc, station, shelf) {
+        Ok(station) => station,
+        Err(end) => return Err(end),
+    };
+    let start = match load_start(alloc, &station, positions, shelf) {
+        Ok(start) => start,
+        Err(end) => return Err(end),
+    };
+    let steps = match load_order(alloc, &station, steps, shelf) {
+        Ok(steps) => steps,
+        Err(end) => return Err(end),
+    };
+    match order_text(alloc, &station, &start, &steps) {
+        Ok(report) => Ok(Output {
+            outcome: outcome_of(report.differs),
+            text: report.text,
+        }),
+        Err(_) => Err(End::Memory),
+    }
+}

@@ -1,0 +1,38 @@
+// The command `state`.
+ghost use Rattle.std.specs.Prelude.{IfOk, IfErr};
+ghost use Rattle.interlock_cli.specs.Commands.{State, form_of};
+ghost use Rattle.interlock_cli.specs.Form.{Gives, Stops};
+
+use crate::end::{End, Outcome, Output};
+use crate::loading::{load_readings, load_station};
+use ilk_base::Shelf;
+use station_state::state_text;
+use std::alloc::Global;
+
+// What `state STATION POSITIONS` has to write.
+#[tactic(auto, using(crate::proofs::Later::fails_later))]
+pub(crate) fn state<F: Shelf>(
+    alloc: Global,
+    station: &str,
+    positions: &str,
+    shelf: &mut F,
+) -> Result<Output, End>
+    ensures ok { IfOk result (Gives (form_of (State station.now positions.now)) (F.held shelf.old)) }
+    ensures err { IfErr result (Stops (form_of (State station.now positions.now)) (F.held shelf.old) (F.faults shelf.old) (F.faults shelf.new)) }
+{
+    let station = match load_station(alloc, station, shelf) {
+        Ok(station) => station,
+        Err(end) => return Err(end),
+    };
+    let readings = match load_readings(alloc, &station, positions, shelf) {
+        Ok(readings) => readings,
+        Err(end) => return Err(end),
+    };
+    match state_text(alloc, &station, &readings) {
+        Ok(text) => Ok(Output {
+            outcome: Outcome::Done,
+            text,
+        }),
+        Err(_) => Err(End::Memory),
+    }
+}
