@@ -25,17 +25,21 @@ operation d op = direction_name op.direction ++ codes " " ++ switch_path d op.sw
 abbrev pub denied_line : Diagram → Rule → Op → List ℕ
 denied_line d rule op = codes "denied " ++ rule_name rule ++ codes " " ++ operation d op
 
--- the line `with off PATH` or `with on PATH` of a switch whose word is neither off nor on: its position in
--- the reading
-abbrev pub position_line : Option Dbpos → Option Bool → List ℕ → List ℕ
-position_line (Some word) (Some closed) path =
-    if is_uncertain word then codes "with " ++ position_name closed ++ codes " " ++ path ++ codes "\n" else []
-position_line (Some word) None path = []
-position_line None closed path = []
+-- behind the head the line `off PATH` or `on PATH` of a switch whose word is neither off nor on: its
+-- position in the reading
+abbrev pub position_line : List ℕ → Option Dbpos → Option Bool → List ℕ → List ℕ
+position_line head (Some word) (Some closed) path =
+    if is_uncertain word then head ++ position_name closed ++ codes " " ++ path ++ codes "\n" else []
+position_line head (Some word) None path = []
+position_line head None closed path = []
 
 -- the line of switch i, where it has one: the moved switch has none
-abbrev pub with_line : ℕ → List Dbpos → List Bool → Diagram → ℕ → List ℕ
-with_line moved words v d i = if i == moved then [] else position_line (slice_get words i) (slice_get v i) (switch_path d i)
+abbrev pub position_at : List ℕ → ℕ → List Dbpos → List Bool → Diagram → ℕ → List ℕ
+position_at head moved words v d i = if i == moved then [] else position_line head (slice_get words i) (slice_get v i) (switch_path d i)
+
+-- a line for each other switch whose word is neither off nor on, in document order
+abbrev pub position_lines : List ℕ → ℕ → List Dbpos → List Bool → Diagram → List ℕ
+position_lines head moved words v d = texts_below (position_at head moved words v d) (length d.switches)
 
 -- a line `node PATH` for each node
 abbrev pub node_lines : Diagram → List ℕ → List ℕ
@@ -64,7 +68,7 @@ load_lines d None bonded = []
 abbrev pub explanation_text : Diagram → List Dbpos → List Bool → Explanation → List ℕ
 explanation_text d words v e =
     denied_line d e.rule e.op
-    ++ texts_below (with_line e.op.switch.0 words v d) (length d.switches)
+    ++ position_lines (codes "with ") e.op.switch.0 words v d
     ++ chain_lines d (codes "live\n") e.live
     ++ earthed_lines d e.earthed
     ++ load_lines d e.taps e.bonded

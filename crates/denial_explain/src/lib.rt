@@ -13,4 +13,4 @@ mod text;
 pub use chain::Chain;
 pub use explaining::explain;
 pub use explanation::Explanation;
-pub use text::push_operation;
+pub use text::{operation_text, positions_text};

@@ -3,7 +3,7 @@ ghost use Rattle.std.specs.Prelude.{◌≡◌, ◌<◌, ◌++◌, length, codes,
 ghost use Rattle.station_graph.specs.Diagram.{node_count};
 ghost use Rattle.central_rules.specs.Names.{texts_below};
 ghost use Rattle.denial_explain.specs.Ways.{AllBelow};
-ghost use Rattle.denial_explain.specs.ExplanationText.{operation, denied_line, with_line, switch_path, node_path, node_lines, by_line, chain_lines, earthed_lines, load_lines, explanation_text, ChainFits, ExplanationFits};
+ghost use Rattle.denial_explain.specs.ExplanationText.{operation, denied_line, position_at, position_lines, switch_path, node_path, node_lines, by_line, chain_lines, earthed_lines, load_lines, explanation_text, ChainFits, ExplanationFits};
 ghost use Rattle.station_graph.specs.CentralRules.{IsOperation};
 ghost use Rattle.double_points.specs.Words.{AreWords};
 ghost use Rattle.station_graph.specs.Alike.{IsVector};
@@ -34,9 +34,8 @@ fn path_of_node(station: &Station, node: NodeId) -> &[u8]
     station.node_path(node).as_bytes()
 }
 
-/// Appends `open PATH` or `close PATH` and the end of the line: an operation. Time: the length of the
-/// path. After `Memory` the text may end with a front of the line.
-pub fn push_operation(text: &mut Text, station: &Station, op: Op) -> Result<(), Memory>
+// Appends `open PATH` or `close PATH` and the end of the line: an operation.
+fn push_operation(text: &mut Text, station: &Station, op: Op) -> Result<(), Memory>
     requires { IsOperation station.now op }
     ensures { OnOk result (text.new ≡ text.old ++ operation station.now op) }
 {
@@ -58,8 +57,9 @@ fn push_denied(text: &mut Text, station: &Station, rule: Rule, op: Op) -> Result
 }
 
 // Appends the line of one switch's position, where it has one.
-fn push_with(
+fn push_position(
     text: &mut Text,
+    head: &[u8],
     station: &Station,
     readings: &Readings,
     reading: &Vector,
@@ -69,7 +69,7 @@ fn push_with(
     requires words { AreWords station.now readings.now }
     requires reading { IsVector station.now reading.now }
     requires id { id.0 < length station.now.switches }
-    ensures { OnOk result (text.new ≡ text.old ++ with_line moved.0 readings.now reading.now station.now id.0) }
+    ensures { OnOk result (text.new ≡ text.old ++ position_at head.now moved.0 readings.now reading.now station.now id.0) }
 {
     if id.0 == moved.0 {
         return Ok(());
@@ -80,16 +80,18 @@ fn push_with(
     if !is_uncertain(word) {
         return Ok(());
     }
-    text.push(b"with ")?;
+    text.push(head)?;
     text.push(position_name(closed))?;
     text.push(b" ")?;
     text.push(path)?;
     text.push(b"\n")
 }
 
-// Appends the lines of the positions that are shown.
+// Appends, for each switch but the moved one whose word is neither off nor on, the line of its position in
+// the reading, behind the head.
 fn push_positions(
     text: &mut Text,
+    head: &[u8],
     station: &Station,
     readings: &Readings,
     reading: &Vector,
@@ -97,12 +99,42 @@ fn push_positions(
 ) -> Result<(), Memory>
     requires words { AreWords station.now readings.now }
     requires reading { IsVector station.now reading.now }
-    ensures { OnOk result (text.new ≡ text.old ++ texts_below (with_line moved.0 readings.now reading.now station.now) (length station.now.switches)) }
+    ensures { OnOk result (text.new ≡ text.old ++ position_lines head.now moved.0 readings.now reading.now station.now) }
 {
     for i in 0..station.switch_count() {
-        push_with(text, station, readings, reading, moved, SwitchId(i))?;
+        push_position(text, head, station, readings, reading, moved, SwitchId(i))?;
     }
     Ok(())
+}
+
+/// The line `open PATH` or `close PATH` of an operation of the station. Time and memory: the line's.
+pub fn operation_text(alloc: Global, station: &Station, op: Op) -> Result<Text, Memory>
+    requires { IsOperation station.now op }
+    ensures { IfOk result (λ t. t ≡ operation station.now op) }
+{
+    let mut text = Text::new(alloc);
+    push_operation(&mut text, station, op)?;
+    Ok(text)
+}
+
+/// For each switch but the moved one whose word is neither off nor on, in document order, the line `off PATH`
+/// or `on PATH` of its position in the reading, behind the head. There is a word and a position for each
+/// switch of the station. Time: the switches, and the text. Memory: the text's.
+pub fn positions_text(
+    alloc: Global,
+    head: &[u8],
+    station: &Station,
+    readings: &Readings,
+    reading: &Vector,
+    moved: SwitchId,
+) -> Result<Text, Memory>
+    requires words { AreWords station.now readings.now }
+    requires reading { IsVector station.now reading.now }
+    ensures { IfOk result (λ t. t ≡ position_lines head.now moved.0 readings.now reading.now station.now) }
+{
+    let mut text = Text::new(alloc);
+    push_positions(&mut text, head, station, readings, reading, moved)?;
+    Ok(text)
 }
 
 // Appends the line of a node.
@@ -194,7 +226,14 @@ impl Explanation {
     {
         let mut text = Text::new(alloc);
         push_denied(&mut text, station, self.rule, self.op)?;
-        push_positions(&mut text, station, readings, reading, self.op.switch)?;
+        push_positions(
+            &mut text,
+            b"with ",
+            station,
+            readings,
+            reading,
+            self.op.switch,
+        )?;
         push_chain(&mut text, station, b"live\n", &self.live)?;
         push_earthed(&mut text, station, self)?;
         push_load(&mut text, station, self)?;

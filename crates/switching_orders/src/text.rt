@@ -9,7 +9,7 @@ use crate::judging::judge_order;
 use crate::order::Order;
 use crate::ruling::{Ruling, Step};
 use central_rules::rule_name;
-use denial_explain::push_operation;
+use denial_explain::operation_text;
 use ilk_base::{Memory, Op, Text};
 use itoa::Buffer;
 use station_graph::{Station, Vector};
@@ -49,6 +49,7 @@ fn push_ruling(text: &mut Text, step: Step) -> Result<(), Memory>
 
 // Appends the line of a step.
 fn push_step(
+    alloc: Global,
     text: &mut Text,
     station: &Station,
     number: u32,
@@ -60,23 +61,30 @@ fn push_step(
 {
     push_number(text, number)?;
     push_ruling(text, step)?;
-    push_operation(text, station, op)
+    text.push(operation_text(alloc, station, op)?.bytes())
 }
 
 // Appends the lines of the first steps, which are ok.
-fn push_passed(text: &mut Text, station: &Station, order: &Order, passed: u32) -> Result<(), Memory>
+fn push_passed(
+    alloc: Global,
+    text: &mut Text,
+    station: &Station,
+    order: &Order,
+    passed: u32,
+) -> Result<(), Memory>
     requires order { AreOperations station.now order.now }
     requires within { passed ≤ length order.now }
     ensures { OnOk result (text.new ≡ text.old ++ ok_lines station.now (take passed order.now)) }
 {
     for i in 0..passed {
-        push_step(text, station, i + 1, Step::Ok, order.step(i))?;
+        push_step(alloc, text, station, i + 1, Step::Ok, order.step(i))?;
     }
     Ok(())
 }
 
 // Appends the line of the step that is not ok, if there is one.
 fn push_stop(
+    alloc: Global,
     text: &mut Text,
     station: &Station,
     order: &Order,
@@ -92,6 +100,7 @@ fn push_stop(
         return Ok(());
     }
     push_step(
+        alloc,
         text,
         station,
         ruling.passed + 1,
@@ -101,7 +110,13 @@ fn push_stop(
 }
 
 // Appends the ruling on the order undone.
-fn push_back(text: &mut Text, station: &Station, order: &Order, back: Ruling) -> Result<(), Memory>
+fn push_back(
+    alloc: Global,
+    text: &mut Text,
+    station: &Station,
+    order: &Order,
+    back: Ruling,
+) -> Result<(), Memory>
     requires order { AreOperations station.now order.now }
     ensures { OnOk result (text.new ≡ text.old ++ back_line station.now order.now back back.stopped) }
 {
@@ -109,7 +124,7 @@ fn push_back(text: &mut Text, station: &Station, order: &Order, back: Ruling) ->
         return text.push(b"back accepted\n");
     }
     text.push(b"back ")?;
-    push_stop(text, station, order, back)
+    push_stop(alloc, text, station, order, back)
 }
 
 // Appends the count of the steps.
@@ -155,9 +170,9 @@ pub fn order_text(
 {
     let ruling = judge_order(alloc, station, start, order)?;
     let mut text = Text::new(alloc);
-    push_passed(&mut text, station, order, ruling.passed)?;
+    push_passed(alloc, &mut text, station, order, ruling.passed)?;
     if ruling.stopped.is_some() {
-        push_stop(&mut text, station, order, ruling)?;
+        push_stop(alloc, &mut text, station, order, ruling)?;
         return Ok(OrderReport {
             text,
             differs: true,
@@ -166,7 +181,7 @@ pub fn order_text(
     push_accepted(&mut text, order.len())?;
     let back = order.reversed(alloc)?;
     let ruling = judge_back(alloc, station, start, order, &back)?;
-    push_back(&mut text, station, &back, ruling)?;
+    push_back(alloc, &mut text, station, &back, ruling)?;
     Ok(OrderReport {
         text,
         differs: false,
