@@ -139,7 +139,7 @@ fn dependence(alloc: Global, graph: &Graph) -> Result<Vec<bool>, Memory> {
 /// The graph with each label replaced by its name.
 fn renamed(alloc: Global, graph: &Graph, names: &[u32]) -> anyhow::Result<Graph> {
     let labels = graph.labels();
-    if names.len() != labels as usize || !names.iter().all(|name| *name < labels) {
+    if labels == 0 || names.len() != labels as usize || !names.iter().all(|name| *name < labels) {
         bail!("no names of the labels");
     }
     let copy = graph.rename(alloc, labels, names)?;
