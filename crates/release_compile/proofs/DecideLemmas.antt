@@ -20,6 +20,7 @@ use Rattle.release_compile.specs.declared.search.Side.{Side}
 use Rattle.release_compile.specs.Folding.{AreChosen}
 use Rattle.release_compile.specs.Chaining.{IsReady, IsChainOf, IsFound}
 use Rattle.release_compile.specs.Graphs.{other_of, PartChosen, SwitchChosen, IsOwn, IsSide, Within, GivesChoices}
+use Rattle.release_compile.specs.Deciding.{OthersAgree}
 use Rattle.release_compile.proofs.MoveLemmas.{index_moves}
 use Rattle.release_compile.proofs.OuterLemmas.{other_not}
 use Rattle.release_compile.proofs.PlacingLemmas.{switch_not}
@@ -71,7 +72,7 @@ module _ (a : Lettered) (b m first others : ℕ) (words : List Dbpos) (cs all : 
   m_in = omega (arith, own.below, own.those.within, whole, len)
 
   -- a switch of another part stays
-  part_stays : (p i : ℕ) → p ≢ b → OfPart a.diagram p (a_switch i) → slice_get v1 i ≡ slice_get (slice_set v2 m closed) i
+  pub part_stays : (p i : ℕ) → p ≢ b → OfPart a.diagram p (a_switch i) → slice_get v1 i ≡ slice_get (slice_set v2 m closed) i
   part_stays p i ne of_p =
       let out : first ≤ i → i < first + suc others → ⊥ = λ x y. ne (sym of_p.2 ∙ (own.those.those i of_p.0 of_p.1).1 (x, y)) in
       let not_m : i ≢ m = λ e. out (omega (arith, own.from, e)) (omega (arith, own.below, e)) in
@@ -91,3 +92,8 @@ module _ (a : Lettered) (b m first others : ℕ) (words : List Dbpos) (cs all : 
     own = λ i c at. record { small = (chosen i c at).small; stands = slice_get-set_other v2 m (other_of first m i) closed (switch_not first m i) ∙ (chosen i c at).stands };
     moved = λ word now at_w at_v. subst (λ t. Agrees word t) (same_Some closed now (sym (slice_get-set_same v2 m closed m_in) ∙ at_v)) (agrees word at_w);
   }
+
+-- in the vector made each other part agrees with the words, as before the bay's own switches were moved
+pub agree_after : (a : Lettered) (b m first others : ℕ) (words : List Dbpos) (cs all : List ℕ) (own : IsOwn a.diagram b m first others) (v1 v2 : List Bool) (closed : Bool) (whole : length v1 ≡ length a.diagram.switches) (len : length v2 ≡ length v1) (parts : AreChosen (PartChosen a b) v1 cs) (chosen : AreChosen (SwitchChosen first m) v2 (drop 1 all)) (stay : (i : ℕ) → (i < first) ⊎ ((first + others < i) ⊎ (i ≡ m)) → slice_get v2 i ≡ slice_get v1 i) (n : ℕ) → OthersAgree a.diagram b words n v1 → OthersAgree a.diagram b words n (slice_set v2 m closed)
+agree_after a b m first others words cs all own v1 v2 closed whole len parts chosen stay n agree j lt i word shut of_p at_w at_v =
+    agree j lt i word shut of_p at_w (part_stays a b m first others words cs all own v1 v2 closed whole len parts chosen stay (other_of 0 b j) i (other_not b j) of_p ∙ at_v)

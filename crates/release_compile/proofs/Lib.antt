@@ -21,3 +21,7 @@ pub mod DecideLemmas
 pub mod KnownLemmas
 pub mod MadeLemmas
 pub mod MoveLemmas
+pub mod RowLemmas
+pub mod SummaryLemmas
+pub mod SetsLemmas
+pub mod HeardLemmas

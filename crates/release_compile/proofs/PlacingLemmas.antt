@@ -2,17 +2,20 @@
 use Rattle.std.proofs.Common.{◌≡◌, ◌≢◌, ℕ, ◌+◌, ◌<◌, suc, Bool, List, [], ◌∷◌, length, drop, get_or, eqb, slice_get, slice_set, Some, refl, sym, ap, ◌∙◌, subst, inl, inr, arith}
 use Rattle.std.proofs.lemmas.Bool.{cases_lt}
 use Rattle.std.proofs.lemmas.Option.{slice_get_within, slice_get-get_or, get_or_from_slice_get, same_Some}
+use Rattle.ilk_base.specs.declared.words.Dbpos.{Dbpos}
 use Rattle.station_graph.specs.declared.items.Switch.{Switch}
 use Rattle.station_graph.specs.Diagram.{Diagram}
+use Rattle.station_graph.specs.Connection.{a_switch}
 use Rattle.station_graph.specs.Sharing.{OfPart}
 use Rattle.station_graph.specs.Alike.{IsVector, SamePositions, DifferInPart}
 use Rattle.station_graph.proofs.PositionLemmas.{slice_get-set_other}
 use Rattle.contraction.proofs.MarkLemmas.{slice_get-set_same}
 use Rattle.bay_contract.specs.PartAlphabets.{StandsAt}
-use Rattle.bay_contract.specs.Alphabets.{IsExample}
+use Rattle.bay_contract.specs.Alphabets.{PartAgrees}
 use Rattle.release_compile.specs.Lettered.{Lettered, PartHas}
 use Rattle.release_compile.specs.Graphs.{other_of, PartChosen, SwitchChosen}
 use Rattle.release_compile.specs.Folding.{AreChosen}
+use Rattle.release_compile.specs.Deciding.{OthersAgree}
 use Rattle.release_compile.proofs.MoveLemmas.{index_moves}
 use Rattle.release_compile.proofs.OuterLemmas.{others_apart}
 use Rattle.release_compile.proofs.VerdictLemmas.{other_cases, length_after}
@@ -33,14 +36,23 @@ below_all Chosen n v cs len h i c at = h i c (omega (arith, slice_get_within cs 
 part_stays : (d : Diagram) (p q : ℕ) (v w : List Bool) → p ≢ q → DifferInPart d q v w → SamePositions (OfPart d p) v w
 part_stays d p q v w ne stay i of_p = stay i (λ of_q. ne (sym of_p.2 ∙ (ap (λ (x : Switch). x.bay.0) (same_Some of_p.0 of_q.0 (sym of_p.1 ∙ of_q.1)) ∙ of_q.2)))
 
-pub parts_more : (a : Lettered) (b n index bits : ℕ) (v w : List Bool) (cs : List ℕ) → ChosenBelow (PartChosen a b) n v cs → get_or cs n 0 ≡ index → IsExample a.diagram a.alphabets (other_of 0 b n) index bits → IsVector a.diagram w → StandsAt a.alphabets (other_of 0 b n) bits w → DifferInPart a.diagram (other_of 0 b n) v w → ChosenBelow (PartChosen a b) (n + 1) w cs
+pub parts_more : (a : Lettered) (b n index bits : ℕ) (v w : List Bool) (cs : List ℕ) → ChosenBelow (PartChosen a b) n v cs → get_or cs n 0 ≡ index → ((u : List Bool) → IsVector a.diagram u → StandsAt a.alphabets (other_of 0 b n) bits u → PartHas a (other_of 0 b n) index u) → IsVector a.diagram w → StandsAt a.alphabets (other_of 0 b n) bits w → DifferInPart a.diagram (other_of 0 b n) v w → ChosenBelow (PartChosen a b) (n + 1) w cs
 unfolding ChosenBelow
-parts_more a b n index bits v w cs h is example whole stands stay i c lt at = elim (cases_lt i n) [
+parts_more a b n index bits v w cs h is has whole stands stay i c lt at = elim (cases_lt i n) [
   | inl less ↦ index_moves a (other_of 0 b i) c v w (part_stays a.diagram (other_of 0 b i) (other_of 0 b n) v w (others_apart b i n less) stay) (h i c less at)
   | inr last ↦
       let e : n ≡ i = omega (arith, lt) in
       let ec : index ≡ c = sym is ∙ (ap (λ k. get_or cs k 0) e ∙ get_or_from_slice_get cs i c 0 at) in
-      subst (λ k. PartHas a (other_of 0 b k) c w) e (subst (λ k. PartHas a (other_of 0 b n) k w) ec (example.has w whole stands))
+      subst (λ k. PartHas a (other_of 0 b k) c w) e (subst (λ k. PartHas a (other_of 0 b n) k w) ec (has w whole stands))
+]
+
+-- the parts placed so far agree with the words
+pub agree_more : (d : Diagram) (b n : ℕ) (words : List Dbpos) (v w : List Bool) → OthersAgree d b words n v → PartAgrees d (other_of 0 b n) words w → DifferInPart d (other_of 0 b n) v w → OthersAgree d b words (n + 1) w
+agree_more d b n words v w before now stay j lt i word closed of_p at_w at_v = elim (cases_lt j n) [
+  | inl less ↦ before j less i word closed of_p at_w (part_stays d (other_of 0 b j) (other_of 0 b n) v w (others_apart b j n less) stay i of_p ∙ at_v)
+  | inr last ↦
+      let e : n ≡ j = omega (arith, last, lt) in
+      now i word closed (subst (λ k. OfPart d (other_of 0 b k) (a_switch i)) (sym e) of_p) at_w at_v
 ]
 
 -- the other switches have different numbers, none of them the moved one

@@ -189,12 +189,12 @@ module _ (a : Lettered) (b m first others : ℕ) (words : List Dbpos) (sets : Li
 
 -- ---- a vector that gives allowed choices is allowed
 
-set_in : (s : List Bool) (c : ℕ) → IsSet s c → c < length s
+pub set_in : (s : List Bool) (c : ℕ) → IsSet s c → c < length s
 set_in [] c h = absurd (false≢true h)
 set_in (x ∷ s) zero h = omega arith
 set_in (x ∷ s) (suc c) h = omega (arith, set_in s c h)
 
-sets_at : (ls : List Layer) (sets : List (List Bool)) (i : ℕ) → AreSetsOf ls sets → length (set_at sets i) ≡ (layer_at ls i).choices
+pub sets_at : (ls : List Layer) (sets : List (List Bool)) (i : ℕ) → AreSetsOf ls sets → length (set_at sets i) ≡ (layer_at ls i).choices
 sets_at [] [] i e = refl
 sets_at [] (s ∷ ss) i e = absurd (cc)
 sets_at (l ∷ ls) [] i e = absurd (cc)

@@ -6,6 +6,8 @@ pub mod Graphs
 pub mod Listing
 pub mod Needing
 pub mod Summaries
+pub mod Rows
+pub mod Deciding
 pub mod Plans
 pub mod Pooling
 pub mod Layering

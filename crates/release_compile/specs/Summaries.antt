@@ -1,9 +1,12 @@
 -- The summary of an index set.
 use Rattle.std.specs.Prelude.{◌≡◌, ℕ, ◌+◌, ◌-◌, ◌*◌, ◌/◌, ◌%◌, ◌^◌, ◌<◌, ◌==◌, ◌↔◌, suc, Bool, true, List, length, slice_get, slice_index, Option, Some, None}
+use Rattle.ilk_base.specs.declared.words.Dbpos.{Dbpos}
 use Rattle.station_graph.specs.Diagram.{part_count}
+use Rattle.bay_contract.specs.Alphabets.{CanHave}
 use Rattle.decision_graphs.specs.Reaching.{IsSet, set_at}
 use Rattle.release_compile.specs.Graphs.{other_of}
 use Rattle.release_compile.specs.Lettered.{Lettered, index_count, PartHas}
+use Rattle.release_compile.specs.Judging.{Judging, ground}
 use Rattle.central_rules.specs.Meaning.{Meaning}
 
 -- Index i has bit i, of which bit 0 is the highest bit of the first byte.
@@ -35,6 +38,9 @@ by_indices a = record {
   Allows = λ b s v. SetAllows a b s v;
 }
 
+abbrev pub judges : Judging → Meaning
+judges j = by_indices (ground j)
+
 -- What was heard of a part allows the index.
 abbrev pub HeardAllows : Option (Option (List ℕ)) → ℕ → Type 0
 HeardAllows (Some (Some s)) c = has_bit s c ≡ true
@@ -44,3 +50,7 @@ HeardAllows None c = Unit {0}
 -- The sets allow, of each other part, the indices that what was heard of it allows.
 abbrev pub AreHeardSets : Lettered → ℕ → List (Option (List ℕ)) → List (List Bool) → Type 0
 AreHeardSets a bay heard sets = (j c : ℕ) → suc j < part_count a.diagram → IsSet (set_at sets j) c ↔ ((c < index_count a (other_of 0 bay j)) × HeardAllows (slice_get heard (other_of 0 bay j)) c)
+
+-- The sets allow, of each other part, the indices of positions that agree with the words.
+abbrev pub ArePossibleSets : Lettered → ℕ → List Dbpos → List (List Bool) → Type 0
+ArePossibleSets a bay words sets = (j c : ℕ) → suc j < part_count a.diagram → IsSet (set_at sets j) c ↔ CanHave a.diagram a.alphabets (other_of 0 bay j) words c

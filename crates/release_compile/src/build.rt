@@ -134,6 +134,13 @@ impl<'a> GraphJudge<'a> {
         &self.parts
     }
 
+    // The station.
+    pub(crate) fn station(&self) -> &Station
+        ensures value { result.now ≡ self.now.diagram }
+    {
+        self.station
+    }
+
     // The graphs of the bay.
     pub(crate) fn bay(&self, bay: BayId) -> &BayGraphs
         requires { bay.0 < part_count self.now.diagram }

@@ -1,5 +1,5 @@
-//! The decision graphs of each bay of a station. The judge that decides by them is not here yet: of it there
-//! is the search for a denial (`decide`), which nothing calls so far.
+//! The decision graphs of each bay of a station, and the judge that decides by them. The count of edges at which a
+//! station is refused as too wide is not proved exact yet.
 #![tactic(auto)]
 
 mod bay;
@@ -7,8 +7,10 @@ mod build;
 mod chain;
 mod codes;
 mod decide;
+mod heard;
 mod inner;
 mod inputs;
+mod judge;
 mod layer;
 mod needed;
 mod outer;
@@ -16,6 +18,8 @@ mod placing;
 mod pool;
 mod refusal;
 mod search;
+mod sets;
+mod summary;
 mod view;
 
 pub use build::GraphJudge;

@@ -1,26 +1,30 @@
-use Rattle.std.proofs.Common.{◌≡◌, ◌<◌, length, get_or, slice_get, Some, refl, sym, ap, ◌∙◌, subst, arith}
+use Rattle.std.proofs.Common.{◌≡◌, ℕ, ◌<◌, length, get_or, slice_get, Some, refl, sym, ap, ◌∙◌, subst, arith}
 use Rattle.std.proofs.lemmas.Option.{slice_get-get_or}
 use Rattle.station_graph.specs.Diagram.{part_count}
 use Rattle.station_graph.specs.Alike.{DifferInPart}
 use Rattle.bay_contract.specs.PartAlphabets.{Alphabets, size_of, StandsAt}
-use Rattle.bay_contract.specs.Alphabets.{IsExample}
+use Rattle.bay_contract.specs.Alphabets.{CanHave}
 use Rattle.release_compile.specs.Lettered.{lettered}
 use Rattle.release_compile.specs.Graphs.{other_of, PartChosen}
+use Rattle.release_compile.specs.Deciding.{IsPlaceFor}
 use Rattle.release_compile.proofs.VerdictLemmas.{other_in}
-use Rattle.release_compile.proofs.PlacingLemmas.{below_none, below_all, parts_more}
+use Rattle.release_compile.proofs.PlacingLemmas.{below_none, below_all, parts_more, agree_more}
 use Rattle.release_compile.proofs.placing.place_others.Goals as goal
 
 pub loop-j-init : goal.loop-j-init
-loop-j-init c = record { count = refl; chosen = below_none (PartChosen (lettered c.args.station.now c.args.parts.now) c.args.bay.0) c.args.vector.now c.args.choices.now }
+loop-j-init c = record { count = refl; chosen = below_none (PartChosen (lettered c.args.station.now c.args.parts.now) c.args.bay.0) c.args.vector.now c.args.choices.now; agree = λ full j lt. absurd (omega (arith, lt)) }
 
-pub example-position-requires-clause-part : goal.example-position-requires-clause-part
-example-position-requires-clause-part c =
+pub place_for-requires-clause-part : goal.place_for-requires-clause-part
+place_for-requires-clause-part c =
     let j = c.loop-j.j in
     let e : c.other_number.result ≡ other_of 0 c.args.bay.0 j = c.other_number.ensures ∙ ap (λ b. other_of 0 b j) c.from.ensures in
     omega (arith, e, (other_in 0 c.args.bay.0 c.args.others j c.loop-j-test.true).1, c.requires.lettered.parts, c.requires.count)
 
-pub example-position-requires-clause-index : goal.example-position-requires-clause-index
-example-position-requires-clause-index c =
+pub place_for-requires-clause-words : goal.place_for-requires-clause-words
+place_for-requires-clause-words c = c.requires.words ∙ sym c.requires.lettered.switches
+
+pub place_for-requires-clause-index : goal.place_for-requires-clause-index
+place_for-requires-clause-index c =
     let a : Alphabets = c.args.parts.now in
     let j = c.loop-j.j in
     let e : c.other_number.result ≡ other_of 0 c.args.bay.0 j = c.other_number.ensures ∙ ap (λ b. other_of 0 b j) c.from.ensures in
@@ -45,7 +49,13 @@ put-requires-clause-part c =
     omega (arith, e, (other_in 0 c.args.bay.0 c.args.others j c.loop-j-test.true).1, c.requires.lettered.parts, c.requires.count)
 
 pub put-requires-clause-position : goal.put-requires-clause-position
-put-requires-clause-position c = (c.example-position.ensures.least c.args.station.now c.requires.lettered).position
+put-requires-clause-position c =
+    let d = c.args.station.now in
+    let a : Alphabets = c.args.parts.now in
+    let j = c.loop-j.j in
+    let e : c.other_number.result ≡ other_of 0 c.args.bay.0 j = c.other_number.ensures ∙ ap (λ b. other_of 0 b j) c.from.ensures in
+    let at : slice_get c.args.choices.now j ≡ Some c.choice-index.result = slice_get-get_or c.args.choices.now j 0 (omega (arith, c.requires.len, c.loop-j-test.true)) ∙ ap Some (sym c.choice-index.ensures) in
+    (c.in_ok-position.ensures d c.requires.lettered (λ full. subst (λ p. CanHave d a p c.args.words.now c.choice-index.result) (sym e) (c.requires.can full j c.choice-index.result at))).position
 
 pub put-requires-clause-vector : goal.put-requires-clause-vector
 put-requires-clause-vector c = c.loop-j.invariant.count ∙ (c.requires.whole ∙ sym c.requires.lettered.switches)
@@ -56,17 +66,27 @@ loop-j-preserved c =
     let a : Alphabets = c.args.parts.now in
     let j = c.loop-j.j in
     let w = c.put.new.vector in
-    let e : c.other_number.result ≡ other_of 0 c.args.bay.0 j = c.other_number.ensures ∙ ap (λ b. other_of 0 b j) c.from.ensures in
+    let part = other_of 0 c.args.bay.0 j in
+    let index : ℕ = c.choice-index.result in
+    let n : ℕ = c.in_ok-position.position in
+    let e : c.other_number.result ≡ part = c.other_number.ensures ∙ ap (λ b. other_of 0 b j) c.from.ensures in
+    let at : slice_get c.args.choices.now j ≡ Some index = slice_get-get_or c.args.choices.now j 0 (omega (arith, c.requires.len, c.loop-j-test.true)) ∙ ap Some (sym c.choice-index.ensures) in
     let len : length w ≡ length c.args.vector.now = c.put.ensures.count ∙ c.loop-j.invariant.count in
-    let example : IsExample d a (other_of 0 c.args.bay.0 j) c.choice-index.result c.example-position.result = subst (λ p. IsExample d a p c.choice-index.result c.example-position.result) e (c.example-position.ensures.least d c.requires.lettered) in
-    let stands : StandsAt a (other_of 0 c.args.bay.0 j) c.example-position.result w = subst (λ p. StandsAt a p c.example-position.result w) e c.put.ensures.stands in
-    let stay : DifferInPart d (other_of 0 c.args.bay.0 j) c.loop-j.vector w = subst (λ p. DifferInPart d p c.loop-j.vector w) e (c.put.ensures.others d c.requires.lettered) in
+    let here : IsPlaceFor c.args.full d a part c.args.words.now index n = subst (λ p. IsPlaceFor c.args.full d a p c.args.words.now index n) e (c.in_ok-position.ensures d c.requires.lettered (λ full. subst (λ p. CanHave d a p c.args.words.now index) (sym e) (c.requires.can full j index at))) in
+    let stands : StandsAt a part n w = subst (λ p. StandsAt a p n w) e c.put.ensures.stands in
+    let stay : DifferInPart d part c.loop-j.vector w = subst (λ p. DifferInPart d p c.loop-j.vector w) e (c.put.ensures.others d c.requires.lettered) in
     record {
       count = len;
-      chosen = parts_more (lettered d a) c.args.bay.0 j c.choice-index.result c.example-position.result c.loop-j.vector w c.args.choices.now c.loop-j.invariant.chosen (sym c.choice-index.ensures) example (len ∙ c.requires.whole) stands stay;
+      chosen = parts_more (lettered d a) c.args.bay.0 j index n c.loop-j.vector w c.args.choices.now c.loop-j.invariant.chosen (sym c.choice-index.ensures) here.has (len ∙ c.requires.whole) stands stay;
+      agree = λ full. agree_more d c.args.bay.0 j c.args.words.now c.loop-j.vector w (c.loop-j.invariant.agree full) (here.agrees full w (len ∙ c.requires.whole) stands) stay;
     }
 
 pub returns-clause-chosen : goal.returns-clause-chosen
 returns-clause-chosen c =
     let done : c.args.others ≡ c.loop-j.j = omega (arith, c.loop-j.auto.j-end, c.loop-j-test.false) in
     below_all (PartChosen (lettered c.args.station.now c.args.parts.now) c.args.bay.0) c.loop-j.j c.loop-j.vector c.args.choices.now (c.requires.len ∙ done) c.loop-j.invariant.chosen
+
+pub returns-clause-agree : goal.returns-clause-agree
+returns-clause-agree c full j lt =
+    let done : c.args.others ≡ c.loop-j.j = omega (arith, c.loop-j.auto.j-end, c.loop-j-test.false) in
+    c.loop-j.invariant.agree full j (omega (arith, lt, done))

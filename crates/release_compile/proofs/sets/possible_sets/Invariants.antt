@@ -1,0 +1,11 @@
+use Rattle.decision_graphs.specs.Reaching.{AreSetsOf}
+use Rattle.bay_contract.specs.Alphabets.{CanHave}
+use Rattle.release_compile.specs.Graphs.{other_of}
+use Rattle.release_compile.proofs.SetsLemmas.{FilledBelow}
+use Rattle.release_compile.proofs.sets.possible_sets.Given as goal
+
+abbrev pub invariant-loop-j : goal.invariant-loop-j
+invariant-loop-j l = record {
+  sets : AreSetsOf l.outer.layers l.sets;
+  filled : FilledBelow (λ j c. CanHave l.station l.parts (other_of 0 l.bay.0 j) l.readings c) l.sets l.j;
+}

@@ -1,0 +1,70 @@
+//! The judge that decides by decision graphs.
+ghost use Rattle.std.specs.Prelude.{◌≡◌};
+
+use crate::build::GraphJudge;
+use crate::heard::{judge_heard, judge_words};
+use crate::summary::{is_index_set, summary_of};
+use central_rules::{Judge, Verdict};
+use double_points::Readings;
+use ilk_base::{BayId, HeardList, Memory, Op, Summary};
+use std::alloc::Global;
+
+/// What a bay tells another is the set of its indices: as few bytes as hold a bit for each index of the bay, index 0 in
+/// the highest bit of the first byte, and spare bits 0. Every bay tells every other. Time of a verdict: the edges of the
+/// bay's outer graphs and of the switch's inner ones, and the steps of the parts; memory for their nodes.
+impl<'a> Judge for GraphJudge<'a> {
+    ghost use Rattle.release_compile.specs.Summaries.{judges};
+    ghost use Rattle.release_compile.specs.Judging.{ground};
+    ghost use Rattle.release_compile.specs.Lawful.{by_indices_lawful};
+
+    ghost meaning = { judges };
+
+    fn tells(&self, _bay: BayId, _to: BayId) -> bool {
+        true
+    }
+
+    fn summarise(
+        &self,
+        alloc: Global,
+        bay: BayId,
+        _to: BayId,
+        readings: &Readings,
+    ) -> Result<Summary, Memory> {
+        self.diagram_is_station();
+        let summary = summary_of(alloc, self.parts(), bay, readings)?;
+        Ok(summary)
+    }
+
+    fn fits(&self, bay: BayId, _to: BayId, summary: &Summary) -> bool {
+        let size = self.parts().size(bay);
+        is_index_set(size, summary)
+    }
+
+    fn judge(
+        &self,
+        alloc: Global,
+        op: Op,
+        own: &Readings,
+        heard: &HeardList,
+    ) -> Result<Verdict, Memory> {
+        let station = self.station();
+        let bay = station.switch(op.switch).bay;
+        let graphs = self.bay(bay);
+        let verdict = judge_heard(alloc, station, self.parts(), graphs, bay, op, own, heard)?;
+        Ok(verdict)
+    }
+
+    fn judge_all(&self, alloc: Global, op: Op, readings: &Readings) -> Result<Verdict, Memory> {
+        let station = self.station();
+        let bay = station.switch(op.switch).bay;
+        let graphs = self.bay(bay);
+        let verdict = judge_words(alloc, station, self.parts(), graphs, bay, op, readings)?;
+        Ok(verdict)
+    }
+
+    fn diagram_is_station(&self) {
+        let _count = self.station().part_count();
+    }
+
+    ghost lawful = { λ j. by_indices_lawful (ground j) };
+}
