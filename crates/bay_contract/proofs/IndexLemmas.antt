@@ -15,7 +15,7 @@ use Rattle.bay_contract.specs.Layers.{rank, bits}
 use Rattle.bay_contract.specs.Diagrams.{LeadsTo}
 use Rattle.bay_contract.specs.Counting.{AreStepSizes}
 use Rattle.bay_contract.specs.Building.{IsBuilt, IsBuiltFor}
-use Rattle.bay_contract.specs.PartAlphabets.{PartAlphabet, Alphabets, or_nothing, part_at, letters_of, size_of, example_of, forks_of, first_of, count_of, StandsAt}
+use Rattle.bay_contract.specs.PartAlphabets.{PartAlphabet, Alphabets, or_nothing, part_at, letters_of, size_of, example_of, forks_of, first_switch_of, count_of, StandsAt}
 use Rattle.bay_contract.specs.Alphabets.{IsLetter, HasIndex, IsExample, IsAlphabet, AreAlphabets}
 use Rattle.contraction.proofs.RisingLemmas.{rising_equal}
 use Rattle.contraction.proofs.SameLemmas.{gap_self, load_self, gap_fewer, load_fewer}
@@ -100,7 +100,7 @@ module _ (d : Diagram) (a : Alphabets) (part : ℕ) (b : IsBuiltFor d part (part
     apart = b.built.apart;
     indexed = λ v vec. let (k, lt, l) = b.built.leads v vec in (k, index_led v k vec lt l);
     examples = λ i lt. record {
-      position = (let (v, vec, s) = b.built.example_some i lt in subst (λ n. n < 2 ^ count_of a part) s (bits_below (first_of a part) (count_of a part) v));
+      position = (let (v, vec, s) = b.built.example_some i lt in subst (λ n. n < 2 ^ count_of a part) s (bits_below (first_switch_of a part) (count_of a part) v));
       has = λ v vec s. (leads_exactly v i vec).1 (b.built.example i v lt vec s);
       least = λ v w vec_v vec_w h s. b.built.least i v w vec_v vec_w ((leads_exactly v i vec_v).0 h) s;
     };

@@ -6,14 +6,14 @@ use Rattle.station_graph.specs.Connection.{LeadsTo as Chain, Linked, a_switch}
 use Rattle.station_graph.specs.Sharing.{OfPart}
 use Rattle.station_graph.specs.Alike.{IsVector}
 use Rattle.station_graph.specs.Diagram.{Diagram, AreSwitchesOf}
-use Rattle.double_points.specs.Words.{Agrees}
+use Rattle.double_points.specs.Words.{Agrees, BayAgrees}
 use Rattle.bay_contract.specs.declared.fork.Fork.{Fork}
 use Rattle.bay_contract.specs.Layers.{bits}
 use Rattle.bay_contract.specs.Diagrams.{branch, Goes, LeadsTo}
-use Rattle.bay_contract.specs.PartAlphabets.{PartAlphabet, Alphabets, part_at, first_of, count_of, StandsAt, IsPosition}
+use Rattle.bay_contract.specs.PartAlphabets.{PartAlphabet, Alphabets, part_at, first_switch_of, count_of, StandsAt, IsPosition}
 use Rattle.bay_contract.specs.Shapes.{IsShaped}
 use Rattle.bay_contract.specs.Paths.{BeginsSo, TestedAgree, LeadsHere, MayGo, IsNoted, HasPath, PathsTo, MayLead, IsWay}
-use Rattle.bay_contract.specs.Alphabets.{PartAgrees, CanHave, IsAgreeing, IsAlphabet, AreAlphabets, HasIndex}
+use Rattle.bay_contract.specs.Alphabets.{CanHave, IsAgreeing, IsAlphabet, AreAlphabets, HasIndex}
 use Rattle.bay_contract.proofs.NextLemmas.{some_at}
 use Rattle.bay_contract.proofs.PutLemmas.{bits_some}
 
@@ -70,19 +70,19 @@ found_small x words i (Some p) h = h.small
 
 -- in the words of the station
 module _ (d : Diagram) (a : Alphabets) (part : ℕ) (is : IsAlphabet d a part) (words : List Dbpos) (switches : (part_at a part).switches ≡ length d.switches) where
-  parts_own : (k : ℕ) → k < count_of a part → OfPart d part (a_switch (first_of a part + k))
+  parts_own : (k : ℕ) → k < count_of a part → OfPart d part (a_switch (first_switch_of a part + k))
   parts_own k lt =
-      let (x, at) = some_at d.switches (first_of a part + k) (omega (arith, is.switches.within)) in
-      (x, at, (is.switches.those (first_of a part + k) x at).1 (omega arith, omega arith))
+      let (x, at) = some_at d.switches (first_switch_of a part + k) (omega (arith, is.switches.within)) in
+      (x, at, (is.switches.those (first_switch_of a part + k) x at).1 (omega arith, omega arith))
 
-  agrees_in : (v : List Bool) → TestedAgree (part_at a part) words (count_of a part) v → PartAgrees d part words v
+  agrees_in : (v : List Bool) → TestedAgree (part_at a part) words (count_of a part) v → BayAgrees d part words v
   agrees_in v agree i word closed own told at =
       let those = (is.switches.those i own.0 own.1).0 own.2 in
-      let place : first_of a part + (i - first_of a part) ≡ i = omega (arith, those.0) in
-      agree (i - first_of a part) word closed (omega (arith, those.0, those.1)) (ap (slice_get words) place ∙ told) (ap (slice_get v) place ∙ at)
+      let place : first_switch_of a part + (i - first_switch_of a part) ≡ i = omega (arith, those.0) in
+      agree (i - first_switch_of a part) word closed (omega (arith, those.0, those.1)) (ap (slice_get words) place ∙ told) (ap (slice_get v) place ∙ at)
 
-  agrees_out : (v : List Bool) → PartAgrees d part words v → TestedAgree (part_at a part) words (count_of a part) v
-  agrees_out v agree k word closed lt told at = agree (first_of a part + k) word closed (parts_own k lt) told at
+  agrees_out : (v : List Bool) → BayAgrees d part words v → TestedAgree (part_at a part) words (count_of a part) v
+  agrees_out v agree k word closed lt told at = agree (first_switch_of a part + k) word closed (parts_own k lt) told at
 
   pub can_have : (i : ℕ) → MayLead (part_at a part) words i ↔ CanHave d a part words i
   can_have i = (

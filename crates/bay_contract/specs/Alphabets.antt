@@ -2,16 +2,15 @@
 -- by the least position that gives it.
 use Rattle.std.specs.Prelude.{◌≡◌, ℕ, ◌<◌, ◌≤◌, ◌↔◌, Bool, true, List, length, slice_get, slice_index, sum, Some}
 use Rattle.ilk_base.specs.declared.words.Dbpos.{Dbpos}
-use Rattle.double_points.specs.Words.{Agrees}
+use Rattle.double_points.specs.Words.{BayAgrees}
 use Rattle.station_graph.specs.Diagram.{Diagram, AreSwitchesOf, part_count}
-use Rattle.station_graph.specs.Connection.{a_switch}
 use Rattle.station_graph.specs.Sharing.{OfPart, IsShared}
 use Rattle.station_graph.specs.Alike.{IsVector}
 use Rattle.contraction.specs.Answers.{Answers, IsContraction, Keeps, SameGap, SameLoad}
 use Rattle.contraction.specs.Stands.{StandsFor}
 use Rattle.bay_contract.specs.Diagrams.{LeadsTo}
 use Rattle.bay_contract.specs.Counting.{AreStepSizes}
-use Rattle.bay_contract.specs.PartAlphabets.{Alphabets, letters_of, size_of, example_of, forks_of, first_of, count_of, IsPosition, StandsAt, rank_of}
+use Rattle.bay_contract.specs.PartAlphabets.{Alphabets, letters_of, size_of, example_of, forks_of, first_switch_of, count_of, IsPosition, StandsAt, rank_of}
 
 -- A contraction on the nodes that the part shares.
 pub record IsLetter (d : Diagram) (part : ℕ) (c : Answers) : Type 0 where
@@ -34,7 +33,7 @@ pub record IsExample (d : Diagram) (a : Alphabets) (part index n : ℕ) : Type 0
 -- The alphabet of a part: no two letters answer the same, the part has an index in each vector, and each
 -- letter has its example, in whose order they stand. Its forks lead each vector to its index.
 pub record IsAlphabet (d : Diagram) (a : Alphabets) (part : ℕ) : Type 0 where
-  pub switches : AreSwitchesOf d part (first_of a part) (count_of a part)
+  pub switches : AreSwitchesOf d part (first_switch_of a part) (count_of a part)
   pub some : 0 < size_of a part
   pub few : size_of a part ≤ 255
   pub letters : (i : ℕ) (c : Answers) → slice_get (letters_of a part) i ≡ Some c → IsLetter d part c
@@ -52,22 +51,17 @@ pub record AreAlphabets (d : Diagram) (a : Alphabets) : Type 0 where
   pub parts : length a.parts ≡ part_count d
   pub each : (part : ℕ) → part < part_count d → IsAlphabet d a part
 
--- Each switch of the part agrees with its word. There is a word for each switch of the station, and
--- those of the part are looked at.
-abbrev pub PartAgrees : Diagram → ℕ → List Dbpos → List Bool → Type 0
-PartAgrees d part words v = (i : ℕ) (word : Dbpos) (closed : Bool) → OfPart d part (a_switch i) → slice_get words i ≡ Some word → slice_get v i ≡ Some closed → Agrees word closed
-
 -- Some vector in which the part agrees with the words has this index.
 pub record CanHave (d : Diagram) (a : Alphabets) (part : ℕ) (words : List Dbpos) (index : ℕ) : Type 0 where
   pub vector : List Bool
   pub whole : IsVector d vector
-  pub agrees : PartAgrees d part words vector
+  pub agrees : BayAgrees d part words vector
   pub has : HasIndex d a part index vector
 
 -- The number is a position that agrees with the words and has this index.
 pub record IsAgreeing (d : Diagram) (a : Alphabets) (part : ℕ) (words : List Dbpos) (index n : ℕ) : Type 0 where
   pub position : IsPosition a part n
-  pub agrees : (v : List Bool) → IsVector d v → StandsAt a part n v → PartAgrees d part words v
+  pub agrees : (v : List Bool) → IsVector d v → StandsAt a part n v → BayAgrees d part words v
   pub has : (v : List Bool) → IsVector d v → StandsAt a part n v → HasIndex d a part index v
 
 -- The index is in the set.

@@ -43,8 +43,8 @@ example_of a part index = slice_index (part_at a part).examples index
 abbrev pub forks_of : Alphabets → ℕ → List Fork
 forks_of a part = (part_at a part).forks
 
-abbrev pub first_of : Alphabets → ℕ → ℕ
-first_of a part = (part_at a part).first
+abbrev pub first_switch_of : Alphabets → ℕ → ℕ
+first_switch_of a part = (part_at a part).first
 
 abbrev pub count_of : Alphabets → ℕ → ℕ
 count_of a part = (part_at a part).count
@@ -55,8 +55,8 @@ IsPosition a part n = n < 2 ^ count_of a part
 
 -- In v the part stands at this position: bit i is set exactly where switch i of the part is closed.
 abbrev pub StandsAt : Alphabets → ℕ → ℕ → List Bool → Type 0
-StandsAt a part n v = bits (first_of a part) (count_of a part) v ≡ n
+StandsAt a part n v = bits (first_switch_of a part) (count_of a part) v ≡ n
 
 -- The part's position in v, compared with others from the first switch on, off before on.
 abbrev pub rank_of : Alphabets → ℕ → List Bool → ℕ
-rank_of a part v = rank (first_of a part) (count_of a part) v
+rank_of a part v = rank (first_switch_of a part) (count_of a part) v

@@ -13,21 +13,21 @@ use Rattle.bay_frames.specs.declared.frame.FrameRefusal.TheVariants.{Short, Kind
 use Rattle.bay_frames.specs.declared.frame.Body.{Body}
 use Rattle.bay_frames.specs.declared.frame.Body.TheVariants.{Reserve, Answer, Busy, Query, Over}
 use Rattle.bay_frames.specs.Row.{row_of, frame_row, payload_row, kind_number, IsLawful, IsLawfulBody, FitsRow, FitsBody}
-use Rattle.bay_frames.specs.Tests.{round_at, said_length, is_kind, is_length, refused_if, short_test, long_test, kind_test, length_test, receiver_test, round_test, size_tests, payload_tests, field_tests, first_of, first_failure, Answers}
+use Rattle.bay_frames.specs.Tests.{round_at, said_length, is_kind, is_length, refused_if, short_test, long_test, kind_test, length_test, receiver_test, round_test, size_tests, payload_tests, field_tests, first_refusal, first_failure, PassesOrRefuses}
 use Rattle.bay_frames.specs.Fields.{bay_at, body_at, frame_at}
 use Rattle.bay_frames.proofs.Rows.{IsBytes, frame_again, round_back, holder_back, length_said, payload_short}
 
 -- ---- lists of tests
 
 -- a list of which no test fails begins with one that does not, and so on
-pub passes_first : (b : Bool) (r : FrameRefusal) (tests : List (Option FrameRefusal)) → first_of (refused_if b r ∷ tests) ≡ None → (b ≡ false) × (first_of tests ≡ None)
+pub passes_first : (b : Bool) (r : FrameRefusal) (tests : List (Option FrameRefusal)) → first_refusal (refused_if b r ∷ tests) ≡ None → (b ≡ false) × (first_refusal tests ≡ None)
 passes_first true r tests e = absurd cc
 passes_first false r tests e = (refl, e)
 
-pub passes : (b : Bool) (r : FrameRefusal) (tests : List (Option FrameRefusal)) → b ≡ false → first_of tests ≡ None → first_of (refused_if b r ∷ tests) ≡ None
+pub passes : (b : Bool) (r : FrameRefusal) (tests : List (Option FrameRefusal)) → b ≡ false → first_refusal tests ≡ None → first_refusal (refused_if b r ∷ tests) ≡ None
 passes b r tests e h = rw e h
 
-pub parts_pass : (xs ys : List (Option FrameRefusal)) → first_of (xs ++ ys) ≡ None → (first_of xs ≡ None) × (first_of ys ≡ None)
+pub parts_pass : (xs ys : List (Option FrameRefusal)) → first_refusal (xs ++ ys) ≡ None → (first_refusal xs ≡ None) × (first_refusal ys ≡ None)
 parts_pass [] ys e = (refl, e)
 parts_pass (None ∷ xs) ys e = parts_pass xs ys e
 parts_pass (Some r ∷ xs) ys e = absurd cc
@@ -53,7 +53,7 @@ from_length bytes = length_test bytes ∷ from_short bytes
 abbrev from_kind : List ℕ → List (Option FrameRefusal)
 from_kind bytes = kind_test bytes ∷ from_length bytes
 
-pub size_fits : (bytes : List ℕ) → first_of (size_tests bytes) ≡ None → FitsSize bytes
+pub size_fits : (bytes : List ℕ) → first_refusal (size_tests bytes) ≡ None → FitsSize bytes
 size_fits bytes e =
     let n = length bytes in
     let kind = get_or bytes 0 0 in
@@ -67,7 +67,7 @@ size_fits bytes e =
     let high : n ≤ 9 + said = ltb-false _ _ f.0 in
     record { head = ltb-false _ _ a.0; kind = not-false _ b.0; fits = not-false _ c.0; whole = omega (arith, low, high) }
 
-pub size_passes : (bytes : List ℕ) → FitsSize bytes → first_of (size_tests bytes) ≡ None
+pub size_passes : (bytes : List ℕ) → FitsSize bytes → first_refusal (size_tests bytes) ≡ None
 size_passes bytes h =
     let n = length bytes in
     let kind = get_or bytes 0 0 in
@@ -176,7 +176,7 @@ is_frame bytes fits e =
     let h = size_fits bytes (parts_pass (size_tests bytes) (field_tests bytes) e).0 in
     record { round = number_fits (drop 3 bytes) (IsBytes-drop 3 bytes fits); body = (body_at_is bytes fits h).fits }
 
-lawful_body : (b1 b2 b3 b4 : Bool) (rest : List ℕ) (holder : BayId) (q : ℕ) → first_of (cond b3 (refused_if (ltb 199 holder.0) (Field 9) ∷ refused_if (eqb q 0) (Field 10) ∷ []) []) ≡ None
+lawful_body : (b1 b2 b3 b4 : Bool) (rest : List ℕ) (holder : BayId) (q : ℕ) → first_refusal (cond b3 (refused_if (ltb 199 holder.0) (Field 9) ∷ refused_if (eqb q 0) (Field 10) ∷ []) []) ≡ None
     → IsLawfulBody (cond b1 Reserve (cond b2 (Answer rest) (cond b3 (Busy holder q) (cond b4 Query Over))))
 lawful_body true b2 b3 b4 rest holder q e = tt
 lawful_body false true b3 b4 rest holder q e = tt
@@ -213,7 +213,7 @@ is_lawful bytes e =
 
 -- ---- rows pass
 
-joined : (xs ys : List (Option FrameRefusal)) → first_of xs ≡ None → first_of ys ≡ None → first_of (xs ++ ys) ≡ None
+joined : (xs ys : List (Option FrameRefusal)) → first_refusal xs ≡ None → first_refusal ys ≡ None → first_refusal (xs ++ ys) ≡ None
 joined [] ys e h = h
 joined (None ∷ xs) ys e h = joined xs ys e h
 joined (Some r ∷ xs) ys e h = absurd cc
@@ -232,7 +232,7 @@ row_length (Busy holder q) h = refl
 row_length Query h = refl
 row_length Over h = refl
 
-row_payload : (from to round : ℕ) (body : Body) → FitsBody body → IsLawfulBody body → first_of (payload_tests (row_of (kind_number body) from to round (payload_row body))) ≡ None
+row_payload : (from to round : ℕ) (body : Body) → FitsBody body → IsLawfulBody body → first_refusal (payload_tests (row_of (kind_number body) from to round (payload_row body))) ≡ None
 row_payload from to round Reserve h l = refl
 row_payload from to round (Answer s) h l = refl
 row_payload from to round (Busy holder q) h l =
@@ -263,7 +263,7 @@ row_passes f h l =
 -- ---- what reading answers
 
 abbrev pub IsRead : List ℕ → Result Frame FrameRefusal → Type 0
-IsRead bytes r = Answers r (size_tests bytes ++ field_tests bytes) (λ f. f ≡ frame_at bytes)
+IsRead bytes r = PassesOrRefuses r (size_tests bytes ++ field_tests bytes) (λ f. f ≡ frame_at bytes)
 
 pub read_row : (bytes : List ℕ) (r : Result Frame FrameRefusal) → IsBytes bytes → IsRead bytes r → IfOk r (λ f. bytes ≡ frame_row f)
 read_row bytes (Ok f) fits h = subst (λ (g : Frame). bytes ≡ frame_row g) (sym h.0) (is_row bytes fits h.1)

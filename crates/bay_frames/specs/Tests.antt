@@ -72,16 +72,16 @@ abbrev pub field_tests : List ℕ → List (Option FrameRefusal)
 field_tests bytes = bay_test bytes 1 ∷ receiver_test bytes ∷ round_test bytes 3 ∷ payload_tests bytes
 
 -- the first refusal of a list of tests, if one of them fails
-abbrev pub first_of : List (Option FrameRefusal) → Option FrameRefusal
-first_of [] = None
-first_of (None ∷ tests) = first_of tests
-first_of (Some refusal ∷ tests) = Some refusal
+abbrev pub first_refusal : List (Option FrameRefusal) → Option FrameRefusal
+first_refusal [] = None
+first_refusal (None ∷ tests) = first_refusal tests
+first_refusal (Some refusal ∷ tests) = Some refusal
 
 -- the first of all tests that the bytes fail
 abbrev pub first_failure : List ℕ → Option FrameRefusal
-first_failure bytes = first_of (size_tests bytes ++ field_tests bytes)
+first_failure bytes = first_refusal (size_tests bytes ++ field_tests bytes)
 
 -- what a reader answers: a value that is so, where no test fails; else the first refusal
-abbrev pub Answers : {T : Type 0} → Result T FrameRefusal → List (Option FrameRefusal) → (T → Type 0) → Type 0
-Answers (Ok x) tests IsSo = IsSo x × (first_of tests ≡ None)
-Answers (Err refusal) tests IsSo = first_of tests ≡ Some refusal
+abbrev pub PassesOrRefuses : {T : Type 0} → Result T FrameRefusal → List (Option FrameRefusal) → (T → Type 0) → Type 0
+PassesOrRefuses (Ok x) tests IsSo = IsSo x × (first_refusal tests ≡ None)
+PassesOrRefuses (Err refusal) tests IsSo = first_refusal tests ≡ Some refusal

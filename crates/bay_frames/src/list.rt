@@ -57,4 +57,11 @@ impl FrameList {
     {
         self.frames[i]
     }
+
+    /// All of the frames in their order, at once.
+    pub fn frames(&self) -> &[Frame]
+        ensures { result.now ≡ self.now }
+    {
+        &self.frames
+    }
 }

@@ -1,6 +1,6 @@
 // Reading.
 ghost use Rattle.std.specs.Prelude.{◌≡◌, ◌<◌, ◌≤◌, ◌+◌, [], ◌∷◌, ◌++◌, ⊤, None, length, slice_index};
-ghost use Rattle.bay_frames.specs.Tests.{said_length, round_at, is_kind, is_length, bay_test, receiver_test, round_test, count_tests, head_tests, size_tests, payload_tests, field_tests, first_of, Answers};
+ghost use Rattle.bay_frames.specs.Tests.{said_length, round_at, is_kind, is_length, bay_test, receiver_test, round_test, count_tests, head_tests, size_tests, payload_tests, field_tests, first_refusal, PassesOrRefuses};
 ghost use Rattle.bay_frames.specs.Fields.{bay_at, body_at, frame_at};
 
 use crate::frame::{Body, Frame, FrameRefusal};
@@ -47,7 +47,7 @@ fn said_length(bytes: &[u8]) -> u16
 
 // Whether there are just so many bytes.
 fn check_count(bytes: &[u8], want: usize) -> Result<(), FrameRefusal>
-    ensures { Answers result (count_tests bytes.now want) (λ _. ⊤) }
+    ensures { PassesOrRefuses result (count_tests bytes.now want) (λ _. ⊤) }
 {
     let have = bytes.len();
     if have < want {
@@ -61,7 +61,7 @@ fn check_count(bytes: &[u8], want: usize) -> Result<(), FrameRefusal>
 
 // The length of the payload, as a whole head of a lawful kind and length says it.
 fn check_head(bytes: &[u8]) -> Result<u16, FrameRefusal>
-    ensures { Answers result (head_tests bytes.now) (λ n. n ≡ said_length bytes.now) }
+    ensures { PassesOrRefuses result (head_tests bytes.now) (λ n. n ≡ said_length bytes.now) }
 {
     let have = bytes.len();
     if have < HEAD {
@@ -80,7 +80,7 @@ fn check_head(bytes: &[u8]) -> Result<u16, FrameRefusal>
 
 // Whether the bytes are such a head and a payload of that length.
 fn check_size(bytes: &[u8]) -> Result<(), FrameRefusal>
-    ensures { Answers result (size_tests bytes.now) (λ _. ⊤) }
+    ensures { PassesOrRefuses result (size_tests bytes.now) (λ _. ⊤) }
 {
     let length = check_head(bytes)?;
     check_count(bytes, HEAD + usize::from(length))
@@ -89,7 +89,7 @@ fn check_size(bytes: &[u8]) -> Result<(), FrameRefusal>
 // The bay at a place.
 fn bay_at(bytes: &[u8], place: u8) -> Result<BayId, FrameRefusal>
     requires { place < length bytes.now }
-    ensures { Answers result (bay_test bytes.now place ∷ []) (λ bay. bay ≡ bay_at bytes.now place) }
+    ensures { PassesOrRefuses result (bay_test bytes.now place ∷ []) (λ bay. bay ≡ bay_at bytes.now place) }
 {
     let number = bytes[usize::from(place)];
     if MOST_BAY < number {
@@ -101,7 +101,7 @@ fn bay_at(bytes: &[u8], place: u8) -> Result<BayId, FrameRefusal>
 // The bay at place 2, which is not the one at place 1.
 fn receiver(bytes: &[u8]) -> Result<BayId, FrameRefusal>
     requires { 2 < length bytes.now }
-    ensures { Answers result (receiver_test bytes.now ∷ []) (λ bay. bay ≡ bay_at bytes.now 2) }
+    ensures { PassesOrRefuses result (receiver_test bytes.now ∷ []) (λ bay. bay ≡ bay_at bytes.now 2) }
 {
     let number = bytes[2];
     if MOST_BAY < number || number == bytes[1] {
@@ -113,7 +113,7 @@ fn receiver(bytes: &[u8]) -> Result<BayId, FrameRefusal>
 // The round at a place.
 fn round_at(bytes: &[u8], place: u8) -> Result<u32, FrameRefusal>
     requires { place + 4 ≤ length bytes.now }
-    ensures { Answers result (round_test bytes.now place ∷ []) (λ round. round ≡ round_at bytes.now place) }
+    ensures { PassesOrRefuses result (round_test bytes.now place ∷ []) (λ round. round ≡ round_at bytes.now place) }
 {
     let round = number_at(bytes, usize::from(place));
     if round == 0 {
@@ -125,8 +125,8 @@ fn round_at(bytes: &[u8], place: u8) -> Result<u32, FrameRefusal>
 // The holder and its round.
 fn busy(bytes: &[u8]) -> Result<Body, FrameRefusal>
     requires kind { slice_index bytes.now 0 ≡ 3 }
-    requires size { first_of (size_tests bytes.now) ≡ None }
-    ensures { Answers result (payload_tests bytes.now) (λ body. body ≡ body_at bytes.now) }
+    requires size { first_refusal (size_tests bytes.now) ≡ None }
+    ensures { PassesOrRefuses result (payload_tests bytes.now) (λ body. body ≡ body_at bytes.now) }
 {
     let holder = bay_at(bytes, 9)?;
     let holder_round = round_at(bytes, 10)?;
@@ -139,7 +139,7 @@ fn busy(bytes: &[u8]) -> Result<Body, FrameRefusal>
 // The summary behind the head.
 fn summary(bytes: &[u8]) -> Summary
     requires kind { slice_index bytes.now 0 ≡ 2 }
-    requires size { first_of (size_tests bytes.now) ≡ None }
+    requires size { first_refusal (size_tests bytes.now) ≡ None }
     ensures { Body.Answer result ≡ body_at bytes.now }
 {
     let (_, payload) = bytes.split_at(HEAD);
@@ -148,8 +148,8 @@ fn summary(bytes: &[u8]) -> Summary
 
 // What is told. Of the five kinds only Over is left in the last case.
 fn body(bytes: &[u8]) -> Result<Body, FrameRefusal>
-    requires { first_of (size_tests bytes.now) ≡ None }
-    ensures { Answers result (payload_tests bytes.now) (λ body. body ≡ body_at bytes.now) }
+    requires { first_refusal (size_tests bytes.now) ≡ None }
+    ensures { PassesOrRefuses result (payload_tests bytes.now) (λ body. body ≡ body_at bytes.now) }
 {
     match bytes[0] {
         1 => Ok(Body::Reserve),
@@ -162,7 +162,7 @@ fn body(bytes: &[u8]) -> Result<Body, FrameRefusal>
 
 // The fields of the bytes, where they pass each test.
 pub(crate) fn read(bytes: &[u8]) -> Result<Frame, FrameRefusal>
-    ensures { Answers result (size_tests bytes.now ++ field_tests bytes.now) (λ f. f ≡ frame_at bytes.now) }
+    ensures { PassesOrRefuses result (size_tests bytes.now ++ field_tests bytes.now) (λ f. f ≡ frame_at bytes.now) }
 {
     check_size(bytes)?;
     let from = bay_at(bytes, 1)?;

@@ -2,7 +2,7 @@
 use Rattle.std.specs.Prelude.{◌≡◌, ◌<◌, ◌++◌, ◌==◌, ⊤, ℕ, Bool, false, List, [], length, slice_index_or, codes, if◌then◌else◌}
 use Rattle.std.specs.Fmt.{decimal}
 use Rattle.ilk_base.specs.declared.words.Op.{Op}
-use Rattle.station_graph.specs.Diagram.{Diagram}
+use Rattle.station_graph.specs.Diagram.{Diagram, switch_path}
 use Rattle.station_graph.specs.Alike.{IsVector}
 use Rattle.station_graph.specs.CentralRules.{IsOperation}
 use Rattle.central_rules.specs.Names.{rule_name, direction_name, texts_below}
@@ -12,9 +12,6 @@ use Rattle.bay_protocol.specs.declared.values.Outcome.TheVariants.{UnderWay, Hel
 -- a line: the prefix, the text, and the end of the line
 abbrev pub line : List ℕ → List ℕ → List ℕ
 line prefix text = prefix ++ text ++ codes "\n"
-
-abbrev pub switch_path : Diagram → ℕ → List ℕ
-switch_path d i = slice_index_or d.switch_paths i []
 
 -- `open PATH` or `close PATH`
 abbrev pub operation : Diagram → Op → List ℕ

@@ -4,7 +4,8 @@ ghost use Rattle.std.specs.Fmt.{decimal};
 ghost use Rattle.station_graph.specs.Alike.{IsVector};
 ghost use Rattle.station_graph.specs.CentralRules.{IsOperation};
 ghost use Rattle.central_rules.specs.Names.{rule_name, texts_below};
-ghost use Rattle.bay_protocol.specs.OutcomeLines.{line, switch_path, operation, with_line, outcome_lines, OutcomeFits};
+ghost use Rattle.bay_protocol.specs.OutcomeLines.{line, operation, with_line, outcome_lines, OutcomeFits};
+ghost use Rattle.station_graph.specs.Diagram.{switch_path};
 
 use crate::values::Outcome;
 use central_rules::{direction_name, rule_name};

@@ -14,7 +14,8 @@ use Rattle.station_graph.proofs.Decided.{element}
 use Rattle.station_graph.proofs.GapLemmas.{same_list}
 use Rattle.station_graph.proofs.PositionLemmas.{SamePositions-sym}
 use Rattle.station_graph.proofs.MixLemmas.{mixed, one_part}
-use Rattle.central_rules.specs.Knowledge.{BayAgrees, AllCertain, StandsAlike, Known, IsReadingOf, IsFull}
+use Rattle.central_rules.specs.Knowledge.{AllCertain, StandsAlike, Known, IsReadingOf, IsFull}
+use Rattle.double_points.specs.Words.{BayAgrees}
 use Rattle.central_rules.proofs.AlikeLaw.{same_answers}
 use Rattle.central_rules.proofs.SameAnswerLemmas.{SameAnswers-trans, alike_same, alike_sym, alike_trans, alike_differ}
 

@@ -7,7 +7,7 @@ use Rattle.std.proofs.lemmas.Option.{none-some, same_Some, slice_get_within}
 use Rattle.ilk_base.specs.declared.words.Dbpos.{Dbpos}
 use Rattle.ilk_base.specs.declared.words.Dbpos.TheVariants.{Intermediate, Off, On, Bad, Lost}
 use Rattle.ilk_base.specs.declared.words.Op.{Op}
-use Rattle.double_points.specs.Words.{Agrees}
+use Rattle.double_points.specs.Words.{Agrees, BayAgrees}
 use Rattle.station_graph.specs.declared.items.Switch.{Switch}
 use Rattle.station_graph.specs.Diagram.{Diagram, IsStation}
 use Rattle.station_graph.specs.Connection.{a_switch}
@@ -15,7 +15,7 @@ use Rattle.station_graph.specs.Sharing.{OfPart, IsShared}
 use Rattle.station_graph.specs.CentralRules.{Breaks}
 use Rattle.station_graph.specs.Alike.{Alike, Irrelevant, IsVector, SamePositions, DifferInPart, SameAnswers, SameFor}
 use Rattle.station_graph.proofs.PositionLemmas.{SamePositions-sym, SameGapView-positions, SameLoadView-positions, SameGapView-trans, SameLoadView-trans}
-use Rattle.central_rules.specs.Knowledge.{BayAgrees, StandsAlike, Known, IsReadingOf, Holds}
+use Rattle.central_rules.specs.Knowledge.{StandsAlike, Known, IsReadingOf, Holds}
 use Rattle.central_rules.specs.Meaning.{Meaning, Laws, Knows, AreMade, IsMade}
 use Rattle.central_rules.proofs.AlikeLaw.{same_answers}
 use Rattle.station_graph.proofs.MixLemmas.{mix, length_mix, mix_there, mix_else, one_part}

@@ -3,17 +3,12 @@ use Rattle.std.specs.Prelude.{◌≡◌, ◌≢◌, ◌⊎◌, ℕ, Bool, List, 
 use Rattle.ilk_base.specs.declared.words.Dbpos.{Dbpos}
 use Rattle.ilk_base.specs.declared.words.Dbpos.TheVariants.{Off, On}
 use Rattle.ilk_base.specs.declared.words.Op.{Op}
-use Rattle.double_points.specs.Words.{Agrees}
+use Rattle.double_points.specs.Words.{BayAgrees}
 use Rattle.station_graph.specs.Diagram.{Diagram}
 use Rattle.station_graph.specs.Connection.{a_switch}
 use Rattle.station_graph.specs.Sharing.{OfPart}
 use Rattle.station_graph.specs.CentralRules.{Breaks}
 use Rattle.station_graph.specs.Alike.{Alike, Irrelevant, IsVector}
-
--- Each switch of the bay agrees with its word. There is a word for each switch of the station, and those
--- of the bay are looked at.
-abbrev pub BayAgrees : Diagram → ℕ → List Dbpos → List Bool → Type 0
-BayAgrees d b words v = (i : ℕ) (word : Dbpos) (closed : Bool) → OfPart d b (a_switch i) → slice_get words i ≡ Some word → slice_get v i ≡ Some closed → Agrees word closed
 
 -- The bay stands in v alike to a position in which it agrees with these words.
 pub record StandsAlike (d : Diagram) (b : ℕ) (words : List Dbpos) (v : List Bool) : Type 0 where

@@ -5,7 +5,8 @@ use Rattle.station_graph.specs.declared.items.Switch.{Switch}
 use Rattle.station_graph.specs.Diagram.{Diagram, part_count, switches_in}
 use Rattle.station_graph.specs.Sharing.{OfPart}
 use Rattle.station_graph.specs.Alike.{Irrelevant, IsVector, SamePositions}
-use Rattle.central_rules.specs.Knowledge.{BayAgrees, StandsAlike, Known}
+use Rattle.central_rules.specs.Knowledge.{StandsAlike, Known}
+use Rattle.double_points.specs.Words.{BayAgrees}
 
 -- What the summaries of a judge mean. A summary is what one bay tells another of its positions, as a list
 -- of bytes.

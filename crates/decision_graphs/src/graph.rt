@@ -1,5 +1,5 @@
 ghost use Rattle.std.specs.Prelude.{◌≡◌, ℕ, ◌+◌, ◌<◌, ◌≤◌, ◌↔◌, length, sum_by, List, map, slice_index, slice_index_or, true, false, IfOk, MatchOption, IsTrue};
-ghost use Rattle.decision_graphs.specs.Label.{DependsOn, layer_at, first_at, HasEdge, IsNode, Reaches, Allows, AreChoices, AreReduced, AreLayers, Layer, label_of, place_after, step};
+ghost use Rattle.decision_graphs.specs.Label.{DependsOn, layer_at, first_at, HasEdge, IsNode, Reaches, AreAllowed, AreChoices, AreReduced, AreLayers, Layer, label_of, place_after, step};
 ghost use Rattle.decision_graphs.specs.Reaching.{AreSetsOf, AreMarksOf, MarksReached, node_total, IsSet};
 ghost use Rattle.decision_graphs.specs.Finished.{AreFinished, finished};
 ghost use Rattle.decision_graphs.specs.Whole.{layer_of, IsWhole};
@@ -167,7 +167,7 @@ impl Graph {
         requires sets { AreSetsOf self.now.layers sets.now }
         requires label { label < self.now.labels }
         ensures { IfOk result (λ o. MatchOption o (Reaches self.now sets.now label → ⊥)
-            (λ p. Allows sets.now p × (label_of self.now p ≡ label))) }
+            (λ p. AreAllowed sets.now p × (label_of self.now p ≡ label))) }
     {
         let nodes = self.node_total();
         let found = find_path(

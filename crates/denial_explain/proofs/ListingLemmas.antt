@@ -11,7 +11,7 @@ use Rattle.station_graph.specs.Diagram.{Diagram, IsStation, node_count}
 use Rattle.station_graph.specs.Connection.{Item, a_switch, a_link, a_tap, ItemBetween, Touching, AreEnds}
 use Rattle.station_graph.proofs.ClassesLemmas.{AddsEdge, SameEdges}
 use Rattle.station_graph.proofs.PartialEdges.{TouchingBelow, below_all, touching_back, second_fits, switch_adds, switch_passed, open_joins_nothing, one_end_joins_nothing, link_adds}
-use Rattle.denial_explain.specs.Listing.{list_at, Listed, with_neighbour, with_edge, AreLists, IsUndirected}
+use Rattle.denial_explain.specs.Listing.{list_at, Listed, with_neighbour, with_neighbours, AreLists, IsUndirected}
 
 -- One more neighbour.
 module _ (lists : List (List ℕ)) (a b : ℕ) where
@@ -56,7 +56,7 @@ module _ (R Q : ℕ → ℕ → Type 0) (count : ℕ) (lists : List (List ℕ)) 
   unfolding one
   q_listed = omega (arith, h.len, length-set lists p (list_at lists p ++ q ∷ []))
 
-  edge_only : (a b : ℕ) → Listed (with_edge lists p q) a b → Q a b
+  edge_only : (a b : ℕ) → Listed (with_neighbours lists p q) a b → Q a b
   unfolding one
   edge_only a b l = elim (Listed-only one q p a b q_listed l) [
     | inl before ↦ elim (Listed-only lists p q a b p_listed before) [
@@ -66,7 +66,7 @@ module _ (R Q : ℕ → ℕ → Type 0) (count : ℕ) (lists : List (List ℕ)) 
     | inr back ↦ adds.added a b (inr back)
   ]
 
-  edge_listed : (a b : ℕ) → Q a b → Listed (with_edge lists p q) a b
+  edge_listed : (a b : ℕ) → Q a b → Listed (with_neighbours lists p q) a b
   unfolding one
   edge_listed a b e = elim (adds.only a b e) [
     | inl old ↦ Listed-kept one q p a b q_listed (Listed-kept lists p q a b p_listed ((h.exact a b).1 old))
@@ -74,11 +74,11 @@ module _ (R Q : ℕ → ℕ → Type 0) (count : ℕ) (lists : List (List ℕ)) 
     | inr (inr back) ↦ Listed-new one q p a b q_listed back.0 back.1
   ]
 
-  edge_len : length (with_edge lists p q) ≡ count
+  edge_len : length (with_neighbours lists p q) ≡ count
   unfolding one
   edge_len = length-set one q (list_at one q ++ p ∷ []) ∙ (length-set lists p (list_at lists p ++ q ∷ []) ∙ h.len)
 
-  pub AreLists-edge : AreLists Q count (with_edge lists p q)
+  pub AreLists-edge : AreLists Q count (with_neighbours lists p q)
   AreLists-edge = record { len = edge_len; exact = λ a b. (edge_only a b, edge_listed a b) }
 
 pub AreLists-same : (R Q : ℕ → ℕ → Type 0) (count : ℕ) (lists : List (List ℕ)) → SameEdges R Q → AreLists R count lists → AreLists Q count lists
@@ -105,7 +105,7 @@ AreLists-none R count none = record {
 
 -- The steps of the two loops, over plain lists.
 module _ (d : Diagram) (station : IsStation d) (v : List Bool) (lists : List (List ℕ)) where
-  pub lists_after_closed : (i : ℕ) (x : Switch) (n : NodeId) → slice_get d.switches i ≡ Some x → x.second ≡ Some n → slice_get v i ≡ Some true → AreLists (TouchingBelow false d v i 0) (node_count d) lists → AreLists (TouchingBelow false d v (i + 1) 0) (node_count d) (with_edge lists x.first.0 n.0)
+  pub lists_after_closed : (i : ℕ) (x : Switch) (n : NodeId) → slice_get d.switches i ≡ Some x → x.second ≡ Some n → slice_get v i ≡ Some true → AreLists (TouchingBelow false d v i 0) (node_count d) lists → AreLists (TouchingBelow false d v (i + 1) 0) (node_count d) (with_neighbours lists x.first.0 n.0)
   lists_after_closed i x n listed second closed h =
       let fits = station.items.switches_fit i x listed in
       AreLists-edge (TouchingBelow false d v i 0) (TouchingBelow false d v (i + 1) 0) (node_count d) lists x.first.0 n.0
@@ -121,7 +121,7 @@ module _ (d : Diagram) (station : IsStation d) (v : List Bool) (lists : List (Li
       AreLists-same (TouchingBelow false d v i 0) (TouchingBelow false d v (i + 1) 0) (node_count d) lists
       (switch_passed false d v i 0 (λ a b. open_joins_nothing d v i a b is_open)) h
 
-  pub lists_after_link : (i j : ℕ) (x : Link) → slice_get d.links j ≡ Some x → AreLists (TouchingBelow false d v i j) (node_count d) lists → AreLists (TouchingBelow false d v i (j + 1)) (node_count d) (with_edge lists x.first.0 x.second.0)
+  pub lists_after_link : (i j : ℕ) (x : Link) → slice_get d.links j ≡ Some x → AreLists (TouchingBelow false d v i j) (node_count d) lists → AreLists (TouchingBelow false d v i (j + 1)) (node_count d) (with_neighbours lists x.first.0 x.second.0)
   lists_after_link i j x listed h =
       let fits = station.items.links_fit j x listed in
       AreLists-edge (TouchingBelow false d v i j) (TouchingBelow false d v i (j + 1)) (node_count d) lists x.first.0 x.second.0

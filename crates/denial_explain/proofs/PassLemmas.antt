@@ -13,7 +13,7 @@ use Rattle.denial_explain.proofs.ReachLemmas.{same_steps}
 
 -- The nodes before the front of the queue have had their turn. Along the queue the steps do not fall,
 -- and no node has more than one step more than the front.
-pub record Passed (R : ℕ → ℕ → Type 0) (End : ℕ → Type 0) (count front : ℕ) (steps : List (Option ℕ)) (queue : List ℕ) : Type 0 where
+pub record Passed (R : ℕ → ℕ → Type 0) (Target : ℕ → Type 0) (count front : ℕ) (steps : List (Option ℕ)) (queue : List ℕ) : Type 0 where
   pub len : length steps ≡ count
   pub room : length queue + count_by is_none steps ≡ count
   pub within : front ≤ length queue
@@ -22,8 +22,8 @@ pub record Passed (R : ℕ → ℕ → Type 0) (End : ℕ → Type 0) (count fro
   pub rises : (i j a b k l : ℕ) → i ≤ j → slice_get queue i ≡ Some a → slice_get queue j ≡ Some b → HasSteps steps a k → HasSteps steps b l → k ≤ l
   pub ahead : (b k n l : ℕ) → slice_get queue front ≡ Some b → HasSteps steps b k → HasSteps steps n l → l ≤ k + 1
   pub turned : (j b k a : ℕ) → j < front → slice_get queue j ≡ Some b → HasSteps steps b k → R a b → (l : ℕ) × HasSteps steps a l × (l ≤ k + 1)
-  pub ends : (n : ℕ) → End n → HasSteps steps n 0
-  pub only_ends : (n : ℕ) → HasSteps steps n 0 → End n
+  pub ends : (n : ℕ) → Target n → HasSteps steps n 0
+  pub only_ends : (n : ℕ) → HasSteps steps n 0 → Target n
   pub nearer : (n k : ℕ) → HasSteps steps n (k + 1) → (m : ℕ) × R n m × HasSteps steps m k
 
 no_steps : (count n k : ℕ) → HasSteps (replicate count None) n k → ⊥
@@ -37,14 +37,14 @@ none_counted count =
     omega arith
 
 -- The ends are reached first.
-module _ (R : ℕ → ℕ → Type 0) (End : ℕ → Type 0) (count : ℕ) (steps : List (Option ℕ)) (queue : List ℕ) (h : ReachesAll End 0 (replicate count None) steps [] queue) where
-  all_zero : (n k : ℕ) → HasSteps steps n k → (k ≡ 0) × End n × Contains queue n
+module _ (R : ℕ → ℕ → Type 0) (Target : ℕ → Type 0) (count : ℕ) (steps : List (Option ℕ)) (queue : List ℕ) (h : ReachesAll Target 0 (replicate count None) steps [] queue) where
+  all_zero : (n k : ℕ) → HasSteps steps n k → (k ≡ 0) × Target n × Contains queue n
   all_zero n k s = elim (h.only n k s) [ inl old ↦ absurd (no_steps count n k old) | inr w ↦ w ]
 
   first_queued : (j n : ℕ) → slice_get queue j ≡ Some n → HasSteps steps n 0
   first_queued j n q = elim (h.queue_only j n q) [ inl old ↦ cc | inr w ↦ w.1 ]
 
-  pub Passed-start : Passed R End count 0 steps queue
+  pub Passed-start : Passed R Target count 0 steps queue
   Passed-start = record {
     len = h.len ∙ length-replicate count None;
     room = omega (arith, h.room, none_counted count);
@@ -60,7 +60,7 @@ module _ (R : ℕ → ℕ → Type 0) (End : ℕ → Type 0) (count : ℕ) (step
   }
 
 -- One turn: the front b, which has s steps, reaches what is related to it.
-module _ (R : ℕ → ℕ → Type 0) (End : ℕ → Type 0) (count : ℕ) (back : (a b : ℕ) → R a b → R b a) (front b s : ℕ) (steps new : List (Option ℕ)) (queue longer : List ℕ) (p : Passed R End count front steps queue) (at : slice_get queue front ≡ Some b) (has : HasSteps steps b s) (h : ReachesAll (R b) (s + 1) steps new queue longer) where
+module _ (R : ℕ → ℕ → Type 0) (Target : ℕ → Type 0) (count : ℕ) (back : (a b : ℕ) → R a b → R b a) (front b s : ℕ) (steps new : List (Option ℕ)) (queue longer : List ℕ) (p : Passed R Target count front steps queue) (at : slice_get queue front ≡ Some b) (has : HasSteps steps b s) (h : ReachesAll (R b) (s + 1) steps new queue longer) where
   -- steps of a node of the queue before the turn are those that it had
   had : (j n k : ℕ) → slice_get queue j ≡ Some n → HasSteps new n k → HasSteps steps n k
   had j n k q t =
@@ -127,13 +127,13 @@ module _ (R : ℕ → ℕ → Type 0) (End : ℕ → Type 0) (count : ℕ) (back
         (b, back b n w.1, subst (λ l. HasSteps new b l) same_k (h.kept b s has))
   ]
 
-  only_ends : (n : ℕ) → HasSteps new n 0 → End n
+  only_ends : (n : ℕ) → HasSteps new n 0 → Target n
   only_ends n t = elim (h.only n 0 t) [
     | inl old ↦ p.only_ends n old
     | inr w ↦ absurd (omega (arith, w.0))
   ]
 
-  pub Passed-turn : Passed R End count (front + 1) new longer
+  pub Passed-turn : Passed R Target count (front + 1) new longer
   Passed-turn = record {
     len = h.len ∙ p.len;
     room = h.room ∙ p.room;
@@ -149,8 +149,8 @@ module _ (R : ℕ → ℕ → Type 0) (End : ℕ → Type 0) (count : ℕ) (back
   }
 
 -- After the last turn every node knows its steps.
-pub AreSteps-passed : (R : ℕ → ℕ → Type 0) (End : ℕ → Type 0) (count front : ℕ) (steps : List (Option ℕ)) (queue : List ℕ) → length queue ≤ front → Passed R End count front steps queue → AreSteps R End count steps
-AreSteps-passed R End count front steps queue ended p = record {
+pub AreSteps-passed : (R : ℕ → ℕ → Type 0) (Target : ℕ → Type 0) (count front : ℕ) (steps : List (Option ℕ)) (queue : List ℕ) → length queue ≤ front → Passed R Target count front steps queue → AreSteps R Target count steps
+AreSteps-passed R Target count front steps queue ended p = record {
   len = p.len;
   ends = p.ends;
   only_ends = p.only_ends;

@@ -8,7 +8,7 @@ use Rattle.std.proofs.lemmas.List.Elements.{Contains-push, Contains-push_cases, 
 use Rattle.std.proofs.lemmas.List.Sums.{sum_by-set}
 use Rattle.station_graph.proofs.PathLemmas.{slice_get-push}
 use Rattle.station_graph.proofs.PositionLemmas.{slice_get-set_other}
-use Rattle.denial_explain.specs.Stepping.{HasSteps, Reaches, ReachesAll}
+use Rattle.denial_explain.specs.Stepping.{HasSteps, Visits, ReachesAll}
 use Rattle.denial_explain.proofs.Places.{slice_get-push_old, slice_get-set_same}
 
 -- a node has one number of steps
@@ -112,7 +112,7 @@ module _ (P Q : ℕ → Type 0) (node next : ℕ) (steps mid : List (Option ℕ)
     queue_only = h.queue_only;
   }
 
-  pub ReachesAll-more : (new : List (Option ℕ)) (last : List ℕ) → Reaches node next mid new longer last → ReachesAll Q next steps new queue last
+  pub ReachesAll-more : (new : List (Option ℕ)) (last : List ℕ) → Visits node next mid new longer last → ReachesAll Q next steps new queue last
   ReachesAll-more new last (inl (none, set, push)) =
       subst (λ (s : List (Option ℕ)). ReachesAll Q next steps s queue last) (sym set)
       (subst (λ (q : List ℕ). ReachesAll Q next steps (slice_set mid node (Some next)) queue q) (sym push) (reaches_new none))
@@ -121,7 +121,7 @@ module _ (P Q : ℕ → Type 0) (node next : ℕ) (steps mid : List (Option ℕ)
       (subst (λ (q : List ℕ). ReachesAll Q next steps mid queue q) (sym still) (reaches_old k has))
 
 -- the next node of a list
-pub ReachesAll-turn : (nodes : List ℕ) (i next : ℕ) (steps mid new : List (Option ℕ)) (queue longer last : List ℕ) → i < length nodes → ReachesAll (Contains (take i nodes)) next steps mid queue longer → Reaches (get_or nodes i 0) next mid new longer last → ReachesAll (Contains (take (i + 1) nodes)) next steps new queue last
+pub ReachesAll-turn : (nodes : List ℕ) (i next : ℕ) (steps mid new : List (Option ℕ)) (queue longer last : List ℕ) → i < length nodes → ReachesAll (Contains (take i nodes)) next steps mid queue longer → Visits (get_or nodes i 0) next mid new longer last → ReachesAll (Contains (take (i + 1) nodes)) next steps new queue last
 ReachesAll-turn nodes i next steps mid new queue longer last i_in h r =
     let more = take_more nodes i 0 i_in in
     let node = get_or nodes i 0 in

@@ -18,8 +18,8 @@ leads_weaker R Q w a [] b e = e
 leads_weaker R Q w a (x ∷ xs) b h = (w a x h.0, leads_weaker R Q w x xs b h.1)
 
 -- a way is one along a relation that holds alike, to ends that are alike
-pub IsWay-same : (R Q : ℕ → ℕ → Type 0) (End Goal : ℕ → Type 0) (a last : ℕ) (nodes : List ℕ) → ((x y : ℕ) → R x y → Q x y) → ((x y : ℕ) → Q x y → R x y) → ((n : ℕ) → End n → Goal n) → ((n : ℕ) → Goal n → End n) → IsWay R End a last nodes → IsWay Q Goal a last nodes
-IsWay-same R Q End Goal a last nodes there back end_there end_back w = record {
+pub IsWay-same : (R Q : ℕ → ℕ → Type 0) (Target Goal : ℕ → Type 0) (a last : ℕ) (nodes : List ℕ) → ((x y : ℕ) → R x y → Q x y) → ((x y : ℕ) → Q x y → R x y) → ((n : ℕ) → Target n → Goal n) → ((n : ℕ) → Goal n → Target n) → IsWay R Target a last nodes → IsWay Q Goal a last nodes
+IsWay-same R Q Target Goal a last nodes there back end_there end_back w = record {
   after = w.after;
   begins = w.begins;
   leads = leads_weaker R Q there a w.after last w.leads;
@@ -29,21 +29,21 @@ IsWay-same R Q End Goal a last nodes there back end_there end_back w = record {
 }
 
 -- a node from which a list leads to an end has at most as many steps as the list has nodes
-pub steps_within : (R : ℕ → ℕ → Type 0) (End : ℕ → Type 0) (count : ℕ) (steps : List (Option ℕ)) → AreSteps R End count steps → (a : ℕ) (other : List ℕ) (m : ℕ) → LeadsTo R a other m → End m → (k : ℕ) × HasSteps steps a k × (k ≤ length other)
-steps_within R End count steps h a [] m e end = (0, h.ends a (subst End (sym e) end), omega arith)
-steps_within R End count steps h a (x ∷ xs) m l end =
-    let w = steps_within R End count steps h x xs m l.1 end in
+pub steps_within : (R : ℕ → ℕ → Type 0) (Target : ℕ → Type 0) (count : ℕ) (steps : List (Option ℕ)) → AreSteps R Target count steps → (a : ℕ) (other : List ℕ) (m : ℕ) → LeadsTo R a other m → Target m → (k : ℕ) × HasSteps steps a k × (k ≤ length other)
+steps_within R Target count steps h a [] m e end = (0, h.ends a (subst Target (sym e) end), omega arith)
+steps_within R Target count steps h a (x ∷ xs) m l end =
+    let w = steps_within R Target count steps h x xs m l.1 end in
     let n = h.near a x w.0 l.0 w.1 in
     (n.0, n.1, omega (arith, n.2, w.2))
 
 -- a node that is linked to an end has steps
-pub steps_from : (R Q : ℕ → ℕ → Type 0) (End : ℕ → Type 0) (count : ℕ) (steps : List (Option ℕ)) → AreSteps R End count steps → ((x y : ℕ) → Q x y → R x y) → (a m : ℕ) → Linked Q a m → End m → (k : ℕ) × HasSteps steps a k
-steps_from R Q End count steps h w a m l end =
-    let s = steps_within R End count steps h a l.after m (leads_weaker Q R w a l.after m l.leads) end in (s.0, s.1)
+pub steps_from : (R Q : ℕ → ℕ → Type 0) (Target : ℕ → Type 0) (count : ℕ) (steps : List (Option ℕ)) → AreSteps R Target count steps → ((x y : ℕ) → Q x y → R x y) → (a m : ℕ) → Linked Q a m → Target m → (k : ℕ) × HasSteps steps a k
+steps_from R Q Target count steps h w a m l end =
+    let s = steps_within R Target count steps h a l.after m (leads_weaker Q R w a l.after m l.leads) end in (s.0, s.1)
 
 -- the same steps, to the nodes without a step
-pub AreSteps-own_ends : (R : ℕ → ℕ → Type 0) (End : ℕ → Type 0) (count : ℕ) (steps : List (Option ℕ)) → AreSteps R End count steps → AreSteps R (λ n. HasSteps steps n 0) count steps
-AreSteps-own_ends R End count steps h = record {
+pub AreSteps-own_ends : (R : ℕ → ℕ → Type 0) (Target : ℕ → Type 0) (count : ℕ) (steps : List (Option ℕ)) → AreSteps R Target count steps → AreSteps R (λ n. HasSteps steps n 0) count steps
+AreSteps-own_ends R Target count steps h = record {
   len = h.len;
   ends = λ n e. e;
   only_ends = λ n e. e;
@@ -100,8 +100,8 @@ module _ (R : ℕ → ℕ → Type 0) (steps : List (Option ℕ)) (from last : �
   first_at after e = ap (λ (xs : List ℕ). slice_get xs 0) e
 
   -- where no step is left, it is a shortest way
-  pub IsWay-followed : (End : ℕ → Type 0) (count : ℕ) → AreSteps R End count steps → Follows R steps from last 0 nodes → IsWay R End from last nodes
-  IsWay-followed End count are h = record {
+  pub IsWay-followed : (Target : ℕ → Type 0) (count : ℕ) → AreSteps R Target count steps → Follows R steps from last 0 nodes → IsWay R Target from last nodes
+  IsWay-followed Target count are h = record {
     after = h.after;
     begins = h.begins;
     leads = h.leads;
@@ -109,6 +109,6 @@ module _ (R : ℕ → ℕ → Type 0) (steps : List (Option ℕ)) (from last : �
     distinct = Follows-distinct 0 h;
     shortest = λ other m l e.
         let v = h.falls 0 from (first_at h.after h.begins) in
-        let w = steps_within R End count steps are from other m l e in
+        let w = steps_within R Target count steps are from other m l e in
         omega (arith, v.2, w.2, same_steps steps from v.0 w.0 v.1 w.1);
   }

@@ -5,17 +5,11 @@ use Rattle.ilk_base.specs.declared.words.Dbpos.{Dbpos}
 use Rattle.ilk_base.specs.declared.words.Rule.{Rule}
 use Rattle.ilk_base.specs.declared.words.Op.{Op}
 use Rattle.ilk_base.specs.declared.words.SwitchId.{SwitchId}
-use Rattle.station_graph.specs.Diagram.{Diagram, node_count}
+use Rattle.station_graph.specs.Diagram.{Diagram, node_count, node_path, switch_path}
 use Rattle.central_rules.specs.Names.{rule_name, direction_name, position_name, is_uncertain, texts_below}
 use Rattle.denial_explain.specs.Ways.{AllBelow}
 use Rattle.denial_explain.specs.declared.chain.Chain.{Chain}
 use Rattle.denial_explain.specs.declared.explanation.Explanation.{Explanation}
-
-abbrev pub switch_path : Diagram → ℕ → List ℕ
-switch_path d i = slice_index_or d.switch_paths i []
-
-abbrev pub node_path : Diagram → ℕ → List ℕ
-node_path d n = slice_index_or d.node_paths n []
 
 -- `open PATH` or `close PATH`, and the end of the line
 abbrev pub operation : Diagram → Op → List ℕ

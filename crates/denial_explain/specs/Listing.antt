@@ -14,8 +14,8 @@ abbrev pub with_neighbour : List (List ℕ) → ℕ → ℕ → List (List ℕ)
 with_neighbour lists a b = slice_set lists a (list_at lists a ++ b ∷ [])
 
 -- The lists with a and b as neighbours of each other.
-abbrev pub with_edge : List (List ℕ) → ℕ → ℕ → List (List ℕ)
-with_edge lists a b = with_neighbour (with_neighbour lists a b) b a
+abbrev pub with_neighbours : List (List ℕ) → ℕ → ℕ → List (List ℕ)
+with_neighbours lists a b = with_neighbour (with_neighbour lists a b) b a
 
 -- There is a list for each node, with exactly the nodes to which the relation leads.
 pub record AreLists (R : ℕ → ℕ → Type 0) (count : ℕ) (lists : List (List ℕ)) : Type 0 where

@@ -8,16 +8,16 @@ HasSteps steps n k = slice_get steps n ≡ Some (Some k)
 
 -- The ends have no step, and no other node; a node with steps is related to one with one step less; and
 -- what is related to a node with steps has steps, at most one more.
-pub record AreSteps (R : ℕ → ℕ → Type 0) (End : ℕ → Type 0) (count : ℕ) (steps : List (Option ℕ)) : Type 0 where
+pub record AreSteps (R : ℕ → ℕ → Type 0) (Target : ℕ → Type 0) (count : ℕ) (steps : List (Option ℕ)) : Type 0 where
   pub len : length steps ≡ count
-  pub ends : (n : ℕ) → End n → HasSteps steps n 0
-  pub only_ends : (n : ℕ) → HasSteps steps n 0 → End n
+  pub ends : (n : ℕ) → Target n → HasSteps steps n 0
+  pub only_ends : (n : ℕ) → HasSteps steps n 0 → Target n
   pub nearer : (n k : ℕ) → HasSteps steps n (k + 1) → (m : ℕ) × R n m × HasSteps steps m k
   pub near : (a b k : ℕ) → R a b → HasSteps steps b k → (l : ℕ) × HasSteps steps a l × (l ≤ k + 1)
 
 -- The node had no steps, and got these and joined the queue; or it had steps, and nothing changed.
-abbrev pub Reaches : ℕ → ℕ → List (Option ℕ) → List (Option ℕ) → List ℕ → List ℕ → Type 0
-Reaches node next steps new_steps queue new_queue =
+abbrev pub Visits : ℕ → ℕ → List (Option ℕ) → List (Option ℕ) → List ℕ → List ℕ → Type 0
+Visits node next steps new_steps queue new_queue =
     ((slice_get steps node ≡ Some None) × (new_steps ≡ slice_set steps node (Some next)) × (new_queue ≡ queue ++ node ∷ []))
     ⊎ ((k : ℕ) × HasSteps steps node k × (new_steps ≡ steps) × (new_queue ≡ queue))
 

@@ -12,10 +12,10 @@ AllBelow count nodes = (i n : ℕ) → slice_get nodes i ≡ Some n → n < coun
 
 -- The nodes are a shortest way from a: they begin with a, each two neighbours are related, no node
 -- stands twice, the last one is an end, and no list that leads from a to an end is shorter.
-pub record IsWay (R : ℕ → ℕ → Type 0) (End : ℕ → Type 0) (a last : ℕ) (nodes : List ℕ) : Type 0 where
+pub record IsWay (R : ℕ → ℕ → Type 0) (Target : ℕ → Type 0) (a last : ℕ) (nodes : List ℕ) : Type 0 where
   pub after : List ℕ
   pub begins : nodes ≡ a ∷ after
   pub leads : LeadsTo R a after last
-  pub ends : End last
+  pub ends : Target last
   pub distinct : Distinct nodes
-  pub shortest : (other : List ℕ) (m : ℕ) → LeadsTo R a other m → End m → length after ≤ length other
+  pub shortest : (other : List ℕ) (m : ℕ) → LeadsTo R a other m → Target m → length after ≤ length other

@@ -2,7 +2,7 @@
 ghost use Rattle.std.specs.Prelude.{◌≡◌, ℕ, ◌<◌, List, [], length, replicate, false, IfOk, OnOk};
 ghost use Rattle.station_graph.specs.Diagram.{node_count};
 ghost use Rattle.station_graph.specs.Connection.{Touching};
-ghost use Rattle.denial_explain.specs.Listing.{list_at, with_neighbour, with_edge, AreLists};
+ghost use Rattle.denial_explain.specs.Listing.{list_at, with_neighbour, with_neighbours, AreLists};
 ghost use Rattle.station_graph.specs.Alike.{IsVector};
 
 use ilk_base::{Memory, NodeId, SwitchId};
@@ -68,7 +68,7 @@ impl Neighbours {
     fn join(&mut self, a: NodeId, b: NodeId) -> Result<(), Memory>
         requires first { a.0 < length self.old }
         requires second { b.0 < length self.old }
-        ensures { OnOk result (self.new ≡ with_edge self.old a.0 b.0) }
+        ensures { OnOk result (self.new ≡ with_neighbours self.old a.0 b.0) }
     {
         self.add(a, b)?;
         self.add(b, a)

@@ -2,7 +2,7 @@
 ghost use Rattle.std.specs.Prelude.{◌≡◌, ℕ, ◌+◌, ◌<◌, ◌≤◌, ◌^◌, List, [], length, replicate, None, Contains, IfOk, OnOk};
 ghost use Rattle.denial_explain.specs.Ways.{AllBelow, IsWay};
 ghost use Rattle.denial_explain.specs.Listing.{list_at, Listed, IsUndirected};
-ghost use Rattle.denial_explain.specs.Stepping.{HasSteps, Reaches, ReachesAll, Spreads, AreSteps};
+ghost use Rattle.denial_explain.specs.Stepping.{HasSteps, Visits, ReachesAll, Spreads, AreSteps};
 
 use crate::neighbours::Neighbours;
 use ilk_base::{Memory, NodeId};
@@ -24,7 +24,7 @@ fn reach(
     queue: &mut NodeList,
 ) -> Result<(), Memory>
     requires { node.0 < length steps.old }
-    ensures { OnOk result (Reaches node.0 next steps.old steps.new queue.old queue.new) }
+    ensures { OnOk result (Visits node.0 next steps.old steps.new queue.old queue.new) }
 {
     if steps[node.0 as usize].is_none() {
         queue.push(node)?;

@@ -1,9 +1,9 @@
 // The text of an explanation.
 ghost use Rattle.std.specs.Prelude.{◌≡◌, ◌<◌, ◌++◌, length, codes, IfOk, OnOk};
-ghost use Rattle.station_graph.specs.Diagram.{node_count};
+ghost use Rattle.station_graph.specs.Diagram.{node_count, switch_path, node_path};
 ghost use Rattle.central_rules.specs.Names.{texts_below};
 ghost use Rattle.denial_explain.specs.Ways.{AllBelow};
-ghost use Rattle.denial_explain.specs.ExplanationText.{operation, denied_line, position_at, position_lines, switch_path, node_path, node_lines, by_line, chain_lines, earthed_lines, load_lines, explanation_text, ChainFits, ExplanationFits};
+ghost use Rattle.denial_explain.specs.ExplanationText.{operation, denied_line, position_at, position_lines, node_lines, by_line, chain_lines, earthed_lines, load_lines, explanation_text, ChainFits, ExplanationFits};
 ghost use Rattle.station_graph.specs.CentralRules.{IsOperation};
 ghost use Rattle.double_points.specs.Words.{AreWords};
 ghost use Rattle.station_graph.specs.Alike.{IsVector};

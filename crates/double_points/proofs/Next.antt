@@ -11,7 +11,7 @@ use Rattle.csv.specs.declared.reader.Reader.{Reader}
 use Rattle.csv.proofs.ReadFacts.{rows-end}
 use Rattle.csv.specs.declared.error.ErrorKind.{ErrorKind}
 use Rattle.csv.specs.declared.error.ErrorKind.TheVariants as kind
-use Rattle.double_points.specs.Left.{rows_from, left_of, told, Bytes, Reads}
+use Rattle.double_points.specs.Left.{rows_from, left_of, told, Bytes, ReaderStands}
 
 record Rests (q : State × Action) : Type 0 where
   pub rests : is_end q.1 ≡ true → ends_at_end q.0 ≡ false
@@ -158,8 +158,8 @@ took s y (Some z) fields s2 h = took_some s y z fields s2 (next_record default_c
     took_some s y z fields s2 (Some p) e h = record { read = p; was = e; left = ap Some h.3; gave = h.1; state = h.2 }
 
 -- a reader that took a record
-pub goes_on : (a b : Reader Bytes) (fields : List (List ℕ)) → Reads a → ReadRecord told a b true fields → b.first ≡ true → b.flexible ≡ a.flexible
-    → Reads b × (left_of a ≡ fields ∷ left_of b)
+pub goes_on : (a b : Reader Bytes) (fields : List (List ℕ)) → ReaderStands a → ReadRecord told a b true fields → b.first ≡ true → b.flexible ≡ a.flexible
+    → ReaderStands b × (left_of a ≡ fields ∷ left_of b)
 goes_on a b fields i r first flexible =
     let t = took a.state i.bytes (pending_of (told b.rdr) b) fields b.state (rw (i.config, i.known) at r.0) in
     let known : source_of told b ≡ Some t.read.2 = rw r.1 t.left in
@@ -178,7 +178,7 @@ goes_on a b fields i r first flexible =
     )
 
 -- a reader that found none
-pub at_last : (a b : Reader Bytes) (fields : List (List ℕ)) → Reads a → ReadRecord told a b false fields → left_of a ≡ []
+pub at_last : (a b : Reader Bytes) (fields : List (List ℕ)) → ReaderStands a → ReadRecord told a b false fields → left_of a ≡ []
 at_last a b fields i r =
     rw i.known (rows_from-none a.state i.bytes (rows-end told a b fields default_config i.bytes i.config i.known r))
 

@@ -46,7 +46,7 @@ abbrev pub Accepts : List (List ℕ) → List Row → Type 0
 Accepts paths rows = (k : ℕ) → k < length rows → fault_at paths rows k ≡ None
 
 -- this record is the first with a fault, and this is its fault
-pub record IsRefused (paths : List (List ℕ)) (rows : List Row) (r : InputRefusal) : Type 0 where
+pub record IsFirstFault (paths : List (List ℕ)) (rows : List Row) (r : InputRefusal) : Type 0 where
   pub counts : 1 ≤ r.line
   pub within : r.line ≤ length rows
   pub fault : fault_at paths rows (r.line - 1) ≡ Some r.number
@@ -66,9 +66,9 @@ abbrev pub IsAccepted : List (List ℕ) → List ℕ → List Dbpos → Type 0
 IsAccepted paths bytes words = (length bytes ≤ 8388608) × Accepts paths (rows_of bytes) × (words ≡ words_of paths (rows_of bytes))
 
 -- why a file is refused
-abbrev pub IsFault : List (List ℕ) → List ℕ → InputRefusal → Type 0
-IsFault paths bytes r = ((8388608 < length bytes) × (r ≡ record { number = 5; line = 0 }))
-    ⊎ ((length bytes ≤ 8388608) × IsRefused paths (rows_of bytes) r)
+abbrev pub IsRefusedWith : List (List ℕ) → List ℕ → InputRefusal → Type 0
+IsRefusedWith paths bytes r = ((8388608 < length bytes) × (r ≡ record { number = 5; line = 0 }))
+    ⊎ ((length bytes ≤ 8388608) × IsFirstFault paths (rows_of bytes) r)
 
 abbrev pub ForRefused : PositionsFault → (InputRefusal → Type 0) → Type 0
 ForRefused Memory P = ⊤

@@ -30,6 +30,11 @@ Agrees Lost closed = ⊤
 abbrev pub AreWords : Diagram → List Dbpos → Type 0
 AreWords d words = length words ≡ length d.switches
 
+-- Each switch of the bay agrees with its word. There is a word for each switch of the station, and those
+-- of the bay are looked at.
+abbrev pub BayAgrees : Diagram → ℕ → List Dbpos → List Bool → Type 0
+BayAgrees d b words v = (i : ℕ) (word : Dbpos) (closed : Bool) → OfPart d b (a_switch i) → slice_get words i ≡ Some word → slice_get v i ≡ Some closed → Agrees word closed
+
 -- The row is that of the bay's words: one for each of its switches, in their order.
 pub record AreWordsOf (d : Diagram) (bay : ℕ) (words row : List Dbpos) : Type 0 where
   pub count : length row ≡ switches_in d bay

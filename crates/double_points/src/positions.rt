@@ -4,7 +4,7 @@ ghost use Rattle.std.specs.Str.{is_utf8};
 ghost use Rattle.csv.specs.Records.{fields_of};
 ghost use Rattle.double_points.specs.Words.{word_of, AreWords};
 ghost use Rattle.double_points.specs.Paths.{place_of};
-ghost use Rattle.double_points.specs.Positions.{form_fault, given, IsAccepted, IsFault, ForRefused};
+ghost use Rattle.double_points.specs.Positions.{form_fault, given, IsAccepted, IsRefusedWith, ForRefused};
 ghost use Rattle.ilk_base.specs.declared.words.Dbpos.TheVariants as word;
 
 use crate::readings::{Readings, readings_of, word_from};
@@ -166,7 +166,7 @@ pub fn read_positions(
     bytes: &[u8],
 ) -> Result<Readings, PositionsFault>
     ensures ok { IfOk result (λ r. IsAccepted station.now.switch_paths bytes.now r) }
-    ensures err { IfErr result (λ e. ForRefused e (IsFault station.now.switch_paths bytes.now)) }
+    ensures err { IfErr result (λ e. ForRefused e (IsRefusedWith station.now.switch_paths bytes.now)) }
     ensures count { IfOk result (λ r. AreWords station.now r) }
 {
     if bytes.len() > MOST_BYTES {

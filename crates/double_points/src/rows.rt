@@ -31,13 +31,13 @@ pub struct Rows<'a> {
 
 impl<'a> Model for Rows<'a> {
     ghost use Rattle.std.specs.Prelude.{List, ℕ, ◌≡◌, false, [], if◌then◌else◌};
-    ghost use Rattle.double_points.specs.Left.{left_of, Reads};
+    ghost use Rattle.double_points.specs.Left.{left_of, ReaderStands};
 
     ghost Value = { List (List (List ℕ)) };
 
     ghost view = { λ a. if a.ended then [] else left_of a.reader };
 
-    ghost invariant = { λ a. a.ended ≡ false → Reads a.reader };
+    ghost invariant = { λ a. a.ended ≡ false → ReaderStands a.reader };
 }
 
 impl<'a> Rows<'a> {

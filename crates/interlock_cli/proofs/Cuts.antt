@@ -8,7 +8,7 @@ use Rattle.ilk_base.specs.declared.words.Op.{Op}
 use Rattle.station_graph.specs.Diagram.{Diagram}
 use Rattle.ssd_read.specs.declared.refusal.SsdRefusal.{SsdRefusal}
 use Rattle.ssd_read.specs.StandsFor.{Stands}
-use Rattle.double_points.specs.Positions.{IsAccepted, IsFault}
+use Rattle.double_points.specs.Positions.{IsAccepted, IsRefusedWith}
 use Rattle.switching_orders.specs.OrderLines.{IsOrder, IsOrderFault}
 use Rattle.interlock_cli.specs.declared.end.End.{End}
 use Rattle.interlock_cli.specs.declared.end.End.TheVariants as e
@@ -31,11 +31,11 @@ cut_accepted n b v paths words e h a =
     let whole : v ≡ b = h ∙ take_short n b (omega (arith, e, ap length h, a.0)) in
     subst (λ (x : List ℕ). IsAccepted paths x words) whole a
 
-cut_fault : (n : ℕ) (b v : List ℕ) (paths : List (List ℕ)) (r : InputRefusal) → n ≡ 8388609 → v ≡ take n b → IsFault paths v r → IsFault paths b r
+cut_fault : (n : ℕ) (b v : List ℕ) (paths : List (List ℕ)) (r : InputRefusal) → n ≡ 8388609 → v ≡ take n b → IsRefusedWith paths v r → IsRefusedWith paths b r
 cut_fault n b v paths r e h (inl long) = inl (omega (arith, long.0, ap length h, length-take n b), long.1)
 cut_fault n b v paths r e h (inr short) =
     let whole : v ≡ b = h ∙ take_short n b (omega (arith, e, ap length h, short.0)) in
-    subst (λ (x : List ℕ). IsFault paths x r) whole (inr short)
+    subst (λ (x : List ℕ). IsRefusedWith paths x r) whole (inr short)
 
 -- the first 8,388,609 bytes of a content tell what it is
 pub record Cuts (f : Format) : Type 0 where

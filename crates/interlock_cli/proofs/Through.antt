@@ -6,7 +6,7 @@ use Rattle.station_graph.specs.Diagram.{Diagram}
 use Rattle.ssd_read.specs.declared.refusal.SsdRefusal.{SsdRefusal}
 use Rattle.ssd_read.specs.StandsFor.{Stands}
 use Rattle.ssd_read.proofs.Once.{one_station}
-use Rattle.double_points.specs.Positions.{IsAccepted, IsFault}
+use Rattle.double_points.specs.Positions.{IsAccepted, IsRefusedWith}
 use Rattle.interlock_cli.specs.Formats.{Format, Drawing, Positions, CertainPositions, OrderOf, SwitchOf, Value, Accepts, Refuses}
 use Rattle.interlock_cli.specs.Form.{Form, Write, Take, Origin, File, Word, IsContent, Fails, Stops, ReadRose}
 use Rattle.interlock_cli.specs.Commands.{Command, form_of}
@@ -22,7 +22,7 @@ use Rattle.interlock_cli.specs.declared.end.Outcome.TheVariants.{Done, Differs}
 use Rattle.interlock_cli.specs.declared.end.End.{End}
 use Rattle.interlock_cli.specs.declared.end.End.TheVariants as e
 
-not_both : (paths : List (List ℕ)) (b : List ℕ) (words : List Dbpos) (r : InputRefusal) → IsAccepted paths b words → IsFault paths b r → ⊥
+not_both : (paths : List (List ℕ)) (b : List ℕ) (words : List Dbpos) (r : InputRefusal) → IsAccepted paths b words → IsRefusedWith paths b r → ⊥
 not_both paths b words r a (inl long) = omega (arith, a.0, long.0)
 not_both paths b words r a (inr short) =
     let f = short.1 in

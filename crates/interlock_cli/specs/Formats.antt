@@ -6,7 +6,7 @@ use Rattle.ilk_base.specs.declared.words.InputRefusal.{InputRefusal}
 use Rattle.ilk_base.specs.declared.words.Op.{Op}
 use Rattle.station_graph.specs.Diagram.{Diagram}
 use Rattle.ssd_read.specs.StandsFor.{Stands}
-use Rattle.double_points.specs.Positions.{IsAccepted, IsFault}
+use Rattle.double_points.specs.Positions.{IsAccepted, IsRefusedWith}
 use Rattle.switching_orders.specs.Certain.{AreWordsOf, IsUnsure}
 use Rattle.switching_orders.specs.OrderLines.{IsOrder, IsOrderFault}
 use Rattle.interlock_cli.specs.declared.end.End.{End}
@@ -49,8 +49,8 @@ IsUnsureRefusal d content refusal =
 -- the content is refused, and the call ends so; a switch that is not of the station is 11, in no line
 abbrev pub Refuses : Format → List ℕ → End → Type 0
 Refuses Drawing content (e.Station refusal) = Stands content (Err refusal)
-Refuses (Positions d) content (e.Input refusal) = IsFault d.switch_paths content refusal
-Refuses (CertainPositions d) content (e.Input refusal) = IsFault d.switch_paths content refusal ⊎ IsUnsureRefusal d content refusal
+Refuses (Positions d) content (e.Input refusal) = IsRefusedWith d.switch_paths content refusal
+Refuses (CertainPositions d) content (e.Input refusal) = IsRefusedWith d.switch_paths content refusal ⊎ IsUnsureRefusal d content refusal
 Refuses (OrderOf d) content (e.Input refusal) = IsOrderFault d content refusal
 Refuses (SwitchOf d) content (e.Input refusal) = (¬ Contains d.switch_paths content) × (refusal.number ≡ 11) × (refusal.line ≡ 0)
 Refuses _ content _ = ⊥

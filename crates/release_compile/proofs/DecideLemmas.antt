@@ -13,7 +13,7 @@ use Rattle.station_graph.specs.Sharing.{OfPart}
 use Rattle.station_graph.proofs.PositionLemmas.{slice_get-set_other}
 use Rattle.contraction.proofs.MarkLemmas.{slice_get-set_same}
 use Rattle.release_compile.specs.Lettered.{Lettered}
-use Rattle.decision_graphs.specs.Label.{Allows}
+use Rattle.decision_graphs.specs.Label.{AreAllowed}
 use Rattle.decision_graphs.specs.Reaching.{IsSet, set_at}
 use Rattle.release_compile.specs.declared.view.View.TheVariants.{Gap, Load}
 use Rattle.release_compile.specs.declared.search.Side.{Side}
@@ -26,14 +26,14 @@ use Rattle.release_compile.proofs.OuterLemmas.{other_not}
 use Rattle.release_compile.proofs.PlacingLemmas.{switch_not}
 use Rattle.release_compile.proofs.VerdictLemmas.{allowed_length, allowed_at, length_sets, length_after, set_after, within_of}
 
-chain_fits : (s : Side) (sets : List (List Bool)) (others goal : ℕ) (cs all : List ℕ) → IsReady s sets → length s.inner.now.layers ≡ suc others → IsChainOf s sets goal cs all → Allows sets cs × (length all ≡ suc others)
+chain_fits : (s : Side) (sets : List (List Bool)) (others goal : ℕ) (cs all : List ℕ) → IsReady s sets → length s.inner.now.layers ≡ suc others → IsChainOf s sets goal cs all → AreAllowed sets cs × (length all ≡ suc others)
 chain_fits s sets others goal cs all ready count c =
     let rest : length c.rest ≡ length (drop 1 s.inner_sets) = allowed_length (drop 1 s.inner_sets) c.rest c.leads.inner_allows in
     let own : length (drop 1 s.inner_sets) ≡ others = length_after others s.inner_sets (length_sets s.inner.now.layers s.inner_sets ready.inner_fits ∙ count) in
     (c.leads.outer_allows, ap length c.split ∙ ap suc (rest ∙ own))
 
 -- what was found has a choice for each layer
-pub found_fits : (direction : Direction) (gap load : Side) (sets : List (List Bool)) (others : ℕ) (rule : Rule) (cs all : List ℕ) → IsReady gap sets → IsReady load sets → length gap.inner.now.layers ≡ suc others → length load.inner.now.layers ≡ suc others → IsFound direction gap load sets rule cs all → Allows sets cs × (length all ≡ suc others)
+pub found_fits : (direction : Direction) (gap load : Side) (sets : List (List Bool)) (others : ℕ) (rule : Rule) (cs all : List ℕ) → IsReady gap sets → IsReady load sets → length gap.inner.now.layers ≡ suc others → length load.inner.now.layers ≡ suc others → IsFound direction gap load sets rule cs all → AreAllowed sets cs × (length all ≡ suc others)
 found_fits direction gap load sets others R1 cs all rg rl cg cl f = chain_fits gap sets others 1 cs all rg cg f.1
 found_fits direction gap load sets others R2 cs all rg rl cg cl f = chain_fits gap sets others 2 cs all rg cg f.1
 found_fits direction gap load sets others R3 cs all rg rl cg cl f = chain_fits load sets others 1 cs all rl cl f.1

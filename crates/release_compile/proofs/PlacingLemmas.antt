@@ -11,7 +11,7 @@ use Rattle.station_graph.specs.Alike.{IsVector, SamePositions, DifferInPart}
 use Rattle.station_graph.proofs.PositionLemmas.{slice_get-set_other}
 use Rattle.contraction.proofs.MarkLemmas.{slice_get-set_same}
 use Rattle.bay_contract.specs.PartAlphabets.{StandsAt}
-use Rattle.bay_contract.specs.Alphabets.{PartAgrees}
+use Rattle.double_points.specs.Words.{BayAgrees}
 use Rattle.release_compile.specs.Lettered.{Lettered, PartHas}
 use Rattle.release_compile.specs.Graphs.{other_of, PartChosen, SwitchChosen}
 use Rattle.release_compile.specs.Folding.{AreChosen}
@@ -47,7 +47,7 @@ parts_more a b n index bits v w cs h is has whole stands stay i c lt at = elim (
 ]
 
 -- the parts placed so far agree with the words
-pub agree_more : (d : Diagram) (b n : ℕ) (words : List Dbpos) (v w : List Bool) → OthersAgree d b words n v → PartAgrees d (other_of 0 b n) words w → DifferInPart d (other_of 0 b n) v w → OthersAgree d b words (n + 1) w
+pub agree_more : (d : Diagram) (b n : ℕ) (words : List Dbpos) (v w : List Bool) → OthersAgree d b words n v → BayAgrees d (other_of 0 b n) words w → DifferInPart d (other_of 0 b n) v w → OthersAgree d b words (n + 1) w
 agree_more d b n words v w before now stay j lt i word closed of_p at_w at_v = elim (cases_lt j n) [
   | inl less ↦ before j less i word closed of_p at_w (part_stays d (other_of 0 b j) (other_of 0 b n) v w (others_apart b j n less) stay i of_p ∙ at_v)
   | inr last ↦

@@ -18,7 +18,7 @@ use Rattle.station_graph.specs.Sharing.{OfPart}
 use Rattle.station_graph.specs.Alike.{IsVector}
 use Rattle.station_graph.specs.CentralRules.{Breaks, GapBreaks}
 use Rattle.release_compile.specs.Lettered.{Lettered}
-use Rattle.decision_graphs.specs.Label.{Layer, layer_at, label_of, Allows}
+use Rattle.decision_graphs.specs.Label.{Layer, layer_at, label_of, AreAllowed}
 use Rattle.decision_graphs.specs.Reaching.{IsSet, set_at, AreSetsOf}
 use Rattle.release_compile.specs.declared.view.View.{View}
 use Rattle.release_compile.specs.declared.view.View.TheVariants.{Gap, Load}
@@ -30,7 +30,7 @@ use Rattle.release_compile.specs.Graphs.{other_of, PartChosen, SwitchChosen, gap
 -- ---- lists of allowed choices
 
 -- one allowed choice for each set, as a list
-pick : (P : ℕ → ℕ → Type 0) (sets : List (List Bool)) → ((j : ℕ) → j < length sets → (c : ℕ) × P j c × IsSet (set_at sets j) c) → (cs : List ℕ) × (length cs ≡ length sets) × ((i c : ℕ) → slice_get cs i ≡ Some c → P i c) × Allows sets cs
+pick : (P : ℕ → ℕ → Type 0) (sets : List (List Bool)) → ((j : ℕ) → j < length sets → (c : ℕ) × P j c × IsSet (set_at sets j) c) → (cs : List ℕ) × (length cs ≡ length sets) × ((i c : ℕ) → slice_get cs i ≡ Some c → P i c) × AreAllowed sets cs
 pick P [] h = ([], refl, λ i c e. absurd (cc), tt)
 pick P (s ∷ ss) h =
     let x = h 0 (omega arith) in
@@ -41,7 +41,7 @@ pick P (s ∷ ss) h =
     entries y cs p q zero c e = subst (λ z. P 0 z) (same_Some y c e) p
     entries y cs p q (suc i) c e = q i c e
 
-pub allowed_length : (sets : List (List Bool)) (cs : List ℕ) → Allows sets cs → length cs ≡ length sets
+pub allowed_length : (sets : List (List Bool)) (cs : List ℕ) → AreAllowed sets cs → length cs ≡ length sets
 allowed_length [] [] a = refl
 allowed_length [] (c ∷ cs) a = absurd a
 allowed_length (s ∷ ss) [] a = absurd a
@@ -120,10 +120,10 @@ module _ (view : View) (a : Lettered) (b m first others : ℕ) (words : List Dbp
         let agrees : (word : Dbpos) → slice_get words o ≡ Some word → Agrees word (eqb (code closed) 1) = λ word at_w. subst (λ t. Agrees word t) (sym (code_back closed)) (within.own o word closed of_b at_w at_v) in
         (code closed, record { small = code_small closed; stands = at_v ∙ ap Some (sym (code_back closed)) }, subst (λ t. IsSet t (code closed)) (sym (set_after s.inner_sets i)) ((side.own i (code closed) i_in (code_small closed)).1 agrees))
 
-    outer_choices : (cs : List ℕ) × (length cs ≡ length sets) × ((i c : ℕ) → slice_get cs i ≡ Some c → PartChosen a b i c v) × Allows sets cs
+    outer_choices : (cs : List ℕ) × (length cs ≡ length sets) × ((i c : ℕ) → slice_get cs i ≡ Some c → PartChosen a b i c v) × AreAllowed sets cs
     outer_choices = pick (λ j c. PartChosen a b j c v) sets (λ j lt. within.others j (omega (arith, lt, sets_count)))
 
-    own_choices : (ds : List ℕ) × (length ds ≡ length (drop 1 s.inner_sets)) × ((i c : ℕ) → slice_get ds i ≡ Some c → SwitchChosen first m i c v) × Allows (drop 1 s.inner_sets) ds
+    own_choices : (ds : List ℕ) × (length ds ≡ length (drop 1 s.inner_sets)) × ((i c : ℕ) → slice_get ds i ≡ Some c → SwitchChosen first m i c v) × AreAllowed (drop 1 s.inner_sets) ds
     own_choices = pick (λ i c. SwitchChosen first m i c v) (drop 1 s.inner_sets) own_choice
 
     -- allowed choices lead to a label that says what holds in the vector
@@ -202,7 +202,7 @@ sets_at (l ∷ ls) (s ∷ ss) zero e = cc
 sets_at (l ∷ ls) (s ∷ ss) (suc i) e = sets_at ls ss i (cc)
 
 -- an allowed choice of a list
-pub allowed_at : (sets : List (List Bool)) (cs : List ℕ) (i c : ℕ) → Allows sets cs → slice_get cs i ≡ Some c → IsSet (set_at sets i) c
+pub allowed_at : (sets : List (List Bool)) (cs : List ℕ) (i c : ℕ) → AreAllowed sets cs → slice_get cs i ≡ Some c → IsSet (set_at sets i) c
 allowed_at [] [] i c a at = absurd (let h : slice_get {X = ℕ} [] i ≡ Some c = at in cc)
 allowed_at [] (x ∷ xs) i c a at = absurd a
 allowed_at (s ∷ ss) [] i c a at = absurd a

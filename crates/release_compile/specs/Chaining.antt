@@ -1,6 +1,6 @@
 -- Two graphs in a row: a label of the first is the first choice of the second.
 use Rattle.std.specs.Prelude.{◌≡◌, ℕ, ◌<◌, ◌↔◌, List, ◌∷◌, length, drop, Bool}
-use Rattle.decision_graphs.specs.Label.{Layered, layer_at, label_of, Allows}
+use Rattle.decision_graphs.specs.Label.{Layered, layer_at, label_of, AreAllowed}
 use Rattle.decision_graphs.specs.Reaching.{IsSet, set_at, AreSetsOf, MarksReached}
 use Rattle.ilk_base.specs.declared.words.Direction.{Direction}
 use Rattle.ilk_base.specs.declared.words.Direction.TheVariants.{ToOn}
@@ -19,8 +19,8 @@ FirstAllows sets marks = (label : ℕ) → IsSet (set_at sets 0) label ↔ IsSet
 
 -- These choices are allowed, and lead through both graphs to the label.
 pub record LeadThrough (outer inner : Layered) (sets inner_sets : List (List Bool)) (goal : ℕ) (cs ds : List ℕ) : Type 0 where
-  pub outer_allows : Allows sets cs
-  pub inner_allows : Allows (drop 1 inner_sets) ds
+  pub outer_allows : AreAllowed sets cs
+  pub inner_allows : AreAllowed (drop 1 inner_sets) ds
   pub led : label_of inner (label_of outer cs ∷ ds) ≡ goal
 
 -- Such choices, where the list for the second graph begins with the label of the first.

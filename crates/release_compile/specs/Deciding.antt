@@ -4,7 +4,8 @@ use Rattle.ilk_base.specs.declared.words.Dbpos.{Dbpos}
 use Rattle.station_graph.specs.Diagram.{Diagram}
 use Rattle.station_graph.specs.Alike.{IsVector}
 use Rattle.bay_contract.specs.PartAlphabets.{Alphabets, StandsAt, IsPosition}
-use Rattle.bay_contract.specs.Alphabets.{HasIndex, PartAgrees}
+use Rattle.bay_contract.specs.Alphabets.{HasIndex}
+use Rattle.double_points.specs.Words.{BayAgrees}
 use Rattle.release_compile.specs.Lettered.{Lettered}
 use Rattle.release_compile.specs.Graphs.{other_of, Within}
 
@@ -12,11 +13,11 @@ use Rattle.release_compile.specs.Graphs.{other_of, Within}
 pub record IsPlaceFor (full : Bool) (d : Diagram) (a : Alphabets) (part : ℕ) (words : List Dbpos) (index n : ℕ) : Type 0 where
   pub position : IsPosition a part n
   pub has : (v : List Bool) → IsVector d v → StandsAt a part n v → HasIndex d a part index v
-  pub agrees : full ≡ true → (v : List Bool) → IsVector d v → StandsAt a part n v → PartAgrees d part words v
+  pub agrees : full ≡ true → (v : List Bool) → IsVector d v → StandsAt a part n v → BayAgrees d part words v
 
 -- In the vector each of the first n other parts agrees with the words.
 abbrev pub OthersAgree : Diagram → ℕ → List Dbpos → ℕ → List Bool → Type 0
-OthersAgree d b words n v = (j : ℕ) → j < n → PartAgrees d (other_of 0 b j) words v
+OthersAgree d b words n v = (j : ℕ) → j < n → BayAgrees d (other_of 0 b j) words v
 
 -- The vector is allowed; where all words are known, the n other parts agree with them.
 pub record WithinAll (full : Bool) (a : Lettered) (b : ℕ) (words : List Dbpos) (sets : List (List Bool)) (n : ℕ) (v : List Bool) : Type 0 where

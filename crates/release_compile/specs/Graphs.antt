@@ -5,14 +5,13 @@ use Rattle.ilk_base.specs.declared.words.Direction.TheVariants.{ToOn}
 use Rattle.ilk_base.specs.declared.words.Op.{Op}
 use Rattle.ilk_base.specs.declared.words.Rule.{Rule}
 use Rattle.ilk_base.specs.declared.words.Rule.TheVariants.{R1, R2, R3}
-use Rattle.double_points.specs.Words.{Agrees}
+use Rattle.double_points.specs.Words.{Agrees, BayAgrees}
 use Rattle.station_graph.specs.Diagram.{Diagram, part_count, AreSwitchesOf}
 use Rattle.station_graph.specs.Connection.{Item}
 use Rattle.station_graph.specs.Sharing.{OfPart}
 use Rattle.station_graph.specs.Alike.{IsVector}
 use Rattle.station_graph.specs.CentralRules.{Applies, GapBreaks}
 use Rattle.contraction.specs.Answers.{Answers}
-use Rattle.central_rules.specs.Knowledge.{BayAgrees}
 use Rattle.release_compile.specs.Lettered.{Lettered, index_count, PartHas}
 use Rattle.decision_graphs.specs.Label.{Layered, layer_at, label_of, AreLayers}
 use Rattle.decision_graphs.specs.Reaching.{IsSet, set_at}

@@ -6,7 +6,7 @@ use Rattle.std.proofs.lemmas.List.Elements.{Contains-append_left}
 use Rattle.ilk_base.specs.declared.words.Dbpos.{Dbpos}
 use Rattle.ilk_base.specs.declared.words.Dbpos.TheVariants.{Intermediate, Off, On, Bad, Lost}
 use Rattle.ilk_base.specs.declared.words.Op.{Op}
-use Rattle.double_points.specs.Words.{Agrees}
+use Rattle.double_points.specs.Words.{Agrees, BayAgrees}
 use Rattle.station_graph.specs.Diagram.{part_count}
 use Rattle.station_graph.specs.Connection.{a_switch}
 use Rattle.station_graph.specs.Sharing.{OfPart}
@@ -14,7 +14,6 @@ use Rattle.station_graph.specs.Alike.{IsVector}
 use Rattle.station_graph.specs.CentralRules.{Breaks}
 use Rattle.station_graph.proofs.GapLemmas.{moved_same}
 use Rattle.station_graph.proofs.PositionLemmas.{slice_get-set_other}
-use Rattle.central_rules.specs.Knowledge.{BayAgrees}
 use Rattle.central_rules.specs.Meaning.{Meaning, Laws, Knows, Summarises, bay_of}
 use Rattle.bay_frames.specs.declared.frame.Frame.{Frame}
 use Rattle.bay_frames.specs.declared.frame.Body.TheVariants.{Answer}

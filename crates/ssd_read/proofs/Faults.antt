@@ -6,9 +6,9 @@ use Rattle.ssd_read.specs.declared.refusal.SsdRefusal.{SsdRefusal}
 use Rattle.ssd_read.specs.declared.refusal.SsdRefusal.TheVariants.{Encoding, Syntax, Doctype, Deep, Mismatch, Unclosed, Many, Root, NoName, Twice, NodeMissing, Terminals, Grounded, Loop, Limit, Memory}
 use Rattle.ssd_read.specs.Elements.{Element, element_at, nowhere}
 use Rattle.ssd_read.specs.Names.{FaultAfter, first_fault}
-use Rattle.ssd_read.specs.Seen.{IsFault}
+use Rattle.ssd_read.specs.Seen.{IsErrorOf}
 use Rattle.std.proofs.lemmas.List.{length-take-le}
-use Rattle.ssd_read.specs.declared.ends.End.{End}
+use Rattle.ssd_read.specs.declared.ends.TerminalPlace.{TerminalPlace}
 use Rattle.ssd_read.specs.Ends.{ends_of, fault_of_ends, end_fault}
 
 first_more : (f : FaultAfter) (before : List Element) (x : Element) (xs : List Element) → first_fault f before (x ∷ xs) ≡ option_or (f before x) (first_fault f (before ++ x ∷ []) xs)
@@ -36,7 +36,7 @@ fault_none f all i total h g =
     let none : drop i all ≡ [] = nil_from_length (drop i all) (omega (arith, length-drop i all)) in
     sym g ∙ (ap (first_fault f (take i all)) none ∙ first_end f (take i all))
 
-pub finds_err : (e : SsdRefusal) (o total : Option SsdRefusal) → (o ≡ Some e → total ≡ Some e) → IsFault e o → IsFault e total
+pub finds_err : (e : SsdRefusal) (o total : Option SsdRefusal) → (o ≡ Some e → total ≡ Some e) → IsErrorOf e o → IsErrorOf e total
 finds_err (Encoding at) o total h g = h g
 finds_err (Syntax at) o total h g = h g
 finds_err (Doctype at) o total h g = h g
@@ -54,7 +54,7 @@ finds_err (Loop at) o total h g = h g
 finds_err (Limit what count) o total h g = h g
 finds_err Memory o total h g = tt
 
-pub sure : (e : SsdRefusal) (total : Option SsdRefusal) → total ≡ Some e → IsFault e total
+pub sure : (e : SsdRefusal) (total : Option SsdRefusal) → total ≡ Some e → IsErrorOf e total
 sure (Encoding at) total h = h
 sure (Syntax at) total h = h
 sure (Doctype at) total h = h
@@ -72,7 +72,7 @@ sure (Loop at) total h = h
 sure (Limit what count) total h = h
 sure Memory total h = tt
 
-pub end_is : (all : List Element) (i : ℕ) (ends : List End) (o : Option SsdRefusal) → i < length all → ends ≡ ends_of all i → o ≡ fault_of_ends (element_at all i) ends → end_fault all (take i all) (element_at all i) ≡ o
+pub end_is : (all : List Element) (i : ℕ) (ends : List TerminalPlace) (o : Option SsdRefusal) → i < length all → ends ≡ ends_of all i → o ≡ fault_of_ends (element_at all i) ends → end_fault all (take i all) (element_at all i) ≡ o
 unfolding end_fault
 end_is all i ends o h e q =
     let within : i ≤ length all = omega arith in

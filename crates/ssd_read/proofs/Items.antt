@@ -8,7 +8,7 @@ use borrow.Author.Tests.{eqb-true}
 use Rattle.ilk_base.specs.declared.words.Kind.TheVariants.{Infeed}
 use Rattle.station_graph.specs.Diagram.{Diagram, empty, node_count, part_count}
 use Rattle.ssd_read.specs.declared.refusal.SsdRefusal.{SsdRefusal}
-use Rattle.ssd_read.specs.declared.ends.End.{End}
+use Rattle.ssd_read.specs.declared.ends.TerminalPlace.{TerminalPlace}
 use Rattle.ssd_read.specs.declared.role.Role.{Role}
 use Rattle.ssd_read.specs.declared.role.Role.TheVariants.{Root, Substation, VoltageLevel, Bay, ConnectivityNode, ConductingEquipment, PowerTransformer, TransformerWinding, Terminal, Skipped}
 use Rattle.ssd_read.specs.Drawn.{IsDrawn}
@@ -81,12 +81,12 @@ outer_number all i p n t e h = h ∙ sym (outer_part all i p (element_at all i) 
 
 -- ---- ends
 
-pub own_below : (all : List Element) (i : ℕ) (d : Diagram) (ends : List End) → ends ≡ ends_of all i → built empty (steps_before all i) ≡ Ok d → AllBelow (node_count d) (nodes_at ends)
+pub own_below : (all : List Element) (i : ℕ) (d : Diagram) (ends : List TerminalPlace) → ends ≡ ends_of all i → built empty (steps_before all i) ≡ Ok d → AllBelow (node_count d) (nodes_at ends)
 own_below all i d ends e b =
     let whole : AllBelow (length (keys_of all)) (nodes_at (ends_of all i)) = nodes_below all (filter (is_terminal_of i) all) in
-    subst (λ (n : ℕ). AllBelow n (nodes_at ends)) (sym (node_total all i d b)) (subst (λ (es : List End). AllBelow (length (keys_of all)) (nodes_at es)) (sym e) whole)
+    subst (λ (n : ℕ). AllBelow n (nodes_at ends)) (sym (node_total all i d b)) (subst (λ (es : List TerminalPlace). AllBelow (length (keys_of all)) (nodes_at es)) (sym e) whole)
 
-pub windings_below : (all : List Element) (i : ℕ) (d : Diagram) (ends : List End) (ns : List ℕ) → ns ≡ nodes_at ends → ends ≡ winding_ends_of all i → built empty (steps_before all i) ≡ Ok d → AllBelow (node_count d) ns
+pub windings_below : (all : List Element) (i : ℕ) (d : Diagram) (ends : List TerminalPlace) (ns : List ℕ) → ns ≡ nodes_at ends → ends ≡ winding_ends_of all i → built empty (steps_before all i) ≡ Ok d → AllBelow (node_count d) ns
 windings_below all i d ends ns q e b =
     let whole : AllBelow (length (keys_of all)) (nodes_at (winding_ends_of all i)) = nodes_below all (filter (is_winding_terminal_of all i) all) in
     let same : ns ≡ nodes_at (winding_ends_of all i) = q ∙ ap nodes_at e in

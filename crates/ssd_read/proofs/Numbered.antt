@@ -9,7 +9,7 @@ use borrow.Author.Tests.{eqb-true}
 use Rattle.ssd_text.specs.Nesting.{Entry}
 use Rattle.ssd_read.specs.declared.role.Role.{Role}
 use Rattle.ssd_read.specs.declared.role.Role.TheVariants.{Root, Substation, VoltageLevel, Bay, ConnectivityNode, ConductingEquipment, PowerTransformer, TransformerWinding, Terminal, Skipped}
-use Rattle.ssd_read.specs.declared.ends.End.TheVariants.{Earth, Node, Missing}
+use Rattle.ssd_read.specs.declared.ends.TerminalPlace.TheVariants.{Earth, Node, Missing}
 use Rattle.ssd_read.specs.Elements.{Element, element_at, nowhere, front_of_tree, elements_of, same_role, name_of, path_in}
 use Rattle.ssd_text.specs.Nesting.{entry_at}
 use Rattle.ssd_text.specs.Nesting.{IsInOrder}

@@ -8,12 +8,12 @@ use Rattle.std.proofs.lemmas.Slice.Eq.{bytes_eq-Decides}
 use Rattle.std.proofs.lemmas.List.Elements.{filter_map-append}
 use Rattle.std.proofs.lemmas.List.{get_or-take, length-take-le}
 use Rattle.station_graph.specs.Diagram.{Diagram, empty, node_count, part_count}
-use Rattle.station_graph.specs.Building.{FollowsLast, switch_path}
+use Rattle.station_graph.specs.Building.{FollowsLast, path_in_part}
 use Rattle.station_graph.specs.declared.items.Switch.{Switch}
 use Rattle.ssd_text.specs.Nesting.{Entry, IsInOrder}
 use Rattle.ssd_read.specs.declared.refusal.SsdRefusal.{SsdRefusal}
 use Rattle.ssd_read.specs.declared.refusal.SsdRefusal.TheVariants.{NoName, Twice, Terminals, Grounded, Loop}
-use Rattle.ssd_read.specs.declared.ends.End.{End}
+use Rattle.ssd_read.specs.declared.ends.TerminalPlace.{TerminalPlace}
 use Rattle.ssd_read.specs.declared.ends.Use.{Use}
 use Rattle.ssd_read.specs.declared.ends.Use.TheVariants as uses
 use Rattle.ssd_read.specs.declared.role.Role.{Role}
@@ -298,14 +298,14 @@ others_only parts p (a_link x ∷ ss) h = others_only parts p ss h
 others_only parts p (a_tap x ∷ ss) h = others_only parts p ss h
 
 new_tree : (tree : List Entry) (i : ℕ) (d : Diagram) → IsInOrder tree → i < length tree → first_fault name_fault [] (elements_of tree) ≡ None → (element_at (elements_of tree) i).role ≡ ConductingEquipment → built empty (steps_before (elements_of tree) i) ≡ Ok d
-    → Contains d.switch_paths (switch_path d (part_of (elements_of tree) i (element_at (elements_of tree) i)) (name_of (element_at (elements_of tree) i).entry)) → ⊥
+    → Contains d.switch_paths (path_in_part d (part_of (elements_of tree) i (element_at (elements_of tree) i)) (name_of (element_at (elements_of tree) i).entry)) → ⊥
 new_tree tree i d o h n r b =
     let all : List Element = elements_of tree in
     let x : Element = element_at all i in
     let is : List ℕ = take i (range_with_len 0 (length all)) in
     let items : List Step = flat_map (item_steps_at all) is in
     let parts : List (List ℕ) = map (λ (x : Element). x.path) (filter is_part all) in
-    let own : switch_path d (part_of all i x) (name_of x.entry) ≡ x.path = ap (λ (ps : List (List ℕ)). get_or ps (part_of all i x) [] ++ 47 ∷ name_of x.entry) (laid_parts all is d b) ∙ own_path tree i o h r in
+    let own : path_in_part d (part_of all i x) (name_of x.entry) ≡ x.path = ap (λ (ps : List (List ℕ)). get_or ps (part_of all i x) [] ++ 47 ∷ name_of x.entry) (laid_parts all is d b) ∙ own_path tree i o h r in
     let inside : i < length all = omega (arith, drawn_len tree) in
     let given : AllSwitches (λ name y. bytes_eq x.path (get_or parts y.bay.0 [] ++ 47 ∷ name) ≡ false) items =
     all_before (λ name y. bytes_eq x.path (get_or parts y.bay.0 [] ++ 47 ∷ name) ≡ false) all i
@@ -327,9 +327,9 @@ follows all i d g =
     (λ tree o h r b. follows_tree tree i d o (omega (arith, drawn_len tree)) r b) all g
 
 pub new_switch : (all : List Element) (i : ℕ) (d : Diagram) → IsDrawn all → i < length all → first_fault name_fault [] all ≡ None → (element_at all i).role ≡ ConductingEquipment → built empty (steps_before all i) ≡ Ok d
-    → Contains d.switch_paths (switch_path d (part_of all i (element_at all i)) (name_of (element_at all i).entry)) → ⊥
+    → Contains d.switch_paths (path_in_part d (part_of all i (element_at all i)) (name_of (element_at all i).entry)) → ⊥
 new_switch all i d g =
-    over_trees (λ all. i < length all → first_fault name_fault [] all ≡ None → (element_at all i).role ≡ ConductingEquipment → built empty (steps_before all i) ≡ Ok d → Contains d.switch_paths (switch_path d (part_of all i (element_at all i)) (name_of (element_at all i).entry)) → ⊥)
+    over_trees (λ all. i < length all → first_fault name_fault [] all ≡ None → (element_at all i).role ≡ ConductingEquipment → built empty (steps_before all i) ≡ Ok d → Contains d.switch_paths (path_in_part d (part_of all i (element_at all i)) (name_of (element_at all i).entry)) → ⊥)
     (λ tree o h n r b. new_tree tree i d o (omega (arith, drawn_len tree)) n r b) all g
 
 pub equipment_part_in : (all : List Element) (i : ℕ) (d : Diagram) → IsDrawn all → i < length all → (element_at all i).role ≡ ConductingEquipment → built empty (steps_before all i) ≡ Ok d → part_of all i (element_at all i) < part_count d
@@ -348,30 +348,30 @@ unless_none : (b : Bool) (e : SsdRefusal) → unless b e ≡ None → b ≡ true
 unless_none true e h = refl
 unless_none false e h = absurd (cc)
 
-breaker_apart : (at : ℕ) (ends : List End) → breaker_fault at ends ≡ None → are_apart (nodes_at ends) ≡ true
+breaker_apart : (at : ℕ) (ends : List TerminalPlace) → breaker_fault at ends ≡ None → are_apart (nodes_at ends) ≡ true
 breaker_apart at ends h =
     let first = or_none (unless (length ends == 2) (Terminals at (length ends))) (option_or (unless (length (nodes_at ends) == 2) (Grounded at)) (unless (are_apart (nodes_at ends)) (Loop at))) h in
     let second = or_none (unless (length (nodes_at ends) == 2) (Grounded at)) (unless (are_apart (nodes_at ends)) (Loop at)) first.1 in
     unless_none (are_apart (nodes_at ends)) (Loop at) second.1
 
-disconnector_apart : (at : ℕ) (ends : List End) → disconnector_fault at ends ≡ None → are_apart (nodes_at ends) ≡ true
+disconnector_apart : (at : ℕ) (ends : List TerminalPlace) → disconnector_fault at ends ≡ None → are_apart (nodes_at ends) ≡ true
 disconnector_apart at ends h =
     let first = or_none (unless (length ends == 2) (Terminals at (length ends))) (option_or (unless (nat_lt 0 (length (nodes_at ends))) (Grounded at)) (unless (are_apart (nodes_at ends)) (Loop at))) h in
     let second = or_none (unless (nat_lt 0 (length (nodes_at ends))) (Grounded at)) (unless (are_apart (nodes_at ends)) (Loop at)) first.1 in
     unless_none (are_apart (nodes_at ends)) (Loop at) second.1
 
-of_use : (x : Element) (ends : List End) → x.role ≡ ConductingEquipment → fault_of_ends x ends ≡ option_or (missing_fault ends) (use_fault (use_of x.entry) x.entry.at ends)
+of_use : (x : Element) (ends : List TerminalPlace) → x.role ≡ ConductingEquipment → fault_of_ends x ends ≡ option_or (missing_fault ends) (use_fault (use_of x.entry) x.entry.at ends)
 of_use x ends h = rw h refl
 
-pub breaker_ends : (x : Element) (ends : List End) → x.role ≡ ConductingEquipment → use_of x.entry ≡ uses.Breaker → fault_of_ends x ends ≡ None → are_apart (nodes_at ends) ≡ true
+pub breaker_ends : (x : Element) (ends : List TerminalPlace) → x.role ≡ ConductingEquipment → use_of x.entry ≡ uses.Breaker → fault_of_ends x ends ≡ None → are_apart (nodes_at ends) ≡ true
 breaker_ends x ends r u h =
     let both = or_none (missing_fault ends) (use_fault (use_of x.entry) x.entry.at ends) (sym (of_use x ends r) ∙ h) in
     breaker_apart x.entry.at ends (sym (ap (λ (u : Use). use_fault u x.entry.at ends) u) ∙ both.1)
 
-pub disconnector_ends : (x : Element) (ends : List End) → x.role ≡ ConductingEquipment → use_of x.entry ≡ uses.Disconnector → fault_of_ends x ends ≡ None → are_apart (nodes_at ends) ≡ true
+pub disconnector_ends : (x : Element) (ends : List TerminalPlace) → x.role ≡ ConductingEquipment → use_of x.entry ≡ uses.Disconnector → fault_of_ends x ends ≡ None → are_apart (nodes_at ends) ≡ true
 disconnector_ends x ends r u h =
     let both = or_none (missing_fault ends) (use_fault (use_of x.entry) x.entry.at ends) (sym (of_use x ends r) ∙ h) in
     disconnector_apart x.entry.at ends (sym (ap (λ (u : Use). use_fault u x.entry.at ends) u) ∙ both.1)
 
-pub ends_good : (all : List Element) (i : ℕ) (ends : List End) → first_fault (end_fault all) [] all ≡ None → i < length all → ends ≡ ends_of all i → fault_of_ends (element_at all i) ends ≡ None
+pub ends_good : (all : List Element) (i : ℕ) (ends : List TerminalPlace) → first_fault (end_fault all) [] all ≡ None → i < length all → ends ≡ ends_of all i → fault_of_ends (element_at all i) ends ≡ None
 ends_good all i ends n h e = sym (end_is all i ends (fault_of_ends (element_at all i) ends) h e refl) ∙ none_at (end_fault all) all i n h

@@ -5,8 +5,8 @@ use Rattle.std.specs.Option.{option_map, option_or, option_map_or, option_and_th
 use Rattle.std.specs.Str.{bytes_eq}
 use Rattle.ssd_text.specs.Nesting.{Entry}
 use Rattle.ssd_read.specs.declared.role.Role.TheVariants.{ConductingEquipment, TransformerWinding, Terminal}
-use Rattle.ssd_read.specs.declared.ends.End.{End}
-use Rattle.ssd_read.specs.declared.ends.End.TheVariants.{Earth, Node, Missing}
+use Rattle.ssd_read.specs.declared.ends.TerminalPlace.{TerminalPlace}
+use Rattle.ssd_read.specs.declared.ends.TerminalPlace.TheVariants.{Earth, Node, Missing}
 use Rattle.ssd_read.specs.declared.ends.Use.{Use}
 use Rattle.ssd_read.specs.declared.ends.Use.TheVariants as uses
 use Rattle.ssd_read.specs.declared.refusal.SsdRefusal.{SsdRefusal}
@@ -45,7 +45,7 @@ abbrev pub node_with_key : List Element → List ℕ → Option ℕ
 node_with_key all key = position (bytes_eq key) (keys_of all)
 
 -- Where a terminal stands; one without a node is named by its place in the text.
-abbrev pub end_of : List Element → Element → End
+abbrev pub end_of : List Element → Element → TerminalPlace
 end_of all x =
     if is_grounded x.entry then Earth
     else option_map_or Node (option_and_then (node_with_key all) (wanted_key x.entry)) (Missing x.entry.at)
@@ -59,31 +59,31 @@ abbrev pub is_terminal_of : ℕ → Element → Bool
 is_terminal_of i x = same_role x.role Terminal && is_number i x.entry.parent
 
 -- The ends of element i, in document order.
-abbrev pub ends_of : List Element → ℕ → List End
+abbrev pub ends_of : List Element → ℕ → List TerminalPlace
 ends_of all i = map (end_of all) (filter (is_terminal_of i) all)
 
 -- ---- by the ends of one element
 
 -- The node of an end, if it stands on one.
-abbrev pub node_at : End → Option ℕ
+abbrev pub node_at : TerminalPlace → Option ℕ
 node_at Earth = None
 node_at (Node n) = Some n
 node_at (Missing at) = None
 
 -- The fault of an end that is on no node.
-abbrev pub fault_at : End → Option SsdRefusal
-fault_at Earth = None
-fault_at (Node n) = None
-fault_at (Missing at) = Some (NodeMissing at)
+abbrev pub terminal_fault : TerminalPlace → Option SsdRefusal
+terminal_fault Earth = None
+terminal_fault (Node n) = None
+terminal_fault (Missing at) = Some (NodeMissing at)
 
 -- The nodes of the ends that are not grounded.
-abbrev pub nodes_at : List End → List ℕ
+abbrev pub nodes_at : List TerminalPlace → List ℕ
 nodes_at ends = filter_map node_at ends
 
 -- The first end that is on no node.
-abbrev pub missing_fault : List End → Option SsdRefusal
+abbrev pub missing_fault : List TerminalPlace → Option SsdRefusal
 missing_fault [] = None
-missing_fault (x ∷ xs) = option_or (fault_at x) (missing_fault xs)
+missing_fault (x ∷ xs) = option_or (terminal_fault x) (missing_fault xs)
 
 -- A fault, unless this holds.
 abbrev pub unless : Bool → SsdRefusal → Option SsdRefusal
@@ -95,19 +95,19 @@ are_apart (a ∷ b ∷ ns) = not (a == b)
 are_apart _ = true
 
 -- two ends, both on nodes, which differ
-abbrev pub breaker_fault : ℕ → List End → Option SsdRefusal
+abbrev pub breaker_fault : ℕ → List TerminalPlace → Option SsdRefusal
 breaker_fault at ends =
     option_or (unless (length ends == 2) (Terminals at (length ends)))
     (option_or (unless (length (nodes_at ends) == 2) (Grounded at)) (unless (are_apart (nodes_at ends)) (Loop at)))
 
 -- two ends, not both grounded, on nodes that differ
-abbrev pub disconnector_fault : ℕ → List End → Option SsdRefusal
+abbrev pub disconnector_fault : ℕ → List TerminalPlace → Option SsdRefusal
 disconnector_fault at ends =
     option_or (unless (length ends == 2) (Terminals at (length ends)))
     (option_or (unless (nat_lt 0 (length (nodes_at ends))) (Grounded at)) (unless (are_apart (nodes_at ends)) (Loop at)))
 
 -- one end on a node
-abbrev pub infeed_fault : ℕ → List End → Option SsdRefusal
+abbrev pub infeed_fault : ℕ → List TerminalPlace → Option SsdRefusal
 infeed_fault at ends = unless (length (nodes_at ends) == 1) (Terminals at (length (nodes_at ends)))
 
 -- ---- kinds of equipment
@@ -121,14 +121,14 @@ use_of e =
     else uses.Other
 
 -- The fault of equipment that is used so, where all its ends are on earth or on nodes.
-abbrev pub use_fault : Use → ℕ → List End → Option SsdRefusal
+abbrev pub use_fault : Use → ℕ → List TerminalPlace → Option SsdRefusal
 use_fault uses.Breaker at ends = breaker_fault at ends
 use_fault uses.Disconnector at ends = disconnector_fault at ends
 use_fault uses.Infeed at ends = infeed_fault at ends
 use_fault uses.Other at ends = None
 
 -- The fault of an element that has terminals, by its ends.
-abbrev pub fault_of_ends : Element → List End → Option SsdRefusal
+abbrev pub fault_of_ends : Element → List TerminalPlace → Option SsdRefusal
 fault_of_ends x ends =
     if same_role x.role ConductingEquipment then option_or (missing_fault ends) (use_fault (use_of x.entry) x.entry.at ends)
     else if same_role x.role TransformerWinding then missing_fault ends

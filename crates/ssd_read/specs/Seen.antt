@@ -2,7 +2,7 @@
 use Rattle.std.specs.Prelude.{◌≡◌, List, [], ◌∷◌, Option, Some, None, Result, Ok, Err}
 use Rattle.std.specs.String.{string_bytes}
 use Rattle.ssd_text.specs.Nesting.{Entry}
-use Rattle.ssd_read.specs.declared.drawing.Place.{Place}
+use Rattle.ssd_read.specs.declared.drawing.DrawnElement.{DrawnElement}
 use Rattle.ssd_read.specs.declared.refusal.SsdRefusal.{SsdRefusal}
 use Rattle.ssd_read.specs.declared.refusal.SsdRefusal.TheVariants.{Encoding, Syntax, Doctype, Deep, Mismatch, Unclosed, Many, Memory, Limit}
 use Rattle.ssd_text.specs.declared.refusal.TextRefusal.{TextRefusal}
@@ -13,24 +13,24 @@ use Rattle.station_graph.specs.Diagram.{Diagram}
 use Rattle.ssd_read.specs.Steps.{Step, built}
 use Rattle.ssd_read.specs.Elements.{Element}
 
-abbrev pub placed : Entry → Place → Element
+abbrev pub placed : Entry → DrawnElement → Element
 placed e p = record { entry = e; role = p.role; within = p.within; path = string_bytes p.path }
 
 -- Entries and their places, up to the end of the shorter list.
-abbrev pub placed_all : List Entry → List Place → List Element
+abbrev pub placed_all : List Entry → List DrawnElement → List Element
 placed_all [] ps = []
 placed_all (e ∷ es) [] = []
 placed_all (e ∷ es) (p ∷ ps) = placed e p ∷ placed_all es ps
 
 -- The error is this fault, or want of memory.
-abbrev pub IsFault : SsdRefusal → Option SsdRefusal → Type 0
-IsFault Memory fault = Unit {0}
-IsFault e fault = fault ≡ Some e
+abbrev pub IsErrorOf : SsdRefusal → Option SsdRefusal → Type 0
+IsErrorOf Memory fault = Unit {0}
+IsErrorOf e fault = fault ≡ Some e
 
 -- What a call answers agrees with this fault, unless memory ran out.
 abbrev pub Finds : {X : Type 0} → Result X SsdRefusal → Option SsdRefusal → Type 0
 Finds (Ok x) fault = fault ≡ None
-Finds (Err e) fault = IsFault e fault
+Finds (Err e) fault = IsErrorOf e fault
 
 -- The error is that of the building, or want of memory.
 abbrev pub IsRefused : SsdRefusal → Result Diagram SsdRefusal → Type 0

@@ -4,7 +4,7 @@ use Rattle.std.specs.Option.{option_or, option_map_or}
 use Rattle.station_graph.specs.declared.fault.What.TheVariants.{Bytes}
 use Rattle.station_graph.specs.Diagram.{Diagram}
 use Rattle.ssd_text.specs.declared.refusal.TextRefusal.{TextRefusal}
-use Rattle.ssd_text.specs.Nesting.{Entry, Reads}
+use Rattle.ssd_text.specs.Nesting.{Entry, Spells}
 use Rattle.ssd_read.specs.declared.refusal.SsdRefusal.{SsdRefusal}
 use Rattle.ssd_read.specs.declared.refusal.SsdRefusal.TheVariants.{Limit, Memory}
 use Rattle.ssd_read.specs.Elements.{Element, elements_of}
@@ -43,7 +43,7 @@ after_text (Err fault) = Err (refusal_of_text fault)
 abbrev pub Stands : List ℕ → Result Diagram SsdRefusal → Type 0
 Stands text outcome =
     ((8388608 < length text) × (outcome ≡ Err (Limit Bytes 8388609)))
-    ⊎ ((length text ≤ 8388608) × (read : Result (List Entry) TextRefusal) × Reads text read × (outcome ≡ after_text read))
+    ⊎ ((length text ≤ 8388608) × (read : Result (List Entry) TextRefusal) × Spells text read × (outcome ≡ after_text read))
 
 -- The text, or the tree, stands for the station.
 abbrev pub TextStandsFor : List ℕ → Diagram → Type 0
@@ -53,6 +53,6 @@ abbrev pub TreeStandsFor : List Entry → Diagram → Type 0
 TreeStandsFor tree d = outcome_of tree ≡ Ok d
 
 -- What a call answers is the outcome, unless memory ran out.
-abbrev pub Answers : List ℕ → Result Diagram SsdRefusal → Type 0
-Answers text (Err Memory) = Unit {0}
-Answers text outcome = Stands text outcome
+abbrev pub TellsOutcome : List ℕ → Result Diagram SsdRefusal → Type 0
+TellsOutcome text (Err Memory) = Unit {0}
+TellsOutcome text outcome = Stands text outcome

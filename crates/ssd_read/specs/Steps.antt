@@ -9,13 +9,13 @@ use Rattle.station_graph.specs.declared.items.Link.{Link}
 use Rattle.station_graph.specs.declared.items.Tap.{Tap}
 use Rattle.station_graph.specs.declared.fault.What.{What}
 use Rattle.station_graph.specs.Diagram.{Diagram}
-use Rattle.station_graph.specs.Building.{part_limit, node_limit, link_limit, tap_limit, switch_limit, switch_path}
+use Rattle.station_graph.specs.Building.{part_limit, node_limit, link_limit, tap_limit, switch_limit, path_in_part}
 use Rattle.ssd_text.specs.Nesting.{Entry}
 use Rattle.ssd_read.specs.declared.role.Role.TheVariants.{Bay, ConnectivityNode, ConductingEquipment, PowerTransformer, TransformerWinding, Terminal}
 use Rattle.ssd_read.specs.declared.refusal.SsdRefusal.{SsdRefusal}
 use Rattle.ssd_read.specs.declared.refusal.SsdRefusal.TheVariants.{Limit}
 use Rattle.ssd_read.specs.Elements.{Element, element_at, name_of, same_role, says}
-use Rattle.ssd_read.specs.declared.ends.End.{End}
+use Rattle.ssd_read.specs.declared.ends.TerminalPlace.{TerminalPlace}
 use Rattle.ssd_read.specs.declared.ends.Use.{Use}
 use Rattle.ssd_read.specs.declared.ends.Use.TheVariants as uses
 use Rattle.ssd_read.specs.Ends.{end_of, ends_of, nodes_at, is_number, use_of}
@@ -122,7 +122,7 @@ is_winding_terminal_of all i x =
     && is_number i (option_and_then (λ w. w.entry.parent) (option_and_then (slice_get all) x.entry.parent))
 
 -- The ends of all windings of element i together, in document order.
-abbrev pub winding_ends_of : List Element → ℕ → List End
+abbrev pub winding_ends_of : List Element → ℕ → List TerminalPlace
 winding_ends_of all i = map (end_of all) (filter (is_winding_terminal_of all i) all)
 
 -- A transformer gives all its links, which are no bonds, and then a tap at each end.
@@ -163,7 +163,7 @@ limit_at d (a_tap x) = tap_limit d
 abbrev pub added : Diagram → Step → Diagram
 added d (a_part path) = record d { part_paths = d.part_paths ++ path ∷ [] }
 added d (a_node path) = record d { node_paths = d.node_paths ++ path ∷ [] }
-added d (a_switch name x) = record d { switches = d.switches ++ x ∷ []; switch_paths = d.switch_paths ++ switch_path d x.bay.0 name ∷ [] }
+added d (a_switch name x) = record d { switches = d.switches ++ x ∷ []; switch_paths = d.switch_paths ++ path_in_part d x.bay.0 name ∷ [] }
 added d (a_link x) = record d { links = d.links ++ x ∷ [] }
 added d (a_tap x) = record d { taps = d.taps ++ x ∷ [] }
 

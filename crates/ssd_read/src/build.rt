@@ -3,7 +3,7 @@
 ghost use Rattle.std.specs.Prelude.{◌≡◌, ◌≢◌, ℕ, ◌<◌, ◌≤◌, ◌==◌, ◌&&◌, not, ◌++◌, List, [], ◌∷◌, length, take, IfOk, OnOk, All, MatchResult, Bool, true, Option, Some, None, slice_index, slice_index_or, string_bytes, map, Contains};
 ghost use Rattle.std.specs.List.{flat_map};
 ghost use Rattle.station_graph.specs.Diagram.{node_count, part_count, IsTwoEnded, empty};
-ghost use Rattle.station_graph.specs.Building.{FollowsLast, switch_path};
+ghost use Rattle.station_graph.specs.Building.{FollowsLast, path_in_part};
 ghost use Rattle.ssd_read.specs.declared.role.Role.TheVariants.{ConductingEquipment};
 ghost use Rattle.ssd_read.specs.Elements.{Element, element_at, name_of};
 ghost use Rattle.ssd_read.specs.Drawn.{IsDrawn};
@@ -15,7 +15,7 @@ ghost use Rattle.ssd_read.specs.Seen.{Builds, IsRefused};
 use crate::checks::use_of;
 use crate::drawing::Drawing;
 use crate::end_lists::EndLists;
-use crate::ends::{End, Use, nodes_at};
+use crate::ends::{TerminalPlace, Use, nodes_at};
 use crate::refusal::SsdRefusal;
 use crate::role::Role;
 use ilk_base::{BayId, Kind, Memory, NodeId};
@@ -94,7 +94,7 @@ fn add_two_ended(
     requires second { second < node_count builder.old }
     requires apart { second ≢ first }
     requires order { FollowsLast builder.old part.0 }
-    requires new { ¬ Contains builder.old.switch_paths (switch_path builder.old part.0 name.now) }
+    requires new { ¬ Contains builder.old.switch_paths (path_in_part builder.old part.0 name.now) }
     ensures builds { Builds builder.old (switch_step part.0 name.now kind first (Some second) ∷ []) result builder.new }
     ensures nodes { node_count builder.new ≡ node_count builder.old }
     ensures parts { part_count builder.new ≡ part_count builder.old }
@@ -124,7 +124,7 @@ fn add_one_ended(
     requires part { part.0 < part_count builder.old }
     requires node { node < node_count builder.old }
     requires order { FollowsLast builder.old part.0 }
-    requires new { ¬ Contains builder.old.switch_paths (switch_path builder.old part.0 name.now) }
+    requires new { ¬ Contains builder.old.switch_paths (path_in_part builder.old part.0 name.now) }
     ensures builds { Builds builder.old (switch_step part.0 name.now kind node None ∷ []) result builder.new }
     ensures nodes { node_count builder.new ≡ node_count builder.old }
     ensures parts { part_count builder.new ≡ part_count builder.old }
@@ -368,7 +368,7 @@ fn add_breaker(
     requires nodes { (k : ℕ) → k < length nodes.now → slice_index nodes.now k < node_count builder.old }
     requires apart { are_apart nodes.now ≡ true }
     requires order { FollowsLast builder.old part.0 }
-    requires new { ¬ Contains builder.old.switch_paths (switch_path builder.old part.0 name.now) }
+    requires new { ¬ Contains builder.old.switch_paths (path_in_part builder.old part.0 name.now) }
     ensures { Builds builder.old (breaker_steps part.0 name.now nodes.now) result builder.new }
 {
     match nodes {
@@ -390,7 +390,7 @@ fn add_disconnector(
     requires nodes { (k : ℕ) → k < length nodes.now → slice_index nodes.now k < node_count builder.old }
     requires apart { are_apart nodes.now ≡ true }
     requires order { FollowsLast builder.old part.0 }
-    requires new { ¬ Contains builder.old.switch_paths (switch_path builder.old part.0 name.now) }
+    requires new { ¬ Contains builder.old.switch_paths (path_in_part builder.old part.0 name.now) }
     ensures { Builds builder.old (disconnector_steps part.0 name.now nodes.now) result builder.new }
 {
     match nodes {
@@ -412,7 +412,7 @@ fn add_infeed(
     requires part { part.0 < part_count builder.old }
     requires nodes { (k : ℕ) → k < length nodes.now → slice_index nodes.now k < node_count builder.old }
     requires order { FollowsLast builder.old part.0 }
-    requires new { ¬ Contains builder.old.switch_paths (switch_path builder.old part.0 name.now) }
+    requires new { ¬ Contains builder.old.switch_paths (path_in_part builder.old part.0 name.now) }
     ensures { Builds builder.old (infeed_steps part.0 name.now nodes.now) result builder.new }
 {
     match nodes {
@@ -431,7 +431,7 @@ fn add_equipment(
     i: u32,
     builder: &mut Builder,
     part: BayId,
-    ends: &[End],
+    ends: &[TerminalPlace],
 ) -> Result<(), SsdRefusal>
     requires within { i < length drawing.now }
     requires role { (element_at drawing.now i).role ≡ ConductingEquipment }
@@ -439,7 +439,7 @@ fn add_equipment(
     requires part { part.0 < part_count builder.old }
     requires nodes { (k : ℕ) → k < length (nodes_at ends.now) → slice_index (nodes_at ends.now) k < node_count builder.old }
     requires order { FollowsLast builder.old part.0 }
-    requires new { ¬ Contains builder.old.switch_paths (switch_path builder.old part.0 (name_of (element_at drawing.now i).entry)) }
+    requires new { ¬ Contains builder.old.switch_paths (path_in_part builder.old part.0 (name_of (element_at drawing.now i).entry)) }
     ensures { Builds builder.old (use_steps (use_of (element_at drawing.now i).entry) (element_at drawing.now i).entry part.0 (nodes_at ends.now)) result builder.new }
 {
     let nodes = nodes_at(alloc, ends)?;
@@ -476,8 +476,8 @@ fn add_item(
     i: u32,
     builder: &mut Builder,
     part: BayId,
-    own: &[End],
-    windings: &[End],
+    own: &[TerminalPlace],
+    windings: &[TerminalPlace],
 ) -> Result<(), SsdRefusal>
     requires drawn { IsDrawn drawing.now }
     requires within { i < length drawing.now }

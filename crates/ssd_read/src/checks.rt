@@ -1,7 +1,7 @@
 //! Pass 2: what the ends of equipment and of windings may be.
 
 ghost use Rattle.std.specs.Prelude.{◌≡◌, ℕ, ◌<◌, ◌≤◌, ◌++◌, List, [], ◌∷◌, length, IfOk, OnOk, Option, Some, None, slice_index_or};
-ghost use Rattle.ssd_read.specs.declared.ends.End.{End as AnEnd};
+ghost use Rattle.ssd_read.specs.declared.ends.TerminalPlace.{TerminalPlace as AnEnd};
 ghost use Rattle.ssd_read.specs.Elements.{Element, element_at};
 ghost use Rattle.ssd_read.specs.Names.{first_fault};
 ghost use Rattle.ssd_read.specs.Ends.{nodes_at, missing_fault, are_apart, breaker_fault, disconnector_fault, infeed_fault, use_of, use_fault, fault_of_ends, ends_of, end_fault};
@@ -9,7 +9,7 @@ ghost use Rattle.ssd_read.specs.Seen.{Finds};
 
 use crate::drawing::Drawing;
 use crate::end_lists::EndLists;
-use crate::ends::{End, Use, nodes_at};
+use crate::ends::{TerminalPlace, Use, nodes_at};
 use crate::refusal::SsdRefusal;
 use crate::role::Role;
 use ilk_base::Memory;
@@ -36,11 +36,11 @@ pub(crate) fn use_of(alloc: Global, drawing: &Drawing<'_>, i: u32) -> Result<Use
 }
 
 /// The first end without a node.
-fn missing_fault(ends: &[End]) -> Option<SsdRefusal>
+fn missing_fault(ends: &[TerminalPlace]) -> Option<SsdRefusal>
     ensures { result ≡ missing_fault ends.now }
 {
     for end in ends {
-        if let End::Missing(at) = *end {
+        if let TerminalPlace::Missing(at) = *end {
             return Some(SsdRefusal::NodeMissing { at });
         }
     }
@@ -57,7 +57,7 @@ fn are_apart(nodes: &[u32]) -> bool
     }
 }
 
-fn breaker_fault(at: u32, ends: &[End], nodes: &[u32]) -> Option<SsdRefusal>
+fn breaker_fault(at: u32, ends: &[TerminalPlace], nodes: &[u32]) -> Option<SsdRefusal>
     requires nodes { nodes.now ≡ nodes_at ends.now }
     requires few { length ends.now ≤ 200000 }
     ensures { result ≡ breaker_fault at ends.now }
@@ -77,7 +77,7 @@ fn breaker_fault(at: u32, ends: &[End], nodes: &[u32]) -> Option<SsdRefusal>
     None
 }
 
-fn disconnector_fault(at: u32, ends: &[End], nodes: &[u32]) -> Option<SsdRefusal>
+fn disconnector_fault(at: u32, ends: &[TerminalPlace], nodes: &[u32]) -> Option<SsdRefusal>
     requires nodes { nodes.now ≡ nodes_at ends.now }
     requires few { length ends.now ≤ 200000 }
     ensures { result ≡ disconnector_fault at ends.now }
@@ -111,7 +111,7 @@ fn infeed_fault(at: u32, nodes: &[u32]) -> Option<SsdRefusal>
 }
 
 /// The fault of equipment of this use, by its ends.
-fn use_fault(kind: Use, at: u32, ends: &[End], nodes: &[u32]) -> Option<SsdRefusal>
+fn use_fault(kind: Use, at: u32, ends: &[TerminalPlace], nodes: &[u32]) -> Option<SsdRefusal>
     requires nodes { nodes.now ≡ nodes_at ends.now }
     requires few { length ends.now ≤ 200000 }
     requires few_nodes { length nodes.now ≤ 200000 }
@@ -130,7 +130,7 @@ fn fault_of_ends(
     alloc: Global,
     drawing: &Drawing<'_>,
     i: u32,
-    ends: &[End],
+    ends: &[TerminalPlace],
 ) -> Result<Option<SsdRefusal>, Memory>
     requires within { i < length drawing.now }
     requires few { length ends.now ≤ 200000 }

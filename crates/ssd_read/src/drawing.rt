@@ -17,7 +17,7 @@ use std::marker::Model;
 
 /// What an element is, what it stands in, and its path.
 #[derive(Debug, Drop)]
-pub(crate) struct Place {
+pub(crate) struct DrawnElement {
     pub(crate) role: Role,
     pub(crate) within: Role,
     pub(crate) path: String,
@@ -182,7 +182,7 @@ fn path_in(
 #[derive(Drop)]
 pub(crate) struct Drawing<'a> {
     tree: Tree<'a>,
-    places: Vec<Place>,
+    places: Vec<DrawnElement>,
 }
 
 impl<'a> Model for Drawing<'a> {
@@ -200,7 +200,7 @@ impl<'a> Model for Drawing<'a> {
 }
 
 /// The place of the element in which one stands, where it stands in one.
-fn above(before: &[Place], parent: Option<u32>) -> Option<&Place>
+fn above(before: &[DrawnElement], parent: Option<u32>) -> Option<&DrawnElement>
     ensures { option_map (λ p. p.now) result ≡ option_and_then (slice_get before.now) parent }
 {
     before.get(parent? as usize)
@@ -211,16 +211,16 @@ fn place_of(
     alloc: Global,
     tree: &Tree<'_>,
     front: &[u8],
-    before: &[Place],
+    before: &[DrawnElement],
     i: u32,
-) -> Result<Place, Memory>
+) -> Result<DrawnElement, Memory>
     requires next { i ≡ length before.now }
     requires within { i < length tree.now }
     ensures { IfOk result (λ p. placed (entry_at tree.now i) p ≡ element_after front.now (placed_all tree.now before.now) (entry_at tree.now i)) }
 {
     let entry = entry(tree, i);
     match above(before, entry.parent) {
-        None => Ok(Place {
+        None => Ok(DrawnElement {
             role: Role::Root,
             within: Role::Skipped,
             path: String::new(alloc),
@@ -228,7 +228,7 @@ fn place_of(
         Some(above) => {
             let role = unless_grounded(alloc, tree, i, role_in(above.role, front, entry.name))?;
             let path = path_in(alloc, tree, i, role, above.path.as_str())?;
-            Ok(Place {
+            Ok(DrawnElement {
                 role,
                 within: above.role,
                 path,
@@ -249,7 +249,7 @@ fn front_of_tree<'a>(tree: &Tree<'a>) -> &'a [u8]
 }
 
 /// The places of all elements.
-fn places_of(alloc: Global, tree: &Tree<'_>) -> Result<Vec<Place>, Memory>
+fn places_of(alloc: Global, tree: &Tree<'_>) -> Result<Vec<DrawnElement>, Memory>
     ensures elements { IfOk result (λ places. placed_all tree.now places.items ≡ elements_of tree.now) }
     ensures len { IfOk result (λ places. length places.items ≡ length tree.now) }
 {

@@ -2,7 +2,7 @@
 
 ghost use Rattle.std.specs.Prelude.{◌≡◌, ℕ, ◌<◌, ◌≤◌, ◌++◌, List, [], ◌∷◌, length, IfOk, OnOk, slice_set, slice_index_or, replicate};
 
-use crate::ends::End;
+use crate::ends::TerminalPlace;
 use ilk_base::Memory;
 use std::alloc::Global;
 use std::marker::Model;
@@ -10,12 +10,12 @@ use std::marker::Model;
 /// A list of ends for each element, seen as such.
 #[derive(Drop)]
 pub(crate) struct EndLists {
-    lists: Vec<Vec<End>>,
+    lists: Vec<Vec<TerminalPlace>>,
 }
 
 impl Model for EndLists {
     ghost use Rattle.std.specs.Prelude.{List, map};
-    ghost use Rattle.ssd_read.specs.declared.ends.End.{End as AnEnd};
+    ghost use Rattle.ssd_read.specs.declared.ends.TerminalPlace.{TerminalPlace as AnEnd};
 
     ghost Value = { List (List AnEnd) };
 
@@ -34,7 +34,7 @@ impl EndLists {
     }
 
     /// Adds an end to the list of an element.
-    pub(crate) fn push(&mut self, i: u32, end: End) -> Result<(), Memory>
+    pub(crate) fn push(&mut self, i: u32, end: TerminalPlace) -> Result<(), Memory>
         requires { i < length self.old }
         ensures len { length self.new ≡ length self.old }
         ensures added { OnOk result (self.new ≡ slice_set self.old i (slice_index_or self.old i [] ++ end ∷ [])) }
@@ -44,7 +44,7 @@ impl EndLists {
     }
 
     /// The ends of an element.
-    pub(crate) fn of(&self, i: u32) -> &[End]
+    pub(crate) fn of(&self, i: u32) -> &[TerminalPlace]
         requires { i < length self.now }
         ensures { result.now ≡ slice_index_or self.now i [] }
     {

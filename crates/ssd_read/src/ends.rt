@@ -17,7 +17,7 @@ use std::alloc::Global;
 
 /// Where a terminal stands. The definitions speak of it.
 #[derive(Clone, Copy, Debug, PartialEq, Eq)]
-pub enum End {
+pub enum TerminalPlace {
     /// on earth
     Earth,
     /// on the node of this number in document order
@@ -109,20 +109,20 @@ fn wanted_key(alloc: Global, drawing: &Drawing<'_>, i: u32) -> Result<Option<Str
 }
 
 /// Where a terminal stands.
-fn end_of(alloc: Global, drawing: &Drawing<'_>, keys: &Names, i: u32) -> Result<End, Memory>
+fn end_of(alloc: Global, drawing: &Drawing<'_>, keys: &Names, i: u32) -> Result<TerminalPlace, Memory>
     requires within { i < length drawing.now }
     requires keys { keys.now ≡ keys_of drawing.now }
     requires few { length drawing.now ≤ 200000 }
     ensures { IfOk result (λ e. e ≡ end_of drawing.now (element_at drawing.now i)) }
 {
     if is_grounded(alloc, drawing, i)? {
-        return Ok(End::Earth);
+        return Ok(TerminalPlace::Earth);
     }
     match wanted_key(alloc, drawing, i)? {
-        None => Ok(End::Missing(drawing.at(i))),
+        None => Ok(TerminalPlace::Missing(drawing.at(i))),
         Some(key) => match keys.find(key.as_str()) {
-            Some(node) => Ok(End::Node(node as u32)),
-            None => Ok(End::Missing(drawing.at(i))),
+            Some(node) => Ok(TerminalPlace::Node(node as u32)),
+            None => Ok(TerminalPlace::Missing(drawing.at(i))),
         },
     }
 }
@@ -132,7 +132,7 @@ fn add_winding_end(
     drawing: &Drawing<'_>,
     i: u32,
     holder: u32,
-    end: End,
+    end: TerminalPlace,
     windings: &mut EndLists,
 ) -> Result<(), Memory>
     requires within { i < length drawing.now }
@@ -209,17 +209,17 @@ pub(crate) fn all_ends(
 }
 
 /// The node of an end.
-fn node_at(end: End) -> Option<u32>
+fn node_at(end: TerminalPlace) -> Option<u32>
     ensures { result ≡ node_at end }
 {
     match end {
-        End::Node(node) => Some(node),
-        End::Earth | End::Missing(_) => None,
+        TerminalPlace::Node(node) => Some(node),
+        TerminalPlace::Earth | TerminalPlace::Missing(_) => None,
     }
 }
 
 /// The nodes of the ends that are not grounded.
-pub(crate) fn nodes_at(alloc: Global, ends: &[End]) -> Result<Vec<u32>, Memory>
+pub(crate) fn nodes_at(alloc: Global, ends: &[TerminalPlace]) -> Result<Vec<u32>, Memory>
     ensures { IfOk result (λ v. v.items ≡ nodes_at ends.now) }
 {
     let nodes = ends.iter().filter_map(|end| node_at(*end)).collect(alloc)?;

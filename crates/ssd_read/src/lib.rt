@@ -18,7 +18,7 @@ mod read;
 mod refusal;
 mod role;
 
-pub use ends::{End, Use};
+pub use ends::{TerminalPlace, Use};
 pub use laws::{has_in_order, one_station, stands_in_order};
 pub use read::read_ssd;
 pub use refusal::SsdRefusal;

@@ -3,7 +3,7 @@
 ghost use Rattle.std.specs.Prelude.{◌≡◌, length, List, ℕ, Result};
 ghost use Rattle.station_graph.specs.Diagram.{Diagram};
 ghost use Rattle.ssd_read.specs.declared.refusal.SsdRefusal.{SsdRefusal as Refusal};
-ghost use Rattle.ssd_read.specs.StandsFor.{Answers, TreeAnswers, ElementsAnswer, Stands};
+ghost use Rattle.ssd_read.specs.StandsFor.{TellsOutcome, TreeAnswers, ElementsAnswer, Stands};
 ghost use Rattle.ssd_read.specs.Names.{root_fault};
 
 use crate::build::build;
@@ -27,7 +27,7 @@ use std::alloc::Global;
 /// which is the names from its substation downward. So they are no bound by the text's length alone: n
 /// elements below one name of m bytes take n times m bytes.
 pub fn read_ssd(alloc: Global, bytes: &[u8]) -> Result<Station, SsdRefusal>
-    ensures { Answers bytes.now result }
+    ensures { TellsOutcome bytes.now result }
 {
     if bytes.len() > 8_388_608 {
         return Err(SsdRefusal::Limit {

@@ -1,6 +1,6 @@
 use super::*;
 use ilk_base::{BayId, Kind, NodeId, SwitchId};
-use station_graph::{Link, Station, Switch, Tap, What, limits};
+use station_graph::{Link, Station, Switch, Tap, What};
 use std::alloc::Global;
 use std::test::Fail;
 
@@ -265,22 +265,13 @@ fn infeeds(alloc: Global) -> Result<String, Fail> {
     Ok(text)
 }
 
-/// One more than the switches that a station or a bay may have, whichever are fewer.
-fn first_limit() -> (u8, u32, u32) {
-    if limits::SWITCHES < limits::BAY_SWITCHES {
-        (15, 5, limits::SWITCHES as u32 + 1)
-    } else {
-        (15, 6, limits::BAY_SWITCHES as u32 + 1)
-    }
-}
-
 #[test]
 fn too_much(rt: HostRuntime) -> Result<(), Fail> {
     let a = rt.alloc();
     let bytes = vec![in a; b' '; 8_388_609]?;
     assert_eq!(rt; outcome(a, &bytes), (15, 1, 8_388_609));
     let text = infeeds(a)?;
-    assert_eq!(rt; outcome(a, text.as_bytes()), first_limit());
+    assert_eq!(rt; outcome(a, text.as_bytes()), (15, 6, 25));
     Ok(())
 }
 

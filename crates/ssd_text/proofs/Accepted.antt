@@ -4,7 +4,7 @@ use Rattle.std.proofs.lemmas.List.{length-append}
 use Rattle.std.proofs.lemmas.Slice.Eq.{bytes_eq-Decides}
 use Rattle.std.proofs.lemmas.Bool.Decides.{nat_tests}
 use Rattle.ssd_text.specs.Grammar.{Piece, spelling}
-use Rattle.ssd_text.specs.Nesting.{Entry, Open, Nest, Shape, shape, passed, literal, characters, opens, closes, opened, start_fault, step, at_end, Goes, Reads, mark_len, nothing}
+use Rattle.ssd_text.specs.Nesting.{Entry, Open, Nest, Shape, shape, passed, literal, characters, opens, closes, opened, start_fault, step, at_end, Goes, Spells, mark_len, nothing}
 use Rattle.ssd_text.specs.Document.{IsCut, IsBeside, IsElement, at_once, with_content, IsContent, none, pass, data_section, text, child, begins_element, SpellsDocument}
 use Rattle.ssd_text.proofs.Nested.{starts, ends_same, inside_literal, inside_told, told_blank, step_passed}
 use Rattle.ssd_text.proofs.Grammatical.{Closes, nest, not_zero, kept, one_in_front, step_count}
@@ -180,7 +180,7 @@ document_goes (p ∷ ps) at bytes (x ∷ before) root behind cut e b is beside f
     let g = document_goes ps (at + length (spelling p)) cut.0 before root behind cut.2 tail here.1 is beside (omega (arith, few, one_in_front (shape p) (map shape ps))) in
     (g.0, (cut.0, nothing, cut.1, ap (step at nothing) head ∙ here.0, g.1))
 
-pub read_ok : (bytes : List ℕ) → SpellsDocument bytes → (tree : List Entry) × Reads bytes (Ok tree)
+pub read_ok : (bytes : List ℕ) → SpellsDocument bytes → (tree : List Entry) × Spells bytes (Ok tree)
 read_ok bytes h =
     let d = h.3 in
     let g = document_goes h.1 (mark_len bytes) (drop (mark_len bytes) bytes) d.0 d.1 d.2 h.2 d.3 d.4 d.5 d.6 d.7 in

@@ -11,7 +11,7 @@ use Rattle.std.proofs.lemmas.Bool.Decides.{nat_tests}
 use Rattle.ssd_text.specs.declared.refusal.TextRefusal.{TextRefusal}
 use Rattle.ssd_text.specs.declared.refusal.TextRefusal.TheVariants.{Encoding, Syntax, Deep, Many, Mismatch, Unclosed}
 use Rattle.ssd_text.specs.Grammar.{Piece, spelling}
-use Rattle.ssd_text.specs.Nesting.{innermost, Entry, Open, Nest, Shape, shape, passed, literal, characters, opens, closes, opened, ended, start_fault, step, at_end, Goes, Reads, mark_len, nothing}
+use Rattle.ssd_text.specs.Nesting.{innermost, Entry, Open, Nest, Shape, shape, passed, literal, characters, opens, closes, opened, ended, start_fault, step, at_end, Goes, Spells, mark_len, nothing}
 use Rattle.ssd_text.specs.Document.{IsCut, IsBeside, IsElement, at_once, with_content, IsContent, none, pass, data_section, text, child, begins_element, SpellsDocument}
 use Rattle.ssd_text.proofs.Few.{tested, ended_few, told_few}
 
@@ -264,7 +264,7 @@ goes_cut [] at n bytes tree (inl h) = h.0
 goes_cut [] at n bytes tree (inr h) = failed_end tree h.1 h.3
 goes_cut (p ∷ ps) at n bytes tree h = (h.0, h.2, goes_cut ps (at + length (spelling p)) h.1 h.0 tree h.4)
 
-pub accepted : (bytes : List ℕ) (tree : List Entry) → Reads bytes (Ok tree) → SpellsDocument bytes
+pub accepted : (bytes : List ℕ) (tree : List Entry) → Spells bytes (Ok tree) → SpellsDocument bytes
 accepted bytes tree (inl h) =
     let ps = h.1.0 in
     let rest = drop (mark_len bytes) bytes in

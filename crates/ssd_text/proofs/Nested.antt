@@ -8,8 +8,8 @@ use Rattle.ssd_text.specs.declared.refusal.TextRefusal.{TextRefusal}
 use Rattle.ssd_text.specs.declared.refusal.TextRefusal.TheVariants.{Encoding, Syntax, Doctype, Deep, Mismatch, Unclosed, Many, Memory}
 use Rattle.ssd_text.specs.declared.nest.Open as code_open
 use Rattle.ssd_text.specs.Nesting.{Entry, Open, Nest, passed, literal, characters, opens, closes, start_fault, innermost, opened, ended, step, at_end}
-use Rattle.ssd_text.specs.Seen.{Answers, open_of, within_of, entry_of, entries_of}
-use Rattle.ssd_text.specs.declared.tree.Node.{Node}
+use Rattle.ssd_text.specs.Seen.{TellsOutcome, open_of, within_of, entry_of, entries_of}
+use Rattle.ssd_text.specs.declared.tree.TreeElement.{TreeElement}
 
 pub within_push : (os : List code_open.Open) (o : code_open.Open) → within_of (os ++ (o ∷ [])) ≡ open_of o ∷ within_of os
 within_push os o = ap reverse (map_push open_of os o) ∙ reverse-append (map open_of os) (open_of o ∷ [])
@@ -17,7 +17,7 @@ within_push os o = ap reverse (map_push open_of os o) ∙ reverse-append (map op
 pub within_len : (os : List code_open.Open) → length (within_of os) ≡ length os
 within_len os = simp (length-reverse, length-map)
 
-pub entries_len : (ns : List Node) → length (entries_of ns) ≡ length ns
+pub entries_len : (ns : List TreeElement) → length (entries_of ns) ≡ length ns
 entries_len ns = simp length-map
 
 -- ---- steps
@@ -89,12 +89,12 @@ end_done at (x ∷ es) within w e = rw w refl
 pub within_nil : (os : List code_open.Open) → length os ≡ 0 → within_of os ≡ []
 within_nil os e = ap within_of (nil_from_length os e)
 
-pub entries_push : (ns : List Node) (n : Node) → entries_of (ns ++ (n ∷ [])) ≡ entries_of ns ++ (entry_of n ∷ [])
+pub entries_push : (ns : List TreeElement) (n : TreeElement) → entries_of (ns ++ (n ∷ [])) ≡ entries_of ns ++ (entry_of n ∷ [])
 entries_push ns n = map_push entry_of ns n
 
 -- ---- what a call answers
 
-pub answers_err : {X Y : Type 0} (view : X → Y) (f : TextRefusal) (P : Result Y TextRefusal → Type 0) → P (Err f) → Answers view (Err f) P
+pub answers_err : {X Y : Type 0} (view : X → Y) (f : TextRefusal) (P : Result Y TextRefusal → Type 0) → P (Err f) → TellsOutcome view (Err f) P
 answers_err view (Encoding at) P h = h
 answers_err view (Syntax at) P h = h
 answers_err view (Doctype at) P h = h
@@ -127,7 +127,7 @@ pub counted_within : (os : Vec code_open.Open) (b : Bool) → b ≡ eqb (vec_len
 counted_within os b e f = ap (λ (k : ℕ). eqb k 0) (within_len os.items ∙ sym os.ok.0) ∙ (sym e ∙ f)
 
 -- from one property of an answer that is an error to another
-pub answers_then : {X Y Z W : Type 0} (v : X → Y) (w : Z → W) (f : TextRefusal) (P : Result Y TextRefusal → Type 0) (Q : Result W TextRefusal → Type 0) → (P (Err f) → Q (Err f)) → Answers v (Err f) P → Answers w (Err f) Q
+pub answers_then : {X Y Z W : Type 0} (v : X → Y) (w : Z → W) (f : TextRefusal) (P : Result Y TextRefusal → Type 0) (Q : Result W TextRefusal → Type 0) → (P (Err f) → Q (Err f)) → TellsOutcome v (Err f) P → TellsOutcome w (Err f) Q
 answers_then v w (Encoding at) P Q g h = g h
 answers_then v w (Syntax at) P Q g h = g h
 answers_then v w (Doctype at) P Q g h = g h

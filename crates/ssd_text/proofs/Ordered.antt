@@ -9,7 +9,7 @@ use Rattle.ssd_text.specs.declared.refusal.TextRefusal.{TextRefusal}
 use Rattle.ssd_text.specs.declared.refusal.TextRefusal.TheVariants.{Syntax, Mismatch, Encoding}
 use Rattle.std.specs.Str.Lossy.{utf8_valid_len}
 use Rattle.ssd_text.specs.Grammar.{Piece, spelling}
-use Rattle.ssd_text.specs.Nesting.{innermost, Entry, Open, Nest, Shape, shape, passed, literal, characters, opens, closes, opened, ended, start_fault, step, at_end, no_entry, entry_at, IsInOrder, Goes, HasOutcome, Reads, nothing, mark_len}
+use Rattle.ssd_text.specs.Nesting.{innermost, Entry, Open, Nest, Shape, shape, passed, literal, characters, opens, closes, opened, ended, start_fault, step, at_end, no_entry, entry_at, IsInOrder, Goes, HasOutcome, Spells, nothing, mark_len}
 use Rattle.ssd_text.proofs.Few.{made, tested, sames, matched}
 
 -- each open element of a list is behind the one that holds it, and what came behind it stands below it
@@ -145,6 +145,6 @@ none_in_order j p is = absurd (none_some p (sym (ap (λ (x : Entry). x.parent) (
 pub told_order : (at : ℕ) (text : List ℕ) (es : List Entry) → HasOutcome at nothing text (Ok es) → IsInOrder es
 told_order at text es h = goes_order h.0 at nothing text es h.1 (none_in_order, tt)
 
-pub read_order : (bytes : List ℕ) (tree : List Entry) → Reads bytes (Ok tree) → IsInOrder tree
+pub read_order : (bytes : List ℕ) (tree : List Entry) → Spells bytes (Ok tree) → IsInOrder tree
 read_order bytes tree (inl h) = told_order (mark_len bytes) _ tree h.1
 read_order bytes tree (inr h) = failed tree (Encoding (utf8_valid_len bytes)) h.1

@@ -6,8 +6,8 @@ use Rattle.std.specs.List.{flat_map}
 use Rattle.std.proofs.lemmas.List.{length-append, nil_from_length}
 use Rattle.std.proofs.lemmas.Bool.{eqb-true, false≢true}
 use Rattle.ssd_text.specs.declared.refusal.TextRefusal.{TextRefusal}
-use Rattle.ssd_text.specs.Grammar.{Piece, comment, instruction, cdata, start, end, run, close, attribute, spelling, IsPiece, Ends, Begins}
-use Rattle.ssd_text.specs.Nesting.{Entry, Nest, Shape, shape, step, at_end, no_piece, Next, Goes, HasOutcome, mark_len, Reads, nothing}
+use Rattle.ssd_text.specs.Grammar.{Piece, comment, instruction, cdata, start, end, run, close, attribute, spelling, IsPiece, StopsThere, Begins}
+use Rattle.ssd_text.specs.Nesting.{Entry, Nest, Shape, shape, step, at_end, no_piece, Next, Goes, HasOutcome, mark_len, Spells, nothing}
 use Rattle.ssd_text.specs.Reading.{piece_at}
 use Rattle.ssd_text.specs.Seen.{counted}
 use Rattle.ssd_text.proofs.Fronts.{map_is_some}
@@ -18,7 +18,7 @@ use Rattle.ssd_text.proofs.PieceLaws.{piece_takes, piece_again}
 utf8_behind : (y r : List ℕ) → IsUtf8 (y ++ (62 ∷ r)) → IsUtf8 r
 utf8_behind y r u = utf8_tail 62 r (utf8_seam y (62 ∷ r) u (omega arith)).1 (omega arith)
 
-run_seam : (x r : List ℕ) → Ends (run x) r → IsSeam r
+run_seam : (x r : List ℕ) → StopsThere (run x) r → IsSeam r
 run_seam x [] ends = tt
 run_seam x (b ∷ r) ends = omega arith
 
@@ -29,7 +29,7 @@ closed_at false y r u = utf8_behind y r u
 tag_parts : (a b c d r : List ℕ) → (60 ∷ (a ++ (b ++ (c ++ d)))) ++ r ≡ (60 ∷ (a ++ (b ++ c))) ++ (d ++ r)
 tag_parts a b c d r = simp append_assoc
 
-piece_rest : (p : Piece) (r : List ℕ) → Ends p r → IsUtf8 (spelling p ++ r) → IsUtf8 r
+piece_rest : (p : Piece) (r : List ℕ) → StopsThere p r → IsUtf8 (spelling p ++ r) → IsUtf8 r
 piece_rest (comment x) r ends u = utf8_behind (codes "<!--" ++ (x ++ codes "--")) r (subst IsUtf8 (simp append_assoc) u)
 piece_rest (instruction x) r ends u = utf8_behind (codes "<?" ++ (x ++ codes "?")) r (subst IsUtf8 (simp append_assoc) u)
 piece_rest (cdata x) r ends u = utf8_behind (codes "<![CDATA[" ++ (x ++ codes "]]")) r (subst IsUtf8 (simp append_assoc) u)
@@ -159,7 +159,7 @@ one_outcome (p ∷ ps) (q ∷ qs) at n text o w a b =
     ok_same : (m k : Nest) → ◌≡◌ {A = Result Nest TextRefusal} (Ok m) (Ok k) → m ≡ k
     ok_same m k e = cc
 
-pub one_reading : (text : List ℕ) (o w : Result (List Entry) TextRefusal) → Reads text o → Reads text w → o ≡ w
+pub one_reading : (text : List ℕ) (o w : Result (List Entry) TextRefusal) → Spells text o → Spells text w → o ≡ w
 one_reading text o w (inl a) (inl b) = one_outcome a.1.0 b.1.0 (mark_len text) nothing (drop (mark_len text) text) o w a.1.1 b.1.1
 one_reading text o w (inl a) (inr b) = absurd (b.0 a.0)
 one_reading text o w (inr a) (inl b) = absurd (a.0 b.0)

@@ -135,16 +135,16 @@ IsPiece (end name gap) = (is_name name ≡ true) × IsWhite gap
 IsPiece (run x) = (0 < length x) × (list_all (λ b. not (b == 60)) x ≡ true)
 
 -- character data goes on up to a `<` or the end
-abbrev pub Ends : Piece → List ℕ → Type 0
-Ends (run x) [] = Unit {0}
-Ends (run x) (b ∷ bs) = b ≡ 60
-Ends _ rest = Unit {0}
+abbrev pub StopsThere : Piece → List ℕ → Type 0
+StopsThere (run x) [] = Unit {0}
+StopsThere (run x) (b ∷ bs) = b ≡ 60
+StopsThere _ rest = Unit {0}
 
 -- the text is this piece, and then the rest
 pub record Begins (text : List ℕ) (p : Piece) (rest : List ℕ) : Type 0 where
   pub whole : text ≡ spelling p ++ rest
   pub good : IsPiece p
-  pub ends : Ends p rest
+  pub ends : StopsThere p rest
 
 -- ---- the decoded value of an attribute
 

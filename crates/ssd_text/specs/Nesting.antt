@@ -125,7 +125,7 @@ abbrev pub HasOutcome : ℕ → Nest → List ℕ → Result (List Entry) TextRe
 HasOutcome at n text outcome = (ps : List Piece) × Goes at n text ps outcome
 
 -- the tree that a text spells, or its first fault
-abbrev pub Reads : List ℕ → Result (List Entry) TextRefusal → Type 0
-Reads text outcome =
+abbrev pub Spells : List ℕ → Result (List Entry) TextRefusal → Type 0
+Spells text outcome =
     (IsUtf8 text × HasOutcome (mark_len text) nothing (drop (mark_len text) text) outcome)
     ⊎ ((IsUtf8 text → ⊥) × (outcome ≡ Err (Encoding (utf8_valid_len text))))

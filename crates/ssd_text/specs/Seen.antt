@@ -2,7 +2,7 @@
 use Rattle.std.specs.Prelude.{ℕ, List, ◌++◌, map}
 use Rattle.std.specs.Prelude.{reverse, Result, Ok, Err}
 use Rattle.ssd_text.specs.declared.tree.Attr.{Attr}
-use Rattle.ssd_text.specs.declared.tree.Node.{Node}
+use Rattle.ssd_text.specs.declared.tree.TreeElement.{TreeElement}
 use Rattle.ssd_text.specs.declared.nest.Open as code_open
 use Rattle.ssd_text.specs.declared.nest.Nest as code_nest
 use Rattle.ssd_text.specs.declared.refusal.TextRefusal.{TextRefusal}
@@ -54,10 +54,10 @@ same_text x y = bytes_eq x.now y.now
 
 -- ---- nesting
 
-abbrev pub entry_of : Node → Entry
+abbrev pub entry_of : TreeElement → Entry
 entry_of n = record { at = n.at; parent = n.parent; name = n.name.now; attributes = written n.attrs.items }
 
-abbrev pub entries_of : List Node → List Entry
+abbrev pub entries_of : List TreeElement → List Entry
 entries_of ns = map entry_of ns
 
 abbrev pub open_of : code_open.Open → Open
@@ -71,7 +71,7 @@ abbrev pub nest_of : code_nest.Nest → Nest
 nest_of n = record { entries = entries_of n.nodes.items; within = within_of n.within.items }
 
 -- What a call answers, seen by view, has the property, unless memory ran out.
-abbrev pub Answers : {X Y : Type 0} → (X → Y) → Result X TextRefusal → (Result Y TextRefusal → Type 0) → Type 0
-Answers view (Ok x) P = P (Ok (view x))
-Answers view (Err Memory) P = Unit {0}
-Answers view (Err e) P = P (Err e)
+abbrev pub TellsOutcome : {X Y : Type 0} → (X → Y) → Result X TextRefusal → (Result Y TextRefusal → Type 0) → Type 0
+TellsOutcome view (Ok x) P = P (Ok (view x))
+TellsOutcome view (Err Memory) P = Unit {0}
+TellsOutcome view (Err e) P = P (Err e)

@@ -3,14 +3,14 @@
 ghost use Rattle.std.specs.Prelude.{◌≡◌, ◌+◌, ◌<◌, ◌≤◌, List, length, IsUtf8, ℕ, Result};
 ghost use Rattle.ssd_text.specs.declared.refusal.TextRefusal.{TextRefusal as Refusal};
 ghost use Rattle.ssd_text.specs.Grammar.{Piece as GrammarPiece};
-ghost use Rattle.ssd_text.specs.Nesting.{no_piece, Next, Goes, nothing, Reads, mark_len, Entry, IsInOrder};
+ghost use Rattle.ssd_text.specs.Nesting.{no_piece, Next, Goes, nothing, Spells, mark_len, Entry, IsInOrder};
 ghost use Rattle.ssd_text.specs.Document.{SpellsDocument};
-ghost use Rattle.ssd_text.specs.Seen.{entries_of, nest_of, Answers};
+ghost use Rattle.ssd_text.specs.Seen.{entries_of, nest_of, TellsOutcome};
 
 use crate::nest::{Nest, finish, step};
 use crate::pieces::front_piece;
 use crate::refusal::TextRefusal;
-use crate::tree::{Node, Tree};
+use crate::tree::{TreeElement, Tree};
 use std::alloc::Global;
 use std::str;
 
@@ -34,7 +34,7 @@ fn advance<'a>(
     at: u32,
 ) -> Result<&'a [u8], TextRefusal>
     requires { IsUtf8 bytes.now }
-    ensures { Answers (λ next. (nest_of nest.new, next.now)) result (λ o. Next at (nest_of nest.old) bytes.now o) }
+    ensures { TellsOutcome (λ next. (nest_of nest.new, next.now)) result (λ o. Next at (nest_of nest.old) bytes.now o) }
 {
     match front_piece(alloc, bytes) {
         Err(_) => Err(TextRefusal::Memory),
@@ -60,10 +60,10 @@ fn mark_len(bytes: &[u8]) -> usize
 }
 
 /// The elements of the text from a place on.
-fn nodes_of<'a>(alloc: Global, bytes: &'a [u8], start: u32) -> Result<Vec<Node<'a>>, TextRefusal>
+fn nodes_of<'a>(alloc: Global, bytes: &'a [u8], start: u32) -> Result<Vec<TreeElement<'a>>, TextRefusal>
     requires text { IsUtf8 bytes.now }
     requires small { start + length bytes.now ≤ 8388608 }
-    ensures { Answers (λ v. entries_of v.items) result (λ o. (ps : List GrammarPiece) × Goes start nothing bytes.now ps o) }
+    ensures { TellsOutcome (λ v. entries_of v.items) result (λ o. (ps : List GrammarPiece) × Goes start nothing bytes.now ps o) }
 {
     let mut nest = Nest {
         nodes: Vec::new(alloc),
@@ -92,7 +92,7 @@ fn nodes_of<'a>(alloc: Global, bytes: &'a [u8], start: u32) -> Result<Vec<Node<'
 /// `Memory` nothing of the tree is left.
 pub fn read_text<'a>(alloc: Global, bytes: &'a [u8]) -> Result<Tree<'a>, TextRefusal>
     requires { length bytes.now ≤ 8388608 }
-    ensures { Answers (λ tree. tree) result (λ o. Reads bytes.now o) }
+    ensures { TellsOutcome (λ tree. tree) result (λ o. Spells bytes.now o) }
 {
     if let Err(e) = str::from_utf8(bytes) {
         return Err(TextRefusal::Encoding {
@@ -109,23 +109,23 @@ pub fn read_text<'a>(alloc: Global, bytes: &'a [u8]) -> Result<Tree<'a>, TextRef
 
 /// No text has two outcomes: it spells one tree, or it has one first fault.
 pub fn one_outcome()
-    ensures { (text : List ℕ) (o w : Result (List Entry) Refusal) → Reads text o → Reads text w → o ≡ w }
+    ensures { (text : List ℕ) (o w : Result (List Entry) Refusal) → Spells text o → Spells text w → o ≡ w }
 {}
 
 /// What is read spells a document: UTF-8, and behind a byte order mark one root element in which
 /// elements stand in one another, each with a start and an end tag of one name, 64 deep at most and
 /// 200,000 at most. Beside the root only comments, instructions and white space stand.
 pub fn accepted_is_document()
-    ensures { (text : List ℕ) (tree : List Entry) → Reads text (Ok tree) → SpellsDocument text }
+    ensures { (text : List ℕ) (tree : List Entry) → Spells text (Ok tree) → SpellsDocument text }
 {}
 
 /// Each text that spells a document is read.
 pub fn document_is_accepted()
-    ensures { (text : List ℕ) → SpellsDocument text → (tree : List Entry) × Reads text (Ok tree) }
+    ensures { (text : List ℕ) → SpellsDocument text → (tree : List Entry) × Spells text (Ok tree) }
 {}
 
 /// The elements that are read stand in order: each parent comes before its children, and what
 /// stands between the two stands below that parent.
 pub fn read_in_order()
-    ensures { (text : List ℕ) (tree : List Entry) → Reads text (Ok tree) → IsInOrder tree }
+    ensures { (text : List ℕ) (tree : List Entry) → Spells text (Ok tree) → IsInOrder tree }
 {}

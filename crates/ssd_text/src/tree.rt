@@ -19,7 +19,7 @@ pub struct Attr<'a> {
 
 /// An element with its attributes.
 #[derive(Drop)]
-pub(crate) struct Node<'a> {
+pub(crate) struct TreeElement<'a> {
     pub(crate) at: u32,
     pub(crate) parent: Option<u32>,
     pub(crate) name: &'a str,
@@ -33,7 +33,7 @@ pub(crate) struct Node<'a> {
 /// room that its lists keep: about 200 bytes for an element with two attributes.
 #[derive(Drop)]
 pub struct Tree<'a> {
-    pub(crate) nodes: Vec<Node<'a>>,
+    pub(crate) nodes: Vec<TreeElement<'a>>,
 }
 
 impl<'a> Model for Tree<'a> {

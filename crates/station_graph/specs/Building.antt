@@ -50,12 +50,12 @@ IsFaultOf Memory limit = Unit {0}
 IsFaultOf (Limit what count) limit = limit ≡ Some (what, count)
 
 -- The path of a switch of the part: the path of the part, a slash (byte 47) and the name.
-abbrev pub switch_path : Diagram → ℕ → List ℕ → List ℕ
-switch_path d part name = slice_index_or d.part_paths part [] ++ 47 ∷ name
+abbrev pub path_in_part : Diagram → ℕ → List ℕ → List ℕ
+path_in_part d part name = slice_index_or d.part_paths part [] ++ 47 ∷ name
 
 -- A switch with this name and item may be added: the item fits, its part is that of the last switch or
 -- a later one, and its path is new.
 pub record AcceptsSwitch (d : Diagram) (name : List ℕ) (x : Switch) : Type 0 where
   pub fits : SwitchFits d x
   pub order : FollowsLast d x.bay.0
-  pub new : ¬ Contains d.switch_paths (switch_path d x.bay.0 name)
+  pub new : ¬ Contains d.switch_paths (path_in_part d x.bay.0 name)

@@ -1,6 +1,6 @@
 -- What a station is: a single-line diagram (IEC 61850-6) as lists of nodes, parts, switches, links and
 -- taps.
-use Rattle.std.specs.Prelude.{◌≡◌, ◌≢◌, ◌↔◌, ℕ, ◌+◌, ◌<◌, ◌≤◌, ◌==◌, nat_lt, count_by, List, [], length, take, slice_get, Some, MatchOption}
+use Rattle.std.specs.Prelude.{◌≡◌, ◌≢◌, ◌↔◌, ℕ, ◌+◌, ◌<◌, ◌≤◌, ◌==◌, nat_lt, count_by, List, [], length, take, slice_get, slice_index_or, Some, MatchOption}
 use Rattle.std.specs.List.{range_with_len}
 use Rattle.ilk_base.specs.declared.words.Kind.{Kind}
 use Rattle.ilk_base.specs.declared.words.Kind.TheVariants.{Breaker, Disconnector, Earthing, Infeed}
@@ -22,6 +22,14 @@ pub record Diagram : Type 0 where
 -- The diagram without items.
 abbrev pub empty : Diagram
 empty = record { node_paths = []; part_paths = []; switch_paths = []; switches = []; links = []; taps = [] }
+
+-- The path of a node.
+abbrev pub node_path : Diagram → ℕ → List ℕ
+node_path d n = slice_index_or d.node_paths n []
+
+-- The path of a switch.
+abbrev pub switch_path : Diagram → ℕ → List ℕ
+switch_path d i = slice_index_or d.switch_paths i []
 
 -- How many nodes there are.
 abbrev pub node_count : Diagram → ℕ

@@ -1,7 +1,7 @@
 //! The builder of a station.
 ghost use Rattle.std.specs.Prelude.{◌≡◌, ℕ, ◌<◌, ◌≤◌, ◌-◌, List, [], ◌∷◌, ◌++◌, length, slice_get, Some, None, IfOk, IfErr, OnErr, IsTrue, ◌↔◌, Contains};
 ghost use Rattle.station_graph.specs.Diagram.{Diagram, node_count, part_count, bay_count, switches_in, empty, SecondFits, TapAmong, AllTapped, SwitchFits, LinkFits, TapFits, InfeedsTapped};
-ghost use Rattle.station_graph.specs.Building.{IsFaultOf, part_limit, node_limit, link_limit, tap_limit, switch_limit, switch_path, FollowsLast, AcceptsSwitch};
+ghost use Rattle.station_graph.specs.Building.{IsFaultOf, part_limit, node_limit, link_limit, tap_limit, switch_limit, path_in_part, FollowsLast, AcceptsSwitch};
 ghost use Rattle.std.specs.String.{string_bytes};
 ghost use Rattle.ilk_base.specs.declared.words.Kind.TheVariants.{Infeed};
 
@@ -152,13 +152,13 @@ impl Builder {
     pub fn switch(&mut self, name: &str, item: Switch) -> Result<SwitchId, BuildFault>
         requires fits { SwitchFits self.old item }
         requires order { FollowsLast self.old item.bay.0 }
-        requires new { ¬ Contains self.old.switch_paths (switch_path self.old item.bay.0 name.now) }
+        requires new { ¬ Contains self.old.switch_paths (path_in_part self.old item.bay.0 name.now) }
         ensures id { IfOk result (λ id. id.0 ≡ length self.old.switches) }
         ensures added { IfOk result
             (λ _. self.new
             ≡ record self.old {
               switches = self.old.switches ++ item ∷ [];
-              switch_paths = self.old.switch_paths ++ switch_path self.old item.bay.0 name.now ∷ [];
+              switch_paths = self.old.switch_paths ++ path_in_part self.old item.bay.0 name.now ∷ [];
             }) }
         ensures within { IfOk result (λ _. switch_limit self.old item.bay.0 ≡ None) }
         ensures fault { IfErr result (λ e. IsFaultOf e (switch_limit self.old item.bay.0)) }
@@ -176,7 +176,7 @@ impl Builder {
         if in_part == 0 && bays == BAYS {
             return Err(past(What::Bays, BAYS));
         }
-        let path = self.switch_path(self.part_paths.allocator(), item.bay, name)?;
+        let path = self.path_in_part(self.part_paths.allocator(), item.bay, name)?;
         self.switches.reserve(1)?;
         self.switch_paths.push(path)?;
         self.switches.push_reserved(item);
@@ -206,9 +206,9 @@ impl Builder {
     }
 
     // The path of a switch of this part.
-    fn switch_path(&self, alloc: Global, part: BayId, name: &str) -> Result<String, Memory>
+    fn path_in_part(&self, alloc: Global, part: BayId, name: &str) -> Result<String, Memory>
         requires { part.0 < part_count self.now }
-        ensures path { IfOk result (λ p. string_bytes p ≡ switch_path self.now part.0 name.now) }
+        ensures path { IfOk result (λ p. string_bytes p ≡ path_in_part self.now part.0 name.now) }
     {
         let mut path = String::from_str(alloc, self.part_paths.get(part.0 as usize))?;
         path.push_str("/")?;
@@ -255,7 +255,7 @@ impl Builder {
         if !self.switch_fits(item) || !self.follows_last(item.bay) {
             return Ok(false);
         }
-        let path = self.switch_path(alloc, item.bay, name)?;
+        let path = self.path_in_part(alloc, item.bay, name)?;
         Ok(self.switch_paths.is_new(path.as_str()))
     }
 

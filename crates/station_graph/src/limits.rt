@@ -13,7 +13,7 @@ pub const BAYS: usize = 64;
 pub const NODES: usize = 1024;
 
 /// 5: the switches of a station
-pub const SWITCHES: usize = 20;
+pub const SWITCHES: usize = 512;
 
 /// 6: the switches of one bay
 pub const BAY_SWITCHES: usize = 24;

@@ -1,6 +1,5 @@
 // Each limit of a builder reached, and passed by one item: what is answered, and that the builder is as
-// it was before. With at most 20 switches no bay can reach its limit of 24 and no station that of 64 bays,
-// so those two limits wait for a greater one.
+// it was before.
 use ilk_base::{BayId, Kind, NodeId};
 use station_graph::{BuildFault, Builder, Link, Switch, Tap, What};
 use std::alloc::Global;
@@ -73,7 +72,13 @@ fn add_tap(rt: &impl Abort, builder: &mut Builder) -> Result<(), BuildFault> {
     builder.tap(item)
 }
 
-// Adds one more of what is counted; switches to the first part.
+// The part of the switch of this number, where each part has so many.
+fn part_of(number: u32, each: u32) -> u8 {
+    u8::try_from(number / each.max(1)).unwrap_or(0)
+}
+
+// Adds one more of what is counted: switches 24 to a part, those of one bay to the first part, and for
+// the bays one switch to each part.
 fn add(
     rt: &impl Abort,
     alloc: Global,
@@ -86,6 +91,8 @@ fn add(
         What::Nodes => add_node(rt, alloc, builder, number),
         What::Links => add_link(rt, builder),
         What::Taps => add_tap(rt, builder),
+        What::Switches => add_switch(rt, alloc, builder, part_of(number, 24), number),
+        What::Bays => add_switch(rt, alloc, builder, part_of(number, 1), number),
         _ => add_switch(rt, alloc, builder, 0, number),
     }
 }
@@ -115,9 +122,9 @@ struct Counts {
     taps: u16,
 }
 
-// Two nodes, and one of everything else.
+// One part more than there may be bays, two nodes, and one of everything else.
 const FEW: Counts = Counts {
-    parts: 1,
+    parts: 65,
     nodes: 2,
     switches: 1,
     links: 1,
@@ -125,7 +132,9 @@ const FEW: Counts = Counts {
 };
 
 fn add_few(rt: &impl Abort, alloc: Global, builder: &mut Builder) -> Result<(), BuildFault> {
-    add_part(rt, alloc, builder, 0)?;
+    for number in 0..65 {
+        add_part(rt, alloc, builder, number)?;
+    }
     add_node(rt, alloc, builder, 0)?;
     add_node(rt, alloc, builder, 1)?;
     add_switch(rt, alloc, builder, 0, 0)?;
@@ -167,7 +176,7 @@ struct Case {
 const CASES: &[Case] = &[
     Case {
         what: What::Parts,
-        few: 1,
+        few: 65,
         limit: 200,
         past: 201,
         counts: Counts { parts: 200, ..FEW },
@@ -180,12 +189,32 @@ const CASES: &[Case] = &[
         counts: Counts { nodes: 1024, ..FEW },
     },
     Case {
+        what: What::Bays,
+        few: 1,
+        limit: 64,
+        past: 65,
+        counts: Counts {
+            switches: 64,
+            ..FEW
+        },
+    },
+    Case {
         what: What::Switches,
         few: 1,
-        limit: 20,
-        past: 21,
+        limit: 512,
+        past: 513,
         counts: Counts {
-            switches: 20,
+            switches: 512,
+            ..FEW
+        },
+    },
+    Case {
+        what: What::BaySwitches,
+        few: 1,
+        limit: 24,
+        past: 25,
+        counts: Counts {
+            switches: 24,
             ..FEW
         },
     },
@@ -246,13 +275,13 @@ fn one_past_each_limit(rt: HostRuntime) -> Result<(), Fail> {
 fn switches_before_bays(rt: HostRuntime) -> Result<(), Fail> {
     let alloc = rt.alloc();
     let mut builder = with_few(&rt, alloc)?;
-    add_part(&rt, alloc, &mut builder, 1)?;
-    add_all(&rt, alloc, &mut builder, What::Switches, 1, 20)?;
-    let answer = add_switch(&rt, alloc, &mut builder, 1, 0);
-    assert_eq!(rt; answer, past(What::Switches, 21));
+    for number in 1..512 {
+        add_switch(&rt, alloc, &mut builder, part_of(number, 8), number)?;
+    }
+    let answer = add_switch(&rt, alloc, &mut builder, 64, 0);
+    assert_eq!(rt; answer, past(What::Switches, 513));
     let counts = Counts {
-        parts: 2,
-        switches: 20,
+        switches: 512,
         ..FEW
     };
     expect_counts(&rt, builder, counts);

@@ -5,7 +5,7 @@ use Rattle.csv.specs.Records.{fields_of}
 use Rattle.double_points.specs.Rows.{rows_of}
 use Rattle.ilk_base.specs.declared.words.Dbpos.{Dbpos}
 use Rattle.ilk_base.specs.declared.words.Dbpos.TheVariants.{Lost}
-use Rattle.double_points.specs.Positions.{IsRefused, fault_at, names, given}
+use Rattle.double_points.specs.Positions.{IsFirstFault, fault_at, names, given}
 use Rattle.double_points.proofs.Records.{Turn, turn, one_more, OneMore, fault_at-none, fault_at-form, fault_at-again, is_some-given, HaveWords-append, refused_here, named_is, at_last}
 use Rattle.double_points.proofs.Places.{distinct}
 use Rattle.double_points.proofs.positions.read_positions.Goals as goal

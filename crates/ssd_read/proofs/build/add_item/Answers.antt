@@ -1,6 +1,6 @@
 use Rattle.std.proofs.Common.{◌<◌, ap, ◌∙◌, sym, subst, ℕ}
 use Rattle.station_graph.specs.Diagram.{part_count}
-use Rattle.station_graph.specs.Building.{FollowsLast, switch_path}
+use Rattle.station_graph.specs.Building.{FollowsLast, path_in_part}
 use Rattle.std.specs.List.{Contains}
 use Rattle.ssd_read.specs.Elements.{element_at, name_of}
 use Rattle.ssd_read.specs.Steps.{built}
@@ -26,7 +26,7 @@ add_equipment-requires-clause-order c =
 pub add_equipment-requires-clause-new : goal.add_equipment-requires-clause-new
 add_equipment-requires-clause-new c =
     let name = name_of (element_at c.args.drawing.now c.args.i).entry in
-    subst (λ (n : ℕ). Contains c.args.builder.now.switch_paths (switch_path c.args.builder.now n name) → ⊥) (sym c.requires.part)
+    subst (λ (n : ℕ). Contains c.args.builder.now.switch_paths (path_in_part c.args.builder.now n name) → ⊥) (sym c.requires.part)
     (new_switch c.args.drawing.now c.args.i c.args.builder.now c.requires.drawn c.requires.within c.requires.names (sym c.in-ConductingEquipment.ensures) c.requires.before)
 
 pub add_transformer-requires-clause-part : goal.add_transformer-requires-clause-part

@@ -2,11 +2,11 @@ use Rattle.std.proofs.Common.{◌≡◌, ◌∙◌, Ok, Err, Result, ap, true, f
 use Rattle.csv.specs.Reading.{reader_trim, ExplainsRead, Ready, error_kind, stops_reader}
 use Rattle.csv.specs.declared.error.Error.{Error}
 use Rattle.csv.specs.declared.reader.Reader.{Reader}
-use Rattle.double_points.specs.Left.{Bytes, Reads, told}
+use Rattle.double_points.specs.Left.{Bytes, ReaderStands, told}
 use Rattle.double_points.proofs.Next.{goes_on, at_last, only_stops}
 use Rattle.double_points.proofs.rows.Rows.next.Goals as goal
 
-stops : (a b : Reader Bytes) (r : Result Bool Error) → Reads a → IfErr r (λ e. Ready a → ExplainsRead told a b false (error_kind e)) → IfErr r (λ e. stops_reader (error_kind e) ≡ true)
+stops : (a b : Reader Bytes) (r : Result Bool Error) → ReaderStands a → IfErr r (λ e. Ready a → ExplainsRead told a b false (error_kind e)) → IfErr r (λ e. stops_reader (error_kind e) ≡ true)
 stops a b (Ok x) i h = h
 stops a b (Err e) i h = only_stops a b (error_kind e) i.flexible (h i.ready)
 

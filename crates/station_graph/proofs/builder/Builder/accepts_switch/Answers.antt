@@ -1,12 +1,12 @@
 use Rattle.std.proofs.Common.{◌≡◌, ℕ, List, Contains, subst, sym, ◌∙◌, rules}
 use Rattle.station_graph.specs.Diagram.{Diagram}
-use Rattle.station_graph.specs.Building.{switch_path}
+use Rattle.station_graph.specs.Building.{path_in_part}
 use Rattle.station_graph.proofs.builder.Builder.accepts_switch.Goals as goal
 
 pub returns : goal.returns
 returns c =
     let d = c.args.self.now in
-    let path = switch_path d c.args.item.bay.0 c.args.name.now in
+    let path = path_in_part d c.args.item.bay.0 c.args.name.now in
     let same : c.as_str.result.now ≡ path = c.as_str.ensures.value ∙ c.in_ok-path.ensures.path in
     let paths_same = c.self.view_is in (
       λ e. record {

@@ -3,7 +3,7 @@ use Rattle.std.specs.String.{string_bytes}
 use Rattle.station_graph.specs.declared.items.Switch.{Switch}
 use Rattle.station_graph.specs.Diagram.{Diagram, SwitchFits, switches_in, bay_count}
 use Rattle.station_graph.specs.declared.limits.TheConstants.{BAYS, SWITCHES, BAY_SWITCHES}
-use Rattle.station_graph.specs.Building.{FollowsLast, switch_path}
+use Rattle.station_graph.specs.Building.{FollowsLast, path_in_part}
 use Rattle.station_graph.specs.DraftInside.{draft_of}
 use Rattle.station_graph.proofs.DraftLemmas.{IsDraft-switch, CountsBays-switch, bay_count-new, bay_count-known, with_switch}
 use Rattle.station_graph.proofs.builder.Builder.switch.Goals as goal
@@ -24,12 +24,12 @@ invariant_of-self-2 c =
     let follows : FollowsLast d x.bay.0 = subst (λ (e : Diagram). FollowsLast e x.bay.0) (sym at) c.requires.order in
     let in_part : c.switches_in-in_part.result ≡ switches_in d x.bay.0 =
     subst (λ (e : Diagram). c.switches_in-in_part.result ≡ switches_in e x.bay.0) (sym at) c.switches_in-in_part.ensures.count in
-    let path_is : p ≡ switch_path d x.bay.0 c.args.name.now =
-    subst (λ (e : Diagram). p ≡ switch_path e x.bay.0 c.args.name.now) (sym at) c.in_ok-path.ensures.path in
+    let path_is : p ≡ path_in_part d x.bay.0 c.args.name.now =
+    subst (λ (e : Diagram). p ≡ path_in_part e x.bay.0 c.args.name.now) (sym at) c.in_ok-path.ensures.path in
     let bays : c.bay_count-bays.result ≡ bay_count d =
     subst (λ (e : Diagram). c.bay_count-bays.result ≡ bay_count e) (sym at) c.bay_count-bays.ensures.count in
     let new : ¬ Contains d.switch_paths p = λ there.
-    c.requires.new (subst (λ (e : Diagram). Contains e.switch_paths (switch_path e x.bay.0 c.args.name.now)) at
+    c.requires.new (subst (λ (e : Diagram). Contains e.switch_paths (path_in_part e x.bay.0 c.args.name.now)) at
     (subst (λ (q : List ℕ). Contains d.switch_paths q) path_is there)) in
     let bay_room : switches_in d x.bay.0 < BAY_SWITCHES = omega arith in
     let bays_room : switches_in d x.bay.0 ≡ 0 → bay_count d < BAYS = λ none. elim c.else-in_part-eq0.branch [
