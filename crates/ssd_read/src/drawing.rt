@@ -1,17 +1,15 @@
 //! The elements of a drawing, and what each of them is.
-
-ghost use Rattle.std.specs.Prelude.{◌≡◌, ℕ, ◌<◌, ◌≤◌, ◌==◌, ◌&&◌, ◌++◌, List, [], ◌∷◌, length, IfOk, IfSome, Some, None, Option, slice_get, string_bytes, is_some, option_and_then, codes, position};
-ghost use Rattle.std.specs.Option.{option_map, option_map_or};
-ghost use Rattle.std.specs.Str.{bytes_eq};
-ghost use Rattle.ssd_text.specs.Nesting.{Entry as TreeEntry};
-ghost use Rattle.ssd_read.specs.Elements.{Element, attribute, says, front_of, front_of_tree, role_in, role_under, name_of, counted_as, elements_of, elements_after, element_at, unless_grounded, path_in, element_after};
+ghost use Rattle.std.specs.Prelude.{◌≡◌, ◌<◌, ◌≤◌, ◌==◌, List, [], length, IfOk, Some, None, Option, slice_get, string_bytes, option_and_then};
+ghost use Rattle.std.specs.Option.{option_map};
+ghost use Rattle.ssd_read.specs.Elements.{Element, attribute, says, front_of, front_of_tree, role_in, name_of, counted_as, elements_of, element_at, unless_grounded, path_in, element_after};
 ghost use Rattle.ssd_text.specs.Nesting.{entry_at};
 ghost use Rattle.ssd_read.specs.Drawn.{IsDrawn};
 ghost use Rattle.ssd_read.specs.Seen.{placed, placed_all};
 
-use crate::role::Role;
+use crate::attributes::{attribute, entry, name_of, says};
+use crate::role::{Role, counted_as, front_of, role_in, unless_grounded};
 use ilk_base::Memory;
-use ssd_text::{Element as Entry, Tree};
+use ssd_text::Tree;
 use std::alloc::Global;
 use std::marker::Model;
 
@@ -21,137 +19,6 @@ pub(crate) struct DrawnElement {
     pub(crate) role: Role,
     pub(crate) within: Role,
     pub(crate) path: String,
-}
-
-/// An element of a tree without its attributes.
-pub(crate) fn entry<'a>(tree: &Tree<'a>, i: u32) -> Entry<'a>
-    requires { i < length tree.now }
-    ensures at { result.at ≡ (entry_at tree.now i).at }
-    ensures parent { result.parent ≡ (entry_at tree.now i).parent }
-    ensures name { result.name.now ≡ (entry_at tree.now i).name }
-{
-    tree.element(i)
-}
-
-/// The decoded value of an attribute of an element.
-fn attribute(alloc: Global, tree: &Tree<'_>, i: u32, word: &str) -> Result<Option<String>, Memory>
-    requires { i < length tree.now }
-    ensures { IfOk result (λ v. option_map string_bytes v ≡ attribute (entry_at tree.now i) word.now) }
-{
-    match tree.attr(i, word) {
-        None => Ok(None),
-        Some(attr) => {
-            let value = attr.value(alloc)?;
-            Ok(Some(value))
-        }
-    }
-}
-
-/// Whether the value of an attribute is this text.
-fn says(alloc: Global, tree: &Tree<'_>, i: u32, word: &str, text: &str) -> Result<bool, Memory>
-    requires { i < length tree.now }
-    ensures { IfOk result (λ b. b ≡ says (entry_at tree.now i) word.now text.now) }
-{
-    match attribute(alloc, tree, i, word)? {
-        Some(value) => Ok(text == value.as_str()),
-        None => Ok(false),
-    }
-}
-
-/// Whether a name is the front and then the word.
-pub(crate) fn is_named(name: &str, front: &[u8], word: &str) -> bool
-    ensures { result ≡ bytes_eq name.now (front.now ++ word.now) }
-{
-    let name = name.as_bytes();
-    if name.len() < front.len() {
-        return false;
-    }
-    let (own_front, own_word) = name.split_at(front.len());
-    own_front == front && own_word == word.as_bytes()
-}
-
-/// Where the first colon is.
-fn colon(name: &[u8]) -> Option<usize>
-    ensures place { result ≡ position (λ b. b == 58) name.now }
-    ensures within { IfSome result (λ i. i < length name.now) }
-{
-    name.iter().position(|b| *b == b':')
-}
-
-/// What stands in front of the names of read elements.
-pub(crate) fn front_of(name: &[u8]) -> &[u8]
-    ensures { result.now ≡ front_of name.now }
-{
-    match colon(name) {
-        Some(i) => {
-            let (front, _) = name.split_at(i + 1);
-            front
-        }
-        None => &[],
-    }
-}
-
-/// What an element of this name is in an element of a role.
-fn role_in(parent: Role, front: &[u8], name: &str) -> Role
-    ensures { (e : TreeEntry) → e.name ≡ name.now → result ≡ role_in parent front.now e }
-{
-    match parent {
-        Role::Root if is_named(name, front, "Substation") => Role::Substation,
-        Role::Substation if is_named(name, front, "VoltageLevel") => Role::VoltageLevel,
-        Role::Substation if is_named(name, front, "PowerTransformer") => Role::PowerTransformer,
-        Role::VoltageLevel if is_named(name, front, "Bay") => Role::Bay,
-        Role::VoltageLevel if is_named(name, front, "PowerTransformer") => Role::PowerTransformer,
-        Role::Bay if is_named(name, front, "ConnectivityNode") => Role::ConnectivityNode,
-        Role::Bay if is_named(name, front, "ConductingEquipment") => Role::ConductingEquipment,
-        Role::Bay if is_named(name, front, "PowerTransformer") => Role::PowerTransformer,
-        Role::PowerTransformer if is_named(name, front, "TransformerWinding") => {
-            Role::TransformerWinding
-        }
-        Role::ConductingEquipment | Role::TransformerWinding if is_named(name, front, "Terminal") =>
-            { Role::Terminal }
-        _ => Role::Skipped,
-    }
-}
-
-/// The role, but none for a node that is named as earth.
-fn unless_grounded(alloc: Global, tree: &Tree<'_>, i: u32, role: Role) -> Result<Role, Memory>
-    requires { i < length tree.now }
-    ensures { IfOk result (λ r. r ≡ unless_grounded (entry_at tree.now i) role) }
-{
-    if role != Role::ConnectivityNode {
-        return Ok(role);
-    }
-    if says(alloc, tree, i, "name", "grounded")? {
-        Ok(Role::Skipped)
-    } else {
-        Ok(role)
-    }
-}
-
-/// The name of an element, or nothing.
-fn name_of(alloc: Global, tree: &Tree<'_>, i: u32) -> Result<String, Memory>
-    requires { i < length tree.now }
-    ensures { IfOk result (λ s. string_bytes s ≡ name_of (entry_at tree.now i)) }
-{
-    match attribute(alloc, tree, i, "name")? {
-        Some(name) => Ok(name),
-        None => Ok(String::new(alloc)),
-    }
-}
-
-/// As what a named element is counted.
-pub(crate) fn counted_as(role: Role) -> Option<Role>
-    ensures { result ≡ counted_as role }
-{
-    match role {
-        Role::Substation
-        | Role::VoltageLevel
-        | Role::Bay
-        | Role::ConnectivityNode
-        | Role::ConductingEquipment => Some(role),
-        Role::PowerTransformer => Some(Role::Bay),
-        Role::Root | Role::TransformerWinding | Role::Terminal | Role::Skipped => None,
-    }
 }
 
 /// The path of an element in one of this path.

@@ -109,7 +109,12 @@ fn wanted_key(alloc: Global, drawing: &Drawing<'_>, i: u32) -> Result<Option<Str
 }
 
 /// Where a terminal stands.
-fn end_of(alloc: Global, drawing: &Drawing<'_>, keys: &Names, i: u32) -> Result<TerminalPlace, Memory>
+fn end_of(
+    alloc: Global,
+    drawing: &Drawing<'_>,
+    keys: &Names,
+    i: u32,
+) -> Result<TerminalPlace, Memory>
     requires within { i < length drawing.now }
     requires keys { keys.now ≡ keys_of drawing.now }
     requires few { length drawing.now ≤ 200000 }

@@ -6,17 +6,21 @@
 //! the elements: the names, where the terminals stand, and the building of the station.
 #![tactic(auto)]
 
+mod attributes;
 mod build;
 mod checks;
 mod drawing;
 mod end_lists;
 mod ends;
+mod items;
 mod laws;
+mod links;
 mod names;
 mod paths;
 mod read;
 mod refusal;
 mod role;
+mod switches;
 
 pub use ends::{TerminalPlace, Use};
 pub use laws::{has_in_order, one_station, stands_in_order};

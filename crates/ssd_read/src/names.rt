@@ -6,10 +6,10 @@ ghost use Rattle.ssd_read.specs.Elements.{Element, element_at};
 ghost use Rattle.ssd_read.specs.Names.{is_shown, is_good_name, lacks_name, is_nameless, key_of, same_path, same_key, counted_paths, keys_of, name_fault, first_fault};
 ghost use Rattle.ssd_read.specs.Seen.{Finds};
 
-use crate::drawing::{Drawing, counted_as};
+use crate::drawing::Drawing;
 use crate::paths::{Names, Paths};
 use crate::refusal::SsdRefusal;
-use crate::role::Role;
+use crate::role::{Role, counted_as};
 use ilk_base::Memory;
 use std::alloc::Global;
 

@@ -6,12 +6,14 @@ ghost use Rattle.ssd_read.specs.declared.refusal.SsdRefusal.{SsdRefusal as Refus
 ghost use Rattle.ssd_read.specs.StandsFor.{TellsOutcome, TreeAnswers, ElementsAnswer, Stands};
 ghost use Rattle.ssd_read.specs.Names.{root_fault};
 
+use crate::attributes::entry;
 use crate::build::build;
 use crate::checks::check_ends;
-use crate::drawing::{Drawing, entry, front_of, is_named};
+use crate::drawing::Drawing;
 use crate::ends::all_ends;
 use crate::names::check_names;
 use crate::refusal::SsdRefusal;
+use crate::role::{front_of, is_named};
 use ssd_text::{Tree, read_text};
 use station_graph::{Station, What};
 use std::alloc::Global;

@@ -1,3 +1,15 @@
+//! What the elements of a drawing are, by their names and what they stand in.
+ghost use Rattle.std.specs.Prelude.{◌≡◌, ◌<◌, ◌==◌, ◌&&◌, ◌++◌, [], length, IfOk, IfSome, Some, None, Option, position};
+ghost use Rattle.std.specs.Str.{bytes_eq};
+ghost use Rattle.ssd_text.specs.Nesting.{Entry as TreeEntry};
+ghost use Rattle.ssd_read.specs.Elements.{says, front_of, role_in, counted_as, unless_grounded};
+ghost use Rattle.ssd_text.specs.Nesting.{entry_at};
+
+use crate::attributes::says;
+use ilk_base::Memory;
+use ssd_text::Tree;
+use std::alloc::Global;
+
 /// What an element of a drawing is, by its name and where it stands. The definitions speak of it.
 #[derive(Clone, Copy, Debug, PartialEq, Eq, Hash)]
 pub enum Role {
@@ -21,4 +33,94 @@ pub enum Role {
     Terminal,
     /// what is not read, with all that stands in it
     Skipped,
+}
+
+/// Whether a name is the front and then the word.
+pub(crate) fn is_named(name: &str, front: &[u8], word: &str) -> bool
+    ensures { result ≡ bytes_eq name.now (front.now ++ word.now) }
+{
+    let name = name.as_bytes();
+    if name.len() < front.len() {
+        return false;
+    }
+    let (own_front, own_word) = name.split_at(front.len());
+    own_front == front && own_word == word.as_bytes()
+}
+
+/// Where the first colon is.
+fn colon(name: &[u8]) -> Option<usize>
+    ensures place { result ≡ position (λ b. b == 58) name.now }
+    ensures within { IfSome result (λ i. i < length name.now) }
+{
+    name.iter().position(|b| *b == b':')
+}
+
+/// What stands in front of the names of read elements.
+pub(crate) fn front_of(name: &[u8]) -> &[u8]
+    ensures { result.now ≡ front_of name.now }
+{
+    match colon(name) {
+        Some(i) => {
+            let (front, _) = name.split_at(i + 1);
+            front
+        }
+        None => &[],
+    }
+}
+
+/// What an element of this name is in an element of a role.
+pub(crate) fn role_in(parent: Role, front: &[u8], name: &str) -> Role
+    ensures { (e : TreeEntry) → e.name ≡ name.now → result ≡ role_in parent front.now e }
+{
+    match parent {
+        Role::Root if is_named(name, front, "Substation") => Role::Substation,
+        Role::Substation if is_named(name, front, "VoltageLevel") => Role::VoltageLevel,
+        Role::Substation if is_named(name, front, "PowerTransformer") => Role::PowerTransformer,
+        Role::VoltageLevel if is_named(name, front, "Bay") => Role::Bay,
+        Role::VoltageLevel if is_named(name, front, "PowerTransformer") => Role::PowerTransformer,
+        Role::Bay if is_named(name, front, "ConnectivityNode") => Role::ConnectivityNode,
+        Role::Bay if is_named(name, front, "ConductingEquipment") => Role::ConductingEquipment,
+        Role::Bay if is_named(name, front, "PowerTransformer") => Role::PowerTransformer,
+        Role::PowerTransformer if is_named(name, front, "TransformerWinding") => {
+            Role::TransformerWinding
+        }
+        Role::ConductingEquipment | Role::TransformerWinding if is_named(name, front, "Terminal") =>
+            { Role::Terminal }
+        _ => Role::Skipped,
+    }
+}
+
+/// The role, but none for a node that is named as earth.
+pub(crate) fn unless_grounded(
+    alloc: Global,
+    tree: &Tree<'_>,
+    i: u32,
+    role: Role,
+) -> Result<Role, Memory>
+    requires { i < length tree.now }
+    ensures { IfOk result (λ r. r ≡ unless_grounded (entry_at tree.now i) role) }
+{
+    if role != Role::ConnectivityNode {
+        return Ok(role);
+    }
+    if says(alloc, tree, i, "name", "grounded")? {
+        Ok(Role::Skipped)
+    } else {
+        Ok(role)
+    }
+}
+
+/// As what a named element is counted.
+pub(crate) fn counted_as(role: Role) -> Option<Role>
+    ensures { result ≡ counted_as role }
+{
+    match role {
+        Role::Substation
+        | Role::VoltageLevel
+        | Role::Bay
+        | Role::ConnectivityNode
+        | Role::ConductingEquipment => Some(role),
+        Role::PowerTransformer => Some(Role::Bay),
+        Role::Root | Role::TransformerWinding | Role::Terminal | Role::Skipped => None,
+    }
 }
