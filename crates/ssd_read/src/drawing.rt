@@ -13,6 +13,10 @@ use ssd_text::Tree;
 use std::alloc::Global;
 use std::marker::Model;
 
+/// The bytes that the paths of all elements may have together. A path holds the names of all that an element
+/// stands in, so names of megabytes over many elements would otherwise take gigabytes.
+const MOST_PATH_BYTES: usize = 67_108_864;
+
 /// What an element is, what it stands in, and its path.
 #[derive(Debug, Drop)]
 pub(crate) struct DrawnElement {
@@ -115,15 +119,28 @@ fn front_of_tree<'a>(tree: &Tree<'a>) -> &'a [u8]
     }
 }
 
-/// The places of all elements.
+/// Takes the bytes of a path from what all paths together may have.
+fn take_room(room: &mut usize, path: &str) -> Result<(), Memory> {
+    match room.checked_sub(path.len()) {
+        Some(left) => {
+            *room = left;
+            Ok(())
+        }
+        None => Err(Memory),
+    }
+}
+
+/// The places of all elements. Paths of more than `MOST_PATH_BYTES` together are want of memory.
 fn places_of(alloc: Global, tree: &Tree<'_>) -> Result<Vec<DrawnElement>, Memory>
     ensures elements { IfOk result (λ places. placed_all tree.now places.items ≡ elements_of tree.now) }
     ensures len { IfOk result (λ places. length places.items ≡ length tree.now) }
 {
     let front = front_of_tree(tree);
     let mut places = Vec::new(alloc);
+    let mut room = MOST_PATH_BYTES;
     for i in 0..tree.count() {
         let place = place_of(alloc, tree, front, &places, i)?;
+        take_room(&mut room, place.path.as_str())?;
         places.push(place)?;
     }
     Ok(places)

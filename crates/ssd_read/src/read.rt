@@ -26,8 +26,8 @@ use std::alloc::Global;
 /// equipment and windings, those of terminals; then the first count that passes a limit of a station.
 ///
 /// Time and memory are those of the text, and of the paths of all named elements written out, each of
-/// which is the names from its substation downward. So they are no bound by the text's length alone: n
-/// elements below one name of m bytes take n times m bytes.
+/// which is the names from its substation downward. Paths of more than 64 MiB together are answered as
+/// `Memory`, so that names of megabytes over many elements take memory in the order of the file.
 pub fn read_ssd(alloc: Global, bytes: &[u8]) -> Result<Station, SsdRefusal>
     ensures { TellsOutcome bytes.now result }
 {
