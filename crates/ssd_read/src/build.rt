@@ -10,7 +10,7 @@ ghost use Rattle.ssd_read.specs.Seen.{Builds, IsRefused};
 
 use crate::drawing::Drawing;
 use crate::end_lists::EndLists;
-use crate::items::add_items;
+use crate::equipment::add_items;
 use crate::refusal::SsdRefusal;
 use crate::role::Role;
 use station_graph::{Builder, Station};

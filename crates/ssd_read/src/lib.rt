@@ -12,7 +12,7 @@ mod checks;
 mod drawing;
 mod end_lists;
 mod ends;
-mod items;
+mod equipment;
 mod laws;
 mod links;
 mod names;

@@ -1,7 +1,7 @@
 use Rattle.ssd_read.specs.Elements.{element_at}
 use Rattle.ssd_read.specs.Steps.{links_along, lone_tap}
 use Rattle.ssd_read.proofs.Stepped.{first_refused, then_builds}
-use Rattle.ssd_read.proofs.items.add_other.Goals as goal
+use Rattle.ssd_read.proofs.equipment.add_other.Goals as goal
 
 pub returns-in-Ok-clause-builds : goal.returns-in-Ok-clause-builds
 returns-in-Ok-clause-builds c =

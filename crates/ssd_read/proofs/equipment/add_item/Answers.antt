@@ -7,7 +7,7 @@ use Rattle.ssd_read.specs.Steps.{built}
 use Rattle.ssd_read.proofs.Stepped.{built_none}
 use Rattle.ssd_read.proofs.Ready.{ends_good, equipment_part_in, transformer_part_in, follows, new_switch}
 use Rattle.ssd_read.proofs.Items.{own_below, windings_below, gives_nothing}
-use Rattle.ssd_read.proofs.items.add_item.Goals as goal
+use Rattle.ssd_read.proofs.equipment.add_item.Goals as goal
 
 pub add_equipment-requires-clause-fault : goal.add_equipment-requires-clause-fault
 add_equipment-requires-clause-fault c = ends_good c.args.drawing.now c.args.i c.args.own.now c.requires.ends c.requires.within c.requires.own

@@ -4,7 +4,7 @@ use Rattle.station_graph.specs.Diagram.{empty}
 use Rattle.ssd_read.specs.Steps.{naming_step, item_steps_at}
 use Rattle.ssd_read.proofs.Stepped.{built_then}
 use Rattle.ssd_read.proofs.Items.{before_first, item_next, item_refused, items_whole}
-use Rattle.ssd_read.proofs.items.add_items.Goals as goal
+use Rattle.ssd_read.proofs.equipment.add_items.Goals as goal
 
 pub loop-i-init : goal.loop-i-init
 loop-i-init c = before_first c.args.drawing.now c.args.builder.now

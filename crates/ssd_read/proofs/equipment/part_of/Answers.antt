@@ -1,6 +1,6 @@
 use Rattle.std.proofs.Common.{arith, sym, ◌∙◌, ◌<◌, length}
 use Rattle.ssd_read.proofs.Items.{parent_before, outer_number}
-use Rattle.ssd_read.proofs.items.part_of.Goals as goal
+use Rattle.ssd_read.proofs.equipment.part_of.Goals as goal
 
 pub bounds-numbers-parent : goal.bounds-numbers-parent
 bounds-numbers-parent c = omega (arith, parent_before c.args.drawing.now c.args.i c.in-Some.parent c.requires.drawn c.requires.within c.in-Some.ensures, c.requires.count)
