@@ -1,0 +1,18 @@
+//! A double busbar with a coupler and as many feeders as wanted, for trials: its drawing, the positions of
+//! its switches and a log of one whole operation.
+#![tactic(auto)]
+
+mod drawing;
+mod equipment;
+mod laws;
+mod making;
+mod names;
+mod records;
+mod words;
+
+pub use laws::made_counts;
+pub use making::{LEAST_FEEDERS, MOST_FEEDERS, Made, make};
+pub use words::{MadeText, feeders_named, make_text, text_named};
+
+#[cfg(test)]
+mod tests;

@@ -1,0 +1,62 @@
+//! What words name: a number of feeders, and a text.
+ghost use Rattle.std.specs.Prelude.{◌≡◌, ◌≤◌, ℕ, IfOk, IfSome, IfNone};
+ghost use Rattle.station_make.specs.Words.{NamesFeeders, made_text, text_named};
+
+use crate::making::{LEAST_FEEDERS, MOST_FEEDERS, Made, make};
+use ilk_base::{Memory, Text};
+use itoa::Buffer;
+use std::alloc::Global;
+
+/// A text of the station.
+#[derive(Clone, Copy, Debug, PartialEq, Eq)]
+pub enum MadeText {
+    Station,
+    Positions,
+    Log,
+}
+
+/// The number of feeders that a word names: decimal, without sign or leading zeros, from `LEAST_FEEDERS`
+/// to `MOST_FEEDERS`; none where it is no such word. Time: the word. Takes no memory.
+pub fn feeders_named(word: &str) -> Option<u8>
+    ensures some { IfSome result (NamesFeeders word.now) }
+    ensures none { IfNone result ((n : ℕ) → ¬ NamesFeeders word.now n) }
+{
+    let Ok(number) = word.parse::<u8>() else {
+        return None;
+    };
+    let mut digits = Buffer::new();
+    if number < LEAST_FEEDERS || number > MOST_FEEDERS || digits.format(number) != word {
+        return None;
+    }
+    Some(number)
+}
+
+/// The text that a word names: `station`, `positions` or `log`; none where it is another. At once.
+pub fn text_named(word: &str) -> Option<MadeText>
+    ensures { result ≡ text_named word.now }
+{
+    match word {
+        "station" => Some(MadeText::Station),
+        "positions" => Some(MadeText::Positions),
+        "log" => Some(MadeText::Log),
+        _ => None,
+    }
+}
+
+/// Makes this text of the station with so many feeders. Time and memory: those of `make`.
+pub fn make_text(alloc: Global, text: MadeText, number: u8) -> Result<Text, Memory>
+    requires least { LEAST_FEEDERS ≤ number }
+    requires most { number ≤ MOST_FEEDERS }
+    ensures { IfOk result (λ t. t ≡ made_text text number) }
+{
+    let Made {
+        station,
+        positions,
+        events,
+    } = make(alloc, number)?;
+    Ok(match text {
+        MadeText::Station => station,
+        MadeText::Positions => positions,
+        MadeText::Log => events,
+    })
+}
