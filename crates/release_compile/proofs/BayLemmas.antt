@@ -1,15 +1,19 @@
 -- The inner graphs of a bay, one by one.
-use Rattle.std.proofs.Common.{◌≡◌, ℕ, ◌+◌, ◌-◌, ◌<◌, zero, suc, List, [], ◌∷◌, ◌++◌, get_or, slice_get, Some, refl, sym, ◌∙◌, subst, inl, inr, arith}
+use Rattle.std.proofs.Common.{◌≡◌, ℕ, ◌+◌, ◌-◌, ◌<◌, zero, suc, List, [], ◌∷◌, ◌++◌, get_or, slice_get, Option, Some, None, map, refl, sym, ap, ◌∙◌, subst, inl, inr, arith}
 use Rattle.std.proofs.lemmas.List.{length_push}
-use Rattle.std.proofs.lemmas.Option.{slice_get-get_or}
+use Rattle.std.proofs.lemmas.Option.{slice_get-get_or, slice_get-map}
 use Rattle.station_graph.specs.Diagram.{Diagram, AreSwitchesOf}
 use Rattle.station_graph.proofs.PathLemmas.{slice_get-push}
 use Rattle.contraction.specs.Answers.{Answers}
 use Rattle.decision_graphs.specs.Label.{Layered}
 use Rattle.release_compile.specs.declared.view.View.{View}
 use Rattle.release_compile.specs.Lettered.{Lettered}
+use Rattle.release_compile.specs.declared.bay.BayGraphs.{BayGraphs}
+use Rattle.release_compile.specs.BuiltView.{seen_bay, seen_part}
 use Rattle.release_compile.specs.Graphs.{IsOwn}
-use Rattle.release_compile.specs.Built.{BayOf, IsInnerAt, AreInner, AreBayGraphs, AreBays}
+use Rattle.release_compile.proofs.BridgeLemmas.{from_map}
+use Rattle.central_rules.specs.Meaning.{IsBay}
+use Rattle.release_compile.specs.Built.{BayOf, IsInnerAt, AreInner, AreBayGraphs, AreGraphsOf, AreBays}
 
 -- one of so many switches of the bay
 pub own_of : (d : Diagram) (b first count i : ℕ) → AreSwitchesOf d b first count → i < count → IsOwn d b (first + i) first (count - 1)
@@ -38,21 +42,28 @@ inner_more view a b first count names graphs n g are new = record {
 -- ---- the bays of a station
 
 pub bays_none : (a : Lettered) → AreBays a [] 0
-bays_none a = record { len = refl; each = λ b g at. absurd (no_bay b g at) }
-  where
-    no_bay : (b : ℕ) (g : BayOf) → slice_get {X = BayOf} [] b ≡ Some g → ⊥
-    no_bay zero g at = cc
-    no_bay (suc b) g at = cc
+bays_none a = record { len = refl; each = λ b g at. cc }
 
-pub bays_more : (a : Lettered) (bays : List BayOf) (n : ℕ) (g : BayOf) → AreBays a bays n → AreBayGraphs a n g → AreBays a (bays ++ g ∷ []) (n + 1)
+pub bays_more : (a : Lettered) (bays : List (Option BayOf)) (n : ℕ) (g : Option BayOf) → AreBays a bays n → AreGraphsOf a n g → AreBays a (bays ++ g ∷ []) (n + 1)
 bays_more a bays n g are new = record {
   len = omega (arith, length_push bays g, are.len);
   each = λ b h at. elim (slice_get-push bays g h b at) [
     | inl before ↦ are.each b h before
-    | inr here ↦ (let e : n ≡ b = sym (here.0 ∙ are.len) in subst (λ x. AreBayGraphs a b x) here.1 (subst (λ k. AreBayGraphs a k g) e new))
+    | inr here ↦ (let e : n ≡ b = sym (here.0 ∙ are.len) in subst (λ x. AreGraphsOf a b x) here.1 (subst (λ k. AreGraphsOf a k g) e new))
   ];
 }
 
 -- the graphs of a bay of the station
-pub bay_listed : (a : Lettered) (bays : List BayOf) (n b : ℕ) (d : BayOf) → AreBays a bays n → b < n → AreBayGraphs a b (get_or bays b d)
-bay_listed a bays n b d are lt = are.each b (get_or bays b d) (slice_get-get_or bays b d (omega (arith, lt, are.len)))
+pub bay_listed : (a : Lettered) (bays : List (Option BayOf)) (n b : ℕ) → AreBays a bays n → b < n → IsBay a.diagram b → (g : BayOf) × (slice_get bays b ≡ Some (Some g)) × AreBayGraphs a b g
+bay_listed a bays n b are lt bay = by (get_or bays b None) (slice_get-get_or bays b None (omega (arith, lt, are.len)))
+  where
+    by : (x : Option BayOf) → slice_get bays b ≡ Some x → (g : BayOf) × (slice_get bays b ≡ Some (Some g)) × AreBayGraphs a b g
+    by (Some g) at = (g, at, (are.each b (Some g) at).1)
+    by None at = absurd (are.each b None at bay)
+
+-- the graphs of which a view is seen
+pub raw_bay : (bays : List (Option BayGraphs)) (b : ℕ) (g : BayOf) → slice_get (map seen_part bays) b ≡ Some (Some g) → (x : BayGraphs) × (slice_get bays b ≡ Some (Some x))
+raw_bay bays b g at =
+    let (part, at_part, is) = from_map seen_part (slice_get bays b) (Some g) (sym (slice_get-map seen_part bays b) ∙ at) in
+    let (x, some, same) = from_map seen_bay part g is in
+    (x, at_part ∙ ap Some some)

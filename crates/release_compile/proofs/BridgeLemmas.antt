@@ -5,10 +5,11 @@ use Rattle.std.proofs.lemmas.List.{length-map}
 use Rattle.std.proofs.lemmas.Option.{slice_get-map, get_or_from_slice_get, same_Some, none-some}
 use Rattle.contraction.specs.Answers.{Answers, Keeps}
 use Rattle.release_compile.specs.declared.view.View.{View}
-use Rattle.release_compile.specs.Folding.{Carried, AreApart, AreWell, IsStep}
+use Rattle.release_compile.specs.Seen.{Carries}
+use Rattle.release_compile.specs.Folding.{Carried, AreApart, AreWell, IsStep, AreReached}
 use Rattle.release_compile.specs.Layering.{LeadsToMade, AreEdges, no_answers, values_at}
 
-from_map : {X Y : Type 0} (f : X → Y) (o : Option X) (y : Y) → option_map f o ≡ Some y → (x : X) × (o ≡ Some x) × (f x ≡ y)
+pub from_map : {X Y : Type 0} (f : X → Y) (o : Option X) (y : Y) → option_map f o ≡ Some y → (x : X) × (o ≡ Some x) × (f x ≡ y)
 from_map f None y e = absurd (none-some y e)
 from_map f (Some x) y e = (x, refl, same_Some (f x) y e)
 
@@ -19,7 +20,7 @@ pub number_at : (values : List Answers) (ids : List ℕ) (k i : ℕ) (x : Answer
 number_at values ids k i x at listed =
     slice_get-map (λ n. get_or values n no_answers) ids k ∙ (ap (option_map (λ n. get_or values n no_answers)) at ∙ ap Some (get_or_from_slice_get values i x no_answers listed))
 
-module _ (view : View) (values : List Answers) (keep states letters next edges : List ℕ) (n : ℕ) (all : n ≡ length states * length letters) (h : AreEdges view values keep states letters next edges n) (apart : AreApart view values) (well : AreWell values) where
+module _ (view : View) (values : List Answers) (keep states letters next edges : List ℕ) (n : ℕ) (h : AreEdges view values keep states letters next edges n) (apart : AreApart view values) (well : AreWell values) where
   states_len : length (values_at values states) ≡ length states
   states_len = length-map states (λ i. get_or values i no_answers)
 
@@ -52,9 +53,36 @@ module _ (view : View) (values : List Answers) (keep states letters next edges :
       let same : l.id ≡ id = same_Some l.id id (sym l.at ∙ (ap (slice_get next) w.6 ∙ at)) in
       (l.made.value, ap (slice_get values) (sym same) ∙ l.made.listed, l.made.kept)
 
+  -- what the edges so far lead to is reached
+  pub reached_by_edges : AreReached view keep (values_at values states) (values_at values letters) (values_at values next)
+  reached_by_edges = record {
+    kept = λ t r at. (next_made t r at).3;
+    well = λ t r at. let m = next_made t r at in well m.0 r m.2;
+    apart = λ t u x y at_t at_u same.
+        let m = next_made t x at_t in
+        let q = next_made u y at_u in
+        let e : m.0 ≡ q.0 = apart m.0 q.0 x y m.2 q.2 same in
+        h.none_twice t u m.0 m.1 (q.1 ∙ ap Some (sym e));
+    carried = λ t r at.
+        let m = next_made t r at in
+        let w = h.hit t m.0 m.1 in
+        let l = h.made w.0 w.1 w.2 w.3 w.4 w.5 in
+        let same : l.id ≡ m.0 = same_Some l.id m.0 (sym l.at ∙ (ap (slice_get next) w.6 ∙ m.1)) in
+        let is : l.made.value ≡ r = same_Some l.made.value r (sym l.made.listed ∙ (ap (slice_get values) same ∙ m.2)) in
+        record {
+          state = w.0 / length letters;
+          letter = w.0 % length letters;
+          x = l.x;
+          y = l.y;
+          first = number_at values states (w.0 / length letters) w.1 l.x w.4 l.first;
+          second = number_at values letters (w.0 % length letters) w.2 l.y w.5 l.second;
+          carries = subst (λ z. Carries view l.x l.y z) is l.made.carries;
+        };
+  }
+
   -- THE EDGES ARE A STEP
-  pub step_of_edges : IsStep view keep (values_at values states) (values_at values letters) (values_at values next) edges
-  step_of_edges = record {
+  pub step_of_edges : n ≡ length states * length letters → IsStep view keep (values_at values states) (values_at values letters) (values_at values next) edges
+  step_of_edges all = record {
     len = h.len ∙ (all ∙ sym (ap (λ k. k * length (values_at values letters)) states_len ∙ ap (λ k. length states * k) letters_len));
     carried = λ p x y lt at_x at_y.
         let i = at_number values states (p / length letters) x (ap (λ k. slice_get (values_at values states) (p / k)) (sym letters_len) ∙ at_x) in

@@ -1,53 +1,27 @@
 -- A LAYER MORE IS EXACT: where each state answers for the items so far and each letter for the new ones, the next
--- states answer for both.
+-- states answer for both, and they are the distinct views of both.
 use Rattle.std.proofs.Common.{◌≡◌, ℕ, ◌+◌, ◌*◌, ◌<◌, ◌↔◌, suc, Bool, List, [], ◌∷◌, ◌++◌, length, get_or, slice_get, Some, sym, ap, ◌∙◌, subst, inl, inr, arith}
 use Rattle.std.specs.Prelude.{Contains}
-use Rattle.std.proofs.lemmas.Nat.{div-mul-add, mod-mul-add}
 use Rattle.std.proofs.lemmas.List.{length-append}
-use Rattle.std.proofs.lemmas.Option.{slice_get_within, slice_get_cases}
+use Rattle.std.proofs.lemmas.Option.{slice_get_within}
+use Rattle.station_graph.proofs.PathLemmas.{slice_get-push}
+use Rattle.bay_contract.specs.Counting.{AreSoMany}
 use Rattle.station_graph.specs.Diagram.{Diagram}
 use Rattle.station_graph.specs.Connection.{Item}
 use Rattle.station_graph.specs.Alike.{IsVector}
 use Rattle.contraction.specs.Answers.{Answers}
 use Rattle.contraction.specs.Stands.{Among, MeetsKept}
-use Rattle.decision_graphs.specs.Label.{Layer, leads, AreLayers, LayerFits}
-use Rattle.decision_graphs.proofs.RowLemmas.{length-rows_of, element-rows_of, row_end, length-row}
+use Rattle.decision_graphs.specs.Label.{Layer, leads, AreLayers}
+use Rattle.decision_graphs.proofs.RowLemmas.{length-rows_of, element-rows_of}
 use Rattle.release_compile.specs.declared.view.View.{View}
-use Rattle.release_compile.specs.Seen.{SeenFor}
-use Rattle.release_compile.specs.Folding.{Carried, IsStep, StandsIn, AreChosen, IsExact}
+use Rattle.release_compile.specs.Seen.{SeenFor, SameView}
+use Rattle.release_compile.specs.Folding.{IsStep, StandsIn, AreChosen, AreViews, IsExact}
+use Rattle.release_compile.specs.Plans.{CanBoth}
 use Rattle.decision_graphs.specs.Finished.{layer_with}
+use Rattle.release_compile.proofs.StepLemmas.{carried_at, layer_fits}
+use Rattle.release_compile.proofs.CountLemmas.{views_so_many}
+use Rattle.release_compile.proofs.MadeLemmas.{step_reaches, made_more, cover_more}
 use Rattle.release_compile.proofs.LayerLemmas.{snoc, get_front, get_last, leads_more, layers_more}
-
--- the element at a place that is within the list
-element : {X : Type 0} (xs : List X) (i : ℕ) → i < length xs → (x : X) × (slice_get xs i ≡ Some x)
-element xs i h = elim ((slice_get_cases xs i).1) [ inl w ↦ (w.0, w.2) | inr w ↦ absurd (omega (arith, w.0)) ]
-
--- the edge of a state and a choice
-module _ (view : View) (keep : List ℕ) (states letters next : List Answers) (edges : List ℕ) (s : IsStep view keep states letters next edges) where
-  edge_in : (k c : ℕ) → k < length states → c < length letters → k * length letters + c < length edges
-  edge_in k c k_in c_in = omega (arith, s.len, row_end (length letters) (length states) k c k_in c_in)
-
-  pub carried_at : (k c : ℕ) (x y : Answers) → slice_get states k ≡ Some x → slice_get letters c ≡ Some y → Carried view x y next (get_or edges (k * length letters + c) 0)
-  carried_at k c x y at_k at_c =
-      let k_in = slice_get_within states k x at_k in
-      let c_in = slice_get_within letters c y at_c in
-      s.carried (k * length letters + c) x y (edge_in k c k_in c_in)
-      (ap (slice_get states) (div-mul-add k (length letters) c c_in) ∙ at_k)
-      (ap (slice_get letters) (mod-mul-add k (length letters) c c_in) ∙ at_c)
-
-  pub layer_fits : 0 < length states → 0 < length letters → LayerFits (length next) (layer_with (length letters) (length states) edges)
-  layer_fits some_state some_letter = record {
-    choices = some_letter;
-    nodes = omega (arith, length-rows_of (length letters) (length states) edges);
-    rows = λ k k_in. length-row (length letters) (length states) edges k (omega (arith, k_in, length-rows_of (length letters) (length states) edges)) (omega (arith, s.len));
-    edges = λ k c k_in c_in.
-        let k_st : k < length states = omega (arith, k_in, length-rows_of (length letters) (length states) edges) in
-        let x = element states k k_st in
-        let y = element letters c c_in in
-        let t = carried_at k c x.0 y.0 x.1 y.1 in
-        let within = slice_get_within next (get_or edges (k * length letters + c) 0) t.value t.listed in
-        omega (arith, within, element-rows_of (length letters) (length states) edges k c 0 k_st c_in);
-  }
 
 -- the front of chosen choices is chosen
 chosen_front : (Chosen : ℕ → ℕ → List Bool → Type 0) (v : List Bool) (cs front : List ℕ) (last : ℕ) → cs ≡ front ++ last ∷ [] → AreChosen Chosen v cs → AreChosen Chosen v front
@@ -68,8 +42,10 @@ module _ (view : View) (d : Diagram) (Chosen : ℕ → ℕ → List Bool → Typ
       → ((n : ℕ) → Contains keep n ↔ Needed (suc j) n)
       → ((c : ℕ) (v : List Bool) → IsVector d v → Chosen j c v → StandsIn view (Among new) d v letters c)
       → ((k c : ℕ) (x y : Answers) → slice_get states k ≡ Some x → slice_get letters c ≡ Some y → MeetsKept (Among (items j)) (Among new) d x.kept y.kept)
+      → ((c : ℕ) (x y : Answers) (v : List Bool) → slice_get letters c ≡ Some y → IsVector d v → SeenFor view (Among (items j)) d v x → CanBoth view d (Among (items j)) (Among new) x y)
+      → ((v : List Bool) → IsVector d v → (c : ℕ) × StandsIn view (Among new) d v letters c)
       → IsExact view d Chosen items Needed (suc j) (ls ++ layer_with (length letters) (length states) edges ∷ []) next
-  fold_step ls keep states letters next edges old s some_state some_letter more needed letter meets = record {
+  fold_step ls keep states letters next edges old s some_state some_letter more needed letter meets give cover = record {
     count = longer j ls (layer_with (length letters) (length states) edges) old.count;
     fits = layers_more (length next) ls (layer_with (length letters) (length states) edges) (subst (λ n. AreLayers n ls) (sym (length-rows_of (length letters) (length states) edges)) old.fits) (layer_fits view keep states letters next edges s some_state some_letter);
     kept = λ t r at n. (λ k. (needed n).0 ((s.kept t r at n).0 k), λ h. (s.kept t r at n).1 ((needed n).1 h));
@@ -91,4 +67,17 @@ module _ (view : View) (d : Diagram) (Chosen : ℕ → ℕ → List Bool → Typ
           listed = ap (slice_get next) led ∙ r.listed;
           stands = subst (λ xs. SeenFor view (Among xs) d v r.value) (sym more) (r.carries (items j) new d v (meets (leads ls 0 front) last before.value here.value before.listed here.listed) before.stands here.stands);
         };
+    views = subst (λ xs. AreViews view (Among xs) d next) (sym more) (record {
+      made = made_more view d (items j) new keep states letters next meets (step_reaches view keep states letters next edges s some_letter) give old.views.made;
+      cover = cover_more view d (items j) new keep states letters next meets edges s old.views.cover cover;
+    });
+    counted = λ i l at. elim (slice_get-push ls (layer_with (length letters) (length states) edges) l i at) [
+      | inl before ↦ old.counted i l before
+      | inr here ↦
+          let e : j ≡ i = sym (here.0 ∙ old.count) in
+          let now = views_so_many view (Among (items j)) d (Needed j) states old.kept old.well old.apart old.views.made old.views.cover in
+          let rows : length states ≡ length l.rows = sym (length-rows_of (length letters) (length states) edges) ∙ ap (λ (m : Layer). length m.rows) here.1 in
+          subst (λ n. AreSoMany d (SameView view (Needed i) (Among (items i)) d) n) rows
+          (subst (λ k. AreSoMany d (SameView view (Needed k) (Among (items k)) d) (length states)) e now)
+    ];
   }

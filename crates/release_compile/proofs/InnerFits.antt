@@ -1,26 +1,33 @@
 -- The inner graphs: their layers are those of their plan.
-use Rattle.std.proofs.Common.{◌≡◌, ℕ, ◌+◌, ◌-◌, ◌<◌, ◌≤◌, ◌↔◌, zero, suc, Bool, true, false, List, [], ◌∷◌, slice_get, Some, refl, sym, ap, ◌∙◌, subst, inl, inr, arith}
-use Rattle.std.proofs.lemmas.Option.{slice_get_within, same_Some}
+use Rattle.std.proofs.Common.{◌≡◌, ℕ, ◌+◌, ◌-◌, ◌≢◌, ◌<◌, ◌≤◌, ◌==◌, ◌↔◌, zero, suc, Bool, true, false, List, [], ◌∷◌, length, get_or, slice_get, slice_set, Some, refl, sym, ap, ◌∙◌, subst, inl, inr, arith}
+use Rattle.std.proofs.lemmas.List.{length-map, length-set}
+use Rattle.std.proofs.lemmas.Option.{slice_get_within, slice_get-get_or, same_Some}
+use Rattle.station_graph.specs.declared.items.Switch.{Switch}
+use Rattle.station_graph.proofs.PositionLemmas.{slice_get-set_other}
+use Rattle.contraction.proofs.MarkLemmas.{slice_get-set_same}
 use Rattle.station_graph.specs.Diagram.{Diagram, part_count}
-use Rattle.station_graph.specs.Connection.{Item, a_switch}
+use Rattle.station_graph.specs.Connection.{Item, a_switch, a_link, a_tap}
 use Rattle.station_graph.specs.Sharing.{OfPart, Touches, TouchedBy, IsShared}
 use Rattle.station_graph.specs.Alike.{IsVector}
 use Rattle.contraction.specs.Answers.{Answers, Keeps}
 use Rattle.contraction.specs.Stands.{Among, MeetsKept}
-use Rattle.contraction.proofs.ItemSets.{among_second}
+use Rattle.contraction.proofs.ItemSets.{among_second, among_both}
 use Rattle.release_compile.specs.declared.pool.Pool.{Pool}
 use Rattle.release_compile.specs.Lettered.{Lettered}
 use Rattle.release_compile.specs.Seen.{SeenFor}
-use Rattle.release_compile.specs.Layering.{values_at}
+use Rattle.release_compile.specs.Layering.{values_at, no_answers}
 use Rattle.release_compile.specs.Folding.{StandsIn}
 use Rattle.release_compile.specs.Graphs.{other_of, OfOthers, SwitchChosen, IsOwn}
-use Rattle.release_compile.specs.Plans.{Plan, inner_plan, PlanFits, ChosenBy, items_of, new_of, NeededBy, IsInnerReady}
+use Rattle.release_compile.specs.Plans.{Plan, inner_plan, PlanFits, CanBoth, ChosenBy, items_of, new_of, NeededBy, IsInnerReady}
 use Rattle.release_compile.specs.Inputs.{HasPair, HasSwitch}
 use Rattle.release_compile.specs.Needing.{IsNeededOuter, IsNeededInner, InnerNeeds}
 use Rattle.release_compile.specs.Listing.{own_links, parts_before}
 use Rattle.release_compile.proofs.BridgeLemmas.{number_at}
 use Rattle.release_compile.proofs.VerdictLemmas.{other_in}
 use Rattle.release_compile.proofs.OuterLemmas.{part_has, before_has, other_not}
+use Rattle.release_compile.proofs.MoveLemmas.{seen_moves}
+use Rattle.release_compile.proofs.PlacingLemmas.{switches_apart}
+use Rattle.release_compile.proofs.InputsLemmas.{listed_base}
 use Rattle.release_compile.proofs.OuterFits.{seen_over, others_all, needed_at}
 
 -- the links and taps of a part are of it
@@ -41,6 +48,15 @@ needed_own d b m first others j n own (inl t) = own_part d b m first others m n 
 needed_own d b m first others j n own (inr (i, le, lt, t)) =
     let range = other_in first m others i lt in
     own_part d b m first others (other_of first m i) n own range.0 range.1 t
+
+switch_number : Item → ℕ
+switch_number (a_switch n) = n
+switch_number (a_link n) = n
+switch_number (a_tap n) = n
+
+pub number_of : (i k : ℕ) → a_switch i ≡ a_switch k → i ≡ k
+unfolding switch_number
+number_of i k e = ap switch_number e
 
 module _ (a : Lettered) (b m first others : ℕ) (p : Pool) (start : ℕ) (names : List ℕ) (letters : List (List ℕ)) (keeps : List ℕ) (ready : IsInnerReady a b m first others p start names letters keeps) where
   abbrev plan : Plan
@@ -149,10 +165,69 @@ module _ (a : Lettered) (b m first others : ℕ) (p : Pool) (start : ℕ) (names
   meets (suc i) c ids x y at kept_x at_y =
       meets_switch i (items_of plan (suc i)) x y (omega (arith, slice_get_within letters (suc i) ids at, ready.rows.len)) kept_x (pair_kept i c ids y at at_y)
 
+  -- ---- what can be had together
+
+  -- the switch of a layer is not among the items before it
+  not_yet : (i j n : ℕ) → i ≤ j → j < others → Among (items_of plan (suc i)) (a_switch n) → n ≢ other_of first m j
+  not_yet zero j n le lt among e = elim ((among_both (own_links a.diagram b) (parts_before a.diagram b (part_count a.diagram - 1)) (a_switch n)).1 among) [
+    | inl link ↦ listed_base a.diagram b (a_switch n) link
+    | inr part ↦
+        let r = before_has a.diagram b (part_count a.diagram - 1) (a_switch n) part in
+        let range = other_in first m others j lt in
+        let of_b = (ready.own.those.those n r.2.0 r.2.1).1 (omega (arith, e, range.0), omega (arith, e, range.1)) in
+        other_not b r.0 (sym r.2.2 ∙ of_b)
+  ]
+  not_yet (suc i) j n le lt among e = elim ((among_both (items_of plan (suc i)) (a_switch (other_of first m i) ∷ []) (a_switch n)).1 among) [
+    | inl before ↦ not_yet i j n (omega (arith, le)) lt before e
+    | inr last ↦ elim last [
+      | inl is ↦ switches_apart first m i j (omega (arith, le)) (sym (number_of n (other_of first m i) is) ∙ e)
+      | inr never ↦ never
+    ]
+  ]
+
+  inner_given : (j c : ℕ) (ids : List ℕ) (x y : Answers) (v : List Bool) → slice_get letters j ≡ Some ids → slice_get (values_at p.values.items ids) c ≡ Some y → IsVector a.diagram v → SeenFor p.view (Among (items_of plan j)) a.diagram v x → CanBoth p.view a.diagram (Among (items_of plan j)) (Among (new_of plan j)) x y
+  inner_given zero c ids x y v at at_y whole seen =
+      let same : ids ≡ names = same_Some ids names (sym at ∙ ready.rows.first_row) in
+      let (u, whole_u, seen_u) = ready.named.views.made c y (ap (λ l. slice_get (values_at p.values.items l) c) (sym same) ∙ at_y) in
+      let all = others_all a b (part_count a.diagram - 1) ready.station count_is ready.bay_in in
+      record {
+        vector = u;
+        whole = whole_u;
+        first = seen_moves p.view (Among (own_links a.diagram b)) a.diagram v u (λ k among. absurd (listed_base a.diagram b (a_switch k) among)) x seen;
+        second = seen_over p.view (OfOthers a.diagram b) (Among (parts_before a.diagram b (part_count a.diagram - 1))) a.diagram u y (λ it is. (let h = all it is in (h.1, h.0))) seen_u;
+      }
+  inner_given (suc i) c ids x y v at at_y whole seen =
+      let n = other_of first m i in
+      let lt : i < others = omega (arith, slice_get_within letters (suc i) ids at, ready.rows.len) in
+      let c_in : c < 2 = omega (arith, slice_get_within (values_at p.values.items ids) c y at_y, length-map ids (λ k. get_or p.values.items k no_answers), ap length (ready.rows.pairs i ids at).two) in
+      let n_in : n < length v = omega (arith, (other_in first m others i lt).1, ready.own.those.within, whole) in
+      let w : List Bool = slice_set v n (c == 1) in
+      let s = switch_stands i c ids w at (record { small = c_in; stands = slice_get-set_same v n (c == 1) n_in }) in
+      let is : s.value ≡ y = same_Some s.value y (sym s.listed ∙ at_y) in
+      record {
+        vector = w;
+        whole = length-set v n (c == 1) ∙ whole;
+        first = seen_moves p.view (Among (items_of plan (suc i))) a.diagram v w (λ k among. sym (slice_get-set_other v n k (c == 1) (not_yet i i k (omega arith) lt among))) x seen;
+        second = subst (λ z. SeenFor p.view (Among (a_switch n ∷ [])) a.diagram w z) is s.stands;
+      }
+
+  inner_cover : (j : ℕ) (ids : List ℕ) (v : List Bool) → slice_get letters j ≡ Some ids → IsVector a.diagram v → (c : ℕ) × StandsIn p.view (Among (new_of plan j)) a.diagram v (values_at p.values.items ids) c
+  inner_cover zero ids v at whole = let (c, s) = ready.named.views.cover v whole in (c, name_stands c ids v at s)
+  inner_cover (suc i) ids v at whole =
+      let n = other_of first m i in
+      let lt : i < others = omega (arith, slice_get_within letters (suc i) ids at, ready.rows.len) in
+      by (get_or v n false) (slice_get-get_or v n false (omega (arith, (other_in first m others i lt).1, ready.own.those.within, whole)))
+    where
+      by : (closed : Bool) → slice_get v (other_of first m i) ≡ Some closed → (c : ℕ) × StandsIn p.view (Among (a_switch (other_of first m i) ∷ [])) a.diagram v (values_at p.values.items ids) c
+      by false is = (0, switch_stands i 0 ids v at (record { small = omega arith; stands = is }))
+      by true is = (1, switch_stands i 1 ids v at (record { small = omega arith; stands = is }))
+
   pub inner_fits : PlanFits (inner_plan p.view a b m first others (values_at p.values.items names)) p start letters keeps
   inner_fits = record {
     start_stands = λ x v at whole. subst (λ z. SeenFor p.view (Among (own_links a.diagram b)) a.diagram v z) (same_Some ready.begins.value x (sym ready.begins.listed ∙ at)) (ready.begins.stands v);
     needed = λ j k nodes at_k at_nodes n. needed_at (InnerNeeds a.diagram b m first others j) p k nodes (ready.needed.each j k at_k) at_nodes n;
     letter = letter;
     meets = meets;
+    given = inner_given;
+    cover = inner_cover;
   }

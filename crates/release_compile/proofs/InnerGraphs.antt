@@ -1,5 +1,5 @@
 -- The inner graphs: what their layers take in is linked, and their labels say what holds of the switch.
-use Rattle.std.proofs.Common.{◌≡◌, ◌≢◌, ℕ, ◌-◌, ◌<◌, ◌⊎◌, ◌↔◌, zero, suc, Bool, true, false, List, [], ◌∷◌, ◌++◌, length, map, get_or, slice_get, Some, refl, sym, ap, ◌∙◌, subst, inl, inr, arith}
+use Rattle.std.proofs.Common.{◌≡◌, ◌≢◌, ℕ, ◌-◌, ◌<◌, ◌≤◌, ◌⊎◌, ◌↔◌, zero, suc, Bool, true, false, List, [], ◌∷◌, ◌++◌, length, map, get_or, slice_get, Some, refl, sym, ap, ◌∙◌, subst, inl, inr, arith}
 use Rattle.std.specs.Prelude.{Contains}
 use Rattle.std.proofs.lemmas.Bool.{cases_eq}
 use Rattle.std.proofs.lemmas.Option.{slice_get_within, slice_get-get_or, slice_get_cases, same_Some}
@@ -12,12 +12,15 @@ use Rattle.contraction.specs.Answers.{Answers, Keeps}
 use Rattle.contraction.specs.Stands.{Among, AllBut, IsItem}
 use Rattle.contraction.proofs.ItemSets.{among_first, among_second, among_both}
 use Rattle.bay_contract.specs.Layers.{IsBase}
-use Rattle.decision_graphs.specs.Label.{Layer, Layered, layer_at, label_of, AreChoices, AreLayers}
+use Rattle.decision_graphs.specs.Label.{Layer, Layered, layer_at, no_layer, label_of, AreChoices, AreLayers}
 use Rattle.release_compile.specs.declared.view.View.{View}
 use Rattle.release_compile.specs.declared.pool.Pool.{Pool}
 use Rattle.release_compile.specs.Lettered.{Lettered}
 use Rattle.decision_graphs.specs.declared.finished.FinishedLayer.{FinishedLayer}
 use Rattle.release_compile.specs.Pooling.{GrewTo}
+use Rattle.bay_contract.specs.Counting.{AreSoMany}
+use Rattle.release_compile.specs.Seen.{SameView}
+use Rattle.release_compile.specs.Counted.{InnerIsSmall}
 use Rattle.release_compile.specs.Folding.{StandsIn, AreChosen, IsExact}
 use Rattle.release_compile.specs.Graphs.{other_of, OfOthers, SwitchChosen, IsOwn, IsInner, Says}
 use Rattle.release_compile.specs.Listing.{own_links, parts_before}
@@ -26,6 +29,8 @@ use Rattle.release_compile.specs.Coding.{AreCodes, KeepsEnds}
 use Rattle.release_compile.specs.Inputs.{HasPair, HasSwitch, AreKeeps, AreNames, AreInnerRows, HasLinks}
 use Rattle.release_compile.specs.Plans.{Plan, inner_plan, ChosenBy, items_of, NeededBy, AreLinked, IsInnerReady, layers_of}
 use Rattle.release_compile.proofs.VerdictLemmas.{own_place}
+use Rattle.release_compile.proofs.InnerFits.{number_of}
+use Rattle.release_compile.proofs.InnerEdges.{before_items}
 use Rattle.release_compile.proofs.OuterFits.{seen_over, others_all, needed_at}
 use Rattle.release_compile.proofs.PlacingLemmas.{switch_not}
 use Rattle.release_compile.proofs.LayeringLemmas.{grew_more}
@@ -125,14 +130,6 @@ module _ (view : View) (a : Lettered) (b m first others : ℕ) (names : List Ans
       | inr never ↦ absurd never
     ]
   ]
-    where
-      number_of : (i k : ℕ) → a_switch i ≡ a_switch k → i ≡ k
-      number_of i k e = ap switch_number e
-        where
-          switch_number : Item → ℕ
-          switch_number (a_switch n) = n
-          switch_number (a_link n) = n
-          switch_number (a_tap n) = n
 
   -- and each item but the switch is one of them
   early : (j : ℕ) (it : Item) → Among (own_links a.diagram b ++ parts_before a.diagram b (part_count a.diagram - 1)) it → Among (items_of plan (suc j)) it
@@ -202,6 +199,17 @@ module _ (view : View) (a : Lettered) (b m first others : ℕ) (names : List Ans
       outer = same_choices g.layers h.layers same 0 ∙ first_choices;
       choices = λ i lt. same_choices g.layers h.layers same (suc i) ∙ choices i lt;
       says = says;
+    }
+
+-- no layer behind the first has more nodes than there are distinct views
+pub inner_small : (view : View) (a : Lettered) (b m first others : ℕ) (names : List Answers) (ls : List Layer) (states : List Answers) (g h k : Layered) → IsExact view a.diagram (ChosenBy (inner_plan view a b m first others names)) (items_of (inner_plan view a b m first others names)) (NeededBy (inner_plan view a b m first others names)) (suc others) ls states → g.layers ≡ ls → ((j : ℕ) → length (layer_at h.layers j).rows ≡ length (layer_at g.layers j).rows) → ((j : ℕ) → length (layer_at k.layers j).rows ≤ length (layer_at h.layers j).rows) → InnerIsSmall view a.diagram b m first others k
+inner_small view a b m first others names ls states g h k exact same renamed reduced i lt =
+    let at : slice_get g.layers (suc i) ≡ Some (layer_at g.layers (suc i)) = slice_get-get_or g.layers (suc i) no_layer (omega (arith, lt, ap length same, exact.count)) in
+    let counted = exact.counted (suc i) (layer_at g.layers (suc i)) (ap (λ xs. slice_get xs (suc i)) (sym same) ∙ at) in
+    record {
+      count = length (layer_at g.layers (suc i)).rows;
+      counted = subst (λ xs. AreSoMany a.diagram (λ v w. SameView view (IsNeededInner a.diagram m first others i) (Among xs) a.diagram v w) (length (layer_at g.layers (suc i)).rows)) (before_items view a b m first others names i) counted;
+      few = omega (arith, reduced (suc i), renamed (suc i));
     }
 
 -- the last values keep the ends of the switch

@@ -20,8 +20,9 @@ use Rattle.release_compile.specs.declared.pool.Pool.{Pool}
 use Rattle.release_compile.specs.Lettered.{Lettered, letters_in}
 use Rattle.release_compile.specs.Seen.{SeenFor}
 use Rattle.release_compile.specs.Pooling.{IsPool, GrewTo, HasSame, HasCopy}
-use Rattle.release_compile.specs.Layering.{no_answers}
-use Rattle.release_compile.specs.Graphs.{other_of}
+use Rattle.release_compile.specs.Layering.{values_at, no_answers}
+use Rattle.release_compile.specs.Folding.{AreViews}
+use Rattle.release_compile.specs.Graphs.{other_of, OfOthers}
 use Rattle.release_compile.specs.Listing.{own_links, listed}
 use Rattle.release_compile.specs.Inputs.{HasNodes, AreKeeps, HasCopyAt, AreCopies, AreRows, HasNothing, HasLinks, HasSwitch, HasPair, AreInnerRows, AreNames}
 use Rattle.release_compile.proofs.LayerLemmas.{get_front, get_last}
@@ -83,6 +84,8 @@ module _ (p q : Pool) (g : GrewTo p q) where
     some = h.some;
     within = λ t i at. grew_in p q i no_answers g (h.within t i at);
     kept = λ t x at. h.kept t x (ap (λ l. slice_get l t) (sym (values_more p.values.items q.values.items names g.values h.within)) ∙ at);
+    views = subst (λ w. AreViews w (OfOthers d b) d (values_at q.values.items names)) (sym g.view)
+        (subst (λ xs. AreViews p.view (OfOthers d b) d xs) (sym (values_more p.values.items q.values.items names g.values h.within)) h.views);
   }
 
 -- ---- one by one

@@ -1,4 +1,7 @@
 pub mod LayerLemmas
+pub mod ErrorLemmas
+pub mod StepLemmas
+pub mod CountLemmas
 pub mod FoldLemmas
 pub mod ChainLemmas
 pub mod PoolLemmas
@@ -6,6 +9,12 @@ pub mod LayeringLemmas
 pub mod VerdictLemmas
 pub mod BridgeLemmas
 pub mod PlanLemmas
+pub mod PassLemmas
+pub mod EdgesLemmas
+pub mod OuterEdges
+pub mod InnerEdges
+pub mod BayEdges
+pub mod MostLemmas
 pub mod OuterLemmas
 pub mod OuterFits
 pub mod InnerFits

@@ -6,6 +6,8 @@ use Rattle.std.proofs.lemmas.Option.{slice_get_within, slice_get-get_or, get_or_
 use Rattle.station_graph.specs.Diagram.{Diagram, IsStation, part_count}
 use Rattle.station_graph.specs.Connection.{Item, a_switch, a_link, a_tap}
 use Rattle.station_graph.specs.Sharing.{OfPart, IsShared}
+use Rattle.station_graph.specs.Alike.{IsVector, SamePositions}
+use Rattle.station_graph.proofs.MixLemmas.{mixed}
 use Rattle.contraction.specs.Answers.{Answers, Keeps, IsContraction}
 use Rattle.contraction.specs.Stands.{Among, IsItem, MeetsKept, StandsFor}
 use Rattle.contraction.proofs.ItemSets.{among_first, among_second, gap_over, load_over}
@@ -20,12 +22,14 @@ use Rattle.release_compile.specs.Layering.{values_at, no_answers}
 use Rattle.release_compile.specs.Inputs.{HasNodes}
 use Rattle.release_compile.specs.Folding.{StandsIn, IsExact}
 use Rattle.release_compile.specs.Graphs.{other_of, OfOthers, PartChosen, IsOuter}
-use Rattle.release_compile.specs.Plans.{outer_plan, PlanFits, items_of, IsOuterReady}
+use Rattle.release_compile.specs.Plans.{outer_plan, PlanFits, CanBoth, items_of, IsOuterReady}
 use Rattle.release_compile.specs.Needing.{IsNeededOuter}
 use Rattle.release_compile.specs.Listing.{part_items, parts_before}
 use Rattle.release_compile.proofs.BridgeLemmas.{at_number, number_at}
 use Rattle.release_compile.proofs.VerdictLemmas.{other_cases, other_in}
-use Rattle.release_compile.proofs.OuterLemmas.{part_has, has_part, before_has, outer_meets, other_not}
+use Rattle.release_compile.proofs.OuterLemmas.{part_has, has_part, before_has, outer_meets, others_apart, other_not}
+use Rattle.release_compile.proofs.MoveLemmas.{index_moves, seen_moves}
+use Rattle.release_compile.proofs.PlacingLemmas.{part_stays}
 
 -- a view over sets with the same items
 pub seen_over : (view : View) (These Those : Item → Type 0) (d : Diagram) (v : List Bool) (c : Answers) → ((item : Item) → IsItem d item → These item ↔ Those item) → SeenFor view These d v c → SeenFor view Those d v c
@@ -50,7 +54,7 @@ kept_of_same Load x y h = h.kept
 pub needed_at : (Kind : ℕ → Type 0) (p : Pool) (k : ℕ) (nodes : List ℕ) → HasNodes Kind p k → slice_get p.keeps.items k ≡ Some nodes → (n : ℕ) → Contains nodes n ↔ Kind n
 needed_at Kind p k nodes h at n = subst (λ l. Contains l n ↔ Kind n) (same_Some h.nodes nodes (sym h.listed ∙ at)) (h.exact n)
 
-outer_items : (a : Lettered) (b j : ℕ) → items_of (outer_plan a b) j ≡ parts_before a.diagram b j
+pub outer_items : (a : Lettered) (b j : ℕ) → items_of (outer_plan a b) j ≡ parts_before a.diagram b j
 outer_items a b zero = refl
 outer_items a b (suc j) = ap (λ xs. xs ++ part_items a.diagram (other_of 0 b j)) (outer_items a b j)
 
@@ -82,6 +86,36 @@ module _ (a : Lettered) (b : ℕ) (p : Pool) (start : ℕ) (letters : List (List
       let copied = subst (λ (z : Answers). Keeps z.kept n ↔ Keeps x.kept n) is (m.copy.kept n) in
       (λ h. here.0 (copied.0 h), λ h. copied.1 (here.1 h))
 
+  part_there : (j : ℕ) (ids : List ℕ) → slice_get letters j ≡ Some ids → other_of 0 b j < part_count a.diagram
+  part_there j ids at_j = omega (arith, (other_in 0 b (length letters) j (slice_get_within letters j ids at_j)).1, ready.count)
+
+  -- the part can be moved to a position of the letter, and those before it stand as they stood
+  outer_given : (j c : ℕ) (ids : List ℕ) (x y : Answers) (v : List Bool) → slice_get letters j ≡ Some ids → slice_get (values_at p.values.items ids) c ≡ Some y → IsVector a.diagram v → SeenFor p.view (Among (items_of (outer_plan a b) j)) a.diagram v x → CanBoth p.view a.diagram (Among (items_of (outer_plan a b) j)) (Among (part_items a.diagram (other_of 0 b j))) x y
+  outer_given j c ids x y v at_j at_c whole seen =
+      let part = other_of 0 b j in
+      let al = ready.lettered.alphabets.each part (part_there j ids at_j) in
+      let i = at_number p.values.items ids c y at_c in
+      let c_in : c < length (letters_in a part) = omega (arith, slice_get_within ids c i.0 i.1, (ready.rows.each j ids at_j).len) in
+      let (u, whole_u, at_example) = al.given c c_in in
+      let has = (al.examples c c_in).has u whole_u at_example in
+      let (w, whole_w, from_u, from_v) = mixed a.diagram part u v whole_u whole in
+      let s = letter_stands j c ids w at_j (index_moves a part c u w from_u has) in
+      let is : s.value ≡ y = same_Some s.value y (sym s.listed ∙ at_c) in
+      let same : SamePositions (Among (items_of (outer_plan a b) j)) v w = λ k among.
+      (let r = before_has a.diagram b j (a_switch k) (subst (λ xs. Among xs (a_switch k)) (outer_items a b j) among) in
+      part_stays a.diagram (other_of 0 b r.0) part v w (others_apart b r.0 j r.1) from_v k r.2) in
+      record {
+        vector = w;
+        whole = whole_w;
+        first = seen_moves p.view (Among (items_of (outer_plan a b) j)) a.diagram v w same x seen;
+        second = subst (λ z. SeenFor p.view (Among (part_items a.diagram part)) a.diagram w z) is s.stands;
+      }
+
+  outer_cover : (j : ℕ) (ids : List ℕ) (v : List Bool) → slice_get letters j ≡ Some ids → IsVector a.diagram v → (c : ℕ) × StandsIn p.view (Among (part_items a.diagram (other_of 0 b j))) a.diagram v (values_at p.values.items ids) c
+  outer_cover j ids v at_j whole =
+      let (i, has) = (ready.lettered.alphabets.each (other_of 0 b j) (part_there j ids at_j)).indexed v whole in
+      (i, letter_stands j i ids v at_j has)
+
   pub outer_fits : PlanFits (outer_plan a b) p start letters keeps
   outer_fits = record {
     start_stands = λ x v at whole. subst (λ z. SeenFor p.view (Among []) a.diagram v z) (same_Some ready.begins.value x (sym ready.begins.listed ∙ at)) (ready.begins.stands a.diagram v);
@@ -90,6 +124,8 @@ module _ (a : Lettered) (b : ℕ) (p : Pool) (start : ℕ) (letters : List (List
     meets = λ j c ids x y at_j kept_x at_y.
         subst (λ xs. MeetsKept (Among xs) (Among (part_items a.diagram (other_of 0 b j))) a.diagram x.kept y.kept) (sym (outer_items a b j))
         (outer_meets a.diagram b j x y kept_x (letter_kept j c ids y at_j at_y));
+    given = outer_given;
+    cover = outer_cover;
   }
 
 -- ---- all other parts

@@ -1,27 +1,32 @@
 -- The outer graphs: what their layers take in is linked, and reduction keeps what their labels name.
-use Rattle.std.proofs.Common.{◌≡◌, ℕ, ◌-◌, ◌<◌, ◌⊎◌, ◌↔◌, zero, suc, Bool, List, [], length, map, get_or, slice_get, Some, sym, ap, ◌∙◌, subst, inl, inr, arith}
+use Rattle.std.proofs.Common.{◌≡◌, ℕ, ◌-◌, ◌<◌, ◌≤◌, ◌⊎◌, ◌↔◌, zero, suc, Bool, List, [], length, map, get_or, slice_get, Some, sym, ap, ◌∙◌, subst, inl, inr, arith}
 use Rattle.std.specs.Prelude.{Contains}
 use Rattle.std.proofs.lemmas.Option.{slice_get_within, slice_get-get_or, same_Some}
 use Rattle.station_graph.specs.Diagram.{Diagram, part_count}
-use Rattle.station_graph.specs.Connection.{Item}
 use Rattle.contraction.specs.Answers.{Answers, Keeps}
-use Rattle.decision_graphs.specs.Label.{Layer, Layered, layer_at, label_of, AreChoices, AreLayers}
+use Rattle.decision_graphs.specs.Label.{Layer, Layered, layer_at, no_layer, label_of, AreChoices, AreLayers}
 use Rattle.release_compile.specs.declared.view.View.{View}
 use Rattle.release_compile.specs.declared.pool.Pool.{Pool}
 use Rattle.release_compile.specs.Lettered.{Lettered, AreLettered, letters_in, index_count}
 use Rattle.release_compile.specs.Pooling.{GrewTo}
 use Rattle.release_compile.specs.Layering.{values_at, no_answers}
-use Rattle.release_compile.specs.Folding.{StandsIn, IsExact}
+use Rattle.station_graph.specs.Diagram.{IsStation}
+use Rattle.contraction.specs.Stands.{Among}
+use Rattle.bay_contract.specs.Counting.{AreSoMany}
+use Rattle.release_compile.specs.Seen.{SeenFor, SameView}
+use Rattle.release_compile.specs.Listing.{parts_before}
+use Rattle.release_compile.specs.Counted.{OuterIsSmall}
+use Rattle.release_compile.specs.Folding.{StandsIn, AreViews, IsExact}
 use Rattle.release_compile.specs.Graphs.{other_of, OfOthers, PartChosen, IsOuter}
 use Rattle.release_compile.specs.Needing.{IsNeededOuter}
 use Rattle.release_compile.specs.Inputs.{AreCopies, AreRows, AreKeeps, HasNothing, AreNames}
-use Rattle.release_compile.specs.Plans.{AreLinked, IsOuterReady, layers_of}
+use Rattle.release_compile.specs.Plans.{outer_plan, items_of, AreLinked, IsOuterReady, layers_of}
 use Rattle.decision_graphs.specs.declared.finished.FinishedLayer.{FinishedLayer}
 use Rattle.release_compile.proofs.InputsLemmas.{rows_stay, keeps_stay}
 use Rattle.release_compile.proofs.BridgeLemmas.{number_at}
 use Rattle.release_compile.proofs.VerdictLemmas.{other_in}
 use Rattle.release_compile.proofs.OuterLemmas.{outer_chain}
-use Rattle.release_compile.proofs.OuterFits.{letter_kept, needed_at}
+use Rattle.release_compile.proofs.OuterFits.{outer_items, letter_kept, needed_at, seen_over, others_all}
 use Rattle.release_compile.proofs.ChoiceLemmas.{choices_each, row_choices, same_choices, same_count, any_label}
 
 -- nothing is kept in no place
@@ -93,12 +98,31 @@ outer_same view a b names g h o labels choices same fits = record {
     in_range j c v lt has = omega (arith, slice_get_within (letters_in a (other_of 0 b j)) c has.letter has.listed, o.choices j lt)
 
 -- the names of the labels
-pub names_of : (p q : Pool) (d : Diagram) (b others : ℕ) (Chosen : ℕ → ℕ → List Bool → Type 0) (items : ℕ → List Item) (ls : List Layer) (ids : List ℕ) → suc others ≡ part_count d → IsExact p.view d Chosen items (IsNeededOuter d b) others ls (values_at q.values.items ids) → ((t i : ℕ) → slice_get ids t ≡ Some i → i < length q.values.items) → length (values_at q.values.items ids) ≡ length ids → AreNames q d b ids
-names_of p q d b others Chosen items ls ids count exact within len = record {
+pub names_of : (a : Lettered) (b others : ℕ) (p q : Pool) (ls : List Layer) (ids : List ℕ) → IsStation a.diagram → suc others ≡ part_count a.diagram → b < part_count a.diagram → q.view ≡ p.view → IsExact p.view a.diagram (PartChosen a b) (items_of (outer_plan a b)) (IsNeededOuter a.diagram b) others ls (values_at q.values.items ids) → ((t i : ℕ) → slice_get ids t ≡ Some i → i < length q.values.items) → length (values_at q.values.items ids) ≡ length ids → AreNames q a.diagram b ids
+names_of a b others p q ls ids station count b_in same exact within len = record {
   some = omega (arith, any_label (length (values_at q.values.items ids)) ls exact.fits, len);
   within = within;
-  kept = λ t x at n. (let e : others ≡ part_count d - 1 = omega (arith, count) in subst (λ k. Keeps x.kept n ↔ IsNeededOuter d b k n) e (exact.kept t x at n));
+  kept = λ t x at n. (let e : others ≡ part_count a.diagram - 1 = omega (arith, count) in subst (λ k. Keeps x.kept n ↔ IsNeededOuter a.diagram b k n) e (exact.kept t x at n));
+  views = subst (λ w. AreViews w (OfOthers a.diagram b) a.diagram (values_at q.values.items ids)) (sym same) (record {
+    made = λ t r at. (let (v, whole, seen) = exact.views.made t r at in (v, whole, over v r seen));
+    cover = λ v whole. (let (t, s) = exact.views.cover v whole in (t, record { value = s.value; listed = s.listed; stands = over v s.value s.stands }));
+  });
 }
+  where
+    over : (v : List Bool) (r : Answers) → SeenFor p.view (Among (items_of (outer_plan a b) others)) a.diagram v r → SeenFor p.view (OfOthers a.diagram b) a.diagram v r
+    over v r seen = seen_over p.view (Among (parts_before a.diagram b others)) (OfOthers a.diagram b) a.diagram v r (others_all a b others station count b_in) (subst (λ xs. SeenFor p.view (Among xs) a.diagram v r) (outer_items a b others) seen)
+
+-- no layer has more nodes than there are distinct views
+pub outer_small : (view : View) (a : Lettered) (b others : ℕ) (ls : List Layer) (states : List Answers) (g h : Layered) → IsExact view a.diagram (PartChosen a b) (items_of (outer_plan a b)) (IsNeededOuter a.diagram b) others ls states → g.layers ≡ ls → map (λ (l : Layer). l.choices) h.layers ≡ map (λ (l : Layer). l.choices) g.layers → ((j : ℕ) → length (layer_at h.layers j).rows ≤ length (layer_at g.layers j).rows) → OuterIsSmall view a.diagram b h
+outer_small view a b others ls states g h exact same choices sizes j lt =
+    let len : length h.layers ≡ length g.layers = same_count g.layers h.layers choices in
+    let at : slice_get g.layers j ≡ Some (layer_at g.layers j) = slice_get-get_or g.layers j no_layer (omega (arith, lt, len)) in
+    let counted = exact.counted j (layer_at g.layers j) (ap (λ xs. slice_get xs j) (sym same) ∙ at) in
+    record {
+      count = length (layer_at g.layers j).rows;
+      counted = subst (λ xs. AreSoMany a.diagram (λ v w. SameView view (IsNeededOuter a.diagram b j) (Among xs) a.diagram v w) (length (layer_at g.layers j).rows)) (outer_items a b j) counted;
+      few = sizes j;
+    }
 
 -- what the layers of an outer graph take in, from what the calls give
 pub outer_ready : (a : Lettered) (b : ℕ) (p1 p2 p3 : Pool) (start : ℕ) (rows : List (List ℕ)) (keeps : List ℕ) (others : ℕ) → AreLettered a → suc others ≡ part_count a.diagram → b < part_count a.diagram → GrewTo p1 p2 → GrewTo p2 p3 → AreKeeps (IsNeededOuter a.diagram b) p1 keeps (suc others) → AreRows a b p2 rows others → HasNothing p3 start → IsOuterReady a b p3 start rows keeps

@@ -33,7 +33,7 @@ unfolding ChosenBelow
 below_all Chosen n v cs len h i c at = h i c (omega (arith, slice_get_within cs i c at, len)) at
 
 -- the positions of one part stay where only those of another are moved
-part_stays : (d : Diagram) (p q : ℕ) (v w : List Bool) → p ≢ q → DifferInPart d q v w → SamePositions (OfPart d p) v w
+pub part_stays : (d : Diagram) (p q : ℕ) (v w : List Bool) → p ≢ q → DifferInPart d q v w → SamePositions (OfPart d p) v w
 part_stays d p q v w ne stay i of_p = stay i (λ of_q. ne (sym of_p.2 ∙ (ap (λ (x : Switch). x.bay.0) (same_Some of_p.0 of_q.0 (sym of_p.1 ∙ of_q.1)) ∙ of_q.2)))
 
 pub parts_more : (a : Lettered) (b n index bits : ℕ) (v w : List Bool) (cs : List ℕ) → ChosenBelow (PartChosen a b) n v cs → get_or cs n 0 ≡ index → ((u : List Bool) → IsVector a.diagram u → StandsAt a.alphabets (other_of 0 b n) bits u → PartHas a (other_of 0 b n) index u) → IsVector a.diagram w → StandsAt a.alphabets (other_of 0 b n) bits w → DifferInPart a.diagram (other_of 0 b n) v w → ChosenBelow (PartChosen a b) (n + 1) w cs

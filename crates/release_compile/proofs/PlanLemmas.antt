@@ -1,7 +1,7 @@
 -- The layers of a plan, one by one.
-use Rattle.std.proofs.Common.{◌≡◌, ℕ, ◌*◌, ◌/◌, ◌%◌, ◌<◌, ◌↔◌, zero, suc, Bool, List, [], ◌∷◌, ◌++◌, length, get_or, slice_get, Some, refl, sym, ap, ◌∙◌, subst, inl, inr, arith}
+use Rattle.std.proofs.Common.{◌≡◌, ℕ, ◌*◌, ◌/◌, ◌%◌, ◌<◌, ◌↔◌, zero, suc, Bool, false, List, [], ◌∷◌, ◌++◌, replicate, length, get_or, slice_get, Some, refl, sym, ap, ◌∙◌, subst, inl, inr, arith}
 use Rattle.std.specs.Prelude.{Contains}
-use Rattle.std.proofs.lemmas.List.{length-map}
+use Rattle.std.proofs.lemmas.List.{length-map, length-replicate}
 use Rattle.std.proofs.lemmas.Option.{slice_get_within, slice_get-get_or, get_or_from_slice_get, same_Some}
 use Rattle.station_graph.specs.Alike.{IsVector}
 use Rattle.contraction.specs.Answers.{Answers, Keeps}
@@ -43,6 +43,11 @@ start_exact plan p start letters keeps pool linked fits = record {
   well = λ t r at. pool.well start r (value_is t r at);
   apart = λ t u a b at_t at_u same. place_is t a at_t ∙ sym (place_is u b at_u);
   stands = λ v cs whole len chosen. at_start v whole (leads [] 0 cs) refl;
+  views = record {
+    made = λ t r at. (let open_all = replicate (length (diagram_of plan).switches) false in let whole = length-replicate (length (diagram_of plan).switches) false in (open_all, whole, fits.start_stands r open_all (value_is t r at) whole));
+    cover = λ v whole. (0, at_start v whole 0 refl);
+  };
+  counted = λ i l at. cc;
 }
   where
     at_x : slice_get p.values.items start ≡ Some (get_or p.values.items start no_answers)
@@ -77,7 +82,7 @@ module _ (p q r : Pool) (start : ℕ) (letters : List (List ℕ)) (keeps : List 
 
   step : IsStep p.view nodes (values_at r.values.items states) (values_at r.values.items ids) (values_at r.values.items next) edges
   step = subst (λ v. IsStep v nodes (values_at r.values.items states) (values_at r.values.items ids) (values_at r.values.items next) edges) (h.view ∙ g.view)
-      (step_of_edges r.view r.values.items nodes states ids next edges (length states * length ids) refl e h.is_pool.apart h.is_pool.well)
+      (step_of_edges r.view r.values.items nodes states ids next edges (length states * length ids) e h.is_pool.apart h.is_pool.well refl)
 
   some_letter : 0 < length ids
   some_letter = linked.some j ids at_j
@@ -92,18 +97,20 @@ module _ (p q r : Pool) (start : ℕ) (letters : List (List ℕ)) (keeps : List 
       (omega (arith, some, states_len)) (omega (arith, some_letter, letters_len)) refl
       (fits.needed (suc j) k nodes at_k at_nodes)
       (λ c v whole chosen. subst (λ xs. StandsIn p.view (Among (new_of plan j)) (diagram_of plan) v xs c) (sym letters_more) (fits.letter j c ids v at_j whole chosen))
-      (λ t c x y at_x at_y. fits.meets j c ids x y at_j (here.kept t x at_x) (ap (λ xs. slice_get xs c) (sym letters_more) ∙ at_y)) in
+      (λ t c x y at_x at_y. fits.meets j c ids x y at_j (here.kept t x at_x) (ap (λ xs. slice_get xs c) (sym letters_more) ∙ at_y))
+      (λ c x y v at_y whole seen. fits.given j c ids x y v at_j (ap (λ xs. slice_get xs c) (sym letters_more) ∙ at_y) whole seen)
+      (λ v whole. let (c, s) = fits.cover j ids v at_j whole in (c, subst (λ xs. StandsIn p.view (Among (new_of plan j)) (diagram_of plan) v xs c) (sym letters_more) s)) in
       subst (λ n. IsExact p.view (diagram_of plan) (ChosenBy plan) (items_of plan) (NeededBy plan) (suc j) (ls ++ layer_with n (length states) edges ∷ []) (values_at r.values.items next)) letters_len
       (subst (λ n. IsExact p.view (diagram_of plan) (ChosenBy plan) (items_of plan) (NeededBy plan) (suc j) (ls ++ layer_with (length (values_at r.values.items ids)) n edges ∷ []) (values_at r.values.items next)) states_len done)
 
   pub next_kept : (t i : ℕ) (x : Answers) → slice_get next t ≡ Some i → slice_get r.values.items i ≡ Some x → (n : ℕ) → Keeps x.kept n ↔ Contains nodes n
   next_kept t i x at listed n =
-      let m = next_listed r.view r.values.items nodes states ids next edges (length states * length ids) refl e h.is_pool.apart h.is_pool.well t i at in
+      let m = next_listed r.view r.values.items nodes states ids next edges (length states * length ids) e h.is_pool.apart h.is_pool.well t i at in
       subst (λ z. Keeps z.kept n ↔ Contains nodes n) (same_Some m.0 x (sym m.1 ∙ listed)) (m.2 n)
 
   pub next_in : (t i : ℕ) → slice_get next t ≡ Some i → i < length r.values.items
   next_in t i at =
-      let m = next_listed r.view r.values.items nodes states ids next edges (length states * length ids) refl e h.is_pool.apart h.is_pool.well t i at in
+      let m = next_listed r.view r.values.items nodes states ids next edges (length states * length ids) e h.is_pool.apart h.is_pool.well t i at in
       slice_get_within r.values.items i m.0 m.1
 
   -- each edge leads to a value of the next layer

@@ -1,13 +1,15 @@
 -- The graphs of a bay, and of a station.
-use Rattle.std.specs.Prelude.{◌≡◌, ℕ, suc, ◌+◌, List, length, slice_get, Some}
+use Rattle.std.specs.Prelude.{◌≡◌, ℕ, suc, ◌+◌, List, length, slice_get, Option, Some, None}
 use Rattle.station_graph.specs.Diagram.{AreSwitchesOf}
 use Rattle.contraction.specs.Answers.{Answers}
+use Rattle.central_rules.specs.Meaning.{IsBay}
 use Rattle.decision_graphs.specs.Label.{Layered, AreReduced}
 use Rattle.release_compile.specs.declared.view.View.{View}
 use Rattle.release_compile.specs.declared.view.View.TheVariants.{Gap, Load}
 use Rattle.release_compile.specs.Lettered.{Lettered}
 use Rattle.release_compile.specs.Graphs.{IsOuter, IsInner}
 use Rattle.release_compile.specs.Coding.{labels_of}
+use Rattle.release_compile.specs.Counted.{OuterIsSmall, InnerIsSmall}
 
 -- The graphs of one view of a bay: the outer one, and an inner one for each of its switches.
 pub record ViewOf : Type 0 where
@@ -28,6 +30,7 @@ pub record IsInnerAt (view : View) (a : Lettered) (b first count : ℕ) (names :
   pub graph : IsInner view a b (first + i) first others names g
   pub labels : g.labels ≡ labels_of view
   pub reduced : AreReduced g.layers
+  pub small : InnerIsSmall view a.diagram b (first + i) first others g
 
 -- The first n of the bay's switches have their inner graphs.
 pub record AreInner (view : View) (a : Lettered) (b first count : ℕ) (names : List Answers) (graphs : List Layered) (n : ℕ) : Type 0 where
@@ -40,6 +43,7 @@ pub record AreViewGraphs (view : View) (a : Lettered) (b first count : ℕ) (g :
   pub names : List Answers
   pub outer : IsOuter view a b g.outer names
   pub outer_reduced : AreReduced g.outer.layers
+  pub outer_small : OuterIsSmall view a.diagram b g.outer
   pub inner : AreInner view a b first count names g.inner count
 
 -- The graphs of a bay in both views.
@@ -48,7 +52,12 @@ pub record AreBayGraphs (a : Lettered) (b : ℕ) (g : BayOf) : Type 0 where
   pub gap : AreViewGraphs Gap a b g.first g.count g.gap
   pub load : AreViewGraphs Load a b g.first g.count g.load
 
--- The first n bays have their graphs.
-pub record AreBays (a : Lettered) (bays : List BayOf) (n : ℕ) : Type 0 where
+-- These are the graphs of a part: it has some exactly where it has switches.
+abbrev pub AreGraphsOf : Lettered → ℕ → Option BayOf → Type 0
+AreGraphsOf a b (Some g) = IsBay a.diagram b × AreBayGraphs a b g
+AreGraphsOf a b None = ¬ IsBay a.diagram b
+
+-- The first n parts have their graphs.
+pub record AreBays (a : Lettered) (bays : List (Option BayOf)) (n : ℕ) : Type 0 where
   pub len : length bays ≡ n
-  pub each : (b : ℕ) (g : BayOf) → slice_get bays b ≡ Some g → AreBayGraphs a b g
+  pub each : (b : ℕ) (g : Option BayOf) → slice_get bays b ≡ Some g → AreGraphsOf a b g

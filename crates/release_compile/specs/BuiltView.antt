@@ -1,4 +1,5 @@
 -- How the graphs of a bay are seen.
+use Rattle.std.specs.Prelude.{Option, option_map}
 use Rattle.release_compile.specs.declared.bay.ViewGraphs.{ViewGraphs}
 use Rattle.release_compile.specs.declared.bay.BayGraphs.{BayGraphs}
 use Rattle.release_compile.specs.Built.{ViewOf, BayOf}
@@ -8,3 +9,6 @@ view_of g = record { outer = g.outer; inner = g.inner.items }
 
 abbrev pub seen_bay : BayGraphs → BayOf
 seen_bay g = record { first = g.first; count = g.count; gap = view_of g.gap; load = view_of g.load }
+
+abbrev pub seen_part : Option BayGraphs → Option BayOf
+seen_part part = option_map seen_bay part

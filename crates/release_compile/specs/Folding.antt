@@ -1,13 +1,14 @@
 -- A graph whose nodes are values, layer by layer: each layer takes more items in.
-use Rattle.std.specs.Prelude.{◌≡◌, ℕ, ◌*◌, ◌/◌, ◌%◌, ◌<◌, ◌↔◌, Bool, List, length, slice_get, slice_index, Some, Contains}
+use Rattle.std.specs.Prelude.{◌≡◌, ℕ, ◌*◌, ◌/◌, ◌%◌, ◌<◌, ◌≤◌, ◌↔◌, Bool, List, length, slice_get, slice_index, Some, Contains}
 use Rattle.station_graph.specs.Diagram.{Diagram}
 use Rattle.station_graph.specs.Connection.{Item}
 use Rattle.station_graph.specs.Alike.{IsVector}
 use Rattle.contraction.specs.Answers.{Answers, Keeps, IsContraction}
 use Rattle.contraction.specs.Stands.{Among}
+use Rattle.bay_contract.specs.Counting.{AreSoMany}
 use Rattle.decision_graphs.specs.Label.{Layer, leads, AreLayers}
 use Rattle.release_compile.specs.declared.view.View.{View}
-use Rattle.release_compile.specs.Seen.{SeenFor, SameSeen, Carries}
+use Rattle.release_compile.specs.Seen.{SeenFor, SameSeen, SameView, Carries}
 
 -- The value of this number carries the two on.
 pub record Carried (view : View) (x y : Answers) (values : List Answers) (t : ℕ) : Type 0 where
@@ -35,6 +36,30 @@ pub record IsStep (view : View) (keep : List ℕ) (states letters next : List An
   pub apart : AreApart view next
   pub hit : (t : ℕ) (r : Answers) → slice_get next t ≡ Some r → (p : ℕ) × (p < length edges) × (slice_index edges p ≡ t)
 
+-- A state of these and a letter of these carry on to the value.
+pub record IsCarriedOn (view : View) (states letters : List Answers) (r : Answers) : Type 0 where
+  pub state : ℕ
+  pub letter : ℕ
+  pub x : Answers
+  pub y : Answers
+  pub first : slice_get states state ≡ Some x
+  pub second : slice_get letters letter ≡ Some y
+  pub carries : Carries view x y r
+
+-- Each of these values comes of a state and a letter.
+pub record AreReached (view : View) (keep : List ℕ) (states letters next : List Answers) : Type 0 where
+  pub kept : AllKeep next keep
+  pub well : AreWell next
+  pub apart : AreApart view next
+  pub carried : (t : ℕ) (r : Answers) → slice_get next t ≡ Some r → IsCarriedOn view states letters r
+
+-- More values than the limit are reached, though no more than pairs of a state and a letter.
+pub record ReachesMore (view : View) (keep : List ℕ) (states letters : List Answers) (limit : ℕ) : Type 0 where
+  pub next : List Answers
+  pub reached : AreReached view keep states letters next
+  pub past : limit < length next
+  pub few : length next ≤ length states * length letters
+
 -- The value of this number answers for these items in v.
 pub record StandsIn (view : View) (These : Item → Type 0) (d : Diagram) (v : List Bool) (values : List Answers) (t : ℕ) : Type 0 where
   pub value : Answers
@@ -45,7 +70,17 @@ pub record StandsIn (view : View) (These : Item → Type 0) (d : Diagram) (v : L
 abbrev pub AreChosen : (ℕ → ℕ → List Bool → Type 0) → List Bool → List ℕ → Type 0
 AreChosen Chosen v cs = (i c : ℕ) → slice_get cs i ≡ Some c → Chosen i c v
 
+-- Each value answers for these items in some vector.
+abbrev pub AreMade : View → (Item → Type 0) → Diagram → List Answers → Type 0
+AreMade view These d values = (t : ℕ) (r : Answers) → slice_get values t ≡ Some r → (v : List Bool) × IsVector d v × SeenFor view These d v r
+
+-- The values are the distinct views of these items: each is that of some vector, and each vector has one.
+pub record AreViews (view : View) (These : Item → Type 0) (d : Diagram) (values : List Answers) : Type 0 where
+  pub made : AreMade view These d values
+  pub cover : (v : List Bool) → IsVector d v → (t : ℕ) × StandsIn view These d v values t
+
 -- The layers are exact: for every vector, the choices that it gives lead to a state that answers for the items so far.
+-- The states are the distinct views of these items, and each layer has a node for each distinct view of those before it.
 -- `Chosen i c v`: v gives choice c in layer i. `items j`: the items before layer j. `Needed j n`: node n is kept before layer j.
 pub record IsExact (view : View) (d : Diagram) (Chosen : ℕ → ℕ → List Bool → Type 0) (items : ℕ → List Item) (Needed : ℕ → ℕ → Type 0) (j : ℕ) (ls : List Layer) (states : List Answers) : Type 0 where
   pub count : length ls ≡ j
@@ -54,7 +89,5 @@ pub record IsExact (view : View) (d : Diagram) (Chosen : ℕ → ℕ → List Bo
   pub well : AreWell states
   pub apart : AreApart view states
   pub stands : (v : List Bool) (cs : List ℕ) → IsVector d v → length cs ≡ j → AreChosen Chosen v cs → StandsIn view (Among (items j)) d v states (leads ls 0 cs)
-
--- Each state answers for the items in some vector: so there are no more states than distinct views.
-abbrev pub AreMade : View → Diagram → List Item → List Answers → Type 0
-AreMade view d items states = (t : ℕ) (r : Answers) → slice_get states t ≡ Some r → (v : List Bool) × IsVector d v × SeenFor view (Among items) d v r
+  pub views : AreViews view (Among (items j)) d states
+  pub counted : (i : ℕ) (l : Layer) → slice_get ls i ≡ Some l → AreSoMany d (SameView view (Needed i) (Among (items i)) d) (length l.rows)

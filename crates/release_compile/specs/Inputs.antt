@@ -10,7 +10,8 @@ use Rattle.release_compile.specs.Lettered.{Lettered, letters_in}
 use Rattle.release_compile.specs.Seen.{SeenFor}
 use Rattle.release_compile.specs.Pooling.{HasCopy}
 use Rattle.release_compile.specs.Layering.{values_at}
-use Rattle.release_compile.specs.Graphs.{other_of}
+use Rattle.release_compile.specs.Folding.{AreViews}
+use Rattle.release_compile.specs.Graphs.{other_of, OfOthers}
 use Rattle.release_compile.specs.Listing.{own_links}
 use Rattle.release_compile.specs.Needing.{IsNeededOuter}
 
@@ -76,8 +77,10 @@ pub record AreInnerRows (d : Diagram) (m first : ℕ) (p : Pool) (names : List �
   pub first_row : slice_get rows 0 ≡ Some names
   pub pairs : (i : ℕ) (ids : List ℕ) → slice_get rows (suc i) ≡ Some ids → HasPair p d (other_of first m i) ids
 
--- The numbers are those of values on the nodes that the bay touches and another part touches too.
+-- The numbers are those of the distinct views of all other parts, on the nodes that the bay touches and another part
+-- touches too.
 pub record AreNames (p : Pool) (d : Diagram) (b : ℕ) (names : List ℕ) : Type 0 where
   pub some : 0 < length names
   pub within : (t i : ℕ) → slice_get names t ≡ Some i → i < length p.values.items
   pub kept : (t : ℕ) (x : Answers) → slice_get (values_at p.values.items names) t ≡ Some x → (n : ℕ) → Keeps x.kept n ↔ IsNeededOuter d b (part_count d - 1) n
+  pub views : AreViews p.view (OfOthers d b) d (values_at p.values.items names)

@@ -1,9 +1,12 @@
 -- How a graph judge is seen, and why a station has none.
-use Rattle.std.specs.Prelude.{ℕ, ◌<◌, ◌-◌, List, [], slice_index_or, ⊤}
+use Rattle.std.specs.Prelude.{◌≡◌, ℕ, ◌<◌, ◌≤◌, ◌-◌, ◌⊎◌, List, [], length, slice_get, slice_index_or, sum, Option, Some, None, ⊤}
 use Rattle.station_graph.specs.Diagram.{Diagram, part_count}
 use Rattle.decision_graphs.specs.Label.{Layered}
 use Rattle.bay_contract.specs.PartAlphabets.{Alphabets}
-use Rattle.bay_contract.specs.Counting.{PartFits, PartIsPast}
+use Rattle.bay_contract.specs.Counting.{AreSoMany, PartFits, PartIsPast}
+use Rattle.central_rules.specs.Meaning.{IsBay}
+use Rattle.release_compile.specs.Counted.{BayHas, Passes}
+use Rattle.release_compile.specs.declared.limits.TheConstants.{BAY_EDGES, ALL_EDGES}
 use Rattle.release_compile.specs.Lettered.{Lettered, AreLettered, lettered}
 use Rattle.release_compile.specs.Built.{ViewOf, BayOf, AreBays}
 use Rattle.release_compile.specs.declared.refusal.BuildRefusal.{BuildRefusal}
@@ -13,7 +16,7 @@ use Rattle.release_compile.specs.declared.refusal.BuildRefusal.TheVariants.{Memo
 pub record Judging : Type 0 where
   pub diagram : Diagram
   pub alphabets : Alphabets
-  pub bays : List BayOf
+  pub bays : List (Option BayOf)
 
 abbrev pub ground : Judging → Lettered
 ground j = lettered j.diagram j.alphabets
@@ -29,9 +32,14 @@ no_graph = record { labels = 0; layers = [] }
 abbrev pub no_bay : BayOf
 no_bay = record { first = 0; count = 0; gap = record { outer = no_graph; inner = [] }; load = record { outer = no_graph; inner = [] } }
 
+abbrev pub or_no_bay : Option (Option BayOf) → BayOf
+or_no_bay (Some (Some g)) = g
+or_no_bay (Some None) = no_bay
+or_no_bay None = no_bay
+
 -- The graphs of a bay.
 abbrev pub bay_at : Judging → ℕ → BayOf
-bay_at j b = slice_index_or j.bays b no_bay
+bay_at j b = or_no_bay (slice_get j.bays b)
 
 -- The inner graph of a switch of a bay, of one of its views.
 abbrev pub inner_at : BayOf → ViewOf → ℕ → Layered
@@ -41,15 +49,39 @@ inner_at bay view m = slice_index_or view.inner (m - bay.first) no_graph
 abbrev pub AllFit : Diagram → Type 0
 AllFit d = (part : ℕ) → part < part_count d → PartFits d part
 
+-- The counted edges of a part are so many: those of its graphs, and none where it has no switch.
+pub record PartHasEdges (d : Diagram) (part edges : ℕ) : Type 0 where
+  pub bay : IsBay d part → BayHas d part (AreSoMany d) edges
+  pub other : ¬ IsBay d part → edges ≡ 0
+
+-- The first n parts have so many counted edges, and keep the limits.
+pub record KeepEdges (d : Diagram) (n edges : ℕ) : Type 0 where
+  pub each : List ℕ
+  pub len : length each ≡ n
+  pub counted : (part size : ℕ) → slice_get each part ≡ Some size → PartHasEdges d part size × (size ≤ BAY_EDGES)
+  pub all : sum each ≡ edges
+  pub few : edges ≤ ALL_EDGES
+
+-- The station keeps the limits of contractions and of counted edges.
+abbrev pub KeepsLimits : Diagram → Type 0
+KeepsLimits d = AllFit d × (edges : ℕ) × KeepEdges d (part_count d) edges
+
+-- The bay is the first whose counted edges pass the limit of a bay, or with those of the parts before it that of all.
+pub record IsFirstWide (d : Diagram) (b : ℕ) : Type 0 where
+  pub bay : IsBay d b
+  pub spent : ℕ
+  pub before : KeepEdges d b spent
+  pub past : Passes (BayHas d b) d BAY_EDGES ⊎ Passes (BayHas d b) d (ALL_EDGES - spent)
+
 -- Why a station is refused: a part passes a limit of its contractions, the first such part and its first such step; or
--- all parts keep these limits, and a bay has too many edges.
+-- all parts keep these limits, and a bay is the first that passes a limit of counted edges.
 abbrev pub IsBuildRefusal : Diagram → BuildRefusal → Type 0
 IsBuildRefusal d Memory = ⊤
 IsBuildRefusal d (Many p step) = PartIsPast d p.0 step × ((part : ℕ) → part < p.0 → PartFits d part)
-IsBuildRefusal d (Wide bay) = (bay.0 < part_count d) × AllFit d
+IsBuildRefusal d (Wide bay) = AllFit d × IsFirstWide d bay.0
 
--- A bay of the station has too many edges, or memory was wanting.
+-- A bay is the first that passes a limit of counted edges, or memory was wanting.
 abbrev pub IsTooWide : Diagram → BuildRefusal → Type 0
 IsTooWide d Memory = ⊤
 IsTooWide d (Many p step) = ⊥
-IsTooWide d (Wide bay) = bay.0 < part_count d
+IsTooWide d (Wide bay) = IsFirstWide d bay.0

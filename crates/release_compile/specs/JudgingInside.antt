@@ -1,8 +1,8 @@
 -- How the fields of a graph judge are seen.
 use Rattle.std.specs.Prelude.{map}
 use Rattle.release_compile.specs.Judging.{Judging}
-use Rattle.release_compile.specs.BuiltView.{seen_bay}
+use Rattle.release_compile.specs.BuiltView.{seen_part}
 use Rattle.release_compile.specs.declared.build.GraphJudge.TheInside.{Inside}
 
 abbrev pub judging_of : Inside → Judging
-judging_of j = record { diagram = j.station.now; alphabets = j.parts; bays = map seen_bay j.bays.items }
+judging_of j = record { diagram = j.station.now; alphabets = j.parts; bays = map seen_part j.bays.items }

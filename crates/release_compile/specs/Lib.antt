@@ -5,6 +5,7 @@ pub mod Chaining
 pub mod Graphs
 pub mod Listing
 pub mod Needing
+pub mod Counted
 pub mod Summaries
 pub mod Rows
 pub mod Deciding

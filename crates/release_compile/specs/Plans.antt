@@ -1,5 +1,5 @@
 -- What the layers of a graph are made of.
-use Rattle.std.specs.Prelude.{◌≡◌, ℕ, zero, suc, ◌-◌, ◌<◌, ◌⊎◌, ◌↔◌, Bool, List, [], ◌∷◌, ◌++◌, length, map, slice_get, Some, Contains}
+use Rattle.std.specs.Prelude.{◌≡◌, ℕ, zero, suc, ◌-◌, ◌<◌, ◌≤◌, ◌⊎◌, ◌↔◌, Bool, List, [], ◌∷◌, ◌++◌, length, map, slice_get, Some, Contains, sum_by}
 use Rattle.station_graph.specs.Diagram.{Diagram, IsStation, part_count}
 use Rattle.station_graph.specs.Connection.{Item, a_switch}
 use Rattle.station_graph.specs.Alike.{IsVector}
@@ -15,7 +15,8 @@ use Rattle.release_compile.specs.Needing.{IsNeededOuter, InnerNeeds}
 use Rattle.release_compile.specs.declared.pool.Pool.{Pool}
 use Rattle.decision_graphs.specs.declared.finished.FinishedLayer.{FinishedLayer}
 use Rattle.decision_graphs.specs.Finished.{finished}
-use Rattle.release_compile.specs.Seen.{SeenFor}
+use Rattle.release_compile.specs.Seen.{SeenFor, SameView}
+use Rattle.release_compile.specs.Counted.{Size, edges_in, Passes}
 use Rattle.release_compile.specs.Folding.{StandsIn}
 use Rattle.release_compile.specs.Layering.{values_at}
 use Rattle.release_compile.specs.Graphs.{other_of, OfOthers, PartChosen, SwitchChosen, IsOwn}
@@ -55,6 +56,31 @@ abbrev pub NeededBy : Plan → ℕ → ℕ → Type 0
 NeededBy (outer_plan a b) j n = IsNeededOuter a.diagram b j n
 NeededBy (inner_plan view a b m first others names) j n = InnerNeeds a.diagram b m first others j n
 
+-- In v and w the items before layer j have this view in common, on the nodes that are kept before it.
+abbrev pub SameBefore : View → Plan → ℕ → List Bool → List Bool → Type 0
+SameBefore view plan j v w = SameView view (NeededBy plan j) (Among (items_of plan j)) (diagram_of plan) v w
+
+-- There is a vector in which one value answers for these items still, and another for those.
+pub record CanBoth (view : View) (d : Diagram) (These Those : Item → Type 0) (x y : Answers) : Type 0 where
+  pub vector : List Bool
+  pub whole : IsVector d vector
+  pub first : SeenFor view These d vector x
+  pub second : SeenFor view Those d vector y
+
+-- Before each of the first n layers of the plan there are so many distinct views, each with an edge for each letter.
+pub record PlanHas (view : View) (plan : Plan) (letters : List (List ℕ)) (n : ℕ) (Many : (List Bool → List Bool → Type 0) → ℕ → Type 0) (edges : ℕ) : Type 0 where
+  pub sizes : List Size
+  pub len : length sizes ≡ n
+  pub views : (j : ℕ) (s : Size) → slice_get sizes j ≡ Some s → Many (SameBefore view plan j) s.views
+  pub choices : (j : ℕ) (s : Size) (ids : List ℕ) → slice_get sizes j ≡ Some s → slice_get letters j ≡ Some ids → s.choices ≡ length ids
+  pub all : sum_by edges_in sizes ≡ edges
+
+-- Already the first layers of the plan have more edges than the limit.
+pub record PlanPasses (view : View) (plan : Plan) (letters : List (List ℕ)) (limit : ℕ) : Type 0 where
+  pub layers : ℕ
+  pub within : layers ≤ length letters
+  pub first : Passes (PlanHas view plan letters layers) (diagram_of plan) limit
+
 -- The start, the letters of each layer and the nodes kept before and after each are numbers of the pool, and each node
 -- that is kept after a layer was kept before it or by each of its letters.
 pub record AreLinked (p : Pool) (start : ℕ) (letters : List (List ℕ)) (keeps : List ℕ) : Type 0 where
@@ -72,6 +98,8 @@ pub record PlanFits (plan : Plan) (p : Pool) (start : ℕ) (letters : List (List
   pub needed : (j k : ℕ) (nodes : List ℕ) → slice_get keeps j ≡ Some k → slice_get p.keeps.items k ≡ Some nodes → (n : ℕ) → Contains nodes n ↔ NeededBy plan j n
   pub letter : (j c : ℕ) (ids : List ℕ) (v : List Bool) → slice_get letters j ≡ Some ids → IsVector (diagram_of plan) v → ChosenBy plan j c v → StandsIn p.view (Among (new_of plan j)) (diagram_of plan) v (values_at p.values.items ids) c
   pub meets : (j c : ℕ) (ids : List ℕ) (x y : Answers) → slice_get letters j ≡ Some ids → ((n : ℕ) → Keeps x.kept n ↔ NeededBy plan j n) → slice_get (values_at p.values.items ids) c ≡ Some y → MeetsKept (Among (items_of plan j)) (Among (new_of plan j)) (diagram_of plan) x.kept y.kept
+  pub given : (j c : ℕ) (ids : List ℕ) (x y : Answers) (v : List Bool) → slice_get letters j ≡ Some ids → slice_get (values_at p.values.items ids) c ≡ Some y → IsVector (diagram_of plan) v → SeenFor p.view (Among (items_of plan j)) (diagram_of plan) v x → CanBoth p.view (diagram_of plan) (Among (items_of plan j)) (Among (new_of plan j)) x y
+  pub cover : (j : ℕ) (ids : List ℕ) (v : List Bool) → slice_get letters j ≡ Some ids → IsVector (diagram_of plan) v → (c : ℕ) × StandsIn p.view (Among (new_of plan j)) (diagram_of plan) v (values_at p.values.items ids) c
 
 -- The layers of a graph that are finished.
 abbrev pub layers_of : List FinishedLayer → List Layer

@@ -1,5 +1,5 @@
 //! The graphs of the bays.
-ghost use Rattle.std.specs.Prelude.{◌≡◌, ◌+◌, ◌<◌, ◌≤◌, ◌↔◌, ℕ, suc, length, IfOk, OnOk, Contains};
+ghost use Rattle.std.specs.Prelude.{◌≡◌, ◌+◌, ◌<◌, ◌≤◌, ◌↔◌, ℕ, suc, length, IfOk, IfErr, OnOk, Contains};
 ghost use Rattle.station_graph.specs.Diagram.{part_count, AreSwitchesOf};
 ghost use Rattle.station_graph.specs.Sharing.{IsShared};
 ghost use Rattle.bay_contract.specs.PartAlphabets.{Alphabets};
@@ -10,6 +10,8 @@ ghost use Rattle.release_compile.specs.Layering.{values_at};
 ghost use Rattle.release_compile.specs.Needing.{AreShared};
 ghost use Rattle.release_compile.specs.Inputs.{AreNames};
 ghost use Rattle.release_compile.specs.Built.{AreInner, AreViewGraphs, AreBayGraphs};
+ghost use Rattle.release_compile.specs.Counted.{SwitchesHave, ViewHas, BayHas, Spends, Passes};
+ghost use Rattle.release_compile.specs.declared.layer.Trouble.TheVariants.{Wide};
 ghost use Rattle.release_compile.specs.BuiltView.{view_of, seen_bay};
 
 use crate::inner::inner_graph;
@@ -80,6 +82,8 @@ fn inner_graphs(
     requires few { length names.now ≤ 8000001 }
     requires left { left ≤ 8000000 }
     ensures inner { IfOk result (λ r. (a : Alphabets) → AreInner pool.old.view (lettered station.now a) bay.0 first count (values_at pool.old.values.items names.now) r.graphs.items count) }
+    ensures wide { IfErr result (λ e. e ≡ Wide → Passes (SwitchesHave pool.old.view station.now bay.0 first count count) station.now left) }
+    ensures spent { IfOk result (λ r. Spends (SwitchesHave pool.old.view station.now bay.0 first count count) station.now left r.left) }
     ensures left { IfOk result (λ r. r.left ≤ left) }
 {
     let _count = station.switch_count();
@@ -115,6 +119,8 @@ fn view_graphs(
     requires switches { AreSwitchesOf station.now bay.0 first count }
     requires left { left ≤ 8000000 }
     ensures graphs { IfOk result (λ r. AreViewGraphs view (lettered station.now parts.now) bay.0 first count (view_of r.graphs)) }
+    ensures wide { IfErr result (λ e. e ≡ Wide → Passes (ViewHas view station.now bay.0 first count) station.now left) }
+    ensures spent { IfOk result (λ r. Spends (ViewHas view station.now bay.0 first count) station.now left r.left) }
     ensures left { IfOk result (λ r. r.left ≤ left) }
 {
     let others = station.part_count() - 1;
@@ -142,7 +148,7 @@ fn view_graphs(
     })
 }
 
-// The graphs of a bay. They are built with at most so many counted edges.
+// The graphs of a bay. They are too wide where they have more edges than are left.
 pub(crate) fn bay_graphs(
     alloc: Global,
     station: &Station,
@@ -156,6 +162,8 @@ pub(crate) fn bay_graphs(
     requires bay { bay.0 < part_count station.now }
     requires left { left ≤ 8000000 }
     ensures graphs { IfOk result (λ r. AreBayGraphs (lettered station.now parts.now) bay.0 (seen_bay r.graphs)) }
+    ensures wide { IfErr result (λ e. e ≡ Wide → Passes (BayHas station.now bay.0) station.now left) }
+    ensures spent { IfOk result (λ r. Spends (BayHas station.now bay.0) station.now left r.left) }
     ensures left { IfOk result (λ r. r.left ≤ left) }
 {
     let (id, count) = station.switches_of(bay);

@@ -1,16 +1,23 @@
 //! The graphs of a station.
-ghost use Rattle.std.specs.Prelude.{◌≡◌, ◌+◌, ◌<◌, ◌≤◌, ◌++◌, ◌∷◌, [], ℕ, length, map, IfOk, IfErr};
+ghost use Rattle.std.specs.Prelude.{◌≡◌, ◌+◌, ◌-◌, ◌<◌, ◌≤◌, ◌⊎◌, ◌++◌, ◌∷◌, [], ℕ, length, map, slice_get, Some, IfOk, IfErr};
 ghost use Rattle.station_graph.specs.Diagram.{part_count};
+ghost use Rattle.station_graph.specs.Connection.{a_switch};
+ghost use Rattle.station_graph.specs.Sharing.{OfPart};
 ghost use Rattle.bay_contract.specs.Alphabets.{AreAlphabets};
+ghost use Rattle.central_rules.specs.Meaning.{IsBay, bay_of};
+ghost use Rattle.release_compile.specs.declared.bay.BayGraphs.{BayGraphs as Graphs};
+ghost use Rattle.release_compile.specs.declared.limits.TheConstants.{BAY_EDGES as BAY, ALL_EDGES as ALL};
+ghost use Rattle.release_compile.specs.declared.layer.Trouble.TheVariants.{Wide as IsWide};
 ghost use Rattle.release_compile.specs.Lettered.{lettered};
 ghost use Rattle.release_compile.specs.Needing.{AreShared};
-ghost use Rattle.release_compile.specs.Built.{AreBays, AreBayGraphs};
-ghost use Rattle.release_compile.specs.BuiltView.{seen_bay};
-ghost use Rattle.release_compile.specs.Judging.{ground, bay_at, inner_at, AllFit, IsBuildRefusal, IsTooWide};
-ghost use Rattle.central_rules.specs.Meaning.{bay_of};
+ghost use Rattle.release_compile.specs.Counted.{BayHas, Passes};
+ghost use Rattle.release_compile.specs.Built.{AreBays, AreGraphsOf, AreBayGraphs};
+ghost use Rattle.release_compile.specs.BuiltView.{seen_bay, seen_part};
+ghost use Rattle.release_compile.specs.Judging.{ground, bay_at, inner_at, AllFit, PartHasEdges, KeepEdges, KeepsLimits, IsBuildRefusal, IsTooWide};
 
 use crate::bay::{BayGraphs, bay_graphs};
 use crate::layer::Trouble;
+use crate::limits::{ALL_EDGES, BAY_EDGES};
 use crate::needed::all_shared;
 use crate::refusal::BuildRefusal;
 use bay_contract::{Parts, PartsRefusal};
@@ -20,33 +27,71 @@ use station_graph::{NodeList, Station};
 use std::alloc::Global;
 use std::marker::Model;
 
-// How many counted edges a bay may have: at most 8,000,000, and with those of the bays before it 80,000,000.
-fn allowed(spent: usize) -> usize
-    requires { spent ≤ 80000000 }
-    ensures bay { result ≤ 8000000 }
-    ensures all { result + spent ≤ 80000000 }
-{
-    (80_000_000 - spent).min(8_000_000)
+// The graphs of a part, if it has switches, and how many edges are left.
+#[derive(Drop)]
+struct Part {
+    graphs: Option<BayGraphs>,
+    left: usize,
 }
 
-// Puts the graphs of one more bay last.
-fn keep(bays: &mut Vec<BayGraphs>, graphs: BayGraphs) -> Result<(), Memory>
+// How many counted edges a bay may have where those before it have so many.
+fn allowed(spent: usize) -> usize
+    requires { spent ≤ ALL }
+    ensures bay { result ≤ BAY }
+    ensures all { result + spent ≤ ALL }
+    ensures either { (result ≡ BAY) ⊎ (result + spent ≡ ALL) }
+{
+    (ALL_EDGES - spent).min(BAY_EDGES)
+}
+
+// The graphs of a part. A part without switches has none.
+fn part_graphs(
+    alloc: Global,
+    station: &Station,
+    parts: &Parts,
+    shared: &[NodeList],
+    bay: BayId,
+    left: usize,
+) -> Result<Part, Trouble>
+    requires lettered { AreAlphabets station.now parts.now }
+    requires shared { AreShared station.now shared.now }
+    requires bay { bay.0 < part_count station.now }
+    requires left { left ≤ BAY }
+    ensures graphs { IfOk result (λ r. AreGraphsOf (lettered station.now parts.now) bay.0 (seen_part r.graphs)) }
+    ensures wide { IfErr result (λ e. e ≡ IsWide → IsBay station.now bay.0 × Passes (BayHas station.now bay.0) station.now left) }
+    ensures spent { IfOk result (λ r. PartHasEdges station.now bay.0 (left - r.left)) }
+    ensures left { IfOk result (λ r. r.left ≤ left) }
+{
+    let (_, count) = station.switches_of(bay);
+    if count == 0 {
+        return Ok(Part { graphs: None, left });
+    }
+    let made = bay_graphs(alloc, station, parts, shared, bay, left)?;
+    Ok(Part {
+        graphs: Some(made.graphs),
+        left: made.left,
+    })
+}
+
+// Puts the graphs of one more part last.
+fn keep(bays: &mut Vec<Option<BayGraphs>>, graphs: Option<BayGraphs>) -> Result<(), Memory>
     ensures { IfOk result (λ _. bays.new.items ≡ bays.old.items ++ graphs ∷ []) }
 {
     bays.push(graphs)?;
     Ok(())
 }
 
-// The graphs of all bays.
+// The graphs of all parts that have switches.
 fn all_bays(
     alloc: Global,
     station: &Station,
     parts: &Parts,
     shared: &[NodeList],
-) -> Result<Vec<BayGraphs>, BuildRefusal>
+) -> Result<Vec<Option<BayGraphs>>, BuildRefusal>
     requires lettered { AreAlphabets station.now parts.now }
     requires shared { AreShared station.now shared.now }
-    ensures bays { IfOk result (λ v. AreBays (lettered station.now parts.now) (map seen_bay v.items) (part_count station.now)) }
+    ensures bays { IfOk result (λ v. AreBays (lettered station.now parts.now) (map seen_part v.items) (part_count station.now)) }
+    ensures fits { IfOk result (λ _. (edges : ℕ) × KeepEdges station.now (part_count station.now) edges) }
     ensures refusal { IfErr result (IsTooWide station.now) }
 {
     let mut bays = Vec::new(alloc);
@@ -54,7 +99,7 @@ fn all_bays(
     for part in 0..station.part_count() {
         let bay = BayId(part as u8);
         let left = allowed(spent);
-        match bay_graphs(alloc, station, parts, shared, bay, left) {
+        match part_graphs(alloc, station, parts, shared, bay, left) {
             Ok(made) => {
                 spent += left - made.left;
                 keep(&mut bays, made.graphs)?;
@@ -68,6 +113,29 @@ fn all_bays(
         }
     }
     Ok(bays)
+}
+
+// The graphs at a place where there are some.
+fn graphs_at(bays: &[Option<BayGraphs>], place: usize) -> &BayGraphs
+    requires { (g : Graphs) × (slice_get bays.now place ≡ Some (Some g)) }
+    ensures { slice_get bays.now place ≡ Some (Some result.now) }
+{
+    match &bays[place] {
+        Some(graphs) => graphs,
+        None => unreachable!(),
+    }
+}
+
+// The bay of a switch.
+pub(crate) fn switch_bay(station: &Station, id: SwitchId) -> BayId
+    requires { id.0 < length station.now.switches }
+    ensures value { result.0 ≡ bay_of station.now id.0 }
+    ensures bay { IsBay station.now result.0 }
+    ensures part { OfPart station.now result.0 (a_switch id.0) }
+{
+    let bay = station.switch(id).bay;
+    let (_, _count) = station.switches_of(bay);
+    bay
 }
 
 // The alphabets of the station.
@@ -92,7 +160,7 @@ fn alphabets(alloc: Global, station: &Station) -> Result<Parts, BuildRefusal>
 pub struct GraphJudge<'a> {
     station: &'a Station,
     parts: Parts,
-    bays: Vec<BayGraphs>,
+    bays: Vec<Option<BayGraphs>>,
 }
 
 impl<'a> Model for GraphJudge<'a> {
@@ -108,11 +176,14 @@ impl<'a> Model for GraphJudge<'a> {
 
 impl<'a> GraphJudge<'a> {
     /// The graphs of the station. `Many` names the first part, in document order, whose distinct
-    /// contractions pass a limit, and the first step at which they do. `Wide` names a bay whose graphs have
-    /// more than 8,000,000 counted edges, or with those of the bays before it more than 80,000,000. Time
-    /// and memory: those of the edges, each once, and of the distinct compositions.
+    /// contractions pass a limit, and the first step at which they do. `Wide` names, where no part
+    /// does, the first bay whose counted edges are more than `BAY_EDGES`, or with those of the bays before it more than
+    /// `ALL_EDGES`. Before each layer of a bay's graphs each distinct view of the items so far counts an edge for each
+    /// choice; the first layer of an inner graph is not counted. Time and memory: those of the edges, each once, and
+    /// of the distinct compositions; a station that is refused takes those of the edges up to a limit.
     pub fn build(alloc: Global, station: &'a Station) -> Result<GraphJudge<'a>, BuildRefusal>
         ensures station { IfOk result (λ j. j.diagram ≡ station.now) }
+        ensures fits { IfOk result (λ _. KeepsLimits station.now) }
         ensures refusal { IfErr result (IsBuildRefusal station.now) }
     {
         let _count = station.part_count();
@@ -143,18 +214,17 @@ impl<'a> GraphJudge<'a> {
 
     // The graphs of the bay.
     pub(crate) fn bay(&self, bay: BayId) -> &BayGraphs
-        requires { bay.0 < part_count self.now.diagram }
+        requires { IsBay self.now.diagram bay.0 }
         ensures value { seen_bay result.now ≡ bay_at self.now bay.0 }
         ensures graphs { AreBayGraphs (ground self.now) bay.0 (bay_at self.now bay.0) }
     {
-        let place = usize::from(bay.0);
-        &self.bays[place]
+        graphs_at(&self.bays, usize::from(bay.0))
     }
 
     /// The outer gap graph of the bay: one layer for each other part in document order, whose choices are
     /// that part's indices; each label names a gap view of all other parts. It is reduced. At once.
     pub fn outer_gap(&self, bay: BayId) -> &Graph
-        requires { bay.0 < part_count self.now.diagram }
+        requires { IsBay self.now.diagram bay.0 }
         ensures value { result.now ≡ (bay_at self.now bay.0).gap.outer }
         ensures graphs { AreBayGraphs (ground self.now) bay.0 (bay_at self.now bay.0) }
     {
@@ -164,7 +234,7 @@ impl<'a> GraphJudge<'a> {
 
     /// The outer load graph of the bay, whose labels name load views of all other parts. At once.
     pub fn outer_load(&self, bay: BayId) -> &Graph
-        requires { bay.0 < part_count self.now.diagram }
+        requires { IsBay self.now.diagram bay.0 }
         ensures value { result.now ≡ (bay_at self.now bay.0).load.outer }
         ensures graphs { AreBayGraphs (ground self.now) bay.0 (bay_at self.now bay.0) }
     {
@@ -181,7 +251,7 @@ impl<'a> GraphJudge<'a> {
         ensures value { result.now ≡ inner_at (bay_at self.now (bay_of self.now.diagram id.0)) (bay_at self.now (bay_of self.now.diagram id.0)).gap id.0 }
         ensures graphs { AreBayGraphs (ground self.now) (bay_of self.now.diagram id.0) (bay_at self.now (bay_of self.now.diagram id.0)) }
     {
-        let bay = self.station.switch(id).bay;
+        let bay = switch_bay(self.station, id);
         let graphs = self.bay(bay);
         let place = usize::from(id.0 - graphs.first);
         &graphs.gap.inner[place]
@@ -194,7 +264,7 @@ impl<'a> GraphJudge<'a> {
         ensures value { result.now ≡ inner_at (bay_at self.now (bay_of self.now.diagram id.0)) (bay_at self.now (bay_of self.now.diagram id.0)).load id.0 }
         ensures graphs { AreBayGraphs (ground self.now) (bay_of self.now.diagram id.0) (bay_at self.now (bay_of self.now.diagram id.0)) }
     {
-        let bay = self.station.switch(id).bay;
+        let bay = switch_bay(self.station, id);
         let graphs = self.bay(bay);
         let place = usize::from(id.0 - graphs.first);
         &graphs.load.inner[place]

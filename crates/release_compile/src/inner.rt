@@ -1,5 +1,5 @@
 //! The inner graphs of the switches of a bay.
-ghost use Rattle.std.specs.Prelude.{◌≡◌, ◌+◌, ◌<◌, ◌≤◌, ℕ, suc, length, map, slice_get, sum_by, Some, IfOk, OnOk, Contains, ◌↔◌};
+ghost use Rattle.std.specs.Prelude.{◌≡◌, ◌+◌, ◌<◌, ◌≤◌, ℕ, suc, length, map, slice_get, sum_by, Some, IfOk, IfErr, OnOk, Contains, ◌↔◌};
 ghost use Rattle.station_graph.specs.Diagram.{part_count};
 ghost use Rattle.station_graph.specs.Sharing.{IsShared};
 ghost use Rattle.bay_contract.specs.PartAlphabets.{Alphabets};
@@ -13,6 +13,8 @@ ghost use Rattle.release_compile.specs.Coding.{labels_of};
 ghost use Rattle.release_compile.specs.Inputs.{AreNames};
 ghost use Rattle.release_compile.specs.Plans.{inner_plan, ChosenBy, items_of, NeededBy, layers_of};
 ghost use Rattle.release_compile.specs.Folding.{IsExact};
+ghost use Rattle.release_compile.specs.Counted.{InnerHas, Spends, Passes, InnerIsSmall};
+ghost use Rattle.release_compile.specs.declared.layer.Trouble.TheVariants.{Wide};
 
 use crate::codes::{codes, label_count};
 use crate::inputs::{inner_keeps, inner_rows, links};
@@ -53,6 +55,8 @@ fn inner_drafts(
     requires few { length names.now ≤ 8000001 }
     requires left { left ≤ 8000000 }
     ensures grew { OnOk result (GrewTo pool.old pool.new) }
+    ensures wide { IfErr result (λ e. e ≡ Wide → Passes (InnerHas pool.old.view station.now bay.0 moved first others others) station.now left) }
+    ensures spent { IfOk result (λ r. Spends (InnerHas pool.old.view station.now bay.0 moved first others others) station.now left r.left) }
     ensures exact { IfOk result (λ r. (a : Alphabets)
         → IsExact pool.old.view station.now (ChosenBy (inner_plan pool.old.view (lettered station.now a) bay.0 moved first others (values_at pool.old.values.items names.now))) (items_of (inner_plan pool.old.view (lettered station.now a) bay.0 moved first others (values_at pool.old.values.items names.now))) (NeededBy (inner_plan pool.old.view (lettered station.now a) bay.0 moved first others (values_at pool.old.values.items names.now))) (suc others) (layers_of r.layers.items) (values_at pool.new.values.items r.states.items)) }
     ensures finished { IfOk result (λ r. AreFinished (length r.states.items) r.layers.items) }
@@ -92,6 +96,9 @@ pub(crate) fn inner_graph(
     requires few { length names.now ≤ 8000001 }
     requires left { left ≤ 8000000 }
     ensures grew { OnOk result (GrewTo pool.old pool.new) }
+    ensures wide { IfErr result (λ e. e ≡ Wide → Passes (InnerHas pool.old.view station.now bay.0 moved first others others) station.now left) }
+    ensures spent { IfOk result (λ r. Spends (InnerHas pool.old.view station.now bay.0 moved first others others) station.now left r.left) }
+    ensures small { IfOk result (λ r. InnerIsSmall pool.old.view station.now bay.0 moved first others r.graph) }
     ensures inner { IfOk result (λ r. (a : Alphabets) → IsInner pool.old.view (lettered station.now a) bay.0 moved first others (values_at pool.old.values.items names.now) r.graph) }
     ensures labels { IfOk result (λ r. r.graph.labels ≡ labels_of pool.old.view) }
     ensures reduced { IfOk result (λ r. AreReduced r.graph.layers) }
@@ -109,6 +116,6 @@ pub(crate) fn inner_graph(
     let _labels = graph.labels();
     Ok(Inner {
         graph,
-        left: drafts.left.min(left),
+        left: drafts.left,
     })
 }

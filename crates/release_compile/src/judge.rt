@@ -1,7 +1,7 @@
 //! The judge that decides by decision graphs.
 ghost use Rattle.std.specs.Prelude.{◌≡◌};
 
-use crate::build::GraphJudge;
+use crate::build::{GraphJudge, switch_bay};
 use crate::heard::{judge_heard, judge_words};
 use crate::summary::{is_index_set, summary_of};
 use central_rules::{Judge, Verdict};
@@ -48,7 +48,7 @@ impl<'a> Judge for GraphJudge<'a> {
         heard: &HeardList,
     ) -> Result<Verdict, Memory> {
         let station = self.station();
-        let bay = station.switch(op.switch).bay;
+        let bay = switch_bay(station, op.switch);
         let graphs = self.bay(bay);
         let verdict = judge_heard(alloc, station, self.parts(), graphs, bay, op, own, heard)?;
         Ok(verdict)
@@ -56,7 +56,7 @@ impl<'a> Judge for GraphJudge<'a> {
 
     fn judge_all(&self, alloc: Global, op: Op, readings: &Readings) -> Result<Verdict, Memory> {
         let station = self.station();
-        let bay = station.switch(op.switch).bay;
+        let bay = switch_bay(station, op.switch);
         let graphs = self.bay(bay);
         let verdict = judge_words(alloc, station, self.parts(), graphs, bay, op, readings)?;
         Ok(verdict)

@@ -1,10 +1,12 @@
 //! One layer of a graph: from the values of its nodes to those of the next.
-ghost use Rattle.std.specs.Prelude.{◌≡◌, [], ◌∷◌, ℕ, suc, ◌+◌, ◌*◌, ◌<◌, ◌≤◌, length, map, slice_get, sum_by, List, Some, IfOk, OnOk, IsFalse};
+ghost use Rattle.std.specs.Prelude.{◌≡◌, [], ◌∷◌, ℕ, suc, ◌+◌, ◌*◌, ◌<◌, ◌≤◌, length, map, slice_get, sum_by, List, Some, IfOk, IfErr, OnOk, IsTrue, IsFalse};
 ghost use Rattle.decision_graphs.specs.Finished.{AreFinished};
 ghost use Rattle.release_compile.specs.Pooling.{IsPool, GrewTo, EitherKeeps};
 ghost use Rattle.release_compile.specs.Layering.{IsPlaced, AreEdges, values_at};
-ghost use Rattle.release_compile.specs.Folding.{IsExact};
-ghost use Rattle.release_compile.specs.Plans.{Plan, PlanFits, AreLinked, diagram_of, ChosenBy, items_of, NeededBy, layers_of};
+ghost use Rattle.release_compile.specs.Counted.{Spends};
+ghost use Rattle.release_compile.specs.Folding.{IsExact, ReachesMore};
+ghost use Rattle.release_compile.specs.declared.layer.Trouble.TheVariants.{Wide};
+ghost use Rattle.release_compile.specs.Plans.{Plan, PlanFits, PlanHas, PlanPasses, AreLinked, diagram_of, ChosenBy, items_of, NeededBy, layers_of};
 
 use crate::pool::Pool;
 use decision_graphs::FinishedLayer;
@@ -20,18 +22,33 @@ pub(crate) enum Trouble {
 }
 
 impl From<Memory> for Trouble {
+    ghost use Rattle.std.specs.Prelude.{◌≡◌};
+    ghost use Rattle.release_compile.specs.declared.layer.Trouble.TheVariants.{Memory};
+
+    ghost from_gives = { λ _ e. e ≡ Memory };
+
     fn from(_: Memory) -> Trouble {
         Trouble::Memory
     }
 }
 
 impl From<AllocError> for Trouble {
+    ghost use Rattle.std.specs.Prelude.{◌≡◌};
+    ghost use Rattle.release_compile.specs.declared.layer.Trouble.TheVariants.{Memory};
+
+    ghost from_gives = { λ _ e. e ≡ Memory };
+
     fn from(_: AllocError) -> Trouble {
         Trouble::Memory
     }
 }
 
 impl<T: Drop> From<AllocFailed<T>> for Trouble {
+    ghost use Rattle.std.specs.Prelude.{◌≡◌};
+    ghost use Rattle.release_compile.specs.declared.layer.Trouble.TheVariants.{Memory};
+
+    ghost from_gives = { λ _ e. e ≡ Memory };
+
     fn from(_: AllocFailed<T>) -> Trouble {
         Trouble::Memory
     }
@@ -68,14 +85,16 @@ fn place(ids: &mut IndexSet<usize>, id: usize) -> Result<usize, Memory>
     Ok(place)
 }
 
-// From the values of a layer, by the letters of its choices, to those of the next layer.
+// From the values of a layer, by the letters of its choices, to those of the next layer. It is too wide, and no more of
+// it is made, as soon as the next layer has more than so many values.
 pub(crate) fn next_layer(
     alloc: Global,
     pool: &mut Pool,
     states: &[usize],
     letters: &[usize],
     keep: usize,
-) -> Result<Step, Memory>
+    most: usize,
+) -> Result<Step, Trouble>
     requires pool { IsPool pool.old }
     requires states { (k i : ℕ) → slice_get states.now k ≡ Some i → i < length pool.old.values.items }
     requires letters { (c j : ℕ) → slice_get letters.now c ≡ Some j → j < length pool.old.values.items }
@@ -87,11 +106,16 @@ pub(crate) fn next_layer(
     ensures few { IfOk result (λ s. length s.next.items ≤ length states.now * length letters.now) }
     ensures edges { IfOk result (λ s. (nodes : List ℕ) → slice_get pool.old.keeps.items keep ≡ Some nodes
         → AreEdges pool.new.view pool.new.values.items nodes states.now letters.now s.next.items s.edges.items (length states.now * length letters.now)) }
+    ensures wide { IfErr result (λ e. e ≡ Wide → (nodes : List ℕ) → slice_get pool.old.keeps.items keep ≡ Some nodes
+        → ReachesMore pool.old.view nodes (values_at pool.old.values.items states.now) (values_at pool.old.values.items letters.now) most) }
 {
     let mut next = IndexSet::new(alloc);
     let mut edges = Vec::new(alloc);
     let choices = letters.len();
     'pairs: for p in 0..states.len() * choices {
+        if next.len() > most {
+            return Err(Trouble::Wide);
+        }
         let first = states[p / choices];
         let second = letters[p % choices];
         let id = pool.compose(alloc, first, second, keep)?;
@@ -114,13 +138,30 @@ fn list_of(alloc: Global, id: usize) -> Result<Vec<usize>, Memory>
 
 // Whether so many nodes with so many choices have more than so many edges.
 fn too_many(nodes: usize, choices: usize, most: usize) -> bool
-    ensures { IsFalse result → nodes * choices ≤ most }
+    ensures few { IsFalse result → nodes * choices ≤ most }
+    ensures many { IsTrue result → most < nodes * choices }
 {
     choices != 0 && nodes > most / choices
 }
 
-// The layers of a graph, from a start value and the letters of each layer, and the values of its labels. It
-// makes at most so many edges.
+// How many nodes may have the choices of this layer where so many edges are left: so many that one more has too many
+// edges, and any number where there is no such layer.
+fn most_nodes(letters: &[Vec<usize>], j: usize, left: usize) -> usize
+    ensures many { (n : ℕ) (ids : List ℕ) → slice_get (map (λ v. v.items) letters.now) j ≡ Some ids → 0 < length ids → result < n → left < n * length ids }
+    ensures last { length letters.now ≤ j → result ≡ 18446744073709551615 }
+{
+    if j >= letters.len() {
+        return usize::MAX;
+    }
+    let choices = letters[j].len();
+    if choices == 0 {
+        return usize::MAX;
+    }
+    left / choices
+}
+
+// The layers of a graph, from a start value and the letters of each layer, and the values of its labels. It is too wide
+// where they have more than so many edges.
 pub(crate) fn fold_layers(
     alloc: Global,
     pool: &mut Pool,
@@ -133,6 +174,10 @@ pub(crate) fn fold_layers(
     requires linked { AreLinked pool.old start (map (λ v. v.items) letters.now) keeps.now }
     requires budget { budget ≤ 80000000 }
     ensures grew { OnOk result (GrewTo pool.old pool.new) }
+    ensures wide { IfErr result (λ e. e ≡ Wide → (plan : Plan) → PlanFits plan pool.old start (map (λ v. v.items) letters.now) keeps.now
+        → PlanPasses pool.old.view plan (map (λ v. v.items) letters.now) budget) }
+    ensures spent { IfOk result (λ r. (plan : Plan) → PlanFits plan pool.old start (map (λ v. v.items) letters.now) keeps.now
+        → Spends (PlanHas pool.old.view plan (map (λ v. v.items) letters.now) (length letters.now)) (diagram_of plan) budget r.left) }
     ensures exact { IfOk result (λ r. (plan : Plan) → PlanFits plan pool.old start (map (λ v. v.items) letters.now) keeps.now
         → IsExact pool.old.view (diagram_of plan) (ChosenBy plan) (items_of plan) (NeededBy plan) (length letters.now) (layers_of r.layers.items) (values_at pool.new.values.items r.states.items)) }
     ensures finished { IfOk result (λ r. AreFinished (length r.states.items) r.layers.items) }
@@ -152,8 +197,9 @@ pub(crate) fn fold_layers(
         if too_many(nodes, choices, left) {
             return Err(Trouble::Wide);
         }
-        let step = next_layer(alloc, pool, held, row, keeps[j + 1])?;
         left -= nodes * choices;
+        let most = most_nodes(letters, j + 1, left);
+        let step = next_layer(alloc, pool, held, row, keeps[j + 1], most)?;
         let layer = FinishedLayer {
             choices: choices as u32,
             nodes: nodes as u32,

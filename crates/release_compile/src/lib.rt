@@ -1,5 +1,4 @@
-//! The decision graphs of each bay of a station, and the judge that decides by them. The count of edges at which a
-//! station is refused as too wide is not proved exact yet.
+//! The decision graphs of each bay of a station, and the judge that decides by them.
 #![tactic(auto)]
 
 mod bay;
@@ -12,6 +11,7 @@ mod inner;
 mod inputs;
 mod judge;
 mod layer;
+mod limits;
 mod needed;
 mod outer;
 mod placing;
@@ -23,5 +23,6 @@ mod summary;
 mod view;
 
 pub use build::GraphJudge;
+pub use limits::{ALL_EDGES, BAY_EDGES};
 pub use refusal::BuildRefusal;
 pub use view::View;

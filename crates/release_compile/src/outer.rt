@@ -1,5 +1,5 @@
 //! The outer graphs of a bay.
-ghost use Rattle.std.specs.Prelude.{◌≡◌, ◌+◌, ◌<◌, ◌≤◌, ℕ, suc, length, map, slice_get, sum_by, Some, IfOk, OnOk};
+ghost use Rattle.std.specs.Prelude.{◌≡◌, ◌+◌, ◌<◌, ◌≤◌, ℕ, suc, length, map, slice_get, sum_by, Some, IfOk, IfErr, OnOk};
 ghost use Rattle.station_graph.specs.Diagram.{part_count};
 ghost use Rattle.bay_contract.specs.Alphabets.{AreAlphabets};
 ghost use Rattle.decision_graphs.specs.Label.{AreReduced, layer_at};
@@ -12,6 +12,8 @@ ghost use Rattle.release_compile.specs.Needing.{AreShared, IsNeededOuter};
 ghost use Rattle.release_compile.specs.Inputs.{AreNames};
 ghost use Rattle.release_compile.specs.Plans.{outer_plan, items_of, layers_of};
 ghost use Rattle.release_compile.specs.Folding.{IsExact};
+ghost use Rattle.release_compile.specs.Counted.{OuterHas, Spends, Passes, OuterIsSmall};
+ghost use Rattle.release_compile.specs.declared.layer.Trouble.TheVariants.{Wide};
 
 use crate::inputs::{letter_rows, nothing, outer_keeps};
 use crate::layer::{Drafts, Trouble, fold_layers};
@@ -30,7 +32,7 @@ pub(crate) struct Outer {
     pub(crate) left: usize,
 }
 
-// The layers of an outer graph.
+// The layers of an outer graph. They are too wide where they have more edges than are left.
 fn outer_drafts(
     alloc: Global,
     pool: &mut Pool,
@@ -48,6 +50,8 @@ fn outer_drafts(
     requires bay { bay.0 < part_count station.now }
     requires left { left ≤ 8000000 }
     ensures grew { OnOk result (GrewTo pool.old pool.new) }
+    ensures wide { IfErr result (λ e. e ≡ Wide → Passes (OuterHas pool.old.view station.now bay.0 others) station.now left) }
+    ensures spent { IfOk result (λ r. Spends (OuterHas pool.old.view station.now bay.0 others) station.now left r.left) }
     ensures exact { IfOk result (λ r. IsExact pool.old.view station.now (PartChosen (lettered station.now parts.now) bay.0) (items_of (outer_plan (lettered station.now parts.now) bay.0)) (IsNeededOuter station.now bay.0) others (layers_of r.layers.items) (values_at pool.new.values.items r.states.items)) }
     ensures finished { IfOk result (λ r. AreFinished (length r.states.items) r.layers.items) }
     ensures choices { IfOk result (λ r. (j : ℕ) → j < others → (layer_at (layers_of r.layers.items) j).choices ≡ index_count (lettered station.now parts.now) (other_of 0 bay.0 j)) }
@@ -81,6 +85,9 @@ pub(crate) fn outer_graph(
     requires bay { bay.0 < part_count station.now }
     requires left { left ≤ 8000000 }
     ensures grew { OnOk result (GrewTo pool.old pool.new) }
+    ensures wide { IfErr result (λ e. e ≡ Wide → Passes (OuterHas pool.old.view station.now bay.0 others) station.now left) }
+    ensures spent { IfOk result (λ o. Spends (OuterHas pool.old.view station.now bay.0 others) station.now left o.left) }
+    ensures small { IfOk result (λ o. OuterIsSmall pool.old.view station.now bay.0 o.graph) }
     ensures outer { IfOk result (λ o. IsOuter pool.old.view (lettered station.now parts.now) bay.0 o.graph (values_at pool.new.values.items o.names.items)) }
     ensures reduced { IfOk result (λ o. AreReduced o.graph.layers) }
     ensures names { IfOk result (λ o. AreNames pool.new station.now bay.0 o.names.items) }

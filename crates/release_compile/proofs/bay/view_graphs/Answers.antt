@@ -1,11 +1,15 @@
-use Rattle.std.proofs.Common.{◌≡◌, ◌∙◌, ℕ, List, refl, sym, ap, subst, slice_get, Some, arith}
+use Rattle.std.proofs.Common.{◌≡◌, ◌∙◌, ◌-◌, suc, ℕ, List, refl, sym, ap, subst, slice_get, Some, arith}
 use Rattle.std.proofs.lemmas.Option.{slice_get_read}
 use Rattle.contraction.specs.Answers.{Answers}
 use Rattle.release_compile.specs.declared.pool.Pool.{Pool}
 use Rattle.release_compile.specs.Lettered.{Lettered, lettered}
 use Rattle.release_compile.specs.Layering.{values_at}
 use Rattle.release_compile.specs.Graphs.{IsOuter}
+use Rattle.station_graph.specs.Diagram.{part_count}
+use Rattle.release_compile.specs.Counted.{OuterHas, SwitchesHave, Spends, Passes, OuterIsSmall}
 use Rattle.release_compile.specs.Built.{AreInner}
+use Rattle.release_compile.proofs.BayEdges.{view_spends, outer_view_passes, inner_view_passes}
+use Rattle.release_compile.proofs.ErrorLemmas.{passed_on}
 use Rattle.release_compile.proofs.bay.view_graphs.Goals as goal
 
 pub inner_graphs-requires-clause-shared : goal.inner_graphs-requires-clause-shared
@@ -30,5 +34,40 @@ returns-clause-graphs c =
       names = names;
       outer = subst (λ w. IsOuter w a b c.in_ok-outer.outer.graph names) view0 c.in_ok-outer.ensures.outer;
       outer_reduced = c.in_ok-outer.ensures.reduced;
+      outer_small = subst (λ w. OuterIsSmall w d b c.in_ok-outer.outer.graph) view0 c.in_ok-outer.ensures.small;
       inner = subst (λ w. AreInner w a b first count names c.in_ok-inners.inners.graphs.items count) (c.in_ok-outer.ensures.grew.view ∙ view0) inner;
     }
+
+pub returns-clause-spent : goal.returns-clause-spent
+returns-clause-spent c =
+    let d = c.args.station.now in
+    let b = c.args.bay.0 in
+    let first = c.args.first in
+    let count = c.args.count in
+    let view0 = c.new-pool.ensures.view in
+    let others : ℕ = c.part_count-others.result - 1 in
+    let e : suc others ≡ part_count d = omega (arith, c.requires.bay, c.part_count-others.ensures.count) in
+    let outer = subst (λ w. Spends (OuterHas w d b others) d c.args.left c.in_ok-outer.outer.left) view0 c.in_ok-outer.ensures.spent in
+    let inner = subst (λ w. Spends (SwitchesHave w d b first count count) d c.in_ok-outer.outer.left c.in_ok-inners.inners.left) (c.in_ok-outer.ensures.grew.view ∙ view0) c.in_ok-inners.ensures.spent in
+    view_spends c.args.view d b first count others e c.args.left c.in_ok-outer.outer.left c.in_ok-inners.inners.left outer inner
+
+pub returns-in_err-outer-clause-wide : goal.returns-in_err-outer-clause-wide
+returns-in_err-outer-clause-wide c = passed_on _ _ c.from_residual.result c.from_residual.ensures.1 (λ trouble same is.
+    let d = c.args.station.now in
+    let b = c.args.bay.0 in
+    let others : ℕ = c.part_count-others.result - 1 in
+    let e : suc others ≡ part_count d = omega (arith, c.requires.bay, c.part_count-others.ensures.count) in
+    outer_view_passes c.args.view d b c.args.first c.args.count others e c.args.left (subst (λ w. Passes (OuterHas w d b others) d c.args.left) c.new-pool.ensures.view (c.in_err-outer.ensures.wide (sym same ∙ is))))
+
+pub returns-in_err-inners-clause-wide : goal.returns-in_err-inners-clause-wide
+returns-in_err-inners-clause-wide c = passed_on _ _ c.from_residual-in_err-inners.result c.from_residual-in_err-inners.ensures.1 (λ trouble same is.
+    let d = c.args.station.now in
+    let b = c.args.bay.0 in
+    let first = c.args.first in
+    let count = c.args.count in
+    let view0 = c.new-pool.ensures.view in
+    let others : ℕ = c.part_count-others.result - 1 in
+    let e : suc others ≡ part_count d = omega (arith, c.requires.bay, c.part_count-others.ensures.count) in
+    let outer = subst (λ w. Spends (OuterHas w d b others) d c.args.left c.in_ok-outer.outer.left) view0 c.in_ok-outer.ensures.spent in
+    let inner = subst (λ w. Passes (SwitchesHave w d b first count count) d c.in_ok-outer.outer.left) (c.in_ok-outer.ensures.grew.view ∙ view0) (c.in_err-inners.ensures.wide (sym same ∙ is)) in
+    inner_view_passes c.args.view d b first count others e c.args.left c.in_ok-outer.outer.left outer inner)

@@ -1,11 +1,13 @@
 use Rattle.std.proofs.Common.{◌≤◌, map}
 use Rattle.release_compile.specs.Lettered.{lettered}
 use Rattle.release_compile.specs.Built.{AreBays}
-use Rattle.release_compile.specs.BuiltView.{seen_bay}
+use Rattle.release_compile.specs.Judging.{KeepEdges}
+use Rattle.release_compile.specs.BuiltView.{seen_part}
 use Rattle.release_compile.proofs.build.all_bays.Given as goal
 
 abbrev pub invariant-loop-part : goal.invariant-loop-part
 invariant-loop-part l = record {
   spent : l.spent ≤ 80000000;
-  bays : AreBays (lettered l.station l.parts) (map seen_bay l.bays.items) l.part;
+  edges : KeepEdges l.station l.part l.spent;
+  bays : AreBays (lettered l.station l.parts) (map seen_part l.bays.items) l.part;
 }

@@ -13,7 +13,7 @@ use Rattle.release_compile.specs.Folding.{IsExact}
 use Rattle.release_compile.specs.Plans.{Plan, inner_plan, ChosenBy, items_of, NeededBy, layers_of}
 use Rattle.release_compile.proofs.CodeLemmas.{labels_some}
 use Rattle.release_compile.proofs.ChoiceLemmas.{choices_on}
-use Rattle.release_compile.proofs.InnerGraphs.{inner_says, ends_kept}
+use Rattle.release_compile.proofs.InnerGraphs.{inner_says, inner_small, ends_kept}
 use Rattle.release_compile.proofs.inner.inner_graph.Goals as goal
 
 pub codes-requires-clause-ends : goal.codes-requires-clause-ends
@@ -73,3 +73,12 @@ returns-clause-inner c letters =
     (c.in_ok-graph.ensures.choices ∙ c.in_ok-named.ensures.choices)
     (λ cs ok. c.in_ok-graph.ensures.label cs (choices_on g.layers n.layers cs c.in_ok-named.ensures.choices ok) ∙ renamed (omega (arith, exact.count)) cs ok)
     c.labels-labels.ensures.layered
+
+pub returns-clause-small : goal.returns-clause-small
+returns-clause-small c =
+    let none : Alphabets = record { switches = 0; parts = [] } in
+    let p1 : Pool = c.inner_drafts.new.pool in
+    let names : List Answers = values_at c.args.pool.now.values.items c.args.names.now in
+    let ls = layers_of c.in_ok-drafts.drafts.layers.items in
+    let same : c.in_ok-whole.whole.layers ≡ ls = ap (λ (x : Layered). x.layers) c.in_ok-whole.ensures ∙ ap layers_of c.deref.ensures.value in
+    inner_small c.args.pool.now.view (lettered c.args.station.now none) c.args.bay.0 c.args.moved c.args.first c.args.others names ls (values_at p1.values.items c.in_ok-drafts.drafts.states.items) c.in_ok-whole.whole c.in_ok-named.named c.in_ok-graph.graph (c.in_ok-drafts.ensures.exact none) same c.in_ok-named.ensures.sizes c.in_ok-graph.ensures.sizes

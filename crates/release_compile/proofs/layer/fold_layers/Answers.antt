@@ -1,6 +1,7 @@
-use Rattle.std.proofs.Common.{◌≡◌, ℕ, ◌+◌, ◌*◌, ◌<◌, ◌≤◌, suc, List, [], ◌∷◌, ◌++◌, length, map, take, get_or, slice_get, Some, Vec, Global, refl, sym, ap, ◌∙◌, subst, arith, add-one}
+use Rattle.std.proofs.Common.{◌≡◌, ℕ, ◌+◌, ◌-◌, ◌*◌, ◌<◌, ◌≤◌, suc, List, [], ◌∷◌, ◌++◌, length, map, take, get_or, slice_get, Some, Vec, Global, refl, sym, ap, ◌∙◌, subst, arith, add-one}
 use Rattle.std.specs.Prelude.{option_map, Contains, ◌↔◌}
-use Rattle.contraction.specs.Answers.{Keeps}
+use Rattle.contraction.specs.Answers.{Answers, Keeps}
+use Rattle.bay_contract.specs.Counting.{AreSoMany}
 use Rattle.std.proofs.lemmas.List.{map-append, length-map, take_more, take_all}
 use Rattle.std.proofs.lemmas.Option.{slice_get-get_or, slice_get_read, slice_get-map, same_Some, get_or_from_slice_get}
 use Rattle.decision_graphs.specs.declared.finished.FinishedLayer.{FinishedLayer}
@@ -9,11 +10,15 @@ use Rattle.decision_graphs.proofs.FinishedLemmas.{AreFinished-push}
 use Rattle.std.specs.List.{sum_by}
 use Rattle.std.proofs.lemmas.List.Sums.{sum_by_push}
 use Rattle.release_compile.specs.Layering.{AreEdges, values_at, no_answers}
-use Rattle.release_compile.specs.Folding.{IsExact}
+use Rattle.release_compile.specs.Counted.{Spends, AreAtLeast}
+use Rattle.release_compile.specs.Folding.{IsExact, ReachesMore}
 use Rattle.decision_graphs.specs.Finished.{layer_with}
-use Rattle.release_compile.specs.Plans.{diagram_of, ChosenBy, items_of, NeededBy, layers_of}
+use Rattle.release_compile.specs.Plans.{PlanHas, SameBefore, diagram_of, ChosenBy, items_of, NeededBy, layers_of}
 use Rattle.release_compile.proofs.LayeringLemmas.{grew_same, grew_more, grew_in, keep_in, at_least}
 use Rattle.release_compile.proofs.PlanLemmas.{start_exact, layer_exact, next_kept, next_in, next_some, edges_lead, either_here, one_in, start_kept_at}
+use Rattle.release_compile.proofs.CountLemmas.{at_least_of}
+use Rattle.release_compile.proofs.PassLemmas.{plan_none, plan_spends, plan_passes, states_count, reached_at_least, passes_next}
+use Rattle.release_compile.proofs.ErrorLemmas.{passed_on}
 use Rattle.release_compile.proofs.layer.fold_layers.Goals as goal
 
 pub layers-init : goal.layers-init
@@ -27,6 +32,7 @@ layers-init c =
       some = omega (arith, ap length is);
       few = omega (arith, ap length is);
       nodes = omega (arith, ap (sum_by (λ (l : FinishedLayer). l.nodes)) c.new-layers.ensures.items);
+      spends = λ plan fits. record { edges = 0; has = plan_none (AreSoMany (diagram_of plan)) p.view plan letters; all = omega arith };
       choices = ap (map (λ (l : FinishedLayer). l.choices)) c.new-layers.ensures.items;
       finished = subst (λ ls. AreFinished (length c.in_ok-states.states.items) ls) (sym c.new-layers.ensures.items) (omega (arith, ap length is));
       kept = λ t i m x nodes at_i at_x at_m at_nodes n. start_kept_at p c.args.start letters c.args.keeps.now c.requires.linked t i m x nodes (ap (λ xs. slice_get xs t) (sym is) ∙ at_i) at_x at_m at_nodes n;
@@ -118,7 +124,7 @@ layers-preserved c =
     let layer : FinishedLayer = record { choices = (length row); nodes = (length c.as_slice-held.result.now); edges = c.in_ok-step.step.edges } in
     let some_row : 0 < length row = c.requires.linked.some j row at_j in
     let product : (length c.as_slice-held.result.now) * (length row) ≡ length states * length row = ap (λ n. n * (length row)) count ∙ ap (λ n. length states * n) wide in
-    let room : (length c.as_slice-held.result.now) * (length row) ≤ c.layers.left = c.too_many.ensures c.if-too_many.false in
+    let room : (length c.as_slice-held.result.now) * (length row) ≤ c.layers.left = c.too_many.ensures.few c.if-too_many.false in
     let few_next : length next ≤ length states * length row = subst (λ (xs : List ℕ). length next ≤ length xs * length row) c.as_slice-held.ensures.value c.in_ok-step.ensures.few in
     let edges_few : length states * length row ≤ 80000000 = omega (arith, room, product, c.layers.invariant.nodes, c.requires.budget) in
     let nodes_few : length states ≤ length states * length row = at_least (length states) (length row) some_row in
@@ -134,6 +140,11 @@ layers-preserved c =
       some = next_some p q r c.args.start letters keeps c.requires.linked g h j k row nodes at_j at_k at_nodes states next edges c.layers.invariant.states_in c.layers.invariant.some e;
       few = omega (arith, few_next, room, product, c.layers.invariant.nodes);
       nodes = omega (arith, ap (sum_by (λ (l : FinishedLayer). l.nodes)) c.in_ok-push.ensures.items, sum_by_push (λ (l : FinishedLayer). l.nodes) c.layers.layers.items layer, count, c.layers.invariant.nodes, nodes_few, room);
+      spends = λ plan fits.
+          let values : List Answers = values_at q.values.items states in
+          let made : length values * length row ≡ length c.as_slice-held.result.now * length row = ap (λ n. n * length row) (length-map states (λ i. get_or q.values.items i no_answers) ∙ sym count) in
+          subst (λ n. Spends (PlanHas p.view plan letters (j + 1)) (diagram_of plan) c.args.budget (c.layers.left - n)) made
+          (plan_spends p.view plan letters j c.args.budget c.layers.left (length values) row (c.layers.invariant.spends plan fits) at_j (states_count p.view plan j (layers_of c.layers.layers.items) values (c.layers.invariant.exact plan fits)) (omega (arith, made, room)));
       choices =
           ap (map (λ (l : FinishedLayer). l.choices)) c.in_ok-push.ensures.items
           ∙ (map-append (λ (l : FinishedLayer). l.choices) c.layers.layers.items (layer ∷ [])
@@ -168,3 +179,48 @@ returns-clause-exact c plan fits =
     let p = c.args.pool.now in
     let done : c.layers.j ≡ length c.args.letters.now = omega (arith, c.layers.auto.j-end, c.layers-test.false) in
     subst (λ n. IsExact p.view (diagram_of plan) (ChosenBy plan) (items_of plan) (NeededBy plan) n (layers_of c.layers.layers.items) (values_at c.layers.pool.values.items c.layers.states.items)) done (c.layers.invariant.exact plan fits)
+
+pub returns-then-too_many-clause-wide : goal.returns-then-too_many-clause-wide
+returns-then-too_many-clause-wide c e plan fits =
+    let p = c.args.pool.now in
+    let q = c.layers.pool in
+    let j = c.layers.j in
+    let letters : List (List ℕ) = map (λ (v : Vec ℕ Global). v.items) c.args.letters.now in
+    let row : List ℕ = c.as_slice-row.result.now in
+    let at0 : slice_get c.args.letters.now j ≡ Some c.index-letters-j.result = slice_get_read c.args.letters.now _ j c.index-letters-j.result refl c.layers-test.true c.index-letters-j.is in
+    let at_j : slice_get letters j ≡ Some row = slice_get-map (λ (v : Vec ℕ Global). v.items) c.args.letters.now j ∙ (ap (option_map (λ (v : Vec ℕ Global). v.items)) at0 ∙ ap Some (sym c.as_slice-row.ensures.value)) in
+    let values : List Answers = values_at q.values.items c.layers.states.items in
+    let made : length values * length row ≡ length c.as_slice-held.result.now * length row = ap (λ n. n * length row) (length-map c.layers.states.items (λ i. get_or q.values.items i no_answers) ∙ sym (ap length c.as_slice-held.ensures.value)) in
+    let many = at_least_of (diagram_of plan) (SameBefore p.view plan j) (length values) (states_count p.view plan j (layers_of c.layers.layers.items) values (c.layers.invariant.exact plan fits)) in
+    plan_passes p.view plan letters j c.args.budget c.layers.left (length values) row (c.layers.invariant.spends plan fits) at_j many (omega (arith, made, c.too_many.ensures.many c.if-too_many.true))
+
+pub returns-in_err-step-clause-wide : goal.returns-in_err-step-clause-wide
+returns-in_err-step-clause-wide c = passed_on _ _ c.from_residual-in_err-step.result c.from_residual-in_err-step.ensures.1 (λ trouble same is plan fits.
+    let p = c.args.pool.now in
+    let q = c.layers.pool in
+    let keeps = c.args.keeps.now in
+    let j = c.layers.j in
+    let letters : List (List ℕ) = map (λ (v : Vec ℕ Global). v.items) c.args.letters.now in
+    let row : List ℕ = c.as_slice-row.result.now in
+    let states : List ℕ = c.layers.states.items in
+    let len : length letters ≡ length c.args.letters.now = length-map c.args.letters.now (λ (v : Vec ℕ Global). v.items) in
+    let at0 : slice_get c.args.letters.now j ≡ Some c.index-letters-j.result = slice_get_read c.args.letters.now _ j c.index-letters-j.result refl c.layers-test.true c.index-letters-j.is in
+    let at_j : slice_get letters j ≡ Some row = slice_get-map (λ (v : Vec ℕ Global). v.items) c.args.letters.now j ∙ (ap (option_map (λ (v : Vec ℕ Global). v.items)) at0 ∙ ap Some (sym c.as_slice-row.ensures.value)) in
+    let k : ℕ = get_or keeps (j + 1) 0 in
+    let at_k1 : slice_get keeps (j + 1) ≡ Some k = slice_get-get_or keeps (j + 1) 0 (omega (arith, c.requires.linked.count, len, c.layers-test.true)) in
+    let at_k : slice_get keeps (suc j) ≡ Some k = ap (slice_get keeps) (sym (add-one j)) ∙ at_k1 in
+    let nodes : List ℕ = get_or p.keeps.items k [] in
+    let at_nodes : slice_get p.keeps.items k ≡ Some nodes = slice_get-get_or p.keeps.items k [] (c.requires.linked.keeps_in (suc j) k at_k) in
+    let g = c.layers.invariant.grew in
+    let values : List Answers = values_at q.values.items states in
+    let exact = c.layers.invariant.exact plan fits in
+    let made : length values * length row ≡ length c.as_slice-held.result.now * length row = ap (λ n. n * length row) (length-map states (λ i. get_or q.values.items i no_answers) ∙ sym (ap length c.as_slice-held.ensures.value)) in
+    let same_count : length states * length row ≡ length c.as_slice-held.result.now * length row = ap (λ n. n * length row) (sym (ap length c.as_slice-held.ensures.value)) in
+    let room = c.too_many.ensures.few c.if-too_many.false in
+    let spent = plan_spends p.view plan letters j c.args.budget c.layers.left (length values) row (c.layers.invariant.spends plan fits) at_j (states_count p.view plan j (layers_of c.layers.layers.items) values exact) (omega (arith, made, room)) in
+    let more : ReachesMore q.view nodes values (values_at q.values.items row) c.most_nodes-most.result = subst (λ (xs : List ℕ). ReachesMore q.view nodes (values_at q.values.items xs) (values_at q.values.items row) c.most_nodes-most.result) c.as_slice-held.ensures.value (c.in_err-step.ensures.wide (sym same ∙ is) nodes (g.keeps k nodes at_nodes)) in
+    let reached = reached_at_least p q c.args.start letters keeps c.requires.linked g j k row nodes states at_j at_k at_nodes plan fits (layers_of c.layers.layers.items) exact c.most_nodes-most.result more in
+    passes_next p.view plan letters j c.args.budget (c.layers.left - length values * length row) reached.0 c.most_nodes-most.result spent (subst (λ n. AreAtLeast (diagram_of plan) (SameBefore p.view plan n) reached.0) (sym (add-one j)) reached.3)
+    (λ ids at some. subst (λ n. c.layers.left - n < reached.0 * length ids) (sym made) (c.most_nodes-most.ensures.many reached.0 ids at some reached.1))
+    c.requires.linked.some
+    (λ last. omega (arith, c.most_nodes-most.ensures.last (omega (arith, last, len)), reached.1, reached.2, same_count, room, c.layers.invariant.nodes, c.requires.budget)))

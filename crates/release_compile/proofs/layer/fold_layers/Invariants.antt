@@ -6,8 +6,9 @@ use Rattle.std.specs.Prelude.{Contains}
 use Rattle.contraction.specs.Answers.{Answers, Keeps}
 use Rattle.release_compile.specs.Pooling.{GrewTo}
 use Rattle.release_compile.specs.Layering.{values_at}
+use Rattle.release_compile.specs.Counted.{Spends}
 use Rattle.release_compile.specs.Folding.{IsExact}
-use Rattle.release_compile.specs.Plans.{Plan, PlanFits, diagram_of, ChosenBy, items_of, NeededBy, layers_of}
+use Rattle.release_compile.specs.Plans.{Plan, PlanFits, PlanHas, diagram_of, ChosenBy, items_of, NeededBy, layers_of}
 use Rattle.release_compile.proofs.layer.fold_layers.Given as goal
 
 abbrev pub invariant-layers : goal.invariant-layers
@@ -17,6 +18,7 @@ invariant-layers l = record {
   some : 0 < length l.states.items;
   few : length l.states.items ≤ suc l.budget;
   nodes : sum_by (λ (l : FinishedLayer). l.nodes) l.layers.items + l.left ≤ l.budget;
+  spends : (plan : Plan) → PlanFits plan l.fn.pool l.start (map (λ v. v.items) l.letters) l.keeps → Spends (PlanHas l.fn.pool.view plan (map (λ v. v.items) l.letters) l.j) (diagram_of plan) l.budget l.left;
   choices : map (λ (l : FinishedLayer). l.choices) l.layers.items ≡ map length (take l.j (map (λ v. v.items) l.letters));
   finished : AreFinished (length l.states.items) l.layers.items;
   kept : (t i m : ℕ) (x : Answers) (nodes : List ℕ) → slice_get l.states.items t ≡ Some i → slice_get l.pool.values.items i ≡ Some x → slice_get l.keeps l.j ≡ Some m → slice_get l.fn.pool.keeps.items m ≡ Some nodes → (n : ℕ) → Keeps x.kept n ↔ Contains nodes n;

@@ -2,6 +2,7 @@ use Rattle.std.proofs.Common.{◌≡◌, ◌<◌, ◌*◌, ◌/◌, ◌%◌, len
 use Rattle.std.proofs.lemmas.Option.{slice_get-get_or, slice_get_within}
 use Rattle.release_compile.specs.Layering.{AreEdges, no_answers}
 use Rattle.release_compile.proofs.LayeringLemmas.{grew_same, grew_more, grew_in, edges_none, edges_more, lead_here, nil_of_len, state_in, either_more, keep_in}
+use Rattle.release_compile.proofs.PassLemmas.{more_reached}
 use Rattle.release_compile.proofs.layer.next_layer.Goals as goal
 
 pub pairs-init : goal.pairs-init
@@ -81,3 +82,7 @@ returns-clause-edges c nodes at =
     let done : c.pairs.p ≡ length c.args.states.now * length c.args.letters.now = omega (arith, c.pairs.auto.p-end, c.pairs-test.false) in
     subst (λ l. AreEdges c.pairs.pool.view c.pairs.pool.values.items nodes c.args.states.now c.args.letters.now l c.pairs.edges.items (length c.args.states.now * length c.args.letters.now)) (sym c.in_ok-next.ensures)
     (subst (λ n. AreEdges c.pairs.pool.view c.pairs.pool.values.items nodes c.args.states.now c.args.letters.now c.pairs.next.keys c.pairs.edges.items n) done (c.pairs.invariant.edges nodes at))
+
+pub returns-then-len-most-clause-wide : goal.returns-then-len-most-clause-wide
+returns-then-len-most-clause-wide c e nodes at =
+    more_reached c.args.pool.now c.pairs.pool c.pairs.invariant.grew nodes c.args.states.now c.args.letters.now c.pairs.next.keys c.pairs.edges.items c.pairs.p c.args.most c.requires.states c.requires.letters (c.pairs.invariant.edges nodes at) c.pairs.invariant.few (omega (arith, c.pairs-test.true)) (omega (arith, c.len.ensures.len, c.if-len-most.true))

@@ -6,10 +6,10 @@ use Rattle.decision_graphs.specs.Finished.{AreFinished}
 use Rattle.decision_graphs.specs.Label.{Layered}
 use Rattle.release_compile.specs.Lettered.{Lettered, lettered}
 use Rattle.release_compile.specs.Layering.{values_at, no_answers}
-use Rattle.release_compile.specs.Graphs.{PartChosen, IsOuter}
-use Rattle.release_compile.specs.Plans.{outer_plan, items_of, layers_of}
+use Rattle.release_compile.specs.Graphs.{IsOuter}
+use Rattle.release_compile.specs.Plans.{layers_of}
 use Rattle.release_compile.proofs.OuterFits.{outer_named}
-use Rattle.release_compile.proofs.OuterGraphs.{outer_same, names_of}
+use Rattle.release_compile.proofs.OuterGraphs.{outer_same, outer_small, names_of}
 use Rattle.release_compile.proofs.outer.outer_graph.Goals as goal
 
 pub from_layers-requires-clause-finished : goal.from_layers-requires-clause-finished
@@ -36,7 +36,12 @@ returns-clause-outer c =
 pub returns-clause-names : goal.returns-clause-names
 returns-clause-names c =
     let a : Lettered = lettered c.args.station.now c.args.parts.now in
-    let b = c.args.bay.0 in
-    let values = c.outer_drafts.new.pool.values.items in
     let ids : List ℕ = c.in_ok-drafts.drafts.states.items in
-    names_of c.args.pool.now c.outer_drafts.new.pool c.args.station.now b c.args.others (PartChosen a b) (items_of (outer_plan a b)) (layers_of c.in_ok-drafts.drafts.layers.items) ids c.requires.count c.in_ok-drafts.ensures.exact c.in_ok-drafts.ensures.states_in (length-map ids (λ i. get_or values i no_answers))
+    names_of a c.args.bay.0 c.args.others c.args.pool.now c.outer_drafts.new.pool (layers_of c.in_ok-drafts.drafts.layers.items) ids c.part_count-count.ensures.station c.requires.count c.requires.bay c.in_ok-drafts.ensures.grew.view c.in_ok-drafts.ensures.exact c.in_ok-drafts.ensures.states_in (length-map ids (λ i. get_or c.outer_drafts.new.pool.values.items i no_answers))
+
+pub returns-clause-small : goal.returns-clause-small
+returns-clause-small c =
+    let a : Lettered = lettered c.args.station.now c.args.parts.now in
+    let ids : List ℕ = c.in_ok-drafts.drafts.states.items in
+    let same : c.in_ok-whole.whole.layers ≡ layers_of c.in_ok-drafts.drafts.layers.items = ap (λ (g : Layered). g.layers) c.in_ok-whole.ensures ∙ ap layers_of c.deref.ensures.value in
+    outer_small c.args.pool.now.view a c.args.bay.0 c.args.others (layers_of c.in_ok-drafts.drafts.layers.items) (values_at c.outer_drafts.new.pool.values.items ids) c.in_ok-whole.whole c.in_ok-graph.graph c.in_ok-drafts.ensures.exact same c.in_ok-graph.ensures.choices c.in_ok-graph.ensures.sizes
