@@ -18,3 +18,4 @@ pub mod PutLemmas
 pub mod IndexLemmas
 pub mod PathLemmas
 pub mod WayLemmas
+pub mod OwnLemmas

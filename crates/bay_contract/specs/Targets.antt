@@ -1,5 +1,5 @@
 -- The numbers of targets: that of a step, or the number of steps and an index.
-use Rattle.std.specs.Prelude.{◌≡◌, ℕ, ◌+◌, List, length, slice_get, Some}
+use Rattle.std.specs.Prelude.{◌≡◌, ℕ, ◌+◌, ◌<◌, List, length, slice_get, Some}
 use Rattle.bay_contract.specs.declared.fork.Fork.{Fork}
 use Rattle.bay_contract.specs.declared.fork.PartStep.{PartStep}
 use Rattle.bay_contract.specs.declared.fork.Target.{Target}
@@ -9,6 +9,11 @@ use Rattle.bay_contract.specs.Diagrams.{ForkFits}
 abbrev pub number_of : ℕ → Target → ℕ
 number_of steps (Step n) = n
 number_of steps (Index i) = steps + i
+
+-- The target is one of so many steps, or an index.
+abbrev pub IsTargetOf : ℕ → Target → Type 0
+IsTargetOf steps (Step n) = n < steps
+IsTargetOf steps (Index i) = Unit {0}
 
 -- The step tests the switch of the fork and leads where it leads.
 pub record IsStepOf (steps : ℕ) (f : Fork) (s : PartStep) : Type 0 where

@@ -1,12 +1,13 @@
 //! What the alphabets of a station answer.
 ghost use Rattle.std.specs.Prelude.{◌≡◌, ℕ, ◌^◌, ◌<◌, ◌≤◌, ◌↔◌, Bool, List, Some, length, slice_get, IfOk, IfSome, MatchOption};
 ghost use Rattle.station_graph.specs.Diagram.{Diagram};
+ghost use Rattle.station_graph.specs.Connection.{a_switch};
 ghost use Rattle.station_graph.specs.Sharing.{OfPart};
 ghost use Rattle.station_graph.specs.Alike.{IsVector, Alike, DifferInPart};
 ghost use Rattle.contraction.specs.Stands.{StandsFor};
 ghost use Rattle.bay_contract.specs.Counting.{AreStepSizes};
 ghost use Rattle.bay_contract.specs.Diagrams.{LeadsTo};
-ghost use Rattle.bay_contract.specs.Targets.{number_of, IsStepAt};
+ghost use Rattle.bay_contract.specs.Targets.{number_of, IsTargetOf, IsStepAt};
 ghost use Rattle.bay_contract.specs.PartAlphabets.{letters_of, size_of, example_of, forks_of, IsPosition, StandsAt};
 ghost use Rattle.bay_contract.specs.Alphabets.{AreAlphabets, IsLetter, HasIndex, IsExample, CanHave, IsAgreeing, InSet};
 
@@ -105,17 +106,22 @@ impl Parts {
     pub fn start(&self, part: BayId) -> Target
         requires { part.0 < length self.now.parts }
         ensures first { number_of (length (forks_of self.now part.0)) result ≡ 0 }
+        ensures target { IsTargetOf (length (forks_of self.now part.0)) result }
         ensures leads { (d : Diagram) (v : List Bool) (i : ℕ) → AreAlphabets d self.now → IsVector d v
             → HasIndex d self.now part.0 i v ↔ LeadsTo (forks_of self.now part.0) v i }
     {
         self.part(part).start()
     }
 
-    /// The step of this number. Its targets are later steps or indices. At once; takes no memory.
+    /// The step of this number. It tests a switch of the part, and its targets are later steps or indices.
+    /// At once; takes no memory.
     pub fn step(&self, part: BayId, i: u32) -> PartStep
         requires part { part.0 < length self.now.parts }
         requires step { i < length (forks_of self.now part.0) }
-        ensures { IsStepAt self.now.switches (size_of self.now part.0) (forks_of self.now part.0) i result }
+        ensures step { IsStepAt self.now.switches (size_of self.now part.0) (forks_of self.now part.0) i result }
+        ensures off { IsTargetOf (length (forks_of self.now part.0)) result.off }
+        ensures on { IsTargetOf (length (forks_of self.now part.0)) result.on }
+        ensures own { (d : Diagram) → AreAlphabets d self.now → OfPart d part.0 (a_switch result.switch.0) }
     {
         self.part(part).step(i)
     }

@@ -3,7 +3,7 @@ ghost use Rattle.std.specs.Prelude.{◌≡◌, ℕ, ◌+◌, ◌^◌, ◌<◌, �
 ghost use Rattle.station_graph.specs.Connection.{Linked};
 ghost use Rattle.bay_contract.specs.Layers.{bits};
 ghost use Rattle.bay_contract.specs.Diagrams.{Goes, ForksFit, LeadsTo};
-ghost use Rattle.bay_contract.specs.Targets.{number_of, IsStepAt};
+ghost use Rattle.bay_contract.specs.Targets.{number_of, IsTargetOf, IsStepAt};
 
 use crate::alphabet::Alphabet;
 use crate::fork::{Fork, PartStep, Target};
@@ -35,7 +35,8 @@ fn walk(forks: &[Fork], size: usize, vector: &Vector) -> usize
 // The target of this number.
 fn target_of(at: u32, steps: u32) -> Target
     requires few { at < steps + 255 }
-    ensures { number_of steps result ≡ at }
+    ensures number { number_of steps result ≡ at }
+    ensures target { IsTargetOf steps result }
 {
     if at < steps {
         Target::Step(at)
@@ -117,7 +118,8 @@ impl Alphabet {
 
     // Where its decision diagram begins: at its first step, or at its only index. At once.
     pub(crate) fn start(&self) -> Target
-        ensures { number_of (length self.now.forks) result ≡ 0 }
+        ensures first { number_of (length self.now.forks) result ≡ 0 }
+        ensures target { IsTargetOf (length self.now.forks) result }
     {
         target_of(0, self.steps())
     }
@@ -125,7 +127,10 @@ impl Alphabet {
     // The step of this number, at once.
     pub(crate) fn step(&self, i: u32) -> PartStep
         requires { i < length self.now.forks }
-        ensures { IsStepAt self.now.switches (length self.now.letters) self.now.forks i result }
+        ensures step { IsStepAt self.now.switches (length self.now.letters) self.now.forks i result }
+        ensures off { IsTargetOf (length self.now.forks) result.off }
+        ensures on { IsTargetOf (length self.now.forks) result.on }
+        ensures own { (self.now.first ≤ result.switch.0) × (result.switch.0 < self.now.first + self.now.count) }
     {
         let steps = self.steps();
         let fork = self.forks[i as usize];
