@@ -11,12 +11,12 @@ use Rattle.bay_protocol.specs.declared.values.Collection.{Collection}
 use Rattle.bay_frames.specs.declared.frame.Body.TheVariants.{Answer}
 use Rattle.bay_protocol.specs.State.{State, under_way}
 use Rattle.bay_protocol.specs.Fits.{IsNode}
-use Rattle.reservation_core.specs.World.{World, node, at_node, runs}
+use Rattle.reservation_core.specs.Scene.{Scene, node, at_node, runs}
 use Rattle.reservation_core.specs.RoundFacts.{RoundFacts, Shape, Bounds, IsLockedFor, Driven, HeardSent, round_bay}
 use Rattle.reservation_core.proofs.Nodes.{each_node, got_set}
 
 -- node b may become s
-pub record MayBecome (m : Meaning) (w : World) (b : ℕ) (s : State) : Type 0 where
+pub record MayBecome (m : Meaning) (w : Scene) (b : ℕ) (s : State) : Type 0 where
   pub within : b < length w.nodes
   pub name : s.bay ≡ b
   pub sound : IsNode m.diagram s
@@ -33,18 +33,18 @@ pub record MayBecome (m : Meaning) (w : World) (b : ℕ) (s : State) : Type 0 wh
   pub heard : (g : Collection) (x : ℕ) (summary : List ℕ) → s.collecting ≡ Some g → slice_get g.heard x ≡ Some (Some summary) → HeardSent m w.sent b g.round x summary
 
 -- the highest rounds do not fall
-highest_up : (m : Meaning) (w : World) (b : ℕ) (s : State) → MayBecome m w b s → (c : ℕ) → (node m.diagram w c).highest ≤ (node m.diagram (at_node w b s) c).highest
+highest_up : (m : Meaning) (w : Scene) (b : ℕ) (s : State) → MayBecome m w b s → (c : ℕ) → (node m.diagram w c).highest ≤ (node m.diagram (at_node w b s) c).highest
 highest_up m w b s may c = each_node m.diagram w b s (λ x n. (node m.diagram w x).highest ≤ n.highest) may.within may.highest (λ x other. omega arith) c
 
 -- a round under way was so before, or is above all that was known
-before : (m : Meaning) (w : World) (b : ℕ) (s : State) → MayBecome m w b s → (c q : ℕ) → under_way (node m.diagram (at_node w b s) c) ≡ Some q → (under_way (node m.diagram w c) ≡ Some q) ⊎ ((node m.diagram w c).highest < q)
+before : (m : Meaning) (w : Scene) (b : ℕ) (s : State) → MayBecome m w b s → (c q : ℕ) → under_way (node m.diagram (at_node w b s) c) ≡ Some q → (under_way (node m.diagram w c) ≡ Some q) ⊎ ((node m.diagram w c).highest < q)
 before m w b s may c q = each_node m.diagram w b s (λ x n. under_way n ≡ Some q → (under_way (node m.diagram w x) ≡ Some q) ⊎ ((node m.diagram w x).highest < q)) may.within (may.rounds q) (λ x other is. inl is) c
 
 -- what was stored is there
-stored : {X : Type 0} (xs : List X) (i : ℕ) (y d : X) → i < length xs → slice_get (set xs i y) i ≡ Some y
+pub stored : {X : Type 0} (xs : List X) (i : ℕ) (y d : X) → i < length xs → slice_get (set xs i y) i ≡ Some y
 stored {X = X} xs i y d within = slice_get-get_or (set xs i y) i d (omega (arith, length-set xs i y, within)) ∙ ap (λ (x : X). Some x) (get_or-set_same xs i y d within)
 
-shape_at : (m : Meaning) (w : World) (b : ℕ) (s : State) → RoundFacts m w → MayBecome m w b s → Shape m.diagram (at_node w b s)
+shape_at : (m : Meaning) (w : Scene) (b : ℕ) (s : State) → RoundFacts m w → MayBecome m w b s → Shape m.diagram (at_node w b s)
 shape_at m w b s facts may = record {
   nodes = length-set w.nodes b (Some s) ∙ facts.shape.nodes;
   present = λ c bay. elim (cases_eq c b) [
@@ -60,7 +60,7 @@ shape_at m w b s facts may = record {
   named = each_node m.diagram w b s (λ x n. n.bay ≡ x) may.within may.name (λ c other. facts.shape.named c);
 }
 
-bounds_at : (m : Meaning) (w : World) (b : ℕ) (s : State) → RoundFacts m w → MayBecome m w b s → Bounds m.diagram (at_node w b s)
+bounds_at : (m : Meaning) (w : Scene) (b : ℕ) (s : State) → RoundFacts m w → MayBecome m w b s → Bounds m.diagram (at_node w b s)
 bounds_at m w b s facts may = record {
   frames = λ f there. let old = facts.bounds.frames f there in let up = highest_up m w b s may (round_bay f f.body) in omega (arith, old, up);
   fit = facts.bounds.fit;
@@ -70,17 +70,17 @@ bounds_at m w b s facts may = record {
 }
 
 -- a round that a frame of this bay's rounds names is no new one
-not_new : (m : Meaning) (w : World) (b : ℕ) (s : State) → RoundFacts m w → MayBecome m w b s → (c : ℕ) (q : ℕ) → q ≤ (node m.diagram w c).highest → under_way (node m.diagram (at_node w b s) c) ≡ Some q → under_way (node m.diagram w c) ≡ Some q
+not_new : (m : Meaning) (w : Scene) (b : ℕ) (s : State) → RoundFacts m w → MayBecome m w b s → (c : ℕ) (q : ℕ) → q ≤ (node m.diagram w c).highest → under_way (node m.diagram (at_node w b s) c) ≡ Some q → under_way (node m.diagram w c) ≡ Some q
 not_new m w b s facts may c q low is = elim (before m w b s may c q is) [ inl old ↦ old | inr new ↦ absurd (omega (arith, low, new)) ]
 
-locks_at : (m : Meaning) (w : World) (b : ℕ) (s : State) → RoundFacts m w → MayBecome m w b s → (f : Frame) (summary : List ℕ) → Contains w.sent f → f.body ≡ Answer summary → under_way (node m.diagram (at_node w b s) f.to.0) ≡ Some f.round → IsLockedFor m.diagram (at_node w b s) f
+locks_at : (m : Meaning) (w : Scene) (b : ℕ) (s : State) → RoundFacts m w → MayBecome m w b s → (f : Frame) (summary : List ℕ) → Contains w.sent f → f.body ≡ Answer summary → under_way (node m.diagram (at_node w b s) f.to.0) ≡ Some f.round → IsLockedFor m.diagram (at_node w b s) f
 locks_at m w b s facts may f summary there body is =
     let low : f.round ≤ (node m.diagram w f.to.0).highest = subst (λ x. f.round ≤ (node m.diagram w (round_bay f x)).highest) body (facts.bounds.frames f there) in
     let was : under_way (node m.diagram w f.to.0) ≡ Some f.round = not_new m w b s facts may f.to.0 f.round low is in
     each_node m.diagram w b s (λ x n. (node m.diagram w x).lock ≡ Some (record { holder = f.to; round = f.round }) → n.lock ≡ Some (record { holder = f.to; round = f.round })) may.within
     (λ lock. may.locked (record { holder = f.to; round = f.round }) lock was) (λ x other lock. lock) f.from.0 (facts.locks f summary there body was)
 
-driven_at : (m : Meaning) (w : World) (b : ℕ) (s : State) → RoundFacts m w → MayBecome m w b s → (i : ℕ) → i < length m.diagram.switches → runs w.drives i ≡ true → Driven m.diagram (at_node w b s) i
+driven_at : (m : Meaning) (w : Scene) (b : ℕ) (s : State) → RoundFacts m w → MayBecome m w b s → (i : ℕ) → i < length m.diagram.switches → runs w.drives i ≡ true → Driven m.diagram (at_node w b s) i
 driven_at m w b s facts may i lt on =
     let old = facts.drives i lt on in
     record {
@@ -91,7 +91,7 @@ driven_at m w b s facts may i lt on =
       between = old.between;
     }
 
-pub facts_at : (m : Meaning) (w : World) (b : ℕ) (s : State) → RoundFacts m w → MayBecome m w b s → RoundFacts m (at_node w b s)
+pub facts_at : (m : Meaning) (w : Scene) (b : ℕ) (s : State) → RoundFacts m w → MayBecome m w b s → RoundFacts m (at_node w b s)
 facts_at m w b s facts may = record {
   shape = shape_at m w b s facts may;
   rounds = each_node m.diagram w b s (λ x n. IsBay m.diagram x → IsNode m.diagram n) may.within (λ bay. may.sound) (λ c other bay. facts.rounds c bay);

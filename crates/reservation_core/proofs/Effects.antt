@@ -69,8 +69,19 @@ pub record Released (m : Meaning) (old : State) (event : NodeEvent) (g : Grant) 
   pub heard : HeardFrom m old event round
   pub none : IsVerdict m old round Release
 
--- an Answer is made of the words of a free bay
-pub record Said (m : Meaning) (old : State) (f : Frame) (s : List ℕ) : Type 0 where
+-- a Reserve comes
+abbrev pub IsAsked : NodeEvent → Type 0
+IsAsked (Arrival f) = f.body ≡ Reserve
+IsAsked (Commanded op) = ⊥
+IsAsked (Sensing j word) = ⊥
+IsAsked Ticking = ⊥
+IsAsked Withdrawing = ⊥
+IsAsked Restarting = ⊥
+IsAsked (Cutting j) = ⊥
+
+-- an Answer is made of the words of a free bay that a Reserve reaches
+pub record Said (m : Meaning) (old : State) (event : NodeEvent) (f : Frame) (s : List ℕ) : Type 0 where
+  pub asked : IsAsked event
   pub from : f.from.0 ≡ old.bay
   pub idle : under_way old ≡ None
   pub sums : Summarises m old.bay f.to.0 old.words s
@@ -82,7 +93,7 @@ pub record Effect (m : Meaning) (old : State) (event : NodeEvent) (new : State) 
   pub freed : (g : Grant) → old.granted ≡ Some g → (new.granted ≡ Some g) ⊎ IsNewWord event g.op.switch.0 (get_or new.words g.op.switch.0 Lost)
   pub heard : (g : Collection) → new.collecting ≡ Some g → HeardFrom m old event g
   pub rounds : (q : ℕ) → under_way new ≡ Some q → (under_way old ≡ Some q) ⊎ (old.highest < q)
-  pub answers : (f : Frame) (s : List ℕ) → Contains frames f → f.body ≡ Answer s → Said m old f s
+  pub answers : (f : Frame) (s : List ℕ) → Contains frames f → f.body ≡ Answer s → Said m old event f s
   pub alone : (f : Frame) (s : List ℕ) → Contains frames f → f.body ≡ Answer s → length frames ≡ 1
 
 -- an Answer counts for no node that collects nothing
@@ -262,7 +273,7 @@ reserve_effect m old f turn ok body (ReserveStep.answers idle may it) = ended m 
     | inl same ↦
         let said : Answer it.summary ≡ Answer s = subst (λ (x : Frame). x.body ≡ Answer s) (sym same) is in
         let e : it.summary ≡ s = cc said in
-        subst (λ (x : Frame). Said m old x s) same (record { from = refl; idle = idle; sums = subst (Summarises m old.bay f.from.0 old.words) e it.of_words })
+        subst (λ (x : Frame). Said m old (Arrival f) x s) same (record { asked = body; from = refl; idle = idle; sums = subst (Summarises m old.bay f.from.0 old.words) e it.of_words })
     | inr none ↦ absurd (none_there h none)
   ];
   alone = λ h s there is. refl;

@@ -19,7 +19,7 @@ use Rattle.bay_protocol.specs.Sends.{frame, to_each, overs}
 use Rattle.bay_protocol.specs.State.{State, IsOther, others, under_way, under_way_of, fresh, opens, collects, drops, locks, unlocks, hears, senses, ends, restarts}
 use Rattle.bay_protocol.specs.Fits.{IsOwn}
 use Rattle.bay_protocol.specs.Step.{Turn, Ends, Deciding, OpenStep, CommandStep, ReserveStep, Answering, AnswerStep, BusyStep, QueryStep, OverStep, FrameStep, TickStep, SenseStep, WithdrawStep, CutStep, IsMeant, IsFree, end_word}
-use Rattle.reservation_core.specs.World.{World, node, at_node, posts, true_at, runs, IsTrueWord}
+use Rattle.reservation_core.specs.Scene.{Scene, node, at_node, posts, true_at, runs, IsTrueWord}
 use Rattle.reservation_core.specs.declared.values.Position.{Position}
 use Rattle.reservation_core.specs.declared.values.Position.TheVariants.{Between}
 use Rattle.reservation_core.specs.RoundFacts.{RoundFacts, HeardSent, round_bay}
@@ -30,15 +30,15 @@ use Rattle.reservation_core.proofs.Sends.{MaySend}
 use Rattle.reservation_core.proofs.Steps.{again, After, settle, nothing_sent, one_sent, frame_fits, to_others_sent, overs_sent, round_dropped, decided}
 
 -- a node that changes and sends nothing
-becomes : (m : Meaning) (w : World) (b : ℕ) (turn : Turn) (s : State) (outcome : Outcome) → RoundFacts m w → Ends turn s outcome [] → MayBecome m w b s → After m w b turn
+becomes : (m : Meaning) (w : Scene) (b : ℕ) (turn : Turn) (s : State) (outcome : Outcome) → RoundFacts m w → Ends turn s outcome [] → MayBecome m w b s → After m w b turn
 becomes m w b turn s outcome facts end may = settle m w b turn s outcome [] end (nothing_sent m (at_node w b s) (facts_at m w b s facts may))
 
 -- a node that does nothing
-still : (m : Meaning) (w : World) (b : ℕ) (turn : Turn) (outcome : Outcome) → RoundFacts m w → IsBay m.diagram b → Ends turn (node m.diagram w b) outcome [] → After m w b turn
+still : (m : Meaning) (w : Scene) (b : ℕ) (turn : Turn) (outcome : Outcome) → RoundFacts m w → IsBay m.diagram b → Ends turn (node m.diagram w b) outcome [] → After m w b turn
 still m w b turn outcome facts bay end = becomes m w b turn (node m.diagram w b) outcome facts end (may_stay m w b facts bay)
 
 -- a frame that may be sent may be sent by the node that stays
-may_send_still : (m : Meaning) (w : World) (b : ℕ) (f : Frame) → RoundFacts m w → IsBay m.diagram b → MaySend m w f → MaySend m (at_node w b (node m.diagram w b)) f
+may_send_still : (m : Meaning) (w : Scene) (b : ℕ) (f : Frame) → RoundFacts m w → IsBay m.diagram b → MaySend m w f → MaySend m (at_node w b (node m.diagram w b)) f
 may_send_still m w b f facts bay may = record {
   fit = may.fit;
   bound = rw (at (round_bay f f.body)) may.bound;
@@ -53,7 +53,7 @@ may_send_still m w b f facts bay may = record {
     ]
 
 -- a node that sends one frame
-sends_one : (m : Meaning) (w : World) (b : ℕ) (turn : Turn) (outcome : Outcome) (f : Frame) → RoundFacts m w → IsBay m.diagram b → Ends turn (node m.diagram w b) outcome (f ∷ []) → MaySend m w f → After m w b turn
+sends_one : (m : Meaning) (w : Scene) (b : ℕ) (turn : Turn) (outcome : Outcome) (f : Frame) → RoundFacts m w → IsBay m.diagram b → Ends turn (node m.diagram w b) outcome (f ∷ []) → MaySend m w f → After m w b turn
 sends_one m w b turn outcome f facts bay end may =
     settle m w b turn (node m.diagram w b) outcome (f ∷ []) end
     (one_sent m (at_node w b (node m.diagram w b)) f (facts_at m w b (node m.diagram w b) facts (may_stay m w b facts bay)) (may_send_still m w b f facts bay may))
@@ -74,15 +74,15 @@ at_end_not_between ToOn is = cc is
 
 module _ (m : Meaning) (station : IsStation m.diagram) where
   -- a node that decides after a change
-  decided_after : (w : World) (b : ℕ) (s : State) (g : Collection) (turn : Turn) → RoundFacts m w → IsBay m.diagram b → MayBecome m w b s → s.collecting ≡ Some g → Deciding m m.diagram s g turn → After m w b turn
+  decided_after : (w : Scene) (b : ℕ) (s : State) (g : Collection) (turn : Turn) → RoundFacts m w → IsBay m.diagram b → MayBecome m w b s → s.collecting ≡ Some g → Deciding m m.diagram s g turn → After m w b turn
   decided_after w b s g turn facts bay may has deciding =
       let at : node m.diagram (at_node w b s) b ≡ s = node_here m.diagram w b s may.within in
       let after = decided m station (at_node w b s) b g turn (facts_at m w b s facts may) bay (ap (λ (n : State). n.collecting) at ∙ has) (subst (λ (n : State). Deciding m m.diagram n g turn) (sym at) deciding) in
-      subst (λ (x : World). RoundFacts m (posts x turn.frames)) (again w b s turn.new) after
+      subst (λ (x : Scene). RoundFacts m (posts x turn.frames)) (again w b s turn.new) after
 
   -- ---- Command
 
-  open_keeps : (w : World) (b : ℕ) (op : Op) (turn : Turn) → RoundFacts m w → IsBay m.diagram b → IsFree (node m.diagram w b) → IsOwn m.diagram (node m.diagram w b).bay op.switch.0 → OpenStep m m.diagram (node m.diagram w b) op turn → After m w b turn
+  open_keeps : (w : Scene) (b : ℕ) (op : Op) (turn : Turn) → RoundFacts m w → IsBay m.diagram b → IsFree (node m.diagram w b) → IsOwn m.diagram (node m.diagram w b).bay op.switch.0 → OpenStep m m.diagram (node m.diagram w b) op turn → After m w b turn
   open_keeps w b op turn facts bay free own (OpenStep.alone _ deciding) =
       decided_after w b (opens m.diagram (node m.diagram w b) op) (fresh m.diagram (node m.diagram w b) op) turn facts bay (may_open m w b facts bay op free own) refl deciding
   open_keeps w b op turn facts bay free own (OpenStep.reserves _ end) =
@@ -98,7 +98,7 @@ module _ (m : Meaning) (station : IsStation m.diagram) where
         answer = λ summary body. absurd (cc body);
       })))
 
-  pub command_keeps : (w : World) (b : ℕ) (op : Op) (turn : Turn) → RoundFacts m w → IsBay m.diagram b → IsOwn m.diagram (node m.diagram w b).bay op.switch.0 → CommandStep m m.diagram (node m.diagram w b) op turn → After m w b turn
+  pub command_keeps : (w : Scene) (b : ℕ) (op : Op) (turn : Turn) → RoundFacts m w → IsBay m.diagram b → IsOwn m.diagram (node m.diagram w b).bay op.switch.0 → CommandStep m m.diagram (node m.diagram w b) op turn → After m w b turn
   command_keeps w b op turn facts bay own (CommandStep.round_under_way _ _ end) = still m w b turn _ facts bay end
   command_keeps w b op turn facts bay own (CommandStep.held _ _ _ end) = still m w b turn _ facts bay end
   command_keeps w b op turn facts bay own (CommandStep.there _ _ end) = still m w b turn _ facts bay end
@@ -108,21 +108,21 @@ module _ (m : Meaning) (station : IsStation m.diagram) where
   -- ---- frames
 
   -- a frame that was sent comes to bay b from another
-  record Taken (w : World) (b : ℕ) (f : Frame) : Type 0 where
+  record Taken (w : Scene) (b : ℕ) (f : Frame) : Type 0 where
     there : Contains w.sent f
     here : f.to.0 ≡ b
     bay : IsBay m.diagram b
     sender : IsOther m.diagram b f.from.0
     positive : f.round ≢ 0
 
-  positive_round : (w : World) (b q : ℕ) → RoundFacts m w → IsBay m.diagram b → under_way (node m.diagram w b) ≡ Some q → q ≢ 0
+  positive_round : (w : Scene) (b q : ℕ) → RoundFacts m w → IsBay m.diagram b → under_way (node m.diagram w b) ≡ Some q → q ≢ 0
   positive_round w b q facts bay is = under_way_positive (node m.diagram w b).collecting (node m.diagram w b).granted q (λ g has. ((facts.rounds b bay).collecting g has).positive) (λ g has. ((facts.rounds b bay).kept.granted g has).positive) is
 
   -- the round of a Reserve is known to its sender
-  known_round : (w : World) (f : Frame) → RoundFacts m w → Contains w.sent f → f.body ≡ Reserve → f.round ≤ (node m.diagram w f.from.0).highest
+  known_round : (w : Scene) (f : Frame) → RoundFacts m w → Contains w.sent f → f.body ≡ Reserve → f.round ≤ (node m.diagram w f.from.0).highest
   known_round w f facts there body = subst (λ x. f.round ≤ (node m.diagram w (round_bay f x)).highest) body (facts.bounds.frames f there)
 
-  busy_sent : (w : World) (b : ℕ) (f : Frame) (holder : BayId) (q : ℕ) → RoundFacts m w → Taken w b f → f.round ≤ (node m.diagram w f.from.0).highest → IsBay m.diagram holder.0 → q ≢ 0 → MaySend m w (frame b f.from.0 f.round (Busy holder q))
+  busy_sent : (w : Scene) (b : ℕ) (f : Frame) (holder : BayId) (q : ℕ) → RoundFacts m w → Taken w b f → f.round ≤ (node m.diagram w f.from.0).highest → IsBay m.diagram holder.0 → q ≢ 0 → MaySend m w (frame b f.from.0 f.round (Busy holder q))
   busy_sent w b f holder q facts taken low some positive = record {
     fit = frame_fits m.diagram b f.from.0 f.round (Busy holder q) station taken.bay taken.sender taken.positive (omega (arith, some.0, station.items.parts_few), positive);
     bound = low;
@@ -130,7 +130,7 @@ module _ (m : Meaning) (station : IsStation m.diagram) where
     answer = λ summary body. absurd (cc body);
   }
 
-  answering_keeps : (w : World) (b : ℕ) (f : Frame) (turn : Turn) → RoundFacts m w → Taken w b f → f.body ≡ Reserve → MayBecome m w b (locks (node m.diagram w b) f.from.0 f.round) → Answering m (node m.diagram w b) f.from.0 f.round turn → After m w b turn
+  answering_keeps : (w : Scene) (b : ℕ) (f : Frame) (turn : Turn) → RoundFacts m w → Taken w b f → f.body ≡ Reserve → MayBecome m w b (locks (node m.diagram w b) f.from.0 f.round) → Answering m (node m.diagram w b) f.from.0 f.round turn → After m w b turn
   answering_keeps w b f turn facts taken body may it =
       let old : State = node m.diagram w b in
       let s : State = locks old f.from.0 f.round in
@@ -144,7 +144,7 @@ module _ (m : Meaning) (station : IsStation m.diagram) where
         answer = λ given is running. ap (λ (n : State). n.lock) at;
       })))
 
-  reserve_keeps : (w : World) (b : ℕ) (f : Frame) (turn : Turn) → RoundFacts m w → Taken w b f → f.body ≡ Reserve → ReserveStep m (node m.diagram w b) f.from.0 f.round turn → After m w b turn
+  reserve_keeps : (w : Scene) (b : ℕ) (f : Frame) (turn : Turn) → RoundFacts m w → Taken w b f → f.body ≡ Reserve → ReserveStep m (node m.diagram w b) f.from.0 f.round turn → After m w b turn
   reserve_keeps w b f turn facts taken body (ReserveStep.busy_itself q is end) =
       let name = facts.shape.named b in
       sends_one m w b turn _ (frame (node m.diagram w b).bay f.from.0 f.round (Busy (record { 0 = (node m.diagram w b).bay }) q)) facts taken.bay end
@@ -159,13 +159,13 @@ module _ (m : Meaning) (station : IsStation m.diagram) where
 
   -- ---- Answer
 
-  heard_it : (w : World) (b : ℕ) (f : Frame) (g : Collection) (summary : List ℕ) → RoundFacts m w → Taken w b f → f.body ≡ Answer summary → g.round ≡ f.round → m.Fits f.from.0 (node m.diagram w b).bay summary → HeardSent m w.sent b g.round f.from.0 summary
+  heard_it : (w : Scene) (b : ℕ) (f : Frame) (g : Collection) (summary : List ℕ) → RoundFacts m w → Taken w b f → f.body ≡ Answer summary → g.round ≡ f.round → m.Fits f.from.0 (node m.diagram w b).bay summary → HeardSent m w.sent b g.round f.from.0 summary
   heard_it w b f g summary facts taken body round fits = record {
     fits = subst (λ (x : ℕ). m.Fits f.from.0 x summary) (facts.shape.named b) fits;
     answer = record { frame = f; there = taken.there; from = refl; to = taken.here; round = sym round; body = body };
   }
 
-  answer_keeps : (w : World) (b : ℕ) (f : Frame) (summary : List ℕ) (turn : Turn) → RoundFacts m w → Taken w b f → f.body ≡ Answer summary → AnswerStep m m.diagram (node m.diagram w b) f.from.0 f.round summary turn → After m w b turn
+  answer_keeps : (w : Scene) (b : ℕ) (f : Frame) (summary : List ℕ) (turn : Turn) → RoundFacts m w → Taken w b f → f.body ≡ Answer summary → AnswerStep m m.diagram (node m.diagram w b) f.from.0 f.round summary turn → After m w b turn
   answer_keeps w b f summary turn facts taken body (AnswerStep.heard_one g has round fits all end) =
       becomes m w b turn (collects (node m.diagram w b) (node m.diagram w b).highest (hears g f.from.0 summary)) _ facts end (may_hear m w b facts taken.bay g f.from.0 summary has (heard_it w b f g summary facts taken body round fits))
   answer_keeps w b f summary turn facts taken body (AnswerStep.heard_last g has round fits all deciding) =
@@ -176,13 +176,13 @@ module _ (m : Meaning) (station : IsStation m.diagram) where
 
   -- ---- Busy, Query, Over
 
-  busy_keeps : (w : World) (b : ℕ) (f : Frame) (holder : BayId) (q : ℕ) (turn : Turn) → RoundFacts m w → Taken w b f → BusyStep m.diagram (node m.diagram w b) f.from.0 f.round holder q turn → After m w b turn
+  busy_keeps : (w : Scene) (b : ℕ) (f : Frame) (holder : BayId) (q : ℕ) (turn : Turn) → RoundFacts m w → Taken w b f → BusyStep m.diagram (node m.diagram w b) f.from.0 f.round holder q turn → After m w b turn
   busy_keeps w b f holder q turn facts taken (BusyStep.gives_up g has round end) =
       round_dropped m station w b g turn _ facts taken.bay has (subst (λ (x : ℕ). Ends turn (drops (node m.diagram w b)) (BusyBy f.round f.from holder q) (overs m.diagram (node m.diagram w b) x)) (sym round) end)
   busy_keeps w b f holder q turn facts taken (BusyStep.other_round _ _ _ end) = still m w b turn _ facts taken.bay end
   busy_keeps w b f holder q turn facts taken (BusyStep.none_collected _ end) = still m w b turn _ facts taken.bay end
 
-  query_keeps : (w : World) (b : ℕ) (f : Frame) (turn : Turn) → RoundFacts m w → Taken w b f → QueryStep (node m.diagram w b) f.from.0 f.round turn → After m w b turn
+  query_keeps : (w : Scene) (b : ℕ) (f : Frame) (turn : Turn) → RoundFacts m w → Taken w b f → QueryStep (node m.diagram w b) f.from.0 f.round turn → After m w b turn
   query_keeps w b f turn facts taken (QueryStep.is_over low idle end) =
       sends_one m w b turn _ (frame (node m.diagram w b).bay f.from.0 f.round Over) facts taken.bay end
       (subst (λ (x : ℕ). MaySend m w (frame x f.from.0 f.round Over)) (sym (facts.shape.named b)) (record {
@@ -194,13 +194,13 @@ module _ (m : Meaning) (station : IsStation m.diagram) where
   query_keeps w b f turn facts taken (QueryStep.unknown_round _ end) = still m w b turn _ facts taken.bay end
   query_keeps w b f turn facts taken (QueryStep.round_under_way _ end) = still m w b turn _ facts taken.bay end
 
-  over_keeps : (w : World) (b : ℕ) (f : Frame) (turn : Turn) → RoundFacts m w → Taken w b f → f.body ≡ Over → OverStep (node m.diagram w b) f.from.0 f.round turn → After m w b turn
+  over_keeps : (w : Scene) (b : ℕ) (f : Frame) (turn : Turn) → RoundFacts m w → Taken w b f → f.body ≡ Over → OverStep (node m.diagram w b) f.from.0 f.round turn → After m w b turn
   over_keeps w b f turn facts taken body (OverStep.unlocks_it l lock same low end) = becomes m w b turn (unlocks (node m.diagram w b)) _ facts end (may_unlock m w b facts taken.bay f l lock taken.there body same low)
   over_keeps w b f turn facts taken body (OverStep.earlier_round _ _ _ _ end) = still m w b turn _ facts taken.bay end
   over_keeps w b f turn facts taken body (OverStep.another_holder _ _ _ end) = still m w b turn _ facts taken.bay end
   over_keeps w b f turn facts taken body (OverStep.no_lock _ end) = still m w b turn _ facts taken.bay end
 
-  taken_of : (w : World) (b : ℕ) (f : Frame) → RoundFacts m w → IsBay m.diagram b → Contains w.sent f → IsMeant m.diagram (node m.diagram w b) f → Taken w b f
+  taken_of : (w : Scene) (b : ℕ) (f : Frame) → RoundFacts m w → IsBay m.diagram b → Contains w.sent f → IsMeant m.diagram (node m.diagram w b) f → Taken w b f
   taken_of w b f facts bay there meant = record {
     there = there;
     here = meant.here ∙ facts.shape.named b;
@@ -209,7 +209,7 @@ module _ (m : Meaning) (station : IsStation m.diagram) where
     positive = (facts.bounds.fit f there).lawful.round;
   }
 
-  pub frame_keeps : (w : World) (b : ℕ) (f : Frame) (turn : Turn) → RoundFacts m w → IsBay m.diagram b → Contains w.sent f → FrameStep m m.diagram (node m.diagram w b) f turn → After m w b turn
+  pub frame_keeps : (w : Scene) (b : ℕ) (f : Frame) (turn : Turn) → RoundFacts m w → IsBay m.diagram b → Contains w.sent f → FrameStep m m.diagram (node m.diagram w b) f turn → After m w b turn
   frame_keeps w b f turn facts bay there (FrameStep.elsewhere _ end) = still m w b turn _ facts bay end
   frame_keeps w b f turn facts bay there (FrameStep.stranger _ end) = still m w b turn _ facts bay end
   frame_keeps w b f turn facts bay there (FrameStep.reserve meant body step) = reserve_keeps w b f turn facts (taken_of w b f facts bay there meant) body step
@@ -220,7 +220,7 @@ module _ (m : Meaning) (station : IsStation m.diagram) where
 
   -- ---- Tick
 
-  pub tick_keeps : (w : World) (b : ℕ) (turn : Turn) → RoundFacts m w → IsBay m.diagram b → TickStep m m.diagram (node m.diagram w b) turn → After m w b turn
+  pub tick_keeps : (w : Scene) (b : ℕ) (turn : Turn) → RoundFacts m w → IsBay m.diagram b → TickStep m m.diagram (node m.diagram w b) turn → After m w b turn
   tick_keeps w b turn facts bay (TickStep.decides g has deciding) = decided m station w b g turn facts bay has deciding
   tick_keeps w b turn facts bay (TickStep.asks l idle lock end) =
       let kept = (facts.rounds b bay).kept.lock l lock in
@@ -236,7 +236,7 @@ module _ (m : Meaning) (station : IsStation m.diagram) where
   -- ---- the end of an operation
 
   -- the word of its switch is set, then it ends
-  ended : (w : World) (b : ℕ) (g : Grant) (i : ℕ) (word : Dbpos) (turn : Turn) (outcome : Outcome) → RoundFacts m w → IsBay m.diagram b → (node m.diagram w b).granted ≡ Some g → g.op.switch.0 ≡ i → runs w.drives i ≡ false → Ends turn (ends (senses (node m.diagram w b) i word)) outcome (overs m.diagram (node m.diagram w b) g.round) → After m w b turn
+  ended : (w : Scene) (b : ℕ) (g : Grant) (i : ℕ) (word : Dbpos) (turn : Turn) (outcome : Outcome) → RoundFacts m w → IsBay m.diagram b → (node m.diagram w b).granted ≡ Some g → g.op.switch.0 ≡ i → runs w.drives i ≡ false → Ends turn (ends (senses (node m.diagram w b) i word)) outcome (overs m.diagram (node m.diagram w b) g.round) → After m w b turn
   ended w b g i word turn outcome facts bay has switch rests end =
       let old : State = node m.diagram w b in
       let s : State = senses (node m.diagram w b) i word in
@@ -254,26 +254,26 @@ module _ (m : Meaning) (station : IsStation m.diagram) where
       (overs_sent m station w b g.round (ends (senses (node m.diagram w b) i word)) three within bay (facts.shape.named b) (ap (λ x. under_way_of x None) none) (omega (arith, good.newest)) good.positive)
 
   -- where off or on is true, no drive runs
-  end_stands_still : (w : World) (i : ℕ) (way : Direction) → RoundFacts m w → i < length m.diagram.switches → IsTrueWord (end_word way) (true_at w.truth i) → runs w.drives i ≡ false
+  end_stands_still : (w : Scene) (i : ℕ) (way : Direction) → RoundFacts m w → i < length m.diagram.switches → IsTrueWord (end_word way) (true_at w.truth i) → runs w.drives i ≡ false
   end_stands_still w i way facts lt truly = elim (cases_Bool (runs w.drives i)) [
     | inl on ↦ absurd (at_end_not_between way (subst (λ (x : Position). IsTrueWord (end_word way) x) (facts.drives i lt on).between truly))
     | inr off ↦ off
   ]
 
-  pub sense_keeps : (w : World) (b i : ℕ) (word : Dbpos) (turn : Turn) → RoundFacts m w → IsBay m.diagram b → i < length m.diagram.switches → IsTrueWord word (true_at w.truth i) → SenseStep m.diagram (node m.diagram w b) i word turn → After m w b turn
+  pub sense_keeps : (w : Scene) (b i : ℕ) (word : Dbpos) (turn : Turn) → RoundFacts m w → IsBay m.diagram b → i < length m.diagram.switches → IsTrueWord word (true_at w.truth i) → SenseStep m.diagram (node m.diagram w b) i word turn → After m w b turn
   sense_keeps w b i word turn facts bay lt truly (SenseStep.finishes g is end) =
       ended w b g i word turn _ facts bay is.granted is.switch (end_stands_still w i g.op.direction facts lt (subst (λ (x : Dbpos). IsTrueWord x (true_at w.truth i)) is.wanted truly)) end
   sense_keeps w b i word turn facts bay lt truly (SenseStep.reads _ end) = becomes m w b turn (senses (node m.diagram w b) i word) _ facts end (may_sense m w b facts bay i word)
 
-  pub withdraw_keeps : (w : World) (b : ℕ) (turn : Turn) → RoundFacts m w → IsBay m.diagram b → ((g : Grant) → (node m.diagram w b).granted ≡ Some g → runs w.drives g.op.switch.0 ≡ false) → WithdrawStep m.diagram (node m.diagram w b) turn → After m w b turn
+  pub withdraw_keeps : (w : Scene) (b : ℕ) (turn : Turn) → RoundFacts m w → IsBay m.diagram b → ((g : Grant) → (node m.diagram w b).granted ≡ Some g → runs w.drives g.op.switch.0 ≡ false) → WithdrawStep m.diagram (node m.diagram w b) turn → After m w b turn
   withdraw_keeps w b turn facts bay rests (WithdrawStep.from_round g has end) = round_dropped m station w b g turn _ facts bay has end
   withdraw_keeps w b turn facts bay rests (WithdrawStep.from_grant g none has end) = ended w b g g.op.switch.0 Lost turn _ facts bay has refl (rests g has) end
   withdraw_keeps w b turn facts bay rests (WithdrawStep.no_round _ end) = still m w b turn _ facts bay end
 
-  pub cut_keeps : (w : World) (b i : ℕ) (turn : Turn) → RoundFacts m w → IsBay m.diagram b → runs w.drives i ≡ false → CutStep m.diagram (node m.diagram w b) i turn → After m w b turn
+  pub cut_keeps : (w : Scene) (b i : ℕ) (turn : Turn) → RoundFacts m w → IsBay m.diagram b → runs w.drives i ≡ false → CutStep m.diagram (node m.diagram w b) i turn → After m w b turn
   cut_keeps w b i turn facts bay rests (CutStep.stops g has switch end) = ended w b g i Lost turn _ facts bay has switch rests end
   cut_keeps w b i turn facts bay rests (CutStep.other_switch _ _ _ end) = still m w b turn _ facts bay end
   cut_keeps w b i turn facts bay rests (CutStep.no_grant _ end) = still m w b turn _ facts bay end
 
-  pub restart_keeps : (w : World) (b : ℕ) (turn : Turn) → RoundFacts m w → IsBay m.diagram b → (outcome : Outcome) → Ends turn (restarts (node m.diagram w b)) outcome [] → After m w b turn
+  pub restart_keeps : (w : Scene) (b : ℕ) (turn : Turn) → RoundFacts m w → IsBay m.diagram b → (outcome : Outcome) → Ends turn (restarts (node m.diagram w b)) outcome [] → After m w b turn
   restart_keeps w b turn facts bay outcome end = becomes m w b turn (restarts (node m.diagram w b)) outcome facts end (may_restart m w b facts bay)

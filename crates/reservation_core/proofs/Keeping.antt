@@ -6,7 +6,7 @@ use Rattle.station_graph.specs.Diagram.{IsStation}
 use Rattle.central_rules.specs.Meaning.{Meaning, IsBay, bay_of}
 use Rattle.bay_protocol.specs.Fits.{IsOwn}
 use Rattle.bay_protocol.specs.Step.{Turn}
-use Rattle.reservation_core.specs.World.{World, node, at_node, posts, moves, stops, end_position}
+use Rattle.reservation_core.specs.Scene.{Scene, node, at_node, posts, moves, stops, end_position}
 use Rattle.reservation_core.specs.RoundFacts.{RoundFacts}
 use Rattle.reservation_core.specs.Happens.{Happens, InRange, SenseHappens, DeliverHappens, PartHappens, WithdrawHappens, BeginHappens, EndHappens, CutHappens}
 use Rattle.reservation_core.specs.declared.values.Position.TheVariants.{Between}
@@ -17,10 +17,10 @@ use Rattle.reservation_core.proofs.Sends.{facts_moves, facts_stops}
 use Rattle.reservation_core.proofs.Steps.{After, bay_of_is, switch_there}
 use Rattle.reservation_core.proofs.Events.{command_keeps, frame_keeps, tick_keeps, sense_keeps, withdraw_keeps, cut_keeps, restart_keeps}
 
-stepped : (m : Meaning) (old new : World) (b : ℕ) (turn : Turn) → new ≡ posts (at_node old b turn.new) turn.frames → After m old b turn → RoundFacts m new
+stepped : (m : Meaning) (old new : Scene) (b : ℕ) (turn : Turn) → new ≡ posts (at_node old b turn.new) turn.frames → After m old b turn → RoundFacts m new
 stepped m old new b turn is after = subst (RoundFacts m) (sym is) after
 
-same_facts : (m : Meaning) (old new : World) → new ≡ old → RoundFacts m old → RoundFacts m new
+same_facts : (m : Meaning) (old new : Scene) → new ≡ old → RoundFacts m old → RoundFacts m new
 same_facts m old new is facts = subst (RoundFacts m) (sym is) facts
 
 -- what is found in a list is in it
@@ -30,10 +30,10 @@ got_there (y ∷ ys) zero x got = let e : y ≡ x = cc got in (zero, omega arith
 got_there (y ∷ ys) (suc i) x got = let rest = got_there ys i x got in (suc rest.0, omega (arith, rest.1), rest.2)
 
 -- a switch of the station is one of its bay
-pub own_switch : (m : Meaning) (w : World) (i : ℕ) → RoundFacts m w → i < length m.diagram.switches → IsOwn m.diagram (node m.diagram w (bay_of m.diagram i)).bay i
+pub own_switch : (m : Meaning) (w : Scene) (i : ℕ) → RoundFacts m w → i < length m.diagram.switches → IsOwn m.diagram (node m.diagram w (bay_of m.diagram i)).bay i
 own_switch m w i facts lt = let s = switch_there m.diagram i lt in subst (λ (x : ℕ). IsOwn m.diagram x i) (sym (facts.shape.named (bay_of m.diagram i))) (s.0, s.1, rw s.1 refl)
 
-module _ (m : Meaning) (station : IsStation m.diagram) (old new : World) (outcome : WorldOutcome) (facts : RoundFacts m old) where
+module _ (m : Meaning) (station : IsStation m.diagram) (old new : Scene) (outcome : WorldOutcome) (facts : RoundFacts m old) where
   sense_happens_keeps : (i : SwitchId) (word : Dbpos) → i.0 < length m.diagram.switches → SenseHappens m old i word new outcome → RoundFacts m new
   sense_happens_keeps i word lt (SenseHappens.untrue not_so refused) = same_facts m old new refused.unchanged facts
   sense_happens_keeps i word lt (SenseHappens.reads truly s) = stepped m old new (bay_of m.diagram i.0) s.turn s.world (sense_keeps m station old (bay_of m.diagram i.0) i.0 word s.turn facts (bay_of_is m.diagram i.0 station lt) lt truly s.step)

@@ -12,3 +12,8 @@ pub mod Noting
 pub mod Plain
 pub mod Soundness
 pub mod Starting
+pub mod Gives
+pub mod Exact
+pub mod Added
+pub mod ForCode
+pub mod ForWorld

@@ -14,7 +14,7 @@ use Rattle.bay_protocol.specs.declared.values.Collection.{Collection}
 use Rattle.bay_protocol.specs.State.{State, IsOther, MayLock, under_way, under_way_of, fresh, opens, collects, grants, drops, locks, unlocks, hears, senses, ends, restarts}
 use Rattle.bay_protocol.specs.Step.{IsFree}
 use Rattle.bay_protocol.specs.Fits.{IsNode, IsOwn}
-use Rattle.reservation_core.specs.World.{World, node, runs}
+use Rattle.reservation_core.specs.Scene.{Scene, node, runs}
 use Rattle.reservation_core.specs.RoundFacts.{RoundFacts, HeardSent, round_bay}
 use Rattle.reservation_core.proofs.Nodes.{got_set}
 use Rattle.reservation_core.proofs.Change.{MayBecome}
@@ -68,12 +68,12 @@ lock_is : (l : Lock) (c r : ℕ) → l.holder.0 ≡ c → r ≡ l.round → l �
 lock_is l c r h e = subst (λ (x : ℕ). l ≡ record { holder = record { 0 = x }; round = r }) h (subst (λ (y : ℕ). l ≡ record { holder = record { 0 = l.holder.0 }; round = y }) (sym e) refl)
 
 -- the node of a bay is there
-pub node_there : (m : Meaning) (w : World) (b : ℕ) → RoundFacts m w → IsBay m.diagram b → b < length w.nodes
+pub node_there : (m : Meaning) (w : Scene) (b : ℕ) → RoundFacts m w → IsBay m.diagram b → b < length w.nodes
 node_there m w b facts bay = omega (arith, bay.0, facts.shape.nodes)
 
 -- ---- the changes
 
-module _ (m : Meaning) (w : World) (b : ℕ) (facts : RoundFacts m w) (bay : IsBay m.diagram b) where
+module _ (m : Meaning) (w : Scene) (b : ℕ) (facts : RoundFacts m w) (bay : IsBay m.diagram b) where
   abbrev old : State
   old = node m.diagram w b
 

@@ -7,17 +7,17 @@ use Rattle.bay_protocol.specs.State.{State, under_way, under_way_of}
 use Rattle.bay_protocol.specs.Fits.{IsNode}
 use Rattle.bay_protocol.specs.declared.values.Grant.{Grant}
 use Rattle.bay_protocol.specs.declared.values.Collection.{Collection}
-use Rattle.reservation_core.specs.World.{World, node, new_node, at_node}
+use Rattle.reservation_core.specs.Scene.{Scene, node, new_node, at_node}
 
 -- the changed node, and each other
-pub node_here : (d : Diagram) (w : World) (b : ℕ) (s : State) → b < length w.nodes → node d (at_node w b s) b ≡ s
+pub node_here : (d : Diagram) (w : Scene) (b : ℕ) (s : State) → b < length w.nodes → node d (at_node w b s) b ≡ s
 node_here d w b s within = ap (λ (x : Option State). unwrap_or x (new_node d b)) (get_or-set_same w.nodes b (Some s) None within)
 
-pub node_other : (d : Diagram) (w : World) (b : ℕ) (s : State) (c : ℕ) → c ≢ b → node d (at_node w b s) c ≡ node d w c
+pub node_other : (d : Diagram) (w : Scene) (b : ℕ) (s : State) (c : ℕ) → c ≢ b → node d (at_node w b s) c ≡ node d w c
 node_other d w b s c other = ap (λ (x : Option State). unwrap_or x (new_node d c)) (get_or-set_other w.nodes b c (Some s) None other)
 
 -- what holds of the changed node and of each other holds of each
-pub each_node : (d : Diagram) (w : World) (b : ℕ) (s : State) (P : ℕ → State → Type 0) → b < length w.nodes → P b s → ((c : ℕ) → c ≢ b → P c (node d w c)) → (c : ℕ) → P c (node d (at_node w b s) c)
+pub each_node : (d : Diagram) (w : Scene) (b : ℕ) (s : State) (P : ℕ → State → Type 0) → b < length w.nodes → P b s → ((c : ℕ) → c ≢ b → P c (node d w c)) → (c : ℕ) → P c (node d (at_node w b s) c)
 each_node d w b s P within here there c =
     elim (cases_eq c b) [
       | inl same ↦ subst (λ (x : ℕ). P x (node d (at_node w b s) x)) (sym same) (subst (λ (n : State). P b n) (sym (node_here d w b s within)) here)

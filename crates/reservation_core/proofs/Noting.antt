@@ -13,7 +13,7 @@ use Rattle.bay_protocol.specs.declared.values.NodeEvent.{NodeEvent}
 use Rattle.bay_protocol.specs.declared.values.NodeEvent.TheVariants.{Command as Commanded, Sense as Sensing, Frame as Arrival, Tick as Ticking, Withdraw as Withdrawing, Restart as Restarting, Cut as Cutting}
 use Rattle.bay_protocol.specs.State.{State}
 use Rattle.bay_protocol.specs.Counts.{Counts}
-use Rattle.reservation_core.specs.World.{World, node}
+use Rattle.reservation_core.specs.Scene.{Scene, node}
 use Rattle.reservation_core.specs.Held.{Held, IsSwitchOf}
 use Rattle.reservation_core.proofs.Effects.{CountsAt, IsSensed, IsNewWord}
 use Rattle.reservation_core.proofs.Truths.{HeldStep}
@@ -42,7 +42,7 @@ known_of N None None bay b own mid known = cond (bay == b) own mid
 
 -- what bay c knows of switch i after a step of node b, at which an Answer counted or not, and which leaves the
 -- node in this state
-abbrev pub known_after : (m : Meaning) → (N : Type 0) → N → World → ℕ → ℕ → NodeEvent → Bool → State → Held N → ℕ → ℕ → N
+abbrev pub known_after : (m : Meaning) → (N : Type 0) → N → Scene → ℕ → ℕ → NodeEvent → Bool → State → Held N → ℕ → ℕ → N
 known_after m N lost w b k event counted new h c i =
     cond (c == b)
     (known_of N new.collecting (node m.diagram w b).granted (bay_of m.diagram i) b (h.own i) (heard_of N lost (node m.diagram w b).collecting counted event (bay_of m.diagram i) (h.beside k i) (h.known b i)) (h.known b i))
@@ -76,7 +76,7 @@ which : (x : Option Collection) → ((g : Collection) × (x ≡ Some g)) ⊎ (x 
 which None = inr refl
 which (Some g) = inl (g, refl)
 
-module _ (m : Meaning) (N : Type 0) (word : N → Dbpos) (Good : ℕ → N → Type 0) (lost : N) (w : World) (b k : ℕ) (event : NodeEvent) (counted : Bool) (new : State) (frames : List Frame) (h after : Held N) where
+module _ (m : Meaning) (N : Type 0) (word : N → Dbpos) (Good : ℕ → N → Type 0) (lost : N) (w : Scene) (b k : ℕ) (event : NodeEvent) (counted : Bool) (new : State) (frames : List Frame) (h after : Held N) where
   -- what a step of the notes is to be, but for what is known
   pub record NoteStep : Type 0 where
     pub words_are : (i : ℕ) → IsSwitchOf m b i → word (after.own i) ≡ get_or new.words i Lost

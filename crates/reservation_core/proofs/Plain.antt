@@ -15,7 +15,7 @@ use Rattle.bay_protocol.specs.declared.values.Grant.{Grant}
 use Rattle.bay_protocol.specs.declared.values.NodeEvent.{NodeEvent}
 use Rattle.bay_protocol.specs.declared.values.NodeEvent.TheVariants.{Command as Commanded, Sense as Sensing, Frame as Arrival, Tick as Ticking, Withdraw as Withdrawing, Restart as Restarting, Cut as Cutting}
 use Rattle.bay_protocol.specs.State.{State}
-use Rattle.reservation_core.specs.World.{World, node, at_node, posts, moves, stops, true_at, IsTrueWord, Stands}
+use Rattle.reservation_core.specs.Scene.{Scene, node, at_node, posts, moves, stops, true_at, IsTrueWord, Stands}
 use Rattle.reservation_core.specs.declared.values.Position.{Position}
 use Rattle.reservation_core.specs.declared.values.Position.TheVariants.{Between}
 use Rattle.reservation_core.specs.declared.values.WorldEvent.{WorldEvent}
@@ -69,7 +69,7 @@ unfolding is_first
 first_no (inl a) is = absurd (cc is)
 first_no (inr b) is = b
 
-module _ (m : Meaning) (w : World) (b k : ℕ) (event : NodeEvent) (new : State) (frames : List Frame) (laws : Laws m) (rounds : RoundFacts m w) (now : RoundFacts m (posts (at_node w b new) frames)) (bay : IsBay m.diagram b) (message : (f : Frame) → event ≡ Arrival f → slice_get w.sent k ≡ Some f) (truly : (j : SwitchId) (word : Dbpos) → event ≡ Sensing j word → IsTrueWord word (true_at w.truth j.0)) (effect : Effect m (node m.diagram w b) event new frames) (old : PlainFacts m w) where
+module _ (m : Meaning) (w : Scene) (b k : ℕ) (event : NodeEvent) (new : State) (frames : List Frame) (laws : Laws m) (rounds : RoundFacts m w) (now : RoundFacts m (posts (at_node w b new) frames)) (bay : IsBay m.diagram b) (message : (f : Frame) → event ≡ Arrival f → slice_get w.sent k ≡ Some f) (truly : (j : SwitchId) (word : Dbpos) → event ≡ Sensing j word → IsTrueWord word (true_at w.truth j.0)) (effect : Effect m (node m.diagram w b) event new frames) (old : PlainFacts m w) where
   abbrev held_after : Held Dbpos
   held_after = record {
     own = λ i. get_or (node m.diagram (posts (at_node w b new) frames) (bay_of m.diagram i)).words i Lost;
@@ -112,12 +112,12 @@ module _ (m : Meaning) (w : World) (b k : ℕ) (event : NodeEvent) (new : State)
         (λ g has. sym (ap (λ (s : State). s.granted) here) ∙ ((now.rounds b bay).collecting g (ap (λ (s : State). s.collecting) here ∙ has)).no_grant) notes (λ c i lt. refl));
   }
 
-node_truth : (m : Meaning) (old new : World) (b k : ℕ) (event : NodeEvent) (outcome : WorldOutcome) → Laws m → RoundFacts m old → RoundFacts m new → IsBay m.diagram b → ((f : Frame) → event ≡ Arrival f → slice_get old.sent k ≡ Some f) → ((j : SwitchId) (word : Dbpos) → event ≡ Sensing j word → IsTrueWord word (true_at old.truth j.0)) → NodeSteps m old b event new outcome → PlainFacts m old → PlainFacts m new
+node_truth : (m : Meaning) (old new : Scene) (b k : ℕ) (event : NodeEvent) (outcome : WorldOutcome) → Laws m → RoundFacts m old → RoundFacts m new → IsBay m.diagram b → ((f : Frame) → event ≡ Arrival f → slice_get old.sent k ≡ Some f) → ((j : SwitchId) (word : Dbpos) → event ≡ Sensing j word → IsTrueWord word (true_at old.truth j.0)) → NodeSteps m old b event new outcome → PlainFacts m old → PlainFacts m new
 node_truth m old new b k event outcome laws rounds now bay message truly s facts =
     subst (PlainFacts m) (sym s.world) (stepped m old b k event s.turn.new s.turn.frames laws rounds (subst (RoundFacts m) s.world now) bay message truly (effect m (node m.diagram old b) event s.turn (rounds.rounds b bay) s.step) facts)
 
 -- a switch of a granted operation moves
-move_truth : (m : Meaning) (w : World) (i : ℕ) (g : Grant) (at : Position) (running : Bool) → RoundFacts m w → i < length m.diagram.switches → (node m.diagram w (bay_of m.diagram i)).granted ≡ Some g → g.op.switch.0 ≡ i → PlainFacts m w → PlainFacts m (moves w i at running)
+move_truth : (m : Meaning) (w : Scene) (i : ℕ) (g : Grant) (at : Position) (running : Bool) → RoundFacts m w → i < length m.diagram.switches → (node m.diagram w (bay_of m.diagram i)).granted ≡ Some g → g.op.switch.0 ≡ i → PlainFacts m w → PlainFacts m (moves w i at running)
 move_truth m w i g at running rounds lt has switch old = record {
   held = old.held;
   facts = facts_change m Dbpos itself (IsGood w) (IsGood (moves w i at running)) w (set w.truth i at) (set w.drives i running) old.held rounds
@@ -127,7 +127,7 @@ move_truth m w i g at running rounds lt has switch old = record {
       (λ j word is. lost_is_good (true_at (set w.truth i at) j) word is) old.facts;
 }
 
-stop_truth : (m : Meaning) (w : World) (i : ℕ) → RoundFacts m w → PlainFacts m w → PlainFacts m (stops w i)
+stop_truth : (m : Meaning) (w : Scene) (i : ℕ) → RoundFacts m w → PlainFacts m w → PlainFacts m (stops w i)
 stop_truth m w i rounds old = record {
   held = old.held;
   facts = facts_change m Dbpos itself (IsGood w) (IsGood (stops w i)) w w.truth (set w.drives i false) old.held rounds (λ j word jlt free good. good) (λ j word is. lost_is_good (true_at w.truth j) word is) old.facts;
@@ -135,15 +135,15 @@ stop_truth m w i rounds old = record {
 
 -- ---- whatever happens
 
-way_truth : (m : Meaning) (old new : World) (event : WorldEvent) (outcome : WorldOutcome) → Laws m → RoundFacts m old → RoundFacts m new → Way m old event new outcome → PlainFacts m old → PlainFacts m new
+way_truth : (m : Meaning) (old new : Scene) (event : WorldEvent) (outcome : WorldOutcome) → Laws m → RoundFacts m old → RoundFacts m new → Way m old event new outcome → PlainFacts m old → PlainFacts m new
 way_truth m old new event outcome laws rounds now (Way.refused which same says) facts = subst (PlainFacts m) (sym same) facts
-way_truth m old new event outcome laws rounds now (Way.nothing same none) facts = subst (PlainFacts m) (sym same) facts
+way_truth m old new event outcome laws rounds now (Way.nothing same none fits) facts = subst (PlainFacts m) (sym same) facts
 way_truth m old new event outcome laws rounds now (Way.turns c is fair s) facts = node_truth m old new c.bay c.message c.event outcome laws rounds now fair.bay fair.message fair.truly s facts
 way_truth m old new event outcome laws rounds now (Way.drives i g at running none lt has switch is says) facts = subst (PlainFacts m) (sym is) (move_truth m old i g at running rounds lt has switch facts)
 way_truth m old new event outcome laws rounds now (Way.cuts i c is fair s) facts =
     node_truth m (stops old i) new c.bay c.message c.event outcome laws (facts_stops m old i rounds) now fair.bay fair.message fair.truly s (stop_truth m old i rounds facts)
 
-pub keeps_facts : (m : Meaning) (old new : World) (event : WorldEvent) (outcome : WorldOutcome) → IsStation m.diagram → Laws m → Facts m old → InRange m.diagram event → Happens m old event new outcome → Facts m new
+pub keeps_facts : (m : Meaning) (old new : Scene) (event : WorldEvent) (outcome : WorldOutcome) → IsStation m.diagram → Laws m → Facts m old → InRange m.diagram event → Happens m old event new outcome → Facts m new
 keeps_facts m old new event outcome station laws facts range happens =
     let now = happens_keeps m station old new outcome facts.rounds event range happens in
     record { rounds = now; truth = way_truth m old new event outcome laws facts.rounds now (way m station old new outcome facts.rounds event range happens) facts.truth }
@@ -162,14 +162,14 @@ true_word_agrees Lost at closed truly stands = tt
 pub stood : (m : Meaning) (v : List Bool) (i : ℕ) → IsVector m.diagram v → i < length m.diagram.switches → slice_get v i ≡ Some (get_or v i false)
 stood m v i whole lt = slice_get-get_or v i false (omega (arith, whole, lt))
 
-pub obeys : (m : Meaning) (w : World) → Facts m w → Obeys m w
+pub obeys : (m : Meaning) (w : Scene) → Facts m w → Obeys m w
 obeys m w facts c g v granted whole resolves =
     let backed = facts.truth.facts.grants c g granted in
     let fits = (facts.rounds.rounds c (granted_bay m w c g facts.rounds granted)).kept.granted g granted in
     backed_agrees m Dbpos itself (IsGood w) w.sent (facts.truth.held.known c) c g ((switch_of m (node m.diagram w c).bay g.op.switch.0 fits.own).1 ∙ facts.rounds.shape.named c) backed v whole
     (λ i lt other. true_word_agrees (facts.truth.held.known c i) (true_at w.truth i) (get_or v i false) (backed.good i lt other) (resolves i (get_or v i false) (stood m v i whole lt)))
 
-pub obeys_first_two : (m : Meaning) (w : World) → Facts m w → ObeysFirstTwo m w
+pub obeys_first_two : (m : Meaning) (w : Scene) → Facts m w → ObeysFirstTwo m w
 obeys_first_two m w facts c g v granted whole resolves = ((none_parts m.diagram v g.op).0 (obeys m w facts c g v granted whole resolves)).0
 
 -- ---- facts 4, 6 and 7 in terms of the truth
@@ -177,7 +177,7 @@ obeys_first_two m w facts c g v granted whole resolves = ((none_parts m.diagram 
 place_of : (xs : List Frame) (f : Frame) → Contains xs f → (k : ℕ) × (slice_get xs k ≡ Some f)
 place_of xs f there = (there.0, slice_get-get_or xs there.0 f there.1 ∙ ap (λ (x : Frame). Some x) there.2)
 
-pub answers : (m : Meaning) (w : World) → Facts m w → Answers m w
+pub answers : (m : Meaning) (w : Scene) → Facts m w → Answers m w
 answers m w facts f s there body running =
     let place = place_of w.sent f there in
     record {
@@ -186,12 +186,12 @@ answers m w facts f s there body running =
           true_word_agrees (facts.truth.held.beside place.0 i) (true_at w.truth i) (get_or v i false) (facts.truth.facts.answers place.0 f s place.1 body running i own) (resolves i (get_or v i false) (of_part m f.from.0 i own) (stood m v i whole own.0)));
     }
 
-pub words : (m : Meaning) (w : World) → Facts m w → Words m w
+pub words : (m : Meaning) (w : Scene) → Facts m w → Words m w
 words m w facts i word at lt free =
     let is : facts.truth.held.own i ≡ word = facts.truth.facts.words_are i lt ∙ got_or (node m.diagram w (bay_of m.diagram i)).words i word Lost at in
     subst (λ (x : Dbpos). IsTrueWord x (true_at w.truth i)) is (facts.truth.facts.words i lt free)
 
-pub grants : (m : Meaning) (w : World) → Facts m w → Grants m w
+pub grants : (m : Meaning) (w : Scene) → Facts m w → Grants m w
 grants m w facts c g granted =
     let backed = facts.truth.facts.grants c g granted in
     record {

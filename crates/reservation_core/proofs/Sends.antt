@@ -6,7 +6,7 @@ use Rattle.bay_frames.specs.declared.frame.Frame.{Frame}
 use Rattle.bay_protocol.specs.declared.values.Grant.{Grant}
 use Rattle.bay_frames.specs.declared.frame.Body.TheVariants.{Answer, Over}
 use Rattle.bay_protocol.specs.State.{under_way}
-use Rattle.reservation_core.specs.World.{World, node, posts, moves, stops, runs}
+use Rattle.reservation_core.specs.Scene.{Scene, node, posts, moves, stops, runs}
 use Rattle.reservation_core.specs.declared.values.Position.{Position}
 use Rattle.reservation_core.specs.declared.values.Position.TheVariants.{Open, Between}
 use Rattle.reservation_core.specs.RoundFacts.{RoundFacts, IsLockedFor, AnswerSent, FrameFits, round_bay}
@@ -14,7 +14,7 @@ use Rattle.reservation_core.proofs.Nodes.{get_set}
 use Rattle.std.proofs.lemmas.Bool.{cases_eq}
 
 -- a frame may be sent
-pub record MaySend (m : Meaning) (w : World) (f : Frame) : Type 0 where
+pub record MaySend (m : Meaning) (w : Scene) (f : Frame) : Type 0 where
   pub fit : FrameFits m.diagram f
   pub bound : f.round ≤ (node m.diagram w (round_bay f f.body)).highest
   pub over : f.body ≡ Over → under_way (node m.diagram w f.from.0) ≢ Some f.round
@@ -23,7 +23,7 @@ pub record MaySend (m : Meaning) (w : World) (f : Frame) : Type 0 where
 still_sent : (sent frames : List Frame) (b c r : ℕ) (summary : List ℕ) → AnswerSent sent b c r summary → AnswerSent (sent ++ frames) b c r summary
 still_sent sent frames b c r summary a = record { frame = a.frame; there = Contains-append_left sent frames a.frame a.there; from = a.from; to = a.to; round = a.round; body = a.body }
 
-pub facts_posts : (m : Meaning) (w : World) (frames : List Frame) → RoundFacts m w → ((f : Frame) → Contains frames f → MaySend m w f) → RoundFacts m (posts w frames)
+pub facts_posts : (m : Meaning) (w : Scene) (frames : List Frame) → RoundFacts m w → ((f : Frame) → Contains frames f → MaySend m w f) → RoundFacts m (posts w frames)
 facts_posts m w frames facts may =
     let each : (P : Frame → Type 0) → ((f : Frame) → Contains w.sent f → P f) → ((f : Frame) → MaySend m w f → P f) → (f : Frame) → Contains (w.sent ++ frames) f → P f =
     λ P old new f there. elim (Contains-append_cases w.sent frames f there) [ inl a ↦ old f a | inr b ↦ new f (may f b) ] in
@@ -42,7 +42,7 @@ facts_posts m w frames facts may =
     }
 
 -- the switch of a granted operation moves or is moved
-pub facts_moves : (m : Meaning) (w : World) (i : ℕ) (g : Grant) (at : Position) (running : Bool) → RoundFacts m w → i < length m.diagram.switches → (node m.diagram w (bay_of m.diagram i)).granted ≡ Some g → g.op.switch.0 ≡ i → (running ≡ true → at ≡ Between) → RoundFacts m (moves w i at running)
+pub facts_moves : (m : Meaning) (w : Scene) (i : ℕ) (g : Grant) (at : Position) (running : Bool) → RoundFacts m w → i < length m.diagram.switches → (node m.diagram w (bay_of m.diagram i)).granted ≡ Some g → g.op.switch.0 ≡ i → (running ≡ true → at ≡ Between) → RoundFacts m (moves w i at running)
 facts_moves m w i g at running facts lt has switch between =
     let inside : i < length w.truth = omega (arith, lt, facts.shape.truth) in
     let inside' : i < length w.drives = omega (arith, lt, facts.shape.drives) in
@@ -64,7 +64,7 @@ facts_moves m w i g at running facts lt has switch between =
     }
 
 -- a drive stops
-pub facts_stops : (m : Meaning) (w : World) (i : ℕ) → RoundFacts m w → RoundFacts m (stops w i)
+pub facts_stops : (m : Meaning) (w : Scene) (i : ℕ) → RoundFacts m w → RoundFacts m (stops w i)
 facts_stops m w i facts = record {
   shape = record { nodes = facts.shape.nodes; present = facts.shape.present; only = facts.shape.only; truth = facts.shape.truth; drives = length-set w.drives i false ∙ facts.shape.drives; named = facts.shape.named };
   rounds = facts.rounds;
@@ -79,7 +79,7 @@ facts_stops m w i facts = record {
 }
 
 -- a switch is open from here, and its drive stands still
-pub facts_opens : (m : Meaning) (w : World) (i : ℕ) → RoundFacts m w → RoundFacts m (moves w i Open false)
+pub facts_opens : (m : Meaning) (w : Scene) (i : ℕ) → RoundFacts m w → RoundFacts m (moves w i Open false)
 facts_opens m w i facts = record {
   shape = record { nodes = facts.shape.nodes; present = facts.shape.present; only = facts.shape.only; truth = length-set w.truth i Open ∙ facts.shape.truth; drives = length-set w.drives i false ∙ facts.shape.drives; named = facts.shape.named };
   rounds = facts.rounds;

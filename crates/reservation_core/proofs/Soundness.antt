@@ -15,7 +15,7 @@ use Rattle.station_graph.proofs.ClosingLemmas.{apart_opened, apart_closed}
 use Rattle.central_rules.specs.Meaning.{Meaning, bay_of}
 use Rattle.bay_protocol.specs.declared.values.Grant.{Grant}
 use Rattle.bay_protocol.specs.declared.values.NodeEvent.{NodeEvent}
-use Rattle.reservation_core.specs.World.{World, node, moves, stops, true_at, Stands, Resolves, end_position}
+use Rattle.reservation_core.specs.Scene.{Scene, node, moves, stops, true_at, Stands, Resolves, end_position}
 use Rattle.reservation_core.specs.declared.values.Position.{Position}
 use Rattle.reservation_core.specs.declared.values.Position.TheVariants.{Open, Closed, Between}
 use Rattle.reservation_core.specs.declared.values.WorldEvent.{WorldEvent}
@@ -69,7 +69,7 @@ module _ (m : Meaning) where
       subst (Apart m.diagram) (set-get_or v i false) (apart_set truth i at v (get_or v i false) sound whole lt (subst (λ (x : Position). Stands x (get_or v i false)) (sym between) tt) (all_stand m.diagram (set truth i at) v whole resolves))
 
   -- an open switch is closed
-  closing : (w : World) (i : ℕ) (g : Grant) (v : List Bool) → IsSoundTruth m.diagram w.truth → ObeysFirstTwo m w → IsVector m.diagram v → i < length m.diagram.switches → (node m.diagram w (bay_of m.diagram i)).granted ≡ Some g → g.op.switch.0 ≡ i → g.op.direction ≡ ToOn → true_at w.truth i ≡ Open → StandsAll m.diagram (set w.truth i Between) v → Apart m.diagram (set v i true)
+  closing : (w : Scene) (i : ℕ) (g : Grant) (v : List Bool) → IsSoundTruth m.diagram w.truth → ObeysFirstTwo m w → IsVector m.diagram v → i < length m.diagram.switches → (node m.diagram w (bay_of m.diagram i)).granted ≡ Some g → g.op.switch.0 ≡ i → g.op.direction ≡ ToOn → true_at w.truth i ≡ Open → StandsAll m.diagram (set w.truth i Between) v → Apart m.diagram (set v i true)
   closing w i g v sound obeys whole lt has switch direction at stands =
       let may : Stands (true_at w.truth i) false = subst (λ (x : Position). Stands x false) (sym at) refl in
       let open_whole : IsVector m.diagram (set v i false) = length-set v i false ∙ whole in
@@ -89,7 +89,7 @@ module _ (m : Meaning) where
   ]
 
   -- the drive of a granted operation begins
-  begins_sound : (w : World) (i : ℕ) (g : Grant) → IsSoundTruth m.diagram w.truth → ObeysFirstTwo m w → i < length m.diagram.switches → (node m.diagram w (bay_of m.diagram i)).granted ≡ Some g → g.op.switch.0 ≡ i → (way : Direction) → g.op.direction ≡ way → true_at w.truth i ≢ end_position way → (p : Position) → true_at w.truth i ≡ p → IsSoundTruth m.diagram (set w.truth i Between)
+  begins_sound : (w : Scene) (i : ℕ) (g : Grant) → IsSoundTruth m.diagram w.truth → ObeysFirstTwo m w → i < length m.diagram.switches → (node m.diagram w (bay_of m.diagram i)).granted ≡ Some g → g.op.switch.0 ≡ i → (way : Direction) → g.op.direction ≡ way → true_at w.truth i ≢ end_position way → (p : Position) → true_at w.truth i ≡ p → IsSoundTruth m.diagram (set w.truth i Between)
   begins_sound w i g sound obeys lt has switch way direction away Between at = was_between w.truth i Between sound lt at
   begins_sound w i g sound obeys lt has switch ToOff direction away Open at = absurd (away at)
   begins_sound w i g sound obeys lt has switch ToOn direction away Closed at = absurd (away at)
@@ -102,45 +102,45 @@ module _ (m : Meaning) where
 
   -- ---- the events
 
-  same_truth : (old new : World) → new ≡ old → IsSoundTruth m.diagram old.truth → IsSoundTruth m.diagram new.truth
-  same_truth old new is = subst (λ (w : World). IsSoundTruth m.diagram w.truth) (sym is)
+  same_truth : (old new : Scene) → new ≡ old → IsSoundTruth m.diagram old.truth → IsSoundTruth m.diagram new.truth
+  same_truth old new is = subst (λ (w : Scene). IsSoundTruth m.diagram w.truth) (sym is)
 
-  turn_sound : (w new : World) (b : ℕ) (event : NodeEvent) (outcome : WorldOutcome) → NodeSteps m w b event new outcome → IsSoundTruth m.diagram w.truth → IsSoundTruth m.diagram new.truth
-  turn_sound w new b event outcome s sound = subst (λ (x : World). IsSoundTruth m.diagram x.truth) (sym s.world) sound
+  turn_sound : (w new : Scene) (b : ℕ) (event : NodeEvent) (outcome : WorldOutcome) → NodeSteps m w b event new outcome → IsSoundTruth m.diagram w.truth → IsSoundTruth m.diagram new.truth
+  turn_sound w new b event outcome s sound = subst (λ (x : Scene). IsSoundTruth m.diagram x.truth) (sym s.world) sound
 
-  sense_sound : (old new : World) (i : SwitchId) (word : Dbpos) (outcome : WorldOutcome) → SenseHappens m old i word new outcome → IsSoundTruth m.diagram old.truth → IsSoundTruth m.diagram new.truth
+  sense_sound : (old new : Scene) (i : SwitchId) (word : Dbpos) (outcome : WorldOutcome) → SenseHappens m old i word new outcome → IsSoundTruth m.diagram old.truth → IsSoundTruth m.diagram new.truth
   sense_sound old new i word outcome (SenseHappens.untrue not_so r) sound = same_truth old new r.unchanged sound
   sense_sound old new i word outcome (SenseHappens.reads truly s) sound = turn_sound old new _ _ outcome s sound
 
-  deliver_sound : (old new : World) (k : ℕ) (outcome : WorldOutcome) → DeliverHappens m old k new outcome → IsSoundTruth m.diagram old.truth → IsSoundTruth m.diagram new.truth
+  deliver_sound : (old new : Scene) (k : ℕ) (outcome : WorldOutcome) → DeliverHappens m old k new outcome → IsSoundTruth m.diagram old.truth → IsSoundTruth m.diagram new.truth
   deliver_sound old new k outcome (DeliverHappens.unsent none r) sound = same_truth old new r.unchanged sound
   deliver_sound old new k outcome (DeliverHappens.comes f message s) sound = turn_sound old new _ _ outcome s sound
 
-  part_sound : (old new : World) (k : ℕ) (outcome : WorldOutcome) → PartHappens m.diagram old k new outcome → IsSoundTruth m.diagram old.truth → IsSoundTruth m.diagram new.truth
+  part_sound : (old new : Scene) (k : ℕ) (outcome : WorldOutcome) → PartHappens m.diagram old k new outcome → IsSoundTruth m.diagram old.truth → IsSoundTruth m.diagram new.truth
   part_sound old new k outcome (PartHappens.unsent none r) sound = same_truth old new r.unchanged sound
   part_sound old new k outcome (PartHappens.nothing f message same says) sound = same_truth old new same sound
 
-  withdraw_sound : (old new : World) (b : ℕ) (outcome : WorldOutcome) → WithdrawHappens m old b new outcome → IsSoundTruth m.diagram old.truth → IsSoundTruth m.diagram new.truth
+  withdraw_sound : (old new : Scene) (b : ℕ) (outcome : WorldOutcome) → WithdrawHappens m old b new outcome → IsSoundTruth m.diagram old.truth → IsSoundTruth m.diagram new.truth
   withdraw_sound old new b outcome (WithdrawHappens.running g has on r) sound = same_truth old new r.unchanged sound
   withdraw_sound old new b outcome (WithdrawHappens.resting rests s) sound = turn_sound old new _ _ outcome s sound
 
-  begin_sound : (old new : World) (i : ℕ) (outcome : WorldOutcome) → ObeysFirstTwo m old → i < length m.diagram.switches → BeginHappens m.diagram old i new outcome → IsSoundTruth m.diagram old.truth → IsSoundTruth m.diagram new.truth
+  begin_sound : (old new : Scene) (i : ℕ) (outcome : WorldOutcome) → ObeysFirstTwo m old → i < length m.diagram.switches → BeginHappens m.diagram old i new outcome → IsSoundTruth m.diagram old.truth → IsSoundTruth m.diagram new.truth
   begin_sound old new i outcome obeys lt (BeginHappens.not_open free r) sound = same_truth old new r.unchanged sound
   begin_sound old new i outcome obeys lt (BeginHappens.running on r) sound = same_truth old new r.unchanged sound
   begin_sound old new i outcome obeys lt (BeginHappens.there_already g it at r) sound = same_truth old new r.unchanged sound
   begin_sound old new i outcome obeys lt (BeginHappens.begins g it off away driven) sound =
       same_truth (moves old i Between true) new driven.world (begins_sound old i g sound obeys lt it.granted it.switch g.op.direction refl away (true_at old.truth i) refl)
 
-  end_sound : (old new : World) (i : ℕ) (outcome : WorldOutcome) → RoundFacts m old → i < length m.diagram.switches → EndHappens m.diagram old i new outcome → IsSoundTruth m.diagram old.truth → IsSoundTruth m.diagram new.truth
+  end_sound : (old new : Scene) (i : ℕ) (outcome : WorldOutcome) → RoundFacts m old → i < length m.diagram.switches → EndHappens m.diagram old i new outcome → IsSoundTruth m.diagram old.truth → IsSoundTruth m.diagram new.truth
   end_sound old new i outcome rounds lt (EndHappens.resting off r) sound = same_truth old new r.unchanged sound
   end_sound old new i outcome rounds lt (EndHappens.arrives g on it driven) sound =
       same_truth (moves old i (end_position g.op.direction) false) new driven.world (was_between old.truth i (end_position g.op.direction) sound lt (rounds.drives i lt on).between)
 
-  cut_sound : (old new : World) (i : SwitchId) (outcome : WorldOutcome) → CutHappens m old i new outcome → IsSoundTruth m.diagram old.truth → IsSoundTruth m.diagram new.truth
+  cut_sound : (old new : Scene) (i : SwitchId) (outcome : WorldOutcome) → CutHappens m old i new outcome → IsSoundTruth m.diagram old.truth → IsSoundTruth m.diagram new.truth
   cut_sound old new i outcome (CutHappens.resting off r) sound = same_truth old new r.unchanged sound
   cut_sound old new i outcome (CutHappens.stops_between on s) sound = turn_sound (stops old i.0) new _ _ outcome s sound
 
-  pub happens_sound : (old new : World) (event : WorldEvent) (outcome : WorldOutcome) → RoundFacts m old → ObeysFirstTwo m old → InRange m.diagram event → Happens m old event new outcome → IsSoundTruth m.diagram old.truth → IsSoundTruth m.diagram new.truth
+  pub happens_sound : (old new : Scene) (event : WorldEvent) (outcome : WorldOutcome) → RoundFacts m old → ObeysFirstTwo m old → InRange m.diagram event → Happens m old event new outcome → IsSoundTruth m.diagram old.truth → IsSoundTruth m.diagram new.truth
   happens_sound old new (Command op) outcome rounds obeys lt s sound = turn_sound old new _ _ outcome s sound
   happens_sound old new (Sense i word) outcome rounds obeys lt s sound = sense_sound old new i word outcome s sound
   happens_sound old new (Deliver k) outcome rounds obeys lt s sound = deliver_sound old new k outcome s sound

@@ -10,7 +10,7 @@ use Rattle.bay_frames.specs.declared.frame.Frame.{Frame}
 use Rattle.bay_protocol.specs.State.{State, nothing_kept}
 use Rattle.bay_protocol.specs.Fits.{IsNode}
 use Rattle.bay_protocol.proofs.Keeping.{node_resumed}
-use Rattle.reservation_core.specs.World.{World, node, new_node, true_at, IsTrueWord}
+use Rattle.reservation_core.specs.Scene.{Scene, node, new_node, true_at, IsTrueWord}
 use Rattle.reservation_core.specs.RoundFacts.{RoundFacts}
 use Rattle.reservation_core.specs.Start.{AreNew, IsStart}
 use Rattle.reservation_core.specs.Facts.{Facts}
@@ -42,7 +42,7 @@ module _ (d : Diagram) (nodes : List (Option State)) (new : AreNew d nodes) wher
 fresh_node : (d : Diagram) (b : ℕ) → IsBay d b → IsNode d (new_node d b)
 fresh_node d b bay = node_resumed d b nothing_kept bay (record { lock = λ l is. absurd (cc is); granted = λ g is. absurd (cc is) })
 
-module _ (m : Meaning) (start : List Bool) (w : World) (is : IsStart m.diagram start w) where
+module _ (m : Meaning) (start : List Bool) (w : Scene) (is : IsStart m.diagram start w) where
   fresh : (c : ℕ) → node m.diagram w c ≡ new_node m.diagram c
   fresh c = fresh_at w.nodes c (new_node m.diagram c) (λ s got. (new_only m.diagram w.nodes is.nodes c s got).1)
 

@@ -16,7 +16,7 @@ use Rattle.bay_protocol.specs.Sends.{frame, to_each, overs}
 use Rattle.bay_protocol.specs.State.{State, IsOther, others, under_way, under_way_of, grants, drops}
 use Rattle.bay_protocol.specs.Step.{Turn, Ends, Deciding}
 use Rattle.bay_protocol.proofs.Others.{others_each}
-use Rattle.reservation_core.specs.World.{World, node, at_node, posts}
+use Rattle.reservation_core.specs.Scene.{Scene, node, at_node, posts}
 use Rattle.reservation_core.specs.RoundFacts.{RoundFacts, FrameFits}
 use Rattle.reservation_core.proofs.Nodes.{node_here, set_set}
 use Rattle.reservation_core.proofs.Change.{facts_at}
@@ -79,30 +79,30 @@ each_to P b r body (x ∷ xs) give f there = elim (contains_cons (frame b x r bo
 
 -- ---- worlds after a step
 
-pub again : (w : World) (b : ℕ) (s t : State) → at_node (at_node w b s) b t ≡ at_node w b t
+pub again : (w : Scene) (b : ℕ) (s t : State) → at_node (at_node w b s) b t ≡ at_node w b t
 again w b s t = ap (λ (n : List (Option State)). record { nodes = n; truth = w.truth; drives = w.drives; sent = w.sent }) (set_set w.nodes b (Some s) (Some t))
 
 -- what a step leaves
-abbrev pub After : Meaning → World → ℕ → Turn → Type 0
+abbrev pub After : Meaning → Scene → ℕ → Turn → Type 0
 After m w b turn = RoundFacts m (posts (at_node w b turn.new) turn.frames)
 
-pub settle : (m : Meaning) (w : World) (b : ℕ) (turn : Turn) (new : State) (outcome : Outcome) (frames : List Frame) → Ends turn new outcome frames → RoundFacts m (posts (at_node w b new) frames) → After m w b turn
+pub settle : (m : Meaning) (w : Scene) (b : ℕ) (turn : Turn) (new : State) (outcome : Outcome) (frames : List Frame) → Ends turn new outcome frames → RoundFacts m (posts (at_node w b new) frames) → After m w b turn
 settle m w b turn new outcome frames end facts = rw (end.state, end.sends) facts
 
-pub nothing_sent : (m : Meaning) (w : World) → RoundFacts m w → RoundFacts m (posts w [])
+pub nothing_sent : (m : Meaning) (w : Scene) → RoundFacts m w → RoundFacts m (posts w [])
 nothing_sent m w facts = facts_posts m w [] facts (λ f there. absurd (none_there f there))
 
-pub one_sent : (m : Meaning) (w : World) (f : Frame) → RoundFacts m w → MaySend m w f → RoundFacts m (posts w (f ∷ []))
+pub one_sent : (m : Meaning) (w : Scene) (f : Frame) → RoundFacts m w → MaySend m w f → RoundFacts m (posts w (f ∷ []))
 one_sent m w f facts may = facts_posts m w (f ∷ []) facts (λ g there. elim (contains_cons f [] g there) [ inl is ↦ subst (MaySend m w) is may | inr none ↦ absurd (none_there g none) ])
 
 module _ (m : Meaning) (station : IsStation m.diagram) where
   -- the frames to the others of bay b
-  pub to_others_sent : (w : World) (b r : ℕ) (body : Body) → RoundFacts m w → ((c : ℕ) → IsOther m.diagram b c → MaySend m w (frame b c r body)) → RoundFacts m (posts w (to_each b r body (others m.diagram b)))
+  pub to_others_sent : (w : Scene) (b r : ℕ) (body : Body) → RoundFacts m w → ((c : ℕ) → IsOther m.diagram b c → MaySend m w (frame b c r body)) → RoundFacts m (posts w (to_each b r body (others m.diagram b)))
   to_others_sent w b r body facts may = facts_posts m w (to_each b r body (others m.diagram b)) facts
       (each_to (MaySend m w) b r body (others m.diagram b) (λ c there. may c (All-contains (IsOther m.diagram b) (others m.diagram b) c (others_each m.diagram b) there)))
 
   -- Over to the others of bay b that changed to s
-  pub overs_sent : (w : World) (b r : ℕ) (s : State) → RoundFacts m (at_node w b s) → b < length w.nodes → IsBay m.diagram b → s.bay ≡ b → under_way s ≡ None → r ≤ s.highest → r ≢ 0 → RoundFacts m (posts (at_node w b s) (overs m.diagram s r))
+  pub overs_sent : (w : Scene) (b r : ℕ) (s : State) → RoundFacts m (at_node w b s) → b < length w.nodes → IsBay m.diagram b → s.bay ≡ b → under_way s ≡ None → r ≤ s.highest → r ≢ 0 → RoundFacts m (posts (at_node w b s) (overs m.diagram s r))
   overs_sent w b r s facts within bay name idle low positive =
       let at : node m.diagram (at_node w b s) b ≡ s = node_here m.diagram w b s within in
       subst (λ (x : ℕ). RoundFacts m (posts (at_node w b s) (to_each x r Over (others m.diagram x)))) (sym name) (to_others_sent (at_node w b s) b r Over facts (λ c other. record {
@@ -114,14 +114,14 @@ module _ (m : Meaning) (station : IsStation m.diagram) where
 
   -- ---- deciding
 
-  pub round_dropped : (w : World) (b : ℕ) (g : Collection) (turn : Turn) (outcome : Outcome) → RoundFacts m w → IsBay m.diagram b → (node m.diagram w b).collecting ≡ Some g → Ends turn (drops (node m.diagram w b)) outcome (overs m.diagram (node m.diagram w b) g.round) → After m w b turn
+  pub round_dropped : (w : Scene) (b : ℕ) (g : Collection) (turn : Turn) (outcome : Outcome) → RoundFacts m w → IsBay m.diagram b → (node m.diagram w b).collecting ≡ Some g → Ends turn (drops (node m.diagram w b)) outcome (overs m.diagram (node m.diagram w b) g.round) → After m w b turn
   round_dropped w b g turn outcome facts bay has end =
       let good = (facts.rounds b bay).collecting g has in
       let idle : under_way (drops (node m.diagram w b)) ≡ None = ap (λ x. under_way_of None x) good.no_grant in
       settle m w b turn (drops (node m.diagram w b)) outcome (overs m.diagram (node m.diagram w b) g.round) end
       (overs_sent w b g.round (drops (node m.diagram w b)) (facts_at m w b (drops (node m.diagram w b)) facts (may_drop m w b facts bay)) (node_there m w b facts bay) bay (facts.shape.named b) idle (omega (arith, good.newest)) good.positive)
 
-  pub decided : (w : World) (b : ℕ) (g : Collection) (turn : Turn) → RoundFacts m w → IsBay m.diagram b → (node m.diagram w b).collecting ≡ Some g → Deciding m m.diagram (node m.diagram w b) g turn → After m w b turn
+  pub decided : (w : Scene) (b : ℕ) (g : Collection) (turn : Turn) → RoundFacts m w → IsBay m.diagram b → (node m.diagram w b).collecting ≡ Some g → Deciding m m.diagram (node m.diagram w b) g turn → After m w b turn
   decided w b g turn facts bay has (Deciding.release _ end) =
       settle m w b turn (grants (node m.diagram w b) g) _ [] end (nothing_sent m (at_node w b (grants (node m.diagram w b) g)) (facts_at m w b (grants (node m.diagram w b) g) facts (may_grant m w b facts bay g has)))
   decided w b g turn facts bay has (Deciding.denial _ _ _ end) = round_dropped w b g turn _ facts bay has end

@@ -25,7 +25,7 @@ use Rattle.bay_protocol.specs.declared.values.NodeEvent.TheVariants.{Frame as Ar
 use Rattle.bay_protocol.specs.State.{State, under_way, under_way_of}
 use Rattle.bay_protocol.specs.Counts.{Counts}
 use Rattle.central_rules.specs.Meaning.{IsBay}
-use Rattle.reservation_core.specs.World.{World, node, new_node, at_node, posts}
+use Rattle.reservation_core.specs.Scene.{Scene, node, new_node, at_node, posts}
 use Rattle.reservation_core.specs.declared.values.Position.{Position}
 use Rattle.reservation_core.specs.RoundFacts.{RoundFacts, NotGranted, AnswerSent, IsLockedFor, round_bay}
 use Rattle.reservation_core.specs.Held.{Held, TruthFacts, Made, AllowsAgreeing, HeardGood, KnownGood, Backed, OwnAgreeBut, HeardAllow, IsSwitchOf, IsUnheard}
@@ -36,7 +36,7 @@ use Rattle.reservation_core.proofs.Keeping.{got_there}
 use Rattle.reservation_core.proofs.Effects.{Effect, Said, Released, HeardFrom, CountsAt, IsSensed, IsNewWord}
 
 -- The notes after a step of node b, at an event that brings the message at place k if it brings one.
-pub record HeldStep (m : Meaning) (N : Type 0) (word : N → Dbpos) (Good : ℕ → N → Type 0) (w : World) (b k : ℕ) (event : NodeEvent) (new : State) (frames : List Frame) (h after : Held N) : Type 0 where
+pub record HeldStep (m : Meaning) (N : Type 0) (word : N → Dbpos) (Good : ℕ → N → Type 0) (w : Scene) (b k : ℕ) (event : NodeEvent) (new : State) (frames : List Frame) (h after : Held N) : Type 0 where
   pub words_are : (i : ℕ) → IsSwitchOf m b i → word (after.own i) ≡ get_or new.words i Lost
   pub elsewhere : (i : ℕ) → i < length m.diagram.switches → bay_of m.diagram i ≢ b → after.own i ≡ h.own i
   pub own : (i : ℕ) → IsSwitchOf m b i → (after.own i ≡ h.own i) ⊎ IsNewWord event i (word (after.own i))
@@ -115,7 +115,7 @@ agreeing_agrees Bad = tt
 agreeing_agrees Lost = tt
 
 -- a node that has granted an operation is that of a bay
-pub granted_bay : (m : Meaning) (w : World) (c : ℕ) (g : Grant) → RoundFacts m w → (node m.diagram w c).granted ≡ Some g → IsBay m.diagram c
+pub granted_bay : (m : Meaning) (w : Scene) (c : ℕ) (g : Grant) → RoundFacts m w → (node m.diagram w c).granted ≡ Some g → IsBay m.diagram c
 granted_bay m w c g rounds has = let s = has_node w.nodes c (new_node m.diagram c) g refl has in rounds.shape.only c s.0 s.1
 
 module _ (m : Meaning) (N : Type 0) (word : N → Dbpos) where
@@ -160,22 +160,22 @@ module _ (m : Meaning) (N : Type 0) (word : N → Dbpos) where
   -- ---- the truth changes
 
   -- the bay of a used Answer is locked
-  pub locked_by : (w : World) (b c r : ℕ) (s : List ℕ) → RoundFacts m w → under_way (node m.diagram w c) ≡ Some r → AnswerSent w.sent b c r s → (node m.diagram w b).lock ≡ Some (record { holder = record { 0 = c }; round = r })
+  pub locked_by : (w : Scene) (b c r : ℕ) (s : List ℕ) → RoundFacts m w → under_way (node m.diagram w c) ≡ Some r → AnswerSent w.sent b c r s → (node m.diagram w b).lock ≡ Some (record { holder = record { 0 = c }; round = r })
   locked_by w b c r s rounds running a =
       let at : under_way (node m.diagram w a.frame.to.0) ≡ Some a.frame.round = subst (λ (x : ℕ). under_way (node m.diagram w x) ≡ Some a.frame.round) (sym a.to) (running ∙ ap (λ x. Some x) (sym a.round)) in
       let lock : IsLockedFor m.diagram w a.frame = rounds.locks a.frame s a.there a.body at in
       subst (λ (x : ℕ). (node m.diagram w x).lock ≡ Some (record { holder = record { 0 = c }; round = r })) a.from (subst (λ (x : ℕ). (node m.diagram w a.frame.from.0).lock ≡ Some (record { holder = record { 0 = x }; round = r })) a.to (subst (λ (x : ℕ). (node m.diagram w a.frame.from.0).lock ≡ Some (record { holder = a.frame.to; round = x })) a.round lock))
 
   -- the sender of an Answer is a bay
-  pub answer_bay : (w : World) (b c r : ℕ) (s : List ℕ) → RoundFacts m w → AnswerSent w.sent b c r s → IsBay m.diagram b
+  pub answer_bay : (w : Scene) (b c r : ℕ) (s : List ℕ) → RoundFacts m w → AnswerSent w.sent b c r s → IsBay m.diagram b
   answer_bay w b c r s rounds a = subst (IsBay m.diagram) a.from (rounds.bounds.fit a.frame a.there).sender
 
   -- a bay that is locked has granted nothing
-  pub locked_free : (w : World) (b i : ℕ) (l : Lock) → RoundFacts m w → IsBay m.diagram b → (node m.diagram w b).lock ≡ Some l → NotGranted (node m.diagram w b) i
+  pub locked_free : (w : Scene) (b i : ℕ) (l : Lock) → RoundFacts m w → IsBay m.diagram b → (node m.diagram w b).lock ≡ Some l → NotGranted (node m.diagram w b) i
   locked_free w b i l rounds bay lock g has = absurd (cc (((rounds.rounds b bay).kept.lock l lock).alone, has))
 
   -- a note stays good as long as its switch is not that of a granted operation
-  pub facts_change : (Good After : ℕ → N → Type 0) (w : World) (truth : List Position) (drives : List Bool) (h : Held N) → RoundFacts m w → ((i : ℕ) (n : N) → i < length m.diagram.switches → NotGranted (node m.diagram w (bay_of m.diagram i)) i → Good i n → After i n) → ((i : ℕ) (n : N) → word n ≡ Lost → After i n) → TruthFacts m N word Good w h → TruthFacts m N word After (record { nodes = w.nodes; truth = truth; drives = drives; sent = w.sent }) h
+  pub facts_change : (Good After : ℕ → N → Type 0) (w : Scene) (truth : List Position) (drives : List Bool) (h : Held N) → RoundFacts m w → ((i : ℕ) (n : N) → i < length m.diagram.switches → NotGranted (node m.diagram w (bay_of m.diagram i)) i → Good i n → After i n) → ((i : ℕ) (n : N) → word n ≡ Lost → After i n) → TruthFacts m N word Good w h → TruthFacts m N word After (record { nodes = w.nodes; truth = truth; drives = drives; sent = w.sent }) h
   facts_change Good After w truth drives h rounds keep lost facts = record {
     words_are = facts.words_are;
     words = λ i lt free. keep i (h.own i) lt free (facts.words i lt free);
@@ -221,7 +221,7 @@ module _ (m : Meaning) (N : Type 0) (word : N → Dbpos) where
 
   -- ---- a node takes a step
 
-  module _ (Good : ℕ → N → Type 0) (w : World) (b k : ℕ) (event : NodeEvent) (new : State) (frames : List Frame) (h after : Held N) (laws : Laws m) (rounds : RoundFacts m w) (now : RoundFacts m (posts (at_node w b new) frames)) (bay : IsBay m.diagram b) (within : b < length w.nodes) (lost : (i : ℕ) (n : N) → word n ≡ Lost → Good i n) (message : (f : Frame) → event ≡ Arrival f → slice_get w.sent k ≡ Some f) (effect : Effect m (node m.diagram w b) event new frames) (facts : TruthFacts m N word Good w h) (step : HeldStep m N word Good w b k event new frames h after) where
+  module _ (Good : ℕ → N → Type 0) (w : Scene) (b k : ℕ) (event : NodeEvent) (new : State) (frames : List Frame) (h after : Held N) (laws : Laws m) (rounds : RoundFacts m w) (now : RoundFacts m (posts (at_node w b new) frames)) (bay : IsBay m.diagram b) (within : b < length w.nodes) (lost : (i : ℕ) (n : N) → word n ≡ Lost → Good i n) (message : (f : Frame) → event ≡ Arrival f → slice_get w.sent k ≡ Some f) (effect : Effect m (node m.diagram w b) event new frames) (facts : TruthFacts m N word Good w h) (step : HeldStep m N word Good w b k event new frames h after) where
     here : node m.diagram (posts (at_node w b new) frames) b ≡ new
     here = node_here m.diagram w b new within
 
@@ -265,7 +265,7 @@ module _ (m : Meaning) (N : Type 0) (word : N → Dbpos) where
     named : (node m.diagram w b).bay ≡ b
     named = rounds.shape.named b
 
-    said_good : (f : Frame) (s : List ℕ) → Said m (node m.diagram w b) f s → (i : ℕ) → IsSwitchOf m f.from.0 i → Good i (h.own i)
+    said_good : (f : Frame) (s : List ℕ) → Said m (node m.diagram w b) event f s → (i : ℕ) → IsSwitchOf m f.from.0 i → Good i (h.own i)
     said_good f s said i own =
         let none : (node m.diagram w b).granted ≡ None = idle_grant (node m.diagram w b).collecting (node m.diagram w b).granted said.idle in
         let is : bay_of m.diagram i ≡ b = own.1 ∙ (said.from ∙ named) in

@@ -5,7 +5,7 @@ use Rattle.central_rules.specs.Meaning.{bay_of}
 use Rattle.bay_frames.specs.declared.frame.Frame.{Frame}
 use Rattle.bay_protocol.specs.declared.values.NodeEvent.{NodeEvent}
 use Rattle.bay_protocol.specs.declared.values.NodeEvent.TheVariants.{Command as Commanded, Sense as Sensing, Frame as Arrival, Tick as Ticking, Withdraw as Withdrawing, Restart as Restarting, Cut as Cutting}
-use Rattle.reservation_core.specs.World.{World}
+use Rattle.reservation_core.specs.Scene.{Scene}
 use Rattle.reservation_core.specs.declared.values.WorldEvent.{WorldEvent}
 use Rattle.reservation_core.specs.declared.values.WorldEvent.TheVariants.{Command, Sense, Deliver, Tick, Withdraw, Restart, Begin, End, Part, Cut}
 
@@ -21,7 +21,7 @@ arrival place (Some f) = Some (record { bay = f.to.0; message = place; event = A
 arrival place None = None
 
 -- What happens to the node that the event concerns, where it concerns one.
-abbrev pub concern : Diagram → World → WorldEvent → Option Concern
+abbrev pub concern : Diagram → Scene → WorldEvent → Option Concern
 concern d w (Command op) = Some (record { bay = bay_of d op.switch.0; message = 0; event = Commanded op })
 concern d w (Sense i word) = Some (record { bay = bay_of d i.0; message = 0; event = Sensing i word })
 concern d w (Deliver k) = arrival (k - 1) (slice_get w.sent (k - 1))

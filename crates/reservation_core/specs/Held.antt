@@ -11,7 +11,7 @@ use Rattle.bay_frames.specs.declared.frame.Body.TheVariants.{Answer}
 use Rattle.bay_protocol.specs.declared.values.Grant.{Grant}
 use Rattle.bay_protocol.specs.declared.values.Collection.{Collection}
 use Rattle.bay_protocol.specs.State.{under_way}
-use Rattle.reservation_core.specs.World.{World, node}
+use Rattle.reservation_core.specs.Scene.{Scene, node}
 use Rattle.reservation_core.specs.RoundFacts.{NotGranted, AnswerSent}
 
 -- The notes that are held, each for a switch: the one in its bay's node, the one that was kept beside a sent
@@ -72,7 +72,7 @@ pub record Backed (m : Meaning) (N : Type 0) (word : N → Dbpos) (Good : ℕ �
   pub none : (v : List Bool) → IsVector m.diagram v → OwnAgreeBut m c g.op.switch.0 (λ i. word (known i)) v → HeardAllow m c heard v → Breaks m.diagram v g.op None
 
 -- The truth half of the facts, where a note tells a word and is good for a switch or not.
-pub record TruthFacts (m : Meaning) (N : Type 0) (word : N → Dbpos) (Good : ℕ → N → Type 0) (w : World) (h : Held N) : Type 0 where
+pub record TruthFacts (m : Meaning) (N : Type 0) (word : N → Dbpos) (Good : ℕ → N → Type 0) (w : Scene) (h : Held N) : Type 0 where
   -- the own notes tell the words of the nodes
   pub words_are : (i : ℕ) → i < length m.diagram.switches → word (h.own i) ≡ slice_index_or (node m.diagram w (bay_of m.diagram i)).words i Lost
   -- fact 6 (words): the own note of a switch is good, unless an operation of the switch is granted

@@ -1,8 +1,10 @@
 pub mod Premises
-pub mod World
+pub mod Scene
 pub mod RoundFacts
 pub mod Happens
 pub mod Start
 pub mod Held
 pub mod Facts
 pub mod Concern
+pub mod World
+pub mod Beside

@@ -3,7 +3,7 @@ use Rattle.std.specs.Prelude.{◌≡◌, ◌<◌, ℕ, Bool, false, List, [], le
 use Rattle.station_graph.specs.Diagram.{Diagram, part_count}
 use Rattle.central_rules.specs.Meaning.{IsBay}
 use Rattle.bay_protocol.specs.State.{State}
-use Rattle.reservation_core.specs.World.{World, new_node, true_at, runs}
+use Rattle.reservation_core.specs.Scene.{Scene, new_node, true_at, runs}
 use Rattle.reservation_core.specs.declared.values.Position.{Position}
 use Rattle.reservation_core.specs.declared.values.Position.TheVariants.{Open, Closed}
 
@@ -22,7 +22,7 @@ pub record AreNew (d : Diagram) (nodes : List (Option State)) : Type 0 where
   pub each : (b : ℕ) (place : Option State) → slice_get nodes b ≡ Some place → IsNew d b place
 
 -- Nothing has happened to any bay, each switch stands as the vector says, no drive runs, and nothing was sent.
-pub record IsStart (d : Diagram) (start : List Bool) (w : World) : Type 0 where
+pub record IsStart (d : Diagram) (start : List Bool) (w : Scene) : Type 0 where
   pub nodes : AreNew d w.nodes
   pub truth : length w.truth ≡ length d.switches
   pub stands : (i : ℕ) → i < length d.switches → true_at w.truth i ≡ position_of (slice_index_or start i false)

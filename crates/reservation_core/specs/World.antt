@@ -1,77 +1,64 @@
--- The world: the node of each bay, where each switch truly stands, which drives run, and all that was ever
--- sent. And the small changes of which its steps are made.
-use Rattle.std.specs.Prelude.{◌≡◌, ℕ, Bool, false, true, List, ◌++◌, Option, Some, None, unwrap_or, slice_get, slice_set, slice_index_or, ⊤}
+-- A world: its scene, and the words that are kept beside the Answers.
+use Rattle.std.specs.Prelude.{◌≡◌, ◌++◌, ◌≤◌, ◌+◌, ⊤, ℕ, Bool, List, [], length, map, drop, Option, Some, None}
+use Rattle.std.specs.List.{All}
 use Rattle.ilk_base.specs.declared.words.Dbpos.{Dbpos}
-use Rattle.ilk_base.specs.declared.words.Dbpos.TheVariants.{Intermediate, Off, On, Bad, Lost}
-use Rattle.ilk_base.specs.declared.words.Direction.{Direction}
-use Rattle.ilk_base.specs.declared.words.Direction.TheVariants.{ToOff, ToOn}
 use Rattle.station_graph.specs.Diagram.{Diagram}
+use Rattle.central_rules.specs.Meaning.{Meaning, IsBay}
 use Rattle.bay_frames.specs.declared.frame.Frame.{Frame}
-use Rattle.bay_protocol.specs.State.{State, resumed, nothing_kept}
-use Rattle.reservation_core.specs.declared.values.Position.{Position}
-use Rattle.reservation_core.specs.declared.values.Position.TheVariants.{Open, Closed, Between}
+use Rattle.bay_frames.specs.declared.frame.Body.{Body}
+use Rattle.bay_frames.specs.declared.frame.Body.TheVariants.{Reserve, Answer, Busy, Query, Over}
+use Rattle.bay_frames.specs.Row.{IsLawful}
+use Rattle.bay_protocol.specs.OutcomeLines.{OutcomeFits}
+use Rattle.reservation_core.specs.Scene.{Scene, node}
+use Rattle.reservation_core.specs.RoundFacts.{RoundFacts}
+use Rattle.reservation_core.specs.Facts.{Facts}
+use Rattle.reservation_core.specs.Start.{IsStart}
+use Rattle.reservation_core.specs.declared.values.WorldOutcome.{WorldOutcome}
+use Rattle.reservation_core.specs.declared.values.WorldOutcome.TheVariants.{Premise, Drive, Node}
 
--- The node of each part that is a bay, the true position of each switch, whether its drive runs, and the
--- messages in the order in which they were sent: the first is number 1.
+-- The scene, and beside each message, in the order of the messages, the words that its bay had when it sent it,
+-- where it is an Answer.
 pub record World : Type 0 where
-  pub nodes : List (Option State)
-  pub truth : List Position
-  pub drives : List Bool
-  pub sent : List Frame
+  pub scene : Scene
+  pub beside : List (Option (List Dbpos))
 
--- A node to which nothing has happened.
-abbrev pub new_node : Diagram → ℕ → State
-new_node d b = resumed d b nothing_kept
+-- What is kept beside a frame: these words, where it is an Answer.
+abbrev pub kept_beside : Option (List Dbpos) → Body → Option (List Dbpos)
+kept_beside words (Answer summary) = words
+kept_beside words Reserve = None
+kept_beside words (Busy holder q) = None
+kept_beside words Query = None
+kept_beside words Over = None
 
--- The node of part b; of a part that is no bay, one to which nothing has happened.
-abbrev pub node : Diagram → World → ℕ → State
-node d w b = unwrap_or (slice_index_or w.nodes b None) (new_node d b)
+-- What is kept beside a frame that is sent in this scene.
+abbrev pub words_beside : Diagram → Scene → Frame → Option (List Dbpos)
+words_beside d w f = kept_beside (Some (node d w f.from.0).words) f.body
 
--- The true position of switch i.
-abbrev pub true_at : List Position → ℕ → Position
-true_at truth i = slice_index_or truth i Between
+-- What was sent between two scenes.
+abbrev pub sent_since : Scene → Scene → List Frame
+sent_since old new = drop (length old.sent) new.sent
 
--- Whether the drive of switch i runs.
-abbrev pub runs : List Bool → ℕ → Bool
-runs drives i = slice_index_or drives i false
+-- Beside what was sent the words of the senders are kept, and what was kept before stays.
+abbrev pub KeepsWords : Diagram → World → World → Type 0
+KeepsWords d old new = new.beside ≡ old.beside ++ map (words_beside d old.scene) (sent_since old.scene new.scene)
 
--- A switch of this true position may stand so.
-abbrev pub Stands : Position → Bool → Type 0
-Stands Open closed = closed ≡ false
-Stands Closed closed = closed ≡ true
-Stands Between closed = ⊤
+-- The world before anything happens.
+pub record IsNewWorld (d : Diagram) (start : List Bool) (w : World) : Type 0 where
+  pub scene : IsStart d start w.scene
+  pub beside : w.beside ≡ []
 
--- If the word is off or on, it is the true position.
-abbrev pub IsTrueWord : Dbpos → Position → Type 0
-IsTrueWord On at = at ≡ Closed
-IsTrueWord Off at = at ≡ Open
-IsTrueWord Intermediate at = ⊤
-IsTrueWord Bad at = ⊤
-IsTrueWord Lost at = ⊤
+-- The round half of the facts of a world.
+pub record WorldRounds (m : Meaning) (w : World) : Type 0 where
+  pub rounds : RoundFacts m w.scene
+  pub count : length w.beside ≡ length w.scene.sent
 
--- The position in which a drive in this direction ends.
-abbrev pub end_position : Direction → Position
-end_position ToOff = Open
-end_position ToOn = Closed
+-- All facts of a world.
+pub record WorldFacts (m : Meaning) (w : World) : Type 0 where
+  pub facts : Facts m w.scene
+  pub count : length w.beside ≡ length w.scene.sent
 
--- The vector resolves the truth: it is the true position of each switch that is not between.
-abbrev pub Resolves : List Position → List Bool → Type 0
-Resolves truth v = (i : ℕ) (closed : Bool) → slice_get v i ≡ Some closed → Stands (true_at truth i) closed
-
--- ---- the changes
-
--- The node of bay b has this state from now on.
-abbrev pub at_node : World → ℕ → State → World
-at_node w b s = record { nodes = slice_set w.nodes b (Some s); truth = w.truth; drives = w.drives; sent = w.sent }
-
--- These frames are sent.
-abbrev pub posts : World → List Frame → World
-posts w frames = record { nodes = w.nodes; truth = w.truth; drives = w.drives; sent = w.sent ++ frames }
-
--- Switch i stands so from now on, and its drive runs or not.
-abbrev pub moves : World → ℕ → Position → Bool → World
-moves w i at running = record { nodes = w.nodes; truth = slice_set w.truth i at; drives = slice_set w.drives i running; sent = w.sent }
-
--- The drive of switch i runs no longer.
-abbrev pub stops : World → ℕ → World
-stops w i = record { nodes = w.nodes; truth = w.truth; drives = slice_set w.drives i false; sent = w.sent }
+-- What an outcome names is of the station, and what is sent is lawful.
+abbrev pub OutputFits : Diagram → WorldOutcome → Type 0
+OutputFits d (Premise which) = ⊤
+OutputFits d Drive = ⊤
+OutputFits d (Node bay first output) = IsBay d bay.0 × OutcomeFits d output.outcome × All IsLawful output.frames

@@ -1,6 +1,6 @@
 // What follows for every world. These calls do nothing and cost nothing: a caller cites their contracts.
 ghost use Rattle.std.specs.Prelude.{◌≡◌, Bool, List};
-ghost use Rattle.reservation_core.specs.World.{World as Scene};
+ghost use Rattle.reservation_core.specs.Scene.{Scene};
 ghost use Rattle.reservation_core.specs.declared.values.WorldEvent.{WorldEvent as Event};
 ghost use Rattle.reservation_core.specs.declared.values.WorldOutcome.{WorldOutcome as Shown};
 ghost use Rattle.reservation_core.specs.declared.values.WorldOutcome.TheVariants.{Premise};
@@ -9,13 +9,17 @@ ghost use Rattle.reservation_core.specs.RoundFacts.{RoundFacts};
 ghost use Rattle.reservation_core.specs.Facts.{Facts, Obeys, Answers, Words, Grants, IsSoundTruth};
 ghost use Rattle.reservation_core.specs.Start.{IsStart};
 ghost use Rattle.reservation_core.specs.Happens.{Happens, InRange};
+ghost use Rattle.reservation_core.specs.World.{World as Whole, IsNewWorld, WorldFacts, WorldRounds};
 
 use central_rules::Judge;
 
 /// All facts hold of a world to which nothing has happened.
 pub fn facts_hold_at_the_start<J: Judge>(judge: &J)
-    ensures { (start : List Bool) (w : Scene) → let m = J.meaning judge.now in
+    ensures scene { (start : List Bool) (w : Scene) → let m = J.meaning judge.now in
         IsStart m.diagram start w → Facts m w }
+    ensures world { (start : List Bool) (w : Whole) → let m = J.meaning judge.now in
+        IsNewWorld m.diagram start w → WorldFacts m w }
+    ensures rounds { (w : Whole) → WorldFacts (J.meaning judge.now) w → WorldRounds (J.meaning judge.now) w }
 {}
 
 /// Whatever happens keeps the round half of the facts: what is said of rounds, locks, frames and drives.

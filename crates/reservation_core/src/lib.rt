@@ -1,12 +1,21 @@
 //! All bays of a station, the messages between them, and the drives of its switches.
 #![tactic(auto)]
 
+mod beside;
+mod deliveries;
+mod drives;
+mod happening;
 mod law;
+mod scene;
+mod start;
+mod turns;
 mod values;
+mod world;
 
 pub use bay_protocol::{NodeOutput, Outcome};
 pub use law::{
     broken_premises_change_nothing, facts_are_kept, facts_hold_at_the_start,
     granted_operations_obey, round_facts_are_kept, soundness_of_truth_is_kept,
 };
-pub use values::{LogEvent, Position, Which, WorldEvent, WorldOutcome};
+pub use values::{LogEvent, MESSAGES, Position, Which, WorldEvent, WorldOutcome};
+pub use world::World;

@@ -5,6 +5,9 @@ ghost use Rattle.reservation_core.specs.Premises.{number};
 use bay_protocol::NodeOutput;
 use ilk_base::{BayId, Dbpos, Op, SwitchId};
 
+/// The most messages that may have been sent before an event: their numbers are 32 bits wide.
+pub const MESSAGES: u32 = 4_000_000_000;
+
 /// Where a switch truly stands.
 #[derive(Clone, Copy, Debug, PartialEq, Eq)]
 pub enum Position {

@@ -1,5 +1,15 @@
+use Rattle.std.proofs.Common.{length, sym, ap, ◌∙◌}
 use Rattle.reservation_core.proofs.Starting.{starts}
 use Rattle.reservation_core.proofs.law.facts_hold_at_the_start.Goals as goal
 
-pub returns : goal.returns
-returns g c start w is = starts (g.J.Judge.meaning c.args.judge.now) start w is
+pub returns-clause-scene : goal.returns-clause-scene
+returns-clause-scene g c = λ start w is. starts (g.J.Judge.meaning c.args.judge.now) start w is
+
+pub returns-clause-world : goal.returns-clause-world
+returns-clause-world g c = λ start w is. record {
+  facts = starts (g.J.Judge.meaning c.args.judge.now) start w.scene is.scene;
+  count = ap length is.beside ∙ sym (ap length is.scene.sent);
+}
+
+pub returns-clause-rounds : goal.returns-clause-rounds
+returns-clause-rounds g c = λ w facts. record { rounds = facts.facts.rounds; count = facts.count }
