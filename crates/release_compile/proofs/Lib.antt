@@ -34,3 +34,4 @@ pub mod RowLemmas
 pub mod SummaryLemmas
 pub mod SetsLemmas
 pub mod HeardLemmas
+pub mod ReachesLemmas

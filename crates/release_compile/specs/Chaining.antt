@@ -1,11 +1,12 @@
 -- Two graphs in a row: a label of the first is the first choice of the second.
 use Rattle.std.specs.Prelude.{◌≡◌, ℕ, ◌<◌, ◌↔◌, List, ◌∷◌, length, drop, Bool}
 use Rattle.decision_graphs.specs.Label.{Layered, layer_at, label_of, AreAllowed}
-use Rattle.decision_graphs.specs.Reaching.{IsSet, set_at, AreSetsOf, MarksReached}
+use Rattle.decision_graphs.specs.Reaching.{IsSet, set_at, AreSetsOf, AreMarksOf, MarksReached}
 use Rattle.ilk_base.specs.declared.words.Direction.{Direction}
 use Rattle.ilk_base.specs.declared.words.Direction.TheVariants.{ToOn}
 use Rattle.ilk_base.specs.declared.words.Rule.{Rule}
 use Rattle.ilk_base.specs.declared.words.Rule.TheVariants.{R1, R2, R3}
+use Rattle.release_compile.specs.declared.reached.Reached.{Reached}
 use Rattle.release_compile.specs.declared.search.Side.{Side}
 
 -- The labels of the first graph are the choices of the second graph's first layer.
@@ -36,9 +37,18 @@ NoneLeads outer inner sets inner_sets goal = (cs ds : List ℕ) → LeadThrough 
 pub record IsReady (s : Side) (sets : List (List Bool)) : Type 0 where
   pub fits : AreSetsOf s.outer.now.layers sets
   pub inner_fits : AreSetsOf s.inner.now.layers s.inner_sets
-  pub reached : MarksReached s.outer.now sets s.marks.labels
-  pub first : FirstAllows s.inner_sets s.marks.labels
+  pub reached : MarksReached s.outer.now sets s.marks.now.labels
+  pub first : FirstAllows s.inner_sets s.marks.now.labels
   pub row : AreInARow s.outer.now s.inner.now
+
+-- What the outer graphs of a bay reach by these sets.
+pub record HasReached (outer_gap outer_load : Layered) (r : Reached) : Type 0 where
+  pub gap_sets : AreSetsOf outer_gap.layers r.sets
+  pub load_sets : AreSetsOf outer_load.layers r.sets
+  pub gap_marks : AreMarksOf outer_gap r.gap
+  pub load_marks : AreMarksOf outer_load r.load
+  pub gap : MarksReached outer_gap r.sets r.gap.labels
+  pub load : MarksReached outer_load r.sets r.load.labels
 
 abbrev pub NoneLeadsTo : Side → List (List Bool) → ℕ → Type 0
 NoneLeadsTo s sets goal = NoneLeads s.outer.now s.inner.now sets s.inner_sets goal

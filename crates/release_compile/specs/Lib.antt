@@ -18,4 +18,5 @@ pub mod Built
 pub mod BuiltView
 pub mod Judging
 pub mod JudgingInside
+pub mod Reaches
 pub mod Lawful

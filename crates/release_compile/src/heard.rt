@@ -8,23 +8,25 @@ ghost use Rattle.central_rules.specs.Readings.{IsReading, Decides};
 ghost use Rattle.central_rules.specs.Meaning.{Knows, HeardFit};
 ghost use Rattle.bay_contract.specs.Alphabets.{AreAlphabets, CanHave};
 ghost use Rattle.release_compile.specs.declared.view.View.TheVariants.{Gap as GapView, Load as LoadView};
-ghost use Rattle.decision_graphs.specs.Reaching.{AreSetsOf, IsSet, set_at};
+ghost use Rattle.decision_graphs.specs.Reaching.{AreSetsOf, AreMarksOf, MarksReached, IsSet, set_at};
 ghost use Rattle.release_compile.specs.Coding.{labels_of};
 ghost use Rattle.release_compile.specs.Lettered.{Lettered, lettered};
 ghost use Rattle.release_compile.specs.Built.{AreBayGraphs, AreViewGraphs};
 ghost use Rattle.release_compile.specs.BuiltView.{view_of, seen_bay};
 ghost use Rattle.release_compile.specs.Graphs.{other_of, IsOwn, IsSide};
 ghost use Rattle.release_compile.specs.Deciding.{WithinAll};
-ghost use Rattle.release_compile.specs.Summaries.{by_indices};
+ghost use Rattle.release_compile.specs.Chaining.{HasReached};
+ghost use Rattle.release_compile.specs.Summaries.{by_indices, AreHeardSets, ArePossibleSets};
 
 use crate::bay::{BayGraphs, ViewGraphs};
 use crate::decide::{Place, decide};
+use crate::reached::{Reached, reach};
 use crate::search::Side;
 use crate::sets::{heard_sets, possible_sets, side};
 use crate::view::View;
 use bay_contract::Parts;
 use central_rules::Verdict;
-use decision_graphs::ChoiceSets;
+use decision_graphs::{ChoiceSets, Marks};
 use double_points::Readings;
 use ilk_base::{BayId, HeardList, Memory, Op};
 use station_graph::Station;
@@ -59,6 +61,7 @@ fn view_side<'a>(
     parts: &Parts,
     graphs: &'a ViewGraphs,
     sets: &ChoiceSets,
+    marks: &'a Marks,
     own: &Readings,
     place: Place,
     op: Op,
@@ -66,6 +69,8 @@ fn view_side<'a>(
     requires own { IsOwn station.now place.bay.0 op.switch.0 place.first place.others }
     requires words { AreWords station.now own.now }
     requires sets { AreSetsOf graphs.now.outer.layers sets.now }
+    requires marks { AreMarksOf graphs.now.outer marks.now }
+    requires reached { MarksReached graphs.now.outer sets.now marks.now.labels }
     requires graphs { AreViewGraphs view (lettered station.now parts.now) place.bay.0 place.first (suc place.others) (view_of graphs.now) }
     ensures side { IfOk result (IsSide view (lettered station.now parts.now) place.bay.0 op.switch.0 place.first place.others own.now sets.now) }
     ensures labels { IfOk result (λ s. s.inner.now.labels ≡ labels_of view) }
@@ -80,6 +85,7 @@ fn view_side<'a>(
         &graphs.outer,
         inner,
         sets,
+        marks,
         own,
         place.first,
         op.switch.0,
@@ -99,18 +105,18 @@ fn decide_bay(
     op: Op,
     full: bool,
     own: &Readings,
-    sets: &ChoiceSets,
+    reached: &Reached,
 ) -> Result<Verdict, Memory>
     requires lettered { AreAlphabets station.now parts.now }
     requires own { IsOwn station.now place.bay.0 op.switch.0 place.first place.others }
     requires bay { place.bay.0 < part_count station.now }
     requires parts { suc place.parts ≡ part_count station.now }
     requires words { AreWords station.now own.now }
-    requires sets { AreSetsOf graphs.now.gap.outer.layers sets.now }
-    requires can { full ≡ true → (j c : ℕ) → IsSet (set_at sets.now j) c → CanHave station.now parts.now (other_of 0 place.bay.0 j) own.now c }
+    requires reached { HasReached graphs.now.gap.outer graphs.now.load.outer reached.now }
+    requires can { full ≡ true → (j c : ℕ) → IsSet (set_at reached.now.sets j) c → CanHave station.now parts.now (other_of 0 place.bay.0 j) own.now c }
     requires gap { AreViewGraphs GapView (lettered station.now parts.now) place.bay.0 place.first (suc place.others) (view_of graphs.now.gap) }
     requires load { AreViewGraphs LoadView (lettered station.now parts.now) place.bay.0 place.first (suc place.others) (view_of graphs.now.load) }
-    ensures { IfOk result (Decides station.now (WithinAll full (lettered station.now parts.now) place.bay.0 own.now sets.now place.parts) op) }
+    ensures { IfOk result (Decides station.now (WithinAll full (lettered station.now parts.now) place.bay.0 own.now reached.now.sets place.parts) op) }
 {
     let gap = view_side(
         alloc,
@@ -118,7 +124,8 @@ fn decide_bay(
         station,
         parts,
         &graphs.gap,
-        sets,
+        &reached.sets,
+        &reached.gap,
         own,
         place,
         op,
@@ -129,15 +136,70 @@ fn decide_bay(
         station,
         parts,
         &graphs.load,
-        sets,
+        &reached.sets,
+        &reached.load,
         own,
         place,
         op,
     )?;
     let verdict = decide(
-        alloc, station, parts, place, op, full, own, &gap, &load, sets,
+        alloc,
+        station,
+        parts,
+        place,
+        op,
+        full,
+        own,
+        &gap,
+        &load,
+        &reached.sets,
     )?;
     Ok(verdict)
+}
+
+// What the outer graphs of a bay reach by what it has heard.
+fn reach_heard(
+    alloc: Global,
+    station: &Station,
+    parts: &Parts,
+    graphs: &BayGraphs,
+    bay: BayId,
+    heard: &HeardList,
+) -> Result<Reached, Memory>
+    requires lettered { AreAlphabets station.now parts.now }
+    requires graphs { AreBayGraphs (lettered station.now parts.now) bay.0 (seen_bay graphs.now) }
+    requires bay { bay.0 < part_count station.now }
+    requires heard { length heard.now ≡ part_count station.now }
+    requires fits { HeardFit (by_indices (lettered station.now parts.now)) bay.0 heard.now }
+    ensures sets { IfOk result (λ r. AreHeardSets (lettered station.now parts.now) bay.0 heard.now r.sets) }
+    ensures reached { IfOk result (HasReached graphs.now.gap.outer graphs.now.load.outer) }
+{
+    let others = station.part_count() - 1;
+    let sets = heard_sets(alloc, station, parts, &graphs.gap.outer, bay, others, heard)?;
+    let reached = reach(alloc, graphs, sets)?;
+    Ok(reached)
+}
+
+// What the outer graphs of a bay reach by the words of all switches.
+pub(crate) fn reach_words(
+    alloc: Global,
+    station: &Station,
+    parts: &Parts,
+    graphs: &BayGraphs,
+    bay: BayId,
+    words: &Readings,
+) -> Result<Reached, Memory>
+    requires lettered { AreAlphabets station.now parts.now }
+    requires graphs { AreBayGraphs (lettered station.now parts.now) bay.0 (seen_bay graphs.now) }
+    requires bay { bay.0 < part_count station.now }
+    requires words { AreWords station.now words.now }
+    ensures sets { IfOk result (λ r. ArePossibleSets (lettered station.now parts.now) bay.0 words.now r.sets) }
+    ensures reached { IfOk result (HasReached graphs.now.gap.outer graphs.now.load.outer) }
+{
+    let others = station.part_count() - 1;
+    let sets = possible_sets(alloc, station, parts, &graphs.gap.outer, bay, others, words)?;
+    let reached = reach(alloc, graphs, sets)?;
+    Ok(reached)
 }
 
 // The verdict by what the bay has heard.
@@ -162,20 +224,14 @@ pub(crate) fn judge_heard(
 {
     let _count = station.part_count();
     let place = place_of(station, bay, graphs, op);
-    let sets = heard_sets(
-        alloc,
-        station,
-        parts,
-        &graphs.gap.outer,
-        bay,
-        place.parts,
-        heard,
+    let reached = reach_heard(alloc, station, parts, graphs, bay, heard)?;
+    let verdict = decide_bay(
+        alloc, station, parts, graphs, place, op, false, own, &reached,
     )?;
-    let verdict = decide_bay(alloc, station, parts, graphs, place, op, false, own, &sets)?;
     Ok(verdict)
 }
 
-// The verdict by the words of all switches.
+// The verdict by the words of all switches, by what the outer graphs reach by them.
 pub(crate) fn judge_words(
     alloc: Global,
     station: &Station,
@@ -184,25 +240,21 @@ pub(crate) fn judge_words(
     bay: BayId,
     op: Op,
     words: &Readings,
+    reached: &Reached,
 ) -> Result<Verdict, Memory>
     requires lettered { AreAlphabets station.now parts.now }
     requires graphs { AreBayGraphs (lettered station.now parts.now) bay.0 (seen_bay graphs.now) }
     requires bay { bay.0 < part_count station.now }
     requires part { OfPart station.now bay.0 (a_switch op.switch.0) }
     requires words { AreWords station.now words.now }
+    requires sets { ArePossibleSets (lettered station.now parts.now) bay.0 words.now reached.now.sets }
+    requires reached { HasReached graphs.now.gap.outer graphs.now.load.outer reached.now }
     ensures { IfOk result (Decides station.now (IsReading words.now) op) }
 {
     let _count = station.part_count();
     let place = place_of(station, bay, graphs, op);
-    let sets = possible_sets(
-        alloc,
-        station,
-        parts,
-        &graphs.gap.outer,
-        bay,
-        place.parts,
-        words,
+    let verdict = decide_bay(
+        alloc, station, parts, graphs, place, op, true, words, reached,
     )?;
-    let verdict = decide_bay(alloc, station, parts, graphs, place, op, true, words, &sets)?;
     Ok(verdict)
 }

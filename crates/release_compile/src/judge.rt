@@ -2,7 +2,7 @@
 ghost use Rattle.std.specs.Prelude.{◌≡◌};
 
 use crate::build::{GraphJudge, switch_bay};
-use crate::heard::{judge_heard, judge_words};
+use crate::heard::{judge_heard, judge_words, reach_words};
 use crate::summary::{is_index_set, summary_of};
 use central_rules::{Judge, Verdict};
 use double_points::Readings;
@@ -58,7 +58,9 @@ impl<'a> Judge for GraphJudge<'a> {
         let station = self.station();
         let bay = switch_bay(station, op.switch);
         let graphs = self.bay(bay);
-        let verdict = judge_words(alloc, station, self.parts(), graphs, bay, op, readings)?;
+        let parts = self.parts();
+        let reached = reach_words(alloc, station, parts, graphs, bay, readings)?;
+        let verdict = judge_words(alloc, station, parts, graphs, bay, op, readings, &reached)?;
         Ok(verdict)
     }
 

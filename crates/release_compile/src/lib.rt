@@ -16,13 +16,16 @@ mod needed;
 mod outer;
 mod placing;
 mod pool;
+mod reached;
 mod refusal;
 mod search;
 mod sets;
+mod station;
 mod summary;
 mod view;
 
 pub use build::GraphJudge;
 pub use limits::{ALL_EDGES, BAY_EDGES};
 pub use refusal::BuildRefusal;
+pub use station::SwitchVerdicts;
 pub use view::View;

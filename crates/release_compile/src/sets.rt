@@ -5,7 +5,7 @@ ghost use Rattle.double_points.specs.Words.{Agrees, AreWords};
 ghost use Rattle.bay_contract.specs.PartAlphabets.{size_of};
 ghost use Rattle.bay_contract.specs.Alphabets.{AreAlphabets, CanHave, InSet};
 ghost use Rattle.decision_graphs.specs.Label.{Layer, layer_at};
-ghost use Rattle.decision_graphs.specs.Reaching.{AreSetsOf, IsSet, set_at};
+ghost use Rattle.decision_graphs.specs.Reaching.{AreSetsOf, AreMarksOf, MarksReached, IsSet, set_at};
 ghost use Rattle.release_compile.specs.Lettered.{lettered};
 ghost use Rattle.release_compile.specs.Chaining.{AreInARow, IsReady};
 ghost use Rattle.release_compile.specs.Graphs.{other_of, OwnAllowed};
@@ -223,18 +223,21 @@ fn allow_own(inner: &mut ChoiceSets, own: &Readings, first: u16, moved: u16, oth
     }
 }
 
-// The graphs of one view of a switch, with what the outer one reaches and what is allowed in the inner one.
+// The graphs of one view of a switch, with what the outer one reaches by the sets and what is allowed in the inner one.
 pub(crate) fn side<'a>(
     alloc: Global,
     outer: &'a Graph,
     inner: &'a Graph,
     sets: &ChoiceSets,
+    marks: &'a Marks,
     own: &Readings,
     first: u16,
     moved: u16,
     others: u16,
 ) -> Result<Side<'a>, Memory>
     requires sets { AreSetsOf outer.now.layers sets.now }
+    requires marks { AreMarksOf outer.now marks.now }
+    requires reached { MarksReached outer.now sets.now marks.now.labels }
     requires row { AreInARow outer.now inner.now }
     requires count { length inner.now.layers ≡ suc others }
     requires two { (i : ℕ) → i < others → (layer_at inner.now.layers (suc i)).choices ≡ 2 }
@@ -245,10 +248,8 @@ pub(crate) fn side<'a>(
     ensures ready { IfOk result (λ s. IsReady s sets.now) }
     ensures own { IfOk result (λ s. OwnAllowed first moved others own.now s.inner_sets) }
 {
-    let mut marks = Marks::new(alloc, outer)?;
-    outer.reach(sets, &mut marks);
     let mut inner_sets = ChoiceSets::new(alloc, inner)?;
-    allow_labels(outer, &marks, &mut inner_sets);
+    allow_labels(outer, marks, &mut inner_sets);
     allow_own(&mut inner_sets, own, first, moved, others);
     Ok(Side {
         outer,

@@ -8,15 +8,6 @@ use Rattle.release_compile.specs.Deciding.{WithinAll}
 use Rattle.release_compile.proofs.KnownLemmas.{decides_over, decides_known}
 use Rattle.release_compile.proofs.heard.judge_heard.Goals as goal
 
-pub heard_sets-requires-clause-layers : goal.heard_sets-requires-clause-layers
-heard_sets-requires-clause-layers c = omega (arith, c.requires.graphs.gap.outer.count, c.place_of-place.ensures.parts)
-
-pub heard_sets-requires-clause-choices : goal.heard_sets-requires-clause-choices
-heard_sets-requires-clause-choices c j lt = c.requires.graphs.gap.outer.choices j (omega (arith, lt, c.requires.graphs.gap.outer.count, c.place_of-place.ensures.parts))
-
-pub heard_sets-requires-clause-fit : goal.heard_sets-requires-clause-fit
-heard_sets-requires-clause-fit c part s ne at = omega (arith, (c.requires.fits part s ne at).count)
-
 pub decide_bay-requires-clause-bay : goal.decide_bay-requires-clause-bay
 decide_bay-requires-clause-bay c = omega (arith, c.requires.bay, ap (λ (b : BayId). b.0) c.place_of-place.ensures.bay)
 
@@ -34,10 +25,10 @@ returns c =
     let d = c.args.station.now in
     let a : Lettered = lettered d c.args.parts.now in
     let own = c.args.own.now in
-    let sets : List (List Bool) = c.in_ok-sets.sets in
+    let sets : List (List Bool) = c.in_ok-reached.reached.sets in
     let n : ℕ = c.place_of-place.result.parts in
     let r = c.in_ok-verdict.verdict in
     let same : c.place_of-place.result.bay.0 ≡ c.args.bay.0 = ap (λ (b : BayId). b.0) c.place_of-place.ensures.bay in
     let over = subst (λ b. Decides d (WithinAll false a b own sets n) c.args.op r) same c.in_ok-verdict.ensures in
-    decides_known a record { station = c.part_count-count.ensures.station; alphabets = c.requires.lettered } c.args.bay.0 n c.place_of-place.ensures.parts c.requires.bay own c.args.heard.now c.requires.heard sets c.in_ok-sets.ensures.heard c.args.op r
+    decides_known a record { station = c.part_count-count.ensures.station; alphabets = c.requires.lettered } c.args.bay.0 n c.place_of-place.ensures.parts c.requires.bay own c.args.heard.now c.requires.heard sets c.in_ok-reached.ensures.sets c.args.op r
     (decides_over d (WithinAll false a c.args.bay.0 own sets n) (Within a c.args.bay.0 own sets) (λ v w. w.within) (λ v w. record { within = w; agree = λ full. absurd (false≢true full) }) c.args.op r over)

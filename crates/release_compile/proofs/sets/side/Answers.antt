@@ -25,7 +25,7 @@ pub returns-clause-ready : goal.returns-clause-ready
 returns-clause-ready c = record {
   fits = c.requires.sets;
   inner_fits = c.allow_own.ensures.sets c.args.inner.now.layers (c.allow_labels.ensures.sets c.args.inner.now.layers c.in_ok-inner_sets.ensures.sets);
-  reached = c.reach.ensures.exact;
+  reached = c.requires.reached;
   first = λ label.
       let here = c.allow_labels.ensures.here label in
       let none : IsSet (set_at c.in_ok-inner_sets.inner_sets 0) label → ⊥ = λ h. empty_none c.args.inner.now.layers 0 label (subst (λ (ss : List (List Bool)). IsSet (set_at ss 0) label) c.in_ok-inner_sets.ensures.empty h) in (

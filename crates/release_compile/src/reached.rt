@@ -1,0 +1,40 @@
+//! What the outer graphs of a bay reach.
+ghost use Rattle.std.specs.Prelude.{◌≡◌, IfOk};
+ghost use Rattle.decision_graphs.specs.Reaching.{AreSetsOf, AreMarksOf, MarksReached};
+ghost use Rattle.release_compile.specs.Chaining.{HasReached};
+
+use crate::bay::BayGraphs;
+use decision_graphs::{ChoiceSets, Graph, Marks};
+use ilk_base::Memory;
+use std::alloc::Global;
+
+// Sets of the other parts' indices, and the labels of a bay's outer graphs to which they lead.
+#[derive(Drop)]
+pub(crate) struct Reached {
+    pub(crate) sets: ChoiceSets,
+    pub(crate) gap: Marks,
+    pub(crate) load: Marks,
+}
+
+// The labels of a graph to which the sets lead.
+fn marked(alloc: Global, graph: &Graph, sets: &ChoiceSets) -> Result<Marks, Memory>
+    requires { AreSetsOf graph.now.layers sets.now }
+    ensures marks { IfOk result (AreMarksOf graph.now) }
+    ensures reached { IfOk result (λ m. MarksReached graph.now sets.now m.labels) }
+{
+    let mut marks = Marks::new(alloc, graph)?;
+    graph.reach(sets, &mut marks);
+    Ok(marks)
+}
+
+// What the outer graphs of a bay reach by the sets.
+pub(crate) fn reach(alloc: Global, graphs: &BayGraphs, sets: ChoiceSets) -> Result<Reached, Memory>
+    requires gap { AreSetsOf graphs.now.gap.outer.layers sets }
+    requires load { AreSetsOf graphs.now.load.outer.layers sets }
+    ensures sets { IfOk result (λ r. r.sets ≡ sets) }
+    ensures reached { IfOk result (HasReached graphs.now.gap.outer graphs.now.load.outer) }
+{
+    let gap = marked(alloc, &graphs.gap.outer, &sets)?;
+    let load = marked(alloc, &graphs.load.outer, &sets)?;
+    Ok(Reached { sets, gap, load })
+}
