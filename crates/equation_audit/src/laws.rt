@@ -1,0 +1,13 @@
+//! The law on blocks.
+ghost use Rattle.std.specs.Prelude.{◌≡◌, ◌↔◌, List, Bool, true};
+ghost use Rattle.station_graph.specs.Diagram.{Diagram};
+ghost use Rattle.station_graph.specs.Alike.{IsVector};
+ghost use Rattle.equation_audit.specs.Equations.{Equation, is_released};
+ghost use Rattle.equation_audit.specs.Findings.{IsSame, Suffices};
+
+/// An equation that is the same as the rules releases exactly where the position of its own switches
+/// suffices for the rules: where they forbid the operation in no vector with that position.
+pub fn same_is_exact()
+    ensures { (d : Diagram) (e : Equation) → IsSame d e → (u : List Bool) → IsVector d u
+        → (is_released e.alternatives u ≡ true) ↔ Suffices d e u }
+{}

@@ -1,0 +1,24 @@
+//! Equations written by hand, one block of lines for each operation, held against the central rules.
+#![tactic(auto)]
+
+mod auditing;
+mod block;
+mod condition;
+mod draft;
+mod finding;
+mod findings;
+mod laws;
+mod question;
+mod reading;
+mod text;
+
+pub use auditing::audit;
+pub use block::{Blocks, MOST_OWN};
+pub use condition::Condition;
+pub use finding::{Finding, Loose};
+pub use findings::Audit;
+pub use laws::same_is_exact;
+pub use reading::{BlocksFault, read_blocks};
+
+#[cfg(test)]
+mod tests;
