@@ -205,8 +205,8 @@ impl<'a> GraphJudge<'a> {
         &self.parts
     }
 
-    // The station.
-    pub(crate) fn station(&self) -> &Station
+    /// The station, at once.
+    pub fn station(&self) -> &Station
         ensures value { result.now ≡ self.now.diagram }
     {
         self.station

@@ -1,0 +1,12 @@
+pub mod LeadsLemmas
+pub mod TextLemmas
+pub mod FollowLemmas
+pub mod GraphFacts
+pub mod GrowingLemmas
+pub mod ChoosingLemmas
+pub mod AnswerLemmas
+pub mod PartsLemmas
+pub mod TurnLemmas
+pub mod MeaningLemmas
+pub mod CompileLemmas
+pub mod ReadyLemmas

@@ -1,0 +1,29 @@
+use Rattle.std.proofs.Common.{◌≡◌, ◌∙◌, ℕ, ◌+◌, List, length, sym, ap, subst, arith}
+use Rattle.std.proofs.lemmas.List.{length_push}
+use Rattle.decision_graphs.specs.Label.{layer_at}
+use Rattle.equation_text.specs.Subjects.{HasChoices}
+use Rattle.equation_text.proofs.GrowingLemmas.{extends_all, layer_more, goals_push, goals_stay, row_goals_fit}
+use Rattle.equation_text.proofs.layers.layer_goals.Goals as goal
+
+pub loop-node-preserved : goal.loop-node-preserved
+loop-node-preserved c =
+    let inv = c.loop-node.invariant in
+    let old = c.loop-node.nodes.items in
+    let now = c.goal_by.new.nodes.items in
+    let layer = layer_at c.args.graph.now.layers c.args.layer in
+    let row = c.in_ok-row.row.items in
+    let is = c.in_ok-row.ensures in
+    let by = c.in_ok-goal.ensures in
+    let pushed = c.in_ok-push.ensures.items in
+    record {
+      extends = extends_all c.args.nodes.now.items old now inv.extends by.extends;
+      count = ap length pushed ∙ length_push c.loop-node.goals.items c.in_ok-goal.goal ∙ ap (λ n. n + 1) inv.count;
+      leads = layer_more old now c.args.subject layer c.args.next.now c.loop-node.goals.items _ row c.in_ok-goal.goal c.loop-node.node by.extends inv.count pushed is.count is.each by.leads inv.leads;
+      grew = λ switches parts has next_fit old_fit.
+          let before = inv.grew switches parts has next_fit old_fit in
+          let row_fit = row_goals_fit c.args.nodes.now.items old c.args.graph.now c.args.layer c.loop-node.node c.args.next.now row inv.extends is next_fit in
+          let row_has = subst (λ n. HasChoices switches parts c.args.subject n) (sym is.count) has in
+          let after = by.grew switches parts row_has row_fit before.0 in
+          (after.0, goals_push (length now) c.loop-node.goals.items _ c.in_ok-goal.goal pushed (goals_stay old now c.loop-node.goals.items by.extends before.1) after.1);
+      few = omega (arith, inv.few, by.few);
+    }

@@ -1,0 +1,20 @@
+-- How the fields of equations are seen.
+use Rattle.equation_text.specs.EquationLines.{PartLines, NodeLine, part_node, switch_node, EquationLines}
+use Rattle.equation_text.specs.declared.node.Lead.{Lead}
+use Rattle.equation_text.specs.declared.node.Lead.TheVariants.{Part, Switch}
+use Rattle.equation_text.specs.declared.node.Node.TheInside.{Inside as NodeInside}
+use Rattle.equation_text.specs.declared.part.PartSteps.TheInside.{Inside as PartInside}
+use Rattle.equation_text.specs.declared.equations.Equations.TheInside.{Inside as EquationsInside}
+
+abbrev pub part_lines_of : PartInside → PartLines
+part_lines_of p = record { start = p.start; steps = p.steps.items }
+
+abbrev pub line_of : Lead → NodeLine
+line_of (Part part goals) = part_node part.0 goals.items
+line_of (Switch switch off on) = switch_node switch.0 off on
+
+abbrev pub node_line_of : NodeInside → NodeLine
+node_line_of n = line_of n.lead
+
+abbrev pub equation_lines_of : EquationsInside → EquationLines
+equation_lines_of e = record { parts = e.parts.items; ops = e.ops.items; nodes = e.nodes.items }

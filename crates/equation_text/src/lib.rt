@@ -1,0 +1,23 @@
+//! The interlocking of a station as equations: a text that leads, for each operation and each vector, to the
+//! answer of the rules. It is made of the decision graphs of the station's judge, written, read back, and
+//! evaluated.
+#![tactic(auto)]
+
+mod compile;
+mod equations;
+mod goal;
+mod layers;
+mod node;
+mod part;
+mod rows;
+mod steps;
+mod subject;
+mod turning;
+mod writing;
+
+pub use compile::compile_equations;
+pub use equations::Equations;
+pub use goal::{GREATEST_INDEX, Goal, SwitchGoals};
+
+#[cfg(test)]
+mod tests;

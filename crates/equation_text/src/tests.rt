@@ -1,0 +1,158 @@
+// The equations of small stations, worked by hand from the rules.
+ghost use Rattle.std.specs.Prelude.{◌≡◌};
+
+use crate::compile_equations;
+use ilk_base::{BayId, Direction, Kind, NodeId, Op, Rule, SwitchId};
+use release_compile::GraphJudge;
+use station_graph::{Builder, Station, Switch, Tap, Vector};
+use std::alloc::Global;
+use std::process::Abort;
+use std::test::Fail;
+
+// A station.
+#[derive(Clone, Copy)]
+enum Example {
+    // nothing
+    Empty,
+    // a bay with an earthing switch and an infeed at one node
+    EarthedLine,
+}
+
+fn add_switch(
+    rt: &impl Abort,
+    alloc: Global,
+    builder: &mut Builder,
+    name: &str,
+    kind: Kind,
+) -> Result<(), Fail> {
+    let item = Switch {
+        kind,
+        first: NodeId(0),
+        second: None,
+        bay: BayId(0),
+    };
+    assert!(rt; builder.accepts_switch(alloc, name, item)?);
+    builder.switch(name, item)?;
+    Ok(())
+}
+
+fn add_line(rt: &impl Abort, alloc: Global, builder: &mut Builder) -> Result<(), Fail> {
+    assert!(rt; builder.accepts_part("S/V1/Q1"));
+    builder.part("S/V1/Q1")?;
+    assert!(rt; builder.accepts_node("S/V1/Q1/a"));
+    builder.node("S/V1/Q1/a")?;
+    add_switch(rt, alloc, builder, "QC9", Kind::Earthing)?;
+    add_switch(rt, alloc, builder, "E1", Kind::Infeed)?;
+    let tap = Tap {
+        node: NodeId(0),
+        part: BayId(0),
+    };
+    assert!(rt; builder.accepts_tap(tap));
+    builder.tap(tap)?;
+    Ok(())
+}
+
+fn built(rt: &impl Abort, alloc: Global, example: Example) -> Result<Station, Fail> {
+    let mut builder = Builder::new(alloc);
+    match example {
+        Example::Empty => {}
+        Example::EarthedLine => add_line(rt, alloc, &mut builder)?,
+    }
+    assert!(rt; builder.is_complete());
+    Ok(builder.finish())
+}
+
+// The text of the equations is this.
+fn writes(
+    rt: &impl Abort,
+    alloc: Global,
+    station: &Station,
+    judge: &GraphJudge,
+    wanted: &[u8],
+) -> Result<(), Fail> {
+    let equations = compile_equations(alloc, judge)?;
+    let text = equations.text(alloc, station)?;
+    assert_eq!(rt; text.bytes(), wanted);
+    Ok(())
+}
+
+fn station_writes(
+    rt: &impl Abort,
+    alloc: Global,
+    station: &Station,
+    wanted: &[u8],
+) -> Result<(), Fail> {
+    match GraphJudge::build(alloc, station) {
+        Ok(judge) => writes(rt, alloc, station, &judge, wanted),
+        Err(_) => Err(Fail::from("refused")),
+    }
+}
+
+fn example_writes(
+    rt: &impl Abort,
+    alloc: Global,
+    example: Example,
+    wanted: &[u8],
+) -> Result<(), Fail> {
+    let station = built(rt, alloc, example)?;
+    station_writes(rt, alloc, &station, wanted)
+}
+
+// Stations and their texts.
+const TEXTS: &[(Example, &[u8])] = &[
+    (Example::Empty, b"equations\nend\n"),
+    (
+        Example::EarthedLine,
+        b"equations\nswitch 0 S/V1/Q1/QC9\nswitch 1 S/V1/Q1/E1\npart 0 =0\nop 0 open ok\nop 0 close 1\nop 1 open ok\nop 1 close 0\nnode 0 switch 0 ok R2\nnode 1 switch 1 ok R1\nend\n",
+    ),
+];
+
+#[test]
+fn texts_of_stations(rt: HostRuntime) -> Result<(), Fail> {
+    for (example, wanted) in TEXTS {
+        example_writes(&rt, rt.alloc(), *example, wanted)?;
+    }
+    Ok(())
+}
+
+// The answer of closing a switch of the earthed line where the other one is closed or not.
+const ANSWERS: &[(u16, bool, Option<Rule>)] = &[
+    (0, false, None),
+    (0, true, Some(Rule::R1)),
+    (1, false, None),
+    (1, true, Some(Rule::R2)),
+];
+
+fn answers(
+    rt: &impl Abort,
+    alloc: Global,
+    station: &Station,
+    judge: &GraphJudge,
+) -> Result<(), Fail> {
+    let equations = compile_equations(alloc, judge)?;
+    assert_eq!(rt; station.switch_count(), 2);
+    for (switch, closed, wanted) in ANSWERS {
+        let mut vector = Vector::all_open(alloc, station)?;
+        assert!(rt; *switch < 2);
+        vector.set(SwitchId(1 - *switch), *closed);
+        let op = Op {
+            switch: SwitchId(*switch),
+            direction: Direction::ToOn,
+        };
+        assert_eq!(rt; equations.evaluate(op, &vector), *wanted);
+    }
+    Ok(())
+}
+
+fn station_answers(rt: &impl Abort, alloc: Global, station: &Station) -> Result<(), Fail> {
+    match GraphJudge::build(alloc, station) {
+        Ok(judge) => answers(rt, alloc, station, &judge),
+        Err(_) => Err(Fail::from("refused")),
+    }
+}
+
+#[test]
+fn answers_of_the_earthed_line(rt: HostRuntime) -> Result<(), Fail> {
+    let station = built(&rt, rt.alloc(), Example::EarthedLine)?;
+    station_answers(&rt, rt.alloc(), &station)
+}
