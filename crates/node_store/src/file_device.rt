@@ -1,0 +1,145 @@
+// The trusted edge: a device over a file of the system. Nothing is told of its content.
+ghost use Rattle.std.specs.Prelude.{◌≡◌, ◌≤◌, ◌+◌, None, OnErr};
+ghost use Rattle.ilk_base.specs.Outside.{Rose};
+ghost use Rattle.node_store.specs.Edge.{NothingTold, NothingToldBetween, nothing_splits};
+
+use crate::device::Device;
+use ilk_base::Failed;
+use std::alloc::Global;
+use std::fs;
+use std::fs::{OpenFile, OpenOptions};
+use std::io::{ErrorKind, Read, Result as IoResult, Seek, SeekFrom, Write};
+use std::rt::Files;
+
+/// A file of 64 bytes. It is opened at the first call, and made of 64 zeros where it is missing; a
+/// failure to do this is a fault of that call. A missing file is made whole under its name with
+/// `.new` behind it, and then renamed, so that a stop in between leaves no short file. A file of
+/// fewer bytes is left as it is, and a read past its end is a fault.
+#[derive(Drop)]
+pub struct FileDevice<'a, R: Files> {
+    alloc: Global,
+    rt: R,
+    name: &'a str,
+    file: Option<R::File>,
+    read_faults: u64,
+    write_faults: u64,
+    calls: u64,
+}
+
+fn open_file<R: Files>(rt: &R, name: &str) -> IoResult<R::File> {
+    OpenOptions::new().read(true).write(true).open(rt, name)
+}
+
+// Makes the file whole beside its place, and puts it there.
+fn make_file<R: Files>(alloc: Global, rt: &R, name: &str) -> IoResult<()> {
+    let beside = format!(in alloc; "{name}.new")?;
+    let mut file = fs::create(rt, &beside)?;
+    file.write_all(&[0; 64])?;
+    file.sync_all()?;
+    fs::rename(rt, &beside, name)
+}
+
+// The file, made where it is missing.
+fn open_or_make<R: Files>(alloc: Global, rt: &R, name: &str) -> IoResult<R::File> {
+    match open_file(rt, name) {
+        Ok(file) => Ok(file),
+        Err(e) if e.kind() == ErrorKind::NotFound => {
+            make_file(alloc, rt, name)?;
+            open_file(rt, name)
+        }
+        Err(e) => Err(e),
+    }
+}
+
+fn read_at<F: Read + Seek>(file: &mut F, at: u8, into: &mut [u8]) -> IoResult<()> {
+    file.seek(SeekFrom::Start(u64::from(at)))?;
+    file.read_exact(into)
+}
+
+fn write_at<F: Write + Seek>(file: &mut F, at: u8, piece: &[u8]) -> IoResult<()> {
+    file.seek(SeekFrom::Start(u64::from(at)))?;
+    file.write_all(piece)?;
+    file.flush()
+}
+
+impl<'a, R: Files> FileDevice<'a, R> {
+    /// The file of that name. Nothing is opened yet, and no memory is taken; a file that is made
+    /// takes room for its name.
+    pub fn new(alloc: Global, rt: R, name: &'a str) -> FileDevice<'a, R> {
+        FileDevice {
+            alloc,
+            rt,
+            name,
+            file: None,
+            read_faults: 0,
+            write_faults: 0,
+            calls: 0,
+        }
+    }
+
+    // The open file, unless it cannot be opened or made.
+    fn opened(&mut self) -> Option<R::File>
+        ensures read_faults { self.new.read_faults ≡ self.old.read_faults }
+        ensures write_faults { self.new.write_faults ≡ self.old.write_faults }
+        ensures calls { self.new.calls ≡ self.old.calls }
+    {
+        match self.file.take() {
+            Some(file) => Some(file),
+            None => open_or_make(self.alloc, &self.rt, self.name).ok(),
+        }
+    }
+}
+
+impl<'a, R: Files> Device for FileDevice<'a, R> {
+    ghost content = { λ _. None };
+
+    ghost moment = { λ _. 0 };
+
+    ghost left_since = { NothingTold };
+
+    ghost left_between = { NothingToldBetween };
+
+    ghost read_faults = { λ d. d.read_faults };
+
+    ghost write_faults = { λ d. d.write_faults };
+
+    ghost calls = { λ d. d.calls };
+
+    ghost time = { nothing_splits };
+
+    fn read(&mut self, at: u8, into: &mut [u8]) -> Result<(), Failed> {
+        self.calls = self.calls.saturating_add(1);
+        if let Some(mut file) = self.opened()
+            && read_at(&mut file, at, into).is_ok()
+        {
+            self.file = Some(file);
+            return Ok(());
+        }
+        self.read_faults = self.read_faults.saturating_add(1);
+        Err(Failed)
+    }
+
+    fn write(&mut self, at: u8, piece: &[u8]) -> Result<(), Failed> {
+        self.calls = self.calls.saturating_add(1);
+        if let Some(mut file) = self.opened()
+            && write_at(&mut file, at, piece).is_ok()
+        {
+            self.file = Some(file);
+            return Ok(());
+        }
+        self.write_faults = self.write_faults.saturating_add(1);
+        Err(Failed)
+    }
+
+    fn sync(&mut self) -> Result<(), Failed> {
+        self.calls = self.calls.saturating_add(1);
+        if let Some(file) = self.opened()
+            && file.sync_all().is_ok()
+        {
+            self.file = Some(file);
+            return Ok(());
+        }
+        self.write_faults = self.write_faults.saturating_add(1);
+        Err(Failed)
+    }
+}

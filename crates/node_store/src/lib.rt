@@ -1,0 +1,17 @@
+//! The kept record of a bay node on a device of 64 bytes, safe against a stop inside any write.
+#![tactic(auto)]
+
+mod device;
+mod file_device;
+mod mem_device;
+mod slots;
+mod store;
+mod writing;
+
+pub use device::Device;
+pub use file_device::FileDevice;
+pub use mem_device::MemDevice;
+pub use store::{LAST_SEQUENCE, OpenTrouble, Opened, Store};
+
+#[cfg(test)]
+mod tests;
