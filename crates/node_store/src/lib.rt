@@ -3,6 +3,7 @@
 
 mod device;
 mod file_device;
+mod law;
 mod mem_device;
 mod slots;
 mod store;
@@ -10,6 +11,7 @@ mod writing;
 
 pub use device::Device;
 pub use file_device::FileDevice;
+pub use law::{image_is_of_one, stop_is_restart};
 pub use mem_device::MemDevice;
 pub use store::{LAST_SEQUENCE, OpenTrouble, Opened, Store};
 
