@@ -5,3 +5,7 @@ pub mod RestLemmas
 pub mod PositionLemmas
 pub mod ReadingLemmas
 pub mod FindingLemmas
+pub mod OneStatement
+pub mod OneReading
+pub mod Fewer
+pub mod OneOutcome

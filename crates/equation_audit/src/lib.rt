@@ -17,7 +17,7 @@ pub use block::{Blocks, MOST_OWN};
 pub use condition::Condition;
 pub use finding::{Finding, Loose};
 pub use findings::Audit;
-pub use laws::same_is_exact;
+pub use laws::{one_outcome, same_is_exact};
 pub use reading::{BlocksFault, read_blocks};
 
 #[cfg(test)]
