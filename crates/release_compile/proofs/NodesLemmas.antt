@@ -1,5 +1,5 @@
 -- Lists of the nodes of a kind, found one after another.
-use Rattle.std.proofs.Common.{◌≡◌, ℕ, ◌+◌, ◌<◌, ◌⊎◌, ◌↔◌, suc, List, [], ◌∷◌, ◌++◌, length, get_or, slice_get, slice_index, Contains, Some, refl, sym, subst, inl, inr, arith}
+use Rattle.std.proofs.Common.{◌≡◌, ℕ, ◌+◌, ◌<◌, ◌⊎◌, ◌↔◌, suc, Bool, true, List, [], ◌∷◌, ◌++◌, length, get_or, slice_get, slice_index, Contains, Some, refl, sym, ap, ◌∙◌, subst, inl, inr, arith}
 use Rattle.std.proofs.lemmas.Bool.{cases_lt}
 use Rattle.std.proofs.lemmas.Option.{slice_get-get_or}
 use Rattle.std.proofs.lemmas.List.{length_push, get_or_append_left, get_or_push}
@@ -13,7 +13,8 @@ use Rattle.contraction.specs.Answers.{AreNodes}
 use Rattle.contraction.specs.Stands.{Among}
 use Rattle.release_compile.specs.Graphs.{other_of}
 use Rattle.release_compile.specs.Listing.{part_items}
-use Rattle.release_compile.specs.Needing.{AreShared, SharesFrom, IsNeededOuter, IsNeededInner}
+use Rattle.release_compile.specs.Needing.{AreShared, AreMet, SharesFrom, IsNeededOuter, IsNeededInner}
+use Rattle.release_compile.proofs.LayerLemmas.{get_front, get_last}
 use Rattle.release_compile.proofs.VerdictLemmas.{other_cases}
 use Rattle.release_compile.proofs.OuterLemmas.{part_has, has_part, before_has, others_apart, other_not}
 use Rattle.release_compile.proofs.OuterFits.{before_to, part_in, place_of_part}
@@ -198,3 +199,20 @@ module _ (d : Diagram) (shared : List (List ℕ)) (b others j n : ℕ) (station 
     where
       other_below : (b' i k : ℕ) → other_of 0 b' i < suc k → b' < suc k → i < k
       other_below b' i k lt b_lt = elim (other_cases 0 b' i) [ inl x ↦ omega (arith, x.0, x.1, b_lt) | inr x ↦ omega (arith, x.0, x.1, lt) ]
+
+-- ---- marks of the nodes that stand in a list, one by one
+
+pub met_none : (shared : List (List ℕ)) → AreMet shared [] 0
+met_none shared = record { len = refl; marked = λ part n nodes at has lt. absurd (omega (arith, lt)) }
+
+pub met_more : (shared : List (List ℕ)) (marks : List Bool) (node : ℕ) (sign : Bool) → AreMet shared marks node → ((part : ℕ) (nodes : List ℕ) → slice_get shared part ≡ Some nodes → Contains nodes node → sign ≡ true) → AreMet shared (marks ++ sign ∷ []) (node + 1)
+met_more shared marks node sign h here = record {
+  len = omega (arith, length_push marks sign, h.len);
+  marked = λ part n nodes at has lt. elim (cases_lt n node) [
+    | inl less ↦ get_front marks (sign ∷ []) n true (h.marked part n nodes at has less)
+    | inr more ↦
+        let e : node ≡ n = omega (arith, more, lt) in
+        let is : sign ≡ true = here part nodes at (subst (λ k. Contains nodes k) (sym e) has) in
+        subst (λ k. slice_get (marks ++ sign ∷ []) k ≡ Some true) (h.len ∙ e) (get_last marks sign ∙ ap Some is)
+  ];
+}

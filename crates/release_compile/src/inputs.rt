@@ -9,7 +9,7 @@ ghost use Rattle.release_compile.specs.Pooling.{IsPool, GrewTo};
 ghost use Rattle.release_compile.specs.Needing.{AreShared, IsNeededOuter, InnerNeeds};
 ghost use Rattle.release_compile.specs.Inputs.{AreKeeps, AreCopies, AreRows, HasNothing, HasLinks, HasSwitch, HasPair, AreInnerRows};
 
-use crate::needed::{inner_nodes, outer_nodes, start_nodes};
+use crate::needed::{inner_nodes, met_nodes, outer_nodes, start_nodes};
 use crate::placing::other_number;
 use crate::pool::Pool;
 use bay_contract::{Parts, base};
@@ -36,9 +36,10 @@ pub(crate) fn outer_keeps(
 {
     let _count = station.part_count();
     let mut keeps = Vec::new(alloc);
+    let met = met_nodes(alloc, station, shared)?;
     let count = others + 1;
     for place in 0..count {
-        let nodes = outer_nodes(alloc, station, shared, bay, place, others)?;
+        let nodes = outer_nodes(alloc, station, shared, &met, bay, place, others)?;
         let id = pool.keep(nodes)?;
         keeps.push(id)?;
     }

@@ -1,11 +1,11 @@
 //! The nodes that are kept before each layer of a graph.
-ghost use Rattle.std.specs.Prelude.{◌≡◌, ℕ, ◌+◌, ◌<◌, ◌≤◌, ◌⊎◌, ◌↔◌, suc, length, slice_get, Some, IfOk, IsTrue, Contains};
-ghost use Rattle.station_graph.specs.Diagram.{part_count};
+ghost use Rattle.std.specs.Prelude.{◌≡◌, ℕ, ◌+◌, ◌<◌, ◌≤◌, ◌⊎◌, ◌↔◌, List, suc, length, slice_get, Some, true, IfOk, IsTrue, Contains};
+ghost use Rattle.station_graph.specs.Diagram.{part_count, node_count};
 ghost use Rattle.station_graph.specs.Connection.{a_switch};
 ghost use Rattle.station_graph.specs.Sharing.{AtSwitch, Touches, IsShared};
 ghost use Rattle.contraction.specs.Answers.{AreNodes};
 ghost use Rattle.release_compile.specs.Graphs.{other_of, IsOwn};
-ghost use Rattle.release_compile.specs.Needing.{AreShared, SharesFrom, IsNeededOuter, TouchesOther, IsNeededInner};
+ghost use Rattle.release_compile.specs.Needing.{AreShared, AreMet, SharesFrom, IsNeededOuter, TouchesOther, IsNeededInner};
 
 use crate::placing::other_number;
 use ilk_base::{BayId, Memory, NodeId, SwitchId};
@@ -143,22 +143,36 @@ fn other_shares(shared: &[NodeList], bay: BayId, from: u16, to: u16, node: u16) 
     false
 }
 
+// Whether the node is marked.
+fn is_met(met: &[bool], node: u16) -> bool
+    requires { node < length met.now }
+    ensures { IsTrue result ↔ (slice_get met.now node ≡ Some true) }
+{
+    met[usize::from(node)]
+}
+
 // Whether one of the first other parts shares the node, and the bay or one of the rest shares it too.
 fn is_needed_between(
     station: &Station,
     shared: &[NodeList],
+    met: &[bool],
     bay: BayId,
     place: u16,
     others: u16,
     node: u16,
 ) -> bool
     requires shared { AreShared station.now shared.now }
+    requires met { AreMet shared.now met.now (node_count station.now) }
+    requires node { node < node_count station.now }
     requires count { suc others ≡ part_count station.now }
     requires bay { bay.0 < part_count station.now }
     requires place { place ≤ others }
     ensures { IsTrue result ↔ IsNeededOuter station.now bay.0 place node }
 {
     let _count = station.part_count();
+    if !is_met(met, node) {
+        return false;
+    }
     if !other_shares(shared, bay, 0, place, node) {
         return false;
     }
@@ -172,11 +186,13 @@ pub(crate) fn outer_nodes(
     alloc: Global,
     station: &Station,
     shared: &[NodeList],
+    met: &[bool],
     bay: BayId,
     place: u16,
     others: u16,
 ) -> Result<NodeList, Memory>
     requires shared { AreShared station.now shared.now }
+    requires met { AreMet shared.now met.now (node_count station.now) }
     requires count { suc others ≡ part_count station.now }
     requires bay { bay.0 < part_count station.now }
     requires place { place ≤ others }
@@ -184,11 +200,39 @@ pub(crate) fn outer_nodes(
 {
     let mut nodes = NodeList::new(alloc);
     for node in 0..station.node_count() {
-        if is_needed_between(station, shared, bay, place, others, node) {
+        if is_needed_between(station, shared, met, bay, place, others, node) {
             nodes.push(NodeId(node))?;
         }
     }
     Ok(nodes)
+}
+
+// Whether one of the parts shares the node.
+fn some_shares(shared: &[NodeList], node: u16) -> bool
+    ensures { (part : ℕ) (nodes : List ℕ) → slice_get shared.now part ≡ Some nodes → Contains nodes node → IsTrue result }
+{
+    for part in 0..shared.len() {
+        if shared[part].numbers().contains(&node) {
+            return true;
+        }
+    }
+    false
+}
+
+// For each node whether a part shares it.
+pub(crate) fn met_nodes(
+    alloc: Global,
+    station: &Station,
+    shared: &[NodeList],
+) -> Result<Vec<bool>, Memory>
+    ensures { IfOk result (λ v. AreMet shared.now v.items (node_count station.now)) }
+{
+    let mut marks = Vec::new(alloc);
+    for node in 0..station.node_count() {
+        let yes = some_shares(shared, node);
+        marks.push(yes)?;
+    }
+    Ok(marks)
 }
 
 // The nodes that each part shares.

@@ -31,19 +31,22 @@ pub(crate) struct Pool {
     pub(crate) notes: HashMap<Made, usize>,
 }
 
-// The composition of two values, on these nodes.
+// The composition of two values in this view, on these nodes.
 pub(crate) fn composed(
     alloc: Global,
+    view: View,
     x: &Contraction,
     y: &Contraction,
     keep: &NodeList,
 ) -> Result<Contraction, Memory>
     requires { (n : ℕ) → Contains keep.now n → Keeps x.now.kept n ⊎ Keeps y.now.kept n }
-    ensures carries { IfOk result (λ r. (view : Seen) → Carries view x.now y.now r) }
+    ensures carries { IfOk result (Carries view x.now y.now) }
     ensures kept { IfOk result (λ r. (n : ℕ) → Keeps r.kept n ↔ Contains keep.now n) }
 {
-    let both = x.compose(alloc, y)?;
-    both.keep_only(alloc, keep)
+    match view {
+        View::Gap => x.compose_gap(alloc, y, keep),
+        View::Load => x.compose_load(alloc, y, keep),
+    }
 }
 
 // The number that the index has for a row.
@@ -193,7 +196,7 @@ impl Pool {
     {
         let x = &self.values[key.first];
         let y = &self.values[key.second];
-        let value = composed(alloc, x, y, &self.keeps[key.keep])?;
+        let value = composed(alloc, self.view, x, y, &self.keeps[key.keep])?;
         let place = self.intern(alloc, value)?;
         note_made(&mut self.notes, key, place)?;
         Ok(place)
