@@ -1,10 +1,11 @@
 -- The log of one whole operation: the first feeder's disconnector to the second busbar is to be closed, every
 -- other bay is asked and answers, the drive runs, and the other bays are told that it has ended.
 use Rattle.std.specs.Prelude.{◌++◌, ◌+◌, ◌*◌, ℕ, List, [], ◌∷◌, map, codes, decimal}
+use Rattle.std.specs.List.{range_with_len}
 use Rattle.station_make.specs.declared.equipment.Bay.TheVariants.{Feeder}
 use Rattle.station_make.specs.declared.equipment.Designation.TheVariants.{Qb2}
 use Rattle.station_make.specs.declared.equipment.Switch.{Switch}
-use Rattle.station_make.specs.Layout.{numbers, switches}
+use Rattle.station_make.specs.Layout.{switches}
 use Rattle.station_make.specs.Names.{path_in}
 use Rattle.station_make.specs.PositionsText.{position_record, lines_text}
 
@@ -43,9 +44,9 @@ events_of feeders switches =
     map at_record switches
     ++ map sense_record switches
     ++ command_records
-    ++ map deliver_record (numbers 1 (2 * feeders))
+    ++ map deliver_record (range_with_len 1 (2 * feeders))
     ++ drive_records
-    ++ map deliver_record (numbers (2 * feeders + 1) feeders)
+    ++ map deliver_record (range_with_len (2 * feeders + 1) feeders)
 
 -- the records of the log for the station with so many feeders
 abbrev pub events : ℕ → List (List ℕ)

@@ -1,6 +1,6 @@
 -- The station that is made: a double busbar with a coupler and so many feeders.
-use Rattle.std.specs.Prelude.{◌==◌, ◌+◌, ◌%◌, ℕ, zero, suc, Bool, true, false, not, List, [], ◌∷◌, map, Some, None}
-use Rattle.std.specs.List.{flat_map}
+use Rattle.std.specs.Prelude.{◌==◌, ◌%◌, ℕ, Bool, true, false, not, List, [], ◌∷◌, map, Some, None}
+use Rattle.std.specs.List.{flat_map, range_with_len}
 use Rattle.station_make.specs.declared.equipment.Bay.{Bay}
 use Rattle.station_make.specs.declared.equipment.Bay.TheVariants.{FirstBusbar, SecondBusbar, Coupler, Feeder}
 use Rattle.station_make.specs.declared.equipment.Node.{Node}
@@ -10,14 +10,9 @@ use Rattle.station_make.specs.declared.equipment.Designation.{Designation}
 use Rattle.station_make.specs.declared.equipment.Designation.TheVariants.{Qb1, Qb2, Qa1, Qb9, Qc9, E1}
 use Rattle.station_make.specs.declared.equipment.Switch.{Switch}
 
--- So many numbers in a row, from the first.
-abbrev pub numbers : ℕ → ℕ → List ℕ
-numbers first zero = []
-numbers first (suc count) = first ∷ numbers (first + 1) count
-
 -- The bays of the station with so many feeders, in document order.
 abbrev pub bays : ℕ → List Bay
-bays feeders = FirstBusbar ∷ SecondBusbar ∷ Coupler ∷ map Feeder (numbers 1 feeders)
+bays feeders = FirstBusbar ∷ SecondBusbar ∷ Coupler ∷ map Feeder (range_with_len 1 feeders)
 
 -- The nodes of a bay, in document order.
 abbrev pub nodes_of : Bay → List Node

@@ -1,6 +1,6 @@
 //! The positions of the station, and the log.
 ghost use Rattle.std.specs.Prelude.{◌≡◌, ◌++◌, ◌+◌, ◌≤◌, [], ◌∷◌, map, codes, OnOk, IfOk};
-ghost use Rattle.station_make.specs.Layout.{numbers};
+ghost use Rattle.std.specs.List.{range_with_len};
 ghost use Rattle.station_make.specs.PositionsText.{lines_text, position_record};
 ghost use Rattle.station_make.specs.EventsText.{deliver_record, events_of, moved_record};
 
@@ -43,7 +43,7 @@ fn push_deliver(text: &mut Text, number: u8) -> Result<(), Memory>
 // Appends the records that messages in a row are delivered, so many from the first.
 fn push_delivers(text: &mut Text, first: u8, count: u8) -> Result<(), Memory>
     requires { first + count ≤ 256 }
-    ensures { OnOk result (text.new ≡ text.old ++ lines_text (map deliver_record (numbers first count))) }
+    ensures { OnOk result (text.new ≡ text.old ++ lines_text (map deliver_record (range_with_len first count))) }
 {
     for i in 0..count {
         push_deliver(text, first + i)?;

@@ -1,9 +1,11 @@
 use Rattle.std.proofs.Common.{◌≡◌, ◌∙◌, refl, ℕ, ◌+◌, ◌*◌, List, ◌++◌, length, map, arith}
+use Rattle.std.specs.List.{range_with_len}
+use Rattle.std.proofs.lemmas.List.FromFn.{length-range_with_len}
 use Rattle.std.proofs.lemmas.List.{length-append, length-map}
 use Rattle.station_make.specs.declared.equipment.Switch.{Switch}
-use Rattle.station_make.specs.Layout.{numbers, nodes_of, switches_of, switches}
+use Rattle.station_make.specs.Layout.{nodes_of, switches_of, switches}
 use Rattle.station_make.specs.EventsText.{at_record, sense_record, deliver_record}
-use Rattle.station_make.proofs.Numbers.{length-flat_map_feeders, length-numbers}
+use Rattle.station_make.proofs.Numbers.{length-flat_map_feeders}
 use Rattle.station_make.proofs.laws.made_counts.Goals as goal
 
 pub returns-clause-nodes : goal.returns-clause-nodes
@@ -23,5 +25,5 @@ count_of_records n s a b command drive =
 
 pub returns-clause-records : goal.returns-clause-records
 returns-clause-records c = λ n.
-    count_of_records n (switches n) (numbers 1 (2 * n)) (numbers (2 * n + 1) n) _ _
-    ∙ omega (arith, count_of_switches n, length-numbers 1 (2 * n), length-numbers (2 * n + 1) n)
+    count_of_records n (switches n) (range_with_len 1 (2 * n)) (range_with_len (2 * n + 1) n) _ _
+    ∙ omega (arith, count_of_switches n, length-range_with_len 1 (2 * n), length-range_with_len (2 * n + 1) n)

@@ -1,0 +1,5 @@
+pub mod FindLemmas
+pub mod LeafLemmas
+pub mod LineLemmas
+pub mod ReadLemmas
+pub mod LoopLemmas
