@@ -8,6 +8,8 @@ mod happening;
 mod law;
 mod scene;
 mod start;
+#[cfg(test)]
+mod tests;
 mod turns;
 mod values;
 mod world;
