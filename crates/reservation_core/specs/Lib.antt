@@ -8,3 +8,10 @@ pub mod Facts
 pub mod Concern
 pub mod World
 pub mod Beside
+pub mod Lines
+pub mod History
+pub mod Hearing
+pub mod Runs
+pub mod Headline
+pub mod LogLines
+pub mod ReportLines

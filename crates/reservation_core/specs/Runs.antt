@@ -1,0 +1,103 @@
+-- A run: the scenes through which the lines of a log lead. And the premises, by the lines.
+use Rattle.std.specs.Prelude.{◌≡◌, ◌≢◌, ℕ, Bool, true, false, List, [], ◌∷◌, Some, None, ⊤}
+use Rattle.station_graph.specs.Diagram.{Diagram}
+use Rattle.central_rules.specs.Meaning.{Meaning, bay_of}
+use Rattle.bay_protocol.specs.declared.values.Grant.{Grant}
+use Rattle.bay_protocol.specs.declared.values.Outcome.TheVariants.{Quiet}
+use Rattle.reservation_core.specs.Scene.{Scene, IsTrueWord, end_position}
+use Rattle.reservation_core.specs.Start.{IsStart}
+use Rattle.reservation_core.specs.Happens.{Happens, InRange}
+use Rattle.reservation_core.specs.declared.values.Which.{Which}
+use Rattle.reservation_core.specs.declared.values.Which.TheVariants.{Sensed, Begun, Ended, Withdrawn, Unsent, Cut as NotCut}
+use Rattle.reservation_core.specs.declared.values.WorldEvent.{WorldEvent}
+use Rattle.reservation_core.specs.declared.values.WorldEvent.TheVariants.{Command, Sense, Deliver, Tick, Withdraw, Restart, Begin, End, Part, Cut}
+use Rattle.reservation_core.specs.declared.values.WorldOutcome.{WorldOutcome}
+use Rattle.reservation_core.specs.declared.values.WorldOutcome.TheVariants.{Premise, Drive, Node}
+use Rattle.reservation_core.specs.Lines.{Line, Shown, shown, messages}
+use Rattle.reservation_core.specs.History.{open_of, true_after, drive_runs, sending}
+
+-- Nothing is shown.
+pub record ShowsNothing (s : Shown) : Type 0 where
+  pub outcome : s.outcome ≡ Quiet
+  pub messages : s.messages ≡ []
+
+-- What is shown of an outcome. Where a premise is broken there is no line.
+abbrev pub Shows : WorldOutcome → Shown → Type 0
+Shows (Premise which) s = ⊥
+Shows Drive s = ShowsNothing s
+Shows (Node bay first output) s = s ≡ record { bay = bay.0; outcome = shown output.outcome; messages = messages first output.frames }
+
+-- Nothing shown.
+abbrev pub nothing_shown : Shown
+nothing_shown = record { bay = 0; outcome = Quiet; messages = [] }
+
+-- What is shown of what comes of an event.
+abbrev pub shown_of : WorldOutcome → Shown
+shown_of (Node bay first output) = record { bay = bay.0; outcome = shown output.outcome; messages = messages first output.frames }
+shown_of (Premise which) = nothing_shown
+shown_of Drive = nothing_shown
+
+-- One line leads from a scene to another.
+pub record Leads (m : Meaning) (old : Scene) (l : Line) (new : Scene) : Type 0 where
+  pub range : InRange m.diagram l.event
+  pub outcome : WorldOutcome
+  pub happens : Happens m old l.event new outcome
+  pub shows : Shows outcome l.shown
+
+-- These lines, newest first, lead from the start to the scene.
+abbrev pub Run : Meaning → List Bool → List Line → Scene → Type 0
+Run m start [] w = IsStart m.diagram start w
+Run m start (l ∷ before) w = (old : Scene) × Run m start before old × Leads m old l w
+
+-- ---- the premises 2 to 7
+
+-- The switch has an open operation, its drive stands still, and it is not at the wanted end.
+pub record MayBegin (d : Diagram) (start : List Bool) (before : List Line) (i : ℕ) : Type 0 where
+  pub grant : Grant
+  pub opened : open_of before (bay_of d i) ≡ Some grant
+  pub switch : grant.op.switch.0 ≡ i
+  pub still : drive_runs before i ≡ false
+  pub away : true_after d start before i ≢ end_position grant.op.direction
+
+-- The event keeps its premise, by the lines before it: what is sensed as off or on is the true position; what
+-- begins may begin; the drive that ends or is cut off runs; the drive of an operation that is withdrawn does
+-- not; and the message that comes was sent.
+abbrev pub MayHappen : Diagram → List Bool → List Line → WorldEvent → Type 0
+MayHappen d start before (Command op) = ⊤
+MayHappen d start before (Sense i word) = IsTrueWord word (true_after d start before i.0)
+MayHappen d start before (Begin i) = MayBegin d start before i.0
+MayHappen d start before (End i) = drive_runs before i.0 ≡ true
+MayHappen d start before (Withdraw b) = (g : Grant) → open_of before b.0 ≡ Some g → drive_runs before g.op.switch.0 ≡ false
+MayHappen d start before (Deliver n) = sending before n ≢ None
+MayHappen d start before (Part n bytes) = sending before n ≢ None
+MayHappen d start before (Cut i) = drive_runs before i.0 ≡ true
+MayHappen d start before (Tick b) = ⊤
+MayHappen d start before (Restart b) = ⊤
+
+-- Each of the lines kept its premise.
+abbrev pub PremisesHold : Diagram → List Bool → List Line → Type 0
+PremisesHold d start [] = ⊤
+PremisesHold d start (l ∷ before) = MayHappen d start before l.event × PremisesHold d start before
+
+-- The premise of which an event speaks.
+abbrev pub IsPremiseOf : WorldEvent → Which → Type 0
+IsPremiseOf (Sense i word) which = which ≡ Sensed
+IsPremiseOf (Begin i) which = which ≡ Begun
+IsPremiseOf (End i) which = which ≡ Ended
+IsPremiseOf (Withdraw b) which = which ≡ Withdrawn
+IsPremiseOf (Deliver n) which = which ≡ Unsent
+IsPremiseOf (Part n bytes) which = which ≡ Unsent
+IsPremiseOf (Cut i) which = which ≡ NotCut
+IsPremiseOf (Command op) which = ⊥
+IsPremiseOf (Tick b) which = ⊥
+IsPremiseOf (Restart b) which = ⊥
+
+-- The event breaks this premise, by the lines before it.
+pub record IsBrokenBy (d : Diagram) (start : List Bool) (before : List Line) (event : WorldEvent) (which : Which) : Type 0 where
+  pub broken : ¬ MayHappen d start before event
+  pub named : IsPremiseOf event which
+
+-- The event keeps its premise, and no broken premise comes of it; or it breaks this one, and that comes of it.
+pub data PremiseExact (d : Diagram) (start : List Bool) (before : List Line) (event : WorldEvent) (outcome : WorldOutcome) : Type 0 where
+  keeps : MayHappen d start before event → ((which : Which) → outcome ≢ Premise which) → PremiseExact d start before event outcome
+  breaks : (which : Which) → IsBrokenBy d start before event which → outcome ≡ Premise which → PremiseExact d start before event outcome
