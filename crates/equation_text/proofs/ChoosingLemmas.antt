@@ -45,10 +45,13 @@ pub chosen_from : (parts : List PartLines) (v : List Bool) (subjects : Subjects)
 chosen_from parts v subjects g j [] each = tt
 chosen_from parts v subjects g j (c ∷ cs) each =
     let same : j + 0 ≡ j = omega arith in
-    let here = subst (λ k. IsChosen parts v (subject_at subjects k) c × (c < (layer_at g.layers k).choices)) same (each 0 c refl) in
-    (here.0, here.1, chosen_from parts v subjects g (suc j) cs (λ i x e.
-        let next : j + suc i ≡ suc j + i = omega arith in
-        subst (λ k. IsChosen parts v (subject_at subjects k) x × (x < (layer_at g.layers k).choices)) next (each (suc i) x e)))
+    let here = subst (λ k. IsChosen parts v (subject_at subjects k) c × (c < (layer_at g.layers k).choices)) same (each 0 c refl) in (
+      here.0,
+      here.1,
+      chosen_from parts v subjects g (suc j) cs (λ i x e.
+          let next : j + suc i ≡ suc j + i = omega arith in
+          subst (λ k. IsChosen parts v (subject_at subjects k) x × (x < (layer_at g.layers k).choices)) next (each (suc i) x e)),
+    )
 
 code : Bool → ℕ
 code true = 1
@@ -115,12 +118,14 @@ module _ (view : View) (a : Lettered) (are : AreLettered a) (b m first others : 
       outer_choice j lt =
           let part_in = other_part_in j lt in
           let has = (are.alphabets.each (other_of 0 b j) part_in).indexed v whole in
-          let x = element parts (other_of 0 b j) (omega (arith, part_in, exact.count)) in
-          (has.0, (
-            has.1,
-            record { lines = x.0; listed = x.1; leads = (exact.each (other_of 0 b j) x.0 x.1).leads v has.0 whole has.1 },
-            subst (λ n. has.0 < n) (sym (o.choices j lt)) (slice_get_within _ has.0 has.1.letter has.1.listed),
-          ))
+          let x = element parts (other_of 0 b j) (omega (arith, part_in, exact.count)) in (
+            has.0,
+            (
+              has.1,
+              record { lines = x.0; listed = x.1; leads = (exact.each (other_of 0 b j) x.0 x.1).leads v has.0 whole has.1 },
+              subst (λ n. has.0 < n) (sym (o.choices j lt)) (slice_get_within _ has.0 has.1.letter has.1.listed),
+            ),
+          )
 
       inner_choice : (j : ℕ) → j < others → (c : ℕ) × (SwitchChosen first m j c v × IsPositionOf v (other_of first m j) c)
       inner_choice j lt =

@@ -1,7 +1,10 @@
 -- What is compiled is of the station, and exact.
 use Rattle.std.proofs.Common.{◌≡◌, ◌∙◌, ◌⊎◌, ◌↔◌, ℕ, ◌+◌, ◌<◌, ◌≤◌, suc, Bool, List, [], ◌∷◌, ◌++◌, length, map, Option, Some, refl, sym, ap, subst, inl, inr, arith}
-use Rattle.std.specs.Prelude.{slice_get}
-use Rattle.std.proofs.lemmas.List.{length-map, length_push}
+use Rattle.std.specs.Prelude.{slice_get, sum_by}
+use Rattle.std.proofs.lemmas.List.{length-map, length_push, map-id}
+use Rattle.std.proofs.lemmas.List.FromFn.{map-range_with_len_more}
+use Rattle.std.proofs.lemmas.List.Sums.{sum_by_push}
+use Rattle.std.specs.List.{range_with_len}
 use Rattle.std.proofs.lemmas.Option.{same_Some, slice_get_within, slice_get_cases}
 use Rattle.ilk_base.specs.declared.words.Op.{Op}
 use Rattle.ilk_base.specs.declared.words.Rule.{Rule}
@@ -141,3 +144,9 @@ parts_more a n next parts more x one_more same is are = record {
     | inr last ↦ subst (λ (z : PartLines). AreStepsOf a part z) last.1 (subst (λ k. AreStepsOf a k x) (sym (last.0 ∙ are.count)) is)
   ];
 }
+
+-- the nodes of one switch more
+pub nodes_more : (f : ℕ → ℕ) (n old new : ℕ) → old ≤ sum_by f (range_with_len 0 n) → new ≤ old + f n → new ≤ sum_by f (range_with_len 0 (n + 1))
+nodes_more f n old new few more =
+    let longer : range_with_len 0 (n + 1) ≡ range_with_len 0 n ++ n ∷ [] = sym (map-id (range_with_len 0 (n + 1))) ∙ map-range_with_len_more (λ (k : ℕ). k) 0 n n (omega arith) ∙ ap (λ (xs : List ℕ). xs ++ n ∷ []) (map-id (range_with_len 0 n)) in
+    omega (arith, few, more, ap (sum_by f) longer, sum_by_push f (range_with_len 0 n) n)

@@ -5,7 +5,6 @@ use Rattle.std.proofs.lemmas.Bool.Decides.{nat_tests}
 use Rattle.std.proofs.lemmas.List.Sums.{sum_by-cons}
 use Rattle.decision_graphs.specs.Label.{Layer, Layered, layer_at, size_at, first_at, step, leads, LayerFits, AreLayers, place_after, IsNode}
 
-
 pub drop_layer : (ls : List Layer) (j : ℕ) → j < length ls → drop j ls ≡ layer_at ls j ∷ drop (suc j) ls
 drop_layer [] j lt = absurd (omega (arith, lt))
 drop_layer (l ∷ ls) zero lt = refl

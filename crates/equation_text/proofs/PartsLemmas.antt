@@ -87,11 +87,11 @@ module _ (d : Diagram) (a : Alphabets) (part : ℕ) (al : IsAlphabet d a part) (
   no_more : index_count x ≤ size_of a part
   no_more =
       past_both (index_in x.start) (flat_map (λ (s : PartStep). index_in s.off ++ index_in s.on) x.steps) (size_of a part)
-          (small_target x.start (omega (arith, are.first, al.some)))
-          (past_steps x.steps (size_of a part) (λ m s at.
-              let is = are.each m s at in
-              let lt = target_number m s is in
-              (small_target s.off lt.0, small_target s.on lt.1)))
+      (small_target x.start (omega (arith, are.first, al.some)))
+      (past_steps x.steps (size_of a part) (λ m s at.
+      let is = are.each m s at in
+      let lt = target_number m s is in
+      (small_target s.off lt.0, small_target s.on lt.1)))
 
   last_index : size_of a part - 1 < size_of a part
   last_index = omega (arith, al.some)

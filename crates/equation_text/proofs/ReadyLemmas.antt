@@ -8,7 +8,7 @@ use Rattle.station_graph.specs.declared.items.Switch.{Switch}
 use Rattle.station_graph.specs.Diagram.{Diagram, part_count, AreSwitchesOf}
 use Rattle.station_graph.proofs.Decided.{element}
 use Rattle.contraction.specs.Answers.{Answers}
-use Rattle.central_rules.specs.Meaning.{bay_of}
+use Rattle.central_rules.specs.Meaning.{bay_of, IsBay}
 use Rattle.station_graph.specs.Alike.{IsVector}
 use Rattle.decision_graphs.specs.Label.{Layered, label_of}
 use Rattle.release_compile.specs.declared.view.View.{View}
@@ -87,6 +87,14 @@ bay_in d m b first count own = subst (λ n. n < part_count d) own.bay (own.stati
 
 pub switch_in : (d : Diagram) (m b first count : ℕ) → IsOwnBay d m b first count → m < length d.switches
 switch_in d m b first count own = slice_get_within d.switches m own.switch own.listed
+
+pub is_bay : (d : Diagram) (m b first count : ℕ) → IsOwnBay d m b first count → IsBay d b
+is_bay d m b first count own =
+    let range = (own.those.those m own.switch own.listed).0 own.bay in
+    (bay_in d m b first count own, omega (arith, range.0, range.1, own.those.counted))
+
+pub own_bay_of : (d : Diagram) (m b first count : ℕ) → IsOwnBay d m b first count → bay_of d m ≡ b
+own_bay_of d m b first count own = bay_is d m own.switch own.listed ∙ own.bay
 
 pub load_ready : (j : Judging) (b m first count : ℕ) (g h : Layered) → IsOwnBay j.diagram m b first count → AreBayGraphs (ground j) b (bay_at j b) → g ≡ (bay_at j b).load.outer → h ≡ graph_of (bay_at j (bay_of j.diagram m)) (bay_at j (bay_of j.diagram m)).load m → Ready Load (ground j) b m first (count - 1) g h
 load_ready j b m first count g h own graphs same_g same_h =

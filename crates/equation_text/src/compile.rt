@@ -3,11 +3,13 @@ ghost use Rattle.std.specs.Prelude.{◌≡◌, ◌<◌, ◌≤◌, ◌+◌, ◌�
 ghost use Rattle.ilk_base.specs.declared.words.Rule.TheVariants.{R1, R2, R3};
 ghost use Rattle.station_graph.specs.Alike.{IsVector};
 ghost use Rattle.release_compile.specs.declared.view.View.TheVariants.{Gap, Load};
+ghost use Rattle.release_compile.specs.Judging.{bay_at};
+ghost use Rattle.central_rules.specs.Meaning.{bay_of};
 ghost use Rattle.equation_text.specs.declared.goal.Goal.TheVariants.{Answer};
 ghost use Rattle.equation_text.specs.EquationLines.{PartLines};
 ghost use Rattle.equation_text.specs.EquationForm.{IsGoal, SwitchGoalsFit, AreEquations};
 ghost use Rattle.equation_text.specs.Growing.{Extends, AllGrew};
-ghost use Rattle.equation_text.specs.Compiling.{AreExact, AreExactParts, IsOwnBay, ViewLeads, SwitchIsExact, AreGoalsOf, HaveFewSteps};
+ghost use Rattle.equation_text.specs.Compiling.{AreExact, AreExactParts, IsOwnBay, ViewLeads, SwitchIsExact, AreGoalsOf, HaveFewSteps, view_nodes, switch_nodes, AreFew};
 
 use crate::equations::Equations;
 use crate::goal::{Goal, SwitchGoals};
@@ -75,6 +77,8 @@ fn load_goal(
     ensures grew { IfOk result (λ goal. (parts : List PartLines) → AreExactParts judge.now.diagram judge.now.alphabets parts
         → AllGrew (length judge.now.diagram.switches) parts nodes.old.items
         → AllGrew (length judge.now.diagram.switches) parts nodes.new.items × IsGoal (length nodes.new.items) goal) }
+    ensures few { OnOk result (length nodes.new.items ≤ length nodes.old.items
+        + view_nodes (bay_at judge.now (bay_of judge.now.diagram id.0)) (bay_at judge.now (bay_of judge.now.diagram id.0)).load id.0) }
 {
     let ends = load_ends(alloc)?;
     let _alphabets = judge.parts();
@@ -106,6 +110,8 @@ fn gap_goal(
     ensures grew { IfOk result (λ goal. (parts : List PartLines) → AreExactParts judge.now.diagram judge.now.alphabets parts
         → IsGoal (length nodes.old.items) free → AllGrew (length judge.now.diagram.switches) parts nodes.old.items
         → AllGrew (length judge.now.diagram.switches) parts nodes.new.items × IsGoal (length nodes.new.items) goal) }
+    ensures few { OnOk result (length nodes.new.items ≤ length nodes.old.items
+        + view_nodes (bay_at judge.now (bay_of judge.now.diagram id.0)) (bay_at judge.now (bay_of judge.now.diagram id.0)).gap id.0) }
 {
     let ends = gap_ends(alloc, free)?;
     let _alphabets = judge.parts();
@@ -135,6 +141,7 @@ fn switch_goals(
     ensures grew { IfOk result (λ goals. (parts : List PartLines) → AreExactParts judge.now.diagram judge.now.alphabets parts
         → AllGrew (length judge.now.diagram.switches) parts nodes.old.items
         → AllGrew (length judge.now.diagram.switches) parts nodes.new.items × SwitchGoalsFit (length nodes.new.items) goals) }
+    ensures few { OnOk result (length nodes.new.items ≤ length nodes.old.items + switch_nodes judge.now id.0) }
 {
     let own = own_bay(judge, id);
     let opening = load_goal(alloc, judge, nodes, id, own)?;
@@ -149,8 +156,9 @@ fn all_goals(
     nodes: &mut Vec<Node>,
 ) -> Result<Vec<SwitchGoals>, Memory>
     requires { nodes.old.items ≡ [] }
-    ensures { IfOk result (λ ops. (parts : List PartLines) → AreExactParts judge.now.diagram judge.now.alphabets parts
+    ensures goals { IfOk result (λ ops. (parts : List PartLines) → AreExactParts judge.now.diagram judge.now.alphabets parts
         → AreGoalsOf judge.now.diagram parts nodes.new.items (length judge.now.diagram.switches) ops.items) }
+    ensures few { OnOk result (AreFew judge.now (length judge.now.diagram.switches) nodes.new.items) }
 {
     let station = judge.station();
     let mut ops = Vec::new(alloc);
@@ -178,7 +186,8 @@ fn node_count(nodes: &[Node]) -> Result<u32, Memory>
 pub fn compile_equations(alloc: Global, judge: &GraphJudge) -> Result<Equations, Memory>
     ensures of_station { IfOk result (AreEquations judge.now.diagram) }
     ensures exact { IfOk result (AreExact judge.now.diagram) }
-    ensures steps { IfOk result (λ e. HaveFewSteps judge.now.diagram e) }
+    ensures steps { IfOk result (HaveFewSteps judge.now.diagram) }
+    ensures nodes { IfOk result (λ e. AreFew judge.now (length judge.now.diagram.switches) e.nodes) }
 {
     let parts = all_steps(alloc, judge.station(), judge.parts())?;
     let mut nodes = Vec::new(alloc);

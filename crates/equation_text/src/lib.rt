@@ -1,11 +1,12 @@
 //! The interlocking of a station as equations: a text that leads, for each operation and each vector, to the
-//! answer of the rules. It is made of the decision graphs of the station's judge, written, read back, and
-//! evaluated.
+//! answer of the rules. It is made of the decision graphs of the station's judge, written and evaluated.
+//! Texts are not read back yet.
 #![tactic(auto)]
 
 mod compile;
 mod equations;
 mod goal;
+mod law;
 mod layers;
 mod node;
 mod part;
@@ -18,6 +19,7 @@ mod writing;
 pub use compile::compile_equations;
 pub use equations::Equations;
 pub use goal::{GREATEST_INDEX, Goal, SwitchGoals};
+pub use law::text_means_the_answer;
 
 #[cfg(test)]
 mod tests;

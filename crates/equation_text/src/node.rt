@@ -14,7 +14,10 @@ use std::marker::Model;
 #[derive(Debug, Drop)]
 pub(crate) enum Lead {
     // by the index of a part: a goal for each
-    Part { part: BayId, goals: Vec<Goal> },
+    Part {
+        part: BayId,
+        goals: Vec<Goal>,
+    },
     // by the position of a switch
     Switch {
         switch: SwitchId,

@@ -49,11 +49,7 @@ fn turned_node(node: Node, total: u32) -> Node
 }
 
 // The nodes from the last to the first, with their goals turned.
-pub(crate) fn turned_nodes(
-    alloc: Global,
-    nodes: Vec<Node>,
-    total: u32,
-) -> Result<Vec<Node>, Memory>
+pub(crate) fn turned_nodes(alloc: Global, nodes: Vec<Node>, total: u32) -> Result<Vec<Node>, Memory>
     requires total { length nodes.items ≡ total }
     requires goals { (n : ℕ) (x : NodeLine) → slice_get nodes.items n ≡ Some x → AreGoals total (goals_of x) }
     ensures { IfOk result (λ v. IsTurned nodes.items v.items) }

@@ -1,4 +1,4 @@
-use Rattle.std.proofs.Common.{◌≡◌, ◌∙◌, List, length, sym, ap, subst}
+use Rattle.std.proofs.Common.{◌≡◌, ◌∙◌, List, length, sym, ap, subst, arith}
 use Rattle.equation_text.specs.EquationLines.{NodeLine}
 use Rattle.equation_text.specs.EquationForm.{OpsFit}
 use Rattle.equation_text.proofs.CompileLemmas.{parts_exact, parts_of, goals_within, compiled}
@@ -10,7 +10,7 @@ turned_ops-ops-requires c =
     let a = c.args.judge.now.alphabets in
     let parts = c.in_ok-parts.parts.items in
     let are = parts_of d c.station.result.now a c.parts.result.now parts c.station.ensures.value c.parts.ensures.value c.in_ok-parts.ensures in
-    let goals = c.in_ok-goals.ensures parts (parts_exact d a parts c.parts.ensures.alphabets are) in
+    let goals = c.in_ok-goals.ensures.goals parts (parts_exact d a parts c.parts.ensures.alphabets are) in
     let total = ap (λ (ns : List NodeLine). length ns) (sym c.deref.ensures.value) ∙ c.in_ok-total.ensures in
     subst (λ n. OpsFit n c.in_ok-goals.goals.items) total goals.fit
 
@@ -23,7 +23,7 @@ turned_nodes-requires-clause-goals c =
     let a = c.args.judge.now.alphabets in
     let parts = c.in_ok-parts.parts.items in
     let are = parts_of d c.station.result.now a c.parts.result.now parts c.station.ensures.value c.parts.ensures.value c.in_ok-parts.ensures in
-    let goals = c.in_ok-goals.ensures parts (parts_exact d a parts c.parts.ensures.alphabets are) in
+    let goals = c.in_ok-goals.ensures.goals parts (parts_exact d a parts c.parts.ensures.alphabets are) in
     let total = ap (λ (ns : List NodeLine). length ns) (sym c.deref.ensures.value) ∙ c.in_ok-total.ensures in
     goals_within d parts c.all_goals.new.nodes.items (length d.switches) c.in_ok-total.total c.in_ok-goals.goals.items goals total
 
@@ -33,7 +33,7 @@ invariant_of-result c =
     let a = c.args.judge.now.alphabets in
     let parts = c.in_ok-parts.parts.items in
     let are = parts_of d c.station.result.now a c.parts.result.now parts c.station.ensures.value c.parts.ensures.value c.in_ok-parts.ensures in
-    let goals = c.in_ok-goals.ensures parts (parts_exact d a parts c.parts.ensures.alphabets are) in
+    let goals = c.in_ok-goals.ensures.goals parts (parts_exact d a parts c.parts.ensures.alphabets are) in
     let total = ap (λ (ns : List NodeLine). length ns) (sym c.deref.ensures.value) ∙ c.in_ok-total.ensures in
     (compiled d a parts c.all_goals.new.nodes.items c.in_ok-lines.lines.items c.in_ok-goals.goals.items c.turned_ops-ops.result.items c.in_ok-total.total c.parts.ensures.alphabets are goals c.in_ok-lines.ensures total c.turned_ops-ops.ensures).whole
 
@@ -43,7 +43,7 @@ returns c =
     let a = c.args.judge.now.alphabets in
     let parts = c.in_ok-parts.parts.items in
     let are = parts_of d c.station.result.now a c.parts.result.now parts c.station.ensures.value c.parts.ensures.value c.in_ok-parts.ensures in
-    let goals = c.in_ok-goals.ensures parts (parts_exact d a parts c.parts.ensures.alphabets are) in
+    let goals = c.in_ok-goals.ensures.goals parts (parts_exact d a parts c.parts.ensures.alphabets are) in
     let total = ap (λ (ns : List NodeLine). length ns) (sym c.deref.ensures.value) ∙ c.in_ok-total.ensures in
     let x = compiled d a parts c.all_goals.new.nodes.items c.in_ok-lines.lines.items c.in_ok-goals.goals.items c.turned_ops-ops.result.items c.in_ok-total.total c.parts.ensures.alphabets are goals c.in_ok-lines.ensures total c.turned_ops-ops.ensures in
-    record { of_station = x.equations; exact = x.exact; steps = x.steps }
+    record { of_station = x.equations; exact = x.exact; steps = x.steps; nodes = omega (arith, c.in_ok-lines.ensures.count, c.in_ok-goals.ensures.few) }

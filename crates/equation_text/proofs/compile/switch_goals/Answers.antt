@@ -8,8 +8,8 @@ returns-clause-exact c = λ parts v exact whole.
     let d = c.args.judge.now.diagram in
     let now = c.gap_goal.new.nodes.items in
     switch_exact d parts now v c.args.id.0 c.in_ok-opening.opening c.in_ok-closing.closing
-        (view_stays Load d parts c.load_goal.new.nodes.items now v c.args.id.0 c.in_ok-opening.opening _ c.in_ok-closing.ensures.extends (c.in_ok-opening.ensures.leads parts v exact whole))
-        (c.in_ok-closing.ensures.leads parts v exact whole)
+    (view_stays Load d parts c.load_goal.new.nodes.items now v c.args.id.0 c.in_ok-opening.opening _ c.in_ok-closing.ensures.extends (c.in_ok-opening.ensures.leads parts v exact whole))
+    (c.in_ok-closing.ensures.leads parts v exact whole)
 
 pub returns-clause-grew : goal.returns-clause-grew
 returns-clause-grew c = λ parts exact grew.

@@ -16,7 +16,7 @@ returns-clause-leads c = λ parts v cs ds count_cs chosen_cs count_ds chosen_ds.
     let some : 0 < length goals = omega (arith, c.in_ok-goals.ensures.count, size_some c.args.outer.now.labels c.args.outer.now.layers c.labels-outer_fits.ensures.layered) in
     let row = subst (λ (next : List Goal). IsRow c.args.inner.now 0 0 next c.in_ok-entries.entries.items) c.deref.ensures.value c.in_ok-entries.ensures in
     leads_through parts c.graph_goals.new.nodes.items c.graph_goals-2.new.nodes.items c.args.others c.args.own c.args.outer.now c.args.inner.now v c.in_ok-entries.entries.items goals c.in_ok-inner_goals.inner_goals.items c.args.ends.items c.index.result.now cs ds
-        c.in_ok-goals.ensures.extends c.in_ok-goals.ensures.leads c.in_ok-inner_goals.ensures.leads row c.requires.row.some (slice_get_read goals (length goals) 0 c.index.result.now refl some c.index.ensures) count_cs chosen_cs count_ds chosen_ds
+    c.in_ok-goals.ensures.extends c.in_ok-goals.ensures.leads c.in_ok-inner_goals.ensures.leads row c.requires.row.some (slice_get_read goals (length goals) 0 c.index.result.now refl some c.index.ensures) count_cs chosen_cs count_ds chosen_ds
 
 pub returns-clause-grew : goal.returns-clause-grew
 returns-clause-grew c = λ switches parts has_others has_own fit grew.

@@ -25,4 +25,4 @@ returns c =
     let within : c.args.op.switch.0 < length c.self.inside.ops.items = omega (arith, c.requires.op, ap (λ (e : EquationLines). length e.ops) c.self.view_is) in
     let at : slice_get c.self.inside.ops.items c.args.op.switch.0 ≡ Some c.index-goals.result.now = slice_get_read ops (length ops) c.args.op.switch.0 c.index-goals.result.now refl within c.index-goals.ensures in
     subst (λ (e : EquationLines). Means e c.args.op c.args.vector.now c.follow.result) c.self.view_is
-        (lines_mean c.self.inside.parts.items c.deref.result.now c.self.inside.nodes.items c.deref-2.result.now ops c.args.op c.args.vector.now c.follow.result c.index-goals.result.now c.goal_towards-start.result at c.goal_towards-start.ensures c.deref.ensures.value c.deref-2.ensures.value c.follow.ensures)
+    (lines_mean c.self.inside.parts.items c.deref.result.now c.self.inside.nodes.items c.deref-2.result.now ops c.args.op c.args.vector.now c.follow.result c.index-goals.result.now c.goal_towards-start.result at c.goal_towards-start.ensures c.deref.ensures.value c.deref-2.ensures.value c.follow.ensures)
