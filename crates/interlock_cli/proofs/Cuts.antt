@@ -10,9 +10,11 @@ use Rattle.ssd_read.specs.declared.refusal.SsdRefusal.{SsdRefusal}
 use Rattle.ssd_read.specs.StandsFor.{Stands}
 use Rattle.double_points.specs.Positions.{IsAccepted, IsRefusedWith}
 use Rattle.switching_orders.specs.OrderLines.{IsOrder, IsOrderFault}
+use Rattle.release_compile.specs.declared.refusal.BuildRefusal.{BuildRefusal}
+use Rattle.release_compile.specs.declared.refusal.BuildRefusal.TheVariants.{Many, Wide}
 use Rattle.interlock_cli.specs.declared.end.End.{End}
 use Rattle.interlock_cli.specs.declared.end.End.TheVariants as e
-use Rattle.interlock_cli.specs.Formats.{Format, Drawing, Positions, CertainPositions, OrderOf, SwitchOf, Value, Accepts, Refuses}
+use Rattle.interlock_cli.specs.Formats.{Format, Drawing, Positions, CertainPositions, OrderOf, SwitchOf, BayOf, Value, Accepts, Refuses, PassesLimit}
 use Rattle.interlock_cli.specs.Judging.{JudgeFails}
 use Rattle.interlock_cli.specs.Form.{File, Given, Fails}
 
@@ -20,7 +22,7 @@ use Rattle.interlock_cli.specs.Form.{File, Given, Fails}
 take_short : (n : ℕ) (b : List ℕ) → length (take n b) < n → take n b ≡ b
 take_short n b lt = take_all n b (omega (arith, lt, length-take n b))
 
-cut_stands : (n : ℕ) (b v : List ℕ) (o : Result Diagram SsdRefusal) → n ≡ 8388609 → v ≡ take n b → Stands v o → Stands b o
+pub cut_stands : (n : ℕ) (b v : List ℕ) (o : Result Diagram SsdRefusal) → n ≡ 8388609 → v ≡ take n b → Stands v o → Stands b o
 cut_stands n b v o e h (inl long) = inl (omega (arith, long.0, ap length h, length-take n b), long.1)
 cut_stands n b v o e h (inr short) =
     let whole : v ≡ b = h ∙ take_short n b (omega (arith, e, ap length h, short.0)) in
@@ -53,8 +55,13 @@ cut_order_fault d n b v r e h (inr short) =
     let whole : v ≡ b = h ∙ take_short n b (omega (arith, e, ap length h, short.0)) in
     subst (λ (x : List ℕ). IsOrderFault d x r) whole (inr short)
 
+cut_limit : (b v : List ℕ) (refusal : BuildRefusal) → v ≡ take 8388609 b → PassesLimit v refusal → PassesLimit b refusal
+cut_limit b v refusal h passes = record { diagram = passes.diagram; stands = cut_stands 8388609 b v (Ok passes.diagram) refl h passes.stands; station = passes.station; past = passes.past }
+
 refuses_drawing : (b v : List ℕ) (end : End) → v ≡ take 8388609 b → Refuses Drawing v end → Refuses Drawing b end
 refuses_drawing b v (e.Station refusal) h r = cut_stands 8388609 b v (Err refusal) refl h r
+refuses_drawing b v (e.Many part step) h r = cut_limit b v (Many part step) h r
+refuses_drawing b v (e.Wide bay) h r = cut_limit b v (Wide bay) h r
 refuses_drawing b v _ h r = r
 
 refuses_positions : (d : Diagram) (b v : List ℕ) (end : End) → v ≡ take 8388609 b → Refuses (Positions d) v end → Refuses (Positions d) b end
@@ -71,7 +78,7 @@ refuses_order d b v (e.Input refusal) h r = cut_order_fault d 8388609 b v refusa
 refuses_order d b v _ h r = r
 
 pub drawing : Cuts Drawing
-drawing = record { accepts = λ b v d h a. cut_stands 8388609 b v (Ok d) refl h a; refuses = refuses_drawing }
+drawing = record { accepts = λ b v d h a. (cut_stands 8388609 b v (Ok d) refl h a.0, a.1); refuses = refuses_drawing }
 
 pub positions : (d : Diagram) → Cuts (Positions d)
 positions d = record { accepts = λ b v words h a. cut_accepted 8388609 b v d.switch_paths words refl h a; refuses = refuses_positions d }
@@ -92,6 +99,7 @@ no_fault (Positions d) v r = r
 no_fault (CertainPositions d) v r = r
 no_fault (OrderOf d) v r = r
 no_fault (SwitchOf d) v r = r
+no_fault (BayOf d) v r = r
 
 module _ (f : Format) (cuts : Cuts f) where
   whole : (known : Option (List ℕ)) (v : List ℕ) (value : Value f) → IfSome known (λ b. v ≡ take 8388609 b) → Accepts f v value → (content : List ℕ) × IfSome known (λ h. h ≡ content) × Accepts f content value

@@ -5,8 +5,8 @@ use Rattle.std.specs.Str.{bytes_eq}
 use Rattle.ilk_base.specs.declared.words.Direction.{Direction}
 use Rattle.ilk_base.specs.declared.words.Direction.TheVariants.{ToOff, ToOn}
 use Rattle.station_state.specs.StateText.{IsStateText}
-use Rattle.interlock_cli.specs.Formats.{Drawing, Positions, CertainPositions, OrderOf, SwitchOf}
-use Rattle.interlock_cli.specs.Form.{Form, Write, Take, File, Word}
+use Rattle.interlock_cli.specs.Formats.{Drawing, Positions, CertainPositions, OrderOf, SwitchOf, BayOf}
+use Rattle.interlock_cli.specs.Form.{Form, Write, Take, Serve, File, Word}
 use Rattle.interlock_cli.specs.CheckText.{IsCheckText}
 use Rattle.interlock_cli.specs.ExplainText.{IsExplainText}
 use Rattle.interlock_cli.specs.OrderWrites.{OrderWrites}
@@ -22,6 +22,8 @@ pub data Command : Type 0 where
   State : List ℕ → List ℕ → Command
   -- `order STATION POSITIONS ORDER`
   Order : List ℕ → List ℕ → List ℕ → Command
+  -- `node STATION BAY`
+  Node : List ℕ → List ℕ → Command
 
 -- a word that is not empty and does not begin with `-`
 abbrev pub is_plain : List ℕ → Bool
@@ -48,6 +50,10 @@ abbrev pub order_of : List (List ℕ) → Option Command
 order_of (station ∷ positions ∷ order ∷ []) = Some (Order station positions order)
 order_of _ = None
 
+abbrev pub node_of : List (List ℕ) → Option Command
+node_of (station ∷ bay ∷ []) = Some (Node station bay)
+node_of _ = None
+
 -- what the words name, the command's name first
 abbrev pub named : List (List ℕ) → Option Command
 named [] = None
@@ -56,6 +62,7 @@ named (name ∷ rest) =
     else if bytes_eq name (codes "explain") then explain_of rest
     else if bytes_eq name (codes "state") then state_of rest
     else if bytes_eq name (codes "order") then order_of rest
+    else if bytes_eq name (codes "node") then node_of rest
     else None
 
 -- what the words name, where no word is empty or begins with `-`
@@ -77,3 +84,5 @@ form_of (State station positions) =
 form_of (Order station positions order) =
     Take (File station) Drawing (λ d. Take (File positions) (CertainPositions d) (λ start.
     Take (File order) (OrderOf d) (λ steps. Write (OrderWrites d start steps))))
+form_of (Node station bay) =
+    Take (File station) Drawing (λ d. Take (Word bay) (BayOf d) (λ b. Serve d b))

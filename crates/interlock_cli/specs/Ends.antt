@@ -1,8 +1,12 @@
 -- How a call ends: the cause of each end, and what `out` and `err` took. Said once, for all commands.
 use Rattle.std.specs.Prelude.{◌≡◌, ◌⊎◌, ℕ, List, [], Option, Some, None}
-use Rattle.std.specs.Io.KnownBytes.{Appends}
+use Rattle.std.specs.Io.KnownBytes.{Appends, Keeps}
 use Rattle.ilk_base.specs.Outside.{Rose, AppendsFront}
-use Rattle.interlock_cli.specs.Form.{Form, Says, Stops}
+use Rattle.node_session.specs.SessionEnds.{Streams}
+use Rattle.node_session.specs.declared.end.SessionEnd.{SessionEnd}
+use Rattle.interlock_cli.specs.Formats.{Value}
+use Rattle.interlock_cli.specs.Form.{Form, Write, Take, Serve, Given, Says, Stops, AsksInput}
+use Rattle.interlock_cli.specs.Serving.{end_of, ServesBay}
 use Rattle.interlock_cli.specs.Commands.{Command, form_of}
 use Rattle.interlock_cli.specs.Lines.{line_of, status_of}
 use Rattle.interlock_cli.specs.declared.end.Outcome.{Outcome}
@@ -15,28 +19,42 @@ use Rattle.interlock_cli.specs.declared.status.Status.{Status}
 pub record Call : Type 0 where
   -- what the files hold, by their names
   pub held : List ℕ → Option (List ℕ)
-  -- the counts of faults of the files, and of `out`
+  -- the counts of faults of the files
   pub reads_before : List ℕ → ℕ
   pub reads_after : List ℕ → ℕ
-  pub writes_before : ℕ
-  pub writes_after : ℕ
-  -- what `out` took
-  pub out_old : Option (List ℕ)
-  pub out_new : Option (List ℕ)
+  -- the input and `out`
+  pub before : Streams
+  pub after : Streams
 
 -- `out` takes nothing before all is accepted; then the text, or after a fault of the write a front of it
 -- that is not all
 abbrev pub FormEnds : Form → Call → End → Type 0
-FormEnds form c (e.Written outcome) = (text : List ℕ) × Says form c.held outcome text × Appends c.out_old c.out_new text
+FormEnds form c (e.Written outcome) = (text : List ℕ) × Says form c.held outcome text × Appends c.before.out c.after.out text
 FormEnds form c e.WriteFault =
-    Rose c.writes_before c.writes_after × (outcome : Outcome) × (text : List ℕ) × Says form c.held outcome text × AppendsFront c.out_old c.out_new text
+    Rose c.before.writes c.after.writes × (outcome : Outcome) × (text : List ℕ) × Says form c.held outcome text × AppendsFront c.before.out c.after.out text
 FormEnds form c e.Usage = ⊥
-FormEnds form c end = Stops form c.held c.reads_before c.reads_after end × Appends c.out_old c.out_new []
+FormEnds form c end = Stops form c.held c.reads_before c.reads_after end × Appends c.before.out c.after.out []
+
+-- nothing is asked of the input
+pub record Unasked (c : Call) : Type 0 where
+  pub left : Keeps c.before.input c.after.input
+  pub reads : c.after.reads ≡ c.before.reads
+
+-- all that the form names is accepted, and the input is served so
+abbrev pub Serves : Form → Call → End → Type 0
+Serves (Write writes) c end = ⊥
+Serves (Serve d b) c end = (s : SessionEnd) × (end ≡ end_of s) × ServesBay d b c.before c.after s
+Serves (Take origin f next) c end = (value : Value f) × Given c.held origin f value × Serves (next value) c end
+
+-- the words name a command that asks for the input
+abbrev pub Asks : Option Command → Type 0
+Asks None = ⊥
+Asks (Some command) = AsksInput (form_of command)
 
 -- words that name no command are Usage, and no others
 abbrev pub Ends : Option Command → Call → End → Type 0
-Ends None c end = (end ≡ e.Usage) × Appends c.out_old c.out_new []
-Ends (Some command) c end = FormEnds (form_of command) c end
+Ends None c end = (end ≡ e.Usage) × Appends c.before.out c.after.out []
+Ends (Some command) c end = (FormEnds (form_of command) c end × Unasked c) ⊎ Serves (form_of command) c end
 
 -- what is to be written was written, or a front of it where the count rose
 abbrev pub Wrote : Output → ℕ → ℕ → Option (List ℕ) → Option (List ℕ) → End → Type 0

@@ -1,7 +1,8 @@
--- The form of a command: what it is given, in the order in which it is judged, and what it then writes.
+-- The form of a command: what it is given, in the order in which it is judged, and what it then writes or serves.
 -- What a form means is said here once, for all commands.
 use Rattle.std.specs.Prelude.{◌≡◌, ◌⊎◌, ⊤, ℕ, List, Option, IfSome}
 use Rattle.ilk_base.specs.Outside.{Rose}
+use Rattle.station_graph.specs.Diagram.{Diagram}
 use Rattle.interlock_cli.specs.Formats.{Format, Value, Accepts, Refuses}
 use Rattle.interlock_cli.specs.declared.end.Outcome.{Outcome}
 use Rattle.interlock_cli.specs.declared.end.Output.{Output}
@@ -18,6 +19,9 @@ pub data Form : Type 1 where
   Write : (Outcome → List ℕ → Type 0) → Form
   -- this content is judged next, and what it is accepted as says how the command goes on
   Take : Origin → (f : Format) → (Value f → Form) → Form
+  -- all is accepted: the node of this bay of the station answers each line of the input, before it asks for the
+  -- next
+  Serve : Diagram → ℕ → Form
 
 -- the content of the origin is this, where it is told
 abbrev pub IsContent : (List ℕ → Option (List ℕ)) → Origin → List ℕ → Type 0
@@ -46,14 +50,22 @@ Fails held before after origin f end = Refused held origin f end
 -- all that the form names is accepted, and it then writes this text and ends so
 abbrev pub Says : Form → (List ℕ → Option (List ℕ)) → Outcome → List ℕ → Type 0
 Says (Write writes) held outcome text = writes outcome text
+Says (Serve d b) held outcome text = ⊥
 Says (Take origin f next) held outcome text = (value : Value f) × Given held origin f value × Says (next value) held outcome text
 
 -- the same, of what a call has to write
 abbrev pub Gives : Form → (List ℕ → Option (List ℕ)) → Output → Type 0
 Gives form held output = Says form held output.outcome output.text
 
--- the form ends before it writes: at the first content that is not accepted, or for memory
+-- the form ends before it writes or serves: at the first content that is not accepted, or for memory
 abbrev pub Stops : Form → (List ℕ → Option (List ℕ)) → (List ℕ → ℕ) → (List ℕ → ℕ) → End → Type 0
 Stops (Write writes) held before after end = end ≡ e.Memory
+Stops (Serve d b) held before after end = ⊥
 Stops (Take origin f next) held before after end =
     Fails held before after origin f end ⊎ ((value : Value f) × Given held origin f value × Stops (next value) held before after end)
+
+-- the form asks for the input
+abbrev pub AsksInput : Form → Type 0
+AsksInput (Write writes) = ⊥
+AsksInput (Serve d b) = ⊤
+AsksInput (Take origin f next) = (value : Value f) × AsksInput (next value)

@@ -1,11 +1,15 @@
 -- The formats of what a command is given: which content is accepted, and as what, and how the call ends
 -- where one is not. A new format adds a constructor and its equations.
-use Rattle.std.specs.Prelude.{◌≡◌, ◌⊎◌, ℕ, Bool, List, Ok, Err, Contains}
+use Rattle.std.specs.Prelude.{◌≡◌, ◌⊎◌, ℕ, Bool, List, slice_get, Some, Ok, Err, Contains}
 use Rattle.ilk_base.specs.declared.words.Dbpos.{Dbpos}
 use Rattle.ilk_base.specs.declared.words.InputRefusal.{InputRefusal}
 use Rattle.ilk_base.specs.declared.words.Op.{Op}
-use Rattle.station_graph.specs.Diagram.{Diagram}
+use Rattle.station_graph.specs.Diagram.{Diagram, IsStation}
 use Rattle.ssd_read.specs.StandsFor.{Stands}
+use Rattle.central_rules.specs.Meaning.{IsBay}
+use Rattle.release_compile.specs.Judging.{KeepsLimits, IsBuildRefusal}
+use Rattle.release_compile.specs.declared.refusal.BuildRefusal.{BuildRefusal}
+use Rattle.release_compile.specs.declared.refusal.BuildRefusal.TheVariants.{Many, Wide}
 use Rattle.double_points.specs.Positions.{IsAccepted, IsRefusedWith}
 use Rattle.switching_orders.specs.Certain.{AreWordsOf, IsUnsure}
 use Rattle.switching_orders.specs.OrderLines.{IsOrder, IsOrderFault}
@@ -23,34 +27,52 @@ pub data Format : Type 0 where
   OrderOf : Diagram → Format
   -- the path of a switch of the station
   SwitchOf : Diagram → Format
+  -- the path of a bay of the station
+  BayOf : Diagram → Format
 
 -- what a content is accepted as: a station, a word or a position for each of its switches, the steps of
--- an order, or the path itself
+-- an order, the path itself, or the number of the bay
 abbrev pub Value : Format → Type 0
 Value Drawing = Diagram
 Value (Positions d) = List Dbpos
 Value (CertainPositions d) = List Bool
 Value (OrderOf d) = List Op
 Value (SwitchOf d) = List ℕ
+Value (BayOf d) = ℕ
 
--- the content is accepted, as this
+-- the path is that of this part, which is a bay
+abbrev pub NamesBay : Diagram → List ℕ → ℕ → Type 0
+NamesBay d path b = (slice_get d.part_paths b ≡ Some path) × IsBay d b
+
+-- the content is accepted, as this; a drawing is accepted whose station keeps the limits of its graphs
 abbrev pub Accepts : (f : Format) → List ℕ → Value f → Type 0
-Accepts Drawing content d = Stands content (Ok d)
+Accepts Drawing content d = Stands content (Ok d) × KeepsLimits d
 Accepts (Positions d) content words = IsAccepted d.switch_paths content words
 Accepts (CertainPositions d) content v = (words : List Dbpos) × IsAccepted d.switch_paths content words × AreWordsOf v words
 Accepts (OrderOf d) content steps = IsOrder d content steps
 Accepts (SwitchOf d) content path = Contains d.switch_paths content × (path ≡ content)
+Accepts (BayOf d) content b = NamesBay d content b
 
 -- the positions are accepted, and a word of them leaves a position open: 14, in no line
 abbrev pub IsUnsureRefusal : Diagram → List ℕ → InputRefusal → Type 0
 IsUnsureRefusal d content refusal =
     (words : List Dbpos) × IsAccepted d.switch_paths content words × IsUnsure words × (refusal ≡ record { number = 14; line = 0 })
 
--- the content is refused, and the call ends so; a switch that is not of the station is 11, in no line
+-- the drawing is that of a station, which is refused since it passes a limit of its graphs
+pub record PassesLimit (content : List ℕ) (refusal : BuildRefusal) : Type 0 where
+  pub diagram : Diagram
+  pub stands : Stands content (Ok diagram)
+  pub station : IsStation diagram
+  pub past : IsBuildRefusal diagram refusal
+
+-- the content is refused, and the call ends so; a switch or bay that is not of the station is 11, in no line
 abbrev pub Refuses : Format → List ℕ → End → Type 0
 Refuses Drawing content (e.Station refusal) = Stands content (Err refusal)
+Refuses Drawing content (e.Many part step) = PassesLimit content (Many part step)
+Refuses Drawing content (e.Wide bay) = PassesLimit content (Wide bay)
 Refuses (Positions d) content (e.Input refusal) = IsRefusedWith d.switch_paths content refusal
 Refuses (CertainPositions d) content (e.Input refusal) = IsRefusedWith d.switch_paths content refusal ⊎ IsUnsureRefusal d content refusal
 Refuses (OrderOf d) content (e.Input refusal) = IsOrderFault d content refusal
 Refuses (SwitchOf d) content (e.Input refusal) = (¬ Contains d.switch_paths content) × (refusal.number ≡ 11) × (refusal.line ≡ 0)
+Refuses (BayOf d) content (e.Input refusal) = ((b : ℕ) → ¬ NamesBay d content b) × (refusal.number ≡ 11) × (refusal.line ≡ 0)
 Refuses _ content _ = ⊥

@@ -1,7 +1,12 @@
 -- How the parts of reading and judging fail, and what a read leaves.
-use Rattle.std.specs.Prelude.{◌≤◌, ⊤, ℕ, List, Option}
+use Rattle.std.specs.Prelude.{◌≤◌, ⊤, ℕ, List, Option, Ok}
 use Rattle.std.specs.Io.KnownBytes.{Keeps}
+use Rattle.station_graph.specs.Diagram.{Diagram, IsStation}
+use Rattle.ssd_read.specs.StandsFor.{Stands}
+use Rattle.release_compile.specs.Judging.{IsBuildRefusal}
+use Rattle.release_compile.specs.declared.refusal.BuildRefusal.TheVariants.{Many, Wide}
 use Rattle.interlock_cli.specs.Formats.{Format, Refuses}
+use Rattle.interlock_cli.specs.Form.{Origin, IsContent}
 use Rattle.interlock_cli.specs.declared.end.End.{End}
 use Rattle.interlock_cli.specs.declared.end.End.TheVariants as e
 
@@ -15,6 +20,17 @@ ReadFails rose _ = ⊥
 abbrev pub JudgeFails : Format → List ℕ → End → Type 0
 JudgeFails f content e.Memory = ⊤
 JudgeFails f content end = Refuses f content end
+
+-- the origin has a drawing of this station, whatever its limits
+abbrev pub Drawn : (List ℕ → Option (List ℕ)) → Origin → Diagram → Type 0
+Drawn held origin d = (content : List ℕ) × IsContent held origin content × Stands content (Ok d)
+
+-- a station has no judge: for memory, or since it passes a limit
+abbrev pub BuildFails : Diagram → End → Type 0
+BuildFails d e.Memory = ⊤
+BuildFails d (e.Many part step) = IsStation d × IsBuildRefusal d (Many part step)
+BuildFails d (e.Wide bay) = IsStation d × IsBuildRefusal d (Wide bay)
+BuildFails d _ = ⊥
 
 -- what a read leaves: what was told stays, and no count falls
 pub record Onward (held later : List ℕ → Option (List ℕ)) (before between : List ℕ → ℕ) : Type 0 where

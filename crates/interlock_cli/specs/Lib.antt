@@ -8,5 +8,6 @@ pub mod Commands
 pub mod Seen
 pub mod Lines
 pub mod Pieces
+pub mod Serving
 pub mod Ends
 pub mod Complete

@@ -23,7 +23,10 @@ status_of e.Usage = s.Usage
 status_of e.ReadFault = s.ReadFault
 status_of e.WriteFault = s.WriteFault
 status_of (e.Station refusal) = s.StationRefused
+status_of (e.Many part step) = s.StationRefused
+status_of (e.Wide bay) = s.StationRefused
 status_of (e.Input refusal) = s.InputRefused
+status_of e.Long = s.Long
 status_of e.Memory = s.Memory
 
 abbrev pub memory_line : List ℕ
@@ -56,5 +59,8 @@ line_of e.Usage = codes "interlock: usage\n"
 line_of e.ReadFault = codes "interlock: read fault\n"
 line_of e.WriteFault = codes "interlock: write fault\n"
 line_of (e.Station refusal) = station_line refusal
+line_of (e.Many part step) = codes "interlock: station refused 16 part " ++ decimal part.0 ++ codes " step " ++ decimal step ++ codes "\n"
+line_of (e.Wide bay) = codes "interlock: station refused 17 bay " ++ decimal bay.0 ++ codes "\n"
 line_of (e.Input refusal) = codes "interlock: input refused " ++ decimal refusal.number ++ codes " line " ++ decimal refusal.line ++ codes "\n"
+line_of e.Long = codes "interlock: input too long\n"
 line_of e.Memory = memory_line

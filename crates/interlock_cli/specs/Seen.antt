@@ -1,10 +1,11 @@
 -- What a contract sees of a command.
 use Rattle.interlock_cli.specs.Commands as c
 use Rattle.interlock_cli.specs.declared.words.Command.{Command}
-use Rattle.interlock_cli.specs.declared.words.Command.TheVariants.{Check, Explain, State, Order}
+use Rattle.interlock_cli.specs.declared.words.Command.TheVariants.{Check, Explain, State, Order, Node}
 
 abbrev pub seen : Command → c.Command
 seen (Check station positions) = c.Check station.now positions.now
 seen (Explain station positions direction switch) = c.Explain station.now positions.now direction switch.now
 seen (State station positions) = c.State station.now positions.now
 seen (Order station positions order) = c.Order station.now positions.now order.now
+seen (Node station bay) = c.Node station.now bay.now

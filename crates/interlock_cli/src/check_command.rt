@@ -5,12 +5,12 @@ ghost use Rattle.interlock_cli.specs.Form.{Gives, Stops};
 
 use crate::check::check_text;
 use crate::end::{End, Outcome, Output};
-use crate::loading::{load_readings, load_station};
+use crate::loading::{build_judge, load_drawing, load_readings};
 use ilk_base::Shelf;
 use std::alloc::Global;
 
 // What `check STATION POSITIONS` has to write.
-#[tactic(auto, using(crate::proofs::Later::fails_later))]
+#[tactic(auto, using(crate::proofs::Later::fails_later, crate::proofs::Drawings::drawn_given, crate::proofs::Drawings::drawn_fails))]
 pub(crate) fn check<F: Shelf>(
     alloc: Global,
     station: &str,
@@ -20,15 +20,19 @@ pub(crate) fn check<F: Shelf>(
     ensures ok { IfOk result (Gives (form_of (Check station.now positions.now)) (F.held shelf.old)) }
     ensures err { IfErr result (Stops (form_of (Check station.now positions.now)) (F.held shelf.old) (F.faults shelf.old) (F.faults shelf.new)) }
 {
-    let station = match load_station(alloc, station, shelf) {
+    let station = match load_drawing(alloc, station, shelf) {
         Ok(station) => station,
+        Err(end) => return Err(end),
+    };
+    let judge = match build_judge(alloc, &station) {
+        Ok(judge) => judge,
         Err(end) => return Err(end),
     };
     let readings = match load_readings(alloc, &station, positions, shelf) {
         Ok(readings) => readings,
         Err(end) => return Err(end),
     };
-    match check_text(alloc, &station, &readings) {
+    match check_text(alloc, &station, &judge, &readings) {
         Ok(text) => Ok(Output {
             outcome: Outcome::Done,
             text,

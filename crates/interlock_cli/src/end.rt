@@ -3,7 +3,7 @@ ghost use Rattle.std.specs.Prelude.{◌≡◌};
 ghost use Rattle.interlock_cli.specs.Lines.{outcome_status, status_of};
 
 use crate::status::Status;
-use ilk_base::{InputRefusal, Text};
+use ilk_base::{BayId, InputRefusal, Text};
 use ssd_read::SsdRefusal;
 
 // How a call ends whose text is written.
@@ -28,7 +28,10 @@ pub enum End {
     ReadFault,
     WriteFault,
     Station(SsdRefusal),
+    Many { part: BayId, step: u8 },
+    Wide { bay: BayId },
     Input(InputRefusal),
+    Long,
     Memory,
 }
 
@@ -51,8 +54,9 @@ pub(crate) fn make_status(end: &End) -> Status
         End::Usage => Status::Usage,
         End::ReadFault => Status::ReadFault,
         End::WriteFault => Status::WriteFault,
-        End::Station(_) => Status::StationRefused,
+        End::Station(_) | End::Many { .. } | End::Wide { .. } => Status::StationRefused,
         End::Input(_) => Status::InputRefused,
+        End::Long => Status::Long,
         End::Memory => Status::Memory,
     }
 }

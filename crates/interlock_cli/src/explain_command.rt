@@ -5,12 +5,12 @@ ghost use Rattle.interlock_cli.specs.Form.{Gives, Stops};
 
 use crate::end::{End, Outcome, Output};
 use crate::explain::explain_text;
-use crate::loading::{load_readings, load_station, named_switch};
+use crate::loading::{build_judge, load_drawing, load_readings, named_switch};
 use ilk_base::{Direction, Op, Shelf};
 use std::alloc::Global;
 
 // What `explain STATION POSITIONS open SWITCH`, or `close`, has to write.
-#[tactic(auto, using(crate::proofs::Later::fails_later))]
+#[tactic(auto, using(crate::proofs::Later::fails_later, crate::proofs::Drawings::drawn_given, crate::proofs::Drawings::drawn_fails))]
 pub(crate) fn explain<F: Shelf>(
     alloc: Global,
     station: &str,
@@ -22,8 +22,12 @@ pub(crate) fn explain<F: Shelf>(
     ensures ok { IfOk result (Gives (form_of (Explain station.now positions.now direction path.now)) (F.held shelf.old)) }
     ensures err { IfErr result (Stops (form_of (Explain station.now positions.now direction path.now)) (F.held shelf.old) (F.faults shelf.old) (F.faults shelf.new)) }
 {
-    let station = match load_station(alloc, station, shelf) {
+    let station = match load_drawing(alloc, station, shelf) {
         Ok(station) => station,
+        Err(end) => return Err(end),
+    };
+    let judge = match build_judge(alloc, &station) {
+        Ok(judge) => judge,
         Err(end) => return Err(end),
     };
     let readings = match load_readings(alloc, &station, positions, shelf) {
@@ -34,7 +38,7 @@ pub(crate) fn explain<F: Shelf>(
         Ok(switch) => switch,
         Err(end) => return Err(end),
     };
-    match explain_text(alloc, &station, &readings, Op { switch, direction }) {
+    match explain_text(alloc, &station, &judge, &readings, Op { switch, direction }) {
         Ok(text) => Ok(Output {
             outcome: Outcome::Done,
             text,

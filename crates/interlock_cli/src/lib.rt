@@ -7,6 +7,7 @@ mod end;
 mod explain;
 mod explain_command;
 mod loading;
+mod node_command;
 mod order_command;
 mod state_command;
 mod status;

@@ -1,16 +1,21 @@
 // What a command is given, read and judged.
-ghost use Rattle.std.specs.Prelude.{◌≡◌, ◌<◌, length, take, slice_get, Some, IfOk, IfErr, IfSome};
+ghost use Rattle.std.specs.Prelude.{◌≡◌, ◌<◌, length, take, slice_get, Some, Ok, IfOk, IfErr, IfSome};
 ghost use Rattle.ilk_base.specs.Outside.{Rose};
+ghost use Rattle.ssd_read.specs.StandsFor.{Stands};
+ghost use Rattle.bay_contract.specs.Alphabets.{AreAlphabets};
+ghost use Rattle.release_compile.specs.Judging.{KeepsLimits};
 ghost use Rattle.station_graph.specs.Alike.{IsVector};
 ghost use Rattle.switching_orders.specs.OrderRuling.{AreOperations};
 ghost use Rattle.double_points.specs.Words.{AreWords};
-ghost use Rattle.interlock_cli.specs.Formats.{Accepts, Drawing, Positions, CertainPositions, OrderOf, SwitchOf};
+ghost use Rattle.central_rules.specs.Meaning.{IsBay};
+ghost use Rattle.interlock_cli.specs.Formats.{Accepts, Drawing, Positions, CertainPositions, OrderOf, SwitchOf, BayOf};
 ghost use Rattle.interlock_cli.specs.Form.{Given, Fails, File};
-ghost use Rattle.interlock_cli.specs.Judging.{ReadFails, JudgeFails, Onward};
+ghost use Rattle.interlock_cli.specs.Judging.{Drawn, BuildFails, ReadFails, JudgeFails, Onward};
 
 use crate::end::End;
 use double_points::{PositionsFault, Readings, read_positions};
-use ilk_base::{InputRefusal, ReadTrouble, Shelf, SwitchId};
+use ilk_base::{BayId, InputRefusal, ReadTrouble, Shelf, SwitchId};
+use release_compile::{BuildRefusal, GraphJudge};
 use ssd_read::{SsdRefusal, read_ssd};
 use station_graph::{Station, Vector};
 use std::alloc::Global;
@@ -33,8 +38,8 @@ fn read_file<F: Shelf>(name: &str, shelf: &mut F) -> Result<Vec<u8>, End>
 }
 
 // The station of a drawing's bytes.
-fn judge_station(alloc: Global, bytes: &[u8]) -> Result<Station, End>
-    ensures ok { IfOk result (Accepts Drawing bytes.now) }
+fn judge_drawing(alloc: Global, bytes: &[u8]) -> Result<Station, End>
+    ensures ok { IfOk result (λ d. Stands bytes.now (Ok d)) }
     ensures err { IfErr result (JudgeFails Drawing bytes.now) }
 {
     match read_ssd(alloc, bytes) {
@@ -91,7 +96,46 @@ fn judge_steps(alloc: Global, station: &Station, bytes: &[u8]) -> Result<Order, 
     }
 }
 
-// The station of a file.
+// The judge of a station.
+pub(crate) fn build_judge(alloc: Global, station: &Station) -> Result<GraphJudge<'_>, End>
+    ensures ok { IfOk result (λ _. KeepsLimits station.now) }
+    ensures station { IfOk result (λ j. j.diagram ≡ station.now) }
+    ensures alphabets { IfOk result (λ j. AreAlphabets j.diagram j.alphabets) }
+    ensures err { IfErr result (BuildFails station.now) }
+{
+    // Its clause says that it is a station; it does nothing.
+    station.is_station();
+    match GraphJudge::build(alloc, station) {
+        Ok(judge) => {
+            // Its clause says that they are those of the station.
+            let _parts = judge.parts();
+            Ok(judge)
+        }
+        Err(BuildRefusal::Memory) => Err(End::Memory),
+        Err(BuildRefusal::Many { part, step }) => Err(End::Many { part, step }),
+        Err(BuildRefusal::Wide { bay }) => Err(End::Wide { bay }),
+    }
+}
+
+// The station of a file, of which it is not known yet whether it has a judge.
+pub(crate) fn load_drawing<F: Shelf>(
+    alloc: Global,
+    name: &str,
+    shelf: &mut F,
+) -> Result<Station, End>
+    ensures ok { IfOk result (Drawn (F.held shelf.old) (File name.now)) }
+    ensures err { IfErr result (Fails (F.held shelf.old) (F.faults shelf.old) (F.faults shelf.new) (File name.now) Drawing) }
+    ensures onward { Onward (F.held shelf.old) (F.held shelf.new) (F.faults shelf.old) (F.faults shelf.new) }
+{
+    let bytes = match read_file(name, shelf) {
+        Ok(bytes) => bytes,
+        Err(end) => return Err(end),
+    };
+    judge_drawing(alloc, &bytes)
+}
+
+// The station of a file, for a command that asks no judge.
+#[tactic(auto, using(crate::proofs::Drawings::drawn_given, crate::proofs::Drawings::drawn_fails))]
 pub(crate) fn load_station<F: Shelf>(
     alloc: Global,
     name: &str,
@@ -101,11 +145,14 @@ pub(crate) fn load_station<F: Shelf>(
     ensures err { IfErr result (Fails (F.held shelf.old) (F.faults shelf.old) (F.faults shelf.new) (File name.now) Drawing) }
     ensures onward { Onward (F.held shelf.old) (F.held shelf.new) (F.faults shelf.old) (F.faults shelf.new) }
 {
-    let bytes = match read_file(name, shelf) {
-        Ok(bytes) => bytes,
+    let station = match load_drawing(alloc, name, shelf) {
+        Ok(station) => station,
         Err(end) => return Err(end),
     };
-    judge_station(alloc, &bytes)
+    if let Err(end) = build_judge(alloc, &station) {
+        return Err(end);
+    }
+    Ok(station)
 }
 
 // The readings of a file.
@@ -174,6 +221,21 @@ pub(crate) fn named_switch(station: &Station, path: &str) -> Result<SwitchId, En
 {
     match station.find_switch(path) {
         Some(id) => Ok(id),
+        None => Err(End::Input(InputRefusal {
+            number: 11,
+            line: 0,
+        })),
+    }
+}
+
+// The bay of a path that the words name.
+pub(crate) fn named_bay(station: &Station, path: &str) -> Result<BayId, End>
+    ensures accepts { IfOk result (λ b. Accepts (BayOf station.now) path.now b.0) }
+    ensures bay { IfOk result (λ b. IsBay station.now b.0) }
+    ensures err { IfErr result (JudgeFails (BayOf station.now) path.now) }
+{
+    match station.find_bay(path) {
+        Some(bay) => Ok(bay),
         None => Err(End::Input(InputRefusal {
             number: 11,
             line: 0,

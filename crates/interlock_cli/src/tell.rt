@@ -110,6 +110,18 @@ fn tell_two<S: Sink>(
     write_pieces(sink, &[head, first, middle, second, b"\n".as_slice()])
 }
 
+// Writes a line of one number.
+fn tell_one<S: Sink>(sink: &mut S, head: &[u8], number: u32) -> Result<(), Failed>
+    ensures ok { OnOk result (Appends (S.took sink.old) (S.took sink.new) (head.now ++ decimal number ++ codes "\n")) }
+    ensures err { OnErr result (AppendsFront (S.took sink.old) (S.took sink.new) (head.now ++ decimal number ++ codes "\n")) }
+    ensures grows { S.faults sink.old ≤ S.faults sink.new }
+    ensures failed { OnErr result (Rose (S.faults sink.old) (S.faults sink.new)) }
+{
+    let mut digits = Buffer::new();
+    let number = digits.format(number).as_bytes();
+    write_pieces(sink, &[head, number, b"\n".as_slice()])
+}
+
 // Writes the line of an end; nothing where the text is written.
 pub(crate) fn tell<S: Sink>(sink: &mut S, end: &End) -> Result<(), Failed>
     ensures ok { OnOk result (Appends (S.took sink.old) (S.took sink.new) (line_of end.now)) }
@@ -122,8 +134,21 @@ pub(crate) fn tell<S: Sink>(sink: &mut S, end: &End) -> Result<(), Failed>
         End::Usage => write_all(sink, b"interlock: usage\n"),
         End::ReadFault => write_all(sink, b"interlock: read fault\n"),
         End::WriteFault => write_all(sink, b"interlock: write fault\n"),
+        End::Long => write_all(sink, b"interlock: input too long\n"),
         End::Memory => write_all(sink, b"interlock: out of memory\n"),
         End::Station(refusal) => tell_station(sink, refusal),
+        End::Many { part, step } => tell_two(
+            sink,
+            b"interlock: station refused 16 part ",
+            u32::from(part.0),
+            b" step ",
+            u32::from(*step),
+        ),
+        End::Wide { bay } => tell_one(
+            sink,
+            b"interlock: station refused 17 bay ",
+            u32::from(bay.0),
+        ),
         End::Input(refusal) => tell_two(
             sink,
             b"interlock: input refused ",

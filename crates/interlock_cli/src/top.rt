@@ -2,13 +2,14 @@
 ghost use Rattle.std.specs.Prelude.{◌≡◌, ◌↔◌, map, string_bytes, None, IfOk, IfErr};
 ghost use Rattle.interlock_cli.specs.Commands.{command_of, form_of};
 ghost use Rattle.interlock_cli.specs.Seen.{seen};
-ghost use Rattle.interlock_cli.specs.Form.{Gives, Stops};
-ghost use Rattle.interlock_cli.specs.Ends.{Answers, Ends, Wrote};
+ghost use Rattle.interlock_cli.specs.Form.{AsksInput, Gives, Stops};
+ghost use Rattle.interlock_cli.specs.Ends.{Answers, Asks, Ends, Wrote};
 ghost use Rattle.interlock_cli.specs.Complete.{Completes};
 
 use crate::check_command::check;
 use crate::end::{End, Output, make_status};
 use crate::explain_command::explain;
+use crate::node_command::node;
 use crate::order_command::order;
 use crate::state_command::state;
 use crate::status::Status;
@@ -17,8 +18,9 @@ use crate::words::{Command, make_command};
 use ilk_base::{Shelf, Sink, Source, write_all};
 use std::alloc::Global;
 
-// What a command has to write, or how it ends before it writes.
+// What a command that does not serve the input has to write, or how it ends before it writes.
 fn output_of<F: Shelf>(alloc: Global, command: &Command, shelf: &mut F) -> Result<Output, End>
+    requires { ¬ AsksInput (form_of (seen command.now)) }
     ensures ok { IfOk result (Gives (form_of (seen command.now)) (F.held shelf.old)) }
     ensures err { IfErr result (Stops (form_of (seen command.now)) (F.held shelf.old) (F.faults shelf.old) (F.faults shelf.new)) }
 {
@@ -36,6 +38,7 @@ fn output_of<F: Shelf>(alloc: Global, command: &Command, shelf: &mut F) -> Resul
             positions,
             order: steps,
         } => order(alloc, station, positions, steps, shelf),
+        Command::Node { .. } => unreachable!(),
     }
 }
 
@@ -50,23 +53,34 @@ fn write_output<O: Sink>(output: &Output, out: &mut O) -> End
 }
 
 // Does what the words say, and tells how it ended.
-fn call<F: Shelf, O: Sink>(alloc: Global, words: &[String], shelf: &mut F, out: &mut O) -> End
+fn call<F: Shelf, I: Source, O: Sink>(
+    alloc: Global,
+    words: &[String],
+    shelf: &mut F,
+    input: &mut I,
+    out: &mut O,
+) -> End
     ensures ends { Ends (command_of (map string_bytes words.now))
         record {
           held = F.held shelf.old;
           reads_before = F.faults shelf.old;
           reads_after = F.faults shelf.new;
-          writes_before = O.faults out.old;
-          writes_after = O.faults out.new;
-          out_old = O.took out.old;
-          out_new = O.took out.new;
+          before = record { input = I.left input.old; reads = I.faults input.old; out = O.took out.old; writes = O.faults out.old };
+          after = record { input = I.left input.new; reads = I.faults input.new; out = O.took out.new; writes = O.faults out.new };
         }
         result }
     ensures unread { command_of (map string_bytes words.now) ≡ None → shelf.new ≡ shelf.old }
+    ensures input { ¬ Asks (command_of (map string_bytes words.now)) → input.new ≡ input.old }
 {
     let Some(command) = make_command(words) else {
         return End::Usage;
     };
+    if let Command::Node { station, bay } = command {
+        return match node(alloc, station, bay, shelf, input, out) {
+            Ok(end) => end,
+            Err(end) => end,
+        };
+    }
     match output_of(alloc, &command, shelf) {
         Ok(output) => write_output(&output, out),
         Err(end) => end,
@@ -77,19 +91,21 @@ fn call<F: Shelf, O: Sink>(alloc: Global, words: &[String], shelf: &mut F, out: 
 ///
 /// The words are those of the command line, without the program's name. Where no word is empty or begins
 /// with `-`, and they are `check STATION POSITIONS`, `explain STATION POSITIONS open SWITCH` (or `close`),
-/// `state STATION POSITIONS` or `order STATION POSITIONS ORDER`, they name that command; all else is
-/// `Usage`. What a command is given is judged in the order of the words, but for a switch that they name,
-/// which comes last. Each file is judged before the next is
-/// read, and nothing is written before all is accepted. On every status but `Done` and `Differs` one line
-/// goes to `err`, made without memory.
+/// `state STATION POSITIONS`, `order STATION POSITIONS ORDER` or `node STATION BAY`, they name that command;
+/// all else is `Usage`. What a command is given is judged in the order of the words, but for a switch or bay
+/// that they name, which comes last. Each file is judged before the next is read, and nothing is written, nor
+/// asked of the input, before all is accepted. On every status but `Done` and `Differs` one line goes to
+/// `err`, made without memory.
 ///
 /// `answers` says for which end the status stands, that the end has its cause (a fault only where the
 /// count of what was asked rose, a refusal exactly where the content has that fault), that `out` took the
 /// text of the command, or after a fault of the write a front of it, and at every other end nothing, and
 /// that `err` took the end's line, or a front of it where its own count rose. Where a file is not told, it
-/// says the same of some content. `usage` and `unread` say that the call is `Usage` exactly where the words
+/// says the same of some content. Of `node` it says what `serve` of `node_session` does: which lines are
+/// answered, what `out` took of their texts, and how much of the input was taken. `usage` and `unread` say that the call is `Usage` exactly where the words
 /// name no command, and then reads no file. `complete` says that a call whose files are told and accepted,
-/// and in which no count rose, ends as its text says, or wants memory. No command reads the input (`input`).
+/// and in which no count rose, ends as its text says, or has served the whole input, or wants memory. No other
+/// command than `node` asks for the input (`input`).
 pub fn run<F: Shelf, I: Source, O: Sink, E: Sink>(
     alloc: Global,
     words: &[String],
@@ -103,10 +119,8 @@ pub fn run<F: Shelf, I: Source, O: Sink, E: Sink>(
           held = F.held shelf.old;
           reads_before = F.faults shelf.old;
           reads_after = F.faults shelf.new;
-          writes_before = O.faults out.old;
-          writes_after = O.faults out.new;
-          out_old = O.took out.old;
-          out_new = O.took out.new;
+          before = record { input = I.left input.old; reads = I.faults input.old; out = O.took out.old; writes = O.faults out.old };
+          after = record { input = I.left input.new; reads = I.faults input.new; out = O.took out.new; writes = O.faults out.new };
         }
         (E.took err.old) (E.took err.new) (E.faults err.old) (E.faults err.new) }
     ensures usage { (result ≡ Status.Usage) ↔ (command_of (map string_bytes words.now) ≡ None) }
@@ -116,15 +130,12 @@ pub fn run<F: Shelf, I: Source, O: Sink, E: Sink>(
           held = F.held shelf.old;
           reads_before = F.faults shelf.old;
           reads_after = F.faults shelf.new;
-          writes_before = O.faults out.old;
-          writes_after = O.faults out.new;
-          out_old = O.took out.old;
-          out_new = O.took out.new;
+          before = record { input = I.left input.old; reads = I.faults input.old; out = O.took out.old; writes = O.faults out.old };
+          after = record { input = I.left input.new; reads = I.faults input.new; out = O.took out.new; writes = O.faults out.new };
         } }
-    ensures input { input.new ≡ input.old }
+    ensures input { ¬ Asks (command_of (map string_bytes words.now)) → input.new ≡ input.old }
 {
-    let _ = input;
-    let end = call(alloc, words, shelf, out);
+    let end = call(alloc, words, shelf, input, out);
     let _ = tell(err, &end);
     make_status(&end)
 }

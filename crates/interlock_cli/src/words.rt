@@ -1,7 +1,7 @@
 // What the words name.
 ghost use Rattle.std.specs.Prelude.{◌≡◌, map, option_map, string_bytes};
 ghost use Rattle.std.specs.List.{list_all};
-ghost use Rattle.interlock_cli.specs.Commands.{check_of, command_of, direction_of, explain_of, is_plain, named, order_of, state_of};
+ghost use Rattle.interlock_cli.specs.Commands.{check_of, command_of, direction_of, explain_of, is_plain, named, node_of, order_of, state_of};
 ghost use Rattle.interlock_cli.specs.Seen.{seen};
 
 use ilk_base::Direction;
@@ -27,6 +27,10 @@ pub enum Command<'a> {
         station: &'a str,
         positions: &'a str,
         order: &'a str,
+    },
+    Node {
+        station: &'a str,
+        bay: &'a str,
     },
 }
 
@@ -119,6 +123,19 @@ fn order_words(rest: &[String]) -> Option<Command<'_>>
     })
 }
 
+// `node STATION BAY`.
+fn node_words(rest: &[String]) -> Option<Command<'_>>
+    ensures { node_of (map string_bytes rest.entry.now) ≡ option_map seen result }
+{
+    let [station, bay] = rest else {
+        return None;
+    };
+    Some(Command::Node {
+        station: station.as_str(),
+        bay: bay.as_str(),
+    })
+}
+
 // The command of words of which none is empty or begins with `-`.
 fn named(words: &[String]) -> Option<Command<'_>>
     ensures { named (map string_bytes words.entry.now) ≡ option_map seen result }
@@ -131,6 +148,7 @@ fn named(words: &[String]) -> Option<Command<'_>>
         "explain" => explain_words(rest),
         "state" => state_words(rest),
         "order" => order_words(rest),
+        "node" => node_words(rest),
         _ => None,
     }
 }

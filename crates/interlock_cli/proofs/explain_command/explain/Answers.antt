@@ -1,6 +1,7 @@
 use Rattle.std.proofs.Common.{inl, inr, refl, rules}
 use Rattle.interlock_cli.specs.Formats.{Positions, SwitchOf}
 use Rattle.interlock_cli.specs.Form.{File}
+use Rattle.interlock_cli.proofs.Drawings.{drawn_given}
 use Rattle.interlock_cli.proofs.Later.{given_later, word_fails}
 use Rattle.interlock_cli.proofs.explain_command.explain.Goals as goal
 
@@ -12,7 +13,7 @@ returns-in-Err-named_switch-clause-err g c =
     let third = c.in-Err-named_switch in
     inr (
       d,
-      first.ok,
+      drawn_given (g.F.Shelf.held c.args.shelf.now) (File c.args.station.now) d first.ok c.in-Ok-build_judge.ensures.ok,
       inr (
         second.readings,
         given_later first.onward (File c.args.positions.now) (Positions d) second.readings second.ensures.ok,
@@ -26,7 +27,7 @@ returns-in-Ok-explain_text-clause-ok g c =
     let first = c.in-Ok.ensures in
     let second = c.in-Ok-load_readings in (
       d,
-      first.ok,
+      drawn_given (g.F.Shelf.held c.args.shelf.now) (File c.args.station.now) d first.ok c.in-Ok-build_judge.ensures.ok,
       (
         second.readings,
         given_later first.onward (File c.args.positions.now) (Positions d) second.readings second.ensures.ok,

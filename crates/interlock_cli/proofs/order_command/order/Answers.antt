@@ -1,4 +1,4 @@
-use Rattle.std.proofs.Common.{inl, inr, refl, rules}
+use Rattle.std.proofs.Common.{inl, inr, rules}
 use Rattle.interlock_cli.specs.Formats.{CertainPositions, OrderOf}
 use Rattle.interlock_cli.specs.Form.{File}
 use Rattle.interlock_cli.proofs.Later.{onward_both, given_later, fails_later}

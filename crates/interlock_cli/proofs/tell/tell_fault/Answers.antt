@@ -1,7 +1,6 @@
-use Rattle.std.proofs.Common.{rules, ◌≡◌, ◌∙◌, ◌++◌, OnOk, OnErr, List, ℕ, [], subst}
+use Rattle.std.proofs.Common.{rules, OnOk, OnErr, List, ℕ, subst}
 use Rattle.std.specs.Io.KnownBytes.{Appends}
 use Rattle.ilk_base.specs.Outside.{AppendsFront}
-use Rattle.interlock_cli.specs.Lines.{fault_line}
 use Rattle.interlock_cli.proofs.Pieces.{line_is}
 use Rattle.interlock_cli.proofs.tell.tell_fault.Goals as goal
 

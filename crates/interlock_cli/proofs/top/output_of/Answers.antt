@@ -1,0 +1,17 @@
+use Rattle.station_graph.specs.Diagram.{empty}
+use Rattle.interlock_cli.proofs.top.output_of.Goals as goal
+
+pub unreachable-requires : goal.unreachable-requires
+unreachable-requires g c = c.requires (rw c.in-Node.is (empty, (0, tt)))
+
+pub returns-in-Check-clause-err : goal.returns-in-Check-clause-err
+returns-in-Check-clause-err g c = rw c.in-Check.is c.check.ensures.err
+
+pub returns-in-Explain-clause-err : goal.returns-in-Explain-clause-err
+returns-in-Explain-clause-err g c = rw c.in-Explain.is c.explain.ensures.err
+
+pub returns-in-State-clause-err : goal.returns-in-State-clause-err
+returns-in-State-clause-err g c = rw c.in-State.is c.state.ensures.err
+
+pub returns-in-Order-clause-err : goal.returns-in-Order-clause-err
+returns-in-Order-clause-err g c = rw c.in-Order.is c.order.ensures.err

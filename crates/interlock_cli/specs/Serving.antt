@@ -1,0 +1,28 @@
+-- How a call ends that serves the input line by line.
+use Rattle.std.specs.Prelude.{◌≡◌, ℕ}
+use Rattle.station_graph.specs.Diagram.{Diagram}
+use Rattle.bay_contract.specs.Alphabets.{AreAlphabets}
+use Rattle.release_compile.specs.Judging.{Judging}
+use Rattle.release_compile.specs.Summaries.{judges}
+use Rattle.node_session.specs.SessionEnds.{Streams, SessionEnds}
+use Rattle.node_session.specs.declared.end.SessionEnd.{SessionEnd}
+use Rattle.node_session.specs.declared.end.SessionEnd.TheVariants as s
+use Rattle.interlock_cli.specs.declared.end.Outcome.TheVariants.{Done}
+use Rattle.interlock_cli.specs.declared.end.End.{End}
+use Rattle.interlock_cli.specs.declared.end.End.TheVariants as e
+
+-- the end of a call whose session ends so; a line that is refused is 10
+abbrev pub end_of : SessionEnd → End
+end_of s.Done = e.Written Done
+end_of (s.Refused line) = e.Input (record { number = 10; line = line })
+end_of s.Long = e.Long
+end_of s.ReadFault = e.ReadFault
+end_of s.WriteFault = e.WriteFault
+end_of s.Memory = e.Memory
+
+-- the session of the bay ends so, for the judge by the graphs over the station's alphabets
+pub record ServesBay (d : Diagram) (b : ℕ) (before after : Streams) (end : SessionEnd) : Type 0 where
+  pub judging : Judging
+  pub of_station : judging.diagram ≡ d
+  pub alphabets : AreAlphabets judging.diagram judging.alphabets
+  pub ends : SessionEnds (judges judging) d b before after end
