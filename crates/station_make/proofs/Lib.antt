@@ -1,3 +1,4 @@
 pub mod Pushes
 pub mod Numbers
 pub mod RecordLemmas
+pub mod WordLemmas

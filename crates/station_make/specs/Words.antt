@@ -1,5 +1,6 @@
 -- The words that name a number of feeders, and a text of the station.
-use Rattle.std.specs.Prelude.{◌≡◌, ◌≤◌, ℕ, List, Option, Some, None, codes, decimal, if◌then◌else◌}
+use Rattle.std.specs.Prelude.{◌≡◌, ◌≤◌, ◌+◌, ◌-◌, ℕ, List, find, Option, Some, None, codes, decimal, if◌then◌else◌}
+use Rattle.std.specs.List.{range_with_len}
 use Rattle.std.specs.Str.{bytes_eq}
 use Rattle.station_make.specs.declared.making.TheConstants.{LEAST_FEEDERS, MOST_FEEDERS}
 use Rattle.station_make.specs.declared.words.MadeText.{MadeText}
@@ -13,6 +14,10 @@ pub record NamesFeeders (word : List ℕ) (number : ℕ) : Type 0 where
   pub least : LEAST_FEEDERS ≤ number
   pub most : number ≤ MOST_FEEDERS
   pub written : word ≡ decimal number
+
+-- the number that a word names so, if it does
+unfoldable pub feeders_of : List ℕ → Option ℕ
+feeders_of word = find (λ n. bytes_eq (decimal n) word) (range_with_len LEAST_FEEDERS (MOST_FEEDERS + 1 - LEAST_FEEDERS))
 
 -- the text that a word names
 abbrev pub text_named : List ℕ → Option MadeText

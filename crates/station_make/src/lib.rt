@@ -4,12 +4,14 @@
 
 mod drawing;
 mod equipment;
+mod feeders;
 mod laws;
 mod making;
 mod names;
 mod records;
 mod words;
 
+pub use feeders::Feeders;
 pub use laws::made_counts;
 pub use making::{LEAST_FEEDERS, MOST_FEEDERS, Made, make};
 pub use words::{MadeText, feeders_named, make_text, text_named};

@@ -30,10 +30,11 @@ fn positions_of_two_feeders(rt: HostRuntime) -> Result<(), Fail> {
 
 #[test]
 fn texts_alone(rt: HostRuntime) -> Result<(), Fail> {
+    let three = feeders_named("3").ok_or("a number")?;
     let made = make(rt.alloc(), 3)?;
-    let station = make_text(rt.alloc(), MadeText::Station, 3)?;
+    let station = make_text(rt.alloc(), MadeText::Station, three)?;
     assert!(rt; station == made.station);
-    let log = make_text(rt.alloc(), MadeText::Log, 3)?;
+    let log = make_text(rt.alloc(), MadeText::Log, three)?;
     assert!(rt; log == made.events);
     Ok(())
 }
@@ -53,7 +54,7 @@ fn numbers(rt: HostRuntime) {
         ("", None),
         ("two", None),
     ] {
-        assert_eq!(rt; feeders_named(word), number, "{word}");
+        assert_eq!(rt; feeders_named(word).map(|f| f.number), number, "{word}");
     }
 }
 

@@ -1,7 +1,8 @@
 //! What words name: a number of feeders, and a text.
-ghost use Rattle.std.specs.Prelude.{◌≡◌, ◌≤◌, ℕ, IfOk, IfSome, IfNone};
-ghost use Rattle.station_make.specs.Words.{NamesFeeders, made_text, text_named};
+ghost use Rattle.std.specs.Prelude.{◌≡◌, ℕ, option_map, IfOk, IfSome, IfNone};
+ghost use Rattle.station_make.specs.Words.{NamesFeeders, feeders_of, made_text, text_named};
 
+use crate::feeders::Feeders;
 use crate::making::{LEAST_FEEDERS, MOST_FEEDERS, Made, make};
 use ilk_base::{Memory, Text};
 use itoa::Buffer;
@@ -15,9 +16,8 @@ pub enum MadeText {
     Log,
 }
 
-/// The number of feeders that a word names: decimal, without sign or leading zeros, from `LEAST_FEEDERS`
-/// to `MOST_FEEDERS`; none where it is no such word. Time: the word. Takes no memory.
-pub fn feeders_named(word: &str) -> Option<u8>
+// The number of feeders that a word names, if it names one.
+fn number_of(word: &str) -> Option<u8>
     ensures some { IfSome result (NamesFeeders word.now) }
     ensures none { IfNone result ((n : ℕ) → ¬ NamesFeeders word.now n) }
 {
@@ -29,6 +29,19 @@ pub fn feeders_named(word: &str) -> Option<u8>
         return None;
     }
     Some(number)
+}
+
+/// The number of feeders that a word names: decimal, without sign or leading zeros, from `LEAST_FEEDERS`
+/// to `MOST_FEEDERS`; none where it is no such word. Time: the word. Takes no memory.
+pub fn feeders_named(word: &str) -> Option<Feeders>
+    ensures some { IfSome result (λ f. NamesFeeders word.now f.number) }
+    ensures none { IfNone result ((n : ℕ) → ¬ NamesFeeders word.now n) }
+    ensures value { option_map (λ f. f.number) result ≡ feeders_of word.now }
+{
+    match number_of(word) {
+        Some(number) => Some(Feeders { number }),
+        None => None,
+    }
 }
 
 /// The text that a word names: `station`, `positions` or `log`; none where it is another. At once.
@@ -44,16 +57,14 @@ pub fn text_named(word: &str) -> Option<MadeText>
 }
 
 /// Makes this text of the station with so many feeders. Time and memory: those of `make`.
-pub fn make_text(alloc: Global, text: MadeText, number: u8) -> Result<Text, Memory>
-    requires least { LEAST_FEEDERS ≤ number }
-    requires most { number ≤ MOST_FEEDERS }
-    ensures { IfOk result (λ t. t ≡ made_text text number) }
+pub fn make_text(alloc: Global, text: MadeText, feeders: Feeders) -> Result<Text, Memory>
+    ensures { IfOk result (λ t. t ≡ made_text text feeders.number) }
 {
     let Made {
         station,
         positions,
         events,
-    } = make(alloc, number)?;
+    } = make(alloc, feeders.number)?;
     Ok(match text {
         MadeText::Station => station,
         MadeText::Positions => positions,
