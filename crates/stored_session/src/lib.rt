@@ -1,0 +1,10 @@
+//! A session of a node whose record is kept on a device: each line is one step of the node, a changed record is put,
+//! and then the line's text is written.
+#![tactic(auto)]
+
+mod line;
+mod opening;
+mod putting;
+
+pub use line::{LineEnd, take_line};
+pub use opening::{BayTrouble, open_for_bay};
