@@ -1,0 +1,5 @@
+pub mod Records
+pub mod RecordFaults
+pub mod Log
+pub mod Following
+pub mod Replay

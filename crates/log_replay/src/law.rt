@@ -1,0 +1,29 @@
+//! What follows for every log. These calls do nothing and cost nothing: a caller cites their contracts.
+ghost use Rattle.std.specs.Prelude.{Bool, List};
+ghost use Rattle.reservation_core.specs.Scene.{Scene};
+ghost use Rattle.reservation_core.specs.Happens.{Happens, InRange};
+ghost use Rattle.reservation_core.specs.declared.values.WorldEvent.{WorldEvent as Event};
+ghost use Rattle.reservation_core.specs.declared.values.WorldOutcome.{WorldOutcome as Outcome};
+ghost use Rattle.reservation_core.specs.Lines.{Line};
+ghost use Rattle.reservation_core.specs.Runs.{Run, PremiseExact};
+ghost use Rattle.reservation_core.specs.Headline.{Headline};
+
+use central_rules::Judge;
+
+/// The lines of every run meet the headline, whatever is lost, repeated, reordered or restarted: every
+/// decision is exact, every movement obeys the rules on the true positions throughout, a sound start stays
+/// sound, and two rounds at once hear nothing of each other.
+pub fn headline_holds<J: Judge>(judge: &J)
+    ensures { (start : List Bool) (lines : List Line) (w : Scene) → let m = J.meaning judge.now in
+        Run m start lines w → Headline m.diagram start lines }
+{
+    judge.diagram_is_station();
+}
+
+/// After a run, an event breaks a premise exactly where the lines say so.
+pub fn premises_are_exact<J: Judge>(judge: &J)
+    ensures { (start : List Bool) (before : List Line) (old new : Scene) (event : Event) (outcome : Outcome) → let m = J.meaning judge.now in
+        Run m start before old → InRange m.diagram event → Happens m old event new outcome → PremiseExact m.diagram start before event outcome }
+{
+    judge.diagram_is_station();
+}

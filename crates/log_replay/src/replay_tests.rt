@@ -1,0 +1,231 @@
+// Replays of logs of two feeders; the expected reports are those of the worked rows.
+use crate::{read_log, replay};
+use central_rules::{PlainJudge, fits_plain};
+use ilk_base::{BayId, Kind, NodeId, Text};
+use reservation_core::Which;
+use station_graph::{Builder, Station, Switch, Tap};
+use std::alloc::Global;
+use std::process::Abort;
+use std::test::Fail;
+
+// A feeder is from the busbar on the busbar disconnector, the breaker, the line disconnector, the earthing
+// switch and the infeed, at three nodes in a row.
+fn add_feeder(
+    rt: &impl Abort,
+    alloc: Global,
+    builder: &mut Builder,
+    bay: BayId,
+    nodes: [NodeId; 3],
+) -> Result<(), Fail> {
+    let [first, second, third] = nodes;
+    for (name, kind, from, to) in [
+        ("QB1", Kind::Disconnector, NodeId(0), Some(first)),
+        ("QA1", Kind::Breaker, first, Some(second)),
+        ("QB9", Kind::Disconnector, second, Some(third)),
+        ("QC9", Kind::Earthing, third, None),
+        ("E1", Kind::Infeed, third, None),
+    ] {
+        let item = Switch {
+            kind,
+            first: from,
+            second: to,
+            bay,
+        };
+        assert!(rt; builder.accepts_switch(alloc, name, item)?);
+        builder.switch(name, item)?;
+    }
+    let tap = Tap {
+        node: third,
+        part: bay,
+    };
+    assert!(rt; builder.accepts_tap(tap));
+    builder.tap(tap)?;
+    Ok(())
+}
+
+// A busbar and two feeders.
+fn two_feeders(rt: &impl Abort, alloc: Global) -> Result<Station, Fail> {
+    let mut builder = Builder::new(alloc);
+    for path in ["S/V1/W1", "S/V1/Q1", "S/V1/Q2"] {
+        assert!(rt; builder.accepts_part(path));
+        builder.part(path)?;
+    }
+    for path in ["W1/B", "Q1/n1", "Q1/n2", "Q1/n3", "Q2/n1", "Q2/n2", "Q2/n3"] {
+        assert!(rt; builder.accepts_node(path));
+        builder.node(path)?;
+    }
+    add_feeder(
+        rt,
+        alloc,
+        &mut builder,
+        BayId(1),
+        [NodeId(1), NodeId(2), NodeId(3)],
+    )?;
+    add_feeder(
+        rt,
+        alloc,
+        &mut builder,
+        BayId(2),
+        [NodeId(4), NodeId(5), NodeId(6)],
+    )?;
+    assert!(rt; builder.is_complete());
+    Ok(builder.finish())
+}
+
+// Where the switches stand at first, and the words that are read of them.
+const STANDS: &[u8] =
+    b"at,S/V1/Q1/QB1,off\nat,S/V1/Q1/QA1,off\nat,S/V1/Q1/QB9,on\nat,S/V1/Q1/QC9,off\nat,S/V1/Q1/E1,off\nat,S/V1/Q2/QB1,on\nat,S/V1/Q2/QA1,on\nat,S/V1/Q2/QB9,on\nat,S/V1/Q2/QC9,off\nat,S/V1/Q2/E1,on\n";
+
+const READ: &[u8] =
+    b"sense,S/V1/Q1/QB1,off\nsense,S/V1/Q1/QA1,off\nsense,S/V1/Q1/QB9,on\nsense,S/V1/Q1/QC9,off\nsense,S/V1/Q1/E1,off\nsense,S/V1/Q2/QB1,on\nsense,S/V1/Q2/QA1,on\nsense,S/V1/Q2/QB9,on\nsense,S/V1/Q2/QC9,off\nsense,S/V1/Q2/E1,on\n";
+
+// What follows, and what a report says after the lines of the bays.
+struct Row {
+    stands: bool,
+    read: bool,
+    rest: &'static [u8],
+    report: &'static [u8],
+    premise: Option<(u32, Which)>,
+    outcomes: (u32, u32, u32),
+}
+
+const ROWS: &[Row] = &[
+    // one whole operation
+    Row {
+        stands: true,
+        read: true,
+        rest: b"command,S/V1/Q1/QB1,close\ndeliver,1\ndeliver,2\nbegin,S/V1/Q1/QB1\nend,S/V1/Q1/QB1\nsense,S/V1/Q1/QB1,on\ndeliver,3\n",
+        report: b"21 1 collecting 1\n21 1 send 1 reserve 2 1\n22 2 send 2 answer 1 1\n23 1 granted 1 close S/V1/Q1/QB1\n26 1 finished 1\n26 1 send 3 over 2 1\ndone 27\n",
+        premise: None,
+        outcomes: (1, 0, 1),
+    },
+    // two rounds at once
+    Row {
+        stands: true,
+        read: true,
+        rest: b"command,S/V1/Q1/QB1,close\ncommand,S/V1/Q2/QB1,open\ndeliver,1\ndeliver,2\ndeliver,3\ndeliver,4\ndeliver,5\n",
+        report: b"21 1 collecting 1\n21 1 send 1 reserve 2 1\n22 2 collecting 1\n22 2 send 2 reserve 1 1\n23 2 send 3 busy 1 1\n24 1 send 4 busy 2 1\n25 1 busy 1 from 2 holder 2 round 1\n25 1 send 5 over 2 1\n26 2 busy 1 from 1 holder 1 round 1\n26 2 send 6 over 1 1\ndone 27\n",
+        premise: None,
+        outcomes: (0, 0, 0),
+    },
+    // restarts, repeats and a query
+    Row {
+        stands: true,
+        read: true,
+        rest: b"command,S/V1/Q1/QB1,close\ndeliver,1\ndeliver,2\nrestart,S/V1/Q1\ncommand,S/V1/Q1/QA1,close\nrestart,S/V1/Q2\ncommand,S/V1/Q2/QA1,open\nbegin,S/V1/Q1/QB1\nend,S/V1/Q1/QB1\nsense,S/V1/Q1/QB1,on\ndeliver,3\ndeliver,1\ndeliver,2\ntick,S/V1/Q2\ndeliver,5\ndeliver,6\ncommand,S/V1/Q2/QA1,open\n",
+        report: b"21 1 collecting 1\n21 1 send 1 reserve 2 1\n22 2 send 2 answer 1 1\n23 1 granted 1 close S/V1/Q1/QB1\n25 1 underway 1\n27 2 held 1 round 1\n30 1 finished 1\n30 1 send 3 over 2 1\n32 2 send 4 answer 1 1\n34 2 send 5 query 1 1\n35 1 send 6 over 2 1\n37 2 collecting 1\n37 2 send 7 reserve 1 1\ndone 37\n",
+        premise: None,
+        outcomes: (1, 0, 1),
+    },
+    // a drive that stops
+    Row {
+        stands: true,
+        read: true,
+        rest: b"command,S/V1/Q1/QB1,close\ndeliver,1\ndeliver,2\nbegin,S/V1/Q1/QB1\ncut,S/V1/Q1/QB1\ncommand,S/V1/Q1/QB1,open\ndeliver,3\ndeliver,4\ndeliver,5\nbegin,S/V1/Q1/QB1\nend,S/V1/Q1/QB1\nsense,S/V1/Q1/QB1,off\ndeliver,6\n",
+        report: b"21 1 collecting 1\n21 1 send 1 reserve 2 1\n22 2 send 2 answer 1 1\n23 1 granted 1 close S/V1/Q1/QB1\n25 1 stopped 1\n25 1 send 3 over 2 1\n26 1 collecting 2\n26 1 send 4 reserve 2 2\n28 2 send 5 answer 1 2\n29 1 granted 2 open S/V1/Q1/QB1\n32 1 finished 2\n32 1 send 6 over 2 2\ndone 33\n",
+        premise: None,
+        outcomes: (2, 0, 1),
+    },
+    // repeats after the end
+    Row {
+        stands: true,
+        read: true,
+        rest: b"command,S/V1/Q1/QB1,close\ndeliver,1\ndeliver,2\nbegin,S/V1/Q1/QB1\nend,S/V1/Q1/QB1\nsense,S/V1/Q1/QB1,on\ndeliver,3\ndeliver,1\ndeliver,2\ndeliver,3\n",
+        report: b"21 1 collecting 1\n21 1 send 1 reserve 2 1\n22 2 send 2 answer 1 1\n23 1 granted 1 close S/V1/Q1/QB1\n26 1 finished 1\n26 1 send 3 over 2 1\n28 2 send 4 answer 1 1\ndone 30\n",
+        premise: None,
+        outcomes: (1, 0, 1),
+    },
+    // nothing happens, and premises that are broken
+    Row {
+        stands: true,
+        read: false,
+        rest: b"",
+        report: b"done 10\n",
+        premise: None,
+        outcomes: (0, 0, 0),
+    },
+    Row {
+        stands: false,
+        read: false,
+        rest: b"",
+        report: b"",
+        premise: Some((1, Which::Start)),
+        outcomes: (0, 0, 0),
+    },
+    Row {
+        stands: true,
+        read: false,
+        rest: b"begin,S/V1/Q1/QB1\n",
+        report: b"",
+        premise: Some((11, Which::Begun)),
+        outcomes: (0, 0, 0),
+    },
+    Row {
+        stands: true,
+        read: false,
+        rest: b"sense,S/V1/Q1/QB1,on\n",
+        report: b"",
+        premise: Some((11, Which::Sensed)),
+        outcomes: (0, 0, 0),
+    },
+    Row {
+        stands: true,
+        read: false,
+        rest: b"deliver,1\ndeliver,2\n",
+        report: b"",
+        premise: Some((11, Which::Unsent)),
+        outcomes: (0, 0, 0),
+    },
+    Row {
+        stands: true,
+        read: true,
+        rest: b"command,S/V1/Q1/QB1,close\ndeliver,1\ndeliver,2\nbegin,S/V1/Q1/QB1\nwithdraw,S/V1/Q1\n",
+        report: b"21 1 collecting 1\n21 1 send 1 reserve 2 1\n22 2 send 2 answer 1 1\n23 1 granted 1 close S/V1/Q1/QB1\n",
+        premise: Some((25, Which::Withdrawn)),
+        outcomes: (1, 0, 0),
+    },
+    Row {
+        stands: true,
+        read: false,
+        rest: b"cut,S/V1/Q1/QB1\n",
+        report: b"",
+        premise: Some((11, Which::Cut)),
+        outcomes: (0, 0, 0),
+    },
+];
+
+fn expect_report(rt: &impl Abort, alloc: Global, station: &Station, row: &Row) -> Result<(), Fail> {
+    let mut bytes = Text::new(alloc);
+    if row.stands {
+        bytes.push(STANDS)?;
+    }
+    if row.read {
+        bytes.push(READ)?;
+    }
+    bytes.push(row.rest)?;
+    let Ok(log) = read_log(alloc, station, bytes.bytes()) else {
+        assert!(rt; false, "the log is refused");
+        return Ok(());
+    };
+    assert!(rt; fits_plain(station));
+    let judge = PlainJudge::new(station);
+    let report = replay(alloc, station, &log, &judge)?;
+    let mut want = Text::new(alloc);
+    want.push(b"bay 1 S/V1/Q1\nbay 2 S/V1/Q2\n")?;
+    want.push(row.report)?;
+    let text = report.text(alloc, station)?;
+    assert_eq!(rt; text.bytes(), want.bytes());
+    assert_eq!(rt; report.premise(), row.premise);
+    assert_eq!(rt; report.outcomes(), row.outcomes);
+    assert_eq!(rt; report.count(), log.count());
+    Ok(())
+}
+
+#[test]
+fn replays_rows(rt: HostRuntime) -> Result<(), Fail> {
+    let station = two_feeders(&rt, rt.alloc())?;
+    for row in ROWS {
+        expect_report(&rt, rt.alloc(), &station, row)?;
+    }
+    Ok(())
+}
