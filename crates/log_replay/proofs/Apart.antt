@@ -14,8 +14,7 @@ use Rattle.bay_protocol.specs.declared.values.Collection.{Collection}
 use Rattle.bay_protocol.specs.declared.values.Outcome.{Outcome}
 use Rattle.bay_protocol.specs.declared.values.Outcome.TheVariants.{Collecting}
 use Rattle.bay_protocol.specs.State.{is_another, under_way, under_way_of}
-use Rattle.reservation_core.specs.Scene.{Scene, node, moves, stops}
-use Rattle.reservation_core.specs.Happens.{Happens, InRange, NodeSteps}
+use Rattle.reservation_core.specs.Scene.{Scene, node}
 use Rattle.reservation_core.specs.declared.values.WorldEvent.{WorldEvent}
 use Rattle.reservation_core.specs.declared.values.WorldEvent.TheVariants.{Command, Sense, Deliver, Tick, Withdraw, Restart, Begin, End, Part, Cut}
 use Rattle.reservation_core.specs.declared.values.WorldOutcome.{WorldOutcome}

@@ -1,9 +1,7 @@
 -- A line decides by the lines exactly where it shows a verdict.
-use Rattle.std.proofs.Common.{◌≡◌, ◌≢◌, ◌+◌, ◌-◌, ◌<◌, ℕ, zero, suc, Bool, true, false, cond, List, [], ◌∷◌, length, get_or, replicate, Option, Some, None, refl, sym, subst, ap, ◌∙◌, inl, inr, length-set}
+use Rattle.std.proofs.Common.{◌≡◌, ◌≢◌, ◌+◌, ◌<◌, ℕ, true, false, cond, List, [], ◌∷◌, length, get_or, replicate, Option, Some, None, refl, sym, subst, ap, ◌∙◌, inl, inr, length-set}
 use Rattle.std.specs.Prelude.{⊤}
-use Rattle.std.proofs.lemmas.Bool.{cases_Bool}
 use Rattle.std.proofs.lemmas.List.{length-replicate}
-use Rattle.ilk_base.specs.declared.words.BayId.{BayId}
 use Rattle.ilk_base.specs.declared.words.SwitchId.{SwitchId}
 use Rattle.ilk_base.specs.declared.words.Dbpos.{Dbpos}
 use Rattle.ilk_base.specs.declared.words.Op.{Op}
@@ -20,7 +18,7 @@ use Rattle.bay_protocol.specs.State.{State, IsOther, AllHeard, is_another, other
 use Rattle.bay_protocol.specs.Step.{Turn, Ends, OpenStep, CommandStep, ReserveStep, AnswerStep, BusyStep, QueryStep, OverStep, FrameStep, TickStep, SenseStep, WithdrawStep, CutStep}
 use Rattle.bay_protocol.proofs.Others.{another_yes, another_no}
 use Rattle.reservation_core.specs.declared.values.WorldEvent.{WorldEvent}
-use Rattle.reservation_core.specs.declared.values.WorldEvent.TheVariants.{Command, Sense, Deliver, Tick, Withdraw, Restart, Begin, End, Part, Cut}
+use Rattle.reservation_core.specs.declared.values.WorldEvent.TheVariants.{Command, Sense, Deliver, Tick, Withdraw, Restart, Cut}
 use Rattle.reservation_core.proofs.Truths.{switch_of}
 use Rattle.reservation_core.specs.Lines.{MessageKind, Line, Shown, of_bay, message, kind_of, shown}
 use Rattle.reservation_core.specs.History.{or_else, Opened, collecting, last_round, sending}

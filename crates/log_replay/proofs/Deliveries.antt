@@ -1,9 +1,7 @@
 -- A turn of a node is what the lines say after it: a delivery.
-use Rattle.std.proofs.Common.{◌≡◌, ◌≢◌, ◌<◌, ◌==◌, ℕ, Bool, true, false, cond, List, [], ◌∷◌, length, get_or, set, Option, Some, None, Contains, refl, sym, subst, ap, ◌∙◌, inl, inr, arith, get_or-set_same, get_or-set_other}
+use Rattle.std.proofs.Common.{◌≡◌, ◌≢◌, ◌<◌, ℕ, true, false, cond, List, [], length, get_or, set, Option, Some, None, Contains, refl, sym, subst, ap, ◌∙◌, inl, inr, arith, get_or-set_same, get_or-set_other}
 use Rattle.std.proofs.lemmas.Bool.Decides.{eqb_tells}
 use Rattle.ilk_base.specs.declared.words.BayId.{BayId}
-use Rattle.ilk_base.specs.declared.words.Dbpos.{Dbpos}
-use Rattle.station_graph.specs.Diagram.{Diagram, part_count}
 use Rattle.central_rules.specs.Meaning.{Meaning, Summarises, IsBay}
 use Rattle.bay_frames.specs.declared.frame.Frame.{Frame}
 use Rattle.bay_frames.specs.declared.frame.Body.TheVariants.{Reserve, Answer, Busy, Query, Over}
@@ -11,7 +9,7 @@ use Rattle.bay_protocol.specs.declared.values.Collection.{Collection}
 use Rattle.bay_protocol.specs.declared.values.Outcome.TheVariants.{BusyBy, Quiet}
 use Rattle.bay_protocol.specs.Sends.{frame, overs}
 use Rattle.bay_protocol.specs.State.{State, IsOther, AllHeard, is_another, others, collects, drops, locks, unlocks, hears}
-use Rattle.bay_protocol.specs.Step.{Turn, Ends, Answering, ReserveStep, AnswerStep, BusyStep, QueryStep, OverStep, FrameStep}
+use Rattle.bay_protocol.specs.Step.{Turn, Ends, ReserveStep, AnswerStep, BusyStep, QueryStep, OverStep, FrameStep}
 use Rattle.bay_protocol.proofs.Others.{another_yes, another_no}
 use Rattle.reservation_core.specs.Lines.{MessageKind, Line, message, kind_of}
 use Rattle.reservation_core.specs.History.{or_else, sending, last_round}

@@ -1,13 +1,11 @@
 -- The scene after the lines of a run is what the lines say.
-use Rattle.std.proofs.Common.{◌⊎◌, ◌≡◌, ◌≢◌, ◌+◌, ◌-◌, ◌<◌, ◌≤◌, ◌==◌, ℕ, zero, suc, Bool, false, cond, List, [], ◌∷◌, ◌++◌, length, get_or, set, Option, Some, None, Contains, refl, sym, subst, ap, ◌∙◌, inl, inr, arith, get_or-set_same, get_or-set_other}
+use Rattle.std.proofs.Common.{◌⊎◌, ◌≡◌, ◌≢◌, ◌+◌, ◌-◌, ◌<◌, ◌≤◌, ◌==◌, ℕ, zero, suc, Bool, cond, List, [], ◌∷◌, ◌++◌, length, get_or, set, Option, Some, None, Contains, refl, sym, subst, ap, ◌∙◌, inl, inr, arith, get_or-set_same, get_or-set_other}
 use Rattle.std.specs.Prelude.{slice_get, unwrap_or}
 use Rattle.std.proofs.lemmas.Bool.Decides.{eqb_tells}
 use Rattle.std.proofs.lemmas.Option.{slice_get-get_or}
 use Rattle.ilk_base.specs.declared.words.Dbpos.{Dbpos}
 use Rattle.ilk_base.specs.declared.words.Dbpos.TheVariants.{Lost}
 use Rattle.double_points.specs.Words.{Agrees, BayAgrees}
-use Rattle.station_graph.specs.Diagram.{Diagram}
-use Rattle.station_graph.specs.Alike.{IsVector}
 use Rattle.central_rules.specs.Knowledge.{StandsAlike}
 use Rattle.central_rules.specs.Meaning.{Meaning, Summarises, IsBay, bay_of}
 use Rattle.bay_frames.specs.declared.frame.Frame.{Frame}

@@ -1,13 +1,12 @@
 -- Granted operations obey the rules on the true positions of the lines, and a sound start stays sound.
 use Rattle.std.proofs.Common.{◌≡◌, ◌<◌, ℕ, Bool, List, [], ◌∷◌, length, Some, sym, subst, ap, ◌∙◌, arith, None}
-use Rattle.std.specs.Prelude.{slice_get}
 use Rattle.std.proofs.lemmas.Option.{slice_get_within}
 use Rattle.station_graph.specs.Diagram.{IsStation}
 use Rattle.station_graph.specs.Alike.{IsVector}
 use Rattle.station_graph.specs.CentralRules.{Breaks}
 use Rattle.central_rules.specs.Meaning.{Meaning, Laws}
 use Rattle.bay_protocol.specs.declared.values.Grant.{Grant}
-use Rattle.reservation_core.specs.Scene.{Scene, true_at, Stands, Resolves}
+use Rattle.reservation_core.specs.Scene.{Scene, Stands, Resolves}
 use Rattle.reservation_core.specs.Facts.{IsSoundTruth}
 use Rattle.reservation_core.specs.Happens.{DeliverHappens}
 use Rattle.reservation_core.specs.declared.values.Position.{Position}

@@ -4,7 +4,7 @@ use Rattle.ilk_base.specs.declared.words.BayId.{BayId}
 use Rattle.ilk_base.specs.declared.words.SwitchId.{SwitchId}
 use Rattle.ilk_base.specs.declared.words.Dbpos.{Dbpos}
 use Rattle.station_graph.specs.Diagram.{Diagram, IsStation}
-use Rattle.central_rules.specs.Meaning.{Meaning, Laws, IsBay, bay_of}
+use Rattle.central_rules.specs.Meaning.{Meaning, Laws, bay_of}
 use Rattle.bay_frames.specs.declared.frame.Frame.{Frame}
 use Rattle.bay_protocol.specs.declared.values.Grant.{Grant}
 use Rattle.bay_protocol.specs.declared.values.NodeEvent.{NodeEvent}
@@ -12,7 +12,6 @@ use Rattle.bay_protocol.specs.State.{State}
 use Rattle.bay_protocol.specs.Step.{Turn}
 use Rattle.reservation_core.specs.Scene.{Scene, node, stops, IsTrueWord, end_position}
 use Rattle.reservation_core.specs.RoundFacts.{RoundFacts}
-use Rattle.reservation_core.specs.Facts.{Facts}
 use Rattle.reservation_core.specs.Happens.{Happens, InRange, NodeSteps, Tells, IsMessage, no_turn, SenseHappens, DeliverHappens, PartHappens, WithdrawHappens, BeginHappens, EndHappens, CutHappens}
 use Rattle.reservation_core.specs.declared.values.Position.{Position}
 use Rattle.reservation_core.specs.declared.values.Which.{Which}

@@ -1,5 +1,5 @@
 -- A record that tells a second time where a switch stands at first, and the fault of a record.
-use Rattle.std.proofs.Common.{◌≡◌, ◌<◌, ℕ, zero, suc, Bool, true, false, List, [], ◌∷◌, length, get_or, Ok, Err, Result, Contains, refl, sym, ap, ◌∙◌, subst, arith}
+use Rattle.std.proofs.Common.{◌≡◌, ◌<◌, ℕ, zero, suc, true, List, [], ◌∷◌, length, get_or, Ok, Err, Result, Contains, refl, sym, ap, subst, arith}
 use Rattle.std.specs.Prelude.{IfErr}
 use Rattle.station_graph.specs.Diagram.{Diagram, IsStation, switch_path}
 use Rattle.reservation_core.specs.declared.values.LogEvent.{LogEvent}
@@ -7,8 +7,8 @@ use Rattle.reservation_core.specs.declared.values.LogEvent.TheVariants.{At as Te
 use Rattle.log_replay.specs.declared.kinds.RecordKind.{RecordKind}
 use Rattle.log_replay.specs.declared.kinds.RecordKind.TheVariants.{At, Command, Sense, Begin, End, Deliver, Tick, Withdraw, Restart, Part, Cut}
 use Rattle.log_replay.specs.declared.log.TheConstants.{MOST_RECORDS}
-use Rattle.log_replay.specs.Records.{Says, event_row, is_again, tell_of}
-use Rattle.log_replay.specs.RecordFaults.{kind_name, row_of, IsOfKind, HasForm, IsLate, IsKnown, IsWord, IsAgain, KindFault, RecordFault}
+use Rattle.log_replay.specs.Records.{Says, event_row, is_again}
+use Rattle.log_replay.specs.RecordFaults.{kind_name, row_of, IsOfKind, IsKnown, IsWord, IsAgain, KindFault, RecordFault}
 
 -- what is told again is told by a record `at`
 pub again_is_at : (k : RecordKind) → kind_name k ≡ kind_name At → k ≡ At

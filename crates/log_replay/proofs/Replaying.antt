@@ -1,5 +1,5 @@
 -- What a replay keeps at each line.
-use Rattle.std.proofs.Common.{◌≡◌, ◌≢◌, ◌+◌, ◌*◌, ◌<◌, ◌≤◌, ◌^◌, ◌∙◌, sym, ap, refl, subst, ℕ, zero, suc, Bool, false, List, [], ◌∷◌, ◌++◌, length, take, map, Option, Some, None, Result, Ok, Err, inl, inr, arith}
+use Rattle.std.proofs.Common.{◌≡◌, ◌≢◌, ◌+◌, ◌*◌, ◌<◌, ◌≤◌, ◌^◌, ◌∙◌, sym, ap, refl, subst, ℕ, zero, suc, Bool, false, List, [], ◌∷◌, ◌++◌, length, map, Option, Some, None, Result, Ok, Err, inl, inr, arith}
 use Rattle.std.specs.Prelude.{slice_get, unwrap_or, All, IfOk}
 use Rattle.std.proofs.lemmas.List.{length-append, length-map, map-append}
 use Rattle.ilk_base.specs.declared.words.BayId.{BayId}
@@ -22,7 +22,7 @@ use Rattle.reservation_core.specs.declared.values.Which.TheVariants.{Start}
 use Rattle.reservation_core.specs.declared.values.TheConstants.{MESSAGES}
 use Rattle.reservation_core.specs.Scene.{Scene, stops}
 use Rattle.reservation_core.specs.Start.{IsStart}
-use Rattle.reservation_core.specs.Happens.{Happens, InRange, NodeSteps, IsRefused, IsDriven, SenseHappens, DeliverHappens, PartHappens, WithdrawHappens, BeginHappens, EndHappens, CutHappens}
+use Rattle.reservation_core.specs.Happens.{Happens, NodeSteps, IsRefused, IsDriven, SenseHappens, DeliverHappens, PartHappens, WithdrawHappens, BeginHappens, EndHappens, CutHappens}
 use Rattle.reservation_core.specs.World.{World, WorldFacts, OutputFits, IsNewWorld}
 use Rattle.reservation_core.specs.Lines.{Line, Shown}
 use Rattle.reservation_core.specs.Runs.{Run, Leads, Shows, MayHappen, IsBrokenBy, PremiseExact, PremisesHold, nothing_shown, shown_of}
@@ -208,7 +208,7 @@ goes_on m log outs old new k (Step e) (Some o) station laws r got lt told happen
       premises = subst (λ (ls : List Line). PremisesHold m.diagram start ls) (sym lines) (may, r.premises);
       room = omega (arith, few, r.room);
       fits = subst (λ (ss : List Shown). All (ShownFits m.diagram) ss) (sym same) (all_more (ShownFits m.diagram) (map shown_at outs) (shown_of o) r.fits
-      (shown_of_fits m old.scene new.scene e o happens fits (omega (arith, few, r.room, lt))));
+          (shown_of_fits m old.scene new.scene e o happens fits (omega (arith, few, r.room, lt))));
     }
 
 pub room_left : (m : Meaning) (log : List LogEvent) (outs : List (Option WorldOutcome)) (w : World) (k : ℕ) → Replaying m log outs w k → k ≤ MOST_RECORDS → length w.scene.sent ≤ MESSAGES

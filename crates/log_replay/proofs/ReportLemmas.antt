@@ -1,5 +1,5 @@
 -- The text of a report.
-use Rattle.std.proofs.Common.{◌≡◌, ◌≢◌, ◌+◌, ◌<◌, ◌≤◌, ◌^◌, ◌∙◌, sym, ap, refl, subst, ℕ, zero, suc, Bool, true, false, List, [], ◌∷◌, ◌++◌, length, take, map, append-nil, append_assoc, inl, inr, arith, add-one, Some, length-set}
+use Rattle.std.proofs.Common.{◌≡◌, ◌≢◌, ◌+◌, ◌<◌, ◌≤◌, ◌∙◌, sym, ap, refl, subst, ℕ, zero, suc, Bool, true, false, List, [], ◌∷◌, ◌++◌, length, take, map, append-nil, append_assoc, inl, inr, arith, add-one, Some, length-set}
 use Rattle.std.specs.Prelude.{slice_get, slice_set, slice_index_or, All, Option, cond, codes, decimal}
 use Rattle.std.proofs.lemmas.Bool.{lt-ltb}
 use Rattle.std.specs.List.{enumerate_from, flat_map}

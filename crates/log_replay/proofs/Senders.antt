@@ -2,7 +2,7 @@
 use Rattle.std.proofs.Common.{◌≡◌, ◌+◌, ◌<◌, ℕ, zero, suc, Bool, List, [], ◌∷◌, length, get_or, Contains, refl, sym, subst, ap, ◌∙◌, arith}
 use Rattle.ilk_base.specs.declared.words.Dbpos.{Dbpos}
 use Rattle.ilk_base.specs.declared.words.Op.{Op}
-use Rattle.station_graph.specs.Diagram.{Diagram, IsStation}
+use Rattle.station_graph.specs.Diagram.{IsStation}
 use Rattle.central_rules.specs.Meaning.{Meaning, Laws}
 use Rattle.bay_frames.specs.declared.frame.Frame.{Frame}
 use Rattle.bay_frames.specs.declared.frame.Body.{Body}

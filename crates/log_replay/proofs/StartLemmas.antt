@@ -1,5 +1,5 @@
 -- Where the switches stand at first, as a log tells it.
-use Rattle.std.proofs.Common.{◌≡◌, ◌≢◌, ◌+◌, ◌<◌, ◌≤◌, ◌∙◌, sym, ap, refl, subst, ℕ, zero, suc, Bool, true, false, List, [], ◌∷◌, ◌++◌, length, take, Option, Some, None, arith, inl, inr, ◌⊎◌, length-set, replicate}
+use Rattle.std.proofs.Common.{◌≡◌, ◌≢◌, ◌+◌, ◌<◌, ◌∙◌, sym, ap, refl, ℕ, zero, suc, Bool, true, false, List, [], ◌∷◌, ◌++◌, length, take, Option, Some, None, arith, inl, inr, ◌⊎◌, length-set, replicate}
 use Rattle.std.specs.Prelude.{slice_get, slice_set, unwrap_or, is_some, cond}
 use Rattle.std.proofs.lemmas.List.Sums.{fold-append}
 use Rattle.std.proofs.lemmas.List.{length-replicate}

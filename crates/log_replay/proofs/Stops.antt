@@ -1,14 +1,13 @@
 -- Where a round stops being collected.
-use Rattle.std.proofs.Common.{◌⊎◌, ◌≡◌, ℕ, Bool, List, ◌∷◌, length, Option, Some, None, refl, sym, subst, ap, ◌∙◌, inl, inr}
+use Rattle.std.proofs.Common.{◌⊎◌, ◌≡◌, ℕ, Bool, List, ◌∷◌, Option, Some, None, refl, sym, subst, ap, ◌∙◌, inl, inr}
 use Rattle.std.specs.Prelude.{⊤}
 use Rattle.std.proofs.lemmas.Bool.{cases_eq}
 use Rattle.std.proofs.lemmas.Bool.Decides.{eqb_tells}
-use Rattle.ilk_base.specs.declared.words.BayId.{BayId}
 use Rattle.ilk_base.specs.declared.words.Dbpos.{Dbpos}
 use Rattle.ilk_base.specs.declared.words.Op.{Op}
 use Rattle.station_graph.specs.Diagram.{Diagram, IsStation}
 use Rattle.central_rules.specs.Knowledge.{Known}
-use Rattle.central_rules.specs.Meaning.{Meaning, Laws, bay_of}
+use Rattle.central_rules.specs.Meaning.{Meaning, Laws}
 use Rattle.bay_frames.specs.declared.frame.Frame.{Frame}
 use Rattle.bay_protocol.specs.declared.values.Collection.{Collection}
 use Rattle.bay_protocol.specs.declared.values.Outcome.{Outcome}

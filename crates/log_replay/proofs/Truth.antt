@@ -1,6 +1,6 @@
 -- At a line that decides the true positions are a reading of what is known; with full knowledge they alone
 -- decide.
-use Rattle.std.proofs.Common.{◌⊎◌, ◌≡◌, ◌≢◌, ◌+◌, ◌<◌, ℕ, Bool, true, false, cond, List, [], ◌∷◌, length, get_or, Option, Some, None, refl, sym, subst, ap, ◌∙◌, inl, inr}
+use Rattle.std.proofs.Common.{◌⊎◌, ◌≡◌, ◌<◌, ℕ, Bool, false, cond, List, ◌∷◌, length, get_or, Option, Some, None, refl, sym, subst, ap, ◌∙◌, inl, inr}
 use Rattle.std.specs.Prelude.{slice_get}
 use Rattle.std.proofs.lemmas.Bool.{cases_Bool}
 use Rattle.ilk_base.specs.declared.words.Dbpos.{Dbpos}
@@ -11,18 +11,15 @@ use Rattle.station_graph.specs.Diagram.{Diagram, IsStation, part_count}
 use Rattle.station_graph.specs.Connection.{a_switch}
 use Rattle.station_graph.specs.Sharing.{OfPart}
 use Rattle.station_graph.specs.Alike.{Irrelevant, IsVector}
-use Rattle.station_graph.specs.CentralRules.{Breaks}
 use Rattle.central_rules.specs.Knowledge.{Known, StandsAlike, IsReadingOf, IsFull}
 use Rattle.central_rules.specs.Meaning.{Meaning, Laws, bay_of}
 use Rattle.central_rules.proofs.FullLemmas.{same_by_full}
 use Rattle.bay_protocol.specs.declared.values.Collection.{Collection}
-use Rattle.bay_protocol.specs.declared.values.Grant.{Grant}
 use Rattle.bay_protocol.specs.declared.values.Outcome.{Outcome}
-use Rattle.bay_protocol.specs.declared.values.Outcome.TheVariants.{UnderWay, HeldBy, There, Spent, Collecting}
+use Rattle.bay_protocol.specs.declared.values.Outcome.TheVariants.{UnderWay, HeldBy, There, Spent}
 use Rattle.bay_protocol.specs.State.{State, IsOther, is_another, under_way, under_way_of}
-use Rattle.bay_protocol.specs.Step.{Turn, OpenStep, CommandStep}
-use Rattle.reservation_core.specs.Scene.{Scene, node, true_at, IsTrueWord, Stands, Resolves}
-use Rattle.reservation_core.specs.RoundFacts.{RoundFacts}
+use Rattle.bay_protocol.specs.Step.{Turn, CommandStep}
+use Rattle.reservation_core.specs.Scene.{Scene, node, true_at, IsTrueWord, Resolves}
 use Rattle.reservation_core.specs.Facts.{Facts}
 use Rattle.reservation_core.specs.Held.{IsSwitchOf}
 use Rattle.reservation_core.specs.Happens.{Happens, InRange, NodeSteps}

@@ -1,12 +1,11 @@
 -- A turn of a node is what the lines say after it: all events but a delivery.
-use Rattle.std.proofs.Common.{◌≡◌, ◌≢◌, ◌+◌, ◌<◌, ◌==◌, ℕ, zero, suc, Bool, true, false, cond, List, [], ◌∷◌, length, get_or, set, replicate, Option, Some, None, Contains, refl, sym, subst, ap, ◌∙◌, inl, inr, arith}
+use Rattle.std.proofs.Common.{◌≡◌, ◌≢◌, ◌+◌, ◌<◌, ◌==◌, ℕ, zero, suc, Bool, true, false, cond, List, [], ◌∷◌, length, get_or, set, replicate, Option, Some, None, Contains, refl, sym, subst, ap, ◌∙◌, arith}
 use Rattle.std.specs.Prelude.{⊤}
-use Rattle.ilk_base.specs.declared.words.BayId.{BayId}
 use Rattle.ilk_base.specs.declared.words.SwitchId.{SwitchId}
 use Rattle.ilk_base.specs.declared.words.Dbpos.{Dbpos}
 use Rattle.ilk_base.specs.declared.words.Dbpos.TheVariants.{Lost}
 use Rattle.ilk_base.specs.declared.words.Op.{Op}
-use Rattle.station_graph.specs.Diagram.{Diagram, part_count}
+use Rattle.station_graph.specs.Diagram.{part_count}
 use Rattle.central_rules.specs.Meaning.{Meaning, Summarises, bay_of}
 use Rattle.bay_frames.specs.declared.frame.Frame.{Frame}
 use Rattle.bay_frames.specs.declared.frame.Body.{Body}
@@ -17,7 +16,7 @@ use Rattle.bay_protocol.specs.declared.values.Outcome.{Outcome}
 use Rattle.bay_protocol.specs.declared.values.Outcome.TheVariants.{UnderWay, HeldBy, There, Spent, Collecting, Granted, Denied, Finished, Withdrawn, Stopped, Quiet}
 use Rattle.bay_protocol.specs.Sends.{frame, to_each, overs}
 use Rattle.bay_protocol.specs.Fits.{IsNode}
-use Rattle.bay_protocol.specs.State.{State, under_way_of, AllHeard, is_another, others, fresh, opens, collects, grants, drops, senses, ends, restarts}
+use Rattle.bay_protocol.specs.State.{State, under_way_of, AllHeard, is_another, others, fresh, opens, grants, drops, senses, ends, restarts}
 use Rattle.bay_protocol.specs.Step.{Turn, Ends, Deciding, IsFree, OpenStep, CommandStep, TickStep, SenseStep, WithdrawStep, CutStep}
 use Rattle.reservation_core.specs.Lines.{Line, shown}
 use Rattle.reservation_core.specs.History.{or_else, last_granted, open_of, is_of, closes, reading_at, last_round}

@@ -1,13 +1,10 @@
 -- A node that decides gives the verdict of what the lines say that its bay knows.
-use Rattle.std.proofs.Common.{◌≡◌, ◌≢◌, ◌<◌, ℕ, zero, suc, Bool, false, List, [], ◌∷◌, length, get_or, Option, Some, None, refl, sym, subst, ap, ◌∙◌, inl, inr, arith}
+use Rattle.std.proofs.Common.{◌≡◌, ◌<◌, ℕ, zero, suc, Bool, List, ◌∷◌, length, get_or, Option, Some, None, refl, sym, subst, ap, ◌∙◌, arith}
 use Rattle.std.specs.Prelude.{slice_get, ⊤}
 use Rattle.std.proofs.lemmas.Option.{slice_get_within}
 use Rattle.ilk_base.specs.declared.words.Dbpos.{Dbpos}
 use Rattle.ilk_base.specs.declared.words.Dbpos.TheVariants.{Lost}
-use Rattle.double_points.specs.Words.{BayAgrees}
 use Rattle.station_graph.specs.Diagram.{Diagram, IsStation, part_count}
-use Rattle.station_graph.specs.CentralRules.{Breaks}
-use Rattle.central_rules.specs.Knowledge.{Known, Holds}
 use Rattle.central_rules.specs.Readings.{Decides}
 use Rattle.central_rules.specs.Meaning.{Meaning, Laws, Knows, AreMade, IsMade, bay_of}
 use Rattle.central_rules.specs.declared.verdict.Verdict.TheVariants.{Release, Denied as Denies}
@@ -17,8 +14,8 @@ use Rattle.bay_protocol.specs.declared.values.Collection.{Collection}
 use Rattle.bay_protocol.specs.declared.values.Outcome.{Outcome}
 use Rattle.bay_protocol.specs.declared.values.Outcome.TheVariants.{Collecting}
 use Rattle.bay_protocol.specs.State.{State}
-use Rattle.bay_protocol.specs.Step.{Turn, Deciding, IsVerdict}
-use Rattle.reservation_core.proofs.Truths.{got_or, of_part}
+use Rattle.bay_protocol.specs.Step.{Turn, Deciding}
+use Rattle.reservation_core.proofs.Truths.{of_part}
 use Rattle.reservation_core.specs.Lines.{Line, of_bay, shown}
 use Rattle.reservation_core.specs.History.{or_else, reading_at, Opened, last_round}
 use Rattle.reservation_core.specs.Hearing.{words_at, told, delivered, heard_after, heard, heard_of, heard_by, listed, known_at}

@@ -1,5 +1,5 @@
 -- Who takes a step at a line of a run, and what is shown of it.
-use Rattle.std.proofs.Common.{◌≡◌, ℕ, length, ap, ◌∙◌}
+use Rattle.std.proofs.Common.{ℕ, length}
 use Rattle.ilk_base.specs.declared.words.SwitchId.{SwitchId}
 use Rattle.ilk_base.specs.declared.words.Dbpos.{Dbpos}
 use Rattle.central_rules.specs.Meaning.{Meaning, bay_of}

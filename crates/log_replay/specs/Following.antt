@@ -1,5 +1,5 @@
 -- What comes of one event of a log.
-use Rattle.std.specs.Prelude.{◌≡◌, ⊤, ℕ, List, Option, Some, None}
+use Rattle.std.specs.Prelude.{◌≡◌, ⊤, Option, Some, None}
 use Rattle.station_graph.specs.Diagram.{Diagram}
 use Rattle.central_rules.specs.Meaning.{Meaning}
 use Rattle.reservation_core.specs.Scene.{Scene}
@@ -8,7 +8,7 @@ use Rattle.reservation_core.specs.Happens.{Happens}
 use Rattle.reservation_core.specs.declared.values.LogEvent.{LogEvent}
 use Rattle.reservation_core.specs.declared.values.LogEvent.TheVariants.{At, Step}
 use Rattle.reservation_core.specs.declared.values.WorldOutcome.{WorldOutcome}
-use Rattle.reservation_core.specs.declared.values.WorldOutcome.TheVariants.{Premise, Drive, Node}
+use Rattle.reservation_core.specs.declared.values.WorldOutcome.TheVariants.{Premise}
 use Rattle.reservation_core.specs.declared.values.Which.{Which}
 
 -- The event leads from the old scene to the new one, with this outcome; one that tells where a switch stands at

@@ -1,11 +1,10 @@
 -- Why a record is no record of a log: the first test that it fails.
-use Rattle.std.specs.Prelude.{◌≡◌, ◌==◌, ◌<◌, ◌≤◌, ⊤, ℕ, Bool, true, List, [], ◌∷◌, length, slice_get, slice_index_or, Option, Some, None, All, Contains, codes, decimal, if◌then◌else◌}
+use Rattle.std.specs.Prelude.{◌≡◌, ◌==◌, ◌<◌, ◌≤◌, ⊤, ℕ, Bool, true, List, [], ◌∷◌, length, slice_get, slice_index_or, Some, All, Contains, codes, decimal, if◌then◌else◌}
 use Rattle.std.specs.Str.{is_utf8}
 use Rattle.ilk_base.specs.declared.words.Dbpos.{Dbpos}
 use Rattle.ilk_base.specs.declared.words.Direction.{Direction}
 use Rattle.station_graph.specs.Diagram.{Diagram, switches_in, switch_path}
 use Rattle.central_rules.specs.Names.{direction_name, position_name, word_name}
-
 use Rattle.reservation_core.specs.declared.values.LogEvent.{LogEvent}
 use Rattle.log_replay.specs.Records.{has_step, tell_of}
 use Rattle.log_replay.specs.declared.kinds.RecordKind.{RecordKind}

@@ -3,7 +3,6 @@ use Rattle.std.specs.Prelude.{◌≡◌, ◌==◌, ◌<◌, ◌≤◌, ⊤, ℕ,
 use Rattle.std.specs.List.{list_any}
 use Rattle.station_graph.specs.Diagram.{Diagram, switch_path}
 use Rattle.central_rules.specs.Names.{direction_name, position_name, word_name}
-
 use Rattle.reservation_core.specs.Happens.{InRange}
 use Rattle.reservation_core.specs.declared.values.LogEvent.{LogEvent}
 use Rattle.reservation_core.specs.declared.values.LogEvent.TheVariants.{At, Step}

@@ -1,5 +1,5 @@
 -- What a replay of a log gives.
-use Rattle.std.specs.Prelude.{◌≡◌, ◌++◌, ◌+◌, ◌<◌, ◌^◌, ⊤, ℕ, Bool, true, false, List, [], length, map, count_by, slice_get, All, Option, Some, None}
+use Rattle.std.specs.Prelude.{◌≡◌, ◌++◌, ◌+◌, ◌<◌, ◌^◌, ℕ, Bool, true, false, List, [], length, count_by, slice_get, All, Option, Some, None}
 use Rattle.station_graph.specs.Diagram.{Diagram}
 use Rattle.central_rules.specs.Meaning.{Meaning}
 use Rattle.bay_protocol.specs.OutcomeLines.{OutcomeFits}

@@ -108,11 +108,7 @@ pub fn replay<J: Judge>(
         None => {
             let count = log.count();
             let line = at_count(log) + 1;
-            Ok(Report::new(
-                Vec::new(alloc),
-                Some((line, Which::Start)),
-                count,
-            ))
+            Ok(Report::new(Vec::new(alloc), Some((line, Which::Start)), count))
         }
     }
 }

@@ -122,12 +122,7 @@ fn restart(station: &Station, path: &str, rest: &str) -> Result<LogEvent, u8>
 
 // What a record of the kind says by its fields after the first, or the number of their fault. The last of
 // them is empty where the kind has but one.
-fn event_of(
-    station: &Station,
-    kind: RecordKind,
-    first: &str,
-    second: &str,
-) -> Result<LogEvent, u8>
+fn event_of(station: &Station, kind: RecordKind, first: &str, second: &str) -> Result<LogEvent, u8>
     ensures ok { IfOk result (Says station.now (row_of kind first.now second.now)) }
     ensures err { IfErr result (FieldFault station.now kind first.now second.now) }
 {

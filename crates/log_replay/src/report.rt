@@ -216,7 +216,10 @@ fn is_granted(outcome: &Option<WorldOutcome>) -> bool
     ensures { result ≡ is_granted (shown_at outcome.now).outcome }
 {
     match outcome {
-        Some(WorldOutcome::Node { output, .. }) => matches!(output.outcome, Outcome::Granted { .. }),
+        Some(WorldOutcome::Node { output, .. }) => matches!(
+            output.outcome,
+            Outcome::Granted { .. }
+        ),
         _ => false,
     }
 }

@@ -13,13 +13,7 @@ fn told_by(event: LogEvent, id: SwitchId) -> Option<bool>
     ensures { result ≡ told_by event id.0 }
 {
     match event {
-        LogEvent::At { switch, closed } => {
-            if switch.0 == id.0 {
-                Some(closed)
-            } else {
-                None
-            }
-        }
+        LogEvent::At { switch, closed } => { if switch.0 == id.0 { Some(closed) } else { None } }
         LogEvent::Step(_) => None,
     }
 }
@@ -39,7 +33,11 @@ fn told_at(log: &Log, id: SwitchId) -> Option<bool>
 
 /// Where each switch stands at first; none where the log does not tell it of each. Time: the records `at`
 /// times the switches; where a switch is not told of, the records. Memory: the switches.
-pub(crate) fn start_of(alloc: Global, station: &Station, log: &Log) -> Result<Option<Vector>, Memory>
+pub(crate) fn start_of(
+    alloc: Global,
+    station: &Station,
+    log: &Log,
+) -> Result<Option<Vector>, Memory>
     ensures some { IfOk result (λ o. IfSome o (λ v. v ≡ start_of station.now log.now)) }
     ensures has { IfOk result (λ o. IfSome o (λ _. HasStart station.now log.now)) }
     ensures none { IfOk result (λ o. IfNone o (¬ HasStart station.now log.now)) }

@@ -49,7 +49,10 @@ fn reads_each_kind(rt: HostRuntime) -> Result<(), Fail> {
         direction: Direction::ToOn,
     };
     for (bytes, want) in [
-        (b"command,S/V1/Q1/QC9,close\n".as_slice(), WorldEvent::Command(op)),
+        (
+            b"command,S/V1/Q1/QC9,close\n".as_slice(),
+            WorldEvent::Command(op),
+        ),
         (
             b"sense,S/V1/Q1/QC9,lost",
             WorldEvent::Sense {
@@ -77,13 +80,19 @@ fn reads_each_kind(rt: HostRuntime) -> Result<(), Fail> {
         (b"withdraw,S/V1/Q1", WorldEvent::Withdraw(BayId(0))),
         (b"restart,S/V1/Q1", WorldEvent::Restart(BayId(0))),
     ] {
-        assert_eq!(rt; last_event(alloc, &station, bytes), Ok(Some(LogEvent::Step(want))));
+        assert_eq!(rt;
+            last_event(alloc, &station, bytes),
+            Ok(Some(LogEvent::Step(want)))
+        );
     }
     for (bytes, closed) in [
         (b"at,S/V1/Q1/QC9,off".as_slice(), false),
         (b"\xEF\xBB\xBFat,S/V1/Q1/QC9,on\n", true),
     ] {
-        assert_eq!(rt; last_event(alloc, &station, bytes), Ok(Some(LogEvent::At { switch, closed })));
+        assert_eq!(rt;
+            last_event(alloc, &station, bytes),
+            Ok(Some(LogEvent::At { switch, closed }))
+        );
     }
     assert_eq!(rt; last_event(alloc, &station, b"\n\r\n"), Ok(None));
     Ok(())

@@ -1,7 +1,6 @@
-use Rattle.std.proofs.Common.{◌≡◌, ◌∙◌, sym, ap, true, false}
+use Rattle.std.proofs.Common.{◌∙◌, sym, ap}
 use Rattle.std.specs.Str.{is_utf8}
 use Rattle.csv.specs.Records.{fields_of}
-use Rattle.log_replay.specs.RecordFaults.{field}
 use Rattle.log_replay.proofs.FieldLemmas.{texts_at, has_form}
 use Rattle.log_replay.proofs.fields.texts.Goals as goal
 

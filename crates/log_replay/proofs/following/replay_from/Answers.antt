@@ -34,9 +34,9 @@ loop-i-preserved g c =
     let o = c.in_ok-outcome.outcome in
     subst (λ (os : List (Option WorldOutcome)). Replaying m log os c.follow.new.world (c.loop-i.i + 1)) (sym c.in_ok-push.ensures.items)
     (goes_on m log c.loop-i.outcomes.items c.loop-i.world c.follow.new.world c.loop-i.i c.event.result o
-      c.diagram_is_station.ensures (g.met.J.Judge.lawful c.args.judge.now) c.loop-i.invariant c.event.ensures (omega (arith, c.loop-i-test.true, c.count-i-end.ensures.count, c.count-i-end.ensures.few))
-      (told_in m d log c.loop-i.i c.event.result c.requires.same c.requires.log c.event.ensures) c.in_ok-outcome.ensures.happens (fits_in m d o c.requires.same c.in_ok-outcome.ensures.fits)
-      c.in_ok-outcome.ensures.few c.in_ok-outcome.ensures.facts c.in_default.ensures.none)
+    c.diagram_is_station.ensures (g.met.J.Judge.lawful c.args.judge.now) c.loop-i.invariant c.event.ensures (omega (arith, c.loop-i-test.true, c.count-i-end.ensures.count, c.count-i-end.ensures.few))
+    (told_in m d log c.loop-i.i c.event.result c.requires.same c.requires.log c.event.ensures) c.in_ok-outcome.ensures.happens (fits_in m d o c.requires.same c.in_ok-outcome.ensures.fits)
+    c.in_ok-outcome.ensures.few c.in_ok-outcome.ensures.facts c.in_default.ensures.none)
 
 pub returns-clause-replay : goal.returns-clause-replay
 returns-clause-replay g c =

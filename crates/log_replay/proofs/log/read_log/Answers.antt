@@ -1,4 +1,4 @@
-use Rattle.std.proofs.Common.{◌≡◌, ◌<◌, ◌+◌, ◌∙◌, sym, ap, refl, inr, subst, true, length, take, List, arith}
+use Rattle.std.proofs.Common.{◌<◌, ◌+◌, ◌∙◌, sym, ap, inr, subst, length, take, List}
 use Rattle.csv.specs.Records.{fields_of}
 use Rattle.double_points.specs.Rows.{rows_of}
 use Rattle.reservation_core.specs.declared.values.LogEvent.{LogEvent}

@@ -1,6 +1,6 @@
-use Rattle.std.proofs.Common.{◌≡◌, ◌∙◌, sym, subst, refl, true, false, ℕ, List}
+use Rattle.std.proofs.Common.{◌≡◌, ◌∙◌, sym, subst, refl}
 use Rattle.csv.specs.Records.{fields_of}
-use Rattle.log_replay.specs.RecordFaults.{IsLate, IsKnown, IsWord, IsAgain, KindFault, field}
+use Rattle.log_replay.specs.RecordFaults.{IsKnown, IsWord, IsAgain, KindFault, field}
 use Rattle.log_replay.proofs.RecordLemmas.{told_again}
 use Rattle.log_replay.proofs.record.read_of_kind.Goals as goal
 

@@ -1,5 +1,4 @@
-use Rattle.std.proofs.Common.{arith, refl, ◌∙◌, ◌+◌, ap, length, take, map}
-use Rattle.std.proofs.lemmas.List.{length-map}
+use Rattle.std.proofs.Common.{arith, refl, ◌+◌, length, take, map}
 use Rattle.std.proofs.lemmas.Option.{slice_get_read}
 use Rattle.reservation_core.specs.ReportLines.{all_lines, shown_lines}
 use Rattle.log_replay.specs.Replay.{ShownFits, shown_at}

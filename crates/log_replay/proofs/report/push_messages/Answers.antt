@@ -1,4 +1,4 @@
-use Rattle.std.proofs.Common.{arith, refl, ◌<◌, ◌^◌, ◌+◌, length, take}
+use Rattle.std.proofs.Common.{arith, refl, ◌^◌, ◌+◌, length, take}
 use Rattle.std.specs.List.{flat_map}
 use Rattle.std.proofs.lemmas.Option.{slice_get_read}
 use Rattle.reservation_core.specs.Lines.{message, messages}

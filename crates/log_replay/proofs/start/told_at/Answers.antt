@@ -1,4 +1,4 @@
-use Rattle.std.proofs.Common.{rules, ◌≡◌, ◌∙◌, sym}
+use Rattle.std.proofs.Common.{◌∙◌, sym}
 use Rattle.log_replay.proofs.StartLemmas.{told_found, told_missed}
 use Rattle.log_replay.proofs.start.told_at.Goals as goal
 
