@@ -1,7 +1,7 @@
 -- What is sent at an event, and what is kept beside it.
-use Rattle.std.proofs.Common.{◌⊎◌, ◌≡◌, ◌+◌, ◌<◌, ◌-◌, ◌++◌, ℕ, zero, suc, List, [], ◌∷◌, length, map, drop, get_or, slice_get, Option, Some, None, Contains, refl, sym, subst, ap, ◌∙◌, inl, inr, arith}
+use Rattle.std.proofs.Common.{◌≡◌, ◌<◌, ◌-◌, ◌++◌, ℕ, suc, List, [], ◌∷◌, length, map, drop, Option, Some, Contains, refl, sym, subst, ap, ◌∙◌, arith}
 use Rattle.std.proofs.Math.Seq.{drop-append_seam}
-use Rattle.std.proofs.lemmas.List.{length-append, length-map, append-nil}
+use Rattle.std.proofs.lemmas.List.{append-nil}
 use Rattle.ilk_base.specs.declared.words.Dbpos.{Dbpos}
 use Rattle.ilk_base.specs.declared.words.SwitchId.{SwitchId}
 use Rattle.station_graph.specs.Diagram.{Diagram, IsStation}
@@ -11,10 +11,9 @@ use Rattle.bay_frames.specs.declared.frame.Body.{Body}
 use Rattle.bay_frames.specs.declared.frame.Body.TheVariants.{Reserve, Answer, Busy, Query, Over}
 use Rattle.bay_protocol.specs.declared.values.NodeEvent.{NodeEvent}
 use Rattle.bay_protocol.specs.declared.values.NodeEvent.TheVariants.{Command as Commanded, Sense as Sensing, Frame as Arrival, Tick as Ticking, Withdraw as Withdrawing, Restart as Restarting, Cut as Cutting}
-use Rattle.bay_protocol.specs.State.{State}
 use Rattle.reservation_core.specs.Scene.{Scene, node, stops}
 use Rattle.reservation_core.specs.RoundFacts.{RoundFacts}
-use Rattle.reservation_core.specs.Happens.{Happens, InRange, NodeSteps, IsMessage, SenseHappens, DeliverHappens, PartHappens, WithdrawHappens, BeginHappens, EndHappens, CutHappens}
+use Rattle.reservation_core.specs.Happens.{Happens, InRange, NodeSteps, SenseHappens, DeliverHappens, PartHappens, WithdrawHappens, BeginHappens, EndHappens, CutHappens}
 use Rattle.reservation_core.specs.World.{kept_beside, words_beside, sent_since}
 use Rattle.reservation_core.specs.Beside.{AnswersAlone, IsCopied}
 use Rattle.reservation_core.specs.declared.values.WorldEvent.{WorldEvent}
@@ -23,7 +22,7 @@ use Rattle.reservation_core.specs.declared.values.WorldOutcome.{WorldOutcome}
 use Rattle.reservation_core.proofs.Sends.{facts_stops}
 use Rattle.reservation_core.proofs.Steps.{bay_of_is}
 use Rattle.reservation_core.proofs.Keeping.{got_there}
-use Rattle.reservation_core.proofs.Effects.{Effect, Said, IsAsked, effect}
+use Rattle.reservation_core.proofs.Effects.{IsAsked, effect}
 
 -- frames are added to what was sent, an Answer alone, and beside them the copy is what is to be kept
 pub record Added (d : Diagram) (old new : Scene) (copy : Option (List Dbpos)) : Type 0 where

@@ -1,22 +1,22 @@
 -- A premise is told exactly where the event breaks it.
-use Rattle.std.proofs.Common.{◌⊎◌, ◌≡◌, ◌≢◌, ◌<◌, ◌-◌, ◌↔◌, ℕ, true, false, length, Some, refl, sym, subst, ap, ◌∙◌, inl, inr, arith}
+use Rattle.std.proofs.Common.{◌≡◌, ◌<◌, ◌-◌, ◌↔◌, ℕ, length, sym, subst, ap, ◌∙◌, inl, inr, arith}
 use Rattle.std.proofs.lemmas.Option.{slice_get_within}
 use Rattle.ilk_base.specs.declared.words.Dbpos.{Dbpos}
 use Rattle.ilk_base.specs.declared.words.SwitchId.{SwitchId}
-use Rattle.central_rules.specs.Meaning.{Meaning, bay_of}
+use Rattle.central_rules.specs.Meaning.{Meaning}
 use Rattle.bay_frames.specs.declared.frame.Frame.{Frame}
 use Rattle.bay_protocol.specs.declared.values.Grant.{Grant}
 use Rattle.bay_protocol.specs.State.{State}
 use Rattle.bay_protocol.specs.Step.{Turn}
 use Rattle.reservation_core.specs.Scene.{Scene, node, stops, true_at, end_position}
-use Rattle.reservation_core.specs.Happens.{Happens, Tells, IsRefused, IsDriven, IsMessage, IsUnsent, IsMoving, no_turn, SenseHappens, DeliverHappens, PartHappens, WithdrawHappens, BeginHappens, EndHappens, CutHappens}
+use Rattle.reservation_core.specs.Happens.{Happens, Tells, IsMessage, IsUnsent, IsMoving, no_turn, SenseHappens, DeliverHappens, PartHappens, WithdrawHappens, BeginHappens, EndHappens, CutHappens}
 use Rattle.reservation_core.specs.Premises.{BreaksPremise}
 use Rattle.reservation_core.specs.declared.values.Which.{Which}
 use Rattle.reservation_core.specs.declared.values.Which.TheVariants.{Withdrawn}
 use Rattle.reservation_core.specs.declared.values.WorldEvent.{WorldEvent}
 use Rattle.reservation_core.specs.declared.values.WorldEvent.TheVariants.{Command, Sense, Deliver, Tick, Withdraw, Restart, Begin, End, Part, Cut}
 use Rattle.reservation_core.specs.declared.values.WorldOutcome.{WorldOutcome}
-use Rattle.reservation_core.specs.declared.values.WorldOutcome.TheVariants.{Premise, Drive}
+use Rattle.reservation_core.specs.declared.values.WorldOutcome.TheVariants.{Premise}
 use Rattle.reservation_core.proofs.Ways.{node_says}
 
 -- a message is not unsent

@@ -1,5 +1,5 @@
 -- Whatever happens sends few messages, and what is shown and sent fits.
-use Rattle.std.proofs.Common.{◌≡◌, ◌+◌, ◌<◌, ◌++◌, ℕ, length, refl, arith, lit<}
+use Rattle.std.proofs.Common.{◌≡◌, ◌+◌, ◌<◌, length, refl, arith, lit<}
 use Rattle.std.proofs.lemmas.List.{length-append}
 use Rattle.station_graph.specs.Diagram.{Diagram, IsStation}
 use Rattle.station_graph.specs.declared.limits.TheConstants.{BAYS}
@@ -14,7 +14,6 @@ use Rattle.reservation_core.specs.Happens.{Happens, InRange, NodeSteps}
 use Rattle.reservation_core.specs.World.{OutputFits}
 use Rattle.reservation_core.specs.declared.values.WorldEvent.{WorldEvent}
 use Rattle.reservation_core.specs.declared.values.WorldOutcome.{WorldOutcome}
-use Rattle.reservation_core.specs.declared.values.WorldOutcome.TheVariants.{Premise, Drive}
 use Rattle.reservation_core.proofs.Sends.{facts_stops}
 use Rattle.reservation_core.proofs.Ways.{Way, way, told}
 

@@ -9,7 +9,7 @@ ghost use Rattle.reservation_core.specs.RoundFacts.{RoundFacts};
 ghost use Rattle.reservation_core.specs.Facts.{Facts, Obeys, Answers, Words, Grants, IsSoundTruth};
 ghost use Rattle.reservation_core.specs.Start.{IsStart};
 ghost use Rattle.reservation_core.specs.Happens.{Happens, InRange};
-ghost use Rattle.reservation_core.specs.World.{World as Whole, IsNewWorld, WorldFacts, WorldRounds};
+ghost use Rattle.reservation_core.specs.World.{World as Whole, IsNewWorld, WorldFacts, WorldRounds, AreWordsKept};
 
 use central_rules::Judge;
 
@@ -47,6 +47,12 @@ pub fn granted_operations_obey<J: Judge>(judge: &J)
     ensures answers { (w : Scene) → Facts (J.meaning judge.now) w → Answers (J.meaning judge.now) w }
     ensures words { (w : Scene) → Facts (J.meaning judge.now) w → Words (J.meaning judge.now) w }
     ensures grants { (w : Scene) → Facts (J.meaning judge.now) w → Grants (J.meaning judge.now) w }
+{}
+
+/// Beside each Answer the words are kept of which its summary is made, and while its round is under way they are
+/// true of the bay that sent it: those that are off or on are the true positions of its switches.
+pub fn kept_words_are_true<J: Judge>(judge: &J)
+    ensures { (w : Whole) → WorldFacts (J.meaning judge.now) w → AreWordsKept (J.meaning judge.now) w }
 {}
 
 /// Whatever happens keeps soundness: where in no vector that resolves the true positions a node is both

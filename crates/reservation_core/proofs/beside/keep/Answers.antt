@@ -1,4 +1,4 @@
-use Rattle.std.proofs.Common.{◌<◌, length, sym, ◌∙◌, arith}
+use Rattle.std.proofs.Common.{sym, ◌∙◌, arith}
 use Rattle.reservation_core.specs.World.{kept_beside}
 use Rattle.reservation_core.proofs.Added.{beside_same}
 use Rattle.reservation_core.proofs.ForCode.{map_more}

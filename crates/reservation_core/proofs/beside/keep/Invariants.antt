@@ -1,4 +1,4 @@
-use Rattle.std.proofs.Common.{◌≡◌, ◌+◌, ◌++◌, ℕ, length, map, take}
+use Rattle.std.proofs.Common.{◌≡◌, ◌+◌, ◌++◌, map, take}
 use Rattle.std.specs.Vec.{vec_len, vec_capacity}
 use Rattle.reservation_core.specs.World.{kept_beside}
 use Rattle.reservation_core.proofs.beside.keep.Given as goal

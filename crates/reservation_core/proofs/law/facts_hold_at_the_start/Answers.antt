@@ -1,4 +1,5 @@
-use Rattle.std.proofs.Common.{length, sym, ap, ◌∙◌}
+use Rattle.std.proofs.Common.{List, length, slice_get, sym, ap, ◌∙◌}
+use Rattle.bay_frames.specs.declared.frame.Frame.{Frame}
 use Rattle.reservation_core.proofs.Starting.{starts}
 use Rattle.reservation_core.proofs.law.facts_hold_at_the_start.Goals as goal
 
@@ -9,6 +10,7 @@ pub returns-clause-world : goal.returns-clause-world
 returns-clause-world g c = λ start w is. record {
   facts = starts (g.J.Judge.meaning c.args.judge.now) start w.scene is.scene;
   count = ap length is.beside ∙ sym (ap length is.scene.sent);
+  words = λ k f s got. absurd (cc (ap (λ (xs : List Frame). slice_get xs k) (sym is.scene.sent) ∙ got));
 }
 
 pub returns-clause-rounds : goal.returns-clause-rounds

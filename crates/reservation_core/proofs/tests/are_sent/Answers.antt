@@ -1,4 +1,4 @@
-use Rattle.std.proofs.Common.{subst, arith}
+use Rattle.std.proofs.Common.{subst}
 use Rattle.std.proofs.lemmas.Option.{get_or_from_slice_get, slice_get_within}
 use Rattle.bay_frames.specs.Row.{IsLawful}
 use Rattle.reservation_core.proofs.tests.are_sent.Goals as goal

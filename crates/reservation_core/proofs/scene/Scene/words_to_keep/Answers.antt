@@ -1,4 +1,4 @@
-use Rattle.std.proofs.Common.{◌≡◌, ℕ, List, length, Some, sym, subst, ap, ◌∙◌, arith}
+use Rattle.std.proofs.Common.{◌≡◌, List, length, Some, sym, subst, ap, ◌∙◌, arith}
 use Rattle.station_graph.specs.Diagram.{Diagram}
 use Rattle.ilk_base.specs.declared.words.Dbpos.{Dbpos}
 use Rattle.double_points.specs.Words.{AreWords}
