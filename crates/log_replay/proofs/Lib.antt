@@ -23,3 +23,4 @@ pub mod Who
 pub mod ReportLemmas
 pub mod Replaying
 pub mod StartLemmas
+pub mod OneOutcome

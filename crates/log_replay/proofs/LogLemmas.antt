@@ -8,7 +8,8 @@ use Rattle.station_graph.specs.Diagram.{Diagram}
 use Rattle.reservation_core.specs.declared.values.LogEvent.{LogEvent}
 use Rattle.log_replay.specs.declared.log.TheConstants.{MOST_RECORDS}
 use Rattle.log_replay.specs.Records.{Says, MayBeTold}
-use Rattle.log_replay.specs.Log.{MayFollow, AreInOrder, Tell}
+use Rattle.log_replay.proofs.ReportLemmas.{all_more}
+use Rattle.log_replay.specs.Log.{MayFollow, AreInOrder, IsText, Tell}
 
 -- ---- lists
 
@@ -61,16 +62,17 @@ order_more events e order follows k x at = elim (got_pushed events e k x at) [
 ]
 
 pub tell_nothing : (d : Diagram) (rows : List (List (List ℕ))) → Tell d (take 0 rows) []
-tell_nothing d rows = record { each = tt; order = λ k e at. absurd (cc at); few = omega arith }
+tell_nothing d rows = record { each = tt; texts = λ k x lt. absurd (omega (arith, lt)); order = λ k e at. absurd (cc at); few = omega arith }
 
-pub tell_more : (d : Diagram) (all : List (List (List ℕ))) (events more : List LogEvent) (row : List (List ℕ)) (e : LogEvent) (rest : List (List (List ℕ))) → more ≡ events ++ e ∷ [] → drop (length events) all ≡ row ∷ rest → Tell d (take (length events) all) events → Says d row e → MayFollow events e → length events < MOST_RECORDS
+pub tell_more : (d : Diagram) (all : List (List (List ℕ))) (events more : List LogEvent) (row : List (List ℕ)) (e : LogEvent) (rest : List (List (List ℕ))) → more ≡ events ++ e ∷ [] → drop (length events) all ≡ row ∷ rest → Tell d (take (length events) all) events → Says d row e → IsText row → MayFollow events e → length events < MOST_RECORDS
     → Tell d (take (length more) all) more × (rest ≡ drop (length more) all)
-tell_more d all events more row e rest pushed left tell says follows few =
+tell_more d all events more row e rest pushed left tell says text follows few =
     let n = next all (length events) row rest left in
     let count : length more ≡ length events + 1 = ap length pushed ∙ length-append events (e ∷ []) in
     let taken : take (length more) all ≡ take (length events) all ++ row ∷ [] = ap (λ m. take m all) count ∙ n.taken in
     let it : Tell d (take (length events) all ++ row ∷ []) (events ++ e ∷ []) = record {
       each = AllZip-push (Says d) (take (length events) all) events row e tell.each says;
+      texts = all_more IsText (take (length events) all) row tell.texts text;
       order = order_more events e tell.order follows;
       few = omega (arith, few, length-append events (e ∷ []));
     } in (

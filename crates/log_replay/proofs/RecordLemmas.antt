@@ -31,7 +31,7 @@ pub record ToldAgain (d : Diagram) (before : List LogEvent) (k : RecordKind) (fi
   pub word : IsWord k second
   pub again : IsAgain d before k first
 
-there : (paths : List (List ℕ)) (i : ℕ) → i < length paths → Contains paths (get_or paths i [])
+pub there : (paths : List (List ℕ)) (i : ℕ) → i < length paths → Contains paths (get_or paths i [])
 there paths i lt = (i, lt, same paths i lt)
   where
     same : (xs : List (List ℕ)) (k : ℕ) → k < length xs → get_or xs k (get_or xs k []) ≡ get_or xs k []

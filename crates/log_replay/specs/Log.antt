@@ -1,6 +1,7 @@
 -- What a log says, and why bytes are no log.
-use Rattle.std.specs.Prelude.{◌≡◌, ◌<◌, ◌≤◌, ◌+◌, ◌⊎◌, ⊤, ℕ, false, List, length, take, slice_get, Some}
+use Rattle.std.specs.Prelude.{◌≡◌, ◌<◌, ◌≤◌, ◌+◌, ◌⊎◌, ⊤, ℕ, true, false, List, length, take, slice_get, Some, All}
 use Rattle.std.specs.List.{AllZip}
+use Rattle.std.specs.Str.{is_utf8}
 use Rattle.ilk_base.specs.declared.words.InputRefusal.{InputRefusal}
 use Rattle.station_graph.specs.Diagram.{Diagram}
 use Rattle.double_points.specs.Rows.{rows_of}
@@ -21,9 +22,14 @@ MayFollow before (At i closed) = (has_step before ≡ false) × (tell_of i.0 bef
 abbrev pub AreInOrder : List LogEvent → Type 0
 AreInOrder events = (k : ℕ) (e : LogEvent) → slice_get events k ≡ Some e → MayFollow (take k events) e
 
+-- Each field is UTF-8.
+abbrev pub IsText : List (List ℕ) → Type 0
+IsText row = All (λ text. is_utf8 text ≡ true) row
+
 -- The records say these events, each one, in an order that may be.
 pub record Tell (d : Diagram) (rows : List (List (List ℕ))) (events : List LogEvent) : Type 0 where
   pub each : AllZip (Says d) rows events
+  pub texts : All IsText rows
   pub order : AreInOrder events
   pub few : length events ≤ MOST_RECORDS
 

@@ -4,7 +4,7 @@ ghost use Rattle.csv.specs.Records.{fields_of};
 ghost use Rattle.log_replay.specs.Records.{Says, has_step, is_told_of, tell_of, is_again};
 ghost use Rattle.log_replay.specs.RecordFaults.{row_of, FieldFault, KindFault, RecordFault, IsOfKind, IsLate};
 ghost use Rattle.log_replay.specs.declared.log.TheConstants.{MOST_RECORDS};
-ghost use Rattle.log_replay.specs.Log.{MayFollow};
+ghost use Rattle.log_replay.specs.Log.{IsText, MayFollow};
 ghost use Rattle.log_replay.specs.declared.kinds.RecordKind.TheVariants as kind;
 
 use crate::fields::{
@@ -194,6 +194,7 @@ fn read_of_kind(
 ) -> Result<LogEvent, u8>
     requires { IsOfKind (fields_of row.now) kind }
     ensures ok { IfOk result (Says station.now (fields_of row.now)) }
+    ensures text { IfOk result (λ _. IsText (fields_of row.now)) }
     ensures follows { IfOk result (MayFollow before.now) }
     ensures err { IfErr result (KindFault station.now before.now kind (fields_of row.now)) }
 {
@@ -222,6 +223,7 @@ pub(crate) fn read_record(
     row: &ByteRecord,
 ) -> Result<LogEvent, u8>
     ensures ok { IfOk result (Says station.now (fields_of row.now)) }
+    ensures text { IfOk result (λ _. IsText (fields_of row.now)) }
     ensures follows { IfOk result (MayFollow before.now) }
     ensures few { IfOk result (λ _. length before.now < MOST_RECORDS) }
     ensures err { IfErr result (RecordFault station.now before.now (fields_of row.now)) }

@@ -17,7 +17,7 @@ loop-events-preserved c =
     let read = c.in-Ok.ensures in
     let follows : MayFollow events c.in-Ok.event = subst (λ (before : List LogEvent). MayFollow before c.in-Ok.event) c.deref.ensures.value read.follows in
     let few : length events < MOST_RECORDS = subst (λ (before : List LogEvent). length before < MOST_RECORDS) c.deref.ensures.value read.few in
-    let more = tell_more c.args.station.now all events _ (fields_of c.next.new.row) c.in-Ok.event _ c.in_ok-push-in-Ok.ensures.items took inv.tell read.ok follows few in
+    let more = tell_more c.args.station.now all events _ (fields_of c.next.new.row) c.in-Ok.event _ c.in_ok-push-in-Ok.ensures.items took inv.tell read.ok read.text follows few in
     record { short = inv.short; left = more.1; tell = more.0 }
 
 pub returns-in-Err-clause-err : goal.returns-in-Err-clause-err

@@ -14,3 +14,6 @@ returns-then-is_again-clause-err c =
     let second : c.in-Some.second.now ≡ field (fields_of c.args.row.now) 2 = c.in-Some.ensures.some.1 in
     KindFault.again c.in-Some.ensures.form (λ late. let yes = c.is_late.ensures.1 late in let no = c.if-is_late.false in cc (yes, no))
     (subst (IsKnown d k) first t.known) (subst (IsWord k) second t.word) (subst (IsAgain d before k) first t.again) refl
+
+pub returns-clause-text : goal.returns-clause-text
+returns-clause-text c = c.in-Some.ensures.form.texts
