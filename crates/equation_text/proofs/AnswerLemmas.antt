@@ -1,5 +1,5 @@
 -- The answers of a switch's operations, by the labels of its graphs.
-use Rattle.std.proofs.Common.{◌≡◌, ◌∙◌, ◌⊎◌, ℕ, zero, suc, Bool, List, [], ◌∷◌, Option, Some, None, refl, sym, ap, subst, inl, inr, arith}
+use Rattle.std.proofs.Common.{◌≡◌, ◌∙◌, ℕ, zero, suc, Bool, List, [], ◌∷◌, Option, Some, None, refl, sym, subst, inl, inr, arith}
 use Rattle.std.specs.Prelude.{slice_get}
 use Rattle.std.proofs.lemmas.Option.{same_Some}
 use Rattle.ilk_base.specs.declared.words.Direction.{Direction}
@@ -13,8 +13,7 @@ use Rattle.release_compile.specs.declared.view.View.{View}
 use Rattle.release_compile.specs.declared.view.View.TheVariants.{Gap, Load}
 use Rattle.release_compile.specs.Graphs.{gap_rule, Says}
 use Rattle.equation_text.specs.declared.goal.Goal.{Goal}
-use Rattle.equation_text.specs.declared.goal.Goal.TheVariants.{Node, Answer}
-use Rattle.equation_text.specs.declared.goal.SwitchGoals.{SwitchGoals}
+use Rattle.equation_text.specs.declared.goal.Goal.TheVariants.{Answer}
 use Rattle.equation_text.specs.EquationLines.{PartLines, NodeLine, goal_towards}
 use Rattle.equation_text.specs.EquationMeaning.{Leads, NextGoal}
 use Rattle.equation_text.specs.Growing.{Extends}

@@ -1,32 +1,23 @@
 -- The choices that a vector gives to the graphs of a switch.
-use Rattle.std.proofs.Common.{◌≡◌, ◌∙◌, ℕ, ◌+◌, ◌-◌, ◌<◌, ◌≤◌, zero, suc, Bool, true, false, eqb, List, [], ◌∷◌, length, refl, sym, ap, subst, inl, inr, arith, Some, None}
-use Rattle.std.specs.Prelude.{slice_get, ◌==◌}
-use Rattle.std.proofs.lemmas.Option.{same_Some, slice_get_within, slice_get_cases}
-use Rattle.ilk_base.specs.declared.words.BayId.{BayId}
-use Rattle.ilk_base.specs.declared.words.SwitchId.{SwitchId}
-use Rattle.station_graph.specs.Diagram.{Diagram, IsStation, part_count, AreSwitchesOf}
+use Rattle.std.proofs.Common.{◌≡◌, ◌∙◌, ℕ, ◌+◌, ◌-◌, ◌<◌, ◌≤◌, zero, suc, Bool, true, false, eqb, List, [], ◌∷◌, length, refl, sym, ap, subst, arith, Some}
+use Rattle.std.specs.Prelude.{slice_get}
+use Rattle.std.proofs.lemmas.Option.{same_Some, slice_get_within}
+use Rattle.station_graph.specs.Diagram.{Diagram, part_count}
 use Rattle.station_graph.specs.Alike.{IsVector}
-use Rattle.station_graph.specs.declared.limits.TheConstants.{PARTS, SWITCHES}
+use Rattle.station_graph.proofs.Decided.{element}
 use Rattle.contraction.specs.Answers.{Answers}
-use Rattle.bay_contract.specs.Alphabets.{AreAlphabets}
 use Rattle.decision_graphs.specs.Label.{Layered, layer_at, label_of}
 use Rattle.release_compile.specs.declared.view.View.{View}
-use Rattle.release_compile.specs.Lettered.{Lettered, AreLettered, index_count, PartHas}
-use Rattle.release_compile.specs.Folding.{AreChosen}
+use Rattle.release_compile.specs.Lettered.{Lettered, AreLettered}
 use Rattle.release_compile.specs.Chaining.{AreInARow}
-use Rattle.release_compile.specs.Coding.{labels_of}
 use Rattle.release_compile.specs.Graphs.{other_of, PartChosen, SwitchChosen, Says, IsOuter, IsInner, IsOwn}
 use Rattle.release_compile.proofs.VerdictLemmas.{other_in}
-use Rattle.equation_text.specs.declared.subject.Subject.{Subject}
 use Rattle.equation_text.specs.declared.subject.Subjects.{Subjects}
 use Rattle.equation_text.specs.declared.subject.Subjects.TheVariants.{OtherParts, OtherSwitches}
-use Rattle.equation_text.specs.EquationLines.{PartLines, NodeLine}
-use Rattle.equation_text.specs.Subjects.{subject_at, IsIndexBy, IsPositionOf, IsChosen, AreChosenFrom, LayersLook}
+use Rattle.equation_text.specs.EquationLines.{PartLines}
+use Rattle.equation_text.specs.Subjects.{subject_at, IsPositionOf, IsChosen, AreChosenFrom, LayersLook}
 use Rattle.equation_text.specs.Growing.{LayersHaveChoices}
 use Rattle.equation_text.specs.Compiling.{AreExactParts}
-
-element : {X : Type 0} (xs : List X) (i : ℕ) → i < length xs → (x : X) × (slice_get xs i ≡ Some x)
-element xs i lt = elim (slice_get_cases xs i).1 [ inl here ↦ (here.0, here.2) | inr past ↦ absurd (omega (arith, lt, past.0)) ]
 
 -- a choice for each of so many layers, as a list
 pub listed : (P : ℕ → ℕ → Type 0) (n : ℕ) → ((j : ℕ) → j < n → (c : ℕ) × P j c) → (cs : List ℕ) × (length cs ≡ n) × ((i c : ℕ) → slice_get cs i ≡ Some c → P i c)

@@ -1,16 +1,15 @@
 -- What is compiled is of the station, and exact.
-use Rattle.std.proofs.Common.{◌≡◌, ◌∙◌, ◌⊎◌, ◌↔◌, ℕ, ◌+◌, ◌<◌, ◌≤◌, suc, Bool, List, [], ◌∷◌, ◌++◌, length, map, Option, Some, refl, sym, ap, subst, inl, inr, arith}
+use Rattle.std.proofs.Common.{◌≡◌, ◌∙◌, ◌⊎◌, ℕ, ◌+◌, ◌≤◌, Bool, List, [], ◌∷◌, ◌++◌, length, map, Option, Some, refl, sym, ap, subst, inl, inr, arith}
 use Rattle.std.specs.Prelude.{slice_get, sum_by}
 use Rattle.std.proofs.lemmas.List.{length-map, length_push, map-id}
 use Rattle.std.proofs.lemmas.List.FromFn.{map-range_with_len_more}
 use Rattle.std.proofs.lemmas.List.Sums.{sum_by_push}
 use Rattle.std.specs.List.{range_with_len}
-use Rattle.std.proofs.lemmas.Option.{same_Some, slice_get_within, slice_get_cases}
-use Rattle.ilk_base.specs.declared.words.Op.{Op}
+use Rattle.std.proofs.lemmas.Option.{slice_get_within}
 use Rattle.ilk_base.specs.declared.words.Rule.{Rule}
 use Rattle.station_graph.specs.Diagram.{Diagram, part_count}
 use Rattle.station_graph.specs.Alike.{IsVector}
-use Rattle.station_graph.specs.CentralRules.{IsOperation, Breaks}
+use Rattle.station_graph.specs.CentralRules.{Breaks}
 use Rattle.station_graph.proofs.AnswerLemmas.{same_answer}
 use Rattle.station_graph.proofs.Decided.{element}
 use Rattle.bay_contract.specs.PartAlphabets.{Alphabets}
@@ -22,8 +21,8 @@ use Rattle.equation_text.specs.declared.goal.Goal.TheVariants.{Answer}
 use Rattle.equation_text.specs.declared.goal.SwitchGoals.{SwitchGoals}
 use Rattle.equation_text.specs.EquationLines.{PartLines, NodeLine, EquationLines, goal_towards}
 use Rattle.equation_text.specs.EquationMeaning.{Leads, NextGoal, Means}
-use Rattle.equation_text.specs.EquationForm.{SwitchGoalsFit, OpsFit, AreWhole, AreEquations, goals_of}
-use Rattle.equation_text.specs.Growing.{Extends, AreGoals, AllGrew, turned_goal, turned_goals, IsTurned}
+use Rattle.equation_text.specs.EquationForm.{SwitchGoalsFit, AreWhole, AreEquations, goals_of}
+use Rattle.equation_text.specs.Growing.{Extends, AreGoals, AllGrew, turned_goals, IsTurned}
 use Rattle.equation_text.specs.Compiling.{AreExact, IsPartStep, AreStepsOf, ArePartsOf, AreExactParts, SwitchIsExact, AreGoalsOf, HaveFewSteps}
 use Rattle.equation_text.proofs.LeadsLemmas.{leads_stay}
 use Rattle.equation_text.proofs.GrowingLemmas.{get_push, goal_stays, goal_below, next_stays}

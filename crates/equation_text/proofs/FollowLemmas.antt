@@ -1,9 +1,9 @@
 -- How far it is to the end of a way, and what follows a target or a goal.
-use Rattle.std.proofs.Common.{◌≡◌, ◌∙◌, ◌⊎◌, ℕ, ◌+◌, ◌-◌, ◌<◌, ◌≤◌, zero, suc, max, Bool, true, false, List, [], ◌∷◌, ◌++◌, length, refl, sym, ap, subst, inl, inr, arith, Some, None, Option}
+use Rattle.std.proofs.Common.{◌≡◌, ◌∙◌, ◌⊎◌, ℕ, ◌-◌, ◌<◌, zero, suc, max, Bool, true, false, List, [], ◌∷◌, ◌++◌, length, refl, sym, ap, subst, inl, inr, arith, Some, Option}
 use Rattle.std.specs.Prelude.{slice_get}
-use Rattle.std.specs.List.{flat_map, All}
+use Rattle.std.specs.List.{flat_map}
 use Rattle.std.proofs.lemmas.Bool.{cases_lt}
-use Rattle.std.proofs.lemmas.Option.{same_Some, slice_get_within}
+use Rattle.std.proofs.lemmas.Option.{same_Some}
 use Rattle.ilk_base.specs.declared.words.Direction.{Direction}
 use Rattle.ilk_base.specs.declared.words.Direction.TheVariants.{ToOff, ToOn}
 use Rattle.ilk_base.specs.declared.words.Op.{Op}
@@ -14,9 +14,9 @@ use Rattle.bay_contract.specs.declared.fork.PartStep.{PartStep}
 use Rattle.equation_text.specs.declared.goal.Goal.{Goal}
 use Rattle.equation_text.specs.declared.goal.Goal.TheVariants.{Node, Answer}
 use Rattle.equation_text.specs.declared.goal.SwitchGoals.{SwitchGoals}
-use Rattle.equation_text.specs.EquationLines.{PartLines, NodeLine, goal_towards, part_node, switch_node, index_in, indices_in, past_greatest, index_count}
-use Rattle.equation_text.specs.EquationMeaning.{Passes, Leads, step_target, StepLeads, NextTarget, LeadsToIndex, goal_at, PartLeads, SwitchLeads, LineLeads, NodeLeads, NextGoal, Means}
-use Rattle.equation_text.specs.EquationForm.{IsTarget, IsLaterTarget, IsGoal, IsLaterGoal, HasGoals, goals_of, NodeLineFits, NodesFit, SwitchGoalsFit}
+use Rattle.equation_text.specs.EquationLines.{PartLines, NodeLine, goal_towards, part_node, switch_node, index_in, past_greatest, index_count}
+use Rattle.equation_text.specs.EquationMeaning.{Passes, Leads, step_target, StepLeads, NextTarget, LeadsToIndex, goal_at, LineLeads, NextGoal, Means}
+use Rattle.equation_text.specs.EquationForm.{IsTarget, IsLaterTarget, IsGoal, IsLaterGoal, HasGoals, NodeLineFits, NodesFit, SwitchGoalsFit}
 
 abbrev pub steps_left : ℕ → Target → ℕ
 steps_left steps (Step m) = suc (steps - m)

@@ -1,6 +1,6 @@
 -- Numbers of layers, places and edges of a graph.
-use Rattle.std.proofs.Common.{◌≡◌, ◌≢◌, ◌∙◌, ℕ, ◌+◌, ◌-◌, ◌<◌, ◌≤◌, zero, suc, List, [], ◌∷◌, length, take, drop, refl, sym, ap, arith}
-use Rattle.std.specs.Prelude.{sum_by, ◌==◌, if◌then◌else◌}
+use Rattle.std.proofs.Common.{◌≡◌, ◌≢◌, ◌∙◌, ℕ, ◌+◌, ◌-◌, ◌<◌, ◌≤◌, zero, suc, List, [], ◌∷◌, length, take, drop, refl, ap, arith}
+use Rattle.std.specs.Prelude.{◌==◌, if◌then◌else◌}
 use Rattle.std.proofs.lemmas.Bool.Decides.{nat_tests}
 use Rattle.std.proofs.lemmas.List.Sums.{sum_by-cons}
 use Rattle.decision_graphs.specs.Label.{Layer, Layered, layer_at, size_at, first_at, step, leads, LayerFits, AreLayers, place_after, IsNode}
@@ -27,10 +27,6 @@ pub layer_fits : (labels : ℕ) (ls : List Layer) (j : ℕ) → AreLayers labels
 layer_fits labels [] j fit lt = absurd (omega (arith, lt))
 layer_fits labels (l ∷ ls) zero fit lt = fit.0
 layer_fits labels (l ∷ ls) (suc j) fit lt = layer_fits labels ls j fit.1 (omega (arith, lt))
-
-any_label : (labels : ℕ) (ls : List Layer) → AreLayers labels ls → 0 < labels
-any_label labels [] fit = fit
-any_label labels (l ∷ ls) fit = any_label labels ls fit.1
 
 pub size_some : (labels : ℕ) (ls : List Layer) → AreLayers labels ls → 0 < size_at labels ls 0
 size_some labels [] fit = fit

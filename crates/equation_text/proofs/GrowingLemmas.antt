@@ -1,5 +1,5 @@
 -- Nodes that grow, and the goals that lead through them.
-use Rattle.std.proofs.Common.{◌≡◌, ◌∙◌, ◌⊎◌, ℕ, ◌+◌, ◌-◌, ◌<◌, ◌≤◌, zero, suc, Bool, true, false, List, [], ◌∷◌, ◌++◌, length, drop, refl, sym, ap, subst, inl, inr, arith, Some, None, Option}
+use Rattle.std.proofs.Common.{◌≡◌, ◌∙◌, ◌⊎◌, ℕ, ◌+◌, ◌<◌, ◌≤◌, zero, suc, Bool, true, false, List, [], ◌∷◌, ◌++◌, length, drop, refl, sym, ap, subst, inl, inr, arith, Some, Option}
 use Rattle.std.specs.Prelude.{slice_get}
 use Rattle.std.proofs.lemmas.Option.{same_Some, slice_get_within, slice_get_cases}
 use Rattle.std.proofs.lemmas.List.{length_push}
@@ -10,9 +10,9 @@ use Rattle.equation_text.specs.declared.goal.Goal.TheVariants.{Node, Answer}
 use Rattle.equation_text.specs.declared.subject.Subject.{Subject}
 use Rattle.equation_text.specs.declared.subject.Subjects.{Subjects}
 use Rattle.equation_text.specs.EquationLines.{PartLines, NodeLine, part_node, switch_node}
-use Rattle.equation_text.specs.EquationMeaning.{Leads, LineLeads, NodeLeads, NextGoal}
+use Rattle.equation_text.specs.EquationMeaning.{LineLeads, NextGoal}
 use Rattle.equation_text.specs.EquationForm.{IsGoal}
-use Rattle.equation_text.specs.Subjects.{subject_at, IsIndexBy, IsPositionOf, IsChosen, HasIndices, HasChoices, AreChosenFrom}
+use Rattle.equation_text.specs.Subjects.{subject_at, IsIndexBy, IsPositionOf, IsChosen, HasIndices, AreChosenFrom}
 use Rattle.equation_text.specs.Growing.{Extends, AreGoals, GrewFrom, AllGrew, IsRow, LayerLeads, LeadsToEnd, AllLead}
 use Rattle.equation_text.proofs.LeadsLemmas.{leads_here, leads_on, leads_all, leads_stay}
 use Rattle.equation_text.proofs.GraphFacts.{drop_layer, leads_none}

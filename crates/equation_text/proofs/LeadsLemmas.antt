@@ -1,5 +1,5 @@
 -- Lists from one entry to another, each followed by the next.
-use Rattle.std.proofs.Common.{◌≡◌, List, [], ◌∷◌, refl, sym, ◌∙◌, ap, subst}
+use Rattle.std.proofs.Common.{◌≡◌, List, [], ◌∷◌, sym, ◌∙◌, ap, subst}
 use Rattle.equation_text.specs.EquationMeaning.{Passes, Leads}
 
 module _ {X : Type 0} (Next : X → X → Type 0) where

@@ -1,16 +1,15 @@
 -- Lines lead to one answer.
-use Rattle.std.proofs.Common.{◌≡◌, ◌∙◌, ◌↔◌, ℕ, Bool, List, Option, Some, refl, sym, ap, subst}
+use Rattle.std.proofs.Common.{◌≡◌, ◌∙◌, ℕ, Bool, List, Option, sym, ap, subst}
 use Rattle.std.specs.Prelude.{slice_get}
 use Rattle.std.proofs.lemmas.Option.{same_Some}
 use Rattle.ilk_base.specs.declared.words.Op.{Op}
 use Rattle.ilk_base.specs.declared.words.Rule.{Rule}
-use Rattle.bay_contract.specs.declared.fork.Target.{Target}
 use Rattle.bay_contract.specs.declared.fork.Target.TheVariants.{Index}
 use Rattle.equation_text.specs.declared.goal.Goal.{Goal}
 use Rattle.equation_text.specs.declared.goal.Goal.TheVariants.{Node, Answer}
 use Rattle.equation_text.specs.declared.goal.SwitchGoals.{SwitchGoals}
 use Rattle.equation_text.specs.EquationLines.{PartLines, NodeLine, part_node, switch_node, EquationLines, goal_towards}
-use Rattle.equation_text.specs.EquationMeaning.{Leads, NextTarget, LeadsToIndex, goal_at, LineLeads, NodeLeads, NextGoal, Means}
+use Rattle.equation_text.specs.EquationMeaning.{Leads, NextTarget, LeadsToIndex, goal_at, LineLeads, NextGoal, Means}
 use Rattle.equation_text.proofs.LeadsLemmas.{one_end}
 use Rattle.equation_text.proofs.FollowLemmas.{one_target}
 

@@ -1,29 +1,26 @@
 -- The lines of a part lead to its index, and write its indices.
-use Rattle.std.proofs.Common.{◌≡◌, ◌∙◌, ◌⊎◌, ℕ, ◌+◌, ◌-◌, ◌<◌, ◌≤◌, zero, suc, max, Bool, true, false, List, [], ◌∷◌, ◌++◌, length, refl, sym, ap, subst, inl, inr, arith, Some, None}
+use Rattle.std.proofs.Common.{◌≡◌, ◌∙◌, ℕ, ◌+◌, ◌-◌, ◌<◌, ◌≤◌, suc, Bool, true, false, List, [], ◌∷◌, ◌++◌, length, refl, sym, ap, subst, arith, Some}
 use Rattle.std.specs.Prelude.{slice_get}
 use Rattle.std.specs.List.{flat_map}
-use Rattle.std.proofs.lemmas.Option.{same_Some, slice_get_within, slice_get_cases}
+use Rattle.std.proofs.lemmas.Option.{same_Some, slice_get_within}
 use Rattle.station_graph.specs.Diagram.{Diagram}
 use Rattle.station_graph.specs.Connection.{LeadsTo as Walks}
 use Rattle.station_graph.specs.Alike.{IsVector}
+use Rattle.station_graph.proofs.Decided.{element}
 use Rattle.bay_contract.specs.declared.fork.Fork.{Fork}
 use Rattle.bay_contract.specs.declared.fork.Target.{Target}
 use Rattle.bay_contract.specs.declared.fork.Target.TheVariants.{Step, Index}
 use Rattle.bay_contract.specs.declared.fork.PartStep.{PartStep}
 use Rattle.bay_contract.specs.Diagrams.{Goes, branch}
 use Rattle.bay_contract.specs.PartAlphabets.{Alphabets, forks_of, size_of}
-use Rattle.bay_contract.specs.Alphabets.{IsAlphabet, AreAlphabets, HasIndex}
+use Rattle.bay_contract.specs.Alphabets.{IsAlphabet, HasIndex}
 use Rattle.bay_contract.specs.Targets.{number_of, IsTargetOf}
-use Rattle.equation_text.specs.declared.goal.TheConstants.{GREATEST_INDEX}
-use Rattle.equation_text.specs.EquationLines.{PartLines, index_in, indices_in, past_greatest, index_count}
+use Rattle.equation_text.specs.EquationLines.{PartLines, index_in, past_greatest, index_count}
 use Rattle.equation_text.specs.EquationMeaning.{Leads, step_target, StepLeads, NextTarget, LeadsToIndex}
 use Rattle.equation_text.specs.EquationForm.{IsTarget, IsLaterTarget, PartLinesFit}
 use Rattle.equation_text.specs.Compiling.{IsPartStep, AreStepsOf, IsExactPart}
 use Rattle.equation_text.proofs.LeadsLemmas.{leads_here, leads_on}
 use Rattle.equation_text.proofs.FollowLemmas.{index_written}
-
-element : {X : Type 0} (xs : List X) (i : ℕ) → i < length xs → (x : X) × (slice_get xs i ≡ Some x)
-element xs i lt = elim (slice_get_cases xs i).1 [ inl here ↦ (here.0, here.2) | inr past ↦ absurd (omega (arith, lt, past.0)) ]
 
 past_both : (is js : List ℕ) (n : ℕ) → past_greatest is ≤ n → past_greatest js ≤ n → past_greatest (is ++ js) ≤ n
 past_both [] js n a b = b

@@ -1,5 +1,5 @@
 -- Nodes in the order of their lines lead where they led in the order in which they were built.
-use Rattle.std.proofs.Common.{◌≡◌, ◌∙◌, ◌⊎◌, ℕ, ◌+◌, ◌-◌, ◌<◌, ◌≤◌, zero, suc, Bool, true, false, List, [], ◌∷◌, ◌++◌, length, map, refl, sym, ap, subst, inl, inr, arith, Some, None, Option}
+use Rattle.std.proofs.Common.{◌≡◌, ◌∙◌, ℕ, ◌-◌, ◌<◌, zero, suc, Bool, true, false, List, [], ◌∷◌, length, map, refl, sym, ap, subst, inl, inr, arith, Some}
 use Rattle.std.specs.Prelude.{slice_get, option_map}
 use Rattle.std.proofs.lemmas.List.{length-map}
 use Rattle.std.proofs.lemmas.Option.{same_Some, slice_get_within, slice_get_cases, slice_get-map}
@@ -8,10 +8,10 @@ use Rattle.ilk_base.specs.declared.words.Direction.TheVariants.{ToOff, ToOn}
 use Rattle.equation_text.specs.declared.goal.Goal.{Goal}
 use Rattle.equation_text.specs.declared.goal.Goal.TheVariants.{Node, Answer}
 use Rattle.equation_text.specs.declared.goal.SwitchGoals.{SwitchGoals}
-use Rattle.equation_text.specs.EquationLines.{PartLines, NodeLine, part_node, switch_node, goal_towards, index_count}
-use Rattle.equation_text.specs.EquationMeaning.{Leads, goal_at, LineLeads, NodeLeads, NextGoal}
-use Rattle.equation_text.specs.EquationForm.{IsGoal, IsLaterGoal, AreLaterGoals, HasGoals, LeadsBy, goals_of, NodeLineFits, NodesFit, SwitchGoalsFit, OpsFit}
-use Rattle.equation_text.specs.Growing.{AreGoals, AllGrew, turned_goal, turned_line, turned_goals, IsTurned}
+use Rattle.equation_text.specs.EquationLines.{PartLines, NodeLine, part_node, switch_node, goal_towards}
+use Rattle.equation_text.specs.EquationMeaning.{Leads, goal_at, LineLeads, NextGoal}
+use Rattle.equation_text.specs.EquationForm.{IsGoal, IsLaterGoal, LeadsBy, goals_of, NodeLineFits, NodesFit, SwitchGoalsFit, OpsFit}
+use Rattle.equation_text.specs.Growing.{AllGrew, turned_goal, turned_line, turned_goals, IsTurned}
 use Rattle.equation_text.proofs.LeadsLemmas.{leads_map}
 
 -- an entry of a list whose entries were changed

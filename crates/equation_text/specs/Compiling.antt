@@ -1,5 +1,5 @@
 -- What is compiled of a judge by decision graphs.
-use Rattle.std.specs.Prelude.{◌≡◌, ◌<◌, ◌≤◌, ◌+◌, ◌↔◌, ℕ, Bool, List, length, slice_get, sum_by, Option, Some}
+use Rattle.std.specs.Prelude.{◌≡◌, ◌≤◌, ◌+◌, ◌↔◌, ℕ, Bool, List, length, slice_get, sum_by, Option, Some}
 use Rattle.std.specs.List.{range_with_len}
 use Rattle.ilk_base.specs.declared.words.Op.{Op}
 use Rattle.ilk_base.specs.declared.words.Rule.{Rule}
@@ -8,7 +8,6 @@ use Rattle.station_graph.specs.Diagram.{Diagram, IsStation, part_count, AreSwitc
 use Rattle.station_graph.specs.Alike.{IsVector}
 use Rattle.station_graph.specs.CentralRules.{IsOperation, Breaks}
 use Rattle.bay_contract.specs.declared.fork.PartStep.{PartStep}
-use Rattle.bay_contract.specs.declared.fork.Target.{Target}
 use Rattle.bay_contract.specs.PartAlphabets.{Alphabets, forks_of, size_of}
 use Rattle.bay_contract.specs.Alphabets.{AreAlphabets, HasIndex}
 use Rattle.bay_contract.specs.Counting.{AreStepSizes}

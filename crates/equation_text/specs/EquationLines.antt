@@ -1,5 +1,5 @@
 -- What the lines of an equation text say.
-use Rattle.std.specs.Prelude.{ℕ, List, [], ◌∷◌, ◌++◌, max, suc, length}
+use Rattle.std.specs.Prelude.{ℕ, List, [], ◌∷◌, ◌++◌, max, suc}
 use Rattle.std.specs.List.{flat_map}
 use Rattle.ilk_base.specs.declared.words.Direction.{Direction}
 use Rattle.ilk_base.specs.declared.words.Direction.TheVariants.{ToOff, ToOn}

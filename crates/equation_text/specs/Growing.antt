@@ -1,5 +1,5 @@
 -- Nodes that are built from the last to the first: each leads to nodes that were built before it.
-use Rattle.std.specs.Prelude.{◌≡◌, ◌<◌, ◌≤◌, ◌+◌, ◌-◌, ℕ, suc, Bool, List, [], ◌∷◌, length, drop, map, slice_get, Some}
+use Rattle.std.specs.Prelude.{◌≡◌, ◌<◌, ◌≤◌, ◌+◌, ◌-◌, ℕ, suc, Bool, List, length, drop, map, slice_get, Some}
 use Rattle.decision_graphs.specs.Label.{Layer, Layered, layer_at, step, leads}
 use Rattle.equation_text.specs.declared.goal.Goal.{Goal}
 use Rattle.equation_text.specs.declared.goal.Goal.TheVariants.{Node, Answer}

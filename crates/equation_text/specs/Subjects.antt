@@ -1,7 +1,5 @@
 -- What the layers of a graph look at, and in which vectors a layer's choice is given.
 use Rattle.std.specs.Prelude.{◌≡◌, ◌<◌, ◌≤◌, ◌+◌, ◌-◌, ◌==◌, ℕ, suc, Bool, List, [], ◌∷◌, length, slice_get, Some}
-use Rattle.ilk_base.specs.declared.words.BayId.{BayId}
-use Rattle.ilk_base.specs.declared.words.SwitchId.{SwitchId}
 use Rattle.decision_graphs.specs.Label.{Layered, layer_at}
 use Rattle.release_compile.specs.Graphs.{other_of}
 use Rattle.equation_text.specs.declared.subject.Subject.{Subject}

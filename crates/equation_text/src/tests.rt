@@ -1,5 +1,5 @@
 // The equations of small stations, worked by hand from the rules.
-ghost use Rattle.std.specs.Prelude.{◌≡◌};
+ghost use Rattle.std.specs.Prelude.{◌≡◌, ◌<◌, length};
 
 use crate::compile_equations;
 use ilk_base::{BayId, Direction, Kind, NodeId, Op, Rule, SwitchId};
@@ -98,12 +98,13 @@ fn example_writes(
     station_writes(rt, alloc, &station, wanted)
 }
 
-// Stations and their texts.
+// Stations and their texts. The part of the earthed line has one index: step 0 tests its first switch, and the
+// two steps behind it, which both test the second, lead to it.
 const TEXTS: &[(Example, &[u8])] = &[
     (Example::Empty, b"equations\nend\n"),
     (
         Example::EarthedLine,
-        b"equations\nswitch 0 S/V1/Q1/QC9\nswitch 1 S/V1/Q1/E1\npart 0 =0\nop 0 open ok\nop 0 close 1\nop 1 open ok\nop 1 close 0\nnode 0 switch 0 ok R2\nnode 1 switch 1 ok R1\nend\n",
+        b"equations\nswitch 0 S/V1/Q1/QC9\nswitch 1 S/V1/Q1/E1\npart 0 0\nstep 0 0 0 1 2\nstep 0 1 1 =0 =0\nstep 0 2 1 =0 =0\nop 0 open ok\nop 0 close 1\nop 1 open ok\nop 1 close 0\nnode 0 switch 0 ok R2\nnode 1 switch 1 ok R1\nend\n",
     ),
 ];
 
@@ -123,23 +124,43 @@ const ANSWERS: &[(u16, bool, Option<Rule>)] = &[
     (1, true, Some(Rule::R2)),
 ];
 
+// The answer of closing one of two switches where the other one is closed or not.
+fn answer_of(
+    alloc: Global,
+    station: &Station,
+    judge: &GraphJudge,
+    switch: u16,
+    closed: bool,
+) -> Result<Option<Rule>, Fail>
+    requires same { judge.now.diagram ≡ station.now }
+    requires two { length station.now.switches ≡ 2 }
+    requires switch { switch < 2 }
+{
+    let equations = compile_equations(alloc, judge)?;
+    let mut vector = Vector::all_open(alloc, station)?;
+    vector.set(SwitchId(1 - switch), closed);
+    let op = Op {
+        switch: SwitchId(switch),
+        direction: Direction::ToOn,
+    };
+    Ok(equations.evaluate(op, &vector))
+}
+
 fn answers(
     rt: &impl Abort,
     alloc: Global,
     station: &Station,
     judge: &GraphJudge,
-) -> Result<(), Fail> {
-    let equations = compile_equations(alloc, judge)?;
+) -> Result<(), Fail>
+    requires { judge.now.diagram ≡ station.now }
+{
     assert_eq!(rt; station.switch_count(), 2);
     for (switch, closed, wanted) in ANSWERS {
-        let mut vector = Vector::all_open(alloc, station)?;
         assert!(rt; *switch < 2);
-        vector.set(SwitchId(1 - *switch), *closed);
-        let op = Op {
-            switch: SwitchId(*switch),
-            direction: Direction::ToOn,
-        };
-        assert_eq!(rt; equations.evaluate(op, &vector), *wanted);
+        assert_eq!(rt;
+            answer_of(alloc, station, judge, *switch, *closed)?,
+            *wanted
+        );
     }
     Ok(())
 }

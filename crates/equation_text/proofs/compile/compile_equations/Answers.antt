@@ -1,4 +1,4 @@
-use Rattle.std.proofs.Common.{◌≡◌, ◌∙◌, List, length, sym, ap, subst, arith}
+use Rattle.std.proofs.Common.{◌∙◌, List, length, sym, ap, subst, arith}
 use Rattle.equation_text.specs.EquationLines.{NodeLine}
 use Rattle.equation_text.specs.EquationForm.{OpsFit}
 use Rattle.equation_text.proofs.CompileLemmas.{parts_exact, parts_of, goals_within, compiled}

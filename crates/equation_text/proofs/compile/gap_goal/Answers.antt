@@ -1,4 +1,4 @@
-use Rattle.std.proofs.Common.{◌≡◌, ◌∙◌, ◌-◌, ◌<◌, ℕ, Bool, List, length, sym, ap, subst, Some, None, arith}
+use Rattle.std.proofs.Common.{◌∙◌, ◌-◌, List, length, sym, ap, subst, Some, arith}
 use Rattle.ilk_base.specs.declared.words.Rule.TheVariants.{R1, R2}
 use Rattle.release_compile.specs.declared.view.View.TheVariants.{Gap}
 use Rattle.decision_graphs.specs.Reaching.{node_total}

@@ -4,7 +4,7 @@ use Rattle.std.proofs.lemmas.Option.{slice_get_read}
 use Rattle.equation_text.specs.declared.goal.Goal.{Goal}
 use Rattle.equation_text.specs.declared.goal.Goal.TheVariants.{Node, Answer}
 use Rattle.equation_text.specs.EquationMeaning.{NextGoal, Leads, NodeLeads}
-use Rattle.equation_text.specs.EquationForm.{IsGoal, NodeLineFits}
+use Rattle.equation_text.specs.EquationForm.{IsGoal}
 use Rattle.equation_text.proofs.LeadsLemmas.{leads_here, leads_on}
 use Rattle.equation_text.proofs.FollowLemmas.{later_goal, line_later, nodes_left}
 use Rattle.equation_text.proofs.equations.follow.Goals as goal

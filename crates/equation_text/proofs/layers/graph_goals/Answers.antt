@@ -1,7 +1,7 @@
-use Rattle.std.proofs.Common.{◌≡◌, ◌∙◌, ◌<◌, ◌≤◌, ◌-◌, ℕ, ◌+◌, suc, List, length, sym, ap, subst, refl, arith}
+use Rattle.std.proofs.Common.{◌≡◌, ◌∙◌, ◌<◌, ◌-◌, ℕ, suc, List, length, sym, ap, subst, refl, arith}
 use Rattle.decision_graphs.specs.Label.{size_at, first_at, layer_at}
 use Rattle.equation_text.specs.declared.goal.Goal.{Goal}
-use Rattle.equation_text.specs.Subjects.{subject_at, HasChoices}
+use Rattle.equation_text.specs.Subjects.{HasChoices}
 use Rattle.equation_text.specs.Growing.{AreGoals, AllLead}
 use Rattle.equation_text.proofs.GraphFacts.{size_last, size_within, first_more}
 use Rattle.equation_text.proofs.GrowingLemmas.{extends_same, extends_all, graph_none, graph_step}

@@ -1,5 +1,4 @@
 use Rattle.std.proofs.Common.{◌≡◌, ◌≢◌, ◌∙◌, ◌+◌, ◌-◌, ◌<◌, suc, length, get_or, Some, sym, ap, arith}
-use Rattle.std.specs.Prelude.{slice_get}
 use Rattle.std.proofs.lemmas.Option.{slice_get-get_or}
 use Rattle.decision_graphs.specs.Label.{layer_at, step}
 use Rattle.equation_text.specs.declared.goal.Goal.TheVariants.{Node}

@@ -1,4 +1,4 @@
-use Rattle.std.proofs.Common.{◌≡◌, ◌∙◌, ◌<◌, List, length, get_or, set, arith, sym, ap}
+use Rattle.std.proofs.Common.{◌∙◌, ◌<◌, length, get_or, set, arith, ap}
 use Rattle.std.proofs.lemmas.List.{get_or_default}
 use Rattle.std.proofs.lemmas.List.Edits.{map_over_more}
 use Rattle.equation_text.specs.declared.goal.Goal.{Goal}

@@ -1,9 +1,9 @@
-use Rattle.std.proofs.Common.{◌≡◌, ◌∙◌, ◌<◌, List, length, get_or, set, arith, sym, ap}
+use Rattle.std.proofs.Common.{◌≡◌, ◌∙◌, ◌<◌, length, get_or, set, arith, ap}
 use Rattle.std.proofs.lemmas.List.{get_or_default}
 use Rattle.std.proofs.lemmas.List.Edits.{map_over_more}
 use Rattle.equation_text.specs.declared.goal.Goal.TheVariants.{Node}
 use Rattle.equation_text.specs.declared.goal.SwitchGoals.{SwitchGoals}
-use Rattle.equation_text.specs.Growing.{turned_goal, turned_goals}
+use Rattle.equation_text.specs.Growing.{turned_goals}
 use Rattle.equation_text.proofs.turning.turn_ops.Goals as goal
 
 pub loop-i-preserved : goal.loop-i-preserved

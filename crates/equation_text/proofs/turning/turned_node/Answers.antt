@@ -1,4 +1,4 @@
-use Rattle.std.proofs.Common.{◌≡◌, refl, sym, subst}
+use Rattle.std.proofs.Common.{refl, sym, subst}
 use Rattle.equation_text.specs.declared.node.Lead.{Lead}
 use Rattle.equation_text.specs.EquationLines.{NodeLine}
 use Rattle.equation_text.specs.EquationForm.{goals_of}

@@ -1,4 +1,3 @@
-use Rattle.std.proofs.Common.{ℕ, length, refl}
 use Rattle.std.proofs.lemmas.Option.{slice_get-get_or}
 use Rattle.ilk_base.specs.declared.words.Direction.TheVariants.{ToOff, ToOn}
 use Rattle.equation_text.specs.declared.goal.Goal.TheVariants.{Node}

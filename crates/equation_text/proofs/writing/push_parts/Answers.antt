@@ -1,4 +1,4 @@
-use Rattle.std.proofs.Common.{ℕ, length, refl}
+use Rattle.std.proofs.Common.{length, refl}
 use Rattle.std.proofs.lemmas.Option.{slice_get_read}
 use Rattle.equation_text.specs.EquationLines.{PartLines}
 use Rattle.equation_text.specs.EquationText.{part_line}

@@ -1,4 +1,3 @@
-use Rattle.std.proofs.Common.{ℕ, length, refl}
 use Rattle.std.proofs.lemmas.Option.{slice_get-get_or}
 use Rattle.bay_contract.specs.declared.fork.Target.TheVariants.{Step}
 use Rattle.bay_contract.specs.declared.fork.PartStep.{PartStep}

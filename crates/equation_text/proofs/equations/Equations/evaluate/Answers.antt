@@ -2,7 +2,7 @@ use Rattle.std.proofs.Common.{◌≡◌, ◌∙◌, ◌<◌, List, length, refl,
 use Rattle.std.specs.Prelude.{slice_get}
 use Rattle.std.proofs.lemmas.Option.{slice_get_read}
 use Rattle.equation_text.specs.declared.goal.Goal.{Goal}
-use Rattle.equation_text.specs.EquationLines.{EquationLines, NodeLine, goal_towards}
+use Rattle.equation_text.specs.EquationLines.{EquationLines, NodeLine}
 use Rattle.equation_text.specs.EquationMeaning.{Means}
 use Rattle.equation_text.specs.EquationForm.{IsGoal}
 use Rattle.equation_text.proofs.FollowLemmas.{nodes_fit_same, goal_fits, lines_mean}
