@@ -6,14 +6,16 @@ ghost use Rattle.bay_contract.specs.Alphabets.{AreAlphabets};
 ghost use Rattle.release_compile.specs.Judging.{KeepsLimits};
 ghost use Rattle.station_graph.specs.Alike.{IsVector};
 ghost use Rattle.switching_orders.specs.OrderRuling.{AreOperations};
+ghost use Rattle.equation_audit.specs.Equations.{AreOfStation};
 ghost use Rattle.double_points.specs.Words.{AreWords};
 ghost use Rattle.central_rules.specs.Meaning.{IsBay};
-ghost use Rattle.interlock_cli.specs.Formats.{Accepts, Drawing, Positions, CertainPositions, OrderOf, SwitchOf, BayOf};
+ghost use Rattle.interlock_cli.specs.Formats.{Accepts, Drawing, Positions, CertainPositions, OrderOf, BlocksOf, SwitchOf, BayOf};
 ghost use Rattle.interlock_cli.specs.Form.{Given, Fails, File};
 ghost use Rattle.interlock_cli.specs.Judging.{Drawn, BuildFails, ReadFails, JudgeFails, Onward};
 
 use crate::end::End;
 use double_points::{PositionsFault, Readings, read_positions};
+use equation_audit::{Blocks, BlocksFault, read_blocks};
 use ilk_base::{BayId, InputRefusal, ReadTrouble, Shelf, SwitchId};
 use release_compile::{BuildRefusal, GraphJudge};
 use ssd_read::{SsdRefusal, read_ssd};
@@ -93,6 +95,21 @@ fn judge_steps(alloc: Global, station: &Station, bytes: &[u8]) -> Result<Order, 
         Ok(order) => Ok(order),
         Err(OrderFault::Memory) => Err(End::Memory),
         Err(OrderFault::Refused(refusal)) => Err(End::Input(refusal)),
+    }
+}
+
+// The blocks of the bytes of a file.
+fn judge_blocks(alloc: Global, station: &Station, bytes: &[u8]) -> Result<Blocks, End>
+    ensures ok { IfOk result (Accepts (BlocksOf station.now) bytes.now) }
+    ensures of_station { IfOk result (AreOfStation station.now) }
+    ensures err { IfErr result (JudgeFails (BlocksOf station.now) bytes.now) }
+{
+    // Its clause says that no two switches have one path; it does nothing.
+    station.is_station();
+    match read_blocks(alloc, station, bytes) {
+        Ok(blocks) => Ok(blocks),
+        Err(BlocksFault::Memory) => Err(End::Memory),
+        Err(BlocksFault::Refused(refusal)) => Err(End::Input(refusal)),
     }
 }
 
@@ -210,6 +227,25 @@ pub(crate) fn load_order<F: Shelf>(
         Err(end) => return Err(end),
     };
     judge_steps(alloc, station, &bytes)
+}
+
+// The blocks of a file.
+pub(crate) fn load_blocks<F: Shelf>(
+    alloc: Global,
+    station: &Station,
+    name: &str,
+    shelf: &mut F,
+) -> Result<Blocks, End>
+    ensures ok { IfOk result (Given (F.held shelf.old) (File name.now) (BlocksOf station.now)) }
+    ensures of_station { IfOk result (AreOfStation station.now) }
+    ensures err { IfErr result (Fails (F.held shelf.old) (F.faults shelf.old) (F.faults shelf.new) (File name.now) (BlocksOf station.now)) }
+    ensures onward { Onward (F.held shelf.old) (F.held shelf.new) (F.faults shelf.old) (F.faults shelf.new) }
+{
+    let bytes = match read_file(name, shelf) {
+        Ok(bytes) => bytes,
+        Err(end) => return Err(end),
+    };
+    judge_blocks(alloc, station, &bytes)
 }
 
 // The switch of a path that the words name.

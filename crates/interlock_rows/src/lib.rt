@@ -3,11 +3,15 @@
 #![tactic(auto)]
 
 #[cfg(test)]
+mod audits;
+#[cfg(test)]
 mod drawings;
 #[cfg(test)]
 mod explanations;
 #[cfg(test)]
 mod hostile;
+#[cfg(test)]
+mod makes;
 #[cfg(test)]
 mod orders;
 #[cfg(test)]
