@@ -14,3 +14,5 @@ mod orders;
 mod refusals;
 #[cfg(test)]
 mod rows;
+#[cfg(test)]
+mod sessions;
