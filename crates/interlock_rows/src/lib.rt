@@ -18,3 +18,5 @@ mod orders;
 mod refusals;
 #[cfg(test)]
 mod rows;
+#[cfg(test)]
+mod sessions;

@@ -106,6 +106,73 @@ fn drawings(rt: HostRuntime) -> Result<(), Fail> {
     expect_refused(&rt, alloc, b"\xFF\xFE\x3C\x00", b"", refused, line)
 }
 
+// The names of nodes and switches.
+const DIGITS: [&str; 8] = ["1", "2", "3", "4", "5", "6", "7", "8"];
+
+// Appends bay `name`, with earthing switches on the nodes of bay `at`, which it declares where it is that bay.
+fn push_earthings(text: &mut Text, name: &str, at: &str, digits: &[&str]) -> Result<(), Memory> {
+    text.push(b"<Bay name=\"Q")?;
+    text.push(name.as_bytes())?;
+    text.push(b"\">")?;
+    if name == at {
+        for digit in digits {
+            text.push(b"<ConnectivityNode name=\"a")?;
+            text.push(digit.as_bytes())?;
+            text.push(b"\"/>")?;
+        }
+    }
+    for digit in digits {
+        push_earthing(text, at, digit)?;
+    }
+    text.push(b"</Bay>")
+}
+
+// Appends an earthing switch on a node of bay `at`.
+fn push_earthing(text: &mut Text, at: &str, digit: &str) -> Result<(), Memory> {
+    text.push(b"<ConductingEquipment name=\"E")?;
+    text.push(digit.as_bytes())?;
+    text.push(b"\" type=\"DIS\"><Terminal connectivityNode=\"S/V/Q")?;
+    text.push(at.as_bytes())?;
+    text.push(b"/a")?;
+    text.push(digit.as_bytes())?;
+    text.push(b"\"/>")?;
+    text.push(GROUNDED.as_bytes())?;
+    text.push(b"</ConductingEquipment>")
+}
+
+// A drawing of bays, each with so many earthing switches on the nodes of a bay.
+fn earthed_bays(alloc: Global, bays: &[(&str, &str)], digits: &[&str]) -> Result<Text, Memory> {
+    let mut text = Text::new(alloc);
+    text.push(b"<SCL><Substation name=\"S\"><VoltageLevel name=\"V\">")?;
+    for (name, at) in bays {
+        push_earthings(&mut text, name, at, digits)?;
+    }
+    text.push(b"</VoltageLevel></Substation></SCL>")?;
+    Ok(text)
+}
+
+// Stations that are refused since they pass a limit of their graphs: a bay of 256 distinct contractions, and bays of
+// 128 each of which any three together have 2,097,152.
+#[test]
+fn limits_of_graphs(rt: HostRuntime) -> Result<(), Fail> {
+    let alloc = rt.alloc();
+    let refused = Status::StationRefused;
+    let many = earthed_bays(alloc, &[("1", "1"), ("2", "1")], &DIGITS)?;
+    let line = "interlock: station refused 16 part 0 step 8\n";
+    expect_refused(&rt, alloc, many.bytes(), b"", refused, line)?;
+    let six = [
+        ("1", "1"),
+        ("2", "2"),
+        ("3", "3"),
+        ("4", "1"),
+        ("5", "2"),
+        ("6", "3"),
+    ];
+    let wide = earthed_bays(alloc, &six, &DIGITS[..7])?;
+    let line = "interlock: station refused 17 bay 0\n";
+    expect_refused(&rt, alloc, wide.bytes(), b"", refused, line)
+}
+
 #[test]
 fn positions(rt: HostRuntime) -> Result<(), Fail> {
     let alloc = rt.alloc();
@@ -144,6 +211,8 @@ const USAGE: &[&str] = &[
     "explain a.ssd a.csv up S/V1/Q1/QB1",
     "explain a.ssd a.csv open -x",
     "check a.ssd a.csv open S/V1/Q1/QB1",
+    "node a.ssd",
+    "node a.ssd S/V1/Q1 more",
 ];
 
 #[test]
