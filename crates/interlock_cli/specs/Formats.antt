@@ -4,7 +4,7 @@ use Rattle.std.specs.Prelude.{◌≡◌, ◌⊎◌, ℕ, Bool, List, slice_get, 
 use Rattle.ilk_base.specs.declared.words.Dbpos.{Dbpos}
 use Rattle.ilk_base.specs.declared.words.InputRefusal.{InputRefusal}
 use Rattle.ilk_base.specs.declared.words.Op.{Op}
-use Rattle.station_graph.specs.Diagram.{Diagram, IsStation}
+use Rattle.station_graph.specs.Diagram.{Diagram, Differ, IsStation}
 use Rattle.ssd_read.specs.StandsFor.{Stands}
 use Rattle.central_rules.specs.Meaning.{IsBay}
 use Rattle.release_compile.specs.Judging.{KeepsLimits, IsBuildRefusal}
@@ -13,6 +13,10 @@ use Rattle.release_compile.specs.declared.refusal.BuildRefusal.TheVariants.{Many
 use Rattle.double_points.specs.Positions.{IsAccepted, IsRefusedWith}
 use Rattle.switching_orders.specs.Certain.{AreWordsOf, IsUnsure}
 use Rattle.switching_orders.specs.OrderLines.{IsOrder, IsOrderFault}
+use Rattle.equation_audit.specs.Equations.{Equation}
+use Rattle.equation_audit.specs.BlockLines.{AreBlocks, IsBlocksFault}
+use Rattle.reservation_core.specs.declared.values.LogEvent.{LogEvent}
+use Rattle.log_replay.specs.Log.{IsLog, IsLogFault}
 use Rattle.interlock_cli.specs.declared.end.End.{End}
 use Rattle.interlock_cli.specs.declared.end.End.TheVariants as e
 
@@ -25,18 +29,24 @@ pub data Format : Type 0 where
   CertainPositions : Diagram → Format
   -- an order of switching of the station
   OrderOf : Diagram → Format
+  -- the log of an operation of the station
+  LogOf : Diagram → Format
+  -- equations of the station, one block for each
+  BlocksOf : Diagram → Format
   -- the path of a switch of the station
   SwitchOf : Diagram → Format
   -- the path of a bay of the station
   BayOf : Diagram → Format
 
 -- what a content is accepted as: a station, a word or a position for each of its switches, the steps of
--- an order, the path itself, or the number of the bay
+-- an order, equations, the path itself, or the number of the bay
 abbrev pub Value : Format → Type 0
 Value Drawing = Diagram
 Value (Positions d) = List Dbpos
 Value (CertainPositions d) = List Bool
 Value (OrderOf d) = List Op
+Value (LogOf d) = List LogEvent
+Value (BlocksOf d) = List Equation
 Value (SwitchOf d) = List ℕ
 Value (BayOf d) = ℕ
 
@@ -44,12 +54,15 @@ Value (BayOf d) = ℕ
 abbrev pub NamesBay : Diagram → List ℕ → ℕ → Type 0
 NamesBay d path b = (slice_get d.part_paths b ≡ Some path) × IsBay d b
 
--- the content is accepted, as this; a drawing is accepted whose station keeps the limits of its graphs
+-- the content is accepted, as this; a drawing is accepted whose station keeps the limits of its graphs, and
+-- blocks name the switches of a station, of which no two have one path
 abbrev pub Accepts : (f : Format) → List ℕ → Value f → Type 0
 Accepts Drawing content d = Stands content (Ok d) × KeepsLimits d
 Accepts (Positions d) content words = IsAccepted d.switch_paths content words
 Accepts (CertainPositions d) content v = (words : List Dbpos) × IsAccepted d.switch_paths content words × AreWordsOf v words
 Accepts (OrderOf d) content steps = IsOrder d content steps
+Accepts (LogOf d) content events = IsStation d × IsLog d content events
+Accepts (BlocksOf d) content es = Differ d.switch_paths × AreBlocks d content es
 Accepts (SwitchOf d) content path = Contains d.switch_paths content × (path ≡ content)
 Accepts (BayOf d) content b = NamesBay d content b
 
@@ -73,6 +86,8 @@ Refuses Drawing content (e.Wide bay) = PassesLimit content (Wide bay)
 Refuses (Positions d) content (e.Input refusal) = IsRefusedWith d.switch_paths content refusal
 Refuses (CertainPositions d) content (e.Input refusal) = IsRefusedWith d.switch_paths content refusal ⊎ IsUnsureRefusal d content refusal
 Refuses (OrderOf d) content (e.Input refusal) = IsOrderFault d content refusal
+Refuses (LogOf d) content (e.Input refusal) = IsLogFault d content refusal
+Refuses (BlocksOf d) content (e.Input refusal) = IsBlocksFault d content refusal
 Refuses (SwitchOf d) content (e.Input refusal) = (¬ Contains d.switch_paths content) × (refusal.number ≡ 11) × (refusal.line ≡ 0)
 Refuses (BayOf d) content (e.Input refusal) = ((b : ℕ) → ¬ NamesBay d content b) × (refusal.number ≡ 11) × (refusal.line ≡ 0)
 Refuses _ content _ = ⊥

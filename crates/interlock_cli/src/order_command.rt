@@ -11,7 +11,7 @@ use std::alloc::Global;
 use switching_orders::order_text;
 
 // How a call ends that has found a difference from the rules, or none.
-fn outcome_of(differs: bool) -> Outcome
+pub(crate) fn outcome_of(differs: bool) -> Outcome
     ensures { result ≡ outcome_of differs }
 {
     match differs {

@@ -1,10 +1,11 @@
 // What the words name.
 ghost use Rattle.std.specs.Prelude.{◌≡◌, map, option_map, string_bytes};
 ghost use Rattle.std.specs.List.{list_all};
-ghost use Rattle.interlock_cli.specs.Commands.{check_of, command_of, direction_of, explain_of, is_plain, named, node_of, order_of, state_of};
+ghost use Rattle.interlock_cli.specs.Commands.{replay_of, audit_of, check_of, command_of, direction_of, explain_of, is_plain, make_of, named, node_of, order_of, state_of};
 ghost use Rattle.interlock_cli.specs.Seen.{seen};
 
 use ilk_base::Direction;
+use station_make::{Feeders, MadeText, feeders_named, text_named};
 
 // A command, with its words.
 #[derive(Clone, Copy)]
@@ -28,9 +29,21 @@ pub enum Command<'a> {
         positions: &'a str,
         order: &'a str,
     },
+    Replay {
+        station: &'a str,
+        log: &'a str,
+    },
+    Audit {
+        station: &'a str,
+        equations: &'a str,
+    },
     Node {
         station: &'a str,
         bay: &'a str,
+    },
+    Make {
+        feeders: Feeders,
+        text: MadeText,
     },
 }
 
@@ -123,6 +136,32 @@ fn order_words(rest: &[String]) -> Option<Command<'_>>
     })
 }
 
+// `audit STATION EQUATIONS`.
+fn audit_words(rest: &[String]) -> Option<Command<'_>>
+    ensures { audit_of (map string_bytes rest.entry.now) ≡ option_map seen result }
+{
+    let [station, equations] = rest else {
+        return None;
+    };
+    Some(Command::Audit {
+        station: station.as_str(),
+        equations: equations.as_str(),
+    })
+}
+
+// `replay STATION LOG`.
+fn replay_words(rest: &[String]) -> Option<Command<'_>>
+    ensures { replay_of (map string_bytes rest.entry.now) ≡ option_map seen result }
+{
+    let [station, log] = rest else {
+        return None;
+    };
+    Some(Command::Replay {
+        station: station.as_str(),
+        log: log.as_str(),
+    })
+}
+
 // `node STATION BAY`.
 fn node_words(rest: &[String]) -> Option<Command<'_>>
     ensures { node_of (map string_bytes rest.entry.now) ≡ option_map seen result }
@@ -134,6 +173,22 @@ fn node_words(rest: &[String]) -> Option<Command<'_>>
         station: station.as_str(),
         bay: bay.as_str(),
     })
+}
+
+// `make NUMBER station`, or `positions`, or `log`.
+fn make_words(rest: &[String]) -> Option<Command<'_>>
+    ensures { make_of (map string_bytes rest.entry.now) ≡ option_map seen result }
+{
+    let [number, text] = rest else {
+        return None;
+    };
+    let Some(feeders) = feeders_named(number.as_str()) else {
+        return None;
+    };
+    match text_named(text.as_str()) {
+        Some(text) => Some(Command::Make { feeders, text }),
+        None => None,
+    }
 }
 
 // The command of words of which none is empty or begins with `-`.
@@ -148,7 +203,10 @@ fn named(words: &[String]) -> Option<Command<'_>>
         "explain" => explain_words(rest),
         "state" => state_words(rest),
         "order" => order_words(rest),
+        "replay" => replay_words(rest),
+        "audit" => audit_words(rest),
         "node" => node_words(rest),
+        "make" => make_words(rest),
         _ => None,
     }
 }

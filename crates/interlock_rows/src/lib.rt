@@ -3,14 +3,20 @@
 #![tactic(auto)]
 
 #[cfg(test)]
+mod audits;
+#[cfg(test)]
 mod drawings;
 #[cfg(test)]
 mod explanations;
 #[cfg(test)]
 mod hostile;
 #[cfg(test)]
+mod makes;
+#[cfg(test)]
 mod orders;
 #[cfg(test)]
 mod refusals;
+#[cfg(test)]
+mod replays;
 #[cfg(test)]
 mod rows;

@@ -15,3 +15,12 @@ returns-in-State-clause-err g c = rw c.in-State.is c.state.ensures.err
 
 pub returns-in-Order-clause-err : goal.returns-in-Order-clause-err
 returns-in-Order-clause-err g c = rw c.in-Order.is c.order.ensures.err
+
+pub returns-in-Make-clause-err : goal.returns-in-Make-clause-err
+returns-in-Make-clause-err g c = rw c.in-Make.is c.make.ensures.err
+
+pub returns-in-Audit-clause-err : goal.returns-in-Audit-clause-err
+returns-in-Audit-clause-err g c = rw c.in-Audit.is c.audit.ensures.err
+
+pub returns-in-Replay-clause-err : goal.returns-in-Replay-clause-err
+returns-in-Replay-clause-err g c = rw c.in-Replay.is c.replay.ensures.err
