@@ -7,11 +7,12 @@ use Rattle.ilk_base.specs.declared.words.Direction.TheVariants.{ToOff, ToOn}
 use Rattle.station_state.specs.StateText.{IsStateText}
 use Rattle.station_make.specs.declared.words.MadeText.{MadeText}
 use Rattle.station_make.specs.Words.{feeders_of, made_text, text_named}
-use Rattle.interlock_cli.specs.Formats.{Drawing, Positions, CertainPositions, OrderOf, BlocksOf, SwitchOf, BayOf}
+use Rattle.interlock_cli.specs.Formats.{Drawing, Positions, CertainPositions, OrderOf, LogOf, BlocksOf, SwitchOf, BayOf}
 use Rattle.interlock_cli.specs.Form.{Form, Write, Take, Serve, File, Word}
 use Rattle.interlock_cli.specs.CheckText.{IsCheckText}
 use Rattle.interlock_cli.specs.ExplainText.{IsExplainText}
 use Rattle.interlock_cli.specs.OrderWrites.{OrderWrites}
+use Rattle.interlock_cli.specs.ReplayWrites.{ReplayWrites}
 use Rattle.interlock_cli.specs.AuditWrites.{AuditWrites}
 use Rattle.interlock_cli.specs.declared.end.Outcome.{Outcome}
 use Rattle.interlock_cli.specs.declared.end.Outcome.TheVariants.{Done}
@@ -25,6 +26,8 @@ pub data Command : Type 0 where
   State : List ℕ → List ℕ → Command
   -- `order STATION POSITIONS ORDER`
   Order : List ℕ → List ℕ → List ℕ → Command
+  -- `replay STATION LOG`
+  Replay : List ℕ → List ℕ → Command
   -- `audit STATION EQUATIONS`
   Audit : List ℕ → List ℕ → Command
   -- `node STATION BAY`
@@ -57,6 +60,10 @@ abbrev pub order_of : List (List ℕ) → Option Command
 order_of (station ∷ positions ∷ order ∷ []) = Some (Order station positions order)
 order_of _ = None
 
+abbrev pub replay_of : List (List ℕ) → Option Command
+replay_of (station ∷ log ∷ []) = Some (Replay station log)
+replay_of _ = None
+
 abbrev pub audit_of : List (List ℕ) → Option Command
 audit_of (station ∷ equations ∷ []) = Some (Audit station equations)
 audit_of _ = None
@@ -77,6 +84,7 @@ named (name ∷ rest) =
     else if bytes_eq name (codes "explain") then explain_of rest
     else if bytes_eq name (codes "state") then state_of rest
     else if bytes_eq name (codes "order") then order_of rest
+    else if bytes_eq name (codes "replay") then replay_of rest
     else if bytes_eq name (codes "audit") then audit_of rest
     else if bytes_eq name (codes "node") then node_of rest
     else if bytes_eq name (codes "make") then make_of rest
@@ -101,6 +109,8 @@ form_of (State station positions) =
 form_of (Order station positions order) =
     Take (File station) Drawing (λ d. Take (File positions) (CertainPositions d) (λ start.
     Take (File order) (OrderOf d) (λ steps. Write (OrderWrites d start steps))))
+form_of (Replay station log) =
+    Take (File station) Drawing (λ d. Take (File log) (LogOf d) (λ events. Write (ReplayWrites d events)))
 form_of (Audit station equations) =
     Take (File station) Drawing (λ d. Take (File equations) (BlocksOf d) (λ es. Write (AuditWrites d es)))
 form_of (Node station bay) =

@@ -4,6 +4,7 @@ pub mod Judging
 pub mod CheckText
 pub mod ExplainText
 pub mod OrderWrites
+pub mod ReplayWrites
 pub mod AuditWrites
 pub mod Commands
 pub mod Seen

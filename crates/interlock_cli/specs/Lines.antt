@@ -15,6 +15,7 @@ use Rattle.interlock_cli.specs.declared.status.Status.TheVariants as s
 abbrev pub outcome_status : Outcome → Status
 outcome_status o.Done = s.Done
 outcome_status o.Differs = s.Differs
+outcome_status (o.Premise number line) = s.Premise
 
 -- the status of an end
 abbrev pub status_of : End → Status
@@ -52,9 +53,15 @@ numbered_line (Some n) refusal = fault_line n (place refusal) (option_map limit_
 abbrev pub station_line : SsdRefusal → List ℕ
 station_line refusal = numbered_line (number refusal) refusal
 
+-- the line of a call whose text is written: the premise that is broken, and where
+abbrev pub outcome_line : Outcome → List ℕ
+outcome_line o.Done = []
+outcome_line o.Differs = []
+outcome_line (o.Premise number line) = codes "interlock: premise " ++ decimal number ++ codes " line " ++ decimal line ++ codes "\n"
+
 -- the line on `err`
 abbrev pub line_of : End → List ℕ
-line_of (e.Written outcome) = []
+line_of (e.Written outcome) = outcome_line outcome
 line_of e.Usage = codes "interlock: usage\n"
 line_of e.ReadFault = codes "interlock: read fault\n"
 line_of e.WriteFault = codes "interlock: write fault\n"

@@ -11,6 +11,7 @@ use ssd_read::SsdRefusal;
 pub enum Outcome {
     Done,
     Differs,
+    Premise { number: u8, line: u32 },
 }
 
 // What a call has to write once all is accepted, and how it then ends.
@@ -42,6 +43,7 @@ fn outcome_status(outcome: Outcome) -> Status
     match outcome {
         Outcome::Done => Status::Done,
         Outcome::Differs => Status::Differs,
+        Outcome::Premise { .. } => Status::Premise,
     }
 }
 

@@ -11,6 +11,7 @@ mod loading;
 mod make_command;
 mod node_command;
 mod order_command;
+mod replay_command;
 mod state_command;
 mod status;
 mod tell;

@@ -5,10 +5,10 @@ ghost use Rattle.std.specs.Io.KnownBytes.{Appends};
 ghost use Rattle.ilk_base.specs.Outside.{Rose, AppendsFront};
 ghost use Rattle.station_graph.specs.Limits.{limit_number};
 ghost use Rattle.ssd_read.specs.Shown.{limit};
-ghost use Rattle.interlock_cli.specs.Lines.{fault_line, line_of, station_line};
+ghost use Rattle.interlock_cli.specs.Lines.{fault_line, line_of, outcome_line, station_line};
 ghost use Rattle.interlock_cli.specs.Pieces.{label_of, digits_of};
 
-use crate::end::End;
+use crate::end::{End, Outcome};
 use ilk_base::{Failed, Sink, write_all, write_pieces};
 use itoa::Buffer;
 use ssd_read::SsdRefusal;
@@ -122,7 +122,27 @@ fn tell_one<S: Sink>(sink: &mut S, head: &[u8], number: u32) -> Result<(), Faile
     write_pieces(sink, &[head, number, b"\n".as_slice()])
 }
 
-// Writes the line of an end; nothing where the text is written.
+// Writes the line of a call whose text is written: that of a broken premise, or nothing.
+fn tell_written<S: Sink>(sink: &mut S, outcome: Outcome) -> Result<(), Failed>
+    ensures ok { OnOk result (Appends (S.took sink.old) (S.took sink.new) (outcome_line outcome)) }
+    ensures err { OnErr result (AppendsFront (S.took sink.old) (S.took sink.new) (outcome_line outcome)) }
+    ensures grows { S.faults sink.old ≤ S.faults sink.new }
+    ensures failed { OnErr result (Rose (S.faults sink.old) (S.faults sink.new)) }
+{
+    match outcome {
+        Outcome::Done => write_all(sink, b""),
+        Outcome::Differs => write_all(sink, b""),
+        Outcome::Premise { number, line } => tell_two(
+            sink,
+            b"interlock: premise ",
+            u32::from(number),
+            b" line ",
+            line,
+        ),
+    }
+}
+
+// Writes the line of an end; nothing where the text is written and no premise is broken.
 pub(crate) fn tell<S: Sink>(sink: &mut S, end: &End) -> Result<(), Failed>
     ensures ok { OnOk result (Appends (S.took sink.old) (S.took sink.new) (line_of end.now)) }
     ensures err { OnErr result (AppendsFront (S.took sink.old) (S.took sink.new) (line_of end.now)) }
@@ -130,7 +150,7 @@ pub(crate) fn tell<S: Sink>(sink: &mut S, end: &End) -> Result<(), Failed>
     ensures failed { OnErr result (Rose (S.faults sink.old) (S.faults sink.new)) }
 {
     match end {
-        End::Written(_) => write_all(sink, b""),
+        End::Written(outcome) => tell_written(sink, *outcome),
         End::Usage => write_all(sink, b"interlock: usage\n"),
         End::ReadFault => write_all(sink, b"interlock: read fault\n"),
         End::WriteFault => write_all(sink, b"interlock: write fault\n"),

@@ -1,7 +1,7 @@
 // What the words name.
 ghost use Rattle.std.specs.Prelude.{◌≡◌, map, option_map, string_bytes};
 ghost use Rattle.std.specs.List.{list_all};
-ghost use Rattle.interlock_cli.specs.Commands.{audit_of, check_of, command_of, direction_of, explain_of, is_plain, make_of, named, node_of, order_of, state_of};
+ghost use Rattle.interlock_cli.specs.Commands.{replay_of, audit_of, check_of, command_of, direction_of, explain_of, is_plain, make_of, named, node_of, order_of, state_of};
 ghost use Rattle.interlock_cli.specs.Seen.{seen};
 
 use ilk_base::Direction;
@@ -28,6 +28,10 @@ pub enum Command<'a> {
         station: &'a str,
         positions: &'a str,
         order: &'a str,
+    },
+    Replay {
+        station: &'a str,
+        log: &'a str,
     },
     Audit {
         station: &'a str,
@@ -145,6 +149,19 @@ fn audit_words(rest: &[String]) -> Option<Command<'_>>
     })
 }
 
+// `replay STATION LOG`.
+fn replay_words(rest: &[String]) -> Option<Command<'_>>
+    ensures { replay_of (map string_bytes rest.entry.now) ≡ option_map seen result }
+{
+    let [station, log] = rest else {
+        return None;
+    };
+    Some(Command::Replay {
+        station: station.as_str(),
+        log: log.as_str(),
+    })
+}
+
 // `node STATION BAY`.
 fn node_words(rest: &[String]) -> Option<Command<'_>>
     ensures { node_of (map string_bytes rest.entry.now) ≡ option_map seen result }
@@ -186,6 +203,7 @@ fn named(words: &[String]) -> Option<Command<'_>>
         "explain" => explain_words(rest),
         "state" => state_words(rest),
         "order" => order_words(rest),
+        "replay" => replay_words(rest),
         "audit" => audit_words(rest),
         "node" => node_words(rest),
         "make" => make_words(rest),

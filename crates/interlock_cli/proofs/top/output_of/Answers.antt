@@ -21,3 +21,6 @@ returns-in-Make-clause-err g c = rw c.in-Make.is c.make.ensures.err
 
 pub returns-in-Audit-clause-err : goal.returns-in-Audit-clause-err
 returns-in-Audit-clause-err g c = rw c.in-Audit.is c.audit.ensures.err
+
+pub returns-in-Replay-clause-err : goal.returns-in-Replay-clause-err
+returns-in-Replay-clause-err g c = rw c.in-Replay.is c.replay.ensures.err
