@@ -1,9 +1,9 @@
 -- What is left on the device where a changed record is put.
-use Rattle.std.proofs.Common.{◌≡◌, ◌⊎◌, ℕ, List, Option, Some, None, inl, inr, refl, sym, subst}
+use Rattle.std.proofs.Common.{◌≡◌, ◌⊎◌, ℕ, List, Option, Some, None, sym, subst}
 use Rattle.bay_protocol.specs.declared.values.Kept.{Kept}
 use Rattle.bay_protocol.specs.Output.{IsKeep}
 use Rattle.node_store.specs.declared.store.Store.{Store}
-use Rattle.node_store.specs.Device.{Becomes, IsSettled, LeavesOnly}
+use Rattle.node_store.specs.Device.{IsSettled, LeavesOnly}
 use Rattle.node_store.specs.Image.{IsImageOf}
 use Rattle.node_store.specs.Store.{MatchesStore}
 use Rattle.stored_session.specs.Kept.{IsKept, LeavesNow}

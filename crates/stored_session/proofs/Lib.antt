@@ -1,2 +1,5 @@
 pub mod Along
+pub mod Beginning
 pub mod Changing
+pub mod Ending
+pub mod Lines

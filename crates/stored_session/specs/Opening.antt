@@ -1,5 +1,5 @@
 -- When the record on a device is none from which a bay goes on.
-use Rattle.std.specs.Prelude.{◌⊎◌, ⊤, ℕ, List}
+use Rattle.std.specs.Prelude.{◌⊎◌, ℕ, List}
 use Rattle.station_graph.specs.Diagram.{Diagram}
 use Rattle.bay_protocol.specs.declared.values.Kept.{Kept}
 use Rattle.bay_protocol.specs.Fits.{KeptFits}

@@ -5,6 +5,9 @@
 mod line;
 mod opening;
 mod putting;
+mod reading;
+mod session;
 
 pub use line::{LineEnd, take_line};
 pub use opening::{BayTrouble, open_for_bay};
+pub use session::{StoredEnd, serve_stored};

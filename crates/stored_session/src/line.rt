@@ -15,12 +15,12 @@ ghost use Rattle.node_store.specs.Store.{MatchesStore, store_sequence};
 ghost use Rattle.stored_session.specs.Kept.{IsKept, LeavesNow};
 ghost use Rattle.stored_session.specs.Stored.{AsksTurn, WritesLine, LineFails};
 
+use crate::putting::put_changed;
 use bay_node::{Kept, Node, NodeOutput};
 use central_rules::Judge;
 use ilk_base::{BayId, Failed, Sink, write_all};
 use node_session::{LineTrouble, Request, read_request, shown_text};
 use node_store::{Device, Store};
-use crate::putting::put_changed;
 use station_graph::Station;
 use std::alloc::Global;
 

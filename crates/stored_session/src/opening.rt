@@ -27,7 +27,11 @@ pub enum BayTrouble {
 
 /// Opens the store for a node of the bay. Time and memory: three calls of the device, and the logarithm of the
 /// switches; takes no memory.
-pub fn open_for_bay<D: Device>(station: &Station, bay: BayId, device: &mut D) -> Result<Opened, BayTrouble>
+pub fn open_for_bay<D: Device>(
+    station: &Station,
+    bay: BayId,
+    device: &mut D,
+) -> Result<Opened, BayTrouble>
     ensures stands { IfOk result (λ o. Told (D.content device.old) (λ image. IsImageOf image o.kept)) }
     ensures fits { IfOk result (λ o. KeptFits station.now bay.0 o.kept) }
     ensures kept { IfOk result (λ o. Told (D.content device.new) (λ image. IsKept D.moment D.left_since device.new o.store image o.kept)) }

@@ -13,7 +13,11 @@ use ilk_base::Failed;
 use node_store::{Device, Store};
 
 // Puts the record, if there is a new one.
-pub(crate) fn put_changed<D: Device>(store: Store, device: &mut D, keep: Option<Kept>) -> Result<Store, Failed>
+pub(crate) fn put_changed<D: Device>(
+    store: Store,
+    device: &mut D,
+    keep: Option<Kept>,
+) -> Result<Store, Failed>
     requires room { store_sequence store + 1 < 2 ^ 64 }
     requires matches { Told (D.content device.old) (λ image. MatchesStore image store × IsSettled D.moment D.left_since device.old image) }
     // A crash leaves the record from before the step or from after it.

@@ -1,4 +1,4 @@
-use Rattle.std.proofs.Common.{◌≡◌, ◌⊎◌, List, ℕ, inl}
+use Rattle.std.proofs.Common.{◌⊎◌, List, ℕ, inl}
 use Rattle.bay_protocol.specs.State.{kept_of}
 use Rattle.node_store.specs.Image.{IsImageOf}
 use Rattle.node_store.proofs.Runs.{begins}

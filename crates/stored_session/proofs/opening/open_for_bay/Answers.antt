@@ -1,4 +1,4 @@
-use Rattle.std.proofs.Common.{◌≡◌, ⊎_elim, inr, subst}
+use Rattle.std.proofs.Common.{⊎_elim, inr, subst}
 use Rattle.bay_protocol.specs.declared.values.Kept.{Kept}
 use Rattle.bay_protocol.specs.Fits.{KeptFits}
 use Rattle.node_store.proofs.Records.{stands_once}

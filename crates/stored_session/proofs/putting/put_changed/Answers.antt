@@ -1,4 +1,4 @@
-use Rattle.std.proofs.Common.{◌≡◌, ◌⊎◌, ℕ, List, inl, sym, subst}
+use Rattle.std.proofs.Common.{◌⊎◌, ℕ, List, inl, sym, subst}
 use Rattle.std.proofs.lemmas.Result.{IfOk-weaker}
 use Rattle.bay_protocol.specs.declared.values.Kept.{Kept}
 use Rattle.node_store.specs.Image.{IsImageOf}

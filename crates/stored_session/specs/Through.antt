@@ -1,0 +1,53 @@
+-- How far an input is read, line by line.
+use Rattle.std.specs.Prelude.{◌≡◌, ◌<◌, ◌++◌, ◌∷◌, ⊤, ℕ, List, [], length, Option, Result, Ok, Err, IfSome}
+use Rattle.std.specs.Str.Lines.{lines}
+use Rattle.std.specs.Io.KnownBytes.{Consumes}
+use Rattle.node_session.specs.declared.request.TheConstants.{MOST_LINE}
+use Rattle.node_session.specs.declared.reader.InputTrouble.{InputTrouble}
+use Rattle.node_session.specs.declared.reader.InputTrouble.TheVariants.{Memory, Failed}
+use Rattle.stored_session.specs.declared.reading.NextLine.{NextLine}
+use Rattle.stored_session.specs.declared.reading.NextLine.TheVariants.{Line, Last, TooLong, End}
+
+-- These whole lines were taken of the input, and these bytes are held that follow them.
+pub record ReadsThrough (before now : Option (List ℕ)) (held : List ℕ) (done : List (List ℕ)) : Type 0 where
+  pub taken : List ℕ
+  pub consumed : Consumes before now (taken ++ held)
+  pub ends : (rest : List ℕ) → lines (taken ++ rest) ≡ done ++ lines rest
+
+-- The input is these bytes, where it is told, and these are its lines.
+pub record HasLines (input : Option (List ℕ)) (content : List ℕ) (all : List (List ℕ)) : Type 0 where
+  pub told : IfSome input (λ known. known ≡ content)
+  pub cut : lines content ≡ all
+
+-- The input begins with these lines.
+abbrev pub Begins : Option (List ℕ) → List (List ℕ) → Type 0
+Begins input done = (content : List ℕ) × (more : List (List ℕ)) × HasLines input content (done ++ more)
+
+-- The input is these lines, and all of it was taken.
+abbrev pub IsAll : Option (List ℕ) → Option (List ℕ) → List (List ℕ) → Type 0
+IsAll input now all = (content : List ℕ) × HasLines input content all × Consumes input now content
+
+-- The next line of the input is this one.
+abbrev pub HasNext : Option (List ℕ) → List (List ℕ) → List ℕ → Type 0
+HasNext input done line = Begins input (done ++ line ∷ [])
+
+-- What comes next, after these lines: a line with an end; the last one, without; one that is too long; nothing. A
+-- line that is too long is refused before its end is seen.
+abbrev pub ComesNext : Option (List ℕ) → Option (List ℕ) → List ℕ → List (List ℕ) → NextLine → Type 0
+ComesNext input now held done (Line line) = ReadsThrough input now held (done ++ line ∷ [])
+ComesNext input now held done (Last line) = IsAll input now (done ++ line ∷ [])
+ComesNext input now held done TooLong = (line : List ℕ) × HasNext input done line × (MOST_LINE < length line)
+ComesNext input now held done End = IsAll input now done
+
+-- It is a line with an end.
+abbrev pub HasEnd : NextLine → Type 0
+HasEnd (Line line) = ⊤
+HasEnd (Last line) = ⊥
+HasEnd TooLong = ⊥
+HasEnd End = ⊥
+
+-- The same, or why it is not known.
+abbrev pub GoesOn : Option (List ℕ) → Option (List ℕ) → List ℕ → List (List ℕ) → Type 0 → Result NextLine InputTrouble → Type 0
+GoesOn input now held done rose (Ok next) = ComesNext input now held done next
+GoesOn input now held done rose (Err Memory) = Begins input done
+GoesOn input now held done rose (Err Failed) = rose × Begins input done
