@@ -121,3 +121,39 @@ def drawing(bays):
 def positions(words):
     """The positions file of these words by path."""
     return "".join(f"{path},{word}\n" for path, word in words.items())
+
+
+def feeder(name, odd):
+    """A feeder of a double busbar: its switches by name, with the positions when it is in service."""
+    q, on, off = name, "on", "off"
+    items = [
+        equipment("QB1", "DIS", ["W1/B", f"{q}/n1"]),
+        equipment("QB2", "DIS", ["W2/B", f"{q}/n1"]),
+        equipment("QA1", "CBR", [f"{q}/n1", f"{q}/n2"]),
+        equipment("QB9", "DIS", [f"{q}/n2", f"{q}/n3"]),
+        equipment("QC9", "DIS", [f"{q}/n3", f"{q}/grounded"]),
+        equipment("E1", "IFL", [f"{q}/n3"]),
+    ]
+    words = {"QB1": on if odd else off, "QB2": off if odd else on, "QA1": on, "QB9": on, "QC9": off, "E1": on}
+    return bay(q, ["n1", "n2", "n3"], items), {f"S/V1/{q}/{switch}": word for switch, word in words.items()}
+
+
+def double_busbar(feeders):
+    """The drawing of a double busbar with a coupler and so many feeders, and the words of its switches."""
+    coupler = bay("K0", ["k1", "k2"], [
+        equipment("QB1", "DIS", ["W1/B", "K0/k1"]),
+        equipment("QA1", "CBR", ["K0/k1", "K0/k2"]),
+        equipment("QB2", "DIS", ["K0/k2", "W2/B"]),
+    ])
+    bays, words = [bay("W1", ["B"], []), bay("W2", ["B"], []), coupler], dict.fromkeys((f"S/V1/K0/{q}" for q in ("QB1", "QA1", "QB2")), "on")
+    for i in range(1, feeders + 1):
+        one, its = feeder(f"Q{i}", i % 2 == 1)
+        bays.append(one)
+        words.update(its)
+    return drawing(bays), words
+
+
+def unknown(words):
+    """The words with each `on` of a feeder lost, and the first feeder's breaker off."""
+    lost = {path: "lost" if word == "on" and "/K0/" not in path else word for path, word in words.items()}
+    return {**lost, "S/V1/Q1/QA1": "off"}

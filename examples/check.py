@@ -6,8 +6,9 @@
                                  - the stored run of the program in the gate (crates/interlock) with the
                                    example double_busbar
                                  - the lines that README.md here and at the top cite, with the stored texts
-                                 and what `order` says of each order in examples/orders with its stored text,
-                                 which was worked by hand
+                                 and what `order` says of each order in examples/orders, `replay` of the log
+                                 two_feeders and `audit` of the equations double_busbar, with the stored texts,
+                                 which were worked by hand
     examples/check.py --store    writes what the program says as the stored texts, where the definitions
                                  allow it; look at each difference by hand before you commit it
 
@@ -29,6 +30,11 @@ CRATE = TOP / "crates/interlock"
 IN_GATE = "double_busbar"
 # The drawing of the orders in examples/orders.
 ORDERED = "double_busbar.ssd"
+# Further answers: a command's words, and the file that holds its text.
+OTHERS = [
+    (["replay", "two_feeders.ssd", "two_feeders.log"], "two_feeders.report"),
+    (["audit", "double_busbar.ssd", "double_busbar.equations"], "double_busbar.audit"),
+]
 
 
 def interlock_script():
@@ -79,18 +85,24 @@ def example_differences(name, answer, store):
 def main(words):
     if words not in ([], ["--store"]):
         sys.exit(__doc__)
-    names = sorted(file.stem for file in HERE.glob("*.ssd"))
+    names = sorted(file.stem for file in HERE.glob("*.csv"))
     script = interlock_script()
     proved = script.is_proved()
     orders = sorted((HERE / "orders").glob("*.order"))
     commands = [["check", str(HERE / f"{name}.ssd"), str(HERE / f"{name}.csv")] for name in names]
     commands += [["order", str(HERE / ORDERED), str(order.with_suffix(".csv")), str(order)] for order in orders]
+    commands += [[command, *(str(HERE / file) for file in files)] for (command, *files), _ in OTHERS]
     answers = [text for _, text in script.answers(commands)]
     found = [d for name, text in zip(names, answers) for d in example_differences(name, text, words == ["--store"])]
     found += [
         f"{order.stem}: the program does not say what examples/orders/{order.stem}.txt says"
         for order, text in zip(orders, answers[len(names):])
         if order.with_suffix(".txt").read_text() != text
+    ]
+    found += [
+        f"{stored}: the program does not say what examples/{stored} says"
+        for (_, stored), text in zip(OTHERS, answers[len(names) + len(orders):])
+        if (HERE / stored).read_text() != text
     ]
     found += [*gate_differences(), *cited_differences(names)]
     print("\n".join(found), end="\n" if found else "")
