@@ -1,5 +1,5 @@
-// The alphabets of parts: least positions, where the positions of a bay lead, what its words leave open,
-// and a part with too many contractions.
+//! The alphabets of parts: least positions, where the positions of a bay lead, what its words leave open,
+//! and a part with too many contractions.
 ghost use Rattle.std.specs.Prelude.{◌≡◌, ◌<◌, length, IfOk};
 ghost use Rattle.bay_contract.specs.Alphabets.{AreAlphabets};
 

@@ -2,6 +2,7 @@
 use Rattle.bay_contract.specs.PartAlphabets.{PartAlphabet}
 use Rattle.bay_contract.specs.declared.alphabet.Alphabet.TheInside.{Inside}
 
+-- The alphabet that the struct holds.
 abbrev pub seen_as : Inside → PartAlphabet
 seen_as a = record {
   switches = a.switches;

@@ -29,6 +29,7 @@ pub record ForkFits (switches steps size at : ℕ) (f : Fork) : Type 0 where
   pub on_later : at < f.on
   pub on_within : f.on < steps + size
 
+-- Each fork has its switch and its targets in range.
 abbrev pub ForksFit : ℕ → ℕ → List Fork → Type 0
 ForksFit switches size forks = (a : ℕ) (f : Fork) → slice_get forks a ≡ Some f → ForkFits switches (length forks) size a f
 

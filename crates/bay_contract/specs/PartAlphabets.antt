@@ -19,9 +19,11 @@ pub record Alphabets : Type 0 where
   pub switches : ℕ
   pub parts : List PartAlphabet
 
+-- The alphabet without letters.
 abbrev pub nothing : PartAlphabet
 nothing = record { switches = 0; first = 0; count = 0; letters = []; examples = []; forks = [] }
 
+-- The alphabet that is there, or the one without letters.
 abbrev pub or_nothing : Option PartAlphabet → PartAlphabet
 or_nothing (Some x) = x
 or_nothing None = nothing
@@ -34,18 +36,23 @@ part_at a part = or_nothing (slice_get a.parts part)
 abbrev pub letters_of : Alphabets → ℕ → List Answers
 letters_of a part = (part_at a part).letters
 
+-- How many letters the part has.
 abbrev pub size_of : Alphabets → ℕ → ℕ
 size_of a part = length (letters_of a part)
 
+-- The least position of the part that has this index.
 abbrev pub example_of : Alphabets → ℕ → ℕ → ℕ
 example_of a part index = slice_index (part_at a part).examples index
 
+-- The steps of the part's decision diagram.
 abbrev pub forks_of : Alphabets → ℕ → List Fork
 forks_of a part = (part_at a part).forks
 
+-- The part's first switch.
 abbrev pub first_switch_of : Alphabets → ℕ → ℕ
 first_switch_of a part = (part_at a part).first
 
+-- How many switches the part has.
 abbrev pub count_of : Alphabets → ℕ → ℕ
 count_of a part = (part_at a part).count
 

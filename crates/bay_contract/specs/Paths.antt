@@ -41,9 +41,11 @@ pub record MayGo (words : List Dbpos) (fork : Fork) (b : ℕ) (closed : Bool) : 
   pub agrees : Agrees word closed
   pub to : branch fork closed ≡ b
 
+-- At this step a position that leads there is noted.
 abbrev pub IsNoted : List (Option ℕ) → ℕ → ℕ → Type 0
 IsNoted paths number position = slice_get paths number ≡ Some (Some position)
 
+-- At this step some position is noted.
 abbrev pub HasPath : List (Option ℕ) → ℕ → Type 0
 HasPath paths number = (position : ℕ) × IsNoted paths number position
 

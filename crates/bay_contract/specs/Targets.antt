@@ -6,6 +6,7 @@ use Rattle.bay_contract.specs.declared.fork.Target.{Target}
 use Rattle.bay_contract.specs.declared.fork.Target.TheVariants.{Step, Index}
 use Rattle.bay_contract.specs.Diagrams.{ForkFits}
 
+-- The target as a plain number: steps first, then letters.
 abbrev pub number_of : ℕ → Target → ℕ
 number_of steps (Step n) = n
 number_of steps (Index i) = steps + i

@@ -6,11 +6,11 @@ use Rattle.bay_frames.specs.declared.frame.Body.TheVariants.{Reserve, Answer, Bu
 use Rattle.ilk_base.specs.declared.words.BayId.{BayId}
 use Rattle.bay_frames.specs.Tests.{round_at}
 
--- the bay whose number stands at a place
+-- The bay whose number stands at a place.
 abbrev pub bay_at : List ℕ → ℕ → BayId
 bay_at bytes place = record { 0 = slice_index bytes place }
 
--- what the kind at place 0 and the payload from place 9 on say
+-- What the kind at place 0 and the payload from place 9 on say.
 abbrev pub body_at : List ℕ → Body
 body_at bytes =
     if slice_index bytes 0 == 1 then Reserve
@@ -19,7 +19,7 @@ body_at bytes =
     else if slice_index bytes 0 == 4 then Query
     else Over
 
--- all fields
+-- All fields.
 abbrev pub frame_at : List ℕ → Frame
 frame_at bytes =
     record { from = bay_at bytes 1; to = bay_at bytes 2; round = round_at bytes 3; body = body_at bytes }

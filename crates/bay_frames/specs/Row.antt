@@ -5,7 +5,7 @@ use Rattle.bay_frames.specs.declared.frame.Frame.{Frame}
 use Rattle.bay_frames.specs.declared.frame.Body.{Body}
 use Rattle.bay_frames.specs.declared.frame.Body.TheVariants.{Reserve, Answer, Busy, Query, Over}
 
--- the number of each kind of frame
+-- The number of each kind of frame.
 abbrev pub kind_number : Body → ℕ
 kind_number Reserve = 1
 kind_number (Answer summary) = 2
@@ -13,7 +13,7 @@ kind_number (Busy holder round) = 3
 kind_number Query = 4
 kind_number Over = 5
 
--- the payload: the summary, or the holder in one byte and its round in four, or nothing
+-- The payload: the summary, or the holder in one byte and its round in four, or nothing.
 abbrev pub payload_row : Body → List ℕ
 payload_row Reserve = []
 payload_row (Answer summary) = summary
@@ -21,17 +21,17 @@ payload_row (Busy holder round) = holder.0 ∷ to_be_bytes w32 round
 payload_row Query = []
 payload_row Over = []
 
--- the kind, the sender and the receiver in one byte each, the round in four, the length of the
--- payload in two, the payload
+-- The kind, the sender and the receiver in one byte each, the round in four, the length of the
+-- payload in two, the payload.
 abbrev pub row_of : ℕ → ℕ → ℕ → ℕ → List ℕ → List ℕ
 row_of kind from to round payload =
     (kind ∷ from ∷ to ∷ []) ++ to_be_bytes w32 round ++ to_be_bytes w16 (length payload) ++ payload
 
--- the row of a frame
+-- The row of a frame.
 abbrev pub frame_row : Frame → List ℕ
 frame_row f = row_of (kind_number f.body) f.from.0 f.to.0 f.round (payload_row f.body)
 
--- the bay that a busy bay is held by has a number of at most 199, and the round is not 0
+-- The bay that a busy bay is held by has a number of at most 199, and the round is not 0.
 abbrev pub IsLawfulBody : Body → Type 0
 IsLawfulBody Reserve = ⊤
 IsLawfulBody (Answer summary) = ⊤
@@ -48,7 +48,7 @@ pub record IsLawful (f : Frame) : Type 0 where
   pub round : f.round ≢ 0
   pub body : IsLawfulBody f.body
 
--- a summary has at most 32 bytes, and a round fits four
+-- A summary has at most 32 bytes, and a round fits four.
 abbrev pub FitsBody : Body → Type 0
 FitsBody Reserve = ⊤
 FitsBody (Answer summary) = length summary ≤ 32

@@ -1,4 +1,4 @@
-// Frames.
+//! Frames.
 ghost use Rattle.std.specs.Prelude.{◌≡◌, Some, None, Ok, IfOk, MatchResult, length, take, drop};
 ghost use Rattle.bay_frames.specs.declared.frame.Frame.{Frame as AnyFrame};
 ghost use Rattle.bay_frames.specs.Row.{frame_row, IsLawful, FitsRow};

@@ -1,4 +1,4 @@
-// What follows for every frame.
+//! What follows for every frame.
 ghost use Rattle.std.specs.Prelude.{◌≡◌, ◌≢◌, ◌<◌, ℕ, List, length, take, slice_index, None};
 ghost use Rattle.bay_frames.specs.declared.frame.Frame.{Frame as AnyFrame};
 ghost use Rattle.bay_frames.specs.Row.{frame_row, IsLawful, FitsRow};

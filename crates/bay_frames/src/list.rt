@@ -1,4 +1,4 @@
-// A list of frames.
+//! A list of frames.
 ghost use Rattle.std.specs.Prelude.{◌≡◌, ◌<◌, [], ◌∷◌, ◌++◌, length, Some, OnOk, OnErr, slice_get};
 
 use crate::frame::Frame;

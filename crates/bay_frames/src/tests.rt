@@ -1,4 +1,4 @@
-// Rows written out by hand, by the table of the format.
+//! Rows written out by hand, by the table of the format.
 ghost use Rattle.bay_frames.specs.Row.{IsLawfulBody};
 
 use crate::*;

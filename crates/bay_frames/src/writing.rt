@@ -1,4 +1,4 @@
-// Writing.
+//! Writing.
 ghost use Rattle.std.specs.Prelude.{◌≡◌, ◌<◌, ◌≤◌, ◌+◌, ◌^◌, ◌∷◌, length, take, drop};
 ghost use Rattle.std.specs.Int.{w32, to_be_bytes};
 ghost use Rattle.bay_frames.specs.Row.{kind_number, row_of};

@@ -1,4 +1,4 @@
-// Deciding a command.
+//! Deciding a command.
 ghost use Rattle.std.specs.Prelude.{◌≡◌, ◌≢◌, ◌<◌, length, IfOk, OnErr};
 ghost use Rattle.station_graph.specs.Diagram.{part_count};
 ghost use Rattle.double_points.specs.Words.{AreWords};

@@ -1,4 +1,4 @@
-// What is read, withdrawn, stopped or restarted.
+//! What is read, withdrawn, stopped or restarted.
 ghost use Rattle.std.specs.Prelude.{◌≡◌, ◌<◌, [], length, IfOk, OnErr, replicate};
 ghost use Rattle.double_points.specs.Words.{AreWords};
 ghost use Rattle.bay_protocol.specs.State.{restarts, ends, senses};

@@ -1,4 +1,4 @@
-// What a node has heard in the round that it collects.
+//! What a node has heard in the round that it collects.
 ghost use Rattle.std.specs.Prelude.{◌≡◌, ◌↔◌, ◌<◌, length, Some, IfOk, IsTrue, slice_set};
 ghost use Rattle.station_graph.specs.Diagram.{part_count};
 ghost use Rattle.bay_protocol.specs.State.{AllHeard, IsHeard};

@@ -1,4 +1,4 @@
-// The node.
+//! The node.
 ghost use Rattle.std.specs.Prelude.{◌≡◌, ◌<◌, ◌↔◌, length, Some, None, Option, option_map, IfOk, OnErr, slice_get};
 ghost use Rattle.std.specs.List.{All};
 ghost use Rattle.station_graph.specs.Diagram.{IsStation};

@@ -1,4 +1,4 @@
-// What a step shows and sends.
+//! What a step shows and sends.
 ghost use Rattle.std.specs.Prelude.{◌≡◌, ◌↔◌, [], ◌∷◌, None, IfOk, IsTrue};
 ghost use Rattle.station_graph.specs.Diagram.{part_count, IsStation};
 ghost use Rattle.bay_protocol.specs.State.{others};

@@ -1,4 +1,4 @@
-// Each rule of the protocol once: what is shown, what is sent, what is kept, and the word of the first switch.
+//! Each rule of the protocol once: what is shown, what is sent, what is kept, and the word of the first switch.
 ghost use Rattle.std.specs.Prelude.{◌≡◌, ◌≤◌, IfOk, IsTrue, length};
 ghost use Rattle.std.specs.List.{All};
 ghost use Rattle.bay_frames.specs.Row.{IsLawful};

@@ -9,22 +9,22 @@ use Rattle.central_rules.specs.Names.{rule_name, direction_name, texts_below}
 use Rattle.bay_protocol.specs.declared.values.Outcome.{Outcome}
 use Rattle.bay_protocol.specs.declared.values.Outcome.TheVariants.{UnderWay, HeldBy, There, Spent, Collecting, Granted, Denied, BusyBy, Finished, Withdrawn, Stopped, Quiet}
 
--- a line: the prefix, the text, and the end of the line
+-- A line: the prefix, the text, and the end of the line.
 abbrev pub line : List ℕ → List ℕ → List ℕ
 line prefix text = prefix ++ text ++ codes "\n"
 
--- `open PATH` or `close PATH`
+-- `open PATH` or `close PATH`.
 abbrev pub operation : Diagram → Op → List ℕ
 operation d op = direction_name op.direction ++ codes " " ++ switch_path d op.switch.0
 
--- the line `with PATH` of a switch other than the moved one that is closed in the reading
+-- The line `with PATH` of a switch other than the moved one that is closed in the reading.
 abbrev pub with_line : List ℕ → Diagram → List Bool → ℕ → ℕ → List ℕ
 with_line prefix d v moved i =
     if i == moved then []
     else if slice_index_or v i false then line prefix (codes "with " ++ switch_path d i)
     else []
 
--- the lines of an outcome, each begun with the prefix
+-- The lines of an outcome, each begun with the prefix.
 abbrev pub outcome_lines : List ℕ → Diagram → Outcome → List ℕ
 outcome_lines prefix d (Collecting r) = line prefix (codes "collecting " ++ decimal r)
 outcome_lines prefix d (Granted r op) = line prefix (codes "granted " ++ decimal r ++ codes " " ++ operation d op)
@@ -42,7 +42,7 @@ outcome_lines prefix d (Withdrawn r) = line prefix (codes "withdrawn " ++ decima
 outcome_lines prefix d (Stopped r) = line prefix (codes "stopped " ++ decimal r)
 outcome_lines prefix d Quiet = []
 
--- what a verdict names is of the station
+-- What a verdict names is of the station.
 abbrev pub OutcomeFits : Diagram → Outcome → Type 0
 OutcomeFits d (Collecting r) = ⊤
 OutcomeFits d (Granted r op) = IsOperation d op

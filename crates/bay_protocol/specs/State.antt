@@ -32,6 +32,7 @@ under_way_of (Some g) granted = Some g.round
 under_way_of None (Some g) = Some g.round
 under_way_of None None = None
 
+-- The round that is under way, if there is one.
 abbrev pub under_way : State → Option ℕ
 under_way s = under_way_of s.collecting s.granted
 

@@ -77,6 +77,7 @@ pub data OpenStep (m : Meaning) (d : Diagram) (old : State) (op : Op) (turn : Tu
   alone : others d old.bay ≡ [] → Deciding m d (opens d old op) (fresh d old op) turn → OpenStep m d old op turn
   reserves : others d old.bay ≢ [] → Ends turn (opens d old op) (Collecting (old.highest + 1)) (to_each old.bay (old.highest + 1) Reserve (others d old.bay)) → OpenStep m d old op turn
 
+-- The step at a command.
 pub data CommandStep (m : Meaning) (d : Diagram) (old : State) (op : Op) (turn : Turn) : Type 0 where
   round_under_way : (q : ℕ) → under_way old ≡ Some q → Ends turn old (UnderWay q) [] → CommandStep m d old op turn
   held : (l : Lock) → under_way old ≡ None → old.lock ≡ Some l → Ends turn old (HeldBy l.holder l.round) [] → CommandStep m d old op turn
@@ -131,6 +132,7 @@ pub record IsMeant (d : Diagram) (s : State) (f : Frame) : Type 0 where
   pub here : f.to.0 ≡ s.bay
   pub other : IsOther d s.bay f.from.0
 
+-- The step at a frame.
 pub data FrameStep (m : Meaning) (d : Diagram) (old : State) (f : Frame) (turn : Turn) : Type 0 where
   elsewhere : f.to.0 ≢ old.bay → Nothing old turn → FrameStep m d old f turn
   stranger : ¬ IsOther d old.bay f.from.0 → Nothing old turn → FrameStep m d old f turn
@@ -142,6 +144,7 @@ pub data FrameStep (m : Meaning) (d : Diagram) (old : State) (f : Frame) (turn :
 
 -- ---- the other events
 
+-- The step at a tick.
 pub data TickStep (m : Meaning) (d : Diagram) (old : State) (turn : Turn) : Type 0 where
   decides : (g : Collection) → old.collecting ≡ Some g → Deciding m d old g turn → TickStep m d old turn
   asks : (l : Lock) → old.collecting ≡ None → old.lock ≡ Some l → Ends turn old Quiet (frame old.bay l.holder.0 l.round Query ∷ []) → TickStep m d old turn
@@ -153,10 +156,12 @@ pub record IsEnd (s : State) (i : ℕ) (word : Dbpos) (g : Grant) : Type 0 where
   pub switch : g.op.switch.0 ≡ i
   pub wanted : word ≡ end_word g.op.direction
 
+-- The step at a sensed word.
 pub data SenseStep (d : Diagram) (old : State) (i : ℕ) (word : Dbpos) (turn : Turn) : Type 0 where
   finishes : (g : Grant) → IsEnd old i word g → Ends turn (ends (senses old i word)) (Finished g.round) (overs d old g.round) → SenseStep d old i word turn
   reads : ((g : Grant) → ¬ IsEnd old i word g) → Ends turn (senses old i word) Quiet [] → SenseStep d old i word turn
 
+-- The step at a withdrawal.
 pub data WithdrawStep (d : Diagram) (old : State) (turn : Turn) : Type 0 where
   from_round : (g : Collection) → old.collecting ≡ Some g → Ends turn (drops old) (Withdrawn g.round) (overs d old g.round) → WithdrawStep d old turn
   from_grant : (g : Grant) → old.collecting ≡ None → old.granted ≡ Some g → Ends turn (ends (senses old g.op.switch.0 Lost)) (Withdrawn g.round) (overs d old g.round) → WithdrawStep d old turn

@@ -1,4 +1,4 @@
-// What follows for every node.
+//! What follows for every node.
 ghost use Rattle.std.specs.Prelude.{◌≡◌, ◌<◌, ℕ, List, length};
 ghost use Rattle.std.specs.List.{All};
 ghost use Rattle.station_graph.specs.Diagram.{Diagram};

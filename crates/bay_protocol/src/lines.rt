@@ -1,4 +1,4 @@
-// The lines that show an outcome.
+//! The lines that show an outcome.
 ghost use Rattle.std.specs.Prelude.{◌≡◌, ◌<◌, ◌++◌, length, codes, IfOk, OnOk};
 ghost use Rattle.std.specs.Fmt.{decimal};
 ghost use Rattle.station_graph.specs.Alike.{IsVector};

@@ -1,4 +1,4 @@
-// The record that a node keeps, as bytes and against the station.
+//! The record that a node keeps, as bytes and against the station.
 ghost use Rattle.std.specs.Prelude.{◌≡◌, ◌<◌, ◌+◌, ◌↔◌, ◌^◌, ℕ, [], ◌∷◌, length, Some, None, IfSome, IsTrue, slice_index};
 ghost use Rattle.std.specs.Int.{w16, w32, to_be_bytes};
 ghost use Rattle.central_rules.specs.Meaning.{IsBay};

@@ -1,4 +1,4 @@
-// Records written out by hand, by the table of the format.
+//! Records written out by hand, by the table of the format.
 use crate::*;
 use ilk_base::{BayId, Direction, Op, SwitchId};
 

@@ -1,4 +1,4 @@
-// What a node keeps, what happens to it, and what comes of it.
+//! What a node keeps, what happens to it, and what comes of it.
 use bay_frames::{Frame, FrameList};
 use ilk_base::{BayId, Dbpos, HeardList, Op, Rule, SwitchId};
 use station_graph::Vector;

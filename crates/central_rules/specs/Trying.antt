@@ -6,14 +6,14 @@ use Rattle.station_graph.specs.Diagram.{Diagram}
 use Rattle.station_graph.specs.CentralRules.{Breaks}
 use Rattle.central_rules.specs.Readings.{IsReadingFrom}
 
--- two vectors are the same below a switch
+-- Two vectors are the same below a switch.
 abbrev pub SameBelow : ℕ → List Bool → List Bool → Type 0
 SameBelow n v w = (i : ℕ) → i < n → slice_get w i ≡ slice_get v i
 
--- no reading breaks a rule that is as old below a switch
+-- No reading breaks a rule that is as old below a switch.
 abbrev pub NoneBreaks : Diagram → ℕ → List Dbpos → List Bool → Op → Type 0
 NoneBreaks d at words old op = (v : List Bool) → IsReadingFrom at words v → SameBelow at old v → Breaks d v op None
 
--- the same of those with this position there
+-- The same of those with this position there.
 abbrev pub NoneBreaksWith : Bool → Diagram → ℕ → List Dbpos → List Bool → Op → Type 0
 NoneBreaksWith closed d at words old op = (v : List Bool) → IsReadingFrom at words v → SameBelow at old v → slice_get v at ≡ Some closed → Breaks d v op None

@@ -1,4 +1,4 @@
-// Small stations as tables, and the station that the builder makes of one.
+//! Small stations as tables, and the station that the builder makes of one.
 use ilk_base::{BayId, Kind, NodeId};
 use station_graph::{Builder, Link, Station, Switch, Tap};
 use std::alloc::Global;

@@ -1,4 +1,4 @@
-// What the plain judge tells and hears. The words, rows and counts are worked by hand.
+//! What the plain judge tells and hears. The words, rows and counts are worked by hand.
 ghost use Rattle.std.specs.Prelude.{◌≡◌, ◌≢◌, ◌<◌, length, IfOk, IsTrue};
 ghost use Rattle.station_graph.specs.Diagram.{part_count};
 ghost use Rattle.central_rules.specs.Meaning.{HeardFit, IsBay, bay_of};

@@ -1,4 +1,4 @@
-// Worked rows of the rules on small stations. The positions and answers are worked by hand.
+//! Worked rows of the rules on small stations. The positions and answers are worked by hand.
 ghost use Rattle.std.specs.Prelude.{◌≡◌, length, IfOk};
 ghost use Rattle.station_graph.specs.Alike.{IsVector};
 ghost use Rattle.station_graph.specs.CentralRules.{IsOperation};

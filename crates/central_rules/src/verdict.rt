@@ -1,3 +1,4 @@
+//! What a judge decides.
 use ilk_base::Rule;
 use station_graph::Vector;
 

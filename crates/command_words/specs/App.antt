@@ -7,19 +7,19 @@ use Rattle.clap.specs.declared.builder.ArgAction.TheVariants.{Set}
 use Rattle.command_words.specs.declared.parser.TheConstants.{IDS}
 use Rattle.command_words.specs.Rows.{rows}
 
--- a required word, which has no flag before it
+-- A required word, which has no flag before it.
 abbrev pub word_rule : Text → Rule
 word_rule id = record (new_rule id) { required = true; action = Some Set }
 
--- the ids of the words of a command, in order
+-- The ids of the words of a command, in order.
 abbrev pub ids : List Text
 ids = map (λ id. id.now) IDS
 
--- the command of a row
+-- The command of a row.
 abbrev pub row_shape : Text × ℕ → Shape
 row_shape r = record (new_app r.0).top { rules = map word_rule (take r.1 ids) }
 
--- the command line without its commands: no program name before them, no help, and a command is required
+-- The command line without its commands: no program name before them, no help, and a command is required.
 abbrev pub bare : App
 bare = record (new_app (codes "interlock")) {
   top = record (new_app (codes "interlock")).top {
@@ -30,10 +30,10 @@ bare = record (new_app (codes "interlock")) {
   };
 }
 
--- the command line
+-- The command line.
 abbrev pub command_line : App
 command_line = fold with_subcommand bare (map row_shape rows)
 
--- the words that were given for the ids, in order
+-- The words that were given for the ids, in order.
 abbrev pub given : Found → List Text
 given f = filter_map (first_value f) ids

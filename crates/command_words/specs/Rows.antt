@@ -7,28 +7,28 @@ use Rattle.std.specs.Str.{bytes_eq}
 use Rattle.command_words.specs.declared.row.TheConstants.{ROWS}
 use Rattle.command_words.specs.declared.row.Row.{Row}
 
--- rows as texts, from texts in memory
+-- Rows as texts, from texts in memory.
 abbrev pub rows_from : List (Bor (List ℕ) × ℕ) → List (List ℕ × ℕ)
 rows_from rows = map (λ r. (r.0.now, r.1)) rows
 
--- the commands, each with how many words follow its name
+-- The commands, each with how many words follow its name.
 abbrev pub rows : List (List ℕ × ℕ)
 rows = map (λ r. (r.0.now, r.1)) ROWS
 
--- one to four words follow the name
+-- One to four words follow the name.
 abbrev pub has_few_words : Bor (List ℕ) × ℕ → Bool
 has_few_words r = nat_lt 0 r.1 && nat_lt r.1 5
 
--- a word that is not empty and does not begin with `-`
+-- A word that is not empty and does not begin with `-`.
 abbrev pub is_plain : List ℕ → Bool
 is_plain [] = false
 is_plain (c ∷ cs) = not (c == 45)
 
--- the row of this name
+-- The row of this name.
 abbrev pub row_of : List ℕ → Option (List ℕ × ℕ)
 row_of name = find (λ r. bytes_eq r.0 name) rows
 
--- the words are a command's name, and as many words as its row says
+-- The words are a command's name, and as many words as its row says.
 abbrev pub is_row : List (List ℕ) → Bool
 is_row [] = false
 is_row (name ∷ rest) = option_map_or (λ r. length rest == r.1) (row_of name) false
@@ -38,6 +38,6 @@ is_row (name ∷ rest) = option_map_or (λ r. length rest == r.1) (row_of name) 
 abbrev pub written : List (List ℕ) → Option (List (List ℕ))
 written words = if list_all is_plain words && is_row words then Some words else None
 
--- the words of a row that was read, its name first
+-- The words of a row that was read, its name first.
 abbrev pub row_words : Row → List (List ℕ)
 row_words r = r.name.now ∷ map (λ w. w.now) r.words.items

@@ -1,4 +1,4 @@
-// Which words are of the written form.
+//! Which words are of the written form.
 use crate::read_words;
 use std::alloc::Global;
 use std::test::Fail;

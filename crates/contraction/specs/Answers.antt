@@ -46,21 +46,27 @@ pub record MarkedAt (kept : List ℕ) (marks : List Bool) (n : ℕ) : Type 0 whe
 abbrev pub SaysCoupled : Answers → ℕ → ℕ → Type 0
 SaysCoupled c = SameAt c.kept c.coupled
 
+-- Two kept nodes are joined.
 abbrev pub SaysJoined : Answers → ℕ → ℕ → Type 0
 SaysJoined c = SameAt c.kept c.joined
 
+-- Two kept nodes are bonded.
 abbrev pub SaysBonded : Answers → ℕ → ℕ → Type 0
 SaysBonded c = SameAt c.kept c.bonded
 
+-- A kept node is energisable.
 abbrev pub SaysEnergisable : Answers → ℕ → Type 0
 SaysEnergisable c = MarkedAt c.kept c.energisable
 
+-- A kept node is earthable.
 abbrev pub SaysEarthable : Answers → ℕ → Type 0
 SaysEarthable c = MarkedAt c.kept c.earthable
 
+-- A kept node is fed.
 abbrev pub SaysFed : Answers → ℕ → Type 0
 SaysFed c = MarkedAt c.kept c.fed
 
+-- A kept node is fed or tapped.
 abbrev pub SaysLoaded : Answers → ℕ → Type 0
 SaysLoaded c = MarkedAt c.kept c.loaded
 

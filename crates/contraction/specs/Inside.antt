@@ -2,6 +2,7 @@
 use Rattle.contraction.specs.Answers.{Answers}
 use Rattle.contraction.specs.declared.value.Contraction.TheInside.{Inside}
 
+-- The answers that the struct holds.
 abbrev pub answers_of : Inside → Answers
 answers_of c = record {
   kept = c.kept.items;

@@ -12,6 +12,7 @@ pub record IsLeastNext (a b : List ℕ) (i j x : ℕ) : Type 0 where
   pub first : (y : ℕ) → slice_get a i ≡ Some y → x ≤ y
   pub second : (y : ℕ) → slice_get b j ≡ Some y → x ≤ y
 
+-- The least node of both lists from these places on, or that none is left.
 abbrev pub LeastNext : List ℕ → List ℕ → ℕ → ℕ → Option ℕ → Type 0
 LeastNext a b i j answer = MatchOption answer ((length a ≤ i) × (length b ≤ j)) (IsLeastNext a b i j)
 
@@ -32,6 +33,7 @@ abbrev pub ComesFrom : List ℕ → List ℕ → ℕ → Type 0
 ComesFrom first second k =
     ((p : ℕ) × (p < length first) × (slice_index first p ≡ k)) ⊎ ((p : ℕ) × (p < length second) × (slice_index second p ≡ k))
 
+-- The merged list of two rising lists, with the place of each of their nodes in it.
 pub record Merging (a b kept first second : List ℕ) : Type 0 where
   pub rises : Rises kept
   pub first_follows : Follows a kept first
@@ -55,6 +57,8 @@ pub record EdgeBelow (places labels : List ℕ) (i a b : ℕ) : Type 0 where
   pub below : entry < i
   pub ends : AreEnds (slice_index places entry) (slice_index places (slice_index labels entry)) a b
 
+-- These are the places of an entry, before the i-th of the first row or the j-th of the second, and of the first
+-- of its class.
 abbrev pub EdgeOf : List ℕ → List ℕ → ℕ → List ℕ → List ℕ → ℕ → ℕ → ℕ → Type 0
 EdgeOf first first_labels i second second_labels j a b =
     EdgeBelow first first_labels i a b ⊎ EdgeBelow second second_labels j a b
@@ -66,6 +70,7 @@ pub record MarksClass (places labels : List ℕ) (marks : List Bool) (i class : 
   pub marked : slice_get marks entry ≡ Some true
   pub stands : slice_index labels (slice_index places entry) ≡ class
 
+-- A marked entry, before the i-th of the first row or the j-th of the second, stands in the class.
 abbrev pub MarkedInEither : List ℕ → List ℕ → List Bool → ℕ → List ℕ → List Bool → ℕ → ℕ → Type 0
 MarkedInEither labels first first_marks i second second_marks j class =
     MarksClass first labels first_marks i class ⊎ MarksClass second labels second_marks j class
@@ -92,6 +97,7 @@ pub record LabelsFit (places : List ℕ) (count : ℕ) (labels : List ℕ) : Typ
   pub inside : (k : ℕ) → k < length places → slice_index places k < count
   pub below : (k : ℕ) → k < length places → slice_index labels k ≤ k
 
+-- The labels and marks of the row are those of so many places.
 pub record RowFits (places : List ℕ) (count : ℕ) (row : Row) : Type 0 where
   pub labels : LabelsFit places count row.labels
   pub first : length row.first.items ≡ length places

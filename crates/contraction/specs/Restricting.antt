@@ -14,6 +14,7 @@ pub record Picks {X : Type 0} (all : List X) (places : List ℕ) (row : List X) 
   pub len : length row ≡ length places
   pub told : (k : ℕ) → k < length places → slice_get row k ≡ slice_get all (slice_index places k)
 
+-- The row is the other one at these places.
 pub record RowRestricts (all : Row) (places : List ℕ) (row : Row) : Type 0 where
   pub labels : LabelsRestrict all.labels places row.labels
   pub first : Picks all.first.items places row.first.items
@@ -26,6 +27,7 @@ pub record PlacesBelow (nodes kept : List ℕ) (i : ℕ) (places : List ℕ) : T
   pub named : (k : ℕ) → k < length places → Contains nodes (slice_index kept (slice_index places k))
   pub found : (p : ℕ) → p < i → Contains nodes (slice_index kept p) → (k : ℕ) × (k < length places) × (slice_index places k ≡ p)
 
+-- The places of these nodes in the kept list.
 abbrev pub PlacesOf : List ℕ → List ℕ → List ℕ → Type 0
 PlacesOf nodes kept places = PlacesBelow nodes kept (length kept) places
 

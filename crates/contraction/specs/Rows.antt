@@ -7,6 +7,7 @@ abbrev pub words : List ℕ → List ℕ
 words [] = []
 words (x ∷ xs) = (x / 256) ∷ (x % 256) ∷ words xs
 
+-- A truth value as a number.
 abbrev pub flag : Bool → ℕ
 flag true = 1
 flag false = 0
@@ -20,6 +21,7 @@ flags (b ∷ bs) = flag b ∷ flags bs
 abbrev pub gap_bytes : Answers → List ℕ
 gap_bytes c = words c.coupled ++ flags c.energisable ++ flags c.earthable
 
+-- The answers of the load view.
 abbrev pub load_bytes : Answers → List ℕ
 load_bytes c = words c.joined ++ words c.bonded ++ flags c.fed ++ flags c.loaded
 
@@ -27,8 +29,10 @@ load_bytes c = words c.joined ++ words c.bonded ++ flags c.fed ++ flags c.loaded
 abbrev pub gap_row : Answers → List ℕ
 gap_row c = words c.kept ++ gap_bytes c
 
+-- The kept nodes and the answers of the load view.
 abbrev pub load_row : Answers → List ℕ
 load_row c = words c.kept ++ load_bytes c
 
+-- The kept nodes and all answers.
 abbrev pub whole_row : Answers → List ℕ
 whole_row c = words c.kept ++ gap_bytes c ++ load_bytes c

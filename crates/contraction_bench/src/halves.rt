@@ -81,12 +81,12 @@ pub fn station_of(alloc: Global, nodes: u16) -> Result<Station> {
     Ok(builder.finish())
 }
 
-/// The contraction of no item, on no node.
+// The contraction of no item, on no node.
 fn nothing(alloc: Global) -> Result<Contraction> {
     Ok(Contraction::empty(alloc, &NodeList::new(alloc))?)
 }
 
-/// Every second link, from this one on.
+// Every second link, from this one on.
 fn links_from(alloc: Global, station: &Station, first: u16) -> Result<Contraction> {
     let mut all = nothing(alloc)?;
     for i in 0..station.link_count() {
@@ -98,7 +98,7 @@ fn links_from(alloc: Global, station: &Station, first: u16) -> Result<Contractio
     Ok(all)
 }
 
-/// The value together with all switches, closed.
+// The value together with all switches, closed.
 fn with_switches(alloc: Global, station: &Station, value: Contraction) -> Result<Contraction> {
     let mut all = value;
     for i in 0..station.switch_count() {
@@ -108,7 +108,7 @@ fn with_switches(alloc: Global, station: &Station, value: Contraction) -> Result
     Ok(all)
 }
 
-/// All taps.
+// All taps.
 fn taps(alloc: Global, station: &Station) -> Result<Contraction> {
     let mut all = nothing(alloc)?;
     for i in 0..station.tap_count() {

@@ -13,7 +13,7 @@ use std::alloc::Global;
 use std::env;
 use std::time::Instant;
 
-/// Composes so often, and gives the last composition.
+// Composes so often, and gives the last composition.
 fn compose_often(
     alloc: Global,
     first: &Contraction,
@@ -27,7 +27,7 @@ fn compose_often(
     Ok(last)
 }
 
-/// Composes two values, and prints what came of it.
+// Composes two values, and prints what came of it.
 fn measure(
     rt: &HostRuntime,
     name: &str,

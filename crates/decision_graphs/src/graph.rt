@@ -1,3 +1,4 @@
+//! Layered graphs, and what is asked of them.
 ghost use Rattle.std.specs.Prelude.{◌≡◌, ℕ, ◌+◌, ◌<◌, ◌≤◌, ◌↔◌, length, sum_by, List, map, slice_index, slice_index_or, true, false, IfOk, MatchOption, IsTrue};
 ghost use Rattle.decision_graphs.specs.Label.{DependsOn, layer_at, first_at, HasEdge, IsNode, Reaches, AreAllowed, AreChoices, AreReduced, AreLayers, Layer, label_of, place_after, step};
 ghost use Rattle.decision_graphs.specs.Reaching.{AreSetsOf, AreMarksOf, MarksReached, node_total, IsSet};
@@ -109,7 +110,7 @@ impl Graph {
         Ok(Graph::from_parts(labels, parts.shapes, parts.homes, parts.edges))
     }
 
-    /// The graph of these layers.
+    // The graph of these layers.
     pub(crate) fn from_parts(
         labels: u32,
         shapes: Vec<Shape>,
@@ -128,7 +129,7 @@ impl Graph {
         }
     }
 
-    /// How many nodes the graph has.
+    // How many nodes the graph has.
     pub(crate) fn node_total(&self) -> u32
         ensures { result ≡ node_total self.now }
     {

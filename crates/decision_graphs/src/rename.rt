@@ -1,3 +1,4 @@
+//! Giving labels new names.
 ghost use Rattle.std.specs.Prelude.{◌≡◌, ℕ, ◌<◌, ◌≤◌, ◌-◌, List, length, map, slice_index, IfOk};
 ghost use Rattle.decision_graphs.specs.Label.{Layer, AreChoices, leads};
 ghost use Rattle.decision_graphs.specs.Renaming.{last_base, renamed_edge, AreRenamed};
@@ -9,7 +10,7 @@ use crate::shape::Shape;
 use ilk_base::Memory;
 use std::alloc::Global;
 
-/// The place of the first edge of the last layer.
+// The place of the first edge of the last layer.
 fn base_of_last(shapes: &[Shape]) -> usize
     ensures { result ≡ last_base shapes.now }
 {
@@ -19,7 +20,7 @@ fn base_of_last(shapes: &[Shape]) -> usize
     shapes[shapes.len() - 1].base
 }
 
-/// Where the edge at a place leads.
+// Where the edge at a place leads.
 fn name_of(place: usize, first: usize, to: u32, names: &[u32]) -> u32
     requires { first ≤ place → to < length names.now }
     ensures { result ≡ renamed_edge first names.now place to }
@@ -50,7 +51,7 @@ fn renamed_edges(
     Ok(renamed)
 }
 
-/// The layers, with each edge of the last one to the name of its label.
+// The layers, with each edge of the last one to the name of its label.
 pub(crate) fn renamed(
     alloc: Global,
     labels: u32,

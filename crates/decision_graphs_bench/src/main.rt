@@ -15,7 +15,7 @@ use std::env;
 use std::time::Instant;
 use table::{are_sizes, bare, fill};
 
-/// The sizes of the graph: all layers have the same.
+// The sizes of the graph: all layers have the same.
 #[derive(Clone, Copy)]
 struct Sizes {
     layers: u32,
@@ -24,7 +24,7 @@ struct Sizes {
     labels: u32,
 }
 
-/// Edges that lead about evenly to all places.
+// Edges that lead about evenly to all places.
 fn mixed_edges(alloc: Global, sizes: Sizes) -> Result<Vec<Option<u32>>> {
     let mut edges = Vec::new(alloc);
     let mut state = 1u64;

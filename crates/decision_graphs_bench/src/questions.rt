@@ -1,4 +1,4 @@
-// Questions to a graph, as a caller asks them.
+//! Questions to a graph, as a caller asks them.
 ghost use Rattle.std.specs.Prelude.{IfOk};
 ghost use Rattle.decision_graphs.specs.Reaching.{AreSetsOf, AreMarksOf};
 

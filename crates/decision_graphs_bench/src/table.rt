@@ -1,5 +1,5 @@
-// Graphs from tables: for each layer how many choices and nodes it has, and the edges of all nodes
-// in order, each as a number within the next layer, or a label.
+//! Graphs from tables: for each layer how many choices and nodes it has, and the edges of all nodes
+//! in order, each as a number within the next layer, or a label.
 ghost use Rattle.std.specs.Prelude.{◌≡◌, ℕ, suc, ◌+◌, ◌<◌, ◌≤◌, ◌++◌, ◌∷◌, [], List, length, slice_index, IsTrue, IfOk, OnOk, if◌then◌else◌, ◌==◌};
 ghost use Rattle.decision_graphs.specs.Drafting.{node_count, MayHaveEdge, IsShaped, IsBare, EachHasNode, choices_of, sizes_of};
 ghost use Rattle.decision_graphs_bench.specs.Sizes.{AreSizes};
@@ -86,7 +86,7 @@ pub fn fill(
     }
 }
 
-/// The number of the first place after a layer, and how many there are.
+// The number of the first place after a layer, and how many there are.
 fn places_after(labels: u32, nodes: &[u32], layer: usize, first: u32) -> (u32, u32)
     requires layer { layer < length nodes.now }
     requires first { first + slice_index nodes.now layer ≤ 4294967295 }
@@ -99,7 +99,7 @@ fn places_after(labels: u32, nodes: &[u32], layer: usize, first: u32) -> (u32, u
     }
 }
 
-/// Where the nodes of a layer stand and where their edges may lead.
+// Where the nodes of a layer stand and where their edges may lead.
 #[derive(Clone, Copy)]
 struct Part {
     first: u32,

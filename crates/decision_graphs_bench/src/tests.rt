@@ -1,4 +1,4 @@
-// Graphs by hand: what their edges say, and what is asked of them.
+//! Graphs by hand: what their edges say, and what is asked of them.
 ghost use Rattle.std.specs.Prelude.{◌≡◌, ◌<◌, length, IfOk};
 ghost use Rattle.decision_graphs.specs.Reaching.{AreSetsOf};
 
@@ -9,7 +9,7 @@ use decision_graphs::{ChoiceList, ChoiceSets, Graph, Marks, Unfinished};
 use ilk_base::Memory;
 use std::alloc::Global;
 
-/// What `finish` answers after the edges of the first table and then those of the second.
+// What `finish` answers after the edges of the first table and then those of the second.
 fn finished(
     alloc: Global,
     labels: u32,
@@ -40,7 +40,7 @@ fn graph_of(
     }
 }
 
-/// Where a choice leads from a node of a layer; None where there is no such node or choice.
+// Where a choice leads from a node of a layer; None where there is no such node or choice.
 fn step(graph: &Graph, layer: u16, node: u32, choice: u32) -> Option<u32> {
     if layer >= graph.layers() {
         return None;
@@ -52,7 +52,7 @@ fn step(graph: &Graph, layer: u16, node: u32, choice: u32) -> Option<u32> {
     Some(graph.edge(node, choice))
 }
 
-/// The label to which a list of choices leads.
+// The label to which a list of choices leads.
 fn label_along(graph: &Graph, path: &ChoiceList) -> Option<u32>
     requires { length path.now ≡ length graph.now.layers }
 {
@@ -63,7 +63,7 @@ fn label_along(graph: &Graph, path: &ChoiceList) -> Option<u32>
     Some(node)
 }
 
-/// Every edge, by node and then by choice.
+// Every edge, by node and then by choice.
 fn all_edges(alloc: Global, graph: &Graph) -> Result<Vec<Option<u32>>, Memory> {
     let mut edges = Vec::new(alloc);
     for layer in 0..graph.layers() {
@@ -78,7 +78,7 @@ fn all_edges(alloc: Global, graph: &Graph) -> Result<Vec<Option<u32>>, Memory> {
     Ok(edges)
 }
 
-/// Sets that allow these choices, each with its layer.
+// Sets that allow these choices, each with its layer.
 fn sets_of(alloc: Global, graph: &Graph, allowed: &[(u16, u32)]) -> Result<ChoiceSets, Memory>
     ensures { IfOk result (AreSetsOf graph.now.layers) }
 {
@@ -97,7 +97,7 @@ fn reached(alloc: Global, graph: &Graph, sets: &ChoiceSets) -> Result<Vec<u32>, 
     marked_labels(alloc, graph, &marks)
 }
 
-/// Where the path to a label ends, if there is one.
+// Where the path to a label ends, if there is one.
 fn path_end(
     alloc: Global,
     graph: &Graph,
@@ -114,7 +114,7 @@ fn path_end(
     }
 }
 
-/// The labels to which `path_to` finds a path that ends there.
+// The labels to which `path_to` finds a path that ends there.
 fn ends(alloc: Global, graph: &Graph, sets: &ChoiceSets) -> Result<Vec<u32>, Memory>
     requires { AreSetsOf graph.now.layers sets.now }
 {
@@ -136,7 +136,7 @@ fn dependence(alloc: Global, graph: &Graph) -> Result<Vec<bool>, Memory> {
     Ok(depends)
 }
 
-/// The graph with each label replaced by its name.
+// The graph with each label replaced by its name.
 fn renamed(alloc: Global, graph: &Graph, names: &[u32]) -> anyhow::Result<Graph> {
     let labels = graph.labels();
     if labels == 0 || names.len() != labels as usize || !names.iter().all(|name| *name < labels) {

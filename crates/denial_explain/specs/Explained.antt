@@ -20,6 +20,7 @@ use Rattle.denial_explain.specs.declared.explanation.Explanation.{Explanation}
 abbrev pub LeadsCoupled : Diagram → List Bool → ℕ → Chain → Type 0
 LeadsCoupled d v a c = LeadsToClosed d (with_breakers_closed d v) v Infeed a c
 
+-- The chain leads from the node to a closed earthing switch, through breakers open or closed.
 abbrev pub LeadsToEarth : Diagram → List Bool → ℕ → Chain → Type 0
 LeadsToEarth d v a c = LeadsToClosed d (with_breakers_closed d v) v Earthing a c
 
@@ -67,6 +68,7 @@ pub record ExplainsLoad (d : Diagram) (v : List Bool) (op : Op) (e : Explanation
   pub apart : ¬ Contains e.bonded second.0
   pub no_earthed : e.earthed ≡ None
 
+-- The explanation is that of the rule.
 abbrev pub ExplainsBy : Rule → Diagram → List Bool → Op → Explanation → Type 0
 ExplainsBy R1 d v op e = ExplainsEarthing d v op e
 ExplainsBy R2 d v op e = ExplainsClosing d v op e

@@ -1,4 +1,4 @@
-// Why an operation breaks a rule.
+//! Why an operation breaks a rule.
 ghost use Rattle.std.specs.Prelude.{◌≡◌, ◌<◌, ◌↔◌, ◌⊎◌, ℕ, length, slice_set, Some, IfOk, Contains};
 ghost use Rattle.ilk_base.specs.declared.words.Rule.{Rule as AnyRule};
 ghost use Rattle.ilk_base.specs.declared.words.Rule.TheVariants.{R1, R2, R3};

@@ -1,3 +1,4 @@
+//! Why an operation breaks a rule.
 use crate::chain::Chain;
 use ilk_base::{Op, Rule};
 use station_graph::NodeList;

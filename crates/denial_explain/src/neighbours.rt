@@ -10,8 +10,8 @@ use station_graph::{NodeList, Station, Vector};
 use std::alloc::Global;
 use std::marker::Model;
 
-/// For each node the nodes to which one item joins it, seen as one list of nodes for each node. A node
-/// stands in a list as often as there are items that join the two.
+// For each node the nodes to which one item joins it, seen as one list of nodes for each node. A node
+// stands in a list as often as there are items that join the two.
 #[derive(Debug, Drop)]
 pub(crate) struct Neighbours {
     lists: Vec<NodeList>,
@@ -26,8 +26,8 @@ impl Model for Neighbours {
 }
 
 impl Neighbours {
-    /// The neighbours along the closed breakers, the closed disconnectors and the links. Time and
-    /// memory: the nodes, the switches and the links.
+    // The neighbours along the closed breakers, the closed disconnectors and the links. Time and
+    // memory: the nodes, the switches and the links.
     pub(crate) fn of(
         alloc: Global,
         station: &Station,
@@ -83,14 +83,14 @@ impl Neighbours {
         Ok(())
     }
 
-    /// How many nodes there are, at once.
+    // How many nodes there are, at once.
     pub(crate) fn len(&self) -> usize
         ensures { result ≡ length self.now }
     {
         self.lists.len()
     }
 
-    /// The neighbours of the node, at once.
+    // The neighbours of the node, at once.
     pub(crate) fn at(&self, node: NodeId) -> &[u16]
         requires { node.0 < length self.now }
         ensures { result.now ≡ list_at self.now node.0 }

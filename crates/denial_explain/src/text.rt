@@ -1,4 +1,4 @@
-// The text of an explanation.
+//! The text of an explanation.
 ghost use Rattle.std.specs.Prelude.{◌≡◌, ◌<◌, ◌++◌, length, codes, IfOk, OnOk};
 ghost use Rattle.station_graph.specs.Diagram.{node_count, switch_path, node_path};
 ghost use Rattle.central_rules.specs.Names.{texts_below};

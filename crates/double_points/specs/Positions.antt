@@ -11,11 +11,11 @@ use Rattle.double_points.specs.declared.positions.PositionsFault.{PositionsFault
 use Rattle.double_points.specs.declared.positions.PositionsFault.TheVariants.{Memory, Refused}
 use Rattle.ilk_base.specs.declared.words.InputRefusal.{InputRefusal}
 
--- a record, as the list of its fields
+-- A record, as the list of its fields.
 abbrev pub Row : Type 0
 Row = List (List ℕ)
 
--- the first of the faults 1, 2 and 3 that a record has
+-- The first of the faults 1, 2 and 3 that a record has.
 abbrev pub form_fault : List (List ℕ) → Row → Option ℕ
 form_fault paths (path ∷ word ∷ []) =
     if not (is_utf8 path && is_utf8 word) then Some 1
@@ -26,55 +26,56 @@ form_fault paths [] = Some 1
 form_fault paths (a ∷ []) = Some 1
 form_fault paths (a ∷ b ∷ c ∷ more) = Some 1
 
--- a record names this path
+-- A record names this path.
 abbrev pub names : List ℕ → Row → Bool
 names path row = bytes_eq (slice_index_or row 0 []) path
 
--- the first fault of a record that comes after these
+-- The first fault of a record that comes after these.
 abbrev pub row_fault : List (List ℕ) → List Row → Row → Option ℕ
 row_fault paths before row =
     if is_some (form_fault paths row) then form_fault paths row
     else if list_any (names (slice_index_or row 0 [])) before then Some 4
     else None
 
--- the fault of the record at a place
+-- The fault of the record at a place.
 abbrev pub fault_at : List (List ℕ) → List Row → ℕ → Option ℕ
 fault_at paths rows k = row_fault paths (take k rows) (slice_index_or rows k [])
 
--- no record has a fault
+-- No record has a fault.
 abbrev pub Accepts : List (List ℕ) → List Row → Type 0
 Accepts paths rows = (k : ℕ) → k < length rows → fault_at paths rows k ≡ None
 
--- this record is the first with a fault, and this is its fault
+-- This record is the first with a fault, and this is its fault.
 pub record IsFirstFault (paths : List (List ℕ)) (rows : List Row) (r : InputRefusal) : Type 0 where
   pub counts : 1 ≤ r.line
   pub within : r.line ≤ length rows
   pub fault : fault_at paths rows (r.line - 1) ≡ Some r.number
   pub first : (k : ℕ) → k < r.line - 1 → fault_at paths rows k ≡ None
 
--- the word that a path is given, if it is
+-- The word that a path is given, if it is.
 abbrev pub given : List Row → List ℕ → Option Dbpos
 given [] path = None
 given (row ∷ rows) path = if names path row then word_of (slice_index_or row 1 []) else given rows path
 
--- each switch's word
+-- Each switch's word.
 abbrev pub words_of : List (List ℕ) → List Row → List Dbpos
 words_of paths rows = map (λ path. unwrap_or (given rows path) Lost) paths
 
--- the readings that a file gives, where it is accepted
+-- The readings that a file gives, where it is accepted.
 abbrev pub IsAccepted : List (List ℕ) → List ℕ → List Dbpos → Type 0
 IsAccepted paths bytes words = (length bytes ≤ 8388608) × Accepts paths (rows_of bytes) × (words ≡ words_of paths (rows_of bytes))
 
--- why a file is refused
+-- Why a file is refused.
 abbrev pub IsRefusedWith : List (List ℕ) → List ℕ → InputRefusal → Type 0
 IsRefusedWith paths bytes r = ((8388608 < length bytes) × (r ≡ record { number = 5; line = 0 }))
     ⊎ ((length bytes ≤ 8388608) × IsFirstFault paths (rows_of bytes) r)
 
+-- This holds of the refusal, where there is one; want of memory has no cause.
 abbrev pub ForRefused : PositionsFault → (InputRefusal → Type 0) → Type 0
 ForRefused Memory P = ⊤
 ForRefused (Refused r) P = P r
 
--- each record has a word
+-- Each record has a word.
 abbrev pub HaveWords : List Row → Type 0
 HaveWords [] = ⊤
 HaveWords (row ∷ rows) = (is_some (word_of (slice_index_or row 1 [])) ≡ true) × HaveWords rows

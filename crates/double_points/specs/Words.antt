@@ -8,7 +8,7 @@ use Rattle.station_graph.specs.Connection.{a_switch}
 use Rattle.station_graph.specs.Sharing.{OfPart}
 use Rattle.station_graph.specs.declared.items.Switch.{Switch}
 
--- the word that a text spells
+-- The word that a text spells.
 abbrev pub word_of : List ℕ → Option Dbpos
 word_of text =
     if bytes_eq text (codes "intermediate") then Some Intermediate

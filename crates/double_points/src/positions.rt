@@ -1,4 +1,4 @@
-// The file of positions.
+//! The file of positions.
 ghost use Rattle.std.specs.Prelude.{◌≡◌, ◌≢◌, ◌<◌, ◌≤◌, ℕ, List, [], ◌∷◌, length, map, Some, None, Err, IfOk, IfErr, OnOk, IfSome, IfNone, unwrap_or, slice_index_or, true, false};
 ghost use Rattle.std.specs.Str.{is_utf8};
 ghost use Rattle.csv.specs.Records.{fields_of};

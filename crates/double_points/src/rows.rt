@@ -1,4 +1,4 @@
-// The records of a CSV text, one at a time: no header, any number of fields, blank lines skipped.
+//! The records of a CSV text, one at a time: no header, any number of fields, blank lines skipped.
 ghost use Rattle.std.specs.Prelude.{◌≡◌, ◌∷◌, ◌≤◌, [], length, IfOk, IfErr, OnErr, Ok, MatchBool, true, false};
 ghost use Rattle.csv.specs.Reading.{error_kind, stops_reader};
 ghost use Rattle.csv.specs.Records.{fields_of};

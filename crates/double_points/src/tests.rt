@@ -1,4 +1,4 @@
-// Positions files and what they give; the expected words and refusals are those of the format.
+//! Positions files and what they give; the expected words and refusals are those of the format.
 ghost use Rattle.std.specs.Prelude.{◌≡◌, IfOk, length};
 
 use crate::{PositionsFault, Readings, agrees, read_positions};

@@ -1,5 +1,5 @@
-// Blocks of a line bay and of a busbar with many lines, what is found of them, and refused texts. The
-// texts are worked by hand from the rules.
+//! Blocks of a line bay and of a busbar with many lines, what is found of them, and refused texts. The
+//! texts are worked by hand from the rules.
 ghost use Rattle.std.specs.Prelude.{◌≡◌};
 ghost use Rattle.equation_audit.specs.Equations.{AreOfStation};
 

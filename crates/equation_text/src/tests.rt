@@ -1,4 +1,4 @@
-// The equations of small stations, worked by hand from the rules.
+//! The equations of small stations, worked by hand from the rules.
 ghost use Rattle.std.specs.Prelude.{◌≡◌, ◌<◌, length};
 
 use crate::compile_equations;

@@ -17,7 +17,7 @@ use double_points::{text_of, word_from};
 use ilk_base::{BayId, Dbpos, Direction, SwitchId};
 use station_graph::Station;
 
-/// The field of the record at a place; empty where there is none.
+// The field of the record at a place; empty where there is none.
 pub(crate) fn field(row: &ByteRecord, place: usize) -> &[u8]
     ensures { result.now ≡ field (fields_of row.entry.now) place }
 {
@@ -27,8 +27,8 @@ pub(crate) fn field(row: &ByteRecord, place: usize) -> &[u8]
     }
 }
 
-/// The fields of a record of the kind after the first, as texts, the second of them empty where there is but
-/// one; none where the record has not the form of its kind.
+// The fields of a record of the kind after the first, as texts, the second of them empty where there is but
+// one; none where the record has not the form of its kind.
 pub(crate) fn texts(kind: RecordKind, row: &ByteRecord) -> Option<(&str, &str)>
     requires { IsOfKind (fields_of row.now) kind }
     ensures some { IfSome result (λ p. (p.0.now ≡ field (fields_of row.entry.now) 1) × (p.1.now ≡ field (fields_of row.entry.now) 2)) }
@@ -47,7 +47,7 @@ pub(crate) fn texts(kind: RecordKind, row: &ByteRecord) -> Option<(&str, &str)>
     Some((first, second))
 }
 
-/// The switch with this path, or 2.
+// The switch with this path, or 2.
 pub(crate) fn switch_at(station: &Station, path: &str) -> Result<SwitchId, u8>
     ensures path { IfOk result (λ i. path.now ≡ switch_path station.now i.0) }
     ensures within { IfOk result (λ i. i.0 < length station.now.switches) }
@@ -60,7 +60,7 @@ pub(crate) fn switch_at(station: &Station, path: &str) -> Result<SwitchId, u8>
     }
 }
 
-/// The bay with this path, or 2.
+// The bay with this path, or 2.
 pub(crate) fn bay_at(station: &Station, path: &str) -> Result<BayId, u8>
     ensures path { IfOk result (λ b. path.now ≡ part_path station.now b.0) }
     ensures bay { IfOk result (λ b. IsBay station.now b.0) }
@@ -73,7 +73,7 @@ pub(crate) fn bay_at(station: &Station, path: &str) -> Result<BayId, u8>
     }
 }
 
-/// Whether the text says a closed switch, or 3.
+// Whether the text says a closed switch, or 3.
 pub(crate) fn position_at(text: &str) -> Result<bool, u8>
     ensures word { IfOk result (λ closed. text.now ≡ position_name closed) }
     ensures none { IfErr result (λ n. (¬ IsWord kind.At text.now) × (n ≡ 3)) }
@@ -87,7 +87,7 @@ pub(crate) fn position_at(text: &str) -> Result<bool, u8>
     Err(3)
 }
 
-/// The direction that the text says, or 3.
+// The direction that the text says, or 3.
 pub(crate) fn direction_at(text: &str) -> Result<Direction, u8>
     ensures word { IfOk result (λ direction. text.now ≡ direction_name direction) }
     ensures none { IfErr result (λ n. (¬ IsWord kind.Command text.now) × (n ≡ 3)) }
@@ -101,7 +101,7 @@ pub(crate) fn direction_at(text: &str) -> Result<Direction, u8>
     Err(3)
 }
 
-/// The word of a switch that the text says, or 3.
+// The word of a switch that the text says, or 3.
 pub(crate) fn word_at(text: &str) -> Result<Dbpos, u8>
     ensures word { IfOk result (λ word. text.now ≡ word_name word) }
     ensures none { IfErr result (λ n. (¬ IsWord kind.Sense text.now) × (n ≡ 3)) }
@@ -112,7 +112,7 @@ pub(crate) fn word_at(text: &str) -> Result<Dbpos, u8>
     }
 }
 
-/// The number of a message, or 8.
+// The number of a message, or 8.
 pub(crate) fn message_at(text: &str) -> Result<u32, u8>
     ensures number { IfOk result (IsNumber 1 LAST_MESSAGE text.now) }
     ensures none { IfErr result (λ n. (¬ IsOneOf 1 LAST_MESSAGE text.now) × (n ≡ 8)) }
@@ -123,7 +123,7 @@ pub(crate) fn message_at(text: &str) -> Result<u32, u8>
     }
 }
 
-/// A count of bytes, or 8.
+// A count of bytes, or 8.
 pub(crate) fn bytes_at(text: &str) -> Result<u8, u8>
     ensures number { IfOk result (IsNumber 0 MOST_CUT_BYTES text.now) }
     ensures none { IfErr result (λ n. (¬ IsOneOf 0 MOST_CUT_BYTES text.now) × (n ≡ 8)) }

@@ -59,7 +59,7 @@ fn two_fields_named(text: &[u8]) -> Option<RecordKind>
     None
 }
 
-/// The kind that the text names; none where it names none. At once.
+// The kind that the text names; none where it names none. At once.
 pub(crate) fn kind_named(text: &[u8]) -> Option<RecordKind>
     ensures some { IfSome result (λ k. text.now ≡ kind_name k) }
     ensures none { IfNone result ((k : AnyKind) → text.now ≢ kind_name k) }

@@ -26,8 +26,8 @@ fn decimal_from(text: &str) -> Option<u32>
     }
 }
 
-/// The number of the text, in decimal without sign or leading zeros, where it is in this range. Time: the
-/// length of the text. Takes no memory.
+// The number of the text, in decimal without sign or leading zeros, where it is in this range. Time: the
+// length of the text. Takes no memory.
 pub(crate) fn number_from(text: &str, least: u32, most: u32) -> Option<u32>
     ensures some { IfSome result (IsNumber least most text.now) }
     ensures none { IfNone result ((n : ℕ) → ¬ IsNumber least most text.now n) }

@@ -1,4 +1,4 @@
-// Replays of logs of two feeders; the expected reports are those of the worked rows.
+//! Replays of logs of two feeders; the expected reports are those of the worked rows.
 use crate::{read_log, replay};
 use central_rules::{PlainJudge, fits_plain};
 use ilk_base::{BayId, Kind, NodeId, Text};

@@ -1,4 +1,4 @@
-// Log files and what they give; the expected events and refusals are those of the format.
+//! Log files and what they give; the expected events and refusals are those of the format.
 use crate::{LogFault, read_log};
 use ilk_base::{BayId, Dbpos, Direction, InputRefusal, Kind, Op, SwitchId, Text};
 use reservation_core::{LogEvent, WorldEvent};

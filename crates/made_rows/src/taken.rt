@@ -1,4 +1,4 @@
-// Each station that can be made is read, with its positions and its log.
+//! Each station that can be made is read, with its positions and its log.
 ghost use Rattle.std.specs.Prelude.{◌≤◌};
 
 use double_points::read_positions;

@@ -7,16 +7,16 @@ use Rattle.std.proofs.Math.ListN.{get_or}
 use Rattle.node_store.specs.declared.mem_device.Snapshot.{Snapshot}
 use Rattle.node_store.specs.declared.mem_device.MemDevice.{MemDevice}
 
--- as many bytes, and each byte that is not marked
+-- As many bytes, and each byte that is not marked.
 pub record MayLeave (s : Snapshot) (c : List ℕ) : Type 0 where
   pub size : length c ≡ length s.bytes
   pub kept : (k : ℕ) → get_or s.marks k false ≡ false → slice_index c k ≡ slice_index s.bytes k
 
--- the state at a moment: one of those that are kept, or the one of now
+-- The state at a moment: one of those that are kept, or the one of now.
 abbrev pub state_at : MemDevice → ℕ → Snapshot
 state_at d k = get_or d.past.items k d.state
 
--- marked in the range, and else as before
+-- Marked in the range, and else as before.
 pub record IsMarked (at len : ℕ) (old new : List Bool) : Type 0 where
   pub inside : (k : ℕ) → at ≤ k → k < at + len → get_or new k false ≡ true
   pub outside : (k : ℕ) → (k < at) ⊎ (at + len ≤ k) → get_or new k false ≡ get_or old k false

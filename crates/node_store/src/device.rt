@@ -1,4 +1,4 @@
-// A device as the store sees it: what a read gives, and what a crash may leave.
+//! A device as the store sees it: what a read gives, and what a crash may leave.
 ghost use Rattle.std.specs.Prelude.{◌≡◌, ◌≤◌, ◌⊎◌, ◌↔◌, ◌+◌, List, ℕ, Option, Some, length, take, drop, OnOk, OnErr};
 ghost use Rattle.ilk_base.specs.Outside.{Rose};
 ghost use Rattle.node_store.specs.Device.{Told, Becomes, IsChangedWithin, IsWritten, LeavesFrom, KeepsPast, RisesBy};

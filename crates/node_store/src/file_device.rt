@@ -1,4 +1,4 @@
-// The trusted edge: a device over a file of the system. Nothing is told of its content.
+//! The trusted edge: a device over a file of the system. Nothing is told of its content.
 ghost use Rattle.std.specs.Prelude.{◌≡◌, ◌≤◌, ◌+◌, None, OnErr};
 ghost use Rattle.ilk_base.specs.Outside.{Rose};
 ghost use Rattle.node_store.specs.Edge.{NothingTold, NothingToldBetween, nothing_splits};

@@ -1,4 +1,4 @@
-// What follows of images.
+//! What follows of images.
 ghost use Rattle.std.specs.Prelude.{◌≡◌, ℕ, List};
 ghost use Rattle.station_graph.specs.Diagram.{Diagram};
 ghost use Rattle.bay_protocol.specs.declared.values.Kept.{Kept as AnyRecord};

@@ -1,5 +1,5 @@
-// A device in memory. Each call is done at once; what was written since the last sync is marked, and
-// a crash may leave any bytes there.
+//! A device in memory. Each call is done at once; what was written since the last sync is marked, and
+//! a crash may leave any bytes there.
 ghost use Rattle.std.specs.Prelude.{◌≡◌, ◌≤◌, ◌<◌, ◌⊎◌, ◌+◌, ◌∷◌, ◌++◌, [], ℕ, List, Some, Bool, true, false, length, take, drop, slice_index, IsTrue, IfOk, OnOk, OnErr};
 ghost use Rattle.std.proofs.Math.ListN.{get_or, replicate};
 ghost use Rattle.ilk_base.specs.Outside.{Rose};

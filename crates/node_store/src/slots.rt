@@ -1,4 +1,4 @@
-// The two slots, and what their bytes say.
+//! The two slots, and what their bytes say.
 ghost use Rattle.std.specs.Prelude.{◌≡◌, ◌*◌, ◌-◌, ◌++◌, None, IfSome, length};
 ghost use Rattle.std.specs.Int.{w64, to_be_bytes};
 ghost use Rattle.bay_protocol.specs.declared.values.Kept.{Kept as Record};

@@ -1,4 +1,4 @@
-// The store: opening it, and putting a record.
+//! The store: opening it, and putting a record.
 ghost use Rattle.std.specs.Prelude.{◌≡◌, ◌<◌, ◌≤◌, ◌⊎◌, ◌+◌, ◌^◌, ℕ, List, IfOk, IfErr, OnOk, OnErr, IsErrOf};
 ghost use Rattle.ilk_base.specs.Outside.{Rose};
 ghost use Rattle.bay_protocol.specs.declared.values.Kept.{Kept as AnyRecord};

@@ -1,5 +1,5 @@
-// What no clause says: that each call succeeds where memory is ample, and that files of the system
-// are there.
+//! What no clause says: that each call succeeds where memory is ample, and that files of the system
+//! are there.
 use crate::*;
 use bay_node::Kept;
 use std::fs;

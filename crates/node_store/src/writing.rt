@@ -1,4 +1,4 @@
-// Writes into a slot, each with what a crash inside it may leave.
+//! Writes into a slot, each with what a crash inside it may leave.
 ghost use Rattle.std.specs.Prelude.{◌≡◌, ◌≤◌, ◌+◌, ◌↔◌, length, OnOk, OnErr, IsTrue};
 ghost use Rattle.ilk_base.specs.Outside.{Rose};
 ghost use Rattle.node_store.specs.Device.{Told, Becomes, IsChangedWithin, IsWritten, RisesBy, IsSettled, LeavesOnly};

@@ -1,4 +1,4 @@
-// The words that are kept beside the Answers.
+//! The words that are kept beside the Answers.
 ghost use Rattle.std.specs.Prelude.{◌≡◌, ◌≤◌, ◌+◌, ◌++◌, ◌<◌, length, map, IfOk};
 ghost use Rattle.std.specs.Vec.{vec_len, vec_capacity};
 ghost use Rattle.reservation_core.specs.RoundFacts.{RoundFacts};

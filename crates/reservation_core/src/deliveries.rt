@@ -1,4 +1,4 @@
-// A message reaches its bay, whole or cut short.
+//! A message reaches its bay, whole or cut short.
 ghost use Rattle.std.specs.Prelude.{◌≡◌, ◌≤◌, length, IfOk, OnErr};
 ghost use Rattle.reservation_core.specs.RoundFacts.{RoundFacts};
 ghost use Rattle.reservation_core.specs.Happens.{DeliverHappens, PartHappens};

@@ -1,4 +1,4 @@
-// The drives of a world: how they begin, end, and stop; and the words that are read.
+//! The drives of a world: how they begin, end, and stop; and the words that are read.
 ghost use Rattle.std.specs.Prelude.{◌≡◌, ◌<◌, ◌≤◌, ◌↔◌, length, true, false, Some, IfOk, OnErr, IsTrue};
 ghost use Rattle.central_rules.specs.Meaning.{IsBay, bay_of as bay_at};
 ghost use Rattle.reservation_core.specs.Scene.{node, runs, IsTrueWord, end_position as end_place};

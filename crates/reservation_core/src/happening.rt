@@ -1,4 +1,4 @@
-// Whatever may happen, to the scene of a world.
+//! Whatever may happen, to the scene of a world.
 ghost use Rattle.std.specs.Prelude.{◌≡◌, ◌≤◌, length, IfOk, OnErr};
 ghost use Rattle.reservation_core.specs.RoundFacts.{RoundFacts};
 ghost use Rattle.reservation_core.specs.Happens.{Happens, InRange};

@@ -1,4 +1,4 @@
-// What follows for every world. These calls do nothing and cost nothing: a caller cites their contracts.
+//! What follows for every world. These calls do nothing and cost nothing: a caller cites their contracts.
 ghost use Rattle.std.specs.Prelude.{◌≡◌, Bool, List};
 ghost use Rattle.reservation_core.specs.Scene.{Scene};
 ghost use Rattle.reservation_core.specs.declared.values.WorldEvent.{WorldEvent as Event};

@@ -1,4 +1,4 @@
-// The nodes, the true positions, the drives and the messages of a world, and what is read of them.
+//! The nodes, the true positions, the drives and the messages of a world, and what is read of them.
 ghost use Rattle.std.specs.Prelude.{◌≡◌, ◌<◌, ◌≤◌, ◌-◌, length, drop, true, false, MatchOption, IfOk, slice_get, slice_index_or};
 ghost use Rattle.station_graph.specs.Alike.{IsVector};
 ghost use Rattle.central_rules.specs.Meaning.{IsBay, bay_of};

@@ -1,4 +1,4 @@
-// How a world begins.
+//! How a world begins.
 ghost use Rattle.std.specs.Prelude.{◌≡◌, ◌<◌, ℕ, length, false, IfOk, slice_index_or};
 ghost use Rattle.station_graph.specs.Diagram.{part_count};
 ghost use Rattle.station_graph.specs.Alike.{IsVector};

@@ -1,4 +1,4 @@
-// Stories of two bays: what happens one thing after the other, and what comes of each.
+//! Stories of two bays: what happens one thing after the other, and what comes of each.
 ghost use Rattle.std.specs.Prelude.{◌≡◌, ◌<◌, IfOk, IsTrue, length};
 ghost use Rattle.std.specs.List.{All};
 ghost use Rattle.station_graph.specs.Alike.{IsVector};

@@ -1,4 +1,4 @@
-// A node of a world takes a step, and what it sends gets the next numbers.
+//! A node of a world takes a step, and what it sends gets the next numbers.
 ghost use Rattle.std.specs.Prelude.{◌≡◌, ◌≤◌, ◌+◌, ◌++◌, length, IfOk, OnErr};
 ghost use Rattle.std.specs.Vec.{vec_len, vec_capacity};
 ghost use Rattle.central_rules.specs.Meaning.{IsBay};

@@ -1,4 +1,4 @@
-// What happens in a station, and what comes of it.
+//! What happens in a station, and what comes of it.
 ghost use Rattle.std.specs.Prelude.{◌≡◌};
 ghost use Rattle.reservation_core.specs.Premises.{number};
 

@@ -1,4 +1,4 @@
-// The world.
+//! The world.
 ghost use Rattle.std.specs.Prelude.{◌≡◌, ◌<◌, ◌≤◌, ◌+◌, ◌↔◌, length, IfOk, OnErr};
 ghost use Rattle.station_graph.specs.Diagram.{IsStation};
 ghost use Rattle.station_graph.specs.Alike.{IsVector};

@@ -8,6 +8,7 @@ use Rattle.ssd_text.specs.Nesting.{Entry, no_entry}
 use Rattle.ssd_read.specs.declared.role.Role.{Role}
 use Rattle.ssd_read.specs.declared.role.Role.TheVariants.{Root, Substation, VoltageLevel, Bay, ConnectivityNode, ConductingEquipment, PowerTransformer, TransformerWinding, Terminal, Skipped}
 
+-- The two roles are the same.
 abbrev pub same_role : Role → Role → Bool
 same_role Root Root = true
 same_role Substation Substation = true
@@ -30,6 +31,7 @@ attribute e word = option_map (λ a. value_of a.1) (find (λ a. bytes_eq a.0 wor
 abbrev pub front_of : List ℕ → List ℕ
 front_of name = option_map_or (λ i. take (i + 1) name) (position (λ b. b == 58) name) []
 
+-- The element's name is the front and then the word.
 abbrev pub is_named : List ℕ → Entry → List ℕ → Bool
 is_named front e word = bytes_eq e.name (front ++ word)
 
@@ -88,6 +90,7 @@ counted_as ConnectivityNode = Some ConnectivityNode
 counted_as ConductingEquipment = Some ConductingEquipment
 counted_as _ = None
 
+-- The element's name; nothing where it has none.
 abbrev pub name_of : Entry → List ℕ
 name_of e = unwrap_or (attribute e (codes "name")) []
 
@@ -107,10 +110,12 @@ element_after front before e =
       path = path_in (option_map_or (λ x. x.path) above []) (role_under front above e) e;
     }
 
+-- The elements of a tree, each placed by those before it.
 unfoldable pub elements_after : List ℕ → List Element → List Entry → List Element
 elements_after front before [] = before
 elements_after front before (e ∷ es) = elements_after front (before ++ element_after front before e ∷ []) es
 
+-- What stands in front of the names of read elements: that of the root.
 abbrev pub front_of_tree : List Entry → List ℕ
 front_of_tree tree = option_map_or (λ e. front_of e.name) (slice_get tree 0) []
 
@@ -122,5 +127,6 @@ elements_of tree = elements_after (front_of_tree tree) [] tree
 abbrev pub nowhere : Element
 nowhere = record { entry = no_entry; role = Skipped; within = Skipped; path = [] }
 
+-- The element at a place.
 abbrev pub element_at : List Element → ℕ → Element
 element_at all i = slice_index_or all i nowhere

@@ -50,11 +50,12 @@ end_of all x =
     if is_grounded x.entry then Earth
     else option_map_or Node (option_and_then (node_with_key all) (wanted_key x.entry)) (Missing x.entry.at)
 
+-- It is the number at hand.
 abbrev pub is_number : ℕ → Option ℕ → Bool
 is_number i None = false
 is_number i (Some j) = i == j
 
--- x is a terminal that stands in element i
+-- x is a terminal that stands in element i.
 abbrev pub is_terminal_of : ℕ → Element → Bool
 is_terminal_of i x = same_role x.role Terminal && is_number i x.entry.parent
 
@@ -94,19 +95,19 @@ abbrev pub are_apart : List ℕ → Bool
 are_apart (a ∷ b ∷ ns) = not (a == b)
 are_apart _ = true
 
--- two ends, both on nodes, which differ
+-- Two ends, both on nodes, which differ.
 abbrev pub breaker_fault : ℕ → List TerminalPlace → Option SsdRefusal
 breaker_fault at ends =
     option_or (unless (length ends == 2) (Terminals at (length ends)))
     (option_or (unless (length (nodes_at ends) == 2) (Grounded at)) (unless (are_apart (nodes_at ends)) (Loop at)))
 
--- two ends, not both grounded, on nodes that differ
+-- Two ends, not both grounded, on nodes that differ.
 abbrev pub disconnector_fault : ℕ → List TerminalPlace → Option SsdRefusal
 disconnector_fault at ends =
     option_or (unless (length ends == 2) (Terminals at (length ends)))
     (option_or (unless (nat_lt 0 (length (nodes_at ends))) (Grounded at)) (unless (are_apart (nodes_at ends)) (Loop at)))
 
--- one end on a node
+-- One end on a node.
 abbrev pub infeed_fault : ℕ → List TerminalPlace → Option SsdRefusal
 infeed_fault at ends = unless (length (nodes_at ends) == 1) (Terminals at (length (nodes_at ends)))
 

@@ -18,6 +18,7 @@ pub record StandsIn (all : List Element) (i p : ℕ) (front : List ℕ) : Type 0
   pub within : (element_at all i).within ≡ (element_at all p).role
   pub path : (element_at all i).path ≡ path_in (element_at all p).path (element_at all i).role (element_at all i).entry
 
+-- The element's path.
 abbrev pub path_of : Element → List ℕ
 path_of x = x.path
 
@@ -29,9 +30,11 @@ numbers_of all = range_with_len 0 (length all)
 abbrev pub switches_at : List Element → ℕ → List Switch
 switches_at all i = filter_map switch_in (item_steps_at all i)
 
+-- The links that the element at a place gives.
 abbrev pub links_at : List Element → ℕ → List Link
 links_at all i = filter_map link_in (item_steps_at all i)
 
+-- The taps that the element at a place gives.
 abbrev pub taps_at : List Element → ℕ → List Tap
 taps_at all i = filter_map tap_in (item_steps_at all i)
 

@@ -10,18 +10,22 @@ abbrev pub part_path : Step → Option (List ℕ)
 part_path (a_part path) = Some path
 part_path _ = None
 
+-- The path of the node that a step adds.
 abbrev pub node_path : Step → Option (List ℕ)
 node_path (a_node path) = Some path
 node_path _ = None
 
+-- The switch that a step adds.
 abbrev pub switch_in : Step → Option Switch
 switch_in (a_switch name x) = Some x
 switch_in _ = None
 
+-- The link that a step adds.
 abbrev pub link_in : Step → Option Link
 link_in (a_link x) = Some x
 link_in _ = None
 
+-- The tap that a step adds.
 abbrev pub tap_in : Step → Option Tap
 tap_in (a_tap x) = Some x
 tap_in _ = None

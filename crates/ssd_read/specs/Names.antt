@@ -14,18 +14,20 @@ use Rattle.ssd_read.specs.Elements.{Element, attribute, counted_as, same_role, f
 abbrev pub FaultAfter : Type 0
 FaultAfter = List Element → Element → Option SsdRefusal
 
+-- The first fault of the elements, each judged after those before it.
 unfoldable pub first_fault : FaultAfter → List Element → List Element → Option SsdRefusal
 first_fault fault before [] = None
 first_fault fault before (x ∷ xs) = option_or (fault before x) (first_fault fault (before ++ x ∷ []) xs)
 
--- U+0020 or more, and not U+007F
+-- U+0020 or more, and not U+007F.
 abbrev pub is_shown : ℕ → Bool
 is_shown b = not (nat_lt b 32) && not (b == 127)
 
--- not empty, with neither control characters nor U+007F
+-- Not empty, with neither control characters nor U+007F.
 abbrev pub is_good_name : List ℕ → Bool
 is_good_name name = nat_lt 0 (length name) && list_all is_shown name
 
+-- The element has no name, or one that is empty or holds a slash.
 abbrev pub lacks_name : Entry → Bool
 lacks_name e = not (option_map_or is_good_name (attribute e (codes "name")) false)
 
@@ -37,6 +39,7 @@ is_nameless x = is_some (counted_as x.role) && (lacks_name x.entry || (same_role
 abbrev pub key_of : Element → List ℕ
 key_of x = unwrap_or (attribute x.entry (codes "pathName")) x.path
 
+-- The two pairs are the same.
 abbrev pub same_pair : Role × List ℕ → Role × List ℕ → Bool
 same_pair x y = same_role x.0 y.0 && bytes_eq x.1 y.1
 
@@ -44,6 +47,7 @@ same_pair x y = same_role x.0 y.0 && bytes_eq x.1 y.1
 abbrev pub counted_path : Element → Option (Role × List ℕ)
 counted_path x = option_map (λ kind. (kind, x.path)) (counted_as x.role)
 
+-- Both are there, and are the same.
 abbrev pub same_counted : Option (Role × List ℕ) → Option (Role × List ℕ) → Bool
 same_counted (Some x) (Some y) = same_pair x y
 same_counted _ _ = false
@@ -52,6 +56,7 @@ same_counted _ _ = false
 abbrev pub same_path : Element → Element → Bool
 same_path x y = same_counted (counted_path x) (counted_path y)
 
+-- The element is a connectivity node.
 abbrev pub is_node : Element → Bool
 is_node x = same_role x.role ConnectivityNode
 
@@ -67,9 +72,11 @@ counted_paths before = filter_map counted_path before
 abbrev pub keys_of : List Element → List (List ℕ)
 keys_of all = map key_of (filter is_node all)
 
+-- An element before it has its path or its key.
 abbrev pub is_taken : List Element → Element → Bool
 is_taken before x = list_any (same_path x) before || list_any (same_key x) before
 
+-- The fault of an element's name after those before it.
 unfoldable pub name_fault : FaultAfter
 name_fault before x =
     if is_nameless x then Some (NoName x.entry.at)

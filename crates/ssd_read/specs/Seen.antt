@@ -13,6 +13,7 @@ use Rattle.station_graph.specs.Diagram.{Diagram}
 use Rattle.ssd_read.specs.Steps.{Step, built}
 use Rattle.ssd_read.specs.Elements.{Element}
 
+-- The element that an entry is at this place of the drawing.
 abbrev pub placed : Entry → DrawnElement → Element
 placed e p = record { entry = e; role = p.role; within = p.within; path = string_bytes p.path }
 

@@ -4,7 +4,7 @@ use Rattle.station_graph.specs.declared.fault.What.{What}
 use Rattle.ssd_read.specs.declared.refusal.SsdRefusal.{SsdRefusal}
 use Rattle.ssd_read.specs.declared.refusal.SsdRefusal.TheVariants.{Encoding, Syntax, Doctype, Deep, Mismatch, Unclosed, Many, Root, NoName, Twice, NodeMissing, Terminals, Grounded, Loop, Limit, Memory}
 
--- the number of a fault, by the order of the faults; want of memory is no fault of the drawing
+-- The number of a fault, by the order of the faults; want of memory is no fault of the drawing.
 abbrev pub number : SsdRefusal → Option ℕ
 number (Encoding at) = Some 1
 number (Syntax at) = Some 2
@@ -23,7 +23,7 @@ number (Loop at) = Some 14
 number (Limit what count) = Some 15
 number Memory = None
 
--- the number of bytes before the fault; a limit is passed in no place
+-- The number of bytes before the fault; a limit is passed in no place.
 abbrev pub place : SsdRefusal → Option ℕ
 place (Encoding at) = Some at
 place (Syntax at) = Some at
@@ -42,12 +42,12 @@ place (Loop at) = Some at
 place (Limit what count) = None
 place Memory = None
 
--- what passed its limit
+-- What passed its limit.
 abbrev pub limit : SsdRefusal → Option What
 limit (Limit what count) = Some what
 limit _ = None
 
--- how many terminals there are, or the count that passed its limit
+-- How many terminals there are, or the count that passed its limit.
 abbrev pub count : SsdRefusal → Option ℕ
 count (Terminals at n) = Some n
 count (Limit what n) = Some n

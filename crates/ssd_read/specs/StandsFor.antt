@@ -22,6 +22,7 @@ fault_of all = option_or (first_fault name_fault [] all) (first_fault (end_fault
 abbrev pub station_of : List Element → Result Diagram SsdRefusal
 station_of all = option_map_or Err (fault_of all) (built empty (steps_of all))
 
+-- The answer is the outcome of these elements; want of memory has no cause.
 abbrev pub ElementsAnswer : List Element → Result Diagram SsdRefusal → Type 0
 ElementsAnswer all (Ok d) = station_of all ≡ Ok d
 ElementsAnswer all (Err e) = IsRefused e (station_of all)
@@ -35,6 +36,7 @@ abbrev pub TreeAnswers : List Entry → Result Diagram SsdRefusal → Type 0
 TreeAnswers tree (Ok d) = outcome_of tree ≡ Ok d
 TreeAnswers tree (Err e) = IsRefused e (outcome_of tree)
 
+-- The outcome of a text, by the tree that it spells or its first fault.
 abbrev pub after_text : Result (List Entry) TextRefusal → Result Diagram SsdRefusal
 after_text (Ok tree) = outcome_of tree
 after_text (Err fault) = Err (refusal_of_text fault)
@@ -49,6 +51,7 @@ Stands text outcome =
 abbrev pub TextStandsFor : List ℕ → Diagram → Type 0
 TextStandsFor text d = Stands text (Ok d)
 
+-- The tree stands for this station.
 abbrev pub TreeStandsFor : List Entry → Diagram → Type 0
 TreeStandsFor tree d = outcome_of tree ≡ Ok d
 

@@ -56,24 +56,29 @@ abbrev pub switch_step : ℕ → List ℕ → Kind → ℕ → Option ℕ → St
 switch_step part name kind first None = a_switch name (record { kind = kind; first = record { 0 = first }; second = None; bay = record { 0 = part } })
 switch_step part name kind first (Some second) = a_switch name (record { kind = kind; first = record { 0 = first }; second = Some (record { 0 = second }); bay = record { 0 = part } })
 
+-- A tap at a node.
 abbrev pub tap_step : ℕ → ℕ → Step
 tap_step part n = a_tap (record { node = record { 0 = n }; part = record { 0 = part } })
 
+-- A tap at each of the nodes.
 abbrev pub tap_steps : ℕ → List ℕ → List Step
 tap_steps part ns = flat_map (λ n. tap_step part n ∷ []) ns
 
+-- A link between two nodes, where they differ.
 abbrev pub link_step : Bool → ℕ → ℕ → ℕ → List Step
 link_step bond part a b = if a == b then [] else a_link (record { first = record { 0 = a }; second = record { 0 = b }; bond = bond; part = record { 0 = part } }) ∷ []
 
--- a link between each two neighbours on different nodes
+-- A link between each two neighbours on different nodes.
 abbrev pub links_after : Bool → ℕ → ℕ → List ℕ → List Step
 links_after bond part a [] = []
 links_after bond part a (b ∷ ns) = link_step bond part a b ++ links_after bond part b ns
 
+-- A link between each two neighbours of the list.
 abbrev pub links_along : Bool → ℕ → List ℕ → List Step
 links_along bond part [] = []
 links_along bond part (a ∷ ns) = links_after bond part a ns
 
+-- The element's type is one of these words.
 abbrev pub has_type : Entry → List (List ℕ) → Bool
 has_type e words = list_any (says e (codes "type")) words
 
@@ -85,7 +90,7 @@ is_bond e = has_type e (codes "CTR" ∷ codes "CAB" ∷ codes "LIN" ∷ codes "G
 abbrev pub is_tapless : Entry → Bool
 is_tapless e = has_type e (codes "VTR" ∷ codes "SAR" ∷ codes "CTR" ∷ [])
 
--- a tap where there is one node alone
+-- A tap where there is one node alone.
 abbrev pub lone_tap : Entry → ℕ → List ℕ → List Step
 lone_tap e part (a ∷ []) = if is_tapless e then [] else tap_step part a ∷ []
 lone_tap e part _ = []
@@ -115,7 +120,7 @@ use_steps uses.Other e part ns = links_along (is_bond e) part ns ++ lone_tap e p
 
 -- ---- transformers
 
--- x is a terminal of a winding that stands in element i
+-- x is a terminal of a winding that stands in element i.
 abbrev pub is_winding_terminal_of : List Element → ℕ → Element → Bool
 is_winding_terminal_of all i x =
     same_role x.role Terminal && same_role x.within TransformerWinding
@@ -138,6 +143,7 @@ item_steps all i x =
     else if same_role x.role PowerTransformer then transformer_steps (part_of all i x) (nodes_at (winding_ends_of all i))
     else []
 
+-- What the element at a place gives.
 abbrev pub item_steps_at : List Element → ℕ → List Step
 item_steps_at all i = item_steps all i (element_at all i)
 
@@ -167,6 +173,7 @@ added d (a_switch name x) = record d { switches = d.switches ++ x ∷ []; switch
 added d (a_link x) = record d { links = d.links ++ x ∷ [] }
 added d (a_tap x) = record d { taps = d.taps ++ x ∷ [] }
 
+-- The refusal for a limit that is passed.
 abbrev pub limit_fault : What × ℕ → SsdRefusal
 limit_fault l = Limit l.0 l.1
 

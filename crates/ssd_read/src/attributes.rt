@@ -8,7 +8,7 @@ use ilk_base::Memory;
 use ssd_text::{Element as Entry, Tree};
 use std::alloc::Global;
 
-/// An element of a tree without its attributes.
+// An element of a tree without its attributes.
 pub(crate) fn entry<'a>(tree: &Tree<'a>, i: u32) -> Entry<'a>
     requires { i < length tree.now }
     ensures at { result.at ≡ (entry_at tree.now i).at }
@@ -18,7 +18,7 @@ pub(crate) fn entry<'a>(tree: &Tree<'a>, i: u32) -> Entry<'a>
     tree.element(i)
 }
 
-/// The decoded value of an attribute of an element.
+// The decoded value of an attribute of an element.
 pub(crate) fn attribute(
     alloc: Global,
     tree: &Tree<'_>,
@@ -37,7 +37,7 @@ pub(crate) fn attribute(
     }
 }
 
-/// Whether the value of an attribute is this text.
+// Whether the value of an attribute is this text.
 pub(crate) fn says(
     alloc: Global,
     tree: &Tree<'_>,
@@ -54,7 +54,7 @@ pub(crate) fn says(
     }
 }
 
-/// The name of an element, or nothing.
+// The name of an element, or nothing.
 pub(crate) fn name_of(alloc: Global, tree: &Tree<'_>, i: u32) -> Result<String, Memory>
     requires { i < length tree.now }
     ensures { IfOk result (λ s. string_bytes s ≡ name_of (entry_at tree.now i)) }

@@ -16,7 +16,7 @@ use crate::role::Role;
 use station_graph::{Builder, Station};
 use std::alloc::Global;
 
-/// Whether an element is a part.
+// Whether an element is a part.
 pub(crate) fn is_part(drawing: &Drawing<'_>, i: u32) -> bool
     requires { i < length drawing.now }
     ensures { result ≡ is_part (element_at drawing.now i) }
@@ -28,7 +28,7 @@ pub(crate) fn is_part(drawing: &Drawing<'_>, i: u32) -> bool
     }
 }
 
-/// Adds the part or the node that an element is.
+// Adds the part or the node that an element is.
 fn add_name(drawing: &Drawing<'_>, i: u32, builder: &mut Builder) -> Result<(), SsdRefusal>
     requires within { i < length drawing.now }
     requires names { first_fault name_fault [] drawing.now ≡ None }
@@ -50,7 +50,7 @@ fn add_name(drawing: &Drawing<'_>, i: u32, builder: &mut Builder) -> Result<(), 
     }
 }
 
-/// Adds all parts and nodes, and gives for each element how many parts stand before it.
+// Adds all parts and nodes, and gives for each element how many parts stand before it.
 fn add_names(
     alloc: Global,
     drawing: &Drawing<'_>,
@@ -73,7 +73,7 @@ fn add_names(
     Ok(numbers)
 }
 
-/// The station of a drawing without faults.
+// The station of a drawing without faults.
 pub(crate) fn build(
     alloc: Global,
     drawing: &Drawing<'_>,

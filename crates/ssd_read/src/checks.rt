@@ -15,7 +15,7 @@ use crate::role::Role;
 use ilk_base::Memory;
 use std::alloc::Global;
 
-/// What the type of an element makes it.
+// What the type of an element makes it.
 pub(crate) fn use_of(alloc: Global, drawing: &Drawing<'_>, i: u32) -> Result<Use, Memory>
     requires { i < length drawing.now }
     ensures { IfOk result (λ u. u ≡ use_of (element_at drawing.now i).entry) }
@@ -35,7 +35,7 @@ pub(crate) fn use_of(alloc: Global, drawing: &Drawing<'_>, i: u32) -> Result<Use
     Ok(Use::Other)
 }
 
-/// The first end without a node.
+// The first end without a node.
 fn missing_fault(ends: &[TerminalPlace]) -> Option<SsdRefusal>
     ensures { result ≡ missing_fault ends.now }
 {
@@ -47,7 +47,7 @@ fn missing_fault(ends: &[TerminalPlace]) -> Option<SsdRefusal>
     None
 }
 
-/// Whether the first two nodes differ.
+// Whether the first two nodes differ.
 fn are_apart(nodes: &[u32]) -> bool
     ensures { result ≡ are_apart nodes.now }
 {
@@ -110,7 +110,7 @@ fn infeed_fault(at: u32, nodes: &[u32]) -> Option<SsdRefusal>
     None
 }
 
-/// The fault of equipment of this use, by its ends.
+// The fault of equipment of this use, by its ends.
 fn use_fault(kind: Use, at: u32, ends: &[TerminalPlace], nodes: &[u32]) -> Option<SsdRefusal>
     requires nodes { nodes.now ≡ nodes_at ends.now }
     requires few { length ends.now ≤ 200000 }
@@ -125,7 +125,7 @@ fn use_fault(kind: Use, at: u32, ends: &[TerminalPlace], nodes: &[u32]) -> Optio
     }
 }
 
-/// The fault of an element, by its ends.
+// The fault of an element, by its ends.
 fn fault_of_ends(
     alloc: Global,
     drawing: &Drawing<'_>,
@@ -151,7 +151,7 @@ fn fault_of_ends(
     Ok(use_fault(kind, drawing.at(i), ends, &nodes))
 }
 
-/// The first fault of ends.
+// The first fault of ends.
 pub(crate) fn check_ends(
     alloc: Global,
     drawing: &Drawing<'_>,

@@ -13,11 +13,11 @@ use ssd_text::Tree;
 use std::alloc::Global;
 use std::marker::Model;
 
-/// The bytes that the paths of all elements may have together. A path holds the names of all that an element
-/// stands in, so names of megabytes over many elements would otherwise take gigabytes.
+// The bytes that the paths of all elements may have together. A path holds the names of all that an element
+// stands in, so names of megabytes over many elements would otherwise take gigabytes.
 const MOST_PATH_BYTES: usize = 67_108_864;
 
-/// What an element is, what it stands in, and its path.
+// What an element is, what it stands in, and its path.
 #[derive(Debug, Drop)]
 pub(crate) struct DrawnElement {
     pub(crate) role: Role,
@@ -25,7 +25,7 @@ pub(crate) struct DrawnElement {
     pub(crate) path: String,
 }
 
-/// The path of an element in one of this path.
+// The path of an element in one of this path.
 fn path_in(
     alloc: Global,
     tree: &Tree<'_>,
@@ -49,7 +49,7 @@ fn path_in(
     }
 }
 
-/// The elements of a drawing.
+// The elements of a drawing.
 #[derive(Drop)]
 pub(crate) struct Drawing<'a> {
     tree: Tree<'a>,
@@ -70,14 +70,14 @@ impl<'a> Model for Drawing<'a> {
     ghost invariant = { λ d. (length d.places.items ≡ length d.tree) × (placed_all d.tree d.places.items ≡ elements_of d.tree) };
 }
 
-/// The place of the element in which one stands, where it stands in one.
+// The place of the element in which one stands, where it stands in one.
 fn above(before: &[DrawnElement], parent: Option<u32>) -> Option<&DrawnElement>
     ensures { option_map (λ p. p.now) result ≡ option_and_then (slice_get before.now) parent }
 {
     before.get(parent? as usize)
 }
 
-/// The place of the next element after these.
+// The place of the next element after these.
 fn place_of(
     alloc: Global,
     tree: &Tree<'_>,
@@ -108,7 +108,7 @@ fn place_of(
     }
 }
 
-/// What stands in front of the names of read elements.
+// What stands in front of the names of read elements.
 fn front_of_tree<'a>(tree: &Tree<'a>) -> &'a [u8]
     ensures { result.now ≡ front_of_tree tree.now }
 {
@@ -119,7 +119,7 @@ fn front_of_tree<'a>(tree: &Tree<'a>) -> &'a [u8]
     }
 }
 
-/// Takes the bytes of a path from what all paths together may have.
+// Takes the bytes of a path from what all paths together may have.
 fn take_room(room: &mut usize, path: &str) -> Result<(), Memory> {
     match room.checked_sub(path.len()) {
         Some(left) => {
@@ -130,7 +130,7 @@ fn take_room(room: &mut usize, path: &str) -> Result<(), Memory> {
     }
 }
 
-/// The places of all elements. Paths of more than `MOST_PATH_BYTES` together are want of memory.
+// The places of all elements. Paths of more than `MOST_PATH_BYTES` together are want of memory.
 fn places_of(alloc: Global, tree: &Tree<'_>) -> Result<Vec<DrawnElement>, Memory>
     ensures elements { IfOk result (λ places. placed_all tree.now places.items ≡ elements_of tree.now) }
     ensures len { IfOk result (λ places. length places.items ≡ length tree.now) }
@@ -197,7 +197,7 @@ impl<'a> Drawing<'a> {
         entry(&self.tree, i).parent
     }
 
-    /// The decoded value of an attribute of an element.
+    // The decoded value of an attribute of an element.
     pub(crate) fn attribute(
         &self,
         alloc: Global,
@@ -210,7 +210,7 @@ impl<'a> Drawing<'a> {
         attribute(alloc, &self.tree, i, word)
     }
 
-    /// Whether the value of an attribute is this text.
+    // Whether the value of an attribute is this text.
     pub(crate) fn says(&self, alloc: Global, i: u32, word: &str, text: &str) -> Result<bool, Memory>
         requires { i < length self.now }
         ensures { IfOk result (λ b. b ≡ says (element_at self.now i).entry word.now text.now) }
@@ -218,7 +218,7 @@ impl<'a> Drawing<'a> {
         says(alloc, &self.tree, i, word, text)
     }
 
-    /// The name of an element, or nothing.
+    // The name of an element, or nothing.
     pub(crate) fn name(&self, alloc: Global, i: u32) -> Result<String, Memory>
         requires { i < length self.now }
         ensures { IfOk result (λ s. string_bytes s ≡ name_of (element_at self.now i).entry) }

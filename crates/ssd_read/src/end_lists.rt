@@ -7,7 +7,7 @@ use ilk_base::Memory;
 use std::alloc::Global;
 use std::marker::Model;
 
-/// A list of ends for each element, seen as such.
+// A list of ends for each element, seen as such.
 #[derive(Drop)]
 pub(crate) struct EndLists {
     lists: Vec<Vec<TerminalPlace>>,
@@ -33,7 +33,7 @@ impl EndLists {
         Ok(EndLists { lists })
     }
 
-    /// Adds an end to the list of an element.
+    // Adds an end to the list of an element.
     pub(crate) fn push(&mut self, i: u32, end: TerminalPlace) -> Result<(), Memory>
         requires { i < length self.old }
         ensures len { length self.new ≡ length self.old }
@@ -43,7 +43,7 @@ impl EndLists {
         Ok(())
     }
 
-    /// The ends of an element.
+    // The ends of an element.
     pub(crate) fn of(&self, i: u32) -> &[TerminalPlace]
         requires { i < length self.now }
         ensures { result.now ≡ slice_index_or self.now i [] }

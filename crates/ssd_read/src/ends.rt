@@ -39,7 +39,7 @@ pub enum Use {
     Other,
 }
 
-/// What follows the last slash, or all.
+// What follows the last slash, or all.
 fn after_slash(name: &[u8]) -> &[u8]
     ensures { result.now ≡ after_slash name.now }
 {
@@ -53,7 +53,7 @@ fn after_slash(name: &[u8]) -> &[u8]
     last
 }
 
-/// Whether a terminal is grounded.
+// Whether a terminal is grounded.
 fn is_grounded(alloc: Global, drawing: &Drawing<'_>, i: u32) -> Result<bool, Memory>
     requires { i < length drawing.now }
     ensures { IfOk result (λ b. b ≡ is_grounded (element_at drawing.now i).entry) }
@@ -67,7 +67,7 @@ fn is_grounded(alloc: Global, drawing: &Drawing<'_>, i: u32) -> Result<bool, Mem
     }
 }
 
-/// Two names joined, where both are there.
+// Two names joined, where both are there.
 fn joined(front: Option<String>, back: Option<String>) -> Result<Option<String>, Memory>
     ensures { IfOk result (λ o. option_map string_bytes o ≡ with_slash (option_map string_bytes front) (option_map string_bytes back)) }
 {
@@ -82,7 +82,7 @@ fn joined(front: Option<String>, back: Option<String>) -> Result<Option<String>,
     Ok(Some(path))
 }
 
-/// The four names of a terminal joined, where all are there.
+// The four names of a terminal joined, where all are there.
 fn joined_names(alloc: Global, drawing: &Drawing<'_>, i: u32) -> Result<Option<String>, Memory>
     requires { i < length drawing.now }
     ensures { IfOk result (λ o. option_map string_bytes o ≡ joined_names (element_at drawing.now i).entry) }
@@ -97,7 +97,7 @@ fn joined_names(alloc: Global, drawing: &Drawing<'_>, i: u32) -> Result<Option<S
     Ok(key)
 }
 
-/// The key of the node on which a terminal stands, where it says one.
+// The key of the node on which a terminal stands, where it says one.
 fn wanted_key(alloc: Global, drawing: &Drawing<'_>, i: u32) -> Result<Option<String>, Memory>
     requires { i < length drawing.now }
     ensures { IfOk result (λ o. option_map string_bytes o ≡ wanted_key (element_at drawing.now i).entry) }
@@ -108,7 +108,7 @@ fn wanted_key(alloc: Global, drawing: &Drawing<'_>, i: u32) -> Result<Option<Str
     }
 }
 
-/// Where a terminal stands.
+// Where a terminal stands.
 fn end_of(
     alloc: Global,
     drawing: &Drawing<'_>,
@@ -132,7 +132,7 @@ fn end_of(
     }
 }
 
-/// Adds the end of a terminal in a winding to the element that holds the winding.
+// Adds the end of a terminal in a winding to the element that holds the winding.
 fn add_winding_end(
     drawing: &Drawing<'_>,
     i: u32,
@@ -161,7 +161,7 @@ fn add_winding_end(
     Ok(())
 }
 
-/// Adds the end of a terminal to the element that holds it, and to its winding's transformer.
+// Adds the end of a terminal to the element that holds it, and to its winding's transformer.
 fn add_end(
     alloc: Global,
     drawing: &Drawing<'_>,
@@ -193,7 +193,7 @@ fn add_end(
     add_winding_end(drawing, i, holder, end, windings)
 }
 
-/// The ends of all elements, and of the windings of all elements.
+// The ends of all elements, and of the windings of all elements.
 pub(crate) fn all_ends(
     alloc: Global,
     drawing: &Drawing<'_>,
@@ -213,7 +213,7 @@ pub(crate) fn all_ends(
     Ok((own, windings))
 }
 
-/// The node of an end.
+// The node of an end.
 fn node_at(end: TerminalPlace) -> Option<u32>
     ensures { result ≡ node_at end }
 {
@@ -223,7 +223,7 @@ fn node_at(end: TerminalPlace) -> Option<u32>
     }
 }
 
-/// The nodes of the ends that are not grounded.
+// The nodes of the ends that are not grounded.
 pub(crate) fn nodes_at(alloc: Global, ends: &[TerminalPlace]) -> Result<Vec<u32>, Memory>
     ensures { IfOk result (λ v. v.items ≡ nodes_at ends.now) }
 {

@@ -24,7 +24,7 @@ use ilk_base::BayId;
 use station_graph::Builder;
 use std::alloc::Global;
 
-/// Adds what equipment gives that is no switch.
+// Adds what equipment gives that is no switch.
 fn add_other(
     alloc: Global,
     drawing: &Drawing<'_>,
@@ -48,7 +48,7 @@ fn add_other(
     }
 }
 
-/// Adds what equipment gives.
+// Adds what equipment gives.
 fn add_equipment(
     alloc: Global,
     drawing: &Drawing<'_>,
@@ -76,7 +76,7 @@ fn add_equipment(
     }
 }
 
-/// The part to which an element belongs.
+// The part to which an element belongs.
 fn part_of(drawing: &Drawing<'_>, i: u32, numbers: &[u8]) -> BayId
     requires drawn { IsDrawn drawing.now }
     requires within { i < length drawing.now }
@@ -93,7 +93,7 @@ fn part_of(drawing: &Drawing<'_>, i: u32, numbers: &[u8]) -> BayId
     }
 }
 
-/// Adds what an element gives.
+// Adds what an element gives.
 fn add_item(
     alloc: Global,
     drawing: &Drawing<'_>,
@@ -123,7 +123,7 @@ fn add_item(
     }
 }
 
-/// Adds what all elements give.
+// Adds what all elements give.
 pub(crate) fn add_items(
     alloc: Global,
     drawing: &Drawing<'_>,

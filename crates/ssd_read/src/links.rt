@@ -11,7 +11,7 @@ use ilk_base::{BayId, Memory, NodeId};
 use station_graph::{Builder, Link, Tap};
 use std::alloc::Global;
 
-/// Adds a tap.
+// Adds a tap.
 pub(crate) fn add_tap(builder: &mut Builder, part: BayId, node: u32) -> Result<(), SsdRefusal>
     requires part { part.0 < part_count builder.old }
     requires node { node < node_count builder.old }
@@ -31,7 +31,7 @@ pub(crate) fn add_tap(builder: &mut Builder, part: BayId, node: u32) -> Result<(
     }
 }
 
-/// Adds a tap on each node.
+// Adds a tap on each node.
 fn add_taps(builder: &mut Builder, part: BayId, nodes: &[u32]) -> Result<(), SsdRefusal>
     requires part { part.0 < part_count builder.old }
     requires nodes { (k : ℕ) → k < length nodes.now → slice_index nodes.now k < node_count builder.old }
@@ -49,7 +49,7 @@ fn add_taps(builder: &mut Builder, part: BayId, nodes: &[u32]) -> Result<(), Ssd
     Ok(())
 }
 
-/// Adds a link where the nodes differ.
+// Adds a link where the nodes differ.
 fn add_link(
     builder: &mut Builder,
     bond: bool,
@@ -81,7 +81,7 @@ fn add_link(
     }
 }
 
-/// Adds a link between each two neighbours on different nodes.
+// Adds a link between each two neighbours on different nodes.
 pub(crate) fn add_links(
     builder: &mut Builder,
     bond: bool,
@@ -101,7 +101,7 @@ pub(crate) fn add_links(
     }
 }
 
-/// Adds a link between each two neighbours on different nodes, of which the first stands before the others.
+// Adds a link between each two neighbours on different nodes, of which the first stands before the others.
 fn add_links_after(
     builder: &mut Builder,
     bond: bool,
@@ -128,7 +128,7 @@ fn add_links_after(
     Ok(())
 }
 
-/// Whether the links of an element are bonds.
+// Whether the links of an element are bonds.
 pub(crate) fn is_bond(alloc: Global, drawing: &Drawing<'_>, i: u32) -> Result<bool, Memory>
     requires { i < length drawing.now }
     ensures { IfOk result (λ b. b ≡ is_bond (element_at drawing.now i).entry) }
@@ -146,7 +146,7 @@ pub(crate) fn is_bond(alloc: Global, drawing: &Drawing<'_>, i: u32) -> Result<bo
     Ok(last)
 }
 
-/// Whether an element is no load.
+// Whether an element is no load.
 fn is_tapless(alloc: Global, drawing: &Drawing<'_>, i: u32) -> Result<bool, Memory>
     requires { i < length drawing.now }
     ensures { IfOk result (λ b. b ≡ is_tapless (element_at drawing.now i).entry) }
@@ -161,7 +161,7 @@ fn is_tapless(alloc: Global, drawing: &Drawing<'_>, i: u32) -> Result<bool, Memo
     Ok(last)
 }
 
-/// Adds a tap where there is one node alone.
+// Adds a tap where there is one node alone.
 pub(crate) fn add_lone_tap(
     alloc: Global,
     drawing: &Drawing<'_>,
@@ -187,7 +187,7 @@ pub(crate) fn add_lone_tap(
     add_tap(builder, part, nodes[0])
 }
 
-/// Adds what a transformer gives.
+// Adds what a transformer gives.
 pub(crate) fn add_transformer(
     builder: &mut Builder,
     part: BayId,

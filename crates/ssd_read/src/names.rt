@@ -13,7 +13,7 @@ use crate::role::{Role, counted_as};
 use ilk_base::Memory;
 use std::alloc::Global;
 
-/// Whether a name is not empty and holds neither control characters nor U+007F.
+// Whether a name is not empty and holds neither control characters nor U+007F.
 fn is_good_name(name: &[u8]) -> bool
     ensures { result ≡ is_good_name name.now }
 {
@@ -26,7 +26,7 @@ fn has_shown(name: &[u8]) -> bool
     name.iter().all(|b| *b >= 32 && *b != 127)
 }
 
-/// Whether an element has no name that is good.
+// Whether an element has no name that is good.
 fn lacks_name(alloc: Global, drawing: &Drawing<'_>, i: u32) -> Result<bool, Memory>
     requires { i < length drawing.now }
     ensures { IfOk result (λ b. b ≡ lacks_name (element_at drawing.now i).entry) }
@@ -37,7 +37,7 @@ fn lacks_name(alloc: Global, drawing: &Drawing<'_>, i: u32) -> Result<bool, Memo
     }
 }
 
-/// Whether an element lacks a name that it needs, or its type.
+// Whether an element lacks a name that it needs, or its type.
 fn is_nameless(alloc: Global, drawing: &Drawing<'_>, i: u32) -> Result<bool, Memory>
     requires { i < length drawing.now }
     ensures { IfOk result (λ b. b ≡ is_nameless (element_at drawing.now i)) }
@@ -56,7 +56,7 @@ fn is_nameless(alloc: Global, drawing: &Drawing<'_>, i: u32) -> Result<bool, Mem
     Ok(kind.is_none())
 }
 
-/// The key of a node.
+// The key of a node.
 fn key_of(alloc: Global, drawing: &Drawing<'_>, i: u32) -> Result<String, Memory>
     requires { i < length drawing.now }
     ensures { IfOk result (λ s. string_bytes s ≡ key_of (element_at drawing.now i)) }
@@ -70,7 +70,7 @@ fn key_of(alloc: Global, drawing: &Drawing<'_>, i: u32) -> Result<String, Memory
     }
 }
 
-/// Adds the path of an element, and says whether no element of its kind had it.
+// Adds the path of an element, and says whether no element of its kind had it.
 fn add_path(alloc: Global, drawing: &Drawing<'_>, i: u32, paths: &mut Paths) -> Result<bool, Memory>
     requires { i < length drawing.now }
     ensures new { IfOk result (λ b. (before : List Element) → paths.old ≡ counted_paths before → b ≡ not (list_any (same_path (element_at drawing.now i)) before)) }
@@ -86,7 +86,7 @@ fn add_path(alloc: Global, drawing: &Drawing<'_>, i: u32, paths: &mut Paths) -> 
     }
 }
 
-/// Adds the key of a node, and says whether no node had it.
+// Adds the key of a node, and says whether no node had it.
 fn add_key(alloc: Global, drawing: &Drawing<'_>, i: u32, keys: &mut Names) -> Result<bool, Memory>
     requires { i < length drawing.now }
     ensures new { IfOk result (λ b. (before : List Element) → keys.old ≡ keys_of before → b ≡ not (list_any (same_key (element_at drawing.now i)) before)) }
@@ -100,7 +100,7 @@ fn add_key(alloc: Global, drawing: &Drawing<'_>, i: u32, keys: &mut Names) -> Re
     Ok(new)
 }
 
-/// Adds the names of an element, or finds its fault.
+// Adds the names of an element, or finds its fault.
 fn check_name(
     alloc: Global,
     drawing: &Drawing<'_>,
@@ -125,7 +125,7 @@ fn check_name(
     Ok(())
 }
 
-/// The keys of all nodes, or the first fault of names.
+// The keys of all nodes, or the first fault of names.
 pub(crate) fn check_names(alloc: Global, drawing: &Drawing<'_>) -> Result<Names, SsdRefusal>
     ensures fault { Finds result (first_fault name_fault [] drawing.now) }
     ensures keys { IfOk result (λ keys. keys ≡ keys_of drawing.now) }

@@ -11,7 +11,7 @@ use indexmap::IndexSet;
 use std::alloc::Global;
 use std::marker::Model;
 
-/// Texts that differ, each with a number, seen as their list.
+// Texts that differ, each with a number, seen as their list.
 #[derive(Drop)]
 pub(crate) struct Names {
     texts: IndexSet<String>,
@@ -35,7 +35,7 @@ impl Names {
         }
     }
 
-    /// Adds a text that is not there, and says whether it did.
+    // Adds a text that is not there, and says whether it did.
     pub(crate) fn add(&mut self, text: String) -> Result<bool, Memory>
         ensures new { IfOk result (λ b. b ≡ not (list_any (bytes_eq (string_bytes text)) self.old)) }
         ensures added { IfOk result (λ b. self.new ≡ (if b then self.old ++ string_bytes text ∷ [] else self.old)) }
@@ -44,7 +44,7 @@ impl Names {
         Ok(new)
     }
 
-    /// The number of a text.
+    // The number of a text.
     pub(crate) fn find(&self, text: &str) -> Option<usize>
         ensures place { result ≡ position (bytes_eq text.now) self.now }
         ensures within { IfSome result (λ i. i < length self.now) }
@@ -53,14 +53,14 @@ impl Names {
     }
 }
 
-/// A path of a kind of elements.
+// A path of a kind of elements.
 #[derive(Drop, PartialEq, Eq, Hash)]
 struct Key {
     kind: Role,
     path: String,
 }
 
-/// Paths of kinds that differ, seen as their list.
+// Paths of kinds that differ, seen as their list.
 #[derive(Drop)]
 pub(crate) struct Paths {
     keys: IndexSet<Key>,
@@ -86,7 +86,7 @@ impl Paths {
         }
     }
 
-    /// Adds a path that is not there, and says whether it did.
+    // Adds a path that is not there, and says whether it did.
     pub(crate) fn add(&mut self, kind: Role, path: String) -> Result<bool, Memory>
         ensures new { IfOk result (λ b. b ≡ not (list_any (same_pair (kind, string_bytes path)) self.old)) }
         ensures added { IfOk result (λ b. self.new ≡ (if b then self.old ++ (kind, string_bytes path) ∷ [] else self.old)) }

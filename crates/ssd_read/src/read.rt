@@ -43,7 +43,7 @@ pub fn read_ssd(alloc: Global, bytes: &[u8]) -> Result<Station, SsdRefusal>
     }
 }
 
-/// The station of a tree.
+// The station of a tree.
 fn station_of(alloc: Global, tree: Tree<'_>) -> Result<Station, SsdRefusal>
     ensures { TreeAnswers tree.entry result }
 {
@@ -54,7 +54,7 @@ fn station_of(alloc: Global, tree: Tree<'_>) -> Result<Station, SsdRefusal>
     station_of_drawing(alloc, &drawing)
 }
 
-/// The fault of the root's name.
+// The fault of the root's name.
 fn root_fault(tree: &Tree<'_>) -> Option<SsdRefusal>
     ensures { result ≡ root_fault tree.now }
 {
@@ -69,7 +69,7 @@ fn root_fault(tree: &Tree<'_>) -> Option<SsdRefusal>
     }
 }
 
-/// The station of a drawing whose root is right.
+// The station of a drawing whose root is right.
 fn station_of_drawing(alloc: Global, drawing: &Drawing<'_>) -> Result<Station, SsdRefusal>
     ensures { ElementsAnswer drawing.now result }
 {

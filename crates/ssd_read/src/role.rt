@@ -35,7 +35,7 @@ pub enum Role {
     Skipped,
 }
 
-/// Whether a name is the front and then the word.
+// Whether a name is the front and then the word.
 pub(crate) fn is_named(name: &str, front: &[u8], word: &str) -> bool
     ensures { result ≡ bytes_eq name.now (front.now ++ word.now) }
 {
@@ -47,7 +47,7 @@ pub(crate) fn is_named(name: &str, front: &[u8], word: &str) -> bool
     own_front == front && own_word == word.as_bytes()
 }
 
-/// Where the first colon is.
+// Where the first colon is.
 fn colon(name: &[u8]) -> Option<usize>
     ensures place { result ≡ position (λ b. b == 58) name.now }
     ensures within { IfSome result (λ i. i < length name.now) }
@@ -55,7 +55,7 @@ fn colon(name: &[u8]) -> Option<usize>
     name.iter().position(|b| *b == b':')
 }
 
-/// What stands in front of the names of read elements.
+// What stands in front of the names of read elements.
 pub(crate) fn front_of(name: &[u8]) -> &[u8]
     ensures { result.now ≡ front_of name.now }
 {
@@ -68,7 +68,7 @@ pub(crate) fn front_of(name: &[u8]) -> &[u8]
     }
 }
 
-/// What an element of this name is in an element of a role.
+// What an element of this name is in an element of a role.
 pub(crate) fn role_in(parent: Role, front: &[u8], name: &str) -> Role
     ensures { (e : TreeEntry) → e.name ≡ name.now → result ≡ role_in parent front.now e }
 {
@@ -90,7 +90,7 @@ pub(crate) fn role_in(parent: Role, front: &[u8], name: &str) -> Role
     }
 }
 
-/// The role, but none for a node that is named as earth.
+// The role, but none for a node that is named as earth.
 pub(crate) fn unless_grounded(
     alloc: Global,
     tree: &Tree<'_>,
@@ -110,7 +110,7 @@ pub(crate) fn unless_grounded(
     }
 }
 
-/// As what a named element is counted.
+// As what a named element is counted.
 pub(crate) fn counted_as(role: Role) -> Option<Role>
     ensures { result ≡ counted_as role }
 {

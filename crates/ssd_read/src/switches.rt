@@ -11,7 +11,7 @@ use crate::refusal::SsdRefusal;
 use ilk_base::{BayId, Kind, NodeId};
 use station_graph::{Builder, Switch};
 
-/// Adds a switch with two ends.
+// Adds a switch with two ends.
 fn add_two_ended(
     builder: &mut Builder,
     name: &str,
@@ -44,7 +44,7 @@ fn add_two_ended(
     }
 }
 
-/// Adds a switch with one end.
+// Adds a switch with one end.
 fn add_one_ended(
     builder: &mut Builder,
     name: &str,
@@ -74,7 +74,7 @@ fn add_one_ended(
     }
 }
 
-/// Adds a breaker.
+// Adds a breaker.
 pub(crate) fn add_breaker(
     builder: &mut Builder,
     part: BayId,
@@ -96,7 +96,7 @@ pub(crate) fn add_breaker(
     }
 }
 
-/// Adds a disconnector, or an earthing switch where there is one node alone.
+// Adds a disconnector, or an earthing switch where there is one node alone.
 pub(crate) fn add_disconnector(
     builder: &mut Builder,
     part: BayId,
@@ -119,7 +119,7 @@ pub(crate) fn add_disconnector(
     }
 }
 
-/// Adds an infeed with its tap.
+// Adds an infeed with its tap.
 pub(crate) fn add_infeed(
     builder: &mut Builder,
     part: BayId,

@@ -1,10 +1,11 @@
+//! Drawings and the stations for which they stand.
 use super::*;
 use ilk_base::{BayId, Kind, NodeId, SwitchId};
 use station_graph::{Link, Station, Switch, Tap, What};
 use std::alloc::Global;
 use std::test::Fail;
 
-/// Adds pieces to a text.
+// Adds pieces to a text.
 fn push(text: &mut String, pieces: &[&str]) -> Result<(), Fail> {
     for piece in pieces {
         text.push_str(*piece)?;
@@ -33,7 +34,7 @@ fn number_of(what: What) -> u32 {
     }
 }
 
-/// Number, place (of 15 the limit) and count of a refusal.
+// Number, place (of 15 the limit) and count of a refusal.
 fn told_refusal(refusal: SsdRefusal) -> (u8, u32, u32) {
     match refusal {
         SsdRefusal::Encoding { at } => (1, at, 0),
@@ -55,7 +56,7 @@ fn told_refusal(refusal: SsdRefusal) -> (u8, u32, u32) {
     }
 }
 
-/// What a text is refused with, or 0.
+// What a text is refused with, or 0.
 fn outcome(alloc: Global, bytes: &[u8]) -> (u8, u32, u32) {
     match read_ssd(alloc, bytes) {
         Ok(_) => (0, 0, 0),
@@ -83,7 +84,7 @@ const E: &str = "</ConductingEquipment>";
 
 const Z: &str = "</Bay></VoltageLevel></Substation></SCL>";
 
-/// A text in pieces, and the number, the place and the count with which it is refused, or 0.
+// A text in pieces, and the number, the place and the count with which it is refused, or 0.
 type Row = (&'static [&'static str], (u8, u32, u32));
 
 const REFUSED: &[Row] = &[
@@ -239,7 +240,7 @@ fn refused(rt: HostRuntime) -> Result<(), Fail> {
     Ok(())
 }
 
-/// An infeed of this number.
+// An infeed of this number.
 fn infeed(alloc: Global, number: u32) -> Result<String, Fail> {
     let name = number.to_string(alloc)?;
     joined(
@@ -254,7 +255,7 @@ fn infeed(alloc: Global, number: u32) -> Result<String, Fail> {
     )
 }
 
-/// A text with 25 infeeds in one bay.
+// A text with 25 infeeds in one bay.
 fn infeeds(alloc: Global) -> Result<String, Fail> {
     let mut text = joined(alloc, &[P, N])?;
     for i in 1..26u32 {
@@ -277,13 +278,13 @@ fn too_much(rt: HostRuntime) -> Result<(), Fail> {
 
 // ---- stations
 
-/// Kind, ends, part and path of a switch.
+// Kind, ends, part and path of a switch.
 type SwitchRow = (Kind, u16, Option<u16>, u8, &'static str);
 
-/// Ends of a link, whether it is a bond, and its part.
+// Ends of a link, whether it is a bond, and its part.
 type LinkRow = (u16, u16, bool, u8);
 
-/// A drawing, and what its station has.
+// A drawing, and what its station has.
 #[derive(Clone, Copy)]
 struct Drawn {
     text: &'static str,
@@ -348,7 +349,7 @@ fn has_taps(station: &Station, rows: &[(u16, u8)]) -> bool {
     true
 }
 
-/// Whether a text stands for a station with these switches, links and taps.
+// Whether a text stands for a station with these switches, links and taps.
 fn is_drawn(alloc: Global, text: &str, drawn: &Drawn) -> bool {
     match read_ssd(alloc, text.as_bytes()) {
         Ok(station) => {
@@ -725,7 +726,7 @@ fn stations(rt: HostRuntime) {
     }
 }
 
-/// The same file with the line ends of another system.
+// The same file with the line ends of another system.
 #[test]
 fn line_ends(rt: HostRuntime) -> Result<(), Fail> {
     let text = LINE_BAY.text.replace(rt.alloc(), "\n", "\r\n")?;
@@ -736,7 +737,7 @@ fn line_ends(rt: HostRuntime) -> Result<(), Fail> {
 const KEYED: &str =
     r#"<SCL><Substation name="S"><VoltageLevel name="V"><Bay name="Q"><ConnectivityNode name="a" pathName="k"/><PowerTransformer name="T"/></Bay></VoltageLevel></Substation></SCL>"#;
 
-/// The path of the only part and that of the only node, where there is one of each.
+// The path of the only part and that of the only node, where there is one of each.
 fn paths_of(station: &Station) -> Option<(&str, &str)> {
     if station.part_count() != 1 || station.node_count() != 1 {
         return None;
@@ -744,7 +745,7 @@ fn paths_of(station: &Station) -> Option<(&str, &str)> {
     Some((station.part_path(BayId(0)), station.node_path(NodeId(0))))
 }
 
-/// The paths of parts and nodes are those of their elements, and not their keys.
+// The paths of parts and nodes are those of their elements, and not their keys.
 #[test]
 fn paths(rt: HostRuntime) {
     match read_ssd(rt.alloc(), KEYED.as_bytes()) {

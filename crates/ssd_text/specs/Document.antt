@@ -9,7 +9,7 @@ abbrev pub IsCut : List ℕ → List Piece → Type 0
 IsCut text [] = text ≡ []
 IsCut text (p ∷ ps) = (rest : List ℕ) × Begins text p rest × IsCut rest ps
 
--- what may stand beside the root
+-- What may stand beside the root.
 abbrev pub IsBeside : List Shape → Type 0
 IsBeside [] = Unit {0}
 IsBeside (passed ∷ ss) = IsBeside ss
@@ -29,12 +29,12 @@ mutual
     text : (deep : ℕ) (b : Bool) (ss : List Shape) → IsContent deep ss → IsContent deep (characters b ∷ ss)
     child : (deep : ℕ) (element ss : List Shape) → IsElement deep element → IsContent deep ss → IsContent deep (element ++ ss)
 
--- whether an element begins with the piece
+-- Whether an element begins with the piece.
 abbrev pub begins_element : Shape → Bool
 begins_element (opens name ps c) = true
 begins_element _ = false
 
--- one root, with nothing but comments, instructions and white space beside it
+-- One root, with nothing but comments, instructions and white space beside it.
 abbrev pub IsDocument : List Shape → Type 0
 IsDocument ss = (before : List Shape) × (root : List Shape) × (behind : List Shape) × (ss ≡ before ++ (root ++ behind)) × IsBeside before × IsElement 64 root × IsBeside behind × (count_by begins_element ss ≤ 200000)
 

@@ -6,43 +6,47 @@ use Rattle.std.specs.Char.{digit_value}
 use Rattle.std.specs.Str.{bytes_eq}
 use Rattle.std.specs.Str.Parse.{digits_value}
 
--- space, tab, CR, LF
+-- Space, tab, CR, LF.
 unfoldable pub is_white : ℕ → Bool
 is_white b = b == 32 || b == 9 || b == 13 || b == 10
 
--- an ASCII letter, `_`, `:`, or a byte of a character past ASCII
+-- An ASCII letter, `_`, `:`, or a byte of a character past ASCII.
 unfoldable pub starts_name : ℕ → Bool
 starts_name b = (nat_le 65 b && nat_le b 90) || (nat_le 97 b && nat_le b 122) || b == 95 || b == 58 || nat_le 128 b
 
--- these, digits, `-` and `.`
+-- These, digits, `-` and `.`.
 unfoldable pub in_name : ℕ → Bool
 in_name b = starts_name b || (nat_le 48 b && nat_le b 57) || b == 45 || b == 46
 
+-- White space alone.
 abbrev pub IsWhite : List ℕ → Type 0
 IsWhite bs = list_all is_white bs ≡ true
 
+-- A name: it begins as a name does, and goes on so.
 abbrev pub is_name : List ℕ → Bool
 is_name [] = false
 is_name (b ∷ bs) = starts_name b && list_all in_name bs
 
--- digits of a base, which name a character other than 0
+-- Digits of a base, which name a character other than 0.
 abbrev pub is_scalar : ℕ → Bool
 is_scalar c = nat_lt c 0xD800 || (nat_le 0xE000 c && nat_lt c 0x110000)
 
+-- A digit of the base.
 abbrev pub is_digit : ℕ → ℕ → Bool
 is_digit base b = nat_lt (digit_value b) base
 
+-- The number that digits of the base spell.
 unfoldable pub numbered : ℕ → List ℕ → Option ℕ
 numbered base digits =
     let n = digits_value base digits in
     if list_all (is_digit base) digits && not (n == 0) && is_scalar n then Some n else None
 
--- after a `#`
+-- After a `#`.
 unfoldable pub number_of : List ℕ → Option ℕ
 number_of [] = None
 number_of (b ∷ bs) = if b == 120 then numbered 16 bs else numbered 10 (b ∷ bs)
 
--- what stands between `&` and `;` names a character
+-- What stands between `&` and `;` names a character.
 unfoldable pub named : List ℕ → Option ℕ
 named [] = None
 named (b ∷ bs) =
@@ -54,19 +58,20 @@ named (b ∷ bs) =
     else if bytes_eq (b ∷ bs) (codes "quot") then Some 34
     else None
 
--- behind an `&`: the character of the reference and how long it is with its `;`
+-- Behind an `&`: the character of the reference and how long it is with its `;`.
 unfoldable pub reference : List ℕ → Option (ℕ × ℕ)
 reference bs =
     let n = position_or_len (λ b. b == 59) bs in
     if nat_lt n (length bs) then option_map (λ c. (c, n + 1)) (named (take n bs)) else None
 
--- each `&` begins a reference
+-- Each `&` begins a reference.
 unfoldable pub all_references : List ℕ → Bool
 all_references [] = true
 all_references (b ∷ bs) = (if b == 38 then is_some (reference bs) else true) && all_references bs
 
 -- ---- attributes
 
+-- An attribute as it is written: the gap before it, its name, what surrounds the equals sign, the quote, the raw text.
 pub record Attribute : Type 0 where
   pub gap : List ℕ
   pub name : List ℕ
@@ -75,13 +80,15 @@ pub record Attribute : Type 0 where
   pub quote : ℕ
   pub raw : List ℕ
 
--- white space, the name, `=` with white space or none on both sides, and the value in its quotes
+-- White space, the name, `=` with white space or none on both sides, and the value in its quotes.
 abbrev pub attribute : Attribute → List ℕ
 attribute a = a.gap ++ (a.name ++ (a.left ++ (61 ∷ (a.right ++ (a.quote ∷ (a.raw ++ (a.quote ∷ [])))))))
 
+-- The byte may stand in a raw text between these quotes.
 abbrev pub stays : ℕ → ℕ → Bool
 stays quote b = not (b == quote) && not (b == 60)
 
+-- What makes an attribute one.
 pub record IsAttribute (a : Attribute) : Type 0 where
   pub gap : IsWhite a.gap
   pub some_gap : 0 < length a.gap
@@ -94,6 +101,7 @@ pub record IsAttribute (a : Attribute) : Type 0 where
 
 -- ---- pieces
 
+-- A piece of a text.
 pub data Piece : Type 0 where
   comment : List ℕ → Piece
   instruction : List ℕ → Piece
@@ -104,9 +112,11 @@ pub data Piece : Type 0 where
   -- character data
   run : List ℕ → Piece
 
+-- How a start tag ends: as an empty element, or not.
 abbrev pub close : Bool → List ℕ
 close b = if b then codes "/>" else codes ">"
 
+-- The bytes of a piece.
 abbrev pub spelling : Piece → List ℕ
 spelling (comment x) = codes "<!--" ++ (x ++ codes "-->")
 spelling (instruction x) = codes "<?" ++ (x ++ codes "?>")
@@ -115,17 +125,20 @@ spelling (start name attributes gap closed) = codes "<" ++ (name ++ (flat_map at
 spelling (end name gap) = codes "</" ++ (name ++ (gap ++ codes ">"))
 spelling (run x) = x
 
--- the mark stands at no place of x and the mark behind it before that behind it
+-- The mark stands at no place of x and the mark behind it before that behind it.
 abbrev pub IsUpTo : List ℕ → List ℕ → Type 0
 IsUpTo mark [] = Unit {0}
 IsUpTo mark (b ∷ x) = (starts_with nat_eq ((b ∷ x) ++ mark) mark ≡ false) × IsUpTo mark x
 
+-- The first of each pair.
 abbrev pub firsts : List (List ℕ × List ℕ) → List (List ℕ)
 firsts ps = map (λ p. p.0) ps
 
+-- The names of the attributes.
 abbrev pub names : List Attribute → List (List ℕ)
 names attributes = map (λ a. a.name) attributes
 
+-- What makes a piece one.
 abbrev pub IsPiece : Piece → Type 0
 IsPiece (comment x) = IsUpTo (codes "-->") x
 IsPiece (instruction x) = IsUpTo (codes "?>") x
@@ -134,13 +147,13 @@ IsPiece (start name attributes gap closed) = (is_name name ≡ true) × AllByRec
 IsPiece (end name gap) = (is_name name ≡ true) × IsWhite gap
 IsPiece (run x) = (0 < length x) × (list_all (λ b. not (b == 60)) x ≡ true)
 
--- character data goes on up to a `<` or the end
+-- Character data goes on up to a `<` or the end.
 abbrev pub StopsThere : Piece → List ℕ → Type 0
 StopsThere (run x) [] = Unit {0}
 StopsThere (run x) (b ∷ bs) = b ≡ 60
 StopsThere _ rest = Unit {0}
 
--- the text is this piece, and then the rest
+-- The text is this piece, and then the rest.
 pub record Begins (text : List ℕ) (p : Piece) (rest : List ℕ) : Type 0 where
   pub whole : text ≡ spelling p ++ rest
   pub good : IsPiece p
@@ -148,11 +161,11 @@ pub record Begins (text : List ℕ) (p : Piece) (rest : List ℕ) : Type 0 where
 
 -- ---- the decoded value of an attribute
 
--- a byte that stands for itself
+-- A byte that stands for itself.
 unfoldable pub is_plain : ℕ → Bool
 is_plain b = not (b == 38) && not (is_white b)
 
--- the character for which the bytes in front stand, where the first does not stand for itself, and how many they are
+-- The character for which the bytes in front stand, where the first does not stand for itself, and how many they are.
 unfoldable pub special : List ℕ → ℕ × ℕ
 special [] = (32, 1)
 special (b ∷ bs) =
@@ -160,7 +173,7 @@ special (b ∷ bs) =
     else if b == 13 && starts_with nat_eq bs (10 ∷ []) then (32, 2)
     else (32, 1)
 
--- each reference is its character, each CR LF, CR, LF and tab one space; skip bytes are passed over first
+-- Each reference is its character, each CR LF, CR, LF and tab one space; skip bytes are passed over first.
 unfoldable pub value_from : ℕ → List ℕ → List ℕ
 value_from skip [] = []
 value_from (suc k) (b ∷ bs) = value_from k bs
@@ -168,5 +181,6 @@ value_from zero (b ∷ bs) =
     if is_plain b then b ∷ value_from 0 bs
     else (let s = special (b ∷ bs) in encode_utf8 s.0 ++ value_from (s.1 - 1) bs)
 
+-- The decoded value of a raw text.
 abbrev pub value_of : List ℕ → List ℕ
 value_of raw = value_from 0 raw

@@ -8,7 +8,7 @@ use Rattle.ssd_text.specs.declared.refusal.TextRefusal.{TextRefusal}
 use Rattle.ssd_text.specs.declared.refusal.TextRefusal.TheVariants.{Encoding, Syntax, Doctype, Deep, Mismatch, Unclosed, Many}
 use Rattle.ssd_text.specs.Grammar.{is_white, Attribute, Piece, comment, instruction, cdata, start, end, run, spelling, Begins}
 
--- what counts of a piece for the nesting: comments and instructions are passed over, and CDATA is literal
+-- What counts of a piece for the nesting: comments and instructions are passed over, and CDATA is literal.
 pub data Shape : Type 0 where
   passed : Shape
   literal : Shape
@@ -17,9 +17,11 @@ pub data Shape : Type 0 where
   opens : List ℕ → List (List ℕ × List ℕ) → Bool → Shape
   closes : List ℕ → Shape
 
+-- The name and the raw text of each attribute.
 abbrev pub pairs : List Attribute → List (List ℕ × List ℕ)
 pairs attributes = map (λ a. (a.name, a.raw)) attributes
 
+-- What a piece does to the nesting.
 abbrev pub shape : Piece → Shape
 shape (comment x) = passed
 shape (instruction x) = passed
@@ -28,17 +30,18 @@ shape (run x) = characters (list_all is_white x)
 shape (start name attributes gap closed) = opens name (pairs attributes) closed
 shape (end name gap) = closes name
 
--- an element of the tree
+-- An element of the tree.
 pub record Entry : Type 0 where
   pub at : ℕ
   pub parent : Option ℕ
   pub name : List ℕ
   pub attributes : List (List ℕ × List ℕ)
 
+-- The element that is none.
 abbrev pub no_entry : Entry
 no_entry = record { at = 0; parent = None; name = []; attributes = [] }
 
--- the element of this number, in document order from 0
+-- The element of this number, in document order from 0.
 abbrev pub entry_at : List Entry → ℕ → Entry
 entry_at tree i = slice_index_or tree i no_entry
 
@@ -46,32 +49,35 @@ entry_at tree i = slice_index_or tree i no_entry
 abbrev pub IsInOrder : List Entry → Type 0
 IsInOrder tree = (j p : ℕ) → (entry_at tree j).parent ≡ Some p → (p < j) × ((k : ℕ) → p < k → k < j → IsSomeAnd (entry_at tree k).parent (λ q. p ≤ q))
 
--- an element whose end tag has not come
+-- An element whose end tag has not come.
 pub record Open : Type 0 where
   pub at : ℕ
   pub number : ℕ
   pub name : List ℕ
 
--- the elements so far, and the open ones, the innermost first
+-- The elements so far, and the open ones, the innermost first.
 pub record Nest : Type 0 where
   pub entries : List Entry
   pub within : List Open
 
+-- The innermost open element.
 abbrev pub innermost : List Open → Option ℕ
 innermost [] = None
 innermost (o ∷ os) = Some o.number
 
+-- The nest with one more element, which is left open or closed at once.
 abbrev pub opened : ℕ → Nest → List ℕ → List (List ℕ × List ℕ) → Bool → Nest
 opened at n name attributes closed = record {
   entries = n.entries ++ (record { at = at; parent = innermost n.within; name = name; attributes = attributes } ∷ []);
   within = if closed then n.within else (record { at = at; number = length n.entries; name = name } ∷ n.within);
 }
 
+-- The nest after an end tag, which must be that of the innermost open element.
 unfoldable pub ended : ℕ → List Entry → List Open → List ℕ → Result Nest TextRefusal
 ended at entries [] name = Err (Mismatch at)
 ended at entries (o ∷ os) name = if bytes_eq o.name name then Ok (record { entries = entries; within = os }) else Err (Mismatch at)
 
--- the fault of a start tag among so many open elements and after so many elements
+-- The fault of a start tag among so many open elements and after so many elements.
 unfoldable pub start_fault : ℕ → ℕ → ℕ → Option TextRefusal
 start_fault at depth count =
     if depth == 0 && not (count == 0) then Some (Syntax at)
@@ -79,7 +85,7 @@ start_fault at depth count =
     else if nat_le 200000 count then Some (Many at)
     else None
 
--- what stands after a piece at a place, or its fault
+-- What stands after a piece at a place, or its fault.
 unfoldable pub step : ℕ → Nest → Shape → Result Nest TextRefusal
 step at n passed = Ok n
 step at n literal = if length n.within == 0 then Err (Syntax at) else Ok n
@@ -87,21 +93,21 @@ step at n (characters blank) = if length n.within == 0 && not blank then Err (Sy
 step at n (opens name attributes closed) = option_map_or Err (start_fault at (length n.within) (length n.entries)) (Ok (opened at n name attributes closed))
 step at n (closes name) = ended at n.entries n.within name
 
--- at the end of the text
+-- At the end of the text.
 unfoldable pub at_end : ℕ → List Entry → List Open → Result (List Entry) TextRefusal
 at_end at [] [] = Err (Syntax at)
 at_end at (e ∷ es) [] = Ok (e ∷ es)
 at_end at entries (o ∷ os) = Err (Unclosed o.at)
 
--- where no whole piece begins
+-- Where no whole piece begins.
 unfoldable pub no_piece : ℕ → List ℕ → TextRefusal
 no_piece at text = if starts_with nat_eq text (codes "<!DOCTYPE") then Doctype at else Syntax at
 
--- no whole piece begins
+-- No whole piece begins.
 abbrev pub BeginsNone : List ℕ → Type 0
 BeginsNone text = (p : Piece) (rest : List ℕ) → Begins text p rest → ⊥
 
--- the first piece of a text that goes on: what stands after it, with the rest, or its fault
+-- The first piece of a text that goes on: what stands after it, with the rest, or its fault.
 abbrev pub Next : ℕ → Nest → List ℕ → Result (Nest × List ℕ) TextRefusal → Type 0
 Next at n text (Ok x) = (p : Piece) × Begins text p x.1 × (step at n (shape p) ≡ Ok x.0)
 Next at n text (Err f) = (BeginsNone text × (f ≡ no_piece at text)) ⊎ ((p : Piece) × (rest : List ℕ) × Begins text p rest × (step at n (shape p) ≡ Err f))
@@ -113,10 +119,11 @@ Goes at n text [] outcome =
 Goes at n text (p ∷ ps) outcome =
     (rest : List ℕ) × (m : Nest) × Begins text p rest × (step at n (shape p) ≡ Ok m) × Goes (at + length (spelling p)) m rest ps outcome
 
+-- The nest before the first piece.
 abbrev pub nothing : Nest
 nothing = record { entries = []; within = [] }
 
--- the length of a byte order mark at the front
+-- The length of a byte order mark at the front.
 unfoldable pub mark_len : List ℕ → ℕ
 mark_len text = if starts_with nat_eq text (0xEF ∷ 0xBB ∷ 0xBF ∷ []) then 3 else 0
 
@@ -124,7 +131,7 @@ mark_len text = if starts_with nat_eq text (0xEF ∷ 0xBB ∷ 0xBF ∷ []) then 
 abbrev pub HasOutcome : ℕ → Nest → List ℕ → Result (List Entry) TextRefusal → Type 0
 HasOutcome at n text outcome = (ps : List Piece) × Goes at n text ps outcome
 
--- the tree that a text spells, or its first fault
+-- The tree that a text spells, or its first fault.
 abbrev pub Spells : List ℕ → Result (List Entry) TextRefusal → Type 0
 Spells text outcome =
     (IsUtf8 text × HasOutcome (mark_len text) nothing (drop (mark_len text) text) outcome)

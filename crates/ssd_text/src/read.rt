@@ -10,11 +10,11 @@ ghost use Rattle.ssd_text.specs.Seen.{entries_of, nest_of, TellsOutcome};
 use crate::nest::{Nest, finish, step};
 use crate::pieces::front_piece;
 use crate::refusal::TextRefusal;
-use crate::tree::{TreeElement, Tree};
+use crate::tree::{Tree, TreeElement};
 use std::alloc::Global;
 use std::str;
 
-/// The fault of a text in which no whole piece begins.
+// The fault of a text in which no whole piece begins.
 #[tactic(auto, unfolding(crate::specs::Nesting::no_piece))]
 fn no_piece(bytes: &[u8], at: u32) -> TextRefusal
     ensures { result ≡ no_piece at bytes.now }
@@ -26,7 +26,7 @@ fn no_piece(bytes: &[u8], at: u32) -> TextRefusal
     }
 }
 
-/// Takes the piece in front, and gives what follows it.
+// Takes the piece in front, and gives what follows it.
 fn advance<'a>(
     alloc: Global,
     nest: &mut Nest<'a>,
@@ -46,7 +46,7 @@ fn advance<'a>(
     }
 }
 
-/// The length of a byte order mark in front.
+// The length of a byte order mark in front.
 #[tactic(auto, unfolding(crate::specs::Nesting::mark_len))]
 fn mark_len(bytes: &[u8]) -> usize
     ensures value { result ≡ mark_len bytes.now }
@@ -59,8 +59,12 @@ fn mark_len(bytes: &[u8]) -> usize
     }
 }
 
-/// The elements of the text from a place on.
-fn nodes_of<'a>(alloc: Global, bytes: &'a [u8], start: u32) -> Result<Vec<TreeElement<'a>>, TextRefusal>
+// The elements of the text from a place on.
+fn nodes_of<'a>(
+    alloc: Global,
+    bytes: &'a [u8],
+    start: u32,
+) -> Result<Vec<TreeElement<'a>>, TextRefusal>
     requires text { IsUtf8 bytes.now }
     requires small { start + length bytes.now ≤ 8388608 }
     ensures { TellsOutcome (λ v. entries_of v.items) result (λ o. (ps : List GrammarPiece) × Goes start nothing bytes.now ps o) }

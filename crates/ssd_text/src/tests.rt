@@ -1,8 +1,9 @@
+//! Texts and the trees that they spell.
 use super::*;
 use std::alloc::Global;
 use std::test::Fail;
 
-/// Number and place of the refusal, or 0 and the count of elements.
+// Number and place of the refusal, or 0 and the count of elements.
 fn outcome(alloc: Global, bytes: &[u8]) -> (u8, u32) {
     if bytes.len() > 8_388_608 {
         return (99, 0);
@@ -20,7 +21,7 @@ fn outcome(alloc: Global, bytes: &[u8]) -> (u8, u32) {
     }
 }
 
-/// A line with a bay of one earthing switch and one infeed, as a tool writes it.
+// A line with a bay of one earthing switch and one infeed, as a tool writes it.
 const BAY: &str = r#"<?xml version="1.0" encoding="utf-8"?>
 <!-- one line bay -->
 <SCL xmlns="http://www.iec.ch/61850/2003/SCL" xmlns:sxy="urn:draw" version="2007">
@@ -45,7 +46,7 @@ const BAY: &str = r#"<?xml version="1.0" encoding="utf-8"?>
 </SCL>
 "#;
 
-/// Texts with the number and the place of their refusal, or 0 and the count of their elements.
+// Texts with the number and the place of their refusal, or 0 and the count of their elements.
 #[test]
 fn texts(rt: HostRuntime) {
     let a = rt.alloc();
@@ -116,7 +117,7 @@ fn texts(rt: HostRuntime) {
     }
 }
 
-/// A drawing that is cut off before its last `>` ends in a tag or in an element.
+// A drawing that is cut off before its last `>` ends in a tag or in an element.
 #[test]
 fn fronts(rt: HostRuntime) {
     let a = rt.alloc();
@@ -137,7 +138,7 @@ fn repeated(alloc: Global, front: &str, piece: &str, n: u32, back: &str) -> Resu
     Ok(text)
 }
 
-/// Texts of one piece many times, with their outcomes.
+// Texts of one piece many times, with their outcomes.
 #[test]
 fn limits(rt: HostRuntime) -> Result<(), Fail> {
     let a = rt.alloc();
@@ -159,7 +160,7 @@ fn limits(rt: HostRuntime) -> Result<(), Fail> {
     Ok(())
 }
 
-/// The value of the attribute of a text, or `-`.
+// The value of the attribute of a text, or `-`.
 fn value_in(alloc: Global, raw: &str) -> Result<String, Fail> {
     let text = repeated(alloc, "<a x=\"", raw, 1, "\" y='7'/>")?;
     if text.len() <= 8_388_608 {
@@ -175,7 +176,7 @@ fn value_in(alloc: Global, raw: &str) -> Result<String, Fail> {
     Ok(none)
 }
 
-/// Values as they are written, and what they stand for.
+// Values as they are written, and what they stand for.
 #[test]
 fn values(rt: HostRuntime) -> Result<(), Fail> {
     let a = rt.alloc();
@@ -201,7 +202,7 @@ fn values(rt: HostRuntime) -> Result<(), Fail> {
     Ok(())
 }
 
-/// The elements of the bay, each with its place, the element around it and its name.
+// The elements of the bay, each with its place, the element around it and its name.
 #[test]
 fn elements(rt: HostRuntime) {
     let a = rt.alloc();

@@ -17,7 +17,7 @@ pub struct Attr<'a> {
     pub raw: &'a str,
 }
 
-/// An element with its attributes.
+// An element with its attributes.
 #[derive(Drop)]
 pub(crate) struct TreeElement<'a> {
     pub(crate) at: u32,
@@ -99,7 +99,7 @@ impl<'a> Tree<'a> {
     }
 }
 
-/// The first attribute of this name.
+// The first attribute of this name.
 fn named<'a>(attrs: &[Attr<'a>], name: &str) -> Option<Attr<'a>>
     ensures { option_map pair_of result ≡ find (λ p. bytes_eq p.0 name.now) (written attrs.now) }
 {

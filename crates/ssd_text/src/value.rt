@@ -18,7 +18,7 @@ fn is_plain(b: u8) -> bool
     b != b'&' && !is_white(b)
 }
 
-/// How many bytes in front stand for themselves.
+// How many bytes in front stand for themselves.
 #[tactic(auto, using(std::proofs::lemmas::List::Sums::prefix_len_is))]
 fn plain_len(bytes: &[u8]) -> usize
     ensures value { result ≡ prefix_len is_plain bytes.now }
@@ -32,7 +32,7 @@ fn plain_len(bytes: &[u8]) -> usize
     bytes.len()
 }
 
-/// The character for which the bytes in front stand, where they do not stand for themselves, and how many they are.
+// The character for which the bytes in front stand, where they do not stand for themselves, and how many they are.
 #[tactic(auto, unfolding(crate::specs::Grammar::special))]
 fn special(bytes: &[u8]) -> (char, usize)
     requires { 0 < length bytes.now }

@@ -9,7 +9,7 @@ use std::alloc::Global;
 use std::time::Instant;
 use std::{env, fs, io};
 
-/// How many elements a drawing has; none where it is refused.
+// How many elements a drawing has; none where it is refused.
 fn count(alloc: Global, bytes: &[u8]) -> u32 {
     if bytes.len() > 8_388_608 {
         return 0;
@@ -20,7 +20,7 @@ fn count(alloc: Global, bytes: &[u8]) -> u32 {
     }
 }
 
-/// Prints the line of the most memory that the process had at once, as Linux tells it.
+// Prints the line of the most memory that the process had at once, as Linux tells it.
 fn print_peak(rt: &HostRuntime) -> io::Result<()> {
     let status = fs::read_to_string(rt, "/proc/self/status")?;
     for line in status.as_str().lines() {

@@ -29,15 +29,19 @@ pub record CountsBays (d : Diagram) (bays in_last : ℕ) : Type 0 where
 abbrev pub part_limit : Diagram → Option (What × ℕ)
 part_limit d = if part_count d == PARTS then Some (Parts, PARTS + 1) else None
 
+-- The same of one more node.
 abbrev pub node_limit : Diagram → Option (What × ℕ)
 node_limit d = if node_count d == NODES then Some (Nodes, NODES + 1) else None
 
+-- The same of one more link.
 abbrev pub link_limit : Diagram → Option (What × ℕ)
 link_limit d = if length d.links == LINKS then Some (Links, LINKS + 1) else None
 
+-- The same of one more tap.
 abbrev pub tap_limit : Diagram → Option (What × ℕ)
 tap_limit d = if length d.taps == TAPS then Some (Taps, TAPS + 1) else None
 
+-- The same of one more switch of the part: of all switches, of those of one bay, of bays.
 abbrev pub switch_limit : Diagram → ℕ → Option (What × ℕ)
 switch_limit d part =
     if length d.switches == SWITCHES then Some (Switches, SWITCHES + 1)

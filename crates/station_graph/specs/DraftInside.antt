@@ -2,6 +2,7 @@
 use Rattle.station_graph.specs.Diagram.{Diagram}
 use Rattle.station_graph.specs.declared.builder.Builder.TheInside.{Inside}
 
+-- The diagram that a builder holds.
 abbrev pub draft_of : Inside → Diagram
 draft_of b = record {
   node_paths = b.node_paths;

@@ -2,6 +2,7 @@
 use Rattle.station_graph.specs.Diagram.{Diagram}
 use Rattle.station_graph.specs.declared.station.Station.TheInside.{Inside}
 
+-- The diagram that a station holds.
 abbrev pub diagram_of : Inside → Diagram
 diagram_of s = record {
   node_paths = s.node_paths;

@@ -3,7 +3,7 @@ use Rattle.std.specs.Prelude.{ℕ}
 use Rattle.station_graph.specs.declared.fault.What.{What}
 use Rattle.station_graph.specs.declared.fault.What.TheVariants.{Bytes, Parts, Bays, Nodes, Switches, BaySwitches, Links, Taps}
 
--- the number of the limit for what is counted
+-- The number of the limit for what is counted.
 abbrev pub limit_number : What → ℕ
 limit_number Bytes = 1
 limit_number Parts = 2

@@ -28,9 +28,11 @@ pub record SomeBelow {X : Type 0} (xs : List X) (P : X → Type 0) (k : ℕ) : T
 abbrev pub SwitchesAt : Bool → ℕ → Diagram → ℕ → ℕ → Type 0
 SwitchesAt inside part d k n = SomeBelow d.switches (λ x. PartIs inside part x.bay.0 × AtSwitch x n) k
 
+-- One of the first k links touches the node, and is of the part, or of another.
 abbrev pub LinksAt : Bool → ℕ → Diagram → ℕ → ℕ → Type 0
 LinksAt inside part d k n = SomeBelow d.links (λ x. PartIs inside part x.part.0 × AtLink x n) k
 
+-- One of the first k taps stands at the node, and is of the part, or of another.
 abbrev pub TapsAt : Bool → ℕ → Diagram → ℕ → ℕ → Type 0
 TapsAt inside part d k n = SomeBelow d.taps (λ x. PartIs inside part x.part.0 × AtTap x n) k
 

@@ -5,8 +5,8 @@ use indexmap::IndexSet;
 use std::alloc::{AllocFailed, Global};
 use std::marker::Model;
 
-/// Paths in the order in which they were added, seen as their list. A path is found by a hash, in
-/// time of its own length.
+// Paths in the order in which they were added, seen as their list. A path is found by a hash, in
+// time of its own length.
 #[derive(Debug, Drop)]
 pub(crate) struct Paths {
     paths: IndexSet<String>,

@@ -9,31 +9,31 @@ use Rattle.station_make.specs.Layout.{switches}
 use Rattle.station_make.specs.Names.{path_in}
 use Rattle.station_make.specs.PositionsText.{position_record, lines_text}
 
--- where the switch stands at the start
+-- Where the switch stands at the start.
 abbrev pub at_record : Switch → List ℕ
 at_record s = codes "at," ++ position_record s
 
--- its bay reads the same
+-- Its bay reads the same.
 abbrev pub sense_record : Switch → List ℕ
 sense_record s = codes "sense," ++ position_record s
 
--- the message of this number is delivered
+-- The message of this number is delivered.
 abbrev pub deliver_record : ℕ → List ℕ
 deliver_record number = codes "deliver," ++ decimal number
 
--- the path of the switch that is moved
+-- The path of the switch that is moved.
 abbrev pub moved_path : List ℕ
 moved_path = path_in (Feeder 1) Qb2
 
--- a record of that switch, with these texts before its path and behind it
+-- A record of that switch, with these texts before its path and behind it.
 unfoldable pub moved_record : List ℕ → List ℕ → List ℕ
 moved_record front back = front ++ moved_path ++ back
 
--- it is to be closed
+-- It is to be closed.
 abbrev pub command_records : List (List ℕ)
 command_records = moved_record (codes "command,") (codes ",close") ∷ []
 
--- its drive runs from end to end, and its bay reads it
+-- Its drive runs from end to end, and its bay reads it.
 abbrev pub drive_records : List (List ℕ)
 drive_records = moved_record (codes "begin,") [] ∷ moved_record (codes "end,") [] ∷ moved_record (codes "sense,") (codes ",on") ∷ []
 
@@ -48,10 +48,10 @@ events_of feeders switches =
     ++ drive_records
     ++ map deliver_record (range_with_len (2 * feeders + 1) feeders)
 
--- the records of the log for the station with so many feeders
+-- The records of the log for the station with so many feeders.
 abbrev pub events : ℕ → List (List ℕ)
 events feeders = events_of feeders (switches feeders)
 
--- the log for the station with so many feeders
+-- The log for the station with so many feeders.
 abbrev pub events_text : ℕ → List ℕ
 events_text feeders = lines_text (events feeders)

@@ -1,5 +1,5 @@
-// The texts of the smallest station, and the words that name a number and a text. The texts are worked by
-// hand from the rules of docs/FORMATS.md.
+//! The texts of the smallest station, and the words that name a number and a text. The texts are worked by
+//! hand from the rules of docs/FORMATS.md.
 use crate::{MadeText, feeders_named, make, make_text, text_named};
 use std::test::Fail;
 

@@ -1,4 +1,4 @@
-// Which positions are alike: the rows of their contractions are equal or not.
+//! Which positions are alike: the rows of their contractions are equal or not.
 use crate::composed::{Items, kept_of};
 use crate::drawings::{Example, built};
 use contraction::Contraction;

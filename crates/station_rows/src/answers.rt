@@ -1,4 +1,4 @@
-// What contractions answer on their kept nodes.
+//! What contractions answer on their kept nodes.
 use crate::composed::{Items, first_nodes, kept_of};
 use crate::drawings::{Example, built};
 use contraction::{Contraction, Supply};

@@ -1,4 +1,4 @@
-// The contractions of the items of a part and of more, composed item by item.
+//! The contractions of the items of a part and of more, composed item by item.
 ghost use Rattle.std.specs.Prelude.{◌<◌, ◌≤◌, length, IfOk};
 ghost use Rattle.contraction.specs.Answers.{AreNodes};
 

@@ -1,4 +1,4 @@
-// What the contraction of all other items says of an operation: the rule that it breaks.
+//! What the contraction of all other items says of an operation: the rule that it breaks.
 use crate::composed::{Items, contraction_of};
 use crate::drawings::{Example, built};
 use contraction::Contraction;

@@ -1,5 +1,5 @@
-// Each limit of a builder reached, and passed by one item: what is answered, and that the builder is as
-// it was before.
+//! Each limit of a builder reached, and passed by one item: what is answered, and that the builder is as
+//! it was before.
 use ilk_base::{BayId, Kind, NodeId};
 use station_graph::{BuildFault, Builder, Link, Switch, Tap, What};
 use std::alloc::Global;

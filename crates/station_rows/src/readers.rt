@@ -1,4 +1,4 @@
-// What the readers of a station answer.
+//! What the readers of a station answer.
 use crate::drawings::{Example, built, drawing_of};
 use ilk_base::{BayId, Kind, Memory, NodeId, SwitchId};
 use station_graph::{Classes, Link, Station, Switch, Tap};

@@ -12,31 +12,31 @@ use Rattle.switching_orders.specs.declared.ruling.Step.TheVariants as step
 use Rattle.switching_orders.specs.declared.ruling.Ruling.{Ruling}
 use Rattle.switching_orders.specs.declared.text.OrderReport.{OrderReport}
 
--- what is written of a ruling
+-- What is written of a ruling.
 abbrev pub ruling_words : Step → List ℕ
 ruling_words step.Ok = codes " ok "
 ruling_words (step.Denied rule) = codes " denied " ++ rule_name rule ++ codes " "
 ruling_words step.Idle = codes " idle "
 
--- the line `K ok open PATH`, `K denied RULE open PATH` or `K idle open PATH` (or `close`) of step K
+-- The line `K ok open PATH`, `K denied RULE open PATH` or `K idle open PATH` (or `close`) of step K.
 abbrev pub step_line : Diagram → ℕ → Step → Op → List ℕ
 step_line d number s op = decimal number ++ ruling_words s ++ operation d op
 
--- the lines of steps that are ok, numbered from 1
+-- The lines of steps that are ok, numbered from 1.
 abbrev pub ok_lines : Diagram → List Op → List ℕ
 ok_lines d ops = flat_map (λ p. step_line d p.0 step.Ok p.1) (enumerate_from 1 ops)
 
--- the line of a step that is not
+-- The line of a step that is not.
 abbrev pub stop_line : Diagram → ℕ → Option Op → Option Step → List ℕ
 stop_line d number (Some op) (Some s) = step_line d number s op
 stop_line d number (Some op) None = []
 stop_line d number None s = []
 
--- the line of the step at which the order stops, if it does
+-- The line of the step at which the order stops, if it does.
 abbrev pub stop_of : Diagram → List Op → Ruling → List ℕ
 stop_of d ops r = stop_line d (r.passed + 1) (slice_get ops r.passed) r.stopped
 
--- what is written of the order undone: that it is accepted, or its first step that is not ok
+-- What is written of the order undone: that it is accepted, or its first step that is not ok.
 abbrev pub back_line : Diagram → List Op → Ruling → Option Step → List ℕ
 back_line d ops back None = codes "back accepted\n"
 back_line d ops back (Some s) = codes "back " ++ stop_of d ops back

@@ -4,6 +4,7 @@ use Rattle.ilk_base.specs.declared.words.Direction.{Direction}
 use Rattle.ilk_base.specs.declared.words.Direction.TheVariants.{ToOff, ToOn}
 use Rattle.ilk_base.specs.declared.words.Op.{Op}
 
+-- The other direction.
 abbrev pub other_way : Direction → Direction
 other_way ToOff = ToOn
 other_way ToOn = ToOff

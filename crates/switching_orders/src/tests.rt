@@ -1,4 +1,4 @@
-// Orders on two feeders, their texts and refusals. The texts are worked by hand from the rules.
+//! Orders on two feeders, their texts and refusals. The texts are worked by hand from the rules.
 ghost use Rattle.std.specs.Prelude.{◌≡◌, length, IfOk};
 ghost use Rattle.switching_orders.specs.OrderRuling.{AreOperations};
 

@@ -1,4 +1,4 @@
-// Which lines a text has. The expected lines are written out by hand.
+//! Which lines a text has. The expected lines are written out by hand.
 use crate::{Lines, after};
 use std::test::Fail;
 

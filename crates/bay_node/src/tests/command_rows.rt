@@ -1,4 +1,4 @@
-// The rules of a command.
+//! The rules of a command.
 use crate::tests::drawings::Drawing;
 use crate::tests::rows::{COMMANDED, GRANTED, HIGHEST_0, HIGHEST_1, Happens, LAST, LOCKED_5, Row};
 use ilk_base::Dbpos;

@@ -1,4 +1,4 @@
-// The stations of the tests.
+//! The stations of the tests.
 use ilk_base::{BayId, Kind, NodeId};
 use station_graph::{Builder, Station, Switch, Tap};
 use std::alloc::Global;

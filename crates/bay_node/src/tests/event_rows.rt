@@ -1,4 +1,4 @@
-// The rules of the other events.
+//! The rules of the other events.
 use crate::tests::drawings::Drawing;
 use crate::tests::rows::{
     COMMANDED, GRANTED, HIGHEST_0, HIGHEST_1, Happens, LOCKED_5, OVER_TO_2, RELEASED, Row,

@@ -1,4 +1,4 @@
-// The rules of the other frames, and of what is no frame for the bay.
+//! The rules of the other frames, and of what is no frame for the bay.
 use crate::tests::drawings::Drawing;
 use crate::tests::rows::{
     COMMANDED, GRANTED, HIGHEST_0, HIGHEST_1, HIGHEST_3, Happens, LOCKED_5, OVER_TO_2, Row,

@@ -1,4 +1,4 @@
-// The rules of an Answer and of a Reserve.
+//! The rules of an Answer and of a Reserve.
 use crate::tests::drawings::Drawing;
 use crate::tests::rows::{
     ANSWER, COMMANDED, GRANTED, HIGHEST_0, HIGHEST_1, Happens, LOCKED_5, LOCKED_6, OVER_TO_2,

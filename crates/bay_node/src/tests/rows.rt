@@ -1,6 +1,6 @@
-// The form of a row of the tests, and what several rows share. The node is that of the part 1, S/V1/Q1; a
-// summary is a row of words, one byte for each switch of the bay: 1 off, 2 on, 4 lost. All rows of bytes are
-// worked by hand.
+//! The form of a row of the tests, and what several rows share. The node is that of the part 1, S/V1/Q1; a
+//! summary is a row of words, one byte for each switch of the bay: 1 off, 2 on, 4 lost. All rows of bytes are
+//! worked by hand.
 use crate::tests::drawings::Drawing;
 use ilk_base::Dbpos;
 

@@ -1,5 +1,5 @@
-// The station of the tests: a busbar, and two feeders with a disconnector on each side of a breaker, an earthing
-// switch and an infeed.
+//! The station of the tests: a busbar, and two feeders with a disconnector on each side of a breaker, an earthing
+//! switch and an infeed.
 use ilk_base::{BayId, Kind, NodeId};
 use station_graph::{Builder, Station, Switch, Tap};
 use std::alloc::Global;

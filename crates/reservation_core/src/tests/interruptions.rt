@@ -1,4 +1,4 @@
-// Messages that come again or cut short, and bays that start again.
+//! Messages that come again or cut short, and bays that start again.
 use crate::tests::rows::{
     ANSWER, ANSWER_LOST, CLOSED, COLLECTING, FINISHED, GRANTED, Happens, Line, OVER, RESERVE_2,
     RESERVE_BACK, Says, Story, TO_END, TO_GRANT,

@@ -1,4 +1,4 @@
-// Operations from the command to the end.
+//! Operations from the command to the end.
 use crate::tests::rows::{
     ANSWER, ANSWER_2, CLOSED, COLLECTING, Happens, Line, OVER, OVER_2, RESERVE, RESERVE_2,
     RESERVE_BACK, Says, Story, TO_END, TO_GRANT,

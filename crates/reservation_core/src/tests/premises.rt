@@ -1,4 +1,4 @@
-// Events that break a premise. Each changes nothing: what comes later is as if it had not happened.
+//! Events that break a premise. Each changes nothing: what comes later is as if it had not happened.
 use crate::tests::rows::{CLOSED, Happens, Line, OVER, Says, Story, TO_GRANT};
 use ilk_base::Dbpos;
 

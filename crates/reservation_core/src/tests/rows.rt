@@ -1,6 +1,6 @@
-// The form of a story, and what several stories share. The bays are the parts 1 and 2, with the switches 0 to 4
-// and 5 to 9; a summary is a row of words, one byte for each switch of the bay: 1 off, 2 on, 4 lost. All rows
-// of bytes are worked by hand.
+//! The form of a story, and what several stories share. The bays are the parts 1 and 2, with the switches 0 to 4
+//! and 5 to 9; a summary is a row of words, one byte for each switch of the bay: 1 off, 2 on, 4 lost. All rows
+//! of bytes are worked by hand.
 use ilk_base::Dbpos;
 
 // What happens.
