@@ -3,13 +3,13 @@ ghost use Rattle.std.specs.Prelude.{◌≡◌, length, IfOk};
 ghost use Rattle.station_graph.specs.Alike.{IsVector};
 ghost use Rattle.station_graph.specs.CentralRules.{IsOperation};
 
-use crate::drawings::{Example, built};
-use crate::{breaks, labels};
+use central_rules::{breaks, labels};
 use ilk_base::{Direction, Op, Rule, SwitchId};
 use station_graph::{NodeList, Station, Vector};
 use std::alloc::Global;
 use std::process::Abort;
 use std::test::Fail;
+use worked_stations::{Example, built};
 
 // The vector of these positions, a sign for each switch: 1 is closed.
 fn positions(
@@ -46,7 +46,8 @@ struct Row {
     closing: &'static [u8],
 }
 
-// The switches of a feeder are in order QB1, QA1, QB9, QC9, E1. The rows are: earthed behind an open breaker on the busbar, and fed
+// The switches of a feeder are in order QB1, QA1, QB9, QC9, E1. The rows are: earthed behind an open breaker on the
+// busbar, and fed
 // from the other feeder; both feeders through; the path through
 // transformers, which is no bond; the bare stub with the other disconnector closed.
 const ROWS: &[Row] = &[
@@ -134,7 +135,7 @@ fn expect_row(rt: &impl Abort, alloc: Global, station: &Station, row: &Row) -> R
 }
 
 fn expect_drawn(rt: &impl Abort, alloc: Global, row: &Row) -> Result<(), Fail> {
-    let station = built(rt, alloc, row.drawing)?;
+    let station = built(alloc, row.drawing)?;
     expect_row(rt, alloc, &station, row)
 }
 
@@ -170,7 +171,7 @@ fn expect_least(rt: &impl Abort, alloc: Global, station: &Station) -> Result<(),
 }
 
 fn expect_transformers(rt: &impl Abort, alloc: Global) -> Result<(), Fail> {
-    let station = built(rt, alloc, Example::TwoTransformers)?;
+    let station = built(alloc, Example::TwoTransformers)?;
     expect_least(rt, alloc, &station)
 }
 

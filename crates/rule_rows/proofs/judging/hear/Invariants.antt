@@ -2,7 +2,7 @@ use Rattle.std.proofs.Common.{◌≡◌, length}
 use Rattle.station_graph.specs.Diagram.{part_count}
 use Rattle.central_rules.specs.Meaning.{HeardFit, bay_of}
 use Rattle.central_rules.specs.WordRows.{by_rows}
-use Rattle.central_rules.proofs.judge_tests.hear.Given as goal
+use Rattle.rule_rows.proofs.judging.hear.Given as goal
 
 abbrev pub invariant-loop-i : goal.invariant-loop-i
 invariant-loop-i g l = record {

@@ -6,14 +6,14 @@ ghost use Rattle.central_rules.specs.WordRows.{by_rows};
 ghost use Rattle.double_points.specs.Words.{AreWords};
 ghost use Rattle.station_graph.specs.CentralRules.{IsOperation};
 
-use crate::drawings::{Example, built};
-use crate::{Judge, PlainJudge, Verdict, fits_plain};
+use central_rules::{Judge, PlainJudge, Verdict, fits_plain};
 use double_points::Readings;
 use ilk_base::{BayId, Dbpos, Direction, HeardList, Memory, Op, Summary, SwitchId};
 use station_graph::Station;
 use std::alloc::Global;
 use std::process::Abort;
 use std::test::Fail;
+use worked_stations::{Example, built};
 
 // What a sign of a row of words stands for.
 fn word_of(sign: u8) -> Dbpos {
@@ -265,7 +265,7 @@ fn expect_busbars(rt: &impl Abort, alloc: Global, station: &Station) -> Result<(
 }
 
 fn expect_two_busbars(rt: &impl Abort, alloc: Global) -> Result<(), Fail> {
-    let station = built(rt, alloc, Example::TwoBusbars)?;
+    let station = built(alloc, Example::TwoBusbars)?;
     expect_busbars(rt, alloc, &station)
 }
 
