@@ -22,7 +22,8 @@ pub fn headline_holds<J: Judge>(judge: &J)
 
 /// After a run, an event breaks a premise exactly where the lines say so.
 pub fn premises_are_exact<J: Judge>(judge: &J)
-    ensures { (start : List Bool) (before : List Line) (old new : Scene) (event : Event) (outcome : Outcome) → let m = J.meaning judge.now in
+    ensures { (start : List Bool) (before : List Line) (old new : Scene) (event : Event) (outcome : Outcome) →
+        let m = J.meaning judge.now in
         Run m start before old → InRange m.diagram event → Happens m old event new outcome → PremiseExact m.diagram start before event outcome }
 {
     judge.diagram_is_station();

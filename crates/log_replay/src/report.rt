@@ -2,8 +2,10 @@
 ghost use Rattle.std.specs.Prelude.{◌≡◌, ◌<◌, ◌≤◌, ◌++◌, ◌^◌, length, map, flat_map, codes, decimal, All, IfOk, OnOk};
 ghost use Rattle.bay_protocol.specs.OutcomeLines.{outcome_lines, OutcomeFits};
 ghost use Rattle.reservation_core.specs.Lines.{Message, messages, message, kind_of};
-ghost use Rattle.reservation_core.specs.ReportLines.{bay_line, bay_lines, message_name, line_prefix, message_line, shown_lines, all_lines};
-ghost use Rattle.log_replay.specs.Replay.{shown_at, ReportFits, ShownFits, last_line, report_text, is_granted, is_denied, is_finished, how_many};
+ghost use Rattle.reservation_core.specs.ReportLines.{bay_line, bay_lines, message_name, line_prefix, message_line};
+ghost use Rattle.reservation_core.specs.ReportLines.{shown_lines, all_lines};
+ghost use Rattle.log_replay.specs.Replay.{shown_at, ReportFits, ShownFits, last_line, report_text, is_granted};
+ghost use Rattle.log_replay.specs.Replay.{is_denied, is_finished, how_many};
 ghost use Rattle.log_replay.specs.declared.log.TheConstants.{MOST_RECORDS};
 
 use crate::log::MOST_RECORDS;
@@ -48,7 +50,8 @@ fn push_number(text: &mut Text, words: &[u8], number: u32) -> Result<(), Memory>
 
 // Appends `bay`, its number and its path, and the end of the line.
 fn push_bay_line(text: &mut Text, bay: BayId, path: &str) -> Result<(), Memory>
-    ensures { OnOk result (text.new ≡ text.old ++ (codes "bay " ++ decimal bay.0 ++ codes " " ++ path.now ++ codes "\n")) }
+    ensures { OnOk result (text.new ≡ text.old ++ (codes "bay " ++ decimal bay.0 ++ codes " " ++ path.now
+        ++ codes "\n")) }
 {
     push_number(text, b"bay ", u32::from(bay.0))?;
     text.push(b" ")?;
@@ -103,7 +106,9 @@ fn prefix(alloc: Global, line: u32, bay: BayId) -> Result<Text, Memory>
 
 // Appends `send N KIND TO R` and the end of the line.
 fn push_sent(text: &mut Text, number: u32, frame: &Frame) -> Result<(), Memory>
-    ensures { OnOk result (text.new ≡ text.old ++ (codes "send " ++ decimal number ++ codes " " ++ message_name (kind_of frame.now.body) ++ codes " " ++ decimal frame.now.to.0 ++ codes " " ++ decimal frame.now.round) ++ codes "\n") }
+    ensures { OnOk result (text.new ≡ text.old ++ (codes "send " ++ decimal number ++ codes " " ++ message_name
+        (kind_of frame.now.body) ++ codes " " ++ decimal frame.now.to.0 ++ codes " " ++ decimal frame.now.round)
+        ++ codes "\n") }
 {
     push_number(text, b"send ", number)?;
     text.push(b" ")?;
@@ -156,7 +161,8 @@ fn push_output(
 ) -> Result<(), Memory>
     requires outcome { OutcomeFits station.now output.now.outcome }
     requires numbers { All (λ (x : Message). x.number < 2 ^ 32) (messages first output.now.frames) }
-    ensures { OnOk result (text.new ≡ text.old ++ (outcome_lines (line_prefix line bay.0) station.now output.now.outcome ++ flat_map (message_line line) (messages first output.now.frames))) }
+    ensures { OnOk result (text.new ≡ text.old ++ (outcome_lines (line_prefix line bay.0) station.now output.now.outcome
+        ++ flat_map (message_line line) (messages first output.now.frames))) }
 {
     let prefix = prefix(alloc, line, bay)?;
     let lines = output.outcome.lines(alloc, station, prefix.bytes())?;
