@@ -11,6 +11,7 @@ mod record;
 #[cfg(test)]
 mod replay_tests;
 mod report;
+mod report_lines;
 mod start;
 #[cfg(test)]
 mod tests;
