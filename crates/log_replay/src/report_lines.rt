@@ -179,7 +179,11 @@ pub(crate) fn push_all(
 }
 
 // Appends the last line, unless a premise is broken.
-pub(crate) fn push_last(text: &mut Text, broken: Option<(u32, Which)>, count: u32) -> Result<(), Memory>
+pub(crate) fn push_last(
+    text: &mut Text,
+    broken: Option<(u32, Which)>,
+    count: u32,
+) -> Result<(), Memory>
     ensures { OnOk result (text.new ≡ text.old ++ last_line broken count) }
 {
     if broken.is_some() {
