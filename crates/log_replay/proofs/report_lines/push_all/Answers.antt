@@ -3,7 +3,7 @@ use Rattle.std.proofs.lemmas.Option.{slice_get_read}
 use Rattle.reservation_core.specs.ReportLines.{all_lines, shown_lines}
 use Rattle.log_replay.specs.Replay.{ShownFits, shown_at}
 use Rattle.log_replay.proofs.ReportLemmas.{appended, all_shown_more, mapped_each}
-use Rattle.log_replay.proofs.report.push_all.Goals as goal
+use Rattle.log_replay.proofs.report_lines.push_all.Goals as goal
 
 pub push_shown-requires : goal.push_shown-requires
 push_shown-requires c =

@@ -1,7 +1,7 @@
 use Rattle.std.proofs.Common.{rules, ◌≡◌, ◌++◌, OnOk, subst, sym, List, ℕ}
 use Rattle.central_rules.specs.Meaning.{IsBay}
 use Rattle.log_replay.proofs.ReportLemmas.{bay_line_is}
-use Rattle.log_replay.proofs.report.push_bay.Goals as goal
+use Rattle.log_replay.proofs.report_lines.push_bay.Goals as goal
 
 pub returns : goal.returns
 returns c =

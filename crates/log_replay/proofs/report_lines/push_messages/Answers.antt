@@ -4,7 +4,7 @@ use Rattle.std.proofs.lemmas.Option.{slice_get_read}
 use Rattle.reservation_core.specs.Lines.{message, messages}
 use Rattle.reservation_core.specs.ReportLines.{message_line}
 use Rattle.log_replay.proofs.ReportLemmas.{appended, message_lines_more, numbers_below}
-use Rattle.log_replay.proofs.report.push_messages.Goals as goal
+use Rattle.log_replay.proofs.report_lines.push_messages.Goals as goal
 
 pub overflow_cast-i : goal.overflow_cast-i
 overflow_cast-i c = let it = numbers_below (2 ^ 32) c.args.first c.args.frames.now c.loop-i.i c.loop-i-test.true
