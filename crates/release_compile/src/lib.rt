@@ -13,6 +13,7 @@ mod judge;
 mod layer;
 mod limits;
 mod needed;
+mod noted;
 mod outer;
 mod placing;
 mod pool;
@@ -21,6 +22,7 @@ mod refusal;
 mod search;
 mod sets;
 mod station;
+mod stock;
 mod summary;
 mod view;
 
