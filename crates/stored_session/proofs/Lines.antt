@@ -126,4 +126,4 @@ module _ (before : Option (List ℕ)) (done : List (List ℕ)) (now after : Opti
   -- it is not known
   pub fails_so : (rose : Type 0) (trouble : InputTrouble) → FillFails held held_new now after rose trouble → GoesOn before after held_new done rose (Err trouble)
   fails_so rose Memory fails = begins before done now held at
-  fails_so rose Failed (risen, grows, none) = (risen, begins before done now held at)
+  fails_so rose Failed (risen, grows, none) = (risen, record { held = held_new; reads = reads_more before done now after held held_new at grows; unended = none })

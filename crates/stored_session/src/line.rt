@@ -1,4 +1,4 @@
-// One line of a stored session.
+//! One line of a stored session.
 ghost use Rattle.std.specs.Prelude.{◌≡◌, ◌≢◌, ◌≤◌, ◌<◌, ◌⊎◌, ◌+◌, ◌^◌, false, IfOk, IfErr, OnErr, IsErrOf};
 ghost use Rattle.std.specs.List.{All};
 ghost use Rattle.ilk_base.specs.Outside.{Rose};

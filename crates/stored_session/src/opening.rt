@@ -1,4 +1,4 @@
-// Opening the store of a bay.
+//! Opening the store of a bay.
 ghost use Rattle.std.specs.Prelude.{◌≡◌, ◌≤◌, ℕ, List, IfOk, OnOk, IsErrOf, IsTrue, ◌↔◌};
 ghost use Rattle.ilk_base.specs.Outside.{Rose};
 ghost use Rattle.bay_protocol.specs.Fits.{KeptFits};

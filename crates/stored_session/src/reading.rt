@@ -1,4 +1,4 @@
-// The lines of an input, one after another.
+//! The lines of an input, one after another.
 ghost use Rattle.std.specs.Prelude.{◌≡◌, ◌≤◌, ◌<◌, ℕ, List, Option, IfOk, length};
 ghost use Rattle.ilk_base.specs.Outside.{Rose};
 ghost use Rattle.node_session.specs.declared.reader.TheConstants.{CHUNK};
