@@ -13,7 +13,8 @@ use Rattle.stored_session.specs.View.{View, KeepsTime}
 use Rattle.stored_session.specs.Along.{StandsAlong}
 use Rattle.stored_session.specs.Ends.{EndsSo, Ends, IsIdle}
 use Rattle.stored_session.specs.declared.end.StoredEnd.{StoredEnd}
-use Rattle.stored_session.specs.declared.end.StoredEnd.TheVariants.{Done, Unfit, Refused, Long, ReadFault, WriteFault, Memory}
+use Rattle.stored_session.specs.declared.end.StoredEnd.TheVariants.{Done, Unfit, Refused, Long, ReadFault, WriteFault}
+use Rattle.stored_session.specs.declared.end.StoredEnd.TheVariants.{Memory}
 use Rattle.stored_session.proofs.Along.{along_start}
 
 -- a count that rose in a part of a run rose in it
@@ -51,7 +52,8 @@ module _ {D : Type 0} (v : View D) (time : KeepsTime v) (old mid : D) (same : v.
   idle now = record {
     streams = refl;
     crash = λ image told settled.
-        one_call v.moment v.between v.since time old mid image (λ c d. c ≡ d) (λ c. c ≡ image) settled follows past (λ c is. sym is);
+        one_call v.moment v.between v.since time old mid image (λ c d. c ≡ d) (λ c. c ≡ image) settled follows past
+        (λ c is. sym is);
     called = called;
   }
 
@@ -71,7 +73,8 @@ module _ {D : Type 0} (v : View D) (time : KeepsTime v) (old mid : D) (same : v.
         let P : List ℕ → Type 0 = StandsAlong m d b start ends.lines ends.text ends.last 0 in
         then_more v.moment v.between v.since time old mid new P
         (one_call v.moment v.between v.since time old mid image (λ c d. c ≡ d) P settled follows past
-        (λ c is. subst P is (along_start m d b start ends.lines ends.text ends.last image ends.session (stands image told))))
+        (λ c is. subst P is (along_start m d b start ends.lines ends.text ends.last image ends.session
+        (stands image told))))
         (ends.crash image (same ∙ told)
         (stays_settled v.moment v.between v.since time old mid image settled follows past));
     at_return = λ image told. ends.at_return image (same ∙ told);
@@ -86,8 +89,10 @@ module _ {D : Type 0} (v : View D) (time : KeepsTime v) (old mid : D) (same : v.
   }
 
   -- the same, of a node that is made of the record
-  pub begun : (m : Meaning) (d : Diagram) (b : ℕ) (node start : State) (before now : Streams) (new : D) (end : StoredEnd)
+  pub begun : (m : Meaning) (d : Diagram) (b : ℕ) (node start : State) (before now : Streams) (new : D)
+      (end : StoredEnd)
       → node ≡ start → v.writes old ≤ v.writes mid → Told (v.content old) (λ image. IsImageOf image (kept_of start))
       → Ends v m d b 0 node before now mid new end → Ends v m d b 3 start before now old new end
   begun m d b node start before now new end is grows stands ends =
-      begun_at m d b start before now new end grows stands (subst (λ (s : State). Ends v m d b 0 s before now mid new end) is ends)
+      begun_at m d b start before now new end grows stands (subst (λ
+      (s : State). Ends v m d b 0 s before now mid new end) is ends)

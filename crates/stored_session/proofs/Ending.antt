@@ -1,5 +1,6 @@
 -- How a stored session ends, between two lines or at one.
-use Rattle.std.proofs.Common.{◌≡◌, ◌≤◌, ◌<◌, ◌⊎◌, ◌+◌, ◌*◌, ◌++◌, ◌∷◌, [], inl, inr, ℕ, List, length, take, refl, sym, subst, arith}
+use Rattle.std.proofs.Common.{◌≡◌, ◌≤◌, ◌<◌, ◌⊎◌, ◌+◌, ◌*◌, ◌++◌, ◌∷◌, [], inl, inr, ℕ, List, length, take, refl, sym}
+use Rattle.std.proofs.Common.{subst, arith}
 use Rattle.std.specs.Io.KnownBytes.{Appends}
 use Rattle.ilk_base.specs.Outside.{Rose}
 use Rattle.ilk_base.proofs.Fronts.{rose_earlier}
@@ -63,8 +64,10 @@ module _ {D : Type 0} (v : View D) (time : KeepsTime v) (m : Meaning) (d : Diagr
     called = rises_none (6 * length done) (v.calls old) (v.calls device) at.called;
   }
 
-  called_more : (device new : D) (done : List (List ℕ)) (line : List ℕ) → RisesBy (6 * length done) (v.calls old) (v.calls device)
-      → RisesBy 6 (v.calls device) (v.calls new) → RisesBy (0 + 6 * length (done ++ line ∷ [])) (v.calls old) (v.calls new)
+  called_more : (device new : D) (done : List (List ℕ)) (line : List ℕ) → RisesBy (6 * length done) (v.calls old)
+      (v.calls device)
+      → RisesBy 6 (v.calls device) (v.calls new) → RisesBy (0 + 6 * length (done ++ line ∷ [])) (v.calls old)
+      (v.calls new)
   called_more device new done line first second =
       subst (λ (n : ℕ). RisesBy (0 + 6 * n) (v.calls old) (v.calls new)) (one_line_more done line)
       (rises_none (6 * (length done + 1)) (v.calls old) (v.calls new)
@@ -73,7 +76,8 @@ module _ {D : Type 0} (v : View D) (time : KeepsTime v) (m : Meaning) (d : Diagr
   -- a line is not stored, and its text not written
   pub ends_unstored : (now after : Streams) (device new : D) (done : List (List ℕ)) (store : Store) (state : State)
       → (line answer : List ℕ) (next : State) → Now v time m d b start before old now device done store state
-      → HasNext before.input done line → LeavesEither v device new state next → AnswersStored m d b state line answer next
+      → HasNext before.input done line → LeavesEither v device new state next
+      → AnswersStored m d b state line answer next
       → Appends now.out after.out [] → Rose (v.writes device) (v.writes new) → RisesBy 6 (v.calls device) (v.calls new)
       → EndsNow after new e.WriteFault
   ends_unstored now after device new done store state line answer next at comes in_it answers nothing rose called =
@@ -143,7 +147,8 @@ module _ {D : Type 0} (v : View D) (time : KeepsTime v) (m : Meaning) (d : Diagr
             state = state;
             session = at.session;
             front = tells.wrote.0;
-            wrote = appends_both before.out now.out after.out at.text (take tells.wrote.0 answer) at.wrote tells.wrote.2;
+            wrote = appends_both before.out now.out after.out at.text
+                (take tells.wrote.0 answer) at.wrote tells.wrote.2;
             cause = inr (rose_earlier _ _ _ at.writes_grow rose, tells.wrote.1, refl);
           },
         );
@@ -157,28 +162,38 @@ module _ {D : Type 0} (v : View D) (time : KeepsTime v) (m : Meaning) (d : Diagr
 
   -- the session ends at a line
   pub ends_line : (now after : Streams) (device new : D) (done : List (List ℕ)) (store : Store) (state : State)
-      → (line : List ℕ) (next : State) (count : ℕ) (end : LineEnd) (result : StoredEnd) → length done ≡ count → count < MOST_LINES
+      → (line : List ℕ) (next : State) (count : ℕ) (end : LineEnd) (result : StoredEnd) → length done ≡ count
+      → count < MOST_LINES
       → Now v time m d b start before old now device done store state → HasNext before.input done line
       → LeavesEither v device new state next
       → (end ≡ l.OutFailed → Told (v.content device) (λ _. LeavesNow v.moment v.since new (kept_of next)))
       → ((end ≡ l.Memory) ⊎ (end ≡ l.Refused) → new ≡ device)
       → RisesBy 6 (v.calls device) (v.calls new) → now.reads ≤ after.reads → now.writes ≤ after.writes
-      → LineFails m d b state line next now.out after.out (Rose (v.writes device) (v.writes new)) (Rose now.writes after.writes) end
+      → LineFails m d b state line next now.out after.out (Rose (v.writes device) (v.writes new))
+      (Rose now.writes after.writes) end
       → IsEndAt count end result → EndsNow after new result
-  ends_line now after device new done store state line next count l.Memory result counted few at comes in_it stored quiet called reads writes nothing is =
-      let still = stands_still v time m d b start before old now after device new done store state at (quiet (inl refl)) nothing reads writes in
+  ends_line now after device new done store state line next count l.Memory result counted few at comes in_it stored
+      quiet called reads writes nothing is =
+      let still = stands_still v time m d b start before old now after device new done store state at (quiet
+      (inl refl)) nothing reads writes in
       subst (λ (r : StoredEnd). EndsNow after new r) (sym is)
-      (ends_here after new done store state e.Memory still (λ text wrote. (has_long before.input done line comes, wrote)))
-  ends_line now after device new done store state line next count l.Refused result counted few at comes in_it stored quiet called reads writes (refused, nothing) is =
-      let still = stands_still v time m d b start before old now after device new done store state at (quiet (inr refl)) nothing reads writes in
+      (ends_here after new done store state e.Memory still (λ text wrote.
+      (has_long before.input done line comes, wrote)))
+  ends_line now after device new done store state line next count l.Refused result counted few at comes in_it stored
+      quiet called reads writes (refused, nothing) is =
+      let still = stands_still v time m d b start before old now after device new done store state at (quiet
+      (inr refl)) nothing reads writes in
       let number : count + 1 ≡ length done + 1 = omega (arith, counted) in
       let fewer : length done < MOST_LINES = omega (arith, counted, few) in
       subst (λ (r : StoredEnd). EndsNow after new r) (sym is)
       (ends_here after new done store state (e.Refused (count + 1)) still
       (λ text wrote. (number, fewer, (line, comes, refused), wrote)))
-  ends_line now after device new done store state line next count l.StoreFailed result counted few at comes in_it stored quiet called reads writes (stores, (answer, answers), nothing) is =
+  ends_line now after device new done store state line next count l.StoreFailed result counted few at comes in_it
+      stored quiet called reads writes (stores, (answer, answers), nothing) is =
       subst (λ (r : StoredEnd). EndsNow after new r) (sym is)
-      (ends_unstored now after device new done store state line answer next at comes in_it answers nothing stores called)
-  ends_line now after device new done store state line next count l.OutFailed result counted few at comes in_it stored quiet called reads writes (rose, tells) is =
+      (ends_unstored now after device new done store state line answer next at comes in_it answers nothing stores
+      called)
+  ends_line now after device new done store state line next count l.OutFailed result counted few at comes in_it
+      stored quiet called reads writes (rose, tells) is =
       subst (λ (r : StoredEnd). EndsNow after new r) (sym is)
       (ends_unwritten now after device new done store state line next at comes in_it (stored refl) tells rose called)

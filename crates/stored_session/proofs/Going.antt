@@ -1,5 +1,6 @@
 -- One more line of a stored session.
-use Rattle.std.proofs.Common.{◌≡◌, ◌∙◌, ◌≤◌, ◌⊎◌, ◌+◌, ◌*◌, ◌++◌, ◌∷◌, [], ℕ, List, Option, length, refl, sym, subst, arith}
+use Rattle.std.proofs.Common.{◌≡◌, ◌∙◌, ◌≤◌, ◌⊎◌, ◌+◌, ◌*◌, ◌++◌, ◌∷◌, [], ℕ, List, Option, length, refl, sym, subst}
+use Rattle.std.proofs.Common.{arith}
 use Rattle.std.specs.Io.KnownBytes.{Appends}
 use Rattle.std.proofs.lemmas.List.{append-nil, length-append}
 use Rattle.station_graph.specs.Diagram.{Diagram}
@@ -84,7 +85,8 @@ module _ {D : Type 0} (v : View D) (time : KeepsTime v) (m : Meaning) (d : Diagr
   kept_now now device done store state at image told =
       let first = at.kept.untold image told in
       let here = at.kept.told first.0 first.1 in
-      subst (λ (i : List ℕ). IsKept v.moment v.since device store i (kept_of state)) (one_content (sym here.1 ∙ told)) here.2
+      subst (λ (i : List ℕ). IsKept v.moment v.since device store i (kept_of state)) (one_content (sym here.1
+      ∙ told)) here.2
 
   -- a line is answered
   pub stands_more : (now after : Streams) (device new : D) (done : List (List ℕ)) (store next_store : Store)
@@ -93,18 +95,20 @@ module _ {D : Type 0} (v : View D) (time : KeepsTime v) (m : Meaning) (d : Diagr
       → WritesLine m d b state line next now.out after.out → RisesBy 6 (v.calls device) (v.calls new)
       → v.writes device ≤ v.writes new → now.reads ≤ after.reads → now.writes ≤ after.writes
       → Now after new (done ++ line ∷ []) next_store next
-  stands_more now after device new done store next_store state line next at in_it kept answered called stores reads writes = record {
-    text = at.text ++ answered.text;
-    session = session_more m d b start done at.text state line answered.text next at.session answered.answers;
-    wrote = appends_both before.out now.out after.out at.text answered.text at.wrote answered.wrote;
-    kept = kept_more device new store next_store state next at.kept kept;
-    crash = crash_more device new done at.text store state line answered.text next at.session answered.answers at.kept at.crash in_it;
-    called = subst (λ (n : ℕ). RisesBy (6 * n) (v.calls old) (v.calls new)) (one_line_more done line)
-        (rises_on (length done) (v.calls old) (v.calls device) (v.calls new) at.called called);
-    stores_grow = omega (arith, at.stores_grow, stores);
-    reads_grow = omega (arith, at.reads_grow, reads);
-    writes_grow = omega (arith, at.writes_grow, writes);
-  }
+  stands_more now after device new done store next_store state line next at in_it kept answered called stores reads
+      writes = record {
+        text = at.text ++ answered.text;
+        session = session_more m d b start done at.text state line answered.text next at.session answered.answers;
+        wrote = appends_both before.out now.out after.out at.text answered.text at.wrote answered.wrote;
+        kept = kept_more device new store next_store state next at.kept kept;
+        crash = crash_more device new done at.text store state line answered.text next at.session answered.answers
+            at.kept at.crash in_it;
+        called = subst (λ (n : ℕ). RisesBy (6 * n) (v.calls old) (v.calls new)) (one_line_more done line)
+            (rises_on (length done) (v.calls old) (v.calls device) (v.calls new) at.called called);
+        stores_grow = omega (arith, at.stores_grow, stores);
+        reads_grow = omega (arith, at.reads_grow, reads);
+        writes_grow = omega (arith, at.writes_grow, writes);
+      }
 
   -- the input is asked, and nothing else
   pub stands_read : (now after : Streams) (device : D) (done : List (List ℕ)) (store : Store) (state : State)
@@ -147,7 +151,8 @@ module _ {D : Type 0} (v : View D) (time : KeepsTime v) (m : Meaning) (d : Diagr
 
   -- no line is answered yet
   pub stands_first : (store : Store)
-      → Told (v.content old) (λ image. IsKept v.moment v.since old store image (kept_of start)) → Now before old [] store start
+      → Told (v.content old) (λ image. IsKept v.moment v.since old store image (kept_of start))
+      → Now before old [] store start
   stands_first store kept = record {
     text = [];
     session = (refl, refl);

@@ -1,5 +1,6 @@
 -- An input of lines that are not refused is answered to its end.
-use Rattle.std.proofs.Common.{◌≡◌, ◌∙◌, ◌≤◌, ◌⊎◌, ◌+◌, ◌++◌, ◌∷◌, [], suc, refl, sym, ap, arith, subst, ℕ, List, length, Option, Some, inl, inr}
+use Rattle.std.proofs.Common.{◌≡◌, ◌∙◌, ◌≤◌, ◌⊎◌, ◌+◌, ◌++◌, ◌∷◌, [], suc, refl, sym, ap, arith, subst, ℕ, List}
+use Rattle.std.proofs.Common.{length, Option, Some, inl, inr}
 use Rattle.std.specs.Prelude.{IfSome, false}
 use Rattle.std.specs.List.{All}
 use Rattle.std.specs.Str.Lines.{lines as lines_of}
@@ -16,7 +17,8 @@ use Rattle.stored_session.specs.Ends.{StoredEnds, IsStoredInput}
 use Rattle.stored_session.specs.declared.end.StoredEnd.{StoredEnd}
 use Rattle.stored_session.specs.declared.end.StoredEnd.TheVariants as e
 
-told_is : (a : Option (List ℕ)) (content other : List ℕ) → a ≡ Some content → IfSome a (λ known. known ≡ other) → other ≡ content
+told_is : (a : Option (List ℕ)) (content other : List ℕ) → a ≡ Some content → IfSome a (λ known. known ≡ other)
+    → other ≡ content
 told_is a content other is told = let known = rw is at told in sym known
 
 -- the lines of the input that come next
@@ -25,7 +27,8 @@ next_of : (input : Option (List ℕ)) (content : List ℕ) (done : List (List �
 next_of input content done line is (other, more, has) =
     (more, ap lines_of (sym (told_is input content other is has.told)) ∙ has.cut)
 
-all_at : (P : List ℕ → Type 0) (done : List (List ℕ)) (line : List ℕ) (more : List (List ℕ)) → All P ((done ++ line ∷ []) ++ more) → P line
+all_at : (P : List ℕ → Type 0) (done : List (List ℕ)) (line : List ℕ) (more : List (List ℕ))
+    → All P ((done ++ line ∷ []) ++ more) → P line
 all_at P [] line more all = all 0 [] (omega arith)
 all_at P (x ∷ done) line more all = all_at P done line more (λ k d lt. all (suc k) d (omega (arith, lt)))
 
@@ -34,7 +37,8 @@ module _ {D : Type 0} (v : View D) (m : Meaning) (d : Diagram) (b : ℕ) (before
     (holds : v.content old ≡ Some image) (fit : ¬ IsUnfit d b image)
     (reads : ¬ Rose before.reads now.reads) (writes : ¬ Rose before.writes now.writes)
     (store_reads : ¬ Rose (v.reads old) (v.reads device)) (store_writes : ¬ Rose (v.writes old) (v.writes device)) where
-  never_refused : (done : List (List ℕ)) (line : List ℕ) → HasNext before.input done line → ¬ IsRequest d b false line → ⊥
+  never_refused : (done : List (List ℕ)) (line : List ℕ) → HasNext before.input done line → ¬ IsRequest d b false line
+      → ⊥
   never_refused done line comes refused =
       let (more, is) = next_of before.input content done line told comes in
       refused (all_at (IsRequest d b false) done line more (subst (All (IsRequest d b false)) is input.each))
@@ -45,7 +49,8 @@ module _ {D : Type 0} (v : View D) (m : Meaning) (d : Diagram) (b : ℕ) (before
       let (more, is) = next_of before.input content done line told comes in
       omega (arith, ap length is, length-append (done ++ line ∷ []) more, length-append done (line ∷ []))
 
-  pub goes_through : (end : StoredEnd) → StoredEnds v m d b before now old device end → (end ≡ e.Done) ⊎ (end ≡ e.Memory)
+  pub goes_through : (end : StoredEnd) → StoredEnds v m d b before now old device end
+      → (end ≡ e.Done) ⊎ (end ≡ e.Memory)
   goes_through e.Done ends = inl refl
   goes_through e.Memory ends = inr refl
   goes_through e.Unfit (inl (idle, so)) = absurd (fit (so image holds))

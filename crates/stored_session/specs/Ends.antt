@@ -20,7 +20,8 @@ use Rattle.stored_session.specs.Stored.{StoredSession}
 use Rattle.stored_session.specs.Along.{StandsAlong}
 use Rattle.stored_session.specs.Through.{Begins, IsAll, HasNext, ReadsTo}
 use Rattle.stored_session.specs.declared.end.StoredEnd.{StoredEnd}
-use Rattle.stored_session.specs.declared.end.StoredEnd.TheVariants.{Done, Unfit, Refused, Long, ReadFault, WriteFault, Memory}
+use Rattle.stored_session.specs.declared.end.StoredEnd.TheVariants.{Done, Unfit, Refused, Long}
+use Rattle.stored_session.specs.declared.end.StoredEnd.TheVariants.{ReadFault, WriteFault, Memory}
 
 -- Of the last line: its text was not written, since a write or a sync of the device failed; or the device has its
 -- record, and a front of its text was written that is not all. `stores` is that the device's count of writes and
@@ -52,19 +53,22 @@ RefusesNext d b input lines = (line : List ℕ) × HasNext input lines line × �
 -- What each end says of the lines that the node took, and of their text: they are the whole input; a line follows
 -- that is refused, or one too many; the input failed, and each line whose end was read is answered; the last line's
 -- text is not written whole; memory was wanting.
-abbrev pub EndsSo : Meaning → Diagram → ℕ → State → Streams → Streams → Type 0 → List (List ℕ) → List ℕ → ℕ → StoredEnd → Type 0
+abbrev pub EndsSo : Meaning → Diagram → ℕ → State → Streams → Streams → Type 0 → List (List ℕ) → List ℕ → ℕ
+    → StoredEnd → Type 0
 EndsSo m d b start before now stores lines text low Done =
     IsAll before.input now.input lines × (length lines ≤ MOST_LINES) × WritesAll before now lines text low
 EndsSo m d b start before now stores lines text low (Refused number) =
     (number ≡ length lines + 1) × (length lines < MOST_LINES) × RefusesNext d b before.input lines
     × WritesAll before now lines text low
 EndsSo m d b start before now stores lines text low Long =
-    (length lines ≡ MOST_LINES) × ((line : List ℕ) × HasNext before.input lines line) × WritesAll before now lines text low
+    (length lines ≡ MOST_LINES) × ((line : List ℕ) × HasNext before.input lines line)
+    × WritesAll before now lines text low
 EndsSo m d b start before now stores lines text low ReadFault =
     Rose before.reads now.reads × ReadsTo before.input now.input lines × WritesAll before now lines text low
 EndsSo m d b start before now stores lines text low WriteFault =
     Begins before.input lines × StopsWriting m d b start before now stores lines text low
-EndsSo m d b start before now stores lines text low Memory = Begins before.input lines × WritesAll before now lines text low
+EndsSo m d b start before now stores lines text low Memory =
+    Begins before.input lines × WritesAll before now lines text low
 EndsSo m d b start before now stores lines text low Unfit = ⊥
 
 -- A session ends so. It took these lines, from the first state to the last, with these texts. Where nothing was

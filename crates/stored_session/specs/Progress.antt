@@ -25,7 +25,8 @@ pub record StandsAfter {D : Type 0} (v : View D) (m : Meaning) (d : Diagram) (b 
   pub text : List ℕ
   pub session : StoredSession m d b start done text state
   pub wrote : Appends before.out now.out text
-  pub kept : Becomes (v.content old) (v.content device) (λ _ image. IsKept v.moment v.since device store image (kept_of state))
+  pub kept : Becomes (v.content old) (v.content device) (λ _ image.
+      IsKept v.moment v.since device store image (kept_of state))
   pub crash : Told (v.content old) (λ _. Leaves v old device (StandsAlong m d b start done text state 0))
   pub called : RisesBy (6 * length done) (v.calls old) (v.calls device)
   pub stores_grow : v.writes old ≤ v.writes device

@@ -48,7 +48,8 @@ fn answer_next<J: Judge, I: Source, O: Sink, D: Device>(
     requires few { count < MOST_LINES }
     requires near { length reader.old ≤ CHUNK }
     requires room { store_sequence store + 1 < 2 ^ 64 }
-    requires kept { Told (D.content device.old) (λ image. IsKept D.moment D.left_since device.old store image (kept_of node.old)) }
+    requires kept { Told (D.content device.old) (λ image.
+        IsKept D.moment D.left_since device.old store image (kept_of node.old)) }
     // Wherever the session stood, it goes on so.
     ensures goes { (start : State) (before : Streams) (from : D)
         → Stands (record {
@@ -120,7 +121,8 @@ fn run<J: Judge, I: Source, O: Sink, D: Device>(
     requires fits { FitsHeard (J.meaning judge.now) node.old }
     requires bay { node.old.bay ≡ bay.0 }
     requires room { store_sequence store + MOST_LINES < 2 ^ 64 }
-    requires kept { Told (D.content device.old) (λ image. IsKept D.moment D.left_since device.old store image (kept_of node.old)) }
+    requires kept { Told (D.content device.old) (λ image.
+        IsKept D.moment D.left_since device.old store image (kept_of node.old)) }
     ensures ends { Ends (record {
       content = D.content;
       moment = D.moment;
@@ -246,7 +248,8 @@ pub fn serve_stored<J: Judge, I: Source, O: Sink, D: Device>(
         record { input = I.left input.old; reads = I.faults input.old; out = O.took out.old; writes = O.faults out.old }
         record { input = I.left input.new; reads = I.faults input.new; out = O.took out.new; writes = O.faults out.new }
         device.old device.new result }
-    ensures complete { (content image : List ℕ) → I.left input.old ≡ Some content → IsStoredInput station.now bay.0 content
+    ensures complete { (content image : List ℕ) → I.left input.old ≡ Some content
+        → IsStoredInput station.now bay.0 content
         → D.content device.old ≡ Some image → ¬ IsUnfit station.now bay.0 image
         → ¬ Rose (I.faults input.old) (I.faults input.new) → ¬ Rose (O.faults out.old) (O.faults out.new)
         → ¬ Rose (D.read_faults device.old) (D.read_faults device.new)

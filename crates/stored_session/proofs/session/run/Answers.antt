@@ -14,7 +14,8 @@ loop-count-init g c = record {
   stands = record {
     done = [];
     counted = refl;
-    reads = subst (λ (r : List ℕ). ReadsThrough (g.I.Source.left c.args.input.now) (g.I.Source.left c.args.input.now) r []) (sym c.new-reader.ensures) (reads_none _ []);
+    reads = subst (λ (r : List ℕ). ReadsThrough (g.I.Source.left c.args.input.now)
+        (g.I.Source.left c.args.input.now) r []) (sym c.new-reader.ensures) (reads_none _ []);
     after = stands_first _ g.met.D.Device.time _ _ _ _ _ _ c.args.store c.requires.kept;
   };
   node = c.requires.node;
@@ -25,59 +26,132 @@ loop-count-init g c = record {
 }
 
 pub answer_next-next-requires-clause-kept : goal.answer_next-next-requires-clause-kept
-answer_next-next-requires-clause-kept g c = kept_now _ g.met.D.Device.time _ _ _ _ _ _ _ _ _ _ _ c.loop-count.invariant.stands.after
+answer_next-next-requires-clause-kept g c =
+    kept_now _ g.met.D.Device.time _ _ _ _ _ _ _ _ _ _ _ c.loop-count.invariant.stands.after
 
 pub returns-in-Ok-End : goal.returns-in-Ok-End
 returns-in-Ok-End g c =
     let at = c.loop-count.invariant.stands in
     let comes = (rw c.in-Ok-End.field-0-is at c.in-Ok-End.ensures.goes) _ at.done at.reads in
-    let mid : Streams = record { input = g.I.Source.left c.next_line.new.input; reads = g.I.Source.faults c.next_line.new.input; out = g.O.Sink.took c.loop-count.out; writes = g.O.Sink.faults c.loop-count.out } in
-    let now = stands_read _ g.met.D.Device.time _ _ _ _ _ _ _ mid _ at.done _ _ at.after refl c.next_line.ensures.grows (omega arith) in
+    let mid : Streams = record {
+      input = g.I.Source.left c.next_line.new.input;
+      reads =
+          g.I.Source.faults c.next_line.new.input;
+      out = g.O.Sink.took c.loop-count.out;
+      writes = g.O.Sink.faults c.loop-count.out;
+    } in
+    let now = stands_read _ g.met.D.Device.time _ _ _ _ _ _ _ mid _ at.done _ _ at.after refl
+    c.next_line.ensures.grows (omega arith) in
     let fewer : length at.done ≤ MOST_LINES = omega (arith, at.counted, c.loop-count.auto.count-end) in
-    record { ends = ends_here _ g.met.D.Device.time _ _ _ _ _ _ _ _ at.done _ _ e.Done now (λ text wrote. (comes, fewer, wrote)) }
+    record {
+      ends = ends_here _ g.met.D.Device.time _ _ _ _ _ _ _ _ at.done _ _ e.Done now (λ text wrote.
+          (comes, fewer, wrote));
+    }
 
 pub returns-in-Ok-Line : goal.returns-in-Ok-Line
 returns-in-Ok-Line g c =
     let at = c.loop-count.invariant.stands in
     let comes = (rw c.in-Ok-Line.field-0-is at c.in-Ok-Line.ensures.goes) _ at.done at.reads in
-    let mid : Streams = record { input = g.I.Source.left c.next_line.new.input; reads = g.I.Source.faults c.next_line.new.input; out = g.O.Sink.took c.loop-count.out; writes = g.O.Sink.faults c.loop-count.out } in
-    let now = stands_read _ g.met.D.Device.time _ _ _ _ _ _ _ mid _ at.done _ _ at.after refl c.next_line.ensures.grows (omega arith) in
-    let all : length at.done ≡ MOST_LINES = omega (arith, at.counted, c.loop-count-test.false, c.loop-count.auto.count-end) in
-    record { ends = ends_here _ g.met.D.Device.time _ _ _ _ _ _ _ _ at.done _ _ e.Long now (λ text wrote. (all, (_, has_next _ at.done _ _ _ comes), wrote)) }
+    let mid : Streams = record {
+      input = g.I.Source.left c.next_line.new.input;
+      reads =
+          g.I.Source.faults c.next_line.new.input;
+      out = g.O.Sink.took c.loop-count.out;
+      writes = g.O.Sink.faults c.loop-count.out;
+    } in
+    let now = stands_read _ g.met.D.Device.time _ _ _ _ _ _ _ mid _ at.done _ _ at.after refl
+    c.next_line.ensures.grows (omega arith) in
+    let all : length at.done ≡ MOST_LINES = omega
+    (arith, at.counted, c.loop-count-test.false, c.loop-count.auto.count-end) in
+    record {
+      ends = ends_here _ g.met.D.Device.time _ _ _ _ _ _ _ _ at.done _ _ e.Long now (λ text wrote. (
+        all,
+        (_, has_next _ at.done _ _ _ comes),
+        wrote,
+      ));
+    }
 
 pub returns-in-Ok-Last : goal.returns-in-Ok-Last
 returns-in-Ok-Last g c =
     let at = c.loop-count.invariant.stands in
     let comes = (rw c.in-Ok-Last.field-0-is at c.in-Ok-Last.ensures.goes) _ at.done at.reads in
-    let mid : Streams = record { input = g.I.Source.left c.next_line.new.input; reads = g.I.Source.faults c.next_line.new.input; out = g.O.Sink.took c.loop-count.out; writes = g.O.Sink.faults c.loop-count.out } in
-    let now = stands_read _ g.met.D.Device.time _ _ _ _ _ _ _ mid _ at.done _ _ at.after refl c.next_line.ensures.grows (omega arith) in
-    let all : length at.done ≡ MOST_LINES = omega (arith, at.counted, c.loop-count-test.false, c.loop-count.auto.count-end) in
-    record { ends = ends_here _ g.met.D.Device.time _ _ _ _ _ _ _ _ at.done _ _ e.Long now (λ text wrote. (all, (_, has_last _ at.done _ _ comes), wrote)) }
+    let mid : Streams = record {
+      input = g.I.Source.left c.next_line.new.input;
+      reads =
+          g.I.Source.faults c.next_line.new.input;
+      out = g.O.Sink.took c.loop-count.out;
+      writes = g.O.Sink.faults c.loop-count.out;
+    } in
+    let now = stands_read _ g.met.D.Device.time _ _ _ _ _ _ _ mid _ at.done _ _ at.after refl
+    c.next_line.ensures.grows (omega arith) in
+    let all : length at.done ≡ MOST_LINES = omega
+    (arith, at.counted, c.loop-count-test.false, c.loop-count.auto.count-end) in
+    record {
+      ends = ends_here _ g.met.D.Device.time _ _ _ _ _ _ _ _ at.done _ _ e.Long now (λ text wrote. (
+        all,
+        (_, has_last _ at.done _ _ comes),
+        wrote,
+      ));
+    }
 
 pub returns-in-Ok-TooLong : goal.returns-in-Ok-TooLong
 returns-in-Ok-TooLong g c =
     let at = c.loop-count.invariant.stands in
     let comes = (rw c.in-Ok-TooLong.field-0-is at c.in-Ok-TooLong.ensures.goes) _ at.done at.reads in
-    let mid : Streams = record { input = g.I.Source.left c.next_line.new.input; reads = g.I.Source.faults c.next_line.new.input; out = g.O.Sink.took c.loop-count.out; writes = g.O.Sink.faults c.loop-count.out } in
-    let now = stands_read _ g.met.D.Device.time _ _ _ _ _ _ _ mid _ at.done _ _ at.after refl c.next_line.ensures.grows (omega arith) in
-    let all : length at.done ≡ MOST_LINES = omega (arith, at.counted, c.loop-count-test.false, c.loop-count.auto.count-end) in
-    record { ends = ends_here _ g.met.D.Device.time _ _ _ _ _ _ _ _ at.done _ _ e.Long now (λ text wrote. (all, (comes.0, comes.1), wrote)) }
+    let mid : Streams = record {
+      input = g.I.Source.left c.next_line.new.input;
+      reads =
+          g.I.Source.faults c.next_line.new.input;
+      out = g.O.Sink.took c.loop-count.out;
+      writes = g.O.Sink.faults c.loop-count.out;
+    } in
+    let now = stands_read _ g.met.D.Device.time _ _ _ _ _ _ _ mid _ at.done _ _ at.after refl
+    c.next_line.ensures.grows (omega arith) in
+    let all : length at.done ≡ MOST_LINES = omega
+    (arith, at.counted, c.loop-count-test.false, c.loop-count.auto.count-end) in
+    record {
+      ends = ends_here _ g.met.D.Device.time _ _ _ _ _ _ _ _ at.done _ _ e.Long now (λ text wrote. (
+        all,
+        (comes.0, comes.1),
+        wrote,
+      ));
+    }
 
 pub returns-in-Err-Failed : goal.returns-in-Err-Failed
 returns-in-Err-Failed g c =
     let at = c.loop-count.invariant.stands in
     let comes = (rw c.in-Err-Failed.field-0-is at c.in-Err-Failed.ensures.goes) _ at.done at.reads in
-    let mid : Streams = record { input = g.I.Source.left c.next_line.new.input; reads = g.I.Source.faults c.next_line.new.input; out = g.O.Sink.took c.loop-count.out; writes = g.O.Sink.faults c.loop-count.out } in
-    let now = stands_read _ g.met.D.Device.time _ _ _ _ _ _ _ mid _ at.done _ _ at.after refl c.next_line.ensures.grows (omega arith) in
-    record { ends = ends_here _ g.met.D.Device.time _ _ _ _ _ _ _ _ at.done _ _ e.ReadFault now (λ text wrote. (rose_earlier _ _ _ at.after.reads_grow comes.0, comes.1, wrote)) }
+    let mid : Streams = record {
+      input = g.I.Source.left c.next_line.new.input;
+      reads =
+          g.I.Source.faults c.next_line.new.input;
+      out = g.O.Sink.took c.loop-count.out;
+      writes = g.O.Sink.faults c.loop-count.out;
+    } in
+    let now = stands_read _ g.met.D.Device.time _ _ _ _ _ _ _ mid _ at.done _ _ at.after refl
+    c.next_line.ensures.grows (omega arith) in
+    record {
+      ends = ends_here _ g.met.D.Device.time _ _ _ _ _ _ _ _ at.done _ _ e.ReadFault now (λ text wrote.
+          (rose_earlier _ _ _ at.after.reads_grow comes.0, comes.1, wrote));
+    }
 
 pub returns : goal.returns
 returns g c =
     let at = c.loop-count.invariant.stands in
     let comes = (rw c.in-Err-Memory.field-0-is at c.in-Err-Memory.ensures.goes) _ at.done at.reads in
-    let mid : Streams = record { input = g.I.Source.left c.next_line.new.input; reads = g.I.Source.faults c.next_line.new.input; out = g.O.Sink.took c.loop-count.out; writes = g.O.Sink.faults c.loop-count.out } in
-    let now = stands_read _ g.met.D.Device.time _ _ _ _ _ _ _ mid _ at.done _ _ at.after refl c.next_line.ensures.grows (omega arith) in
-    record { ends = ends_here _ g.met.D.Device.time _ _ _ _ _ _ _ _ at.done _ _ e.Memory now (λ text wrote. (comes, wrote)) }
+    let mid : Streams = record {
+      input = g.I.Source.left c.next_line.new.input;
+      reads =
+          g.I.Source.faults c.next_line.new.input;
+      out = g.O.Sink.took c.loop-count.out;
+      writes = g.O.Sink.faults c.loop-count.out;
+    } in
+    let now = stands_read _ g.met.D.Device.time _ _ _ _ _ _ _ mid _ at.done _ _ at.after refl
+    c.next_line.ensures.grows (omega arith) in
+    record {
+      ends = ends_here _ g.met.D.Device.time _ _ _ _ _ _ _ _ at.done _ _ e.Memory now (λ text wrote.
+          (comes, wrote));
+    }
 
 pub returns-in-Err : goal.returns-in-Err
 returns-in-Err g c = record { ends = c.in-Err.ensures.goes _ _ _ c.loop-count.invariant.stands }

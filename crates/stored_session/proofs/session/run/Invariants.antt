@@ -16,8 +16,18 @@ invariant-loop-count g l = record {
     writes = g.D.Device.write_faults;
     calls = g.D.Device.calls;
   }) (g.J.Judge.meaning l.judge) l.station l.bay.0 l.fn.node
-      (record { input = g.I.Source.left l.fn.input; reads = g.I.Source.faults l.fn.input; out = g.O.Sink.took l.fn.out; writes = g.O.Sink.faults l.fn.out })
-      (record { input = g.I.Source.left l.input; reads = g.I.Source.faults l.input; out = g.O.Sink.took l.out; writes = g.O.Sink.faults l.out })
+      (record {
+        input = g.I.Source.left l.fn.input;
+        reads = g.I.Source.faults l.fn.input;
+        out = g.O.Sink.took l.fn.out;
+        writes = g.O.Sink.faults l.fn.out;
+      })
+      (record {
+        input = g.I.Source.left l.input;
+        reads = g.I.Source.faults l.input;
+        out = g.O.Sink.took l.out;
+        writes = g.O.Sink.faults l.out;
+      })
       l.fn.device l.device l.reader l.count l.now l.node;
   node : IsNode l.station l.node;
   fits : FitsHeard (g.J.Judge.meaning l.judge) l.node;
