@@ -25,8 +25,9 @@ so_earlier m d b start before now part whole lines text low Done rose so = so
 so_earlier m d b start before now part whole lines text low (Refused number) rose so = so
 so_earlier m d b start before now part whole lines text low Long rose so = so
 so_earlier m d b start before now part whole lines text low ReadFault rose so = so
-so_earlier m d b start before now part whole lines text low WriteFault rose (begins, stops) = (
+so_earlier m d b start before now part whole lines text low WriteFault rose (begins, near, stops) = (
   begins,
+  near,
   record {
     done = stops.done;
     line = stops.line;

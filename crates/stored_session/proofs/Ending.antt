@@ -16,7 +16,7 @@ use Rattle.node_store.proofs.Runs.{is_since}
 use Rattle.stored_session.specs.View.{View, KeepsTime}
 use Rattle.stored_session.specs.Kept.{LeavesNow}
 use Rattle.stored_session.specs.Stored.{AnswersStored, WritesFront, LineFails}
-use Rattle.stored_session.specs.Through.{HasNext}
+use Rattle.stored_session.specs.Through.{HasNext, TakesNear}
 use Rattle.stored_session.specs.Progress.{IsEndAt}
 use Rattle.stored_session.specs.Ends.{WritesAll, EndsSo, Ends}
 use Rattle.stored_session.specs.declared.line.LineEnd.{LineEnd}
@@ -76,11 +76,12 @@ module _ {D : Type 0} (v : View D) (time : KeepsTime v) (m : Meaning) (d : Diagr
   -- a line is not stored, and its text not written
   pub ends_unstored : (now after : Streams) (device new : D) (done : List (List ℕ)) (store : Store) (state : State)
       → (line answer : List ℕ) (next : State) → Now v time m d b start before old now device done store state
-      → HasNext before.input done line → LeavesEither v device new state next
+      → HasNext before.input done line → TakesNear before.input after.input (done ++ line ∷ [])
+      → LeavesEither v device new state next
       → AnswersStored m d b state line answer next
       → Appends now.out after.out [] → Rose (v.writes device) (v.writes new) → RisesBy 6 (v.calls device) (v.calls new)
       → EndsNow after new e.WriteFault
-  ends_unstored now after device new done store state line answer next at comes in_it answers nothing rose called =
+  ends_unstored now after device new done store state line answer next at comes near in_it answers nothing rose called =
       let lines : List (List ℕ) = done ++ line ∷ [] in
       let crash = crash_more v time m d b start before old device new done at.text store state line answer next
       at.session answers at.kept at.crash in_it in
@@ -92,6 +93,7 @@ module _ {D : Type 0} (v : View D) (time : KeepsTime v) (m : Meaning) (d : Diagr
         low = length done;
         so = (
           comes,
+          near,
           record {
             done = done;
             line = line;
@@ -119,11 +121,12 @@ module _ {D : Type 0} (v : View D) (time : KeepsTime v) (m : Meaning) (d : Diagr
   -- a line is stored, and of its text a front written
   pub ends_unwritten : (now after : Streams) (device new : D) (done : List (List ℕ)) (store : Store) (state : State)
       → (line : List ℕ) (next : State) → Now v time m d b start before old now device done store state
-      → HasNext before.input done line → LeavesEither v device new state next
+      → HasNext before.input done line → TakesNear before.input after.input (done ++ line ∷ [])
+      → LeavesEither v device new state next
       → Told (v.content device) (λ _. LeavesNow v.moment v.since new (kept_of next))
       → WritesFront m d b state line next now.out after.out → Rose now.writes after.writes
       → RisesBy 6 (v.calls device) (v.calls new) → EndsNow after new e.WriteFault
-  ends_unwritten now after device new done store state line next at comes in_it leaves tells rose called =
+  ends_unwritten now after device new done store state line next at comes near in_it leaves tells rose called =
       let lines : List (List ℕ) = done ++ line ∷ [] in
       let answer = tells.text in
       let session = session_more m d b start done at.text state line answer next at.session tells.answers in
@@ -137,6 +140,7 @@ module _ {D : Type 0} (v : View D) (time : KeepsTime v) (m : Meaning) (d : Diagr
         low = length lines;
         so = (
           comes,
+          near,
           record {
             done = done;
             line = line;
@@ -165,22 +169,22 @@ module _ {D : Type 0} (v : View D) (time : KeepsTime v) (m : Meaning) (d : Diagr
       → (line : List ℕ) (next : State) (count : ℕ) (end : LineEnd) (result : StoredEnd) → length done ≡ count
       → count < MOST_LINES
       → Now v time m d b start before old now device done store state → HasNext before.input done line
-      → LeavesEither v device new state next
+      → TakesNear before.input after.input (done ++ line ∷ []) → LeavesEither v device new state next
       → (end ≡ l.OutFailed → Told (v.content device) (λ _. LeavesNow v.moment v.since new (kept_of next)))
       → ((end ≡ l.Memory) ⊎ (end ≡ l.Refused) → new ≡ device)
       → RisesBy 6 (v.calls device) (v.calls new) → now.reads ≤ after.reads → now.writes ≤ after.writes
       → LineFails m d b state line next now.out after.out (Rose (v.writes device) (v.writes new))
       (Rose now.writes after.writes) end
       → IsEndAt count end result → EndsNow after new result
-  ends_line now after device new done store state line next count l.Memory result counted few at comes in_it stored
-      quiet called reads writes nothing is =
+  ends_line now after device new done store state line next count l.Memory result counted few at comes near in_it
+      stored quiet called reads writes nothing is =
       let still = stands_still v time m d b start before old now after device new done store state at (quiet
       (inl refl)) nothing reads writes in
       subst (λ (r : StoredEnd). EndsNow after new r) (sym is)
       (ends_here after new done store state e.Memory still (λ text wrote.
       (has_long before.input done line comes, wrote)))
-  ends_line now after device new done store state line next count l.Refused result counted few at comes in_it stored
-      quiet called reads writes (refused, nothing) is =
+  ends_line now after device new done store state line next count l.Refused result counted few at comes near in_it
+      stored quiet called reads writes (refused, nothing) is =
       let still = stands_still v time m d b start before old now after device new done store state at (quiet
       (inr refl)) nothing reads writes in
       let number : count + 1 ≡ length done + 1 = omega (arith, counted) in
@@ -188,12 +192,13 @@ module _ {D : Type 0} (v : View D) (time : KeepsTime v) (m : Meaning) (d : Diagr
       subst (λ (r : StoredEnd). EndsNow after new r) (sym is)
       (ends_here after new done store state (e.Refused (count + 1)) still
       (λ text wrote. (number, fewer, (line, comes, refused), wrote)))
-  ends_line now after device new done store state line next count l.StoreFailed result counted few at comes in_it
+  ends_line now after device new done store state line next count l.StoreFailed result counted few at comes near in_it
       stored quiet called reads writes (stores, (answer, answers), nothing) is =
       subst (λ (r : StoredEnd). EndsNow after new r) (sym is)
-      (ends_unstored now after device new done store state line answer next at comes in_it answers nothing stores
+      (ends_unstored now after device new done store state line answer next at comes near in_it answers nothing stores
       called)
-  ends_line now after device new done store state line next count l.OutFailed result counted few at comes in_it
+  ends_line now after device new done store state line next count l.OutFailed result counted few at comes near in_it
       stored quiet called reads writes (rose, tells) is =
       subst (λ (r : StoredEnd). EndsNow after new r) (sym is)
-      (ends_unwritten now after device new done store state line next at comes in_it (stored refl) tells rose called)
+      (ends_unwritten now after device new done store state line next at comes near in_it (stored refl) tells
+      rose called)

@@ -1,19 +1,20 @@
 -- Reading an input line by line.
-use Rattle.std.proofs.Common.{◌≡◌, ◌∙◌, ◌<◌, ◌+◌, ◌++◌, ◌∷◌, [], ℕ, List, Option, Some, None, Err, length, take, drop}
-use Rattle.std.proofs.Common.{true, refl, sym, ap, subst}
+use Rattle.std.proofs.Common.{◌≡◌, ◌∙◌, ◌≤◌, ◌<◌, ◌+◌, ◌++◌, ◌∷◌, [], ℕ, List, Option, Some, None, Err, length, take, drop}
+use Rattle.std.proofs.Common.{true, refl, sym, ap, subst, arith}
 use Rattle.std.specs.Prelude.{IfSome}
 use Rattle.std.specs.Str.Lines.{lines, strip_carriage_return}
 use Rattle.std.specs.Io.KnownBytes.{Consumes, IsAtEnd}
 use Rattle.std.proofs.lemmas.List.{append-nil, append_assoc}
 use Rattle.std.proofs.Math.Seq.{take-append_seam, drop-append-add}
 use Rattle.node_session.specs.declared.request.TheConstants.{MOST_LINE}
+use Rattle.node_session.specs.declared.reader.TheConstants.{CHUNK}
 use Rattle.node_session.specs.declared.reader.Front.TheVariants.{Line, TooLong, Last}
 use Rattle.node_session.specs.declared.reader.InputTrouble.{InputTrouble}
 use Rattle.node_session.specs.declared.reader.InputTrouble.TheVariants.{Memory, Failed}
 use Rattle.node_session.specs.Reading.{HasNoFeed, is_long, Grows, BeginsLine, Fills, FillFails}
 use Rattle.node_session.proofs.Feeds.{lines-line, lines-no_end, long_line}
 use Rattle.node_session.proofs.Filling.{consumes_both}
-use Rattle.stored_session.specs.Through.{ReadsThrough, Begins, IsAll, HasNext, GoesOn}
+use Rattle.stored_session.specs.Through.{ReadsThrough, TakesNear, Begins, IsAll, HasNext, GoesOn}
 
 rest_of : (a b : Option (List ℕ)) (taken : List ℕ) → Consumes a b taken → (rest : List ℕ) × IfSome a
     (λ known. known ≡ taken ++ rest)
@@ -119,6 +120,27 @@ module _ (before : Option (List ℕ)) (done : List (List ℕ)) where
           ∙ ap (λ l. done ++ l) (ap lines (append_assoc line (10 ∷ []) rest) ∙ lines-line line rest first.whole)
           ∙ sym (append_assoc done (strip_carriage_return line ∷ []) (lines rest));
     }
+
+  -- little is held past lines that were read
+  pub near_line : (now : Option (List ℕ)) (held : List ℕ) → length held ≤ CHUNK → ReadsThrough before now held done
+      → TakesNear before now done
+  near_line now held few at = record {
+    through = at.taken;
+    past = held;
+    consumed = at.consumed;
+    ended = ap lines (sym (append-nil at.taken)) ∙ at.ends [] ∙ append-nil done;
+    near = few;
+  }
+
+  -- and nothing where they are all
+  pub near_last : (now : Option (List ℕ)) → IsAll before now done → TakesNear before now done
+  near_last now (content, has, consumed) = record {
+    through = content;
+    past = [];
+    consumed = subst (λ (l : List ℕ). Consumes before now l) (sym (append-nil content)) consumed;
+    ended = has.cut;
+    near = omega arith;
+  }
 
   -- lines that were read are lines of the input
   pub has_next : (now : Option (List ℕ)) (held line : List ℕ) → ReadsThrough before now held (done ++ line ∷ [])

@@ -58,7 +58,7 @@ module _ {D : Type 0} (v : View D) (m : Meaning) (d : Diagram) (b : ℕ) (before
   goes_through e.ReadFault (inl (idle, so)) = absurd (store_reads so)
   goes_through e.ReadFault (inr (kept, begun, ends)) = absurd (reads ends.so.0)
   goes_through e.WriteFault (inl (idle, so)) = absurd (store_writes so)
-  goes_through e.WriteFault (inr (kept, begun, ends)) = elim ends.so.1.cause [
+  goes_through e.WriteFault (inr (kept, begun, ends)) = elim ends.so.2.cause [
     | inl h ↦ absurd (store_writes h.0)
     | inr h ↦ absurd (writes h.0)
   ]

@@ -18,7 +18,7 @@ use Rattle.stored_session.specs.View.{View, Leaves, Settled}
 use Rattle.stored_session.specs.Opening.{IsUnfit}
 use Rattle.stored_session.specs.Stored.{StoredSession}
 use Rattle.stored_session.specs.Along.{StandsAlong}
-use Rattle.stored_session.specs.Through.{Begins, IsAll, HasNext, ReadsTo}
+use Rattle.stored_session.specs.Through.{Begins, IsAll, HasNext, TakesNear, ReadsTo}
 use Rattle.stored_session.specs.declared.end.StoredEnd.{StoredEnd}
 use Rattle.stored_session.specs.declared.end.StoredEnd.TheVariants.{Done, Unfit, Refused, Long}
 use Rattle.stored_session.specs.declared.end.StoredEnd.TheVariants.{ReadFault, WriteFault, Memory}
@@ -52,7 +52,7 @@ RefusesNext d b input lines = (line : List ℕ) × HasNext input lines line × �
 
 -- What each end says of the lines that the node took, and of their text: they are the whole input; a line follows
 -- that is refused, or one too many; the input failed, and each line whose end was read is answered; the last line's
--- text is not written whole; memory was wanting.
+-- text is not written whole, and little of the input was taken past that line; memory was wanting.
 abbrev pub EndsSo : Meaning → Diagram → ℕ → State → Streams → Streams → Type 0 → List (List ℕ) → List ℕ → ℕ
     → StoredEnd → Type 0
 EndsSo m d b start before now stores lines text low Done =
@@ -66,7 +66,7 @@ EndsSo m d b start before now stores lines text low Long =
 EndsSo m d b start before now stores lines text low ReadFault =
     Rose before.reads now.reads × ReadsTo before.input now.input lines × WritesAll before now lines text low
 EndsSo m d b start before now stores lines text low WriteFault =
-    Begins before.input lines × StopsWriting m d b start before now stores lines text low
+    Begins before.input lines × TakesNear before.input now.input lines × StopsWriting m d b start before now stores lines text low
 EndsSo m d b start before now stores lines text low Memory =
     Begins before.input lines × WritesAll before now lines text low
 EndsSo m d b start before now stores lines text low Unfit = ⊥

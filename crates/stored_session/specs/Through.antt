@@ -1,9 +1,10 @@
 -- How far an input is read, line by line.
-use Rattle.std.specs.Prelude.{◌≡◌, ◌<◌, ◌++◌, ◌∷◌, ⊤, ℕ, List, [], length, Option, Result, Ok, Err, IfSome}
+use Rattle.std.specs.Prelude.{◌≡◌, ◌≤◌, ◌<◌, ◌++◌, ◌∷◌, ⊤, ℕ, List, [], length, Option, Result, Ok, Err, IfSome}
 use Rattle.std.specs.Str.Lines.{lines}
 use Rattle.std.specs.Io.KnownBytes.{Consumes}
 use Rattle.node_session.specs.Reading.{HasNoFeed}
 use Rattle.node_session.specs.declared.request.TheConstants.{MOST_LINE}
+use Rattle.node_session.specs.declared.reader.TheConstants.{CHUNK}
 use Rattle.node_session.specs.declared.reader.InputTrouble.{InputTrouble}
 use Rattle.node_session.specs.declared.reader.InputTrouble.TheVariants.{Memory, Failed}
 use Rattle.stored_session.specs.declared.reading.NextLine.{NextLine}
@@ -27,6 +28,14 @@ Begins input done = (content : List ℕ) × (more : List (List ℕ)) × HasLines
 -- The input is these lines, and all of it was taken.
 abbrev pub IsAll : Option (List ℕ) → Option (List ℕ) → List (List ℕ) → Type 0
 IsAll input now all = (content : List ℕ) × HasLines input content all × Consumes input now content
+
+-- What these lines take of the input was taken, and little past it.
+pub record TakesNear (before now : Option (List ℕ)) (done : List (List ℕ)) : Type 0 where
+  pub through : List ℕ
+  pub past : List ℕ
+  pub consumed : Consumes before now (through ++ past)
+  pub ended : lines through ≡ done
+  pub near : length past ≤ CHUNK
 
 -- So far the input was taken, and each line whose end was read is one of these.
 pub record ReadsTo (before now : Option (List ℕ)) (done : List (List ℕ)) : Type 0 where

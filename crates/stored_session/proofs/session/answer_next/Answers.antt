@@ -6,7 +6,7 @@ use Rattle.node_session.specs.declared.end.TheConstants.{MOST_LINES}
 use Rattle.node_session.specs.SessionEnds.{Streams}
 use Rattle.stored_session.specs.Through.{ReadsThrough, IsAll, HasNext}
 use Rattle.stored_session.specs.declared.end.StoredEnd.TheVariants as e
-use Rattle.stored_session.proofs.Lines.{has_next, has_last}
+use Rattle.stored_session.proofs.Lines.{has_next, has_last, near_line, near_last}
 use Rattle.stored_session.proofs.Going.{stands_read, stands_more}
 use Rattle.stored_session.proofs.Ending.{ends_here, ends_line}
 use Rattle.stored_session.proofs.session.answer_next.Goals as goal
@@ -90,6 +90,11 @@ returns-in-Ok-Line-clause-goes g c = λ start before from at.
     let comes = (rw c.in-Ok-Line.field-0-is at c.in-Ok-Line.ensures.goes) before.input at.done at.reads in
     let next = subst (λ (l : List ℕ). HasNext before.input at.done l) (sym c.bytes-line.ensures)
     (has_next before.input at.done _ _ _ comes) in
+    let reads = subst
+    (λ (l : List ℕ). ReadsThrough before.input (g.I.Source.left c.next_line.new.input) c.next_line.new.reader
+    (at.done ++ l ∷ [])) (sym c.bytes-line.ensures) comes in
+    let few = (rw c.in-Ok-Line.field-0-is at c.in-Ok-Line.ensures.near) tt in
+    let near = near_line before.input (at.done ++ c.bytes-line.result.now ∷ []) _ _ few reads in
     let mid : Streams = record {
       input = g.I.Source.left c.next_line.new.input;
       reads =
@@ -101,7 +106,7 @@ returns-in-Ok-Line-clause-goes g c = λ start before from at.
     c.next_line.ensures.grows (omega arith) in
     ends_line _ g.met.D.Device.time _ _ _ start before from mid _ _ _ at.done _ _ c.bytes-line.result.now
     c.take_line.new.node c.args.count c.in-Err.end _
-    at.counted c.requires.few now next c.in-Err.ensures.crash (λ is. c.in-Err.ensures.stored (ap Err is))
+    at.counted c.requires.few now next near c.in-Err.ensures.crash (λ is. c.in-Err.ensures.stored (ap Err is))
     (λ is. c.in-Err.ensures.quiet (⊎_elim (λ h. inl (ap Err h)) (λ h. inr (ap Err h)) is)) c.in-Err.ensures.counted
     (omega arith) c.in-Err.ensures.out_grows c.in-Err.ensures.fails c.end_at.ensures
 
@@ -110,6 +115,9 @@ returns-in-Ok-Last-clause-goes g c = λ start before from at.
     let comes = (rw c.in-Ok-Last.field-0-is at c.in-Ok-Last.ensures.goes) before.input at.done at.reads in
     let next = subst (λ (l : List ℕ). HasNext before.input at.done l) (sym c.bytes-line-in-Ok-Last.ensures)
     (has_last before.input at.done _ _ comes) in
+    let all = subst (λ (l : List ℕ). IsAll before.input (g.I.Source.left c.next_line.new.input) (at.done ++ l ∷ []))
+    (sym c.bytes-line-in-Ok-Last.ensures) comes in
+    let near = near_last before.input (at.done ++ c.bytes-line-in-Ok-Last.result.now ∷ []) _ all in
     let mid : Streams = record {
       input = g.I.Source.left c.next_line.new.input;
       reads =
@@ -121,7 +129,7 @@ returns-in-Ok-Last-clause-goes g c = λ start before from at.
     c.next_line.ensures.grows (omega arith) in
     ends_line _ g.met.D.Device.time _ _ _ start before from mid _ _ _ at.done _ _ c.bytes-line-in-Ok-Last.result.now
     c.take_line-in-Ok-Last.new.node c.args.count c.in-Err-take_line.end _
-    at.counted c.requires.few now next c.in-Err-take_line.ensures.crash (λ is. c.in-Err-take_line.ensures.stored
+    at.counted c.requires.few now next near c.in-Err-take_line.ensures.crash (λ is. c.in-Err-take_line.ensures.stored
     (ap Err is))
     (λ is. c.in-Err-take_line.ensures.quiet (⊎_elim (λ h. inl (ap Err h)) (λ h. inr
     (ap Err h)) is)) c.in-Err-take_line.ensures.counted
