@@ -66,7 +66,8 @@ EndsSo m d b start before now stores lines text low Long =
 EndsSo m d b start before now stores lines text low ReadFault =
     Rose before.reads now.reads × ReadsTo before.input now.input lines × WritesAll before now lines text low
 EndsSo m d b start before now stores lines text low WriteFault =
-    Begins before.input lines × TakesNear before.input now.input lines × StopsWriting m d b start before now stores lines text low
+    Begins before.input lines × TakesNear before.input now.input lines
+    × StopsWriting m d b start before now stores lines text low
 EndsSo m d b start before now stores lines text low Memory =
     Begins before.input lines × WritesAll before now lines text low
 EndsSo m d b start before now stores lines text low Unfit = ⊥

@@ -1,5 +1,6 @@
 -- How a device is seen, as one value.
 use Rattle.std.specs.Prelude.{◌≤◌, ◌⊎◌, ◌↔◌, ℕ, List, Option}
+use Rattle.node_session.specs.SessionEnds.{Streams}
 use Rattle.node_store.specs.Device.{IsSettled, LeavesOnly}
 
 -- What `Device` says of a device: its content, where that is told; its clock; what a crash may have left between two
@@ -12,6 +13,23 @@ pub record View (D : Type 0) : Type 1 where
   pub reads : D → ℕ
   pub writes : D → ℕ
   pub calls : D → ℕ
+
+-- The view of a device by these parts.
+abbrev pub view : {D : Type 0} → (D → Option (List ℕ)) → (D → ℕ) → (D → ℕ → ℕ → List ℕ → Type 0)
+    → (D → ℕ → List ℕ → Type 0) → (D → ℕ) → (D → ℕ) → (D → ℕ) → View D
+view content moment between since reads writes calls = record {
+  content = content;
+  moment = moment;
+  between = between;
+  since = since;
+  reads = reads;
+  writes = writes;
+  calls = calls;
+}
+
+-- The streams by these parts.
+abbrev pub streams : Option (List ℕ) → ℕ → Option (List ℕ) → ℕ → Streams
+streams input reads out writes = record { input = input; reads = reads; out = out; writes = writes }
 
 -- Its law on time.
 abbrev pub KeepsTime : {D : Type 0} → View D → Type 0

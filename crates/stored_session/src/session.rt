@@ -9,7 +9,7 @@ ghost use Rattle.node_session.specs.declared.end.TheConstants.{MOST_LINES};
 ghost use Rattle.node_session.specs.declared.reader.TheConstants.{CHUNK};
 ghost use Rattle.node_store.specs.Device.{Told, RisesBy};
 ghost use Rattle.node_store.specs.Store.{store_sequence};
-ghost use Rattle.stored_session.specs.View.{View};
+ghost use Rattle.stored_session.specs.View.{view, streams};
 ghost use Rattle.stored_session.specs.Kept.{IsKept};
 ghost use Rattle.stored_session.specs.Opening.{IsUnfit};
 ghost use Rattle.stored_session.specs.Progress.{Stands, Goes};
@@ -52,29 +52,13 @@ fn answer_next<J: Judge, I: Source, O: Sink, D: Device>(
         IsKept D.moment D.left_since device.old store image (kept_of node.old)) }
     // Wherever the session stood, it goes on so.
     ensures goes { (start : State) (before : Streams) (from : D)
-        → Stands (record {
-          content = D.content;
-          moment = D.moment;
-          between = D.left_between;
-          since = D.left_since;
-          reads = D.read_faults;
-          writes = D.write_faults;
-          calls = D.calls;
-        })
+        → Stands (view D.content D.moment D.left_between D.left_since D.read_faults D.write_faults D.calls)
         (J.meaning judge.now) station.now bay.0 start before
-        record { input = I.left input.old; reads = I.faults input.old; out = O.took out.old; writes = O.faults out.old }
+        (streams (I.left input.old) (I.faults input.old) (O.took out.old) (O.faults out.old))
         from device.old reader.old count store node.old
-        → Goes (record {
-          content = D.content;
-          moment = D.moment;
-          between = D.left_between;
-          since = D.left_since;
-          reads = D.read_faults;
-          writes = D.write_faults;
-          calls = D.calls;
-        })
+        → Goes (view D.content D.moment D.left_between D.left_since D.read_faults D.write_faults D.calls)
         (J.meaning judge.now) station.now bay.0 start before
-        record { input = I.left input.new; reads = I.faults input.new; out = O.took out.new; writes = O.faults out.new }
+        (streams (I.left input.new) (I.faults input.new) (O.took out.new) (O.faults out.new))
         from device.new reader.new count node.new result }
     ensures near { IfOk result (λ _. length reader.new ≤ CHUNK) }
     ensures sequence { IfOk result (λ s. store_sequence s ≤ store_sequence store + 1) }
@@ -123,18 +107,10 @@ fn run<J: Judge, I: Source, O: Sink, D: Device>(
     requires room { store_sequence store + MOST_LINES < 2 ^ 64 }
     requires kept { Told (D.content device.old) (λ image.
         IsKept D.moment D.left_since device.old store image (kept_of node.old)) }
-    ensures ends { Ends (record {
-      content = D.content;
-      moment = D.moment;
-      between = D.left_between;
-      since = D.left_since;
-      reads = D.read_faults;
-      writes = D.write_faults;
-      calls = D.calls;
-    })
+    ensures ends { Ends (view D.content D.moment D.left_between D.left_since D.read_faults D.write_faults D.calls)
         (J.meaning judge.now) station.now bay.0 0 node.old
-        record { input = I.left input.old; reads = I.faults input.old; out = O.took out.old; writes = O.faults out.old }
-        record { input = I.left input.new; reads = I.faults input.new; out = O.took out.new; writes = O.faults out.new }
+        (streams (I.left input.old) (I.faults input.old) (O.took out.old) (O.faults out.old))
+        (streams (I.left input.new) (I.faults input.new) (O.took out.new) (O.faults out.new))
         device.old device.new result }
 {
     let mut now = store;
@@ -180,18 +156,10 @@ fn serve<J: Judge, I: Source, O: Sink, D: Device>(
 ) -> StoredEnd
     requires same { (J.meaning judge.now).diagram ≡ station.now }
     requires bay { IsBay station.now bay.0 }
-    ensures { StoredEnds (record {
-      content = D.content;
-      moment = D.moment;
-      between = D.left_between;
-      since = D.left_since;
-      reads = D.read_faults;
-      writes = D.write_faults;
-      calls = D.calls;
-    })
+    ensures { StoredEnds (view D.content D.moment D.left_between D.left_since D.read_faults D.write_faults D.calls)
         (J.meaning judge.now) station.now bay.0
-        record { input = I.left input.old; reads = I.faults input.old; out = O.took out.old; writes = O.faults out.old }
-        record { input = I.left input.new; reads = I.faults input.new; out = O.took out.new; writes = O.faults out.new }
+        (streams (I.left input.old) (I.faults input.old) (O.took out.old) (O.faults out.old))
+        (streams (I.left input.new) (I.faults input.new) (O.took out.new) (O.faults out.new))
         device.old device.new result }
 {
     let opened = match open_for_bay(station, bay, device) {
@@ -235,18 +203,10 @@ pub fn serve_stored<J: Judge, I: Source, O: Sink, D: Device>(
 ) -> StoredEnd
     requires same { (J.meaning judge.now).diagram ≡ station.now }
     requires bay { IsBay station.now bay.0 }
-    ensures ends { StoredEnds (record {
-      content = D.content;
-      moment = D.moment;
-      between = D.left_between;
-      since = D.left_since;
-      reads = D.read_faults;
-      writes = D.write_faults;
-      calls = D.calls;
-    })
+    ensures ends { StoredEnds (view D.content D.moment D.left_between D.left_since D.read_faults D.write_faults D.calls)
         (J.meaning judge.now) station.now bay.0
-        record { input = I.left input.old; reads = I.faults input.old; out = O.took out.old; writes = O.faults out.old }
-        record { input = I.left input.new; reads = I.faults input.new; out = O.took out.new; writes = O.faults out.new }
+        (streams (I.left input.old) (I.faults input.old) (O.took out.old) (O.faults out.old))
+        (streams (I.left input.new) (I.faults input.new) (O.took out.new) (O.faults out.new))
         device.old device.new result }
     ensures complete { (content image : List ℕ) → I.left input.old ≡ Some content
         → IsStoredInput station.now bay.0 content
