@@ -10,12 +10,28 @@ use Rattle.stored_session.specs.Along.{StandsAlong}
 
 module _ (m : Meaning) (d : Diagram) (b : ℕ) where
   -- one line more
-  pub session_more : (start : State) (done : List (List ℕ)) (text : List ℕ) (state : State) (line answer : List ℕ) (next : State)
-      → StoredSession m d b start done text state → AnswersStored m d b state line answer next → StoredSession m d b start (done ++ line ∷ []) (text ++ answer) next
-  session_more start [] text state line answer next (nothing, same) answers =
-      (answer, next, subst (λ (s : State). AnswersStored m d b s line answer next) same answers, [], (refl, refl), ap (λ t. t ++ answer) nothing ∙ sym (append-nil answer))
-  session_more start (l ∷ done) text state line answer next (one, mid, answered, rest, session, is) answers =
-      (one, mid, answered, rest ++ answer, session_more mid done rest state line answer next session answers, ap (λ t. t ++ answer) is ∙ append_assoc one rest answer)
+  pub session_more : (start : State) (done : List (List ℕ)) (text : List ℕ) (state : State) (line answer : List ℕ)
+      (next : State)
+      → StoredSession m d b start done text state → AnswersStored m d b state line answer next
+      → StoredSession m d b start (done ++ line ∷ []) (text ++ answer) next
+  session_more start [] text state line answer next (nothing, same) answers = (
+    answer,
+    next,
+    subst (λ (s : State). AnswersStored m d b s line answer next) same answers,
+    [],
+    (refl, refl),
+    ap
+        (λ t. t ++ answer) nothing ∙ sym (append-nil answer),
+  )
+  session_more start (l ∷ done) text state line answer next (one, mid, answered, rest, session, is) answers = (
+    one,
+    mid,
+    answered,
+    rest ++ answer,
+    session_more mid done rest state line answer next session answers,
+    ap
+        (λ t. t ++ answer) is ∙ append_assoc one rest answer,
+  )
 
   -- after no line
   pub along_none : (start : State) (c : List ℕ) → IsImageOf c (kept_of start) → StandsAlong m d b start [] [] start 0 c
@@ -34,7 +50,8 @@ module _ (m : Meaning) (d : Diagram) (b : ℕ) where
   }
 
   -- after all lines
-  pub along_all : (start : State) (lines : List (List ℕ)) (text : List ℕ) (last : State) (c : List ℕ) → StoredSession m d b start lines text last → IsImageOf c (kept_of last)
+  pub along_all : (start : State) (lines : List (List ℕ)) (text : List ℕ) (last : State) (c : List ℕ)
+      → StoredSession m d b start lines text last → IsImageOf c (kept_of last)
       → StandsAlong m d b start lines text last (length lines) c
   along_all start lines text last c session stands = record {
     done = lines;
@@ -51,8 +68,10 @@ module _ (m : Meaning) (d : Diagram) (b : ℕ) where
   }
 
   -- what stood before one line more stands after it
-  pub along_more : (start : State) (lines : List (List ℕ)) (text : List ℕ) (last : State) (low : ℕ) (line answer : List ℕ) (next : State) (c : List ℕ)
-      → AnswersStored m d b last line answer next → StandsAlong m d b start lines text last low c → StandsAlong m d b start (lines ++ line ∷ []) (text ++ answer) next low c
+  pub along_more : (start : State) (lines : List (List ℕ)) (text : List ℕ) (last : State) (low : ℕ)
+      (line answer : List ℕ) (next : State) (c : List ℕ)
+      → AnswersStored m d b last line answer next → StandsAlong m d b start lines text last low c
+      → StandsAlong m d b start (lines ++ line ∷ []) (text ++ answer) next low c
   along_more start lines text last low line answer next c answers s = record {
     done = s.done;
     more = s.more ++ line ∷ [];
@@ -68,7 +87,8 @@ module _ (m : Meaning) (d : Diagram) (b : ℕ) where
   }
 
   -- fewer lines are asked for
-  pub along_lower : (start : State) (lines : List (List ℕ)) (text : List ℕ) (last : State) (low less : ℕ) (c : List ℕ) → less ≤ low
+  pub along_lower : (start : State) (lines : List (List ℕ)) (text : List ℕ) (last : State) (low less : ℕ) (c : List ℕ)
+      → less ≤ low
       → StandsAlong m d b start lines text last low c → StandsAlong m d b start lines text last less c
   along_lower start lines text last low less c le s = record {
     done = s.done;
@@ -85,18 +105,24 @@ module _ (m : Meaning) (d : Diagram) (b : ℕ) where
   }
 
   -- a crash in one line more leaves the record before it or after it, and no fewer lines than before
-  pub along_either : (start : State) (lines : List (List ℕ)) (text : List ℕ) (last : State) (line answer : List ℕ) (next : State) (c : List ℕ)
-      → StoredSession m d b start lines text last → AnswersStored m d b last line answer next → IsImageOf c (kept_of last) ⊎ IsImageOf c (kept_of next)
+  pub along_either : (start : State) (lines : List (List ℕ)) (text : List ℕ) (last : State) (line answer : List ℕ)
+      (next : State) (c : List ℕ)
+      → StoredSession m d b start lines text last → AnswersStored m d b last line answer next
+      → IsImageOf c (kept_of last) ⊎ IsImageOf c (kept_of next)
       → StandsAlong m d b start (lines ++ line ∷ []) (text ++ answer) next (length lines) c
   along_either start lines text last line answer next c session answers stands = ⊎_elim
-      (λ (h : IsImageOf c (kept_of last)). along_more start lines text last (length lines) line answer next c answers (along_all start lines text last c session h))
+      (λ (h : IsImageOf c (kept_of last)). along_more start lines text last (length lines) line answer next c answers
+      (along_all start lines text last c session h))
       (λ (h : IsImageOf c (kept_of next)).
-      along_lower start (lines ++ line ∷ []) (text ++ answer) next (length (lines ++ line ∷ [])) (length lines) c (omega (arith, length-append lines (line ∷ [])))
-      (along_all start (lines ++ line ∷ []) (text ++ answer) next c (session_more start lines text last line answer next session answers) h))
+      along_lower start (lines ++ line ∷ []) (text ++ answer) next (length (lines ++ line ∷ [])) (length lines) c
+      (omega (arith, length-append lines (line ∷ [])))
+      (along_all start (lines ++ line ∷ []) (text ++ answer) next c
+      (session_more start lines text last line answer next session answers) h))
       stands
 
   -- before all lines
-  pub along_start : (start : State) (lines : List (List ℕ)) (text : List ℕ) (last : State) (c : List ℕ) → StoredSession m d b start lines text last → IsImageOf c (kept_of start)
+  pub along_start : (start : State) (lines : List (List ℕ)) (text : List ℕ) (last : State) (c : List ℕ)
+      → StoredSession m d b start lines text last → IsImageOf c (kept_of start)
       → StandsAlong m d b start lines text last 0 c
   along_start start lines text last c session stands = record {
     done = [];

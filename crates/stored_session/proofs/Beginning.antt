@@ -1,28 +1,33 @@
 -- A session from before the opening of the store.
-use Rattle.std.proofs.Common.{◌≡◌, ◌∙◌, ◌≤◌, ◌⊎◌, ◌↔◌, inl, inr, ⊎_elim, ℕ, List, Option, refl, sym, subst, arith}
+use Rattle.std.proofs.Common.{◌≡◌, ◌∙◌, ◌≤◌, inl, inr, ⊎_elim, ℕ, List, refl, sym, subst, arith}
 use Rattle.ilk_base.specs.Outside.{Rose}
 use Rattle.ilk_base.proofs.Fronts.{rose_earlier}
 use Rattle.station_graph.specs.Diagram.{Diagram}
 use Rattle.central_rules.specs.Meaning.{Meaning}
 use Rattle.bay_protocol.specs.State.{State, kept_of}
+use Rattle.node_session.specs.SessionEnds.{Streams}
 use Rattle.node_store.specs.Device.{Told, LeavesFrom, KeepsPast, RisesBy}
 use Rattle.node_store.specs.Image.{IsImageOf}
 use Rattle.node_store.proofs.Runs.{one_call, then_more, stays_settled}
+use Rattle.stored_session.specs.View.{View, KeepsTime}
 use Rattle.stored_session.specs.Along.{StandsAlong}
-use Rattle.stored_session.specs.Ends.{Streams, EndsSo, Ends, IsIdle}
-use Rattle.stored_session.specs.declared.session.StoredEnd.{StoredEnd}
-use Rattle.stored_session.specs.declared.session.StoredEnd.TheVariants.{Done, Unfit, Refused, Long, ReadFault, WriteFault, Memory}
+use Rattle.stored_session.specs.Ends.{EndsSo, Ends, IsIdle}
+use Rattle.stored_session.specs.declared.end.StoredEnd.{StoredEnd}
+use Rattle.stored_session.specs.declared.end.StoredEnd.TheVariants.{Done, Unfit, Refused, Long, ReadFault, WriteFault}
+use Rattle.stored_session.specs.declared.end.StoredEnd.TheVariants.{Memory}
 use Rattle.stored_session.proofs.Along.{along_start}
 
 -- a count that rose in a part of a run rose in it
-so_earlier : (m : Meaning) (d : Diagram) (b : ℕ) (start : State) (before now : Streams) (part whole : Type 0) (lines : List (List ℕ)) (text : List ℕ) (low : ℕ) (end : StoredEnd) → (part → whole)
+so_earlier : (m : Meaning) (d : Diagram) (b : ℕ) (start : State) (before now : Streams) (part whole : Type 0)
+    → (lines : List (List ℕ)) (text : List ℕ) (low : ℕ) (end : StoredEnd) → (part → whole)
     → EndsSo m d b start before now part lines text low end → EndsSo m d b start before now whole lines text low end
 so_earlier m d b start before now part whole lines text low Done rose so = so
 so_earlier m d b start before now part whole lines text low (Refused number) rose so = so
 so_earlier m d b start before now part whole lines text low Long rose so = so
 so_earlier m d b start before now part whole lines text low ReadFault rose so = so
-so_earlier m d b start before now part whole lines text low WriteFault rose (begins, stops) = (
+so_earlier m d b start before now part whole lines text low WriteFault rose (begins, near, stops) = (
   begins,
+  near,
   record {
     done = stops.done;
     line = stops.line;
@@ -40,33 +45,55 @@ so_earlier m d b start before now part whole lines text low WriteFault rose (beg
 so_earlier m d b start before now part whole lines text low Memory rose so = so
 so_earlier m d b start before now part whole lines text low Unfit rose so = so
 
-module _ {D : Type 0} (content : D → Option (List ℕ)) (moment : D → ℕ) (between : D → ℕ → ℕ → List ℕ → Type 0) (since : D → ℕ → List ℕ → Type 0)
-    (time : (d : D) (t u : ℕ) (c : List ℕ) → t ≤ u → (since d t c ↔ (between d t u c ⊎ since d u c))) (calls faults : D → ℕ)
-    (old mid : D) (same : content mid ≡ content old) (follows : LeavesFrom since (moment old) old mid (λ c d. c ≡ d)) (past : KeepsPast moment between old mid) (called : RisesBy 3 (calls old) (calls mid)) where
+module _ {D : Type 0} (v : View D) (time : KeepsTime v) (old mid : D) (same : v.content mid ≡ v.content old)
+    (follows : LeavesFrom v.since (v.moment old) old mid (λ c d. c ≡ d)) (past : KeepsPast v.moment v.between old mid)
+    (called : RisesBy 3 (v.calls old) (v.calls mid)) where
   -- no line was asked for
-  pub idle : (now : Streams) → IsIdle content moment between since calls now now old mid
+  pub idle : (now : Streams) → IsIdle v now now old mid
   idle now = record {
     streams = refl;
-    crash = λ image told settled. one_call moment between since time old mid image (λ c d. c ≡ d) (λ c. c ≡ image) settled follows past (λ c is. sym is);
+    crash = λ image told settled.
+        one_call v.moment v.between v.since time old mid image (λ c d. c ≡ d) (λ c. c ≡ image) settled follows past
+        (λ c is. sym is);
     called = called;
   }
 
   -- the session that follows the opening, with it
-  pub begun : (m : Meaning) (d : Diagram) (b : ℕ) (start : State) (before now : Streams) (new : D) (end : StoredEnd) → faults old ≤ faults mid → Told (content old) (λ image. IsImageOf image (kept_of start))
-      → Ends content moment between since calls faults m d b 0 start before now mid new end → Ends content moment between since calls faults m d b 3 start before now old new end
-  begun m d b start before now new end grows stands ends = record {
+  begun_at : (m : Meaning) (d : Diagram) (b : ℕ) (start : State) (before now : Streams) (new : D) (end : StoredEnd)
+      → v.writes old ≤ v.writes mid → Told (v.content old) (λ image. IsImageOf image (kept_of start))
+      → Ends v m d b 0 start before now mid new end → Ends v m d b 3 start before now old new end
+  begun_at m d b start before now new end grows stands ends = record {
     lines = ends.lines;
     text = ends.text;
     last = ends.last;
     session = ends.session;
     low = ends.low;
-    so = so_earlier m d b start before now (Rose (faults mid) (faults new)) (Rose (faults old) (faults new)) ends.lines ends.text ends.low end (λ rose. rose_earlier _ _ _ grows rose) ends.so;
+    so = so_earlier m d b start before now (Rose (v.writes mid) (v.writes new)) (Rose (v.writes old) (v.writes new))
+        ends.lines ends.text ends.low end (λ rose. rose_earlier _ _ _ grows rose) ends.so;
     crash = λ image told settled.
         let P : List ℕ → Type 0 = StandsAlong m d b start ends.lines ends.text ends.last 0 in
-        then_more moment between since time old mid new P
-        (one_call moment between since time old mid image (λ c d. c ≡ d) P settled follows past
-        (λ c is. subst P is (along_start m d b start ends.lines ends.text ends.last image ends.session (stands image told))))
-        (ends.crash image (same ∙ told) (stays_settled moment between since time old mid image settled follows past));
+        then_more v.moment v.between v.since time old mid new P
+        (one_call v.moment v.between v.since time old mid image (λ c d. c ≡ d) P settled follows past
+        (λ c is. subst P is (along_start m d b start ends.lines ends.text ends.last image ends.session
+        (stands image told))))
+        (ends.crash image (same ∙ told)
+        (stays_settled v.moment v.between v.since time old mid image settled follows past));
     at_return = λ image told. ends.at_return image (same ∙ told);
-    called = record { grows = omega (arith, called.grows, ends.called.grows); most = omega (arith, called.most, ends.called.most) };
+    whole = λ is. let stands = ends.whole is in record {
+      told = λ image told. stands.told image (same ∙ told);
+      untold = λ image told. let here = stands.untold image told in (here.0, sym same ∙ here.1);
+    };
+    called = record {
+      grows = omega (arith, called.grows, ends.called.grows);
+      most = omega (arith, called.most, ends.called.most);
+    };
   }
+
+  -- the same, of a node that is made of the record
+  pub begun : (m : Meaning) (d : Diagram) (b : ℕ) (node start : State) (before now : Streams) (new : D)
+      (end : StoredEnd)
+      → node ≡ start → v.writes old ≤ v.writes mid → Told (v.content old) (λ image. IsImageOf image (kept_of start))
+      → Ends v m d b 0 node before now mid new end → Ends v m d b 3 start before now old new end
+  begun m d b node start before now new end is grows stands ends =
+      begun_at m d b start before now new end grows stands (subst (λ
+      (s : State). Ends v m d b 0 s before now mid new end) is ends)

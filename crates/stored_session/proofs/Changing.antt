@@ -19,14 +19,22 @@ is_old old new keep is changed = subst (λ (k : Option Kept). IsKeep old new k) 
 module _ {D : Type 0} (moment : D → ℕ) (between : D → ℕ → ℕ → List ℕ → Type 0) (since : D → ℕ → List ℕ → Type 0) where
   -- a put that may be cut short
   pub may_put : (before after : D) (old new kept : Kept) → kept ≡ new
-      → LeavesOnly moment between since before after (λ c. IsImageOf c old ⊎ IsImageOf c kept) → LeavesOnly moment between since before after (λ c. IsImageOf c old ⊎ IsImageOf c new)
-  may_put before after old new kept is leaves = subst (λ (k : Kept). LeavesOnly moment between since before after (λ c. IsImageOf c old ⊎ IsImageOf c k)) is leaves
+      → LeavesOnly moment between since before after (λ c. IsImageOf c old ⊎ IsImageOf c kept)
+      → LeavesOnly moment between since before after (λ c. IsImageOf c old ⊎ IsImageOf c new)
+  may_put before after old new kept is leaves = subst (λ (k : Kept). LeavesOnly moment between since before after
+      (λ c. IsImageOf c old ⊎ IsImageOf c k)) is leaves
 
   -- a put that is done
   pub is_put : (after : D) (s : Store) (image : List ℕ) (new kept : Kept) → kept ≡ new
-      → IsSettled moment since after image × IsImageOf image kept × MatchesStore image s → IsKept moment since after s image new
-  is_put after s image new kept is done = record { settled = done.0; matches = done.2; stands = subst (λ (k : Kept). IsImageOf image k) is done.1 }
+      → IsSettled moment since after image × IsImageOf image kept × MatchesStore image s
+      → IsKept moment since after s image new
+  is_put after s image new kept is done = record {
+    settled = done.0;
+    matches = done.2;
+    stands = subst (λ (k : Kept). IsImageOf image k) is done.1;
+  }
 
   -- what is kept is what a crash leaves
-  pub leaves_now : (d : D) (s : Store) (image : List ℕ) (kept : Kept) → IsKept moment since d s image kept → LeavesNow moment since d kept
+  pub leaves_now : (d : D) (s : Store) (image : List ℕ) (kept : Kept) → IsKept moment since d s image kept
+      → LeavesNow moment since d kept
   leaves_now d s image kept is c left = subst (λ (i : List ℕ). IsImageOf i kept) (sym (is.settled c left)) is.stands

@@ -1,20 +1,24 @@
 -- Reading an input line by line.
-use Rattle.std.proofs.Common.{◌≡◌, ◌∙◌, ◌<◌, ◌+◌, ◌++◌, ◌∷◌, [], ℕ, List, Option, Some, None, Err, length, take, drop, true, refl, sym, ap, subst}
+use Rattle.std.proofs.Common.{◌≡◌, ◌∙◌, ◌≤◌, ◌<◌, ◌+◌, ◌++◌, ◌∷◌, [], ℕ, List, Option, Some, None, Err, length, take}
+use Rattle.std.proofs.Common.{drop}
+use Rattle.std.proofs.Common.{true, refl, sym, ap, subst, arith}
 use Rattle.std.specs.Prelude.{IfSome}
 use Rattle.std.specs.Str.Lines.{lines, strip_carriage_return}
 use Rattle.std.specs.Io.KnownBytes.{Consumes, IsAtEnd}
 use Rattle.std.proofs.lemmas.List.{append-nil, append_assoc}
 use Rattle.std.proofs.Math.Seq.{take-append_seam, drop-append-add}
 use Rattle.node_session.specs.declared.request.TheConstants.{MOST_LINE}
+use Rattle.node_session.specs.declared.reader.TheConstants.{CHUNK}
 use Rattle.node_session.specs.declared.reader.Front.TheVariants.{Line, TooLong, Last}
 use Rattle.node_session.specs.declared.reader.InputTrouble.{InputTrouble}
 use Rattle.node_session.specs.declared.reader.InputTrouble.TheVariants.{Memory, Failed}
 use Rattle.node_session.specs.Reading.{HasNoFeed, is_long, Grows, BeginsLine, Fills, FillFails}
 use Rattle.node_session.proofs.Feeds.{lines-line, lines-no_end, long_line}
 use Rattle.node_session.proofs.Filling.{consumes_both}
-use Rattle.stored_session.specs.Through.{ReadsThrough, Begins, IsAll, HasNext, GoesOn}
+use Rattle.stored_session.specs.Through.{ReadsThrough, TakesNear, Begins, IsAll, HasNext, GoesOn}
 
-rest_of : (a b : Option (List ℕ)) (taken : List ℕ) → Consumes a b taken → (rest : List ℕ) × IfSome a (λ known. known ≡ taken ++ rest)
+rest_of : (a b : Option (List ℕ)) (taken : List ℕ) → Consumes a b taken → (rest : List ℕ) × IfSome a
+    (λ known. known ≡ taken ++ rest)
 rest_of None b taken consumed = ([], tt)
 rest_of (Some x) None taken consumed = absurd consumed
 rest_of (Some x) (Some y) taken consumed = (y, consumed)
@@ -29,7 +33,8 @@ consumes_none None = tt
 consumes_none (Some x) = refl
 
 -- a line of so many bytes, and what follows its end
-pub at_line : (n : ℕ) (held line past : List ℕ) → length line ≡ n → held ≡ line ++ 10 ∷ past → (take n held ≡ line) × (drop (n + 1) held ≡ past)
+pub at_line : (n : ℕ) (held line past : List ℕ) → length line ≡ n → held ≡ line ++ 10 ∷ past
+    → (take n held ≡ line) × (drop (n + 1) held ≡ past)
 at_line n held line past len parts = (
   ap (take n) parts ∙ ap (λ k. take k (line ++ 10 ∷ past)) (sym len) ∙ take-append_seam line (10 ∷ past),
   ap (drop (n + 1)) parts ∙ ap (λ k. drop (k + 1) (line ++ 10 ∷ past)) (sym len) ∙ drop-append-add line (10 ∷ past) 1,
@@ -41,10 +46,12 @@ module _ (before : Option (List ℕ)) (done : List (List ℕ)) where
   reads_none = record { taken = []; consumed = consumes_none before; ends = λ rest. refl }
 
   -- more is held
-  pub reads_more : (now after : Option (List ℕ)) (held held_new : List ℕ) → ReadsThrough before now held done → Grows held held_new now after → ReadsThrough before after held_new done
+  pub reads_more : (now after : Option (List ℕ)) (held held_new : List ℕ) → ReadsThrough before now held done
+      → Grows held held_new now after → ReadsThrough before after held_new done
   reads_more now after held held_new at grows = record {
     taken = at.taken;
-    consumed = subst (λ (l : List ℕ). Consumes before after l) (append_assoc at.taken held grows.piece ∙ ap (λ l. at.taken ++ l) (sym grows.parts))
+    consumed = subst (λ (l : List ℕ). Consumes before after l) (append_assoc at.taken held grows.piece ∙ ap
+        (λ l. at.taken ++ l) (sym grows.parts))
         (consumes_both before now after (at.taken ++ held) grows.piece at.consumed grows.consumed);
     ends = at.ends;
   }
@@ -60,28 +67,54 @@ module _ (before : Option (List ℕ)) (done : List (List ℕ)) where
         ((at.taken ++ held) ++ rest, lines (held ++ rest), record { told = told; cut = cut rest })
 
     -- the next one is too long
-    pub long_next : HasNoFeed held → is_long held ≡ true → (line : List ℕ) × HasNext before done line × (MOST_LINE < length line)
+    pub long_next : HasNoFeed held → is_long held ≡ true → (line : List ℕ) × HasNext before done line
+        × (MOST_LINE < length line)
     long_next none long =
         let (rest, told) = rest_of before now (at.taken ++ held) at.consumed in
-        let (line, more, is, most) = long_line held rest none long in
-        (line, ((at.taken ++ held) ++ rest, more, record { told = told; cut = cut rest ∙ ap (λ l. done ++ l) is ∙ sym (append_assoc done (line ∷ []) more) }), most)
+        let (line, more, is, most) = long_line held rest none long in (
+          line,
+          (
+            (at.taken ++ held) ++ rest,
+            more,
+            record {
+              told = told;
+              cut = cut rest ∙ ap (λ l. done ++ l) is ∙ sym
+                  (append_assoc done (line ∷ []) more);
+            },
+          ),
+          most,
+        )
 
     -- the last one has no end
     pub last_next : HasNoFeed held → 0 < length held → IsAtEnd now → IsAll before now (done ++ held ∷ [])
-    last_next none some at_end =
-        (at.taken ++ held, record { told = all_of before now (at.taken ++ held) at.consumed at_end; cut = at.ends held ∙ ap (λ l. done ++ l) (lines-no_end held none some) }, at.consumed)
+    last_next none some at_end = (
+      at.taken ++ held,
+      record {
+        told = all_of before now (at.taken ++ held) at.consumed at_end;
+        cut = at.ends held ∙ ap (λ l. done ++ l) (lines-no_end held none some);
+      },
+      at.consumed,
+    )
 
     -- there is none
     pub none_next : held ≡ [] → IsAtEnd now → IsAll before now done
-    none_next empty at_end =
-        (at.taken ++ held, record { told = all_of before now (at.taken ++ held) at.consumed at_end; cut = at.ends held ∙ ap (λ l. done ++ lines l) empty ∙ append-nil done }, at.consumed)
+    none_next empty at_end = (
+      at.taken ++ held,
+      record {
+        told = all_of before now (at.taken ++ held) at.consumed at_end;
+        cut = at.ends held ∙ ap (λ l. done ++ lines l) empty ∙ append-nil done;
+      },
+      at.consumed,
+    )
 
     -- the first line of what is held is passed
-    pub reads_line : (line past : List ℕ) → BeginsLine held line past → ReadsThrough before now past (done ++ strip_carriage_return line ∷ [])
+    pub reads_line : (line past : List ℕ) → BeginsLine held line past → ReadsThrough before now past
+        (done ++ strip_carriage_return line ∷ [])
     reads_line line past first = record {
       taken = at.taken ++ (line ++ 10 ∷ []);
       consumed = subst (λ (l : List ℕ). Consumes before now l)
-          (ap (λ l. at.taken ++ l) (first.parts ∙ sym (append_assoc line (10 ∷ []) past)) ∙ sym (append_assoc at.taken (line ++ 10 ∷ []) past)) at.consumed;
+          (ap (λ l. at.taken ++ l) (first.parts ∙ sym (append_assoc line (10 ∷ []) past)) ∙ sym (append_assoc at.taken
+          (line ++ 10 ∷ []) past)) at.consumed;
       ends = λ rest.
           ap lines (append_assoc at.taken (line ++ 10 ∷ []) rest)
           ∙ at.ends ((line ++ 10 ∷ []) ++ rest)
@@ -89,41 +122,107 @@ module _ (before : Option (List ℕ)) (done : List (List ℕ)) where
           ∙ sym (append_assoc done (strip_carriage_return line ∷ []) (lines rest));
     }
 
-  -- lines that were read are lines of the input
-  pub has_next : (now : Option (List ℕ)) (held line : List ℕ) → ReadsThrough before now held (done ++ line ∷ []) → HasNext before done line
-  has_next now held line at =
-      let (rest, told) = rest_of before now (at.taken ++ held) at.consumed in
-      ((at.taken ++ held) ++ rest, lines (held ++ rest), record { told = told; cut = ap lines (append_assoc at.taken held rest) ∙ at.ends (held ++ rest) })
+  -- little is held past lines that were read
+  pub near_line : (now : Option (List ℕ)) (held : List ℕ) → length held ≤ CHUNK → ReadsThrough before now held done
+      → TakesNear before now done
+  near_line now held few at = record {
+    through = at.taken;
+    past = held;
+    consumed = at.consumed;
+    ended = ap lines (sym (append-nil at.taken)) ∙ at.ends [] ∙ append-nil done;
+    near = few;
+  }
 
-  pub has_last : (now : Option (List ℕ)) (line : List ℕ) → IsAll before now (done ++ line ∷ []) → HasNext before done line
-  has_last now line all = (all.0, [], record { told = all.1.told; cut = all.1.cut ∙ sym (append-nil (done ++ line ∷ [])) })
+  -- and nothing where they are all
+  pub near_last : (now : Option (List ℕ)) → IsAll before now done → TakesNear before now done
+  near_last now (content, has, consumed) = record {
+    through = content;
+    past = [];
+    consumed = subst (λ (l : List ℕ). Consumes before now l) (sym (append-nil content)) consumed;
+    ended = has.cut;
+    near = omega arith;
+  }
+
+  -- lines that were read are lines of the input
+  pub has_next : (now : Option (List ℕ)) (held line : List ℕ) → ReadsThrough before now held (done ++ line ∷ [])
+      → HasNext before done line
+  has_next now held line at =
+      let (rest, told) = rest_of before now (at.taken ++ held) at.consumed in (
+        (at.taken ++ held) ++ rest,
+        lines (held ++ rest),
+        record {
+          told = told;
+          cut = ap lines
+              (append_assoc at.taken held rest) ∙ at.ends (held ++ rest);
+        },
+      )
+
+  pub has_last : (now : Option (List ℕ)) (line : List ℕ) → IsAll before now (done ++ line ∷ [])
+      → HasNext before done line
+  has_last now line all = (
+    all.0,
+    [],
+    record {
+      told = all.1.told;
+      cut = all.1.cut ∙ sym (append-nil
+          (done ++ line ∷ []));
+    },
+  )
 
   pub has_long : (line : List ℕ) → HasNext before done line → Begins before done
-  has_long line comes = (comes.0, line ∷ comes.1, record { told = comes.2.told; cut = comes.2.cut ∙ append_assoc done (line ∷ []) comes.1 })
+  has_long line comes = (
+    comes.0,
+    line ∷ comes.1,
+    record {
+      told = comes.2.told;
+      cut = comes.2.cut ∙ append_assoc done
+          (line ∷ []) comes.1;
+    },
+  )
 
-module _ (before : Option (List ℕ)) (done : List (List ℕ)) (now after : Option (List ℕ)) (held held_new : List ℕ) (at : ReadsThrough before now held done) where
+module _ (before : Option (List ℕ)) (done : List (List ℕ)) (now after : Option (List ℕ)) (held held_new : List ℕ)
+    (at : ReadsThrough before now held done) where
   -- a line with an end comes next
-  pub line_comes : (n : ℕ) (text : List ℕ) → Fills held held_new now after (Line n) → text ≡ strip_carriage_return (take n held_new) → ReadsThrough before after (drop (n + 1) held_new) (done ++ text ∷ [])
+  pub line_comes : (n : ℕ) (text : List ℕ) → Fills held held_new now after (Line n)
+      → text ≡ strip_carriage_return (take n held_new) → ReadsThrough before after (drop (n + 1) held_new)
+      (done ++ text ∷ [])
   line_comes n text fills is =
       let (line, past, len, first) = fills.is in
       let there = at_line n held_new line past len first.parts in
       let same : strip_carriage_return line ≡ text = sym (is ∙ ap strip_carriage_return there.0) in
       subst (λ (l : List ℕ). ReadsThrough before after l (done ++ text ∷ [])) (sym there.1)
-      (subst (λ (t : List ℕ). ReadsThrough before after past (done ++ t ∷ [])) same (reads_line before done after held_new (reads_more before done now after held held_new at fills.grows) line past first))
+      (subst (λ (t : List ℕ). ReadsThrough before after past (done ++ t ∷ [])) same
+      (reads_line before done after held_new
+      (reads_more before done now after held held_new at fills.grows) line past first))
 
   -- one that is too long
-  pub long_comes : Fills held held_new now after TooLong → (line : List ℕ) × HasNext before done line × (MOST_LINE < length line)
-  long_comes fills = long_next before done after held_new (reads_more before done now after held held_new at fills.grows) fills.is.0 fills.is.1
+  pub long_comes : Fills held held_new now after TooLong → (line : List ℕ) × HasNext before done line
+      × (MOST_LINE < length line)
+  long_comes fills = long_next before done after held_new
+      (reads_more before done now after held held_new at fills.grows) fills.is.0 fills.is.1
 
   -- the last one, without an end
-  pub last_comes : (text : List ℕ) → Fills held held_new now after Last → text ≡ held_new → 0 < length held_new → IsAll before after (done ++ text ∷ [])
-  last_comes text fills is some = subst (λ (t : List ℕ). IsAll before after (done ++ t ∷ [])) (sym is) (last_next before done after held_new (reads_more before done now after held held_new at fills.grows) fills.is.0 some fills.is.1)
+  pub last_comes : (text : List ℕ) → Fills held held_new now after Last → text ≡ held_new → 0 < length held_new
+      → IsAll before after (done ++ text ∷ [])
+  last_comes text fills is some = subst (λ (t : List ℕ). IsAll before after (done ++ t ∷ [])) (sym is)
+      (last_next before done after held_new
+      (reads_more before done now after held held_new at fills.grows) fills.is.0 some fills.is.1)
 
   -- none
   pub none_comes : Fills held held_new now after Last → held_new ≡ [] → IsAll before after done
-  none_comes fills empty = none_next before done after held_new (reads_more before done now after held held_new at fills.grows) empty fills.is.1
+  none_comes fills empty = none_next before done after held_new
+      (reads_more before done now after held held_new at fills.grows) empty fills.is.1
 
   -- it is not known
-  pub fails_so : (rose : Type 0) (trouble : InputTrouble) → FillFails held held_new now after rose trouble → GoesOn before after held_new done rose (Err trouble)
+  pub fails_so : (rose : Type 0) (trouble : InputTrouble) → FillFails held held_new now after rose trouble
+      → GoesOn before after held_new done rose (Err trouble)
   fails_so rose Memory fails = begins before done now held at
-  fails_so rose Failed (risen, grows, none) = (risen, begins before done now held at)
+  fails_so rose Failed (risen, grows, none) = (
+    risen,
+    record {
+      held = held_new;
+      reads =
+          reads_more before done now after held held_new at grows;
+      unended = none;
+    },
+  )

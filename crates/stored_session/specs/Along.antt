@@ -8,7 +8,8 @@ use Rattle.stored_session.specs.Stored.{StoredSession}
 
 -- The session of these lines, from the first state to the last, and an image that stands for its record after some
 -- number of them, which is not below `low`.
-pub record StandsAlong (m : Meaning) (d : Diagram) (b : ℕ) (start : State) (lines : List (List ℕ)) (text : List ℕ) (last : State) (low : ℕ) (c : List ℕ) : Type 0 where
+pub record StandsAlong (m : Meaning) (d : Diagram) (b : ℕ) (start : State)
+    (lines : List (List ℕ)) (text : List ℕ) (last : State) (low : ℕ) (c : List ℕ) : Type 0 where
   pub done : List (List ℕ)
   pub more : List (List ℕ)
   pub parts : lines ≡ done ++ more

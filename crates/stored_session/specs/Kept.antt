@@ -7,7 +7,8 @@ use Rattle.node_store.specs.Image.{IsImageOf}
 use Rattle.node_store.specs.Store.{MatchesStore}
 
 -- Nothing is pending on the device, the store says rightly what its image is, and the image stands for the record.
-pub record IsKept {D : Type 0} (moment : D → ℕ) (since : D → ℕ → List ℕ → Type 0) (device : D) (store : Store) (image : List ℕ) (kept : Kept) : Type 0 where
+pub record IsKept {D : Type 0} (moment : D → ℕ) (since : D → ℕ → List ℕ → Type 0)
+    (device : D) (store : Store) (image : List ℕ) (kept : Kept) : Type 0 where
   pub settled : IsSettled moment since device image
   pub matches : MatchesStore image store
   pub stands : IsImageOf image kept

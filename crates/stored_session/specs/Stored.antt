@@ -30,7 +30,8 @@ pub record AsksTurn (m : Meaning) (d : Diagram) (b : ℕ) (old : State) (line : 
   pub takes : TakesTurn m d old request turn
 
 -- The node of bay b answers one line: from the old state to the new, with the text of what the step shows and sends.
-pub record AnswersStored (m : Meaning) (d : Diagram) (b : ℕ) (old : State) (line text : List ℕ) (new : State) : Type 0 where
+pub record AnswersStored (m : Meaning) (d : Diagram) (b : ℕ) (old : State)
+    (line text : List ℕ) (new : State) : Type 0 where
   pub output : NodeOutput
   pub asked : AsksTurn m d b old line (turn new output)
   pub text_is : text ≡ shown_text d output
@@ -43,21 +44,25 @@ StoredSession m d b old (line ∷ lines) text new =
     × (rest : List ℕ) × StoredSession m d b next lines rest new × (text ≡ answer ++ rest)
 
 -- The line is answered, and its text written.
-pub record WritesLine (m : Meaning) (d : Diagram) (b : ℕ) (old : State) (line : List ℕ) (new : State) (before after : Option (List ℕ)) : Type 0 where
+pub record WritesLine (m : Meaning) (d : Diagram) (b : ℕ) (old : State)
+    (line : List ℕ) (new : State) (before after : Option (List ℕ)) : Type 0 where
   pub text : List ℕ
   pub answers : AnswersStored m d b old line text new
   pub wrote : Appends before after text
 
 -- The line is answered, and of its text a front is written that is not all.
-pub record WritesFront (m : Meaning) (d : Diagram) (b : ℕ) (old : State) (line : List ℕ) (new : State) (before after : Option (List ℕ)) : Type 0 where
+pub record WritesFront (m : Meaning) (d : Diagram) (b : ℕ) (old : State)
+    (line : List ℕ) (new : State) (before after : Option (List ℕ)) : Type 0 where
   pub text : List ℕ
   pub answers : AnswersStored m d b old line text new
   pub wrote : AppendsFront before after text
 
 -- Why a line is not answered to its end, and what is written of it. Of `stores` and `writes`, the one is that the
 -- device's count of writes and syncs rose, the other that the count of `out` did.
-abbrev pub LineFails : Meaning → Diagram → ℕ → State → List ℕ → State → Option (List ℕ) → Option (List ℕ) → Type 0 → Type 0 → LineEnd → Type 0
+abbrev pub LineFails : Meaning → Diagram → ℕ → State → List ℕ → State → Option (List ℕ) → Option (List ℕ)
+    → Type 0 → Type 0 → LineEnd → Type 0
 LineFails m d b old line new before after stores writes Memory = Appends before after []
 LineFails m d b old line new before after stores writes Refused = (¬ IsRequest d b false line) × Appends before after []
-LineFails m d b old line new before after stores writes StoreFailed = stores × ((text : List ℕ) × AnswersStored m d b old line text new) × Appends before after []
+LineFails m d b old line new before after stores writes StoreFailed =
+    stores × ((text : List ℕ) × AnswersStored m d b old line text new) × Appends before after []
 LineFails m d b old line new before after stores writes OutFailed = writes × WritesFront m d b old line new before after

@@ -1,8 +1,10 @@
 -- How far an input is read, line by line.
-use Rattle.std.specs.Prelude.{◌≡◌, ◌<◌, ◌++◌, ◌∷◌, ⊤, ℕ, List, [], length, Option, Result, Ok, Err, IfSome}
+use Rattle.std.specs.Prelude.{◌≡◌, ◌≤◌, ◌<◌, ◌++◌, ◌∷◌, ⊤, ℕ, List, [], length, Option, Result, Ok, Err, IfSome}
 use Rattle.std.specs.Str.Lines.{lines}
 use Rattle.std.specs.Io.KnownBytes.{Consumes}
+use Rattle.node_session.specs.Reading.{HasNoFeed}
 use Rattle.node_session.specs.declared.request.TheConstants.{MOST_LINE}
+use Rattle.node_session.specs.declared.reader.TheConstants.{CHUNK}
 use Rattle.node_session.specs.declared.reader.InputTrouble.{InputTrouble}
 use Rattle.node_session.specs.declared.reader.InputTrouble.TheVariants.{Memory, Failed}
 use Rattle.stored_session.specs.declared.reading.NextLine.{NextLine}
@@ -27,6 +29,20 @@ Begins input done = (content : List ℕ) × (more : List (List ℕ)) × HasLines
 abbrev pub IsAll : Option (List ℕ) → Option (List ℕ) → List (List ℕ) → Type 0
 IsAll input now all = (content : List ℕ) × HasLines input content all × Consumes input now content
 
+-- What these lines take of the input was taken, and little past it.
+pub record TakesNear (before now : Option (List ℕ)) (done : List (List ℕ)) : Type 0 where
+  pub through : List ℕ
+  pub past : List ℕ
+  pub consumed : Consumes before now (through ++ past)
+  pub ended : lines through ≡ done
+  pub near : length past ≤ CHUNK
+
+-- So far the input was taken, and each line whose end was read is one of these.
+pub record ReadsTo (before now : Option (List ℕ)) (done : List (List ℕ)) : Type 0 where
+  pub held : List ℕ
+  pub reads : ReadsThrough before now held done
+  pub unended : HasNoFeed held
+
 -- The next line of the input is this one.
 abbrev pub HasNext : Option (List ℕ) → List (List ℕ) → List ℕ → Type 0
 HasNext input done line = Begins input (done ++ line ∷ [])
@@ -46,8 +62,9 @@ HasEnd (Last line) = ⊥
 HasEnd TooLong = ⊥
 HasEnd End = ⊥
 
--- The same, or why it is not known.
-abbrev pub GoesOn : Option (List ℕ) → Option (List ℕ) → List ℕ → List (List ℕ) → Type 0 → Result NextLine InputTrouble → Type 0
+-- The same, or why it is not known; `rose` is that the input's count of faults rose.
+abbrev pub GoesOn : Option (List ℕ) → Option (List ℕ) → List ℕ → List (List ℕ) → Type 0
+    → Result NextLine InputTrouble → Type 0
 GoesOn input now held done rose (Ok next) = ComesNext input now held done next
 GoesOn input now held done rose (Err Memory) = Begins input done
-GoesOn input now held done rose (Err Failed) = rose × Begins input done
+GoesOn input now held done rose (Err Failed) = rose × ReadsTo input now done

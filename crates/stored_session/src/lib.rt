@@ -2,12 +2,14 @@
 //! and then the line's text is written.
 #![tactic(auto)]
 
+mod end;
 mod line;
 mod opening;
 mod putting;
 mod reading;
 mod session;
 
+pub use end::StoredEnd;
 pub use line::{LineEnd, take_line};
 pub use opening::{BayTrouble, open_for_bay};
-pub use session::{StoredEnd, serve_stored};
+pub use session::serve_stored;

@@ -1,4 +1,4 @@
-// One line of a stored session.
+//! One line of a stored session.
 ghost use Rattle.std.specs.Prelude.{◌≡◌, ◌≢◌, ◌≤◌, ◌<◌, ◌⊎◌, ◌+◌, ◌^◌, false, IfOk, IfErr, OnErr, IsErrOf};
 ghost use Rattle.std.specs.List.{All};
 ghost use Rattle.ilk_base.specs.Outside.{Rose};
@@ -50,7 +50,8 @@ fn act<J: Judge>(
     requires node { IsNode station.now node.old }
     requires fits { FitsHeard (J.meaning judge.now) node.old }
     requires bay { node.old.bay ≡ bay.0 }
-    ensures turn { IfOk result (λ output. AsksTurn (J.meaning judge.now) station.now bay.0 node.old line.now (turn node.new output)) }
+    ensures turn { IfOk result (λ output. AsksTurn (J.meaning judge.now) station.now bay.0 node.old line.now
+        (turn node.new output)) }
     ensures keep { IfOk result (λ output. IsKeep (kept_of node.old) (kept_of node.new) output.keep) }
     ensures lawful { IfOk result (λ output. All IsLawful output.frames) }
     ensures outcome { IfOk result (λ output. OutcomeFits station.now output.outcome) }
@@ -94,18 +95,24 @@ pub fn take_line<J: Judge, D: Device, O: Sink>(
     requires fits { FitsHeard (J.meaning judge.now) node.old }
     requires bay { node.old.bay ≡ bay.0 }
     requires room { store_sequence store + 1 < 2 ^ 64 }
-    requires kept { Told (D.content device.old) (λ image. IsKept D.moment D.left_since device.old store image (kept_of node.old)) }
+    requires kept { Told (D.content device.old) (λ image.
+        IsKept D.moment D.left_since device.old store image (kept_of node.old)) }
     // A crash at any moment of the call leaves the record from before this line or from after it.
-    ensures crash { Told (D.content device.old) (λ _. LeavesOnly D.moment D.left_between D.left_since device.old device.new
+    ensures crash { Told (D.content device.old) (λ _.
+        LeavesOnly D.moment D.left_between D.left_since device.old device.new
         (λ c. IsImageOf c (kept_of node.old) ⊎ IsImageOf c (kept_of node.new))) }
     // Where `out` took a byte of the line's text, a crash at the return leaves the record from after the line.
-    ensures taken { Told (D.content device.old) (λ _. O.took out.new ≢ O.took out.old → LeavesNow D.moment D.left_since device.new (kept_of node.new)) }
-    ensures stored { IsErrOf result LineEnd.OutFailed → Told (D.content device.old) (λ _. LeavesNow D.moment D.left_since device.new (kept_of node.new)) }
+    ensures taken { Told (D.content device.old) (λ _. O.took out.new ≢ O.took out.old
+        → LeavesNow D.moment D.left_since device.new (kept_of node.new)) }
+    ensures stored { IsErrOf result LineEnd.OutFailed → Told (D.content device.old) (λ _.
+        LeavesNow D.moment D.left_since device.new (kept_of node.new)) }
     // So it does at `Ok`.
     ensures kept { IfOk result (λ s. Becomes (D.content device.old) (D.content device.new) (λ _ after.
         IsKept D.moment D.left_since device.new s after (kept_of node.new))) }
-    ensures answers { IfOk result (λ _. WritesLine (J.meaning judge.now) station.now bay.0 node.old line.now node.new (O.took out.old) (O.took out.new)) }
-    ensures fails { IfErr result (LineFails (J.meaning judge.now) station.now bay.0 node.old line.now node.new (O.took out.old) (O.took out.new)
+    ensures answers { IfOk result (λ _. WritesLine (J.meaning judge.now) station.now bay.0 node.old line.now node.new
+        (O.took out.old) (O.took out.new)) }
+    ensures fails { IfErr result (LineFails (J.meaning judge.now) station.now bay.0 node.old line.now node.new
+        (O.took out.old) (O.took out.new)
         (Rose (D.write_faults device.old) (D.write_faults device.new)) (Rose (O.faults out.old) (O.faults out.new))) }
     // Where no step was made the device is as it was.
     ensures quiet { (IsErrOf result LineEnd.Memory ⊎ IsErrOf result LineEnd.Refused) → device.new ≡ device.old }

@@ -1,4 +1,4 @@
-// Opening the store of a bay.
+//! Opening the store of a bay.
 ghost use Rattle.std.specs.Prelude.{◌≡◌, ◌≤◌, ℕ, List, IfOk, OnOk, IsErrOf, IsTrue, ◌↔◌};
 ghost use Rattle.ilk_base.specs.Outside.{Rose};
 ghost use Rattle.bay_protocol.specs.Fits.{KeptFits};
@@ -34,13 +34,16 @@ pub fn open_for_bay<D: Device>(
 ) -> Result<Opened, BayTrouble>
     ensures stands { IfOk result (λ o. Told (D.content device.old) (λ image. IsImageOf image o.kept)) }
     ensures fits { IfOk result (λ o. KeptFits station.now bay.0 o.kept) }
-    ensures kept { IfOk result (λ o. Told (D.content device.new) (λ image. IsKept D.moment D.left_since device.new o.store image o.kept)) }
+    ensures kept { IfOk result (λ o. Told (D.content device.new) (λ image.
+        IsKept D.moment D.left_since device.new o.store image o.kept)) }
     ensures last { IfOk result (λ o. store_sequence o.store ≤ LAST_SEQUENCE) }
     // `Unfit` comes exactly where the record is unfit, unless a call failed.
     ensures unfit { IsErrOf result BayTrouble.Unfit → Told (D.content device.old) (IsUnfit station.now bay.0) }
     ensures fit { OnOk result (Told (D.content device.old) (λ image. ¬ IsUnfit station.now bay.0 image)) }
-    ensures sync_failed { IsErrOf result BayTrouble.SyncFailed → Rose (D.write_faults device.old) (D.write_faults device.new) }
-    ensures read_failed { IsErrOf result BayTrouble.ReadFailed → Rose (D.read_faults device.old) (D.read_faults device.new) }
+    ensures sync_failed { IsErrOf result BayTrouble.SyncFailed
+        → Rose (D.write_faults device.old) (D.write_faults device.new) }
+    ensures read_failed { IsErrOf result BayTrouble.ReadFailed
+        → Rose (D.read_faults device.old) (D.read_faults device.new) }
     // It changes nothing.
     ensures same { D.content device.new ≡ D.content device.old }
     ensures crash { LeavesFrom D.left_since (D.moment device.old) device.old device.new (λ c d. c ≡ d) }

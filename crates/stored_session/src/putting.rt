@@ -1,4 +1,4 @@
-// Putting a record that has changed.
+//! Putting a record that has changed.
 ghost use Rattle.std.specs.Prelude.{◌≡◌, ◌≤◌, ◌<◌, ◌⊎◌, ◌+◌, ◌^◌, ℕ, List, IfOk, OnErr};
 ghost use Rattle.ilk_base.specs.Outside.{Rose};
 ghost use Rattle.bay_protocol.specs.Output.{IsKeep};
@@ -19,12 +19,15 @@ pub(crate) fn put_changed<D: Device>(
     keep: Option<Kept>,
 ) -> Result<Store, Failed>
     requires room { store_sequence store + 1 < 2 ^ 64 }
-    requires matches { Told (D.content device.old) (λ image. MatchesStore image store × IsSettled D.moment D.left_since device.old image) }
+    requires matches { Told (D.content device.old) (λ image.
+        MatchesStore image store × IsSettled D.moment D.left_since device.old image) }
     // A crash leaves the record from before the step or from after it.
-    ensures crash { Told (D.content device.old) (λ image. (old new : AnyRecord) → IsImageOf image old → IsKeep old new keep
-        → LeavesOnly D.moment D.left_between D.left_since device.old device.new (λ c. IsImageOf c old ⊎ IsImageOf c new)) }
+    ensures crash { Told (D.content device.old) (λ image. (old new : AnyRecord) → IsImageOf image old
+        → IsKeep old new keep → LeavesOnly D.moment D.left_between D.left_since device.old device.new (λ c.
+        IsImageOf c old ⊎ IsImageOf c new)) }
     ensures kept { IfOk result (λ s. Becomes (D.content device.old) (D.content device.new) (λ image after.
-        (old new : AnyRecord) → IsImageOf image old → IsKeep old new keep → IsKept D.moment D.left_since device.new s after new)) }
+        (old new : AnyRecord) → IsImageOf image old → IsKeep old new keep
+        → IsKept D.moment D.left_since device.new s after new)) }
     ensures sequence { IfOk result (λ s. store_sequence s ≤ store_sequence store + 1) }
     ensures counted { RisesBy 6 (D.calls device.old) (D.calls device.new) }
     ensures reads { D.read_faults device.new ≡ D.read_faults device.old }

@@ -1,4 +1,4 @@
-// The lines of an input, one after another.
+//! The lines of an input, one after another.
 ghost use Rattle.std.specs.Prelude.{◌≡◌, ◌≤◌, ◌<◌, ℕ, List, Option, IfOk, length};
 ghost use Rattle.ilk_base.specs.Outside.{Rose};
 ghost use Rattle.node_session.specs.declared.reader.TheConstants.{CHUNK};
@@ -38,7 +38,8 @@ pub(crate) fn next_line<I: Source>(
 ) -> Result<NextLine, InputTrouble>
     requires { length reader.old ≤ CHUNK }
     // Wherever the reader stood, it goes on so.
-    ensures goes { (before : Option (List ℕ)) (done : List (List ℕ)) → ReadsThrough before (I.left input.old) reader.old done
+    ensures goes { (before : Option (List ℕ)) (done : List (List ℕ))
+        → ReadsThrough before (I.left input.old) reader.old done
         → GoesOn before (I.left input.new) reader.new done (Rose (I.faults input.old) (I.faults input.new)) result }
     ensures near { IfOk result (λ next. HasEnd next → length reader.new ≤ CHUNK) }
     ensures grows { I.faults input.old ≤ I.faults input.new }

@@ -1,17 +1,22 @@
-// A session over the lines of an input.
-ghost use Rattle.std.specs.Prelude.{◌≡◌, ◌≤◌, ◌<◌, ◌⊎◌, ◌+◌, ◌*◌, ◌^◌, [], length};
+//! A session over the lines of an input.
+ghost use Rattle.std.specs.Prelude.{◌≡◌, ◌≤◌, ◌<◌, ◌⊎◌, ◌+◌, ◌*◌, ◌^◌, ℕ, List, Some, length, IfOk};
 ghost use Rattle.ilk_base.specs.Outside.{Rose};
 ghost use Rattle.central_rules.specs.Meaning.{IsBay};
-ghost use Rattle.bay_protocol.specs.State.{kept_of, resumed};
+ghost use Rattle.bay_protocol.specs.State.{State, kept_of};
 ghost use Rattle.bay_protocol.specs.Fits.{IsNode, FitsHeard};
+ghost use Rattle.node_session.specs.SessionEnds.{Streams};
 ghost use Rattle.node_session.specs.declared.end.TheConstants.{MOST_LINES};
+ghost use Rattle.node_session.specs.declared.reader.TheConstants.{CHUNK};
 ghost use Rattle.node_store.specs.Device.{Told, RisesBy};
-ghost use Rattle.bay_protocol.specs.declared.values.Kept.{Kept as AnyRecord};
 ghost use Rattle.node_store.specs.Store.{store_sequence};
+ghost use Rattle.stored_session.specs.View.{view, streams};
 ghost use Rattle.stored_session.specs.Kept.{IsKept};
-ghost use Rattle.stored_session.specs.Ends.{Streams, IsEndAt, IsIdle, IdleSo, Begun, Ends};
+ghost use Rattle.stored_session.specs.Opening.{IsUnfit};
+ghost use Rattle.stored_session.specs.Progress.{Stands, Goes};
+ghost use Rattle.stored_session.specs.Ends.{Ends, StoredEnds, IsStoredInput};
 
-use crate::line::{LineEnd, take_line};
+use crate::end::{StoredEnd, end_at};
+use crate::line::take_line;
 use crate::opening::{BayTrouble, open_for_bay};
 use crate::reading::{NextLine, next_line};
 use bay_node::Node;
@@ -22,37 +27,64 @@ use node_store::{Device, Store};
 use station_graph::Station;
 use std::alloc::Global;
 
-/// How a stored session ends.
-#[derive(Clone, Copy, Debug, PartialEq, Eq)]
-pub enum StoredEnd {
-    /// all lines are answered
-    Done,
-    /// the device holds no record that a node of the bay may keep
-    Unfit,
-    /// the line is no line of the input, and those before it are answered
-    Refused {
-        /// its number, from 1
-        line: u32,
-    },
-    /// as many lines as an input may have are answered, and there are more
-    Long,
-    /// the input failed, or a read of the device
-    ReadFault,
-    /// the output failed, or a write or a sync of the device
-    WriteFault,
-    /// there was not enough memory
-    Memory,
-}
-
-// How a session ends whose line is not answered, before which so many are.
-fn end_at(count: u32, end: LineEnd) -> StoredEnd
-    requires { count < MOST_LINES }
-    ensures { IsEndAt count end result }
+// Answers the next line, before which so many are answered, or says how the session ends.
+fn answer_next<J: Judge, I: Source, O: Sink, D: Device>(
+    alloc: Global,
+    station: &Station,
+    bay: BayId,
+    judge: &J,
+    node: &mut Node,
+    store: Store,
+    device: &mut D,
+    count: u32,
+    reader: &mut Reader,
+    input: &mut I,
+    out: &mut O,
+) -> Result<Store, StoredEnd>
+    requires same { (J.meaning judge.now).diagram ≡ station.now }
+    requires node { IsNode station.now node.old }
+    requires fits { FitsHeard (J.meaning judge.now) node.old }
+    requires bay { node.old.bay ≡ bay.0 }
+    requires few { count < MOST_LINES }
+    requires near { length reader.old ≤ CHUNK }
+    requires room { store_sequence store + 1 < 2 ^ 64 }
+    requires kept { Told (D.content device.old) (λ image.
+        IsKept D.moment D.left_since device.old store image (kept_of node.old)) }
+    // Wherever the session stood, it goes on so.
+    ensures goes { (start : State) (before : Streams) (from : D)
+        → Stands (view D.content D.moment D.left_between D.left_since D.read_faults D.write_faults D.calls)
+        (J.meaning judge.now) station.now bay.0 start before
+        (streams (I.left input.old) (I.faults input.old) (O.took out.old) (O.faults out.old))
+        from device.old reader.old count store node.old
+        → Goes (view D.content D.moment D.left_between D.left_since D.read_faults D.write_faults D.calls)
+        (J.meaning judge.now) station.now bay.0 start before
+        (streams (I.left input.new) (I.faults input.new) (O.took out.new) (O.faults out.new))
+        from device.new reader.new count node.new result }
+    ensures near { IfOk result (λ _. length reader.new ≤ CHUNK) }
+    ensures sequence { IfOk result (λ s. store_sequence s ≤ store_sequence store + 1) }
+    ensures node { IsNode station.now node.new }
+    ensures fits { FitsHeard (J.meaning judge.now) node.new }
+    ensures bay { node.new.bay ≡ bay.0 }
 {
-    match end {
-        LineEnd::Memory => StoredEnd::Memory,
-        LineEnd::Refused => StoredEnd::Refused { line: count + 1 },
-        LineEnd::StoreFailed | LineEnd::OutFailed => StoredEnd::WriteFault,
+    match next_line(alloc, reader, input) {
+        Ok(NextLine::Line(line)) => {
+            let line = line.bytes();
+            match take_line(alloc, station, bay, judge, node, store, device, out, line) {
+                Ok(next) => Ok(next),
+                Err(end) => Err(end_at(count, end)),
+            }
+        }
+        Ok(NextLine::Last(line)) => {
+            let line = line.bytes();
+            match take_line(alloc, station, bay, judge, node, store, device, out, line) {
+                Ok(_) => Err(StoredEnd::Done),
+                Err(end) => Err(end_at(count, end)),
+            }
+        }
+        Ok(NextLine::TooLong) => Err(StoredEnd::Refused { line: count + 1 }),
+        Ok(NextLine::End) => Err(StoredEnd::Done),
+        Err(InputTrouble::Failed) => Err(StoredEnd::ReadFault),
+        Err(InputTrouble::Memory) => Err(StoredEnd::Memory),
     }
 }
 
@@ -73,52 +105,33 @@ fn run<J: Judge, I: Source, O: Sink, D: Device>(
     requires fits { FitsHeard (J.meaning judge.now) node.old }
     requires bay { node.old.bay ≡ bay.0 }
     requires room { store_sequence store + MOST_LINES < 2 ^ 64 }
-    requires kept { Told (D.content device.old) (λ image. IsKept D.moment D.left_since device.old store image (kept_of node.old)) }
-    ensures ends { Ends D.content D.moment D.left_between D.left_since D.calls D.write_faults (J.meaning judge.now) station.now bay.0 0 node.old
-        record { input = I.left input.old; reads = I.faults input.old; out = O.took out.old; writes = O.faults out.old }
-        record { input = I.left input.new; reads = I.faults input.new; out = O.took out.new; writes = O.faults out.new }
+    requires kept { Told (D.content device.old) (λ image.
+        IsKept D.moment D.left_since device.old store image (kept_of node.old)) }
+    ensures ends { Ends (view D.content D.moment D.left_between D.left_since D.read_faults D.write_faults D.calls)
+        (J.meaning judge.now) station.now bay.0 0 node.old
+        (streams (I.left input.old) (I.faults input.old) (O.took out.old) (O.faults out.old))
+        (streams (I.left input.new) (I.faults input.new) (O.took out.new) (O.faults out.new))
         device.old device.new result }
 {
     let mut now = store;
     let mut reader = Reader::new(alloc);
     for count in 0..MOST_LINES {
-        match next_line(alloc, &mut reader, input) {
-            Ok(NextLine::Line(line)) => {
-                match take_line(
-                    alloc,
-                    station,
-                    bay,
-                    judge,
-                    node,
-                    now,
-                    device,
-                    out,
-                    line.bytes(),
-                ) {
-                    Ok(next) => now = next,
-                    Err(end) => return end_at(count, end),
-                }
-            }
-            Ok(NextLine::Last(line)) => {
-                match take_line(
-                    alloc,
-                    station,
-                    bay,
-                    judge,
-                    node,
-                    now,
-                    device,
-                    out,
-                    line.bytes(),
-                ) {
-                    Ok(_) => return StoredEnd::Done,
-                    Err(end) => return end_at(count, end),
-                }
-            }
-            Ok(NextLine::TooLong) => return StoredEnd::Refused { line: count + 1 },
-            Ok(NextLine::End) => return StoredEnd::Done,
-            Err(InputTrouble::Failed) => return StoredEnd::ReadFault,
-            Err(InputTrouble::Memory) => return StoredEnd::Memory,
+        let next = answer_next(
+            alloc,
+            station,
+            bay,
+            judge,
+            node,
+            now,
+            device,
+            count,
+            &mut reader,
+            input,
+            out,
+        );
+        match next {
+            Ok(store) => now = store,
+            Err(end) => return end,
         }
     }
     match next_line(alloc, &mut reader, input) {
@@ -131,11 +144,8 @@ fn run<J: Judge, I: Source, O: Sink, D: Device>(
     }
 }
 
-/// Runs the node of the bay over the lines of the input, from the record that the device holds. Each line is one step
-/// of the protocol; a changed record is put on the device before the line's text is written, and the text is written
-/// before the next line is asked for. A `kept` line is refused, and no `keep` line is written. Time and memory: those
-/// of `take_line` for each line. The device is called at most three times, and six times more for each line.
-pub fn serve_stored<J: Judge, I: Source, O: Sink, D: Device>(
+// The session, from the opening of the store on.
+fn serve<J: Judge, I: Source, O: Sink, D: Device>(
     alloc: Global,
     station: &Station,
     bay: BayId,
@@ -146,16 +156,11 @@ pub fn serve_stored<J: Judge, I: Source, O: Sink, D: Device>(
 ) -> StoredEnd
     requires same { (J.meaning judge.now).diagram ≡ station.now }
     requires bay { IsBay station.now bay.0 }
-    ensures ends { (IsIdle D.content D.moment D.left_between D.left_since D.calls
-        record { input = I.left input.old; reads = I.faults input.old; out = O.took out.old; writes = O.faults out.old }
-        record { input = I.left input.new; reads = I.faults input.new; out = O.took out.new; writes = O.faults out.new }
-        device.old device.new
-        × IdleSo station.now bay.0 (D.content device.old) (Rose (D.read_faults device.old) (D.read_faults device.new)) (Rose (D.write_faults device.old) (D.write_faults device.new)) result)
-        ⊎ ((kept : AnyRecord) × Begun station.now bay.0 (D.content device.old) kept
-        × Ends D.content D.moment D.left_between D.left_since D.calls D.write_faults (J.meaning judge.now) station.now bay.0 3 (resumed station.now bay.0 kept)
-        record { input = I.left input.old; reads = I.faults input.old; out = O.took out.old; writes = O.faults out.old }
-        record { input = I.left input.new; reads = I.faults input.new; out = O.took out.new; writes = O.faults out.new }
-        device.old device.new result) }
+    ensures { StoredEnds (view D.content D.moment D.left_between D.left_since D.read_faults D.write_faults D.calls)
+        (J.meaning judge.now) station.now bay.0
+        (streams (I.left input.old) (I.faults input.old) (O.took out.old) (O.faults out.old))
+        (streams (I.left input.new) (I.faults input.new) (O.took out.new) (O.faults out.new))
+        device.old device.new result }
 {
     let opened = match open_for_bay(station, bay, device) {
         Ok(opened) => opened,
@@ -177,4 +182,39 @@ pub fn serve_stored<J: Judge, I: Source, O: Sink, D: Device>(
         input,
         out,
     )
+}
+
+/// Runs the node of the bay over the lines of the input, from the record that the device holds. Each line is one step
+/// of the protocol; a changed record is put on the device before the line's text is written, and the text is written
+/// before the next line is asked for. A `kept` line is refused, and no `keep` line is written. Time and memory: those
+/// of `take_line` for each line. The device is called at most three times, and six times more for each line.
+///
+/// `ends` says of each end what its cause is, what `out` took, and for which record an image stands that a crash
+/// leaves, in the call or at its return. `complete` says that an input of lines that are not refused, and no more than
+/// there may be, is answered to its end where the device's record is fit and no count rose, or memory was wanting.
+pub fn serve_stored<J: Judge, I: Source, O: Sink, D: Device>(
+    alloc: Global,
+    station: &Station,
+    bay: BayId,
+    judge: &J,
+    device: &mut D,
+    input: &mut I,
+    out: &mut O,
+) -> StoredEnd
+    requires same { (J.meaning judge.now).diagram ≡ station.now }
+    requires bay { IsBay station.now bay.0 }
+    ensures ends { StoredEnds (view D.content D.moment D.left_between D.left_since D.read_faults D.write_faults D.calls)
+        (J.meaning judge.now) station.now bay.0
+        (streams (I.left input.old) (I.faults input.old) (O.took out.old) (O.faults out.old))
+        (streams (I.left input.new) (I.faults input.new) (O.took out.new) (O.faults out.new))
+        device.old device.new result }
+    ensures complete { (content image : List ℕ) → I.left input.old ≡ Some content
+        → IsStoredInput station.now bay.0 content
+        → D.content device.old ≡ Some image → ¬ IsUnfit station.now bay.0 image
+        → ¬ Rose (I.faults input.old) (I.faults input.new) → ¬ Rose (O.faults out.old) (O.faults out.new)
+        → ¬ Rose (D.read_faults device.old) (D.read_faults device.new)
+        → ¬ Rose (D.write_faults device.old) (D.write_faults device.new)
+        → (result ≡ StoredEnd.Done) ⊎ (result ≡ StoredEnd.Memory) }
+{
+    serve(alloc, station, bay, judge, device, input, out)
 }

@@ -1,18 +1,34 @@
-use Rattle.std.proofs.Common.{◌≡◌, ◌≤◌, ◌+◌, ℕ, List, length}
+use Rattle.std.proofs.Common.{◌≡◌, ◌≤◌, ◌+◌, length}
 use Rattle.bay_protocol.specs.Fits.{IsNode, FitsHeard}
 use Rattle.node_session.specs.declared.reader.TheConstants.{CHUNK}
 use Rattle.node_store.specs.Store.{store_sequence}
-use Rattle.stored_session.specs.Through.{ReadsThrough}
-use Rattle.stored_session.specs.Ends.{StandsAfter}
+use Rattle.stored_session.specs.Progress.{Stands}
 use Rattle.stored_session.proofs.session.run.Given as goal
 
 abbrev pub invariant-loop-count : goal.invariant-loop-count
 invariant-loop-count g l = record {
-  stands : (done : List (List ℕ)) × (length done ≡ l.count) × ReadsThrough (g.I.Source.left l.fn.input) (g.I.Source.left l.input) l.reader done
-      × StandsAfter g.D.Device.content g.D.Device.moment g.D.Device.left_between g.D.Device.left_since g.D.Device.calls g.D.Device.write_faults (g.J.Judge.meaning l.judge) l.station l.bay.0 l.fn.node
-      (record { input = g.I.Source.left l.fn.input; reads = g.I.Source.faults l.fn.input; out = g.O.Sink.took l.fn.out; writes = g.O.Sink.faults l.fn.out })
-      (record { input = g.I.Source.left l.input; reads = g.I.Source.faults l.input; out = g.O.Sink.took l.out; writes = g.O.Sink.faults l.out })
-      l.fn.device l.device done l.now l.node;
+  stands : Stands (record {
+    content = g.D.Device.content;
+    moment = g.D.Device.moment;
+    between = g.D.Device.left_between;
+    since = g.D.Device.left_since;
+    reads = g.D.Device.read_faults;
+    writes = g.D.Device.write_faults;
+    calls = g.D.Device.calls;
+  }) (g.J.Judge.meaning l.judge) l.station l.bay.0 l.fn.node
+      (record {
+        input = g.I.Source.left l.fn.input;
+        reads = g.I.Source.faults l.fn.input;
+        out = g.O.Sink.took l.fn.out;
+        writes = g.O.Sink.faults l.fn.out;
+      })
+      (record {
+        input = g.I.Source.left l.input;
+        reads = g.I.Source.faults l.input;
+        out = g.O.Sink.took l.out;
+        writes = g.O.Sink.faults l.out;
+      })
+      l.fn.device l.device l.reader l.count l.now l.node;
   node : IsNode l.station l.node;
   fits : FitsHeard (g.J.Judge.meaning l.judge) l.node;
   bay : l.node.bay ≡ l.bay.0;

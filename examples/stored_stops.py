@@ -1,0 +1,240 @@
+#!/usr/bin/env python3
+"""A stored session, stopped at each call of its device in turn.
+
+    examples/stored_stops.py [PROGRAM]
+
+Runs `interlock stored two_feeders.ssd S/V1/Q1 FILE` over a file, on Linux, as a process of which each system call on the
+file is seen (ptrace). At each of them in turn the process is killed before the call is done; at a write also with any
+front of its bytes written, with any tail, and with other bytes in their place. Then the file is looked at, by the rules of
+docs/FORMATS.md and not by the program: it must stand for the record after some number of the lines, and for no fewer than
+those of whose text a byte was written. The session is then run again over the rest of the lines, and must write what
+`node` writes from that record.
+
+The records are those that `node` hands out as `keep` lines. The status is 0 where all agrees.
+"""
+import ctypes
+import os
+import pathlib
+import random
+import signal
+import subprocess
+import sys
+import tempfile
+
+TOP = pathlib.Path(__file__).resolve().parents[1]
+STATION = TOP / "examples/two_feeders.ssd"
+BAY = "S/V1/Q1"
+LINES = [
+    "sense off S/V1/Q1/QB1", "sense off S/V1/Q1/QA1", "sense on S/V1/Q1/QB9", "sense off S/V1/Q1/QC9",
+    "sense off S/V1/Q1/E1", "command close S/V1/Q1/QB1", "frame 02020100000001000104", "sense on S/V1/Q1/QB1",
+    "command open S/V1/Q1/QB1", "withdraw", "tick", "restart",
+]
+SIZE, SLOT, RECORD = 64, 32, 18
+EMPTY = bytes(RECORD)
+
+TRACEME, SYSCALL, SET_OPTIONS, SYSCALL_INFO = 0, 24, 0x4200, 0x420E
+SEES_SYSCALLS, KILLS_WITH_ITS_PARENT, AT_ENTRY = 1, 0x100000, 1
+# the number of the call `write`
+WRITES = {"x86_64": 1, "aarch64": 64, "riscv64": 64}
+
+
+class Info(ctypes.Structure):
+    """what PTRACE_GET_SYSCALL_INFO tells at the entry of a call"""
+    _fields_ = [("op", ctypes.c_uint8), ("pad", ctypes.c_uint8 * 3), ("arch", ctypes.c_uint32),
+                ("instruction", ctypes.c_uint64), ("stack", ctypes.c_uint64), ("number", ctypes.c_uint64),
+                ("args", ctypes.c_uint64 * 6), ("more", ctypes.c_uint64 * 2)]
+
+
+libc = ctypes.CDLL(None, use_errno=True)
+libc.ptrace.argtypes = [ctypes.c_ulong, ctypes.c_ulong, ctypes.c_void_p, ctypes.c_void_p]
+libc.ptrace.restype = ctypes.c_long
+
+
+def ptrace(request, process, first=0, second=0):
+    answer = libc.ptrace(request, process, first, second)
+    if answer < 0:
+        raise OSError(ctypes.get_errno(), "ptrace")
+    return answer
+
+
+def program():
+    built = pathlib.Path(sys.argv[1]) if len(sys.argv) > 1 else TOP / "crates/interlock/out/interlock"
+    if not built.exists():
+        sys.exit("the program is not built: ./interlock --prove")
+    return str(built.resolve())
+
+
+def run(words, lines):
+    """status and text of a run that nothing stops"""
+    given = "".join(line + "\n" for line in lines).encode()
+    done = subprocess.run([program(), *words], input=given, capture_output=True)
+    return done.returncode, done.stdout.decode().splitlines()
+
+
+def at_device(process, name, info):
+    """whether the call is one on the open file, or on the new one that is made where it is missing"""
+    try:
+        return os.readlink(f"/proc/{process}/fd/{info.args[0]}") in (name, name + ".new")
+    except OSError:
+        return False
+
+
+def stopped_run(name, stop):
+    """Runs a stored session, and kills it before its call of this number on the file is done. Returns how many calls
+    were seen, the text that was written, and of a write that was stopped its place and its bytes."""
+    given, out = tempfile.TemporaryFile(), tempfile.TemporaryFile()
+    given.write("".join(line + "\n" for line in LINES).encode())
+    given.seek(0)
+    process = os.fork()
+    if process == 0:
+        os.dup2(given.fileno(), 0)
+        os.dup2(out.fileno(), 1)
+        libc.ptrace(TRACEME, 0, 0, 0)
+        os.execv(program(), [program(), "stored", str(STATION), BAY, name])
+    os.waitpid(process, 0)
+    ptrace(SET_OPTIONS, process, 0, SEES_SYSCALLS | KILLS_WITH_ITS_PARENT)
+    calls, entry, torn, handed = 0, Info(), None, 0
+    while True:
+        ptrace(SYSCALL, process, 0, handed)
+        _, status = os.waitpid(process, 0)
+        if os.WIFEXITED(status) or os.WIFSIGNALED(status):
+            break
+        handed = 0
+        if os.WSTOPSIG(status) != signal.SIGTRAP | 0x80:
+            handed = os.WSTOPSIG(status) if os.WSTOPSIG(status) != signal.SIGTRAP else 0
+            continue
+        ptrace(SYSCALL_INFO, process, ctypes.sizeof(entry), ctypes.addressof(entry))
+        if entry.op != AT_ENTRY or not at_device(process, name, entry):
+            continue
+        calls += 1
+        if calls == stop:
+            torn = write_of(process, entry)
+            os.kill(process, signal.SIGKILL)
+            os.waitpid(process, 0)
+            break
+    out.seek(0)
+    return calls, out.read().decode().splitlines(), torn
+
+
+def write_of(process, info):
+    """place and bytes of a call that writes into the file"""
+    if info.number != WRITES[os.uname().machine] or os.readlink(f"/proc/{process}/fd/{info.args[0]}").endswith(".new"):
+        return None
+    with open(f"/proc/{process}/fdinfo/{info.args[0]}") as told:
+        place = int(told.readline().split()[1])
+    with open(f"/proc/{process}/mem", "rb") as memory:
+        memory.seek(info.args[1])
+        return place, memory.read(info.args[2])
+
+
+def record_of(image):
+    """the record for which an image stands"""
+    if len(image) != SIZE:
+        sys.exit(f"an image of {len(image)} bytes")
+    newest = None
+    for slot in (image[:SLOT], image[SLOT:]):
+        number = int.from_bytes(slot[1:9], "big")
+        if slot[0] == 1 and (newest is None or number > newest[0]):
+            newest = number, slot[9:9 + RECORD]
+    return newest[1] if newest else EMPTY
+
+
+def records():
+    """the record after each number of lines, and the text of each line, as `node` tells them"""
+    record, told, texts = EMPTY, [EMPTY], []
+    before = 0
+    for count in range(1, len(LINES) + 1):
+        status, text = run(["node", str(STATION), BAY], LINES[:count])
+        if status != 0:
+            sys.exit(f"node ended with {status}")
+        new, before = text[before:], len(text)
+        for line in new:
+            if line.startswith("keep "):
+                record = bytes.fromhex(line[5:])
+        told.append(record)
+        texts.append([line for line in new if not line.startswith("keep ")])
+    return told, texts
+
+
+def looked_at(image, text, told, texts, where):
+    """after how many lines the image stands; no fewer than those that have written something"""
+    shown = 0
+    answered = 0
+    for count, lines in enumerate(texts, 1):
+        if lines and len(text) > shown:
+            answered = count
+        shown += len(lines)
+    after = [count for count in range(answered, len(told)) if told[count] == record_of(image)]
+    if not after:
+        sys.exit(f"{where}: the image stands for {record_of(image).hex()}, which is no record after {answered} lines or more")
+    return after[0]
+
+
+def resumes(folder, image, count, told, where):
+    """the session goes on from the image, over the rest of the lines, as `node` does from the record"""
+    file = pathlib.Path(folder, "resumed.bin")
+    file.write_bytes(image)
+    rest = LINES[count:]
+    status, text = run(["stored", str(STATION), BAY, str(file)], rest)
+    wanted_status, wanted = run(["node", str(STATION), BAY], ["kept " + told[count].hex(), *rest])
+    wanted = [line for line in wanted if not line.startswith("keep ")]
+    if (status, text) != (wanted_status, wanted):
+        sys.exit(f"{where}: resumed after {count} lines, it ended with {status} and wrote {text}, not {wanted}")
+
+
+def images_of(image, torn, chance):
+    """the file as the stop left it, and with the stopped write done in part"""
+    yield "before the call", image
+    if torn is None:
+        return
+    place, piece = torn
+    for count in range(1, len(piece) + 1):
+        front = piece[:count] + image[place + count:place + len(piece)]
+        tail = image[place:place + len(piece) - count] + piece[len(piece) - count:]
+        other = bytes(chance.randrange(256) if chance.randrange(2) else byte for byte in front)
+        for name, part in (("a front", front), ("a tail", tail), ("other bytes", other)):
+            yield f"{name} of {count} bytes written", image[:place] + part + image[place + len(piece):]
+
+
+def begin(file, is_there):
+    """the file as it is before a session: of zeros, or missing"""
+    for name in (file, file.with_name(file.name + ".new")):
+        name.unlink(missing_ok=True)
+    if is_there:
+        file.write_bytes(bytes(SIZE))
+
+
+def all_stops(folder, is_there, told, texts):
+    """stops the session at each call; how many calls and how many images there were"""
+    file, chance = pathlib.Path(folder, "q1.bin"), random.Random(1)
+    begin(file, is_there)
+    last, text, _ = stopped_run(str(file), 0)
+    wanted = [line for lines in texts for line in lines]
+    if text != wanted:
+        sys.exit(f"without a stop it wrote {text}, not {wanted}")
+    if record_of(file.read_bytes()) != told[-1]:
+        sys.exit("without a stop the image stands for another record than the last")
+    seen = 0
+    for stop in range(1, last + 1):
+        begin(file, is_there)
+        _, text, torn = stopped_run(str(file), stop)
+        left = file.read_bytes() if file.exists() else bytes(SIZE)
+        for name, image in images_of(left, torn, chance):
+            where = f"stopped at call {stop}, {name}"
+            count = looked_at(image, text, told, texts, where)
+            resumes(folder, image, count, told, where)
+            seen += 1
+    return last, seen
+
+
+def main():
+    told, texts = records()
+    with tempfile.TemporaryDirectory() as folder:
+        for is_there in (True, False):
+            calls, seen = all_stops(os.path.realpath(folder), is_there, told, texts)
+            start = "a file of zeros" if is_there else "no file"
+            print(f"from {start}: {calls} calls on it, {seen} images after a stop; each stands for a record, and goes on from it")
+
+
+if __name__ == "__main__":
+    main()
