@@ -85,7 +85,7 @@ module _ (m : Meaning) (before : List Line) (old new : Scene) (s : Shown) (outco
       node_bays (Cut i) b t.turn t.says (λ c other e. cc e) (λ c other x is. refl)
       (λ shown_so. cut_bay m before s b i (node m.diagram old b) t.turn (before_of m before old b facts links (bay_of_is m.diagram i.0 station lt)) shown_so t.step)
 
-  lead_bays : (e : WorldEvent) → InRange m.diagram e → Happens m old e new outcome → (c : ℕ) → BayDecides m before (record { event = e; shown = s }) c
+  pub lead_bays : (e : WorldEvent) → InRange m.diagram e → Happens m old e new outcome → (c : ℕ) → BayDecides m before (record { event = e; shown = s }) c
   lead_bays (Command op) lt t =
       let b = bay_of m.diagram op.switch.0 in
       node_bays (Command op) b t.turn t.says (λ c other e. cc e) (λ c other x is. refl)

@@ -36,7 +36,7 @@ nothing_left [] (suc k) left = refl
 nothing_left (x ∷ all) zero left = absurd (cc)
 nothing_left (x ∷ all) (suc k) left = ap (λ zs. x ∷ zs) (nothing_left all k left)
 
-got_pushed : {X : Type 0} (xs : List X) (y : X) (k : ℕ) (x : X) → slice_get (xs ++ y ∷ []) k ≡ Some x → ((k < length xs) × (slice_get xs k ≡ Some x)) ⊎ ((k ≡ length xs) × (y ≡ x))
+pub got_pushed : {X : Type 0} (xs : List X) (y : X) (k : ℕ) (x : X) → slice_get (xs ++ y ∷ []) k ≡ Some x → ((k < length xs) × (slice_get xs k ≡ Some x)) ⊎ ((k ≡ length xs) × (y ≡ x))
 got_pushed [] y zero x is = inr (refl, cc is)
 got_pushed [] y (suc k) x is = absurd (cc)
 got_pushed (z ∷ xs) y zero x is = inl (omega arith, is)
@@ -45,7 +45,7 @@ got_pushed (z ∷ xs) y (suc k) x is = elim (got_pushed xs y k x is) [
   | inr p ↦ inr (omega (arith, p.0), p.1)
 ]
 
-AllZip-push : {A B : Type 0} (R : A → B → Type 0) (xs : List A) (ys : List B) (x : A) (y : B) → AllZip R xs ys → R x y → AllZip R (xs ++ x ∷ []) (ys ++ y ∷ [])
+pub AllZip-push : {A B : Type 0} (R : A → B → Type 0) (xs : List A) (ys : List B) (x : A) (y : B) → AllZip R xs ys → R x y → AllZip R (xs ++ x ∷ []) (ys ++ y ∷ [])
 AllZip-push R [] [] x y each last = (last, tt)
 AllZip-push R [] (b ∷ ys) x y each last = absurd each
 AllZip-push R (a ∷ xs) [] x y each last = absurd each
@@ -53,7 +53,7 @@ AllZip-push R (a ∷ xs) (b ∷ ys) x y each last = (each.0, AllZip-push R xs ys
 
 -- ---- one event more
 
-order_more : (events : List LogEvent) (e : LogEvent) → AreInOrder events → MayFollow events e → AreInOrder (events ++ e ∷ [])
+pub order_more : (events : List LogEvent) (e : LogEvent) → AreInOrder events → MayFollow events e → AreInOrder (events ++ e ∷ [])
 order_more events e order follows k x at = elim (got_pushed events e k x at) [
   | inl p ↦ subst (λ (before : List LogEvent). MayFollow before x) (sym (take-append-le k events (e ∷ []) (omega (arith, p.0)))) (order k x p.1)
   | inr p ↦

@@ -68,7 +68,7 @@ lines_at (Step x ∷ log) [] seen i closed s got = absurd (cc got)
 lines_at (At j shut ∷ log) (p ∷ out) seen i closed s got = lines_at log out seen i closed s got
 lines_at (Step x ∷ log) (p ∷ out) seen i closed s got = lines_at log out (record { event = x; shown = p } ∷ seen) i closed s got
 
-shows_so : (o : WorldOutcome) → ((which : Which) → o ≢ Premise which) → Shows o (shown_of o)
+pub shows_so : (o : WorldOutcome) → ((which : Which) → o ≢ Premise which) → Shows o (shown_of o)
 shows_so (Premise which) none = absurd (none which refl)
 shows_so Drive none = record { outcome = refl; messages = refl }
 shows_so (Node bay first output) none = refl
@@ -140,11 +140,11 @@ module _ (m : Meaning) (old new : Scene) (bay : BayId) (first : ℕ) (output : N
   said (Part k bytes) happens = part_said k happens
   said (Cut i) happens = cut_said i happens
 
-nothing_fits : (d : Diagram) → ShownFits d nothing_shown
+pub nothing_fits : (d : Diagram) → ShownFits d nothing_shown
 nothing_fits d = record { outcome = tt; numbers = λ k x lt. absurd (omega (arith, lt)) }
 
 -- what is shown of what happens is of the station
-shown_of_fits : (m : Meaning) (old new : Scene) (e : WorldEvent) (o : WorldOutcome) → Happens m old e new o → OutputFits m.diagram o → length new.sent < 2 ^ 32 → ShownFits m.diagram (shown_of o)
+pub shown_of_fits : (m : Meaning) (old new : Scene) (e : WorldEvent) (o : WorldOutcome) → Happens m old e new o → OutputFits m.diagram o → length new.sent < 2 ^ 32 → ShownFits m.diagram (shown_of o)
 shown_of_fits m old new e (Premise which) happens fits few = nothing_fits m.diagram
 shown_of_fits m old new e Drive happens fits few = nothing_fits m.diagram
 shown_of_fits m old new e (Node bay first output) happens fits few =
@@ -166,10 +166,10 @@ start_replaying m log w is facts = record {
   fits = λ k d lt. absurd (omega (arith, lt));
 }
 
-shown_more : (outs : List (Option WorldOutcome)) (o : Option WorldOutcome) → map shown_at (outs ++ o ∷ []) ≡ map shown_at outs ++ shown_at o ∷ []
+pub shown_more : (outs : List (Option WorldOutcome)) (o : Option WorldOutcome) → map shown_at (outs ++ o ∷ []) ≡ map shown_at outs ++ shown_at o ∷ []
 shown_more outs o = map-append shown_at outs (o ∷ [])
 
-got_at : (log : List LogEvent) (outs : List (Option WorldOutcome)) (k : ℕ) (x : LogEvent) → length outs ≡ k → slice_get log k ≡ Some x → slice_get log (length (map shown_at outs)) ≡ Some x
+pub got_at : (log : List LogEvent) (outs : List (Option WorldOutcome)) (k : ℕ) (x : LogEvent) → length outs ≡ k → slice_get log k ≡ Some x → slice_get log (length (map shown_at outs)) ≡ Some x
 got_at log outs k x count got = ap (slice_get log) (length-map outs shown_at ∙ count) ∙ got
 
 -- one line more
@@ -217,7 +217,7 @@ room_left m log outs w k r few = omega (arith, r.room, few)
 -- ---- the end
 
 -- a report of these outcomes
-report_is : (r : Replayed) (out : List Shown) (broken : Option (ℕ × Which)) → r.out ≡ out → r.broken ≡ broken → r ≡ record { out = out; broken = broken; count = r.count }
+pub report_is : (r : Replayed) (out : List Shown) (broken : Option (ℕ × Which)) → r.out ≡ out → r.broken ≡ broken → r ≡ record { out = out; broken = broken; count = r.count }
 report_is r out broken first second = λ i. record { out = first i; broken = second i; count = r.count }
 
 run_of : (m : Meaning) (log : List LogEvent) (outs : List (Option WorldOutcome)) (w : World) (k : ℕ) → HasStart m.diagram log → Replaying m log outs w k → IsRunOf m log (map shown_at outs) w.scene
@@ -273,7 +273,7 @@ replay_headline m log r station laws (IsReplay.no_start none empty broken) =
 
 -- ---- of the station
 
-start_long : (d : Diagram) (log : List LogEvent) → length (start_of d log) ≡ length d.switches
+pub start_long : (d : Diagram) (log : List LogEvent) → length (start_of d log) ≡ length d.switches
 start_long d log = length-listed (λ s. unwrap_or (told_at log s) false) (length d.switches)
   where
     length-listed : (f : ℕ → Bool) (n : ℕ) → length (listed f n) ≡ n

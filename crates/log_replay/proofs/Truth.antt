@@ -20,6 +20,7 @@ use Rattle.bay_protocol.specs.declared.values.Outcome.TheVariants.{UnderWay, Hel
 use Rattle.bay_protocol.specs.State.{State, IsOther, is_another, under_way, under_way_of}
 use Rattle.bay_protocol.specs.Step.{Turn, CommandStep}
 use Rattle.reservation_core.specs.Scene.{Scene, node, true_at, IsTrueWord, Resolves}
+use Rattle.reservation_core.specs.RoundFacts.{RoundFacts}
 use Rattle.reservation_core.specs.Facts.{Facts}
 use Rattle.reservation_core.specs.Held.{IsSwitchOf}
 use Rattle.reservation_core.specs.Happens.{Happens, InRange, NodeSteps}
@@ -36,7 +37,7 @@ use Rattle.reservation_core.specs.Headline.{Verdict, MayBeTrue, TrueVerdict, Tru
 use Rattle.log_replay.proofs.Basic.{of_own, get_listed}
 use Rattle.log_replay.proofs.Linked.{opened}
 use Rattle.log_replay.proofs.Turns.{own_known}
-use Rattle.log_replay.proofs.Links.{Linked, turn_shown, collecting_bay}
+use Rattle.log_replay.proofs.Links.{Spoken, Linked, turn_shown, collecting_bay}
 use Rattle.log_replay.proofs.Leading.{RunIs, run_is}
 use Rattle.log_replay.proofs.Others.{is_other, other_of}
 use Rattle.log_replay.proofs.Verdicts.{listed_at}
@@ -67,23 +68,23 @@ record Collects (m : Meaning) (old : Scene) (c : ℕ) (o : Opened) : Type 0 wher
   known : o.op.switch.0 < length m.diagram.switches
   own : bay_of m.diagram o.op.switch.0 ≡ c
 
-collects_it : (m : Meaning) (start : List Bool) (before : List Line) (old : Scene) (c : ℕ) (o : Opened) → RunIs m start before old → collecting before c ≡ Some o → Collects m old c o
-collects_it m start before old c o is has =
-    let p = collected (node m.diagram old c).collecting before c o (is.links.nodes c).collecting has in
-    let ok = is.facts.rounds.rounds c (collecting_bay m old c p.0 is.facts.rounds p.1) in
+collects_it : (m : Meaning) (before : List Line) (old : Scene) (c : ℕ) (o : Opened) → RoundFacts m old → Spoken m before old → collecting before c ≡ Some o → Collects m old c o
+collects_it m before old c o rounds said has =
+    let p = collected (node m.diagram old c).collecting before c o (said.nodes c).collecting has in
+    let ok = rounds.rounds c (collecting_bay m old c p.0 rounds p.1) in
     record {
       round = p.0;
       has = p.1;
       is = p.2;
       idle = (ok.collecting p.0 p.1).no_grant;
       known = subst (λ (x : Opened). x.op.switch.0 < length m.diagram.switches) p.2 (own_known m (node m.diagram old c) p.0 ok p.1);
-      own = subst (λ (x : Opened). bay_of m.diagram x.op.switch.0 ≡ c) p.2 (own_of m c (node m.diagram old c) p.0 (record { is = is.links.nodes c; sound = ok; name = is.facts.rounds.shape.named c }) p.1);
+      own = subst (λ (x : Opened). bay_of m.diagram x.op.switch.0 ≡ c) p.2 (own_of m c (node m.diagram old c) p.0 (record { is = said.nodes c; sound = ok; name = rounds.shape.named c }) p.1);
     }
 
-pub idle_at : (m : Meaning) (start : List Bool) (before : List Line) (l : Line) (old new : Scene) (c : ℕ) (o : Opened) → RunIs m start before old → Leads m old l new → Decides m.diagram before l c o → (node m.diagram old c).granted ≡ None
-idle_at m start before l old new c o is leads (Decides.at_tick has e) = (collects_it m start before old c o is has).idle
-idle_at m start before l old new c o is leads (Decides.all_heard n has e all) = (collects_it m start before old c o is has).idle
-idle_at m start before l old new c o is leads (Decides.alone e at none d) =
+pub idle_at : (m : Meaning) (before : List Line) (l : Line) (old new : Scene) (c : ℕ) (o : Opened) → RoundFacts m old → Spoken m before old → Leads m old l new → Decides m.diagram before l c o → (node m.diagram old c).granted ≡ None
+idle_at m before l old new c o rounds said leads (Decides.at_tick has e) = (collects_it m before old c o rounds said has).idle
+idle_at m before l old new c o rounds said leads (Decides.all_heard n has e all) = (collects_it m before old c o rounds said has).idle
+idle_at m before l old new c o rounds said leads (Decides.alone e at none d) =
     let b = bay_of m.diagram o.op.switch.0 in
     let t : NodeSteps m old b _ new leads.outcome = subst (λ (x : WorldEvent). Happens m old x new leads.outcome) e leads.happens in
     let s = turn_shown (length old.sent) b (node m.diagram old b) t.turn leads.outcome l.shown t.says leads.shows in
@@ -104,8 +105,8 @@ truth_at m before l old new c o leads (Decides.alone e at none d) =
 
 -- of whom something is heard, the round is collected
 round_at : (m : Meaning) (start : List Bool) (before : List Line) (l : Line) (old : Scene) (c b : ℕ) (o : Opened) → RunIs m start before old → Decides m.diagram before l c o → IsOther m.diagram c b → (q : ℕ) × (under_way (node m.diagram old c) ≡ Some q)
-round_at m start before l old c b o is (Decides.at_tick has e) other = let p = collects_it m start before old c o is has in (p.round.round, ap (λ (x : Option Collection). under_way_of x (node m.diagram old c).granted) p.has)
-round_at m start before l old c b o is (Decides.all_heard n has e all) other = let p = collects_it m start before old c o is has in (p.round.round, ap (λ (x : Option Collection). under_way_of x (node m.diagram old c).granted) p.has)
+round_at m start before l old c b o is (Decides.at_tick has e) other = let p = collects_it m before old c o is.facts.rounds is.links.said has in (p.round.round, ap (λ (x : Option Collection). under_way_of x (node m.diagram old c).granted) p.has)
+round_at m start before l old c b o is (Decides.all_heard n has e all) other = let p = collects_it m before old c o is.facts.rounds is.links.said has in (p.round.round, ap (λ (x : Option Collection). under_way_of x (node m.diagram old c).granted) p.has)
 round_at m start before l old c b o is (Decides.alone e at none d) other = absurd (other_of m.diagram c b other none)
 
 -- what is heard is heard of another bay
@@ -157,7 +158,7 @@ truth_reads m start before l old new c o v station laws run leads links decides 
     let was : Resolves old.truth v = subst (λ (t : List Position). Resolves t v) (truth_at m before l old new c o leads decides) (to_scene m start (l ∷ before) new v links may) in
     record {
       whole = may.whole;
-      own = own_reads m start before old c v is (idle_at m start before l old new c o is leads decides) may.whole was;
+      own = own_reads m start before old c v is (idle_at m before l old new c o is.facts.rounds is.links.said leads decides) may.whole was;
       heard = λ b words differ got. heard_reads m start before l old c b o words v station laws run decides may.whole was (heard_of_is m.diagram (l ∷ before) c b words station got);
     }
 
@@ -169,8 +170,8 @@ true_verdict d k T o outcome station full own reads (Verdict.denies rule v is re
     TrueVerdict.denies rule _ is (λ w may. (same_by_full d k v w station full reads_v (reads w may) o.op own (Some rule)).0 breaks)
 
 op_at : (m : Meaning) (start : List Bool) (before : List Line) (l : Line) (old new : Scene) (c : ℕ) (o : Opened) → RunIs m start before old → Leads m old l new → Decides m.diagram before l c o → IsSwitchOf m c o.op.switch.0
-op_at m start before l old new c o is leads (Decides.at_tick has e) = let p = collects_it m start before old c o is has in (p.known, p.own)
-op_at m start before l old new c o is leads (Decides.all_heard n has e all) = let p = collects_it m start before old c o is has in (p.known, p.own)
+op_at m start before l old new c o is leads (Decides.at_tick has e) = let p = collects_it m before old c o is.facts.rounds is.links.said has in (p.known, p.own)
+op_at m start before l old new c o is leads (Decides.all_heard n has e all) = let p = collects_it m before old c o is.facts.rounds is.links.said has in (p.known, p.own)
 op_at m start before l old new c o is leads (Decides.alone e at none d) = (subst (InRange m.diagram) e leads.range, at)
 
 pub truth_decides : (m : Meaning) (start : List Bool) (before : List Line) (l : Line) (w : Scene) → IsStation m.diagram → Laws m → Run m start (l ∷ before) w → TruthDecides m.diagram start before l
