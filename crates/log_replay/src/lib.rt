@@ -19,7 +19,7 @@ pub use fields::field;
 pub use following::{broken, replay};
 pub use kinds::RecordKind;
 pub use law::{headline_holds, premises_are_exact};
-pub use log::{Log, LogFault, MOST_RECORDS, read_log};
+pub use log::{Log, LogFault, MOST_BYTES, MOST_RECORDS, read_log};
 pub use numbers::{LAST_MESSAGE, MOST_CUT_BYTES};
 pub use record::read_record;
 pub use report::Report;

@@ -16,8 +16,8 @@ use std::marker::Model;
 /// The most records of a log.
 pub const MOST_RECORDS: usize = 20_000;
 
-// The most bytes that a file may have.
-const MOST_BYTES: usize = 8_388_608;
+/// The most bytes that a log may have.
+pub const MOST_BYTES: usize = 8_388_608;
 
 /// Why bytes gave no log.
 #[derive(Clone, Copy, Debug, PartialEq, Eq)]
