@@ -11,6 +11,7 @@ mod record;
 #[cfg(test)]
 mod replay_tests;
 mod report;
+mod report_lines;
 mod start;
 #[cfg(test)]
 mod tests;
@@ -18,8 +19,8 @@ mod tests;
 pub use fields::field;
 pub use following::{broken, replay};
 pub use kinds::RecordKind;
-pub use law::{headline_holds, premises_are_exact};
-pub use log::{Log, LogFault, MOST_BYTES, MOST_RECORDS, read_log};
+pub use law::{headline_holds, premises_are_exact, reports_tell_all};
+pub use log::{Log, LogFault, MOST_RECORDS, read_log};
 pub use numbers::{LAST_MESSAGE, MOST_CUT_BYTES};
 pub use record::read_record;
 pub use report::Report;

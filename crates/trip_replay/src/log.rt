@@ -8,8 +8,8 @@ ghost use Rattle.trip_replay.specs.TripLogs.{IsTripLog, IsTripLogFault};
 use crate::record::read_trip_record;
 use csv::ByteRecord;
 use double_points::Rows;
-use ilk_base::{InputRefusal, Memory, SwitchId};
-use log_replay::{Log, MOST_BYTES};
+use ilk_base::{FILE_BYTES, InputRefusal, Memory, SwitchId};
+use log_replay::Log;
 use reservation_core::{LogEvent, WorldEvent};
 use station_graph::Station;
 use std::alloc::Global;
@@ -112,7 +112,7 @@ pub fn read_trip_log(
     ensures told { IfOk result (All (TripMayBeTold station.now)) }
     ensures err { IfErr result (λ e. ForRefused e (IsTripLogFault station.now bytes.now)) }
 {
-    if bytes.len() > MOST_BYTES {
+    if bytes.len() > FILE_BYTES {
         return refused(5, 0);
     }
     let mut rows = Rows::new(alloc, bytes);
