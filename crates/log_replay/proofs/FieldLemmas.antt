@@ -30,7 +30,7 @@ field_past (f ∷ row) (suc place) is = field_past row place is
 
 -- ---- the form of a record
 
-same_default : (row : List (List ℕ)) (i : ℕ) (d : List ℕ) → i < length row → get_or row i d ≡ field row i
+pub same_default : (row : List (List ℕ)) (i : ℕ) (d : List ℕ) → i < length row → get_or row i d ≡ field row i
 same_default [] i d lt = absurd (omega (arith, lt))
 same_default (f ∷ row) zero d lt = refl
 same_default (f ∷ row) (suc i) d lt = same_default row i d (omega (arith, lt))

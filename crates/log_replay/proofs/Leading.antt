@@ -176,7 +176,7 @@ module _ (m : Meaning) (before : List Line) (old new : Scene) (s : Shown) (outco
       })
 
   -- the nodes and the messages after a line
-  speaks : (e : WorldEvent) → InRange m.diagram e → Happens m old e new outcome → Spoken m (line e s ∷ before) new
+  pub speaks : (e : WorldEvent) → InRange m.diagram e → Happens m old e new outcome → Spoken m (line e s ∷ before) new
   speaks (Command op) lt t =
       let b = bay_of m.diagram op.switch.0 in
       let bay = bay_of_is m.diagram op.switch.0 station lt in
@@ -295,7 +295,7 @@ module _ (m : Meaning) (before : List Line) (old new : Scene) (s : Shown) (outco
     (λ j was. refl) (λ j was. refl)
 
   -- true positions and drives after a line
-  happens_moves : (e : WorldEvent) → InRange m.diagram e → Happens m old e new outcome → Moves m before e old new
+  pub happens_moves : (e : WorldEvent) → InRange m.diagram e → Happens m old e new outcome → Moves m before e old new
   happens_moves (Command op) lt t = stepped m before (Command op) old new _ _ outcome t (λ j was. refl) (λ j was. refl)
   happens_moves (Sense i word) lt happens = sense_moves i word happens
   happens_moves (Deliver k) lt happens = deliver_moves k happens

@@ -17,8 +17,8 @@ use double_points::{text_of, word_from};
 use ilk_base::{BayId, Dbpos, Direction, SwitchId};
 use station_graph::Station;
 
-// The field of the record at a place; empty where there is none.
-pub(crate) fn field(row: &ByteRecord, place: usize) -> &[u8]
+/// The field of the record at a place; empty where there is none. At once; takes no memory.
+pub fn field(row: &ByteRecord, place: usize) -> &[u8]
     ensures { result.now ≡ field (fields_of row.entry.now) place }
 {
     match row.get(place) {

@@ -42,8 +42,8 @@ fn follow<J: Judge>(
     }
 }
 
-// The premise that is broken, if one is.
-fn broken(outcome: &Option<WorldOutcome>) -> Option<Which>
+/// The premise that is broken by what comes of an event, if one is. At once; takes no memory.
+pub fn broken(outcome: &Option<WorldOutcome>) -> Option<Which>
     ensures some { IfSome result (λ which. IsBroken outcome.now which) }
     ensures none { IfNone result ((which : Broken) → ¬ IsBroken outcome.now which) }
 {

@@ -16,9 +16,12 @@ mod start;
 #[cfg(test)]
 mod tests;
 
-pub use following::replay;
+pub use fields::field;
+pub use following::{broken, replay};
 pub use kinds::RecordKind;
 pub use law::{headline_holds, premises_are_exact, reports_tell_all};
 pub use log::{Log, LogFault, MOST_RECORDS, read_log};
 pub use numbers::{LAST_MESSAGE, MOST_CUT_BYTES};
+pub use record::read_record;
 pub use report::Report;
+pub use start::{at_count, start_of};

@@ -65,6 +65,14 @@ impl Model for Log {
 }
 
 impl Log {
+    /// The log of these events. At once; takes no memory.
+    pub fn of(events: Vec<LogEvent>) -> Log
+        requires { length events.items ≤ MOST_RECORDS }
+        ensures { result ≡ events.items }
+    {
+        Log { events }
+    }
+
     /// How many events there are, one for each record. At once; takes no memory.
     pub fn count(&self) -> u32
         ensures count { result ≡ length self.now }

@@ -213,11 +213,11 @@ fn read_of_kind(
     Ok(event)
 }
 
-// What a record says after these events, or the number of the first test that it fails: 9 there were
-// `MOST_RECORDS`; 6 its first field names no kind; 1 it has not the form of its kind; 7 it is an `at` after
-// something has happened; 2 its path is unknown; 3 its word is none; 4 it is an `at` of a switch that was
-// told of; 8 its numbers are none. Time: the record; for an `at` also the events.
-pub(crate) fn read_record(
+/// What a record says after these events, or the number of the first test that it fails: 9 there were
+/// `MOST_RECORDS`; 6 its first field names no kind; 1 it has not the form of its kind; 7 it is an `at` after
+/// something has happened; 2 its path is unknown; 3 its word is none; 4 it is an `at` of a switch that was
+/// told of; 8 its numbers are none. Time: the record; for an `at` also the events. Takes no memory.
+pub fn read_record(
     station: &Station,
     before: &[LogEvent],
     row: &ByteRecord,

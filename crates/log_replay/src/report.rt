@@ -111,8 +111,9 @@ fn finished_count(outcomes: &[Option<WorldOutcome>]) -> u32
 }
 
 impl Report {
-    // What is shown at each line, the line of a broken premise, and the count of the log's records.
-    pub(crate) fn new(
+    /// The report of what came of each line, of the line at which a premise is broken and the premise, if one
+    /// is, and of how many records the log has. At once; takes no memory.
+    pub fn new(
         outcomes: Vec<Option<WorldOutcome>>,
         broken: Option<(u32, Which)>,
         count: u32,

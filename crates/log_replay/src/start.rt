@@ -31,9 +31,9 @@ fn told_at(log: &Log, id: SwitchId) -> Option<bool>
     None
 }
 
-// Where each switch stands at first; none where the log does not tell it of each. Time: the records `at`
-// times the switches; where a switch is not told of, the records. Memory: the switches.
-pub(crate) fn start_of(
+/// Where each switch stands at first; none where the log does not tell it of each. Time: the records `at`
+/// times the switches; where a switch is not told of, the records. Memory: the switches.
+pub fn start_of(
     alloc: Global,
     station: &Station,
     log: &Log,
@@ -62,8 +62,8 @@ fn is_at(event: LogEvent) -> bool
     }
 }
 
-// How many records tell where a switch stands at first. Time: the records.
-pub(crate) fn at_count(log: &Log) -> u32
+/// How many records tell where a switch stands at first. Time: the records. Takes no memory.
+pub fn at_count(log: &Log) -> u32
     ensures count { result ≡ at_count log.now }
     ensures few { result ≤ length log.now }
 {

@@ -1,0 +1,4 @@
+pub mod TripRecords
+pub mod TripLogs
+pub mod TripLogLines
+pub mod TripReplays

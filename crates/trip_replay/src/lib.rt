@@ -1,0 +1,13 @@
+//! The log of an operation whose breakers may trip: what it says, and the replay of it with a report.
+#![tactic(auto)]
+
+mod following;
+mod law;
+mod log;
+mod record;
+#[cfg(test)]
+mod tests;
+
+pub use following::{TripReport, replay_trips};
+pub use law::trip_headline_holds;
+pub use log::{TripLog, TripLogEvent, TripLogFault, read_trip_log};
