@@ -24,6 +24,7 @@ pub record GrewFrom (switches : ℕ) (parts : List PartLines) (n : ℕ) (x : Nod
   pub by : LeadsBy switches parts x
   pub goals : AreGoals n (goals_of x)
 
+-- Each node is one that grew so.
 abbrev pub AllGrew : ℕ → List PartLines → List NodeLine → Type 0
 AllGrew switches parts nodes = (n : ℕ) (x : NodeLine) → slice_get nodes n ≡ Some x → GrewFrom switches parts n x
 
@@ -60,10 +61,12 @@ abbrev pub turned_goal : ℕ → Goal → Goal
 turned_goal total (Node n) = Node (total - suc n)
 turned_goal total (Answer a) = Answer a
 
+-- The line of a node with its goals turned.
 abbrev pub turned_line : ℕ → NodeLine → NodeLine
 turned_line total (part_node part goals) = part_node part (map (turned_goal total) goals)
 turned_line total (switch_node switch off on) = switch_node switch (turned_goal total off) (turned_goal total on)
 
+-- Both goals of a switch, turned.
 abbrev pub turned_goals : ℕ → SwitchGoals → SwitchGoals
 turned_goals total x = record { opening = turned_goal total x.opening; closing = turned_goal total x.closing }
 

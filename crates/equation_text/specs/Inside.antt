@@ -6,15 +6,19 @@ use Rattle.equation_text.specs.declared.node.Node.TheInside.{Inside as NodeInsid
 use Rattle.equation_text.specs.declared.part.PartSteps.TheInside.{Inside as PartInside}
 use Rattle.equation_text.specs.declared.equations.Equations.TheInside.{Inside as EquationsInside}
 
+-- The lines of a part, as a contract sees them.
 abbrev pub part_lines_of : PartInside → PartLines
 part_lines_of p = record { start = p.start; steps = p.steps.items }
 
+-- The line of what a node looks at.
 abbrev pub line_of : Lead → NodeLine
 line_of (Part part goals) = part_node part.0 goals.items
 line_of (Switch switch off on) = switch_node switch.0 off on
 
+-- The line of a node.
 abbrev pub node_line_of : NodeInside → NodeLine
 node_line_of n = line_of n.lead
 
+-- All lines, as a contract sees them.
 abbrev pub equation_lines_of : EquationsInside → EquationLines
 equation_lines_of e = record { parts = e.parts.items; ops = e.ops.items; nodes = e.nodes.items }

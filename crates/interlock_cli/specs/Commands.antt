@@ -8,17 +8,19 @@ use Rattle.command_words.specs.Rows.{is_plain}
 use Rattle.station_state.specs.StateText.{IsStateText}
 use Rattle.station_make.specs.declared.words.MadeText.{MadeText}
 use Rattle.station_make.specs.Words.{feeders_of, made_text, text_named}
-use Rattle.interlock_cli.specs.Formats.{Drawing, Positions, CertainPositions, OrderOf, LogOf, BlocksOf, SwitchOf, BayOf}
+use Rattle.interlock_cli.specs.Formats.{Drawing, Positions, CertainPositions, OrderOf, LogOf, TripLogOf, BlocksOf, SwitchOf, BayOf}
 use Rattle.interlock_cli.specs.Form.{Form, Write, Take, Serve, File, Word}
 use Rattle.interlock_cli.specs.CheckText.{IsCheckText}
 use Rattle.interlock_cli.specs.ExplainText.{IsExplainText}
 use Rattle.interlock_cli.specs.OrderWrites.{OrderWrites}
 use Rattle.interlock_cli.specs.ReplayWrites.{ReplayWrites}
+use Rattle.interlock_cli.specs.TripsWrites.{TripsWrites}
 use Rattle.interlock_cli.specs.AuditWrites.{AuditWrites}
 use Rattle.equation_text.specs.CompileText.{IsCompileText}
 use Rattle.interlock_cli.specs.declared.end.Outcome.{Outcome}
 use Rattle.interlock_cli.specs.declared.end.Outcome.TheVariants.{Done}
 
+-- What the words may name.
 pub data Command : Type 0 where
   -- `check STATION POSITIONS`
   Check : List ℕ → List ℕ → Command
@@ -36,6 +38,8 @@ pub data Command : Type 0 where
   Node : List ℕ → List ℕ → Command
   -- `compile STATION`
   Compile : List ℕ → Command
+  -- `trips STATION LOG`
+  Trips : List ℕ → List ℕ → Command
   -- `make NUMBER station`, or `positions`, or `log`
   Make : ℕ → MadeText → Command
 
@@ -48,14 +52,17 @@ abbrev pub one_word : (List ℕ → Option Command) → List (List ℕ) → Opti
 one_word names (a ∷ []) = names a
 one_word names _ = None
 
+-- two words, and what they name
 abbrev pub two_words : (List ℕ → List ℕ → Option Command) → List (List ℕ) → Option Command
 two_words names (a ∷ b ∷ []) = names a b
 two_words names _ = None
 
+-- three words, and what they name
 abbrev pub three_words : (List ℕ → List ℕ → List ℕ → Option Command) → List (List ℕ) → Option Command
 three_words names (a ∷ b ∷ c ∷ []) = names a b c
 three_words names _ = None
 
+-- four words, and what they name
 abbrev pub four_words : (List ℕ → List ℕ → List ℕ → List ℕ → Option Command) → List (List ℕ) → Option Command
 four_words names (a ∷ b ∷ c ∷ d ∷ []) = names a b c d
 four_words names _ = None
@@ -64,27 +71,39 @@ four_words names _ = None
 abbrev pub check_of : List (List ℕ) → Option Command
 check_of = two_words (λ station positions. Some (Check station positions))
 
+-- the words behind `explain`
 abbrev pub explain_of : List (List ℕ) → Option Command
 explain_of = four_words (λ station positions direction switch. option_map (λ d. Explain station positions d switch) (direction_of direction))
 
+-- the words behind `state`
 abbrev pub state_of : List (List ℕ) → Option Command
 state_of = two_words (λ station positions. Some (State station positions))
 
+-- the words behind `order`
 abbrev pub order_of : List (List ℕ) → Option Command
 order_of = three_words (λ station positions order. Some (Order station positions order))
 
+-- the words behind `replay`
 abbrev pub replay_of : List (List ℕ) → Option Command
 replay_of = two_words (λ station log. Some (Replay station log))
 
+-- the words behind `audit`
 abbrev pub audit_of : List (List ℕ) → Option Command
 audit_of = two_words (λ station equations. Some (Audit station equations))
 
+-- the words behind `node`
 abbrev pub node_of : List (List ℕ) → Option Command
 node_of = two_words (λ station bay. Some (Node station bay))
 
+-- the words behind `compile`
 abbrev pub compile_of : List (List ℕ) → Option Command
 compile_of = one_word (λ station. Some (Compile station))
 
+-- the words behind `trips`
+abbrev pub trips_of : List (List ℕ) → Option Command
+trips_of = two_words (λ station log. Some (Trips station log))
+
+-- the words behind `make`
 abbrev pub make_of : List (List ℕ) → Option Command
 make_of = two_words (λ number text. option_and_then (λ n. option_map (λ t. Make n t) (text_named text)) (feeders_of number))
 
@@ -101,6 +120,7 @@ named (name ∷ rest) =
     else if bytes_eq name (codes "node") then node_of rest
     else if bytes_eq name (codes "make") then make_of rest
     else if bytes_eq name (codes "compile") then compile_of rest
+    else if bytes_eq name (codes "trips") then trips_of rest
     else None
 
 -- what the words name, where no word is empty or begins with `-`
@@ -111,6 +131,7 @@ command_of words = if list_all is_plain words then named words else None
 abbrev pub IsDone : (List ℕ → Type 0) → Outcome → List ℕ → Type 0
 IsDone IsText outcome text = (outcome ≡ Done) × IsText text
 
+-- what each command is given, in the order in which it is judged, and what it writes
 abbrev pub form_of : Command → Form
 form_of (Check station positions) =
     Take (File station) Drawing (λ d. Take (File positions) (Positions d) (λ words. Write (IsDone (IsCheckText d words))))
@@ -130,4 +151,6 @@ form_of (Node station bay) =
     Take (File station) Drawing (λ d. Take (Word bay) (BayOf d) (λ b. Serve d b))
 form_of (Compile station) =
     Take (File station) Drawing (λ d. Write (IsDone (IsCompileText d)))
+form_of (Trips station log) =
+    Take (File station) Drawing (λ d. Take (File log) (TripLogOf d) (λ events. Write (TripsWrites d events)))
 form_of (Make number text) = Write (IsDone (λ written. written ≡ made_text text number))

@@ -14,6 +14,7 @@ pub data Origin : Type 0 where
   File : List ℕ → Origin
   Word : List ℕ → Origin
 
+-- What a command is given, judged in this order, and what it then writes or serves.
 pub data Form : Type 1 where
   -- all is accepted: the command writes a text, and ends so
   Write : (Outcome → List ℕ → Type 0) → Form

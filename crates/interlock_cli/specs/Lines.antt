@@ -30,6 +30,7 @@ status_of (e.Input refusal) = s.InputRefused
 status_of e.Long = s.Long
 status_of e.Memory = s.Memory
 
+-- the line of a call that wants memory
 abbrev pub memory_line : List ℕ
 memory_line = codes "interlock: out of memory\n"
 

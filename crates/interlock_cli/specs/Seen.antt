@@ -1,8 +1,9 @@
 -- What a contract sees of a command.
 use Rattle.interlock_cli.specs.Commands as c
 use Rattle.interlock_cli.specs.declared.words.Command.{Command}
-use Rattle.interlock_cli.specs.declared.words.Command.TheVariants.{Check, Explain, State, Order, Replay, Audit, Node, Compile, Make}
+use Rattle.interlock_cli.specs.declared.words.Command.TheVariants.{Check, Explain, State, Order, Replay, Audit, Node, Compile, Trips, Make}
 
+-- a command, as the definitions name it
 abbrev pub seen : Command → c.Command
 seen (Check station positions) = c.Check station.now positions.now
 seen (Explain station positions direction switch) = c.Explain station.now positions.now direction switch.now
@@ -12,4 +13,5 @@ seen (Replay station log) = c.Replay station.now log.now
 seen (Audit station equations) = c.Audit station.now equations.now
 seen (Node station bay) = c.Node station.now bay.now
 seen (Compile station) = c.Compile station.now
+seen (Trips station log) = c.Trips station.now log.now
 seen (Make feeders text) = c.Make feeders.number text

@@ -1,4 +1,4 @@
-// The command `audit`.
+//! The command `audit`.
 ghost use Rattle.std.specs.Prelude.{◌≡◌, IfOk, IfErr};
 ghost use Rattle.equation_audit.specs.Equations.{AreOfStation};
 ghost use Rattle.interlock_cli.specs.Commands.{Audit, form_of};

@@ -1,4 +1,4 @@
-// The command `check`.
+//! The command `check`.
 ghost use Rattle.std.specs.Prelude.{IfOk, IfErr};
 ghost use Rattle.interlock_cli.specs.Commands.{Check, form_of};
 ghost use Rattle.interlock_cli.specs.Form.{Gives, Stops};

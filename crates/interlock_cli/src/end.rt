@@ -1,4 +1,4 @@
-// How a call ends.
+//! How a call ends.
 ghost use Rattle.std.specs.Prelude.{◌≡◌};
 ghost use Rattle.interlock_cli.specs.Lines.{outcome_status, status_of};
 

@@ -1,4 +1,4 @@
-// The command `explain`.
+//! The command `explain`.
 ghost use Rattle.std.specs.Prelude.{IfOk, IfErr};
 ghost use Rattle.interlock_cli.specs.Commands.{Explain, form_of};
 ghost use Rattle.interlock_cli.specs.Form.{Gives, Stops};

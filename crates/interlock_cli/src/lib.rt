@@ -8,6 +8,7 @@ mod end;
 mod explain;
 mod explain_command;
 mod loading;
+mod loading_log;
 mod compile_command;
 mod make_command;
 mod node_command;
@@ -17,6 +18,7 @@ mod state_command;
 mod status;
 mod tell;
 mod top;
+mod trips_command;
 mod words;
 
 pub use status::Status;

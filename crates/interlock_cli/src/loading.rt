@@ -1,16 +1,15 @@
-// What a command is given, read and judged.
-ghost use Rattle.std.specs.Prelude.{◌≡◌, ◌<◌, length, take, slice_get, All, Some, Ok, IfOk, IfErr, IfSome};
+//! What a command is given, read and judged.
+ghost use Rattle.std.specs.Prelude.{◌≡◌, ◌<◌, length, take, slice_get, Some, Ok, IfOk, IfErr, IfSome};
 ghost use Rattle.ilk_base.specs.Outside.{Rose};
 ghost use Rattle.ssd_read.specs.StandsFor.{Stands};
 ghost use Rattle.bay_contract.specs.Alphabets.{AreAlphabets};
 ghost use Rattle.release_compile.specs.Judging.{KeepsLimits};
 ghost use Rattle.station_graph.specs.Alike.{IsVector};
 ghost use Rattle.switching_orders.specs.OrderRuling.{AreOperations};
-ghost use Rattle.log_replay.specs.Records.{MayBeTold};
 ghost use Rattle.equation_audit.specs.Equations.{AreOfStation};
 ghost use Rattle.double_points.specs.Words.{AreWords};
 ghost use Rattle.central_rules.specs.Meaning.{IsBay};
-ghost use Rattle.interlock_cli.specs.Formats.{Accepts, Drawing, Positions, CertainPositions, OrderOf, LogOf, BlocksOf, SwitchOf, BayOf};
+ghost use Rattle.interlock_cli.specs.Formats.{Accepts, Drawing, Positions, CertainPositions, OrderOf, BlocksOf, SwitchOf, BayOf};
 ghost use Rattle.interlock_cli.specs.Form.{Given, Fails, File};
 ghost use Rattle.interlock_cli.specs.Judging.{Drawn, BuildFails, ReadFails, JudgeFails, Onward};
 
@@ -18,7 +17,6 @@ use crate::end::End;
 use double_points::{PositionsFault, Readings, read_positions};
 use equation_audit::{Blocks, BlocksFault, read_blocks};
 use ilk_base::{BayId, InputRefusal, ReadTrouble, Shelf, SwitchId};
-use log_replay::{Log, LogFault, read_log};
 use release_compile::{BuildRefusal, GraphJudge};
 use ssd_read::{SsdRefusal, read_ssd};
 use station_graph::{Station, Vector};
@@ -29,7 +27,7 @@ use switching_orders::{Order, OrderFault, certain_positions, read_order};
 const MOST: u32 = 8_388_609;
 
 // As many bytes of a file as tell what it is.
-fn read_file<F: Shelf>(name: &str, shelf: &mut F) -> Result<Vec<u8>, End>
+pub(crate) fn read_file<F: Shelf>(name: &str, shelf: &mut F) -> Result<Vec<u8>, End>
     ensures ok { IfOk result (λ v. IfSome (F.held shelf.old name.now) (λ b. v.items ≡ take 8388609 b)) }
     ensures err { IfErr result (ReadFails (Rose (F.faults shelf.old name.now) (F.faults shelf.new name.now))) }
     ensures onward { Onward (F.held shelf.old) (F.held shelf.new) (F.faults shelf.old) (F.faults shelf.new) }
@@ -112,21 +110,6 @@ fn judge_blocks(alloc: Global, station: &Station, bytes: &[u8]) -> Result<Blocks
         Ok(blocks) => Ok(blocks),
         Err(BlocksFault::Memory) => Err(End::Memory),
         Err(BlocksFault::Refused(refusal)) => Err(End::Input(refusal)),
-    }
-}
-
-// The log of the bytes of a file.
-fn judge_log(alloc: Global, station: &Station, bytes: &[u8]) -> Result<Log, End>
-    ensures ok { IfOk result (Accepts (LogOf station.now) bytes.now) }
-    ensures told { IfOk result (All (MayBeTold station.now)) }
-    ensures err { IfErr result (JudgeFails (LogOf station.now) bytes.now) }
-{
-    // Its clause says that it is a station; it does nothing.
-    station.is_station();
-    match read_log(alloc, station, bytes) {
-        Ok(log) => Ok(log),
-        Err(LogFault::Memory) => Err(End::Memory),
-        Err(LogFault::Refused(refusal)) => Err(End::Input(refusal)),
     }
 }
 
@@ -263,25 +246,6 @@ pub(crate) fn load_blocks<F: Shelf>(
         Err(end) => return Err(end),
     };
     judge_blocks(alloc, station, &bytes)
-}
-
-// The log of a file.
-pub(crate) fn load_log<F: Shelf>(
-    alloc: Global,
-    station: &Station,
-    name: &str,
-    shelf: &mut F,
-) -> Result<Log, End>
-    ensures ok { IfOk result (Given (F.held shelf.old) (File name.now) (LogOf station.now)) }
-    ensures told { IfOk result (All (MayBeTold station.now)) }
-    ensures err { IfErr result (Fails (F.held shelf.old) (F.faults shelf.old) (F.faults shelf.new) (File name.now) (LogOf station.now)) }
-    ensures onward { Onward (F.held shelf.old) (F.held shelf.new) (F.faults shelf.old) (F.faults shelf.new) }
-{
-    let bytes = match read_file(name, shelf) {
-        Ok(bytes) => bytes,
-        Err(end) => return Err(end),
-    };
-    judge_log(alloc, station, &bytes)
 }
 
 // The switch of a path that the words name.

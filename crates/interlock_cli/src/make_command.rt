@@ -1,4 +1,4 @@
-// The command `make`.
+//! The command `make`.
 ghost use Rattle.std.specs.Prelude.{◌≡◌, IfOk, IfErr};
 ghost use Rattle.station_make.specs.Words.{made_text};
 

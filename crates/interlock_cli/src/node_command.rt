@@ -1,4 +1,4 @@
-// The command `node`.
+//! The command `node`.
 ghost use Rattle.std.specs.Prelude.{◌≡◌, IfOk, IfErr, OnErr};
 ghost use Rattle.interlock_cli.specs.Commands.{Node, form_of};
 ghost use Rattle.interlock_cli.specs.Form.{Stops};

@@ -1,4 +1,4 @@
-// The command `order`.
+//! The command `order`.
 ghost use Rattle.std.specs.Prelude.{◌≡◌, IfOk, IfErr};
 ghost use Rattle.interlock_cli.specs.Commands.{Order, form_of};
 ghost use Rattle.interlock_cli.specs.Form.{Gives, Stops};

@@ -1,4 +1,4 @@
-// The command `replay`.
+//! The command `replay`.
 ghost use Rattle.std.specs.Prelude.{◌≡◌, All, IfOk, IfErr};
 ghost use Rattle.bay_contract.specs.Alphabets.{AreAlphabets};
 ghost use Rattle.log_replay.specs.Records.{MayBeTold};
@@ -7,7 +7,8 @@ ghost use Rattle.interlock_cli.specs.Form.{Gives, Stops};
 ghost use Rattle.interlock_cli.specs.ReplayWrites.{ended, ReplayWrites};
 
 use crate::end::{End, Outcome, Output};
-use crate::loading::{build_judge, load_drawing, load_log};
+use crate::loading::{build_judge, load_drawing};
+use crate::loading_log::load_log;
 use ilk_base::{Memory, Shelf};
 use log_replay::Log;
 use release_compile::GraphJudge;
@@ -16,7 +17,7 @@ use station_graph::Station;
 use std::alloc::Global;
 
 // How a replay ends.
-fn ended(premise: Option<(u32, Which)>) -> Outcome
+pub(crate) fn ended(premise: Option<(u32, Which)>) -> Outcome
     ensures { result ≡ ended premise }
 {
     match premise {

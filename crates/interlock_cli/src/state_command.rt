@@ -1,4 +1,4 @@
-// The command `state`.
+//! The command `state`.
 ghost use Rattle.std.specs.Prelude.{IfOk, IfErr};
 ghost use Rattle.interlock_cli.specs.Commands.{State, form_of};
 ghost use Rattle.interlock_cli.specs.Form.{Gives, Stops};

@@ -1,4 +1,4 @@
-// The top call.
+//! The top call.
 ghost use Rattle.std.specs.Prelude.{◌≡◌, ◌⊎◌, map, string_bytes, None, IfOk, IfErr};
 ghost use Rattle.interlock_cli.specs.Commands.{command_of, form_of};
 ghost use Rattle.interlock_cli.specs.Seen.{seen};
@@ -18,6 +18,7 @@ use crate::replay_command::replay;
 use crate::state_command::state;
 use crate::status::Status;
 use crate::tell::tell;
+use crate::trips_command::trips;
 use crate::words::{Command, read_command};
 use ilk_base::{Shelf, Sink, Source, write_all};
 use std::alloc::Global;
@@ -44,6 +45,7 @@ fn output_of<F: Shelf>(alloc: Global, command: &Command, shelf: &mut F) -> Resul
         } => order(alloc, station, positions, steps, shelf),
         Command::Audit { station, equations } => audit(alloc, station, equations, shelf),
         Command::Compile { station } => compile(alloc, station, shelf),
+        Command::Trips { station, log } => trips(alloc, station, log, shelf),
         Command::Make { feeders, text } => make(alloc, feeders, text),
         Command::Replay { station, log } => replay(alloc, station, log, shelf),
         Command::Node { .. } => unreachable!(),
@@ -100,7 +102,7 @@ fn call<F: Shelf, I: Source, O: Sink>(
 ///
 /// The words are those of the command line, without the program's name. Where no word is empty or begins
 /// with `-`, and they are `check STATION POSITIONS`, `explain STATION POSITIONS open SWITCH` (or `close`),
-/// `state STATION POSITIONS`, `order STATION POSITIONS ORDER`, `replay STATION LOG`, `audit STATION EQUATIONS` `compile STATION`, `make NUMBER station` (or `positions`, or `log`) or `node STATION BAY`, they name that command;
+/// `state STATION POSITIONS`, `order STATION POSITIONS ORDER`, `replay STATION LOG`, `audit STATION EQUATIONS` `compile STATION`, `trips STATION LOG`, `make NUMBER station` (or `positions`, or `log`) or `node STATION BAY`, they name that command;
 /// all else is `Usage`. What a command is given is judged in the order of the words, but for a switch or bay
 /// that they name, which comes last. Each file is judged before the next is read, and nothing is written, nor
 /// asked of the input, before all is accepted. On every status but `Done` and `Differs` one line goes to

@@ -1,6 +1,6 @@
-// What the words name.
+//! What the words name.
 ghost use Rattle.std.specs.Prelude.{◌≡◌, ◌∷◌, map, option_map, string_bytes, Some, IfOk, IfErr};
-ghost use Rattle.interlock_cli.specs.Commands.{replay_of, audit_of, check_of, command_of, direction_of, explain_of, make_of, named, node_of, compile_of, order_of, state_of};
+ghost use Rattle.interlock_cli.specs.Commands.{replay_of, audit_of, check_of, command_of, direction_of, explain_of, make_of, named, node_of, trips_of, compile_of, order_of, state_of};
 ghost use Rattle.interlock_cli.specs.Ends.{Unread};
 ghost use Rattle.interlock_cli.specs.Seen.{seen};
 
@@ -46,6 +46,10 @@ pub enum Command<'a> {
     },
     Compile {
         station: &'a str,
+    },
+    Trips {
+        station: &'a str,
+        log: &'a str,
     },
     Make {
         feeders: Feeders,
@@ -156,6 +160,16 @@ fn compile_words<'a>(rest: &[&'a str]) -> Option<Command<'a>>
     Some(Command::Compile { station })
 }
 
+// `trips STATION LOG`.
+fn trips_words<'a>(rest: &[&'a str]) -> Option<Command<'a>>
+    ensures { trips_of (map (λ w. w.now) rest.now) ≡ option_map seen result }
+{
+    let &[station, log] = rest else {
+        return None;
+    };
+    Some(Command::Trips { station, log })
+}
+
 // `make NUMBER station`, or `positions`, or `log`.
 fn make_words<'a>(rest: &[&'a str]) -> Option<Command<'a>>
     ensures { make_of (map (λ w. w.now) rest.now) ≡ option_map seen result }
@@ -185,6 +199,7 @@ fn named<'a>(name: &str, rest: &[&'a str]) -> Option<Command<'a>>
         "audit" => audit_words(rest),
         "node" => node_words(rest),
         "compile" => compile_words(rest),
+        "trips" => trips_words(rest),
         "make" => make_words(rest),
         _ => None,
     }

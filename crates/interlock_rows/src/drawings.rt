@@ -1,4 +1,4 @@
-// The drawings of the rows, as texts of an SSD file.
+//! The drawings of the rows, as texts of an SSD file.
 
 // A busbar, and two feeders with a busbar disconnector, a breaker, a line disconnector, an earthing
 // switch and an infeed each.

@@ -1,4 +1,4 @@
-// What `explain` writes on the drawings, and how it ends. The chains are read off the drawings by hand: of
+//! What `explain` writes on the drawings, and how it ends. The chains are read off the drawings by hand: of
 // two feeders each has its nodes n1, n2 and n3 in a row from the busbar B, with the disconnector QB1 to the
 // busbar, the breaker QA1 to n2, the line disconnector QB9 to n3, and at n3 the earthing switch QC9 and the
 // infeed E1. On the double busbar QB1 leads to the first busbar and QB2 to the second, and the coupler K0

@@ -1,4 +1,4 @@
-// Hostile cases: files that are cut, too deep or too large, and calls of the outside that fail.
+//! Hostile cases: files that are cut, too deep or too large, and calls of the outside that fail.
 use crate::drawings::{AS_A_TOOL_WRITES, TWO_FEEDERS};
 use crate::rows::{BOTH_THROUGH, expect, lines_of, positions_of, words_of};
 use ilk_base::{MemShelf, MemSink, MemSource, Memory, Text};

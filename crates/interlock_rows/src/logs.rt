@@ -1,4 +1,4 @@
-// What `replay` writes of logs of the two feeders, and how it ends.
+//! What `replay` writes of logs of the two feeders, and how it ends.
 use crate::drawings::TWO_FEEDERS;
 use crate::rows::words_of;
 use ilk_base::{MemShelf, MemSink, MemSource, Memory, Text};

@@ -1,4 +1,4 @@
-// What `make` writes.
+//! What `make` writes.
 use crate::rows::words_of;
 use ilk_base::{MemShelf, MemSink, MemSource};
 use interlock_cli::{Status, run};

@@ -1,4 +1,4 @@
-// The log of one whole operation with one line more: what is lost, and what is not.
+//! The log of one whole operation with one line more: what is lost, and what is not.
 use crate::logs::{BAYS, ONE_OPERATION, replayed};
 use ilk_base::{Memory, Text};
 use interlock_cli::Status;

@@ -1,4 +1,4 @@
-// What `state` and `order` write, and how they end.
+//! What `state` and `order` write, and how they end.
 use crate::drawings::{AS_A_TOOL_WRITES, TWO_FEEDERS};
 use crate::rows::{expect, positions_of, words_of};
 use ilk_base::{MemShelf, MemSink, MemSource};

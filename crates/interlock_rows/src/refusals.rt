@@ -1,4 +1,4 @@
-// What is refused: texts of a drawing, positions and words, each with the line that it gives on `err`.
+//! What is refused: texts of a drawing, positions and words, each with the line that it gives on `err`.
 use crate::drawings::TWO_FEEDERS;
 use crate::rows::expect;
 use ilk_base::{Memory, Text};

@@ -1,4 +1,4 @@
-// Logs that are refused, each with the line that it gives on `err`.
+//! Logs that are refused, each with the line that it gives on `err`.
 use crate::logs::replayed;
 use ilk_base::Text;
 use interlock_cli::Status;

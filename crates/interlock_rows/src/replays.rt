@@ -1,4 +1,4 @@
-// What `replay` writes, and how it ends.
+//! What `replay` writes, and how it ends.
 use crate::drawings::AS_A_TOOL_WRITES;
 use crate::rows::words_of;
 use ilk_base::{MemShelf, MemSink, MemSource};

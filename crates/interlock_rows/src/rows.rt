@@ -1,4 +1,4 @@
-// What `check` writes on the drawings, and how it ends.
+//! What `check` writes on the drawings, and how it ends.
 use crate::drawings::{AS_A_TOOL_WRITES, BARE_STUB, DOUBLE_BUSBAR, TWO_FEEDERS, TWO_TRANSFORMERS};
 use ilk_base::{MemShelf, MemSink, MemSource, Memory, Text};
 use interlock_cli::{Status, run};

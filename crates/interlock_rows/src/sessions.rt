@@ -1,4 +1,4 @@
-// What `node` answers to the lines of its input, and how it ends.
+//! What `node` answers to the lines of its input, and how it ends.
 ghost use Rattle.std.specs.Prelude.{◌≤◌};
 
 use crate::drawings::TWO_FEEDERS;

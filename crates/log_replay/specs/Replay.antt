@@ -63,14 +63,17 @@ last_line (Some broken) count = []
 abbrev pub report_text : Diagram → Replayed → List ℕ
 report_text d r = report_lines d r.out ++ last_line r.broken r.count
 
+-- The outcome is a grant.
 abbrev pub is_granted : Outcome → Bool
 is_granted (Granted round op) = true
 is_granted outcome = false
 
+-- The outcome is a denial.
 abbrev pub is_denied : Outcome → Bool
 is_denied (Denied round op rule reading) = true
 is_denied outcome = false
 
+-- The outcome is the end of an operation.
 abbrev pub is_finished : Outcome → Bool
 is_finished (Finished round) = true
 is_finished outcome = false

@@ -14,9 +14,11 @@ slot image n = take 32 (drop (32 * n) image)
 abbrev pub gate : List ℕ → ℕ
 gate s = slice_index s 0
 
+-- The sequence number of a slot, in eight bytes behind its gate.
 abbrev pub sequence : List ℕ → ℕ
 sequence s = from_be_bytes w64 (take 8 (drop 1 s))
 
+-- The record of a slot, in eighteen bytes behind its sequence number.
 abbrev pub record_bytes : List ℕ → List ℕ
 record_bytes s = take 18 (drop 9 s)
 

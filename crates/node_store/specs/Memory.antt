@@ -21,9 +21,11 @@ pub record IsMarked (at len : ℕ) (old new : List Bool) : Type 0 where
   pub inside : (k : ℕ) → at ≤ k → k < at + len → get_or new k false ≡ true
   pub outside : (k : ℕ) → (k < at) ⊎ (at + len ≤ k) → get_or new k false ≡ get_or old k false
 
+-- A crash at this moment or later may leave this content.
 abbrev pub LeftSince : MemDevice → ℕ → List ℕ → Type 0
 LeftSince d t c = (k : ℕ) × (t ≤ k) × MayLeave (state_at d k) c
 
+-- A crash at or after the first moment and before the second may leave this content.
 abbrev pub LeftBetween : MemDevice → ℕ → ℕ → List ℕ → Type 0
 LeftBetween d t u c = (k : ℕ) × (t ≤ k) × (k < u) × MayLeave (state_at d k) c
 
@@ -36,5 +38,6 @@ before d t u c left = (left.0, left.1, left.3)
 after : (d : MemDevice) (t u : ℕ) (c : List ℕ) → t ≤ u → LeftSince d u c → LeftSince d t c
 after d t u c le left = (left.0, le_trans le left.1, left.2)
 
+-- What a crash may leave from a moment on, it leaves before a later moment or from that on.
 pub since_splits : (d : MemDevice) (t u : ℕ) (c : List ℕ) → t ≤ u → (LeftSince d t c ↔ (LeftBetween d t u c ⊎ LeftSince d u c))
 since_splits d t u c le = (before_or_after d t u c, ⊎_elim (before d t u c) (after d t u c le))

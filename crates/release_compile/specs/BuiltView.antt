@@ -4,11 +4,14 @@ use Rattle.release_compile.specs.declared.bay.ViewGraphs.{ViewGraphs}
 use Rattle.release_compile.specs.declared.bay.BayGraphs.{BayGraphs}
 use Rattle.release_compile.specs.Built.{ViewOf, BayOf}
 
+-- The graphs of one view, as a contract sees them.
 abbrev pub view_of : ViewGraphs → ViewOf
 view_of g = record { outer = g.outer; inner = g.inner.items }
 
+-- The graphs of a bay, as a contract sees them.
 abbrev pub seen_bay : BayGraphs → BayOf
 seen_bay g = record { first = g.first; count = g.count; gap = view_of g.gap; load = view_of g.load; told = g.told.items }
 
+-- Those of a part, if it is a bay.
 abbrev pub seen_part : Option BayGraphs → Option BayOf
 seen_part part = option_map seen_bay part

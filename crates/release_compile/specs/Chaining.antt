@@ -30,6 +30,7 @@ pub record IsChain (outer inner : Layered) (sets inner_sets : List (List Bool)) 
   pub split : all ≡ label_of outer cs ∷ rest
   pub leads : LeadThrough outer inner sets inner_sets goal cs rest
 
+-- No choices of the sets lead through both graphs to the goal.
 abbrev pub NoneLeads : Layered → Layered → List (List Bool) → List (List Bool) → ℕ → Type 0
 NoneLeads outer inner sets inner_sets goal = (cs ds : List ℕ) → LeadThrough outer inner sets inner_sets goal cs ds → ⊥
 
@@ -50,9 +51,11 @@ pub record HasReached (outer_gap outer_load : Layered) (r : Reached) : Type 0 wh
   pub gap : MarksReached outer_gap r.sets r.gap.labels
   pub load : MarksReached outer_load r.sets r.load.labels
 
+-- No choices lead through the graphs of a side to the goal.
 abbrev pub NoneLeadsTo : Side → List (List Bool) → ℕ → Type 0
 NoneLeadsTo s sets goal = NoneLeads s.outer.now s.inner.now sets s.inner_sets goal
 
+-- These choices lead through the graphs of a side to the goal.
 abbrev pub IsChainOf : Side → List (List Bool) → ℕ → List ℕ → List ℕ → Type 0
 IsChainOf s sets goal cs all = IsChain s.outer.now s.inner.now sets s.inner_sets goal cs all
 

@@ -37,6 +37,7 @@ pub record Size : Type 0 where
   pub views : ℕ
   pub choices : ℕ
 
+-- A layer has an edge for each view before it and each choice.
 abbrev pub edges_in : Size → ℕ
 edges_in s = s.views * s.choices
 

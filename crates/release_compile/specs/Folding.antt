@@ -20,6 +20,7 @@ pub record Carried (view : View) (x y : Answers) (values : List Answers) (t : �
 abbrev pub AllKeep : List Answers → List ℕ → Type 0
 AllKeep values keep = (t : ℕ) (r : Answers) → slice_get values t ≡ Some r → (n : ℕ) → Keeps r.kept n ↔ Contains keep n
 
+-- Each value is a contraction.
 abbrev pub AreWell : List Answers → Type 0
 AreWell values = (t : ℕ) (r : Answers) → slice_get values t ≡ Some r → IsContraction r
 

@@ -18,6 +18,7 @@ pub record Judging : Type 0 where
   pub alphabets : Alphabets
   pub bays : List (Option BayOf)
 
+-- The station and its alphabets.
 abbrev pub ground : Judging → Lettered
 ground j = lettered j.diagram j.alphabets
 
@@ -26,12 +27,15 @@ pub record IsJudging (j : Judging) : Type 0 where
   pub lettered : AreLettered (ground j)
   pub bays : AreBays (ground j) j.bays (part_count j.diagram)
 
+-- The graph of no part.
 abbrev pub no_graph : Layered
 no_graph = record { labels = 0; layers = [] }
 
+-- The graphs of a part that is no bay.
 abbrev pub no_bay : BayOf
 no_bay = record { first = 0; count = 0; gap = record { outer = no_graph; inner = [] }; load = record { outer = no_graph; inner = [] }; told = [] }
 
+-- The graphs of a part, or those of no bay.
 abbrev pub or_no_bay : Option (Option BayOf) → BayOf
 or_no_bay (Some (Some g)) = g
 or_no_bay (Some None) = no_bay

@@ -13,6 +13,7 @@ pub allows_moves : (a : Lettered) (b : ℕ) (s : List ℕ) (v w : List Bool) →
 allows_moves a b s v w same (inr empty) = inr empty
 allows_moves a b s v w same (inl allows) = inl (record { index = allows.index; has = record { letter = allows.has.letter; listed = allows.has.listed; stands = stands_moves (OfPart a.diagram b) a.diagram v w same allows.has.letter allows.has.stands }; bit = allows.bit })
 
+-- The meaning by index sets keeps the laws of a meaning.
 pub by_indices_lawful : (a : Lettered) → Laws (by_indices a)
 by_indices_lawful a = record {
   local = λ b s v w whole_v whole_w same allows. allows_moves a b s v w same allows;

@@ -34,6 +34,7 @@ pub record AreEdges (view : View) (values : List Answers) (keep states letters n
   pub none_twice : NoneTwice next
   pub hit : (b id : ℕ) → slice_get next b ≡ Some id → (p i j : ℕ) × (p < n) × (slice_get states (p / length letters) ≡ Some i) × (slice_get letters (p % length letters) ≡ Some j) × (slice_index edges p ≡ b)
 
+-- The contraction of no items that keeps no node.
 abbrev pub no_answers : Answers
 no_answers = record { kept = []; coupled = []; joined = []; bonded = []; energisable = []; earthable = []; fed = []; loaded = [] }
 

@@ -5,10 +5,12 @@ use Rattle.contraction.specs.Answers.{Answers}
 use Rattle.bay_contract.specs.PartAlphabets.{Alphabets, letters_of, size_of}
 use Rattle.bay_contract.specs.Alphabets.{AreAlphabets, HasIndex}
 
+-- A station and the alphabets of its parts.
 pub record Lettered : Type 0 where
   pub diagram : Diagram
   pub alphabets : Alphabets
 
+-- These two.
 abbrev pub lettered : Diagram → Alphabets → Lettered
 lettered d a = record { diagram = d; alphabets = a }
 
@@ -21,6 +23,7 @@ pub record AreLettered (a : Lettered) : Type 0 where
 abbrev pub letters_in : Lettered → ℕ → List Answers
 letters_in a part = letters_of a.alphabets part
 
+-- How many indices a part has.
 abbrev pub index_count : Lettered → ℕ → ℕ
 index_count a part = size_of a.alphabets part
 

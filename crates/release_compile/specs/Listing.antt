@@ -16,6 +16,7 @@ listed item passes i (x ∷ xs) = if passes x then item i ∷ listed item passes
 abbrev pub own_links : Diagram → ℕ → List Item
 own_links d p = listed a_link (λ (x : Link). x.part.0 == p) 0 d.links ++ listed a_tap (λ (x : Tap). x.part.0 == p) 0 d.taps
 
+-- The items of a part: its switches and its links.
 abbrev pub part_items : Diagram → ℕ → List Item
 part_items d p = listed a_switch (λ (x : Switch). x.bay.0 == p) 0 d.switches ++ own_links d p
 

@@ -14,6 +14,7 @@ pub record IsInnerOf (labels : ℕ) (g : Layered) : Type 0 where
   pub some : 0 < length g.layers
   pub outer : (layer_at g.layers 0).choices ≡ labels
 
+-- Each graph is an inner one of so many labels.
 abbrev pub AreInnersOf : ℕ → List Layered → Type 0
 AreInnersOf labels inners = (i : ℕ) (g : Layered) → slice_get inners i ≡ Some g → IsInnerOf labels g
 

@@ -27,6 +27,7 @@ pub data Plan : Type 0 where
   outer_plan : Lettered → ℕ → Plan
   inner_plan : View → Lettered → ℕ → ℕ → ℕ → ℕ → List Answers → Plan
 
+-- The station of a plan.
 abbrev pub diagram_of : Plan → Diagram
 diagram_of (outer_plan a b) = a.diagram
 diagram_of (inner_plan view a b m first others names) = a.diagram
@@ -42,11 +43,13 @@ abbrev pub base_of : Plan → List Item
 base_of (outer_plan a b) = []
 base_of (inner_plan view a b m first others names) = own_links a.diagram b
 
+-- The items that layer j adds.
 abbrev pub new_of : Plan → ℕ → List Item
 new_of (outer_plan a b) j = part_items a.diagram (other_of 0 b j)
 new_of (inner_plan view a b m first others names) zero = parts_before a.diagram b (part_count a.diagram - 1)
 new_of (inner_plan view a b m first others names) (suc j) = a_switch (other_of first m j) ∷ []
 
+-- The items before layer j.
 abbrev pub items_of : Plan → ℕ → List Item
 items_of plan zero = base_of plan
 items_of plan (suc j) = items_of plan j ++ new_of plan j

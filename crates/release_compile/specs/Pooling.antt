@@ -42,6 +42,7 @@ pub record WasMade (view : View) (values : List Answers) (keeps : List (List ℕ
   pub nodes : slice_get keeps k.keep ≡ Some keep
   pub made : IsMade view x y keep values t
 
+-- Both are made of the same two values and keep the same nodes.
 abbrev pub same_made : Made → Made → Bool
 same_made a b = nat_eq a.first b.first && (nat_eq a.second b.second && nat_eq a.keep b.keep)
 

@@ -47,6 +47,7 @@ by_indices a = record {
   Allows = λ b s v. SummaryAllows a b s v;
 }
 
+-- What the summaries of a judge mean.
 abbrev pub judges : Judging → Meaning
 judges j = by_indices (ground j)
 

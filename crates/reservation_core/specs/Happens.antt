@@ -64,10 +64,12 @@ pub record IsMessage (w : Scene) (k : ℕ) (f : Frame) : Type 0 where
 abbrev pub IsUnsent : Scene → ℕ → Type 0
 IsUnsent w k = (k ≡ 0) ⊎ (length w.sent < k)
 
+-- A word of switch i is read: it is refused where it is not true.
 pub data SenseHappens (m : Meaning) (old : Scene) (i : SwitchId) (word : Dbpos) (new : Scene) (outcome : WorldOutcome) : Type 0 where
   untrue : ¬ IsTrueWord word (true_at old.truth i.0) → IsRefused old new outcome Sensed → SenseHappens m old i word new outcome
   reads : IsTrueWord word (true_at old.truth i.0) → NodeSteps m old (bay_of m.diagram i.0) (Sensing i word) new outcome → SenseHappens m old i word new outcome
 
+-- Message k is delivered: it is refused where it was not sent.
 pub data DeliverHappens (m : Meaning) (old : Scene) (k : ℕ) (new : Scene) (outcome : WorldOutcome) : Type 0 where
   unsent : IsUnsent old k → IsRefused old new outcome Unsent → DeliverHappens m old k new outcome
   comes : (f : Frame) → IsMessage old k f → NodeSteps m old f.to.0 (Arrival f) new outcome → DeliverHappens m old k new outcome
@@ -85,6 +87,7 @@ pub data PartHappens (d : Diagram) (old : Scene) (k : ℕ) (new : Scene) (outcom
 abbrev pub IsMoving : Diagram → Scene → ℕ → Type 0
 IsMoving d w b = (g : Grant) × ((node d w b).granted ≡ Some g) × (runs w.drives g.op.switch.0 ≡ true)
 
+-- Bay b gives up its operation: it is refused where the drive runs.
 pub data WithdrawHappens (m : Meaning) (old : Scene) (b : ℕ) (new : Scene) (outcome : WorldOutcome) : Type 0 where
   running : (g : Grant) → (node m.diagram old b).granted ≡ Some g → runs old.drives g.op.switch.0 ≡ true → IsRefused old new outcome Withdrawn → WithdrawHappens m old b new outcome
   resting : ((g : Grant) → (node m.diagram old b).granted ≡ Some g → runs old.drives g.op.switch.0 ≡ false) → NodeSteps m old b Withdrawing new outcome → WithdrawHappens m old b new outcome
@@ -98,12 +101,14 @@ pub record IsOpenOperation (s : State) (i : ℕ) (g : Grant) : Type 0 where
 abbrev pub IsOpened : State → ℕ → Type 0
 IsOpened s i = (g : Grant) × IsOpenOperation s i g
 
+-- The drive of switch i begins: it is refused where no operation of it is granted, or where it runs.
 pub data BeginHappens (d : Diagram) (old : Scene) (i : ℕ) (new : Scene) (outcome : WorldOutcome) : Type 0 where
   not_open : NotGranted (node d old (bay_of d i)) i → IsRefused old new outcome Begun → BeginHappens d old i new outcome
   running : runs old.drives i ≡ true → IsRefused old new outcome Begun → BeginHappens d old i new outcome
   there_already : (g : Grant) → IsOpenOperation (node d old (bay_of d i)) i g → true_at old.truth i ≡ end_position g.op.direction → IsRefused old new outcome Begun → BeginHappens d old i new outcome
   begins : (g : Grant) → IsOpenOperation (node d old (bay_of d i)) i g → runs old.drives i ≡ false → true_at old.truth i ≢ end_position g.op.direction → IsDriven new outcome (moves old i Between true) → BeginHappens d old i new outcome
 
+-- The drive of switch i ends: it is refused where it rests.
 pub data EndHappens (d : Diagram) (old : Scene) (i : ℕ) (new : Scene) (outcome : WorldOutcome) : Type 0 where
   resting : runs old.drives i ≡ false → IsRefused old new outcome Ended → EndHappens d old i new outcome
   arrives : (g : Grant) → runs old.drives i ≡ true → IsOpenOperation (node d old (bay_of d i)) i g → IsDriven new outcome (moves old i (end_position g.op.direction) false) → EndHappens d old i new outcome

@@ -21,10 +21,12 @@ listed f (suc n) = f zero ∷ listed (λ i. f (suc i)) n
 abbrev pub words_at : Diagram → List Line → List Dbpos
 words_at d lines = listed (reading_at d lines) (length d.switches)
 
+-- The message is an answer.
 abbrev pub is_answer : MessageKind → Bool
 is_answer MessageKind.answer = true
 is_answer kind = false
 
+-- The round is this one.
 abbrev pub is_round : ℕ → Option ℕ → Bool
 is_round r (Some q) = r == q
 is_round r None = false

@@ -121,6 +121,7 @@ pub record Sending : Type 0 where
   pub message : Message
   pub lines : List Line
 
+-- The message, if there is one, with the lines up to its sending.
 abbrev pub here : List Line → Option Message → Option Sending
 here lines None = None
 here lines (Some x) = Some (record { message = x; lines = lines })
@@ -162,6 +163,7 @@ abbrev pub collecting : List Line → ℕ → Option Opened
 collecting [] c = None
 collecting (l ∷ before) c = forgotten l.event c (collecting_after (of_bay l.shown c) l.event (collecting before c))
 
+-- The round that an outcome opens.
 abbrev pub round_shown : Outcome → Option ℕ
 round_shown (Collecting r) = Some r
 round_shown outcome = None

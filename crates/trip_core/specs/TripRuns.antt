@@ -62,6 +62,7 @@ abbrev pub TripDecides : Diagram → TripEvent → Shown → List Line → Type 
 TripDecides d (Step e) s before = DecidesWell d before (record { event = e; shown = s })
 TripDecides d (Trip i) s before = ⊤
 
+-- The last line decides as it must.
 abbrev pub TripDecisions : Diagram → List TripLine → Type 0
 TripDecisions d [] = ⊤
 TripDecisions d (l ∷ before) = TripDecides d l.event l.shown (plain before)

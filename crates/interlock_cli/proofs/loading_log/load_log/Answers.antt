@@ -1,6 +1,6 @@
 use Rattle.interlock_cli.specs.Formats.{LogOf}
 use Rattle.interlock_cli.proofs.Cuts.{log, given, failed}
-use Rattle.interlock_cli.proofs.loading.load_log.Goals as goal
+use Rattle.interlock_cli.proofs.loading_log.load_log.Goals as goal
 
 pub returns-clause-ok : goal.returns-clause-ok
 returns-clause-ok g c =
