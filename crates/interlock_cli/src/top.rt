@@ -1,5 +1,5 @@
 // The top call.
-ghost use Rattle.std.specs.Prelude.{◌≡◌, ◌↔◌, map, string_bytes, None, IfOk, IfErr};
+ghost use Rattle.std.specs.Prelude.{◌≡◌, ◌⊎◌, map, string_bytes, None, IfOk, IfErr};
 ghost use Rattle.interlock_cli.specs.Commands.{command_of, form_of};
 ghost use Rattle.interlock_cli.specs.Seen.{seen};
 ghost use Rattle.interlock_cli.specs.Form.{AsksInput, Gives, Stops};
@@ -17,7 +17,7 @@ use crate::replay_command::replay;
 use crate::state_command::state;
 use crate::status::Status;
 use crate::tell::tell;
-use crate::words::{Command, make_command};
+use crate::words::{Command, read_command};
 use ilk_base::{Shelf, Sink, Source, write_all};
 use std::alloc::Global;
 
@@ -78,8 +78,9 @@ fn call<F: Shelf, I: Source, O: Sink>(
     ensures unread { command_of (map string_bytes words.now) ≡ None → shelf.new ≡ shelf.old }
     ensures input { ¬ Asks (command_of (map string_bytes words.now)) → input.new ≡ input.old }
 {
-    let Some(command) = make_command(words) else {
-        return End::Usage;
+    let command = match read_command(alloc, words) {
+        Ok(command) => command,
+        Err(end) => return end,
     };
     if let Command::Node { station, bay } = command {
         return match node(alloc, station, bay, shelf, input, out) {
@@ -129,7 +130,8 @@ pub fn run<F: Shelf, I: Source, O: Sink, E: Sink>(
           after = record { input = I.left input.new; reads = I.faults input.new; out = O.took out.new; writes = O.faults out.new };
         }
         (E.took err.old) (E.took err.new) (E.faults err.old) (E.faults err.new) }
-    ensures usage { (result ≡ Status.Usage) ↔ (command_of (map string_bytes words.now) ≡ None) }
+    ensures usage { result ≡ Status.Usage → command_of (map string_bytes words.now) ≡ None }
+    ensures unnamed { command_of (map string_bytes words.now) ≡ None → (result ≡ Status.Usage) ⊎ (result ≡ Status.Memory) }
     ensures unread { command_of (map string_bytes words.now) ≡ None → shelf.new ≡ shelf.old }
     ensures complete { Completes result (command_of (map string_bytes words.now))
         record {
