@@ -1,0 +1,4 @@
+pub mod RisingLemmas
+pub mod PlanningLemmas
+pub mod LookupLemmas
+pub mod JsonLemmas
