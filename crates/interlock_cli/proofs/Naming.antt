@@ -67,7 +67,8 @@ module _ (name : Text) (rest : List Text) (none : is_row (name ∷ rest) ≡ fal
       (row (codes "make") 2 make_of _ refl (two _)
       (row (codes "compile") 1 compile_of _ refl (one _)
       (row (codes "trips") 2 trips_of _ refl (two _)
-      refl)))))))))
+      (row (codes "plan") 1 plan_of _ refl (one _)
+      refl))))))))))
 
 unnamed : (words : List Text) → is_row words ≡ false → named words ≡ None
 unnamed [] none = refl

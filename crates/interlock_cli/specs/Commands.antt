@@ -17,6 +17,7 @@ use Rattle.interlock_cli.specs.ReplayWrites.{ReplayWrites}
 use Rattle.interlock_cli.specs.TripsWrites.{TripsWrites}
 use Rattle.interlock_cli.specs.AuditWrites.{AuditWrites}
 use Rattle.equation_text.specs.CompileText.{IsCompileText}
+use Rattle.exchange_plan.specs.PlanText.{IsPlanText}
 use Rattle.interlock_cli.specs.declared.end.Outcome.{Outcome}
 use Rattle.interlock_cli.specs.declared.end.Outcome.TheVariants.{Done}
 
@@ -40,6 +41,8 @@ pub data Command : Type 0 where
   Compile : List ℕ → Command
   -- `trips STATION LOG`
   Trips : List ℕ → List ℕ → Command
+  -- `plan STATION`
+  Plan : List ℕ → Command
   -- `make NUMBER station`, or `positions`, or `log`
   Make : ℕ → MadeText → Command
 
@@ -104,6 +107,9 @@ abbrev pub trips_of : List (List ℕ) → Option Command
 trips_of = two_words (λ station log. Some (Trips station log))
 
 -- the words behind `make`
+abbrev pub plan_of : List (List ℕ) → Option Command
+plan_of = one_word (λ station. Some (Plan station))
+
 abbrev pub make_of : List (List ℕ) → Option Command
 make_of = two_words (λ number text. option_and_then (λ n. option_map (λ t. Make n t) (text_named text)) (feeders_of number))
 
@@ -121,6 +127,7 @@ named (name ∷ rest) =
     else if bytes_eq name (codes "make") then make_of rest
     else if bytes_eq name (codes "compile") then compile_of rest
     else if bytes_eq name (codes "trips") then trips_of rest
+    else if bytes_eq name (codes "plan") then plan_of rest
     else None
 
 -- what the words name, where no word is empty or begins with `-`
@@ -153,4 +160,6 @@ form_of (Compile station) =
     Take (File station) Drawing (λ d. Write (IsDone (IsCompileText d)))
 form_of (Trips station log) =
     Take (File station) Drawing (λ d. Take (File log) (TripLogOf d) (λ events. Write (TripsWrites d events)))
+form_of (Plan station) =
+    Take (File station) Drawing (λ d. Write (IsDone (IsPlanText d)))
 form_of (Make number text) = Write (IsDone (λ written. written ≡ made_text text number))

@@ -1,7 +1,7 @@
 -- What a contract sees of a command.
 use Rattle.interlock_cli.specs.Commands as c
 use Rattle.interlock_cli.specs.declared.words.Command.{Command}
-use Rattle.interlock_cli.specs.declared.words.Command.TheVariants.{Check, Explain, State, Order, Replay, Audit, Node, Compile, Trips, Make}
+use Rattle.interlock_cli.specs.declared.words.Command.TheVariants.{Check, Explain, State, Order, Replay, Audit, Node, Compile, Trips, Plan, Make}
 
 -- a command, as the definitions name it
 abbrev pub seen : Command → c.Command
@@ -14,4 +14,5 @@ seen (Audit station equations) = c.Audit station.now equations.now
 seen (Node station bay) = c.Node station.now bay.now
 seen (Compile station) = c.Compile station.now
 seen (Trips station log) = c.Trips station.now log.now
+seen (Plan station) = c.Plan station.now
 seen (Make feeders text) = c.Make feeders.number text

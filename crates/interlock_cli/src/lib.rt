@@ -10,6 +10,7 @@ mod explain_command;
 mod loading;
 mod loading_log;
 mod compile_command;
+mod plan_command;
 mod make_command;
 mod node_command;
 mod order_command;

@@ -1,6 +1,6 @@
 //! What the words name.
 ghost use Rattle.std.specs.Prelude.{◌≡◌, ◌∷◌, map, option_map, string_bytes, Some, IfOk, IfErr};
-ghost use Rattle.interlock_cli.specs.Commands.{replay_of, audit_of, check_of, command_of, direction_of, explain_of, make_of, named, node_of, trips_of, compile_of, order_of, state_of};
+ghost use Rattle.interlock_cli.specs.Commands.{replay_of, audit_of, check_of, command_of, direction_of, explain_of, make_of, named, node_of, plan_of, trips_of, compile_of, order_of, state_of};
 ghost use Rattle.interlock_cli.specs.Ends.{Unread};
 ghost use Rattle.interlock_cli.specs.Seen.{seen};
 
@@ -50,6 +50,9 @@ pub enum Command<'a> {
     Trips {
         station: &'a str,
         log: &'a str,
+    },
+    Plan {
+        station: &'a str,
     },
     Make {
         feeders: Feeders,
@@ -170,6 +173,16 @@ fn trips_words<'a>(rest: &[&'a str]) -> Option<Command<'a>>
     Some(Command::Trips { station, log })
 }
 
+// `plan STATION`.
+fn plan_words<'a>(rest: &[&'a str]) -> Option<Command<'a>>
+    ensures { plan_of (map (λ w. w.now) rest.now) ≡ option_map seen result }
+{
+    let &[station] = rest else {
+        return None;
+    };
+    Some(Command::Plan { station })
+}
+
 // `make NUMBER station`, or `positions`, or `log`.
 fn make_words<'a>(rest: &[&'a str]) -> Option<Command<'a>>
     ensures { make_of (map (λ w. w.now) rest.now) ≡ option_map seen result }
@@ -200,6 +213,7 @@ fn named<'a>(name: &str, rest: &[&'a str]) -> Option<Command<'a>>
         "node" => node_words(rest),
         "compile" => compile_words(rest),
         "trips" => trips_words(rest),
+        "plan" => plan_words(rest),
         "make" => make_words(rest),
         _ => None,
     }

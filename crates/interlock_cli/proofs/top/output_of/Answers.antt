@@ -24,3 +24,21 @@ returns-in-Audit-clause-err g c = rw c.in-Audit.is c.audit.ensures.err
 
 pub returns-in-Replay-clause-err : goal.returns-in-Replay-clause-err
 returns-in-Replay-clause-err g c = rw c.in-Replay.is c.replay.ensures.err
+
+pub returns-in-Compile-clause-ok : goal.returns-in-Compile-clause-ok
+returns-in-Compile-clause-ok g c = rw c.in-Compile.is c.compile.ensures.ok
+
+pub returns-in-Compile-clause-err : goal.returns-in-Compile-clause-err
+returns-in-Compile-clause-err g c = rw c.in-Compile.is c.compile.ensures.err
+
+pub returns-in-Plan-clause-ok : goal.returns-in-Plan-clause-ok
+returns-in-Plan-clause-ok g c = rw c.in-Plan.is c.plan.ensures.ok
+
+pub returns-in-Plan-clause-err : goal.returns-in-Plan-clause-err
+returns-in-Plan-clause-err g c = rw c.in-Plan.is c.plan.ensures.err
+
+pub returns-in-Trips-clause-ok : goal.returns-in-Trips-clause-ok
+returns-in-Trips-clause-ok g c = rw c.in-Trips.is c.trips.ensures.ok
+
+pub returns-in-Trips-clause-err : goal.returns-in-Trips-clause-err
+returns-in-Trips-clause-err g c = rw c.in-Trips.is c.trips.ensures.err
