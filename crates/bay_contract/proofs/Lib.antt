@@ -8,8 +8,13 @@ pub mod SortLemmas
 pub mod ForkLemmas
 pub mod ViewIndexLemmas
 pub mod NextLemmas
+pub mod RenamedLemmas
+pub mod ShiftLemmas
+pub mod CourseLemmas
+pub mod AlikeLemmas
 pub mod PastLemmas
 pub mod AlphabetLemmas
+pub mod PatternLemmas
 pub mod ReverseLemmas
 pub mod WalkingLemmas
 pub mod PartsLemmas

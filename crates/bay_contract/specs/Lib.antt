@@ -3,8 +3,9 @@ pub mod Bases
 pub mod Counting
 pub mod Diagrams
 pub mod Sorting
-pub mod Tables
 pub mod Building
+pub mod Turns
+pub mod Tables
 pub mod PartAlphabets
 pub mod Shapes
 pub mod Alphabets
@@ -13,3 +14,4 @@ pub mod PartsInside
 pub mod Refusing
 pub mod Targets
 pub mod Paths
+pub mod Courses

@@ -1,19 +1,19 @@
 //! The alphabet of one part.
-ghost use Rattle.std.specs.Prelude.{◌≡◌, ◌≢◌, ℕ, ◌+◌, ◌*◌, ◌^◌, ◌<◌, ◌≤◌, ◌↔◌, Bool, List, [], length, slice_index, IfOk, IfErr, IfSome, IfNone, Contains};
-ghost use Rattle.station_graph.specs.Diagram.{AreSwitchesOf};
-ghost use Rattle.station_graph.specs.Sharing.{IsShared};
-ghost use Rattle.bay_contract.specs.Layers.{rank, bits};
+ghost use Rattle.std.specs.Prelude.{◌≡◌, ℕ, ◌+◌, ◌<◌, ◌≤◌, List, Some, length, map, slice_get, IfOk, IfErr};
+ghost use Rattle.contraction.specs.Answers.{Answers, AreNodes};
+ghost use Rattle.contraction.specs.Renaming.{renamed};
+ghost use Rattle.bay_contract.specs.declared.fork.Fork.{Fork};
 ghost use Rattle.bay_contract.specs.Counting.{PartFits, AreStepSizes};
-ghost use Rattle.bay_contract.specs.Building.{IsLayer, AreReversed, IsBuiltFor};
+ghost use Rattle.bay_contract.specs.Building.{IsBuiltFor};
 ghost use Rattle.bay_contract.specs.Refusing.{IsRefusalOf};
+ghost use Rattle.bay_contract.specs.Courses.{IsCourse, IsLikeCourse, IsPattern, ArePatterns, shifted};
 
-use crate::bases::base;
+use crate::course::{Course, course_of};
 use crate::fork::Fork;
-use crate::kept::kept_nodes;
-use crate::layer::{Layer, next_layer};
+use crate::pattern::{Pattern, pattern_of, like_pattern, remember};
 use crate::refusal::PartsRefusal;
 use contraction::Contraction;
-use ilk_base::{BayId, Memory};
+use ilk_base::{BayId, Memory, SwitchId};
 use station_graph::{NodeList, Station};
 use std::alloc::Global;
 use std::marker::Model;
@@ -42,73 +42,73 @@ impl Model for Alphabet {
     ghost invariant = { λ a. IsShaped (seen_as a) };
 }
 
-// The positions of a rank as bits.
-fn reversed(number: u32, count: u16) -> u32
-    requires { count ≤ 24 }
-    ensures { (first : ℕ) (v : List Bool) → rank first count v ≡ number → bits first count v ≡ result }
+// The values on these nodes.
+fn values_on(alloc: Global, values: &[Contraction], nodes: &NodeList) -> Result<Vec<Contraction>, Memory>
+    requires nodes { AreNodes nodes.now }
+    requires sized { (i : ℕ) (c : Answers) → slice_get values.now i ≡ Some c → length c.kept ≡ length nodes.now }
+    ensures { IfOk result (λ l. l.items ≡ map (renamed nodes.now) values.now) }
 {
-    let mut rest = number;
-    let mut out = 0u32;
-    let mut left = count;
-    'digits: while left > 0 {
-        left -= 1;
-        out = 2 * out + rest % 2;
-        rest /= 2;
+    let mut letters = Vec::with_capacity(alloc, values.len())?;
+    for i in 0..values.len() {
+        letters.push(values[i].renamed(alloc, nodes)?)?;
     }
-    out
+    Ok(letters)
 }
 
-// The positions of these ranks as bits.
-fn examples_of(alloc: Global, ranks: &[u32], count: u16) -> Result<Vec<u32>, Memory>
-    requires { count ≤ 24 }
-    ensures { IfOk result (λ e. AreReversed count ranks.now e.items) }
+// The steps of the part whose first switch has this number.
+fn steps_from(alloc: Global, forks: &[Fork], first: u16) -> Result<Vec<Fork>, Memory>
+    requires { (i : ℕ) (f : Fork) → slice_get forks.now i ≡ Some f → first + f.switch.0 < 65536 }
+    ensures { IfOk result (λ l. l.items ≡ map (shifted first) forks.now) }
 {
-    let mut examples = Vec::new(alloc);
-    for number in ranks {
-        examples.push(reversed(*number, count))?;
+    let mut steps = Vec::with_capacity(alloc, forks.len())?;
+    for i in 0..forks.len() {
+        let fork = forks[i];
+        steps.push(Fork {
+            switch: SwitchId(first + fork.switch.0),
+            off: fork.off,
+            on: fork.on,
+        })?;
     }
-    Ok(examples)
+    Ok(steps)
 }
 
-// The limit of values after step j + 1.
-fn limit_after(j: u16, count: u16) -> usize
-    requires { j < count }
-    ensures last { j + 1 ≡ count → result ≡ 255 }
-    ensures on_the_way { j + 1 ≢ count → result ≡ 4096 }
-    ensures most { result ≤ 4096 }
-{
-    if j + 1 == count { 255 } else { 4096 }
-}
-
-// The layer of no switch.
-fn first_layer(
+// The alphabet of a part with this course, which is like that of the pattern.
+fn alphabet_from(
     alloc: Global,
     station: &Station,
-    part: BayId,
-    shared: &NodeList,
+    pattern: &Pattern,
+    course: &Course,
     first: u16,
     count: u16,
-) -> Result<Layer, Memory>
-    requires shared { (n : ℕ) → Contains shared.now n ↔ IsShared station.now part.0 n }
-    requires switches { AreSwitchesOf station.now part.0 first count }
-    ensures layer { IfOk result (λ l. IsLayer station.now part.0 first 0 l.values.items l.ranks.items []) }
-    ensures one { IfOk result (λ l. length l.values.items ≡ 1) }
+) -> Result<Alphabet, Memory>
+    requires course { (part : ℕ) × IsCourse station.now part first count course.now }
+    requires like { IsLikeCourse pattern.now.course course.now }
+    requires pattern { IsPattern station.now pattern.now }
+    ensures built { IfOk result (λ x. (part : ℕ) → IsCourse station.now part first count course.now
+        → IsBuiltFor station.now part x) }
+    ensures steps { IfOk result (λ x. (part : ℕ) → IsCourse station.now part first count course.now
+        → AreStepSizes station.now part (length x.forks)) }
 {
-    let kept = kept_nodes(alloc, station, part, shared, first)?;
-    let value = base(alloc, station, part, &kept)?;
-    let mut values = Vec::new(alloc);
-    values.push(value)?;
-    let mut ranks = Vec::new(alloc);
-    ranks.push(0)?;
-    Ok(Layer { values, ranks })
+    Ok(Alphabet {
+        switches: station.switch_count(),
+        first,
+        count,
+        letters: values_on(alloc, &pattern.values, course.last_nodes())?,
+        examples: Vec::from_slice(alloc, &pattern.examples)?,
+        forks: steps_from(alloc, &pattern.forks, first)?,
+    })
 }
 
-// The alphabet of the part, or the first step at which it passes a limit.
+// The alphabet of the part, or the first step at which it passes a limit. It is that of a pattern whose part is
+// like this one, if there is one, on the nodes of this part; else one more pattern is put last.
 pub(crate) fn alphabet_of(
     alloc: Global,
     station: &Station,
     part: BayId,
+    patterns: &mut Vec<Pattern>,
 ) -> Result<Alphabet, PartsRefusal>
+    requires { ArePatterns station.now patterns.old.items }
+    ensures patterns { IfOk result (λ _. ArePatterns station.now patterns.new.items) }
     ensures built { IfOk result (IsBuiltFor station.now part.0) }
     ensures steps { IfOk result (λ x. AreStepSizes station.now part.0 (length x.forks)) }
     ensures fits { IfOk result (λ _. PartFits station.now part.0) }
@@ -116,33 +116,13 @@ pub(crate) fn alphabet_of(
 {
     let (id, count) = station.switches_of(part);
     let first = id.0;
-    let shared = station.shared_nodes(alloc, part)?;
-    let mut layer = first_layer(alloc, station, part, &shared, first, count)?;
-    let mut forks = Vec::new(alloc);
-    'switches: for j in 0..count {
-        let limit = limit_after(j, count);
-        let next = next_layer(
-            alloc, station, part, &shared, first, j, limit, &layer, &mut forks,
-        )?;
-        match next {
-            Some(after) => {
-                layer = after;
-            }
-            None => {
-                return Err(PartsRefusal::Many {
-                    part,
-                    step: (j + 1) as u8,
-                });
-            }
-        }
+    let course = course_of(alloc, station, part, first, count)?;
+    if let Some(at) = like_pattern(patterns, &course) {
+        let alphabet = alphabet_from(alloc, station, &patterns[at], &course, first, count)?;
+        return Ok(alphabet);
     }
-    let examples = examples_of(alloc, &layer.ranks, count)?;
-    Ok(Alphabet {
-        switches: station.switch_count(),
-        first,
-        count,
-        letters: layer.values,
-        examples,
-        forks,
-    })
+    let pattern = pattern_of(alloc, station, part, course, first, count)?;
+    let alphabet = alphabet_from(alloc, station, &pattern, &pattern.course, first, count)?;
+    remember(patterns, pattern)?;
+    Ok(alphabet)
 }

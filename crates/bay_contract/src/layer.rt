@@ -1,17 +1,15 @@
 //! One layer after another: the values after each switch of a part, and the steps that lead to them.
-ghost use Rattle.std.specs.Prelude.{◌≡◌, ℕ, ◌+◌, ◌*◌, ◌^◌, ◌<◌, ◌≤◌, ◌↔◌, length, slice_index, IfOk, IfSome, IfNone, Contains};
-ghost use Rattle.station_graph.specs.Connection.{a_switch};
-ghost use Rattle.station_graph.specs.Sharing.{IsShared, OfPart};
-ghost use Rattle.bay_contract.specs.Layers.{SameLayer};
-ghost use Rattle.bay_contract.specs.Counting.{ArePast};
-ghost use Rattle.bay_contract.specs.Building.{IsLayer, Forked, Ranked};
+ghost use Rattle.std.specs.Prelude.{◌≡◌, ℕ, ◌+◌, ◌*◌, ◌^◌, ◌<◌, ◌≤◌, length, slice_get, slice_index, Some, IfOk, IfSome, IfNone, Contains};
+ghost use Rattle.station_graph.specs.Nodes.{Rises};
+ghost use Rattle.contraction.specs.Answers.{Answers, Keeps};
+ghost use Rattle.bay_contract.specs.Building.{Forked, Ranked};
+ghost use Rattle.bay_contract.specs.Turns.{Turns, TurnsPast};
 
+use crate::course::Turn;
 use crate::fork::Fork;
-use crate::kept::kept_nodes;
 use crate::sorted::sorted;
 use contraction::Contraction;
-use ilk_base::{BayId, Memory, SwitchId};
-use station_graph::{NodeList, Station};
+use ilk_base::{Memory, SwitchId};
 use std::alloc::Global;
 
 // One step for each value of the last layer: places 2i and 2i + 1 say where value i leads.
@@ -57,38 +55,35 @@ pub(crate) struct Layer {
     pub(crate) ranks: Vec<u32>,
 }
 
-// The layer after one more switch of the part; none where it has more values than the limit.
+// The layer after the switch of the turn, which is switch j of the part; none where it has more values than
+// the limit.
 pub(crate) fn next_layer(
     alloc: Global,
-    station: &Station,
-    part: BayId,
-    shared: &NodeList,
-    first: u16,
+    turn: &Turn,
     j: u16,
     limit: usize,
     layer: &Layer,
     forks: &mut Vec<Fork>,
 ) -> Result<Option<Layer>, Memory>
-    requires own { OfPart station.now part.0 (a_switch (first + j)) }
-    requires shared { (n : ℕ) → Contains shared.now n ↔ IsShared station.now part.0 n }
     requires few { length layer.now.values.items ≤ 4096 }
     requires limit { limit ≤ 4096 }
     requires low { j < 24 }
-    requires room { first + j < 65535 }
     requires steps { length forks.old.items ≤ 4096 * j }
-    requires layer { IsLayer station.now part.0 first j layer.now.values.items layer.now.ranks.items forks.old.items }
-    ensures next { IfOk result (λ o. IfSome o (λ n. IsLayer station.now part.0 first (j + 1) n.values.items n.ranks.items forks.new.items)) }
+    requires kept { (i : ℕ) (x : Answers) → slice_get layer.now.values.items i ≡ Some x
+        → (n : ℕ) → Contains turn.now.kept n → Keeps x.kept n }
+    requires rises { Rises turn.now.kept }
+    requires ranks { length layer.now.ranks.items ≡ length layer.now.values.items }
+    requires small { (i : ℕ) → i < length layer.now.ranks.items → slice_index layer.now.ranks.items i < 2 ^ 30 }
+    ensures next { IfOk result (λ o. IfSome o (λ n. Turns j turn.now layer.now.values.items layer.now.ranks.items
+        forks.old.items n.values.items n.ranks.items forks.new.items)) }
     ensures within { IfOk result (λ o. IfSome o (λ n. length n.values.items ≤ limit)) }
-    ensures added { IfOk result (λ o. IfSome o (λ _. length forks.new.items ≡ length forks.old.items + length layer.now.values.items)) }
-    ensures past { IfOk result (λ o. IfNone o (ArePast station.now (SameLayer station.now part.0 (first + (j + 1))) limit)) }
+    ensures past { IfOk result (λ o. IfNone o (TurnsPast turn.now layer.now.values.items limit)) }
 {
-    let id = SwitchId(first + j);
-    let kept = kept_nodes(alloc, station, part, shared, first + j + 1)?;
-    let next = sorted(alloc, station, part, id, &layer.values, &kept, limit)?;
+    let next = sorted(alloc, turn, &layer.values, limit)?;
     if next.table.values.len() > limit {
         return Ok(None);
     }
-    fork_all(forks, id, &next.targets, layer.values.len())?;
+    fork_all(forks, SwitchId(j), &next.targets, layer.values.len())?;
     let ranks = ranks_after(alloc, &layer.ranks, &next.origins)?;
     Ok(Some(Layer {
         values: next.table.values,

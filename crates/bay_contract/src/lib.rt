@@ -4,13 +4,16 @@
 //! part in place of all its positions.
 #![tactic(auto)]
 
+mod alike;
 mod alphabet;
 mod bases;
+mod course;
 mod fork;
 mod kept;
 mod laws;
 mod layer;
 mod parts;
+mod pattern;
 mod possible;
 mod readers;
 mod refusal;

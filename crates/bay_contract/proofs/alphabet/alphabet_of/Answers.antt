@@ -1,71 +1,44 @@
-use Rattle.std.proofs.Common.{◌≡◌, ◌+◌, ℕ, List, [], length, refl, sym, subst, arith}
-use Rattle.bay_contract.specs.declared.fork.Fork.{Fork}
-use Rattle.bay_contract.specs.Building.{AreReversed, IsBuilt}
-use Rattle.bay_contract.specs.Diagrams.{ForksFit, AreStaged}
-use Rattle.bay_contract.proofs.AlphabetLemmas.{so_far_none, so_far_next, so_far_past, own_at, room_at, count_few, so_far_alphabet, so_far_fits, so_far_sizes, examples_small}
+use Rattle.std.proofs.Common.{◌≡◌, ◌<◌, ℕ, List, Some, length, slice_get, sym, ◌∙◌, ap, subst, arith}
+use Rattle.std.proofs.lemmas.Option.{slice_get-get_or}
+use Rattle.bay_contract.specs.declared.course.Course.{Course}
+use Rattle.bay_contract.specs.declared.pattern.Pattern.{Pattern}
+use Rattle.bay_contract.specs.Courses.{IsCourse, IsLikeCourse}
+use Rattle.bay_contract.proofs.CourseLemmas.{like_self}
+use Rattle.bay_contract.proofs.PatternLemmas.{patterns_more}
 use Rattle.bay_contract.proofs.alphabet.alphabet_of.Goals as goal
 
-pub switches-init : goal.switches-init
-switches-init c = so_far_none c.args.station.now c.args.part.0 c.switches_of-count.result.0.0 c.switches_of-count.result.1 c.in_ok-layer.layer.values.items c.in_ok-layer.layer.ranks.items c.new-forks.result.items c.in_ok-layer.ensures.layer c.in_ok-layer.ensures.one c.new-forks.ensures.items
+pub alphabet_from-requires-clause-like : goal.alphabet_from-requires-clause-like
+alphabet_from-requires-clause-like c =
+    let there : slice_get c.args.patterns.now.items c.in-Some.at ≡ Some c.index.result.now = slice_get-get_or c.args.patterns.now.items c.in-Some.at c.index.result.now (omega (arith, c.in-Some.ensures.within, ap length c.deref.ensures.value)) ∙ ap Some (sym c.index.ensures) in
+    c.in-Some.ensures.like c.index.result.now (ap (λ (l : List Pattern). slice_get l c.in-Some.at) c.deref.ensures.value ∙ there)
 
-pub switches-preserved : goal.switches-preserved
-switches-preserved c =
-    so_far_next c.args.station.now c.args.part.0 c.switches_of-count.result.0.0 c.switches_of-count.result.1 c.switches.j c.limit_after-limit.result c.switches.layer.values.items c.in-Some.after.values.items c.switches.layer.ranks.items c.in-Some.after.ranks.items c.switches.forks.items c.next_layer.new.forks.items c.switches.invariant
-    (rw c.in-Some.is at c.in_ok-next.ensures.next) (rw c.in-Some.is at c.in_ok-next.ensures.within) (rw c.in-Some.is at c.in_ok-next.ensures.added) c.limit_after-limit.ensures.last c.limit_after-limit.ensures.most
+pub alphabet_from-requires-clause-pattern : goal.alphabet_from-requires-clause-pattern
+alphabet_from-requires-clause-pattern c =
+    let there : slice_get c.args.patterns.now.items c.in-Some.at ≡ Some c.index.result.now = slice_get-get_or c.args.patterns.now.items c.in-Some.at c.index.result.now (omega (arith, c.in-Some.ensures.within, ap length c.deref.ensures.value)) ∙ ap Some (sym c.index.ensures) in
+    c.requires c.in-Some.at c.index.result.now there
 
-pub next_layer-requires-clause-own : goal.next_layer-requires-clause-own
-next_layer-requires-clause-own c = own_at c.args.station.now c.args.part.0 c.switches_of-count.result.0.0 c.switches_of-count.result.1 c.switches.j c.switches_of-count.ensures.value c.switches-test.true
+pub returns-in-Some-clause-built : goal.returns-in-Some-clause-built
+returns-in-Some-clause-built c = c.in_ok-alphabet.ensures.built c.args.part.0 c.in_ok-course.ensures
 
-pub next_layer-requires-clause-low : goal.next_layer-requires-clause-low
-next_layer-requires-clause-low c = (room_at c.args.station.now c.args.part.0 c.switches_of-count.result.0.0 c.switches_of-count.result.1 c.switches.j c.switches_of-count.ensures.station c.switches_of-count.ensures.value c.switches-test.true).0
+pub returns-in-Some-clause-fits : goal.returns-in-Some-clause-fits
+returns-in-Some-clause-fits c =
+    let there : slice_get c.args.patterns.now.items c.in-Some.at ≡ Some c.index.result.now = slice_get-get_or c.args.patterns.now.items c.in-Some.at c.index.result.now (omega (arith, c.in-Some.ensures.within, ap length c.deref.ensures.value)) ∙ ap Some (sym c.index.ensures) in
+    let like = c.in-Some.ensures.like c.index.result.now (ap (λ (l : List Pattern). slice_get l c.in-Some.at) c.deref.ensures.value ∙ there) in
+    ((c.requires c.in-Some.at c.index.result.now there).serves c.args.part.0 c.switches_of-count.result.0.0 c.switches_of-count.result.1 c.in_ok-course.course c.in_ok-course.ensures like).fits
 
-pub next_layer-requires-clause-room : goal.next_layer-requires-clause-room
-next_layer-requires-clause-room c = (room_at c.args.station.now c.args.part.0 c.switches_of-count.result.0.0 c.switches_of-count.result.1 c.switches.j c.switches_of-count.ensures.station c.switches_of-count.ensures.value c.switches-test.true).1
+pub alphabet_from-requires-2-clause-like : goal.alphabet_from-requires-2-clause-like
+alphabet_from-requires-2-clause-like c =
+    subst (λ (y : Course). IsLikeCourse y y) (sym c.in_ok-pattern.ensures.course) (like_self c.args.station.now c.args.part.0 c.switches_of-count.result.0.0 c.switches_of-count.result.1 c.in_ok-course.course c.in_ok-course.ensures)
 
-pub next_layer-requires-clause-layer : goal.next_layer-requires-clause-layer
-next_layer-requires-clause-layer c = c.switches.invariant.layer
-
-pub returns-in-None-clause-refusal : goal.returns-in-None-clause-refusal
-returns-in-None-clause-refusal c =
-    (refl, so_far_past c.args.station.now c.args.part.0 c.switches_of-count.result.0.0 c.switches_of-count.result.1 c.switches.j c.limit_after-limit.result c.switches.layer.values.items c.switches.layer.ranks.items c.switches.forks.items c.switches_of-count.ensures.value c.switches.invariant c.switches-test.true (rw c.in-None.is at c.in_ok-next.ensures.past) c.limit_after-limit.ensures.last c.limit_after-limit.ensures.on_the_way)
-
-pub examples_of-requires : goal.examples_of-requires
-examples_of-requires c = count_few c.args.station.now c.args.part.0 c.switches_of-count.result.0.0 c.switches_of-count.result.1 c.switches_of-count.ensures.station c.switches_of-count.ensures.value
+pub returns-clause-patterns : goal.returns-clause-patterns
+returns-clause-patterns c = patterns_more c.args.station.now c.args.patterns.now.items c.remember.new.patterns.items c.in_ok-pattern.pattern c.requires c.in_ok-remember.ensures c.in_ok-pattern.ensures.pattern
 
 pub returns-clause-built : goal.returns-clause-built
 returns-clause-built c =
-    let at_end : c.switches.j ≡ c.switches_of-count.result.1 = omega (arith, c.switches-test.false, c.switches.auto.j-end) in
-    record {
-      switches = c.switch_count.ensures.count;
-      built = so_far_alphabet c.args.station.now c.args.part.0 c.switches_of-count.result.0.0 c.switches_of-count.result.1 c.switches.j c.switches.layer.values.items c.switches.layer.ranks.items c.in_ok-examples.examples.items c.switches.forks.items c.switches_of-count.ensures.value at_end c.switches.invariant
-          (subst (λ (l : List ℕ). AreReversed c.switches_of-count.result.1 l c.in_ok-examples.examples.items) c.deref.ensures.value c.in_ok-examples.ensures);
-    }
-
-pub returns-clause-steps : goal.returns-clause-steps
-returns-clause-steps c =
-    let at_end : c.switches.j ≡ c.switches_of-count.result.1 = omega (arith, c.switches-test.false, c.switches.auto.j-end) in
-    so_far_sizes c.args.station.now c.args.part.0 c.switches_of-count.result.0.0 c.switches_of-count.result.1 c.switches.j c.switches.layer.values.items c.switches.layer.ranks.items c.switches.forks.items c.switches_of-count.ensures.value at_end c.switches.invariant
+    c.in_ok-alphabet-2.ensures.built c.args.part.0 (subst (λ (y : Course). IsCourse c.args.station.now c.args.part.0 c.switches_of-count.result.0.0 c.switches_of-count.result.1 y) (sym c.in_ok-pattern.ensures.course) c.in_ok-course.ensures)
 
 pub returns-clause-fits : goal.returns-clause-fits
 returns-clause-fits c =
-    let at_end : c.switches.j ≡ c.switches_of-count.result.1 = omega (arith, c.switches-test.false, c.switches.auto.j-end) in
-    so_far_fits c.args.station.now c.args.part.0 c.switches_of-count.result.0.0 c.switches_of-count.result.1 c.switches.j c.switches.layer.values.items c.switches.layer.ranks.items c.switches.forks.items c.switches_of-count.ensures.value at_end c.switches.invariant
-
-pub invariant_of-result : goal.invariant_of-result
-invariant_of-result c =
-    let at_end : c.switches.j ≡ c.switches_of-count.result.1 = omega (arith, c.switches-test.false, c.switches.auto.j-end) in
-    let al : IsBuilt c.args.station.now c.args.part.0 c.switches_of-count.result.0.0 c.switches_of-count.result.1 c.switches.layer.values.items c.in_ok-examples.examples.items c.switches.forks.items =
-    so_far_alphabet c.args.station.now c.args.part.0 c.switches_of-count.result.0.0 c.switches_of-count.result.1 c.switches.j c.switches.layer.values.items c.switches.layer.ranks.items c.in_ok-examples.examples.items c.switches.forks.items c.switches_of-count.ensures.value at_end c.switches.invariant
-    (subst (λ (l : List ℕ). AreReversed c.switches_of-count.result.1 l c.in_ok-examples.examples.items) c.deref.ensures.value c.in_ok-examples.ensures) in
-    record {
-      some = al.size.0;
-      few = al.size.1;
-      examples = al.examples_count;
-      small = examples_small c.args.station.now c.args.part.0 c.switches_of-count.result.0.0 c.switches_of-count.result.1 c.switches.layer.values.items c.in_ok-examples.examples.items c.switches.forks.items al;
-      few_switches = count_few c.args.station.now c.args.part.0 c.switches_of-count.result.0.0 c.switches_of-count.result.1 c.switches_of-count.ensures.station c.switches_of-count.ensures.value;
-      within = omega (arith, al.switches.within, c.switch_count.ensures.count);
-      numbered = omega (arith, c.switch_count.ensures.count, c.switches_of-count.ensures.station.items.switches_few);
-      few_steps = omega (arith, c.switches.invariant.steps, count_few c.args.station.now c.args.part.0 c.switches_of-count.result.0.0 c.switches_of-count.result.1 c.switches_of-count.ensures.station c.switches_of-count.ensures.value, at_end);
-      fit = subst (λ n. ForksFit n (length c.switches.layer.values.items) c.switches.forks.items) (sym c.switch_count.ensures.count) al.fit;
-      staged = subst (λ n. AreStaged c.switches_of-count.result.0.0 n c.switches.forks.items) at_end c.switches.invariant.layer.staged;
-    }
+    let self = like_self c.args.station.now c.args.part.0 c.switches_of-count.result.0.0 c.switches_of-count.result.1 c.in_ok-course.course c.in_ok-course.ensures in
+    let like : IsLikeCourse c.in_ok-pattern.pattern.course c.in_ok-course.course = subst (λ (y : Course). IsLikeCourse y c.in_ok-course.course) (sym c.in_ok-pattern.ensures.course) self in
+    (c.in_ok-pattern.ensures.pattern.serves c.args.part.0 c.switches_of-count.result.0.0 c.switches_of-count.result.1 c.in_ok-course.course c.in_ok-course.ensures like).fits
