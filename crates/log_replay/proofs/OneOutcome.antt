@@ -23,7 +23,7 @@ use Rattle.log_replay.proofs.ReportLemmas.{each_at}
 
 -- ---- kinds
 
-abbrev kind_of : LogEvent → RecordKind
+abbrev pub kind_of : LogEvent → RecordKind
 kind_of (TellsAt i closed) = At
 kind_of (Step (event.Command op)) = Command
 kind_of (Step (event.Sense i word)) = Sense
@@ -55,8 +55,8 @@ mark text = 256 * length text + slice_index_or text 0 0
 
 abbrev of_mark : ℕ → RecordKind
 of_mark n = if n == 609 then At else if n == 1891 then Command else if n == 1395 then Sense else if n == 1892 then
-  Deliver else if n == 1140 then Tick else if n == 2167 then Withdraw else if n == 1906 then Restart else if n == 1378
-  then Begin else if n == 869 then End else if n == 1136 then Part else Cut
+    Deliver else if n == 1140 then Tick else if n == 2167 then Withdraw else if n == 1906 then Restart else if n == 1378
+    then Begin else if n == 869 then End else if n == 1136 then Part else Cut
 
 marked : (k : RecordKind) → of_mark (mark (kind_name k)) ≡ k
 marked At = refl
@@ -74,7 +74,7 @@ marked Cut = refl
 one_kind : (j k : RecordKind) → kind_name j ≡ kind_name k → j ≡ k
 one_kind j k is = sym (marked j) ∙ ap (λ (text : List ℕ). of_mark (mark text)) is ∙ marked k
 
-of_row : (d : Diagram) (row : List (List ℕ)) (e : LogEvent) → Says d row e → field row 0 ≡ kind_name (kind_of e)
+pub of_row : (d : Diagram) (row : List (List ℕ)) (e : LogEvent) → Says d row e → field row 0 ≡ kind_name (kind_of e)
 of_row d row e says = ap (λ (r : List (List ℕ)). field r 0) says.written ∙ first_field d e
 
 -- ---- what a record says has no fault
@@ -135,16 +135,16 @@ is_word d (Step (event.Part n bytes)) = tt
 is_word d (Step (event.Cut i)) = tt
 
 at_place : (d : Diagram) (i : ℕ) → IsStation d → i < length d.switches →
-  slice_get d.switch_paths i ≡ Some (switch_path d i)
+    slice_get d.switch_paths i ≡ Some (switch_path d i)
 at_place d i station lt = slice_get-get_or d.switch_paths i [] (omega (arith, lt, station.items.paths))
 
 one_path : (d : Diagram) (i j : ℕ) → IsStation d → i < length d.switches → j < length d.switches →
-  switch_path d i ≡ switch_path d j → i ≡ j
+    switch_path d i ≡ switch_path d j → i ≡ j
 one_path d i j station low high is = station.paths_differ.switches i j (switch_path d j) (at_place d i station low
-  ∙ ap Some is) (at_place d j station high)
+    ∙ ap Some is) (at_place d j station high)
 
 not_again : (d : Diagram) (before : List LogEvent) (e : LogEvent) → IsStation d → MayBeTold d e → MayFollow before e →
-  IsAgain d before (kind_of e) (field (event_row d e) 1) → ⊥
+    IsAgain d before (kind_of e) (field (event_row d e) 1) → ⊥
 not_again d before (TellsAt j closed) station told follows (i, path, lt, again) =
     let same : j.0 ≡ i = one_path d j.0 i station told lt path in
     let no : tell_of i before ≡ false = ap (λ (s : ℕ). tell_of s before) (sym same) ∙ follows.1 in
@@ -161,7 +161,7 @@ not_again d before (Step (event.Part n bytes)) station told follows again = agai
 not_again d before (Step (event.Cut i)) station told follows again = again
 
 are_numbers : (d : Diagram) (e : LogEvent) → MayBeTold d e → AreNumbers (kind_of e) (field (event_row d e) 1)
-  (field (event_row d e) 2)
+    (field (event_row d e) 2)
 are_numbers d (TellsAt i closed) told = tt
 are_numbers d (Step (event.Command op)) told = tt
 are_numbers d (Step (event.Sense i word)) told = tt
@@ -171,36 +171,38 @@ are_numbers d (Step (event.Withdraw b)) told = tt
 are_numbers d (Step (event.Restart b)) told = tt
 are_numbers d (Step (event.Begin i)) told = tt
 are_numbers d (Step (event.End i)) told = tt
-are_numbers d (Step (event.Part n bytes)) told = ((n, record { written = refl; low = told.1.0.0; high = told.1.0.1 }),
-  (bytes, record { written = refl; low = omega arith; high = told.1.1 }))
+are_numbers d (Step (event.Part n bytes)) told = (
+  (n, record { written = refl; low = told.1.0.0; high = told.1.0.1 }),
+  (bytes, record { written = refl; low = omega arith; high = told.1.1 }),
+)
 are_numbers d (Step (event.Cut i)) told = tt
 
 no_kind_fault : (d : Diagram) (before : List LogEvent) (e : LogEvent) (number : ℕ) → IsStation d →
-  IsText (event_row d e) → MayBeTold d e → MayFollow before e →
-  KindFault d before (kind_of e) (event_row d e) number → ⊥
+    IsText (event_row d e) → MayBeTold d e → MayFollow before e →
+    KindFault d before (kind_of e) (event_row d e) number → ⊥
 no_kind_fault d before e number station texts told follows (KindFault.no_form none is) = none (form_of d e texts)
 no_kind_fault d before e number station texts told follows (KindFault.late form late is) =
-  not_late before e follows late
+    not_late before e follows late
 no_kind_fault d before e number station texts told follows (KindFault.unknown form early none is) =
-  none (is_known d e station told)
+    none (is_known d e station told)
 no_kind_fault d before e number station texts told follows (KindFault.no_word form early known none is) =
-  none (is_word d e)
+    none (is_word d e)
 no_kind_fault d before e number station texts told follows (KindFault.again form early known word again is) =
-  not_again d before e station told follows again
+    not_again d before e station told follows again
 no_kind_fault d before e number station texts told follows (KindFault.no_number form early known word once none is) =
-  none (are_numbers d e told)
+    none (are_numbers d e told)
 
-no_fault : (d : Diagram) (before : List LogEvent) (row : List (List ℕ)) (e : LogEvent) (number : ℕ) → IsStation d →
-  Says d row e → IsText row → MayFollow before e → length before < MOST_RECORDS → RecordFault d before row number → ⊥
+pub no_fault : (d : Diagram) (before : List LogEvent) (row : List (List ℕ)) (e : LogEvent) (number : ℕ) → IsStation d →
+    Says d row e → IsText row → MayFollow before e → length before < MOST_RECORDS → RecordFault d before row number → ⊥
 no_fault d before row e number station says texts follows few (RecordFault.too_many many is) = omega (arith, few, many)
 no_fault d before row e number station says texts follows few (RecordFault.no_kind room none is) =
-  none (kind_of e) (of_row d row e says)
+    none (kind_of e) (of_row d row e says)
 no_fault d before row e number station says texts follows few (RecordFault.of_kind k room named fault) =
     let same : k ≡ kind_of e = one_kind k (kind_of e) (sym named ∙ of_row d row e says) in
     let it : KindFault d before (kind_of e) row number = subst (λ (x : RecordKind). KindFault d before x row number)
-      same fault in
+    same fault in
     no_kind_fault d before e number station (subst IsText says.written texts) says.told follows
-      (subst (λ (r : List (List ℕ)). KindFault d before (kind_of e) r number) says.written it)
+    (subst (λ (r : List (List ℕ)). KindFault d before (kind_of e) r number) says.written it)
 
 -- ---- what records say
 
@@ -224,25 +226,25 @@ step_is (Step (event.Cut i)) = refl
 kinds_same : (d : Diagram) (row : List (List ℕ)) (x y : LogEvent) → Says d row x → Says d row y → kind_of x ≡ kind_of y
 kinds_same d row x y a b = one_kind (kind_of x) (kind_of y) (sym (of_row d row x a) ∙ of_row d row y b)
 
-steps_same : (d : Diagram) (row : List (List ℕ)) (x y : LogEvent) → Says d row x → Says d row y → is_step x ≡ is_step y
+pub steps_same : (d : Diagram) (row : List (List ℕ)) (x y : LogEvent) → Says d row x → Says d row y → is_step x ≡ is_step y
 steps_same d row x y a b = step_is x ∙ ap step_kind (kinds_same d row x y a b) ∙ sym (step_is y)
 
-told_same : (d : Diagram) (s : ℕ) → IsStation d → (row : List (List ℕ)) (x y : LogEvent) → Says d row x → Says d row y →
-  is_told_of s x ≡ is_told_of s y
+pub told_same : (d : Diagram) (s : ℕ) → IsStation d → (row : List (List ℕ)) (x y : LogEvent) → Says d row x → Says d row y →
+    is_told_of s x ≡ is_told_of s y
 told_same d s station row (TellsAt i closed) (TellsAt j shut) a b =
     let path : switch_path d i.0 ≡ switch_path d j.0 = ap (λ (r : List (List ℕ)). field r 1) (sym a.written
-      ∙ b.written) in
+    ∙ b.written) in
     ap (λ (n : ℕ). n == s) (one_path d i.0 j.0 station a.told b.told path)
 told_same d s station row (TellsAt i closed) (Step e) a b = let is = steps_same d row (TellsAt i closed) (Step e) a b in
-  absurd (cc is)
+    absurd (cc is)
 told_same d s station row (Step e) (TellsAt j shut) a b = let is = steps_same d row (Step e) (TellsAt j shut) a b in
-  absurd (cc is)
+    absurd (cc is)
 told_same d s station row (Step e) (Step f) a b = refl
 
 any_same : (d : Diagram) (test : LogEvent → Bool) → ((row : List (List ℕ)) (x y : LogEvent) → Says d row x →
-  Says d row y → test x ≡ test y) → (rows : List (List (List ℕ))) (events before : List LogEvent)
+    Says d row y → test x ≡ test y) → (rows : List (List (List ℕ))) (events before : List LogEvent)
     → AllZip (Says d) rows events → AllZip (Says d) (take (length before) rows) before →
-      list_any test before ≡ list_any test (take (length before) events)
+    list_any test before ≡ list_any test (take (length before) events)
 any_same d test same rows events [] a b = refl
 any_same d test same [] events (y ∷ before) a b = absurd b
 any_same d test same (row ∷ rows) [] (y ∷ before) a b = absurd a
@@ -252,22 +254,22 @@ any_same d test same (row ∷ rows) (x ∷ events) (y ∷ before) a b =
     rw (first, rest) refl
 
 said_at : (d : Diagram) (rows : List (List (List ℕ))) (events : List LogEvent) (k : ℕ) (row : List (List ℕ)) →
-  AllZip (Says d) rows events → slice_get rows k ≡ Some row → (e : LogEvent) × (slice_get events k ≡ Some e)
-  × Says d row e
+    AllZip (Says d) rows events → slice_get rows k ≡ Some row → (e : LogEvent) × (slice_get events k ≡ Some e)
+    × Says d row e
 said_at d [] events k row a at = absurd (cc at)
 said_at d (r ∷ rows) [] k row a at = absurd a
 said_at d (r ∷ rows) (x ∷ events) zero row a at = let same : r ≡ row = cc at in
-  (x, refl, subst (λ (y : List (List ℕ)). Says d y x) same a.0)
+    (x, refl, subst (λ (y : List (List ℕ)). Says d y x) same a.0)
 said_at d (r ∷ rows) (x ∷ events) (suc k) row a at = said_at d rows events k row a.1 at
 
-follows_too : (before events : List LogEvent) (e : LogEvent) → has_step before ≡ has_step events →
-  ((s : ℕ) → tell_of s before ≡ tell_of s events) → MayFollow events e → MayFollow before e
+pub follows_too : (before events : List LogEvent) (e : LogEvent) → has_step before ≡ has_step events →
+    ((s : ℕ) → tell_of s before ≡ tell_of s events) → MayFollow events e → MayFollow before e
 follows_too before events (TellsAt i closed) steps tells follows = (steps ∙ follows.0, tells i.0 ∙ follows.1)
 follows_too before events (Step e) steps tells follows = tt
 
 -- no text is a log and refused as one
 pub log_not_refused : (d : Diagram) (bytes : List ℕ) (events : List LogEvent) (r : InputRefusal) → IsStation d →
-  IsLog d bytes events → IsLogFault d bytes r → ⊥
+    IsLog d bytes events → IsLogFault d bytes r → ⊥
 log_not_refused d bytes events r station log (inl (long, is)) = omega (arith, log.few_bytes, long)
 log_not_refused d bytes events r station log (inr (short, first)) =
     let rows = rows_of bytes in
@@ -279,4 +281,4 @@ log_not_refused d bytes events r station log (inr (short, first)) =
     (λ s. any_same d (is_told_of s) (told_same d s station) rows events first.before log.tell.each first.tell.each)
     (log.tell.order k said.0 said.1) in
     no_fault d first.before first.row said.0 r.number station said.2 (each_at IsText rows k first.row log.tell.texts
-      first.stands) follows (omega (arith, within, log.tell.few)) first.fault
+    first.stands) follows (omega (arith, within, log.tell.few)) first.fault

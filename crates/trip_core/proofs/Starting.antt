@@ -1,5 +1,6 @@
 -- The facts hold at the start.
-use Rattle.std.proofs.Common.{◌≡◌, ℕ, zero, suc, Bool, List, length, get_or, slice_get, replicate, None, refl, sym, subst, ap, ◌∙◌, inl, arith}
+use Rattle.std.proofs.Common.{◌≡◌, ℕ, zero, suc, Bool, List, length, get_or, slice_get, replicate, None, refl, sym}
+use Rattle.std.proofs.Common.{subst, ap, ◌∙◌, inl, arith}
 use Rattle.std.proofs.lemmas.List.{length-replicate}
 use Rattle.ilk_base.specs.declared.words.Dbpos.{Dbpos}
 use Rattle.ilk_base.specs.declared.words.Dbpos.TheVariants.{Lost}
@@ -26,12 +27,19 @@ trip_starts m start s is =
       clocked = record {
         each_sensed = ap (λ (x : List ℕ). length x) is.sensed ∙ length-replicate (length m.diagram.switches) 0;
         each_tripped = ap (λ (x : List ℕ). length x) is.tripped ∙ length-replicate (length m.diagram.switches) 0;
-        each_beside = ap (λ (x : List (List Note)). length x) is.beside ∙ sym (ap (λ (x : List Frame). length x) new.sent);
+        each_beside = ap (λ (x : List (List Note)). length x) is.beside ∙ sym (ap (λ
+            (x : List Frame). length x) new.sent);
         each_known = is.each_known;
-        each_note = λ b lt. ap (λ (x : List Note). length x) (is.known b lt) ∙ length-replicate (length m.diagram.switches) lost;
-        tripped = λ i lt. let none : tripped_at s.tripped i ≡ 0 = ap (λ (x : List ℕ). get_or x i 0) is.tripped ∙ get_same (length m.diagram.switches) i 0 in omega (arith, none);
+        each_note = λ b lt. ap (λ (x : List Note). length x) (is.known b lt) ∙ length-replicate
+            (length m.diagram.switches) lost;
+        tripped = λ i lt. let none : tripped_at s.tripped i ≡ 0 = ap (λ (x : List ℕ). get_or x i 0) is.tripped
+            ∙ get_same (length m.diagram.switches) i 0 in omega (arith, none);
       };
-      rounds = record { rounds = starts_rounds m start w new; count = ap length is.world.beside ∙ sym (ap length new.sent) };
+      rounds = record {
+        rounds = starts_rounds m start w new;
+        count = ap length is.world.beside ∙ sym
+            (ap length new.sent);
+      };
       truth = record {
         words_are = λ i lt. refl;
         words = λ i lt free. inl (record {
@@ -40,7 +48,9 @@ trip_starts m start s is =
         });
         made = λ k f t got. absurd (no_message m start w new k f got);
         answers = λ k f t got. absurd (no_message m start w new k f got);
-        heard = λ c g has. let none : (node m.diagram w c).collecting ≡ None = ap (λ (n : State). n.collecting) (fresh m start w new c) in absurd (cc (has, none));
-        grants = λ c g has. let none : (node m.diagram w c).granted ≡ None = ap (λ (n : State). n.granted) (fresh m start w new c) in absurd (cc (has, none));
+        heard = λ c g has. let none : (node m.diagram w c).collecting ≡ None = ap (λ (n : State). n.collecting)
+            (fresh m start w new c) in absurd (cc (has, none));
+        grants = λ c g has. let none : (node m.diagram w c).granted ≡ None = ap (λ (n : State). n.granted)
+            (fresh m start w new c) in absurd (cc (has, none));
       };
     }

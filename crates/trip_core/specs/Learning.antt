@@ -31,7 +31,8 @@ heard_note None true bay beside known = known
 abbrev pub learned_note : Option ℕ → Bool → Bool → Bool → ℕ → ℕ → Note → Note → Note → Note
 learned_note from collected granted true bay b own beside known = heard_note from collected bay beside known
 learned_note from collected true false bay b own beside known = known
-learned_note from collected false false bay b own beside known = if bay == b then own else heard_note from collected bay beside known
+learned_note from collected false false bay b own beside known =
+    if bay == b then own else heard_note from collected bay beside known
 
 -- The frame is an Answer with the round that is collected, and its summary fits.
 pub record IsCounted (m : Meaning) (f : Frame) (collected : Option ℕ) : Type 0 where

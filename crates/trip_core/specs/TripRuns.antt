@@ -46,7 +46,8 @@ TripPremisesHold d start [] = ⊤
 TripPremisesHold d start (l ∷ before) = TripMayHappen d start before l.event × TripPremisesHold d start before
 
 -- The event breaks this premise, by the lines before it.
-pub record IsTripBroken (d : Diagram) (start : List Bool) (before : List TripLine) (event : WorldEvent) (which : Which) : Type 0 where
+pub record IsTripBroken (d : Diagram) (start : List Bool) (before : List TripLine) (event : WorldEvent)
+    (which : Which) : Type 0 where
   pub broken : ¬ MayHappenBy d (trip_true d start before) (trip_drives before) (plain before) event
   pub named : IsPremiseOf event which
 
@@ -70,11 +71,14 @@ TripDecisions d (l ∷ before) = TripDecides d l.event l.shown (plain before)
 -- To no operation that was granted and has not ended do the first two rules apply, in any vector that resolves the
 -- truth, whatever has tripped.
 abbrev pub ObeysGapSince : Diagram → List Bool → List TripLine → Type 0
-ObeysGapSince d start lines = (c r : ℕ) (op : Op) (v : List Bool) → OpenSince (plain lines) c r op → TripMayBeTrue d start lines v → GapBreaks d v op None
+ObeysGapSince d start lines = (c r : ℕ) (op : Op) (v : List Bool) → OpenSince (plain lines) c r op
+    → TripMayBeTrue d start lines v → GapBreaks d v op None
 
 -- Nor does the third, as long as none of the breakers that the grant used has tripped since their words were read.
 abbrev pub ObeysLoadSince : Diagram → List Bool → List TripLine → Type 0
-ObeysLoadSince d start lines = (c r : ℕ) (op : Op) (v : List Bool) (l : TripLine) (before : List TripLine) → GrantedAt lines c r op l before → NoneTripped d lines c op l before → TripMayBeTrue d start lines v → ¬ LoadBreaks d v op
+ObeysLoadSince d start lines = (c r : ℕ) (op : Op) (v : List Bool) (l : TripLine) (before : List TripLine)
+    → GrantedAt lines c r op l before → NoneTripped d lines c op l before → TripMayBeTrue d start lines v
+    → ¬ LoadBreaks d v op
 
 -- In no vector that resolves the truth is a node both energisable and earthable.
 abbrev pub IsTripSound : Diagram → List Bool → List TripLine → Type 0

@@ -44,7 +44,10 @@ note_at lists k i = slice_index_or (slice_index_or lists k []) i lost
 
 -- The note on switch i in its bay's node.
 abbrev pub own_note : Diagram → TripScene → ℕ → Note
-own_note d s i = record { word = slice_index_or (node d s.world.scene (bay_of d i)).words i Lost; at = slice_index_or s.sensed i 0 }
+own_note d s i = record {
+  word = slice_index_or (node d s.world.scene (bay_of d i)).words i Lost;
+  at = slice_index_or s.sensed i 0;
+}
 
 -- All notes.
 abbrev pub held_of : Diagram → TripScene → Held Note

@@ -1,6 +1,7 @@
 -- What a granted operation used: the breakers whose word its bay knew at the grant, each with the line at which that
 -- word was read.
-use Rattle.std.specs.Prelude.{◌≡◌, ◌≢◌, ◌≤◌, ◌⊎◌, ◌==◌, ℕ, Bool, false, List, [], ◌∷◌, Option, Some, None, is_some, if◌then◌else◌}
+use Rattle.std.specs.Prelude.{◌≡◌, ◌≢◌, ◌≤◌, ◌⊎◌, ◌==◌, ℕ, Bool, false, List, [], ◌∷◌, Option, Some, None, is_some}
+use Rattle.std.specs.Prelude.{if◌then◌else◌}
 use Rattle.ilk_base.specs.declared.words.Op.{Op}
 use Rattle.station_graph.specs.Diagram.{Diagram}
 use Rattle.central_rules.specs.Meaning.{bay_of}
@@ -30,7 +31,8 @@ is_answer_from None b c r = false
 
 -- The lines up to the sending of the answer of b that the event delivers to c in its round, if it does.
 abbrev pub told_by_line : WorldEvent → List TripLine → ℕ → ℕ → Option (List TripLine)
-told_by_line (Deliver n) before b c = if is_answer_from (sending (plain before) n) b c (last_round (plain before) c) then Some (sent_by before n) else None
+told_by_line (Deliver n) before b c = if is_answer_from (sending (plain before) n) b c (last_round
+    (plain before) c) then Some (sent_by before n) else None
 told_by_line event before b c = None
 
 -- A new round has heard nothing; else what is told now counts, or what was heard before.
@@ -60,14 +62,17 @@ heard_note_at d None i = lost
 -- The note on switch i that bay c knew at line l: of an own switch that before the line, of another that which it has
 -- heard.
 abbrev pub known_note : Diagram → TripLine → List TripLine → ℕ → ℕ → Note
-known_note d l before c i = if bay_of d i == c then line_note d before i else heard_note_at d (heard_lines (l ∷ before) c (bay_of d i)) i
+known_note d l before c i = if bay_of d i == c then line_note d before i else heard_note_at d (heard_lines
+    (l ∷ before) c (bay_of d i)) i
 
 -- Line l, in front of these, granted the operation to bay c in round r, and no line after it shows its end.
 abbrev pub GrantedAt : List TripLine → ℕ → ℕ → Op → TripLine → List TripLine → Type 0
 GrantedAt [] c r op l before = ⊥
-GrantedAt (x ∷ rest) c r op l before = ((of_bay x.shown c ≡ Granted r op) × (x ≡ l) × (rest ≡ before)) ⊎ (GrantedAt rest c r op l before × (¬ EndsIt (of_bay x.shown c) r))
+GrantedAt (x ∷ rest) c r op l before = ((of_bay x.shown c ≡ Granted r op) × (x ≡ l) × (rest ≡ before)) ⊎
+    (GrantedAt rest c r op l before × (¬ EndsIt (of_bay x.shown c) r))
 
 -- None of the breakers that it used has tripped after the line at which its word was read. It used each breaker,
 -- other than the moved switch, whose word that its bay knew is off or on.
 abbrev pub NoneTripped : Diagram → List TripLine → ℕ → Op → TripLine → List TripLine → Type 0
-NoneTripped d lines c op l before = (i : ℕ) → IsBreaker d i → i ≢ op.switch.0 → IsValid (known_note d l before c i).word → tripped_line lines i ≤ (known_note d l before c i).at
+NoneTripped d lines c op l before = (i : ℕ) → IsBreaker d i → i ≢ op.switch.0 → IsValid
+    (known_note d l before c i).word → tripped_line lines i ≤ (known_note d l before c i).at

@@ -58,7 +58,8 @@ fn learned(
     beside: Note,
     known: Note,
 ) -> Note
-    ensures { result ≡ learned_note (number_of learning.from) learning.collected learning.granted collects bay.0 of.0 own beside known }
+    ensures { result ≡ learned_note
+        (number_of learning.from) learning.collected learning.granted collects bay.0 of.0 own beside known }
 {
     if collects {
         return heard(learning, bay, beside, known);
@@ -130,7 +131,10 @@ impl NoteList {
     )
         requires { length self.old ≡ length station.now.switches }
         ensures len { length self.new ≡ length self.old }
-        ensures each { (i : ℕ) → i < length station.now.switches → slice_index_or self.new i lost_note ≡ learned_note (number_of learning.from) learning.collected learning.granted collects (bay_of station.now i) of.0 (slice_index_or own.now i lost_note) (slice_index_or beside.now i lost_note) (slice_index_or self.old i lost_note) }
+        ensures each { (i : ℕ) → i < length station.now.switches → slice_index_or self.new i lost_note
+            ≡ learned_note (number_of learning.from) learning.collected learning.granted collects
+            (bay_of station.now i) of.0 (slice_index_or own.now i lost_note) (slice_index_or beside.now i lost_note)
+            (slice_index_or self.old i lost_note) }
     {
         for i in 0..station.switch_count() {
             let place = usize::from(i);

@@ -1,5 +1,6 @@
 //! The node that an event concerns, and what is asked of it before its step.
-ghost use Rattle.std.specs.Prelude.{◌≡◌, ◌<◌, ◌↔◌, ◌-◌, length, is_some, slice_get, Some, None, MatchOption, IfSome, IfNone, IsTrue};
+ghost use Rattle.std.specs.Prelude.{◌≡◌, ◌<◌, ◌↔◌, ◌-◌, length, is_some, slice_get, Some, None, MatchOption, IfSome};
+ghost use Rattle.std.specs.Prelude.{IfNone, IsTrue};
 ghost use Rattle.central_rules.specs.Meaning.{bay_of as bay_at};
 ghost use Rattle.bay_protocol.specs.declared.values.NodeEvent.TheVariants.{Frame as Arrival};
 ghost use Rattle.bay_frames.specs.declared.frame.Frame.{Frame as AnyFrame};
@@ -55,7 +56,8 @@ fn delivered(world: &World, message: u32) -> Option<Task>
 // The node that the event concerns, if it concerns one, and what happens to it.
 pub(crate) fn task(station: &Station, world: &World, event: WorldEvent) -> Option<Task>
     requires { InRange station.now event }
-    ensures { MatchOption result (concern station.now world.now.scene event ≡ None) (λ t. concern station.now world.now.scene event ≡ Some (concern_of t)) }
+    ensures { MatchOption result (concern station.now world.now.scene event ≡ None)
+        (λ t. concern station.now world.now.scene event ≡ Some (concern_of t)) }
 {
     match event {
         WorldEvent::Command(op) => told(bay_of(station, op.switch), NodeEvent::Command(op)),
@@ -87,7 +89,8 @@ fn is_counted<J: Judge>(judge: &J, frame: &Frame, collected: Option<u32>) -> boo
 // Whose Answer counts at the event, where this round is collected.
 fn sender<J: Judge>(judge: &J, event: NodeEvent, collected: Option<u32>) -> Option<BayId>
     requires { (f : AnyFrame) → event ≡ Arrival f → FrameFits (J.meaning judge.now).diagram f }
-    ensures some { IfSome result (λ b. (f : AnyFrame) × (event ≡ Arrival f) × IsCounted (J.meaning judge.now) f collected × (b ≡ f.from)) }
+    ensures some { IfSome result (λ b. (f : AnyFrame) × (event ≡ Arrival f) × IsCounted
+        (J.meaning judge.now) f collected × (b ≡ f.from)) }
     ensures none { IfNone result ((f : AnyFrame) → event ≡ Arrival f → ¬ IsCounted (J.meaning judge.now) f collected) }
 {
     match event {
@@ -113,7 +116,8 @@ pub(crate) fn learning<J: Judge>(
     requires there { task.bay.0 < length world.now.scene.nodes }
     requires facts { RoundFacts (J.meaning judge.now) world.now.scene }
     requires frame { (f : AnyFrame) → task.event ≡ Arrival f → FrameFits station.now f × (f.to.0 ≡ task.bay.0) }
-    ensures from { CountsOf (J.meaning judge.now) (node station.now world.now.scene task.bay.0) task.event (number_of result.from) }
+    ensures from { CountsOf (J.meaning judge.now) (node station.now world.now.scene task.bay.0) task.event
+        (number_of result.from) }
     ensures collected { result.collected ≡ is_some (node station.now world.now.scene task.bay.0).collecting }
     ensures granted { result.granted ≡ is_some (node station.now world.now.scene task.bay.0).granted }
 {

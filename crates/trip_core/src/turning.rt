@@ -1,5 +1,6 @@
 //! An event of a world without trips happens in one with them, and the notes are taken.
-ghost use Rattle.std.specs.Prelude.{◌≡◌, ◌≢◌, ◌<◌, ◌≤◌, ◌+◌, ℕ, [], length, true, false, Some, None, IfOk, OnErr, is_some, slice_index_or};
+ghost use Rattle.std.specs.Prelude.{◌≡◌, ◌≢◌, ◌<◌, ◌≤◌, ◌+◌, ℕ, [], length, true, false, Some, None, IfOk, OnErr};
+ghost use Rattle.std.specs.Prelude.{is_some, slice_index_or};
 ghost use Rattle.central_rules.specs.Meaning.{bay_of as bay_at};
 ghost use Rattle.reservation_core.specs.Scene.{node};
 ghost use Rattle.reservation_core.specs.Concern.{concern};
@@ -51,10 +52,13 @@ fn spare(alloc: Global, own: NoteList) -> Result<Vec<NoteList>, Memory>
 impl TripWorld {
     // The notes on all switches in their bays' nodes.
     fn own_notes(&self, alloc: Global, station: &Station) -> Result<NoteList, Memory>
-        requires there { (i : ℕ) → i < length station.now.switches → bay_at station.now i < length self.now.world.scene.nodes }
-        requires words { (i : ℕ) → i < length station.now.switches → length (node station.now self.now.world.scene (bay_at station.now i)).words ≡ length station.now.switches }
+        requires there { (i : ℕ) → i < length station.now.switches
+            → bay_at station.now i < length self.now.world.scene.nodes }
+        requires words { (i : ℕ) → i < length station.now.switches → length (node station.now self.now.world.scene
+            (bay_at station.now i)).words ≡ length station.now.switches }
         requires sensed { length self.now.sensed ≡ length station.now.switches }
-        ensures { IfOk result (λ l. (i : ℕ) → i < length station.now.switches → slice_index_or l i lost ≡ own_note station.now self.now i) }
+        ensures { IfOk result (λ l. (i : ℕ) → i < length station.now.switches → slice_index_or l i lost
+            ≡ own_note station.now self.now i) }
     {
         let mut notes = NoteList::new(alloc);
         for i in 0..station.switch_count() {
@@ -120,9 +124,15 @@ impl TripWorld {
         ensures events { self.new.events ≡ self.old.events + 1 }
         ensures sensed { self.new.sensed ≡ sensed_after task.event self.old.sensed (self.old.events + 1) }
         ensures each_known { length self.new.known ≡ length self.old.known }
-        ensures others { (c : ℕ) → c ≢ task.bay.0 → slice_index_or self.new.known c [] ≡ slice_index_or self.old.known c [] }
+        ensures others { (c : ℕ) → c ≢ task.bay.0 → slice_index_or self.new.known c []
+            ≡ slice_index_or self.old.known c [] }
         ensures each_note { length (slice_index_or self.new.known task.bay.0 []) ≡ length station.now.switches }
-        ensures learned { (i : ℕ) → i < length station.now.switches → slice_index_or (slice_index_or self.new.known task.bay.0 []) i lost ≡ learned_note (number_of learning.from) learning.collected learning.granted (is_some (node station.now self.old.world.scene task.bay.0).collecting) (bay_at station.now i) task.bay.0 (slice_index_or own.now i lost) (slice_index_or said.now i lost) (slice_index_or (slice_index_or self.old.known task.bay.0 []) i lost) }
+        ensures learned { (i : ℕ) → i < length station.now.switches → slice_index_or
+            (slice_index_or self.new.known task.bay.0 []) i lost ≡ learned_note
+            (number_of learning.from) learning.collected learning.granted (is_some
+            (node station.now self.old.world.scene task.bay.0).collecting) (bay_at station.now i) task.bay.0
+            (slice_index_or own.now i lost) (slice_index_or said.now i lost) (slice_index_or
+            (slice_index_or self.old.known task.bay.0 []) i lost) }
     {
         self.events += 1;
         if let NodeEvent::Sense { switch, .. } = task.event {

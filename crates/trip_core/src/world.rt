@@ -41,7 +41,14 @@ impl Model for TripWorld {
 
     ghost Value = { TripScene };
 
-    ghost view = { λ a. record { world = a.world; sensed = a.sensed.items; tripped = a.tripped.items; beside = a.beside.items; known = a.known.items; events = a.events } };
+    ghost view = { λ a. record {
+      world = a.world;
+      sensed = a.sensed.items;
+      tripped = a.tripped.items;
+      beside = a.beside.items;
+      known = a.known.items;
+      events = a.events;
+    } };
 }
 
 // A list of so many notes where nothing is known, for each of so many parts.
@@ -142,7 +149,8 @@ impl TripWorld {
         requires room { length self.old.world.scene.sent ≤ MESSAGES }
         requires count { self.old.events ≤ EVENTS }
         ensures step { IfOk result (λ out. TripHappens (J.meaning judge.now) self.old event self.new out) }
-        ensures premise { IfOk result (λ out. (which : Broken) → (out ≡ Premise which) ↔ BreaksTripPremise station.now self.old event which) }
+        ensures premise { IfOk result (λ out. (which : Broken) → (out
+            ≡ Premise which) ↔ BreaksTripPremise station.now self.old event which) }
         ensures unchanged { IfOk result (λ out. (which : Broken) → out ≡ Premise which → self.new ≡ self.old) }
         ensures output { IfOk result (OutputFits station.now) }
         ensures few { length self.new.world.scene.sent < length self.old.world.scene.sent + BAYS }
@@ -152,7 +160,8 @@ impl TripWorld {
         // its word was read that the grant used.
         ensures first_two { ObeysGap (J.meaning judge.now) self.new }
         ensures third { ObeysLoad (J.meaning judge.now) self.new }
-        ensures sound { IsSoundTruth station.now self.old.world.scene.truth → IsSoundTruth station.now self.new.world.scene.truth }
+        ensures sound { IsSoundTruth station.now self.old.world.scene.truth
+            → IsSoundTruth station.now self.new.world.scene.truth }
         ensures err { OnErr result (self.new ≡ self.old) }
     {
         // Its clause says that the station is one; it does nothing.

@@ -6,3 +6,4 @@ pub mod NotesRun
 pub mod TripAll
 pub mod TripReplaying
 pub mod TripRows
+pub mod OneTripOutcome

@@ -8,7 +8,8 @@ use Rattle.trip_core.specs.TripRuns.{TripRun, TripHeadline}
 use Rattle.trip_replay.proofs.TripFollowing.{trip_decides, trip_obeys, trip_kept_sound}
 use Rattle.trip_replay.proofs.NotesRun.{trip_loads}
 
-pub trip_headline : (m : Meaning) (start : List Bool) (lines : List TripLine) (s : TripScene) → IsStation m.diagram → Laws m → TripRun m start lines s → TripHeadline m.diagram start lines
+pub trip_headline : (m : Meaning) (start : List Bool) (lines : List TripLine) (s : TripScene) → IsStation m.diagram
+    → Laws m → TripRun m start lines s → TripHeadline m.diagram start lines
 trip_headline m start lines s station laws run = record {
   decisions = trip_decides m start station laws lines s run;
   first_two = trip_obeys m start station laws lines s run;

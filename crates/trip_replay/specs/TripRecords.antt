@@ -57,7 +57,8 @@ pub record TripForm (row : List (List ℕ)) : Type 0 where
 -- A record `trip` is at fault: it has not the form (1), or its path is no breaker's (2).
 pub data TripFault (d : Diagram) (row : List (List ℕ)) (number : ℕ) : Type 0 where
   no_form : ¬ TripForm row → number ≡ 1 → TripFault d row number
-  no_breaker : TripForm row → ((i : ℕ) → IsBreaker d i → field row 1 ≢ switch_path d i) → number ≡ 2 → TripFault d row number
+  no_breaker : TripForm row → ((i : ℕ) → IsBreaker d i → field row 1 ≢ switch_path d i) → number ≡ 2
+      → TripFault d row number
 
 -- A record is refused after these events: it is a `trip`, and there were too many (9) or it has a fault; or it is no
 -- `trip`, and it is refused as one of a log without trips.

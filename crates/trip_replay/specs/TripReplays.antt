@@ -32,6 +32,11 @@ pub record IsTripRunOf (m : Meaning) (log : List TripLogEvent) (out : List Shown
 -- The report is that of the log: of a run of all of it; or of a run up to the line before the first that breaks
 -- a premise; or, where it is not told of each switch where it stands at first, of no line.
 pub data IsTripReplay (m : Meaning) (log : List TripLogEvent) (r : Replayed) : Type 0 where
-  whole : (s : TripScene) → IsTripRunOf m log r.out s → length r.out ≡ length log → r.broken ≡ None → IsTripReplay m log r
-  stops : (s : TripScene) (e : WorldEvent) (which : Which) → IsTripRunOf m log r.out s → slice_get log (length r.out) ≡ Some (Step (Happening e)) → IsTripBroken m.diagram (trip_start_of m.diagram log) (trip_lines_of log r.out []) e which → r.broken ≡ Some (length r.out + 1, which) → IsTripReplay m log r
-  no_start : ¬ TripHasStart m.diagram log → r.out ≡ [] → r.broken ≡ Some (trip_at_count log + 1, Start) → IsTripReplay m log r
+  whole : (s : TripScene) → IsTripRunOf m log r.out s → length r.out ≡ length log → r.broken ≡ None
+      → IsTripReplay m log r
+  stops : (s : TripScene) (e : WorldEvent) (which : Which) → IsTripRunOf m log r.out s
+      → slice_get log (length r.out) ≡ Some (Step (Happening e)) → IsTripBroken m.diagram
+      (trip_start_of m.diagram log) (trip_lines_of log r.out []) e which → r.broken ≡ Some (length r.out + 1, which)
+      → IsTripReplay m log r
+  no_start : ¬ TripHasStart m.diagram log → r.out ≡ [] → r.broken ≡ Some (trip_at_count log + 1, Start)
+      → IsTripReplay m log r

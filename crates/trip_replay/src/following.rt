@@ -95,7 +95,8 @@ pub fn replay_trips<J: Judge>(
     ensures count { IfOk result (λ r. r.count ≡ length log.now) }
     // Every decision is exact; every movement obeys the first two rules on the true positions throughout, and the
     // third as long as no breaker has tripped that its grant used; and a sound start stays sound.
-    ensures headline { IfOk result (λ r. TripHeadline station.now (trip_start_of station.now log.now) (trip_lines_of log.now r.out [])) }
+    ensures headline { IfOk result (λ r. TripHeadline station.now (trip_start_of station.now log.now)
+        (trip_lines_of log.now r.out [])) }
     ensures fits { IfOk result (ReportFits station.now) }
 {
     judge.diagram_is_station();

@@ -1,10 +1,14 @@
-//! What follows for every log with trips. The call does nothing and costs nothing: a caller cites its contract.
-ghost use Rattle.std.specs.Prelude.{Bool, List};
+//! What follows for every log with trips. These calls do nothing and cost nothing: a caller cites their contracts.
+ghost use Rattle.std.specs.Prelude.{ℕ, Bool, List};
+ghost use Rattle.ilk_base.specs.declared.words.InputRefusal.{InputRefusal};
 ghost use Rattle.trip_core.specs.Trips.{TripScene};
 ghost use Rattle.trip_core.specs.TripLines.{TripLine};
 ghost use Rattle.trip_core.specs.TripRuns.{TripRun, TripHeadline};
+ghost use Rattle.trip_replay.specs.declared.log.TripLogEvent.{TripLogEvent};
+ghost use Rattle.trip_replay.specs.TripLogs.{IsTripLog, IsTripLogFault};
 
 use central_rules::Judge;
+use station_graph::Station;
 
 /// Trips leave the first two rules whole: in every run with trips every decision is exact, every movement obeys the
 /// first two rules on the true positions throughout, and the third at each line up to which no breaker has tripped
@@ -14,4 +18,12 @@ pub fn trip_headline_holds<J: Judge>(judge: &J)
         TripRun m start lines s → TripHeadline m.diagram start lines }
 {
     judge.diagram_is_station();
+}
+
+/// No text is a log with trips and refused as one.
+pub fn trip_log_is_not_refused(station: &Station)
+    ensures { (bytes : List ℕ) (events : List TripLogEvent) (refusal : InputRefusal)
+        → IsTripLog station.now bytes events → ¬ IsTripLogFault station.now bytes refusal }
+{
+    station.is_station();
 }

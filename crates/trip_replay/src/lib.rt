@@ -5,9 +5,7 @@ mod following;
 mod law;
 mod log;
 mod record;
-#[cfg(test)]
-mod tests;
 
 pub use following::{TripReport, replay_trips};
-pub use law::trip_headline_holds;
+pub use law::{trip_headline_holds, trip_log_is_not_refused};
 pub use log::{TripLog, TripLogEvent, TripLogFault, read_trip_log};

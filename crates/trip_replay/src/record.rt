@@ -7,7 +7,8 @@ ghost use Rattle.log_replay.specs.Log.{IsText, MayFollow};
 ghost use Rattle.log_replay.specs.RecordFaults.{field as field_at};
 ghost use Rattle.log_replay.specs.declared.log.TheConstants.{MOST_RECORDS};
 ghost use Rattle.trip_core.specs.Trips.{IsBreaker};
-ghost use Rattle.trip_replay.specs.TripRecords.{as_log, as_trip, TripSays, IsTripRow, TripForm, TripFault, TripRecordFault};
+ghost use Rattle.trip_replay.specs.TripRecords.{as_log, as_trip, TripSays, IsTripRow, TripForm, TripFault};
+ghost use Rattle.trip_replay.specs.TripRecords.{TripRecordFault};
 
 use crate::log::TripLogEvent;
 use csv::ByteRecord;
@@ -30,7 +31,8 @@ fn is_breaker(station: &Station, switch: SwitchId) -> bool
 fn breaker_at(station: &Station, path: &str) -> Result<SwitchId, u8>
     ensures path { IfOk result (λ i. path.now ≡ switch_path station.now i.0) }
     ensures breaker { IfOk result (λ i. IsBreaker station.now i.0) }
-    ensures none { IfErr result (λ n. ((i : ℕ) → IsBreaker station.now i → path.now ≢ switch_path station.now i) × (n ≡ 2)) }
+    ensures none { IfErr result (λ n. ((i : ℕ) → IsBreaker station.now i → path.now ≢ switch_path station.now i) ×
+        (n ≡ 2)) }
 {
     // Its clause says that the station is one; it does nothing.
     station.is_station();

@@ -8,4 +8,5 @@ pub returns-clause-words : goal.returns-clause-words
 returns-clause-words g c s facts = words_trip (g.J.Judge.meaning c.args.judge.now) s facts
 
 pub returns-clause-grants : goal.returns-clause-grants
-returns-clause-grants g c s facts = grants_trip (g.J.Judge.meaning c.args.judge.now) s facts (g.met.J.Judge.lawful c.args.judge.now)
+returns-clause-grants g c s facts = grants_trip (g.J.Judge.meaning c.args.judge.now) s facts
+    (g.met.J.Judge.lawful c.args.judge.now)

@@ -19,11 +19,22 @@ loop-plain-preserved c =
     let took = sym inv.left ∙ rw c.if-branch.true at c.in_ok-next.ensures.next in
     let read = c.in-Ok.ensures in
     let before = c.deref.ensures.value ∙ inv.plain in
-    let follows : MayFollow (map as_log events) (as_log c.in-Ok.event) = subst (λ (x : List LogEvent). MayFollow x (as_log c.in-Ok.event)) before read.follows in
+    let follows : MayFollow (map as_log events) (as_log c.in-Ok.event) = subst (λ (x : List LogEvent). MayFollow x
+    (as_log c.in-Ok.event)) before read.follows in
     let count : length c.loop-plain.plain.items ≡ length events = ap length inv.plain ∙ length-map events as_log in
-    let few : length events < MOST_RECORDS = subst (λ (n : ℕ). n < MOST_RECORDS) count (subst (λ (x : List LogEvent). length x < MOST_RECORDS) c.deref.ensures.value read.few) in
-    let more = trip_tell_more c.args.station.now all events _ (fields_of c.next.new.row) c.in-Ok.event _ c.in_ok-push-in-Ok.ensures.items took inv.tell read.ok read.text follows few in
-    record { short = inv.short; left = more.1; tell = more.0; plain = plain_more events _ c.loop-plain.plain.items _ c.in-Ok.event c.as_log.result inv.plain c.in_ok-push-in-Ok.ensures.items c.as_log.ensures c.in_ok-push-in-Ok-2.ensures.items }
+    let few : length events < MOST_RECORDS = subst (λ (n : ℕ). n < MOST_RECORDS) count (subst (λ
+    (x : List LogEvent). length x < MOST_RECORDS) c.deref.ensures.value read.few) in
+    let more = trip_tell_more c.args.station.now all events _
+    (fields_of c.next.new.row) c.in-Ok.event _ c.in_ok-push-in-Ok.ensures.items took inv.tell read.ok read.text
+    follows few in
+    record {
+      short = inv.short;
+      left = more.1;
+      tell = more.0;
+      plain =
+          plain_more events _ c.loop-plain.plain.items _ c.in-Ok.event c.as_log.result inv.plain
+          c.in_ok-push-in-Ok.ensures.items c.as_log.ensures c.in_ok-push-in-Ok-2.ensures.items;
+    }
 
 pub returns-in-Err-clause-err : goal.returns-in-Err-clause-err
 returns-in-Err-clause-err c =
@@ -40,7 +51,8 @@ returns-in-Err-clause-err c =
         tell = inv.tell;
         stands = n.at;
         line = ap (λ k. k + 1) (c.len.ensures ∙ c.loop-plain.events.ok.0);
-        fault = subst (λ (before : List LogEvent). TripRecordFault c.args.station.now before row c.in-Err.number) (c.deref.ensures.value ∙ inv.plain) c.in-Err.ensures.err;
+        fault = subst (λ (before : List LogEvent). TripRecordFault c.args.station.now before row c.in-Err.number)
+            (c.deref.ensures.value ∙ inv.plain) c.in-Err.ensures.err;
       },
     ))
 
@@ -49,7 +61,12 @@ returns-clause-ok c =
     let all = rows_of c.args.bytes.now in
     let inv = c.loop-plain.invariant in
     let ended = sym inv.left ∙ rw c.if-branch.false at c.in_ok-next.ensures.next in
-    record { few_bytes = inv.short; tell = subst (λ rows. TripTell c.args.station.now rows c.loop-plain.events.items) (nothing_left all (length c.loop-plain.events.items) ended) inv.tell }
+    record {
+      few_bytes = inv.short;
+      tell = subst (λ rows. TripTell c.args.station.now rows c.loop-plain.events.items)
+          (nothing_left all (length c.loop-plain.events.items) ended) inv.tell;
+    }
 
 pub returns-clause-told : goal.returns-clause-told
-returns-clause-told c = each_told c.args.station.now (take (length c.loop-plain.events.items) (rows_of c.args.bytes.now)) c.loop-plain.events.items c.loop-plain.invariant.tell.each
+returns-clause-told c = each_told c.args.station.now (take (length c.loop-plain.events.items)
+    (rows_of c.args.bytes.now)) c.loop-plain.events.items c.loop-plain.invariant.tell.each
