@@ -35,6 +35,7 @@ class Run(NamedTuple):
     seconds: float
     peak: float
     status: int
+    processor: float = 0.0
 
 
 def main(doc, figures):
@@ -71,14 +72,15 @@ actions = [(os.POSIX_SPAWN_DUP2, null, 1), (os.POSIX_SPAWN_DUP2, null, 2)]
 start = time.monotonic()
 child = os.posix_spawn(sys.argv[1], sys.argv[1:], os.environ, file_actions=actions)
 _, status, usage = os.wait4(child, 0)
-print(time.monotonic() - start, usage.ru_maxrss / 1024, os.waitstatus_to_exitcode(status))
+print(time.monotonic() - start, usage.ru_maxrss / 1024, os.waitstatus_to_exitcode(status), usage.ru_utime + usage.ru_stime)
 """
 
 
 def run(words):
-    """Runs the words with nothing on the streams: seconds, the most memory at once in MiB, and the status."""
-    seconds, peak, status = printed([sys.executable, "-S", "-c", STARTER, *words]).split()
-    return Run(float(seconds), float(peak), int(status))
+    """Runs the words with nothing on the streams: seconds, the most memory at once in MiB, the status, and the seconds of
+    a processor."""
+    seconds, peak, status, processor = printed([sys.executable, "-S", "-c", STARTER, *words]).split()
+    return Run(float(seconds), float(peak), int(status), float(processor))
 
 
 def best(words, times=7, status=0):
