@@ -11,11 +11,17 @@ mod explanations;
 #[cfg(test)]
 mod hostile;
 #[cfg(test)]
+mod logs;
+#[cfg(test)]
 mod makes;
+#[cfg(test)]
+mod one_line_more;
 #[cfg(test)]
 mod orders;
 #[cfg(test)]
 mod refusals;
+#[cfg(test)]
+mod refused_logs;
 #[cfg(test)]
 mod replays;
 #[cfg(test)]

@@ -37,3 +37,11 @@ pub mod SummaryLemmas
 pub mod SetsLemmas
 pub mod HeardLemmas
 pub mod ReachesLemmas
+pub mod PartnerChoices
+pub mod PartnerMerging
+pub mod PartnerNaming
+pub mod PartnerPlacing
+pub mod PartnerTelling
+pub mod PartnerAnswers
+pub mod PartnerLemmas
+pub mod TellsLemmas

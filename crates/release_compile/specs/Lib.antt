@@ -16,6 +16,8 @@ pub mod Pooling
 pub mod Layering
 pub mod Inputs
 pub mod Coding
+pub mod PartnerLabels
+pub mod PartnerNames
 pub mod Built
 pub mod BuiltView
 pub mod Judging

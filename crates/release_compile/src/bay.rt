@@ -19,6 +19,7 @@ ghost use Rattle.release_compile.specs.BuiltView.{view_of, seen_bay};
 use crate::inner::inner_graph;
 use crate::layer::Trouble;
 use crate::outer::outer_graph;
+use crate::partners::told_layers;
 use crate::pool::Pool;
 use crate::stock::Stock;
 use crate::view::View;
@@ -35,13 +36,14 @@ pub(crate) struct ViewGraphs {
     pub(crate) inner: Vec<Graph>,
 }
 
-// The graphs of a bay, with its first switch and how many it has.
+// The graphs of a bay, with its first switch, how many it has, and for each other part whether it is a partner.
 #[derive(Debug, Drop)]
 pub(crate) struct BayGraphs {
     pub(crate) first: u16,
     pub(crate) count: u16,
     pub(crate) gap: ViewGraphs,
     pub(crate) load: ViewGraphs,
+    pub(crate) told: Vec<bool>,
 }
 
 // Inner graphs, and how many edges are left of those that may be made.
@@ -216,12 +218,14 @@ pub(crate) fn bay_graphs(
         count,
         gap.left,
     )?;
+    let told = told_layers(alloc, &gap.graphs, &load.graphs)?;
     Ok(Bay {
         graphs: BayGraphs {
             first,
             count,
             gap: gap.graphs,
             load: load.graphs,
+            told,
         },
         left: load.left,
     })
