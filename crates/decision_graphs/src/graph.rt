@@ -17,6 +17,7 @@ use crate::marks::Marks;
 use crate::path::find_path;
 use crate::reach::mark_labels;
 use crate::rename::renamed;
+use crate::same::{same_edges, same_shapes};
 use crate::sets::ChoiceSets;
 use crate::shape::Shape;
 use ilk_base::Memory;
@@ -141,6 +142,19 @@ impl Graph {
             homes: Vec::from_slice(alloc, &self.homes)?,
             edges: Vec::from_slice(alloc, &self.edges)?,
         })
+    }
+
+    /// Whether both graphs are the same, layer by layer and edge by edge. Linear in edges; takes no memory.
+    pub fn same(&self, other: &Graph) -> bool
+        ensures { result ≡ true → self.now ≡ other.now }
+    {
+        if self.labels != other.labels {
+            return false;
+        }
+        if !same_shapes(&self.shapes, &other.shapes) {
+            return false;
+        }
+        same_edges(&self.edges, &other.edges)
     }
 
     // How many nodes the graph has.

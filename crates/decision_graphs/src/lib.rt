@@ -21,6 +21,7 @@ mod marks;
 mod path;
 mod reach;
 mod rename;
+mod same;
 mod sets;
 mod shape;
 

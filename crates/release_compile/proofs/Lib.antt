@@ -22,6 +22,7 @@ pub mod NodesLemmas
 pub mod InputsLemmas
 pub mod ChoiceLemmas
 pub mod NotingLemmas
+pub mod TellingLemmas
 pub mod OuterGraphs
 pub mod OuterTaken
 pub mod InnerGraphs

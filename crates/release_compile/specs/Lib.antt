@@ -20,6 +20,7 @@ pub mod PartnerLabels
 pub mod PartnerNames
 pub mod Built
 pub mod BuiltView
+pub mod Telling
 pub mod Judging
 pub mod JudgingInside
 pub mod Reaches

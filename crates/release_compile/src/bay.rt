@@ -12,6 +12,7 @@ ghost use Rattle.release_compile.specs.Inputs.{AreNames};
 ghost use Rattle.release_compile.specs.Built.{AreInner, AreViewGraphs, AreBayGraphs};
 ghost use Rattle.release_compile.specs.Counted.{SwitchesHave, ViewHas, BayHas, Spends, Passes};
 ghost use Rattle.release_compile.specs.Stocking.{IsStock};
+ghost use Rattle.release_compile.specs.Telling.{IsToldBy, HaveTold};
 ghost use Rattle.release_compile.specs.declared.view.View.TheVariants.{Gap, Load};
 ghost use Rattle.release_compile.specs.declared.layer.Trouble.TheVariants.{Wide};
 ghost use Rattle.release_compile.specs.BuiltView.{view_of, seen_bay};
@@ -19,7 +20,7 @@ ghost use Rattle.release_compile.specs.BuiltView.{view_of, seen_bay};
 use crate::inner::inner_graph;
 use crate::layer::Trouble;
 use crate::outer::outer_graph;
-use crate::partners::told_layers;
+use crate::partners::told_like;
 use crate::pool::Pool;
 use crate::stock::Stock;
 use crate::view::View;
@@ -175,6 +176,7 @@ pub(crate) fn bay_graphs(
     parts: &Parts,
     gap_stock: &mut Stock,
     load_stock: &mut Stock,
+    bays: &[Option<BayGraphs>],
     shared: &[NodeList],
     bay: BayId,
     left: usize,
@@ -182,11 +184,13 @@ pub(crate) fn bay_graphs(
     requires lettered { AreAlphabets station.now parts.now }
     requires gap { IsStock (lettered station.now parts.now) Gap gap_stock.old }
     requires load { IsStock (lettered station.now parts.now) Load load_stock.old }
+    requires bays { HaveTold bays.now }
     requires shared { AreShared station.now shared.now }
     requires bay { bay.0 < part_count station.now }
     requires left { left ≤ 8000000 }
     ensures gap { OnOk result (IsStock (lettered station.now parts.now) Gap gap_stock.new) }
     ensures load { OnOk result (IsStock (lettered station.now parts.now) Load load_stock.new) }
+    ensures told { IfOk result (λ r. IsToldBy (view_of r.graphs.gap) (view_of r.graphs.load) r.graphs.told.items) }
     ensures graphs { IfOk result (λ r. AreBayGraphs (lettered station.now parts.now) bay.0 (seen_bay r.graphs)) }
     ensures wide { IfErr result (λ e. e ≡ Wide → Passes (BayHas station.now bay.0) station.now left) }
     ensures spent { IfOk result (λ r. Spends (BayHas station.now bay.0) station.now left r.left) }
@@ -218,7 +222,7 @@ pub(crate) fn bay_graphs(
         count,
         gap.left,
     )?;
-    let told = told_layers(alloc, &gap.graphs, &load.graphs)?;
+    let told = told_like(alloc, bays, &gap.graphs, &load.graphs)?;
     Ok(Bay {
         graphs: BayGraphs {
             first,

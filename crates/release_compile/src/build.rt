@@ -11,6 +11,7 @@ ghost use Rattle.release_compile.specs.declared.layer.Trouble.TheVariants.{Wide 
 ghost use Rattle.release_compile.specs.Lettered.{lettered};
 ghost use Rattle.release_compile.specs.Needing.{AreShared};
 ghost use Rattle.release_compile.specs.Stocking.{IsStock};
+ghost use Rattle.release_compile.specs.Telling.{HasTold, HaveTold};
 ghost use Rattle.release_compile.specs.declared.view.View.TheVariants.{Gap, Load};
 ghost use Rattle.release_compile.specs.Counted.{BayHas, Passes};
 ghost use Rattle.release_compile.specs.Built.{AreBays, AreGraphsOf, AreBayGraphs};
@@ -55,6 +56,7 @@ fn part_graphs(
     parts: &Parts,
     gap: &mut Stock,
     load: &mut Stock,
+    bays: &[Option<BayGraphs>],
     shared: &[NodeList],
     bay: BayId,
     left: usize,
@@ -62,11 +64,13 @@ fn part_graphs(
     requires lettered { AreAlphabets station.now parts.now }
     requires gap { IsStock (lettered station.now parts.now) Gap gap.old }
     requires load { IsStock (lettered station.now parts.now) Load load.old }
+    requires bays { HaveTold bays.now }
     requires shared { AreShared station.now shared.now }
     requires bay { bay.0 < part_count station.now }
     requires left { left ≤ BAY }
     ensures gap { OnOk result (IsStock (lettered station.now parts.now) Gap gap.new) }
     ensures load { OnOk result (IsStock (lettered station.now parts.now) Load load.new) }
+    ensures told { IfOk result (λ r. HasTold r.graphs) }
     ensures graphs { IfOk result (λ r. AreGraphsOf (lettered station.now parts.now) bay.0 (seen_part r.graphs)) }
     ensures wide { IfErr result (λ e. e ≡ IsWide → IsBay station.now bay.0 × Passes (BayHas station.now bay.0) station.now left) }
     ensures spent { IfOk result (λ r. PartHasEdges station.now bay.0 (left - r.left)) }
@@ -76,7 +80,7 @@ fn part_graphs(
     if count == 0 {
         return Ok(Part { graphs: None, left });
     }
-    let made = bay_graphs(alloc, station, parts, gap, load, shared, bay, left)?;
+    let made = bay_graphs(alloc, station, parts, gap, load, bays, shared, bay, left)?;
     Ok(Part {
         graphs: Some(made.graphs),
         left: made.left,
@@ -112,7 +116,7 @@ fn all_bays(
         let bay = BayId(part as u8);
         let left = allowed(spent);
         match part_graphs(
-            alloc, station, parts, &mut gap, &mut load, shared, bay, left,
+            alloc, station, parts, &mut gap, &mut load, &bays, shared, bay, left,
         ) {
             Ok(made) => {
                 spent += left - made.left;

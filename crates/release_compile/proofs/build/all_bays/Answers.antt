@@ -4,6 +4,8 @@ use Rattle.release_compile.specs.Lettered.{Lettered, lettered}
 use Rattle.release_compile.specs.Built.{BayOf, AreBays}
 use Rattle.release_compile.specs.BuiltView.{seen_part}
 use Rattle.release_compile.proofs.BayLemmas.{bays_none, bays_more}
+use Rattle.release_compile.specs.Telling.{HaveTold}
+use Rattle.release_compile.proofs.TellingLemmas.{told_more}
 use Rattle.release_compile.proofs.BayEdges.{keep_more, first_wide}
 use Rattle.release_compile.proofs.build.all_bays.Goals as goal
 
@@ -11,12 +13,16 @@ pub loop-part-init : goal.loop-part-init
 loop-part-init c =
     let a : Lettered = lettered c.args.station.now c.args.parts.now in
     record {
+      told = subst (λ bs. HaveTold bs) (sym c.new-bays.ensures.items) (λ b g at. cc);
       gap = c.in_ok-gap.ensures;
       load = c.in_ok-load.ensures;
       spent = omega arith;
       edges = record { each = []; len = refl; counted = λ part size at. cc; all = refl; few = omega arith };
       bays = subst (λ bs. AreBays a (map seen_part bs) 0) (sym c.new-bays.ensures.items) (bays_none a);
     }
+
+pub part_graphs-requires-clause-bays : goal.part_graphs-requires-clause-bays
+part_graphs-requires-clause-bays c = rw c.deref.ensures.value c.loop-part.invariant.told
 
 pub loop-part-preserved : goal.loop-part-preserved
 loop-part-preserved c =
@@ -25,6 +31,7 @@ loop-part-preserved c =
     let bays : List (Option BayOf) = map seen_part c.loop-part.bays.items in
     let items : map seen_part c.keep.new.bays.items ≡ bays ++ g ∷ [] = ap (map seen_part) c.in_ok-keep-in-Ok.ensures ∙ map-append seen_part c.loop-part.bays.items _ in
     record {
+      told = subst (λ bs. HaveTold bs) (sym c.in_ok-keep-in-Ok.ensures) (told_more c.loop-part.bays.items c.in-Ok.made.graphs c.loop-part.invariant.told c.in-Ok.ensures.told);
       gap = c.in-Ok.ensures.gap;
       load = c.in-Ok.ensures.load;
       spent = omega (arith, c.allowed-left.ensures.all, c.loop-part.invariant.spent);
