@@ -7,6 +7,7 @@ pub mod OrderWrites
 pub mod ReplayWrites
 pub mod TripsWrites
 pub mod AuditWrites
+pub mod WorkWrites
 pub mod Commands
 pub mod Seen
 pub mod Lines

@@ -1,7 +1,7 @@
 -- What a contract sees of a command.
 use Rattle.interlock_cli.specs.Commands as c
 use Rattle.interlock_cli.specs.declared.words.Command.{Command}
-use Rattle.interlock_cli.specs.declared.words.Command.TheVariants.{Check, Explain, State, Order, Replay, Audit, Node, Compile, Trips, Plan, Make}
+use Rattle.interlock_cli.specs.declared.words.Command.TheVariants.{Check, Explain, State, Order, Replay, Audit, Node, Compile, Trips, Plan, Make, Work}
 
 -- a command, as the definitions name it
 abbrev pub seen : Command → c.Command
@@ -16,3 +16,4 @@ seen (Compile station) = c.Compile station.now
 seen (Trips station log) = c.Trips station.now log.now
 seen (Plan station) = c.Plan station.now
 seen (Make feeders text) = c.Make feeders.number text
+seen (Work feeders) = c.Work feeders.number

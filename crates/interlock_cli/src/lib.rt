@@ -21,6 +21,7 @@ mod tell;
 mod top;
 mod trips_command;
 mod words;
+mod work_command;
 
 pub use status::Status;
 pub use top::run;

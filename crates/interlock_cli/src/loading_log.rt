@@ -15,7 +15,7 @@ use std::alloc::Global;
 use trip_replay::{TripLog, TripLogFault, read_trip_log};
 
 // The log of the bytes of a file.
-fn judge_log(alloc: Global, station: &Station, bytes: &[u8]) -> Result<Log, End>
+pub(crate) fn judge_log(alloc: Global, station: &Station, bytes: &[u8]) -> Result<Log, End>
     ensures ok { IfOk result (Accepts (LogOf station.now) bytes.now) }
     ensures told { IfOk result (All (MayBeTold station.now)) }
     ensures err { IfErr result (JudgeFails (LogOf station.now) bytes.now) }

@@ -1,6 +1,7 @@
 //! What the words name.
 ghost use Rattle.std.specs.Prelude.{◌≡◌, ◌∷◌, map, option_map, string_bytes, Some, IfOk, IfErr};
-ghost use Rattle.interlock_cli.specs.Commands.{replay_of, audit_of, check_of, command_of, direction_of, explain_of, make_of, named, node_of, plan_of, trips_of, compile_of, order_of, state_of};
+ghost use Rattle.interlock_cli.specs.Commands.{replay_of, audit_of, check_of, command_of, direction_of, explain_of, make_of, named, node_of};
+ghost use Rattle.interlock_cli.specs.Commands.{plan_of, trips_of, compile_of, order_of, state_of, work_of};
 ghost use Rattle.interlock_cli.specs.Ends.{Unread};
 ghost use Rattle.interlock_cli.specs.Seen.{seen};
 
@@ -57,6 +58,9 @@ pub enum Command<'a> {
     Make {
         feeders: Feeders,
         text: MadeText,
+    },
+    Work {
+        feeders: Feeders,
     },
 }
 
@@ -199,6 +203,19 @@ fn make_words<'a>(rest: &[&'a str]) -> Option<Command<'a>>
     }
 }
 
+// `work NUMBER`.
+fn work_words<'a>(rest: &[&'a str]) -> Option<Command<'a>>
+    ensures { work_of (map (λ w. w.now) rest.now) ≡ option_map seen result }
+{
+    let &[number] = rest else {
+        return None;
+    };
+    match feeders_named(number) {
+        Some(feeders) => Some(Command::Work { feeders }),
+        None => None,
+    }
+}
+
 // The command of a name and the words after it.
 fn named<'a>(name: &str, rest: &[&'a str]) -> Option<Command<'a>>
     ensures { named (name.now ∷ map (λ w. w.now) rest.now) ≡ option_map seen result }
@@ -215,6 +232,7 @@ fn named<'a>(name: &str, rest: &[&'a str]) -> Option<Command<'a>>
         "trips" => trips_words(rest),
         "plan" => plan_words(rest),
         "make" => make_words(rest),
+        "work" => work_words(rest),
         _ => None,
     }
 }

@@ -1,4 +1,6 @@
 use Rattle.station_graph.specs.Diagram.{empty}
+use Rattle.interlock_cli.specs.Commands.{Work, form_of}
+use Rattle.interlock_cli.proofs.Later.{at_held, stops_at}
 use Rattle.interlock_cli.proofs.top.output_of.Goals as goal
 
 pub unreachable-requires : goal.unreachable-requires
@@ -42,3 +44,10 @@ returns-in-Trips-clause-ok g c = rw c.in-Trips.is c.trips.ensures.ok
 
 pub returns-in-Trips-clause-err : goal.returns-in-Trips-clause-err
 returns-in-Trips-clause-err g c = rw c.in-Trips.is c.trips.ensures.err
+pub returns-in-Work-clause-ok : goal.returns-in-Work-clause-ok
+returns-in-Work-clause-ok g c = rw c.in-Work.is (at_held (g.F.Shelf.held c.args.shelf.now) (form_of (Work c.in-Work.feeders.number)) c.work.result c.work.ensures.ok)
+
+pub returns-in-Work-clause-err : goal.returns-in-Work-clause-err
+returns-in-Work-clause-err g c =
+    rw c.in-Work.is
+    (stops_at (g.F.Shelf.held c.args.shelf.now) (g.F.Shelf.faults c.args.shelf.now) (g.F.Shelf.faults c.args.shelf.now) (form_of (Work c.in-Work.feeders.number)) c.work.result c.work.ensures.err)

@@ -1,0 +1,111 @@
+//! The four lines.
+ghost use Rattle.std.specs.Prelude.{◌≡◌, ◌++◌, codes, decimal, IfOk, OnOk};
+ghost use Rattle.station_graph.specs.Diagram.{bay_count};
+ghost use Rattle.double_points.specs.Words.{AreWords};
+ghost use Rattle.station_work.specs.WorkText.{IsWorkText, sizes_line, size_line, tally_line, log_line};
+
+use crate::tally::{Sight, Tally, tally_operations};
+use central_rules::Judge;
+use double_points::Readings;
+use ilk_base::{BayId, Memory, Text};
+use itoa::Buffer;
+use log_replay::Report;
+use station_graph::Station;
+use std::alloc::Global;
+
+// How many parts have switches.
+fn bay_count(station: &Station) -> u32
+    ensures { result ≡ bay_count station.now }
+{
+    let mut count = 0;
+    for i in 0..station.part_count() {
+        let (_, switches) = station.switches_of(BayId(i as u8));
+        if switches > 0 {
+            count += 1;
+        }
+    }
+    count
+}
+
+// Appends some words and a number.
+fn push_number(text: &mut Text, words: &[u8], number: u32) -> Result<(), Memory>
+    ensures { OnOk result (text.new ≡ text.old ++ words.now ++ decimal number) }
+{
+    let mut digits = Buffer::new();
+    text.push(words)?;
+    text.push(digits.format(number).as_bytes())
+}
+
+// Appends the line of so many bays, switches and nodes.
+fn push_sizes(
+    text: &mut Text,
+    name: &[u8],
+    bays: u32,
+    switches: u32,
+    nodes: u32,
+) -> Result<(), Memory>
+    ensures { OnOk result (text.new ≡ text.old ++ sizes_line name.now bays switches nodes) }
+{
+    text.push(name)?;
+    push_number(text, b" bays ", bays)?;
+    push_number(text, b" switches ", switches)?;
+    push_number(text, b" nodes ", nodes)?;
+    text.push(b"\n")
+}
+
+// Appends the line of the station's size.
+fn push_size(text: &mut Text, station: &Station) -> Result<(), Memory>
+    ensures { OnOk result (text.new ≡ text.old ++ size_line station.now) }
+{
+    let switches = u32::from(station.switch_count());
+    let nodes = u32::from(station.node_count());
+    push_sizes(text, b"station", bay_count(station), switches, nodes)
+}
+
+// Appends the line of a tally.
+fn push_tally(text: &mut Text, name: &[u8], tally: Tally) -> Result<(), Memory>
+    ensures { OnOk result (text.new ≡ text.old ++ tally_line name.now tally) }
+{
+    text.push(name)?;
+    push_number(text, b" released ", tally.released)?;
+    push_number(text, b" denied ", tally.denied)?;
+    text.push(b"\n")
+}
+
+// Appends the line of what came of the log.
+fn push_log(text: &mut Text, report: &Report) -> Result<(), Memory>
+    ensures { OnOk result (text.new ≡ text.old ++ log_line report.now) }
+{
+    let (granted, denied, finished) = report.outcomes();
+    push_number(text, b"log lines ", report.count())?;
+    push_number(text, b" granted ", granted)?;
+    push_number(text, b" denied ", denied)?;
+    push_number(text, b" finished ", finished)?;
+    text.push(b"\n")
+}
+
+/// The four lines of a station (docs/FORMATS.md): how many bays, switches and nodes it has; how many operations
+/// are released and denied by these words of all switches; how many by those of the operation's bay alone, with
+/// nothing heard; and how many records the log of the replay has, and how many outcomes are granted, denied and
+/// finished. The judge is one of the station. Time: four verdicts of the judge for each switch, and the outcomes
+/// of the replay. Memory: the text, and that of one verdict.
+pub fn work_text<J: Judge>(
+    alloc: Global,
+    station: &Station,
+    judge: &J,
+    readings: &Readings,
+    report: &Report,
+) -> Result<Text, Memory>
+    requires same { (J.meaning judge.now).diagram ≡ station.now }
+    requires words { AreWords station.now readings.now }
+    ensures { IfOk result (IsWorkText station.now readings.now report.now) }
+{
+    let full = tally_operations(alloc, station, judge, Sight::Full, readings)?;
+    let blind = tally_operations(alloc, station, judge, Sight::Blind, readings)?;
+    let mut text = Text::new(alloc);
+    push_size(&mut text, station)?;
+    push_tally(&mut text, b"full", full)?;
+    push_tally(&mut text, b"blind", blind)?;
+    push_log(&mut text, report)?;
+    Ok(text)
+}
