@@ -30,3 +30,4 @@ mod rows;
 mod sessions;
 #[cfg(test)]
 mod station_texts;
+mod stored;
