@@ -13,3 +13,17 @@ pub mod CompileLemmas
 pub mod ReadyLemmas
 pub mod CountedLemmas
 pub mod ReachedLemmas
+pub mod WordLemmas
+pub mod SaidLemmas
+pub mod GroupLemmas
+pub mod OnceLemmas
+pub mod StepFits
+pub mod NodeFits
+pub mod NodeSaid
+pub mod PastLemmas
+pub mod DefinedLemmas
+pub mod ReadLoops
+pub mod TopLemmas
+pub mod WholeLemmas
+pub mod ReadLemmas
+pub mod StepsLemmas

@@ -10,12 +10,12 @@ use Rattle.station_graph.specs.Diagram.{Diagram}
 use Rattle.equation_text.specs.EquationLines.{PartLines, EquationLines}
 use Rattle.equation_text.specs.EquationText.{switch_line, part_line, step_line, op_line, node_line, numbered, lines_of, text_of}
 
-take-next : {X : Type 0} (xs : List X) (k : ℕ) (x : X) → slice_get xs k ≡ Some x → take (suc k) xs ≡ take k xs ++ x ∷ []
+pub take-next : {X : Type 0} (xs : List X) (k : ℕ) (x : X) → slice_get xs k ≡ Some x → take (suc k) xs ≡ take k xs ++ x ∷ []
 take-next [] k x at = absurd (cc)
 take-next {X} (y ∷ xs) zero x at = let e : y ≡ x = cc in ap (λ (z : X). z ∷ []) e
 take-next {X} (y ∷ xs) (suc k) x at = ap (λ (zs : List X). y ∷ zs) (take-next xs k x at)
 
-enumerate_from-push : {X : Type 0} (n m : ℕ) (xs : List X) (x : X) → m ≡ n + length xs → enumerate_from n (xs ++ x ∷ []) ≡ enumerate_from n xs ++ (m, x) ∷ []
+pub enumerate_from-push : {X : Type 0} (n m : ℕ) (xs : List X) (x : X) → m ≡ n + length xs → enumerate_from n (xs ++ x ∷ []) ≡ enumerate_from n xs ++ (m, x) ∷ []
 enumerate_from-push {X} n m [] x is = let e : n ≡ m = omega arith in ap (λ k. let pairs : List (ℕ × X) = (k, x) ∷ [] in pairs) e
 enumerate_from-push {X} n m (y ∷ xs) x is = ap (λ (ps : List (ℕ × X)). (n, y) ∷ ps) (enumerate_from-push (n + 1) m xs x (omega arith))
 

@@ -9,3 +9,8 @@ pub mod Compiling
 pub mod Apart
 pub mod NodeCount
 pub mod CompileText
+pub mod Words
+pub mod Beginnings
+pub mod Reading
+pub mod Defined
+pub mod ReadText

@@ -7,6 +7,9 @@ use ilk_base::{Direction, Rule};
 /// The greatest index that a line writes.
 pub const GREATEST_INDEX: u8 = 254;
 
+/// One more than the greatest number of a step or node that a line can name.
+pub const NUMBERS: u64 = 4_294_967_296;
+
 /// Where an operation or a node leads.
 #[derive(Clone, Copy, Debug, PartialEq, Eq)]
 pub enum Goal {

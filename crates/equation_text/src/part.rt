@@ -67,6 +67,13 @@ fn follow(start: Target, steps: &[PartStep], vector: &Vector) -> u8
 }
 
 impl PartSteps {
+    // Where the steps begin.
+    pub(crate) fn start(&self) -> Target
+        ensures { result ≡ self.now.start }
+    {
+        self.start
+    }
+
     // The steps.
     pub(crate) fn steps(&self) -> &[PartStep]
         ensures { result.now ≡ self.now.steps }

@@ -70,8 +70,9 @@ fn only(goals: &[Goal]) -> Option<Goal>
 }
 
 // The number of the next node; numbers end with 4,294,967,294.
-fn next_number(nodes: &[Node]) -> Result<u32, Memory>
-    ensures { IfOk result (λ n. n ≡ length nodes.now) }
+pub(crate) fn next_number(nodes: &[Node]) -> Result<u32, Memory>
+    ensures number { IfOk result (λ n. n ≡ length nodes.now) }
+    ensures small { IfOk result (λ n. n < 4294967295) }
 {
     if nodes.len() >= 4_294_967_295 {
         return Err(Memory);

@@ -62,6 +62,11 @@ fn built(rt: &impl Abort, alloc: Global, example: Example) -> Result<Station, Fa
     Ok(builder.finish())
 }
 
+// The station with the earthed line.
+pub(crate) fn earthed_line(rt: &impl Abort, alloc: Global) -> Result<Station, Fail> {
+    built(rt, alloc, Example::EarthedLine)
+}
+
 // The text of the equations is this.
 fn writes(
     rt: &impl Abort,

@@ -151,7 +151,7 @@ fn push_node(text: &mut Text, number: usize, node: &Node) -> Result<(), Memory>
 }
 
 // Appends the lines of all switches.
-fn push_switches(text: &mut Text, station: &Station) -> Result<(), Memory>
+pub(crate) fn push_switches(text: &mut Text, station: &Station) -> Result<(), Memory>
     ensures { OnOk result (text.new ≡ text.old ++ text_of (numbered (λ s path. switch_line s path ∷ []) station.now.switch_paths)) }
 {
     for i in 0..station.switch_count() {

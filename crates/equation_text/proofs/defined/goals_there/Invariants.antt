@@ -1,0 +1,8 @@
+use Rattle.std.proofs.Common.{◌≡◌, ◌<◌, ◌≤◌, ℕ, List, length, Some}
+use Rattle.std.specs.Prelude.{slice_get}
+use Rattle.equation_text.specs.declared.goal.Goal.{Goal}
+use Rattle.equation_text.specs.EquationForm.{IsGoal}
+use Rattle.equation_text.proofs.defined.goals_there.Given as goal
+
+abbrev pub invariant-loop-goal : goal.invariant-loop-goal
+invariant-loop-goal l = (i : ℕ) (g : Goal) → i < l.goal-index → slice_get l.goals i ≡ Some g → IsGoal l.nodes g

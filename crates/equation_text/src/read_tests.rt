@@ -1,0 +1,65 @@
+//! Texts that are read, and texts that are refused at a line. Each is written out by hand.
+use crate::tests::earthed_line;
+use crate::{EquationsFault, read_equations};
+use station_graph::Station;
+use std::alloc::Global;
+use std::process::Abort;
+use std::test::Fail;
+
+// The equations of a bay with an earthing switch and an infeed at one node.
+const WHOLE: &[u8] = b"equations\nswitch 0 S/V1/Q1/QC9\nswitch 1 S/V1/Q1/E1\npart 0 =0\nop 0 open ok\nop 0 close 0\nop 1 open ok\nop 1 close 1\nnode 0 switch 1 ok R1\nnode 1 switch 0 ok R2\nend\n";
+
+// Texts for that station, and the line at which each is refused.
+const REFUSED: &[(&[u8], u32)] = &[
+    // nothing, and no such switch
+    (b"", 1),
+    (b"equations\nswitch 0 S/V1/Q1/QC8\n", 2),
+    // the last line is missing, has no LF, or is not the last
+    (b"equations\nswitch 0 S/V1/Q1/QC9\nswitch 1 S/V1/Q1/E1\npart 0 =0\nop 0 open ok\nop 0 close 0\nop 1 open ok\nop 1 close 1\nnode 0 switch 1 ok R1\nnode 1 switch 0 ok R2\n", 11),
+    (b"equations\nswitch 0 S/V1/Q1/QC9\nswitch 1 S/V1/Q1/E1\npart 0 =0\nop 0 open ok\nop 0 close ok\nop 1 open ok\nop 1 close ok\nend", 9),
+    (b"equations\nswitch 0 S/V1/Q1/QC9\nswitch 1 S/V1/Q1/E1\npart 0 =0\nop 0 open ok\nop 0 close ok\nop 1 open ok\nop 1 close ok\nend\nend\n", 10),
+    // 0 is not greater than 1
+    (b"equations\nswitch 0 S/V1/Q1/QC9\nswitch 1 S/V1/Q1/E1\npart 0 =0\nop 0 open ok\nop 0 close 0\nop 1 open ok\nop 1 close 1\nnode 0 switch 1 ok R1\nnode 1 switch 0 0 R2\nend\n", 10),
+    // an index past 254, a number with a leading zero, a step that is not there
+    (b"equations\nswitch 0 S/V1/Q1/QC9\nswitch 1 S/V1/Q1/E1\npart 0 =255\nop 0 open ok\nop 0 close ok\nop 1 open ok\nop 1 close ok\nend\n", 4),
+    (b"equations\nswitch 0 S/V1/Q1/QC9\nswitch 1 S/V1/Q1/E1\npart 0 =00\nop 0 open ok\nop 0 close ok\nop 1 open ok\nop 1 close ok\nend\n", 4),
+    (b"equations\nswitch 0 S/V1/Q1/QC9\nswitch 1 S/V1/Q1/E1\npart 0 0\nop 0 open ok\nop 0 close ok\nop 1 open ok\nop 1 close ok\nend\n", 4),
+    // a step that leads to one that is not there, and a node that is not there
+    (b"equations\nswitch 0 S/V1/Q1/QC9\nswitch 1 S/V1/Q1/E1\npart 0 0\nstep 0 0 0 =0 1\nop 0 open ok\nop 0 close ok\nop 1 open ok\nop 1 close ok\nend\n", 5),
+    (b"equations\nswitch 0 S/V1/Q1/QC9\nswitch 1 S/V1/Q1/E1\npart 0 =0\nop 0 open ok\nop 0 close ok\nop 1 open ok\nop 1 close 0\nend\n", 8),
+    // two goals for one index, and none
+    (b"equations\nswitch 0 S/V1/Q1/QC9\nswitch 1 S/V1/Q1/E1\npart 0 =0\nop 0 open ok\nop 0 close ok\nop 1 open ok\nop 1 close ok\nnode 0 part 0 ok ok\nend\n", 9),
+    (b"equations\nswitch 0 S/V1/Q1/QC9\nswitch 1 S/V1/Q1/E1\npart 0 =0\nop 0 open ok\nop 0 close ok\nop 1 open ok\nop 1 close ok\nnode 0 part 0\nend\n", 9),
+];
+
+// The line at which a text is refused.
+fn refused_at(
+    rt: &impl Abort,
+    alloc: Global,
+    station: &Station,
+    text: &[u8],
+) -> Result<Option<u32>, Fail> {
+    assert!(rt; text.len() <= 4_294_967_294);
+    match read_equations(alloc, station, text) {
+        Ok(_) => Ok(None),
+        Err(EquationsFault::Refused(refusal)) => {
+            assert_eq!(rt; refusal.number, 10);
+            Ok(Some(refusal.line))
+        }
+        Err(EquationsFault::Memory) => Err(Fail::from("memory")),
+    }
+}
+
+fn all_refused(rt: &impl Abort, alloc: Global, station: &Station) -> Result<(), Fail> {
+    assert_eq!(rt; refused_at(rt, alloc, station, WHOLE)?, None);
+    for (text, line) in REFUSED {
+        assert_eq!(rt; refused_at(rt, alloc, station, text)?, Some(*line));
+    }
+    Ok(())
+}
+
+#[test]
+fn texts_that_are_refused(rt: HostRuntime) -> Result<(), Fail> {
+    let station = earthed_line(&rt, rt.alloc())?;
+    all_refused(&rt, rt.alloc(), &station)
+}
