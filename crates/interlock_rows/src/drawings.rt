@@ -33,6 +33,41 @@ pub(crate) const TWO_FEEDERS: &str = "<SCL>
 </SCL>
 ";
 
+// The same feeders, each on a busbar of its own.
+pub(crate) const FEEDERS_APART: &str = "<SCL>
+<Substation name=\"S\">
+<VoltageLevel name=\"V1\">
+<Bay name=\"W1\">
+<ConnectivityNode name=\"B\" pathName=\"S/V1/W1/B\"/>
+</Bay>
+<Bay name=\"W2\">
+<ConnectivityNode name=\"B\" pathName=\"S/V1/W2/B\"/>
+</Bay>
+<Bay name=\"Q1\">
+<ConnectivityNode name=\"n1\" pathName=\"S/V1/Q1/n1\"/>
+<ConnectivityNode name=\"n2\" pathName=\"S/V1/Q1/n2\"/>
+<ConnectivityNode name=\"n3\" pathName=\"S/V1/Q1/n3\"/>
+<ConductingEquipment name=\"QB1\" type=\"DIS\"><Terminal connectivityNode=\"S/V1/W1/B\" cNodeName=\"B\"/><Terminal connectivityNode=\"S/V1/Q1/n1\" cNodeName=\"n1\"/></ConductingEquipment>
+<ConductingEquipment name=\"QA1\" type=\"CBR\"><Terminal connectivityNode=\"S/V1/Q1/n1\" cNodeName=\"n1\"/><Terminal connectivityNode=\"S/V1/Q1/n2\" cNodeName=\"n2\"/></ConductingEquipment>
+<ConductingEquipment name=\"QB9\" type=\"DIS\"><Terminal connectivityNode=\"S/V1/Q1/n2\" cNodeName=\"n2\"/><Terminal connectivityNode=\"S/V1/Q1/n3\" cNodeName=\"n3\"/></ConductingEquipment>
+<ConductingEquipment name=\"QC9\" type=\"DIS\"><Terminal connectivityNode=\"S/V1/Q1/n3\" cNodeName=\"n3\"/><Terminal connectivityNode=\"S/V1/Q1/grounded\" cNodeName=\"grounded\"/></ConductingEquipment>
+<ConductingEquipment name=\"E1\" type=\"IFL\"><Terminal connectivityNode=\"S/V1/Q1/n3\" cNodeName=\"n3\"/></ConductingEquipment>
+</Bay>
+<Bay name=\"Q2\">
+<ConnectivityNode name=\"n1\" pathName=\"S/V1/Q2/n1\"/>
+<ConnectivityNode name=\"n2\" pathName=\"S/V1/Q2/n2\"/>
+<ConnectivityNode name=\"n3\" pathName=\"S/V1/Q2/n3\"/>
+<ConductingEquipment name=\"QB1\" type=\"DIS\"><Terminal connectivityNode=\"S/V1/W2/B\" cNodeName=\"B\"/><Terminal connectivityNode=\"S/V1/Q2/n1\" cNodeName=\"n1\"/></ConductingEquipment>
+<ConductingEquipment name=\"QA1\" type=\"CBR\"><Terminal connectivityNode=\"S/V1/Q2/n1\" cNodeName=\"n1\"/><Terminal connectivityNode=\"S/V1/Q2/n2\" cNodeName=\"n2\"/></ConductingEquipment>
+<ConductingEquipment name=\"QB9\" type=\"DIS\"><Terminal connectivityNode=\"S/V1/Q2/n2\" cNodeName=\"n2\"/><Terminal connectivityNode=\"S/V1/Q2/n3\" cNodeName=\"n3\"/></ConductingEquipment>
+<ConductingEquipment name=\"QC9\" type=\"DIS\"><Terminal connectivityNode=\"S/V1/Q2/n3\" cNodeName=\"n3\"/><Terminal connectivityNode=\"S/V1/Q2/grounded\" cNodeName=\"grounded\"/></ConductingEquipment>
+<ConductingEquipment name=\"E1\" type=\"IFL\"><Terminal connectivityNode=\"S/V1/Q2/n3\" cNodeName=\"n3\"/></ConductingEquipment>
+</Bay>
+</VoltageLevel>
+</Substation>
+</SCL>
+";
+
 // A double busbar with a coupler and two feeders.
 pub(crate) const DOUBLE_BUSBAR: &str = "<SCL>
 <Substation name=\"S\">
