@@ -33,8 +33,8 @@ pub(crate) const TWO_FEEDERS: &str = "<SCL>
 </SCL>
 ";
 
-// The same with a second busbar, on which the second feeder stands alone.
-pub(crate) const TWO_BUSBARS_APART: &str = "<SCL>
+// The same feeders, each on a busbar of its own.
+pub(crate) const FEEDERS_APART: &str = "<SCL>
 <Substation name=\"S\">
 <VoltageLevel name=\"V1\">
 <Bay name=\"W1\">

@@ -1,7 +1,7 @@
 //! What `node` answers to the lines of its input, and how it ends.
 ghost use Rattle.std.specs.Prelude.{◌≤◌};
 
-use crate::drawings::TWO_FEEDERS;
+use crate::drawings::{FEEDERS_APART, TWO_FEEDERS};
 use crate::rows::words_of;
 use ilk_base::{MemShelf, MemSink, MemSource, Memory, Text};
 use interlock_cli::{Status, run};
@@ -47,6 +47,14 @@ const ROWS: &[Row] = &[
         words: Q2,
         input: b"frame 010102000000010000\ntick\n",
         text: b"keep 000000000101000000010000000000000000\nsend 020201000000010001ff\nsend 040201000000010000\n",
+        status: Status::Done,
+        line: "",
+    },
+    // The second feeder is reserved by one whose answers it cannot change: the lock is bare.
+    Row {
+        words: "node g.ssd S/V1/Q2",
+        input: b"frame 010203000000010000\n",
+        text: b"keep 000000000102000000010000000000000000\nsend 020302000000010000\n",
         status: Status::Done,
         line: "",
     },
@@ -104,11 +112,12 @@ const REFUSED: &[&[u8]] = &[
     b"tick\r",
 ];
 
-// Runs the words over the file a.ssd and the input.
+// Runs the words over the files a.ssd and g.ssd and the input.
 fn expect_session(rt: &impl Abort, alloc: Global, row: &Row) -> Result<(), Fail> {
     let words = words_of(alloc, row.words)?;
     let mut shelf = MemShelf::new(alloc);
     shelf.put("a.ssd", TWO_FEEDERS.as_bytes())?;
+    shelf.put("g.ssd", FEEDERS_APART.as_bytes())?;
     let mut input = MemSource::new(alloc, row.input, 7)?;
     let mut out = MemSink::new(alloc, 1000, 77)?;
     let mut err = MemSink::new(alloc, 100, 7)?;

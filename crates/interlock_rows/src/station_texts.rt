@@ -1,5 +1,5 @@
 //! What `compile` and `plan` write of a station.
-use crate::drawings::{AS_A_TOOL_WRITES, TWO_BUSBARS_APART, TWO_FEEDERS};
+use crate::drawings::{AS_A_TOOL_WRITES, FEEDERS_APART, TWO_FEEDERS};
 use crate::rows::expect;
 use interlock_cli::Status;
 use std::test::Fail;
@@ -43,7 +43,7 @@ const PLAN_APART: &str = "{\"bays\":[{\"bay\":2,\"partners\":[],\"path\":\"S/V1/
 #[test]
 fn plans(rt: HostRuntime) -> Result<(), Fail> {
     let alloc = rt.alloc();
-    for (drawing, want) in [(TWO_FEEDERS, PLAN), (TWO_BUSBARS_APART, PLAN_APART)] {
+    for (drawing, want) in [(TWO_FEEDERS, PLAN), (FEEDERS_APART, PLAN_APART)] {
         expect(&rt, alloc, "plan a.ssd", drawing.as_bytes(), b"", (Status::Done, want.as_bytes(), ""))?;
     }
     Ok(())
