@@ -16,9 +16,11 @@ use Rattle.equation_audit.specs.Equations.{Equation}
 use Rattle.equation_audit.specs.BlockLines.{AreBlocks, IsBlocksFault}
 use Rattle.reservation_core.specs.declared.values.LogEvent.{LogEvent}
 use Rattle.log_replay.specs.Log.{IsLog, IsLogFault}
+use Rattle.trip_replay.specs.TripLogs.{IsTripLog, IsTripLogFault}
+use Rattle.trip_replay.specs.declared.log.TripLogEvent.{TripLogEvent}
 use Rattle.interlock_cli.specs.declared.end.End.{End}
 use Rattle.interlock_cli.specs.declared.end.End.TheVariants as e
-use Rattle.interlock_cli.specs.Formats.{Format, Drawing, Positions, CertainPositions, OrderOf, LogOf, BlocksOf, SwitchOf, BayOf, Value, Accepts, Refuses, PassesLimit}
+use Rattle.interlock_cli.specs.Formats.{Format, Drawing, Positions, CertainPositions, OrderOf, LogOf, TripLogOf, BlocksOf, SwitchOf, BayOf, Value, Accepts, Refuses, PassesLimit}
 use Rattle.interlock_cli.specs.Judging.{JudgeFails}
 use Rattle.interlock_cli.specs.Form.{File, Given, Fails}
 
@@ -111,6 +113,24 @@ refuses_log : (d : Diagram) (b v : List ℕ) (end : End) → v ≡ take 8388609 
 refuses_log d b v (e.Input refusal) h r = cut_log_fault d 8388609 b v refusal refl h r
 refuses_log d b v _ h r = r
 
+cut_trip_log : (d : Diagram) (n : ℕ) (b v : List ℕ) (events : List TripLogEvent) → n ≡ 8388609 → v ≡ take n b
+    → IsTripLog d v events → IsTripLog d b events
+cut_trip_log d n b v events e h log =
+    let whole : v ≡ b = h ∙ take_short n b (omega (arith, e, ap length h, log.few_bytes)) in
+    subst (λ (x : List ℕ). IsTripLog d x events) whole log
+
+cut_trip_log_fault : (d : Diagram) (n : ℕ) (b v : List ℕ) (r : InputRefusal) → n ≡ 8388609 → v ≡ take n b
+    → IsTripLogFault d v r → IsTripLogFault d b r
+cut_trip_log_fault d n b v r e h (inl long) = inl (omega (arith, long.0, ap length h, length-take n b), long.1)
+cut_trip_log_fault d n b v r e h (inr short) =
+    let whole : v ≡ b = h ∙ take_short n b (omega (arith, e, ap length h, short.0)) in
+    subst (λ (x : List ℕ). IsTripLogFault d x r) whole (inr short)
+
+refuses_trip_log : (d : Diagram) (b v : List ℕ) (end : End) → v ≡ take 8388609 b → Refuses (TripLogOf d) v end
+    → Refuses (TripLogOf d) b end
+refuses_trip_log d b v (e.Input refusal) h r = cut_trip_log_fault d 8388609 b v refusal refl h r
+refuses_trip_log d b v _ h r = r
+
 pub drawing : Cuts Drawing
 drawing = record { accepts = λ b v d h a. (cut_stands 8388609 b v (Ok d) refl h a.0, a.1); refuses = refuses_drawing }
 
@@ -132,6 +152,12 @@ blocks d = record { accepts = λ b v es h a. (a.0, cut_blocks d 8388609 b v es r
 pub log : (d : Diagram) → Cuts (LogOf d)
 log d = record { accepts = λ b v events h a. (a.0, cut_log d 8388609 b v events refl h a.1); refuses = refuses_log d }
 
+pub trip_log : (d : Diagram) → Cuts (TripLogOf d)
+trip_log d = record {
+  accepts = λ b v events h a. (a.0, cut_trip_log d 8388609 b v events refl h a.1);
+  refuses = refuses_trip_log d;
+}
+
 -- no content is refused by a fault of its read
 pub no_fault : (f : Format) (v : List ℕ) → Refuses f v e.ReadFault → ⊥
 no_fault Drawing v r = r
@@ -139,6 +165,7 @@ no_fault (Positions d) v r = r
 no_fault (CertainPositions d) v r = r
 no_fault (OrderOf d) v r = r
 no_fault (LogOf d) v r = r
+no_fault (TripLogOf d) v r = r
 no_fault (BlocksOf d) v r = r
 no_fault (SwitchOf d) v r = r
 no_fault (BayOf d) v r = r

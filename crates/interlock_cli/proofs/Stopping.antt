@@ -2,7 +2,7 @@
 use Rattle.std.proofs.Common.{ℕ, List, [], Option, Some, None, inl, inr, refl, sym, subst}
 use Rattle.std.specs.Io.KnownBytes.{Appends, Keeps}
 use Rattle.std.proofs.lemmas.List.{append-nil}
-use Rattle.interlock_cli.specs.Formats.{Format, Drawing, Positions, CertainPositions, OrderOf, LogOf, BlocksOf, SwitchOf, BayOf, Refuses}
+use Rattle.interlock_cli.specs.Formats.{Format, Drawing, Positions, CertainPositions, OrderOf, LogOf, TripLogOf, BlocksOf, SwitchOf, BayOf, Refuses}
 use Rattle.interlock_cli.specs.Form.{Form, Write, Take, Serve, Says, Gives, Stops}
 use Rattle.interlock_cli.specs.Commands.{Command, Make, form_of}
 use Rattle.interlock_cli.specs.Ends.{Call, FormEnds, Wrote, Unasked, Unread, Ends}
@@ -17,6 +17,7 @@ not_written (Positions d) v outcome r = r
 not_written (CertainPositions d) v outcome r = r
 not_written (OrderOf d) v outcome r = r
 not_written (LogOf d) v outcome r = r
+not_written (TripLogOf d) v outcome r = r
 not_written (BlocksOf d) v outcome r = r
 not_written (SwitchOf d) v outcome r = r
 not_written (BayOf d) v outcome r = r
@@ -27,6 +28,7 @@ not_failed (Positions d) v r = r
 not_failed (CertainPositions d) v r = r
 not_failed (OrderOf d) v r = r
 not_failed (LogOf d) v r = r
+not_failed (TripLogOf d) v r = r
 not_failed (BlocksOf d) v r = r
 not_failed (SwitchOf d) v r = r
 not_failed (BayOf d) v r = r
@@ -37,6 +39,7 @@ not_usage (Positions d) v r = r
 not_usage (CertainPositions d) v r = r
 not_usage (OrderOf d) v r = r
 not_usage (LogOf d) v r = r
+not_usage (TripLogOf d) v r = r
 not_usage (BlocksOf d) v r = r
 not_usage (SwitchOf d) v r = r
 not_usage (BayOf d) v r = r

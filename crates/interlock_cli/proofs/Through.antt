@@ -8,7 +8,7 @@ use Rattle.ssd_read.specs.declared.refusal.SsdRefusal.{SsdRefusal}
 use Rattle.ssd_read.specs.StandsFor.{Stands}
 use Rattle.ssd_read.proofs.Once.{one_station}
 use Rattle.double_points.specs.Positions.{IsAccepted, IsRefusedWith}
-use Rattle.interlock_cli.specs.Formats.{Format, Drawing, Positions, CertainPositions, OrderOf, LogOf, BlocksOf, SwitchOf, BayOf, Value, Accepts, Refuses, PassesLimit}
+use Rattle.interlock_cli.specs.Formats.{Format, Drawing, Positions, CertainPositions, OrderOf, LogOf, TripLogOf, BlocksOf, SwitchOf, BayOf, Value, Accepts, Refuses, PassesLimit}
 use Rattle.interlock_cli.specs.Form.{Form, Write, Take, Serve, Origin, File, Word, IsContent, Given, Fails, Stops, ReadRose}
 use Rattle.interlock_cli.specs.Commands.{Command, form_of}
 use Rattle.ilk_base.specs.Outside.{Rose}
@@ -27,6 +27,7 @@ use Rattle.interlock_cli.specs.Complete.{IsTold, IsAnswered, ReadsCalm, Complete
 use Rattle.switching_orders.specs.Certain.{IsUnsure}
 use Rattle.equation_audit.proofs.OneOutcome.{blocks_not_refused}
 use Rattle.log_replay.proofs.OneOutcome.{log_not_refused}
+use Rattle.trip_replay.proofs.OneTripOutcome.{trip_log_not_refused}
 use Rattle.interlock_cli.proofs.Orders.{never_unsure, order_not_refused}
 use Rattle.interlock_cli.specs.declared.status.Status.{Status}
 use Rattle.interlock_cli.specs.declared.status.Status.TheVariants as s
@@ -69,6 +70,8 @@ one_verdict (CertainPositions d) content v (e.Input refusal) (words, accepted, a
     never_unsure v (subst IsUnsure (same.2 ∙ sym accepted.2 ∙ are) unsure)
 one_verdict (OrderOf d) content steps (e.Input refusal) p r = order_not_refused d content steps refusal p r
 one_verdict (LogOf d) content events (e.Input refusal) p r = log_not_refused d content events refusal p.0 p.1 r
+one_verdict (TripLogOf d) content events (e.Input refusal) p r =
+    trip_log_not_refused d content events refusal p.0 p.1 r
 one_verdict (BlocksOf d) content es (e.Input refusal) p r = blocks_not_refused d p.0 content es refusal p.1 r
 one_verdict (SwitchOf d) content a (e.Input refusal) p r = r.0 p.0
 one_verdict (BayOf d) content b (e.Input refusal) p r = r.0 b p

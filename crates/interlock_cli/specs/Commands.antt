@@ -8,12 +8,13 @@ use Rattle.command_words.specs.Rows.{is_plain}
 use Rattle.station_state.specs.StateText.{IsStateText}
 use Rattle.station_make.specs.declared.words.MadeText.{MadeText}
 use Rattle.station_make.specs.Words.{feeders_of, made_text, text_named}
-use Rattle.interlock_cli.specs.Formats.{Drawing, Positions, CertainPositions, OrderOf, LogOf, BlocksOf, SwitchOf, BayOf}
+use Rattle.interlock_cli.specs.Formats.{Drawing, Positions, CertainPositions, OrderOf, LogOf, TripLogOf, BlocksOf, SwitchOf, BayOf}
 use Rattle.interlock_cli.specs.Form.{Form, Write, Take, Serve, File, Word}
 use Rattle.interlock_cli.specs.CheckText.{IsCheckText}
 use Rattle.interlock_cli.specs.ExplainText.{IsExplainText}
 use Rattle.interlock_cli.specs.OrderWrites.{OrderWrites}
 use Rattle.interlock_cli.specs.ReplayWrites.{ReplayWrites}
+use Rattle.interlock_cli.specs.TripsWrites.{TripsWrites}
 use Rattle.interlock_cli.specs.AuditWrites.{AuditWrites}
 use Rattle.interlock_cli.specs.declared.end.Outcome.{Outcome}
 use Rattle.interlock_cli.specs.declared.end.Outcome.TheVariants.{Done}
@@ -29,6 +30,8 @@ pub data Command : Type 0 where
   Order : List ℕ → List ℕ → List ℕ → Command
   -- `replay STATION LOG`
   Replay : List ℕ → List ℕ → Command
+  -- `trips STATION LOG`
+  Trips : List ℕ → List ℕ → Command
   -- `audit STATION EQUATIONS`
   Audit : List ℕ → List ℕ → Command
   -- `node STATION BAY`
@@ -73,6 +76,9 @@ order_of = three_words (λ station positions order. Some (Order station position
 abbrev pub replay_of : List (List ℕ) → Option Command
 replay_of = two_words (λ station log. Some (Replay station log))
 
+abbrev pub trips_of : List (List ℕ) → Option Command
+trips_of = two_words (λ station log. Some (Trips station log))
+
 abbrev pub audit_of : List (List ℕ) → Option Command
 audit_of = two_words (λ station equations. Some (Audit station equations))
 
@@ -91,6 +97,7 @@ named (name ∷ rest) =
     else if bytes_eq name (codes "state") then state_of rest
     else if bytes_eq name (codes "order") then order_of rest
     else if bytes_eq name (codes "replay") then replay_of rest
+    else if bytes_eq name (codes "trips") then trips_of rest
     else if bytes_eq name (codes "audit") then audit_of rest
     else if bytes_eq name (codes "node") then node_of rest
     else if bytes_eq name (codes "make") then make_of rest
@@ -117,6 +124,8 @@ form_of (Order station positions order) =
     Take (File order) (OrderOf d) (λ steps. Write (OrderWrites d start steps))))
 form_of (Replay station log) =
     Take (File station) Drawing (λ d. Take (File log) (LogOf d) (λ events. Write (ReplayWrites d events)))
+form_of (Trips station log) =
+    Take (File station) Drawing (λ d. Take (File log) (TripLogOf d) (λ events. Write (TripsWrites d events)))
 form_of (Audit station equations) =
     Take (File station) Drawing (λ d. Take (File equations) (BlocksOf d) (λ es. Write (AuditWrites d es)))
 form_of (Node station bay) =

@@ -17,6 +17,8 @@ use Rattle.equation_audit.specs.Equations.{Equation}
 use Rattle.equation_audit.specs.BlockLines.{AreBlocks, IsBlocksFault}
 use Rattle.reservation_core.specs.declared.values.LogEvent.{LogEvent}
 use Rattle.log_replay.specs.Log.{IsLog, IsLogFault}
+use Rattle.trip_replay.specs.TripLogs.{IsTripLog, IsTripLogFault}
+use Rattle.trip_replay.specs.declared.log.TripLogEvent.{TripLogEvent}
 use Rattle.interlock_cli.specs.declared.end.End.{End}
 use Rattle.interlock_cli.specs.declared.end.End.TheVariants as e
 
@@ -31,6 +33,8 @@ pub data Format : Type 0 where
   OrderOf : Diagram → Format
   -- the log of an operation of the station
   LogOf : Diagram → Format
+  -- such a log, whose breakers may trip
+  TripLogOf : Diagram → Format
   -- equations of the station, one block for each
   BlocksOf : Diagram → Format
   -- the path of a switch of the station
@@ -46,6 +50,7 @@ Value (Positions d) = List Dbpos
 Value (CertainPositions d) = List Bool
 Value (OrderOf d) = List Op
 Value (LogOf d) = List LogEvent
+Value (TripLogOf d) = List TripLogEvent
 Value (BlocksOf d) = List Equation
 Value (SwitchOf d) = List ℕ
 Value (BayOf d) = ℕ
@@ -62,6 +67,7 @@ Accepts (Positions d) content words = IsAccepted d.switch_paths content words
 Accepts (CertainPositions d) content v = (words : List Dbpos) × IsAccepted d.switch_paths content words × AreWordsOf v words
 Accepts (OrderOf d) content steps = IsOrder d content steps
 Accepts (LogOf d) content events = IsStation d × IsLog d content events
+Accepts (TripLogOf d) content events = IsStation d × IsTripLog d content events
 Accepts (BlocksOf d) content es = Differ d.switch_paths × AreBlocks d content es
 Accepts (SwitchOf d) content path = Contains d.switch_paths content × (path ≡ content)
 Accepts (BayOf d) content b = NamesBay d content b
@@ -87,6 +93,7 @@ Refuses (Positions d) content (e.Input refusal) = IsRefusedWith d.switch_paths c
 Refuses (CertainPositions d) content (e.Input refusal) = IsRefusedWith d.switch_paths content refusal ⊎ IsUnsureRefusal d content refusal
 Refuses (OrderOf d) content (e.Input refusal) = IsOrderFault d content refusal
 Refuses (LogOf d) content (e.Input refusal) = IsLogFault d content refusal
+Refuses (TripLogOf d) content (e.Input refusal) = IsTripLogFault d content refusal
 Refuses (BlocksOf d) content (e.Input refusal) = IsBlocksFault d content refusal
 Refuses (SwitchOf d) content (e.Input refusal) = (¬ Contains d.switch_paths content) × (refusal.number ≡ 11) × (refusal.line ≡ 0)
 Refuses (BayOf d) content (e.Input refusal) = ((b : ℕ) → ¬ NamesBay d content b) × (refusal.number ≡ 11) × (refusal.line ≡ 0)

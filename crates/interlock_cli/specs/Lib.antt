@@ -5,6 +5,7 @@ pub mod CheckText
 pub mod ExplainText
 pub mod OrderWrites
 pub mod ReplayWrites
+pub mod TripsWrites
 pub mod AuditWrites
 pub mod Commands
 pub mod Seen

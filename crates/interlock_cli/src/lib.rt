@@ -16,6 +16,7 @@ mod state_command;
 mod status;
 mod tell;
 mod top;
+mod trips_command;
 mod words;
 
 pub use status::Status;

@@ -7,10 +7,11 @@ ghost use Rattle.release_compile.specs.Judging.{KeepsLimits};
 ghost use Rattle.station_graph.specs.Alike.{IsVector};
 ghost use Rattle.switching_orders.specs.OrderRuling.{AreOperations};
 ghost use Rattle.log_replay.specs.Records.{MayBeTold};
+ghost use Rattle.trip_replay.specs.TripRecords.{TripMayBeTold};
 ghost use Rattle.equation_audit.specs.Equations.{AreOfStation};
 ghost use Rattle.double_points.specs.Words.{AreWords};
 ghost use Rattle.central_rules.specs.Meaning.{IsBay};
-ghost use Rattle.interlock_cli.specs.Formats.{Accepts, Drawing, Positions, CertainPositions, OrderOf, LogOf, BlocksOf, SwitchOf, BayOf};
+ghost use Rattle.interlock_cli.specs.Formats.{Accepts, Drawing, Positions, CertainPositions, OrderOf, LogOf, TripLogOf, BlocksOf, SwitchOf, BayOf};
 ghost use Rattle.interlock_cli.specs.Form.{Given, Fails, File};
 ghost use Rattle.interlock_cli.specs.Judging.{Drawn, BuildFails, ReadFails, JudgeFails, Onward};
 
@@ -24,6 +25,7 @@ use ssd_read::{SsdRefusal, read_ssd};
 use station_graph::{Station, Vector};
 use std::alloc::Global;
 use switching_orders::{Order, OrderFault, certain_positions, read_order};
+use trip_replay::{TripLog, TripLogFault, read_trip_log};
 
 // One byte more than a file may have, so that a file that is too long is seen to be.
 const MOST: u32 = 8_388_609;
@@ -127,6 +129,21 @@ fn judge_log(alloc: Global, station: &Station, bytes: &[u8]) -> Result<Log, End>
         Ok(log) => Ok(log),
         Err(LogFault::Memory) => Err(End::Memory),
         Err(LogFault::Refused(refusal)) => Err(End::Input(refusal)),
+    }
+}
+
+// The log, whose breakers may trip, of the bytes of a file.
+fn judge_trip_log(alloc: Global, station: &Station, bytes: &[u8]) -> Result<TripLog, End>
+    ensures ok { IfOk result (Accepts (TripLogOf station.now) bytes.now) }
+    ensures told { IfOk result (All (TripMayBeTold station.now)) }
+    ensures err { IfErr result (JudgeFails (TripLogOf station.now) bytes.now) }
+{
+    // Its clause says that it is a station; it does nothing.
+    station.is_station();
+    match read_trip_log(alloc, station, bytes) {
+        Ok(log) => Ok(log),
+        Err(TripLogFault::Memory) => Err(End::Memory),
+        Err(TripLogFault::Refused(refusal)) => Err(End::Input(refusal)),
     }
 }
 
@@ -282,6 +299,25 @@ pub(crate) fn load_log<F: Shelf>(
         Err(end) => return Err(end),
     };
     judge_log(alloc, station, &bytes)
+}
+
+// The log, whose breakers may trip, of a file.
+pub(crate) fn load_trip_log<F: Shelf>(
+    alloc: Global,
+    station: &Station,
+    name: &str,
+    shelf: &mut F,
+) -> Result<TripLog, End>
+    ensures ok { IfOk result (Given (F.held shelf.old) (File name.now) (TripLogOf station.now)) }
+    ensures told { IfOk result (All (TripMayBeTold station.now)) }
+    ensures err { IfErr result (Fails (F.held shelf.old) (F.faults shelf.old) (F.faults shelf.new) (File name.now) (TripLogOf station.now)) }
+    ensures onward { Onward (F.held shelf.old) (F.held shelf.new) (F.faults shelf.old) (F.faults shelf.new) }
+{
+    let bytes = match read_file(name, shelf) {
+        Ok(bytes) => bytes,
+        Err(end) => return Err(end),
+    };
+    judge_trip_log(alloc, station, &bytes)
 }
 
 // The switch of a path that the words name.

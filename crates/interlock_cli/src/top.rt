@@ -17,6 +17,7 @@ use crate::replay_command::replay;
 use crate::state_command::state;
 use crate::status::Status;
 use crate::tell::tell;
+use crate::trips_command::trips;
 use crate::words::{Command, read_command};
 use ilk_base::{Shelf, Sink, Source, write_all};
 use std::alloc::Global;
@@ -44,6 +45,7 @@ fn output_of<F: Shelf>(alloc: Global, command: &Command, shelf: &mut F) -> Resul
         Command::Audit { station, equations } => audit(alloc, station, equations, shelf),
         Command::Make { feeders, text } => make(alloc, feeders, text),
         Command::Replay { station, log } => replay(alloc, station, log, shelf),
+        Command::Trips { station, log } => trips(alloc, station, log, shelf),
         Command::Node { .. } => unreachable!(),
     }
 }
@@ -98,7 +100,8 @@ fn call<F: Shelf, I: Source, O: Sink>(
 ///
 /// The words are those of the command line, without the program's name. Where no word is empty or begins
 /// with `-`, and they are `check STATION POSITIONS`, `explain STATION POSITIONS open SWITCH` (or `close`),
-/// `state STATION POSITIONS`, `order STATION POSITIONS ORDER`, `replay STATION LOG`, `audit STATION EQUATIONS` `make NUMBER station` (or `positions`, or `log`) or `node STATION BAY`, they name that command;
+/// `state STATION POSITIONS`, `order STATION POSITIONS ORDER`, `replay STATION LOG`, `trips STATION LOG`,
+/// `audit STATION EQUATIONS`, `make NUMBER station` (or `positions`, or `log`) or `node STATION BAY`, they name that command;
 /// all else is `Usage`. What a command is given is judged in the order of the words, but for a switch or bay
 /// that they name, which comes last. Each file is judged before the next is read, and nothing is written, nor
 /// asked of the input, before all is accepted. On every status but `Done` and `Differs` one line goes to

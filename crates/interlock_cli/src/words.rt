@@ -1,6 +1,6 @@
 // What the words name.
 ghost use Rattle.std.specs.Prelude.{◌≡◌, ◌∷◌, map, option_map, string_bytes, Some, IfOk, IfErr};
-ghost use Rattle.interlock_cli.specs.Commands.{replay_of, audit_of, check_of, command_of, direction_of, explain_of, make_of, named, node_of, order_of, state_of};
+ghost use Rattle.interlock_cli.specs.Commands.{replay_of, audit_of, check_of, command_of, direction_of, explain_of, make_of, named, node_of, order_of, state_of, trips_of};
 ghost use Rattle.interlock_cli.specs.Ends.{Unread};
 ghost use Rattle.interlock_cli.specs.Seen.{seen};
 
@@ -33,6 +33,10 @@ pub enum Command<'a> {
         order: &'a str,
     },
     Replay {
+        station: &'a str,
+        log: &'a str,
+    },
+    Trips {
         station: &'a str,
         log: &'a str,
     },
@@ -133,6 +137,16 @@ fn replay_words<'a>(rest: &[&'a str]) -> Option<Command<'a>>
     Some(Command::Replay { station, log })
 }
 
+// `trips STATION LOG`.
+fn trips_words<'a>(rest: &[&'a str]) -> Option<Command<'a>>
+    ensures { trips_of (map (λ w. w.now) rest.now) ≡ option_map seen result }
+{
+    let &[station, log] = rest else {
+        return None;
+    };
+    Some(Command::Trips { station, log })
+}
+
 // `node STATION BAY`.
 fn node_words<'a>(rest: &[&'a str]) -> Option<Command<'a>>
     ensures { node_of (map (λ w. w.now) rest.now) ≡ option_map seen result }
@@ -169,6 +183,7 @@ fn named<'a>(name: &str, rest: &[&'a str]) -> Option<Command<'a>>
         "state" => state_words(rest),
         "order" => order_words(rest),
         "replay" => replay_words(rest),
+        "trips" => trips_words(rest),
         "audit" => audit_words(rest),
         "node" => node_words(rest),
         "make" => make_words(rest),

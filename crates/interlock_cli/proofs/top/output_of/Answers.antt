@@ -24,3 +24,6 @@ returns-in-Audit-clause-err g c = rw c.in-Audit.is c.audit.ensures.err
 
 pub returns-in-Replay-clause-err : goal.returns-in-Replay-clause-err
 returns-in-Replay-clause-err g c = rw c.in-Replay.is c.replay.ensures.err
+
+pub returns-in-Trips-clause-err : goal.returns-in-Trips-clause-err
+returns-in-Trips-clause-err g c = rw c.in-Trips.is c.trips.ensures.err

@@ -1,0 +1,30 @@
+-- What `trips` writes, and how it ends.
+use Rattle.std.specs.Prelude.{◌≡◌, ℕ, List, [], length}
+use Rattle.station_graph.specs.Diagram.{Diagram}
+use Rattle.bay_contract.specs.Alphabets.{AreAlphabets}
+use Rattle.release_compile.specs.Judging.{Judging}
+use Rattle.release_compile.specs.Summaries.{judges}
+use Rattle.log_replay.specs.Replay.{Replayed, report_text}
+use Rattle.trip_core.specs.TripRuns.{TripHeadline}
+use Rattle.trip_replay.specs.TripLogLines.{trip_start_of, trip_lines_of}
+use Rattle.trip_replay.specs.TripReplays.{IsTripReplay}
+use Rattle.trip_replay.specs.declared.log.TripLogEvent.{TripLogEvent}
+use Rattle.interlock_cli.specs.ReplayWrites.{ended}
+use Rattle.interlock_cli.specs.declared.end.Outcome.{Outcome}
+
+-- The report is that of one run of the log, whose breakers may trip, by the graph judge of the station. The
+-- headline: over the lines of the log, with what is shown at each, every decision is exact, every movement obeys
+-- the first two rules on the true positions throughout, and the third as long as no breaker tripped that the
+-- granting round used.
+pub record ReplaysTrips (d : Diagram) (log : List TripLogEvent) (r : Replayed) : Type 0 where
+  pub judging : Judging
+  pub of_station : judging.diagram ≡ d
+  pub alphabets : AreAlphabets judging.diagram judging.alphabets
+  pub replay : IsTripReplay (judges judging) log r
+  pub count : r.count ≡ length log
+  pub headline : TripHeadline d (trip_start_of d log) (trip_lines_of log r.out [])
+
+-- the text of the report; where a premise is broken, the call ends so
+abbrev pub TripsWrites : Diagram → List TripLogEvent → Outcome → List ℕ → Type 0
+TripsWrites d log outcome text =
+    (r : Replayed) × ReplaysTrips d log r × (outcome ≡ ended r.broken) × (text ≡ report_text d r)
