@@ -131,6 +131,18 @@ impl Graph {
         }
     }
 
+    /// A copy of the graph. Linear in edges and nodes, as is the memory that it takes.
+    pub fn copy(&self, alloc: Global) -> Result<Graph, Memory>
+        ensures { IfOk result (λ g. g ≡ self.now) }
+    {
+        Ok(Graph {
+            labels: self.labels,
+            shapes: Vec::from_slice(alloc, &self.shapes)?,
+            homes: Vec::from_slice(alloc, &self.homes)?,
+            edges: Vec::from_slice(alloc, &self.edges)?,
+        })
+    }
+
     // How many nodes the graph has.
     pub(crate) fn node_total(&self) -> u32
         ensures { result ≡ node_total self.now }

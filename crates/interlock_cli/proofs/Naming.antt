@@ -6,7 +6,7 @@ use Rattle.std.specs.Str.{bytes_eq}
 use Rattle.std.proofs.lemmas.Bool.{cases_Bool}
 use Rattle.std.proofs.lemmas.Slice.Eq.{bytes_eq-Decides}
 use Rattle.command_words.specs.Rows.{is_plain, is_row, row_of, written}
-use Rattle.interlock_cli.specs.Commands.{Command, one_word, two_words, three_words, four_words, named, command_of, check_of, explain_of, state_of, order_of, replay_of, trips_of, audit_of, node_of, make_of}
+use Rattle.interlock_cli.specs.Commands.{Command, one_word, two_words, three_words, four_words, named, command_of, check_of, explain_of, state_of, order_of, replay_of, trips_of, audit_of, node_of, make_of, compile_of}
 
 abbrev Text : Type 0
 Text = List ℕ
@@ -66,7 +66,8 @@ module _ (name : Text) (rest : List Text) (none : is_row (name ∷ rest) ≡ fal
       (row (codes "audit") 2 audit_of _ refl (two _)
       (row (codes "node") 2 node_of _ refl (two _)
       (row (codes "make") 2 make_of _ refl (two _)
-      refl))))))))
+      (row (codes "compile") 1 compile_of _ refl (one _)
+      refl)))))))))
 
 unnamed : (words : List Text) → is_row words ≡ false → named words ≡ None
 unnamed [] none = refl

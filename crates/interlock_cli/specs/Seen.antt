@@ -1,7 +1,7 @@
 -- What a contract sees of a command.
 use Rattle.interlock_cli.specs.Commands as c
 use Rattle.interlock_cli.specs.declared.words.Command.{Command}
-use Rattle.interlock_cli.specs.declared.words.Command.TheVariants.{Check, Explain, State, Order, Replay, Trips, Audit, Node, Make}
+use Rattle.interlock_cli.specs.declared.words.Command.TheVariants.{Check, Explain, State, Order, Replay, Trips, Audit, Node, Compile, Make}
 
 abbrev pub seen : Command → c.Command
 seen (Check station positions) = c.Check station.now positions.now
@@ -12,4 +12,5 @@ seen (Replay station log) = c.Replay station.now log.now
 seen (Trips station log) = c.Trips station.now log.now
 seen (Audit station equations) = c.Audit station.now equations.now
 seen (Node station bay) = c.Node station.now bay.now
+seen (Compile station) = c.Compile station.now
 seen (Make feeders text) = c.Make feeders.number text

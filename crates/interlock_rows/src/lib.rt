@@ -29,4 +29,6 @@ mod rows;
 #[cfg(test)]
 mod sessions;
 #[cfg(test)]
+mod station_texts;
+#[cfg(test)]
 mod trips;

@@ -21,7 +21,9 @@ pub mod InnerFits
 pub mod NodesLemmas
 pub mod InputsLemmas
 pub mod ChoiceLemmas
+pub mod NotingLemmas
 pub mod OuterGraphs
+pub mod OuterTaken
 pub mod InnerGraphs
 pub mod CodeLemmas
 pub mod BayLemmas

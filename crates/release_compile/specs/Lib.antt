@@ -10,6 +10,8 @@ pub mod Summaries
 pub mod Rows
 pub mod Deciding
 pub mod Plans
+pub mod Noting
+pub mod Stocking
 pub mod Pooling
 pub mod Layering
 pub mod Inputs

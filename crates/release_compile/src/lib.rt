@@ -15,6 +15,7 @@ mod layer;
 mod layers_told;
 mod limits;
 mod needed;
+mod noted;
 mod outer;
 mod partners;
 mod placing;
@@ -24,6 +25,7 @@ mod refusal;
 mod search;
 mod sets;
 mod station;
+mod stock;
 mod summary;
 mod view;
 
