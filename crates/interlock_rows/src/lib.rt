@@ -30,4 +30,5 @@ mod rows;
 mod sessions;
 #[cfg(test)]
 mod station_texts;
-mod stored;
+#[cfg(test)]
+mod trips;

@@ -169,7 +169,7 @@ const ROWS: &[Row] = &[
 ];
 
 // The first lines of the one operation, and what follows them.
-fn log_of(alloc: Global, first: usize, rest: &str) -> Result<Text, Memory> {
+pub(crate) fn log_of(alloc: Global, first: usize, rest: &str) -> Result<Text, Memory> {
     let mut log = Text::new(alloc);
     for (i, line) in ONE_OPERATION.iter().enumerate() {
         if i < first {
@@ -180,15 +180,16 @@ fn log_of(alloc: Global, first: usize, rest: &str) -> Result<Text, Memory> {
     Ok(log)
 }
 
-// Runs `replay` on the two feeders; the status, and what went to `err`, are as wanted. Gives what went to `out`.
-pub(crate) fn replayed(
+// Runs the words on the two feeders; the status, and what went to `err`, are as wanted. Gives what went to `out`.
+pub(crate) fn ran(
     rt: &impl Abort,
     alloc: Global,
+    words: &str,
     log: &[u8],
     status: Status,
     line: &str,
 ) -> Result<MemSink, Fail> {
-    let words = words_of(alloc, "replay a.ssd a.csv")?;
+    let words = words_of(alloc, words)?;
     let mut shelf = MemShelf::new(alloc);
     shelf.put("a.ssd", TWO_FEEDERS.as_bytes())?;
     shelf.put("a.csv", log)?;
@@ -199,6 +200,17 @@ pub(crate) fn replayed(
     assert_eq!(rt; err.bytes(), line.as_bytes());
     assert_eq!(rt; ended, status);
     Ok(out)
+}
+
+// Runs `replay` so.
+pub(crate) fn replayed(
+    rt: &impl Abort,
+    alloc: Global,
+    log: &[u8],
+    status: Status,
+    line: &str,
+) -> Result<MemSink, Fail> {
+    ran(rt, alloc, "replay a.ssd a.csv", log, status, line)
 }
 
 fn expect_row(rt: &impl Abort, alloc: Global, row: &Row) -> Result<(), Fail> {

@@ -191,12 +191,13 @@ const AFTER_A_TRIP: Story = Story {
     premise: None,
 };
 
+const COUPLED: &[&[u8]] = &[b"bay 2 S/V1/K0\nbay 3 S/V1/Q1\nbay 4 S/V1/Q2\n"];
+
 const CLOSED: &[u16] = &[0, 1, 2, 3, 5, 6, 8, 10, 11, 12, 14];
 
 // What the disconnector breaks before the trip, and after it.
 fn expect_third(rt: &impl Abort, alloc: Global, station: &Station) -> Result<(), Fail> {
-    let bays = &[b"bay 2 S/V1/K0\nbay 3 S/V1/Q1\nbay 4 S/V1/Q2\n"].as_slice();
-    expect_report(rt, alloc, station, bays, &AFTER_A_TRIP)?;
+    expect_report(rt, alloc, station, COUPLED, &AFTER_A_TRIP)?;
     let mut truth = Vector::all_open(alloc, station)?;
     for closed in CLOSED {
         assert!(rt; *closed < station.switch_count());
