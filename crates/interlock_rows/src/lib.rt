@@ -31,4 +31,6 @@ mod sessions;
 #[cfg(test)]
 mod station_texts;
 #[cfg(test)]
+mod stored;
+#[cfg(test)]
 mod trips;
