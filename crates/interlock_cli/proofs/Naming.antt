@@ -6,7 +6,7 @@ use Rattle.std.specs.Str.{bytes_eq}
 use Rattle.std.proofs.lemmas.Bool.{cases_Bool}
 use Rattle.std.proofs.lemmas.Slice.Eq.{bytes_eq-Decides}
 use Rattle.command_words.specs.Rows.{is_plain, is_row, row_of, written}
-use Rattle.interlock_cli.specs.Commands.{Command, one_word, two_words, three_words, four_words, named, command_of, check_of, explain_of, state_of, order_of, replay_of, audit_of, node_of, make_of, trips_of, compile_of, work_of}
+use Rattle.interlock_cli.specs.Commands.{Command, one_word, two_words, three_words, four_words, named, command_of, check_of, explain_of, state_of, order_of, replay_of, audit_of, node_of, make_of, trips_of, plan_of, compile_of, work_of}
 
 abbrev Text : Type 0
 Text = List ℕ
