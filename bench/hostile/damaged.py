@@ -57,9 +57,10 @@ def stock():
 def damaged(rng, text, others):
     """The text with some damage."""
     text = bytearray(text)
-    for _ in range(rng.randint(1, 6) if rng.random() < 0.7 else 1):
+    little = rng.random() < 0.5
+    for _ in range(1 if little else rng.randint(1, 6)):
         at = rng.randrange(len(text) + 1)
-        to = min(len(text), at + rng.choice((1, 2, 8, 40, 300)))
+        to = min(len(text), at + rng.choice((1, 2, 8) if little else (1, 2, 8, 40, 300)))
         kind = rng.randrange(7)
         if kind == 0 and text:
             text[at - 1] ^= 1 << rng.randrange(8)
@@ -90,7 +91,8 @@ def case(seed, number, files):
     scheme = rng.choice(SCHEMES)
     station, positions, extra, given = files[scheme + ".ssd"], files[scheme + ".csv"], b"", b""
     command = rng.choice(list(STATUSES))
-    words = {"check": ["station", "positions"], "state": ["station", "positions"], "explain": ["station", "positions", "open", "S/V1/Q1/QB1"]}.get(command)
+    switch = rng.choice(positions.decode().splitlines()).split(",")[0]
+    words = {"explain": ["station", "positions", rng.choice(("open", "close")), switch]}.get(command, ["station", "positions"])
     if command in ("replay", "node"):
         station, extra = files["two_feeders.ssd"], files["two_feeders.log"]
         words = ["station", "extra"] if command == "replay" else ["station", "S/V1/Q1"]
