@@ -1,18 +1,17 @@
 -- Nodes and goals from a place on stay so as nodes are added.
-use Rattle.std.proofs.Common.{◌≡◌, ◌∙◌, ◌⊎◌, ℕ, ◌+◌, ◌-◌, ◌<◌, ◌≤◌, zero, suc, List, [], ◌∷◌, ◌++◌, length, refl, sym, ap, subst, inl, inr, arith, Some, Option, cond}
+use Rattle.std.proofs.Common.{◌≡◌, ◌∙◌, ◌⊎◌, ℕ, ◌+◌, ◌-◌, ◌<◌, ◌≤◌, zero, suc, List, [], ◌∷◌, ◌++◌, length, sym, ap, subst, inl, inr, arith, Some, Option, cond}
 use Rattle.std.specs.Prelude.{slice_get, nat_lt}
 use Rattle.std.proofs.lemmas.Bool.{cases_lt}
 use Rattle.std.proofs.lemmas.Bool.Decides.{nat_tests}
 use Rattle.station_graph.proofs.Decided.{element}
 use Rattle.std.proofs.lemmas.Option.{same_Some, slice_get_within}
-use Rattle.std.proofs.lemmas.List.{length_push}
 use Rattle.ilk_base.specs.declared.words.Rule.{Rule}
 use Rattle.decision_graphs.specs.Label.{Layered, layer_at, step}
 use Rattle.release_compile.specs.Judging.{Judging, ground, bay_at}
 use Rattle.release_compile.specs.Built.{AreBayGraphs}
 use Rattle.central_rules.specs.Meaning.{bay_of}
 use Rattle.equation_text.specs.declared.goal.Goal.{Goal}
-use Rattle.equation_text.specs.declared.goal.Goal.TheVariants.{Node, Answer}
+use Rattle.equation_text.specs.declared.goal.Goal.TheVariants.{Answer}
 use Rattle.equation_text.specs.declared.goal.SwitchGoals.{SwitchGoals}
 use Rattle.equation_text.specs.EquationLines.{NodeLine}
 use Rattle.equation_text.specs.EquationForm.{SwitchGoalsFit, goals_of}

@@ -1,5 +1,5 @@
 -- The graphs of a bay have no more nodes than counted edges.
-use Rattle.std.proofs.Common.{◌≡◌, ◌∙◌, ℕ, ◌+◌, ◌-◌, ◌*◌, ◌<◌, ◌≤◌, zero, suc, Bool, true, false, List, [], ◌∷◌, length, take, get_or, refl, sym, ap, subst, inl, inr, arith, Some}
+use Rattle.std.proofs.Common.{◌≡◌, ◌∙◌, ℕ, ◌+◌, ◌-◌, ◌<◌, ◌≤◌, suc, Bool, false, List, [], ◌∷◌, length, take, get_or, refl, sym, ap, subst, arith, Some}
 use Rattle.std.specs.Prelude.{slice_get}
 use Rattle.std.specs.List.{sum, sum_by}
 use Rattle.std.proofs.Math.ListN.{replicate}
@@ -7,9 +7,9 @@ use Rattle.std.proofs.lemmas.List.{length-replicate}
 use Rattle.std.proofs.lemmas.List.Sums.{sum_by-cons}
 use Rattle.std.proofs.lemmas.Nat.{mul-le}
 use Rattle.std.proofs.lemmas.Option.{slice_get_within, get_or_from_slice_get}
-use Rattle.station_graph.specs.Diagram.{Diagram, part_count, AreSwitchesOf}
+use Rattle.station_graph.specs.Diagram.{Diagram}
 use Rattle.station_graph.specs.Connection.{Item}
-use Rattle.station_graph.specs.Alike.{IsVector, Alike}
+use Rattle.station_graph.specs.Alike.{Alike}
 use Rattle.station_graph.proofs.Decided.{element}
 use Rattle.station_graph.proofs.PositionLemmas.{SameGapView-sym, SameLoadView-sym, SameGapView-trans, SameLoadView-trans}
 use Rattle.contraction.specs.Stands.{Among}
@@ -24,7 +24,7 @@ use Rattle.release_compile.specs.Seen.{SameView}
 use Rattle.release_compile.specs.Listing.{parts_before}
 use Rattle.release_compile.specs.Needing.{IsNeededOuter, IsNeededInner}
 use Rattle.release_compile.specs.Graphs.{other_of}
-use Rattle.release_compile.specs.Counted.{Size, edges_in, before_switch, IsSmall, OuterHas, SwitchHas, ViewHas as ViewIsCounted}
+use Rattle.release_compile.specs.Counted.{Size, edges_in, before_switch, IsSmall, SwitchHas, ViewHas as ViewIsCounted}
 use Rattle.release_compile.specs.Built.{ViewOf, BayOf, AreViewGraphs}
 use Rattle.release_compile.specs.Judging.{no_graph, inner_at as graph_of}
 use Rattle.equation_text.specs.Compiling.{inner_total, view_nodes}

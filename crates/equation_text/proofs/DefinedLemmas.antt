@@ -1,6 +1,7 @@
 -- Whether goals are there.
-use Rattle.std.proofs.Common.{◌≡◌, ◌≢◌, ◌∙◌, ◌↔◌, ℕ, ◌<◌, zero, suc, Bool, true, false, List, [], ◌∷◌, refl, sym, ap, subst, Some}
-use Rattle.std.specs.Prelude.{slice_get, IsTrue}
+use Rattle.std.proofs.Common.{◌≡◌, ◌∙◌, ◌↔◌, ℕ, zero, suc, Bool, true, false, [], ◌∷◌, refl, sym}
+use Rattle.std.proofs.Common.{subst}
+use Rattle.std.specs.Prelude.{IsTrue}
 use Rattle.std.proofs.lemmas.Option.{same_Some}
 use Rattle.equation_text.specs.declared.goal.Goal.{Goal}
 use Rattle.equation_text.specs.EquationForm.{IsGoal}
@@ -11,8 +12,10 @@ both_there n off on p q zero g at = subst (λ (h : Goal). IsGoal n h) (same_Some
 both_there n off on p q (suc zero) g at = subst (λ (h : Goal). IsGoal n h) (same_Some on g at) q
 both_there n off on p q (suc (suc i)) g at = absurd (cc at)
 
-pub second_there : (n : ℕ) (off on : Goal) (r : Bool) → IsGoal n off → IsTrue r ↔ IsGoal n on → IsTrue r ↔ GoalsThere n (off ∷ on ∷ [])
+pub second_there : (n : ℕ) (off on : Goal) (r : Bool) → IsGoal n off → IsTrue r ↔ IsGoal n on
+    → IsTrue r ↔ GoalsThere n (off ∷ on ∷ [])
 second_there n off on r p q = (λ t. both_there n off on p (q.0 t), λ all. q.1 (all 1 on refl))
 
-pub first_not : (n : ℕ) (off on : Goal) (r : Bool) → r ≡ false → IsTrue r ↔ IsGoal n off → IsTrue r ↔ GoalsThere n (off ∷ on ∷ [])
+pub first_not : (n : ℕ) (off on : Goal) (r : Bool) → r ≡ false → IsTrue r ↔ IsGoal n off
+    → IsTrue r ↔ GoalsThere n (off ∷ on ∷ [])
 first_not n off on r none p = (λ t. absurd (let e : true ≡ false = sym t ∙ none in cc e), λ all. p.1 (all 0 off refl))

@@ -1,7 +1,6 @@
 -- The words behind a node's number.
-use Rattle.std.proofs.Common.{◌≡◌, ◌∙◌, ◌⊎◌, ℕ, List, [], ◌∷◌, ◌++◌, refl, sym, ap, inl, inr, arith}
+use Rattle.std.proofs.Common.{◌≡◌, ◌⊎◌, ℕ, List, [], ◌∷◌, ◌++◌, refl, ap, inl, inr, arith}
 use Rattle.std.specs.Prelude.{codes, decimal}
-use Rattle.equation_text.specs.declared.goal.Goal.{Goal}
 use Rattle.equation_text.specs.EquationLines.{NodeLine, part_node, switch_node}
 use Rattle.equation_text.specs.EquationText.{node_line}
 use Rattle.equation_text.specs.Words.{numbered_head}
@@ -17,7 +16,8 @@ pub node_said : (n : ℕ) (x : NodeLine) → node_line n x ≡ numbered_head (co
 node_said n (part_node part goals) = part_node_said n part goals
 node_said n (switch_node switch off on) = switch_node_said n switch off on
 
-pub part_or_switch : (x : NodeLine) → ((rest : List ℕ) × (words_of x ≡ codes "part " ++ rest)) ⊎ ((rest : List ℕ) × (words_of x ≡ codes "switch " ++ rest))
+pub part_or_switch : (x : NodeLine) → ((rest : List ℕ) × (words_of x ≡ codes "part " ++ rest)) ⊎ ((rest : List ℕ)
+    × (words_of x ≡ codes "switch " ++ rest))
 part_or_switch (part_node part goals) = inl (decimal part ++ goals_text goals, refl)
 part_or_switch (switch_node switch off on) = inr (choice_text switch off on, refl)
 
@@ -25,7 +25,8 @@ abbrev first_byte : List ℕ → ℕ
 first_byte [] = 0
 first_byte (b ∷ bs) = b
 
-pub of_part : (switches : ℕ) (counts : List ℕ) (n : ℕ) (x : NodeLine) (words : List ℕ) → MayBeNode switches counts n x → codes "part " ++ words ≡ words_of x → IsPartNode counts n words x
+pub of_part : (switches : ℕ) (counts : List ℕ) (n : ℕ) (x : NodeLine) (words : List ℕ) → MayBeNode switches counts n x
+    → codes "part " ++ words ≡ words_of x → IsPartNode counts n words x
 of_part switches counts n (part_node part goals) words may is = record {
   part = part;
   goals = goals;
@@ -34,10 +35,13 @@ of_part switches counts n (part_node part goals) words may is = record {
   later = may.1;
   are = append_cancel_left (codes "part ") words (decimal part ++ goals_text goals) is;
 }
-of_part switches counts n (switch_node switch off on) words may is = let e : 112 ≡ 115 = ap first_byte is in absurd (omega (arith, e))
+of_part switches counts n (switch_node switch off on) words may is = let e : 112 ≡ 115 = ap first_byte is in
+    absurd (omega (arith, e))
 
-pub of_switch : (switches : ℕ) (counts : List ℕ) (n : ℕ) (x : NodeLine) (words : List ℕ) → MayBeNode switches counts n x → codes "switch " ++ words ≡ words_of x → IsSwitchNode switches n words x
-of_switch switches counts n (part_node part goals) words may is = let e : 115 ≡ 112 = ap first_byte is in absurd (omega (arith, e))
+pub of_switch : (switches : ℕ) (counts : List ℕ) (n : ℕ) (x : NodeLine) (words : List ℕ)
+    → MayBeNode switches counts n x → codes "switch " ++ words ≡ words_of x → IsSwitchNode switches n words x
+of_switch switches counts n (part_node part goals) words may is = let e : 115 ≡ 112 = ap first_byte is in
+    absurd (omega (arith, e))
 of_switch switches counts n (switch_node switch off on) words may is = record {
   switch = switch;
   off = off;

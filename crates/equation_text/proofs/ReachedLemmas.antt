@@ -1,30 +1,28 @@
 -- The nodes that are reached from the operations of a bay.
-use Rattle.std.proofs.Common.{◌≡◌, ◌∙◌, ◌⊎◌, ℕ, ◌+◌, ◌-◌, ◌*◌, ◌<◌, ◌≤◌, zero, suc, List, [], ◌∷◌, length, map, slice_index, get_or, refl, sym, ap, subst, inl, inr, arith, Some}
+use Rattle.std.proofs.Common.{◌≡◌, ◌∙◌, ℕ, ◌+◌, ◌-◌, ◌*◌, ◌<◌, ◌≤◌, zero, suc, List, [], ◌∷◌, length, map, slice_index, refl, sym, ap, subst, arith, Some}
 use Rattle.std.specs.Prelude.{slice_get}
-use Rattle.std.specs.List.{sum, sum_by}
+use Rattle.std.specs.List.{sum}
 use Rattle.std.proofs.lemmas.List.Sums.{sum_by-cons}
 use Rattle.std.proofs.lemmas.Option.{same_Some, slice_get_within, get_or_from_slice_get}
 use Rattle.indexmap.proofs.IndexTableLemmas.Probe.{pigeonhole}
 use Rattle.ilk_base.specs.declared.words.Direction.{Direction}
 use Rattle.ilk_base.specs.declared.words.Direction.TheVariants.{ToOff, ToOn}
-use Rattle.station_graph.specs.declared.items.Switch.{Switch}
-use Rattle.station_graph.specs.Diagram.{Diagram, AreSwitchesOf}
 use Rattle.station_graph.proofs.Decided.{element}
 use Rattle.bay_contract.specs.Counting.{AreSoMany}
 use Rattle.central_rules.specs.Meaning.{bay_of}
 use Rattle.release_compile.specs.declared.view.View.TheVariants.{Gap, Load}
-use Rattle.release_compile.specs.Counted.{BayHas, ViewHas as ViewIsCounted}
-use Rattle.release_compile.specs.Built.{BayOf, AreBayGraphs, AreViewGraphs}
+use Rattle.release_compile.specs.Counted.{BayHas}
+use Rattle.release_compile.specs.Built.{AreBayGraphs, AreViewGraphs}
 use Rattle.release_compile.specs.Judging.{Judging, ground, bay_at}
 use Rattle.equation_text.specs.declared.goal.Goal.{Goal}
 use Rattle.equation_text.specs.declared.goal.Goal.TheVariants.{Node, Answer}
 use Rattle.equation_text.specs.declared.goal.SwitchGoals.{SwitchGoals}
-use Rattle.equation_text.specs.EquationLines.{PartLines, NodeLine, EquationLines, goal_towards}
+use Rattle.equation_text.specs.EquationLines.{PartLines, NodeLine, goal_towards}
 use Rattle.equation_text.specs.EquationMeaning.{Passes, Leads}
-use Rattle.equation_text.specs.EquationForm.{IsGoal, SwitchGoalsFit, goals_of}
+use Rattle.equation_text.specs.EquationForm.{IsGoal, goals_of}
 use Rattle.equation_text.specs.Growing.{AllGrew, turned_goal, turned_goals, IsTurned}
-use Rattle.equation_text.specs.Apart.{IsFrom, BothFrom, StandApart}
-use Rattle.equation_text.specs.NodeCount.{Writes, WritesGoal, IsNodeOf, NoneTwice, AreAtMost}
+use Rattle.equation_text.specs.Apart.{IsFrom, StandApart}
+use Rattle.equation_text.specs.NodeCount.{WritesGoal, IsNodeOf, NoneTwice, AreAtMost}
 use Rattle.equation_text.specs.Compiling.{view_nodes, switch_nodes}
 use Rattle.equation_text.proofs.GrowingLemmas.{goal_below}
 use Rattle.equation_text.proofs.TurnLemmas.{unmapped, goals_turned, towards_turned}

@@ -1,12 +1,10 @@
 -- A text of the form is read as its lines.
-use Rattle.std.proofs.Common.{◌≡◌, ◌≢◌, ◌∙◌, ◌⊎◌, ℕ, ◌+◌, ◌<◌, ◌≤◌, zero, suc, List, [], ◌∷◌, ◌++◌, length, map, refl, sym, ap, subst, inl, inr, arith, Some, append_assoc}
+use Rattle.std.proofs.Common.{◌≡◌, ◌≢◌, ◌∙◌, ℕ, ◌+◌, ◌<◌, ◌≤◌, zero, suc, List, [], ◌∷◌, ◌++◌, length, map, refl}
+use Rattle.std.proofs.Common.{sym, ap, subst, inl, inr, arith, Some}
 use Rattle.std.specs.Prelude.{codes, slice_get}
-use Rattle.std.specs.List.{flat_map, enumerate_from}
 use Rattle.std.proofs.lemmas.Bool.{cases_lt}
-use Rattle.std.proofs.lemmas.Grind.{common_steps}
 use Rattle.std.proofs.lemmas.List.{append_cancel_left, length-map, length-append}
 use Rattle.std.proofs.lemmas.Option.{slice_get_within}
-use Rattle.ilk_base.specs.declared.words.Direction.TheVariants.{ToOff, ToOn}
 use Rattle.station_graph.specs.Diagram.{Diagram, IsStation, part_count}
 use Rattle.bay_contract.specs.declared.fork.PartStep.{PartStep}
 use Rattle.bay_contract.specs.declared.fork.Target.{Target}
@@ -16,18 +14,20 @@ use Rattle.equation_text.specs.declared.goal.Goal.TheVariants.{Node, Answer}
 use Rattle.equation_text.specs.declared.goal.SwitchGoals.{SwitchGoals}
 use Rattle.equation_text.specs.declared.goal.TheConstants.{NUMBERS}
 use Rattle.equation_text.specs.EquationLines.{PartLines, NodeLine, part_node, switch_node, EquationLines, index_count}
-use Rattle.equation_text.specs.EquationForm.{IsTarget, IsLaterTarget, IsGoal, IsLaterGoal, SwitchGoalsFit, NodeLineFits, AreEquations}
-use Rattle.equation_text.specs.EquationText.{step_line, op_line, node_line, lines_of, text_of}
-use Rattle.equation_text.specs.Beginnings.{MayBeStep, MayBeNode}
-use Rattle.equation_text.specs.Reading.{front_text, start_lines, step_lines, all_step_lines, op_lines, node_lines, MayBeStarts, MayBeOps, MayBeNodes, NoneFrom, NoStep, AreAllSteps}
+use Rattle.equation_text.specs.EquationForm.{IsTarget, IsLaterTarget, IsGoal, IsLaterGoal}
+use Rattle.equation_text.specs.EquationForm.{NodeLineFits, AreEquations}
+use Rattle.equation_text.specs.EquationText.{step_line, node_line, lines_of, text_of}
+use Rattle.equation_text.specs.Beginnings.{MayBeNode}
+use Rattle.equation_text.specs.Reading.{front_text, start_lines, step_lines, all_step_lines, op_lines, node_lines}
+use Rattle.equation_text.specs.Reading.{MayBeStarts, MayBeOps, MayBeNodes, NoStep, AreAllSteps}
 use Rattle.equation_text.specs.ReadText.{MayBeParts}
-use Rattle.equation_text.proofs.TextLemmas.{text_of-append}
 use Rattle.equation_text.proofs.TurnLemmas.{mapped, unmapped}
-use Rattle.equation_text.proofs.GroupLemmas.{text_cons, text_one, lines_from, once, next}
+use Rattle.equation_text.proofs.GroupLemmas.{text_one, lines_from, once, next}
 use Rattle.equation_text.proofs.OnceLemmas.{any_target}
-use Rattle.equation_text.proofs.ReadLemmas.{start_of, StartFits, start_one, StepFits, ops_of, OpFits, op_one, text_two, node_of, whole_groups}
+use Rattle.equation_text.proofs.ReadLemmas.{start_of, StartFits, start_one, ops_of, OpFits, op_one}
+use Rattle.equation_text.proofs.ReadLemmas.{node_of, whole_groups}
 use Rattle.equation_text.proofs.StepsLemmas.{StepIs, part_steps, parts_once}
-use Rattle.equation_text.proofs.ReadLoops.{starts_fit, ops_fit, NodeIs, nodes_one, nodes_fit, after_nodes}
+use Rattle.equation_text.proofs.ReadLoops.{starts_fit, ops_fit, NodeIs, nodes_one, nodes_fit}
 
 -- a text has no fewer bytes than lines
 length_text : (ls : List (List ℕ)) → length ls ≤ length (text_of ls)
@@ -38,11 +38,13 @@ length_text (l ∷ ls) =
     let here = length-append l (codes "\n") in
     omega (arith, rest, all, here)
 
-length_single : {X : Type 0} (line : ℕ → X → List ℕ) (n : ℕ) (xs : List X) → length (lines_from (λ k x. line k x ∷ []) n xs) ≡ length xs
+length_single : {X : Type 0} (line : ℕ → X → List ℕ) (n : ℕ) (xs : List X) → length (lines_from
+    (λ k x. line k x ∷ []) n xs) ≡ length xs
 length_single line n [] = refl
 length_single line n (x ∷ xs) = ap suc (length_single line (n + 1) xs)
 
-steps_among : (p : ℕ) (parts : List PartLines) (i : ℕ) (x : PartLines) → slice_get parts i ≡ Some x → length x.steps ≤ length (lines_from part_steps p parts)
+steps_among : (p : ℕ) (parts : List PartLines) (i : ℕ) (x : PartLines) → slice_get parts i ≡ Some x
+    → length x.steps ≤ length (lines_from part_steps p parts)
 steps_among p [] i x at = absurd (cc at)
 steps_among p (y ∷ parts) zero x at =
     let same : y ≡ x = cc at in
@@ -69,9 +71,19 @@ few_later_goal : (n m : ℕ) (g : Goal) → n ≤ NUMBERS → IsLaterGoal n m g 
 few_later_goal n m (Node k) few is = (is.0, omega (arith, few, is.1))
 few_later_goal n m (Answer a) few is = tt
 
-node_may : (switches n m : ℕ) (parts : List PartLines) (x : NodeLine) → n ≤ NUMBERS → NodeLineFits switches parts n m x → MayBeNode switches (map index_count parts) m x
-node_may switches n m parts (part_node part goals) few fits = (mapped index_count parts part fits.by.lines fits.by.listed ∙ ap Some (sym fits.by.count), λ i g at. few_later_goal n m g few (fits.goals i g at))
-node_may switches n m parts (switch_node switch off on) few fits = (fits.by, few_later_goal n m off few (fits.goals 0 off refl), few_later_goal n m on few (fits.goals 1 on refl))
+node_may : (switches n m : ℕ) (parts : List PartLines) (x : NodeLine) → n ≤ NUMBERS
+    → NodeLineFits switches parts n m x → MayBeNode switches (map index_count parts) m x
+node_may switches n m parts (part_node part goals) few fits = (
+  mapped index_count parts part fits.by.lines fits.by.listed ∙ ap Some
+      (sym fits.by.count),
+  λ i g at. few_later_goal n m g few (fits.goals i g at),
+)
+node_may switches n m parts (switch_node switch off on) few fits = (
+  fits.by,
+  few_later_goal n m off few
+      (fits.goals 0 off refl),
+  few_later_goal n m on few (fits.goals 1 on refl),
+)
 
 abbrev first_byte : List ℕ → ℕ
 first_byte [] = 0
@@ -82,30 +94,39 @@ no_step_first : (d : Diagram) (part m : ℕ) (text : List ℕ) → first_byte te
 no_step_first d part m text differs = λ s rest may is. differs (ap first_byte is)
 
 -- the text of what was read, group by group
-pub sound : (d : Diagram) (ts : List Target) (parts : List PartLines) (ops : List SwitchGoals) (nodes : List NodeLine) (text l1 l2 l3 l4 l5 : List ℕ) → text ≡ front_text d ++ l1 → l1 ≡ text_of (start_lines ts) ++ l2 → map (λ (x : PartLines). x.start) parts ≡ ts
-    → l2 ≡ text_of (all_step_lines parts) ++ l3 → l3 ≡ text_of (op_lines ops) ++ l4 → l4 ≡ text_of (node_lines nodes) ++ (codes "end\n" ++ l5) → l5 ≡ [] → text ≡ text_of (lines_of d (record { parts = parts; ops = ops; nodes = nodes }))
+pub sound : (d : Diagram) (ts : List Target) (parts : List PartLines) (ops : List SwitchGoals) (nodes : List NodeLine)
+    (text l1 l2 l3 l4 l5 : List ℕ) → text ≡ front_text d ++ l1 → l1 ≡ text_of (start_lines ts) ++ l2
+    → map (λ (x : PartLines). x.start) parts ≡ ts
+    → l2 ≡ text_of (all_step_lines parts) ++ l3 → l3 ≡ text_of (op_lines ops) ++ l4
+    → l4 ≡ text_of (node_lines nodes) ++ (codes "end\n" ++ l5) → l5 ≡ [] → text ≡ text_of (lines_of d
+    (record { parts = parts; ops = ops; nodes = nodes }))
 sound d ts parts ops nodes text l1 l2 l3 l4 l5 e1 e2 starts e3 e4 e5 e6 =
     e1
     ∙ ap (λ (z : List ℕ). front_text d ++ z)
-        (e2
-        ∙ ap (λ (us : List Target). text_of (start_lines us) ++ l2) (sym starts)
-        ∙ ap (λ (z : List ℕ). text_of (start_lines (map (λ (x : PartLines). x.start) parts)) ++ z)
-            (e3
-            ∙ ap (λ (z : List ℕ). text_of (all_step_lines parts) ++ z)
-                (e4 ∙ ap (λ (z : List ℕ). text_of (op_lines ops) ++ z) (e5 ∙ ap (λ (z : List ℕ). text_of (node_lines nodes) ++ (codes "end\n" ++ z)) e6))))
+    (e2
+    ∙ ap (λ (us : List Target). text_of (start_lines us) ++ l2) (sym starts)
+    ∙ ap (λ (z : List ℕ). text_of (start_lines (map (λ (x : PartLines). x.start) parts)) ++ z)
+    (e3
+    ∙ ap (λ (z : List ℕ). text_of (all_step_lines parts) ++ z)
+    (e4 ∙ ap (λ (z : List ℕ). text_of (op_lines ops) ++ z) (e5 ∙ ap (λ (z : List ℕ). text_of
+    (node_lines nodes) ++ (codes "end\n" ++ z)) e6))))
     ∙ sym (whole_groups d (record { parts = parts; ops = ops; nodes = nodes }))
 
-pub parts_may : (d : Diagram) (ts : List Target) (old new : List ℕ) (parts : List PartLines) → MayBeStarts (part_count d) ts → AreAllSteps d ts old new parts → MayBeParts d parts
+pub parts_may : (d : Diagram) (ts : List Target) (old new : List ℕ) (parts : List PartLines)
+    → MayBeStarts (part_count d) ts → AreAllSteps d ts old new parts → MayBeParts d parts
 parts_may d ts old new parts may read = record {
   count = sym (length-map parts (λ (x : PartLines). x.start)) ∙ ap length read.starts_are ∙ may.count;
-  starts = λ p x at. may.each p x.start (ap (λ (us : List Target). slice_get us p) (sym read.starts_are) ∙ mapped (λ (y : PartLines). y.start) parts p x at);
+  starts = λ p x at. may.each p x.start (ap (λ (us : List Target). slice_get us p) (sym read.starts_are) ∙ mapped (λ
+      (y : PartLines). y.start) parts p x at);
   steps = read.steps;
 }
 
-same_lines : (e : EquationLines) (parts : List PartLines) (ops : List SwitchGoals) (nodes : List NodeLine) → parts ≡ e.parts → ops ≡ e.ops → nodes ≡ e.nodes → e ≡ record { parts = parts; ops = ops; nodes = nodes }
+same_lines : (e : EquationLines) (parts : List PartLines) (ops : List SwitchGoals) (nodes : List NodeLine)
+    → parts ≡ e.parts → ops ≡ e.ops → nodes ≡ e.nodes → e ≡ record { parts = parts; ops = ops; nodes = nodes }
 same_lines e parts ops nodes p q r = sym (λ i. record { parts = p i; ops = q i; nodes = r i })
 
-module _ (d : Diagram) (station : IsStation d) (e : EquationLines) (are : AreEquations d e) (text : List ℕ) (is : text ≡ text_of (lines_of d e)) (short : length text ≤ 4294967294) where
+module _ (d : Diagram) (station : IsStation d) (e : EquationLines) (are : AreEquations d e) (text : List ℕ)
+    (is : text ≡ text_of (lines_of d e)) (short : length text ≤ 4294967294) where
   abbrev starts : List Target
   starts = map (λ (x : PartLines). x.start) e.parts
 
@@ -150,10 +171,12 @@ module _ (d : Diagram) (station : IsStation d) (e : EquationLines) (are : AreEqu
     count = length-map e.parts (λ (x : PartLines). x.start) ∙ are.parts;
     each = λ p t at.
         let x = unmapped (λ (y : PartLines). y.start) e.parts p t at in
-        subst (λ (u : Target). IsTarget NUMBERS u) x.2 (few_target (length x.0.steps) x.0.start (few_steps p x.0 x.1) (are.whole.parts p x.0 x.1).start);
+        subst (λ (u : Target). IsTarget NUMBERS u) x.2 (few_target (length x.0.steps) x.0.start (few_steps p x.0 x.1)
+        (are.whole.parts p x.0 x.1).start);
   }
 
-  pub all_steps : (i m : ℕ) (x : PartLines) (s : PartStep) → slice_get e.parts i ≡ Some x → slice_get x.steps m ≡ Some s → StepIs d (0 + i) m s
+  pub all_steps : (i m : ℕ) (x : PartLines) (s : PartStep) → slice_get e.parts i ≡ Some x
+      → slice_get x.steps m ≡ Some s → StepIs d (0 + i) m s
   all_steps i m x s at at_step =
       let fits = (are.whole.parts i x at).steps m s at_step in
       let few = few_steps i x at in
@@ -161,7 +184,10 @@ module _ (d : Diagram) (station : IsStation d) (e : EquationLines) (are : AreEqu
       let on = few_later (length x.steps) m s.on few fits.on in
       let number : i ≡ 0 + i = omega arith in
       subst (λ k. StepIs d k m s) number (record {
-        may = record { fits = record { switch = omega (arith, fits.switch, are.ops); off = off; on = on }; own = are.own i m x s at at_step };
+        may = record {
+          fits = record { switch = omega (arith, fits.switch, are.ops); off = off; on = on };
+          own = are.own i m x s at at_step;
+        };
         fits = record {
           part_number = omega (arith, slice_get_within e.parts i x at, are.parts, few_parts);
           number = omega (arith, slice_get_within x.steps m s at_step, few);
@@ -174,39 +200,54 @@ module _ (d : Diagram) (station : IsStation d) (e : EquationLines) (are : AreEqu
   pub ops_may : MayBeOps (length d.switches) e.ops
   ops_may = record {
     count = are.ops;
-    fit = λ s x at. let fits = are.whole.ops s x at in record { opening = few_goal (length e.nodes) x.opening few_nodes fits.opening; closing = few_goal (length e.nodes) x.closing few_nodes fits.closing };
+    fit = λ s x at. let fits = are.whole.ops s x at in record {
+      opening = few_goal
+          (length e.nodes) x.opening few_nodes fits.opening;
+      closing = few_goal
+          (length e.nodes) x.closing few_nodes fits.closing;
+    };
   }
 
   pub nodes_may : MayBeNodes (length d.switches) (map index_count e.parts) e.nodes
   nodes_may = record {
     few = few_nodes;
-    each = λ n x at. subst (λ k. MayBeNode k (map index_count e.parts) n x) are.ops (node_may (length e.ops) (length e.nodes) n e.parts x few_nodes (are.whole.nodes n x at));
+    each = λ n x at. subst (λ k. MayBeNode k (map index_count e.parts) n x) are.ops (node_may (length e.ops)
+        (length e.nodes) n e.parts x few_nodes (are.whole.nodes n x at));
   }
 
   -- what is left behind each group
   pub left_starts : (left : List ℕ) → text ≡ front_text d ++ left → left ≡ at_starts
   left_starts left at = append_cancel_left (front_text d) left at_starts (sym at ∙ groups)
 
-  pub left_steps : (ts : List Target) (left rest : List ℕ) → left ≡ at_starts → MayBeStarts (part_count d) ts → left ≡ text_of (start_lines ts) ++ rest → (ts ≡ starts) × (rest ≡ at_steps)
-  left_steps ts left rest here may at = once start_of StartFits start_one 0 ts starts rest at_steps (starts_fit (part_count d) ts few_parts may) (starts_fit (part_count d) starts few_parts starts_may) (may.count ∙ sym starts_may.count) (sym at ∙ here)
+  pub left_steps : (ts : List Target) (left rest : List ℕ) → left ≡ at_starts → MayBeStarts (part_count d) ts
+      → left ≡ text_of (start_lines ts) ++ rest → (ts ≡ starts) × (rest ≡ at_steps)
+  left_steps ts left rest here may at = once start_of StartFits start_one 0 ts starts rest at_steps (starts_fit
+      (part_count d) ts few_parts may) (starts_fit (part_count d) starts few_parts starts_may) (may.count
+      ∙ sym starts_may.count) (sym at ∙ here)
 
   no_step : (part m : ℕ) → NoStep d part m at_ops
   no_step part m = no_step_first d part m at_ops (by e.ops e.nodes)
     where
-      by : (ops : List SwitchGoals) (nodes : List NodeLine) → first_byte (text_of (op_lines ops) ++ (text_of (node_lines nodes) ++ codes "end\n")) ≢ 115
+      by : (ops : List SwitchGoals) (nodes : List NodeLine) → first_byte (text_of (op_lines ops) ++ (text_of
+          (node_lines nodes) ++ codes "end\n")) ≢ 115
       by [] [] same = omega (arith, same)
       by [] (x ∷ nodes) same = omega (arith, same)
       by (x ∷ ops) nodes same = omega (arith, same)
 
-  pub left_ops : (ts : List Target) (parts : List PartLines) (left rest : List ℕ) → ts ≡ starts → left ≡ at_steps → AreAllSteps d ts left rest parts → (parts ≡ e.parts) × (rest ≡ at_ops)
+  pub left_ops : (ts : List Target) (parts : List PartLines) (left rest : List ℕ) → ts ≡ starts → left ≡ at_steps
+      → AreAllSteps d ts left rest parts → (parts ≡ e.parts) × (rest ≡ at_ops)
   left_ops ts parts left rest same here read =
-      let count : length parts ≡ part_count d = sym (length-map parts (λ (x : PartLines). x.start)) ∙ ap length (read.starts_are ∙ same) ∙ starts_may.count in
-      parts_once d 0 parts e.parts rest at_ops (omega (arith, count, few_parts)) (parts_steps count) all_steps (read.starts_are ∙ same)
-      (λ i x at none. let number : i ≡ 0 + i = omega arith in subst (λ k. NoStep d k (length x.steps) rest) number (read.last i x at none))
+      let count : length parts ≡ part_count d = sym (length-map parts (λ (x : PartLines). x.start)) ∙ ap length
+      (read.starts_are ∙ same) ∙ starts_may.count in
+      parts_once d 0 parts e.parts rest at_ops (omega (arith, count, few_parts)) (parts_steps count) all_steps
+      (read.starts_are ∙ same)
+      (λ i x at none. let number : i ≡ 0 + i = omega arith in subst (λ k. NoStep d k (length x.steps) rest) number
+      (read.last i x at none))
       (λ i x at none. no_step (0 + i) (length x.steps))
       (sym read.text ∙ here)
     where
-      parts_steps : length parts ≡ part_count d → (i m : ℕ) (x : PartLines) (s : PartStep) → slice_get parts i ≡ Some x → slice_get x.steps m ≡ Some s → StepIs d (0 + i) m s
+      parts_steps : length parts ≡ part_count d → (i m : ℕ) (x : PartLines) (s : PartStep)
+          → slice_get parts i ≡ Some x → slice_get x.steps m ≡ Some s → StepIs d (0 + i) m s
       parts_steps count i m x s at at_step =
           let may = (read.steps i x at).each m s at_step in
           let number : i ≡ 0 + i = omega arith in
@@ -221,19 +262,25 @@ module _ (d : Diagram) (station : IsStation d) (e : EquationLines) (are : AreEqu
             };
           })
 
-  pub left_nodes : (ops : List SwitchGoals) (left rest : List ℕ) → left ≡ at_ops → MayBeOps (length d.switches) ops → left ≡ text_of (op_lines ops) ++ rest → (ops ≡ e.ops) × (rest ≡ at_end)
+  pub left_nodes : (ops : List SwitchGoals) (left rest : List ℕ) → left ≡ at_ops → MayBeOps (length d.switches) ops
+      → left ≡ text_of (op_lines ops) ++ rest → (ops ≡ e.ops) × (rest ≡ at_end)
   left_nodes ops left rest here may at =
       let few : length d.switches ≤ NUMBERS = omega (arith, few_switches) in
-      once ops_of OpFits op_one 0 ops e.ops rest at_end (ops_fit (length d.switches) ops few may) (ops_fit (length d.switches) e.ops few ops_may) (may.count ∙ sym are.ops) (sym at ∙ here)
+      once ops_of OpFits op_one 0 ops e.ops rest at_end (ops_fit (length d.switches) ops few may) (ops_fit
+      (length d.switches) e.ops few ops_may) (may.count ∙ sym are.ops) (sym at ∙ here)
 
-  pub left_none : (nodes : List NodeLine) (left rest : List ℕ) → left ≡ at_end → MayBeNodes (length d.switches) (map index_count e.parts) nodes → left ≡ text_of (node_lines nodes) ++ (codes "end\n" ++ rest) → (nodes ≡ e.nodes) × (rest ≡ [])
+  pub left_none : (nodes : List NodeLine) (left rest : List ℕ) → left ≡ at_end → MayBeNodes (length d.switches)
+      (map index_count e.parts) nodes → left ≡ text_of (node_lines nodes) ++ (codes "end\n" ++ rest)
+      → (nodes ≡ e.nodes) × (rest ≡ [])
   left_none nodes left rest here may at =
       elim (cases_lt (length nodes) (length e.nodes)) [
         | inl less ↦ absurd (shorter nodes e.nodes rest [] fit_nodes fit_more less (sym at ∙ here))
         | inr past ↦ elim (cases_lt (length e.nodes) (length nodes)) [
           | inl less ↦ absurd (shorter e.nodes nodes [] rest fit_more fit_nodes less (sym here ∙ at))
           | inr equal ↦
-              let same = once node_of (NodeIs (length d.switches) (map index_count e.parts)) (nodes_one (length d.switches) (map index_count e.parts)) 0 nodes e.nodes (codes "end\n" ++ rest) (codes "end\n" ++ []) fit_nodes fit_more (omega (arith, past, equal)) (sym at ∙ here) in
+              let same = once node_of (NodeIs (length d.switches) (map index_count e.parts)) (nodes_one
+              (length d.switches) (map index_count e.parts)) 0 nodes e.nodes (codes "end\n" ++ rest)
+              (codes "end\n" ++ []) fit_nodes fit_more (omega (arith, past, equal)) (sym at ∙ here) in
               (same.0, append_cancel_left (codes "end\n") rest [] same.1)
         ]
       ]
@@ -241,18 +288,26 @@ module _ (d : Diagram) (station : IsStation d) (e : EquationLines) (are : AreEqu
       few_counts : length (map index_count e.parts) ≤ 256
       few_counts = omega (arith, length-map e.parts index_count, are.parts, station.items.parts_few)
 
-      fit_nodes : (i : ℕ) (x : NodeLine) → slice_get nodes i ≡ Some x → NodeIs (length d.switches) (map index_count e.parts) (0 + i) x
+      fit_nodes : (i : ℕ) (x : NodeLine) → slice_get nodes i ≡ Some x → NodeIs (length d.switches)
+          (map index_count e.parts) (0 + i) x
       fit_nodes = nodes_fit (length d.switches) (map index_count e.parts) nodes few_switches few_counts may.few may.each
 
-      fit_more : (i : ℕ) (x : NodeLine) → slice_get e.nodes i ≡ Some x → NodeIs (length d.switches) (map index_count e.parts) (0 + i) x
-      fit_more = nodes_fit (length d.switches) (map index_count e.parts) e.nodes few_switches few_counts nodes_may.few nodes_may.each
+      fit_more : (i : ℕ) (x : NodeLine) → slice_get e.nodes i ≡ Some x → NodeIs (length d.switches)
+          (map index_count e.parts) (0 + i) x
+      fit_more = nodes_fit (length d.switches)
+          (map index_count e.parts) e.nodes few_switches few_counts nodes_may.few nodes_may.each
 
-      shorter : (xs ys : List NodeLine) (r s : List ℕ) → ((i : ℕ) (x : NodeLine) → slice_get xs i ≡ Some x → NodeIs (length d.switches) (map index_count e.parts) (0 + i) x) → ((i : ℕ) (x : NodeLine) → slice_get ys i ≡ Some x → NodeIs (length d.switches) (map index_count e.parts) (0 + i) x)
-          → length xs < length ys → text_of (node_lines xs) ++ (codes "end\n" ++ r) ≡ text_of (node_lines ys) ++ (codes "end\n" ++ s) → ⊥
+      shorter : (xs ys : List NodeLine) (r s : List ℕ) → ((i : ℕ) (x : NodeLine) → slice_get xs i ≡ Some x
+          → NodeIs (length d.switches) (map index_count e.parts) (0 + i) x) → ((i : ℕ) (x : NodeLine)
+          → slice_get ys i ≡ Some x → NodeIs (length d.switches) (map index_count e.parts) (0 + i) x)
+          → length xs < length ys → text_of (node_lines xs) ++ (codes "end\n" ++ r) ≡ text_of (node_lines ys) ++
+          (codes "end\n" ++ s) → ⊥
       shorter xs ys r s fit_x fit_y less same =
-          let f = next node_of (NodeIs (length d.switches) (map index_count e.parts)) (nodes_one (length d.switches) (map index_count e.parts)) 0 xs ys (codes "end\n" ++ r) (codes "end\n" ++ s) fit_x fit_y less same in
+          let f = next node_of (NodeIs (length d.switches) (map index_count e.parts)) (nodes_one (length d.switches)
+          (map index_count e.parts)) 0 xs ys (codes "end\n" ++ r) (codes "end\n" ++ s) fit_x fit_y less same in
           let byte : 101 ≡ 110 = ap first_byte (f.is ∙ text_one (node_line (0 + length xs) f.entry) f.rest) in
           omega (arith, byte)
 
-  pub all_same : (parts : List PartLines) (ops : List SwitchGoals) (nodes : List NodeLine) → parts ≡ e.parts → ops ≡ e.ops → nodes ≡ e.nodes → e ≡ record { parts = parts; ops = ops; nodes = nodes }
+  pub all_same : (parts : List PartLines) (ops : List SwitchGoals) (nodes : List NodeLine) → parts ≡ e.parts
+      → ops ≡ e.ops → nodes ≡ e.nodes → e ≡ record { parts = parts; ops = ops; nodes = nodes }
   all_same parts ops nodes p q r = same_lines e parts ops nodes p q r

@@ -1,7 +1,9 @@
 -- Words, and the one way to cut a text into them.
-use Rattle.std.proofs.Common.{◌≡◌, ◌≢◌, ◌∙◌, ◌⊎◌, ℕ, ◌+◌, ◌-◌, ◌*◌, ◌/◌, ◌%◌, ◌<◌, ◌≤◌, ◌^◌, zero, suc, Bool, true, false, List, [], ◌∷◌, ◌++◌, length, take, drop, get_or, refl, sym, ap, subst, cond, add-one, inl, inr, arith, Some, None, Option, append-nil}
+use Rattle.std.proofs.Common.{◌≡◌, ◌≢◌, ◌∙◌, ℕ, ◌+◌, ◌-◌, ◌%◌, ◌<◌, ◌≤◌, ◌^◌, zero, suc, Bool, true}
+use Rattle.std.proofs.Common.{false, List, [], ◌∷◌, ◌++◌, length, take, drop, get_or, refl, sym, ap, subst, cond}
+use Rattle.std.proofs.Common.{add-one, arith, Some, None, Option, append-nil}
 use Rattle.std.specs.Prelude.{MatchOption, codes, decimal, position, ◌==◌}
-use Rattle.std.proofs.lemmas.Fmt.{decimal_by_steps, decimal_injective, decimal_nonempty}
+use Rattle.std.proofs.lemmas.Fmt.{decimal_by_steps, decimal_injective}
 use Rattle.std.proofs.lemmas.Grind.{common_steps}
 use Rattle.std.proofs.lemmas.List.{append_cancel_left}
 use Rattle.std.proofs.lemmas.List.Quantifiers.{position-Some}
@@ -37,7 +39,8 @@ IsMark b = b < 48
 
 pub lacks_decimal : (b n : ℕ) → IsMark b → n < 2 ^ 64 → Lacks b (decimal n)
 lacks_decimal b n mark small =
-    decimal_by_steps (λ k ds. Lacks b ds) (λ k lt. ((λ e. omega (arith, e, mark)), tt)) (λ k ds le before. lacks_all b ds ((48 + k % 10) ∷ []) before ((λ e. omega (arith, e, mark)), tt)) n small
+    decimal_by_steps (λ k ds. Lacks b ds) (λ k lt. ((λ e. omega (arith, e, mark)), tt))
+    (λ k ds le before. lacks_all b ds ((48 + k % 10) ∷ []) before ((λ e. omega (arith, e, mark)), tt)) n small
 
 -- a text is cut at the first such byte in one way
 pub cut_once : (c : ℕ) (w v r s : List ℕ) → Lacks c w → Lacks c v → w ++ c ∷ r ≡ v ++ c ∷ s → (w ≡ v) × (r ≡ s)
@@ -60,7 +63,8 @@ pub cut_said : (c : ℕ) (text w v r s : List ℕ) → IsCut c text w r → Lack
 cut_said c text w v r s cut lacks is = cut_once c w v r s cut.first lacks (sym cut.is ∙ is)
 
 -- a first word is one
-pub word_once : (w v r s : List ℕ) → Lacks 32 w → Lacks 32 v → EndsWord r → EndsWord s → w ++ r ≡ v ++ s → (w ≡ v) × (r ≡ s)
+pub word_once : (w v r s : List ℕ) → Lacks 32 w → Lacks 32 v → EndsWord r → EndsWord s → w ++ r ≡ v ++ s
+    → (w ≡ v) × (r ≡ s)
 word_once [] [] r s p q end_r end_s same = (refl, same)
 word_once [] (y ∷ v) [] s p q end_r end_s same = absurd (let e : [] ≡ y ∷ (v ++ s) = same in cc e)
 word_once [] (y ∷ v) (b ∷ r) s p q end_r end_s same = absurd (q.0 (let e : b ≡ y = cc same in sym e ∙ end_r))
@@ -73,11 +77,16 @@ word_once (x ∷ w) (y ∷ v) r s p q end_r end_s same =
     (ap (λ (z : ℕ). z ∷ w) first ∙ ap (λ (zs : List ℕ). y ∷ zs) h.0, h.1)
 
 -- cutting at a place
-lacks_take : (c : ℕ) (xs : List ℕ) (end : ℕ) → ((k : ℕ) → k < end → (get_or xs k 0 == c) ≡ false) → Lacks c (take end xs)
+lacks_take : (c : ℕ) (xs : List ℕ) (end : ℕ) → ((k : ℕ) → k < end → (get_or xs k 0 == c) ≡ false)
+    → Lacks c (take end xs)
 lacks_take c [] zero none = tt
 lacks_take c [] (suc end) none = tt
 lacks_take c (x ∷ xs) zero none = tt
-lacks_take c (x ∷ xs) (suc end) none = (differ x (none 0 (omega arith)), lacks_take c xs end (λ k lt. none (suc k) (omega (arith, lt))))
+lacks_take c (x ∷ xs) (suc end) none = (
+  differ x (none 0 (omega arith)),
+  lacks_take c xs end (λ k lt. none (suc k)
+      (omega (arith, lt))),
+)
   where
     differ : (y : ℕ) → (y == c) ≡ false → y ≢ c
     differ y unlike same = grind (arith, nat_tests, unlike, same)
@@ -88,9 +97,11 @@ take_suc (x ∷ xs) zero lt = refl
 take_suc (x ∷ xs) (suc end) lt = ap (λ (zs : List ℕ). x ∷ zs) (take_suc xs end (omega (arith, lt)))
 
 take_drop : (xs : List ℕ) (end : ℕ) → end < length xs → xs ≡ take end xs ++ get_or xs end 0 ∷ drop (end + 1) xs
-take_drop xs end lt = take_suc xs end lt ∙ ap (λ (n : ℕ). take end xs ++ get_or xs end 0 ∷ drop n xs) (sym (add-one end))
+take_drop xs end lt = take_suc xs end lt ∙ ap (λ (n : ℕ). take end xs ++ get_or xs end 0 ∷ drop n xs) (sym
+    (add-one end))
 
-pub cut_at : (c : ℕ) (xs : List ℕ) (end : ℕ) → position (λ (b : ℕ). b == c) xs ≡ Some end → IsCut c xs (take end xs) (drop (end + 1) xs)
+pub cut_at : (c : ℕ) (xs : List ℕ) (end : ℕ) → position (λ (b : ℕ). b == c) xs ≡ Some end
+    → IsCut c xs (take end xs) (drop (end + 1) xs)
 cut_at c xs end at =
     let h = position-Some (λ (b : ℕ). b == c) xs end 0 at in
     let byte : get_or xs end 0 ≡ c = same (get_or xs end 0) h.1 in
@@ -106,7 +117,8 @@ pub lacks_position : (c : ℕ) (xs : List ℕ) → position (λ (b : ℕ). b == 
 lacks_position c [] none = tt
 lacks_position c (x ∷ xs) none = by (x == c) refl none (lacks_position c xs)
   where
-    by : (t : Bool) → (x == c) ≡ t → position (λ (b : ℕ). b == c) (x ∷ xs) ≡ None → (position (λ (b : ℕ). b == c) xs ≡ None → Lacks c xs) → Lacks c (x ∷ xs)
+    by : (t : Bool) → (x == c) ≡ t → position (λ (b : ℕ). b == c) (x ∷ xs) ≡ None
+        → (position (λ (b : ℕ). b == c) xs ≡ None → Lacks c xs) → Lacks c (x ∷ xs)
     by true like none more = absurd (found none)
       where
         found : position (λ (b : ℕ). b == c) (x ∷ xs) ≡ None → ⊥
@@ -122,8 +134,10 @@ lacks_position c (x ∷ xs) none = by (x == c) refl none (lacks_position c xs)
 take_rest : (xs : List ℕ) (n : ℕ) → take (length xs - n) (drop n xs) ≡ drop n xs
 take_rest xs n = grind (arith, common_steps)
 
-pub cut_same : (c : ℕ) (xs : List ℕ) (end : ℕ) → position (λ (b : ℕ). b == c) xs ≡ Some end → IsCut c xs (take end xs) (take (length xs - (end + 1)) (drop (end + 1) xs))
-cut_same c xs end at = subst (λ (zs : List ℕ). IsCut c xs (take end xs) zs) (sym (take_rest xs (end + 1))) (cut_at c xs end at)
+pub cut_same : (c : ℕ) (xs : List ℕ) (end : ℕ) → position (λ (b : ℕ). b == c) xs ≡ Some end
+    → IsCut c xs (take end xs) (take (length xs - (end + 1)) (drop (end + 1) xs))
+cut_same c xs end at = subst (λ (zs : List ℕ). IsCut c xs (take end xs) zs) (sym (take_rest xs (end + 1)))
+    (cut_at c xs end at)
 
 drop_suc : (xs : List ℕ) (end : ℕ) → end < length xs → drop end xs ≡ get_or xs end 0 ∷ drop (suc end) xs
 drop_suc [] end lt = absurd (omega (arith, lt))
@@ -133,7 +147,8 @@ drop_suc (x ∷ xs) (suc end) lt = drop_suc xs end (omega (arith, lt))
 drop_cons : (xs : List ℕ) (end : ℕ) → end < length xs → drop end xs ≡ get_or xs end 0 ∷ drop (end + 1) xs
 drop_cons xs end lt = drop_suc xs end lt ∙ ap (λ (n : ℕ). get_or xs end 0 ∷ drop n xs) (sym (add-one end))
 
-pub word_at : (xs : List ℕ) (end : ℕ) → position (λ (b : ℕ). b == 32) xs ≡ Some end → IsFirstWord xs (take end xs) (take (length xs - end) (drop end xs))
+pub word_at : (xs : List ℕ) (end : ℕ) → position (λ (b : ℕ). b == 32) xs ≡ Some end
+    → IsFirstWord xs (take end xs) (take (length xs - end) (drop end xs))
 word_at xs end at =
     let h = cut_at 32 xs end at in
     let p = position-Some (λ (b : ℕ). b == 32) xs end 0 at in
@@ -148,7 +163,8 @@ word_at xs end at =
     blank : (y : ℕ) → (y == 32) ≡ true → y ≡ 32
     blank y like = grind (arith, nat_tests, like)
 
-pub word_all : (xs : List ℕ) → position (λ (b : ℕ). b == 32) xs ≡ None → IsFirstWord xs xs (take (length xs - length xs) (drop (length xs) xs))
+pub word_all : (xs : List ℕ) → position (λ (b : ℕ). b == 32) xs ≡ None → IsFirstWord xs xs (take
+    (length xs - length xs) (drop (length xs) xs))
 word_all xs none =
     let rest : take (length xs - length xs) (drop (length xs) xs) ≡ [] = grind (arith, common_steps) in
     record {
@@ -172,7 +188,8 @@ lacks_by b [] e = tt
 lacks_by b (x ∷ xs) e = by (x == b) refl (lacks_by b xs)
   where
     by : (t : Bool) → (x == b) ≡ t → (lacks_test b xs ≡ true → Lacks b xs) → Lacks b (x ∷ xs)
-    by true like more = absurd (let q : false ≡ true = sym (ap (λ (t : Bool). cond t false (lacks_test b xs)) like) ∙ e in cc q)
+    by true like more = absurd (let q : false ≡ true = sym (ap (λ (t : Bool). cond t false (lacks_test b xs)) like)
+        ∙ e in cc q)
     by false unlike more = (differ, more (sym (ap (λ (t : Bool). cond t false (lacks_test b xs)) unlike) ∙ e))
       where
         differ : x ≢ b
@@ -187,7 +204,14 @@ lacks_goal b (Answer (Some R3)) mark small = ((λ e. omega (arith, e, mark)), ((
 
 -- the first byte of a number is a digit
 pub digit_first : (n : ℕ) → n < 2 ^ 64 → (d : ℕ) × (ds : List ℕ) × (decimal n ≡ d ∷ ds) × (d < 58)
-digit_first n small = decimal_by_steps (λ k ds. (d : ℕ) × (rest : List ℕ) × (ds ≡ d ∷ rest) × (d < 58)) (λ k lt. (48 + k, [], refl, omega (arith, lt))) (λ k ds le before. (before.0, before.1 ++ ((48 + k % 10) ∷ []), ap (λ (zs : List ℕ). zs ++ ((48 + k % 10) ∷ [])) before.2, before.3)) n small
+digit_first n small = decimal_by_steps (λ k ds. (d : ℕ) × (rest : List ℕ) × (ds ≡ d ∷ rest) × (d < 58)) (λ k lt.
+    (48 + k, [], refl, omega (arith, lt))) (λ k ds le before. (
+      before.0,
+      before.1 ++ ((48 + k % 10) ∷ []),
+      ap (λ
+          (zs : List ℕ). zs ++ ((48 + k % 10) ∷ [])) before.2,
+      before.3,
+    )) n small
 
 -- a word that begins so is no number
 pub no_number : (n b : ℕ) (bs : List ℕ) → n < 2 ^ 64 → 58 ≤ b → decimal n ≢ b ∷ bs
@@ -198,10 +222,13 @@ no_number n b bs small big same =
     omega (arith, e, d.3, big)
 
 pub target_once : (t u : Target) → IsTarget NUMBERS t → IsTarget NUMBERS u → target_text t ≡ target_text u → t ≡ u
-target_once (Step n) (Step k) p q same = ap (λ (x : ℕ). Step x) (decimal_injective n k (omega (arith, p)) (omega (arith, q)) same)
+target_once (Step n) (Step k) p q same = ap (λ (x : ℕ). Step x) (decimal_injective n k (omega (arith, p)) (omega
+    (arith, q)) same)
 target_once (Step n) (Index i) p q same = absurd (no_number n 61 (decimal i) (omega (arith, p)) (omega arith) same)
-target_once (Index i) (Step n) p q same = absurd (no_number n 61 (decimal i) (omega (arith, q)) (omega arith) (sym same))
-target_once (Index i) (Index k) p q same = ap (λ (x : ℕ). Index x) (decimal_injective i k (omega (arith, p)) (omega (arith, q)) (append_cancel_left (codes "=") (decimal i) (decimal k) same))
+target_once (Index i) (Step n) p q same = absurd (no_number n 61 (decimal i) (omega (arith, q)) (omega arith)
+    (sym same))
+target_once (Index i) (Index k) p q same = ap (λ (x : ℕ). Index x) (decimal_injective i k (omega (arith, p)) (omega
+    (arith, q)) (append_cancel_left (codes "=") (decimal i) (decimal k) same))
 
 answer_first : (a : Option Rule) → (b : ℕ) × (bs : List ℕ) × (goal_text (Answer a) ≡ b ∷ bs) × (58 ≤ b)
 answer_first None = (111, codes "k", refl, omega arith)
@@ -235,12 +262,14 @@ answer_once (Some R3) (Some R2) same = absurd (let e : 51 ≡ 50 = ap second sam
 answer_once (Some R3) (Some R3) same = refl
 
 pub goal_once : (g h : Goal) → IsGoal NUMBERS g → IsGoal NUMBERS h → goal_text g ≡ goal_text h → g ≡ h
-goal_once (Node n) (Node k) p q same = ap (λ (x : ℕ). Node x) (decimal_injective n k (omega (arith, p)) (omega (arith, q)) same)
+goal_once (Node n) (Node k) p q same = ap (λ (x : ℕ). Node x) (decimal_injective n k (omega (arith, p)) (omega
+    (arith, q)) same)
 goal_once (Node n) (Answer a) p q same = absurd (answer_no_number a n (omega (arith, p)) (sym same))
 goal_once (Answer a) (Node n) p q same = absurd (answer_no_number a n (omega (arith, q)) same)
 goal_once (Answer a) (Answer b) p q same = ap (λ (x : Option Rule). Answer x) (answer_once a b same)
 
 -- what stands behind `=` is an index
-pub index_word : (word : List ℕ) (t : Target) → IsTarget NUMBERS t → codes "=" ++ word ≡ target_text t → (i : ℕ) × (i ≤ 254) × (word ≡ decimal i)
+pub index_word : (word : List ℕ) (t : Target) → IsTarget NUMBERS t → codes "=" ++ word ≡ target_text t
+    → (i : ℕ) × (i ≤ 254) × (word ≡ decimal i)
 index_word word (Step n) small is = absurd (no_number n 61 word (omega (arith, small)) (omega arith) (sym is))
 index_word word (Index i) small is = (i, small, append_cancel_left (codes "=") word (decimal i) is)

@@ -54,8 +54,10 @@ pub record IsPartNode (counts : List ℕ) (n : ℕ) (words : List ℕ) (x : Node
 -- Node n may be this: it leads on by one of so many switches, or by a part with a goal for each of its indices,
 -- to greater nodes or to answers.
 abbrev pub MayBeNode : ℕ → List ℕ → ℕ → NodeLine → Type 0
-MayBeNode switches counts n (part_node part goals) = (slice_get counts part ≡ Some (length goals)) × AreLaterGoals NUMBERS n goals
-MayBeNode switches counts n (switch_node switch off on) = (switch < switches) × IsLaterGoal NUMBERS n off × IsLaterGoal NUMBERS n on
+MayBeNode switches counts n (part_node part goals) = (slice_get counts part ≡ Some (length goals))
+    × AreLaterGoals NUMBERS n goals
+MayBeNode switches counts n (switch_node switch off on) = (switch < switches) × IsLaterGoal NUMBERS n off
+    × IsLaterGoal NUMBERS n on
 
 -- The line is that of node n, which may be this.
 pub record IsNodeLine (switches : ℕ) (counts : List ℕ) (n : ℕ) (line : List ℕ) (x : NodeLine) : Type 0 where

@@ -24,7 +24,8 @@ PartsThere parts = (part : ℕ) (x : PartLines) → slice_get parts part ≡ Som
 
 -- The targets of all parts can be written.
 abbrev pub PartsMay : List PartLines → Type 0
-PartsMay parts = (part : ℕ) (x : PartLines) → slice_get parts part ≡ Some x → IsTarget NUMBERS x.start × StepsMay x.steps
+PartsMay parts = (part : ℕ) (x : PartLines) → slice_get parts part ≡ Some x → IsTarget NUMBERS x.start
+    × StepsMay x.steps
 
 -- Each goal is one of so many nodes, or an answer.
 abbrev pub GoalsThere : ℕ → List Goal → Type 0

@@ -1,5 +1,5 @@
 -- What is read of a text.
-use Rattle.std.specs.Prelude.{◌≡◌, ◌≤◌, ⊤, ℕ, List, length, map, slice_get, Some}
+use Rattle.std.specs.Prelude.{◌≡◌, ⊤, ℕ, List, length, map, slice_get, Some}
 use Rattle.ilk_base.specs.declared.words.InputRefusal.{InputRefusal}
 use Rattle.station_graph.specs.Diagram.{Diagram, part_count}
 use Rattle.equation_text.specs.declared.goal.SwitchGoals.{SwitchGoals}
@@ -24,7 +24,8 @@ pub record MayBeParts (d : Diagram) (parts : List PartLines) : Type 0 where
 
 -- The text is that of these lines, each of which is of its form but for numbers that no line defines; and no
 -- other lines have it.
-pub record AreLines (d : Diagram) (text : List ℕ) (parts : List PartLines) (ops : List SwitchGoals) (nodes : List NodeLine) : Type 0 where
+pub record AreLines (d : Diagram) (text : List ℕ) (parts : List PartLines) (ops : List SwitchGoals)
+    (nodes : List NodeLine) : Type 0 where
   pub parts_may : MayBeParts d parts
   pub ops_may : MayBeOps (length d.switches) ops
   pub nodes_may : MayBeNodes (length d.switches) (map index_count parts) nodes

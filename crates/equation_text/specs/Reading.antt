@@ -8,7 +8,8 @@ use Rattle.equation_text.specs.declared.goal.SwitchGoals.{SwitchGoals}
 use Rattle.equation_text.specs.declared.goal.TheConstants.{NUMBERS}
 use Rattle.equation_text.specs.EquationLines.{PartLines, NodeLine}
 use Rattle.equation_text.specs.EquationForm.{IsTarget, OpsFit}
-use Rattle.equation_text.specs.EquationText.{then_number, then_word, target_text, switch_line, step_line, op_line, node_line, numbered, text_of}
+use Rattle.equation_text.specs.EquationText.{then_number, then_word, target_text, switch_line, step_line, op_line}
+use Rattle.equation_text.specs.EquationText.{node_line, numbered, text_of}
 use Rattle.equation_text.specs.Beginnings.{MayBeStep, MayBeNode}
 
 -- The lines before those of the parts, as a text.
@@ -47,7 +48,8 @@ pub record MayBeSteps (d : Diagram) (part : ℕ) (steps : List PartStep) : Type 
 
 -- No line of this part's step m follows in the text.
 abbrev pub NoStep : Diagram → ℕ → ℕ → List ℕ → Type 0
-NoStep d part m text = (s : PartStep) (rest : List ℕ) → MayBeStep d part m s → text ≡ step_line part m s ++ 10 ∷ rest → ⊥
+NoStep d part m text = (s : PartStep) (rest : List ℕ) → MayBeStep d part m s → text ≡ step_line part m s ++ 10 ∷ rest
+    → ⊥
 
 -- From this part on none has a step.
 abbrev pub NoneFrom : ℕ → List PartLines → Type 0
@@ -59,7 +61,8 @@ pub record AreAllSteps (d : Diagram) (starts : List Target) (old new : List ℕ)
   pub starts_are : map (λ (x : PartLines). x.start) parts ≡ starts
   pub steps : (part : ℕ) (x : PartLines) → slice_get parts part ≡ Some x → MayBeSteps d part x.steps
   pub text : old ≡ text_of (all_step_lines parts) ++ new
-  pub last : (part : ℕ) (x : PartLines) → slice_get parts part ≡ Some x → NoneFrom (suc part) parts → NoStep d part (length x.steps) new
+  pub last : (part : ℕ) (x : PartLines) → slice_get parts part ≡ Some x → NoneFrom (suc part) parts
+      → NoStep d part (length x.steps) new
 
 -- The goals that so many switches may have.
 pub record MayBeOps (n : ℕ) (ops : List SwitchGoals) : Type 0 where

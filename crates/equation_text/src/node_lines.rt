@@ -19,13 +19,7 @@ fn later_goal(word: &[u8], n: u32) -> Option<Goal>
     ensures none { IfNone result ((g : GoalOf) → IsLaterGoal NUMBERS n g → word.now ≢ goal_text g) }
 {
     match goal(word) {
-        Some(Goal::Node(k)) => {
-            if k > n {
-                Some(Goal::Node(k))
-            } else {
-                None
-            }
-        }
+        Some(Goal::Node(k)) => { if k > n { Some(Goal::Node(k)) } else { None } }
         Some(Goal::Answer(answer)) => Some(Goal::Answer(answer)),
         None => None,
     }

@@ -8,12 +8,12 @@ ghost use Rattle.equation_text.specs.Reading.{front_text};
 ghost use Rattle.equation_text.specs.ReadText.{AreLines, ForRefused};
 
 use crate::defined::{index_counts, nodes_there, ops_there, parts_there};
-use crate::undefined::{step_count, undefined_node, undefined_op, undefined_start, undefined_step};
 use crate::equations::Equations;
 use crate::goal::SwitchGoals;
 use crate::node::Node;
 use crate::part::PartSteps;
 use crate::reading::{Left, read_all_steps, read_nodes, read_ops, read_starts};
+use crate::undefined::{step_count, undefined_node, undefined_op, undefined_start, undefined_step};
 use crate::words::behind;
 use crate::writing::push_switches;
 use ilk_base::{InputRefusal, Memory, Text};
@@ -176,7 +176,8 @@ fn refused(line: u32) -> EquationsFault
 
 /// Reads the text of a station's equations (docs/FORMATS.md). Accepted are exactly the texts of the form, each
 /// as the lines that it says; so what `Equations::text` writes is read again as the same lines. Any other text
-/// is refused with 10, at its first line with a fault. Time and memory: the text.
+/// is refused with 10, at the first line that cannot stand where it does, or else at the first that names a step
+/// or node that no line defines; of which line it is no clause speaks. Time and memory: the text.
 pub fn read_equations(
     alloc: Global,
     station: &Station,

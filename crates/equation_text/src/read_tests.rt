@@ -7,7 +7,8 @@ use std::process::Abort;
 use std::test::Fail;
 
 // The equations of a bay with an earthing switch and an infeed at one node.
-const WHOLE: &[u8] = b"equations\nswitch 0 S/V1/Q1/QC9\nswitch 1 S/V1/Q1/E1\npart 0 =0\nop 0 open ok\nop 0 close 0\nop 1 open ok\nop 1 close 1\nnode 0 switch 1 ok R1\nnode 1 switch 0 ok R2\nend\n";
+const WHOLE: &[u8] =
+    b"equations\nswitch 0 S/V1/Q1/QC9\nswitch 1 S/V1/Q1/E1\npart 0 =0\nop 0 open ok\nop 0 close 0\nop 1 open ok\nop 1 close 1\nnode 0 switch 1 ok R1\nnode 1 switch 0 ok R2\nend\n";
 
 // Texts for that station, and the line at which each is refused.
 const REFUSED: &[(&[u8], u32)] = &[
@@ -15,21 +16,54 @@ const REFUSED: &[(&[u8], u32)] = &[
     (b"", 1),
     (b"equations\nswitch 0 S/V1/Q1/QC8\n", 2),
     // the last line is missing, has no LF, or is not the last
-    (b"equations\nswitch 0 S/V1/Q1/QC9\nswitch 1 S/V1/Q1/E1\npart 0 =0\nop 0 open ok\nop 0 close 0\nop 1 open ok\nop 1 close 1\nnode 0 switch 1 ok R1\nnode 1 switch 0 ok R2\n", 11),
-    (b"equations\nswitch 0 S/V1/Q1/QC9\nswitch 1 S/V1/Q1/E1\npart 0 =0\nop 0 open ok\nop 0 close ok\nop 1 open ok\nop 1 close ok\nend", 9),
-    (b"equations\nswitch 0 S/V1/Q1/QC9\nswitch 1 S/V1/Q1/E1\npart 0 =0\nop 0 open ok\nop 0 close ok\nop 1 open ok\nop 1 close ok\nend\nend\n", 10),
+    (
+        b"equations\nswitch 0 S/V1/Q1/QC9\nswitch 1 S/V1/Q1/E1\npart 0 =0\nop 0 open ok\nop 0 close 0\nop 1 open ok\nop 1 close 1\nnode 0 switch 1 ok R1\nnode 1 switch 0 ok R2\n",
+        11,
+    ),
+    (
+        b"equations\nswitch 0 S/V1/Q1/QC9\nswitch 1 S/V1/Q1/E1\npart 0 =0\nop 0 open ok\nop 0 close ok\nop 1 open ok\nop 1 close ok\nend",
+        9,
+    ),
+    (
+        b"equations\nswitch 0 S/V1/Q1/QC9\nswitch 1 S/V1/Q1/E1\npart 0 =0\nop 0 open ok\nop 0 close ok\nop 1 open ok\nop 1 close ok\nend\nend\n",
+        10,
+    ),
     // 0 is not greater than 1
-    (b"equations\nswitch 0 S/V1/Q1/QC9\nswitch 1 S/V1/Q1/E1\npart 0 =0\nop 0 open ok\nop 0 close 0\nop 1 open ok\nop 1 close 1\nnode 0 switch 1 ok R1\nnode 1 switch 0 0 R2\nend\n", 10),
+    (
+        b"equations\nswitch 0 S/V1/Q1/QC9\nswitch 1 S/V1/Q1/E1\npart 0 =0\nop 0 open ok\nop 0 close 0\nop 1 open ok\nop 1 close 1\nnode 0 switch 1 ok R1\nnode 1 switch 0 0 R2\nend\n",
+        10,
+    ),
     // an index past 254, a number with a leading zero, a step that is not there
-    (b"equations\nswitch 0 S/V1/Q1/QC9\nswitch 1 S/V1/Q1/E1\npart 0 =255\nop 0 open ok\nop 0 close ok\nop 1 open ok\nop 1 close ok\nend\n", 4),
-    (b"equations\nswitch 0 S/V1/Q1/QC9\nswitch 1 S/V1/Q1/E1\npart 0 =00\nop 0 open ok\nop 0 close ok\nop 1 open ok\nop 1 close ok\nend\n", 4),
-    (b"equations\nswitch 0 S/V1/Q1/QC9\nswitch 1 S/V1/Q1/E1\npart 0 0\nop 0 open ok\nop 0 close ok\nop 1 open ok\nop 1 close ok\nend\n", 4),
+    (
+        b"equations\nswitch 0 S/V1/Q1/QC9\nswitch 1 S/V1/Q1/E1\npart 0 =255\nop 0 open ok\nop 0 close ok\nop 1 open ok\nop 1 close ok\nend\n",
+        4,
+    ),
+    (
+        b"equations\nswitch 0 S/V1/Q1/QC9\nswitch 1 S/V1/Q1/E1\npart 0 =00\nop 0 open ok\nop 0 close ok\nop 1 open ok\nop 1 close ok\nend\n",
+        4,
+    ),
+    (
+        b"equations\nswitch 0 S/V1/Q1/QC9\nswitch 1 S/V1/Q1/E1\npart 0 0\nop 0 open ok\nop 0 close ok\nop 1 open ok\nop 1 close ok\nend\n",
+        4,
+    ),
     // a step that leads to one that is not there, and a node that is not there
-    (b"equations\nswitch 0 S/V1/Q1/QC9\nswitch 1 S/V1/Q1/E1\npart 0 0\nstep 0 0 0 =0 1\nop 0 open ok\nop 0 close ok\nop 1 open ok\nop 1 close ok\nend\n", 5),
-    (b"equations\nswitch 0 S/V1/Q1/QC9\nswitch 1 S/V1/Q1/E1\npart 0 =0\nop 0 open ok\nop 0 close ok\nop 1 open ok\nop 1 close 0\nend\n", 8),
+    (
+        b"equations\nswitch 0 S/V1/Q1/QC9\nswitch 1 S/V1/Q1/E1\npart 0 0\nstep 0 0 0 =0 1\nop 0 open ok\nop 0 close ok\nop 1 open ok\nop 1 close ok\nend\n",
+        5,
+    ),
+    (
+        b"equations\nswitch 0 S/V1/Q1/QC9\nswitch 1 S/V1/Q1/E1\npart 0 =0\nop 0 open ok\nop 0 close ok\nop 1 open ok\nop 1 close 0\nend\n",
+        8,
+    ),
     // two goals for one index, and none
-    (b"equations\nswitch 0 S/V1/Q1/QC9\nswitch 1 S/V1/Q1/E1\npart 0 =0\nop 0 open ok\nop 0 close ok\nop 1 open ok\nop 1 close ok\nnode 0 part 0 ok ok\nend\n", 9),
-    (b"equations\nswitch 0 S/V1/Q1/QC9\nswitch 1 S/V1/Q1/E1\npart 0 =0\nop 0 open ok\nop 0 close ok\nop 1 open ok\nop 1 close ok\nnode 0 part 0\nend\n", 9),
+    (
+        b"equations\nswitch 0 S/V1/Q1/QC9\nswitch 1 S/V1/Q1/E1\npart 0 =0\nop 0 open ok\nop 0 close ok\nop 1 open ok\nop 1 close ok\nnode 0 part 0 ok ok\nend\n",
+        9,
+    ),
+    (
+        b"equations\nswitch 0 S/V1/Q1/QC9\nswitch 1 S/V1/Q1/E1\npart 0 =0\nop 0 open ok\nop 0 close ok\nop 1 open ok\nop 1 close ok\nnode 0 part 0\nend\n",
+        9,
+    ),
 ];
 
 // The line at which a text is refused.

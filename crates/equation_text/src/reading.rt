@@ -188,7 +188,7 @@ pub(crate) fn read_nodes(
 ) -> Result<Option<Vec<Node>>, Memory>
     requires { length counts.now ≤ 256 }
     ensures { IfOk result (λ o. MatchOption o ((nodes : List NodeLine) (rest : List ℕ) → MayBeNodes switches counts.now nodes
-            → left.old.text.now ≢ text_of (node_lines nodes) ++ (codes "end\n" ++ rest))
+        → left.old.text.now ≢ text_of (node_lines nodes) ++ (codes "end\n" ++ rest))
         (λ v. MayBeNodes switches counts.now v.items × (left.old.text.now ≡ text_of (node_lines v.items) ++ (codes "end\n" ++ left.new.text.now)))) }
 {
     let mut nodes = Vec::new(alloc);

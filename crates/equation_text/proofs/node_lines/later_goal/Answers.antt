@@ -1,4 +1,4 @@
-use Rattle.std.proofs.Common.{◌≡◌, ◌∙◌, ◌<◌, sym, subst, arith}
+use Rattle.std.proofs.Common.{◌≡◌, ◌∙◌, sym, subst, arith}
 use Rattle.equation_text.specs.declared.goal.Goal.{Goal}
 use Rattle.equation_text.specs.declared.goal.Goal.TheVariants.{Node}
 use Rattle.equation_text.specs.declared.goal.TheConstants.{NUMBERS}
@@ -10,7 +10,9 @@ use Rattle.equation_text.proofs.node_lines.later_goal.Goals as goal
 pub returns-else-k-n-clause-none : goal.returns-else-k-n-clause-none
 returns-else-k-n-clause-none c = λ g later is.
     let h = c.in-Some-Node.ensures.some in
-    let found : c.in-Some-Node.field-0 ≡ g = goal_once c.in-Some-Node.field-0 g h.0 (any_goal c.args.n g later) (sym h.1 ∙ is) in
+    let found : c.in-Some-Node.field-0 ≡ g = goal_once c.in-Some-Node.field-0 g h.0 (any_goal c.args.n g later)
+    (sym h.1 ∙ is) in
     let same : Node c.in-Some-Node.k ≡ g = cc (c.in-Some-Node.field-0-is, found) in
-    let here : IsLaterGoal NUMBERS c.args.n (Node c.in-Some-Node.k) = subst (λ (x : Goal). IsLaterGoal NUMBERS c.args.n x) (sym same) later in
+    let here : IsLaterGoal NUMBERS c.args.n (Node c.in-Some-Node.k) = subst (λ
+    (x : Goal). IsLaterGoal NUMBERS c.args.n x) (sym same) later in
     omega (arith, here.0, c.if-k-n.false)

@@ -1,4 +1,4 @@
-use Rattle.std.proofs.Common.{◌≡◌, ◌++◌, ℕ, List, length}
+use Rattle.std.proofs.Common.{◌≡◌, ◌++◌, List, length}
 use Rattle.equation_text.specs.declared.goal.Goal.{Goal}
 use Rattle.equation_text.specs.declared.goal.TheConstants.{NUMBERS}
 use Rattle.equation_text.specs.EquationForm.{AreLaterGoals}
@@ -10,7 +10,8 @@ invariant-loop-left l =
     record {
       later : AreLaterGoals NUMBERS l.n l.goals.items;
       sound : l.words ≡ goals_text l.goals.items ++ l.left;
-      complete : (gs : List Goal) → AreLaterGoals NUMBERS l.n gs → l.words ≡ goals_text gs → (hs : List Goal) × AreLaterGoals NUMBERS l.n hs × (l.left ≡ goals_text hs);
+      complete : (gs : List Goal) → AreLaterGoals NUMBERS l.n gs → l.words ≡ goals_text gs
+          → (hs : List Goal) × AreLaterGoals NUMBERS l.n hs × (l.left ≡ goals_text hs);
     }
 
 abbrev pub decreases-loop-left : goal.decreases-loop-left

@@ -1,5 +1,5 @@
-use Rattle.std.proofs.Common.{◌≡◌, ◌≢◌, ◌∙◌, ◌++◌, List, ℕ, sym, refl, ap, inl, inr}
-use Rattle.std.specs.Prelude.{codes, decimal}
+use Rattle.std.proofs.Common.{◌∙◌, sym, inl, inr}
+use Rattle.std.specs.Prelude.{codes}
 use Rattle.std.proofs.lemmas.List.{append_cancel_left}
 use Rattle.equation_text.specs.Words.{numbered_head}
 use Rattle.equation_text.proofs.WordLemmas.{none_told}
@@ -11,12 +11,16 @@ returns-in_default c = λ x h. c.in_default.ensures.none (words_of x) (h.is ∙ 
 
 pub returns-in_default-found : goal.returns-in_default-found
 returns-in_default-found c = λ x h.
-    let words = append_cancel_left (numbered_head (codes "node ") c.args.n) c.in-Some.rest.now (words_of x) (sym c.in-Some.ensures.some ∙ h.is ∙ node_said c.args.n x) in
-    none_told c.in_ok-found.found _ _ c.in_default-found.is c.in_ok-found.ensures x (of_part c.args.switches c.args.counts.now c.args.n x c.in-Some-behind.words.now h.may (sym c.in-Some-behind.ensures.some ∙ words))
+    let words = append_cancel_left (numbered_head (codes "node ") c.args.n) c.in-Some.rest.now (words_of x)
+    (sym c.in-Some.ensures.some ∙ h.is ∙ node_said c.args.n x) in
+    none_told c.in_ok-found.found _ _ c.in_default-found.is c.in_ok-found.ensures x
+    (of_part c.args.switches c.args.counts.now c.args.n x c.in-Some-behind.words.now h.may
+    (sym c.in-Some-behind.ensures.some ∙ words))
 
 pub returns-in_default-behind-2 : goal.returns-in_default-behind-2
 returns-in_default-behind-2 c = λ x h.
-    let words = append_cancel_left (numbered_head (codes "node ") c.args.n) c.in-Some.rest.now (words_of x) (sym c.in-Some.ensures.some ∙ h.is ∙ node_said c.args.n x) in
+    let words = append_cancel_left (numbered_head (codes "node ") c.args.n) c.in-Some.rest.now (words_of x)
+    (sym c.in-Some.ensures.some ∙ h.is ∙ node_said c.args.n x) in
     elim (part_or_switch x) [
       | inl p ↦ c.in_default-behind.ensures.none p.0 (words ∙ p.1)
       | inr s ↦ c.in_default-behind-2.ensures.none s.0 (words ∙ s.1)
@@ -24,5 +28,8 @@ returns-in_default-behind-2 c = λ x h.
 
 pub returns-in_default-read_switch_node : goal.returns-in_default-read_switch_node
 returns-in_default-read_switch_node c = λ x h.
-    let words = append_cancel_left (numbered_head (codes "node ") c.args.n) c.in-Some.rest.now (words_of x) (sym c.in-Some.ensures.some ∙ h.is ∙ node_said c.args.n x) in
-    c.in_default-read_switch_node.ensures.none x (of_switch c.args.switches c.args.counts.now c.args.n x c.in-Some-behind-2.words.now h.may (sym c.in-Some-behind-2.ensures.some ∙ words))
+    let words = append_cancel_left (numbered_head (codes "node ") c.args.n) c.in-Some.rest.now (words_of x)
+    (sym c.in-Some.ensures.some ∙ h.is ∙ node_said c.args.n x) in
+    c.in_default-read_switch_node.ensures.none x
+    (of_switch c.args.switches c.args.counts.now c.args.n x c.in-Some-behind-2.words.now h.may
+    (sym c.in-Some-behind-2.ensures.some ∙ words))

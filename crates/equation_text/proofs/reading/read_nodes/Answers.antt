@@ -1,4 +1,4 @@
-use Rattle.std.proofs.Common.{◌≡◌, ◌∙◌, ◌+◌, ◌++◌, ◌∷◌, List, ℕ, length, refl, sym, ap, inl, inr, arith}
+use Rattle.std.proofs.Common.{◌∙◌, ◌++◌, ◌∷◌, List, ℕ, length, sym, ap, inl, inr, arith}
 use Rattle.std.proofs.lemmas.List.{length_push}
 use Rattle.equation_text.specs.EquationLines.{NodeLine}
 use Rattle.equation_text.specs.EquationText.{node_line}
@@ -10,19 +10,32 @@ use Rattle.equation_text.proofs.reading.read_nodes.Goals as goal
 pub returns-in_default-cut_line : goal.returns-in_default-cut_line
 returns-in_default-cut_line c = λ nodes rest may is.
     let inv = c.loop-rest.invariant in
-    elim (after_nodes c.args.switches c.args.counts.now c.loop-rest.nodes.items nodes c.args.left.now.text.now c.loop-rest.left.text.now rest (omega (arith, c.ranges.switches.fits)) c.requires (omega (arith, inv.few)) inv.each may inv.sound is) [
-      | inl next ↦ not_cut 10 c.loop-rest.left.text.now (node_line (length c.loop-rest.nodes.items) next.node) next.rest c.in_default-cut_line.ensures.none next.is
+    elim (after_nodes c.args.switches c.args.counts.now c.loop-rest.nodes.items nodes c.args.left.now.text.now
+    c.loop-rest.left.text.now rest (omega (arith, c.ranges.switches.fits)) c.requires (omega
+    (arith, inv.few)) inv.each may inv.sound is) [
+      | inl next ↦ not_cut 10 c.loop-rest.left.text.now (node_line
+          (length c.loop-rest.nodes.items) next.node) next.rest c.in_default-cut_line.ensures.none next.is
       | inr end ↦ c.in_default.ensures.none rest end
     ]
 
 pub returns-in_default-found : goal.returns-in_default-found
 returns-in_default-found c = λ nodes rest may is.
     let inv = c.loop-rest.invariant in
-    elim (after_nodes c.args.switches c.args.counts.now c.loop-rest.nodes.items nodes c.args.left.now.text.now c.loop-rest.left.text.now rest (omega (arith, c.ranges.switches.fits)) c.requires (omega (arith, inv.few)) inv.each may inv.sound is) [
+    elim (after_nodes c.args.switches c.args.counts.now c.loop-rest.nodes.items nodes c.args.left.now.text.now
+    c.loop-rest.left.text.now rest (omega (arith, c.ranges.switches.fits)) c.requires (omega
+    (arith, inv.few)) inv.each may inv.sound is) [
       | inl next ↦
-          let line = cut_said 10 c.loop-rest.left.text.now c.in-Some-cut_line.line.now (node_line (length c.loop-rest.nodes.items) next.node) c.in-Some-cut_line.rest.now next.rest c.in-Some-cut_line.ensures.some
-              (node_lacks (length c.loop-rest.nodes.items) next.node next.number (writable c.args.switches (length c.loop-rest.nodes.items) c.args.counts.now next.node (omega (arith, c.ranges.switches.fits)) c.requires next.may)) next.is in
-          node_unread c.args.switches c.args.counts.now (length c.loop-rest.nodes.items) c.in_ok-number.number c.in-Some-cut_line.line.now next.node next.may line.0 (ap (λ (ns : List NodeLine). length ns) (sym c.deref.ensures.value) ∙ sym c.in_ok-number.ensures.number) (none_told c.in_ok-found.found _ _ c.in_default-found.is c.in_ok-found.ensures)
+          let line = cut_said 10 c.loop-rest.left.text.now c.in-Some-cut_line.line.now (node_line
+          (length c.loop-rest.nodes.items) next.node) c.in-Some-cut_line.rest.now next.rest
+          c.in-Some-cut_line.ensures.some
+          (node_lacks (length c.loop-rest.nodes.items) next.node next.number (writable c.args.switches
+          (length c.loop-rest.nodes.items) c.args.counts.now next.node (omega
+          (arith, c.ranges.switches.fits)) c.requires next.may)) next.is in
+          node_unread c.args.switches c.args.counts.now
+          (length c.loop-rest.nodes.items) c.in_ok-number.number c.in-Some-cut_line.line.now next.node next.may
+          line.0 (ap (λ (ns : List NodeLine). length ns) (sym c.deref.ensures.value)
+          ∙ sym c.in_ok-number.ensures.number)
+          (none_told c.in_ok-found.found _ _ c.in_default-found.is c.in_ok-found.ensures)
       | inr end ↦ c.in_default.ensures.none rest end
     ]
 
@@ -31,8 +44,22 @@ loop-rest-preserved c =
     let inv = c.loop-rest.invariant in
     let got = some_told c.in_ok-found.found _ _ c.in-Some-found.node c.in-Some-found.is c.in_ok-found.ensures in
     record {
-      few = omega (arith, ap length c.in_ok-push.ensures.items, length_push c.loop-rest.nodes.items c.in-Some-found.node, ap (λ (ns : List NodeLine). length ns) c.deref.ensures.value, c.in_ok-number.ensures.number, c.in_ok-number.ensures.small);
-      each = nodes_push c.args.switches c.args.counts.now c.in_ok-number.number c.loop-rest.nodes.items c.push.new.self.items c.in-Some-found.node c.in_ok-push.ensures.items (ap (λ (ns : List NodeLine). length ns) (sym c.deref.ensures.value) ∙ sym c.in_ok-number.ensures.number) inv.each got.may;
-      sound = line_next node_line c.loop-rest.nodes.items c.push.new.self.items c.in-Some-found.node c.in_ok-number.number c.args.left.now.text.now c.loop-rest.left.text.now c.in-Some-cut_line.rest.now c.in_ok-push.ensures.items (ap (λ (ns : List NodeLine). length ns) (sym c.deref.ensures.value) ∙ sym c.in_ok-number.ensures.number) inv.sound
+      few = omega (
+        arith,
+        ap length c.in_ok-push.ensures.items,
+        length_push c.loop-rest.nodes.items c.in-Some-found.node,
+        ap
+            (λ (ns : List NodeLine). length ns) c.deref.ensures.value,
+        c.in_ok-number.ensures.number,
+        c.in_ok-number.ensures.small,
+      );
+      each = nodes_push c.args.switches c.args.counts.now c.in_ok-number.number c.loop-rest.nodes.items
+          c.push.new.self.items c.in-Some-found.node c.in_ok-push.ensures.items (ap (λ
+          (ns : List NodeLine). length ns) (sym c.deref.ensures.value)
+          ∙ sym c.in_ok-number.ensures.number) inv.each got.may;
+      sound = line_next node_line c.loop-rest.nodes.items c.push.new.self.items c.in-Some-found.node
+          c.in_ok-number.number c.args.left.now.text.now c.loop-rest.left.text.now c.in-Some-cut_line.rest.now
+          c.in_ok-push.ensures.items (ap (λ (ns : List NodeLine). length ns) (sym c.deref.ensures.value)
+          ∙ sym c.in_ok-number.ensures.number) inv.sound
           (c.in-Some-cut_line.ensures.some.is ∙ ap (λ (z : List ℕ). z ++ 10 ∷ c.in-Some-cut_line.rest.now) got.is);
     }

@@ -1,4 +1,4 @@
-use Rattle.std.proofs.Common.{◌≡◌, ◌≤◌, ◌++◌, ℕ, List, length, map, take, suc, Some}
+use Rattle.std.proofs.Common.{◌≡◌, ◌≤◌, ◌++◌, ℕ, length, Some}
 use Rattle.std.specs.Prelude.{slice_get}
 use Rattle.equation_text.specs.EquationText.{text_of}
 use Rattle.equation_text.specs.EquationLines.{NodeLine}
@@ -7,7 +7,7 @@ use Rattle.equation_text.specs.Reading.{node_lines}
 use Rattle.equation_text.proofs.reading.read_nodes.Given as goal
 
 abbrev pub invariant-loop-rest : goal.invariant-loop-rest
-invariant-loop-rest l = 
+invariant-loop-rest l =
     record {
       few : length l.nodes.items ≤ 4294967295;
       each : (n : ℕ) (x : NodeLine) → slice_get l.nodes.items n ≡ Some x → MayBeNode l.switches l.counts n x;

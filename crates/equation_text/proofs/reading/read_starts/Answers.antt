@@ -1,4 +1,4 @@
-use Rattle.std.proofs.Common.{◌∙◌, ◌<◌, ◌++◌, ◌∷◌, List, ℕ, refl, sym, ap, arith}
+use Rattle.std.proofs.Common.{◌∙◌, ◌<◌, ◌++◌, ◌∷◌, List, ℕ, refl, ap, arith}
 use Rattle.equation_text.specs.declared.goal.TheConstants.{NUMBERS}
 use Rattle.equation_text.specs.EquationText.{part_line}
 use Rattle.equation_text.proofs.WordLemmas.{not_cut, cut_said}
@@ -9,15 +9,22 @@ use Rattle.equation_text.proofs.reading.read_starts.Goals as goal
 pub returns-in_default : goal.returns-in_default
 returns-in_default c = λ ts rest fits is.
     let inv = c.loop-part.invariant in
-    let next = next_start c.args.parts c.loop-part.part c.loop-part.starts.items ts c.args.left.now.text.now c.loop-part.left.text.now rest (omega (arith, c.ranges.parts.fits)) c.loop-part-test.true inv.fits fits inv.sound is in
-    not_cut 10 c.loop-part.left.text.now (part_line c.loop-part.part (part_of next.start)) next.rest c.in_default.ensures.none next.is
+    let next = next_start c.args.parts c.loop-part.part c.loop-part.starts.items ts c.args.left.now.text.now
+    c.loop-part.left.text.now rest (omega
+    (arith, c.ranges.parts.fits)) c.loop-part-test.true inv.fits fits inv.sound is in
+    not_cut 10 c.loop-part.left.text.now (part_line c.loop-part.part
+    (part_of next.start)) next.rest c.in_default.ensures.none next.is
 
 pub returns-in_default-read_part : goal.returns-in_default-read_part
 returns-in_default-read_part c = λ ts rest fits is.
     let inv = c.loop-part.invariant in
-    let next = next_start c.args.parts c.loop-part.part c.loop-part.starts.items ts c.args.left.now.text.now c.loop-part.left.text.now rest (omega (arith, c.ranges.parts.fits)) c.loop-part-test.true inv.fits fits inv.sound is in
+    let next = next_start c.args.parts c.loop-part.part c.loop-part.starts.items ts c.args.left.now.text.now
+    c.loop-part.left.text.now rest (omega
+    (arith, c.ranges.parts.fits)) c.loop-part-test.true inv.fits fits inv.sound is in
     let small : c.loop-part.part < NUMBERS = omega (arith, c.loop-part-test.true, c.ranges.parts.fits) in
-    let line = cut_said 10 c.loop-part.left.text.now c.in-Some.line.now (part_line c.loop-part.part (part_of next.start)) c.in-Some.rest.now next.rest c.in-Some.ensures.some (part_lacks c.loop-part.part (part_of next.start) small next.target) next.is in
+    let line = cut_said 10 c.loop-part.left.text.now c.in-Some.line.now (part_line c.loop-part.part
+    (part_of next.start)) c.in-Some.rest.now next.rest c.in-Some.ensures.some (part_lacks c.loop-part.part
+    (part_of next.start) small next.target) next.is in
     c.in_default-read_part.ensures.none (part_of next.start) next.target line.0
 
 pub loop-part-preserved : goal.loop-part-preserved
@@ -25,6 +32,11 @@ loop-part-preserved c =
     let inv = c.loop-part.invariant in
     let got = c.in-Some-read_part.ensures.some in
     record {
-      fits = starts_push c.loop-part.part _ c.loop-part.starts.items c.push.new.self.items c.in-Some-read_part.start refl c.in_ok-push.ensures.items got.0 inv.fits;
-      sound = line_next (λ p t. part_line p (part_of t)) c.loop-part.starts.items c.push.new.self.items c.in-Some-read_part.start c.loop-part.part c.args.left.now.text.now c.loop-part.left.text.now c.in-Some.rest.now c.in_ok-push.ensures.items inv.fits.count inv.sound (c.in-Some.ensures.some.is ∙ ap (λ (z : List ℕ). z ++ 10 ∷ c.in-Some.rest.now) (got.1 (part_of c.in-Some-read_part.start) refl));
+      fits = starts_push c.loop-part.part _ c.loop-part.starts.items c.push.new.self.items c.in-Some-read_part.start
+          refl c.in_ok-push.ensures.items got.0 inv.fits;
+      sound = line_next (λ p t. part_line p
+          (part_of t)) c.loop-part.starts.items c.push.new.self.items c.in-Some-read_part.start c.loop-part.part
+          c.args.left.now.text.now c.loop-part.left.text.now c.in-Some.rest.now c.in_ok-push.ensures.items
+          inv.fits.count inv.sound (c.in-Some.ensures.some.is ∙ ap (λ (z : List ℕ). z ++ 10 ∷ c.in-Some.rest.now)
+          (got.1 (part_of c.in-Some-read_part.start) refl));
     }

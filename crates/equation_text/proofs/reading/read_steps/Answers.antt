@@ -1,12 +1,7 @@
-use Rattle.std.proofs.Common.{◌≡◌, ◌∙◌, ◌+◌, length, refl, sym, ap, subst, inl, inr, arith, List}
-use Rattle.std.specs.Prelude.{slice_get}
+use Rattle.std.proofs.Common.{◌∙◌, ◌+◌, length, ap}
 use Rattle.std.proofs.lemmas.List.{length_push}
-use Rattle.bay_contract.specs.declared.fork.PartStep.{PartStep}
 use Rattle.equation_text.specs.EquationText.{step_line}
-use Rattle.equation_text.specs.Beginnings.{MayBeStep}
-use Rattle.equation_text.specs.Reading.{NoStep}
-use Rattle.equation_text.proofs.GrowingLemmas.{get_push}
-use Rattle.equation_text.proofs.ReadLoops.{line_next, shorter, steps_push}
+use Rattle.equation_text.proofs.ReadLoops.{line_next, steps_push}
 use Rattle.equation_text.proofs.reading.read_steps.Goals as goal
 
 pub loop-step-preserved : goal.loop-step-preserved
@@ -14,7 +9,12 @@ loop-step-preserved c =
     let inv = c.loop-step.invariant in
     let got = c.in-Some.ensures.some in
     record {
-      count = ap length c.in_ok-push.ensures.items ∙ length_push c.loop-step.steps.items c.in-Some.step ∙ ap (λ n. n + 1) inv.count;
-      each = steps_push c.args.station.now c.args.part.0 c.loop-step.m c.loop-step.steps.items c.push.new.self.items c.in-Some.step c.in_ok-push.ensures.items inv.count inv.each got.0;
-      sound = line_next (step_line c.args.part.0) c.loop-step.steps.items c.push.new.self.items c.in-Some.step c.loop-step.m c.args.left.now.text.now c.loop-step.left.text.now c.next_step.new.left.text.now c.in_ok-push.ensures.items inv.count inv.sound got.1;
+      count = ap length c.in_ok-push.ensures.items ∙ length_push c.loop-step.steps.items c.in-Some.step ∙ ap
+          (λ n. n + 1) inv.count;
+      each = steps_push c.args.station.now c.args.part.0 c.loop-step.m c.loop-step.steps.items c.push.new.self.items
+          c.in-Some.step c.in_ok-push.ensures.items inv.count inv.each got.0;
+      sound = line_next
+          (step_line c.args.part.0) c.loop-step.steps.items c.push.new.self.items c.in-Some.step c.loop-step.m
+          c.args.left.now.text.now c.loop-step.left.text.now c.next_step.new.left.text.now c.in_ok-push.ensures.items
+          inv.count inv.sound got.1;
     }

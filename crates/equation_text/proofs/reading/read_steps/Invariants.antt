@@ -1,4 +1,4 @@
-use Rattle.std.proofs.Common.{◌≡◌, ◌≤◌, ◌++◌, ℕ, List, length, map, take, suc, Some}
+use Rattle.std.proofs.Common.{◌≡◌, ◌++◌, ℕ, length, Some}
 use Rattle.std.specs.Prelude.{slice_get}
 use Rattle.equation_text.specs.EquationText.{text_of}
 use Rattle.bay_contract.specs.declared.fork.PartStep.{PartStep}
@@ -7,7 +7,7 @@ use Rattle.equation_text.specs.Reading.{step_lines}
 use Rattle.equation_text.proofs.reading.read_steps.Given as goal
 
 abbrev pub invariant-loop-step : goal.invariant-loop-step
-invariant-loop-step l = 
+invariant-loop-step l =
     record {
       count : length l.steps.items ≡ l.m;
       each : (m : ℕ) (s : PartStep) → slice_get l.steps.items m ≡ Some s → MayBeStep l.station l.part.0 m s;

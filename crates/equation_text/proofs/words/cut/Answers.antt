@@ -1,6 +1,5 @@
-use Rattle.std.proofs.Common.{◌∙◌, sym, ap, subst, List, ℕ, arith}
-use Rattle.equation_text.specs.Words.{IsCut}
-use Rattle.equation_text.proofs.WordLemmas.{cut_at, lacks_position, cut_same}
+use Rattle.std.proofs.Common.{◌∙◌, sym}
+use Rattle.equation_text.proofs.WordLemmas.{lacks_position, cut_same}
 use Rattle.equation_text.proofs.words.cut.Goals as goal
 
 pub returns-in_default-clause-none : goal.returns-in_default-clause-none

@@ -1,4 +1,4 @@
-use Rattle.std.proofs.Common.{◌≡◌, ◌∙◌, sym, arith}
+use Rattle.std.proofs.Common.{◌∙◌, sym, arith}
 use Rattle.std.proofs.lemmas.Fmt.{decimal_injective}
 use Rattle.equation_text.proofs.WordLemmas.{index_word}
 use Rattle.equation_text.proofs.words.index.Goals as goal
@@ -11,5 +11,6 @@ returns-in_default-clause-none c = λ t small is.
 pub returns-then-number-from-clause-none : goal.returns-then-number-from-clause-none
 returns-then-number-from-clause-none c = λ t small is.
     let i = index_word c.args.word.now t small is in
-    let same = decimal_injective c.in-Some.number i.0 (omega (arith, c.in-Some.ensures.some.0)) (omega (arith, i.1)) (sym c.in-Some.ensures.some.1 ∙ i.2) in
+    let same = decimal_injective c.in-Some.number i.0 (omega (arith, c.in-Some.ensures.some.0)) (omega (arith, i.1))
+    (sym c.in-Some.ensures.some.1 ∙ i.2) in
     omega (arith, same, i.1, c.if-number-from.true, c.from.ensures)
