@@ -1,12 +1,11 @@
 -- The last layer is the alphabet, and the first one.
-use Rattle.std.proofs.Common.{◌≡◌, ◌≢◌, ℕ, ◌-◌, ◌/◌, ◌%◌, add-one, ◌+◌, ◌*◌, ◌^◌, ◌<◌, ◌≤◌, ◌↔◌, zero, suc, Bool, true, false, Option, List, [], ◌∷◌, ◌++◌, length, slice_get, slice_index, sum, Some, None, refl, sym, ◌∙◌, ap, subst, inl, inr, arith}
+use Rattle.std.proofs.Common.{◌≡◌, ◌≢◌, ℕ, ◌+◌, ◌*◌, ◌^◌, ◌<◌, ◌≤◌, ◌↔◌, zero, suc, Bool, false, List, [], ◌∷◌, ◌++◌, length, slice_get, slice_index, sum, Some, refl, sym, ◌∙◌, ap, subst, inl, inr, arith}
 use Rattle.std.proofs.Math.ListN.{replicate}
 use Rattle.std.proofs.lemmas.Option.{slice_get_within, get_or_from_slice_get}
 use Rattle.std.proofs.lemmas.List.{length-replicate, length_push}
 use Rattle.std.proofs.lemmas.List.Sums.{sum_by_push}
 use Rattle.station_graph.specs.Diagram.{Diagram, AreSwitchesOf}
-use Rattle.station_graph.specs.Connection.{Item}
-use Rattle.station_graph.specs.Sharing.{OfPart, IsShared}
+use Rattle.station_graph.specs.Sharing.{OfPart}
 use Rattle.station_graph.specs.Alike.{IsVector}
 use Rattle.station_graph.proofs.LinkedLemmas.{linked_self}
 use Rattle.contraction.specs.Answers.{Answers, IsContraction, Keeps}
@@ -16,15 +15,15 @@ use Rattle.bay_contract.specs.declared.fork.Fork.{Fork}
 use Rattle.bay_contract.specs.Layers.{OfLayer, IsBase, IsKept, digit, rank, bits}
 use Rattle.bay_contract.specs.Diagrams.{Goes, LeadsTo}
 use Rattle.bay_contract.specs.Sorting.{KeepsAt}
-use Rattle.bay_contract.specs.Building.{Stops, IsLayer, AreExamples, IsBuilt}
+use Rattle.bay_contract.specs.Building.{IsLayer, AreExamples, IsBuilt}
 use Rattle.std.proofs.lemmas.Bool.{cases_lt, cases_eq}
 use Rattle.station_graph.specs.Diagram.{IsStation}
 use Rattle.station_graph.specs.Connection.{a_switch}
 use Rattle.bay_contract.specs.Layers.{SameLayer}
-use Rattle.bay_contract.specs.Counting.{AreSoMany, ArePast, StepFits, StepIsPast, PartFits, PartIsPast, AreStepSizes}
+use Rattle.bay_contract.specs.Counting.{AreSoMany, ArePast, StepFits, PartFits, PartIsPast, AreStepSizes}
 use Rattle.bay_contract.specs.Building.{AreReversed}
-use Rattle.bay_contract.proofs.RankLemmas.{rank_below, digit_small}
-use Rattle.bay_contract.proofs.NextLemmas.{some_at, rank_more}
+use Rattle.bay_contract.proofs.RankLemmas.{digit_small}
+use Rattle.bay_contract.proofs.NextLemmas.{some_at}
 use Rattle.bay_contract.proofs.LayerLemmas.{base_over, part_over, kept_at_end}
 use Rattle.bay_contract.proofs.DiagramLemmas.{leads_one}
 use Rattle.bay_contract.proofs.ForkLemmas.{get_push_old, get_push_new}

@@ -1,27 +1,26 @@
 -- What is made of a course serves each part whose course is like it.
-use Rattle.std.proofs.Common.{zero, suc, ◌≡◌, ℕ, ◌+◌, ◌*◌, ◌/◌, ◌%◌, ◌<◌, ◌≤◌, ◌⊎◌, ◌↔◌, ◌==◌, Bool, true, false, Option, List, [], ◌∷◌, ◌++◌, length, map, slice_get, slice_index, Some, Contains, refl, sym, ◌∙◌, ap, subst, inl, inr, arith, add-one}
+use Rattle.std.proofs.Common.{zero, suc, ◌≡◌, ℕ, ◌+◌, ◌/◌, ◌%◌, ◌<◌, ◌≤◌, ◌↔◌, ◌==◌, Bool, true, false, List, [], ◌∷◌, ◌++◌, length, map, slice_get, slice_index, Some, Contains, refl, sym, ◌∙◌, ap, subst, inl, inr, arith, add-one}
 use Rattle.std.proofs.lemmas.Option.{slice_get_within}
 use Rattle.std.proofs.lemmas.List.{length-map, length_push}
-use Rattle.station_graph.specs.Diagram.{Diagram, AreSwitchesOf}
+use Rattle.station_graph.specs.Diagram.{Diagram}
 use Rattle.station_graph.specs.Connection.{Item, a_switch, a_link, a_tap}
 use Rattle.station_graph.specs.Nodes.{Rises}
 use Rattle.station_graph.proofs.PathLemmas.{slice_get-push}
-use Rattle.station_graph.specs.Sharing.{OfPart, Touches, TouchedBy}
-use Rattle.contraction.specs.Answers.{Answers, AreNodes, IsContraction, Keeps, SameGap, SameLoad}
+use Rattle.station_graph.specs.Sharing.{OfPart, Touches}
+use Rattle.contraction.specs.Answers.{Answers, AreNodes, Keeps, SameGap, SameLoad}
 use Rattle.contraction.specs.Stands.{StandsFor, Among}
 use Rattle.contraction.specs.Renaming.{renamed}
 use Rattle.contraction.proofs.PlaceLemmas.{keeps_from_has, has_from_keeps}
 use Rattle.bay_contract.specs.declared.course.Turn.{Turn}
 use Rattle.bay_contract.specs.declared.course.Course.{Course}
 use Rattle.bay_contract.specs.Layers.{OfLayer, IsLater, IsKept}
-use Rattle.bay_contract.specs.Sorting.{IsSwitchPair, KeepsAt, Continues, IsSorted}
+use Rattle.bay_contract.specs.Sorting.{KeepsAt, Continues, IsSorted}
 use Rattle.bay_contract.specs.Turns.{KeepsThese, AreTogether, positioned, AreTurned}
 use Rattle.bay_contract.specs.Courses.{IsTurn, AreTurns, IsCourse, turned, nodes_after, AtOnePlace, AreRelated, IsLike, IsLikeTurn, IsLikeCourse}
 use Rattle.bay_contract.proofs.NextLemmas.{some_at}
 use Rattle.bay_contract.proofs.TableLemmas.{from_map}
 use Rattle.bay_contract.proofs.LayerLemmas.{next_stands, switch_matters}
 use Rattle.bay_contract.proofs.RenamedLemmas.{Back, ToOne, together_moved, gap_renamed, load_renamed, renamed_own, renamed_well, places_to_one, places_back, places_related}
-use Rattle.bay_contract.proofs.ShiftLemmas.{at_map}
 
 -- the nodes after a turn
 pub nodes_turned : (y : Course) (j : ℕ) (t : Turn) → slice_get y.turns.items j ≡ Some t → nodes_after y (j + 1) ≡ t.kept

@@ -1,22 +1,17 @@
 -- What an index says of the part, and that what is built is the alphabet.
-use Rattle.std.proofs.Common.{◌≡◌, ◌≢◌, ℕ, ◌+◌, ◌^◌, ◌<◌, ◌≤◌, ◌⊎◌, ◌↔◌, Bool, List, length, slice_get, slice_index, Some, refl, sym, ◌∙◌, ap, subst, inl, inr, arith}
+use Rattle.std.proofs.Common.{◌≡◌, ℕ, ◌+◌, ◌^◌, ◌<◌, ◌≤◌, ◌⊎◌, ◌↔◌, Bool, List, length, slice_get, Some, refl, sym, ap, subst, inl, inr, arith}
 use Rattle.std.proofs.lemmas.Bool.{cases_lt}
-use Rattle.std.proofs.lemmas.Option.{slice_get_within}
-use Rattle.station_graph.specs.Diagram.{Diagram, AreSwitchesOf, part_count}
-use Rattle.station_graph.specs.Connection.{Item, a_switch}
+use Rattle.station_graph.specs.Diagram.{Diagram, AreSwitchesOf}
 use Rattle.station_graph.specs.Sharing.{OfPart, IsShared}
-use Rattle.station_graph.specs.Views.{SameGapView, SameLoadView}
 use Rattle.station_graph.specs.Alike.{IsVector, Alike, SamePositions, DifferInPart}
-use Rattle.contraction.specs.Answers.{Answers, IsContraction, Keeps, SameGap, SameLoad}
+use Rattle.contraction.specs.Answers.{Answers, Keeps, SameGap, SameLoad}
 use Rattle.contraction.specs.Stands.{StandsFor}
 use Rattle.contraction.proofs.ViewLemmas.{gap_told, load_told}
-use Rattle.bay_contract.specs.declared.fork.Fork.{Fork}
-use Rattle.bay_contract.specs.Layers.{rank, bits}
 use Rattle.bay_contract.specs.Diagrams.{LeadsTo}
 use Rattle.bay_contract.specs.Counting.{AreStepSizes}
-use Rattle.bay_contract.specs.Building.{IsBuilt, IsBuiltFor}
-use Rattle.bay_contract.specs.PartAlphabets.{PartAlphabet, Alphabets, or_nothing, part_at, letters_of, size_of, example_of, forks_of, first_switch_of, count_of, StandsAt}
-use Rattle.bay_contract.specs.Alphabets.{IsLetter, HasIndex, IsExample, IsAlphabet, AreAlphabets}
+use Rattle.bay_contract.specs.Building.{IsBuiltFor}
+use Rattle.bay_contract.specs.PartAlphabets.{Alphabets, part_at, letters_of, size_of, forks_of, first_switch_of, count_of}
+use Rattle.bay_contract.specs.Alphabets.{IsLetter, HasIndex, IsAlphabet, AreAlphabets}
 use Rattle.contraction.proofs.RisingLemmas.{rising_equal}
 use Rattle.contraction.proofs.SameLemmas.{gap_self, load_self, gap_fewer, load_fewer}
 use Rattle.contraction.proofs.MoveLemmas.{stands_moves}

@@ -11,7 +11,7 @@ use Rattle.contraction.specs.Answers.{Answers}
 use Rattle.contraction.specs.Stands.{StandsFor}
 use Rattle.contraction.proofs.MarkLemmas.{slice_get-set_same}
 use Rattle.bay_contract.specs.declared.fork.Fork.{Fork}
-use Rattle.bay_contract.specs.Layers.{OfLayer, SameLayer, rank}
+use Rattle.bay_contract.specs.Layers.{OfLayer, SameLayer}
 use Rattle.bay_contract.specs.Counting.{ArePast}
 use Rattle.bay_contract.specs.Sorting.{IsSorted}
 use Rattle.bay_contract.specs.Building.{IsLayer}

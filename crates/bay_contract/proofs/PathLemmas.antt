@@ -1,5 +1,5 @@
 -- Positions that agree with the words, one step after another.
-use Rattle.std.proofs.Common.{◌≡◌, ◌≢◌, ℕ, ◌+◌, ◌-◌, ◌*◌, ◌^◌, ◌%◌, ◌<◌, ◌≤◌, ◌⊎◌, ◌↔◌, ◌==◌, zero, suc, Bool, true, false, Option, None, List, [], ◌∷◌, ◌++◌, take, drop, length, slice_get, slice_set, get_or, Some, refl, sym, ◌∙◌, ap, subst, inl, inr, add-one, arith}
+use Rattle.std.proofs.Common.{◌≡◌, ℕ, ◌+◌, ◌-◌, ◌*◌, ◌^◌, ◌<◌, ◌≤◌, ◌↔◌, Bool, true, false, Option, None, List, [], ◌∷◌, ◌++◌, take, drop, length, slice_get, slice_set, Some, refl, sym, ◌∙◌, ap, subst, inl, inr, add-one, arith}
 use Rattle.std.specs.Prelude.{is_some}
 use Rattle.std.proofs.lemmas.Bool.{cases_lt, cases_eq}
 use Rattle.std.proofs.lemmas.Grind.{common_steps}
@@ -7,7 +7,6 @@ use Rattle.std.proofs.lemmas.Option.{slice_get_within}
 use Rattle.std.proofs.lemmas.List.{length-set, length_push}
 use Rattle.std.proofs.Math.Nat.{pow-le-pow_right}
 use Rattle.ilk_base.specs.declared.words.Dbpos.{Dbpos}
-use Rattle.station_graph.specs.Connection.{Linked}
 use Rattle.station_graph.proofs.LinkedLemmas.{linked_self, linked_one, linked_trans}
 use Rattle.station_graph.proofs.PathLemmas.{slice_get-push}
 use Rattle.station_graph.proofs.PositionLemmas.{slice_get-set_other}
@@ -15,10 +14,10 @@ use Rattle.contraction.proofs.MarkLemmas.{slice_get-set_same}
 use Rattle.double_points.specs.Words.{Agrees}
 use Rattle.bay_contract.specs.declared.fork.Fork.{Fork}
 use Rattle.bay_contract.specs.Layers.{digit, bits}
-use Rattle.bay_contract.specs.Diagrams.{branch, Goes, ForkFits, ForksFit, AreStaged}
+use Rattle.bay_contract.specs.Diagrams.{branch, Goes, ForkFits}
 use Rattle.bay_contract.specs.PartAlphabets.{PartAlphabet}
 use Rattle.bay_contract.specs.Shapes.{IsShaped}
-use Rattle.bay_contract.specs.Paths.{AreTested, BeginsSo, LeadsHere, MayGo, IsNoted, HasPath, NotesOne, NotesBoth, PathsTo}
+use Rattle.bay_contract.specs.Paths.{BeginsSo, LeadsHere, MayGo, IsNoted, HasPath, NotesOne, NotesBoth, PathsTo}
 use Rattle.bay_contract.proofs.RankLemmas.{digit_small}
 use Rattle.bay_contract.proofs.NextLemmas.{some_at}
 use Rattle.bay_contract.proofs.ForkLemmas.{get_push_old, get_push_new}

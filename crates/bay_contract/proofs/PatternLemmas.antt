@@ -1,13 +1,12 @@
 -- What is built of a course, one turn after another, for every part that is like it.
-use Rattle.std.proofs.Common.{zero, suc, ◌≡◌, ◌≢◌, ℕ, ◌+◌, ◌*◌, ◌^◌, ◌<◌, ◌≤◌, Bool, List, [], ◌∷◌, ◌++◌, length, map, slice_get, slice_index, Some, Contains, refl, sym, ◌∙◌, ap, subst, inl, inr, arith, add-one}
+use Rattle.std.proofs.Common.{zero, suc, ◌≡◌, ◌≢◌, ℕ, ◌+◌, ◌*◌, ◌<◌, ◌≤◌, List, [], ◌∷◌, ◌++◌, length, map, slice_get, slice_index, Some, Contains, refl, sym, ◌∙◌, ap, subst, inl, inr, arith}
 use Rattle.std.proofs.lemmas.Option.{slice_get_within}
 use Rattle.std.proofs.lemmas.List.{length-map}
-use Rattle.station_graph.specs.Diagram.{Diagram, AreSwitchesOf, IsStation}
+use Rattle.station_graph.specs.Diagram.{Diagram, IsStation}
 use Rattle.station_graph.specs.Nodes.{Rises}
 use Rattle.station_graph.proofs.PathLemmas.{slice_get-push}
-use Rattle.contraction.specs.Answers.{Answers, AreNodes, Keeps}
+use Rattle.contraction.specs.Answers.{Answers, Keeps}
 use Rattle.contraction.specs.Renaming.{renamed}
-use Rattle.contraction.proofs.PlaceLemmas.{keeps_from_has, has_from_keeps}
 use Rattle.bay_contract.specs.declared.course.Turn.{Turn}
 use Rattle.bay_contract.specs.declared.course.Course.{Course}
 use Rattle.bay_contract.specs.declared.fork.Fork.{Fork}
@@ -18,14 +17,13 @@ use Rattle.bay_contract.specs.Counting.{PartIsPast, AreStepSizes}
 use Rattle.bay_contract.specs.Diagrams.{ForksFit, AreStaged}
 use Rattle.bay_contract.specs.Building.{IsLayer, Forked, AreReversed, IsBuilt}
 use Rattle.bay_contract.specs.Turns.{KeepsThese, Turns, TurnsPast}
-use Rattle.bay_contract.specs.Courses.{IsTurn, IsCourse, turned, nodes_after, IsLikeCourse, shifted, IsBuiltOf, IsPattern, ArePatterns}
+use Rattle.bay_contract.specs.Courses.{IsCourse, nodes_after, IsLikeCourse, shifted, IsBuiltOf, IsPattern, ArePatterns}
 use Rattle.bay_contract.proofs.NextLemmas.{some_at, next_is_layer, ranks_small}
 use Rattle.bay_contract.proofs.PastLemmas.{sorted_past}
 use Rattle.bay_contract.proofs.LayerLemmas.{matters_before}
 use Rattle.bay_contract.proofs.AlphabetLemmas.{SoFar, layer_zero, so_far_none, so_far_next, so_far_past, so_far_alphabet, so_far_fits, so_far_sizes, count_few, examples_small}
-use Rattle.bay_contract.proofs.RenamedLemmas.{renamed_own}
 use Rattle.bay_contract.proofs.ShiftLemmas.{at_map, forked_shifted}
-use Rattle.bay_contract.proofs.CourseLemmas.{nodes_turned, first_rises, kept_after, own_turn, like_self, turned_sorted, sizes_like}
+use Rattle.bay_contract.proofs.CourseLemmas.{nodes_turned, kept_after, own_turn, like_self, turned_sorted, sizes_like}
 
 -- What is known after j turns: the values stand on the nodes that matter then, and serve every part that is
 -- like this one.

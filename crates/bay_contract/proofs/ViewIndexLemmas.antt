@@ -1,22 +1,20 @@
 -- In a layer the views of two vectors are the same exactly where their indices are.
-use Rattle.std.proofs.Common.{◌≡◌, ℕ, ◌+◌, ◌<◌, ◌≤◌, ◌↔◌, zero, suc, Bool, List, [], ◌∷◌, ◌++◌, length, slice_get, slice_index, Some, refl, sym, ◌∙◌, ap, subst, inl, inr, arith}
+use Rattle.std.proofs.Common.{◌≡◌, ℕ, ◌+◌, ◌<◌, zero, suc, Bool, List, [], ◌∷◌, ◌++◌, length, slice_get, Some, refl, sym, ◌∙◌, ap, subst, inl, inr, arith}
 use Rattle.std.proofs.lemmas.Option.{slice_get_within}
 use Rattle.std.proofs.lemmas.List.{length_push}
 use Rattle.std.proofs.lemmas.Bool.{cases_lt}
 use Rattle.station_graph.proofs.PathLemmas.{slice_get-push}
 use Rattle.station_graph.specs.Diagram.{Diagram}
-use Rattle.station_graph.specs.Connection.{Item}
-use Rattle.station_graph.specs.Views.{SameGapView, SameLoadView}
 use Rattle.station_graph.specs.Alike.{IsVector}
 use Rattle.contraction.specs.Answers.{Answers, Keeps, SameGap, SameLoad}
 use Rattle.contraction.specs.Stands.{StandsFor}
 use Rattle.contraction.proofs.ViewLemmas.{gap_told, load_told}
 use Rattle.bay_contract.specs.declared.fork.Fork.{Fork}
-use Rattle.bay_contract.specs.Layers.{OfLayer, IsKept, SameLayer, rank}
+use Rattle.bay_contract.specs.Layers.{OfLayer, IsKept, SameLayer}
 use Rattle.bay_contract.specs.Diagrams.{LeadsTo}
 use Rattle.bay_contract.specs.Sorting.{KeepsAt}
-use Rattle.bay_contract.specs.Counting.{AreDistinct, HasSame, AreSoMany}
-use Rattle.bay_contract.specs.Building.{Stops, IsLayer}
+use Rattle.bay_contract.specs.Counting.{AreSoMany}
+use Rattle.bay_contract.specs.Building.{IsLayer}
 use Rattle.bay_contract.proofs.DiagramLemmas.{leads_one}
 use Rattle.contraction.proofs.RisingLemmas.{rising_equal}
 use Rattle.contraction.proofs.SameLemmas.{gap_self, load_self, gap_fewer, load_fewer}

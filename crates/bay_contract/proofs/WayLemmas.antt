@@ -1,19 +1,17 @@
 -- What the noted positions say at the end.
-use Rattle.std.proofs.Common.{◌≡◌, ◌≢◌, ℕ, ◌+◌, ◌-◌, ◌^◌, ◌<◌, ◌≤◌, ◌↔◌, Bool, true, false, Option, None, List, [], ◌∷◌, length, slice_get, get_or, Some, MatchOption, IfSome, refl, sym, ◌∙◌, ap, subst, arith}
-use Rattle.std.proofs.lemmas.Option.{slice_get_within, slice_get-get_or}
+use Rattle.std.proofs.Common.{◌≡◌, ℕ, ◌+◌, ◌-◌, ◌^◌, ◌<◌, ◌↔◌, Bool, Option, None, List, [], ◌∷◌, length, slice_get, Some, MatchOption, IfSome, sym, ◌∙◌, ap, subst, arith}
+use Rattle.std.proofs.lemmas.Option.{slice_get_within}
 use Rattle.ilk_base.specs.declared.words.Dbpos.{Dbpos}
-use Rattle.station_graph.specs.Connection.{LeadsTo as Chain, Linked, a_switch}
+use Rattle.station_graph.specs.Connection.{LeadsTo as Chain, a_switch}
 use Rattle.station_graph.specs.Sharing.{OfPart}
 use Rattle.station_graph.specs.Alike.{IsVector}
-use Rattle.station_graph.specs.Diagram.{Diagram, AreSwitchesOf}
-use Rattle.double_points.specs.Words.{Agrees, BayAgrees}
-use Rattle.bay_contract.specs.declared.fork.Fork.{Fork}
-use Rattle.bay_contract.specs.Layers.{bits}
-use Rattle.bay_contract.specs.Diagrams.{branch, Goes, LeadsTo}
-use Rattle.bay_contract.specs.PartAlphabets.{PartAlphabet, Alphabets, part_at, first_switch_of, count_of, StandsAt, IsPosition}
+use Rattle.station_graph.specs.Diagram.{Diagram}
+use Rattle.double_points.specs.Words.{BayAgrees}
+use Rattle.bay_contract.specs.Diagrams.{Goes}
+use Rattle.bay_contract.specs.PartAlphabets.{PartAlphabet, Alphabets, part_at, first_switch_of, count_of, StandsAt}
 use Rattle.bay_contract.specs.Shapes.{IsShaped}
-use Rattle.bay_contract.specs.Paths.{BeginsSo, TestedAgree, LeadsHere, MayGo, IsNoted, HasPath, PathsTo, MayLead, IsWay}
-use Rattle.bay_contract.specs.Alphabets.{CanHave, IsAgreeing, IsAlphabet, AreAlphabets, HasIndex}
+use Rattle.bay_contract.specs.Paths.{BeginsSo, TestedAgree, MayGo, IsNoted, HasPath, PathsTo, MayLead, IsWay}
+use Rattle.bay_contract.specs.Alphabets.{CanHave, IsAgreeing, IsAlphabet}
 use Rattle.bay_contract.proofs.NextLemmas.{some_at}
 use Rattle.bay_contract.proofs.PutLemmas.{bits_some}
 

@@ -1,6 +1,6 @@
 -- The alphabet of a part: the list of its distinct contractions on the nodes that it shares, each placed
 -- by the least position that gives it.
-use Rattle.std.specs.Prelude.{◌≡◌, ℕ, ◌<◌, ◌≤◌, ◌↔◌, Bool, true, List, length, slice_get, slice_index, sum, Some}
+use Rattle.std.specs.Prelude.{◌≡◌, ℕ, ◌<◌, ◌≤◌, ◌↔◌, Bool, true, List, length, slice_get, Some}
 use Rattle.ilk_base.specs.declared.words.Dbpos.{Dbpos}
 use Rattle.double_points.specs.Words.{BayAgrees}
 use Rattle.station_graph.specs.Diagram.{Diagram, AreSwitchesOf, part_count}

@@ -1,7 +1,7 @@
 -- What the layers of a part are made of, and when two parts are alike in it.
-use Rattle.std.specs.Prelude.{zero, suc, ◌≡◌, ℕ, ◌+◌, ◌<◌, ◌≤◌, ◌↔◌, Bool, List, [], Option, Some, None, length, map, slice_get, Contains}
+use Rattle.std.specs.Prelude.{zero, suc, ◌≡◌, ℕ, ◌+◌, ◌≤◌, ◌↔◌, Bool, List, [], Option, Some, None, length, map, slice_get, Contains}
 use Rattle.station_graph.specs.Diagram.{Diagram, AreSwitchesOf}
-use Rattle.contraction.specs.Answers.{Answers, IsContraction, AreNodes}
+use Rattle.contraction.specs.Answers.{Answers, AreNodes}
 use Rattle.contraction.specs.Stands.{StandsFor}
 use Rattle.contraction.specs.Renaming.{renamed}
 use Rattle.bay_contract.specs.declared.course.Turn.{Turn}

@@ -1,6 +1,5 @@
-use Rattle.std.proofs.Common.{◌≡◌, ◌<◌, length, arith}
+use Rattle.std.proofs.Common.{◌≡◌, length, arith}
 use Rattle.std.proofs.lemmas.Option.{slice_get_within}
-use Rattle.bay_contract.specs.declared.course.Turn.{Turn}
 use Rattle.bay_contract.specs.Courses.{AtOnePlace, IsLikeTurn}
 use Rattle.bay_contract.proofs.AlikeLemmas.{place_more}
 use Rattle.bay_contract.proofs.alike.are_like_turns.Goals as goal

@@ -1,4 +1,4 @@
-use Rattle.std.proofs.Common.{◌≡◌, length, arith}
+use Rattle.std.proofs.Common.{arith}
 use Rattle.bay_contract.proofs.AlikeLemmas.{like_course}
 use Rattle.bay_contract.proofs.alike.is_like_course.Goals as goal
 

@@ -1,4 +1,4 @@
-use Rattle.std.proofs.Common.{◌≡◌, ◌+◌, ◌*◌, ◌<◌, ◌≤◌, ℕ, List, length, slice_get, slice_index, refl, sym, ◌∙◌, ap, subst, inl, inr, arith}
+use Rattle.std.proofs.Common.{◌≡◌, ◌*◌, ◌<◌, ◌≤◌, ℕ, List, length, slice_get, slice_index, sym, ◌∙◌, ap, subst, inl, inr, arith}
 use Rattle.contraction.specs.Answers.{Answers}
 use Rattle.bay_contract.specs.Building.{Forked, Ranked}
 use Rattle.bay_contract.specs.Turns.{AreTurned}

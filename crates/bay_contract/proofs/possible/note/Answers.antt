@@ -1,4 +1,4 @@
-use Rattle.std.proofs.Common.{◌≡◌, Bool, Some, sym, subst}
+use Rattle.std.proofs.Common.{Bool, Some, sym, subst}
 use Rattle.std.specs.Prelude.{slice_set}
 use Rattle.bay_contract.specs.Paths.{NotesOne}
 use Rattle.bay_contract.proofs.PathLemmas.{notes_one, notes_none}

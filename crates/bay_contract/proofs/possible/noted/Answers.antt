@@ -1,4 +1,4 @@
-use Rattle.std.proofs.Common.{◌≡◌, ◌<◌, Option, None, List, get_or, arith}
+use Rattle.std.proofs.Common.{None, get_or, arith}
 use Rattle.std.proofs.lemmas.Option.{slice_get-get_or}
 use Rattle.bay_contract.proofs.PathLemmas.{marked_none, marked_more}
 use Rattle.bay_contract.proofs.possible.noted.Goals as goal

@@ -1,4 +1,4 @@
-use Rattle.std.proofs.Common.{◌≡◌, ◌+◌, ◌/◌, ℕ, Bool, List, sym, subst, inl, inr, arith}
+use Rattle.std.proofs.Common.{◌+◌, ◌/◌, Bool, List, sym, subst, inl, inr, arith}
 use Rattle.bay_contract.proofs.PutLemmas.{PutSoFar, put_none, put_more, put_all}
 use Rattle.bay_contract.proofs.walk.put_bits.Goals as goal
 

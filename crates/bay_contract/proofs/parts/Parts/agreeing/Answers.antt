@@ -1,4 +1,4 @@
-use Rattle.std.proofs.Common.{◌≡◌, ℕ, ◌^◌, ◌<◌, List, length, MatchOption, IfSome, sym, ◌∙◌, ap, subst}
+use Rattle.std.proofs.Common.{◌≡◌, ◌^◌, ◌<◌, length, MatchOption, IfSome, sym, ◌∙◌, ap, subst}
 use Rattle.bay_contract.specs.PartAlphabets.{PartAlphabet, part_at}
 use Rattle.bay_contract.specs.Paths.{MayLead, IsWay}
 use Rattle.bay_contract.proofs.IndexLemmas.{alphabet_at}

@@ -1,4 +1,4 @@
-use Rattle.std.proofs.Common.{◌≡◌, ℕ, List, Bool, Some, slice_get, subst}
+use Rattle.std.proofs.Common.{◌≡◌, Some, slice_get, subst}
 use Rattle.station_graph.specs.Sharing.{OfPart}
 use Rattle.contraction.specs.Answers.{Answers}
 use Rattle.contraction.specs.Stands.{StandsFor}

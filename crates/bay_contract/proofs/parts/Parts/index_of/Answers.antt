@@ -1,4 +1,4 @@
-use Rattle.std.proofs.Common.{◌≡◌, ℕ, List, Bool, ◌∙◌, subst}
+use Rattle.std.proofs.Common.{◌∙◌, subst}
 use Rattle.bay_contract.specs.Diagrams.{LeadsTo}
 use Rattle.bay_contract.specs.PartAlphabets.{PartAlphabet, forks_of}
 use Rattle.bay_contract.proofs.IndexLemmas.{alphabet_at, letters_in, index_alike}

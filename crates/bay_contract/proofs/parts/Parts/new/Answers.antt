@@ -1,5 +1,4 @@
-use Rattle.std.proofs.Common.{◌≡◌, ℕ, arith}
-use Rattle.station_graph.specs.Diagram.{part_count}
+use Rattle.std.proofs.Common.{arith}
 use Rattle.bay_contract.proofs.PartsLemmas.{parts_none, parts_more, parts_refused, parts_all, parts_uniform}
 use Rattle.bay_contract.proofs.PatternLemmas.{patterns_none}
 use Rattle.bay_contract.proofs.parts.Parts.new.Goals as goal

@@ -1,4 +1,4 @@
-use Rattle.std.proofs.Common.{◌≡◌, ℕ, ◌↔◌, List, length, sym, ◌∙◌, ap, subst}
+use Rattle.std.proofs.Common.{◌≡◌, ◌↔◌, length, sym, ◌∙◌, ap, subst}
 use Rattle.bay_contract.specs.PartAlphabets.{PartAlphabet, part_at}
 use Rattle.bay_contract.specs.Paths.{MayLead}
 use Rattle.bay_contract.specs.Alphabets.{InSet}
