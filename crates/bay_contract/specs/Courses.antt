@@ -1,4 +1,4 @@
--- What the layers of a part are made of, and when two parts are alike in it.
+-- What the layers of a part are made of, and when another part is like it.
 use Rattle.std.specs.Prelude.{zero, suc, ◌≡◌, ℕ, ◌+◌, ◌≤◌, ◌↔◌, Bool, List, [], Option, Some, None, length, map, slice_get, Contains}
 use Rattle.station_graph.specs.Diagram.{Diagram, AreSwitchesOf}
 use Rattle.contraction.specs.Answers.{Answers, AreNodes}

@@ -1,8 +1,8 @@
 use Rattle.std.proofs.Common.{◌≡◌, length, arith}
 use Rattle.std.proofs.lemmas.Option.{slice_get_within}
 use Rattle.bay_contract.specs.Courses.{AtOnePlace, IsLikeTurn}
-use Rattle.bay_contract.proofs.AlikeLemmas.{place_more}
-use Rattle.bay_contract.proofs.alike.are_like_turns.Goals as goal
+use Rattle.bay_contract.proofs.LikeLemmas.{place_more}
+use Rattle.bay_contract.proofs.like.are_like_turns.Goals as goal
 
 pub loop-j-preserved : goal.loop-j-preserved
 loop-j-preserved c =

@@ -1,6 +1,6 @@
 use Rattle.std.proofs.Common.{arith}
-use Rattle.bay_contract.proofs.AlikeLemmas.{like_course}
-use Rattle.bay_contract.proofs.alike.is_like_course.Goals as goal
+use Rattle.bay_contract.proofs.LikeLemmas.{like_course}
+use Rattle.bay_contract.proofs.like.is_like_course.Goals as goal
 
 pub returns : goal.returns
 returns c = λ yes.
