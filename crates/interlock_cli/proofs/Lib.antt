@@ -6,3 +6,4 @@ pub mod Orders
 pub mod Pieces
 pub mod Stopping
 pub mod Through
+pub mod Naming

@@ -4,7 +4,8 @@ use Rattle.std.specs.Io.KnownBytes.{Appends, Keeps}
 use Rattle.std.proofs.lemmas.List.{append-nil}
 use Rattle.interlock_cli.specs.Formats.{Format, Drawing, Positions, CertainPositions, OrderOf, LogOf, BlocksOf, SwitchOf, BayOf, Refuses}
 use Rattle.interlock_cli.specs.Form.{Form, Write, Take, Serve, Says, Gives, Stops}
-use Rattle.interlock_cli.specs.Ends.{Call, FormEnds, Wrote}
+use Rattle.interlock_cli.specs.Commands.{Command, Make, form_of}
+use Rattle.interlock_cli.specs.Ends.{Call, FormEnds, Wrote, Unasked, Unread, Ends}
 use Rattle.interlock_cli.specs.declared.end.Outcome.{Outcome}
 use Rattle.interlock_cli.specs.declared.end.Output.{Output}
 use Rattle.interlock_cli.specs.declared.end.End.{End}
@@ -79,3 +80,15 @@ pub wrote_end : (form : Form) (x : Call) (output : Output) (end : End) → Gives
 wrote_end form x output (e.Written outcome) gives (is, wrote) = (output.text, subst (λ (o : Outcome). Says form x.held o output.text) (sym is) gives, wrote)
 wrote_end form x output e.WriteFault gives (rose, front) = (rose, output.outcome, output.text, gives, front)
 wrote_end form x output end gives wrote = absurd wrote
+
+-- a command that ends for memory before it writes or serves
+memory_stops : (held : List ℕ → Option (List ℕ)) (before after : List ℕ → ℕ) (command : Command) → Stops (form_of command) held before after e.Memory
+memory_stops held before after (Make number text) = refl
+memory_stops held before after command = inl tt
+
+-- a call whose words are not read as a command
+pub unread_ends : (command : Option Command) (x : Call) (end : End) → Appends x.before.out x.after.out [] → Unasked x → Unread command end → Ends command x end
+unread_ends None x end nothing unasked unread = (unread, nothing)
+unread_ends (Some command) x e.Usage nothing unasked unread = cc unread
+unread_ends (Some command) x e.Memory nothing unasked unread = inl ((memory_stops x.held x.reads_before x.reads_after command, nothing), unasked)
+unread_ends (Some command) x end nothing unasked unread = absurd unread

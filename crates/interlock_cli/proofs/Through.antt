@@ -1,5 +1,5 @@
 -- A call that ends otherwise than by its text or for memory has a cause.
-use Rattle.std.proofs.Common.{◌≡◌, ◌⊎◌, ◌↔◌, ◌-◌, ℕ, List, Option, Some, None, Ok, Err, refl, sym, ap, ◌∙◌, arith, inl, inr, subst}
+use Rattle.std.proofs.Common.{◌≡◌, ◌⊎◌, ◌-◌, ℕ, List, Option, Some, None, Ok, Err, refl, sym, ap, ◌∙◌, arith, inl, inr, subst}
 use Rattle.ilk_base.specs.declared.words.Dbpos.{Dbpos}
 use Rattle.ilk_base.specs.declared.words.InputRefusal.{InputRefusal}
 use Rattle.ilk_base.specs.declared.words.BayId.{BayId}
@@ -29,6 +29,7 @@ use Rattle.equation_audit.proofs.OneOutcome.{blocks_not_refused}
 use Rattle.log_replay.proofs.OneOutcome.{log_not_refused}
 use Rattle.interlock_cli.proofs.Orders.{never_unsure, order_not_refused}
 use Rattle.interlock_cli.specs.declared.status.Status.{Status}
+use Rattle.interlock_cli.specs.declared.status.Status.TheVariants as s
 use Rattle.interlock_cli.specs.declared.status.Status.TheVariants.{Usage}
 use Rattle.interlock_cli.specs.declared.end.Outcome.{Outcome}
 use Rattle.interlock_cli.specs.declared.end.Outcome.TheVariants.{Done, Differs, Premise}
@@ -166,8 +167,14 @@ usage_end (e.Input refusal) is = cc is
 usage_end e.Long is = cc is
 usage_end e.Memory is = cc is
 
--- the call is Usage exactly where the words name no command
-pub usage : (status : Status) (command : Option Command) (c : Call) (end : End) → status ≡ status_of end → Ends command c end → (status ≡ Usage) ↔ (command ≡ None)
-usage status None c end is ends = ((λ _. refl), (λ _. is ∙ ap status_of ends.0))
-usage status (Some command) c end is ends =
-    ((λ u. absurd (some_usage command c end (usage_end end (sym is ∙ u)) ends)), (λ none. cc none))
+-- the call is Usage only where the words name no command
+pub usage : (status : Status) (command : Option Command) (c : Call) (end : End) → status ≡ status_of end → Ends command c end → status ≡ Usage → command ≡ None
+usage status None c end is ends = λ u. refl
+usage status (Some command) c end is ends = λ u. absurd (some_usage command c end (usage_end end (sym is ∙ u)) ends)
+
+-- and then it is, or wants memory
+pub unnamed : (status : Status) (command : Option Command) (c : Call) (end : End) → status ≡ status_of end → Ends command c end → command ≡ None → (status ≡ Usage) ⊎ (status ≡ s.Memory)
+unnamed status None c e.Usage is ends = λ none. inl is
+unnamed status None c e.Memory is ends = λ none. inr is
+unnamed status None c end is ends = absurd ends.0
+unnamed status (Some command) c end is ends = λ none. cc none

@@ -1,9 +1,10 @@
 -- The commands: one constructor, one row of words and one form for each.
-use Rattle.std.specs.Prelude.{◌≡◌, ◌==◌, ℕ, Bool, false, not, List, [], ◌∷◌, Option, Some, None, option_and_then, option_map, codes, if◌then◌else◌}
+use Rattle.std.specs.Prelude.{◌≡◌, ℕ, List, [], ◌∷◌, Option, Some, None, option_and_then, option_map, codes, if◌then◌else◌}
 use Rattle.std.specs.List.{list_all}
 use Rattle.std.specs.Str.{bytes_eq}
 use Rattle.ilk_base.specs.declared.words.Direction.{Direction}
 use Rattle.ilk_base.specs.declared.words.Direction.TheVariants.{ToOff, ToOn}
+use Rattle.command_words.specs.Rows.{is_plain}
 use Rattle.station_state.specs.StateText.{IsStateText}
 use Rattle.station_make.specs.declared.words.MadeText.{MadeText}
 use Rattle.station_make.specs.Words.{feeders_of, made_text, text_named}
@@ -14,6 +15,7 @@ use Rattle.interlock_cli.specs.ExplainText.{IsExplainText}
 use Rattle.interlock_cli.specs.OrderWrites.{OrderWrites}
 use Rattle.interlock_cli.specs.ReplayWrites.{ReplayWrites}
 use Rattle.interlock_cli.specs.AuditWrites.{AuditWrites}
+use Rattle.equation_text.specs.CompileText.{IsCompileText}
 use Rattle.interlock_cli.specs.declared.end.Outcome.{Outcome}
 use Rattle.interlock_cli.specs.declared.end.Outcome.TheVariants.{Done}
 
@@ -32,49 +34,59 @@ pub data Command : Type 0 where
   Audit : List ℕ → List ℕ → Command
   -- `node STATION BAY`
   Node : List ℕ → List ℕ → Command
+  -- `compile STATION`
+  Compile : List ℕ → Command
   -- `make NUMBER station`, or `positions`, or `log`
   Make : ℕ → MadeText → Command
-
--- a word that is not empty and does not begin with `-`
-abbrev pub is_plain : List ℕ → Bool
-is_plain [] = false
-is_plain (c ∷ cs) = not (c == 45)
 
 -- the direction that a word names
 abbrev pub direction_of : List ℕ → Option Direction
 direction_of word = if bytes_eq word (codes "open") then Some ToOff else (if bytes_eq word (codes "close") then Some ToOn else None)
 
+-- one word, and what it names; and two, three or four
+abbrev pub one_word : (List ℕ → Option Command) → List (List ℕ) → Option Command
+one_word names (a ∷ []) = names a
+one_word names _ = None
+
+abbrev pub two_words : (List ℕ → List ℕ → Option Command) → List (List ℕ) → Option Command
+two_words names (a ∷ b ∷ []) = names a b
+two_words names _ = None
+
+abbrev pub three_words : (List ℕ → List ℕ → List ℕ → Option Command) → List (List ℕ) → Option Command
+three_words names (a ∷ b ∷ c ∷ []) = names a b c
+three_words names _ = None
+
+abbrev pub four_words : (List ℕ → List ℕ → List ℕ → List ℕ → Option Command) → List (List ℕ) → Option Command
+four_words names (a ∷ b ∷ c ∷ d ∷ []) = names a b c d
+four_words names _ = None
+
+-- the words behind the name of each command
 abbrev pub check_of : List (List ℕ) → Option Command
-check_of (station ∷ positions ∷ []) = Some (Check station positions)
-check_of _ = None
+check_of = two_words (λ station positions. Some (Check station positions))
 
 abbrev pub explain_of : List (List ℕ) → Option Command
-explain_of (station ∷ positions ∷ direction ∷ switch ∷ []) = option_map (λ d. Explain station positions d switch) (direction_of direction)
-explain_of _ = None
+explain_of = four_words (λ station positions direction switch. option_map (λ d. Explain station positions d switch) (direction_of direction))
 
 abbrev pub state_of : List (List ℕ) → Option Command
-state_of (station ∷ positions ∷ []) = Some (State station positions)
-state_of _ = None
+state_of = two_words (λ station positions. Some (State station positions))
 
 abbrev pub order_of : List (List ℕ) → Option Command
-order_of (station ∷ positions ∷ order ∷ []) = Some (Order station positions order)
-order_of _ = None
+order_of = three_words (λ station positions order. Some (Order station positions order))
 
 abbrev pub replay_of : List (List ℕ) → Option Command
-replay_of (station ∷ log ∷ []) = Some (Replay station log)
-replay_of _ = None
+replay_of = two_words (λ station log. Some (Replay station log))
 
 abbrev pub audit_of : List (List ℕ) → Option Command
-audit_of (station ∷ equations ∷ []) = Some (Audit station equations)
-audit_of _ = None
+audit_of = two_words (λ station equations. Some (Audit station equations))
 
 abbrev pub node_of : List (List ℕ) → Option Command
-node_of (station ∷ bay ∷ []) = Some (Node station bay)
-node_of _ = None
+node_of = two_words (λ station bay. Some (Node station bay))
+
+abbrev pub compile_of : List (List ℕ) → Option Command
+compile_of = one_word (λ station. Some (Compile station))
 
 abbrev pub make_of : List (List ℕ) → Option Command
-make_of (number ∷ text ∷ []) = option_and_then (λ n. option_map (λ t. Make n t) (text_named text)) (feeders_of number)
-make_of _ = None
+make_of = two_words (λ number text. option_and_then (λ n. option_map (λ t. Make n t) (text_named text)) (feeders_of number))
 
 -- what the words name, the command's name first
 abbrev pub named : List (List ℕ) → Option Command
@@ -88,6 +100,7 @@ named (name ∷ rest) =
     else if bytes_eq name (codes "audit") then audit_of rest
     else if bytes_eq name (codes "node") then node_of rest
     else if bytes_eq name (codes "make") then make_of rest
+    else if bytes_eq name (codes "compile") then compile_of rest
     else None
 
 -- what the words name, where no word is empty or begins with `-`
@@ -115,4 +128,6 @@ form_of (Audit station equations) =
     Take (File station) Drawing (λ d. Take (File equations) (BlocksOf d) (λ es. Write (AuditWrites d es)))
 form_of (Node station bay) =
     Take (File station) Drawing (λ d. Take (Word bay) (BayOf d) (λ b. Serve d b))
+form_of (Compile station) =
+    Take (File station) Drawing (λ d. Write (IsDone (IsCompileText d)))
 form_of (Make number text) = Write (IsDone (λ written. written ≡ made_text text number))

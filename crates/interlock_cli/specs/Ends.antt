@@ -1,5 +1,5 @@
 -- How a call ends: the cause of each end, and what `out` and `err` took. Said once, for all commands.
-use Rattle.std.specs.Prelude.{◌≡◌, ◌⊎◌, ℕ, List, [], Option, Some, None}
+use Rattle.std.specs.Prelude.{◌≡◌, ◌⊎◌, ⊤, ℕ, List, [], Option, Some, None}
 use Rattle.std.specs.Io.KnownBytes.{Appends, Keeps}
 use Rattle.ilk_base.specs.Outside.{Rose, AppendsFront}
 use Rattle.node_session.specs.SessionEnds.{Streams}
@@ -51,9 +51,15 @@ abbrev pub Asks : Option Command → Type 0
 Asks None = ⊥
 Asks (Some command) = AsksInput (form_of command)
 
--- words that name no command are Usage, and no others
+-- the words are not read as a command: they name none, or for memory
+abbrev pub Unread : Option Command → End → Type 0
+Unread command e.Usage = command ≡ None
+Unread command e.Memory = ⊤
+Unread command _ = ⊥
+
+-- words that name no command are Usage, and no others, or want memory
 abbrev pub Ends : Option Command → Call → End → Type 0
-Ends None c end = (end ≡ e.Usage) × Appends c.before.out c.after.out []
+Ends None c end = Unread None end × Appends c.before.out c.after.out []
 Ends (Some command) c end = (FormEnds (form_of command) c end × Unasked c) ⊎ Serves (form_of command) c end
 
 -- what is to be written was written, or a front of it where the count rose

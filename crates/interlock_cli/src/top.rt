@@ -1,5 +1,5 @@
 // The top call.
-ghost use Rattle.std.specs.Prelude.{◌≡◌, ◌↔◌, map, string_bytes, None, IfOk, IfErr};
+ghost use Rattle.std.specs.Prelude.{◌≡◌, ◌⊎◌, map, string_bytes, None, IfOk, IfErr};
 ghost use Rattle.interlock_cli.specs.Commands.{command_of, form_of};
 ghost use Rattle.interlock_cli.specs.Seen.{seen};
 ghost use Rattle.interlock_cli.specs.Form.{AsksInput, Gives, Stops};
@@ -8,6 +8,7 @@ ghost use Rattle.interlock_cli.specs.Complete.{Completes};
 
 use crate::audit_command::audit;
 use crate::check_command::check;
+use crate::compile_command::compile;
 use crate::end::{End, Output, make_status};
 use crate::explain_command::explain;
 use crate::make_command::make;
@@ -17,7 +18,7 @@ use crate::replay_command::replay;
 use crate::state_command::state;
 use crate::status::Status;
 use crate::tell::tell;
-use crate::words::{Command, make_command};
+use crate::words::{Command, read_command};
 use ilk_base::{Shelf, Sink, Source, write_all};
 use std::alloc::Global;
 
@@ -42,6 +43,7 @@ fn output_of<F: Shelf>(alloc: Global, command: &Command, shelf: &mut F) -> Resul
             order: steps,
         } => order(alloc, station, positions, steps, shelf),
         Command::Audit { station, equations } => audit(alloc, station, equations, shelf),
+        Command::Compile { station } => compile(alloc, station, shelf),
         Command::Make { feeders, text } => make(alloc, feeders, text),
         Command::Replay { station, log } => replay(alloc, station, log, shelf),
         Command::Node { .. } => unreachable!(),
@@ -78,8 +80,9 @@ fn call<F: Shelf, I: Source, O: Sink>(
     ensures unread { command_of (map string_bytes words.now) ≡ None → shelf.new ≡ shelf.old }
     ensures input { ¬ Asks (command_of (map string_bytes words.now)) → input.new ≡ input.old }
 {
-    let Some(command) = make_command(words) else {
-        return End::Usage;
+    let command = match read_command(alloc, words) {
+        Ok(command) => command,
+        Err(end) => return end,
     };
     if let Command::Node { station, bay } = command {
         return match node(alloc, station, bay, shelf, input, out) {
@@ -97,7 +100,7 @@ fn call<F: Shelf, I: Source, O: Sink>(
 ///
 /// The words are those of the command line, without the program's name. Where no word is empty or begins
 /// with `-`, and they are `check STATION POSITIONS`, `explain STATION POSITIONS open SWITCH` (or `close`),
-/// `state STATION POSITIONS`, `order STATION POSITIONS ORDER`, `replay STATION LOG`, `audit STATION EQUATIONS` `make NUMBER station` (or `positions`, or `log`) or `node STATION BAY`, they name that command;
+/// `state STATION POSITIONS`, `order STATION POSITIONS ORDER`, `replay STATION LOG`, `audit STATION EQUATIONS` `compile STATION`, `make NUMBER station` (or `positions`, or `log`) or `node STATION BAY`, they name that command;
 /// all else is `Usage`. What a command is given is judged in the order of the words, but for a switch or bay
 /// that they name, which comes last. Each file is judged before the next is read, and nothing is written, nor
 /// asked of the input, before all is accepted. On every status but `Done` and `Differs` one line goes to
@@ -129,7 +132,8 @@ pub fn run<F: Shelf, I: Source, O: Sink, E: Sink>(
           after = record { input = I.left input.new; reads = I.faults input.new; out = O.took out.new; writes = O.faults out.new };
         }
         (E.took err.old) (E.took err.new) (E.faults err.old) (E.faults err.new) }
-    ensures usage { (result ≡ Status.Usage) ↔ (command_of (map string_bytes words.now) ≡ None) }
+    ensures usage { result ≡ Status.Usage → command_of (map string_bytes words.now) ≡ None }
+    ensures unnamed { command_of (map string_bytes words.now) ≡ None → (result ≡ Status.Usage) ⊎ (result ≡ Status.Memory) }
     ensures unread { command_of (map string_bytes words.now) ≡ None → shelf.new ≡ shelf.old }
     ensures complete { Completes result (command_of (map string_bytes words.now))
         record {

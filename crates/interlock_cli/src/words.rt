@@ -1,11 +1,14 @@
 // What the words name.
-ghost use Rattle.std.specs.Prelude.{◌≡◌, map, option_map, string_bytes};
-ghost use Rattle.std.specs.List.{list_all};
-ghost use Rattle.interlock_cli.specs.Commands.{replay_of, audit_of, check_of, command_of, direction_of, explain_of, is_plain, make_of, named, node_of, order_of, state_of};
+ghost use Rattle.std.specs.Prelude.{◌≡◌, ◌∷◌, map, option_map, string_bytes, Some, IfOk, IfErr};
+ghost use Rattle.interlock_cli.specs.Commands.{replay_of, audit_of, check_of, command_of, direction_of, explain_of, make_of, named, node_of, compile_of, order_of, state_of};
+ghost use Rattle.interlock_cli.specs.Ends.{Unread};
 ghost use Rattle.interlock_cli.specs.Seen.{seen};
 
+use crate::end::End;
+use command_words::read_words;
 use ilk_base::Direction;
 use station_make::{Feeders, MadeText, feeders_named, text_named};
+use std::alloc::Global;
 
 // A command, with its words.
 #[derive(Clone, Copy)]
@@ -41,30 +44,13 @@ pub enum Command<'a> {
         station: &'a str,
         bay: &'a str,
     },
+    Compile {
+        station: &'a str,
+    },
     Make {
         feeders: Feeders,
         text: MadeText,
     },
-}
-
-// Whether a word is not empty and does not begin with `-`.
-fn is_plain(word: &str) -> bool
-    ensures { result ≡ is_plain word.now }
-{
-    match word.as_bytes() {
-        [] => false,
-        [first, ..] => *first != b'-',
-    }
-}
-
-// Whether no word is empty or begins with `-`.
-fn are_plain(words: &[String]) -> bool
-    ensures { result ≡ list_all is_plain (map string_bytes words.now) }
-{
-    match words {
-        [] => true,
-        [first, rest @ ..] => is_plain(first.as_str()) && are_plain(rest),
-    }
 }
 
 // The direction that a word names.
@@ -79,126 +65,118 @@ fn direction_of(word: &str) -> Option<Direction>
 }
 
 // `check STATION POSITIONS`.
-fn check_words(rest: &[String]) -> Option<Command<'_>>
-    ensures { check_of (map string_bytes rest.entry.now) ≡ option_map seen result }
+fn check_words<'a>(rest: &[&'a str]) -> Option<Command<'a>>
+    ensures { check_of (map (λ w. w.now) rest.now) ≡ option_map seen result }
 {
-    let [station, positions] = rest else {
+    let &[station, positions] = rest else {
         return None;
     };
-    Some(Command::Check {
-        station: station.as_str(),
-        positions: positions.as_str(),
-    })
+    Some(Command::Check { station, positions })
 }
 
 // `explain STATION POSITIONS open SWITCH`, or `close`.
-fn explain_words(rest: &[String]) -> Option<Command<'_>>
-    ensures { explain_of (map string_bytes rest.entry.now) ≡ option_map seen result }
+fn explain_words<'a>(rest: &[&'a str]) -> Option<Command<'a>>
+    ensures { explain_of (map (λ w. w.now) rest.now) ≡ option_map seen result }
 {
-    let [station, positions, direction, switch] = rest else {
+    let &[station, positions, direction, switch] = rest else {
         return None;
     };
-    match direction_of(direction.as_str()) {
+    match direction_of(direction) {
         Some(direction) => Some(Command::Explain {
-            station: station.as_str(),
-            positions: positions.as_str(),
+            station,
+            positions,
             direction,
-            switch: switch.as_str(),
+            switch,
         }),
         None => None,
     }
 }
 
 // `state STATION POSITIONS`.
-fn state_words(rest: &[String]) -> Option<Command<'_>>
-    ensures { state_of (map string_bytes rest.entry.now) ≡ option_map seen result }
+fn state_words<'a>(rest: &[&'a str]) -> Option<Command<'a>>
+    ensures { state_of (map (λ w. w.now) rest.now) ≡ option_map seen result }
 {
-    let [station, positions] = rest else {
+    let &[station, positions] = rest else {
         return None;
     };
-    Some(Command::State {
-        station: station.as_str(),
-        positions: positions.as_str(),
-    })
+    Some(Command::State { station, positions })
 }
 
 // `order STATION POSITIONS ORDER`.
-fn order_words(rest: &[String]) -> Option<Command<'_>>
-    ensures { order_of (map string_bytes rest.entry.now) ≡ option_map seen result }
+fn order_words<'a>(rest: &[&'a str]) -> Option<Command<'a>>
+    ensures { order_of (map (λ w. w.now) rest.now) ≡ option_map seen result }
 {
-    let [station, positions, order] = rest else {
+    let &[station, positions, order] = rest else {
         return None;
     };
     Some(Command::Order {
-        station: station.as_str(),
-        positions: positions.as_str(),
-        order: order.as_str(),
+        station,
+        positions,
+        order,
     })
 }
 
 // `audit STATION EQUATIONS`.
-fn audit_words(rest: &[String]) -> Option<Command<'_>>
-    ensures { audit_of (map string_bytes rest.entry.now) ≡ option_map seen result }
+fn audit_words<'a>(rest: &[&'a str]) -> Option<Command<'a>>
+    ensures { audit_of (map (λ w. w.now) rest.now) ≡ option_map seen result }
 {
-    let [station, equations] = rest else {
+    let &[station, equations] = rest else {
         return None;
     };
-    Some(Command::Audit {
-        station: station.as_str(),
-        equations: equations.as_str(),
-    })
+    Some(Command::Audit { station, equations })
 }
 
 // `replay STATION LOG`.
-fn replay_words(rest: &[String]) -> Option<Command<'_>>
-    ensures { replay_of (map string_bytes rest.entry.now) ≡ option_map seen result }
+fn replay_words<'a>(rest: &[&'a str]) -> Option<Command<'a>>
+    ensures { replay_of (map (λ w. w.now) rest.now) ≡ option_map seen result }
 {
-    let [station, log] = rest else {
+    let &[station, log] = rest else {
         return None;
     };
-    Some(Command::Replay {
-        station: station.as_str(),
-        log: log.as_str(),
-    })
+    Some(Command::Replay { station, log })
 }
 
 // `node STATION BAY`.
-fn node_words(rest: &[String]) -> Option<Command<'_>>
-    ensures { node_of (map string_bytes rest.entry.now) ≡ option_map seen result }
+fn node_words<'a>(rest: &[&'a str]) -> Option<Command<'a>>
+    ensures { node_of (map (λ w. w.now) rest.now) ≡ option_map seen result }
 {
-    let [station, bay] = rest else {
+    let &[station, bay] = rest else {
         return None;
     };
-    Some(Command::Node {
-        station: station.as_str(),
-        bay: bay.as_str(),
-    })
+    Some(Command::Node { station, bay })
+}
+
+// `compile STATION`.
+fn compile_words<'a>(rest: &[&'a str]) -> Option<Command<'a>>
+    ensures { compile_of (map (λ w. w.now) rest.now) ≡ option_map seen result }
+{
+    let &[station] = rest else {
+        return None;
+    };
+    Some(Command::Compile { station })
 }
 
 // `make NUMBER station`, or `positions`, or `log`.
-fn make_words(rest: &[String]) -> Option<Command<'_>>
-    ensures { make_of (map string_bytes rest.entry.now) ≡ option_map seen result }
+fn make_words<'a>(rest: &[&'a str]) -> Option<Command<'a>>
+    ensures { make_of (map (λ w. w.now) rest.now) ≡ option_map seen result }
 {
-    let [number, text] = rest else {
+    let &[number, text] = rest else {
         return None;
     };
-    let Some(feeders) = feeders_named(number.as_str()) else {
+    let Some(feeders) = feeders_named(number) else {
         return None;
     };
-    match text_named(text.as_str()) {
+    match text_named(text) {
         Some(text) => Some(Command::Make { feeders, text }),
         None => None,
     }
 }
 
-// The command of words of which none is empty or begins with `-`.
-fn named(words: &[String]) -> Option<Command<'_>>
-    ensures { named (map string_bytes words.entry.now) ≡ option_map seen result }
+// The command of a name and the words after it.
+fn named<'a>(name: &str, rest: &[&'a str]) -> Option<Command<'a>>
+    ensures { named (name.now ∷ map (λ w. w.now) rest.now) ≡ option_map seen result }
 {
-    let [name, rest @ ..] = words else {
-        return None;
-    };
-    match name.as_str() {
+    match name {
         "check" => check_words(rest),
         "explain" => explain_words(rest),
         "state" => state_words(rest),
@@ -206,14 +184,26 @@ fn named(words: &[String]) -> Option<Command<'_>>
         "replay" => replay_words(rest),
         "audit" => audit_words(rest),
         "node" => node_words(rest),
+        "compile" => compile_words(rest),
         "make" => make_words(rest),
         _ => None,
     }
 }
 
 // The command that the words name.
-pub(crate) fn make_command(words: &[String]) -> Option<Command<'_>>
-    ensures { command_of (map string_bytes words.entry.now) ≡ option_map seen result }
+pub(crate) fn read_command<'a>(alloc: Global, words: &'a [String]) -> Result<Command<'a>, End>
+    ensures ok { IfOk result (λ command. command_of (map string_bytes words.entry.now) ≡ Some (seen command)) }
+    ensures err { IfErr result (Unread (command_of (map string_bytes words.entry.now))) }
 {
-    if are_plain(words) { named(words) } else { None }
+    let row = match read_words(alloc, words) {
+        Ok(row) => row,
+        Err(_) => return Err(End::Memory),
+    };
+    let Some(row) = row else {
+        return Err(End::Usage);
+    };
+    match named(row.name, &row.words) {
+        Some(command) => Ok(command),
+        None => Err(End::Usage),
+    }
 }

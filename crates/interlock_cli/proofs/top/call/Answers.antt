@@ -1,20 +1,31 @@
 use Rattle.std.proofs.Common.{◌≡◌, ◌∙◌, refl, sym, ap, subst, inl, map, string_bytes, Some}
-use Rattle.std.specs.Prelude.{option_map}
 use Rattle.station_graph.specs.Diagram.{empty}
 use Rattle.interlock_cli.specs.Commands.{command_of, form_of, Node}
 use Rattle.interlock_cli.specs.Seen.{seen}
 use Rattle.interlock_cli.specs.Ends.{Call, Ends}
-use Rattle.interlock_cli.proofs.Stopping.{appends_nothing, keeps_same, stops_end, wrote_end}
+use Rattle.interlock_cli.proofs.Stopping.{appends_nothing, keeps_same, stops_end, unread_ends, wrote_end}
 use Rattle.interlock_cli.proofs.top.call.Goals as goal
-
-pub returns-in-Ok-clause-input : goal.returns-in-Ok-clause-input
-returns-in-Ok-clause-input g c = λ other.
-    let named : command_of (map string_bytes c.args.words.now) ≡ Some (seen c.in-Some.command) = c.make_command.ensures ∙ ap (option_map seen) c.in-Some.is in
-    absurd (other (rw (named, c.in-Node.is) (empty, (0, tt))))
 
 pub returns-in-Err-clause-ends : goal.returns-in-Err-clause-ends
 returns-in-Err-clause-ends g c =
-    let named : command_of (map string_bytes c.args.words.now) ≡ Some (seen c.in-Some.command) = c.make_command.ensures ∙ ap (option_map seen) c.in-Some.is in
+    let x : Call = record {
+      held = g.F.Shelf.held c.args.shelf.now;
+      reads_before = g.F.Shelf.faults c.args.shelf.now;
+      reads_after = g.F.Shelf.faults c.args.shelf.now;
+      before = record { input = g.I.Source.left c.args.input.now; reads = g.I.Source.faults c.args.input.now; out = g.O.Sink.took c.args.out.now; writes = g.O.Sink.faults c.args.out.now };
+      after = record { input = g.I.Source.left c.args.input.now; reads = g.I.Source.faults c.args.input.now; out = g.O.Sink.took c.args.out.now; writes = g.O.Sink.faults c.args.out.now };
+    } in
+    unread_ends (command_of (map string_bytes c.args.words.now)) x c.in-Err.end (appends_nothing (g.O.Sink.took c.args.out.now))
+    record { left = keeps_same (g.I.Source.left c.args.input.now); reads = refl } c.in-Err.ensures.err
+
+pub returns-in-Ok-node-clause-input : goal.returns-in-Ok-node-clause-input
+returns-in-Ok-node-clause-input g c = λ other.
+    let named : command_of (map string_bytes c.args.words.now) ≡ Some (seen c.in-Ok.command) = c.in-Ok.ensures.ok in
+    absurd (other (rw (named, c.in-Node.is) (empty, (0, tt))))
+
+pub returns-in-Err-node-clause-ends : goal.returns-in-Err-node-clause-ends
+returns-in-Err-node-clause-ends g c =
+    let named : command_of (map string_bytes c.args.words.now) ≡ Some (seen c.in-Ok.command) = c.in-Ok.ensures.ok in
     let node : command_of (map string_bytes c.args.words.now) ≡ Some (Node c.in-Node.station.now c.in-Node.bay.now) = named ∙ ap (λ k. Some (seen k)) c.in-Node.is in
     let x : Call = record {
       held = g.F.Shelf.held c.args.shelf.now;
@@ -23,15 +34,16 @@ returns-in-Err-clause-ends g c =
       before = record { input = g.I.Source.left c.args.input.now; reads = g.I.Source.faults c.args.input.now; out = g.O.Sink.took c.args.out.now; writes = g.O.Sink.faults c.args.out.now };
       after = record { input = g.I.Source.left c.node.new.input; reads = g.I.Source.faults c.node.new.input; out = g.O.Sink.took c.node.new.out; writes = g.O.Sink.faults c.node.new.out };
     } in
-    subst (λ k. Ends k x c.in-Err.end) (sym node)
+    let stopped = c.in-Err-node in
+    subst (λ k. Ends k x stopped.end) (sym node)
     (inl (
-      stops_end (form_of (Node c.in-Node.station.now c.in-Node.bay.now)) x c.in-Err.end (rw c.in-Err.ensures.unwritten (appends_nothing (g.O.Sink.took c.args.out.now))) c.in-Err.ensures.err,
-      record { left = rw c.in-Err.ensures.unasked (keeps_same (g.I.Source.left c.args.input.now)); reads = rw c.in-Err.ensures.unasked refl },
+      stops_end (form_of (Node c.in-Node.station.now c.in-Node.bay.now)) x stopped.end (rw stopped.ensures.unwritten (appends_nothing (g.O.Sink.took c.args.out.now))) stopped.ensures.err,
+      record { left = rw stopped.ensures.unasked (keeps_same (g.I.Source.left c.args.input.now)); reads = rw stopped.ensures.unasked refl },
     ))
 
 pub returns-in-Ok-output_of : goal.returns-in-Ok-output_of
 returns-in-Ok-output_of g c =
-    let named : command_of (map string_bytes c.args.words.now) ≡ Some (seen c.in-Some.command) = c.make_command.ensures ∙ ap (option_map seen) c.in-Some.is in
+    let named : command_of (map string_bytes c.args.words.now) ≡ Some (seen c.in-Ok.command) = c.in-Ok.ensures.ok in
     let x : Call = record {
       held = g.F.Shelf.held c.args.shelf.now;
       reads_before = g.F.Shelf.faults c.args.shelf.now;
@@ -42,7 +54,7 @@ returns-in-Ok-output_of g c =
     record {
       ends = subst (λ k. Ends k x c.write_output.result) (sym named)
           (inl (
-            wrote_end (form_of (seen c.in-Some.command)) x c.in-Ok-output_of.output c.write_output.result c.in-Ok-output_of.ensures.ok c.write_output.ensures,
+            wrote_end (form_of (seen c.in-Ok.command)) x c.in-Ok-output_of.output c.write_output.result c.in-Ok-output_of.ensures.ok c.write_output.ensures,
             record { left = keeps_same (g.I.Source.left c.args.input.now); reads = refl },
           ));
       unread = λ none. cc (named, none);
@@ -51,7 +63,7 @@ returns-in-Ok-output_of g c =
 
 pub returns-in-Err-output_of : goal.returns-in-Err-output_of
 returns-in-Err-output_of g c =
-    let named : command_of (map string_bytes c.args.words.now) ≡ Some (seen c.in-Some.command) = c.make_command.ensures ∙ ap (option_map seen) c.in-Some.is in
+    let named : command_of (map string_bytes c.args.words.now) ≡ Some (seen c.in-Ok.command) = c.in-Ok.ensures.ok in
     let x : Call = record {
       held = g.F.Shelf.held c.args.shelf.now;
       reads_before = g.F.Shelf.faults c.args.shelf.now;
@@ -62,7 +74,7 @@ returns-in-Err-output_of g c =
     record {
       ends = subst (λ k. Ends k x c.in-Err-output_of.end) (sym named)
           (inl (
-            stops_end (form_of (seen c.in-Some.command)) x c.in-Err-output_of.end (appends_nothing (g.O.Sink.took c.args.out.now)) c.in-Err-output_of.ensures.err,
+            stops_end (form_of (seen c.in-Ok.command)) x c.in-Err-output_of.end (appends_nothing (g.O.Sink.took c.args.out.now)) c.in-Err-output_of.ensures.err,
             record { left = keeps_same (g.I.Source.left c.args.input.now); reads = refl },
           ));
       unread = λ none. cc (named, none);
