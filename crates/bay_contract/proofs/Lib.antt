@@ -11,7 +11,7 @@ pub mod NextLemmas
 pub mod RenamedLemmas
 pub mod ShiftLemmas
 pub mod CourseLemmas
-pub mod AlikeLemmas
+pub mod LikeLemmas
 pub mod PastLemmas
 pub mod AlphabetLemmas
 pub mod PatternLemmas

@@ -1,5 +1,7 @@
 -- Positions that agree with the words, one step after another.
-use Rattle.std.proofs.Common.{◌≡◌, ◌≢◌, ℕ, ◌+◌, ◌-◌, ◌*◌, ◌^◌, ◌%◌, ◌<◌, ◌≤◌, ◌⊎◌, ◌↔◌, ◌==◌, zero, suc, Bool, true, false, Option, None, List, [], ◌∷◌, ◌++◌, take, drop, length, slice_get, slice_set, get_or, Some, refl, sym, ◌∙◌, ap, subst, inl, inr, add-one, arith}
+use Rattle.std.proofs.Common.{◌≡◌, ℕ, ◌+◌, ◌-◌, ◌*◌, ◌^◌, ◌<◌, ◌≤◌, ◌↔◌, Bool, true, false, Option, None, List, []}
+use Rattle.std.proofs.Common.{◌∷◌, ◌++◌, take, drop, length, slice_get, slice_set, Some, refl, sym, ◌∙◌, ap, subst}
+use Rattle.std.proofs.Common.{inl, inr, add-one, arith}
 use Rattle.std.specs.Prelude.{is_some}
 use Rattle.std.proofs.lemmas.Bool.{cases_lt, cases_eq}
 use Rattle.std.proofs.lemmas.Grind.{common_steps}
@@ -7,7 +9,6 @@ use Rattle.std.proofs.lemmas.Option.{slice_get_within}
 use Rattle.std.proofs.lemmas.List.{length-set, length_push}
 use Rattle.std.proofs.Math.Nat.{pow-le-pow_right}
 use Rattle.ilk_base.specs.declared.words.Dbpos.{Dbpos}
-use Rattle.station_graph.specs.Connection.{Linked}
 use Rattle.station_graph.proofs.LinkedLemmas.{linked_self, linked_one, linked_trans}
 use Rattle.station_graph.proofs.PathLemmas.{slice_get-push}
 use Rattle.station_graph.proofs.PositionLemmas.{slice_get-set_other}
@@ -15,17 +16,18 @@ use Rattle.contraction.proofs.MarkLemmas.{slice_get-set_same}
 use Rattle.double_points.specs.Words.{Agrees}
 use Rattle.bay_contract.specs.declared.fork.Fork.{Fork}
 use Rattle.bay_contract.specs.Layers.{digit, bits}
-use Rattle.bay_contract.specs.Diagrams.{branch, Goes, ForkFits, ForksFit, AreStaged}
+use Rattle.bay_contract.specs.Diagrams.{branch, Goes, ForkFits}
 use Rattle.bay_contract.specs.PartAlphabets.{PartAlphabet}
 use Rattle.bay_contract.specs.Shapes.{IsShaped}
-use Rattle.bay_contract.specs.Paths.{AreTested, BeginsSo, LeadsHere, MayGo, IsNoted, HasPath, NotesOne, NotesBoth, PathsTo}
+use Rattle.bay_contract.specs.Paths.{BeginsSo, LeadsHere, MayGo, IsNoted, HasPath, NotesOne, NotesBoth, PathsTo}
 use Rattle.bay_contract.proofs.RankLemmas.{digit_small}
 use Rattle.bay_contract.proofs.NextLemmas.{some_at}
 use Rattle.bay_contract.proofs.ForkLemmas.{get_push_old, get_push_new}
 use Rattle.bay_contract.proofs.AlphabetLemmas.{bits_below, bits_below_more, split, pow_more}
 use Rattle.bay_contract.proofs.PutLemmas.{bits_more}
 
-pub notes_one : (at position : ℕ) (old : List (Option ℕ)) → at < length old → NotesOne true at position old (slice_set old at (Some position))
+pub notes_one : (at position : ℕ) (old : List (Option ℕ)) → at < length old → NotesOne true at position old
+    (slice_set old at (Some position))
 notes_one at position old lt =
     let here : IsNoted (slice_set old at (Some position)) at position = slice_get-set_same old at (Some position) lt in
     record {
@@ -37,13 +39,15 @@ notes_one at position old lt =
       added = λ e. (position, here);
       none_else = λ t p h. elim (cases_eq t at) [
         | inl e ↦
-            let there : IsNoted (slice_set old at (Some position)) t position = subst (λ n. IsNoted (slice_set old at (Some position)) n position) (sym e) here in
+            let there : IsNoted (slice_set old at (Some position)) t position = subst (λ n. IsNoted (slice_set old at
+            (Some position)) n position) (sym e) here in
             inr (refl, sym e, cc (there, h))
         | inr ne ↦ inl (sym (slice_get-set_other old at t (Some position) ne) ∙ h)
       ];
     }
 
-pub notes_none : (answer : Bool) (at position : ℕ) (old : List (Option ℕ)) → answer ≡ false → NotesOne answer at position old old
+pub notes_none : (answer : Bool) (at position : ℕ) (old : List (Option ℕ)) → answer ≡ false
+    → NotesOne answer at position old old
 notes_none answer at position old e = record {
   len = refl;
   kept = λ t h. h;
@@ -51,7 +55,11 @@ notes_none answer at position old e = record {
   none_else = λ t p h. inl h;
 }
 
-pub notes_both : (fork : Fork) (words : List Dbpos) (word : Dbpos) (position bit : ℕ) (open_too closed_too : Bool) (old mid new : List (Option ℕ)) → slice_get words fork.switch.0 ≡ Some word → (open_too ≡ true) ↔ Agrees word false → (closed_too ≡ true) ↔ Agrees word true → NotesOne open_too fork.off position old mid → NotesOne closed_too fork.on (position + bit) mid new → NotesBoth fork words position bit old new
+pub notes_both : (fork : Fork) (words : List Dbpos) (word : Dbpos) (position bit : ℕ) (open_too closed_too : Bool)
+    (old mid new : List (Option ℕ)) → slice_get words fork.switch.0 ≡ Some word
+    → (open_too ≡ true) ↔ Agrees word false → (closed_too ≡ true) ↔ Agrees word true
+    → NotesOne open_too fork.off position old mid → NotesOne closed_too fork.on (position + bit) mid new
+    → NotesBoth fork words position bit old new
 notes_both fork words word position bit open_too closed_too old mid new told o c h g = record {
   len = g.len ∙ h.len;
   kept = λ t p. g.kept t (h.kept t p);
@@ -71,7 +79,8 @@ notes_both fork words word position bit open_too closed_too old mid new told o c
         subst (λ n. HasPath new n) may.to (g.added (c.1 (subst (λ (x : Dbpos). Agrees x true) same may.agrees)))
     by_position t false may =
         let same : may.word ≡ word = cc (may.told, told) in
-        subst (λ n. HasPath new n) may.to (g.kept fork.off (h.added (o.1 (subst (λ (x : Dbpos). Agrees x false) same may.agrees))))
+        subst (λ n. HasPath new n) may.to (g.kept fork.off (h.added (o.1 (subst (λ
+        (x : Dbpos). Agrees x false) same may.agrees))))
 
 -- positions with one digit tell it
 digit_one : (b c : Bool) → digit (Some b) ≡ digit (Some c) → b ≡ c
@@ -80,7 +89,8 @@ digit_one true false e = absurd (omega (arith, e))
 digit_one false true e = absurd (omega (arith, e))
 digit_one false false e = refl
 
-module _ (x : PartAlphabet) (words : List Dbpos) (shaped : IsShaped x) (i : ℕ) (f : Fork) (listed : slice_get x.forks i ≡ Some f) where
+module _ (x : PartAlphabet) (words : List Dbpos) (shaped : IsShaped x) (i : ℕ) (f : Fork)
+    (listed : slice_get x.forks i ≡ Some f) where
   fits : ForkFits x.switches (length x.forks) (length x.letters) i f
   fits = shaped.fit i f listed
 
@@ -89,18 +99,23 @@ module _ (x : PartAlphabet) (words : List Dbpos) (shaped : IsShaped x) (i : ℕ)
   later t false e = omega (arith, fits.off_later)
 
   -- the position with the switch in the vector begins with the position before it
-  begins_before : (k p : ℕ) (closed : Bool) (v : List Bool) → f.switch.0 ≡ x.first + k → p < 2 ^ k → BeginsSo x (k + 1) (p + digit (Some closed) * 2 ^ k) v → BeginsSo x k p v × (slice_get v f.switch.0 ≡ Some closed)
+  begins_before : (k p : ℕ) (closed : Bool) (v : List Bool) → f.switch.0 ≡ x.first + k → p < 2 ^ k
+      → BeginsSo x (k + 1) (p + digit (Some closed) * 2 ^ k) v → BeginsSo x k p v
+      × (slice_get v f.switch.0 ≡ Some closed)
   begins_before k p closed v place small h =
       let (b, at) = some_at v (x.first + k) (omega (arith, h.whole, place, fits.switch)) in
-      let parts : bits x.first k v + digit (slice_get v (x.first + k)) * 2 ^ k ≡ p + digit (Some closed) * 2 ^ k = sym (bits_more x.first k v) ∙ h.stands in
-      let both = split (2 ^ k) (bits x.first k v) p (digit (slice_get v (x.first + k))) (digit (Some closed)) (bits_below x.first k v) small (digit_small (slice_get v (x.first + k))) (digit_small (Some closed)) parts in
+      let parts : bits x.first k v + digit (slice_get v (x.first + k)) * 2 ^ k ≡ p + digit (Some closed) * 2 ^ k = sym
+      (bits_more x.first k v) ∙ h.stands in
+      let both = split (2 ^ k) (bits x.first k v) p (digit (slice_get v (x.first + k))) (digit (Some closed))
+      (bits_below x.first k v) small (digit_small (slice_get v (x.first + k))) (digit_small (Some closed)) parts in
       let same : b ≡ closed = digit_one b closed (sym (ap digit at) ∙ both.1) in (
         record { whole = h.whole; stands = both.0 },
         ap (slice_get v) place ∙ (at ∙ ap Some same),
       )
 
   -- ONE STEP ON
-  leads_on : (t p : ℕ) (closed : Bool) → LeadsHere x words i p → (bit : ℕ) → bit ≡ 2 ^ (f.switch.0 - x.first) → MayGo words f t closed → LeadsHere x words t (p + digit (Some closed) * bit)
+  leads_on : (t p : ℕ) (closed : Bool) → LeadsHere x words i p → (bit : ℕ) → bit ≡ 2 ^ (f.switch.0 - x.first)
+      → MayGo words f t closed → LeadsHere x words t (p + digit (Some closed) * bit)
   leads_on t p closed l bit is may =
       let place : f.switch.0 ≡ x.first + l.tested = l.before.step f listed in
       let power : bit ≡ 2 ^ l.tested = is ∙ ap (λ n. 2 ^ n) (omega arith) in
@@ -108,13 +123,21 @@ module _ (x : PartAlphabet) (words : List Dbpos) (shaped : IsShaped x) (i : ℕ)
       subst (λ n. LeadsHere x words t (p + digit (Some closed) * n)) (sym power) (record {
         tested = l.tested + 1;
         before = record {
-          step = λ g at. (let n = shaped.staged.next i f g closed listed (ap (slice_get x.forks) may.to ∙ at) in omega arith);
+          step = λ g at. (let n = shaped.staged.next i f g closed listed (ap (slice_get x.forks) may.to ∙ at) in
+              omega arith);
           index = λ past. (let n = shaped.staged.last i f closed listed (omega (arith, may.to)) in omega arith);
         };
-        small = bits_below_more (2 ^ l.tested) p (digit (Some closed)) (2 ^ (l.tested + 1)) l.small (digit_small (Some closed)) wide;
+        small = bits_below_more (2 ^ l.tested) p (digit (Some closed)) (2 ^ (l.tested + 1)) l.small (digit_small
+            (Some closed)) wide;
         leads = λ v h.
             let b = begins_before l.tested p closed v place l.small h in
-            linked_trans (Goes x.forks v) 0 i t (l.leads v b.0) (linked_one (Goes x.forks v) i t (record { fork = f; closed = closed; listed = listed; position = b.1; to = may.to }));
+            linked_trans (Goes x.forks v) 0 i t (l.leads v b.0) (linked_one (Goes x.forks v) i t (record {
+              fork = f;
+              closed = closed;
+              listed = listed;
+              position = b.1;
+              to = may.to;
+            }));
         agrees = λ v h k word b lt told at.
             let before = begins_before l.tested p closed v place l.small h in
             elim (cases_lt k l.tested) [
@@ -127,7 +150,8 @@ module _ (x : PartAlphabet) (words : List Dbpos) (shaped : IsShaped x) (i : ℕ)
             ];
       })
 
-  pub pass_on : (p bit : ℕ) (paths more : List (Option ℕ)) → IsNoted paths i p → bit ≡ 2 ^ (f.switch.0 - x.first) → NotesBoth f words p bit paths more → PathsTo x words i paths → PathsTo x words (i + 1) more
+  pub pass_on : (p bit : ℕ) (paths more : List (Option ℕ)) → IsNoted paths i p → bit ≡ 2 ^ (f.switch.0 - x.first)
+      → NotesBoth f words p bit paths more → PathsTo x words i paths → PathsTo x words (i + 1) more
   pass_on p bit paths more here is both h = record {
     len = both.len ∙ h.len;
     start = both.kept 0 h.start;
@@ -150,7 +174,8 @@ module _ (x : PartAlphabet) (words : List Dbpos) (shaped : IsShaped x) (i : ℕ)
         | inr w ↦ absurd (omega (arith, later a w.0 w.1.to))
       ]
 
-pub pass_over : (x : PartAlphabet) (words : List Dbpos) (i : ℕ) (paths : List (Option ℕ)) → (HasPath paths i → ⊥) → PathsTo x words i paths → PathsTo x words (i + 1) paths
+pub pass_over : (x : PartAlphabet) (words : List Dbpos) (i : ℕ) (paths : List (Option ℕ)) → (HasPath paths i → ⊥)
+    → PathsTo x words i paths → PathsTo x words (i + 1) paths
 pass_over x words i paths bare h = record {
   len = h.len;
   start = h.start;
@@ -162,7 +187,9 @@ pass_over x words i paths bare h = record {
 }
 
 -- the room that a position with one more bit needs
-pub room_for : (x : PartAlphabet) (words : List Dbpos) (i p : ℕ) (f : Fork) → IsShaped x → slice_get x.forks i ≡ Some f → LeadsHere x words i p → (x.first ≤ f.switch.0) × (f.switch.0 - x.first < 24) × (p + 2 ^ (f.switch.0 - x.first) < 33554432)
+pub room_for : (x : PartAlphabet) (words : List Dbpos) (i p : ℕ) (f : Fork) → IsShaped x
+    → slice_get x.forks i ≡ Some f → LeadsHere x words i p → (x.first ≤ f.switch.0) × (f.switch.0 - x.first < 24)
+    × (p + 2 ^ (f.switch.0 - x.first) < 33554432)
 room_for x words i p f shaped listed l =
     let inside = shaped.staged.inside i f listed in
     let place : f.switch.0 ≡ x.first + l.tested = l.before.step f listed in
@@ -174,7 +201,9 @@ room_for x words i p f shaped listed l =
     let power : 2 ^ (f.switch.0 - x.first) ≡ 2 ^ l.tested = ap (λ n. 2 ^ n) same in
     (inside.0, omega arith, omega (arith, l.small))
 
-pub paths_start : (x : PartAlphabet) (words : List Dbpos) (paths : List (Option ℕ)) → IsShaped x → length paths ≡ length x.forks + length x.letters → ((t p : ℕ) → IsNoted paths t p → ⊥) → PathsTo x words 0 (slice_set paths 0 (Some 0))
+pub paths_start : (x : PartAlphabet) (words : List Dbpos) (paths : List (Option ℕ)) → IsShaped x
+    → length paths ≡ length x.forks + length x.letters → ((t p : ℕ) → IsNoted paths t p → ⊥)
+    → PathsTo x words 0 (slice_set paths 0 (Some 0))
 paths_start x words paths shaped len none =
     let one = notes_one 0 0 paths (omega (arith, shaped.some)) in
     record {
@@ -184,7 +213,10 @@ paths_start x words paths shaped len none =
         | inl old ↦ absurd (none t p old)
         | inr w ↦ subst (λ n. LeadsHere x words n p) w.1 (subst (λ n. LeadsHere x words 0 n) w.2 (record {
           tested = 0;
-          before = record { step = λ f at. omega (arith, shaped.staged.start f at); index = λ past. sym (shaped.staged.none (omega arith)) };
+          before = record {
+            step = λ f at. omega (arith, shaped.staged.start f at);
+            index = λ past. sym (shaped.staged.none (omega arith));
+          };
           small = omega arith;
           leads = λ v h. linked_self (Goes x.forks v) 0;
           agrees = λ v h k word b lt. absurd (omega arith);
@@ -194,11 +226,13 @@ paths_start x words paths shaped len none =
     }
 
 -- a number without a position
-pub push_none : (paths more : List (Option ℕ)) → more ≡ paths ++ None ∷ [] → ((t p : ℕ) → IsNoted paths t p → ⊥) → (t p : ℕ) → IsNoted more t p → ⊥
-push_none paths more e none t p m = elim (slice_get-push paths None (Some p) t (subst (λ (l : List (Option ℕ)). IsNoted l t p) e m)) [
-  | inl old ↦ none t p old
-  | inr new ↦ cc (new.1)
-]
+pub push_none : (paths more : List (Option ℕ)) → more ≡ paths ++ None ∷ [] → ((t p : ℕ) → IsNoted paths t p → ⊥)
+    → (t p : ℕ) → IsNoted more t p → ⊥
+push_none paths more e none t p m = elim (slice_get-push paths None (Some p) t (subst (λ (l : List
+    (Option ℕ)). IsNoted l t p) e m)) [
+      | inl old ↦ none t p old
+      | inr new ↦ cc (new.1)
+    ]
 
 -- What is known while the noted numbers after some steps are marked.
 pub record MarkedSoFar (paths : List (Option ℕ)) (steps at : ℕ) (marks : List Bool) : Type 0 where
@@ -206,7 +240,8 @@ pub record MarkedSoFar (paths : List (Option ℕ)) (steps at : ℕ) (marks : Lis
   pub noted : (k : ℕ) → slice_get marks k ≡ Some true → HasPath paths (steps + k)
   pub marked : (k : ℕ) → k < length marks → HasPath paths (steps + k) → slice_get marks k ≡ Some true
 
-pub marked_none : (paths : List (Option ℕ)) (steps : ℕ) (marks : List Bool) → marks ≡ [] → MarkedSoFar paths steps steps marks
+pub marked_none : (paths : List (Option ℕ)) (steps : ℕ) (marks : List Bool) → marks ≡ []
+    → MarkedSoFar paths steps steps marks
 marked_none paths steps marks e =
     let none : length marks ≡ 0 = ap length e in
     record {
@@ -219,25 +254,33 @@ marked_by : (o : Option ℕ) (b : Bool) → b ≡ is_some o → b ≡ true → (
 marked_by None b e t = absurd (let no : true ≡ false = sym t ∙ e in cc)
 marked_by (Some p) b e t = (p, refl)
 
-pub marked_more : (paths : List (Option ℕ)) (steps at : ℕ) (marks more : List Bool) (o : Option ℕ) (b : Bool) → slice_get paths at ≡ Some o → b ≡ is_some o → more ≡ marks ++ b ∷ [] → MarkedSoFar paths steps at marks → MarkedSoFar paths steps (at + 1) more
-marked_more paths steps at marks more o b o_at is e h = subst (λ (l : List Bool). MarkedSoFar paths steps (at + 1) l) (sym e) (record {
-  len = omega (arith, h.len, length_push marks b);
-  noted = λ k m. elim (slice_get-push marks b true k m) [
-    | inl old ↦ h.noted k old
-    | inr new ↦
-        let (p, o_is) = marked_by o b is new.1 in
-        let place : at ≡ steps + k = omega (arith, h.len, new.0) in
-        subst (λ n. HasPath paths n) place (p, o_at ∙ ap Some o_is)
-  ];
-  marked = λ k lt m. elim (cases_lt k (length marks)) [
-    | inl less ↦ get_push_old marks b true k (h.marked k less m)
-    | inr past ↦
-        let place : length marks ≡ k = omega (arith, length_push marks b) in
-        let o_is : o ≡ Some m.0 = cc (o_at, m.1, ap (slice_get paths) (let here : at ≡ steps + k = omega (arith, h.len) in here)) in
-        let b_is : b ≡ true = is ∙ ap is_some o_is in
-        subst (λ n. slice_get (marks ++ b ∷ []) n ≡ Some true) place (get_push_new marks b ∙ ap Some b_is)
-  ];
-})
+pub marked_more : (paths : List (Option ℕ)) (steps at : ℕ) (marks more : List Bool) (o : Option ℕ) (b : Bool)
+    → slice_get paths at ≡ Some o → b ≡ is_some o → more ≡ marks ++ b ∷ [] → MarkedSoFar paths steps at marks
+    → MarkedSoFar paths steps (at + 1) more
+marked_more paths steps at marks more o b o_at is e h = subst (λ (l : List Bool). MarkedSoFar paths steps (at + 1) l)
+    (sym e) (record {
+      len = omega (arith, h.len, length_push marks b);
+      noted = λ k m. elim (slice_get-push marks b true k m) [
+        | inl old ↦ h.noted k old
+        | inr new ↦
+            let (p, o_is) = marked_by o b is new.1 in
+            let place : at ≡ steps + k = omega (arith, h.len, new.0) in
+            subst (λ n. HasPath paths n) place (p, o_at ∙ ap Some o_is)
+      ];
+      marked = λ k lt m. elim (cases_lt k (length marks)) [
+        | inl less ↦ get_push_old marks b true k (h.marked k less m)
+        | inr past ↦
+            let place : length marks ≡ k = omega (arith, length_push marks b) in
+            let o_is : o ≡ Some m.0 = cc (
+              o_at,
+              m.1,
+              ap (slice_get paths) (let here : at ≡ steps + k = omega
+                  (arith, h.len) in here),
+            ) in
+            let b_is : b ≡ true = is ∙ ap is_some o_is in
+            subst (λ n. slice_get (marks ++ b ∷ []) n ≡ Some true) place (get_push_new marks b ∙ ap Some b_is)
+      ];
+    })
 
 pub written_back : (new old : List (Option ℕ)) (n : ℕ) → n ≡ length new → take n (new ++ drop (length new) old) ≡ new
 written_back new old n e = let le : n ≤ length new = omega arith in grind (arith, common_steps)

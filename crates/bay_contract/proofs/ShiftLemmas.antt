@@ -1,5 +1,6 @@
 -- The same steps in a part whose switches begin elsewhere.
-use Rattle.std.proofs.Common.{◌≡◌, ℕ, ◌+◌, ◌*◌, ◌<◌, ◌≤◌, ◌⊎◌, zero, suc, Option, List, [], ◌∷◌, ◌++◌, length, map, slice_get, slice_index, Some, refl, sym, ◌∙◌, ap, subst, inl, inr, arith, add-one}
+use Rattle.std.proofs.Common.{◌≡◌, ℕ, ◌+◌, ◌≤◌, zero, suc, List, [], ◌∷◌, ◌++◌, length, map, slice_get, Some, sym}
+use Rattle.std.proofs.Common.{◌∙◌, ap, inl, inr, arith, add-one}
 use Rattle.std.specs.Prelude.{option_map, take}
 use Rattle.std.proofs.lemmas.Option.{slice_get-map}
 use Rattle.std.proofs.lemmas.List.{length-map, take_all}
@@ -10,10 +11,12 @@ use Rattle.bay_contract.proofs.ForkLemmas.{fork_at}
 use Rattle.bay_contract.proofs.TableLemmas.{from_map}
 
 -- an entry of a list of images
-pub at_map : {X Y : Type 0} (f : X → Y) (xs : List X) (i : ℕ) (x : X) → slice_get xs i ≡ Some x → slice_get (map f xs) i ≡ Some (f x)
+pub at_map : {X Y : Type 0} (f : X → Y) (xs : List X) (i : ℕ) (x : X) → slice_get xs i ≡ Some x
+    → slice_get (map f xs) i ≡ Some (f x)
 at_map f xs i x at = slice_get-map f xs i ∙ ap (option_map f) at
 
-pub forked_shifted : (first j count : ℕ) (targets : List ℕ) (old new : List Fork) → Forked j count targets old new → Forked (first + j) count targets (map (shifted first) old) (map (shifted first) new)
+pub forked_shifted : (first j count : ℕ) (targets : List ℕ) (old new : List Fork) → Forked j count targets old new
+    → Forked (first + j) count targets (map (shifted first) old) (map (shifted first) new)
 forked_shifted first j count targets old new h =
     let eo = length-map old (shifted first) in
     let en = length-map new (shifted first) in
@@ -25,7 +28,8 @@ forked_shifted first j count targets old new h =
       added = λ i lt.
           let there = at_map (shifted first) new (length old + i) (fork_at j (length new) targets i) (h.added i lt) in
           let at : length (map (shifted first) old) + i ≡ length old + i = omega arith in
-          let same : shifted first (fork_at j (length new) targets i) ≡ fork_at (first + j) (length (map (shifted first) new)) targets i = ap (λ n. fork_at (first + j) n targets i) (sym en) in
+          let same : shifted first (fork_at j (length new) targets i) ≡ fork_at (first + j) (length (map
+          (shifted first) new)) targets i = ap (λ n. fork_at (first + j) n targets i) (sym en) in
           ap (slice_get (map (shifted first) new)) at ∙ (there ∙ ap Some same);
       none_else = λ a f at.
           let (g, at_g, is) = from_map (shifted first) new a f at in
@@ -36,13 +40,16 @@ forked_shifted first j count targets old new h =
     }
 
 -- the images of the first entries, one more
-images_more : {X Y : Type 0} (f : X → Y) (xs : List X) (i : ℕ) (x : X) → slice_get xs i ≡ Some x → map f (take (suc i) xs) ≡ map f (take i xs) ++ f x ∷ []
+images_more : {X Y : Type 0} (f : X → Y) (xs : List X) (i : ℕ) (x : X) → slice_get xs i ≡ Some x
+    → map f (take (suc i) xs) ≡ map f (take i xs) ++ f x ∷ []
 images_more f [] i x e = cc
 images_more f (y ∷ xs) zero x e = (let same : y ≡ x = cc in ap (λ z. f z ∷ []) same)
 images_more f (y ∷ xs) (suc i) x e = ap (λ l. f y ∷ l) (images_more f xs i x e)
 
-pub images_push : {X Y : Type 0} (f : X → Y) (xs : List X) (i : ℕ) (x : X) (new : List Y) → slice_get xs i ≡ Some x → new ≡ map f (take i xs) ++ f x ∷ [] → new ≡ map f (take (i + 1) xs)
+pub images_push : {X Y : Type 0} (f : X → Y) (xs : List X) (i : ℕ) (x : X) (new : List Y) → slice_get xs i ≡ Some x
+    → new ≡ map f (take i xs) ++ f x ∷ [] → new ≡ map f (take (i + 1) xs)
 images_push f xs i x new at e = e ∙ (sym (images_more f xs i x at) ∙ ap (λ n. map f (take n xs)) (sym (add-one i)))
 
-pub images_all : {X Y : Type 0} (f : X → Y) (xs : List X) (n : ℕ) (new : List Y) → length xs ≤ n → new ≡ map f (take n xs) → new ≡ map f xs
+pub images_all : {X Y : Type 0} (f : X → Y) (xs : List X) (n : ℕ) (new : List Y) → length xs ≤ n
+    → new ≡ map f (take n xs) → new ≡ map f xs
 images_all f xs n new all e = e ∙ ap (map f) (take_all n xs all)

@@ -1,36 +1,38 @@
 -- What the noted positions say at the end.
-use Rattle.std.proofs.Common.{◌≡◌, ◌≢◌, ℕ, ◌+◌, ◌-◌, ◌^◌, ◌<◌, ◌≤◌, ◌↔◌, Bool, true, false, Option, None, List, [], ◌∷◌, length, slice_get, get_or, Some, MatchOption, IfSome, refl, sym, ◌∙◌, ap, subst, arith}
-use Rattle.std.proofs.lemmas.Option.{slice_get_within, slice_get-get_or}
+use Rattle.std.proofs.Common.{◌≡◌, ℕ, ◌+◌, ◌-◌, ◌^◌, ◌<◌, ◌↔◌, Bool, Option, None, List, [], ◌∷◌, length, slice_get}
+use Rattle.std.proofs.Common.{Some, MatchOption, IfSome, sym, ◌∙◌, ap, subst, arith}
+use Rattle.std.proofs.lemmas.Option.{slice_get_within}
 use Rattle.ilk_base.specs.declared.words.Dbpos.{Dbpos}
-use Rattle.station_graph.specs.Connection.{LeadsTo as Chain, Linked, a_switch}
+use Rattle.station_graph.specs.Connection.{LeadsTo as Chain, a_switch}
 use Rattle.station_graph.specs.Sharing.{OfPart}
 use Rattle.station_graph.specs.Alike.{IsVector}
-use Rattle.station_graph.specs.Diagram.{Diagram, AreSwitchesOf}
-use Rattle.double_points.specs.Words.{Agrees, BayAgrees}
-use Rattle.bay_contract.specs.declared.fork.Fork.{Fork}
-use Rattle.bay_contract.specs.Layers.{bits}
-use Rattle.bay_contract.specs.Diagrams.{branch, Goes, LeadsTo}
-use Rattle.bay_contract.specs.PartAlphabets.{PartAlphabet, Alphabets, part_at, first_switch_of, count_of, StandsAt, IsPosition}
+use Rattle.station_graph.specs.Diagram.{Diagram}
+use Rattle.double_points.specs.Words.{BayAgrees}
+use Rattle.bay_contract.specs.Diagrams.{Goes}
+use Rattle.bay_contract.specs.PartAlphabets.{PartAlphabet, Alphabets, part_at, first_switch_of, count_of, StandsAt}
 use Rattle.bay_contract.specs.Shapes.{IsShaped}
-use Rattle.bay_contract.specs.Paths.{BeginsSo, TestedAgree, LeadsHere, MayGo, IsNoted, HasPath, PathsTo, MayLead, IsWay}
-use Rattle.bay_contract.specs.Alphabets.{CanHave, IsAgreeing, IsAlphabet, AreAlphabets, HasIndex}
+use Rattle.bay_contract.specs.Paths.{BeginsSo, TestedAgree, MayGo, IsNoted, HasPath, PathsTo, MayLead, IsWay}
+use Rattle.bay_contract.specs.Alphabets.{CanHave, IsAgreeing, IsAlphabet}
 use Rattle.bay_contract.proofs.NextLemmas.{some_at}
 use Rattle.bay_contract.proofs.PutLemmas.{bits_some}
 
-module _ (x : PartAlphabet) (words : List Dbpos) (shaped : IsShaped x) (all : length words ≡ x.switches) (paths : List (Option ℕ)) (h : PathsTo x words (length x.forks) paths) where
+module _ (x : PartAlphabet) (words : List Dbpos) (shaped : IsShaped x) (all : length words ≡ x.switches) (paths : List
+    (Option ℕ)) (h : PathsTo x words (length x.forks) paths) where
   -- a noted position is a way
   noted_way : (i p : ℕ) → IsNoted paths (length x.forks + i) p → IsWay x words i p
   noted_way i p n =
       let l = h.sound (length x.forks + i) p n in
       let e : l.tested ≡ x.count = l.before.index (omega arith) in
-      let back : (v : List Bool) → BeginsSo x x.count p v → BeginsSo x l.tested p v = λ v b. subst (λ k. BeginsSo x k p v) (sym e) b in
+      let back : (v : List Bool) → BeginsSo x x.count p v → BeginsSo x l.tested p v = λ v b. subst
+      (λ k. BeginsSo x k p v) (sym e) b in
       record {
         small = subst (λ k. p < 2 ^ k) e l.small;
         agrees = λ v b. subst (λ k. TestedAgree x words k v) e (l.agrees v (back v b));
         leads = λ v b. l.leads v (back v b);
       }
 
-  may_go : (v : List Bool) → length v ≡ x.switches → TestedAgree x words x.count v → (a b : ℕ) → (g : Goes x.forks v a b) → MayGo words g.fork b g.closed
+  may_go : (v : List Bool) → length v ≡ x.switches → TestedAgree x words x.count v → (a b : ℕ)
+      → (g : Goes x.forks v a b) → MayGo words g.fork b g.closed
   may_go v whole agree a b g =
       let inside = shaped.staged.inside a g.fork g.listed in
       let (word, told) = some_at words g.fork.switch.0 (omega (arith, shaped.within, inside.1)) in
@@ -38,15 +40,18 @@ module _ (x : PartAlphabet) (words : List Dbpos) (shaped : IsShaped x) (all : le
       record {
         word = word;
         told = told;
-        agrees = agree (g.fork.switch.0 - x.first) word g.closed (omega (arith, inside.0, inside.1)) (ap (slice_get words) place ∙ told) (ap (slice_get v) place ∙ g.position);
+        agrees = agree (g.fork.switch.0 - x.first) word g.closed (omega (arith, inside.0, inside.1)) (ap
+            (slice_get words) place ∙ told) (ap (slice_get v) place ∙ g.position);
         to = g.to;
       }
 
-  chain_noted : (v : List Bool) → length v ≡ x.switches → TestedAgree x words x.count v → (a : ℕ) (ns : List ℕ) (b : ℕ) → HasPath paths a → Chain (Goes x.forks v) a ns b → HasPath paths b
+  chain_noted : (v : List Bool) → length v ≡ x.switches → TestedAgree x words x.count v
+      → (a : ℕ) (ns : List ℕ) (b : ℕ) → HasPath paths a → Chain (Goes x.forks v) a ns b → HasPath paths b
   chain_noted v whole agree a [] b m c = subst (λ n. HasPath paths n) c m
   chain_noted v whole agree a (n ∷ ns) b m c =
       let g = c.0 in
-      chain_noted v whole agree n ns b (h.done a n g.fork g.closed (slice_get_within x.forks a g.fork g.listed) m g.listed (may_go v whole agree a n g)) c.1
+      chain_noted v whole agree n ns b (h.done a n g.fork g.closed
+      (slice_get_within x.forks a g.fork g.listed) m g.listed (may_go v whole agree a n g)) c.1
 
   -- WHERE A POSITION IS NOTED
   pub noted_exactly : (i : ℕ) → HasPath paths (length x.forks + i) ↔ MayLead x words i
@@ -59,17 +64,20 @@ module _ (x : PartAlphabet) (words : List Dbpos) (shaped : IsShaped x) (all : le
     λ m. chain_noted m.vector m.whole m.agrees 0 m.leads.after (length x.forks + i) h.start m.leads.leads,
   )
 
-  pub found_exactly : (i : ℕ) (o : Option ℕ) → slice_get paths (length x.forks + i) ≡ Some o → MatchOption o (¬ MayLead x words i) (IsWay x words i)
+  pub found_exactly : (i : ℕ) (o : Option ℕ) → slice_get paths (length x.forks + i) ≡ Some o
+      → MatchOption o (¬ MayLead x words i) (IsWay x words i)
   found_exactly i None at = λ m. (let n = (noted_exactly i).1 m in cc (at, n.1))
   found_exactly i (Some p) at = noted_way i p at
 
 -- a position that is found is one of the part
-pub found_small : (x : PartAlphabet) (words : List Dbpos) (i : ℕ) (o : Option ℕ) → MatchOption o (¬ MayLead x words i) (IsWay x words i) → IfSome o (λ n. n < 2 ^ x.count)
+pub found_small : (x : PartAlphabet) (words : List Dbpos) (i : ℕ) (o : Option ℕ) → MatchOption o (¬ MayLead x words i)
+    (IsWay x words i) → IfSome o (λ n. n < 2 ^ x.count)
 found_small x words i None h = tt
 found_small x words i (Some p) h = h.small
 
 -- in the words of the station
-module _ (d : Diagram) (a : Alphabets) (part : ℕ) (is : IsAlphabet d a part) (words : List Dbpos) (switches : (part_at a part).switches ≡ length d.switches) where
+module _ (d : Diagram) (a : Alphabets) (part : ℕ) (is : IsAlphabet d a part) (words : List Dbpos) (switches :
+    (part_at a part).switches ≡ length d.switches) where
   parts_own : (k : ℕ) → k < count_of a part → OfPart d part (a_switch (first_switch_of a part + k))
   parts_own k lt =
       let (x, at) = some_at d.switches (first_switch_of a part + k) (omega (arith, is.switches.within)) in
@@ -79,26 +87,39 @@ module _ (d : Diagram) (a : Alphabets) (part : ℕ) (is : IsAlphabet d a part) (
   agrees_in v agree i word closed own told at =
       let those = (is.switches.those i own.0 own.1).0 own.2 in
       let place : first_switch_of a part + (i - first_switch_of a part) ≡ i = omega (arith, those.0) in
-      agree (i - first_switch_of a part) word closed (omega (arith, those.0, those.1)) (ap (slice_get words) place ∙ told) (ap (slice_get v) place ∙ at)
+      agree (i - first_switch_of a part) word closed (omega (arith, those.0, those.1)) (ap (slice_get words) place
+      ∙ told) (ap (slice_get v) place ∙ at)
 
   agrees_out : (v : List Bool) → BayAgrees d part words v → TestedAgree (part_at a part) words (count_of a part) v
   agrees_out v agree k word closed lt told at = agree (first_switch_of a part + k) word closed (parts_own k lt) told at
 
   pub can_have : (i : ℕ) → MayLead (part_at a part) words i ↔ CanHave d a part words i
   can_have i = (
-    λ m. record { vector = m.vector; whole = m.whole ∙ switches; agrees = agrees_in m.vector m.agrees; has = (is.leads m.vector i (m.whole ∙ switches)).1 m.leads },
-    λ c. record { vector = c.vector; whole = c.whole ∙ sym switches; agrees = agrees_out c.vector c.agrees; leads = (is.leads c.vector i c.whole).0 c.has },
+    λ m. record {
+      vector = m.vector;
+      whole = m.whole ∙ switches;
+      agrees = agrees_in m.vector m.agrees;
+      has = (is.leads m.vector i (m.whole ∙ switches)).1 m.leads;
+    },
+    λ c. record {
+      vector = c.vector;
+      whole = c.whole ∙ sym switches;
+      agrees = agrees_out c.vector c.agrees;
+      leads = (is.leads c.vector i c.whole).0 c.has;
+    },
   )
 
   pub agreeing_way : (i p : ℕ) → IsWay (part_at a part) words i p → IsAgreeing d a part words i p
   agreeing_way i p w =
-      let begins : (v : List Bool) → IsVector d v → StandsAt a part p v → BeginsSo (part_at a part) (count_of a part) p v = λ v vec s. record { whole = vec ∙ sym switches; stands = s } in
+      let begins : (v : List Bool) → IsVector d v → StandsAt a part p v → BeginsSo (part_at a part)
+      (count_of a part) p v = λ v vec s. record { whole = vec ∙ sym switches; stands = s } in
       record {
         position = w.small;
         agrees = λ v vec s. agrees_in v (w.agrees v (begins v vec s));
         has = λ v vec s. (is.leads v i vec).1 (w.leads v (begins v vec s));
       }
 
-  pub agreeing_found : (i : ℕ) (o : Option ℕ) → MatchOption o (¬ MayLead (part_at a part) words i) (IsWay (part_at a part) words i) → MatchOption o (¬ CanHave d a part words i) (IsAgreeing d a part words i)
+  pub agreeing_found : (i : ℕ) (o : Option ℕ) → MatchOption o (¬ MayLead (part_at a part) words i) (IsWay
+      (part_at a part) words i) → MatchOption o (¬ CanHave d a part words i) (IsAgreeing d a part words i)
   agreeing_found i None none = λ c. none ((can_have i).1 c)
   agreeing_found i (Some p) way = agreeing_way i p way

@@ -1,6 +1,6 @@
 -- The alphabet of a part: the list of its distinct contractions on the nodes that it shares, each placed
 -- by the least position that gives it.
-use Rattle.std.specs.Prelude.{◌≡◌, ℕ, ◌<◌, ◌≤◌, ◌↔◌, Bool, true, List, length, slice_get, slice_index, sum, Some}
+use Rattle.std.specs.Prelude.{◌≡◌, ℕ, ◌<◌, ◌≤◌, ◌↔◌, Bool, true, List, length, slice_get, Some}
 use Rattle.ilk_base.specs.declared.words.Dbpos.{Dbpos}
 use Rattle.double_points.specs.Words.{BayAgrees}
 use Rattle.station_graph.specs.Diagram.{Diagram, AreSwitchesOf, part_count}
@@ -10,7 +10,8 @@ use Rattle.contraction.specs.Answers.{Answers, IsContraction, Keeps, SameGap, Sa
 use Rattle.contraction.specs.Stands.{StandsFor}
 use Rattle.bay_contract.specs.Diagrams.{LeadsTo}
 use Rattle.bay_contract.specs.Counting.{AreStepSizes}
-use Rattle.bay_contract.specs.PartAlphabets.{Alphabets, letters_of, size_of, example_of, forks_of, first_switch_of, count_of, IsPosition, StandsAt, rank_of}
+use Rattle.bay_contract.specs.PartAlphabets.{Alphabets, letters_of, size_of, example_of, forks_of, first_switch_of}
+use Rattle.bay_contract.specs.PartAlphabets.{count_of, IsPosition, StandsAt, rank_of}
 
 -- A contraction on the nodes that the part shares.
 pub record IsLetter (d : Diagram) (part : ℕ) (c : Answers) : Type 0 where
@@ -28,7 +29,8 @@ pub record HasIndex (d : Diagram) (a : Alphabets) (part index : ℕ) (v : List B
 pub record IsExample (d : Diagram) (a : Alphabets) (part index n : ℕ) : Type 0 where
   pub position : IsPosition a part n
   pub has : (v : List Bool) → IsVector d v → StandsAt a part n v → HasIndex d a part index v
-  pub least : (v w : List Bool) → IsVector d v → IsVector d w → HasIndex d a part index v → StandsAt a part n w → rank_of a part w ≤ rank_of a part v
+  pub least : (v w : List Bool) → IsVector d v → IsVector d w → HasIndex d a part index v → StandsAt a part n w
+      → rank_of a part w ≤ rank_of a part v
 
 -- The alphabet of a part: no two letters answer the same, the part has an index in each vector, and each
 -- letter has its example, in whose order they stand. Its forks lead each vector to its index.
@@ -37,10 +39,13 @@ pub record IsAlphabet (d : Diagram) (a : Alphabets) (part : ℕ) : Type 0 where
   pub some : 0 < size_of a part
   pub few : size_of a part ≤ 255
   pub letters : (i : ℕ) (c : Answers) → slice_get (letters_of a part) i ≡ Some c → IsLetter d part c
-  pub apart : (i k : ℕ) (x y : Answers) → slice_get (letters_of a part) i ≡ Some x → slice_get (letters_of a part) k ≡ Some y → SameGap x y → SameLoad x y → i ≡ k
+  pub apart : (i k : ℕ) (x y : Answers) → slice_get (letters_of a part) i ≡ Some x
+      → slice_get (letters_of a part) k ≡ Some y → SameGap x y → SameLoad x y → i ≡ k
   pub indexed : (v : List Bool) → IsVector d v → (i : ℕ) × HasIndex d a part i v
   pub examples : (i : ℕ) → i < size_of a part → IsExample d a part i (example_of a part i)
-  pub ordered : (i k : ℕ) (v w : List Bool) → i < k → k < size_of a part → IsVector d v → IsVector d w → StandsAt a part (example_of a part i) v → StandsAt a part (example_of a part k) w → rank_of a part v < rank_of a part w
+  pub ordered : (i k : ℕ) (v w : List Bool) → i < k → k < size_of a part → IsVector d v → IsVector d w
+      → StandsAt a part (example_of a part i) v → StandsAt a part (example_of a part k) w
+      → rank_of a part v < rank_of a part w
   pub given : (i : ℕ) → i < size_of a part → (v : List Bool) × IsVector d v × StandsAt a part (example_of a part i) v
   pub leads : (v : List Bool) (i : ℕ) → IsVector d v → HasIndex d a part i v ↔ LeadsTo (forks_of a part) v i
   pub steps : AreStepSizes d part (length (forks_of a part))

@@ -1,5 +1,6 @@
 -- Layers of values, and what is built of the last one.
-use Rattle.std.specs.Prelude.{◌≡◌, ℕ, ◌+◌, ◌*◌, ◌/◌, ◌%◌, ◌<◌, ◌≤◌, ◌⊎◌, ◌↔◌, Bool, List, length, slice_get, slice_index, Some}
+use Rattle.std.specs.Prelude.{◌≡◌, ℕ, ◌+◌, ◌*◌, ◌/◌, ◌%◌, ◌<◌, ◌≤◌, ◌⊎◌, ◌↔◌, Bool, List, length, slice_get}
+use Rattle.std.specs.Prelude.{slice_index, Some}
 use Rattle.station_graph.specs.Diagram.{Diagram, AreSwitchesOf}
 use Rattle.station_graph.specs.Nodes.{Rises}
 use Rattle.station_graph.specs.Sharing.{OfPart, IsShared}
@@ -13,7 +14,8 @@ use Rattle.bay_contract.specs.PartAlphabets.{PartAlphabet}
 use Rattle.bay_contract.specs.Sorting.{AreApart, AllKeepAt}
 
 -- The vector leads to a value that stands for the layer in it, and whose rank is not above its own.
-pub record Stops (d : Diagram) (part first j : ℕ) (values : List Answers) (ranks : List ℕ) (forks : List Fork) (v : List Bool) : Type 0 where
+pub record Stops (d : Diagram) (part first j : ℕ) (values : List Answers) (ranks : List ℕ) (forks : List Fork)
+    (v : List Bool) : Type 0 where
   pub index : ℕ
   pub value : Answers
   pub listed : slice_get values index ≡ Some value
@@ -22,13 +24,15 @@ pub record Stops (d : Diagram) (part first j : ℕ) (values : List Answers) (ran
   pub least : slice_index ranks index ≤ rank first j v
 
 -- The values of a layer with the least rank of each, and the steps that lead to them.
-pub record IsLayer (d : Diagram) (part first j : ℕ) (values : List Answers) (ranks : List ℕ) (forks : List Fork) : Type 0 where
+pub record IsLayer (d : Diagram) (part first j : ℕ) (values : List Answers) (ranks : List ℕ)
+    (forks : List Fork) : Type 0 where
   pub keep : AllKeepAt d part (first + j) values
   pub apart : AreApart values
   pub stops : (v : List Bool) → IsVector d v → Stops d part first j values ranks forks v
   pub ranks_count : length ranks ≡ length values
   pub rises : Rises ranks
-  pub ranked : (i : ℕ) → i < length values → (v : List Bool) → IsVector d v → rank first j v ≡ slice_index ranks i → LeadsTo forks v i
+  pub ranked : (i : ℕ) → i < length values → (v : List Bool) → IsVector d v → rank first j v ≡ slice_index ranks i
+      → LeadsTo forks v i
   pub rank_in : (i : ℕ) → i < length values → (v : List Bool) × IsVector d v × (rank first j v ≡ slice_index ranks i)
   pub fit : ForksFit (length d.switches) (length values) forks
   pub staged : AreStaged first j forks
@@ -37,22 +41,30 @@ pub record IsLayer (d : Diagram) (part first j : ℕ) (values : List Answers) (r
 pub record Forked (switch count : ℕ) (targets : List ℕ) (old new : List Fork) : Type 0 where
   pub len : length new ≡ length old + count
   pub kept : (a : ℕ) (f : Fork) → slice_get old a ≡ Some f → slice_get new a ≡ Some f
-  pub added : (i : ℕ) → i < count → slice_get new (length old + i) ≡ Some (record { switch = record { 0 = switch }; off = length new + slice_index targets (2 * i); on = length new + slice_index targets (2 * i + 1) })
-  pub none_else : (a : ℕ) (f : Fork) → slice_get new a ≡ Some f → (slice_get old a ≡ Some f) ⊎ ((length old ≤ a) × (a < length new))
+  pub added : (i : ℕ) → i < count → slice_get new (length old + i) ≡ Some (record {
+    switch = record { 0 = switch };
+    off = length new + slice_index targets (2 * i);
+    on = length new + slice_index targets (2 * i + 1);
+  })
+  pub none_else : (a : ℕ) (f : Fork) → slice_get new a ≡ Some f → (slice_get old a ≡ Some f) ⊎ ((length old ≤ a)
+      × (a < length new))
 
 -- The rank of each new value is that of the value from which its first place goes on, with one digit more.
 pub record Ranked (last origins ranks : List ℕ) : Type 0 where
   pub len : length ranks ≡ length origins
-  pub told : (n : ℕ) → n < length origins → slice_index ranks n ≡ 2 * slice_index last (slice_index origins n / 2) + slice_index origins n % 2
+  pub told : (n : ℕ) → n < length origins → slice_index ranks n ≡ 2 * slice_index last
+      (slice_index origins n / 2) + slice_index origins n % 2
 
 -- The examples are the same positions as the ranks, as bits.
 abbrev pub AreExamples : Diagram → ℕ → ℕ → List ℕ → List ℕ → Type 0
 AreExamples d first count ranks examples =
-    (i : ℕ) (v : List Bool) → i < length ranks → IsVector d v → (rank first count v ≡ slice_index ranks i) ↔ (bits first count v ≡ slice_index examples i)
+    (i : ℕ) (v : List Bool) → i < length ranks → IsVector d v → (rank first count v ≡ slice_index ranks i) ↔
+    (bits first count v ≡ slice_index examples i)
 
 -- What is built for a part: its distinct contractions on the nodes that it shares, each with its least
 -- position as bits, and the steps that lead each vector to one of them.
-pub record IsBuilt (d : Diagram) (part first count : ℕ) (values : List Answers) (examples : List ℕ) (forks : List Fork) : Type 0 where
+pub record IsBuilt (d : Diagram) (part first count : ℕ) (values : List Answers) (examples : List ℕ)
+    (forks : List Fork) : Type 0 where
   pub switches : AreSwitchesOf d part first count
   pub size : (0 < length values) × (length values ≤ 255)
   pub contractions : (i : ℕ) (c : Answers) → slice_get values i ≡ Some c → IsContraction c
@@ -60,12 +72,18 @@ pub record IsBuilt (d : Diagram) (part first count : ℕ) (values : List Answers
   pub kept : (i : ℕ) (c : Answers) → slice_get values i ≡ Some c → (n : ℕ) → Keeps c.kept n ↔ IsShared d part n
   pub leads : (v : List Bool) → IsVector d v → (i : ℕ) × (i < length values) × LeadsTo forks v i
   pub one : (v : List Bool) (i k : ℕ) → LeadsTo forks v i → LeadsTo forks v k → i ≡ k
-  pub stands : (v : List Bool) (i : ℕ) (c : Answers) → IsVector d v → LeadsTo forks v i → slice_get values i ≡ Some c → StandsFor (OfPart d part) d v c
+  pub stands : (v : List Bool) (i : ℕ) (c : Answers) → IsVector d v → LeadsTo forks v i → slice_get values i ≡ Some c
+      → StandsFor (OfPart d part) d v c
   pub examples_count : length examples ≡ length values
-  pub example_some : (i : ℕ) → i < length values → (v : List Bool) × IsVector d v × (bits first count v ≡ slice_index examples i)
-  pub example : (i : ℕ) (v : List Bool) → i < length values → IsVector d v → bits first count v ≡ slice_index examples i → LeadsTo forks v i
-  pub least : (i : ℕ) (v w : List Bool) → IsVector d v → IsVector d w → LeadsTo forks v i → bits first count w ≡ slice_index examples i → rank first count w ≤ rank first count v
-  pub ordered : (i k : ℕ) (v w : List Bool) → i < k → k < length values → IsVector d v → IsVector d w → bits first count v ≡ slice_index examples i → bits first count w ≡ slice_index examples k → rank first count v < rank first count w
+  pub example_some : (i : ℕ) → i < length values → (v : List Bool) × IsVector d v
+      × (bits first count v ≡ slice_index examples i)
+  pub example : (i : ℕ) (v : List Bool) → i < length values → IsVector d v
+      → bits first count v ≡ slice_index examples i → LeadsTo forks v i
+  pub least : (i : ℕ) (v w : List Bool) → IsVector d v → IsVector d w → LeadsTo forks v i
+      → bits first count w ≡ slice_index examples i → rank first count w ≤ rank first count v
+  pub ordered : (i k : ℕ) (v w : List Bool) → i < k → k < length values → IsVector d v → IsVector d w
+      → bits first count v ≡ slice_index examples i → bits first count w ≡ slice_index examples k
+      → rank first count v < rank first count w
   pub fit : ForksFit (length d.switches) (length values) forks
 
 -- This alphabet is built for the part.
@@ -76,4 +94,5 @@ pub record IsBuiltFor (d : Diagram) (part : ℕ) (x : PartAlphabet) : Type 0 whe
 -- Each number is that of the rank at its place as bits.
 pub record AreReversed (count : ℕ) (ranks examples : List ℕ) : Type 0 where
   pub len : length examples ≡ length ranks
-  pub told : (i first : ℕ) (v : List Bool) → i < length ranks → rank first count v ≡ slice_index ranks i → bits first count v ≡ slice_index examples i
+  pub told : (i first : ℕ) (v : List Bool) → i < length ranks → rank first count v ≡ slice_index ranks i
+      → bits first count v ≡ slice_index examples i

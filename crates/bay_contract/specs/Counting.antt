@@ -41,7 +41,8 @@ pub record StepFits (d : Diagram) (part first count j : ℕ) : Type 0 where
 
 -- Step j passes a limit.
 abbrev pub StepIsPast : Diagram → ℕ → ℕ → ℕ → ℕ → Type 0
-StepIsPast d part first count j = ArePast d (SameLayer d part (first + j)) 4096 ⊎ ((j ≡ count) × ArePast d (SameLayer d part (first + j)) 255)
+StepIsPast d part first count j = ArePast d (SameLayer d part (first + j)) 4096 ⊎ ((j ≡ count) × ArePast d
+    (SameLayer d part (first + j)) 255)
 
 -- Each step of the part keeps the limits.
 pub record PartFits (d : Diagram) (part : ℕ) : Type 0 where

@@ -1,7 +1,8 @@
--- What the layers of a part are made of, and when two parts are alike in it.
-use Rattle.std.specs.Prelude.{zero, suc, ◌≡◌, ℕ, ◌+◌, ◌<◌, ◌≤◌, ◌↔◌, Bool, List, [], Option, Some, None, length, map, slice_get, Contains}
+-- What the layers of a part are made of, and when another part is like it.
+use Rattle.std.specs.Prelude.{zero, suc, ◌≡◌, ℕ, ◌+◌, ◌≤◌, ◌↔◌, Bool, List, [], Option, Some, None, length, map}
+use Rattle.std.specs.Prelude.{slice_get, Contains}
 use Rattle.station_graph.specs.Diagram.{Diagram, AreSwitchesOf}
-use Rattle.contraction.specs.Answers.{Answers, IsContraction, AreNodes}
+use Rattle.contraction.specs.Answers.{Answers, AreNodes}
 use Rattle.contraction.specs.Stands.{StandsFor}
 use Rattle.contraction.specs.Renaming.{renamed}
 use Rattle.bay_contract.specs.declared.course.Turn.{Turn}
@@ -70,7 +71,8 @@ pub record IsLikeCourse (x y : Course) : Type 0 where
   pub nodes : length x.nodes ≡ length y.nodes
   pub base : y.base ≡ renamed y.base.kept x.base
   pub count : length x.turns.items ≡ length y.turns.items
-  pub turns : (j : ℕ) (s t : Turn) → slice_get x.turns.items j ≡ Some s → slice_get y.turns.items j ≡ Some t → IsLikeTurn (AtOnePlace x.nodes y.nodes) s t
+  pub turns : (j : ℕ) (s t : Turn) → slice_get x.turns.items j ≡ Some s → slice_get y.turns.items j ≡ Some t
+      → IsLikeTurn (AtOnePlace x.nodes y.nodes) s t
 
 -- The step tests the switch of this place in a part whose first switch has this number.
 abbrev pub shifted : ℕ → Fork → Fork
@@ -78,7 +80,8 @@ shifted first f = record { switch = record { 0 = first + f.switch.0 }; off = f.o
 
 -- What is built of a pattern for a part with this course.
 pub record IsBuiltOf (d : Diagram) (part first count : ℕ) (y : Course) (f : Pattern) : Type 0 where
-  pub built : IsBuilt d part first count (map (renamed (nodes_after y count)) f.values.items) f.examples.items (map (shifted first) f.forks.items)
+  pub built : IsBuilt d part first count (map (renamed (nodes_after y count)) f.values.items) f.examples.items (map
+      (shifted first) f.forks.items)
   pub staged : AreStaged first count (map (shifted first) f.forks.items)
   pub steps : AreStepSizes d part (length f.forks.items)
   pub few_steps : length f.forks.items ≤ 98304
@@ -87,8 +90,10 @@ pub record IsBuiltOf (d : Diagram) (part first count : ℕ) (y : Course) (f : Pa
 -- The pattern serves each part of the station whose course is like its own. Its values are on the last nodes of
 -- its own course.
 pub record IsPattern (d : Diagram) (f : Pattern) : Type 0 where
-  pub sized : (i : ℕ) (c : Answers) → slice_get f.values.items i ≡ Some c → length c.kept ≡ length (nodes_after f.course (length f.course.turns.items))
-  pub serves : (part first count : ℕ) (y : Course) → IsCourse d part first count y → IsLikeCourse f.course y → IsBuiltOf d part first count y f
+  pub sized : (i : ℕ) (c : Answers) → slice_get f.values.items i ≡ Some c → length c.kept ≡ length
+      (nodes_after f.course (length f.course.turns.items))
+  pub serves : (part first count : ℕ) (y : Course) → IsCourse d part first count y → IsLikeCourse f.course y
+      → IsBuiltOf d part first count y f
 
 -- All of them do.
 abbrev pub ArePatterns : Diagram → List Pattern → Type 0

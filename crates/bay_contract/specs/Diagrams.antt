@@ -31,7 +31,8 @@ pub record ForkFits (switches steps size at : ℕ) (f : Fork) : Type 0 where
 
 -- Each fork has its switch and its targets in range.
 abbrev pub ForksFit : ℕ → ℕ → List Fork → Type 0
-ForksFit switches size forks = (a : ℕ) (f : Fork) → slice_get forks a ≡ Some f → ForkFits switches (length forks) size a f
+ForksFit switches size forks = (a : ℕ) (f : Fork) → slice_get forks a ≡ Some f → ForkFits switches
+    (length forks) size a f
 
 -- The steps test so many switches from the first on, one after another: each leads to steps that test
 -- the next switch, and those of the last one lead to indices.
@@ -39,5 +40,7 @@ pub record AreStaged (first count : ℕ) (forks : List Fork) : Type 0 where
   pub start : (f : Fork) → slice_get forks 0 ≡ Some f → f.switch.0 ≡ first
   pub none : length forks ≡ 0 → count ≡ 0
   pub inside : (a : ℕ) (f : Fork) → slice_get forks a ≡ Some f → (first ≤ f.switch.0) × (f.switch.0 < first + count)
-  pub next : (a : ℕ) (f g : Fork) (closed : Bool) → slice_get forks a ≡ Some f → slice_get forks (branch f closed) ≡ Some g → g.switch.0 ≡ f.switch.0 + 1
-  pub last : (a : ℕ) (f : Fork) (closed : Bool) → slice_get forks a ≡ Some f → length forks ≤ branch f closed → f.switch.0 + 1 ≡ first + count
+  pub next : (a : ℕ) (f g : Fork) (closed : Bool) → slice_get forks a ≡ Some f → slice_get forks
+      (branch f closed) ≡ Some g → g.switch.0 ≡ f.switch.0 + 1
+  pub last : (a : ℕ) (f : Fork) (closed : Bool) → slice_get forks a ≡ Some f → length forks ≤ branch f closed
+      → f.switch.0 + 1 ≡ first + count

@@ -1,5 +1,5 @@
 -- The alphabets of the parts of a station, as callers see them.
-use Rattle.std.specs.Prelude.{◌≡◌, ℕ, ◌^◌, ◌<◌, ◌≤◌, Bool, List, [], Option, Some, None, length, slice_get, slice_index}
+use Rattle.std.specs.Prelude.{◌≡◌, ℕ, ◌^◌, ◌<◌, Bool, List, [], Option, Some, None, length, slice_get, slice_index}
 use Rattle.contraction.specs.Answers.{Answers}
 use Rattle.bay_contract.specs.declared.fork.Fork.{Fork}
 use Rattle.bay_contract.specs.Layers.{rank, bits}

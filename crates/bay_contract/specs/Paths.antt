@@ -23,7 +23,8 @@ pub record BeginsSo (x : PartAlphabet) (tested position : ℕ) (v : List Bool) :
 -- The first so many switches of the part agree with their words.
 abbrev pub TestedAgree : PartAlphabet → List Dbpos → ℕ → List Bool → Type 0
 TestedAgree x words tested v =
-    (k : ℕ) (word : Dbpos) (closed : Bool) → k < tested → slice_get words (x.first + k) ≡ Some word → slice_get v (x.first + k) ≡ Some closed → Agrees word closed
+    (k : ℕ) (word : Dbpos) (closed : Bool) → k < tested → slice_get words (x.first + k) ≡ Some word
+    → slice_get v (x.first + k) ≡ Some closed → Agrees word closed
 
 -- The position of the switches that are tested before this number leads to it, and agrees with the
 -- words.
@@ -61,7 +62,8 @@ pub record NotesBoth (fork : Fork) (words : List Dbpos) (position bit : ℕ) (ol
   pub len : length new ≡ length old
   pub kept : (t : ℕ) → HasPath old t → HasPath new t
   pub added : (t : ℕ) (closed : Bool) → MayGo words fork t closed → HasPath new t
-  pub none_else : (t p : ℕ) → IsNoted new t p → IsNoted old t p ⊎ ((closed : Bool) × MayGo words fork t closed × (p ≡ position + digit (Some closed) * bit))
+  pub none_else : (t p : ℕ) → IsNoted new t p → IsNoted old t p ⊎ ((closed : Bool) × MayGo words fork t closed
+      × (p ≡ position + digit (Some closed) * bit))
 
 -- What is known before a step: each position that is noted leads there and agrees, and from the steps
 -- before it is noted wherever they may lead.
@@ -69,7 +71,8 @@ pub record PathsTo (x : PartAlphabet) (words : List Dbpos) (at : ℕ) (paths : L
   pub len : length paths ≡ length x.forks + length x.letters
   pub start : HasPath paths 0
   pub sound : (t p : ℕ) → IsNoted paths t p → LeadsHere x words t p
-  pub done : (a b : ℕ) (f : Fork) (closed : Bool) → a < at → HasPath paths a → slice_get x.forks a ≡ Some f → MayGo words f b closed → HasPath paths b
+  pub done : (a b : ℕ) (f : Fork) (closed : Bool) → a < at → HasPath paths a → slice_get x.forks a ≡ Some f
+      → MayGo words f b closed → HasPath paths b
 
 -- Some vector that agrees with the words is led to this index.
 pub record MayLead (x : PartAlphabet) (words : List Dbpos) (index : ℕ) : Type 0 where

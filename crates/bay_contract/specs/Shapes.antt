@@ -1,5 +1,5 @@
 -- What holds of every alphabet, whatever station it was made for.
-use Rattle.std.specs.Prelude.{◌≡◌, ℕ, ◌+◌, ◌^◌, ◌<◌, ◌≤◌, List, length, slice_get, slice_index, Some}
+use Rattle.std.specs.Prelude.{◌≡◌, ℕ, ◌+◌, ◌^◌, ◌<◌, ◌≤◌, length, slice_get, slice_index, Some}
 use Rattle.bay_contract.specs.Diagrams.{ForksFit, AreStaged}
 use Rattle.bay_contract.specs.PartAlphabets.{PartAlphabet, Alphabets}
 

@@ -24,14 +24,16 @@ positioned off on false = off
 
 -- Place s is value s / 2 together with the switch, open or closed as s is even or odd.
 abbrev pub GoesOn : Answers → Answers → List Answers → ℕ → Answers → Type 0
-GoesOn off on last s c = (x : Answers) → slice_get last (s / 2) ≡ Some x → AreTogether x (positioned off on (s % 2 == 1)) c
+GoesOn off on last s c = (x : Answers) → slice_get last (s / 2) ≡ Some x → AreTogether x (positioned off on
+    (s % 2 == 1)) c
 
 -- The values after the switch, sorted.
 abbrev pub AreTurned : List ℕ → Answers → Answers → List Answers → List Answers → List ℕ → List ℕ → ℕ → Type 0
 AreTurned nodes off on last = AreSorted (KeepsThese nodes) (GoesOn off on last)
 
 -- The values after switch j of a part with the rank of each, and the steps to them.
-pub record Turns (j : ℕ) (t : Turn) (values : List Answers) (ranks : List ℕ) (forks : List Fork) (news : List Answers) (newranks : List ℕ) (more : List Fork) : Type 0 where
+pub record Turns (j : ℕ) (t : Turn) (values : List Answers) (ranks : List ℕ) (forks : List Fork) (news : List Answers)
+    (newranks : List ℕ) (more : List Fork) : Type 0 where
   pub targets : List ℕ
   pub origins : List ℕ
   pub sorted : AreTurned t.kept t.off t.on values news targets origins (2 * length values)

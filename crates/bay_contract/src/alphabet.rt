@@ -10,7 +10,7 @@ ghost use Rattle.bay_contract.specs.Courses.{IsCourse, IsLikeCourse, IsPattern, 
 
 use crate::course::{Course, course_of};
 use crate::fork::Fork;
-use crate::pattern::{Pattern, pattern_of, like_pattern, remember};
+use crate::pattern::{Pattern, like_pattern, pattern_of, remember};
 use crate::refusal::PartsRefusal;
 use contraction::Contraction;
 use ilk_base::{BayId, Memory, SwitchId};
@@ -43,7 +43,11 @@ impl Model for Alphabet {
 }
 
 // The values on these nodes.
-fn values_on(alloc: Global, values: &[Contraction], nodes: &NodeList) -> Result<Vec<Contraction>, Memory>
+fn values_on(
+    alloc: Global,
+    values: &[Contraction],
+    nodes: &NodeList,
+) -> Result<Vec<Contraction>, Memory>
     requires nodes { AreNodes nodes.now }
     requires sized { (i : ℕ) (c : Answers) → slice_get values.now i ≡ Some c → length c.kept ≡ length nodes.now }
     ensures { IfOk result (λ l. l.items ≡ map (renamed nodes.now) values.now) }

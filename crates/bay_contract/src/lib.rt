@@ -4,7 +4,6 @@
 //! part in place of all its positions.
 #![tactic(auto)]
 
-mod alike;
 mod alphabet;
 mod bases;
 mod course;
@@ -12,6 +11,7 @@ mod fork;
 mod kept;
 mod laws;
 mod layer;
+mod like;
 mod parts;
 mod pattern;
 mod possible;

@@ -7,10 +7,10 @@ ghost use Rattle.bay_contract.specs.Building.{AreReversed};
 ghost use Rattle.bay_contract.specs.Refusing.{IsRefusalOf};
 ghost use Rattle.bay_contract.specs.Courses.{IsCourse, IsLikeCourse, IsPattern};
 
-use crate::alike::is_like_course;
 use crate::course::Course;
 use crate::fork::Fork;
 use crate::layer::{Layer, next_layer};
+use crate::like::is_like_course;
 use crate::refusal::PartsRefusal;
 use contraction::Contraction;
 use ilk_base::{BayId, Memory};

@@ -4,7 +4,8 @@ use Rattle.bay_contract.proofs.course.course_of.Goals as goal
 pub returns : goal.returns
 returns c = record {
   switches = c.requires.switches;
-  nodes = kept_is c.in_ok-nodes.nodes c.in_ok-value.value c.in_ok-value.ensures.contraction c.in_ok-value.ensures.kept c.in_ok-nodes.ensures.nodes.rises;
+  nodes = kept_is c.in_ok-nodes.nodes c.in_ok-value.value c.in_ok-value.ensures.contraction
+      c.in_ok-value.ensures.kept c.in_ok-nodes.ensures.nodes.rises;
   base = record {
     value = c.in_ok-value.ensures.contraction;
     kept = λ n. (

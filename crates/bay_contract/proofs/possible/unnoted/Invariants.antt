@@ -1,4 +1,4 @@
-use Rattle.std.proofs.Common.{◌≡◌, ◌≤◌, ◌-◌, ℕ, length}
+use Rattle.std.proofs.Common.{◌≤◌, ◌-◌, ℕ, length}
 use Rattle.bay_contract.specs.Paths.{IsNoted}
 use Rattle.bay_contract.proofs.possible.unnoted.Given as goal
 

@@ -1,4 +1,4 @@
-//! Whether two parts are alike: the one is the other on other nodes.
+//! Whether one part is like another: the one is the other on other nodes.
 ghost use Rattle.std.specs.Prelude.{◌≡◌, ℕ, ◌<◌, Some, length, slice_get, IsTrue};
 ghost use Rattle.bay_contract.specs.declared.course.Turn.{Turn};
 ghost use Rattle.bay_contract.specs.Courses.{AtOnePlace, AreRelated, IsLike, IsLikeTurn, IsLikeCourse};
@@ -44,7 +44,7 @@ fn is_like(from: &[u16], to: &[u16], value: &Contraction, other: &Contraction) -
     related && other.answers_as(value)
 }
 
-// Whether the turns are alike.
+// Whether the second turn is like the first.
 fn is_like_turn(from: &[u16], to: &[u16], turn: &Turn, other: &Turn) -> bool
     requires { length from.now ≡ length to.now }
     ensures { IsTrue result → IsLikeTurn (AtOnePlace from.now to.now) turn.now other.now }
@@ -55,7 +55,7 @@ fn is_like_turn(from: &[u16], to: &[u16], turn: &Turn, other: &Turn) -> bool
     off && on && kept
 }
 
-// Whether the turns of two courses are alike, place by place.
+// Whether the turns of one course are like those of another, place by place.
 fn are_like_turns(from: &[u16], to: &[u16], turns: &[Turn], others: &[Turn]) -> bool
     requires { length from.now ≡ length to.now }
     ensures count { IsTrue result → length turns.now ≡ length others.now }
@@ -73,7 +73,7 @@ fn are_like_turns(from: &[u16], to: &[u16], turns: &[Turn], others: &[Turn]) -> 
     true
 }
 
-// Whether the courses are alike.
+// Whether the second course is like the first.
 pub(crate) fn is_like_course(course: &Course, other: &Course) -> bool
     ensures { IsTrue result → IsLikeCourse course.now other.now }
 {

@@ -1,6 +1,6 @@
 use Rattle.std.proofs.Common.{◌≡◌, ℕ, ◌<◌, Some, slice_get}
 use Rattle.bay_contract.specs.Courses.{AtOnePlace}
-use Rattle.bay_contract.proofs.alike.are_related.Given as goal
+use Rattle.bay_contract.proofs.like.are_related.Given as goal
 
 -- so far they stand at one place
 abbrev pub invariant-loop-i : goal.invariant-loop-i
