@@ -3,8 +3,7 @@
 
     examples/check.py            compares what the program says with the stored text, NAME.txt, and
                                  - that text with the definitions, by a second way (by_definition.py)
-                                 - the stored run of the program in the gate (crates/interlock) with the
-                                   example double_busbar
+                                 - the stored run of the program in the gate (crates/interlock)
                                  - the lines that README.md here and at the top cite, with the stored texts
                                  and what `order` says of each order in examples/orders, `replay` of the log
                                  two_feeders and `audit` of the equations double_busbar, with the stored texts,
@@ -27,7 +26,8 @@ import by_definition
 HERE = pathlib.Path(__file__).resolve().parent
 TOP = HERE.parent
 CRATE = TOP / "crates/interlock"
-IN_GATE = "double_busbar"
+# The words of the stored run in the gate.
+IN_GATE = (CRATE / "args").read_text().split()
 # The drawing of the orders in examples/orders.
 ORDERED = "double_busbar.ssd"
 # Further answers: a command's words, and the file that holds its text.
@@ -43,22 +43,6 @@ def interlock_script():
     module = importlib.util.module_from_spec(importlib.util.spec_from_loader("interlock", loader))
     loader.exec_module(module)
     return module
-
-
-def gate_differences():
-    """Where the stored run of the program in the gate is not the example of that name."""
-    expected = {
-        "args": f"check\n{IN_GATE}.ssd\n{IN_GATE}.csv\n",
-        "stdout": (HERE / f"{IN_GATE}.txt").read_text(),
-        **{f"data/{IN_GATE}.{ending}": (HERE / f"{IN_GATE}.{ending}").read_text() for ending in ("ssd", "csv")},
-    }
-    for file, text in expected.items():
-        stored = CRATE / file
-        if not stored.exists() or stored.read_text() != text:
-            yield f"crates/interlock/{file} is not that of examples/{IN_GATE}"
-    for file in CRATE.glob("data/*"):
-        if f"data/{file.name}" not in expected:
-            yield f"crates/interlock/data/{file.name} is of no example"
 
 
 def cited_differences(names):
@@ -92,7 +76,8 @@ def main(words):
     commands = [["check", str(HERE / f"{name}.ssd"), str(HERE / f"{name}.csv")] for name in names]
     commands += [["order", str(HERE / ORDERED), str(order.with_suffix(".csv")), str(order)] for order in orders]
     commands += [[command, *(str(HERE / file) for file in files)] for (command, *files), _ in OTHERS]
-    answers = [text for _, text in script.answers(commands)]
+    commands += [IN_GATE]
+    *answers, in_gate = (text for _, text in script.answers(commands))
     found = [d for name, text in zip(names, answers) for d in example_differences(name, text, words == ["--store"])]
     found += [
         f"{order.stem}: the program does not say what examples/orders/{order.stem}.txt says"
@@ -104,7 +89,9 @@ def main(words):
         for (_, stored), text in zip(OTHERS, answers[len(names) + len(orders):])
         if (HERE / stored).read_text() != text
     ]
-    found += [*gate_differences(), *cited_differences(names)]
+    if (CRATE / "stdout").read_text() != in_gate:
+        found += ["the program does not say what crates/interlock/stdout says"]
+    found += cited_differences(names)
     print("\n".join(found), end="\n" if found else "")
     program = "the proved program" if proved else "the checked build, not the proved program"
     print(f"{len(names)} examples by {program}: {'all as stored' if not found else f'{len(found)} differences'}")

@@ -1,11 +1,12 @@
 -- What is found after a first read holds of what stood there before it.
-use Rattle.std.proofs.Common.{◌≡◌, ◌≤◌, ℕ, List, Option, Some, None, refl, sym, ◌∙◌, arith, inl, inr}
-use Rattle.std.specs.Prelude.{IfSome}
+use Rattle.std.proofs.Common.{◌≡◌, ◌≤◌, ℕ, List, Option, Some, None, Result, Ok, Err, refl, sym, ◌∙◌, arith, inl, inr}
+use Rattle.std.specs.Prelude.{IfSome, IfOk, IfErr}
 use Rattle.std.specs.Io.KnownBytes.{Keeps}
 use Rattle.ilk_base.specs.Outside.{Rose}
 use Rattle.interlock_cli.specs.Formats.{Format, Value}
 use Rattle.interlock_cli.specs.Judging.{JudgeFails, Onward}
-use Rattle.interlock_cli.specs.Form.{Origin, File, Word, IsContent, Given, ReadRose, Fails}
+use Rattle.interlock_cli.specs.Form.{Form, Origin, File, Word, IsContent, Given, ReadRose, Fails, Gives, Stops}
+use Rattle.interlock_cli.specs.declared.end.Output.{Output}
 use Rattle.interlock_cli.specs.declared.end.End.{End}
 use Rattle.interlock_cli.specs.declared.end.End.TheVariants as e
 use Rattle.interlock_cli.proofs.Cuts.{no_fault}
@@ -55,3 +56,13 @@ pub word_fails : (held : List ℕ → Option (List ℕ)) (before after : List �
 word_fails held before after f word e.Memory fails = tt
 word_fails held before after f word e.ReadFault fails = absurd (no_fault f word fails)
 word_fails held before after f word end fails = (word, refl, fails)
+
+-- what holds whatever the files hold holds of what they hold
+pub at_held : (held : List ℕ → Option (List ℕ)) (form : Form) (r : Result Output End) → IfOk r (λ o. (h : List ℕ → Option (List ℕ)) → Gives form h o) → IfOk r (Gives form held)
+at_held held form (Ok o) gives = gives held
+at_held held form (Err end) gives = tt
+
+pub stops_at : (held : List ℕ → Option (List ℕ)) (before after : List ℕ → ℕ) (form : Form) (r : Result Output End)
+    → IfErr r (λ end. (h : List ℕ → Option (List ℕ)) (b a : List ℕ → ℕ) → Stops form h b a end) → IfErr r (Stops form held before after)
+stops_at held before after form (Ok o) stops = tt
+stops_at held before after form (Err end) stops = stops held before after

@@ -7,6 +7,9 @@ use Rattle.ilk_base.specs.declared.words.Direction.TheVariants.{ToOff, ToOn}
 use Rattle.command_words.specs.Rows.{is_plain}
 use Rattle.station_state.specs.StateText.{IsStateText}
 use Rattle.station_make.specs.declared.words.MadeText.{MadeText}
+use Rattle.station_make.specs.DrawingText.{station_text}
+use Rattle.station_make.specs.EventsText.{events_text}
+use Rattle.station_make.specs.PositionsText.{positions_text}
 use Rattle.station_make.specs.Words.{feeders_of, made_text, text_named}
 use Rattle.interlock_cli.specs.Formats.{Drawing, Positions, CertainPositions, OrderOf, LogOf, BlocksOf, SwitchOf, BayOf}
 use Rattle.interlock_cli.specs.Form.{Form, Write, Take, Serve, File, Word}
@@ -15,6 +18,7 @@ use Rattle.interlock_cli.specs.ExplainText.{IsExplainText}
 use Rattle.interlock_cli.specs.OrderWrites.{OrderWrites}
 use Rattle.interlock_cli.specs.ReplayWrites.{ReplayWrites}
 use Rattle.interlock_cli.specs.AuditWrites.{AuditWrites}
+use Rattle.interlock_cli.specs.WorkWrites.{WorkWrites}
 use Rattle.interlock_cli.specs.declared.end.Outcome.{Outcome}
 use Rattle.interlock_cli.specs.declared.end.Outcome.TheVariants.{Done}
 
@@ -35,6 +39,8 @@ pub data Command : Type 0 where
   Node : List ℕ → List ℕ → Command
   -- `make NUMBER station`, or `positions`, or `log`
   Make : ℕ → MadeText → Command
+  -- `work NUMBER`
+  Work : ℕ → Command
 
 -- the direction that a word names
 abbrev pub direction_of : List ℕ → Option Direction
@@ -82,6 +88,9 @@ node_of = two_words (λ station bay. Some (Node station bay))
 abbrev pub make_of : List (List ℕ) → Option Command
 make_of = two_words (λ number text. option_and_then (λ n. option_map (λ t. Make n t) (text_named text)) (feeders_of number))
 
+abbrev pub work_of : List (List ℕ) → Option Command
+work_of = one_word (λ number. option_map (λ n. Work n) (feeders_of number))
+
 -- what the words name, the command's name first
 abbrev pub named : List (List ℕ) → Option Command
 named [] = None
@@ -94,6 +103,7 @@ named (name ∷ rest) =
     else if bytes_eq name (codes "audit") then audit_of rest
     else if bytes_eq name (codes "node") then node_of rest
     else if bytes_eq name (codes "make") then make_of rest
+    else if bytes_eq name (codes "work") then work_of rest
     else None
 
 -- what the words name, where no word is empty or begins with `-`
@@ -122,3 +132,6 @@ form_of (Audit station equations) =
 form_of (Node station bay) =
     Take (File station) Drawing (λ d. Take (Word bay) (BayOf d) (λ b. Serve d b))
 form_of (Make number text) = Write (IsDone (λ written. written ≡ made_text text number))
+form_of (Work number) =
+    Take (Word (station_text number)) Drawing (λ d. Take (Word (positions_text number)) (Positions d) (λ words.
+    Take (Word (events_text number)) (LogOf d) (λ events. Write (WorkWrites d words events))))

@@ -9,7 +9,7 @@ use Rattle.interlock_cli.specs.declared.end.Output.{Output}
 use Rattle.interlock_cli.specs.declared.end.End.{End}
 use Rattle.interlock_cli.specs.declared.end.End.TheVariants as e
 
--- where a content comes from: a file of this name, or this word itself
+-- where a content comes from: a file of this name; or it is this text itself, a word or one that the program makes
 pub data Origin : Type 0 where
   File : List ℕ → Origin
   Word : List ℕ → Origin

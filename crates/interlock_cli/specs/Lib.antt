@@ -6,6 +6,7 @@ pub mod ExplainText
 pub mod OrderWrites
 pub mod ReplayWrites
 pub mod AuditWrites
+pub mod WorkWrites
 pub mod Commands
 pub mod Seen
 pub mod Lines

@@ -1,7 +1,7 @@
 -- What a contract sees of a command.
 use Rattle.interlock_cli.specs.Commands as c
 use Rattle.interlock_cli.specs.declared.words.Command.{Command}
-use Rattle.interlock_cli.specs.declared.words.Command.TheVariants.{Check, Explain, State, Order, Replay, Audit, Node, Make}
+use Rattle.interlock_cli.specs.declared.words.Command.TheVariants.{Check, Explain, State, Order, Replay, Audit, Node, Make, Work}
 
 abbrev pub seen : Command → c.Command
 seen (Check station positions) = c.Check station.now positions.now
@@ -12,3 +12,4 @@ seen (Replay station log) = c.Replay station.now log.now
 seen (Audit station equations) = c.Audit station.now equations.now
 seen (Node station bay) = c.Node station.now bay.now
 seen (Make feeders text) = c.Make feeders.number text
+seen (Work feeders) = c.Work feeders.number

@@ -17,6 +17,7 @@ mod status;
 mod tell;
 mod top;
 mod words;
+mod work_command;
 
 pub use status::Status;
 pub use top::run;

@@ -42,7 +42,7 @@ fn read_file<F: Shelf>(name: &str, shelf: &mut F) -> Result<Vec<u8>, End>
 }
 
 // The station of a drawing's bytes.
-fn judge_drawing(alloc: Global, bytes: &[u8]) -> Result<Station, End>
+pub(crate) fn judge_drawing(alloc: Global, bytes: &[u8]) -> Result<Station, End>
     ensures ok { IfOk result (λ d. Stands bytes.now (Ok d)) }
     ensures err { IfErr result (JudgeFails Drawing bytes.now) }
 {
@@ -54,7 +54,11 @@ fn judge_drawing(alloc: Global, bytes: &[u8]) -> Result<Station, End>
 }
 
 // The readings of the bytes of a file of positions.
-fn judge_positions(alloc: Global, station: &Station, bytes: &[u8]) -> Result<Readings, End>
+pub(crate) fn judge_positions(
+    alloc: Global,
+    station: &Station,
+    bytes: &[u8],
+) -> Result<Readings, End>
     ensures ok { IfOk result (Accepts (Positions station.now) bytes.now) }
     ensures count { IfOk result (AreWords station.now) }
     ensures err { IfErr result (JudgeFails (Positions station.now) bytes.now) }
@@ -116,7 +120,7 @@ fn judge_blocks(alloc: Global, station: &Station, bytes: &[u8]) -> Result<Blocks
 }
 
 // The log of the bytes of a file.
-fn judge_log(alloc: Global, station: &Station, bytes: &[u8]) -> Result<Log, End>
+pub(crate) fn judge_log(alloc: Global, station: &Station, bytes: &[u8]) -> Result<Log, End>
     ensures ok { IfOk result (Accepts (LogOf station.now) bytes.now) }
     ensures told { IfOk result (All (MayBeTold station.now)) }
     ensures err { IfErr result (JudgeFails (LogOf station.now) bytes.now) }

@@ -16,7 +16,7 @@ use station_graph::Station;
 use std::alloc::Global;
 
 // How a replay ends.
-fn ended(premise: Option<(u32, Which)>) -> Outcome
+pub(crate) fn ended(premise: Option<(u32, Which)>) -> Outcome
     ensures { result ≡ ended premise }
 {
     match premise {

@@ -1,6 +1,6 @@
 // What the words name.
 ghost use Rattle.std.specs.Prelude.{◌≡◌, ◌∷◌, map, option_map, string_bytes, Some, IfOk, IfErr};
-ghost use Rattle.interlock_cli.specs.Commands.{replay_of, audit_of, check_of, command_of, direction_of, explain_of, make_of, named, node_of, order_of, state_of};
+ghost use Rattle.interlock_cli.specs.Commands.{replay_of, audit_of, check_of, command_of, direction_of, explain_of, make_of, named, node_of, order_of, state_of, work_of};
 ghost use Rattle.interlock_cli.specs.Ends.{Unread};
 ghost use Rattle.interlock_cli.specs.Seen.{seen};
 
@@ -47,6 +47,9 @@ pub enum Command<'a> {
     Make {
         feeders: Feeders,
         text: MadeText,
+    },
+    Work {
+        feeders: Feeders,
     },
 }
 
@@ -159,6 +162,19 @@ fn make_words<'a>(rest: &[&'a str]) -> Option<Command<'a>>
     }
 }
 
+// `work NUMBER`.
+fn work_words<'a>(rest: &[&'a str]) -> Option<Command<'a>>
+    ensures { work_of (map (λ w. w.now) rest.now) ≡ option_map seen result }
+{
+    let &[number] = rest else {
+        return None;
+    };
+    match feeders_named(number) {
+        Some(feeders) => Some(Command::Work { feeders }),
+        None => None,
+    }
+}
+
 // The command of a name and the words after it.
 fn named<'a>(name: &str, rest: &[&'a str]) -> Option<Command<'a>>
     ensures { named (name.now ∷ map (λ w. w.now) rest.now) ≡ option_map seen result }
@@ -172,6 +188,7 @@ fn named<'a>(name: &str, rest: &[&'a str]) -> Option<Command<'a>>
         "audit" => audit_words(rest),
         "node" => node_words(rest),
         "make" => make_words(rest),
+        "work" => work_words(rest),
         _ => None,
     }
 }

@@ -1,4 +1,4 @@
-// What `make` writes.
+// What `make` and `work` write.
 use crate::rows::words_of;
 use ilk_base::{MemShelf, MemSink, MemSource};
 use interlock_cli::{Status, run};
@@ -53,10 +53,42 @@ const MADE: &[(&str, (Status, &str, &str))] = &[
     ("make 2 position", USAGE),
 ];
 
+const WORK_TWO: &str = "station bays 3 switches 15 nodes 10
+full released 16 denied 14
+blind released 7 denied 23
+log lines 40 granted 1 denied 0 finished 1
+";
+
+const WORK_FORTY: &str = "station bays 41 switches 243 nodes 124
+full released 282 denied 204
+blind released 121 denied 365
+log lines 610 granted 1 denied 0 finished 1
+";
+
+// Two feeders; too few, too many, a leading zero, a word too many, none; forty feeders.
+const WORKED: &[(&str, (Status, &str, &str))] = &[
+    ("work 2", (Status::Done, WORK_TWO, "")),
+    ("work 1", USAGE),
+    ("work 61", USAGE),
+    ("work 02", USAGE),
+    ("work 2 2", USAGE),
+    ("work", USAGE),
+    ("work 40", (Status::Done, WORK_FORTY, "")),
+];
+
 #[test]
 fn made(rt: HostRuntime) -> Result<(), Fail> {
     let alloc = rt.alloc();
     for (words, want) in MADE {
+        expect_made(&rt, alloc, words, *want)?;
+    }
+    Ok(())
+}
+
+#[test]
+fn worked(rt: HostRuntime) -> Result<(), Fail> {
+    let alloc = rt.alloc();
+    for (words, want) in WORKED {
         expect_made(&rt, alloc, words, *want)?;
     }
     Ok(())

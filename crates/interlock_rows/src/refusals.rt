@@ -195,8 +195,8 @@ fn positions(rt: HostRuntime) -> Result<(), Fail> {
     Ok(())
 }
 
-// No words; a word that is missing, begins with `-`, or is one too many; and names of no command, among
-// them those of commands that are to come.
+// No words; a word that is missing, begins with `-`, or is one too many; names of no command; and
+// numbers of feeders that are out of range or not written so.
 const USAGE: &[&str] = &[
     "",
     "check a.ssd",

@@ -1,4 +1,6 @@
 use Rattle.station_graph.specs.Diagram.{empty}
+use Rattle.interlock_cli.specs.Commands.{Work, form_of}
+use Rattle.interlock_cli.proofs.Later.{at_held, stops_at}
 use Rattle.interlock_cli.proofs.top.output_of.Goals as goal
 
 pub unreachable-requires : goal.unreachable-requires
@@ -24,3 +26,15 @@ returns-in-Audit-clause-err g c = rw c.in-Audit.is c.audit.ensures.err
 
 pub returns-in-Replay-clause-err : goal.returns-in-Replay-clause-err
 returns-in-Replay-clause-err g c = rw c.in-Replay.is c.replay.ensures.err
+
+pub returns-in-Work-clause-ok : goal.returns-in-Work-clause-ok
+returns-in-Work-clause-ok g c =
+    let form = form_of (Work c.in-Work.feeders.number) in
+    rw c.in-Work.is (at_held (g.F.Shelf.held c.args.shelf.now) form c.work.result c.work.ensures.ok)
+
+pub returns-in-Work-clause-err : goal.returns-in-Work-clause-err
+returns-in-Work-clause-err g c =
+    let form = form_of (Work c.in-Work.feeders.number) in
+    let held = g.F.Shelf.held c.args.shelf.now in
+    let faults = g.F.Shelf.faults c.args.shelf.now in
+    rw c.in-Work.is (stops_at held faults faults form c.work.result c.work.ensures.err)
