@@ -3,7 +3,6 @@
 ghost use Rattle.std.specs.Prelude.{◌≡◌, ◌<◌, length, IfOk};
 ghost use Rattle.bay_contract.specs.Alphabets.{AreAlphabets};
 
-use crate::drawings::{Example, built};
 use bay_contract::{Parts, PartsRefusal, Target};
 use double_points::Readings;
 use ilk_base::{BayId, Dbpos, Memory, SwitchId};
@@ -11,6 +10,7 @@ use station_graph::{Station, Vector};
 use std::alloc::Global;
 use std::process::Abort;
 use std::test::Fail;
+use worked_stations::{Example, built};
 
 // The least positions of a feeder, index by index. The lowest digit is the busbar disconnector, then come
 // the breaker, the line disconnector, the earthing switch and the infeed.
@@ -107,7 +107,7 @@ fn expect_parts(rt: &impl Abort, alloc: Global, station: &Station) -> Result<(),
 
 #[test]
 fn least_positions(rt: HostRuntime) -> Result<(), Fail> {
-    let station = built(&rt, rt.alloc(), Example::TwoFeeders)?;
+    let station = built(rt.alloc(), Example::TwoFeeders)?;
     expect_parts(&rt, rt.alloc(), &station)
 }
 
@@ -195,7 +195,7 @@ fn expect_ways(rt: &impl Abort, alloc: Global, station: &Station) -> Result<(), 
 
 #[test]
 fn ways_to_indices(rt: HostRuntime) -> Result<(), Fail> {
-    let station = built(&rt, rt.alloc(), Example::TwoFeeders)?;
+    let station = built(rt.alloc(), Example::TwoFeeders)?;
     expect_ways(&rt, rt.alloc(), &station)
 }
 
@@ -240,7 +240,7 @@ fn expect_words(rt: &impl Abort, alloc: Global, station: &Station, row: &Row) ->
 }
 
 fn expect_row(rt: &impl Abort, alloc: Global, row: &Row) -> Result<(), Fail> {
-    let station = built(rt, alloc, Example::TwoFeeders)?;
+    let station = built(alloc, Example::TwoFeeders)?;
     expect_words(rt, alloc, &station, row)
 }
 
@@ -259,7 +259,7 @@ fn refusal_of(alloc: Global, station: &Station) -> Option<PartsRefusal> {
 // Eight earthing switches on shared nodes: 256 contractions after the last.
 #[test]
 fn too_many_contractions(rt: HostRuntime) -> Result<(), Fail> {
-    let station = built(&rt, rt.alloc(), Example::EightEarthed)?;
+    let station = built(rt.alloc(), Example::EightEarthed)?;
     let refusal = refusal_of(rt.alloc(), &station);
     let wanted = PartsRefusal::Many {
         part: BayId(0),

@@ -4,5 +4,3 @@
 
 #[cfg(test)]
 mod alphabets;
-#[cfg(test)]
-mod drawings;

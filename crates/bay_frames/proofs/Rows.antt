@@ -1,5 +1,6 @@
 -- Rows: the fields of a row are those of its frame, and bytes that pass are the row of their fields.
-use Rattle.std.proofs.Common.{◌≡◌, ℕ, ◌^◌, ◌<◌, ◌≤◌, ◌≢◌, List, [], ◌∷◌, ◌++◌, length, drop, take, get_or, sym, ap, ◌∙◌, arith, length-append}
+use Rattle.std.proofs.Common.{◌≡◌, ℕ, ◌^◌, ◌<◌, ◌≤◌, ◌≢◌, List, [], ◌∷◌, ◌++◌, length, drop, take, get_or, sym, ap}
+use Rattle.std.proofs.Common.{◌∙◌, arith, length-append}
 use Rattle.std.specs.Int.{w32, to_be_bytes}
 use Rattle.std.proofs.lemmas.List.{take-append-drop, length-drop}
 use Rattle.std.proofs.lemmas.Nat.{from_be_bytes-to_be_bytes_2, from_be_bytes-to_be_bytes_4}
@@ -16,10 +17,12 @@ IsBytes bytes = (i : ℕ) → get_or bytes i 0 < 256
 
 -- ---- the fields of a row
 
-pub round_back : (kind from to round : ℕ) (payload : List ℕ) → round < 2 ^ 32 → round_at (row_of kind from to round payload) 3 ≡ round
+pub round_back : (kind from to round : ℕ) (payload : List ℕ) → round < 2 ^ 32 →
+  round_at (row_of kind from to round payload) 3 ≡ round
 round_back kind from to round payload lt = from_be_bytes-to_be_bytes_4 round lt
 
-pub holder_back : (kind from to round holder q : ℕ) → q < 2 ^ 32 → round_at (row_of kind from to round (holder ∷ to_be_bytes w32 q)) 10 ≡ q
+pub holder_back : (kind from to round holder q : ℕ) → q < 2 ^ 32 →
+  round_at (row_of kind from to round (holder ∷ to_be_bytes w32 q)) 10 ≡ q
 holder_back kind from to round holder q lt = from_be_bytes-to_be_bytes_4 q lt
 
 pub payload_short : (body : Body) → FitsBody body → length (payload_row body) ≤ 32
@@ -29,10 +32,12 @@ payload_short (Busy holder q) h = omega arith
 payload_short Query h = omega arith
 payload_short Over h = omega arith
 
-pub length_said : (kind from to round : ℕ) (payload : List ℕ) → length payload ≤ 32 → said_length (row_of kind from to round payload) ≡ length payload
+pub length_said : (kind from to round : ℕ) (payload : List ℕ) → length payload ≤ 32 →
+  said_length (row_of kind from to round payload) ≡ length payload
 length_said kind from to round payload le = from_be_bytes-to_be_bytes_2 (length payload) (omega (arith, le))
 
-length_back : (kind from to round : ℕ) (payload more : List ℕ) → length payload ≤ 32 → said_length (row_of kind from to round payload ++ more) ≡ length payload
+length_back : (kind from to round : ℕ) (payload more : List ℕ) → length payload ≤ 32 →
+  said_length (row_of kind from to round payload ++ more) ≡ length payload
 length_back kind from to round payload more le = from_be_bytes-to_be_bytes_2 (length payload) (omega (arith, le))
 
 again : (from to : BayId) (round : ℕ) (body : Body) → round < 2 ^ 32 → FitsBody body
@@ -44,9 +49,11 @@ again from to round (Answer s) h b =
     let made : ℕ → Frame = λ r. record { from = from; to = to; round = r; body = Answer s } in
     ap made (round_back 2 from.0 to.0 round s h)
 again from to round (Busy holder q) h b =
-    let first : ℕ → Frame = λ r. record { from = from; to = to; round = r; body = Busy holder (round_at (row_of 3 from.0 to.0 round (holder.0 ∷ to_be_bytes w32 q)) 10) } in
+    let first : ℕ → Frame = λ r. record { from = from; to = to; round = r;
+      body = Busy holder (round_at (row_of 3 from.0 to.0 round (holder.0 ∷ to_be_bytes w32 q)) 10) } in
     let second : ℕ → Frame = λ r. record { from = from; to = to; round = round; body = Busy holder r } in
-    ap first (round_back 3 from.0 to.0 round (holder.0 ∷ to_be_bytes w32 q) h) ∙ ap second (holder_back 3 from.0 to.0 round holder.0 q b)
+    ap first (round_back 3 from.0 to.0 round (holder.0 ∷ to_be_bytes w32 q) h)
+      ∙ ap second (holder_back 3 from.0 to.0 round holder.0 q b)
 again from to round Query h b =
     let made : ℕ → Frame = λ r. record { from = from; to = to; round = r; body = Query } in
     ap made (round_back 4 from.0 to.0 round [] h)
@@ -62,16 +69,22 @@ one_frame f g hf hg e = sym (frame_again f hf) ∙ ap frame_at e ∙ frame_again
 
 -- ---- no front
 
-nothing_behind : (f g : Frame) (more : List ℕ) → FitsRow f → FitsRow g → frame_row f ≡ frame_row g ++ more → length more ≡ 0
+nothing_behind : (f g : Frame) (more : List ℕ) → FitsRow f → FitsRow g → frame_row f ≡ frame_row g ++ more →
+  length more ≡ 0
 nothing_behind f g more hf hg e =
-    let said_f : said_length (frame_row f) ≡ length (payload_row f.body) = length_said (kind_number f.body) f.from.0 f.to.0 f.round (payload_row f.body) (payload_short f.body hf.body) in
-    let said_g : said_length (frame_row g ++ more) ≡ length (payload_row g.body) = length_back (kind_number g.body) g.from.0 g.to.0 g.round (payload_row g.body) more (payload_short g.body hg.body) in
+    let said_f : said_length (frame_row f) ≡ length (payload_row f.body) = length_said (kind_number f.body) f.from.0
+      f.to.0 f.round (payload_row f.body) (payload_short f.body hf.body) in
+    let said_g : said_length (frame_row g ++ more) ≡ length (payload_row g.body) =
+      length_back (kind_number g.body) g.from.0 g.to.0 g.round (payload_row g.body) more
+      (payload_short g.body hg.body) in
     let same : length (payload_row f.body) ≡ length (payload_row g.body) = sym said_f ∙ ap said_length e ∙ said_g in
     let long : length (frame_row f) ≡ length (frame_row g ++ more) = ap length e in
     omega (arith, same, long, length-append (frame_row g) more)
 
-pub no_front : (f g : Frame) (n : ℕ) → FitsRow f → FitsRow g → n < length (frame_row f) → take n (frame_row f) ≢ frame_row g
+pub no_front : (f g : Frame) (n : ℕ) → FitsRow f → FitsRow g → n < length (frame_row f) →
+  take n (frame_row f) ≢ frame_row g
 no_front f g n hf hg lt e =
-    let whole : frame_row f ≡ frame_row g ++ drop n (frame_row f) = sym (take-append-drop n (frame_row f)) ∙ ap (λ (t : List ℕ). t ++ drop n (frame_row f)) e in
+    let whole : frame_row f ≡ frame_row g ++ drop n (frame_row f) = sym (take-append-drop n (frame_row f))
+      ∙ ap (λ (t : List ℕ). t ++ drop n (frame_row f)) e in
     let none = nothing_behind f g (drop n (frame_row f)) hf hg whole in
     omega (arith, none, lt, length-drop n (frame_row f))

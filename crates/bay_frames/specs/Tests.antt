@@ -1,5 +1,6 @@
 -- The tests that bytes must pass to be a frame, in the order in which they are made.
-use Rattle.std.specs.Prelude.{◌≡◌, ◌+◌, ◌==◌, ◌&&◌, ◌||◌, ℕ, Bool, not, nat_lt, nat_le, List, [], ◌∷◌, ◌++◌, length, drop, Option, Some, None, Result, Ok, Err, if◌then◌else◌, slice_index}
+use Rattle.std.specs.Prelude.{◌≡◌, ◌+◌, ◌==◌, ◌&&◌, ◌||◌, ℕ, Bool, not, nat_lt, nat_le, List, [], ◌∷◌, ◌++◌, length}
+use Rattle.std.specs.Prelude.{drop, Option, Some, None, Result, Ok, Err, if◌then◌else◌, slice_index}
 use Rattle.std.specs.Int.{w16, w32, from_be_bytes}
 use Rattle.bay_frames.specs.declared.frame.FrameRefusal.{FrameRefusal}
 use Rattle.bay_frames.specs.declared.frame.FrameRefusal.TheVariants.{Short, Kind, Length, Long, Field}

@@ -1,6 +1,8 @@
 //! Reading.
 ghost use Rattle.std.specs.Prelude.{◌≡◌, ◌<◌, ◌≤◌, ◌+◌, [], ◌∷◌, ◌++◌, ⊤, None, length, slice_index};
-ghost use Rattle.bay_frames.specs.Tests.{said_length, round_at, is_kind, is_length, bay_test, receiver_test, round_test, count_tests, head_tests, size_tests, payload_tests, field_tests, first_refusal, PassesOrRefuses};
+ghost use Rattle.bay_frames.specs.Tests.{said_length, round_at, is_kind, is_length, bay_test, receiver_test};
+ghost use Rattle.bay_frames.specs.Tests.{round_test, count_tests, head_tests, size_tests, payload_tests, field_tests};
+ghost use Rattle.bay_frames.specs.Tests.{first_refusal, PassesOrRefuses};
 ghost use Rattle.bay_frames.specs.Fields.{bay_at, body_at, frame_at};
 
 use crate::frame::{Body, Frame, FrameRefusal};

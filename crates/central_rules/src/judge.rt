@@ -26,7 +26,8 @@ pub trait Judge {
     /// The station, which bays tell which nothing, which summaries fit, and what they allow.
     ghost meaning: { Self → Meaning };
 
-    /// Whether the bay tells the other, another than itself, of its positions. Where it does not, it is irrelevant to the other;
+    /// Whether the bay tells the other, another than itself, of its positions. Where it does not, it is irrelevant to
+    /// the other;
     /// so it tells wherever it is a partner. Takes no memory.
     fn tells(&self, bay: BayId, to: BayId) -> bool
         requires bay { IsBay (meaning self.now).diagram bay.0 }
@@ -70,7 +71,8 @@ pub trait Judge {
         requires own { AreWords (meaning self.now).diagram own.now }
         requires heard { length heard.now ≡ part_count (meaning self.now).diagram }
         requires fits { HeardFit (meaning self.now) (bay_of (meaning self.now).diagram op.switch.0) heard.now }
-        ensures { IfOk result (Decides (meaning self.now).diagram (Knows (meaning self.now) (bay_of (meaning self.now).diagram op.switch.0) own.now heard.now) op) };
+        ensures { IfOk result (Decides (meaning self.now).diagram
+            (Knows (meaning self.now) (bay_of (meaning self.now).diagram op.switch.0) own.now heard.now) op) };
 
     /// The verdict where the word of every switch is known.
     fn judge_all(&self, alloc: Global, op: Op, readings: &Readings) -> Result<Verdict, Memory>

@@ -3,18 +3,12 @@
 #![tactic(auto)]
 
 mod alike;
-#[cfg(test)]
-mod drawings;
 mod judge;
-#[cfg(test)]
-mod judge_tests;
 mod labelling;
 mod names;
 mod plain;
 mod rules;
 mod supply;
-#[cfg(test)]
-mod tests;
 mod trying;
 mod verdict;
 

@@ -1,10 +1,12 @@
 //! The judge of small stations: a summary is a row of words, and every reading is tried.
-ghost use Rattle.std.specs.Prelude.{◌≡◌, ◌<◌, ◌≤◌, ◌↔◌, ℕ, length, Some, IfOk, IsTrue, EachIndex, slice_get, slice_index, slice_index_or};
+ghost use Rattle.std.specs.Prelude.{◌≡◌, ◌<◌, ◌≤◌, ◌↔◌, ℕ, length, Some, IfOk, IsTrue, EachIndex, slice_get};
+ghost use Rattle.std.specs.Prelude.{slice_index, slice_index_or};
 ghost use Rattle.station_graph.specs.Diagram.{part_count, place_in};
 ghost use Rattle.station_graph.specs.Connection.{a_switch};
 ghost use Rattle.station_graph.specs.Sharing.{OfPart};
 ghost use Rattle.central_rules.specs.declared.plain.TheConstants.{PLAIN_SWITCHES};
-ghost use Rattle.central_rules.specs.WordRows.{code_of_word, word_of_code, heard_word, known_word, FirstAre, IsRow, IsRowOf};
+ghost use Rattle.central_rules.specs.WordRows.{code_of_word, word_of_code, heard_word, known_word, FirstAre, IsRow};
+ghost use Rattle.central_rules.specs.WordRows.{IsRowOf};
 ghost use Rattle.double_points.specs.Words.{AreWords};
 
 use crate::judge::Judge;
@@ -135,7 +137,8 @@ fn words_known(
     requires own { AreWords station.now own.now }
     requires heard { length heard.now ≡ part_count station.now }
     ensures count { IfOk result (λ words. AreWords station.now words) }
-    ensures each { IfOk result (λ words. FirstAre (known_word station.now bay.0 own.now heard.now) (length words) words) }
+    ensures each { IfOk result (λ words. FirstAre (known_word station.now bay.0 own.now heard.now)
+        (length words) words) }
 {
     let mut words = Readings::lost(alloc, station)?;
     for i in 0..station.switch_count() {

@@ -2,7 +2,8 @@
 ghost use Rattle.std.specs.Prelude.{◌≡◌, ◌<◌, ◌↔◌, length, IsTrue, IfOk};
 ghost use Rattle.station_graph.specs.Diagram.{node_count};
 ghost use Rattle.station_graph.specs.Connection.{Bonded};
-ghost use Rattle.station_graph.specs.CentralRules.{Breaks, BreaksEarthing, BreaksClosing, BreaksFeeding, BreaksLoad, GapCarriesLoad, IsOperation};
+ghost use Rattle.station_graph.specs.CentralRules.{Breaks, BreaksEarthing, BreaksClosing, BreaksFeeding, BreaksLoad};
+ghost use Rattle.station_graph.specs.CentralRules.{GapCarriesLoad, IsOperation};
 ghost use Rattle.station_graph.specs.Alike.{IsVector};
 
 use crate::labelling::labels;

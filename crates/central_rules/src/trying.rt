@@ -29,7 +29,8 @@ fn find_from(
     requires within { at ≤ length readings.now }
     ensures count { length vector.new ≡ length vector.old }
     ensures below { SameBelow at vector.old vector.new }
-    ensures found { IfOk result (λ o. IfSome o (λ rule. IsReadingFrom at readings.now vector.new × Breaks station.now vector.new op (Some rule))) }
+    ensures found { IfOk result (λ o. IfSome o (λ rule. IsReadingFrom at readings.now vector.new
+        × Breaks station.now vector.new op (Some rule))) }
     ensures none { IfOk result (λ o. IfNone o (NoneBreaks station.now at readings.now vector.old op)) }
 {
     if at == station.switch_count() {
@@ -58,7 +59,8 @@ fn find_with(
     requires within { at < length readings.now }
     ensures count { length vector.new ≡ length vector.old }
     ensures below { SameBelow at vector.old vector.new }
-    ensures found { IfOk result (λ o. IfSome o (λ rule. IsReadingFrom at readings.now vector.new × Breaks station.now vector.new op (Some rule))) }
+    ensures found { IfOk result (λ o. IfSome o (λ rule. IsReadingFrom at readings.now vector.new
+        × Breaks station.now vector.new op (Some rule))) }
     ensures none { IfOk result (λ o. IfNone o (NoneBreaksWith closed station.now at readings.now vector.old op)) }
 {
     if !agrees(readings.word(SwitchId(at)), closed) {

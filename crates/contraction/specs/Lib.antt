@@ -8,3 +8,4 @@ pub mod Ends
 pub mod Rows
 pub mod Inside
 pub mod Selecting
+pub mod Renaming

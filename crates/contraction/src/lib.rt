@@ -15,6 +15,7 @@ mod marks;
 mod merge;
 mod one_view;
 mod places;
+mod renamed;
 mod row;
 mod selection;
 mod supply;

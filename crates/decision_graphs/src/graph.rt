@@ -1,6 +1,8 @@
 //! Layered graphs, and what is asked of them.
-ghost use Rattle.std.specs.Prelude.{◌≡◌, ℕ, ◌+◌, ◌<◌, ◌≤◌, ◌↔◌, length, sum_by, List, map, slice_index, slice_index_or, true, false, IfOk, MatchOption, IsTrue};
-ghost use Rattle.decision_graphs.specs.Label.{DependsOn, layer_at, first_at, HasEdge, IsNode, Reaches, AreAllowed, AreChoices, AreReduced, AreLayers, Layer, label_of, place_after, step};
+ghost use Rattle.std.specs.Prelude.{◌≡◌, ℕ, ◌+◌, ◌<◌, ◌≤◌, ◌↔◌, length, sum_by, List, map, slice_index, slice_index_or};
+ghost use Rattle.std.specs.Prelude.{true, false, IfOk, MatchOption, IsTrue};
+ghost use Rattle.decision_graphs.specs.Label.{DependsOn, layer_at, first_at, HasEdge, IsNode, Reaches, AreAllowed};
+ghost use Rattle.decision_graphs.specs.Label.{AreChoices, AreReduced, AreLayers, Layer, label_of, place_after, step};
 ghost use Rattle.decision_graphs.specs.Reaching.{AreSetsOf, AreMarksOf, MarksReached, node_total, IsSet};
 ghost use Rattle.decision_graphs.specs.Finished.{AreFinished, finished};
 ghost use Rattle.decision_graphs.specs.Whole.{layer_of, IsWhole};
@@ -129,6 +131,18 @@ impl Graph {
         }
     }
 
+    /// A copy of the graph. Linear in edges and nodes, as is the memory that it takes.
+    pub fn copy(&self, alloc: Global) -> Result<Graph, Memory>
+        ensures { IfOk result (λ g. g ≡ self.now) }
+    {
+        Ok(Graph {
+            labels: self.labels,
+            shapes: Vec::from_slice(alloc, &self.shapes)?,
+            homes: Vec::from_slice(alloc, &self.homes)?,
+            edges: Vec::from_slice(alloc, &self.edges)?,
+        })
+    }
+
     // How many nodes the graph has.
     pub(crate) fn node_total(&self) -> u32
         ensures { result ≡ node_total self.now }
@@ -192,10 +206,13 @@ impl Graph {
     /// in edges but for hashing; takes about 16 bytes for each edge and 100 for each node while it runs.
     pub fn reduce(&self, alloc: Global) -> Result<Graph, Memory>
         ensures labels { IfOk result (λ g. g.labels ≡ self.now.labels) }
-        ensures choices { IfOk result (λ g. map (λ (l : Layer). l.choices) g.layers ≡ map (λ (l : Layer). l.choices) self.now.layers) }
-        ensures label { IfOk result (λ g. (cs : List ℕ) → AreChoices self.now.layers cs → label_of g cs ≡ label_of self.now cs) }
+        ensures choices { IfOk result (λ g. map (λ (l : Layer). l.choices) g.layers ≡ map (λ (l : Layer). l.choices)
+            self.now.layers) }
+        ensures label { IfOk result (λ g. (cs : List ℕ) → AreChoices self.now.layers cs →
+            label_of g cs ≡ label_of self.now cs) }
         ensures reduced { IfOk result (λ g. AreReduced g.layers) }
-        ensures sizes { IfOk result (λ g. (j : ℕ) → length (layer_at g.layers j).rows ≤ length (layer_at self.now.layers j).rows) }
+        ensures sizes { IfOk result (λ g. (j : ℕ) → length (layer_at g.layers j).rows ≤ length
+            (layer_at self.now.layers j).rows) }
     {
         let assembled = reduced(alloc, self.labels, &self.shapes, &self.edges)?;
         Ok(Graph::from_parts(
@@ -214,10 +231,12 @@ impl Graph {
         requires count { length names.now ≡ self.now.labels }
         requires within { (x : ℕ) → x < self.now.labels → slice_index names.now x < labels }
         ensures labels { IfOk result (λ g. g.labels ≡ labels) }
-        ensures choices { IfOk result (λ g. map (λ (l : Layer). l.choices) g.layers ≡ map (λ (l : Layer). l.choices) self.now.layers) }
+        ensures choices { IfOk result (λ g. map (λ (l : Layer). l.choices) g.layers ≡ map (λ (l : Layer). l.choices)
+            self.now.layers) }
         ensures label { IfOk result (λ g. 0 < length self.now.layers → (cs : List ℕ) → AreChoices self.now.layers cs
             → label_of g cs ≡ slice_index names.now (label_of self.now cs)) }
-        ensures sizes { IfOk result (λ g. (j : ℕ) → length (layer_at g.layers j).rows ≡ length (layer_at self.now.layers j).rows) }
+        ensures sizes { IfOk result (λ g. (j : ℕ) → length (layer_at g.layers j).rows ≡ length
+            (layer_at self.now.layers j).rows) }
     {
         let parts = renamed(
             alloc,

@@ -70,7 +70,8 @@ pub(crate) fn renamed(
     ensures whole { IfOk result (λ a. IsWhole new_labels a.shapes.items a.edges.items) }
     ensures choices { IfOk result (λ a. map (λ (l : Layer). l.choices) (map (layer_of a.edges.items) a.shapes.items)
         ≡ map (λ (l : Layer). l.choices) (map (layer_of edges.now) shapes.now)) }
-    ensures label { IfOk result (λ a. 0 < length shapes.now → (cs : List ℕ) → AreChoices (map (layer_of edges.now) shapes.now) cs
+    ensures label { IfOk result (λ a. 0 < length shapes.now → (cs : List ℕ) →
+        AreChoices (map (layer_of edges.now) shapes.now) cs
         → leads (map (layer_of a.edges.items) a.shapes.items) 0 cs ≡ slice_index names.now (leads (map (layer_of edges.now) shapes.now) 0 cs)) }
     ensures same { IfOk result (λ a. a.shapes.items ≡ shapes.now) }
 {

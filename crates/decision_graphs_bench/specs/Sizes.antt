@@ -1,7 +1,8 @@
 -- The sizes that a graph can have.
 use Rattle.std.specs.Prelude.{◌≡◌, ℕ, ◌<◌, ◌≤◌, List, length, slice_index, sum}
 
--- One label at least, and in each layer one choice and one node at least; the counts of layers and nodes are within a builder's limits.
+-- One label at least, and in each layer one choice and one node at least; the counts of layers and nodes are within a
+-- builder's limits.
 pub record AreSizes (labels : ℕ) (choices nodes : List ℕ) : Type 0 where
   pub any_label : 0 < labels
   pub same : length choices ≡ length nodes

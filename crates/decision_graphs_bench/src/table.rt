@@ -1,7 +1,9 @@
 //! Graphs from tables: for each layer how many choices and nodes it has, and the edges of all nodes
 //! in order, each as a number within the next layer, or a label.
-ghost use Rattle.std.specs.Prelude.{◌≡◌, ℕ, suc, ◌+◌, ◌<◌, ◌≤◌, ◌++◌, ◌∷◌, [], List, length, slice_index, IsTrue, IfOk, OnOk, if◌then◌else◌, ◌==◌};
-ghost use Rattle.decision_graphs.specs.Drafting.{node_count, MayHaveEdge, IsShaped, IsBare, EachHasNode, choices_of, sizes_of};
+ghost use Rattle.std.specs.Prelude.{◌≡◌, ℕ, suc, ◌+◌, ◌<◌, ◌≤◌, ◌++◌, ◌∷◌, [], List, length, slice_index, IsTrue, IfOk};
+ghost use Rattle.std.specs.Prelude.{OnOk, if◌then◌else◌, ◌==◌};
+ghost use Rattle.decision_graphs.specs.Drafting.{node_count, MayHaveEdge, IsShaped, IsBare, EachHasNode, choices_of};
+ghost use Rattle.decision_graphs.specs.Drafting.{sizes_of};
 ghost use Rattle.decision_graphs_bench.specs.Sizes.{AreSizes};
 
 use decision_graphs::GraphBuilder;
@@ -46,7 +48,8 @@ pub fn bare(
 fn add_nodes(builder: &mut GraphBuilder, count: u32) -> Result<(), Memory>
     requires layer { 0 < length builder.old.layers }
     requires room { node_count builder.old + count ≤ 4294967295 }
-    ensures shaped { OnOk result ((labels : ℕ) (cs ns : List ℕ) → IsShaped builder.old labels cs (ns ++ 0 ∷ []) → IsShaped builder.new labels cs (ns ++ count ∷ [])) }
+    ensures shaped { OnOk result ((labels : ℕ) (cs ns : List ℕ) → IsShaped builder.old labels cs (ns ++ 0 ∷ []) →
+        IsShaped builder.new labels cs (ns ++ count ∷ [])) }
     ensures bare { OnOk result (IsBare builder.old → IsBare builder.new) }
 {
     let mut made = 0;
@@ -113,7 +116,8 @@ fn fill_layer(builder: &mut GraphBuilder, part: Part, edges: &[Option<u32>], sta
     requires places { 0 < part.places }
     requires fits { part.low + part.places ≤ 4294967295 }
     requires nodes { part.first + part.count ≤ 4294967295 }
-    requires edges { (k c t : ℕ) → k < part.count → c < part.choices → t < part.places → MayHaveEdge builder.old (part.first + k) c (part.low + t) }
+    requires edges { (k c t : ℕ) → k < part.count → c < part.choices → t < part.places →
+        MayHaveEdge builder.old (part.first + k) c (part.low + t) }
     ensures { IsShaped builder.new builder.old.labels (choices_of builder.old) (sizes_of builder.old) }
 {
     let mut at = start;

@@ -1,5 +1,6 @@
 -- The text of an explanation.
-use Rattle.std.specs.Prelude.{◌≡◌, ◌<◌, ◌++◌, ◌==◌, ℕ, Bool, List, [], length, Option, Some, None, slice_get, slice_index_or, codes, if◌then◌else◌}
+use Rattle.std.specs.Prelude.{◌≡◌, ◌<◌, ◌++◌, ◌==◌, ℕ, Bool, List, [], length, Option, Some, None, slice_get}
+use Rattle.std.specs.Prelude.{slice_index_or, codes, if◌then◌else◌}
 use Rattle.std.specs.List.{flat_map}
 use Rattle.ilk_base.specs.declared.words.Dbpos.{Dbpos}
 use Rattle.ilk_base.specs.declared.words.Rule.{Rule}
@@ -29,7 +30,8 @@ position_line head None closed path = []
 
 -- The line of switch i, where it has one: the moved switch has none.
 abbrev pub position_at : List ℕ → ℕ → List Dbpos → List Bool → Diagram → ℕ → List ℕ
-position_at head moved words v d i = if i == moved then [] else position_line head (slice_get words i) (slice_get v i) (switch_path d i)
+position_at head moved words v d i = if i == moved then [] else position_line head (slice_get words i) (slice_get v i)
+  (switch_path d i)
 
 -- A line for each other switch whose word is neither off nor on, in document order.
 abbrev pub position_lines : List ℕ → ℕ → List Dbpos → List Bool → Diagram → List ℕ
@@ -56,7 +58,8 @@ earthed_lines d None = []
 -- The chain to a tap from each side, and the nodes that are bonded to the first.
 abbrev pub load_lines : Diagram → Option (Chain × Chain) → List ℕ → List ℕ
 load_lines d (Some (first, second)) bonded =
-    chain_lines d (codes "tap\n") first ++ chain_lines d (codes "tap\n") second ++ codes "bonded\n" ++ node_lines d bonded
+    chain_lines d (codes "tap\n") first ++ chain_lines d (codes "tap\n") second ++ codes "bonded\n"
+      ++ node_lines d bonded
 load_lines d None bonded = []
 
 -- The whole text, with these words of all switches and this reading of them.

@@ -76,7 +76,8 @@ fn way_to(
     requires from { from.0 < node_count station.now }
     requires ends { AllBelow (node_count station.now) ends.now }
     requires there { (m : ℕ) × Joined station.now joining.now from.0 m × Contains ends.now m }
-    ensures way { IfOk result (λ w. IsWay (Touching false station.now joining.now) (Contains ends.now) from.0 w.last.0 w.nodes) }
+    ensures way { IfOk result (λ w. IsWay (Touching false station.now joining.now) (Contains ends.now) from.0
+        w.last.0 w.nodes) }
     ensures nodes { IfOk result (λ w. AllBelow (node_count station.now) w.nodes) }
 {
     station.is_station();

@@ -1,5 +1,6 @@
 //! How many steps each node is from the nearest end.
-ghost use Rattle.std.specs.Prelude.{◌≡◌, ℕ, ◌+◌, ◌<◌, ◌≤◌, ◌^◌, List, [], length, replicate, None, Contains, IfOk, OnOk};
+ghost use Rattle.std.specs.Prelude.{◌≡◌, ℕ, ◌+◌, ◌<◌, ◌≤◌, ◌^◌, List, [], length, replicate, None, Contains, IfOk};
+ghost use Rattle.std.specs.Prelude.{OnOk};
 ghost use Rattle.denial_explain.specs.Ways.{AllBelow, IsWay};
 ghost use Rattle.denial_explain.specs.Listing.{list_at, Listed, IsUndirected};
 ghost use Rattle.denial_explain.specs.Stepping.{HasSteps, Visits, ReachesAll, Spreads, AreSteps};
@@ -136,7 +137,8 @@ pub(crate) fn follow(
     requires lists { IsUndirected neighbours.now }
     requires steps { AreSteps (Listed neighbours.now) (λ n. HasSteps steps.now n 0) (length neighbours.now) steps.now }
     requires from { (k : ℕ) × HasSteps steps.now from.0 k }
-    ensures way { IfOk result (λ w. IsWay (Listed neighbours.now) (λ n. HasSteps steps.now n 0) from.0 w.last.0 w.nodes) }
+    ensures way { IfOk result (λ w. IsWay (Listed neighbours.now) (λ n. HasSteps steps.now n 0) from.0
+        w.last.0 w.nodes) }
     ensures nodes { IfOk result (λ w. AllBelow (length neighbours.now) w.nodes) }
 {
     let mut nodes = NodeList::new(alloc);

@@ -3,7 +3,9 @@ ghost use Rattle.std.specs.Prelude.{◌≡◌, ◌<◌, ◌++◌, length, codes,
 ghost use Rattle.station_graph.specs.Diagram.{node_count, switch_path, node_path};
 ghost use Rattle.central_rules.specs.Names.{texts_below};
 ghost use Rattle.denial_explain.specs.Ways.{AllBelow};
-ghost use Rattle.denial_explain.specs.ExplanationText.{operation, denied_line, position_at, position_lines, node_lines, by_line, chain_lines, earthed_lines, load_lines, explanation_text, ChainFits, ExplanationFits};
+ghost use Rattle.denial_explain.specs.ExplanationText.{operation, denied_line, position_at, position_lines, node_lines};
+ghost use Rattle.denial_explain.specs.ExplanationText.{by_line, chain_lines, earthed_lines, load_lines};
+ghost use Rattle.denial_explain.specs.ExplanationText.{explanation_text, ChainFits, ExplanationFits};
 ghost use Rattle.station_graph.specs.CentralRules.{IsOperation};
 ghost use Rattle.double_points.specs.Words.{AreWords};
 ghost use Rattle.station_graph.specs.Alike.{IsVector};
@@ -69,7 +71,8 @@ fn push_position(
     requires words { AreWords station.now readings.now }
     requires reading { IsVector station.now reading.now }
     requires id { id.0 < length station.now.switches }
-    ensures { OnOk result (text.new ≡ text.old ++ position_at head.now moved.0 readings.now reading.now station.now id.0) }
+    ensures { OnOk result (text.new ≡ text.old ++ position_at head.now moved.0 readings.now reading.now
+        station.now id.0) }
 {
     if id.0 == moved.0 {
         return Ok(());
@@ -99,7 +102,8 @@ fn push_positions(
 ) -> Result<(), Memory>
     requires words { AreWords station.now readings.now }
     requires reading { IsVector station.now reading.now }
-    ensures { OnOk result (text.new ≡ text.old ++ position_lines head.now moved.0 readings.now reading.now station.now) }
+    ensures { OnOk result (text.new ≡ text.old ++ position_lines head.now moved.0 readings.now reading.now
+        station.now) }
 {
     for i in 0..station.switch_count() {
         push_position(text, head, station, readings, reading, moved, SwitchId(i))?;

@@ -1,5 +1,6 @@
 -- The place of a path among paths that differ.
-use Rattle.std.proofs.Common.{◌≡◌, ◌≢◌, ◌<◌, ℕ, zero, suc, Bool, true, false, cond, List, [], ◌∷◌, length, map, get_or, Option, Some, None, option_map, refl, sym, ap, ◌∙◌, arith}
+use Rattle.std.proofs.Common.{◌≡◌, ◌≢◌, ◌<◌, ℕ, zero, suc, Bool, true, false, cond, List, [], ◌∷◌, length, map, get_or}
+use Rattle.std.proofs.Common.{Option, Some, None, option_map, refl, sym, ap, ◌∙◌, arith}
 use Rattle.std.specs.Prelude.{slice_get, Contains, replicate}
 use Rattle.std.specs.Str.{bytes_eq, is_utf8, IsUtf8}
 use Rattle.std.proofs.lemmas.Slice.Eq.{bytes_eq-Decides}
@@ -31,19 +32,22 @@ there (p ∷ paths) (suc i) lt = there paths i (omega (arith, lt))
 
 -- paths that differ are distinct by their places
 pub distinct : (paths : List (List ℕ)) → Differ paths → IsDistinct paths
-distinct paths differ = λ i j a b e. differ i j (get_or paths i []) (there paths i a) (there paths j b ∙ ap Some (sym e))
+distinct paths differ = λ i j a b e. differ i j (get_or paths i []) (there paths i a) (there paths j b
+  ∙ ap Some (sym e))
 
 behind : (p : List ℕ) (paths : List (List ℕ)) → Differ (p ∷ paths) → Differ paths
 behind p paths differ = λ i j q a b. let e : suc i ≡ suc j = differ (suc i) (suc j) q a b in omega (arith, e)
 
 -- the place of a path that stands there
-pub place_of-there : (paths : List (List ℕ)) (i : ℕ) (p : List ℕ) → Differ paths → slice_get paths i ≡ Some p → place_of p paths ≡ Some i
+pub place_of-there : (paths : List (List ℕ)) (i : ℕ) (p : List ℕ) → Differ paths → slice_get paths i ≡ Some p →
+  place_of p paths ≡ Some i
 place_of-there [] i p differ at = cc at
 place_of-there (x ∷ paths) zero p differ at =
     let e : bytes_eq x p ≡ true = (bytes_eq-Decides x p).1 (cc at) in
     rw e refl
 place_of-there (x ∷ paths) (suc i) p differ at =
-    let e : bytes_eq x p ≡ false = apart x p (λ same. let z : 0 ≡ suc i = differ 0 (suc i) p (ap Some same) at in omega (arith, z)) in
+    let e : bytes_eq x p ≡ false = apart x p (λ same. let z : 0 ≡ suc i = differ 0 (suc i) p (ap Some same) at in
+      omega (arith, z)) in
     let rest = place_of-there paths i p (behind x paths differ) at in
     rw (e, rest) refl
 
@@ -56,11 +60,13 @@ place_of-nowhere (x ∷ paths) p none =
     rw (e, rest) refl
 
 -- the place of a path is one at which it stands
-pub place_of-some : (paths : List (List ℕ)) (p : List ℕ) (i : ℕ) → place_of p paths ≡ Some i → (i < length paths) × (get_or paths i [] ≡ p)
+pub place_of-some : (paths : List (List ℕ)) (p : List ℕ) (i : ℕ) → place_of p paths ≡ Some i → (i < length paths)
+  × (get_or paths i [] ≡ p)
 place_of-some [] p i e = cc e
 place_of-some (x ∷ paths) p i e = by_cases (bytes_eq x p) (place_of p paths) i refl (λ j h. place_of-some paths p j h) e
   where
-    by_cases : (b : Bool) (o : Option ℕ) (i : ℕ) → bytes_eq x p ≡ b → ((j : ℕ) → o ≡ Some j → (j < length paths) × (get_or paths j [] ≡ p)) → cond b (Some 0) (option_map suc o) ≡ Some i
+    by_cases : (b : Bool) (o : Option ℕ) (i : ℕ) → bytes_eq x p ≡ b → ((j : ℕ) → o ≡ Some j → (j < length paths)
+      × (get_or paths j [] ≡ p)) → cond b (Some 0) (option_map suc o) ≡ Some i
         → (i < suc (length paths)) × (get_or (x ∷ paths) i [] ≡ p)
     by_cases true o zero same more e = (omega arith, (bytes_eq-Decides x p).0 same)
     by_cases true o (suc i) same more e = cc e

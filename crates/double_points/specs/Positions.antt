@@ -1,7 +1,9 @@
 -- What a file of positions says.
-use Rattle.std.specs.Prelude.{◌≡◌, ◌<◌, ◌≤◌, ◌-◌, ◌&&◌, ◌⊎◌, ⊤, ℕ, Bool, true, false, not, List, [], ◌∷◌, length, take, map, Option, Some, None, is_some, unwrap_or, if◌then◌else◌, slice_index_or}
+use Rattle.std.specs.Prelude.{◌≡◌, ◌<◌, ◌≤◌, ◌-◌, ◌&&◌, ◌⊎◌, ⊤, ℕ, Bool, true, false, not, List, [], ◌∷◌, length, take}
+use Rattle.std.specs.Prelude.{map, Option, Some, None, is_some, unwrap_or, if◌then◌else◌, slice_index_or}
 use Rattle.std.specs.List.{list_any}
 use Rattle.std.specs.Str.{bytes_eq, is_utf8}
+use Rattle.ilk_base.specs.declared.limits.TheConstants.{FILE_BYTES}
 use Rattle.double_points.specs.Paths.{place_of}
 use Rattle.double_points.specs.Words.{word_of}
 use Rattle.ilk_base.specs.declared.words.Dbpos.{Dbpos}
@@ -63,12 +65,13 @@ words_of paths rows = map (λ path. unwrap_or (given rows path) Lost) paths
 
 -- The readings that a file gives, where it is accepted.
 abbrev pub IsAccepted : List (List ℕ) → List ℕ → List Dbpos → Type 0
-IsAccepted paths bytes words = (length bytes ≤ 8388608) × Accepts paths (rows_of bytes) × (words ≡ words_of paths (rows_of bytes))
+IsAccepted paths bytes words = (length bytes ≤ FILE_BYTES) × Accepts paths (rows_of bytes)
+  × (words ≡ words_of paths (rows_of bytes))
 
 -- Why a file is refused.
 abbrev pub IsRefusedWith : List (List ℕ) → List ℕ → InputRefusal → Type 0
-IsRefusedWith paths bytes r = ((8388608 < length bytes) × (r ≡ record { number = 5; line = 0 }))
-    ⊎ ((length bytes ≤ 8388608) × IsFirstFault paths (rows_of bytes) r)
+IsRefusedWith paths bytes r = ((FILE_BYTES < length bytes) × (r ≡ record { number = 5; line = 0 }))
+    ⊎ ((length bytes ≤ FILE_BYTES) × IsFirstFault paths (rows_of bytes) r)
 
 -- This holds of the refusal, where there is one; want of memory has no cause.
 abbrev pub ForRefused : PositionsFault → (InputRefusal → Type 0) → Type 0

@@ -1,5 +1,6 @@
 //! The file of positions.
-ghost use Rattle.std.specs.Prelude.{◌≡◌, ◌≢◌, ◌<◌, ◌≤◌, ℕ, List, [], ◌∷◌, length, map, Some, None, Err, IfOk, IfErr, OnOk, IfSome, IfNone, unwrap_or, slice_index_or, true, false};
+ghost use Rattle.std.specs.Prelude.{◌≡◌, ◌≢◌, ◌<◌, ◌≤◌, ℕ, List, [], ◌∷◌, length, map, Some, None, Err, IfOk, IfErr};
+ghost use Rattle.std.specs.Prelude.{OnOk, IfSome, IfNone, unwrap_or, slice_index_or, true, false};
 ghost use Rattle.std.specs.Str.{is_utf8};
 ghost use Rattle.csv.specs.Records.{fields_of};
 ghost use Rattle.double_points.specs.Words.{word_of, AreWords};
@@ -10,7 +11,7 @@ ghost use Rattle.ilk_base.specs.declared.words.Dbpos.TheVariants as word;
 use crate::readings::{Readings, readings_of, word_from};
 use crate::rows::Rows;
 use csv::ByteRecord;
-use ilk_base::{Dbpos, InputRefusal, Memory, SwitchId};
+use ilk_base::{Dbpos, FILE_BYTES, InputRefusal, Memory, SwitchId};
 use station_graph::Station;
 use std::alloc::{AllocError, Global};
 
@@ -42,9 +43,6 @@ impl From<AllocError> for PositionsFault {
         PositionsFault::Memory
     }
 }
-
-// The most bytes that a file may have.
-const MOST_BYTES: usize = 8_388_608;
 
 /// The bytes as text, where they are UTF-8. Time: their length.
 pub fn text_of(bytes: &[u8]) -> Option<&str>
@@ -114,7 +112,8 @@ fn parsed_fields(station: &Station, path: &[u8], word: &[u8]) -> Result<(usize, 
 fn parsed(station: &Station, row: &ByteRecord) -> Result<(usize, Dbpos), u8>
     ensures fault { IfErr result (λ n. form_fault station.now.switch_paths (fields_of row.now) ≡ Some n) }
     ensures form { OnOk result (form_fault station.now.switch_paths (fields_of row.now) ≡ None) }
-    ensures place { IfOk result (λ p. place_of (slice_index_or (fields_of row.now) 0 []) station.now.switch_paths ≡ Some p.0) }
+    ensures place { IfOk result (λ p. place_of (slice_index_or (fields_of row.now) 0 []) station.now.switch_paths
+        ≡ Some p.0) }
     ensures word { IfOk result (λ p. word_of (slice_index_or (fields_of row.now) 1 []) ≡ Some p.1) }
     ensures within { IfOk result (λ p. p.0 < length station.now.switch_paths) }
 {
@@ -169,7 +168,7 @@ pub fn read_positions(
     ensures err { IfErr result (λ e. ForRefused e (IsRefusedWith station.now.switch_paths bytes.now)) }
     ensures count { IfOk result (λ r. AreWords station.now r) }
 {
-    if bytes.len() > MOST_BYTES {
+    if bytes.len() > FILE_BYTES {
         return refused(5, 0);
     }
     station.is_station();

@@ -1,5 +1,6 @@
 //! Words, one for each switch.
-ghost use Rattle.std.specs.Prelude.{◌≡◌, ◌<◌, ◌≤◌, ◌+◌, ◌↔◌, ◌⊎◌, ℕ, List, length, Some, None, IfOk, IsTrue, slice_get, slice_set, replicate};
+ghost use Rattle.std.specs.Prelude.{◌≡◌, ◌<◌, ◌≤◌, ◌+◌, ◌↔◌, ◌⊎◌, ℕ, List, length, Some, None, IfOk, IsTrue, slice_get};
+ghost use Rattle.std.specs.Prelude.{slice_set, replicate};
 ghost use Rattle.station_graph.specs.Diagram.{part_count};
 ghost use Rattle.double_points.specs.Words.{word_of, Agrees, Forgets, AreWords, AreWordsOf};
 

@@ -59,7 +59,8 @@ impl<'a> Rows<'a> {
     /// Takes the next record, if there is one, in time of its bytes. At the end and after want of
     /// memory nothing is left.
     pub fn next(&mut self, row: &mut ByteRecord) -> Result<bool, Memory>
-        ensures next { IfOk result (λ found. MatchBool found (self.old ≡ fields_of row.new ∷ self.new) (self.old ≡ [])) }
+        ensures next { IfOk result (λ found. MatchBool found (self.old ≡ fields_of row.new ∷ self.new)
+            (self.old ≡ [])) }
         ensures end { IfOk result (λ found. found ≡ false → self.new ≡ []) }
         ensures memory { OnErr result (self.new ≡ []) }
     {

@@ -1,5 +1,6 @@
 -- The text of `audit`: what is found of each block.
-use Rattle.std.specs.Prelude.{◌==◌, ◌++◌, ℕ, Bool, true, false, List, [], length, flat_map, slice_get, Option, Some, None, codes, if◌then◌else◌}
+use Rattle.std.specs.Prelude.{◌==◌, ◌++◌, ℕ, Bool, true, false, List, [], length, flat_map, slice_get, Option, Some}
+use Rattle.std.specs.Prelude.{None, codes, if◌then◌else◌}
 use Rattle.ilk_base.specs.declared.words.Op.{Op}
 use Rattle.ilk_base.specs.declared.words.SwitchId.{SwitchId}
 use Rattle.station_graph.specs.Diagram.{Diagram, switch_path}

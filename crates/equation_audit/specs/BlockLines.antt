@@ -1,5 +1,6 @@
 -- What the lines of blocks say, and which line is the first with a fault.
-use Rattle.std.specs.Prelude.{◌≡◌, ◌≢◌, ◌<◌, ◌≤◌, ◌+◌, ◌++◌, ◌⊎◌, ⊤, ℕ, Bool, List, [], ◌∷◌, length, map, flat_map, slice_get, Option, Some, None, Contains, All, codes, option_to_list}
+use Rattle.std.specs.Prelude.{◌≡◌, ◌≢◌, ◌<◌, ◌≤◌, ◌+◌, ◌++◌, ◌⊎◌, ⊤, ℕ, Bool, List, [], ◌∷◌, length, map, flat_map}
+use Rattle.std.specs.Prelude.{slice_get, Option, Some, None, Contains, All, codes, option_to_list}
 use Rattle.std.specs.List.{AllZip}
 use Rattle.std.specs.Str.Lines.{lines}
 use Rattle.ilk_base.specs.declared.words.Op.{Op}
@@ -11,7 +12,7 @@ use Rattle.operation_lines.specs.OperationLines.{NamesOperation, HasFault, fault
 use Rattle.operation_lines.specs.declared.operation.LineFault.{LineFault}
 use Rattle.operation_lines.specs.declared.operation.LineFault.TheVariants.{Form, Unknown}
 use Rattle.equation_audit.specs.declared.condition.Condition.{Condition}
-use Rattle.equation_audit.specs.declared.reading.TheConstants.{MOST_BYTES}
+use Rattle.ilk_base.specs.declared.limits.TheConstants.{FILE_BYTES}
 use Rattle.equation_audit.specs.Equations.{Equation, HasFewOwn, IsBroad}
 
 -- What a line says: it begins the block of an operation, it is `never`, `or` or `end`, or it is a condition.
@@ -74,7 +75,7 @@ AllFew es = All (λ e. HasFewOwn e.alternatives) es
 
 -- The bytes are blocks of these equations.
 pub record AreBlocks (d : Diagram) (bytes : List ℕ) (es : List Equation) : Type 0 where
-  pub few_bytes : length bytes ≤ MOST_BYTES
+  pub few_bytes : length bytes ≤ FILE_BYTES
   pub say : Say d (filled_lines bytes) (flat_map whole es)
   pub one_each : OneEach es
   pub few : AllFew es
@@ -112,7 +113,8 @@ abbrev pub HasBodyFault : Diagram → List (List Condition) → List ℕ → ℕ
 HasBodyFault d alternatives line number =
     (IsOutOfPlace alternatives line × (number ≡ 10))
     ⊎ ((alternatives ≢ []) × NamesUnknown d line × (number ≡ 2))
-    ⊎ ((alternatives ≢ []) × (c : Condition) × NamesCondition d line c × IsBroad alternatives c.switch.0 × (number ≡ 13))
+    ⊎ ((alternatives ≢ []) × (c : Condition) × NamesCondition d line c × IsBroad alternatives c.switch.0
+      × (number ≡ 13))
 
 -- The refusal is of this line, and this holds of its number.
 abbrev pub InLine : ℕ → (ℕ → Type 0) → InputRefusal → Type 0
@@ -131,11 +133,14 @@ pub record EndsAfter (before all : List (ℕ × List ℕ)) (count : ℕ) (r : In
   pub refused : r ≡ record { number = 10; line = count + 1 }
 
 -- In a body that says this so far comes a fault, at a line or at the end of the text.
-abbrev pub BodyFaultAfter : Diagram → List (List Condition) → List (ℕ × List ℕ) → List (ℕ × List ℕ) → ℕ → InputRefusal → Type 0
-BodyFaultAfter d alternatives before all count r = FaultAfter before all (HasBodyFault d alternatives) r ⊎ EndsAfter before all count r
+abbrev pub BodyFaultAfter : Diagram → List (List Condition) → List (ℕ × List ℕ) → List (ℕ × List ℕ) → ℕ →
+  InputRefusal → Type 0
+BodyFaultAfter d alternatives before all count r = FaultAfter before all (HasBodyFault d alternatives) r
+  ⊎ EndsAfter before all count r
 
 -- What is wrong after whole blocks, and after those and one that is begun.
-abbrev pub HasFaultAfter : Diagram → List Equation → Option Equation → List (ℕ × List ℕ) → List (ℕ × List ℕ) → ℕ → InputRefusal → Type 0
+abbrev pub HasFaultAfter : Diagram → List Equation → Option Equation → List (ℕ × List ℕ) → List (ℕ × List ℕ) → ℕ →
+  InputRefusal → Type 0
 HasFaultAfter d es None before all count r = FaultAfter before all (HasHeadFault d es) r
 HasFaultAfter d es (Some e) before all count r = BodyFaultAfter d e.alternatives before all count r
 
@@ -157,8 +162,8 @@ pub record IsFirstFault (d : Diagram) (bytes : List ℕ) (r : InputRefusal) : Ty
 -- Why the bytes are no blocks: they are too many (5, in no line), else by the first fault.
 abbrev pub IsBlocksFault : Diagram → List ℕ → InputRefusal → Type 0
 IsBlocksFault d bytes r =
-    ((MOST_BYTES < length bytes) × (r ≡ record { number = 5; line = 0 }))
-    ⊎ ((length bytes ≤ MOST_BYTES) × IsFirstFault d bytes r)
+    ((FILE_BYTES < length bytes) × (r ≡ record { number = 5; line = 0 }))
+    ⊎ ((length bytes ≤ FILE_BYTES) × IsFirstFault d bytes r)
 
 -- The next line was `end`.
 pub record IsEndPassed (old new : List (ℕ × List ℕ)) : Type 0 where

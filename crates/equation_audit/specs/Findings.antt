@@ -1,5 +1,6 @@
 -- What an audit finds of an equation: whether it is loose, strict, or the same as the rules.
-use Rattle.std.specs.Prelude.{◌≡◌, ◌⊎◌, Bool, true, false, List, [], ◌∷◌, ◌||◌, is_some, MatchOption, Option, Some, None, All}
+use Rattle.std.specs.Prelude.{◌≡◌, ◌⊎◌, Bool, true, false, List, [], ◌∷◌, ◌||◌, is_some, MatchOption, Option, Some}
+use Rattle.std.specs.Prelude.{None, All}
 use Rattle.std.specs.List.{AllZip, list_any}
 use Rattle.ilk_base.specs.declared.words.Rule.{Rule}
 use Rattle.station_graph.specs.Diagram.{Diagram}
@@ -22,7 +23,8 @@ IsLoose d e = (rule : Rule) × (v : List Bool) × IsLooseIn d e rule v
 
 -- It does so in no vector that gives the own switches the position that u gives them.
 abbrev pub NoneLooseBy : Diagram → Equation → List Bool → Type 0
-NoneLooseBy d e u = (rule : Rule) (v : List Bool) → SharesPosition d (is_own e.alternatives) u v → ¬ IsLooseIn d e rule v
+NoneLooseBy d e u = (rule : Rule) (v : List Bool) → SharesPosition d (is_own e.alternatives) u v →
+  ¬ IsLooseIn d e rule v
 
 -- The position that u gives the own switches suffices for the rules: they forbid nothing in any vector with
 -- it.

@@ -1,5 +1,6 @@
 -- The positions of a block's own switches, by number, and the words that say one.
-use Rattle.std.specs.Prelude.{◌≡◌, ◌<◌, ◌==◌, ◌/◌, ◌%◌, ℕ, Bool, true, false, List, [], ◌∷◌, length, slice_get, slice_set, slice_index_or, Some, if◌then◌else◌}
+use Rattle.std.specs.Prelude.{◌≡◌, ◌<◌, ◌==◌, ◌/◌, ◌%◌, ℕ, Bool, true, false, List, [], ◌∷◌, length, slice_get}
+use Rattle.std.specs.Prelude.{slice_set, slice_index_or, Some, if◌then◌else◌}
 use Rattle.ilk_base.specs.declared.words.SwitchId.{SwitchId}
 use Rattle.ilk_base.specs.declared.words.Dbpos.{Dbpos}
 use Rattle.ilk_base.specs.declared.words.Dbpos.TheVariants.{Off, On, Lost}

@@ -2,7 +2,8 @@
 ghost use Rattle.std.specs.Prelude.{◌≡◌, ◌↔◌, true, IfOk, IfSome, IfNone, IsTrue};
 ghost use Rattle.station_graph.specs.Alike.{IsVector};
 ghost use Rattle.equation_audit.specs.Equations.{IsOfStation, AreOfStation};
-ghost use Rattle.equation_audit.specs.Findings.{IsLooseIn, NoneLooseBy, TellsLoose, IsStrictAt, TellsStrict, IsFinding, AreFindings, SomeDiffers, some_differ, IsShown, AreShown};
+ghost use Rattle.equation_audit.specs.Findings.{IsLooseIn, NoneLooseBy, TellsLoose, IsStrictAt, TellsStrict, IsFinding};
+ghost use Rattle.equation_audit.specs.Findings.{AreFindings, SomeDiffers, some_differ, IsShown, AreShown};
 
 use crate::block::{Block, Blocks};
 use crate::finding::{Finding, Loose};

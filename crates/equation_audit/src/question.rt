@@ -149,7 +149,8 @@ impl Block {
         requires same { (J.meaning judge.now).diagram ≡ station.now }
         requires block { IsOfStation station.now self.now }
         requires vector { IsVector station.now vector.now }
-        ensures { IfOk result (Decides station.now (SharesPosition station.now (is_own self.now.alternatives) vector.now) self.now.op) }
+        ensures { IfOk result (Decides station.now (SharesPosition station.now (is_own self.now.alternatives)
+            vector.now) self.now.op) }
     {
         ask_of(alloc, station, self.op, &self.own, vector, judge)
     }

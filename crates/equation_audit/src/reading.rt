@@ -4,20 +4,18 @@ ghost use Rattle.text_lines.specs.Lines.{filled_left, line_count};
 ghost use Rattle.operation_lines.specs.OperationLines.{NamesOperation};
 ghost use Rattle.station_graph.specs.Diagram.{Diagram};
 ghost use Rattle.equation_audit.specs.Equations.{HasFewOwn, OwnBelow, AreOfStation};
-ghost use Rattle.equation_audit.specs.BlockLines.{HasBlock, HasHeadFault, HasBodyFault, InLine, BodyFaultAfter, AreBlocks, IsBlocksFault, IsEndPassed, IsRest, IsRestFault, GoesOn};
+ghost use Rattle.equation_audit.specs.BlockLines.{HasBlock, HasHeadFault, HasBodyFault, InLine, BodyFaultAfter};
+ghost use Rattle.equation_audit.specs.BlockLines.{AreBlocks, IsBlocksFault, IsEndPassed, IsRest, IsRestFault, GoesOn};
 ghost use Rattle.equation_audit.specs.BlockFaults.{ForRefused};
 
 use crate::block::{Block, Blocks};
 use crate::condition::read_condition;
 use crate::draft::{Draft, DraftFault};
-use ilk_base::{InputRefusal, Memory, Op};
+use ilk_base::{FILE_BYTES, InputRefusal, Memory, Op};
 use operation_lines::read_operation;
 use station_graph::Station;
 use std::alloc::{AllocFailed, Global};
 use text_lines::Lines;
-
-// The most bytes that a text of blocks may have.
-const MOST_BYTES: usize = 8_388_608;
 
 /// Why a text gave no blocks.
 #[derive(Clone, Copy, Debug, PartialEq, Eq)]
@@ -106,7 +104,8 @@ fn is_never(draft: &Draft, line: &[u8]) -> bool
 // Passes the end of a block whose body is `never`.
 fn pass_end(lines: &mut Lines) -> Result<(), BlocksFault>
     ensures ok { IfOk result (λ _. IsEndPassed (filled_left lines.old) (filled_left lines.new)) }
-    ensures err { IfErr result (λ e. ForRefused e (λ r. (d : Diagram) → BodyFaultAfter d [] [] (filled_left lines.old) (line_count lines.old) r)) }
+    ensures err { IfErr result (λ e. ForRefused e (λ r. (d : Diagram) → BodyFaultAfter d [] [] (filled_left lines.old)
+        (line_count lines.old) r)) }
     ensures count { line_count lines.new ≡ line_count lines.old }
 {
     let Some((number, line)) = lines.next_filled() else {
@@ -161,7 +160,8 @@ fn read_rest(
     ensures op { IfOk result (λ b. b.op ≡ op) }
     ensures own { IfOk result (λ b. OwnBelow (length station.now.switches) b.alternatives) }
     ensures few { IfOk result (λ b. HasFewOwn b.alternatives) }
-    ensures err { IfErr result (λ e. ForRefused e (IsRestFault station.now (filled_left lines.old) (line_count lines.old))) }
+    ensures err { IfErr result (λ e. ForRefused e (IsRestFault station.now (filled_left lines.old)
+        (line_count lines.old))) }
     ensures count { line_count lines.new ≡ line_count lines.old }
 {
     let mut draft = Draft::new(alloc);
@@ -193,7 +193,7 @@ pub fn read_blocks(alloc: Global, station: &Station, bytes: &[u8]) -> Result<Blo
     ensures of_station { IfOk result (AreOfStation station.now) }
     ensures err { IfErr result (λ e. ForRefused e (IsBlocksFault station.now bytes.now)) }
 {
-    if bytes.len() > MOST_BYTES {
+    if bytes.len() > FILE_BYTES {
         return Err(refused(5, 0));
     }
     let mut blocks = Vec::new(alloc);

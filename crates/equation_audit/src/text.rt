@@ -5,7 +5,8 @@ ghost use Rattle.station_graph.specs.CentralRules.{IsOperation};
 ghost use Rattle.station_graph.specs.Alike.{IsVector};
 ghost use Rattle.denial_explain.specs.ExplanationText.{operation};
 ghost use Rattle.equation_audit.specs.Findings.{IsShown, AreShown};
-ghost use Rattle.equation_audit.specs.AuditText.{closed_at, closed_lines, loose_part, own_at, own_lines, strict_part, finding_text, audit_text};
+ghost use Rattle.equation_audit.specs.AuditText.{closed_at, closed_lines, loose_part, own_at, own_lines, strict_part};
+ghost use Rattle.equation_audit.specs.AuditText.{finding_text, audit_text};
 
 use crate::draft::is_among;
 use crate::finding::{Finding, Loose};

@@ -24,6 +24,7 @@ use Rattle.equation_text.specs.EquationMeaning.{Leads, NextGoal, Means}
 use Rattle.equation_text.specs.EquationForm.{SwitchGoalsFit, AreWhole, AreEquations, goals_of}
 use Rattle.equation_text.specs.Growing.{Extends, AreGoals, AllGrew, turned_goals, IsTurned}
 use Rattle.equation_text.specs.Compiling.{AreExact, IsPartStep, AreStepsOf, ArePartsOf, AreExactParts, SwitchIsExact, AreGoalsOf, HaveFewSteps}
+use Rattle.equation_text.specs.NodeCount.{HaveFewNodes}
 use Rattle.equation_text.proofs.LeadsLemmas.{leads_stay}
 use Rattle.equation_text.proofs.GrowingLemmas.{get_push, goal_stays, goal_below, next_stays}
 use Rattle.equation_text.proofs.PartsLemmas.{part_exact, part_fits}
@@ -109,15 +110,17 @@ pub record Compiled (d : Diagram) (e : EquationLines) : Type 0 where
   pub equations : AreEquations d e
   pub exact : AreExact d e
   pub steps : HaveFewSteps d e
+  pub nodes : HaveFewNodes d e
 
-pub compiled : (d : Diagram) (a : Alphabets) (parts : List PartLines) (nodes lines : List NodeLine) (ops turned : List SwitchGoals) (total : ℕ) → AreAlphabets d a → ArePartsOf a (part_count d) parts → AreGoalsOf d parts nodes (length d.switches) ops → IsTurned nodes lines → length nodes ≡ total → turned ≡ map (turned_goals total) ops → Compiled d (record { parts = parts; ops = turned; nodes = lines })
-compiled d a parts nodes lines ops turned total al are goals is count same =
+pub compiled : (d : Diagram) (a : Alphabets) (parts : List PartLines) (nodes lines : List NodeLine) (ops turned : List SwitchGoals) (total : ℕ) → AreAlphabets d a → ArePartsOf a (part_count d) parts → AreGoalsOf d parts nodes (length d.switches) ops → IsTurned nodes lines → length nodes ≡ total → turned ≡ map (turned_goals total) ops → HaveFewNodes d (record { parts = parts; ops = map (turned_goals (length nodes)) ops; nodes = lines }) → Compiled d (record { parts = parts; ops = turned; nodes = lines })
+compiled d a parts nodes lines ops turned total al are goals is count same few =
     let now : turned ≡ map (turned_goals (length nodes)) ops = same ∙ ap (λ n. map (turned_goals n) ops) (sym count) in
     subst (λ (xs : List SwitchGoals). Compiled d (record { parts = parts; ops = xs; nodes = lines })) (sym now) (record {
       whole = are_whole d a parts nodes lines ops al are goals is;
       equations = are_equations d a parts nodes lines ops al are goals is;
       exact = are_exact d a parts nodes lines ops al are goals is;
       steps = λ part x at. subst (λ n. AreStepSizes d part n) (sym (are.each part x at).count) (al.each part (omega (arith, slice_get_within parts part x at, are.count))).steps;
+      nodes = few;
     })
 
 pub goals_within : (d : Diagram) (parts : List PartLines) (nodes : List NodeLine) (n total : ℕ) (ops : List SwitchGoals) → AreGoalsOf d parts nodes n ops → length nodes ≡ total → (k : ℕ) (x : NodeLine) → slice_get nodes k ≡ Some x → AreGoals total (goals_of x)
@@ -143,9 +146,3 @@ parts_more a n next parts more x one_more same is are = record {
     | inr last ↦ subst (λ (z : PartLines). AreStepsOf a part z) last.1 (subst (λ k. AreStepsOf a k x) (sym (last.0 ∙ are.count)) is)
   ];
 }
-
--- the nodes of one switch more
-pub nodes_more : (f : ℕ → ℕ) (n old new : ℕ) → old ≤ sum_by f (range_with_len 0 n) → new ≤ old + f n → new ≤ sum_by f (range_with_len 0 (n + 1))
-nodes_more f n old new few more =
-    let longer : range_with_len 0 (n + 1) ≡ range_with_len 0 n ++ n ∷ [] = sym (map-id (range_with_len 0 (n + 1))) ∙ map-range_with_len_more (λ (k : ℕ). k) 0 n n (omega arith) ∙ ap (λ (xs : List ℕ). xs ++ n ∷ []) (map-id (range_with_len 0 n)) in
-    omega (arith, few, more, ap (sum_by f) longer, sum_by_push f (range_with_len 0 n) n)

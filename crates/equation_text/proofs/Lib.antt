@@ -3,6 +3,7 @@ pub mod TextLemmas
 pub mod FollowLemmas
 pub mod GraphFacts
 pub mod GrowingLemmas
+pub mod ApartLemmas
 pub mod ChoosingLemmas
 pub mod AnswerLemmas
 pub mod PartsLemmas
@@ -10,3 +11,5 @@ pub mod TurnLemmas
 pub mod MeaningLemmas
 pub mod CompileLemmas
 pub mod ReadyLemmas
+pub mod CountedLemmas
+pub mod ReachedLemmas

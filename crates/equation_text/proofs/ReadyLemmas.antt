@@ -31,7 +31,7 @@ use Rattle.equation_text.proofs.ChoosingLemmas.{chosen, in_a_row, others_look, o
 pub bay_is : (d : Diagram) (m : ℕ) (x : Switch) → slice_get d.switches m ≡ Some x → bay_of d m ≡ x.bay.0
 bay_is d m x at = ap (λ (o : Option Switch). unwrap_or (option_map (λ (y : Switch). y.bay.0) o) 0) at
 
-one_first : (d : Diagram) (b first count other number : ℕ) → AreSwitchesOf d b first count → AreSwitchesOf d b other number → 0 < count → first ≡ other
+pub one_first : (d : Diagram) (b first count other number : ℕ) → AreSwitchesOf d b first count → AreSwitchesOf d b other number → 0 < count → first ≡ other
 one_first d b first count other number are same some =
     let counts : count ≡ number = are.counted ∙ sym same.counted in
     let x = element d.switches first (omega (arith, are.within, some)) in

@@ -31,7 +31,7 @@ line_turned total parts v (switch_node switch off on) g l = record { position = 
     by false = refl
     by true = refl
 
-goals_turned : (total : ℕ) (x : NodeLine) (i : ℕ) (g : Goal) → slice_get (goals_of (turned_line total x)) i ≡ Some g → (h : Goal) × (slice_get (goals_of x) i ≡ Some h) × (turned_goal total h ≡ g)
+pub goals_turned : (total : ℕ) (x : NodeLine) (i : ℕ) (g : Goal) → slice_get (goals_of (turned_line total x)) i ≡ Some g → (h : Goal) × (slice_get (goals_of x) i ≡ Some h) × (turned_goal total h ≡ g)
 goals_turned total (part_node part goals) i g at = unmapped (turned_goal total) goals i g at
 goals_turned total (switch_node switch off on) i g at = unmapped (turned_goal total) (off ∷ on ∷ []) i g at
 

@@ -1,6 +1,5 @@
 -- What is compiled of a judge by decision graphs.
-use Rattle.std.specs.Prelude.{◌≡◌, ◌≤◌, ◌+◌, ◌↔◌, ℕ, Bool, List, length, slice_get, sum_by, Option, Some}
-use Rattle.std.specs.List.{range_with_len}
+use Rattle.std.specs.Prelude.{◌≡◌, ◌+◌, ◌-◌, ◌↔◌, ℕ, Bool, List, length, slice_get, Option, Some}
 use Rattle.ilk_base.specs.declared.words.Op.{Op}
 use Rattle.ilk_base.specs.declared.words.Rule.{Rule}
 use Rattle.station_graph.specs.declared.items.Switch.{Switch}
@@ -19,6 +18,7 @@ use Rattle.release_compile.specs.Graphs.{Says}
 use Rattle.release_compile.specs.Built.{ViewOf, BayOf}
 use Rattle.release_compile.specs.Judging.{Judging, bay_at, inner_at as graph_of}
 use Rattle.central_rules.specs.Meaning.{bay_of}
+use Rattle.decision_graphs.specs.Label.{Layered, first_at}
 use Rattle.decision_graphs.specs.Reaching.{node_total}
 use Rattle.equation_text.specs.declared.goal.Goal.{Goal}
 use Rattle.equation_text.specs.declared.goal.Goal.TheVariants.{Answer}
@@ -69,19 +69,20 @@ pub record IsOwnBay (d : Diagram) (m b first count : ℕ) : Type 0 where
   pub those : AreSwitchesOf d b first count
   pub station : IsStation d
 
--- How many nodes the graphs of one view of switch m have: its inner one and its bay's outer one.
+-- How many nodes an inner graph has behind its first layer.
+abbrev pub inner_total : Layered → ℕ
+inner_total g = node_total g - first_at g.layers 1
+
+-- How many nodes the graphs of one view of switch m have: its inner one behind its first layer, which looks at
+-- the label of the outer one, and its bay's outer one.
 abbrev pub view_nodes : BayOf → ViewOf → ℕ → ℕ
-view_nodes bay view m = node_total (graph_of bay view m) + node_total view.outer
+view_nodes bay view m = inner_total (graph_of bay view m) + node_total view.outer
 
 -- How many nodes the four graphs of switch m have.
 abbrev pub switch_nodes : Judging → ℕ → ℕ
 switch_nodes j m =
     let bay = bay_at j (bay_of j.diagram m) in
     view_nodes bay bay.load m + view_nodes bay bay.gap m
-
--- The nodes are no more than those of the graphs of the first n switches, the graphs of each counted once.
-abbrev pub AreFew : Judging → ℕ → List NodeLine → Type 0
-AreFew j n nodes = length nodes ≤ sum_by (switch_nodes j) (range_with_len 0 n)
 
 -- In v the goal leads to the goal of a label that says what holds of switch m.
 pub record ViewLeads (view : View) (d : Diagram) (parts : List PartLines) (nodes : List NodeLine) (v : List Bool) (m : ℕ) (goal : Goal) (ends : List Goal) : Type 0 where

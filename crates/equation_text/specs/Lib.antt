@@ -6,3 +6,6 @@ pub mod Inside
 pub mod Subjects
 pub mod Growing
 pub mod Compiling
+pub mod Apart
+pub mod NodeCount
+pub mod CompileText

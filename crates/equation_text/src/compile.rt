@@ -3,13 +3,17 @@ ghost use Rattle.std.specs.Prelude.{◌≡◌, ◌<◌, ◌≤◌, ◌+◌, ◌�
 ghost use Rattle.ilk_base.specs.declared.words.Rule.TheVariants.{R1, R2, R3};
 ghost use Rattle.station_graph.specs.Alike.{IsVector};
 ghost use Rattle.release_compile.specs.declared.view.View.TheVariants.{Gap, Load};
-ghost use Rattle.release_compile.specs.Judging.{bay_at};
+ghost use Rattle.release_compile.specs.Judging.{ground, bay_at};
+ghost use Rattle.release_compile.specs.Built.{AreBayGraphs};
 ghost use Rattle.central_rules.specs.Meaning.{bay_of};
 ghost use Rattle.equation_text.specs.declared.goal.Goal.TheVariants.{Answer};
 ghost use Rattle.equation_text.specs.EquationLines.{PartLines};
 ghost use Rattle.equation_text.specs.EquationForm.{IsGoal, SwitchGoalsFit, AreEquations};
 ghost use Rattle.equation_text.specs.Growing.{Extends, AllGrew};
-ghost use Rattle.equation_text.specs.Compiling.{AreExact, AreExactParts, IsOwnBay, ViewLeads, SwitchIsExact, AreGoalsOf, HaveFewSteps, view_nodes, switch_nodes, AreFew};
+ghost use Rattle.equation_text.specs.Apart.{IsFrom, BothFrom, AllFrom, StandApart};
+ghost use Rattle.equation_text.specs.NodeCount.{HaveFewNodes};
+ghost use Rattle.equation_text.specs.CompileText.{IsCompileText};
+ghost use Rattle.equation_text.specs.Compiling.{AreExact, AreExactParts, IsOwnBay, ViewLeads, SwitchIsExact, AreGoalsOf, HaveFewSteps, view_nodes, switch_nodes};
 
 use crate::equations::Equations;
 use crate::goal::{Goal, SwitchGoals};
@@ -18,8 +22,9 @@ use crate::node::Node;
 use crate::steps::all_steps;
 use crate::subject::Subjects;
 use crate::turning::{turned_nodes, turned_ops};
-use ilk_base::{BayId, Memory, Rule, SwitchId};
+use ilk_base::{BayId, Memory, Rule, SwitchId, Text};
 use release_compile::GraphJudge;
+use station_graph::Station;
 use std::alloc::Global;
 
 // The goals of the labels of an inner load graph.
@@ -77,8 +82,11 @@ fn load_goal(
     ensures grew { IfOk result (λ goal. (parts : List PartLines) → AreExactParts judge.now.diagram judge.now.alphabets parts
         → AllGrew (length judge.now.diagram.switches) parts nodes.old.items
         → AllGrew (length judge.now.diagram.switches) parts nodes.new.items × IsGoal (length nodes.new.items) goal) }
+    ensures apart { IfOk result (λ goal. (lo : ℕ) → lo ≤ length nodes.old.items → AllFrom lo nodes.old.items
+        → AllFrom lo nodes.new.items × IsFrom lo goal) }
     ensures few { OnOk result (length nodes.new.items ≤ length nodes.old.items
         + view_nodes (bay_at judge.now (bay_of judge.now.diagram id.0)) (bay_at judge.now (bay_of judge.now.diagram id.0)).load id.0) }
+    ensures graphs { IfOk result (λ _. AreBayGraphs (ground judge.now) (bay_of judge.now.diagram id.0) (bay_at judge.now (bay_of judge.now.diagram id.0))) }
 {
     let ends = load_ends(alloc)?;
     let _alphabets = judge.parts();
@@ -110,6 +118,8 @@ fn gap_goal(
     ensures grew { IfOk result (λ goal. (parts : List PartLines) → AreExactParts judge.now.diagram judge.now.alphabets parts
         → IsGoal (length nodes.old.items) free → AllGrew (length judge.now.diagram.switches) parts nodes.old.items
         → AllGrew (length judge.now.diagram.switches) parts nodes.new.items × IsGoal (length nodes.new.items) goal) }
+    ensures apart { IfOk result (λ goal. (lo : ℕ) → lo ≤ length nodes.old.items → IsFrom lo free → AllFrom lo nodes.old.items
+        → AllFrom lo nodes.new.items × IsFrom lo goal) }
     ensures few { OnOk result (length nodes.new.items ≤ length nodes.old.items
         + view_nodes (bay_at judge.now (bay_of judge.now.diagram id.0)) (bay_at judge.now (bay_of judge.now.diagram id.0)).gap id.0) }
 {
@@ -141,7 +151,9 @@ fn switch_goals(
     ensures grew { IfOk result (λ goals. (parts : List PartLines) → AreExactParts judge.now.diagram judge.now.alphabets parts
         → AllGrew (length judge.now.diagram.switches) parts nodes.old.items
         → AllGrew (length judge.now.diagram.switches) parts nodes.new.items × SwitchGoalsFit (length nodes.new.items) goals) }
+    ensures apart { IfOk result (λ goals. AllFrom (length nodes.old.items) nodes.new.items × BothFrom (length nodes.old.items) goals) }
     ensures few { OnOk result (length nodes.new.items ≤ length nodes.old.items + switch_nodes judge.now id.0) }
+    ensures graphs { IfOk result (λ _. AreBayGraphs (ground judge.now) (bay_of judge.now.diagram id.0) (bay_at judge.now (bay_of judge.now.diagram id.0))) }
 {
     let own = own_bay(judge, id);
     let opening = load_goal(alloc, judge, nodes, id, own)?;
@@ -158,7 +170,8 @@ fn all_goals(
     requires { nodes.old.items ≡ [] }
     ensures goals { IfOk result (λ ops. (parts : List PartLines) → AreExactParts judge.now.diagram judge.now.alphabets parts
         → AreGoalsOf judge.now.diagram parts nodes.new.items (length judge.now.diagram.switches) ops.items) }
-    ensures few { OnOk result (AreFew judge.now (length judge.now.diagram.switches) nodes.new.items) }
+    ensures apart { IfOk result (λ ops. (parts : List PartLines) → AreExactParts judge.now.diagram judge.now.alphabets parts
+        → StandApart judge.now (length judge.now.diagram.switches) ops.items nodes.new.items) }
 {
     let station = judge.station();
     let mut ops = Vec::new(alloc);
@@ -187,7 +200,7 @@ pub fn compile_equations(alloc: Global, judge: &GraphJudge) -> Result<Equations,
     ensures of_station { IfOk result (AreEquations judge.now.diagram) }
     ensures exact { IfOk result (AreExact judge.now.diagram) }
     ensures steps { IfOk result (HaveFewSteps judge.now.diagram) }
-    ensures nodes { IfOk result (λ e. AreFew judge.now (length judge.now.diagram.switches) e.nodes) }
+    ensures nodes { IfOk result (HaveFewNodes judge.now.diagram) }
 {
     let parts = all_steps(alloc, judge.station(), judge.parts())?;
     let mut nodes = Vec::new(alloc);
@@ -200,4 +213,16 @@ pub fn compile_equations(alloc: Global, judge: &GraphJudge) -> Result<Equations,
         ops,
         nodes: lines,
     })
+}
+
+/// The text of the equations of the judge's station (docs/FORMATS.md): one of the form, whose meaning is what
+/// the rules say, with no more lines than the counted sizes of the station allow. Time and memory: as those of
+/// `compile_equations`, and the text, which is held once.
+pub fn compile_text(alloc: Global, station: &Station, judge: &GraphJudge) -> Result<Text, Memory>
+    requires same { judge.now.diagram ≡ station.now }
+    ensures { IfOk result (IsCompileText station.now) }
+{
+    let equations = compile_equations(alloc, judge)?;
+    let text = equations.text(alloc, station)?;
+    Ok(text)
 }

@@ -16,7 +16,7 @@ mod subject;
 mod turning;
 mod writing;
 
-pub use compile::compile_equations;
+pub use compile::{compile_equations, compile_text};
 pub use equations::Equations;
 pub use goal::{GREATEST_INDEX, Goal, SwitchGoals};
 pub use law::text_means_the_answer;

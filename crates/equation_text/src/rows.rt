@@ -4,9 +4,10 @@ ghost use Rattle.decision_graphs.specs.Label.{layer_at, size_at, step};
 ghost use Rattle.equation_text.specs.declared.goal.Goal.{Goal as GoalOf};
 ghost use Rattle.equation_text.specs.EquationLines.{PartLines};
 ghost use Rattle.equation_text.specs.EquationMeaning.{LineLeads, NextGoal};
-ghost use Rattle.equation_text.specs.EquationForm.{IsGoal};
+ghost use Rattle.equation_text.specs.EquationForm.{IsGoal, goals_of};
 ghost use Rattle.equation_text.specs.Subjects.{IsRowFor, IsChosen, HasChoices};
 ghost use Rattle.equation_text.specs.Growing.{Extends, AreGoals, GrewFrom, AllGrew, IsRow};
+ghost use Rattle.equation_text.specs.Apart.{IsFrom, AreFrom, AllFrom};
 
 use crate::goal::Goal;
 use crate::node::Node;
@@ -85,6 +86,7 @@ fn node_of(subject: Subject, goals: Vec<Goal>) -> Node
         → slice_get goals.items c ≡ Some g → LineLeads parts v result g }
     ensures grew { (switches n : ℕ) (parts : List PartLines) → HasChoices switches parts subject (length goals.items)
         → AreGoals n goals.items → GrewFrom switches parts n result }
+    ensures apart { (lo : ℕ) → AreFrom lo goals.items → AreFrom lo (goals_of result) }
 {
     match subject {
         Subject::Part(part) => Node::of_part(part, goals),
@@ -105,6 +107,8 @@ pub(crate) fn goal_by(
     ensures grew { IfOk result (λ goal. (switches : ℕ) (parts : List PartLines) → HasChoices switches parts subject (length goals.items)
         → AreGoals (length nodes.old.items) goals.items → AllGrew switches parts nodes.old.items
         → AllGrew switches parts nodes.new.items × IsGoal (length nodes.new.items) goal) }
+    ensures apart { IfOk result (λ goal. (lo : ℕ) → lo ≤ length nodes.old.items → AreFrom lo goals.items → AllFrom lo nodes.old.items
+        → AllFrom lo nodes.new.items × IsFrom lo goal) }
     ensures few { OnOk result (length nodes.new.items ≤ length nodes.old.items + 1) }
 {
     if let Some(goal) = only(&goals) {

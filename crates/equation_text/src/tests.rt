@@ -1,7 +1,7 @@
 //! The equations of small stations, worked by hand from the rules.
 ghost use Rattle.std.specs.Prelude.{◌≡◌, ◌<◌, length};
 
-use crate::compile_equations;
+use crate::{compile_equations, compile_text};
 use ilk_base::{BayId, Direction, Kind, NodeId, Op, Rule, SwitchId};
 use release_compile::GraphJudge;
 use station_graph::{Builder, Station, Switch, Tap, Vector};
@@ -69,9 +69,10 @@ fn writes(
     station: &Station,
     judge: &GraphJudge,
     wanted: &[u8],
-) -> Result<(), Fail> {
-    let equations = compile_equations(alloc, judge)?;
-    let text = equations.text(alloc, station)?;
+) -> Result<(), Fail>
+    requires { judge.now.diagram ≡ station.now }
+{
+    let text = compile_text(alloc, station, judge)?;
     assert_eq!(rt; text.bytes(), wanted);
     Ok(())
 }

@@ -7,9 +7,7 @@ use Rattle.std.specs.Str.{bytes_eq}
 use Rattle.std.proofs.lemmas.Bool.{cases_Bool}
 use Rattle.std.proofs.lemmas.Slice.Eq.{bytes_eq-Decides}
 use Rattle.command_words.specs.Rows.{is_plain, is_row, row_of, written}
-use Rattle.interlock_cli.specs.Commands.{Command, one_word, two_words, three_words, four_words, named, command_of}
-use Rattle.interlock_cli.specs.Commands.{check_of, explain_of, state_of, order_of, replay_of, audit_of, node_of}
-use Rattle.interlock_cli.specs.Commands.{make_of, work_of}
+use Rattle.interlock_cli.specs.Commands.{Command, one_word, two_words, three_words, four_words, named, command_of, check_of, explain_of, state_of, order_of, replay_of, audit_of, node_of, make_of, work_of, compile_of}
 
 abbrev Text : Type 0
 Text = List ℕ
@@ -69,8 +67,9 @@ module _ (name : Text) (rest : List Text) (none : is_row (name ∷ rest) ≡ fal
       (row (codes "audit") 2 audit_of _ refl (two _)
       (row (codes "node") 2 node_of _ refl (two _)
       (row (codes "make") 2 make_of _ refl (two _)
+      (row (codes "compile") 1 compile_of _ refl (one _)
       (row (codes "work") 1 work_of _ refl (one _)
-      refl))))))))
+      refl)))))))))
 
 unnamed : (words : List Text) → is_row words ≡ false → named words ≡ None
 unnamed [] none = refl

@@ -19,6 +19,7 @@ use Rattle.interlock_cli.specs.OrderWrites.{OrderWrites}
 use Rattle.interlock_cli.specs.ReplayWrites.{ReplayWrites}
 use Rattle.interlock_cli.specs.AuditWrites.{AuditWrites}
 use Rattle.interlock_cli.specs.WorkWrites.{WorkWrites}
+use Rattle.equation_text.specs.CompileText.{IsCompileText}
 use Rattle.interlock_cli.specs.declared.end.Outcome.{Outcome}
 use Rattle.interlock_cli.specs.declared.end.Outcome.TheVariants.{Done}
 
@@ -37,6 +38,8 @@ pub data Command : Type 0 where
   Audit : List ℕ → List ℕ → Command
   -- `node STATION BAY`
   Node : List ℕ → List ℕ → Command
+  -- `compile STATION`
+  Compile : List ℕ → Command
   -- `make NUMBER station`, or `positions`, or `log`
   Make : ℕ → MadeText → Command
   -- `work NUMBER`
@@ -85,6 +88,9 @@ audit_of = two_words (λ station equations. Some (Audit station equations))
 abbrev pub node_of : List (List ℕ) → Option Command
 node_of = two_words (λ station bay. Some (Node station bay))
 
+abbrev pub compile_of : List (List ℕ) → Option Command
+compile_of = one_word (λ station. Some (Compile station))
+
 abbrev pub make_of : List (List ℕ) → Option Command
 make_of = two_words (λ number text. option_and_then (λ n. option_map (λ t. Make n t) (text_named text)) (feeders_of number))
 
@@ -103,6 +109,7 @@ named (name ∷ rest) =
     else if bytes_eq name (codes "audit") then audit_of rest
     else if bytes_eq name (codes "node") then node_of rest
     else if bytes_eq name (codes "make") then make_of rest
+    else if bytes_eq name (codes "compile") then compile_of rest
     else if bytes_eq name (codes "work") then work_of rest
     else None
 
@@ -131,6 +138,8 @@ form_of (Audit station equations) =
     Take (File station) Drawing (λ d. Take (File equations) (BlocksOf d) (λ es. Write (AuditWrites d es)))
 form_of (Node station bay) =
     Take (File station) Drawing (λ d. Take (Word bay) (BayOf d) (λ b. Serve d b))
+form_of (Compile station) =
+    Take (File station) Drawing (λ d. Write (IsDone (IsCompileText d)))
 form_of (Make number text) = Write (IsDone (λ written. written ≡ made_text text number))
 form_of (Work number) =
     Take (Word (station_text number)) Drawing (λ d. Take (Word (positions_text number)) (Positions d) (λ words.

@@ -1,7 +1,7 @@
 -- What a contract sees of a command.
 use Rattle.interlock_cli.specs.Commands as c
 use Rattle.interlock_cli.specs.declared.words.Command.{Command}
-use Rattle.interlock_cli.specs.declared.words.Command.TheVariants.{Check, Explain, State, Order, Replay, Audit, Node, Make, Work}
+use Rattle.interlock_cli.specs.declared.words.Command.TheVariants.{Check, Explain, State, Order, Replay, Audit, Node, Make, Work, Compile}
 
 abbrev pub seen : Command → c.Command
 seen (Check station positions) = c.Check station.now positions.now
@@ -11,5 +11,6 @@ seen (Order station positions order) = c.Order station.now positions.now order.n
 seen (Replay station log) = c.Replay station.now log.now
 seen (Audit station equations) = c.Audit station.now equations.now
 seen (Node station bay) = c.Node station.now bay.now
+seen (Compile station) = c.Compile station.now
 seen (Make feeders text) = c.Make feeders.number text
 seen (Work feeders) = c.Work feeders.number

@@ -8,6 +8,7 @@ mod end;
 mod explain;
 mod explain_command;
 mod loading;
+mod compile_command;
 mod make_command;
 mod node_command;
 mod order_command;

@@ -8,6 +8,7 @@ ghost use Rattle.interlock_cli.specs.Complete.{Completes};
 
 use crate::audit_command::audit;
 use crate::check_command::check;
+use crate::compile_command::compile;
 use crate::end::{End, Output, make_status};
 use crate::explain_command::explain;
 use crate::make_command::make;
@@ -43,6 +44,7 @@ fn output_of<F: Shelf>(alloc: Global, command: &Command, shelf: &mut F) -> Resul
             order: steps,
         } => order(alloc, station, positions, steps, shelf),
         Command::Audit { station, equations } => audit(alloc, station, equations, shelf),
+        Command::Compile { station } => compile(alloc, station, shelf),
         Command::Make { feeders, text } => make(alloc, feeders, text),
         Command::Work { feeders } => work(alloc, feeders),
         Command::Replay { station, log } => replay(alloc, station, log, shelf),
@@ -101,7 +103,8 @@ fn call<F: Shelf, I: Source, O: Sink>(
 /// The words are those of the command line, without the program's name. Where no word is empty or begins
 /// with `-`, and they are `check STATION POSITIONS`, `explain STATION POSITIONS open SWITCH` (or `close`),
 /// `state STATION POSITIONS`, `order STATION POSITIONS ORDER`, `replay STATION LOG`, `audit STATION EQUATIONS`,
-/// `make NUMBER station` (or `positions`, or `log`), `work NUMBER` or `node STATION BAY`, they name that command;
+/// `compile STATION`, `make NUMBER station` (or `positions`, or `log`), `work NUMBER` or `node STATION BAY`, they
+/// name that command;
 /// all else is `Usage`. What a command is given is judged in the order of the words, but for a switch or bay
 /// that they name, which comes last. Each file is judged before the next is read, and nothing is written, nor
 /// asked of the input, before all is accepted. On every status but `Done` and `Differs` one line goes to

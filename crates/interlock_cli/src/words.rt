@@ -1,6 +1,6 @@
 // What the words name.
 ghost use Rattle.std.specs.Prelude.{◌≡◌, ◌∷◌, map, option_map, string_bytes, Some, IfOk, IfErr};
-ghost use Rattle.interlock_cli.specs.Commands.{replay_of, audit_of, check_of, command_of, direction_of, explain_of, make_of, named, node_of, order_of, state_of, work_of};
+ghost use Rattle.interlock_cli.specs.Commands.{replay_of, audit_of, check_of, command_of, direction_of, explain_of, make_of, named, node_of, order_of, state_of, work_of, compile_of};
 ghost use Rattle.interlock_cli.specs.Ends.{Unread};
 ghost use Rattle.interlock_cli.specs.Seen.{seen};
 
@@ -43,6 +43,9 @@ pub enum Command<'a> {
     Node {
         station: &'a str,
         bay: &'a str,
+    },
+    Compile {
+        station: &'a str,
     },
     Make {
         feeders: Feeders,
@@ -146,6 +149,16 @@ fn node_words<'a>(rest: &[&'a str]) -> Option<Command<'a>>
     Some(Command::Node { station, bay })
 }
 
+// `compile STATION`.
+fn compile_words<'a>(rest: &[&'a str]) -> Option<Command<'a>>
+    ensures { compile_of (map (λ w. w.now) rest.now) ≡ option_map seen result }
+{
+    let &[station] = rest else {
+        return None;
+    };
+    Some(Command::Compile { station })
+}
+
 // `make NUMBER station`, or `positions`, or `log`.
 fn make_words<'a>(rest: &[&'a str]) -> Option<Command<'a>>
     ensures { make_of (map (λ w. w.now) rest.now) ≡ option_map seen result }
@@ -187,6 +200,7 @@ fn named<'a>(name: &str, rest: &[&'a str]) -> Option<Command<'a>>
         "replay" => replay_words(rest),
         "audit" => audit_words(rest),
         "node" => node_words(rest),
+        "compile" => compile_words(rest),
         "make" => make_words(rest),
         "work" => work_words(rest),
         _ => None,

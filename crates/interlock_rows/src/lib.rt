@@ -11,14 +11,22 @@ mod explanations;
 #[cfg(test)]
 mod hostile;
 #[cfg(test)]
+mod logs;
+#[cfg(test)]
 mod makes;
+#[cfg(test)]
+mod one_line_more;
 #[cfg(test)]
 mod orders;
 #[cfg(test)]
 mod refusals;
+#[cfg(test)]
+mod refused_logs;
 #[cfg(test)]
 mod replays;
 #[cfg(test)]
 mod rows;
 #[cfg(test)]
 mod sessions;
+#[cfg(test)]
+mod station_texts;

@@ -1,5 +1,6 @@
 -- The fields of a record, and numbers in them.
-use Rattle.std.proofs.Common.{◌≡◌, ◌<◌, ◌≤◌, ◌^◌, ℕ, zero, suc, true, List, [], ◌∷◌, length, get_or, Some, None, Ok, Result, All, refl, sym, ap, ◌∙◌, inl, inr, arith}
+use Rattle.std.proofs.Common.{◌≡◌, ◌<◌, ◌≤◌, ◌^◌, ℕ, zero, suc, true, List, [], ◌∷◌, length, get_or, Some, None, Ok}
+use Rattle.std.proofs.Common.{Result, All, refl, sym, ap, ◌∙◌, inl, inr, arith}
 use Rattle.std.specs.Prelude.{decimal}
 use Rattle.std.specs.Str.{is_utf8}
 use Rattle.std.specs.Str.Parse.{digits_value, ParsesUnsigned}
@@ -8,12 +9,14 @@ use Rattle.std.proofs.lemmas.Fmt.{decimal_is_IsNumeral, parse-decimal}
 use Rattle.std.proofs.lemmas.Str.{IsUtf8-nil, is_utf8-from_IsUtf8}
 use Rattle.csv.specs.Records.{field_at}
 use Rattle.log_replay.specs.declared.kinds.RecordKind.{RecordKind}
-use Rattle.log_replay.specs.declared.kinds.RecordKind.TheVariants.{At, Command, Sense, Begin, End, Deliver, Tick, Withdraw, Restart, Part, Cut}
+use Rattle.log_replay.specs.declared.kinds.RecordKind.TheVariants.{At, Command, Sense, Begin, End, Deliver, Tick}
+use Rattle.log_replay.specs.declared.kinds.RecordKind.TheVariants.{Withdraw, Restart, Part, Cut}
 use Rattle.log_replay.specs.RecordFaults.{kind_name, field_count, field, IsOfKind, HasForm, IsNumber}
 
 -- ---- the field at a place
 
-pub field_there : (row : List (List ℕ)) (place : ℕ) (text : List ℕ) → field_at row place ≡ Some text → field row place ≡ text
+pub field_there : (row : List (List ℕ)) (place : ℕ) (text : List ℕ) → field_at row place ≡ Some text →
+  field row place ≡ text
 unfolding field_at
 field_there [] place text is = cc is
 field_there (f ∷ row) zero text is = cc is
@@ -71,8 +74,10 @@ few_fields Restart = omega arith
 few_fields Part = omega arith
 few_fields Cut = omega arith
 
-pub has_form : (k : RecordKind) (row : List (List ℕ)) → IsOfKind row k → length row ≡ field_count k → is_utf8 (field row 1) ≡ true → is_utf8 (field row 2) ≡ true → HasForm k row
-has_form k row named count first second = record { count = count; texts = λ i d lt. ap is_utf8 (same_default row i d lt) ∙ each i (omega (arith, lt, count, few_fields k)) }
+pub has_form : (k : RecordKind) (row : List (List ℕ)) → IsOfKind row k → length row ≡ field_count k →
+  is_utf8 (field row 1) ≡ true → is_utf8 (field row 2) ≡ true → HasForm k row
+has_form k row named count first second = record { count = count; texts = λ i d lt. ap is_utf8 (same_default row i d lt)
+  ∙ each i (omega (arith, lt, count, few_fields k)) }
   where
     each : (i : ℕ) → i < 3 → is_utf8 (field row i) ≡ true
     each zero lt = ap is_utf8 named ∙ name_is_text k
@@ -84,8 +89,11 @@ has_form k row named count first second = record { count = count; texts = λ i d
 
 -- no two numbers have one decimal text
 pub decimal_tells : (a b : ℕ) → a < 2 ^ 64 → b < 2 ^ 64 → decimal a ≡ decimal b → a ≡ b
-decimal_tells a b low high is = sym (decimal_is_IsNumeral a low).1 ∙ ap (digits_value 10) is ∙ (decimal_is_IsNumeral b high).1
+decimal_tells a b low high is = sym (decimal_is_IsNumeral a low).1 ∙ ap (digits_value 10) is
+  ∙ (decimal_is_IsNumeral b high).1
 
 -- the text of a number is read as it
-pub parsed : {E : Type 0} (most : ℕ) (text : List ℕ) (n : ℕ) (r : Result ℕ E) → most < 2 ^ 32 → IsNumber 0 most text n → ParsesUnsigned 32 10 text r → r ≡ Ok n
-parsed most text n r fits is parses = parse-decimal 32 n text r (omega (arith, fits, is.high)) (omega (arith, fits, is.high)) is.written parses
+pub parsed : {E : Type 0} (most : ℕ) (text : List ℕ) (n : ℕ) (r : Result ℕ E) → most < 2 ^ 32 → IsNumber 0 most text n →
+  ParsesUnsigned 32 10 text r → r ≡ Ok n
+parsed most text n r fits is parses = parse-decimal 32 n text r (omega (arith, fits, is.high))
+  (omega (arith, fits, is.high)) is.written parses

@@ -24,3 +24,9 @@ pub mod ReportLemmas
 pub mod Replaying
 pub mod StartLemmas
 pub mod OneOutcome
+pub mod TextRows
+pub mod ReportRows
+pub mod RowFacts
+pub mod RowReading
+pub mod ShownReading
+pub mod Telling

@@ -1,5 +1,6 @@
 -- No text is a log and refused as one.
-use Rattle.std.proofs.Common.{◌≡◌, ◌<◌, ◌+◌, ◌*◌, ◌==◌, ◌∙◌, sym, ap, refl, subst, ℕ, zero, suc, Bool, true, false, List, [], ◌∷◌, length, take, Some, Contains, inl, inr, arith, if◌then◌else◌}
+use Rattle.std.proofs.Common.{◌≡◌, ◌<◌, ◌+◌, ◌*◌, ◌==◌, ◌∙◌, sym, ap, refl, subst, ℕ, zero, suc, Bool, true, false}
+use Rattle.std.proofs.Common.{List, [], ◌∷◌, length, take, Some, Contains, inl, inr, arith, if◌then◌else◌}
 use Rattle.std.specs.Prelude.{slice_get, slice_index_or}
 use Rattle.std.specs.List.{AllZip, list_any}
 use Rattle.std.proofs.lemmas.Option.{slice_get_within, slice_get-get_or}
@@ -10,10 +11,12 @@ use Rattle.reservation_core.specs.declared.values.LogEvent.{LogEvent}
 use Rattle.reservation_core.specs.declared.values.LogEvent.TheVariants.{At as TellsAt, Step}
 use Rattle.reservation_core.specs.declared.values.WorldEvent.TheVariants as event
 use Rattle.log_replay.specs.declared.kinds.RecordKind.{RecordKind}
-use Rattle.log_replay.specs.declared.kinds.RecordKind.TheVariants.{At, Command, Sense, Begin, End, Deliver, Tick, Withdraw, Restart, Part, Cut}
+use Rattle.log_replay.specs.declared.kinds.RecordKind.TheVariants.{At, Command, Sense, Begin, End, Deliver, Tick}
+use Rattle.log_replay.specs.declared.kinds.RecordKind.TheVariants.{Withdraw, Restart, Part, Cut}
 use Rattle.log_replay.specs.declared.log.TheConstants.{MOST_RECORDS}
 use Rattle.log_replay.specs.Records.{Says, MayBeTold, event_row, is_step, is_told_of, has_step, tell_of}
-use Rattle.log_replay.specs.RecordFaults.{kind_name, field, HasForm, IsLate, IsKnown, IsWord, IsAgain, AreNumbers, KindFault, RecordFault}
+use Rattle.log_replay.specs.RecordFaults.{kind_name, field, HasForm, IsLate, IsKnown, IsWord, IsAgain, AreNumbers}
+use Rattle.log_replay.specs.RecordFaults.{KindFault, RecordFault}
 use Rattle.log_replay.specs.Log.{IsText, MayFollow, IsLog, IsLogFault}
 use Rattle.log_replay.proofs.RecordLemmas.{there}
 use Rattle.log_replay.proofs.ReportLemmas.{each_at}
@@ -51,7 +54,9 @@ abbrev mark : List ℕ → ℕ
 mark text = 256 * length text + slice_index_or text 0 0
 
 abbrev of_mark : ℕ → RecordKind
-of_mark n = if n == 609 then At else if n == 1891 then Command else if n == 1395 then Sense else if n == 1892 then Deliver else if n == 1140 then Tick else if n == 2167 then Withdraw else if n == 1906 then Restart else if n == 1378 then Begin else if n == 869 then End else if n == 1136 then Part else Cut
+of_mark n = if n == 609 then At else if n == 1891 then Command else if n == 1395 then Sense else if n == 1892 then
+  Deliver else if n == 1140 then Tick else if n == 2167 then Withdraw else if n == 1906 then Restart else if n == 1378
+  then Begin else if n == 869 then End else if n == 1136 then Part else Cut
 
 marked : (k : RecordKind) → of_mark (mark (kind_name k)) ≡ k
 marked At = refl
@@ -129,13 +134,17 @@ is_word d (Step (event.End i)) = tt
 is_word d (Step (event.Part n bytes)) = tt
 is_word d (Step (event.Cut i)) = tt
 
-at_place : (d : Diagram) (i : ℕ) → IsStation d → i < length d.switches → slice_get d.switch_paths i ≡ Some (switch_path d i)
+at_place : (d : Diagram) (i : ℕ) → IsStation d → i < length d.switches →
+  slice_get d.switch_paths i ≡ Some (switch_path d i)
 at_place d i station lt = slice_get-get_or d.switch_paths i [] (omega (arith, lt, station.items.paths))
 
-one_path : (d : Diagram) (i j : ℕ) → IsStation d → i < length d.switches → j < length d.switches → switch_path d i ≡ switch_path d j → i ≡ j
-one_path d i j station low high is = station.paths_differ.switches i j (switch_path d j) (at_place d i station low ∙ ap Some is) (at_place d j station high)
+one_path : (d : Diagram) (i j : ℕ) → IsStation d → i < length d.switches → j < length d.switches →
+  switch_path d i ≡ switch_path d j → i ≡ j
+one_path d i j station low high is = station.paths_differ.switches i j (switch_path d j) (at_place d i station low
+  ∙ ap Some is) (at_place d j station high)
 
-not_again : (d : Diagram) (before : List LogEvent) (e : LogEvent) → IsStation d → MayBeTold d e → MayFollow before e → IsAgain d before (kind_of e) (field (event_row d e) 1) → ⊥
+not_again : (d : Diagram) (before : List LogEvent) (e : LogEvent) → IsStation d → MayBeTold d e → MayFollow before e →
+  IsAgain d before (kind_of e) (field (event_row d e) 1) → ⊥
 not_again d before (TellsAt j closed) station told follows (i, path, lt, again) =
     let same : j.0 ≡ i = one_path d j.0 i station told lt path in
     let no : tell_of i before ≡ false = ap (λ (s : ℕ). tell_of s before) (sym same) ∙ follows.1 in
@@ -151,7 +160,8 @@ not_again d before (Step (event.End i)) station told follows again = again
 not_again d before (Step (event.Part n bytes)) station told follows again = again
 not_again d before (Step (event.Cut i)) station told follows again = again
 
-are_numbers : (d : Diagram) (e : LogEvent) → MayBeTold d e → AreNumbers (kind_of e) (field (event_row d e) 1) (field (event_row d e) 2)
+are_numbers : (d : Diagram) (e : LogEvent) → MayBeTold d e → AreNumbers (kind_of e) (field (event_row d e) 1)
+  (field (event_row d e) 2)
 are_numbers d (TellsAt i closed) told = tt
 are_numbers d (Step (event.Command op)) told = tt
 are_numbers d (Step (event.Sense i word)) told = tt
@@ -161,24 +171,36 @@ are_numbers d (Step (event.Withdraw b)) told = tt
 are_numbers d (Step (event.Restart b)) told = tt
 are_numbers d (Step (event.Begin i)) told = tt
 are_numbers d (Step (event.End i)) told = tt
-are_numbers d (Step (event.Part n bytes)) told = ((n, record { written = refl; low = told.1.0.0; high = told.1.0.1 }), (bytes, record { written = refl; low = omega arith; high = told.1.1 }))
+are_numbers d (Step (event.Part n bytes)) told = ((n, record { written = refl; low = told.1.0.0; high = told.1.0.1 }),
+  (bytes, record { written = refl; low = omega arith; high = told.1.1 }))
 are_numbers d (Step (event.Cut i)) told = tt
 
-no_kind_fault : (d : Diagram) (before : List LogEvent) (e : LogEvent) (number : ℕ) → IsStation d → IsText (event_row d e) → MayBeTold d e → MayFollow before e → KindFault d before (kind_of e) (event_row d e) number → ⊥
+no_kind_fault : (d : Diagram) (before : List LogEvent) (e : LogEvent) (number : ℕ) → IsStation d →
+  IsText (event_row d e) → MayBeTold d e → MayFollow before e →
+  KindFault d before (kind_of e) (event_row d e) number → ⊥
 no_kind_fault d before e number station texts told follows (KindFault.no_form none is) = none (form_of d e texts)
-no_kind_fault d before e number station texts told follows (KindFault.late form late is) = not_late before e follows late
-no_kind_fault d before e number station texts told follows (KindFault.unknown form early none is) = none (is_known d e station told)
-no_kind_fault d before e number station texts told follows (KindFault.no_word form early known none is) = none (is_word d e)
-no_kind_fault d before e number station texts told follows (KindFault.again form early known word again is) = not_again d before e station told follows again
-no_kind_fault d before e number station texts told follows (KindFault.no_number form early known word once none is) = none (are_numbers d e told)
+no_kind_fault d before e number station texts told follows (KindFault.late form late is) =
+  not_late before e follows late
+no_kind_fault d before e number station texts told follows (KindFault.unknown form early none is) =
+  none (is_known d e station told)
+no_kind_fault d before e number station texts told follows (KindFault.no_word form early known none is) =
+  none (is_word d e)
+no_kind_fault d before e number station texts told follows (KindFault.again form early known word again is) =
+  not_again d before e station told follows again
+no_kind_fault d before e number station texts told follows (KindFault.no_number form early known word once none is) =
+  none (are_numbers d e told)
 
-no_fault : (d : Diagram) (before : List LogEvent) (row : List (List ℕ)) (e : LogEvent) (number : ℕ) → IsStation d → Says d row e → IsText row → MayFollow before e → length before < MOST_RECORDS → RecordFault d before row number → ⊥
+no_fault : (d : Diagram) (before : List LogEvent) (row : List (List ℕ)) (e : LogEvent) (number : ℕ) → IsStation d →
+  Says d row e → IsText row → MayFollow before e → length before < MOST_RECORDS → RecordFault d before row number → ⊥
 no_fault d before row e number station says texts follows few (RecordFault.too_many many is) = omega (arith, few, many)
-no_fault d before row e number station says texts follows few (RecordFault.no_kind room none is) = none (kind_of e) (of_row d row e says)
+no_fault d before row e number station says texts follows few (RecordFault.no_kind room none is) =
+  none (kind_of e) (of_row d row e says)
 no_fault d before row e number station says texts follows few (RecordFault.of_kind k room named fault) =
     let same : k ≡ kind_of e = one_kind k (kind_of e) (sym named ∙ of_row d row e says) in
-    let it : KindFault d before (kind_of e) row number = subst (λ (x : RecordKind). KindFault d before x row number) same fault in
-    no_kind_fault d before e number station (subst IsText says.written texts) says.told follows (subst (λ (r : List (List ℕ)). KindFault d before (kind_of e) r number) says.written it)
+    let it : KindFault d before (kind_of e) row number = subst (λ (x : RecordKind). KindFault d before x row number)
+      same fault in
+    no_kind_fault d before e number station (subst IsText says.written texts) says.told follows
+      (subst (λ (r : List (List ℕ)). KindFault d before (kind_of e) r number) says.written it)
 
 -- ---- what records say
 
@@ -205,16 +227,22 @@ kinds_same d row x y a b = one_kind (kind_of x) (kind_of y) (sym (of_row d row x
 steps_same : (d : Diagram) (row : List (List ℕ)) (x y : LogEvent) → Says d row x → Says d row y → is_step x ≡ is_step y
 steps_same d row x y a b = step_is x ∙ ap step_kind (kinds_same d row x y a b) ∙ sym (step_is y)
 
-told_same : (d : Diagram) (s : ℕ) → IsStation d → (row : List (List ℕ)) (x y : LogEvent) → Says d row x → Says d row y → is_told_of s x ≡ is_told_of s y
+told_same : (d : Diagram) (s : ℕ) → IsStation d → (row : List (List ℕ)) (x y : LogEvent) → Says d row x → Says d row y →
+  is_told_of s x ≡ is_told_of s y
 told_same d s station row (TellsAt i closed) (TellsAt j shut) a b =
-    let path : switch_path d i.0 ≡ switch_path d j.0 = ap (λ (r : List (List ℕ)). field r 1) (sym a.written ∙ b.written) in
+    let path : switch_path d i.0 ≡ switch_path d j.0 = ap (λ (r : List (List ℕ)). field r 1) (sym a.written
+      ∙ b.written) in
     ap (λ (n : ℕ). n == s) (one_path d i.0 j.0 station a.told b.told path)
-told_same d s station row (TellsAt i closed) (Step e) a b = let is = steps_same d row (TellsAt i closed) (Step e) a b in absurd (cc is)
-told_same d s station row (Step e) (TellsAt j shut) a b = let is = steps_same d row (Step e) (TellsAt j shut) a b in absurd (cc is)
+told_same d s station row (TellsAt i closed) (Step e) a b = let is = steps_same d row (TellsAt i closed) (Step e) a b in
+  absurd (cc is)
+told_same d s station row (Step e) (TellsAt j shut) a b = let is = steps_same d row (Step e) (TellsAt j shut) a b in
+  absurd (cc is)
 told_same d s station row (Step e) (Step f) a b = refl
 
-any_same : (d : Diagram) (test : LogEvent → Bool) → ((row : List (List ℕ)) (x y : LogEvent) → Says d row x → Says d row y → test x ≡ test y) → (rows : List (List (List ℕ))) (events before : List LogEvent)
-    → AllZip (Says d) rows events → AllZip (Says d) (take (length before) rows) before → list_any test before ≡ list_any test (take (length before) events)
+any_same : (d : Diagram) (test : LogEvent → Bool) → ((row : List (List ℕ)) (x y : LogEvent) → Says d row x →
+  Says d row y → test x ≡ test y) → (rows : List (List (List ℕ))) (events before : List LogEvent)
+    → AllZip (Says d) rows events → AllZip (Says d) (take (length before) rows) before →
+      list_any test before ≡ list_any test (take (length before) events)
 any_same d test same rows events [] a b = refl
 any_same d test same [] events (y ∷ before) a b = absurd b
 any_same d test same (row ∷ rows) [] (y ∷ before) a b = absurd a
@@ -223,18 +251,23 @@ any_same d test same (row ∷ rows) (x ∷ events) (y ∷ before) a b =
     let rest = any_same d test same rows events before a.1 b.1 in
     rw (first, rest) refl
 
-said_at : (d : Diagram) (rows : List (List (List ℕ))) (events : List LogEvent) (k : ℕ) (row : List (List ℕ)) → AllZip (Says d) rows events → slice_get rows k ≡ Some row → (e : LogEvent) × (slice_get events k ≡ Some e) × Says d row e
+said_at : (d : Diagram) (rows : List (List (List ℕ))) (events : List LogEvent) (k : ℕ) (row : List (List ℕ)) →
+  AllZip (Says d) rows events → slice_get rows k ≡ Some row → (e : LogEvent) × (slice_get events k ≡ Some e)
+  × Says d row e
 said_at d [] events k row a at = absurd (cc at)
 said_at d (r ∷ rows) [] k row a at = absurd a
-said_at d (r ∷ rows) (x ∷ events) zero row a at = let same : r ≡ row = cc at in (x, refl, subst (λ (y : List (List ℕ)). Says d y x) same a.0)
+said_at d (r ∷ rows) (x ∷ events) zero row a at = let same : r ≡ row = cc at in
+  (x, refl, subst (λ (y : List (List ℕ)). Says d y x) same a.0)
 said_at d (r ∷ rows) (x ∷ events) (suc k) row a at = said_at d rows events k row a.1 at
 
-follows_too : (before events : List LogEvent) (e : LogEvent) → has_step before ≡ has_step events → ((s : ℕ) → tell_of s before ≡ tell_of s events) → MayFollow events e → MayFollow before e
+follows_too : (before events : List LogEvent) (e : LogEvent) → has_step before ≡ has_step events →
+  ((s : ℕ) → tell_of s before ≡ tell_of s events) → MayFollow events e → MayFollow before e
 follows_too before events (TellsAt i closed) steps tells follows = (steps ∙ follows.0, tells i.0 ∙ follows.1)
 follows_too before events (Step e) steps tells follows = tt
 
 -- no text is a log and refused as one
-pub log_not_refused : (d : Diagram) (bytes : List ℕ) (events : List LogEvent) (r : InputRefusal) → IsStation d → IsLog d bytes events → IsLogFault d bytes r → ⊥
+pub log_not_refused : (d : Diagram) (bytes : List ℕ) (events : List LogEvent) (r : InputRefusal) → IsStation d →
+  IsLog d bytes events → IsLogFault d bytes r → ⊥
 log_not_refused d bytes events r station log (inl (long, is)) = omega (arith, log.few_bytes, long)
 log_not_refused d bytes events r station log (inr (short, first)) =
     let rows = rows_of bytes in
@@ -245,4 +278,5 @@ log_not_refused d bytes events r station log (inr (short, first)) =
     (any_same d is_step (steps_same d) rows events first.before log.tell.each first.tell.each)
     (λ s. any_same d (is_told_of s) (told_same d s station) rows events first.before log.tell.each first.tell.each)
     (log.tell.order k said.0 said.1) in
-    no_fault d first.before first.row said.0 r.number station said.2 (each_at IsText rows k first.row log.tell.texts first.stands) follows (omega (arith, within, log.tell.few)) first.fault
+    no_fault d first.before first.row said.0 r.number station said.2 (each_at IsText rows k first.row log.tell.texts
+      first.stands) follows (omega (arith, within, log.tell.few)) first.fault

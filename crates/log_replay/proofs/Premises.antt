@@ -12,12 +12,16 @@ use Rattle.bay_protocol.specs.State.{State}
 use Rattle.bay_protocol.specs.Step.{Turn}
 use Rattle.reservation_core.specs.Scene.{Scene, node, stops, IsTrueWord, end_position}
 use Rattle.reservation_core.specs.RoundFacts.{RoundFacts}
-use Rattle.reservation_core.specs.Happens.{Happens, InRange, NodeSteps, Tells, IsMessage, no_turn, SenseHappens, DeliverHappens, PartHappens, WithdrawHappens, BeginHappens, EndHappens, CutHappens}
+use Rattle.reservation_core.specs.Happens.{Happens, InRange, NodeSteps, Tells, IsMessage, no_turn, SenseHappens}
+use Rattle.reservation_core.specs.Happens.{DeliverHappens, PartHappens, WithdrawHappens, BeginHappens, EndHappens}
+use Rattle.reservation_core.specs.Happens.{CutHappens}
 use Rattle.reservation_core.specs.declared.values.Position.{Position}
 use Rattle.reservation_core.specs.declared.values.Which.{Which}
-use Rattle.reservation_core.specs.declared.values.Which.TheVariants.{Sensed, Begun, Ended, Withdrawn, Unsent, Cut as NotCut}
+use Rattle.reservation_core.specs.declared.values.Which.TheVariants.{Sensed, Begun, Ended, Withdrawn, Unsent}
+use Rattle.reservation_core.specs.declared.values.Which.TheVariants.{Cut as NotCut}
 use Rattle.reservation_core.specs.declared.values.WorldEvent.{WorldEvent}
-use Rattle.reservation_core.specs.declared.values.WorldEvent.TheVariants.{Command, Sense, Deliver, Tick, Withdraw, Restart, Begin, End, Part, Cut}
+use Rattle.reservation_core.specs.declared.values.WorldEvent.TheVariants.{Command, Sense, Deliver, Tick, Withdraw}
+use Rattle.reservation_core.specs.declared.values.WorldEvent.TheVariants.{Restart, Begin, End, Part, Cut}
 use Rattle.reservation_core.specs.declared.values.WorldOutcome.{WorldOutcome}
 use Rattle.reservation_core.specs.declared.values.WorldOutcome.TheVariants.{Premise}
 use Rattle.reservation_core.proofs.Truths.{switch_of, granted_bay}
@@ -27,54 +31,80 @@ use Rattle.reservation_core.specs.Runs.{MayHappen, IsPremiseOf, PremiseExact, Ru
 use Rattle.log_replay.proofs.Links.{Linked}
 use Rattle.log_replay.proofs.Leading.{run_is, brought_of}
 
-not_premise : (count b : ℕ) (old : State) (turn : Turn) (outcome : WorldOutcome) → Tells count b old turn outcome → (which : Which) → outcome ≢ Premise which
+not_premise : (count b : ℕ) (old : State) (turn : Turn) (outcome : WorldOutcome) → Tells count b old turn outcome →
+  (which : Which) → outcome ≢ Premise which
 not_premise count b old turn outcome tells which is = subst (λ (o : WorldOutcome). Tells count b old turn o) is tells
 
-node_no_premise : (m : Meaning) (old : Scene) (b : ℕ) (e : NodeEvent) (new : Scene) (outcome : WorldOutcome) → NodeSteps m old b e new outcome → (which : Which) → outcome ≢ Premise which
+node_no_premise : (m : Meaning) (old : Scene) (b : ℕ) (e : NodeEvent) (new : Scene) (outcome : WorldOutcome) →
+  NodeSteps m old b e new outcome → (which : Which) → outcome ≢ Premise which
 node_no_premise m old b e new outcome t = not_premise (length old.sent) b (node m.diagram old b) t.turn outcome t.says
 
 -- the switch of a granted operation is one of the station
-granted_known : (m : Meaning) (w : Scene) (c : ℕ) (g : Grant) → RoundFacts m w → (node m.diagram w c).granted ≡ Some g → g.op.switch.0 < length m.diagram.switches
-granted_known m w c g facts has = (switch_of m (node m.diagram w c).bay g.op.switch.0 ((facts.rounds c (granted_bay m w c g facts has)).kept.granted g has).own).0
+granted_known : (m : Meaning) (w : Scene) (c : ℕ) (g : Grant) → RoundFacts m w → (node m.diagram w c).granted ≡ Some g →
+  g.op.switch.0 < length m.diagram.switches
+granted_known m w c g facts has =
+  (switch_of m (node m.diagram w c).bay g.op.switch.0 ((facts.rounds c (granted_bay m w c g facts has)).kept.granted
+  g has).own).0
 
 -- a premise holds, and the outcome is none of a broken one; or it does not, and it is that
-holds : (d : Diagram) (start : List Bool) (before : List Line) (e : WorldEvent) (outcome : WorldOutcome) → MayHappen d start before e → ((which : Which) → outcome ≢ Premise which) → PremiseExact d start before e outcome
+holds : (d : Diagram) (start : List Bool) (before : List Line) (e : WorldEvent) (outcome : WorldOutcome) →
+  MayHappen d start before e → ((which : Which) → outcome ≢ Premise which) → PremiseExact d start before e outcome
 holds d start before e outcome is none = PremiseExact.keeps is none
 
-fails : (d : Diagram) (start : List Bool) (before : List Line) (e : WorldEvent) (outcome : WorldOutcome) (which : Which) → ¬ MayHappen d start before e → IsPremiseOf e which → outcome ≡ Premise which → PremiseExact d start before e outcome
-fails d start before e outcome which never is says = PremiseExact.breaks which (record { broken = never; named = is }) says
+fails : (d : Diagram) (start : List Bool) (before : List Line) (e : WorldEvent) (outcome : WorldOutcome)
+  (which : Which) → ¬ MayHappen d start before e → IsPremiseOf e which → outcome ≡ Premise which →
+  PremiseExact d start before e outcome
+fails d start before e outcome which never is says = PremiseExact.breaks which (record { broken = never;
+  named = is }) says
 
-module _ (m : Meaning) (start : List Bool) (before : List Line) (old new : Scene) (outcome : WorldOutcome) (facts : RoundFacts m old) (links : Linked m start before old) where
-  sense_exact : (i : SwitchId) (word : Dbpos) → i.0 < length m.diagram.switches → SenseHappens m old i word new outcome → PremiseExact m.diagram start before (Sense i word) outcome
+module _ (m : Meaning) (start : List Bool) (before : List Line) (old new : Scene) (outcome : WorldOutcome)
+  (facts : RoundFacts m old) (links : Linked m start before old) where
+  sense_exact : (i : SwitchId) (word : Dbpos) → i.0 < length m.diagram.switches →
+    SenseHappens m old i word new outcome → PremiseExact m.diagram start before (Sense i word) outcome
   sense_exact i word lt (SenseHappens.untrue false_word refused) =
-      fails m.diagram start before (Sense i word) outcome Sensed (λ k. false_word (subst (λ (p : Position). IsTrueWord word p) (sym (links.truth i.0 lt)) k)) refl refused.says
+      fails m.diagram start before (Sense i word) outcome Sensed
+        (λ k. false_word (subst (λ (p : Position). IsTrueWord word p) (sym (links.truth i.0 lt)) k)) refl refused.says
   sense_exact i word lt (SenseHappens.reads truly t) =
-      holds m.diagram start before (Sense i word) outcome (subst (λ (p : Position). IsTrueWord word p) (links.truth i.0 lt) truly) (node_no_premise m old _ _ new outcome t)
+      holds m.diagram start before (Sense i word) outcome (subst (λ (p : Position). IsTrueWord word p)
+        (links.truth i.0 lt) truly) (node_no_premise m old _ _ new outcome t)
 
   sent_some : (k : ℕ) (f : Frame) → IsMessage old k f → sending before k ≢ None
   sent_some k f is none = let b = brought_of m before old k f links.said is in absurd (cc (b.found, none))
 
   deliver_exact : (k : ℕ) → DeliverHappens m old k new outcome → PremiseExact m.diagram start before (Deliver k) outcome
-  deliver_exact k (DeliverHappens.unsent none refused) = fails m.diagram start before (Deliver k) outcome Unsent (λ some. some (links.unsent k none)) refl refused.says
-  deliver_exact k (DeliverHappens.comes f is t) = holds m.diagram start before (Deliver k) outcome (sent_some k f is) (node_no_premise m old _ _ new outcome t)
+  deliver_exact k (DeliverHappens.unsent none refused) = fails m.diagram start before (Deliver k) outcome Unsent
+    (λ some. some (links.unsent k none)) refl refused.says
+  deliver_exact k (DeliverHappens.comes f is t) = holds m.diagram start before (Deliver k) outcome (sent_some k f is)
+    (node_no_premise m old _ _ new outcome t)
 
-  part_exact : (k bytes : ℕ) → PartHappens m.diagram old k new outcome → PremiseExact m.diagram start before (Part k bytes) outcome
-  part_exact k bytes (PartHappens.unsent none refused) = fails m.diagram start before (Part k bytes) outcome Unsent (λ some. some (links.unsent k none)) refl refused.says
-  part_exact k bytes (PartHappens.nothing f is same quiet) = holds m.diagram start before (Part k bytes) outcome (sent_some k f is) (not_premise (length old.sent) f.to.0 (node m.diagram old f.to.0) (no_turn (node m.diagram old f.to.0)) outcome quiet)
+  part_exact : (k bytes : ℕ) → PartHappens m.diagram old k new outcome →
+    PremiseExact m.diagram start before (Part k bytes) outcome
+  part_exact k bytes (PartHappens.unsent none refused) = fails m.diagram start before (Part k bytes) outcome Unsent
+    (λ some. some (links.unsent k none)) refl refused.says
+  part_exact k bytes (PartHappens.nothing f is same quiet) = holds m.diagram start before (Part k bytes) outcome
+    (sent_some k f is) (not_premise (length old.sent) f.to.0 (node m.diagram old f.to.0)
+    (no_turn (node m.diagram old f.to.0)) outcome quiet)
 
-  withdraw_exact : (b : BayId) → WithdrawHappens m old b.0 new outcome → PremiseExact m.diagram start before (Withdraw b) outcome
+  withdraw_exact : (b : BayId) → WithdrawHappens m old b.0 new outcome →
+    PremiseExact m.diagram start before (Withdraw b) outcome
   withdraw_exact b (WithdrawHappens.running g has on refused) =
-      fails m.diagram start before (Withdraw b) outcome Withdrawn (λ k. let off = k g (sym (links.nodes b.0).granted ∙ has) in let still = links.drives g.op.switch.0 (granted_known m old b.0 g facts has) in absurd (cc (off, still, on))) refl refused.says
+      fails m.diagram start before (Withdraw b) outcome Withdrawn (λ k. let off = k g (sym (links.nodes b.0).granted
+        ∙ has) in let still = links.drives g.op.switch.0 (granted_known m old b.0 g facts has) in
+        absurd (cc (off, still, on))) refl refused.says
   withdraw_exact b (WithdrawHappens.resting still t) =
       holds m.diagram start before (Withdraw b) outcome
-      (λ g is. let has : (node m.diagram old b.0).granted ≡ Some g = (links.nodes b.0).granted ∙ is in sym (links.drives g.op.switch.0 (granted_known m old b.0 g facts has)) ∙ still g has)
+      (λ g is. let has : (node m.diagram old b.0).granted ≡ Some g = (links.nodes b.0).granted ∙ is in
+        sym (links.drives g.op.switch.0 (granted_known m old b.0 g facts has)) ∙ still g has)
       (node_no_premise m old _ _ new outcome t)
 
-  begin_exact : (i : SwitchId) → i.0 < length m.diagram.switches → BeginHappens m.diagram old i.0 new outcome → PremiseExact m.diagram start before (Begin i) outcome
+  begin_exact : (i : SwitchId) → i.0 < length m.diagram.switches → BeginHappens m.diagram old i.0 new outcome →
+    PremiseExact m.diagram start before (Begin i) outcome
   begin_exact i lt (BeginHappens.not_open free refused) =
-      fails m.diagram start before (Begin i) outcome Begun (λ k. free k.grant ((links.nodes (bay_of m.diagram i.0)).granted ∙ k.opened) k.switch) refl refused.says
+      fails m.diagram start before (Begin i) outcome Begun
+        (λ k. free k.grant ((links.nodes (bay_of m.diagram i.0)).granted ∙ k.opened) k.switch) refl refused.says
   begin_exact i lt (BeginHappens.running on refused) =
-      fails m.diagram start before (Begin i) outcome Begun (λ k. let off = k.still in let is = links.drives i.0 lt in absurd (cc (on, off, is))) refl refused.says
+      fails m.diagram start before (Begin i) outcome Begun (λ k. let off = k.still in let is = links.drives i.0 lt in
+        absurd (cc (on, off, is))) refl refused.says
   begin_exact i lt (BeginHappens.there_already g opened at refused) =
       fails m.diagram start before (Begin i) outcome Begun (λ k.
       let same : Some g ≡ Some k.grant = sym opened.granted ∙ (links.nodes (bay_of m.diagram i.0)).granted ∙ k.opened in
@@ -89,32 +119,44 @@ module _ (m : Meaning) (start : List Bool) (before : List Line) (old new : Scene
         away = λ at. away (links.truth i.0 lt ∙ at);
       }) (λ which is. let says = driven.says in absurd (cc (is, says)))
 
-  end_exact : (i : SwitchId) → i.0 < length m.diagram.switches → EndHappens m.diagram old i.0 new outcome → PremiseExact m.diagram start before (End i) outcome
+  end_exact : (i : SwitchId) → i.0 < length m.diagram.switches → EndHappens m.diagram old i.0 new outcome →
+    PremiseExact m.diagram start before (End i) outcome
   end_exact i lt (EndHappens.resting off refused) =
-      fails m.diagram start before (End i) outcome Ended (λ on. let is = links.drives i.0 lt in absurd (cc (on, off, is))) refl refused.says
+      fails m.diagram start before (End i) outcome Ended (λ on. let is = links.drives i.0 lt in
+        absurd (cc (on, off, is))) refl refused.says
   end_exact i lt (EndHappens.arrives g on opened driven) =
-      holds m.diagram start before (End i) outcome (sym (links.drives i.0 lt) ∙ on) (λ which is. let says = driven.says in absurd (cc (is, says)))
+      holds m.diagram start before (End i) outcome (sym (links.drives i.0 lt) ∙ on) (λ which is. let says =
+        driven.says in absurd (cc (is, says)))
 
-  cut_exact : (i : SwitchId) → i.0 < length m.diagram.switches → CutHappens m old i new outcome → PremiseExact m.diagram start before (Cut i) outcome
+  cut_exact : (i : SwitchId) → i.0 < length m.diagram.switches → CutHappens m old i new outcome →
+    PremiseExact m.diagram start before (Cut i) outcome
   cut_exact i lt (CutHappens.resting off refused) =
-      fails m.diagram start before (Cut i) outcome NotCut (λ on. let is = links.drives i.0 lt in absurd (cc (on, off, is))) refl refused.says
+      fails m.diagram start before (Cut i) outcome NotCut (λ on. let is = links.drives i.0 lt in
+        absurd (cc (on, off, is))) refl refused.says
   cut_exact i lt (CutHappens.stops_between on t) =
-      holds m.diagram start before (Cut i) outcome (sym (links.drives i.0 lt) ∙ on) (node_no_premise m (stops old i.0) _ _ new outcome t)
+      holds m.diagram start before (Cut i) outcome (sym (links.drives i.0 lt) ∙ on)
+        (node_no_premise m (stops old i.0) _ _ new outcome t)
 
-  happens_exact : (e : WorldEvent) → InRange m.diagram e → Happens m old e new outcome → PremiseExact m.diagram start before e outcome
-  happens_exact (Command op) lt t = holds m.diagram start before (Command op) outcome tt (node_no_premise m old _ _ new outcome t)
+  happens_exact : (e : WorldEvent) → InRange m.diagram e → Happens m old e new outcome →
+    PremiseExact m.diagram start before e outcome
+  happens_exact (Command op) lt t = holds m.diagram start before (Command op) outcome tt
+    (node_no_premise m old _ _ new outcome t)
   happens_exact (Sense i word) lt happens = sense_exact i word lt happens
   happens_exact (Deliver k) lt happens = deliver_exact k happens
-  happens_exact (Tick b) lt t = holds m.diagram start before (Tick b) outcome tt (node_no_premise m old _ _ new outcome t)
+  happens_exact (Tick b) lt t = holds m.diagram start before (Tick b) outcome tt
+    (node_no_premise m old _ _ new outcome t)
   happens_exact (Withdraw b) lt happens = withdraw_exact b happens
-  happens_exact (Restart b) lt t = holds m.diagram start before (Restart b) outcome tt (node_no_premise m old _ _ new outcome t)
+  happens_exact (Restart b) lt t = holds m.diagram start before (Restart b) outcome tt
+    (node_no_premise m old _ _ new outcome t)
   happens_exact (Begin i) lt happens = begin_exact i lt happens
   happens_exact (End i) lt happens = end_exact i lt happens
   happens_exact (Part k bytes) lt happens = part_exact k bytes happens
   happens_exact (Cut i) lt happens = cut_exact i lt happens
 
 -- after a run, whatever happens is a broken premise exactly where the lines break one
-pub premise_exact : (m : Meaning) (start : List Bool) (before : List Line) (old new : Scene) (e : WorldEvent) (outcome : WorldOutcome) → IsStation m.diagram → Laws m → Run m start before old → InRange m.diagram e → Happens m old e new outcome → PremiseExact m.diagram start before e outcome
+pub premise_exact : (m : Meaning) (start : List Bool) (before : List Line) (old new : Scene) (e : WorldEvent)
+  (outcome : WorldOutcome) → IsStation m.diagram → Laws m → Run m start before old → InRange m.diagram e →
+  Happens m old e new outcome → PremiseExact m.diagram start before e outcome
 premise_exact m start before old new e outcome station laws run lt happens =
     let is = run_is m start before old station laws run in
     happens_exact m start before old new outcome is.facts.rounds is.links e lt happens

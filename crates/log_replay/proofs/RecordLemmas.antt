@@ -1,11 +1,13 @@
 -- A record that tells a second time where a switch stands at first, and the fault of a record.
-use Rattle.std.proofs.Common.{◌≡◌, ◌<◌, ℕ, zero, suc, true, List, [], ◌∷◌, length, get_or, Ok, Err, Result, Contains, refl, sym, ap, subst, arith}
+use Rattle.std.proofs.Common.{◌≡◌, ◌<◌, ℕ, zero, suc, true, List, [], ◌∷◌, length, get_or, Ok, Err, Result, Contains}
+use Rattle.std.proofs.Common.{refl, sym, ap, subst, arith}
 use Rattle.std.specs.Prelude.{IfErr}
 use Rattle.station_graph.specs.Diagram.{Diagram, IsStation, switch_path}
 use Rattle.reservation_core.specs.declared.values.LogEvent.{LogEvent}
 use Rattle.reservation_core.specs.declared.values.LogEvent.TheVariants.{At as TellsAt, Step as TellsStep}
 use Rattle.log_replay.specs.declared.kinds.RecordKind.{RecordKind}
-use Rattle.log_replay.specs.declared.kinds.RecordKind.TheVariants.{At, Command, Sense, Begin, End, Deliver, Tick, Withdraw, Restart, Part, Cut}
+use Rattle.log_replay.specs.declared.kinds.RecordKind.TheVariants.{At, Command, Sense, Begin, End, Deliver, Tick}
+use Rattle.log_replay.specs.declared.kinds.RecordKind.TheVariants.{Withdraw, Restart, Part, Cut}
 use Rattle.log_replay.specs.declared.log.TheConstants.{MOST_RECORDS}
 use Rattle.log_replay.specs.Records.{Says, event_row, is_again}
 use Rattle.log_replay.specs.RecordFaults.{kind_name, row_of, IsOfKind, IsKnown, IsWord, IsAgain, KindFault, RecordFault}
@@ -39,21 +41,26 @@ there paths i lt = (i, lt, same paths i lt)
     same (x ∷ xs) zero low = refl
     same (x ∷ xs) (suc k) low = same xs k (omega (arith, low))
 
-pub told_again : (d : Diagram) (before : List LogEvent) (k : RecordKind) (first second : List ℕ) (e : LogEvent) → IsStation d → Says d (row_of k first second) e → is_again before e ≡ true → ToldAgain d before k first second
+pub told_again : (d : Diagram) (before : List LogEvent) (k : RecordKind) (first second : List ℕ) (e : LogEvent) →
+  IsStation d → Says d (row_of k first second) e → is_again before e ≡ true → ToldAgain d before k first second
 told_again d before k first second (TellsStep e) station says again = cc again
 told_again d before k first second (TellsAt i closed) station says again =
     let named : kind_name k ≡ kind_name At = ap (λ (row : List (List ℕ)). get_or row 0 []) says.written in
     let path : first ≡ switch_path d i.0 = ap (λ (row : List (List ℕ)). get_or row 1 []) says.written in
     let at : k ≡ At = again_is_at k named in
-    let written : row_of At first second ≡ event_row d (TellsAt i closed) = subst (λ (x : RecordKind). row_of x first second ≡ event_row d (TellsAt i closed)) at says.written in
+    let written : row_of At first second ≡ event_row d (TellsAt i closed) =
+      subst (λ (x : RecordKind). row_of x first second ≡ event_row d (TellsAt i closed)) at says.written in
     let it : ToldAgain d before At first second = record {
       is_at = refl;
-      known = subst (Contains d.switch_paths) (sym path) (there d.switch_paths i.0 (omega (arith, says.told, station.items.paths)));
+      known = subst (Contains d.switch_paths) (sym path)
+        (there d.switch_paths i.0 (omega (arith, says.told, station.items.paths)));
       word = (closed, ap (λ (row : List (List ℕ)). get_or row 2 []) written);
       again = (i.0, path, says.told, again);
     } in
     subst (λ (x : RecordKind). ToldAgain d before x first second) (sym at) it
 
-pub fault_of_kind : (d : Diagram) (before : List LogEvent) (k : RecordKind) (row : List (List ℕ)) (r : Result LogEvent ℕ) → length before < MOST_RECORDS → IsOfKind row k → IfErr r (KindFault d before k row) → IfErr r (RecordFault d before row)
+pub fault_of_kind : (d : Diagram) (before : List LogEvent) (k : RecordKind) (row : List (List ℕ))
+  (r : Result LogEvent ℕ) → length before < MOST_RECORDS → IsOfKind row k → IfErr r (KindFault d before k row) →
+  IfErr r (RecordFault d before row)
 fault_of_kind d before k row (Ok e) few named fault = fault
 fault_of_kind d before k row (Err n) few named fault = RecordFault.of_kind k few named fault

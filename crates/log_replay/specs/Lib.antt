@@ -3,3 +3,4 @@ pub mod RecordFaults
 pub mod Log
 pub mod Following
 pub mod Replay
+pub mod Telling

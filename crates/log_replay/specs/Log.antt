@@ -11,7 +11,8 @@ use Rattle.log_replay.specs.Records.{Says, has_step, tell_of}
 use Rattle.log_replay.specs.RecordFaults.{RecordFault}
 use Rattle.log_replay.specs.declared.log.LogFault.{LogFault}
 use Rattle.log_replay.specs.declared.log.LogFault.TheVariants.{Memory, Refused}
-use Rattle.log_replay.specs.declared.log.TheConstants.{MOST_BYTES, MOST_RECORDS}
+use Rattle.log_replay.specs.declared.log.TheConstants.{MOST_RECORDS}
+use Rattle.ilk_base.specs.declared.limits.TheConstants.{FILE_BYTES}
 
 -- The event may come after these: where a switch stands at first is told before anything happens, and once.
 abbrev pub MayFollow : List LogEvent → LogEvent → Type 0
@@ -35,7 +36,7 @@ pub record Tell (d : Diagram) (rows : List (List (List ℕ))) (events : List Log
 
 -- The bytes are a log with these events.
 pub record IsLog (d : Diagram) (bytes : List ℕ) (events : List LogEvent) : Type 0 where
-  pub few_bytes : length bytes ≤ MOST_BYTES
+  pub few_bytes : length bytes ≤ FILE_BYTES
   pub tell : Tell d (rows_of bytes) events
 
 -- The first record with a fault: those before it say events.
@@ -50,8 +51,8 @@ pub record IsFirstFault (d : Diagram) (rows : List (List (List ℕ))) (r : Input
 -- Why the bytes are no log: they are too many (5, in no line), else by the first record with a fault.
 abbrev pub IsLogFault : Diagram → List ℕ → InputRefusal → Type 0
 IsLogFault d bytes r =
-    ((MOST_BYTES < length bytes) × (r ≡ record { number = 5; line = 0 }))
-    ⊎ ((length bytes ≤ MOST_BYTES) × IsFirstFault d (rows_of bytes) r)
+    ((FILE_BYTES < length bytes) × (r ≡ record { number = 5; line = 0 }))
+    ⊎ ((length bytes ≤ FILE_BYTES) × IsFirstFault d (rows_of bytes) r)
 
 -- This holds of the refusal, where the fault is one; want of memory has no cause.
 abbrev pub ForRefused : LogFault → (InputRefusal → Type 0) → Type 0

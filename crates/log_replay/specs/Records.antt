@@ -1,5 +1,6 @@
 -- The records of a log: the fields that say each event.
-use Rattle.std.specs.Prelude.{◌≡◌, ◌==◌, ◌<◌, ◌≤◌, ⊤, ℕ, Bool, true, false, List, [], ◌∷◌, length, slice_index_or, codes, decimal}
+use Rattle.std.specs.Prelude.{◌≡◌, ◌==◌, ◌<◌, ◌≤◌, ⊤, ℕ, Bool, true, false, List, [], ◌∷◌, length, slice_index_or}
+use Rattle.std.specs.Prelude.{codes, decimal}
 use Rattle.std.specs.List.{list_any}
 use Rattle.station_graph.specs.Diagram.{Diagram, switch_path}
 use Rattle.central_rules.specs.Names.{direction_name, position_name, word_name}
@@ -7,7 +8,8 @@ use Rattle.reservation_core.specs.Happens.{InRange}
 use Rattle.reservation_core.specs.declared.values.LogEvent.{LogEvent}
 use Rattle.reservation_core.specs.declared.values.LogEvent.TheVariants.{At, Step}
 use Rattle.reservation_core.specs.declared.values.WorldEvent.{WorldEvent}
-use Rattle.reservation_core.specs.declared.values.WorldEvent.TheVariants.{Command, Sense, Deliver, Tick, Withdraw, Restart, Begin, End, Part, Cut}
+use Rattle.reservation_core.specs.declared.values.WorldEvent.TheVariants.{Command, Sense, Deliver, Tick, Withdraw}
+use Rattle.reservation_core.specs.declared.values.WorldEvent.TheVariants.{Restart, Begin, End, Part, Cut}
 use Rattle.log_replay.specs.declared.numbers.TheConstants.{LAST_MESSAGE, MOST_CUT_BYTES}
 
 -- A record, as the list of its fields.

@@ -31,7 +31,8 @@ pub(crate) fn field(row: &ByteRecord, place: usize) -> &[u8]
 // one; none where the record has not the form of its kind.
 pub(crate) fn texts(kind: RecordKind, row: &ByteRecord) -> Option<(&str, &str)>
     requires { IsOfKind (fields_of row.now) kind }
-    ensures some { IfSome result (λ p. (p.0.now ≡ field (fields_of row.entry.now) 1) × (p.1.now ≡ field (fields_of row.entry.now) 2)) }
+    ensures some { IfSome result (λ p. (p.0.now ≡ field (fields_of row.entry.now) 1)
+        × (p.1.now ≡ field (fields_of row.entry.now) 2)) }
     ensures form { IfSome result (λ _. HasForm kind (fields_of row.entry.now)) }
     ensures none { IfNone result (¬ HasForm kind (fields_of row.entry.now)) }
 {

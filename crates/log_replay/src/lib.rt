@@ -11,13 +11,14 @@ mod record;
 #[cfg(test)]
 mod replay_tests;
 mod report;
+mod report_lines;
 mod start;
 #[cfg(test)]
 mod tests;
 
 pub use following::replay;
 pub use kinds::RecordKind;
-pub use law::{headline_holds, premises_are_exact};
+pub use law::{headline_holds, premises_are_exact, reports_tell_all};
 pub use log::{Log, LogFault, MOST_RECORDS, read_log};
 pub use numbers::{LAST_MESSAGE, MOST_CUT_BYTES};
 pub use report::Report;

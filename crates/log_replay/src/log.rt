@@ -7,7 +7,7 @@ ghost use Rattle.log_replay.specs.declared.log.TheConstants.{MOST_RECORDS};
 use crate::record::read_record;
 use csv::ByteRecord;
 use double_points::Rows;
-use ilk_base::{InputRefusal, Memory};
+use ilk_base::{FILE_BYTES, InputRefusal, Memory};
 use reservation_core::LogEvent;
 use station_graph::Station;
 use std::alloc::{AllocFailed, Global};
@@ -15,9 +15,6 @@ use std::marker::Model;
 
 /// The most records of a log.
 pub const MOST_RECORDS: usize = 20_000;
-
-// The most bytes that a file may have.
-const MOST_BYTES: usize = 8_388_608;
 
 /// Why bytes gave no log.
 #[derive(Clone, Copy, Debug, PartialEq, Eq)]
@@ -109,7 +106,7 @@ pub fn read_log(alloc: Global, station: &Station, bytes: &[u8]) -> Result<Log, L
     ensures told { IfOk result (All (MayBeTold station.now)) }
     ensures err { IfErr result (λ e. ForRefused e (IsLogFault station.now bytes.now)) }
 {
-    if bytes.len() > MOST_BYTES {
+    if bytes.len() > FILE_BYTES {
         return refused(5, 0);
     }
     let mut rows = Rows::new(alloc, bytes);

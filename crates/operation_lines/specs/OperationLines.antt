@@ -21,7 +21,8 @@ pub record NamesOperation (d : Diagram) (line : List ℕ) (op : Op) : Type 0 whe
 -- Why the line names no operation of the station: it is not of the form, or no switch has its path.
 abbrev pub HasFault : Diagram → List ℕ → LineFault → Type 0
 HasFault d line Form = (direction : Direction) (path : List ℕ) → ¬ IsOperationLine direction path line
-HasFault d line Unknown = (direction : Direction) × (path : List ℕ) × IsOperationLine direction path line × (¬ Contains d.switch_paths path)
+HasFault d line Unknown = (direction : Direction) × (path : List ℕ) × IsOperationLine direction path line
+  × (¬ Contains d.switch_paths path)
 
 -- The number of the fault among the refusals of inputs.
 abbrev pub fault_number : LineFault → ℕ

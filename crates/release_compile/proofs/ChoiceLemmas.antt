@@ -1,6 +1,7 @@
 -- How many choices layers have.
 use Rattle.std.proofs.Common.{◌≡◌, ℕ, ◌<◌, zero, suc, List, [], ◌∷◌, length, get_or, map, drop, slice_get, Some, refl, sym, ap, ◌∙◌, arith}
 use Rattle.std.proofs.lemmas.List.{length-map}
+use Rattle.std.proofs.lemmas.Option.{get_or_from_slice_get}
 use Rattle.decision_graphs.specs.declared.finished.FinishedLayer.{FinishedLayer}
 use Rattle.decision_graphs.specs.Label.{Layer, layer_at, AreChoices, AreLayers}
 use Rattle.release_compile.specs.Plans.{layers_of}
@@ -56,3 +57,7 @@ choices_on [] (m ∷ ms) cs e h = cc
 choices_on (l ∷ ls) [] cs e h = cc
 choices_on (l ∷ ls) (m ∷ ms) [] e h = h
 choices_on (l ∷ ls) (m ∷ ms) (c ∷ cs) e h = (omega (arith, h.0, ap (λ xs. get_or xs 0 0) e), choices_on ls ms cs (ap (λ xs. drop 1 xs) e) h.1)
+
+-- plain layers too
+pub plain_choices : (ls : List Layer) (rows : List (List ℕ)) (j : ℕ) (row : List ℕ) → map (λ (l : Layer). l.choices) ls ≡ map length rows → slice_get rows j ≡ Some row → (layer_at ls j).choices ≡ length row
+plain_choices ls rows j row same at = layers_choices ls j ∙ (ap (λ xs. get_or xs j 0) same ∙ (row_lengths rows j ∙ ap length (get_or_from_slice_get rows j row [] at)))

@@ -24,7 +24,7 @@ use Rattle.release_compile.specs.Layering.{values_at, no_answers}
 use Rattle.release_compile.specs.Folding.{AreViews}
 use Rattle.release_compile.specs.Graphs.{other_of, OfOthers}
 use Rattle.release_compile.specs.Listing.{own_links, listed}
-use Rattle.release_compile.specs.Inputs.{HasNodes, AreKeeps, HasCopyAt, AreCopies, AreRows, HasNothing, HasLinks, HasSwitch, HasPair, AreInnerRows, AreNames}
+use Rattle.release_compile.specs.Inputs.{HasNodes, AreKeeps, HasCopyAt, AreCopies, AreLetters, AreOtherRows, AreRows, HasNothing, HasLinks, HasSwitch, HasPair, AreInnerRows, AreNames}
 use Rattle.release_compile.proofs.LayerLemmas.{get_front, get_last}
 use Rattle.release_compile.proofs.OuterLemmas.{among_from, among_to}
 use Rattle.release_compile.proofs.OuterFits.{seen_over, seen_of, seen_same, kept_of_same}
@@ -63,6 +63,9 @@ module _ (p q : Pool) (g : GrewTo p q) where
 
   pub rows_stay : (a : Lettered) (b : ℕ) (rows : List (List ℕ)) (n : ℕ) → AreRows a b p rows n → AreRows a b q rows n
   rows_stay a b rows n h = record { len = h.len; each = λ j ids at. copies_stay (letters_in a (other_of 0 b j)) ids (h.each j ids at) }
+
+  pub letters_stay : (a : Lettered) (rows : List (List ℕ)) (n : ℕ) → AreLetters a p rows n → AreLetters a q rows n
+  letters_stay a rows n h = record { len = h.len; each = λ part ids at. copies_stay (letters_in a part) ids (h.each part ids at) }
 
   pub nothing_stays : (id : ℕ) → HasNothing p id → HasNothing q id
   nothing_stays id h = record { value = h.value; listed = g.values id h.value h.listed; bare = h.bare; stands = λ d v. seen_stays (Among []) d v h.value (h.stands d v) }
@@ -147,6 +150,42 @@ rows_more a b p q rows n row g h new = record {
     | inr here ↦ (let e : n ≡ j = sym (here.0 ∙ h.len) in subst (λ i. AreCopies q (letters_in a (other_of 0 b j)) i) here.1 (subst (λ i. AreCopies q (letters_in a (other_of 0 b i)) row) e new))
   ];
 }
+
+pub letters_none : (a : Lettered) (p : Pool) → AreLetters a p [] 0
+letters_none a p = record { len = refl; each = λ part ids at. absurd (no_row part ids at) }
+  where
+    no_row : (j : ℕ) (ids : List ℕ) → slice_get {X = List ℕ} [] j ≡ Some ids → ⊥
+    no_row zero ids at = cc
+    no_row (suc j) ids at = cc
+
+pub letters_more : (a : Lettered) (p q : Pool) (rows : List (List ℕ)) (n : ℕ) (row : List ℕ) → GrewTo p q → AreLetters a p rows n → AreCopies q (letters_in a n) row → AreLetters a q (rows ++ row ∷ []) (n + 1)
+letters_more a p q rows n row g h new = record {
+  len = omega (arith, length_push rows row, h.len);
+  each = λ j ids at. elim (slice_get-push rows row ids j at) [
+    | inl before ↦ copies_stay p q g (letters_in a j) ids (h.each j ids before)
+    | inr here ↦ (let e : n ≡ j = sym (here.0 ∙ h.len) in subst (λ i. AreCopies q (letters_in a j) i) here.1 (subst (λ i. AreCopies q (letters_in a i) row) e new))
+  ];
+}
+
+pub other_none : (this : ℕ) (all : List (List ℕ)) → AreOtherRows this all [] 0
+other_none this all = record { len = refl; each = λ i ids at. absurd (no_row i ids at) }
+  where
+    no_row : (j : ℕ) (ids : List ℕ) → slice_get {X = List ℕ} [] j ≡ Some ids → ⊥
+    no_row zero ids at = cc
+    no_row (suc j) ids at = cc
+
+pub other_more : (this : ℕ) (all rows : List (List ℕ)) (n : ℕ) (row : List ℕ) → AreOtherRows this all rows n → slice_get all (other_of 0 this n) ≡ Some row → AreOtherRows this all (rows ++ row ∷ []) (n + 1)
+other_more this all rows n row h new = record {
+  len = omega (arith, length_push rows row, h.len);
+  each = λ j ids at. elim (slice_get-push rows row ids j at) [
+    | inl before ↦ h.each j ids before
+    | inr here ↦ (let e : n ≡ j = sym (here.0 ∙ h.len) in ap (λ k. slice_get all (other_of 0 this k)) (sym e) ∙ (new ∙ ap Some here.1))
+  ];
+}
+
+-- the letters of all parts but one
+pub rows_of_letters : (a : Lettered) (b : ℕ) (p : Pool) (all rows : List (List ℕ)) (m n : ℕ) → AreLetters a p all m → AreOtherRows b all rows n → AreRows a b p rows n
+rows_of_letters a b p all rows m n letters others = record { len = others.len; each = λ j ids at. letters.each (other_of 0 b j) ids (others.each j ids at) }
 
 pub inner_rows_first : (d : Diagram) (m first : ℕ) (p : Pool) (names : List ℕ) → AreInnerRows d m first p names (names ∷ []) 0
 inner_rows_first d m first p names = record { len = refl; first_row = refl; pairs = λ i ids at. absurd (no_row i ids at) }

@@ -32,7 +32,12 @@ module _ (a : Lettered) (alphabets : AreLettered a) (bay n : ℕ) (count : suc n
       by : (j : ℕ) → suc j < part_count a.diagram → (o : Option (Option (List ℕ))) → slice_get heard (other_of 0 bay j) ≡ o → (c : ℕ) × PartChosen a bay j c v × IsSet (set_at sets j) c
       by j lt (Some (Some s)) told =
           let h = k.heard_allow (other_of 0 bay j) s (other_not bay j) told in
-          (h.index, h.has, (are j h.index lt).1 (slice_get_within _ h.index h.has.letter h.has.listed, subst (λ o. HeardAllows o h.index) (sym told) h.bit))
+          elim h [
+            | inl set ↦ (set.index, set.has, (are j set.index lt).1 (slice_get_within _ set.index set.has.letter set.has.listed, subst (λ o. HeardAllows o set.index) (sym told) (inl set.bit)))
+            | inr empty ↦
+                let i = (alphabets.alphabets.each (other_of 0 bay j) (omega (arith, (other_in 0 bay n j (omega (arith, lt, count))).1, count))).indexed v k.whole in
+                (i.0, i.1, (are j i.0 lt).1 (slice_get_within _ i.0 i.1.letter i.1.listed, subst (λ o. HeardAllows o i.0) (sym told) (inr empty)))
+          ]
       by j lt (Some None) told =
           let i = (alphabets.alphabets.each (other_of 0 bay j) (omega (arith, (other_in 0 bay n j (omega (arith, lt, count))).1, count))).indexed v k.whole in
           (i.0, i.1, (are j i.0 lt).1 (slice_get_within _ i.0 i.1.letter i.1.listed, subst (λ o. HeardAllows o i.0) (sym told) tt))
@@ -49,12 +54,11 @@ module _ (a : Lettered) (alphabets : AreLettered a) (bay n : ℕ) (count : suc n
         let r = place_of_part bay b n (omega (arith, bay_in, count)) ne b_in in
         let lt : suc r.0 < part_count a.diagram = omega (arith, r.1, count) in
         let h = w.others r.0 lt in
-        let allows = ((are r.0 h.0 lt).0 h.2).1 in
-        record {
-          index = h.0;
-          has = subst (λ p. PartHas a p h.0 v) r.2 h.1;
-          bit = subst (λ o. HeardAllows o h.0) (ap (slice_get heard) r.2 ∙ told) allows;
-        };
+        let allows : HeardAllows (Some (Some s)) h.0 = subst (λ o. HeardAllows o h.0) (ap (slice_get heard) r.2 ∙ told) ((are r.0 h.0 lt).0 h.2).1 in
+        elim allows [
+          | inl bit ↦ inl (record { index = h.0; has = subst (λ p. PartHas a p h.0 v) r.2 h.1; bit = bit })
+          | inr empty ↦ inr empty
+        ];
   }
 
   -- the verdict over what the sets allow is that over what is known

@@ -21,7 +21,9 @@ pub mod InnerFits
 pub mod NodesLemmas
 pub mod InputsLemmas
 pub mod ChoiceLemmas
+pub mod NotingLemmas
 pub mod OuterGraphs
+pub mod OuterTaken
 pub mod InnerGraphs
 pub mod CodeLemmas
 pub mod BayLemmas
@@ -35,3 +37,11 @@ pub mod SummaryLemmas
 pub mod SetsLemmas
 pub mod HeardLemmas
 pub mod ReachesLemmas
+pub mod PartnerChoices
+pub mod PartnerMerging
+pub mod PartnerNaming
+pub mod PartnerPlacing
+pub mod PartnerTelling
+pub mod PartnerAnswers
+pub mod PartnerLemmas
+pub mod TellsLemmas

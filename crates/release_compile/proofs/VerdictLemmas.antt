@@ -78,21 +78,21 @@ other_in first m others i lt = elim (other_cases first m i) [
 ]
 
 -- the choice for a position
-code : Bool → ℕ
+pub code : Bool → ℕ
 code true = 1
 code false = 0
 
-code_back : (c : Bool) → (eqb (code c) 1) ≡ c
+pub code_back : (c : Bool) → (eqb (code c) 1) ≡ c
 unfolding code
 code_back true = refl
 code_back false = refl
 
-code_small : (c : Bool) → code c < 2
+pub code_small : (c : Bool) → code c < 2
 unfolding code
 code_small true = omega arith
 code_small false = omega arith
 
-element : {X : Type 0} (xs : List X) (i : ℕ) → i < length xs → (x : X) × (slice_get xs i ≡ Some x)
+pub element : {X : Type 0} (xs : List X) (i : ℕ) → i < length xs → (x : X) × (slice_get xs i ≡ Some x)
 element xs i h = elim ((slice_get_cases xs i).1) [ inl w ↦ (w.0, w.2) | inr w ↦ absurd (omega (arith, w.0)) ]
 
 -- ---- one view

@@ -1,13 +1,14 @@
 -- The graphs of a bay, and of a station.
-use Rattle.std.specs.Prelude.{◌≡◌, ℕ, suc, ◌+◌, List, length, slice_get, Option, Some, None}
-use Rattle.station_graph.specs.Diagram.{AreSwitchesOf}
+use Rattle.std.specs.Prelude.{◌≡◌, ℕ, suc, ◌+◌, ◌<◌, Bool, false, List, length, slice_get, slice_index_or, Option, Some, None, MatchBool}
+use Rattle.station_graph.specs.Diagram.{Diagram, part_count, AreSwitchesOf}
+use Rattle.station_graph.specs.Alike.{Irrelevant, Partner}
 use Rattle.contraction.specs.Answers.{Answers}
 use Rattle.central_rules.specs.Meaning.{IsBay}
 use Rattle.decision_graphs.specs.Label.{Layered, AreReduced}
 use Rattle.release_compile.specs.declared.view.View.{View}
 use Rattle.release_compile.specs.declared.view.View.TheVariants.{Gap, Load}
 use Rattle.release_compile.specs.Lettered.{Lettered}
-use Rattle.release_compile.specs.Graphs.{IsOuter, IsInner}
+use Rattle.release_compile.specs.Graphs.{other_of, IsOuter, IsInner}
 use Rattle.release_compile.specs.Coding.{labels_of}
 use Rattle.release_compile.specs.Counted.{OuterIsSmall, InnerIsSmall}
 
@@ -16,12 +17,13 @@ pub record ViewOf : Type 0 where
   pub outer : Layered
   pub inner : List Layered
 
--- The graphs of a bay, with its first switch and how many it has.
+-- The graphs of a bay, with its first switch, how many it has, and for each other part whether it is a partner.
 pub record BayOf : Type 0 where
   pub first : ℕ
   pub count : ℕ
   pub gap : ViewOf
   pub load : ViewOf
+  pub told : List Bool
 
 -- The inner graph of the i-th of so many switches of the bay.
 pub record IsInnerAt (view : View) (a : Lettered) (b first count : ℕ) (names : List Answers) (i : ℕ) (g : Layered) : Type 0 where
@@ -46,11 +48,17 @@ pub record AreViewGraphs (view : View) (a : Lettered) (b first count : ℕ) (g :
   pub outer_small : OuterIsSmall view a.diagram b g.outer
   pub inner : AreInner view a b first count names g.inner count
 
--- The graphs of a bay in both views.
+-- For each other part, in document order, whether it is a partner of the bay.
+pub record AreTold (d : Diagram) (b : ℕ) (told : List Bool) : Type 0 where
+  pub count : suc (length told) ≡ part_count d
+  pub each : (j : ℕ) → j < length told → MatchBool (slice_index_or told j false) (Partner d (other_of 0 b j) b) (Irrelevant d (other_of 0 b j) b)
+
+-- The graphs of a bay in both views, and its partners.
 pub record AreBayGraphs (a : Lettered) (b : ℕ) (g : BayOf) : Type 0 where
   pub switches : AreSwitchesOf a.diagram b g.first g.count
   pub gap : AreViewGraphs Gap a b g.first g.count g.gap
   pub load : AreViewGraphs Load a b g.first g.count g.load
+  pub told : AreTold a.diagram b g.told
 
 -- These are the graphs of a part: it has some exactly where it has switches.
 abbrev pub AreGraphsOf : Lettered → ℕ → Option BayOf → Type 0

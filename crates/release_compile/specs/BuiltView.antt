@@ -8,7 +8,7 @@ abbrev pub view_of : ViewGraphs → ViewOf
 view_of g = record { outer = g.outer; inner = g.inner.items }
 
 abbrev pub seen_bay : BayGraphs → BayOf
-seen_bay g = record { first = g.first; count = g.count; gap = view_of g.gap; load = view_of g.load }
+seen_bay g = record { first = g.first; count = g.count; gap = view_of g.gap; load = view_of g.load; told = g.told.items }
 
 abbrev pub seen_part : Option BayGraphs → Option BayOf
 seen_part part = option_map seen_bay part

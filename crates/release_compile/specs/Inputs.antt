@@ -37,6 +37,16 @@ pub record AreCopies (p : Pool) (values : List Answers) (ids : List ℕ) : Type 
   pub len : length ids ≡ length values
   pub each : (c : ℕ) (x : Answers) → slice_get values c ≡ Some x → HasCopyAt p ids c x
 
+-- The first n rows are those of the letters of the parts.
+pub record AreLetters (a : Lettered) (p : Pool) (rows : List (List ℕ)) (n : ℕ) : Type 0 where
+  pub len : length rows ≡ n
+  pub each : (part : ℕ) (ids : List ℕ) → slice_get rows part ≡ Some ids → AreCopies p (letters_in a part) ids
+
+-- The first n rows of the second list are those of the first that are not this one.
+pub record AreOtherRows (this : ℕ) (all rows : List (List ℕ)) (n : ℕ) : Type 0 where
+  pub len : length rows ≡ n
+  pub each : (i : ℕ) (ids : List ℕ) → slice_get rows i ≡ Some ids → slice_get all (other_of 0 this i) ≡ Some ids
+
 -- The first n rows are those of the letters of the other parts.
 pub record AreRows (a : Lettered) (b : ℕ) (p : Pool) (rows : List (List ℕ)) (n : ℕ) : Type 0 where
   pub len : length rows ≡ n

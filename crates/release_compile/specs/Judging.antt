@@ -30,7 +30,7 @@ abbrev pub no_graph : Layered
 no_graph = record { labels = 0; layers = [] }
 
 abbrev pub no_bay : BayOf
-no_bay = record { first = 0; count = 0; gap = record { outer = no_graph; inner = [] }; load = record { outer = no_graph; inner = [] } }
+no_bay = record { first = 0; count = 0; gap = record { outer = no_graph; inner = [] }; load = record { outer = no_graph; inner = [] }; told = [] }
 
 abbrev pub or_no_bay : Option (Option BayOf) → BayOf
 or_no_bay (Some (Some g)) = g

@@ -10,10 +10,14 @@ pub mod Summaries
 pub mod Rows
 pub mod Deciding
 pub mod Plans
+pub mod Noting
+pub mod Stocking
 pub mod Pooling
 pub mod Layering
 pub mod Inputs
 pub mod Coding
+pub mod PartnerLabels
+pub mod PartnerNames
 pub mod Built
 pub mod BuiltView
 pub mod Judging

@@ -1,7 +1,8 @@
 -- The summary of an index set.
-use Rattle.std.specs.Prelude.{◌≡◌, ℕ, ◌+◌, ◌-◌, ◌*◌, ◌/◌, ◌%◌, ◌^◌, ◌<◌, ◌==◌, ◌↔◌, suc, Bool, true, List, length, slice_get, slice_index, Option, Some, None}
+use Rattle.std.specs.Prelude.{◌≡◌, ℕ, ◌+◌, ◌-◌, ◌*◌, ◌/◌, ◌%◌, ◌^◌, ◌<◌, ◌==◌, ◌⊎◌, ◌↔◌, suc, Bool, true, List, [], length, slice_get, slice_index, Option, Some, None}
 use Rattle.ilk_base.specs.declared.words.Dbpos.{Dbpos}
 use Rattle.station_graph.specs.Diagram.{part_count}
+use Rattle.station_graph.specs.Alike.{Irrelevant, Partner}
 use Rattle.bay_contract.specs.Alphabets.{CanHave}
 use Rattle.decision_graphs.specs.Reaching.{IsSet, set_at}
 use Rattle.release_compile.specs.Graphs.{other_of}
@@ -29,13 +30,21 @@ pub record SetAllows (a : Lettered) (b : ℕ) (s : List ℕ) (v : List Bool) : T
   pub has : PartHas a b index v
   pub bit : has_bit s index ≡ true
 
--- What the summaries of the graph judge mean, where every bay tells every other.
+-- A partner tells an index set, and every other bay the empty summary.
+abbrev pub IsTold : Lettered → ℕ → ℕ → List ℕ → Type 0
+IsTold a b to s = (Partner a.diagram b to × IsIndexSet a b s) ⊎ (Irrelevant a.diagram b to × (s ≡ []))
+
+-- The empty summary allows each vector.
+abbrev pub SummaryAllows : Lettered → ℕ → List ℕ → List Bool → Type 0
+SummaryAllows a b s v = SetAllows a b s v ⊎ (s ≡ [])
+
+-- What the summaries of the graph judge mean: exactly the partners of a bay tell it.
 abbrev pub by_indices : Lettered → Meaning
 by_indices a = record {
   diagram = a.diagram;
-  Silent = λ b to. ⊥;
-  Fits = λ b to s. IsIndexSet a b s;
-  Allows = λ b s v. SetAllows a b s v;
+  Silent = λ b to. Irrelevant a.diagram b to;
+  Fits = λ b to s. IsTold a b to s;
+  Allows = λ b s v. SummaryAllows a b s v;
 }
 
 abbrev pub judges : Judging → Meaning
@@ -43,7 +52,7 @@ judges j = by_indices (ground j)
 
 -- What was heard of a part allows the index.
 abbrev pub HeardAllows : Option (Option (List ℕ)) → ℕ → Type 0
-HeardAllows (Some (Some s)) c = has_bit s c ≡ true
+HeardAllows (Some (Some s)) c = (has_bit s c ≡ true) ⊎ (s ≡ [])
 HeardAllows (Some None) c = Unit {0}
 HeardAllows None c = Unit {0}
 

@@ -11,13 +11,17 @@ ghost use Rattle.release_compile.specs.Needing.{AreShared};
 ghost use Rattle.release_compile.specs.Inputs.{AreNames};
 ghost use Rattle.release_compile.specs.Built.{AreInner, AreViewGraphs, AreBayGraphs};
 ghost use Rattle.release_compile.specs.Counted.{SwitchesHave, ViewHas, BayHas, Spends, Passes};
+ghost use Rattle.release_compile.specs.Stocking.{IsStock};
+ghost use Rattle.release_compile.specs.declared.view.View.TheVariants.{Gap, Load};
 ghost use Rattle.release_compile.specs.declared.layer.Trouble.TheVariants.{Wide};
 ghost use Rattle.release_compile.specs.BuiltView.{view_of, seen_bay};
 
 use crate::inner::inner_graph;
 use crate::layer::Trouble;
 use crate::outer::outer_graph;
+use crate::partners::told_layers;
 use crate::pool::Pool;
+use crate::stock::Stock;
 use crate::view::View;
 use bay_contract::Parts;
 use decision_graphs::Graph;
@@ -32,13 +36,14 @@ pub(crate) struct ViewGraphs {
     pub(crate) inner: Vec<Graph>,
 }
 
-// The graphs of a bay, with its first switch and how many it has.
+// The graphs of a bay, with its first switch, how many it has, and for each other part whether it is a partner.
 #[derive(Debug, Drop)]
 pub(crate) struct BayGraphs {
     pub(crate) first: u16,
     pub(crate) count: u16,
     pub(crate) gap: ViewGraphs,
     pub(crate) load: ViewGraphs,
+    pub(crate) told: Vec<bool>,
 }
 
 // Inner graphs, and how many edges are left of those that may be made.
@@ -81,6 +86,7 @@ fn inner_graphs(
     requires names { AreNames pool.old station.now bay.0 names.now }
     requires few { length names.now ≤ 8000001 }
     requires left { left ≤ 8000000 }
+    ensures grew { OnOk result (GrewTo pool.old pool.new) }
     ensures inner { IfOk result (λ r. (a : Alphabets) → AreInner pool.old.view (lettered station.now a) bay.0 first count (values_at pool.old.values.items names.now) r.graphs.items count) }
     ensures wide { IfErr result (λ e. e ≡ Wide → Passes (SwitchesHave pool.old.view station.now bay.0 first count count) station.now left) }
     ensures spent { IfOk result (λ r. Spends (SwitchesHave pool.old.view station.now bay.0 first count count) station.now left r.left) }
@@ -101,12 +107,13 @@ fn inner_graphs(
     Ok(Inners { graphs, left: rest })
 }
 
-// The graphs of one view of a bay.
+// The graphs of one view of a bay, of which the stock is.
 fn view_graphs(
     alloc: Global,
     view: View,
     station: &Station,
     parts: &Parts,
+    stock: &mut Stock,
     shared: &[NodeList],
     bay: BayId,
     first: u16,
@@ -114,23 +121,36 @@ fn view_graphs(
     left: usize,
 ) -> Result<Viewed, Trouble>
     requires lettered { AreAlphabets station.now parts.now }
+    requires stock { IsStock (lettered station.now parts.now) view stock.old }
     requires shared { AreShared station.now shared.now }
     requires bay { bay.0 < part_count station.now }
     requires switches { AreSwitchesOf station.now bay.0 first count }
     requires left { left ≤ 8000000 }
+    ensures stock { OnOk result (IsStock (lettered station.now parts.now) view stock.new) }
     ensures graphs { IfOk result (λ r. AreViewGraphs view (lettered station.now parts.now) bay.0 first count (view_of r.graphs)) }
     ensures wide { IfErr result (λ e. e ≡ Wide → Passes (ViewHas view station.now bay.0 first count) station.now left) }
     ensures spent { IfOk result (λ r. Spends (ViewHas view station.now bay.0 first count) station.now left r.left) }
     ensures left { IfOk result (λ r. r.left ≤ left) }
 {
+    let _ = view;
     let others = station.part_count() - 1;
-    let mut pool = Pool::new(alloc, view, Vec::new(alloc));
-    let outer = outer_graph(alloc, &mut pool, station, parts, shared, bay, others, left)?;
+    let outer = outer_graph(
+        alloc,
+        &mut stock.pool,
+        &stock.letters,
+        &mut stock.last,
+        station,
+        parts,
+        shared,
+        bay,
+        others,
+        left,
+    )?;
     let place = usize::from(bay.0);
     let nodes = &shared[place];
     let inners = inner_graphs(
         alloc,
-        &mut pool,
+        &mut stock.pool,
         station,
         nodes,
         bay,
@@ -153,14 +173,20 @@ pub(crate) fn bay_graphs(
     alloc: Global,
     station: &Station,
     parts: &Parts,
+    gap_stock: &mut Stock,
+    load_stock: &mut Stock,
     shared: &[NodeList],
     bay: BayId,
     left: usize,
 ) -> Result<Bay, Trouble>
     requires lettered { AreAlphabets station.now parts.now }
+    requires gap { IsStock (lettered station.now parts.now) Gap gap_stock.old }
+    requires load { IsStock (lettered station.now parts.now) Load load_stock.old }
     requires shared { AreShared station.now shared.now }
     requires bay { bay.0 < part_count station.now }
     requires left { left ≤ 8000000 }
+    ensures gap { OnOk result (IsStock (lettered station.now parts.now) Gap gap_stock.new) }
+    ensures load { OnOk result (IsStock (lettered station.now parts.now) Load load_stock.new) }
     ensures graphs { IfOk result (λ r. AreBayGraphs (lettered station.now parts.now) bay.0 (seen_bay r.graphs)) }
     ensures wide { IfErr result (λ e. e ≡ Wide → Passes (BayHas station.now bay.0) station.now left) }
     ensures spent { IfOk result (λ r. Spends (BayHas station.now bay.0) station.now left r.left) }
@@ -173,6 +199,7 @@ pub(crate) fn bay_graphs(
         View::Gap,
         station,
         parts,
+        gap_stock,
         shared,
         bay,
         first,
@@ -184,18 +211,21 @@ pub(crate) fn bay_graphs(
         View::Load,
         station,
         parts,
+        load_stock,
         shared,
         bay,
         first,
         count,
         gap.left,
     )?;
+    let told = told_layers(alloc, &gap.graphs, &load.graphs)?;
     Ok(Bay {
         graphs: BayGraphs {
             first,
             count,
             gap: gap.graphs,
             load: load.graphs,
+            told,
         },
         left: load.left,
     })

@@ -1,5 +1,5 @@
 //! The graphs of a station.
-ghost use Rattle.std.specs.Prelude.{◌≡◌, ◌+◌, ◌-◌, ◌<◌, ◌≤◌, ◌⊎◌, ◌++◌, ◌∷◌, [], ℕ, length, map, slice_get, Some, IfOk, IfErr};
+ghost use Rattle.std.specs.Prelude.{◌≡◌, ◌+◌, ◌-◌, ◌<◌, ◌≤◌, ◌⊎◌, ◌++◌, ◌∷◌, [], ℕ, length, map, slice_get, Some, IfOk, IfErr, OnOk};
 ghost use Rattle.station_graph.specs.Diagram.{part_count};
 ghost use Rattle.station_graph.specs.Connection.{a_switch};
 ghost use Rattle.station_graph.specs.Sharing.{OfPart};
@@ -10,6 +10,8 @@ ghost use Rattle.release_compile.specs.declared.limits.TheConstants.{BAY_EDGES a
 ghost use Rattle.release_compile.specs.declared.layer.Trouble.TheVariants.{Wide as IsWide};
 ghost use Rattle.release_compile.specs.Lettered.{lettered};
 ghost use Rattle.release_compile.specs.Needing.{AreShared};
+ghost use Rattle.release_compile.specs.Stocking.{IsStock};
+ghost use Rattle.release_compile.specs.declared.view.View.TheVariants.{Gap, Load};
 ghost use Rattle.release_compile.specs.Counted.{BayHas, Passes};
 ghost use Rattle.release_compile.specs.Built.{AreBays, AreGraphsOf, AreBayGraphs};
 ghost use Rattle.release_compile.specs.BuiltView.{seen_bay, seen_part};
@@ -20,6 +22,8 @@ use crate::layer::Trouble;
 use crate::limits::{ALL_EDGES, BAY_EDGES};
 use crate::needed::all_shared;
 use crate::refusal::BuildRefusal;
+use crate::stock::{Stock, stock_of};
+use crate::view::View;
 use bay_contract::{Parts, PartsRefusal};
 use decision_graphs::Graph;
 use ilk_base::{BayId, Memory, SwitchId};
@@ -49,14 +53,20 @@ fn part_graphs(
     alloc: Global,
     station: &Station,
     parts: &Parts,
+    gap: &mut Stock,
+    load: &mut Stock,
     shared: &[NodeList],
     bay: BayId,
     left: usize,
 ) -> Result<Part, Trouble>
     requires lettered { AreAlphabets station.now parts.now }
+    requires gap { IsStock (lettered station.now parts.now) Gap gap.old }
+    requires load { IsStock (lettered station.now parts.now) Load load.old }
     requires shared { AreShared station.now shared.now }
     requires bay { bay.0 < part_count station.now }
     requires left { left ≤ BAY }
+    ensures gap { OnOk result (IsStock (lettered station.now parts.now) Gap gap.new) }
+    ensures load { OnOk result (IsStock (lettered station.now parts.now) Load load.new) }
     ensures graphs { IfOk result (λ r. AreGraphsOf (lettered station.now parts.now) bay.0 (seen_part r.graphs)) }
     ensures wide { IfErr result (λ e. e ≡ IsWide → IsBay station.now bay.0 × Passes (BayHas station.now bay.0) station.now left) }
     ensures spent { IfOk result (λ r. PartHasEdges station.now bay.0 (left - r.left)) }
@@ -66,7 +76,7 @@ fn part_graphs(
     if count == 0 {
         return Ok(Part { graphs: None, left });
     }
-    let made = bay_graphs(alloc, station, parts, shared, bay, left)?;
+    let made = bay_graphs(alloc, station, parts, gap, load, shared, bay, left)?;
     Ok(Part {
         graphs: Some(made.graphs),
         left: made.left,
@@ -94,12 +104,16 @@ fn all_bays(
     ensures fits { IfOk result (λ _. (edges : ℕ) × KeepEdges station.now (part_count station.now) edges) }
     ensures refusal { IfErr result (IsTooWide station.now) }
 {
+    let mut gap = stock_of(alloc, View::Gap, station, parts, shared)?;
+    let mut load = stock_of(alloc, View::Load, station, parts, shared)?;
     let mut bays = Vec::new(alloc);
     let mut spent = 0usize;
     for part in 0..station.part_count() {
         let bay = BayId(part as u8);
         let left = allowed(spent);
-        match part_graphs(alloc, station, parts, shared, bay, left) {
+        match part_graphs(
+            alloc, station, parts, &mut gap, &mut load, shared, bay, left,
+        ) {
             Ok(made) => {
                 spent += left - made.left;
                 keep(&mut bays, made.graphs)?;

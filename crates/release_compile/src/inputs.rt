@@ -7,7 +7,7 @@ ghost use Rattle.bay_contract.specs.Alphabets.{AreAlphabets};
 ghost use Rattle.release_compile.specs.Lettered.{lettered};
 ghost use Rattle.release_compile.specs.Pooling.{IsPool, GrewTo};
 ghost use Rattle.release_compile.specs.Needing.{AreShared, IsNeededOuter, InnerNeeds};
-ghost use Rattle.release_compile.specs.Inputs.{AreKeeps, AreCopies, AreRows, HasNothing, HasLinks, HasSwitch, HasPair, AreInnerRows};
+ghost use Rattle.release_compile.specs.Inputs.{AreKeeps, AreCopies, AreLetters, AreOtherRows, HasNothing, HasLinks, HasSwitch, HasPair, AreInnerRows};
 
 use crate::needed::{inner_nodes, met_nodes, outer_nodes, start_nodes};
 use crate::placing::other_number;
@@ -68,28 +68,22 @@ fn copies(
     Ok(ids)
 }
 
-// The numbers of the letters of each other part.
+// The numbers of the letters of each part.
 pub(crate) fn letter_rows(
     alloc: Global,
     pool: &mut Pool,
     station: &Station,
     parts: &Parts,
     shared: &[NodeList],
-    bay: BayId,
-    others: u16,
 ) -> Result<Vec<Vec<usize>>, Memory>
     requires pool { IsPool pool.old }
     requires lettered { AreAlphabets station.now parts.now }
     requires shared { AreShared station.now shared.now }
-    requires count { suc others ≡ part_count station.now }
-    requires bay { bay.0 < part_count station.now }
     ensures grew { OnOk result (GrewTo pool.old pool.new) }
-    ensures rows { IfOk result (λ v. AreRows (lettered station.now parts.now) bay.0 pool.new (map (λ r. r.items) v.items) others) }
+    ensures rows { IfOk result (λ v. AreLetters (lettered station.now parts.now) pool.new (map (λ r. r.items) v.items) (part_count station.now)) }
 {
-    let _count = station.part_count();
     let mut rows = Vec::new(alloc);
-    for j in 0..others {
-        let part = other_number(0, u16::from(bay.0), j);
+    for part in 0..station.part_count() {
         let place = usize::from(part);
         let nodes = &shared[place];
         let letters = parts.letters(BayId(part as u8));
@@ -97,6 +91,26 @@ pub(crate) fn letter_rows(
         rows.push(ids)?;
     }
     Ok(rows)
+}
+
+// Those of the rows that are not this one's, in order.
+pub(crate) fn other_rows(
+    alloc: Global,
+    rows: &[Vec<usize>],
+    this: u16,
+    others: u16,
+) -> Result<Vec<Vec<usize>>, Memory>
+    requires few { others < length rows.now }
+    ensures { IfOk result (λ v. AreOtherRows this (map (λ r. r.items) rows.now) (map (λ r. r.items) v.items) others) }
+{
+    let mut list = Vec::new(alloc);
+    for i in 0..others {
+        let place = usize::from(other_number(0, this, i));
+        let row = &rows[place];
+        let copy = Vec::from_slice(alloc, row)?;
+        list.push(copy)?;
+    }
+    Ok(list)
 }
 
 // The number of the value of no item.

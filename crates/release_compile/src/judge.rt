@@ -3,14 +3,15 @@ ghost use Rattle.std.specs.Prelude.{◌≡◌};
 
 use crate::build::{GraphJudge, switch_bay};
 use crate::heard::{judge_heard, judge_words, reach_words};
+use crate::partners::is_partner;
 use crate::summary::{is_index_set, summary_of};
 use central_rules::{Judge, Verdict};
 use double_points::Readings;
 use ilk_base::{BayId, HeardList, Memory, Op, Summary};
 use std::alloc::Global;
 
-/// What a bay tells another is the set of its indices: as few bytes as hold a bit for each index of the bay, index 0 in
-/// the highest bit of the first byte, and spare bits 0. Every bay tells every other. Time of a verdict: the edges of the
+/// A bay tells another exactly where it is a partner of it: the set of its indices, as few bytes as hold a bit for each
+/// index of the bay, index 0 in the highest bit of the first byte, and spare bits 0. Else its summary is empty. Time of a verdict: the edges of the
 /// bay's outer graphs and of the switch's inner ones, and the steps of the parts; memory for their nodes.
 impl<'a> Judge for GraphJudge<'a> {
     ghost use Rattle.release_compile.specs.Summaries.{judges};
@@ -19,23 +20,29 @@ impl<'a> Judge for GraphJudge<'a> {
 
     ghost meaning = { judges };
 
-    fn tells(&self, _bay: BayId, _to: BayId) -> bool {
-        true
+    fn tells(&self, bay: BayId, to: BayId) -> bool {
+        is_partner(self, bay, to)
     }
 
     fn summarise(
         &self,
         alloc: Global,
         bay: BayId,
-        _to: BayId,
+        to: BayId,
         readings: &Readings,
     ) -> Result<Summary, Memory> {
         self.diagram_is_station();
+        if !is_partner(self, bay, to) {
+            return Ok(Summary::empty());
+        }
         let summary = summary_of(alloc, self.parts(), bay, readings)?;
         Ok(summary)
     }
 
-    fn fits(&self, bay: BayId, _to: BayId, summary: &Summary) -> bool {
+    fn fits(&self, bay: BayId, to: BayId, summary: &Summary) -> bool {
+        if !is_partner(self, bay, to) {
+            return summary.bytes().is_empty();
+        }
         let size = self.parts().size(bay);
         is_index_set(size, summary)
     }

@@ -91,6 +91,18 @@ fn note_made(notes: &mut HashMap<Made, usize>, key: Made, place: usize) -> Resul
     Ok(())
 }
 
+// The place of the list of nodes among these.
+fn find_keep(keeps: &[NodeList], nodes: &NodeList) -> Option<usize>
+    ensures { IfSome result (λ k. slice_get keeps.now k ≡ Some nodes.now) }
+{
+    for place in 0..keeps.len() {
+        if keeps[place] == *nodes {
+            return Some(place);
+        }
+    }
+    None
+}
+
 impl Pool {
     // A pool without values, for these lists of nodes.
     pub(crate) fn new(alloc: Global, view: View, keeps: Vec<NodeList>) -> Pool
@@ -127,12 +139,15 @@ impl Pool {
         }
     }
 
-    // The number of one more list of nodes.
+    // The number of the list of nodes, which the pool has once.
     pub(crate) fn keep(&mut self, nodes: NodeList) -> Result<usize, Memory>
         requires { IsPool self.old }
         ensures grew { OnOk result (GrewTo self.old self.new) }
         ensures kept { IfOk result (λ k. slice_get self.new.keeps.items k ≡ Some nodes) }
     {
+        if let Some(place) = find_keep(&self.keeps, &nodes) {
+            return Ok(place);
+        }
         let held = self.keeps.as_slice();
         let place = held.len();
         self.keeps.push(nodes)?;

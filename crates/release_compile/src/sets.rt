@@ -1,5 +1,5 @@
 //! Sets of allowed choices for the graphs of a bay.
-ghost use Rattle.std.specs.Prelude.{◌≡◌, ◌≢◌, ◌+◌, ◌*◌, ◌<◌, ◌≤◌, ◌==◌, ◌⊎◌, ◌↔◌, ℕ, suc, List, Bool, true, length, slice_get, Some, IfOk, IsTrue};
+ghost use Rattle.std.specs.Prelude.{◌≡◌, ◌≢◌, ◌+◌, ◌*◌, ◌<◌, ◌≤◌, ◌==◌, ◌⊎◌, ◌↔◌, ℕ, suc, List, [], Bool, true, length, slice_get, Some, IfOk, IsTrue};
 ghost use Rattle.station_graph.specs.Diagram.{Diagram, part_count};
 ghost use Rattle.double_points.specs.Words.{Agrees, AreWords};
 ghost use Rattle.bay_contract.specs.PartAlphabets.{size_of};
@@ -9,7 +9,7 @@ ghost use Rattle.decision_graphs.specs.Reaching.{AreSetsOf, AreMarksOf, MarksRea
 ghost use Rattle.release_compile.specs.Lettered.{lettered};
 ghost use Rattle.release_compile.specs.Chaining.{AreInARow, IsReady};
 ghost use Rattle.release_compile.specs.Graphs.{other_of, OwnAllowed};
-ghost use Rattle.release_compile.specs.Summaries.{HeardAllows, AreHeardSets, ArePossibleSets};
+ghost use Rattle.release_compile.specs.Summaries.{has_bit, HeardAllows, AreHeardSets, ArePossibleSets};
 
 use crate::placing::other_number;
 use crate::search::Side;
@@ -55,13 +55,21 @@ fn allow_marked(sets: &mut ChoiceSets, layer: u16, marks: &[bool])
     }
 }
 
+// Whether the summary of these bytes allows the index: the empty one allows all.
+fn allows_index(bytes: &[u8], index: usize) -> bool
+    requires { (index < 8 * length bytes.now) ⊎ (bytes.now ≡ []) }
+    ensures { IsTrue result ↔ ((has_bit bytes.now index ≡ true) ⊎ (bytes.now ≡ [])) }
+{
+    bytes.is_empty() || bit_of(bytes, index)
+}
+
 // Whether what was heard of a part allows the index.
 fn heard_allows(what: Option<Summary>, index: u8) -> bool
-    requires { (s : List ℕ) → what ≡ Some s → index < 8 * length s }
+    requires { (s : List ℕ) → what ≡ Some s → (index < 8 * length s) ⊎ (s ≡ []) }
     ensures { IsTrue result ↔ HeardAllows (Some what) index }
 {
     match what {
-        Some(summary) => bit_of(summary.bytes(), usize::from(index)),
+        Some(summary) => allows_index(summary.bytes(), usize::from(index)),
         None => true,
     }
 }
@@ -69,7 +77,7 @@ fn heard_allows(what: Option<Summary>, index: u8) -> bool
 // Which indices of a part what was heard of it allows.
 fn heard_marks(alloc: Global, size: u8, part: BayId, heard: &HeardList) -> Result<Vec<bool>, Memory>
     requires part { part.0 < length heard.now }
-    requires fits { (s : List ℕ) → slice_get heard.now part.0 ≡ Some (Some s) → size ≤ 8 * length s }
+    requires fits { (s : List ℕ) → slice_get heard.now part.0 ≡ Some (Some s) → (size ≤ 8 * length s) ⊎ (s ≡ []) }
     ensures len { IfOk result (λ v. length v.items ≡ size) }
     ensures each { IfOk result (λ v. (c : ℕ) → IsSet v.items c ↔ ((c < size) × HeardAllows (slice_get heard.now part.0) c)) }
 {
@@ -97,7 +105,7 @@ pub(crate) fn heard_sets(
     requires layers { length outer.now.layers ≡ others }
     requires choices { (j : ℕ) → j < others → (layer_at outer.now.layers j).choices ≡ size_of parts.now (other_of 0 bay.0 j) }
     requires heard { length heard.now ≡ part_count station.now }
-    requires fit { (part : ℕ) (s : List ℕ) → part ≢ bay.0 → slice_get heard.now part ≡ Some (Some s) → size_of parts.now part ≤ 8 * length s }
+    requires fit { (part : ℕ) (s : List ℕ) → part ≢ bay.0 → slice_get heard.now part ≡ Some (Some s) → (size_of parts.now part ≤ 8 * length s) ⊎ (s ≡ []) }
     ensures sets { IfOk result (AreSetsOf outer.now.layers) }
     ensures heard { IfOk result (AreHeardSets (lettered station.now parts.now) bay.0 heard.now) }
 {

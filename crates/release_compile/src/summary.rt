@@ -1,6 +1,7 @@
 //! The row of an index set.
 ghost use Rattle.std.specs.Prelude.{◌≡◌, ℕ, ◌+◌, ◌*◌, ◌<◌, ◌≤◌, ◌↔◌, true, length, IfOk, IsTrue};
 ghost use Rattle.station_graph.specs.Diagram.{Diagram, IsStation};
+ghost use Rattle.station_graph.specs.Alike.{Partner};
 ghost use Rattle.central_rules.specs.Meaning.{Summarises};
 ghost use Rattle.bay_contract.specs.Alphabets.{AreAlphabets, InSet};
 ghost use Rattle.release_compile.specs.Lettered.{Lettered, lettered, index_count};
@@ -58,7 +59,7 @@ pub(crate) fn row_of(size: u8, set: &IndexSet) -> Summary
     Summary::new(&row[..count]).unwrap()
 }
 
-// The summary of the indices that the part can have by these words.
+// The summary of the indices that the part can have by these words, for a bay of which it is a partner.
 pub(crate) fn summary_of(
     alloc: Global,
     parts: &Parts,
@@ -67,7 +68,7 @@ pub(crate) fn summary_of(
 ) -> Result<Summary, Memory>
     requires part { bay.0 < length parts.now.parts }
     requires readings { length readings.now ≡ parts.now.switches }
-    ensures { IfOk result (λ s. (d : Diagram) (to : ℕ) → IsStation d → AreAlphabets d parts.now
+    ensures { IfOk result (λ s. (d : Diagram) (to : ℕ) → IsStation d → AreAlphabets d parts.now → Partner d bay.0 to
         → Summarises (by_indices (lettered d parts.now)) bay.0 to readings.now s) }
 {
     let set = parts.possible(alloc, bay, readings)?;

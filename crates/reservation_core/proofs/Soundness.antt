@@ -151,3 +151,18 @@ module _ (m : Meaning) where
   happens_sound old new (End i) outcome rounds obeys lt s sound = end_sound old new i.0 outcome rounds lt s sound
   happens_sound old new (Part k bytes) outcome rounds obeys lt s sound = part_sound old new k outcome s sound
   happens_sound old new (Cut i) outcome rounds obeys lt s sound = cut_sound old new i outcome s sound
+
+  -- ---- a switch opens without a command
+
+  opened : (truth : List Position) (i : ℕ) (v : List Bool) → IsSoundTruth m.diagram truth → IsVector m.diagram v → i < length m.diagram.switches → (p : Position) → true_at truth i ≡ p → StandsAll m.diagram (set truth i Open) v → get_or v i false ≡ false → Apart m.diagram v
+  opened truth i v sound whole lt Between at stands shut = subst (Apart m.diagram) (is_itself v i false shut) (apart_set truth i Open v false sound whole lt (subst (λ (x : Position). Stands x false) (sym at) tt) stands)
+  opened truth i v sound whole lt Open at stands shut = subst (Apart m.diagram) (is_itself v i false shut) (apart_set truth i Open v false sound whole lt (subst (λ (x : Position). Stands x false) (sym at) refl) stands)
+  opened truth i v sound whole lt Closed at stands shut =
+      let closed : Apart m.diagram (set v i true) = apart_set truth i Open v true sound whole lt (subst (λ (x : Position). Stands x true) (sym at) refl) stands in
+      subst (Apart m.diagram) (set_set v i true false ∙ is_itself v i false shut) (apart_opened m.diagram (set v i true) i closed)
+
+  pub opens_sound : (truth : List Position) (i : ℕ) → i < length truth → i < length m.diagram.switches → IsSoundTruth m.diagram truth → IsSoundTruth m.diagram (set truth i Open)
+  opens_sound truth i inside lt sound v whole resolves =
+      let stands = all_stand m.diagram (set truth i Open) v whole resolves in
+      let shut : get_or v i false ≡ false = subst (λ (x : Position). Stands x (get_or v i false)) (get_or-set_same truth i Open Between inside) (stands i lt) in
+      opened truth i v sound whole lt (true_at truth i) refl stands shut

@@ -43,16 +43,16 @@ fresh_node : (d : Diagram) (b : ℕ) → IsBay d b → IsNode d (new_node d b)
 fresh_node d b bay = node_resumed d b nothing_kept bay (record { lock = λ l is. absurd (cc is); granted = λ g is. absurd (cc is) })
 
 module _ (m : Meaning) (start : List Bool) (w : Scene) (is : IsStart m.diagram start w) where
-  fresh : (c : ℕ) → node m.diagram w c ≡ new_node m.diagram c
+  pub fresh : (c : ℕ) → node m.diagram w c ≡ new_node m.diagram c
   fresh c = fresh_at w.nodes c (new_node m.diagram c) (λ s got. (new_only m.diagram w.nodes is.nodes c s got).1)
 
   nothing_there : (f : Frame) → Contains w.sent f → ⊥
   nothing_there f there = none_there f (subst (λ (xs : List Frame). Contains xs f) is.sent there)
 
-  no_message : (k : ℕ) (f : Frame) → slice_get w.sent k ≡ Some f → ⊥
+  pub no_message : (k : ℕ) (f : Frame) → slice_get w.sent k ≡ Some f → ⊥
   no_message k f got = let e : slice_get [] k ≡ Some f = ap (λ (xs : List Frame). slice_get xs k) (sym is.sent) ∙ got in cc e
 
-  starts_rounds : RoundFacts m w
+  pub starts_rounds : RoundFacts m w
   starts_rounds = record {
     shape = record { nodes = is.nodes.count; present = new_there m.diagram w.nodes is.nodes; only = λ b s got. (new_only m.diagram w.nodes is.nodes b s got).0; named = λ b. ap (λ (n : State). n.bay) (fresh b); truth = is.truth; drives = is.drives };
     rounds = λ b bay. subst (IsNode m.diagram) (sym (fresh b)) (fresh_node m.diagram b bay);
@@ -67,7 +67,7 @@ module _ (m : Meaning) (start : List Bool) (w : Scene) (is : IsStart m.diagram s
     heard = λ c b g summary has. let none : (node m.diagram w c).collecting ≡ None = ap (λ (n : State). n.collecting) (fresh c) in absurd (cc (has, none));
   }
 
-  lost_word : (i : ℕ) → get_or (node m.diagram w (bay_of m.diagram i)).words i Lost ≡ Lost
+  pub lost_word : (i : ℕ) → get_or (node m.diagram w (bay_of m.diagram i)).words i Lost ≡ Lost
   lost_word i = ap (λ (n : State). get_or n.words i Lost) (fresh (bay_of m.diagram i)) ∙ get_lost (length m.diagram.switches) i
 
   pub starts : Facts m w

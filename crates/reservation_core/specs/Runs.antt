@@ -7,6 +7,7 @@ use Rattle.bay_protocol.specs.declared.values.Outcome.TheVariants.{Quiet}
 use Rattle.reservation_core.specs.Scene.{Scene, IsTrueWord, end_position}
 use Rattle.reservation_core.specs.Start.{IsStart}
 use Rattle.reservation_core.specs.Happens.{Happens, InRange}
+use Rattle.reservation_core.specs.declared.values.Position.{Position}
 use Rattle.reservation_core.specs.declared.values.Which.{Which}
 use Rattle.reservation_core.specs.declared.values.Which.TheVariants.{Sensed, Begun, Ended, Withdrawn, Unsent, Cut as NotCut}
 use Rattle.reservation_core.specs.declared.values.WorldEvent.{WorldEvent}
@@ -51,28 +52,33 @@ Run m start (l ∷ before) w = (old : Scene) × Run m start before old × Leads 
 
 -- ---- the premises 2 to 7
 
--- The switch has an open operation, its drive stands still, and it is not at the wanted end.
-pub record MayBegin (d : Diagram) (start : List Bool) (before : List Line) (i : ℕ) : Type 0 where
+-- The switch has an open operation, its drive stands still, and it is not at the wanted end, by these true
+-- positions and drives.
+pub record MayBegin (d : Diagram) (truth : ℕ → Position) (drives : ℕ → Bool) (before : List Line) (i : ℕ) : Type 0 where
   pub grant : Grant
   pub opened : open_of before (bay_of d i) ≡ Some grant
   pub switch : grant.op.switch.0 ≡ i
-  pub still : drive_runs before i ≡ false
-  pub away : true_after d start before i ≢ end_position grant.op.direction
+  pub still : drives i ≡ false
+  pub away : truth i ≢ end_position grant.op.direction
 
--- The event keeps its premise, by the lines before it: what is sensed as off or on is the true position; what
--- begins may begin; the drive that ends or is cut off runs; the drive of an operation that is withdrawn does
--- not; and the message that comes was sent.
+-- The event keeps its premise, by the lines before it, and these true positions and drives: what is sensed as off
+-- or on is the true position; what begins may begin; the drive that ends or is cut off runs; the drive of an
+-- operation that is withdrawn does not; and the message that comes was sent.
+abbrev pub MayHappenBy : Diagram → (ℕ → Position) → (ℕ → Bool) → List Line → WorldEvent → Type 0
+MayHappenBy d truth drives before (Command op) = ⊤
+MayHappenBy d truth drives before (Sense i word) = IsTrueWord word (truth i.0)
+MayHappenBy d truth drives before (Begin i) = MayBegin d truth drives before i.0
+MayHappenBy d truth drives before (End i) = drives i.0 ≡ true
+MayHappenBy d truth drives before (Withdraw b) = (g : Grant) → open_of before b.0 ≡ Some g → drives g.op.switch.0 ≡ false
+MayHappenBy d truth drives before (Deliver n) = sending before n ≢ None
+MayHappenBy d truth drives before (Part n bytes) = sending before n ≢ None
+MayHappenBy d truth drives before (Cut i) = drives i.0 ≡ true
+MayHappenBy d truth drives before (Tick b) = ⊤
+MayHappenBy d truth drives before (Restart b) = ⊤
+
+-- The same by the true positions and drives that the lines tell.
 abbrev pub MayHappen : Diagram → List Bool → List Line → WorldEvent → Type 0
-MayHappen d start before (Command op) = ⊤
-MayHappen d start before (Sense i word) = IsTrueWord word (true_after d start before i.0)
-MayHappen d start before (Begin i) = MayBegin d start before i.0
-MayHappen d start before (End i) = drive_runs before i.0 ≡ true
-MayHappen d start before (Withdraw b) = (g : Grant) → open_of before b.0 ≡ Some g → drive_runs before g.op.switch.0 ≡ false
-MayHappen d start before (Deliver n) = sending before n ≢ None
-MayHappen d start before (Part n bytes) = sending before n ≢ None
-MayHappen d start before (Cut i) = drive_runs before i.0 ≡ true
-MayHappen d start before (Tick b) = ⊤
-MayHappen d start before (Restart b) = ⊤
+MayHappen d start before event = MayHappenBy d (true_after d start before) (drive_runs before) before event
 
 -- Each of the lines kept its premise.
 abbrev pub PremisesHold : Diagram → List Bool → List Line → Type 0

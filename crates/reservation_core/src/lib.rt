@@ -6,6 +6,7 @@ mod deliveries;
 mod drives;
 mod happening;
 mod law;
+mod looking;
 mod scene;
 mod start;
 #[cfg(test)]

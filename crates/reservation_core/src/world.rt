@@ -28,7 +28,7 @@ use std::marker::Model;
 /// the judge of the call before.
 #[derive(Debug, Drop)]
 pub struct World {
-    scene: Scene,
+    pub(crate) scene: Scene,
     beside: Vec<Option<Readings>>,
 }
 

@@ -1,5 +1,6 @@
 -- What the items of a drawing give.
-use Rattle.std.proofs.Common.{◌≡◌, ℕ, ◌<◌, ◌+◌, List, [], ◌∷◌, ◌++◌, length, take, Some, Bool, true, false, ◌==◌, cond, Ok, refl, arith, zero, suc, sym, subst, inl, inr, ◌⊎◌}
+use Rattle.std.proofs.Common.{◌≡◌, ℕ, ◌<◌, ◌+◌, List, [], ◌∷◌, ◌++◌, length, take, Some, Bool, true, false, ◌==◌, cond}
+use Rattle.std.proofs.Common.{Ok, refl, arith, zero, suc, sym, subst, inl, inr, ◌⊎◌}
 use Rattle.std.specs.List.{filter_map, flat_map, slice_get, range_with_len}
 use Rattle.std.proofs.lemmas.List.Elements.{filter_map-append}
 use Rattle.ilk_base.specs.declared.words.Kind.{Kind}
@@ -13,23 +14,28 @@ use Rattle.ssd_read.specs.declared.ends.Use.TheVariants as uses
 use Rattle.ssd_read.specs.declared.role.Role.TheVariants.{ConductingEquipment, PowerTransformer}
 use Rattle.ssd_read.specs.Elements.{Element, element_at, same_role, name_of}
 use Rattle.ssd_read.specs.Ends.{ends_of, nodes_at, use_of}
-use Rattle.ssd_read.specs.Steps.{Step, a_part, a_node, a_switch, a_link, a_tap, built, naming_step, part_of, tap_step, tap_steps, link_step, links_after, links_along, lone_tap, is_tapless, is_bond, use_steps, transformer_steps, winding_ends_of, item_steps_at}
+use Rattle.ssd_read.specs.Steps.{Step, a_part, a_node, a_switch, a_link, a_tap, built, naming_step, part_of, tap_step}
+use Rattle.ssd_read.specs.Steps.{tap_steps, link_step, links_after, links_along, lone_tap, is_tapless, is_bond}
+use Rattle.ssd_read.specs.Steps.{use_steps, transformer_steps, winding_ends_of, item_steps_at}
 use Rattle.station_graph.specs.Diagram.{empty}
 use Rattle.ssd_read.specs.Lists.{part_path, node_path, switch_in, tap_in}
 use Rattle.ssd_read.proofs.Laid.{switches_built, taps_built, no_switches_named}
 
 -- ---- what holds of the steps of a list holds of them all
 
-pub flat_all : {X : Type 0} (P : List Step → Type 0) → P [] → ((ss ts : List Step) → P ss → P ts → P (ss ++ ts)) → (f : X → List Step) → ((x : X) → P (f x)) → (xs : List X) → P (flat_map f xs)
+pub flat_all : {X : Type 0} (P : List Step → Type 0) → P [] → ((ss ts : List Step) → P ss → P ts → P (ss ++ ts)) →
+    (f : X → List Step) → ((x : X) → P (f x)) → (xs : List X) → P (flat_map f xs)
 flat_all P none both f each [] = none
 flat_all P none both f each (x ∷ xs) = both (f x) (flat_map f xs) (each x) (flat_all P none both f each xs)
 
-pub flat_first : (P : List Step → Type 0) → P [] → ((ss ts : List Step) → P ss → P ts → P (ss ++ ts)) → (f : ℕ → List Step) → (a n i : ℕ) → ((k : ℕ) → k < a + i → P (f k)) → P (flat_map f (take i (range_with_len a n)))
+pub flat_first : (P : List Step → Type 0) → P [] → ((ss ts : List Step) → P ss → P ts → P (ss ++ ts)) →
+    (f : ℕ → List Step) → (a n i : ℕ) → ((k : ℕ) → k < a + i → P (f k)) → P (flat_map f (take i (range_with_len a n)))
 flat_first P none both f a zero zero each = none
 flat_first P none both f a zero (suc i) each = none
 flat_first P none both f a (suc n) zero each = none
 flat_first P none both f a (suc n) (suc i) each =
-    both (f a) (flat_map f (take i (range_with_len (a + 1) n))) (each a (omega arith)) (flat_first P none both f (a + 1) n i (λ k h. each k (omega arith)))
+    both (f a) (flat_map f (take i (range_with_len (a + 1) n))) (each a (omega arith))
+    (flat_first P none both f (a + 1) n i (λ k h. each k (omega arith)))
 
 -- ---- steps that are no parts and no nodes
 
@@ -99,13 +105,20 @@ plain_switches (a_switch name x ∷ ss) h = absurd h
 plain_switches (a_link x ∷ ss) h = plain_switches ss h
 plain_switches (a_tap x ∷ ss) h = plain_switches ss h
 
-link_plain : (bond : Bool) (part a b : ℕ) (t : Bool) → IsPlain (cond t [] (a_link (record { first = record { 0 = a }; second = record { 0 = b }; bond = bond; part = record { 0 = part } }) ∷ []))
+link_plain : (bond : Bool) (part a b : ℕ) (t : Bool) →
+    IsPlain (cond t [] (a_link (record {
+      first = record { 0 = a };
+      second = record { 0 = b };
+      bond = bond;
+      part = record { 0 = part };
+    }) ∷ []))
 link_plain bond part a b true = tt
 link_plain bond part a b false = tt
 
 links_after_plain : (bond : Bool) (part a : ℕ) (ns : List ℕ) → IsPlain (links_after bond part a ns)
 links_after_plain bond part a [] = tt
-links_after_plain bond part a (b ∷ ns) = plain_both (link_step bond part a b) (links_after bond part b ns) (link_plain bond part a b (a == b)) (links_after_plain bond part b ns)
+links_after_plain bond part a (b ∷ ns) = plain_both (link_step bond part a b) (links_after bond part b ns)
+    (link_plain bond part a b (a == b)) (links_after_plain bond part b ns)
 
 links_plain : (bond : Bool) (part : ℕ) (ns : List ℕ) → IsPlain (links_along bond part ns)
 links_plain bond part [] = tt
@@ -125,25 +138,33 @@ lone_plain e part (a ∷ []) = lone_case part a (is_tapless e)
 lone_plain e part (a ∷ b ∷ ns) = tt
 
 other_plain : (e : Entry) (part : ℕ) (ns : List ℕ) → IsPlain (links_along (is_bond e) part ns ++ lone_tap e part ns)
-other_plain e part ns = plain_both (links_along (is_bond e) part ns) (lone_tap e part ns) (links_plain (is_bond e) part ns) (lone_plain e part ns)
+other_plain e part ns = plain_both (links_along (is_bond e) part ns) (lone_tap e part ns)
+    (links_plain (is_bond e) part ns) (lone_plain e part ns)
 
 transformer_plain : (part : ℕ) (ns : List ℕ) → IsPlain (transformer_steps part ns)
-transformer_plain part ns = plain_both (links_along false part ns) (tap_steps part ns) (links_plain false part ns) (taps_plain part ns)
+transformer_plain part ns = plain_both (links_along false part ns) (tap_steps part ns) (links_plain false part ns)
+    (taps_plain part ns)
 
 -- ---- what each item gives
 
-item_case : (P : List Step → Type 0) (b c : Bool) (ss ts : List Step) → (b ≡ true → P ss) → P ts → P [] → P (cond b ss (cond c ts []))
+item_case : (P : List Step → Type 0) (b c : Bool) (ss ts : List Step) → (b ≡ true → P ss) → P ts → P [] →
+    P (cond b ss (cond c ts []))
 item_case P true c ss ts u t n = u refl
 item_case P false true ss ts u t n = t
 item_case P false false ss ts u t n = n
 
 -- What holds of the steps of each use, and of those of links and taps, holds of an item's.
 each_item : (P : List Step → Type 0) (all : List Element) (i : ℕ) → P [] → ((ss : List Step) → IsPlain ss → P ss)
-    → (same_role (element_at all i).role ConductingEquipment ≡ true → (u : Use) (ns : List ℕ) → P (use_steps u (element_at all i).entry (part_of all i (element_at all i)) ns)) → P (item_steps_at all i)
+    → (same_role (element_at all i).role ConductingEquipment ≡ true → (u : Use) (ns : List ℕ) →
+    P (use_steps u (element_at all i).entry (part_of all i (element_at all i)) ns)) → P (item_steps_at all i)
 each_item P all i none plain by_use =
     let x : Element = element_at all i in
-    item_case P (same_role x.role ConductingEquipment) (same_role x.role PowerTransformer) (use_steps (use_of x.entry) x.entry (part_of all i x) (nodes_at (ends_of all i))) (transformer_steps (part_of all i x) (nodes_at (winding_ends_of all i)))
-    (λ t. by_use t (use_of x.entry) (nodes_at (ends_of all i))) (plain (transformer_steps (part_of all i x) (nodes_at (winding_ends_of all i))) (transformer_plain (part_of all i x) (nodes_at (winding_ends_of all i)))) none
+    item_case P (same_role x.role ConductingEquipment) (same_role x.role PowerTransformer)
+    (use_steps (use_of x.entry) x.entry (part_of all i x) (nodes_at (ends_of all i)))
+    (transformer_steps (part_of all i x) (nodes_at (winding_ends_of all i)))
+    (λ t. by_use t (use_of x.entry) (nodes_at (ends_of all i)))
+    (plain (transformer_steps (part_of all i x) (nodes_at (winding_ends_of all i)))
+    (transformer_plain (part_of all i x) (nodes_at (winding_ends_of all i)))) none
 
 use_items : (u : Use) (e : Entry) (part : ℕ) (ns : List ℕ) → IsItems (use_steps u e part ns)
 use_items uses.Breaker e part [] = tt
@@ -154,10 +175,12 @@ use_items uses.Disconnector e part (a ∷ []) = tt
 use_items uses.Disconnector e part (a ∷ b ∷ ns) = tt
 use_items uses.Infeed e part [] = tt
 use_items uses.Infeed e part (a ∷ ns) = tt
-use_items uses.Other e part ns = plain_items (links_along (is_bond e) part ns ++ lone_tap e part ns) (other_plain e part ns)
+use_items uses.Other e part ns = plain_items (links_along (is_bond e) part ns ++ lone_tap e part ns)
+    (other_plain e part ns)
 
 pub item_items : (all : List Element) (i : ℕ) → IsItems (item_steps_at all i)
-item_items all i = each_item IsItems all i tt plain_items (λ t u ns. use_items u (element_at all i).entry (part_of all i (element_at all i)) ns)
+item_items all i = each_item IsItems all i tt plain_items (λ t u ns. use_items u (element_at all i).entry
+    (part_of all i (element_at all i)) ns)
 
 pub all_items : (all : List Element) (is : List ℕ) → IsItems (flat_map (item_steps_at all) is)
 all_items all is = flat_all IsItems tt items_both (item_steps_at all) (item_items all) is
@@ -173,7 +196,8 @@ AllSwitches Q (a_switch name x ∷ ss) = Q name x × AllSwitches Q ss
 AllSwitches Q (a_link x ∷ ss) = AllSwitches Q ss
 AllSwitches Q (a_tap x ∷ ss) = AllSwitches Q ss
 
-switches_both : (Q : List ℕ → Switch → Type 0) (ss ts : List Step) → AllSwitches Q ss → AllSwitches Q ts → AllSwitches Q (ss ++ ts)
+switches_both : (Q : List ℕ → Switch → Type 0) (ss ts : List Step) → AllSwitches Q ss → AllSwitches Q ts →
+    AllSwitches Q (ss ++ ts)
 switches_both Q [] ts h g = g
 switches_both Q (a_part path ∷ ss) ts h g = switches_both Q ss ts h g
 switches_both Q (a_node path ∷ ss) ts h g = switches_both Q ss ts h g
@@ -189,7 +213,8 @@ plain_all Q (a_switch name x ∷ ss) h = absurd h
 plain_all Q (a_link x ∷ ss) h = plain_all Q ss h
 plain_all Q (a_tap x ∷ ss) h = plain_all Q ss h
 
-use_all : (Q : List ℕ → Switch → Type 0) (u : Use) (e : Entry) (part : ℕ) (ns : List ℕ) → ((x : Switch) → x.bay.0 ≡ part → Q (name_of e) x) → AllSwitches Q (use_steps u e part ns)
+use_all : (Q : List ℕ → Switch → Type 0) (u : Use) (e : Entry) (part : ℕ) (ns : List ℕ) →
+    ((x : Switch) → x.bay.0 ≡ part → Q (name_of e) x) → AllSwitches Q (use_steps u e part ns)
 use_all Q uses.Breaker e part [] h = tt
 use_all Q uses.Breaker e part (a ∷ []) h = tt
 use_all Q uses.Breaker e part (a ∷ b ∷ ns) h = (h _ refl, tt)
@@ -198,16 +223,25 @@ use_all Q uses.Disconnector e part (a ∷ []) h = (h _ refl, tt)
 use_all Q uses.Disconnector e part (a ∷ b ∷ ns) h = (h _ refl, tt)
 use_all Q uses.Infeed e part [] h = tt
 use_all Q uses.Infeed e part (a ∷ ns) h = (h _ refl, tt)
-use_all Q uses.Other e part ns h = plain_all Q (links_along (is_bond e) part ns ++ lone_tap e part ns) (other_plain e part ns)
+use_all Q uses.Other e part ns h = plain_all Q (links_along (is_bond e) part ns ++ lone_tap e part ns)
+    (other_plain e part ns)
 
-pub item_all : (Q : List ℕ → Switch → Type 0) (all : List Element) (i : ℕ) → (same_role (element_at all i).role ConductingEquipment ≡ true → (x : Switch) → x.bay.0 ≡ part_of all i (element_at all i) → Q (name_of (element_at all i).entry) x) → AllSwitches Q (item_steps_at all i)
-item_all Q all i h = each_item (AllSwitches Q) all i tt (plain_all Q) (λ t u ns. use_all Q u (element_at all i).entry (part_of all i (element_at all i)) ns (h t))
+pub item_all : (Q : List ℕ → Switch → Type 0) (all : List Element) (i : ℕ) →
+    (same_role (element_at all i).role ConductingEquipment ≡ true → (x : Switch) →
+    x.bay.0 ≡ part_of all i (element_at all i) → Q (name_of (element_at all i).entry) x) →
+    AllSwitches Q (item_steps_at all i)
+item_all Q all i h = each_item (AllSwitches Q) all i tt (plain_all Q) (λ t u ns. use_all Q u (element_at all i).entry
+    (part_of all i (element_at all i)) ns (h t))
 
-pub all_before : (Q : List ℕ → Switch → Type 0) (all : List Element) (i : ℕ) → ((k : ℕ) → k < i → same_role (element_at all k).role ConductingEquipment ≡ true → (x : Switch) → x.bay.0 ≡ part_of all k (element_at all k) → Q (name_of (element_at all k).entry) x)
+pub all_before : (Q : List ℕ → Switch → Type 0) (all : List Element) (i : ℕ) →
+    ((k : ℕ) → k < i → same_role (element_at all k).role ConductingEquipment ≡ true → (x : Switch) →
+    x.bay.0 ≡ part_of all k (element_at all k) → Q (name_of (element_at all k).entry) x)
     → AllSwitches Q (flat_map (item_steps_at all) (take i (range_with_len 0 (length all))))
-all_before Q all i h = flat_first (AllSwitches Q) tt (switches_both Q) (item_steps_at all) 0 (length all) i (λ k l. item_all Q all k (h k (omega arith)))
+all_before Q all i h = flat_first (AllSwitches Q) tt (switches_both Q) (item_steps_at all) 0 (length all) i
+    (λ k l. item_all Q all k (h k (omega arith)))
 
-pub switch_at : (Q : List ℕ → Switch → Type 0) (R : Switch → Type 0) → ((name : List ℕ) (x : Switch) → Q name x → R x) → (ss : List Step) (k : ℕ) (x : Switch) → AllSwitches Q ss → slice_get (filter_map switch_in ss) k ≡ Some x → R x
+pub switch_at : (Q : List ℕ → Switch → Type 0) (R : Switch → Type 0) → ((name : List ℕ) (x : Switch) → Q name x → R x) →
+    (ss : List Step) (k : ℕ) (x : Switch) → AllSwitches Q ss → slice_get (filter_map switch_in ss) k ≡ Some x → R x
 switch_at Q R w [] k x h g = absurd (cc)
 switch_at Q R w (a_part path ∷ ss) k x h g = switch_at Q R w ss k x h g
 switch_at Q R w (a_node path ∷ ss) k x h g = switch_at Q R w ss k x h g
@@ -236,16 +270,19 @@ tap_right : (ts us : List Tap) (n : ℕ) → HasTapIn us n → HasTapIn (ts ++ u
 tap_right [] us n h = h
 tap_right (t ∷ ts) us n h = let r = tap_right ts us n h in (suc r.0, r.1, r.2, r.3)
 
-in_half : (xs ys : List Switch) (i : ℕ) (x : Switch) → slice_get (xs ++ ys) i ≡ Some x → (slice_get xs i ≡ Some x) ⊎ ((j : ℕ) × (slice_get ys j ≡ Some x))
+in_half : (xs ys : List Switch) (i : ℕ) (x : Switch) → slice_get (xs ++ ys) i ≡ Some x → (slice_get xs i ≡ Some x)
+    ⊎ ((j : ℕ) × (slice_get ys j ≡ Some x))
 in_half [] ys i x h = inr (i, h)
 in_half (y ∷ xs) ys zero x h = inl h
 in_half (y ∷ xs) ys (suc i) x h = in_half xs ys i x h
 
-both_case : (xs ys : List Switch) (ts us : List Tap) (i : ℕ) (x : Switch) → AreTapped xs ts → AreTapped ys us → x.kind ≡ Infeed → (slice_get xs i ≡ Some x) ⊎ ((j : ℕ) × (slice_get ys j ≡ Some x)) → HasTapIn (ts ++ us) x.first.0
+both_case : (xs ys : List Switch) (ts us : List Tap) (i : ℕ) (x : Switch) → AreTapped xs ts → AreTapped ys us →
+    x.kind ≡ Infeed → (slice_get xs i ≡ Some x) ⊎ ((j : ℕ) × (slice_get ys j ≡ Some x)) → HasTapIn (ts ++ us) x.first.0
 both_case xs ys ts us i x h g k (inl a) = tap_left ts us x.first.0 (h i x a k)
 both_case xs ys ts us i x h g k (inr b) = tap_right ts us x.first.0 (g b.0 x b.1 k)
 
-both_tapped : (xs ys : List Switch) (ts us : List Tap) → AreTapped xs ts → AreTapped ys us → AreTapped (xs ++ ys) (ts ++ us)
+both_tapped : (xs ys : List Switch) (ts us : List Tap) → AreTapped xs ts → AreTapped ys us →
+    AreTapped (xs ++ ys) (ts ++ us)
 both_tapped xs ys ts us h g = λ i x e k. both_case xs ys ts us i x h g k (in_half xs ys i x e)
 
 abbrev pub IsTapped : List Step → Type 0
@@ -253,12 +290,18 @@ IsTapped ss = AreTapped (filter_map switch_in ss) (filter_map tap_in ss)
 
 tapped_both : (ss ts : List Step) → IsTapped ss → IsTapped ts → IsTapped (ss ++ ts)
 tapped_both ss ts h g =
-    let whole : AreTapped (filter_map switch_in ss ++ filter_map switch_in ts) (filter_map tap_in ss ++ filter_map tap_in ts) = both_tapped (filter_map switch_in ss) (filter_map switch_in ts) (filter_map tap_in ss) (filter_map tap_in ts) h g in
-    let left : AreTapped (filter_map switch_in (ss ++ ts)) (filter_map tap_in ss ++ filter_map tap_in ts) = subst (λ (xs : List Switch). AreTapped xs (filter_map tap_in ss ++ filter_map tap_in ts)) (sym (filter_map-append switch_in ss ts)) whole in
-    subst (λ (us : List Tap). AreTapped (filter_map switch_in (ss ++ ts)) us) (sym (filter_map-append tap_in ss ts)) left
+    let whole : AreTapped (filter_map switch_in ss ++ filter_map switch_in ts)
+    (filter_map tap_in ss ++ filter_map tap_in ts) = both_tapped (filter_map switch_in ss) (filter_map switch_in ts)
+    (filter_map tap_in ss) (filter_map tap_in ts) h g in
+    let left : AreTapped (filter_map switch_in (ss ++ ts)) (filter_map tap_in ss ++ filter_map tap_in ts) =
+    subst (λ (xs : List Switch). AreTapped xs (filter_map tap_in ss ++ filter_map tap_in ts))
+    (sym (filter_map-append switch_in ss ts)) whole in
+    subst (λ (us : List Tap). AreTapped (filter_map switch_in (ss ++ ts)) us)
+    (sym (filter_map-append tap_in ss ts)) left
 
 none_tapped : (ss : List Step) → filter_map switch_in ss ≡ [] → IsTapped ss
-none_tapped ss h = λ i x e k. let bad : slice_get [] i ≡ Some x = subst (λ (xs : List Switch). slice_get xs i ≡ Some x) h e in absurd (cc)
+none_tapped ss h = λ i x e k. let bad : slice_get [] i ≡ Some x = subst (λ (xs : List Switch). slice_get xs i ≡ Some x)
+    h e in absurd (cc)
 
 plain_tapped : (ss : List Step) → IsPlain ss → IsTapped ss
 plain_tapped ss h = none_tapped ss (plain_switches ss h)
@@ -279,21 +322,31 @@ use_tapped uses.Breaker e part (a ∷ []) = none_tapped [] refl
 use_tapped uses.Breaker e part (a ∷ b ∷ ns) = one_tapped _ [] (λ k. absurd (let bad : Breaker ≡ Infeed = k in cc))
 use_tapped uses.Disconnector e part [] = none_tapped [] refl
 use_tapped uses.Disconnector e part (a ∷ []) = one_tapped _ [] (λ k. absurd (let bad : Earthing ≡ Infeed = k in cc))
-use_tapped uses.Disconnector e part (a ∷ b ∷ ns) = one_tapped _ [] (λ k. absurd (let bad : Disconnector ≡ Infeed = k in cc))
+use_tapped uses.Disconnector e part (a ∷ b ∷ ns) =
+    one_tapped _ [] (λ k. absurd (let bad : Disconnector ≡ Infeed = k in cc))
 use_tapped uses.Infeed e part [] = none_tapped [] refl
-use_tapped uses.Infeed e part (a ∷ ns) = one_tapped _ (record { node = record { 0 = a }; part = record { 0 = part } } ∷ []) (λ k. (0, record { node = record { 0 = a }; part = record { 0 = part } }, refl, refl))
-use_tapped uses.Other e part ns = plain_tapped (links_along (is_bond e) part ns ++ lone_tap e part ns) (other_plain e part ns)
+use_tapped uses.Infeed e part (a ∷ ns) = one_tapped _ (record { node = record { 0 = a }; part = record { 0 = part } }
+    ∷ []) (λ k. (0, record { node = record { 0 = a }; part = record { 0 = part } }, refl, refl))
+use_tapped uses.Other e part ns = plain_tapped (links_along (is_bond e) part ns ++ lone_tap e part ns)
+    (other_plain e part ns)
 
 item_tapped : (all : List Element) (i : ℕ) → IsTapped (item_steps_at all i)
-item_tapped all i = each_item IsTapped all i (none_tapped [] refl) plain_tapped (λ t u ns. use_tapped u (element_at all i).entry (part_of all i (element_at all i)) ns)
+item_tapped all i = each_item IsTapped all i (none_tapped [] refl) plain_tapped
+    (λ t u ns. use_tapped u (element_at all i).entry (part_of all i (element_at all i)) ns)
 
-steps_tapped : (all : List Element) (is : List ℕ) → IsTapped (flat_map naming_step all ++ flat_map (item_steps_at all) is)
-steps_tapped all is = tapped_both (flat_map naming_step all) (flat_map (item_steps_at all) is) (none_tapped (flat_map naming_step all) (no_switches_named all)) (flat_all IsTapped (none_tapped [] refl) tapped_both (item_steps_at all) (item_tapped all) is)
+steps_tapped : (all : List Element) (is : List ℕ) →
+    IsTapped (flat_map naming_step all ++ flat_map (item_steps_at all) is)
+steps_tapped all is = tapped_both (flat_map naming_step all) (flat_map (item_steps_at all) is)
+    (none_tapped (flat_map naming_step all) (no_switches_named all))
+    (flat_all IsTapped (none_tapped [] refl) tapped_both
+    (item_steps_at all) (item_tapped all) is)
 
-pub infeeds_tapped : (all : List Element) (is : List ℕ) (d : Diagram) → built empty (flat_map naming_step all ++ flat_map (item_steps_at all) is) ≡ Ok d → InfeedsTapped d
+pub infeeds_tapped : (all : List Element) (is : List ℕ) (d : Diagram) →
+    built empty (flat_map naming_step all ++ flat_map (item_steps_at all) is) ≡ Ok d → InfeedsTapped d
 infeeds_tapped all is d h =
     let ss : List Step = flat_map naming_step all ++ flat_map (item_steps_at all) is in
     let switches : d.switches ≡ filter_map switch_in ss = switches_built empty d ss h in
     let taps : d.taps ≡ filter_map tap_in ss = taps_built empty d ss h in
-    let left : AreTapped d.switches (filter_map tap_in ss) = subst (λ (xs : List Switch). AreTapped xs (filter_map tap_in ss)) (sym switches) (steps_tapped all is) in
+    let left : AreTapped d.switches (filter_map tap_in ss) =
+    subst (λ (xs : List Switch). AreTapped xs (filter_map tap_in ss)) (sym switches) (steps_tapped all is) in
     subst (λ (ts : List Tap). AreTapped d.switches ts) (sym taps) left

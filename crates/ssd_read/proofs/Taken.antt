@@ -1,11 +1,13 @@
 -- Names that are taken after a list of elements.
-use Rattle.std.proofs.Common.{◌≡◌, ℕ, List, [], ◌∷◌, ◌++◌, map, Option, Some, None, Bool, true, false, not, ◌||◌, ◌&&◌, cond, refl, ap, ◌∙◌, sym}
+use Rattle.std.proofs.Common.{◌≡◌, ℕ, List, [], ◌∷◌, ◌++◌, map, Option, Some, None, Bool, true, false, not, ◌||◌, ◌&&◌}
+use Rattle.std.proofs.Common.{cond, refl, ap, ◌∙◌, sym}
 use Rattle.std.specs.List.{list_any, filter, filter_map, cons_option}
 use Rattle.std.specs.Option.{option_map, option_to_list}
 use Rattle.std.specs.Str.{bytes_eq}
 use Rattle.ssd_read.specs.declared.role.Role.{Role}
 use Rattle.ssd_read.specs.Elements.{Element, counted_as}
-use Rattle.ssd_read.specs.Names.{counted_path, counted_paths, same_pair, same_counted, same_path, same_key, is_node, key_of, keys_of, name_fault, is_nameless}
+use Rattle.ssd_read.specs.Names.{counted_path, counted_paths, same_pair, same_counted, same_path, same_key, is_node}
+use Rattle.ssd_read.specs.Names.{key_of, keys_of, name_fault, is_nameless}
 use Rattle.ssd_read.specs.declared.refusal.SsdRefusal.TheVariants.{NoName, Twice}
 use Rattle.ssd_read.proofs.Lists.{not_true, not_false}
 
@@ -13,13 +15,16 @@ none_any : {X : Type 0} (xs : List X) → list_any (λ x. false) xs ≡ false
 none_any [] = refl
 none_any (x ∷ xs) = none_any xs
 
-or_cons : (p : Role × List ℕ) (o : Option (Role × List ℕ)) (rest : List (Role × List ℕ)) → list_any (same_pair p) (cons_option o rest) ≡ (same_counted (Some p) o || list_any (same_pair p) rest)
+or_cons : (p : Role × List ℕ) (o : Option (Role × List ℕ)) (rest : List (Role × List ℕ)) →
+    list_any (same_pair p) (cons_option o rest) ≡ (same_counted (Some p) o || list_any (same_pair p) rest)
 or_cons p None rest = refl
 or_cons p (Some q) rest = refl
 
-any_counted : (p : Role × List ℕ) (before : List Element) → list_any (same_pair p) (counted_paths before) ≡ list_any (λ y. same_counted (Some p) (counted_path y)) before
+any_counted : (p : Role × List ℕ) (before : List Element) → list_any (same_pair p) (counted_paths before) ≡ list_any
+    (λ y. same_counted (Some p) (counted_path y)) before
 any_counted p [] = refl
-any_counted p (y ∷ ys) = or_cons p (counted_path y) (counted_paths ys) ∙ ap (λ b. same_counted (Some p) (counted_path y) || b) (any_counted p ys)
+any_counted p (y ∷ ys) = or_cons p (counted_path y) (counted_paths ys)
+    ∙ ap (λ b. same_counted (Some p) (counted_path y) || b) (any_counted p ys)
 
 cons_end : {Y : Type 0} (o : Option Y) (xs ys : List Y) → cons_option o (xs ++ ys) ≡ cons_option o xs ++ ys
 cons_end None xs ys = refl
@@ -29,9 +34,11 @@ cons_none : {Y : Type 0} (o : Option Y) → cons_option o [] ≡ option_to_list 
 cons_none None = refl
 cons_none (Some y) = refl
 
-counted_push : (before : List Element) (x : Element) → counted_paths (before ++ x ∷ []) ≡ counted_paths before ++ option_to_list (counted_path x)
+counted_push : (before : List Element) (x : Element) → counted_paths (before ++ x ∷ []) ≡ counted_paths before
+    ++ option_to_list (counted_path x)
 counted_push [] x = cons_none (counted_path x)
-counted_push (y ∷ ys) x = ap (cons_option (counted_path y)) (counted_push ys x) ∙ cons_end (counted_path y) (counted_paths ys) (option_to_list (counted_path x))
+counted_push (y ∷ ys) x = ap (cons_option (counted_path y)) (counted_push ys x) ∙ cons_end (counted_path y)
+    (counted_paths ys) (option_to_list (counted_path x))
 
 pub append_none : {Y : Type 0} (xs : List Y) → xs ++ [] ≡ xs
 append_none [] = refl
@@ -43,81 +50,127 @@ path_of_none x h = ap (option_map (λ (kind : Role). (kind, x.path))) (sym h)
 path_of_some : (x : Element) (kind : Role) → Some kind ≡ counted_as x.role → counted_path x ≡ Some (kind, x.path)
 path_of_some x kind h = ap (option_map (λ (kind : Role). (kind, x.path))) (sym h)
 
-pub uncounted_new : (x : Element) (before : List Element) → None ≡ counted_as x.role → true ≡ not (list_any (same_path x) before)
-uncounted_new x before h = sym (ap (λ o. not (list_any (λ y. same_counted o (counted_path y)) before)) (path_of_none x h) ∙ ap not (none_any before))
+pub uncounted_new : (x : Element) (before : List Element) → None ≡ counted_as x.role →
+    true ≡ not (list_any (same_path x) before)
+uncounted_new x before h = sym (ap (λ o. not (list_any (λ y. same_counted o (counted_path y)) before))
+    (path_of_none x h) ∙ ap not (none_any before))
 
-pub uncounted_added : (x : Element) (before : List Element) (paths : List (Role × List ℕ)) → None ≡ counted_as x.role → paths ≡ counted_paths before → paths ≡ counted_paths (before ++ x ∷ [])
-uncounted_added x before paths h e = e ∙ sym (counted_push before x ∙ (ap (λ o. counted_paths before ++ option_to_list o) (path_of_none x h) ∙ append_none (counted_paths before)))
+pub uncounted_added : (x : Element) (before : List Element) (paths : List (Role × List ℕ)) → None ≡ counted_as x.role →
+    paths ≡ counted_paths before → paths ≡ counted_paths (before ++ x ∷ [])
+uncounted_added x before paths h e =
+    e ∙ sym (counted_push before x ∙ (ap (λ o. counted_paths before ++ option_to_list o) (path_of_none x h)
+    ∙ append_none (counted_paths before)))
 
-pub counted_new : (x : Element) (before : List Element) (paths : List (Role × List ℕ)) (kind : Role) (path : List ℕ) (b : Bool) → Some kind ≡ counted_as x.role → path ≡ x.path → b ≡ not (list_any (same_pair (kind, path)) paths) → paths ≡ counted_paths before
+pub counted_new : (x : Element) (before : List Element) (paths : List (Role × List ℕ)) (kind : Role) (path : List ℕ)
+    (b : Bool) → Some kind ≡ counted_as x.role → path ≡ x.path → b ≡ not (list_any (same_pair (kind, path)) paths) →
+    paths ≡ counted_paths before
     → b ≡ not (list_any (same_path x) before)
 counted_new x before paths kind path b h p new e =
     let found : counted_path x ≡ Some (kind, path) = rw p (path_of_some x kind h) in
-    new ∙ ap not (ap (list_any (same_pair (kind, path))) e ∙ (any_counted (kind, path) before ∙ ap (λ o. list_any (λ y. same_counted o (counted_path y)) before) (sym found)))
+    new ∙ ap not (ap (list_any (same_pair (kind, path))) e ∙ (any_counted (kind, path) before
+    ∙ ap (λ o. list_any (λ y. same_counted o (counted_path y)) before) (sym found)))
 
-pub counted_added : (x : Element) (before : List Element) (paths news : List (Role × List ℕ)) (kind : Role) (path : List ℕ) → Some kind ≡ counted_as x.role → path ≡ x.path → news ≡ paths ++ (kind, path) ∷ [] → paths ≡ counted_paths before
+pub counted_added : (x : Element) (before : List Element) (paths news : List (Role × List ℕ)) (kind : Role)
+    (path : List ℕ) → Some kind ≡ counted_as x.role → path ≡ x.path → news ≡ paths ++ (kind, path) ∷ [] →
+    paths ≡ counted_paths before
     → news ≡ counted_paths (before ++ x ∷ [])
 counted_added x before paths news kind path h p new e =
     let found : counted_path x ≡ Some (kind, path) = rw p (path_of_some x kind h) in
-    new ∙ (ap (λ l. l ++ (kind, path) ∷ []) e ∙ sym (counted_push before x ∙ ap (λ o. counted_paths before ++ option_to_list o) found))
+    new ∙ (ap (λ l. l ++ (kind, path) ∷ []) e
+    ∙ sym (counted_push before x ∙ ap (λ o. counted_paths before ++ option_to_list o) found))
 
 -- ---- keys
 
-key_step : (b : Bool) (k : List ℕ) (y : Element) (ys : List Element) → list_any (bytes_eq k) (map key_of (cond b (y ∷ ys) ys)) ≡ ((b && bytes_eq k (key_of y)) || list_any (bytes_eq k) (map key_of ys))
+key_step : (b : Bool) (k : List ℕ) (y : Element) (ys : List Element) →
+    list_any (bytes_eq k) (map key_of (cond b (y ∷ ys) ys)) ≡ ((b && bytes_eq k (key_of y)) || list_any (bytes_eq k)
+    (map key_of ys))
 key_step true k y ys = refl
 key_step false k y ys = refl
 
-any_key : (k : List ℕ) (before : List Element) → list_any (bytes_eq k) (keys_of before) ≡ list_any (λ y. is_node y && bytes_eq k (key_of y)) before
+any_key : (k : List ℕ) (before : List Element) → list_any (bytes_eq k) (keys_of before) ≡ list_any
+    (λ y. is_node y && bytes_eq k (key_of y)) before
 any_key k [] = refl
-any_key k (y ∷ ys) = key_step (is_node y) k y (filter is_node ys) ∙ ap (λ b. (is_node y && bytes_eq k (key_of y)) || b) (any_key k ys)
+any_key k (y ∷ ys) = key_step (is_node y) k y (filter is_node ys) ∙ ap (λ b. (is_node y && bytes_eq k (key_of y)) || b)
+    (any_key k ys)
 
 pub unkeyed_new : (x : Element) (before : List Element) → is_node x ≡ false → true ≡ not (list_any (same_key x) before)
-unkeyed_new x before h = sym (ap (λ b. not (list_any (λ y. b && is_node y && bytes_eq (key_of x) (key_of y)) before)) h ∙ ap not (none_any before))
+unkeyed_new x before h = sym (ap (λ b. not (list_any (λ y. b && is_node y && bytes_eq (key_of x) (key_of y)) before)) h
+    ∙ ap not (none_any before))
 
-pub keyed_new : (x : Element) (before : List Element) (keys : List (List ℕ)) (key : List ℕ) (b : Bool) → is_node x ≡ true → key ≡ key_of x → b ≡ not (list_any (bytes_eq key) keys) → keys ≡ keys_of before → b ≡ not (list_any (same_key x) before)
+pub keyed_new : (x : Element) (before : List Element) (keys : List (List ℕ)) (key : List ℕ) (b : Bool) →
+    is_node x ≡ true → key ≡ key_of x → b ≡ not (list_any (bytes_eq key) keys) → keys ≡ keys_of before →
+    b ≡ not (list_any (same_key x) before)
 keyed_new x before keys key b h k new e =
-    new ∙ ap not (ap (list_any (bytes_eq key)) e ∙ (any_key key before ∙ (ap (λ k. list_any (λ y. is_node y && bytes_eq k (key_of y)) before) k ∙ ap (λ b. list_any (λ y. b && is_node y && bytes_eq (key_of x) (key_of y)) before) (sym h))))
+    new ∙ ap not (ap (list_any (bytes_eq key)) e
+    ∙ (any_key key before ∙ (ap (λ k. list_any (λ y. is_node y && bytes_eq k (key_of y)) before) k
+    ∙ ap (λ b. list_any (λ y. b && is_node y && bytes_eq (key_of x) (key_of y)) before) (sym h))))
 
-cond_end : {X : Type 0} (b : Bool) (y : X) (xs ys : List X) → cond b (y ∷ (xs ++ ys)) (xs ++ ys) ≡ cond b (y ∷ xs) xs ++ ys
+cond_end : {X : Type 0} (b : Bool) (y : X) (xs ys : List X) → cond b (y ∷ (xs ++ ys)) (xs ++ ys) ≡ cond b
+    (y ∷ xs) xs ++ ys
 cond_end true y xs ys = refl
 cond_end false y xs ys = refl
 
-pub filter_push : {X : Type 0} (p : X → Bool) (xs : List X) (x : X) → filter p (xs ++ x ∷ []) ≡ filter p xs ++ cond (p x) (x ∷ []) []
+pub filter_push : {X : Type 0} (p : X → Bool) (xs : List X) (x : X) → filter p (xs ++ x ∷ []) ≡ filter p xs ++ cond
+    (p x) (x ∷ []) []
 filter_push p [] x = refl
-filter_push p (y ∷ ys) x = ap (λ l. cond (p y) (y ∷ l) l) (filter_push p ys x) ∙ cond_end (p y) y (filter p ys) (cond (p x) (x ∷ []) [])
+filter_push p (y ∷ ys) x = ap (λ l. cond (p y) (y ∷ l) l) (filter_push p ys x) ∙ cond_end (p y) y (filter p ys)
+    (cond (p x) (x ∷ []) [])
 
 pub map_end : {X Y : Type 0} (f : X → Y) (xs ys : List X) → map f (xs ++ ys) ≡ map f xs ++ map f ys
 map_end f [] ys = refl
 map_end f (x ∷ xs) ys = ap (λ l. f x ∷ l) (map_end f xs ys)
 
-keys_push : (before : List Element) (x : Element) → keys_of (before ++ x ∷ []) ≡ keys_of before ++ map key_of (cond (is_node x) (x ∷ []) [])
-keys_push before x = ap (map key_of) (filter_push is_node before x) ∙ map_end key_of (filter is_node before) (cond (is_node x) (x ∷ []) [])
+keys_push : (before : List Element) (x : Element) → keys_of (before ++ x ∷ []) ≡ keys_of before ++ map key_of
+    (cond (is_node x) (x ∷ []) [])
+keys_push before x = ap (map key_of) (filter_push is_node before x) ∙ map_end key_of (filter is_node before)
+    (cond (is_node x) (x ∷ []) [])
 
-pub unkeyed_added : (x : Element) (before : List Element) (keys : List (List ℕ)) → is_node x ≡ false → keys ≡ keys_of before → keys ≡ keys_of (before ++ x ∷ [])
-unkeyed_added x before keys h e = e ∙ sym (keys_push before x ∙ (ap (λ b. keys_of before ++ map key_of (cond b (x ∷ []) [])) h ∙ append_none (keys_of before)))
+pub unkeyed_added : (x : Element) (before : List Element) (keys : List (List ℕ)) → is_node x ≡ false →
+    keys ≡ keys_of before → keys ≡ keys_of (before ++ x ∷ [])
+unkeyed_added x before keys h e =
+    e ∙ sym (keys_push before x ∙ (ap (λ b. keys_of before ++ map key_of (cond b (x ∷ []) [])) h
+    ∙ append_none (keys_of before)))
 
-pub keyed_added : (x : Element) (before : List Element) (keys news : List (List ℕ)) (key : List ℕ) → is_node x ≡ true → key ≡ key_of x → news ≡ keys ++ key ∷ [] → keys ≡ keys_of before → news ≡ keys_of (before ++ x ∷ [])
+pub keyed_added : (x : Element) (before : List Element) (keys news : List (List ℕ)) (key : List ℕ) → is_node x ≡ true →
+    key ≡ key_of x → news ≡ keys ++ key ∷ [] → keys ≡ keys_of before → news ≡ keys_of (before ++ x ∷ [])
 keyed_added x before keys news key h k new e =
-    new ∙ (ap (λ l. l ++ key ∷ []) e ∙ (ap (λ k. keys_of before ++ k ∷ []) k ∙ sym (keys_push before x ∙ ap (λ b. keys_of before ++ map key_of (cond b (x ∷ []) [])) h)))
+    new ∙ (ap (λ l. l ++ key ∷ []) e ∙ (ap (λ k. keys_of before ++ k ∷ []) k
+    ∙ sym (keys_push before x ∙ ap (λ b. keys_of before ++ map key_of (cond b (x ∷ []) [])) h)))
 
 -- ---- the fault of an element
 
-pub nameless_fault : (before : List Element) (x : Element) (at : ℕ) → at ≡ x.entry.at → true ≡ is_nameless x → name_fault before x ≡ Some (NoName at)
+pub nameless_fault : (before : List Element) (x : Element) (at : ℕ) → at ≡ x.entry.at → true ≡ is_nameless x →
+    name_fault before x ≡ Some (NoName at)
 unfolding name_fault
 nameless_fault before x at e n = rw (← n, e) refl
 
-pub taken_fault : (before : List Element) (x : Element) (at : ℕ) → at ≡ x.entry.at → false ≡ is_nameless x → false ≡ not (list_any (same_path x) before) → name_fault before x ≡ Some (Twice at)
+pub taken_fault : (before : List Element) (x : Element) (at : ℕ) → at ≡ x.entry.at → false ≡ is_nameless x →
+    false ≡ not (list_any (same_path x) before) → name_fault before x ≡ Some (Twice at)
 unfolding name_fault
 taken_fault before x at e n p = rw (← n, not_false (list_any (same_path x) before) p, e) refl
 
-pub keyed_fault : (before : List Element) (x : Element) (at : ℕ) → at ≡ x.entry.at → false ≡ is_nameless x → true ≡ not (list_any (same_path x) before) → false ≡ not (list_any (same_key x) before) → name_fault before x ≡ Some (Twice at)
+pub keyed_fault : (before : List Element) (x : Element) (at : ℕ) → at ≡ x.entry.at → false ≡ is_nameless x →
+    true ≡ not (list_any (same_path x) before) → false ≡ not (list_any (same_key x) before) →
+    name_fault before x ≡ Some (Twice at)
 unfolding name_fault
-keyed_fault before x at e n p k = rw (← n, not_true (list_any (same_path x) before) p, not_false (list_any (same_key x) before) k, e) refl
+keyed_fault before x at e n p k = rw (
+  ← n,
+  not_true (list_any (same_path x) before) p,
+  not_false (list_any (same_key x) before) k,
+  e,
+) refl
 
-pub no_fault : (before : List Element) (x : Element) → false ≡ is_nameless x → true ≡ not (list_any (same_path x) before) → true ≡ not (list_any (same_key x) before) → name_fault before x ≡ None
+pub no_fault : (before : List Element) (x : Element) → false ≡ is_nameless x →
+    true ≡ not (list_any (same_path x) before) → true ≡ not (list_any (same_key x) before) → name_fault before x ≡ None
 unfolding name_fault
-no_fault before x n p k = rw (← n, not_true (list_any (same_path x) before) p, not_true (list_any (same_key x) before) k) refl
+no_fault before x n p k = rw (
+  ← n,
+  not_true (list_any (same_path x) before) p,
+  not_true (list_any (same_key x) before) k,
+) refl
 
-pub filter_map_push : {X Y : Type 0} (f : X → Option Y) (xs : List X) (x : X) → filter_map f (xs ++ x ∷ []) ≡ filter_map f xs ++ option_to_list (f x)
+pub filter_map_push : {X Y : Type 0} (f : X → Option Y) (xs : List X) (x : X) →
+    filter_map f (xs ++ x ∷ []) ≡ filter_map f xs ++ option_to_list (f x)
 filter_map_push f [] x = cons_none (f x)
-filter_map_push f (y ∷ ys) x = ap (cons_option (f y)) (filter_map_push f ys x) ∙ cons_end (f y) (filter_map f ys) (option_to_list (f x))
+filter_map_push f (y ∷ ys) x = ap (cons_option (f y)) (filter_map_push f ys x) ∙ cons_end (f y) (filter_map f ys)
+    (option_to_list (f x))

@@ -1,12 +1,15 @@
 -- Which elements of a tree are read, and what each says (IEC 61850-6, the substation section of an SSD).
 -- Texts are lists of bytes: 47 is a slash, 58 a colon.
-use Rattle.std.specs.Prelude.{ℕ, ◌+◌, Bool, true, false, ◌==◌, position, List, [], ◌∷◌, ◌++◌, take, find, slice_get, slice_index_or, Option, Some, None, option_and_then, is_some, if◌then◌else◌, codes}
+use Rattle.std.specs.Prelude.{ℕ, ◌+◌, Bool, true, false, ◌==◌, position, List, [], ◌∷◌, ◌++◌, take, find, slice_get}
+use Rattle.std.specs.Prelude.{slice_index_or, Option, Some, None, option_and_then, is_some, if◌then◌else◌, codes}
 use Rattle.std.specs.Option.{option_map, option_map_or, unwrap_or}
 use Rattle.std.specs.Str.{bytes_eq}
 use Rattle.ssd_text.specs.Grammar.{value_of}
 use Rattle.ssd_text.specs.Nesting.{Entry, no_entry}
 use Rattle.ssd_read.specs.declared.role.Role.{Role}
-use Rattle.ssd_read.specs.declared.role.Role.TheVariants.{Root, Substation, VoltageLevel, Bay, ConnectivityNode, ConductingEquipment, PowerTransformer, TransformerWinding, Terminal, Skipped}
+use Rattle.ssd_read.specs.declared.role.Role.TheVariants.{Root, Substation, VoltageLevel, Bay, ConnectivityNode}
+use Rattle.ssd_read.specs.declared.role.Role.TheVariants.{ConductingEquipment, PowerTransformer, TransformerWinding}
+use Rattle.ssd_read.specs.declared.role.Role.TheVariants.{Terminal, Skipped}
 
 -- The two roles are the same.
 abbrev pub same_role : Role → Role → Bool

@@ -1,5 +1,6 @@
 -- Terminals: where each stands, and what pass 2 refuses.
-use Rattle.std.specs.Prelude.{ℕ, Bool, true, false, ◌==◌, ◌&&◌, ◌||◌, not, nat_lt, List, [], ◌∷◌, ◌++◌, length, map, filter, position, Option, Some, None, if◌then◌else◌, codes}
+use Rattle.std.specs.Prelude.{ℕ, Bool, true, false, ◌==◌, ◌&&◌, ◌||◌, not, nat_lt, List, [], ◌∷◌, ◌++◌, length, map}
+use Rattle.std.specs.Prelude.{filter, position, Option, Some, None, if◌then◌else◌, codes}
 use Rattle.std.specs.List.{list_any, filter_map}
 use Rattle.std.specs.Option.{option_map, option_or, option_map_or, option_and_then}
 use Rattle.std.specs.Str.{bytes_eq}
@@ -21,7 +22,8 @@ after_slash (b ∷ bs) = if list_any (λ c. c == 47) (b ∷ bs) then after_slash
 
 -- A terminal's last name: its `cNodeName` where there is one, else what follows the last slash of its key.
 abbrev pub last_name : Entry → Option (List ℕ)
-last_name e = option_or (attribute e (codes "cNodeName")) (option_map after_slash (attribute e (codes "connectivityNode")))
+last_name e = option_or (attribute e (codes "cNodeName"))
+    (option_map after_slash (attribute e (codes "connectivityNode")))
 
 -- A terminal is grounded exactly where that is `grounded`.
 abbrev pub is_grounded : Entry → Bool
@@ -34,7 +36,8 @@ with_slash _ _ = None
 
 -- A terminal's four names joined, if all are there.
 abbrev pub joined_names : Entry → Option (List ℕ)
-joined_names e = with_slash (with_slash (with_slash (attribute e (codes "substationName")) (attribute e (codes "voltageLevelName"))) (attribute e (codes "bayName"))) (attribute e (codes "cNodeName"))
+joined_names e = with_slash (with_slash (with_slash (attribute e (codes "substationName"))
+    (attribute e (codes "voltageLevelName"))) (attribute e (codes "bayName"))) (attribute e (codes "cNodeName"))
 
 -- The key of the node on which a terminal stands: what it says, or its four names joined.
 abbrev pub wanted_key : Entry → Option (List ℕ)
@@ -105,7 +108,8 @@ breaker_fault at ends =
 abbrev pub disconnector_fault : ℕ → List TerminalPlace → Option SsdRefusal
 disconnector_fault at ends =
     option_or (unless (length ends == 2) (Terminals at (length ends)))
-    (option_or (unless (nat_lt 0 (length (nodes_at ends))) (Grounded at)) (unless (are_apart (nodes_at ends)) (Loop at)))
+    (option_or (unless (nat_lt 0 (length (nodes_at ends))) (Grounded at))
+    (unless (are_apart (nodes_at ends)) (Loop at)))
 
 -- One end on a node.
 abbrev pub infeed_fault : ℕ → List TerminalPlace → Option SsdRefusal
@@ -131,7 +135,8 @@ use_fault uses.Other at ends = None
 -- The fault of an element that has terminals, by its ends.
 abbrev pub fault_of_ends : Element → List TerminalPlace → Option SsdRefusal
 fault_of_ends x ends =
-    if same_role x.role ConductingEquipment then option_or (missing_fault ends) (use_fault (use_of x.entry) x.entry.at ends)
+    if same_role x.role ConductingEquipment then option_or (missing_fault ends)
+    (use_fault (use_of x.entry) x.entry.at ends)
     else if same_role x.role TransformerWinding then missing_fault ends
     else None
 

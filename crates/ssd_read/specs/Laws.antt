@@ -14,7 +14,8 @@ use Rattle.ssd_read.specs.Lists.{switch_in, link_in, tap_in}
 -- `grounded`; and its path is that of the other and its name.
 pub record StandsIn (all : List Element) (i p : ℕ) (front : List ℕ) : Type 0 where
   pub before : p < i
-  pub role : (element_at all i).role ≡ unless_grounded (element_at all i).entry (role_in (element_at all p).role front (element_at all i).entry)
+  pub role : (element_at all i).role ≡ unless_grounded (element_at all i).entry (role_in (element_at all p).role front
+      (element_at all i).entry)
   pub within : (element_at all i).within ≡ (element_at all p).role
   pub path : (element_at all i).path ≡ path_in (element_at all p).path (element_at all i).role (element_at all i).entry
 

@@ -1,5 +1,6 @@
 -- What pass 1 refuses: the root's name, names that are missing, and names that are there twice.
-use Rattle.std.specs.Prelude.{ℕ, Bool, false, ◌==◌, ◌&&◌, ◌||◌, not, nat_lt, List, [], ◌∷◌, ◌++◌, length, map, filter, Option, Some, None, is_some, if◌then◌else◌, codes}
+use Rattle.std.specs.Prelude.{ℕ, Bool, false, ◌==◌, ◌&&◌, ◌||◌, not, nat_lt, List, [], ◌∷◌, ◌++◌, length, map, filter}
+use Rattle.std.specs.Prelude.{Option, Some, None, is_some, if◌then◌else◌, codes}
 use Rattle.std.specs.List.{list_any, list_all, filter_map}
 use Rattle.std.specs.Option.{option_or, option_map, option_map_or, unwrap_or}
 use Rattle.std.specs.Str.{bytes_eq}
@@ -33,7 +34,8 @@ lacks_name e = not (option_map_or is_good_name (attribute e (codes "name")) fals
 
 -- An element that needs a name has none, or equipment has no type.
 abbrev pub is_nameless : Element → Bool
-is_nameless x = is_some (counted_as x.role) && (lacks_name x.entry || (same_role x.role ConductingEquipment && not (is_some (attribute x.entry (codes "type")))))
+is_nameless x = is_some (counted_as x.role) && (lacks_name x.entry || (same_role x.role ConductingEquipment && not
+    (is_some (attribute x.entry (codes "type")))))
 
 -- The key of a node is its path name where there is one, else its path.
 abbrev pub key_of : Element → List ℕ

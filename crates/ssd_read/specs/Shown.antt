@@ -2,7 +2,9 @@
 use Rattle.std.specs.Prelude.{ℕ, Option, Some, None}
 use Rattle.station_graph.specs.declared.fault.What.{What}
 use Rattle.ssd_read.specs.declared.refusal.SsdRefusal.{SsdRefusal}
-use Rattle.ssd_read.specs.declared.refusal.SsdRefusal.TheVariants.{Encoding, Syntax, Doctype, Deep, Mismatch, Unclosed, Many, Root, NoName, Twice, NodeMissing, Terminals, Grounded, Loop, Limit, Memory}
+use Rattle.ssd_read.specs.declared.refusal.SsdRefusal.TheVariants.{Encoding, Syntax, Doctype, Deep, Mismatch, Unclosed}
+use Rattle.ssd_read.specs.declared.refusal.SsdRefusal.TheVariants.{Many, Root, NoName, Twice, NodeMissing, Terminals}
+use Rattle.ssd_read.specs.declared.refusal.SsdRefusal.TheVariants.{Grounded, Loop, Limit, Memory}
 
 -- The number of a fault, by the order of the faults; want of memory is no fault of the drawing.
 abbrev pub number : SsdRefusal → Option ℕ

@@ -1,6 +1,7 @@
 -- For which station a text stands.
-use Rattle.std.specs.Prelude.{◌≡◌, ℕ, ◌<◌, ◌≤◌, ◌⊎◌, List, [], length, Option, Result, Ok, Err}
+use Rattle.std.specs.Prelude.{◌+◌, ◌≡◌, ℕ, ◌<◌, ◌≤◌, ◌⊎◌, List, [], length, Option, Result, Ok, Err}
 use Rattle.std.specs.Option.{option_or, option_map_or}
+use Rattle.ilk_base.specs.declared.limits.TheConstants.{FILE_BYTES}
 use Rattle.station_graph.specs.declared.fault.What.TheVariants.{Bytes}
 use Rattle.station_graph.specs.Diagram.{Diagram}
 use Rattle.ssd_text.specs.declared.refusal.TextRefusal.{TextRefusal}
@@ -44,8 +45,9 @@ after_text (Err fault) = Err (refusal_of_text fault)
 -- The text has this outcome: the station for which it stands, or its first fault.
 abbrev pub Stands : List ℕ → Result Diagram SsdRefusal → Type 0
 Stands text outcome =
-    ((8388608 < length text) × (outcome ≡ Err (Limit Bytes 8388609)))
-    ⊎ ((length text ≤ 8388608) × (read : Result (List Entry) TextRefusal) × Spells text read × (outcome ≡ after_text read))
+    ((FILE_BYTES < length text) × (outcome ≡ Err (Limit Bytes (FILE_BYTES + 1))))
+    ⊎ ((length text ≤ FILE_BYTES) × (read : Result (List Entry) TextRefusal) × Spells text read
+    × (outcome ≡ after_text read))
 
 -- The text, or the tree, stands for the station.
 abbrev pub TextStandsFor : List ℕ → Diagram → Type 0

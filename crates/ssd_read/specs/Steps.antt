@@ -1,5 +1,6 @@
 -- What a drawing adds to a station, step by step, and the first limit that it passes.
-use Rattle.std.specs.Prelude.{ℕ, Bool, false, ◌==◌, ◌&&◌, ◌||◌, not, List, [], ◌∷◌, ◌++◌, length, map, filter, take, slice_get, Option, Some, None, Result, Ok, Err, if◌then◌else◌, codes}
+use Rattle.std.specs.Prelude.{ℕ, Bool, false, ◌==◌, ◌&&◌, ◌||◌, not, List, [], ◌∷◌, ◌++◌, length, map, filter, take}
+use Rattle.std.specs.Prelude.{slice_get, Option, Some, None, Result, Ok, Err, if◌then◌else◌, codes}
 use Rattle.std.specs.List.{list_any, flat_map, range_with_len}
 use Rattle.std.specs.Option.{option_map_or, option_and_then, unwrap_or}
 use Rattle.ilk_base.specs.declared.words.Kind.{Kind}
@@ -11,7 +12,8 @@ use Rattle.station_graph.specs.declared.fault.What.{What}
 use Rattle.station_graph.specs.Diagram.{Diagram}
 use Rattle.station_graph.specs.Building.{part_limit, node_limit, link_limit, tap_limit, switch_limit, path_in_part}
 use Rattle.ssd_text.specs.Nesting.{Entry}
-use Rattle.ssd_read.specs.declared.role.Role.TheVariants.{Bay, ConnectivityNode, ConductingEquipment, PowerTransformer, TransformerWinding, Terminal}
+use Rattle.ssd_read.specs.declared.role.Role.TheVariants.{Bay, ConnectivityNode, ConductingEquipment, PowerTransformer}
+use Rattle.ssd_read.specs.declared.role.Role.TheVariants.{TransformerWinding, Terminal}
 use Rattle.ssd_read.specs.declared.refusal.SsdRefusal.{SsdRefusal}
 use Rattle.ssd_read.specs.declared.refusal.SsdRefusal.TheVariants.{Limit}
 use Rattle.ssd_read.specs.Elements.{Element, element_at, name_of, same_role, says}
@@ -53,8 +55,18 @@ part_of all i x = if is_part x then part_number all i else part_number all (unwr
 
 -- One switch, link or tap.
 abbrev pub switch_step : ℕ → List ℕ → Kind → ℕ → Option ℕ → Step
-switch_step part name kind first None = a_switch name (record { kind = kind; first = record { 0 = first }; second = None; bay = record { 0 = part } })
-switch_step part name kind first (Some second) = a_switch name (record { kind = kind; first = record { 0 = first }; second = Some (record { 0 = second }); bay = record { 0 = part } })
+switch_step part name kind first None = a_switch name (record {
+  kind = kind;
+  first = record { 0 = first };
+  second = None;
+  bay = record { 0 = part };
+})
+switch_step part name kind first (Some second) = a_switch name (record {
+  kind = kind;
+  first = record { 0 = first };
+  second = Some (record { 0 = second });
+  bay = record { 0 = part };
+})
 
 -- A tap at a node.
 abbrev pub tap_step : ℕ → ℕ → Step
@@ -66,7 +78,12 @@ tap_steps part ns = flat_map (λ n. tap_step part n ∷ []) ns
 
 -- A link between two nodes, where they differ.
 abbrev pub link_step : Bool → ℕ → ℕ → ℕ → List Step
-link_step bond part a b = if a == b then [] else a_link (record { first = record { 0 = a }; second = record { 0 = b }; bond = bond; part = record { 0 = part } }) ∷ []
+link_step bond part a b = if a == b then [] else a_link (record {
+  first = record { 0 = a };
+  second = record { 0 = b };
+  bond = bond;
+  part = record { 0 = part };
+}) ∷ []
 
 -- A link between each two neighbours on different nodes.
 abbrev pub links_after : Bool → ℕ → ℕ → List ℕ → List Step
@@ -139,8 +156,10 @@ transformer_steps part ns = links_along false part ns ++ tap_steps part ns
 -- What element i gives, which is x.
 abbrev pub item_steps : List Element → ℕ → Element → List Step
 item_steps all i x =
-    if same_role x.role ConductingEquipment then use_steps (use_of x.entry) x.entry (part_of all i x) (nodes_at (ends_of all i))
-    else if same_role x.role PowerTransformer then transformer_steps (part_of all i x) (nodes_at (winding_ends_of all i))
+    if same_role x.role ConductingEquipment then use_steps (use_of x.entry) x.entry (part_of all i x)
+    (nodes_at (ends_of all i))
+    else if same_role x.role PowerTransformer then transformer_steps (part_of all i x)
+    (nodes_at (winding_ends_of all i))
     else []
 
 -- What the element at a place gives.
@@ -169,7 +188,11 @@ limit_at d (a_tap x) = tap_limit d
 abbrev pub added : Diagram → Step → Diagram
 added d (a_part path) = record d { part_paths = d.part_paths ++ path ∷ [] }
 added d (a_node path) = record d { node_paths = d.node_paths ++ path ∷ [] }
-added d (a_switch name x) = record d { switches = d.switches ++ x ∷ []; switch_paths = d.switch_paths ++ path_in_part d x.bay.0 name ∷ [] }
+added d (a_switch name x) = record d {
+  switches = d.switches ++ x ∷ [];
+  switch_paths =
+      d.switch_paths ++ path_in_part d x.bay.0 name ∷ [];
+}
 added d (a_link x) = record d { links = d.links ++ x ∷ [] }
 added d (a_tap x) = record d { taps = d.taps ++ x ∷ [] }
 

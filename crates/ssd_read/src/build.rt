@@ -1,5 +1,6 @@
 //! Pass 3: the station.
-ghost use Rattle.std.specs.Prelude.{◌≡◌, ℕ, ◌<◌, ◌==◌, [], length, take, IfOk, MatchResult, true, None, slice_index, slice_index_or};
+ghost use Rattle.std.specs.Prelude.{◌≡◌, ℕ, ◌<◌, ◌==◌, [], length, take, IfOk, MatchResult, true, None, slice_index};
+ghost use Rattle.std.specs.Prelude.{slice_index_or};
 ghost use Rattle.std.specs.List.{flat_map};
 ghost use Rattle.station_graph.specs.Diagram.{empty};
 ghost use Rattle.ssd_read.specs.Elements.{element_at};
@@ -60,7 +61,8 @@ fn add_names(
     requires names { first_fault name_fault [] drawing.now ≡ None }
     ensures named { Builds empty (flat_map naming_step drawing.now) result builder.new }
     ensures count { IfOk result (λ v. length v.items ≡ length drawing.now) }
-    ensures numbers { IfOk result (λ v. (j : ℕ) → j < length drawing.now → slice_index v.items j ≡ part_number drawing.now j) }
+    ensures numbers { IfOk result (λ v. (j : ℕ) → j < length drawing.now →
+        slice_index v.items j ≡ part_number drawing.now j) }
 {
     let mut numbers = Vec::new(alloc);
     for i in 0..drawing.count() {
@@ -85,8 +87,10 @@ pub(crate) fn build(
     requires own { length own.now ≡ length drawing.now }
     requires windings { length windings.now ≡ length drawing.now }
     requires own_ends { (j : ℕ) → j < length drawing.now → slice_index_or own.now j [] ≡ ends_of drawing.now j }
-    requires winding_ends { (j : ℕ) → j < length drawing.now → slice_index_or windings.now j [] ≡ winding_ends_of drawing.now j }
-    ensures { MatchResult result (λ station. built empty (steps_of drawing.now) ≡ Ok station) (λ e. IsRefused e (built empty (steps_of drawing.now))) }
+    requires winding_ends { (j : ℕ) → j < length drawing.now → slice_index_or windings.now j [] ≡ winding_ends_of
+        drawing.now j }
+    ensures { MatchResult result (λ station. built empty (steps_of drawing.now) ≡ Ok station)
+        (λ e. IsRefused e (built empty (steps_of drawing.now))) }
 {
     let mut builder = Builder::new(alloc);
     let numbers = match add_names(alloc, drawing, &mut builder) {

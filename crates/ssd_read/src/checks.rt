@@ -1,11 +1,14 @@
 //! Pass 2: what the ends of equipment and of windings may be.
 
-ghost use Rattle.std.specs.Prelude.{◌≡◌, ℕ, ◌<◌, ◌≤◌, ◌++◌, List, [], ◌∷◌, length, IfOk, OnOk, Option, Some, None, slice_index_or};
+ghost use Rattle.std.specs.Prelude.{◌≡◌, ℕ, ◌<◌, ◌≤◌, ◌++◌, List, [], ◌∷◌, length, IfOk, OnOk, Option, Some, None};
+ghost use Rattle.std.specs.Prelude.{slice_index_or};
 ghost use Rattle.ssd_read.specs.declared.ends.TerminalPlace.{TerminalPlace as AnEnd};
 ghost use Rattle.ssd_read.specs.Elements.{Element, element_at};
 ghost use Rattle.ssd_read.specs.Names.{first_fault};
-ghost use Rattle.ssd_read.specs.Ends.{nodes_at, missing_fault, are_apart, breaker_fault, disconnector_fault, infeed_fault, use_of, use_fault, fault_of_ends, ends_of, end_fault};
+ghost use Rattle.ssd_read.specs.Ends.{nodes_at, missing_fault, are_apart, breaker_fault, disconnector_fault};
+ghost use Rattle.ssd_read.specs.Ends.{infeed_fault, use_of, use_fault, fault_of_ends, ends_of, end_fault};
 ghost use Rattle.ssd_read.specs.Seen.{Finds};
+ghost use Rattle.ssd_text.specs.declared.limits.TheConstants.{ELEMENTS};
 
 use crate::drawing::Drawing;
 use crate::end_lists::EndLists;
@@ -59,7 +62,7 @@ fn are_apart(nodes: &[u32]) -> bool
 
 fn breaker_fault(at: u32, ends: &[TerminalPlace], nodes: &[u32]) -> Option<SsdRefusal>
     requires nodes { nodes.now ≡ nodes_at ends.now }
-    requires few { length ends.now ≤ 200000 }
+    requires few { length ends.now ≤ ELEMENTS }
     ensures { result ≡ breaker_fault at ends.now }
 {
     if ends.len() != 2 {
@@ -79,7 +82,7 @@ fn breaker_fault(at: u32, ends: &[TerminalPlace], nodes: &[u32]) -> Option<SsdRe
 
 fn disconnector_fault(at: u32, ends: &[TerminalPlace], nodes: &[u32]) -> Option<SsdRefusal>
     requires nodes { nodes.now ≡ nodes_at ends.now }
-    requires few { length ends.now ≤ 200000 }
+    requires few { length ends.now ≤ ELEMENTS }
     ensures { result ≡ disconnector_fault at ends.now }
 {
     if ends.len() != 2 {
@@ -98,7 +101,7 @@ fn disconnector_fault(at: u32, ends: &[TerminalPlace], nodes: &[u32]) -> Option<
 }
 
 fn infeed_fault(at: u32, nodes: &[u32]) -> Option<SsdRefusal>
-    requires few { length nodes.now ≤ 200000 }
+    requires few { length nodes.now ≤ ELEMENTS }
     ensures { (ends : List AnEnd) → nodes.now ≡ nodes_at ends → result ≡ infeed_fault at ends }
 {
     if nodes.len() != 1 {
@@ -113,8 +116,8 @@ fn infeed_fault(at: u32, nodes: &[u32]) -> Option<SsdRefusal>
 // The fault of equipment of this use, by its ends.
 fn use_fault(kind: Use, at: u32, ends: &[TerminalPlace], nodes: &[u32]) -> Option<SsdRefusal>
     requires nodes { nodes.now ≡ nodes_at ends.now }
-    requires few { length ends.now ≤ 200000 }
-    requires few_nodes { length nodes.now ≤ 200000 }
+    requires few { length ends.now ≤ ELEMENTS }
+    requires few_nodes { length nodes.now ≤ ELEMENTS }
     ensures { result ≡ use_fault kind at ends.now }
 {
     match kind {
@@ -133,7 +136,7 @@ fn fault_of_ends(
     ends: &[TerminalPlace],
 ) -> Result<Option<SsdRefusal>, Memory>
     requires within { i < length drawing.now }
-    requires few { length ends.now ≤ 200000 }
+    requires few { length ends.now ≤ ELEMENTS }
     ensures { IfOk result (λ o. o ≡ fault_of_ends (element_at drawing.now i) ends.now) }
 {
     let role = drawing.role(i);

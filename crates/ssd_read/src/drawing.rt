@@ -1,10 +1,13 @@
 //! The elements of a drawing, and what each of them is.
-ghost use Rattle.std.specs.Prelude.{◌≡◌, ◌<◌, ◌≤◌, ◌==◌, List, [], length, IfOk, Some, None, Option, slice_get, string_bytes, option_and_then};
+ghost use Rattle.std.specs.Prelude.{◌≡◌, ◌<◌, ◌≤◌, ◌==◌, List, [], length, IfOk, Some, None, Option, slice_get};
+ghost use Rattle.std.specs.Prelude.{string_bytes, option_and_then};
 ghost use Rattle.std.specs.Option.{option_map};
-ghost use Rattle.ssd_read.specs.Elements.{Element, attribute, says, front_of, front_of_tree, role_in, name_of, counted_as, elements_of, element_at, unless_grounded, path_in, element_after};
+ghost use Rattle.ssd_read.specs.Elements.{Element, attribute, says, front_of, front_of_tree, role_in, name_of};
+ghost use Rattle.ssd_read.specs.Elements.{counted_as, elements_of, element_at, unless_grounded, path_in, element_after};
 ghost use Rattle.ssd_text.specs.Nesting.{entry_at};
 ghost use Rattle.ssd_read.specs.Drawn.{IsDrawn};
 ghost use Rattle.ssd_read.specs.Seen.{placed, placed_all};
+ghost use Rattle.ssd_text.specs.declared.limits.TheConstants.{ELEMENTS};
 
 use crate::attributes::{attribute, entry, name_of, says};
 use crate::role::{Role, counted_as, front_of, role_in, unless_grounded};
@@ -67,7 +70,8 @@ impl<'a> Model for Drawing<'a> {
 
     ghost view = { λ d. placed_all d.tree d.places.items };
 
-    ghost invariant = { λ d. (length d.places.items ≡ length d.tree) × (placed_all d.tree d.places.items ≡ elements_of d.tree) };
+    ghost invariant = { λ d. (length d.places.items ≡ length d.tree)
+        × (placed_all d.tree d.places.items ≡ elements_of d.tree) };
 }
 
 // The place of the element in which one stands, where it stands in one.
@@ -87,7 +91,8 @@ fn place_of(
 ) -> Result<DrawnElement, Memory>
     requires next { i ≡ length before.now }
     requires within { i < length tree.now }
-    ensures { IfOk result (λ p. placed (entry_at tree.now i) p ≡ element_after front.now (placed_all tree.now before.now) (entry_at tree.now i)) }
+    ensures { IfOk result (λ p. placed (entry_at tree.now i) p ≡ element_after front.now
+        (placed_all tree.now before.now) (entry_at tree.now i)) }
 {
     let entry = entry(tree, i);
     match above(before, entry.parent) {
@@ -156,7 +161,7 @@ impl<'a> Drawing<'a> {
 
     pub(crate) fn count(&self) -> u32
         ensures count { result ≡ length self.now }
-        ensures few { result ≤ 200000 }
+        ensures few { result ≤ ELEMENTS }
         ensures drawn { IsDrawn self.now }
     {
         self.tree.count()

@@ -1,6 +1,7 @@
 //! A list of ends for each element.
 
-ghost use Rattle.std.specs.Prelude.{◌≡◌, ℕ, ◌<◌, ◌≤◌, ◌++◌, List, [], ◌∷◌, length, IfOk, OnOk, slice_set, slice_index_or, replicate};
+ghost use Rattle.std.specs.Prelude.{◌≡◌, ℕ, ◌<◌, ◌≤◌, ◌++◌, List, [], ◌∷◌, length, IfOk, OnOk, slice_set};
+ghost use Rattle.std.specs.Prelude.{slice_index_or, replicate};
 
 use crate::ends::TerminalPlace;
 use ilk_base::Memory;

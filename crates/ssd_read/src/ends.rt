@@ -1,12 +1,15 @@
 //! Where terminals stand.
 
-ghost use Rattle.std.specs.Prelude.{◌≡◌, ℕ, ◌<◌, ◌≤◌, ◌++◌, List, [], ◌∷◌, length, IfOk, OnOk, Option, Some, None, Bool, true, slice_set, slice_index_or, replicate, string_bytes, if◌then◌else◌};
+ghost use Rattle.std.specs.Prelude.{◌≡◌, ℕ, ◌<◌, ◌≤◌, ◌++◌, List, [], ◌∷◌, length, IfOk, OnOk, Option, Some, None};
+ghost use Rattle.std.specs.Prelude.{Bool, true, slice_set, slice_index_or, replicate, string_bytes, if◌then◌else◌};
 ghost use Rattle.std.specs.Option.{option_map};
 ghost use Rattle.ssd_read.specs.declared.role.Role.TheVariants.{Terminal};
 ghost use Rattle.ssd_read.specs.Elements.{Element, element_at, same_role};
 ghost use Rattle.ssd_read.specs.Names.{keys_of};
-ghost use Rattle.ssd_read.specs.Ends.{after_slash, is_grounded, with_slash, joined_names, wanted_key, end_of, is_terminal_of, ends_of, node_at, nodes_at};
+ghost use Rattle.ssd_read.specs.Ends.{after_slash, is_grounded, with_slash, joined_names, wanted_key, end_of};
+ghost use Rattle.ssd_read.specs.Ends.{is_terminal_of, ends_of, node_at, nodes_at};
 ghost use Rattle.ssd_read.specs.Steps.{is_winding_terminal_of, winding_ends_of};
+ghost use Rattle.ssd_text.specs.declared.limits.TheConstants.{ELEMENTS};
 
 use crate::drawing::Drawing;
 use crate::end_lists::EndLists;
@@ -69,7 +72,8 @@ fn is_grounded(alloc: Global, drawing: &Drawing<'_>, i: u32) -> Result<bool, Mem
 
 // Two names joined, where both are there.
 fn joined(front: Option<String>, back: Option<String>) -> Result<Option<String>, Memory>
-    ensures { IfOk result (λ o. option_map string_bytes o ≡ with_slash (option_map string_bytes front) (option_map string_bytes back)) }
+    ensures { IfOk result (λ o. option_map string_bytes o ≡ with_slash (option_map string_bytes front)
+        (option_map string_bytes back)) }
 {
     let Some(mut path) = front else {
         return Ok(None);
@@ -117,7 +121,7 @@ fn end_of(
 ) -> Result<TerminalPlace, Memory>
     requires within { i < length drawing.now }
     requires keys { keys.now ≡ keys_of drawing.now }
-    requires few { length drawing.now ≤ 200000 }
+    requires few { length drawing.now ≤ ELEMENTS }
     ensures { IfOk result (λ e. e ≡ end_of drawing.now (element_at drawing.now i)) }
 {
     if is_grounded(alloc, drawing, i)? {
@@ -146,7 +150,9 @@ fn add_winding_end(
     requires holder_within { holder < length drawing.now }
     requires windings { length windings.old ≡ length drawing.now }
     ensures windings_len { length windings.new ≡ length windings.old }
-    ensures windings { OnOk result ((j : ℕ) → j < length drawing.now → slice_index_or windings.new j [] ≡ slice_index_or windings.old j [] ++ (if is_winding_terminal_of drawing.now j (element_at drawing.now i) then end ∷ [] else [])) }
+    ensures windings { OnOk result ((j : ℕ) → j < length drawing.now → slice_index_or windings.new j [] ≡ slice_index_or
+        windings.old j [] ++ (if is_winding_terminal_of drawing.now j (element_at drawing.now i) then end
+        ∷ [] else [])) }
 {
     if drawing.within(i) != Role::TransformerWinding {
         return Ok(());
@@ -176,8 +182,12 @@ fn add_end(
     requires windings { length windings.old ≡ length drawing.now }
     ensures own_len { length own.new ≡ length own.old }
     ensures windings_len { length windings.new ≡ length windings.old }
-    ensures own { OnOk result ((j : ℕ) → j < length drawing.now → slice_index_or own.new j [] ≡ slice_index_or own.old j [] ++ (if is_terminal_of j (element_at drawing.now i) then end_of drawing.now (element_at drawing.now i) ∷ [] else [])) }
-    ensures windings { OnOk result ((j : ℕ) → j < length drawing.now → slice_index_or windings.new j [] ≡ slice_index_or windings.old j [] ++ (if is_winding_terminal_of drawing.now j (element_at drawing.now i) then end_of drawing.now (element_at drawing.now i) ∷ [] else [])) }
+    ensures own { OnOk result ((j : ℕ) → j < length drawing.now → slice_index_or own.new j [] ≡ slice_index_or own.old j
+        [] ++ (if is_terminal_of j (element_at drawing.now i) then end_of drawing.now (element_at drawing.now i)
+        ∷ [] else [])) }
+    ensures windings { OnOk result ((j : ℕ) → j < length drawing.now → slice_index_or windings.new j [] ≡ slice_index_or
+        windings.old j [] ++ (if is_winding_terminal_of drawing.now j (element_at drawing.now i) then end_of drawing.now
+        (element_at drawing.now i) ∷ [] else [])) }
 {
     if drawing.role(i) != Role::Terminal {
         return Ok(());
@@ -202,8 +212,10 @@ pub(crate) fn all_ends(
     requires { keys.now ≡ keys_of drawing.now }
     ensures own_len { IfOk result (λ r. length r.0 ≡ length drawing.now) }
     ensures windings_len { IfOk result (λ r. length r.1 ≡ length drawing.now) }
-    ensures own { IfOk result (λ r. (j : ℕ) → j < length drawing.now → slice_index_or r.0 j [] ≡ ends_of drawing.now j) }
-    ensures windings { IfOk result (λ r. (j : ℕ) → j < length drawing.now → slice_index_or r.1 j [] ≡ winding_ends_of drawing.now j) }
+    ensures own { IfOk result (λ r. (j : ℕ) → j < length drawing.now →
+        slice_index_or r.0 j [] ≡ ends_of drawing.now j) }
+    ensures windings { IfOk result (λ r. (j : ℕ) → j < length drawing.now →
+        slice_index_or r.1 j [] ≡ winding_ends_of drawing.now j) }
 {
     let mut own = EndLists::new(alloc, drawing.count())?;
     let mut windings = EndLists::new(alloc, drawing.count())?;

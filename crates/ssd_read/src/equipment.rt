@@ -8,7 +8,8 @@ ghost use Rattle.ssd_read.specs.Elements.{element_at, name_of};
 ghost use Rattle.ssd_read.specs.Drawn.{IsDrawn};
 ghost use Rattle.ssd_read.specs.Names.{first_fault, name_fault};
 ghost use Rattle.ssd_read.specs.Ends.{ends_of, end_fault, nodes_at, use_of, fault_of_ends};
-ghost use Rattle.ssd_read.specs.Steps.{is_part, naming_step, part_number, part_of, links_along, is_bond, lone_tap, use_steps, winding_ends_of, built, steps_of, steps_before, item_steps_at};
+ghost use Rattle.ssd_read.specs.Steps.{is_part, naming_step, part_number, part_of, links_along, is_bond, lone_tap};
+ghost use Rattle.ssd_read.specs.Steps.{use_steps, winding_ends_of, built, steps_of, steps_before, item_steps_at};
 ghost use Rattle.ssd_read.specs.Seen.{Builds};
 
 use crate::build::is_part;
@@ -36,7 +37,8 @@ fn add_other(
     requires within { i < length drawing.now }
     requires part { part.0 < part_count builder.old }
     requires nodes { (k : ℕ) → k < length nodes.now → slice_index nodes.now k < node_count builder.old }
-    ensures builds { Builds builder.old (links_along (is_bond (element_at drawing.now i).entry) part.0 nodes.now ++ lone_tap (element_at drawing.now i).entry part.0 nodes.now) result builder.new }
+    ensures builds { Builds builder.old (links_along (is_bond (element_at drawing.now i).entry) part.0 nodes.now
+        ++ lone_tap (element_at drawing.now i).entry part.0 nodes.now) result builder.new }
     ensures nodes { node_count builder.new ≡ node_count builder.old }
     ensures parts { part_count builder.new ≡ part_count builder.old }
     ensures switches { builder.new.switches ≡ builder.old.switches }
@@ -61,10 +63,13 @@ fn add_equipment(
     requires role { (element_at drawing.now i).role ≡ ConductingEquipment }
     requires fault { fault_of_ends (element_at drawing.now i) ends.now ≡ None }
     requires part { part.0 < part_count builder.old }
-    requires nodes { (k : ℕ) → k < length (nodes_at ends.now) → slice_index (nodes_at ends.now) k < node_count builder.old }
+    requires nodes { (k : ℕ) → k < length (nodes_at ends.now) →
+        slice_index (nodes_at ends.now) k < node_count builder.old }
     requires order { FollowsLast builder.old part.0 }
-    requires new { ¬ Contains builder.old.switch_paths (path_in_part builder.old part.0 (name_of (element_at drawing.now i).entry)) }
-    ensures { Builds builder.old (use_steps (use_of (element_at drawing.now i).entry) (element_at drawing.now i).entry part.0 (nodes_at ends.now)) result builder.new }
+    requires new { ¬ Contains builder.old.switch_paths (path_in_part builder.old part.0
+        (name_of (element_at drawing.now i).entry)) }
+    ensures { Builds builder.old (use_steps (use_of (element_at drawing.now i).entry) (element_at drawing.now i).entry
+        part.0 (nodes_at ends.now)) result builder.new }
 {
     let nodes = nodes_at(alloc, ends)?;
     let name = drawing.name(alloc, i)?;
@@ -139,7 +144,8 @@ pub(crate) fn add_items(
     requires own { length own.now ≡ length drawing.now }
     requires windings { length windings.now ≡ length drawing.now }
     requires own_ends { (j : ℕ) → j < length drawing.now → slice_index_or own.now j [] ≡ ends_of drawing.now j }
-    requires winding_ends { (j : ℕ) → j < length drawing.now → slice_index_or windings.now j [] ≡ winding_ends_of drawing.now j }
+    requires winding_ends { (j : ℕ) → j < length drawing.now → slice_index_or windings.now j [] ≡ winding_ends_of
+        drawing.now j }
     requires named { built empty (flat_map naming_step drawing.now) ≡ Ok builder.old }
     ensures { Builds empty (steps_of drawing.now) result builder.new }
 {

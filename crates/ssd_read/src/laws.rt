@@ -17,10 +17,12 @@ pub fn one_station()
 /// A station has what the elements of its drawing give, in document order: the paths of its parts are
 /// those of the elements that are parts, and so on for its nodes, switches, links and taps.
 pub fn has_in_order()
-    ensures { (tree : List Entry) (d : Diagram) → IsInOrder tree → TreeStandsFor tree d → HasInOrder (elements_of tree) d }
+    ensures { (tree : List Entry) (d : Diagram) → IsInOrder tree → TreeStandsFor tree d →
+        HasInOrder (elements_of tree) d }
 {}
 
 /// What an element of a drawing is, and its path, by the element in which it stands and its own name.
 pub fn stands_in_order()
-    ensures { (tree : List Entry) (i p : ℕ) → IsInOrder tree → i < length tree → (element_at (elements_of tree) i).entry.parent ≡ Some p → StandsIn (elements_of tree) i p (front_of_tree tree) }
+    ensures { (tree : List Entry) (i p : ℕ) → IsInOrder tree → i < length tree →
+        (element_at (elements_of tree) i).entry.parent ≡ Some p → StandsIn (elements_of tree) i p (front_of_tree tree) }
 {}

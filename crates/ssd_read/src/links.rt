@@ -2,7 +2,8 @@
 ghost use Rattle.std.specs.Prelude.{◌≡◌, ℕ, ◌<◌, ◌==◌, [], ◌∷◌, length, IfOk, true, slice_index};
 ghost use Rattle.station_graph.specs.Diagram.{node_count, part_count};
 ghost use Rattle.ssd_read.specs.Elements.{element_at};
-ghost use Rattle.ssd_read.specs.Steps.{tap_step, tap_steps, link_step, links_after, links_along, is_bond, is_tapless, lone_tap, transformer_steps};
+ghost use Rattle.ssd_read.specs.Steps.{tap_step, tap_steps, link_step, links_after, links_along, is_bond, is_tapless};
+ghost use Rattle.ssd_read.specs.Steps.{lone_tap, transformer_steps};
 ghost use Rattle.ssd_read.specs.Seen.{Builds};
 
 use crate::drawing::Drawing;
@@ -173,7 +174,8 @@ pub(crate) fn add_lone_tap(
     requires within { i < length drawing.now }
     requires part { part.0 < part_count builder.old }
     requires nodes { (k : ℕ) → k < length nodes.now → slice_index nodes.now k < node_count builder.old }
-    ensures builds { Builds builder.old (lone_tap (element_at drawing.now i).entry part.0 nodes.now) result builder.new }
+    ensures builds { Builds builder.old (lone_tap (element_at drawing.now i).entry part.0 nodes.now) result
+        builder.new }
     ensures nodes { node_count builder.new ≡ node_count builder.old }
     ensures parts { part_count builder.new ≡ part_count builder.old }
     ensures switches { builder.new.switches ≡ builder.old.switches }

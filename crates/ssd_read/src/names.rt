@@ -1,9 +1,11 @@
 //! Pass 1: names that are missing, and names that are there twice.
 
-ghost use Rattle.std.specs.Prelude.{◌≡◌, ℕ, ◌<◌, ◌≤◌, ◌++◌, List, [], ◌∷◌, length, IfOk, OnOk, Bool, not, string_bytes, IsTrue};
+ghost use Rattle.std.specs.Prelude.{◌≡◌, ℕ, ◌<◌, ◌≤◌, ◌++◌, List, [], ◌∷◌, length, IfOk, OnOk, Bool, not, string_bytes};
+ghost use Rattle.std.specs.Prelude.{IsTrue};
 ghost use Rattle.std.specs.List.{list_any, list_all};
 ghost use Rattle.ssd_read.specs.Elements.{Element, element_at};
-ghost use Rattle.ssd_read.specs.Names.{is_shown, is_good_name, lacks_name, is_nameless, key_of, same_path, same_key, counted_paths, keys_of, name_fault, first_fault};
+ghost use Rattle.ssd_read.specs.Names.{is_shown, is_good_name, lacks_name, is_nameless, key_of, same_path, same_key};
+ghost use Rattle.ssd_read.specs.Names.{counted_paths, keys_of, name_fault, first_fault};
 ghost use Rattle.ssd_read.specs.Seen.{Finds};
 
 use crate::drawing::Drawing;
@@ -73,8 +75,10 @@ fn key_of(alloc: Global, drawing: &Drawing<'_>, i: u32) -> Result<String, Memory
 // Adds the path of an element, and says whether no element of its kind had it.
 fn add_path(alloc: Global, drawing: &Drawing<'_>, i: u32, paths: &mut Paths) -> Result<bool, Memory>
     requires { i < length drawing.now }
-    ensures new { IfOk result (λ b. (before : List Element) → paths.old ≡ counted_paths before → b ≡ not (list_any (same_path (element_at drawing.now i)) before)) }
-    ensures added { IfOk result (λ b. IsTrue b → (before : List Element) → paths.old ≡ counted_paths before → paths.new ≡ counted_paths (before ++ element_at drawing.now i ∷ [])) }
+    ensures new { IfOk result (λ b. (before : List Element) → paths.old ≡ counted_paths before →
+        b ≡ not (list_any (same_path (element_at drawing.now i)) before)) }
+    ensures added { IfOk result (λ b. IsTrue b → (before : List Element) → paths.old ≡ counted_paths before →
+        paths.new ≡ counted_paths (before ++ element_at drawing.now i ∷ [])) }
 {
     match counted_as(drawing.role(i)) {
         None => Ok(true),
@@ -89,8 +93,10 @@ fn add_path(alloc: Global, drawing: &Drawing<'_>, i: u32, paths: &mut Paths) -> 
 // Adds the key of a node, and says whether no node had it.
 fn add_key(alloc: Global, drawing: &Drawing<'_>, i: u32, keys: &mut Names) -> Result<bool, Memory>
     requires { i < length drawing.now }
-    ensures new { IfOk result (λ b. (before : List Element) → keys.old ≡ keys_of before → b ≡ not (list_any (same_key (element_at drawing.now i)) before)) }
-    ensures added { IfOk result (λ b. IsTrue b → (before : List Element) → keys.old ≡ keys_of before → keys.new ≡ keys_of (before ++ element_at drawing.now i ∷ [])) }
+    ensures new { IfOk result (λ b. (before : List Element) → keys.old ≡ keys_of before →
+        b ≡ not (list_any (same_key (element_at drawing.now i)) before)) }
+    ensures added { IfOk result (λ b. IsTrue b → (before : List Element) → keys.old ≡ keys_of before →
+        keys.new ≡ keys_of (before ++ element_at drawing.now i ∷ [])) }
 {
     if drawing.role(i) != Role::ConnectivityNode {
         return Ok(true);
@@ -109,9 +115,12 @@ fn check_name(
     keys: &mut Names,
 ) -> Result<(), SsdRefusal>
     requires { i < length drawing.now }
-    ensures fault { (before : List Element) → paths.old ≡ counted_paths before → keys.old ≡ keys_of before → Finds result (name_fault before (element_at drawing.now i)) }
-    ensures paths { OnOk result ((before : List Element) → paths.old ≡ counted_paths before → paths.new ≡ counted_paths (before ++ element_at drawing.now i ∷ [])) }
-    ensures keys { OnOk result ((before : List Element) → keys.old ≡ keys_of before → keys.new ≡ keys_of (before ++ element_at drawing.now i ∷ [])) }
+    ensures fault { (before : List Element) → paths.old ≡ counted_paths before → keys.old ≡ keys_of before →
+        Finds result (name_fault before (element_at drawing.now i)) }
+    ensures paths { OnOk result ((before : List Element) → paths.old ≡ counted_paths before →
+        paths.new ≡ counted_paths (before ++ element_at drawing.now i ∷ [])) }
+    ensures keys { OnOk result ((before : List Element) → keys.old ≡ keys_of before →
+        keys.new ≡ keys_of (before ++ element_at drawing.now i ∷ [])) }
 {
     if is_nameless(alloc, drawing, i)? {
         return Err(SsdRefusal::NoName { at: drawing.at(i) });

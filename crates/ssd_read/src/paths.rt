@@ -1,6 +1,7 @@
 //! Names that are taken.
 
-ghost use Rattle.std.specs.Prelude.{◌≡◌, ℕ, ◌<◌, ◌++◌, List, [], ◌∷◌, length, IfOk, IfSome, OnErr, OnOk, Bool, true, false, not, position, string_bytes, map, if◌then◌else◌};
+ghost use Rattle.std.specs.Prelude.{◌≡◌, ℕ, ◌<◌, ◌++◌, List, [], ◌∷◌, length, IfOk, IfSome, OnErr, OnOk, Bool, true};
+ghost use Rattle.std.specs.Prelude.{false, not, position, string_bytes, map, if◌then◌else◌};
 ghost use Rattle.std.specs.List.{list_any};
 ghost use Rattle.std.specs.Str.{bytes_eq};
 ghost use Rattle.ssd_read.specs.Names.{same_pair};
@@ -89,7 +90,8 @@ impl Paths {
     // Adds a path that is not there, and says whether it did.
     pub(crate) fn add(&mut self, kind: Role, path: String) -> Result<bool, Memory>
         ensures new { IfOk result (λ b. b ≡ not (list_any (same_pair (kind, string_bytes path)) self.old)) }
-        ensures added { IfOk result (λ b. self.new ≡ (if b then self.old ++ (kind, string_bytes path) ∷ [] else self.old)) }
+        ensures added { IfOk result (λ b. self.new ≡ (if b then self.old ++ (kind, string_bytes path) ∷ [] else
+            self.old)) }
     {
         let new = self.keys.insert(Key { kind, path })?;
         Ok(new)

@@ -14,6 +14,7 @@ use crate::ends::all_ends;
 use crate::names::check_names;
 use crate::refusal::SsdRefusal;
 use crate::role::{front_of, is_named};
+use ilk_base::FILE_BYTES;
 use ssd_text::{Tree, read_text};
 use station_graph::{Station, What};
 use std::alloc::Global;
@@ -31,10 +32,10 @@ use std::alloc::Global;
 pub fn read_ssd(alloc: Global, bytes: &[u8]) -> Result<Station, SsdRefusal>
     ensures { TellsOutcome bytes.now result }
 {
-    if bytes.len() > 8_388_608 {
+    if bytes.len() > FILE_BYTES {
         return Err(SsdRefusal::Limit {
             what: What::Bytes,
-            count: 8_388_609,
+            count: FILE_BYTES as u32 + 1,
         });
     }
     match read_text(alloc, bytes) {

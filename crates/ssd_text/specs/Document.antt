@@ -3,6 +3,7 @@ use Rattle.std.specs.Prelude.{◌≡◌, ◌≤◌, ℕ, suc, Bool, true, false,
 use Rattle.std.specs.Prelude.{drop, map, count_by}
 use Rattle.ssd_text.specs.Grammar.{Piece, Begins}
 use Rattle.ssd_text.specs.Nesting.{mark_len, shape, Shape, passed, literal, characters, opens, closes}
+use Rattle.ssd_text.specs.declared.limits.TheConstants.{DEPTH, ELEMENTS}
 
 -- The text is these pieces, one after another.
 abbrev pub IsCut : List ℕ → List Piece → Type 0
@@ -16,18 +17,21 @@ IsBeside (passed ∷ ss) = IsBeside ss
 IsBeside (characters true ∷ ss) = IsBeside ss
 IsBeside (_ ∷ ss) = ⊥
 
--- An element that is at most so many deep is one tag, or a start tag, its content and an end tag of the same name. Content is a list of elements and of pieces that are no tags.
+-- An element that is at most so many deep is one tag, or a start tag, its content and an end tag of the same name.
+-- Content is a list of elements and of pieces that are no tags.
 mutual
   pub data IsElement : ℕ → List Shape → Type 0 where
     at_once : (deep : ℕ) (name : List ℕ) (ps : List (List ℕ × List ℕ)) → IsElement (suc deep) (opens name ps true ∷ [])
-    with_content : (deep : ℕ) (name : List ℕ) (ps : List (List ℕ × List ℕ)) (content : List Shape) → IsContent deep content → IsElement (suc deep) (opens name ps false ∷ (content ++ (closes name ∷ [])))
+    with_content : (deep : ℕ) (name : List ℕ) (ps : List (List ℕ × List ℕ)) (content : List Shape) →
+        IsContent deep content → IsElement (suc deep) (opens name ps false ∷ (content ++ (closes name ∷ [])))
 
   pub data IsContent : ℕ → List Shape → Type 0 where
     none : (deep : ℕ) → IsContent deep []
     pass : (deep : ℕ) (ss : List Shape) → IsContent deep ss → IsContent deep (passed ∷ ss)
     data_section : (deep : ℕ) (ss : List Shape) → IsContent deep ss → IsContent deep (literal ∷ ss)
     text : (deep : ℕ) (b : Bool) (ss : List Shape) → IsContent deep ss → IsContent deep (characters b ∷ ss)
-    child : (deep : ℕ) (element ss : List Shape) → IsElement deep element → IsContent deep ss → IsContent deep (element ++ ss)
+    child : (deep : ℕ) (element ss : List Shape) → IsElement deep element → IsContent deep ss →
+        IsContent deep (element ++ ss)
 
 -- Whether an element begins with the piece.
 abbrev pub begins_element : Shape → Bool
@@ -36,8 +40,10 @@ begins_element _ = false
 
 -- One root, with nothing but comments, instructions and white space beside it.
 abbrev pub IsDocument : List Shape → Type 0
-IsDocument ss = (before : List Shape) × (root : List Shape) × (behind : List Shape) × (ss ≡ before ++ (root ++ behind)) × IsBeside before × IsElement 64 root × IsBeside behind × (count_by begins_element ss ≤ 200000)
+IsDocument ss = (before : List Shape) × (root : List Shape) × (behind : List Shape) × (ss ≡ before ++ (root ++ behind))
+    × IsBeside before × IsElement DEPTH root × IsBeside behind × (count_by begins_element ss ≤ ELEMENTS)
 
 -- The text is UTF-8, and behind its byte order mark it is pieces that make a document.
 abbrev pub SpellsDocument : List ℕ → Type 0
-SpellsDocument bytes = IsUtf8 bytes × (ps : List Piece) × IsCut (drop (mark_len bytes) bytes) ps × IsDocument (map shape ps)
+SpellsDocument bytes = IsUtf8 bytes × (ps : List Piece) × IsCut (drop (mark_len bytes) bytes) ps
+    × IsDocument (map shape ps)

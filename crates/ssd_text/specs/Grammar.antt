@@ -1,5 +1,8 @@
--- The pieces of a text, each with its one spelling: character data, comments, instructions, CDATA sections, tags and references of XML 1.0 (2.4 to 2.7, 3.1 and 4.1), as far as the files of IEC 61850-6 need them.
-use Rattle.std.specs.Prelude.{◌≡◌, ℕ, ◌+◌, ◌-◌, ◌<◌, Bool, true, false, ◌==◌, ◌&&◌, ◌||◌, not, nat_le, nat_lt, nat_eq, List, [], ◌∷◌, ◌++◌, length, take, map, Option, Some, None, is_some, zero, suc, encode_utf8, if◌then◌else◌, codes, ◌⊎◌}
+-- The pieces of a text, each with its one spelling: character data, comments, instructions, CDATA sections, tags and
+-- references of XML 1.0 (2.4 to 2.7, 3.1 and 4.1), as far as the files of IEC 61850-6 need them.
+use Rattle.std.specs.Prelude.{◌≡◌, ℕ, ◌+◌, ◌-◌, ◌<◌, Bool, true, false, ◌==◌, ◌&&◌, ◌||◌, not, nat_le, nat_lt, nat_eq}
+use Rattle.std.specs.Prelude.{List, [], ◌∷◌, ◌++◌, length, take, map, Option, Some, None, is_some, zero, suc}
+use Rattle.std.specs.Prelude.{encode_utf8, if◌then◌else◌, codes, ◌⊎◌}
 use Rattle.std.specs.List.{list_all, flat_map, starts_with, position_or_len, AllByRecursion, IsDistinct}
 use Rattle.std.specs.Option.{option_map, option_map_or}
 use Rattle.std.specs.Char.{digit_value}
@@ -121,7 +124,8 @@ abbrev pub spelling : Piece → List ℕ
 spelling (comment x) = codes "<!--" ++ (x ++ codes "-->")
 spelling (instruction x) = codes "<?" ++ (x ++ codes "?>")
 spelling (cdata x) = codes "<![CDATA[" ++ (x ++ codes "]]>")
-spelling (start name attributes gap closed) = codes "<" ++ (name ++ (flat_map attribute attributes ++ (gap ++ close closed)))
+spelling (start name attributes gap closed) =
+    codes "<" ++ (name ++ (flat_map attribute attributes ++ (gap ++ close closed)))
 spelling (end name gap) = codes "</" ++ (name ++ (gap ++ codes ">"))
 spelling (run x) = x
 
@@ -143,7 +147,8 @@ abbrev pub IsPiece : Piece → Type 0
 IsPiece (comment x) = IsUpTo (codes "-->") x
 IsPiece (instruction x) = IsUpTo (codes "?>") x
 IsPiece (cdata x) = IsUpTo (codes "]]>") x
-IsPiece (start name attributes gap closed) = (is_name name ≡ true) × AllByRecursion IsAttribute attributes × IsDistinct bytes_eq (names attributes) × IsWhite gap
+IsPiece (start name attributes gap closed) = (is_name name ≡ true) × AllByRecursion IsAttribute attributes
+    × IsDistinct bytes_eq (names attributes) × IsWhite gap
 IsPiece (end name gap) = (is_name name ≡ true) × IsWhite gap
 IsPiece (run x) = (0 < length x) × (list_all (λ b. not (b == 60)) x ≡ true)
 

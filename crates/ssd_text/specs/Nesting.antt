@@ -1,12 +1,17 @@
 -- How pieces nest, and the tree and the faults of a whole text.
-use Rattle.std.specs.Prelude.{◌≡◌, ℕ, ◌+◌, ◌≤◌, Bool, ◌==◌, ◌&&◌, not, nat_le, nat_eq, List, [], ◌∷◌, ◌++◌, length, ◌<◌, drop, map, Option, Some, None, Result, Ok, Err, if◌then◌else◌, codes, ◌⊎◌, IsUtf8, IsSomeAnd, slice_index_or}
+use Rattle.std.specs.Prelude.{◌≡◌, ℕ, ◌+◌, ◌≤◌, Bool, ◌==◌, ◌&&◌, not, nat_le, nat_eq, List, [], ◌∷◌, ◌++◌, length}
+use Rattle.std.specs.Prelude.{◌<◌, drop, map, Option, Some, None, Result, Ok, Err, if◌then◌else◌, codes, ◌⊎◌, IsUtf8}
+use Rattle.std.specs.Prelude.{IsSomeAnd, slice_index_or}
 use Rattle.std.specs.List.{list_all, starts_with}
 use Rattle.std.specs.Option.{option_map_or}
 use Rattle.std.specs.Str.{bytes_eq}
 use Rattle.std.specs.Str.Lossy.{utf8_valid_len}
 use Rattle.ssd_text.specs.declared.refusal.TextRefusal.{TextRefusal}
-use Rattle.ssd_text.specs.declared.refusal.TextRefusal.TheVariants.{Encoding, Syntax, Doctype, Deep, Mismatch, Unclosed, Many}
-use Rattle.ssd_text.specs.Grammar.{is_white, Attribute, Piece, comment, instruction, cdata, start, end, run, spelling, Begins}
+use Rattle.ssd_text.specs.declared.refusal.TextRefusal.TheVariants.{Encoding, Syntax, Doctype, Deep, Mismatch}
+use Rattle.ssd_text.specs.declared.refusal.TextRefusal.TheVariants.{Unclosed, Many}
+use Rattle.ssd_text.specs.Grammar.{is_white, Attribute, Piece, comment, instruction, cdata, start, end, run, spelling}
+use Rattle.ssd_text.specs.Grammar.{Begins}
+use Rattle.ssd_text.specs.declared.limits.TheConstants.{DEPTH, ELEMENTS}
 
 -- What counts of a piece for the nesting: comments and instructions are passed over, and CDATA is literal.
 pub data Shape : Type 0 where
@@ -45,9 +50,11 @@ no_entry = record { at = 0; parent = None; name = []; attributes = [] }
 abbrev pub entry_at : List Entry → ℕ → Entry
 entry_at tree i = slice_index_or tree i no_entry
 
--- The order of the elements: a parent comes before its child, and each element between the two has a parent too, which is that parent or comes behind it.
+-- The order of the elements: a parent comes before its child, and each element between the two has a parent too, which
+-- is that parent or comes behind it.
 abbrev pub IsInOrder : List Entry → Type 0
-IsInOrder tree = (j p : ℕ) → (entry_at tree j).parent ≡ Some p → (p < j) × ((k : ℕ) → p < k → k < j → IsSomeAnd (entry_at tree k).parent (λ q. p ≤ q))
+IsInOrder tree = (j p : ℕ) → (entry_at tree j).parent ≡ Some p → (p < j) × ((k : ℕ) → p < k → k < j →
+    IsSomeAnd (entry_at tree k).parent (λ q. p ≤ q))
 
 -- An element whose end tag has not come.
 pub record Open : Type 0 where
@@ -75,14 +82,15 @@ opened at n name attributes closed = record {
 -- The nest after an end tag, which must be that of the innermost open element.
 unfoldable pub ended : ℕ → List Entry → List Open → List ℕ → Result Nest TextRefusal
 ended at entries [] name = Err (Mismatch at)
-ended at entries (o ∷ os) name = if bytes_eq o.name name then Ok (record { entries = entries; within = os }) else Err (Mismatch at)
+ended at entries (o ∷ os) name = if bytes_eq o.name name then Ok (record { entries = entries; within = os }) else Err
+    (Mismatch at)
 
 -- The fault of a start tag among so many open elements and after so many elements.
 unfoldable pub start_fault : ℕ → ℕ → ℕ → Option TextRefusal
 start_fault at depth count =
     if depth == 0 && not (count == 0) then Some (Syntax at)
-    else if nat_le 64 depth then Some (Deep at)
-    else if nat_le 200000 count then Some (Many at)
+    else if nat_le DEPTH depth then Some (Deep at)
+    else if nat_le ELEMENTS count then Some (Many at)
     else None
 
 -- What stands after a piece at a place, or its fault.
@@ -90,7 +98,8 @@ unfoldable pub step : ℕ → Nest → Shape → Result Nest TextRefusal
 step at n passed = Ok n
 step at n literal = if length n.within == 0 then Err (Syntax at) else Ok n
 step at n (characters blank) = if length n.within == 0 && not blank then Err (Syntax at) else Ok n
-step at n (opens name attributes closed) = option_map_or Err (start_fault at (length n.within) (length n.entries)) (Ok (opened at n name attributes closed))
+step at n (opens name attributes closed) = option_map_or Err (start_fault at (length n.within) (length n.entries))
+    (Ok (opened at n name attributes closed))
 step at n (closes name) = ended at n.entries n.within name
 
 -- At the end of the text.
@@ -110,14 +119,17 @@ BeginsNone text = (p : Piece) (rest : List ℕ) → Begins text p rest → ⊥
 -- The first piece of a text that goes on: what stands after it, with the rest, or its fault.
 abbrev pub Next : ℕ → Nest → List ℕ → Result (Nest × List ℕ) TextRefusal → Type 0
 Next at n text (Ok x) = (p : Piece) × Begins text p x.1 × (step at n (shape p) ≡ Ok x.0)
-Next at n text (Err f) = (BeginsNone text × (f ≡ no_piece at text)) ⊎ ((p : Piece) × (rest : List ℕ) × Begins text p rest × (step at n (shape p) ≡ Err f))
+Next at n text (Err f) = (BeginsNone text × (f ≡ no_piece at text)) ⊎ ((p : Piece) × (rest : List ℕ)
+    × Begins text p rest × (step at n (shape p) ≡ Err f))
 
 -- From a place on, where n stands, the text is these good pieces, and then it ends or has its first fault.
 abbrev pub Goes : ℕ → Nest → List ℕ → List Piece → Result (List Entry) TextRefusal → Type 0
 Goes at n text [] outcome =
-    ((text ≡ []) × (outcome ≡ at_end at n.entries n.within)) ⊎ ((0 < length text) × (f : TextRefusal) × Next at n text (Err f) × (outcome ≡ Err f))
+    ((text ≡ []) × (outcome ≡ at_end at n.entries n.within)) ⊎ ((0 < length text) × (f : TextRefusal)
+    × Next at n text (Err f) × (outcome ≡ Err f))
 Goes at n text (p ∷ ps) outcome =
-    (rest : List ℕ) × (m : Nest) × Begins text p rest × (step at n (shape p) ≡ Ok m) × Goes (at + length (spelling p)) m rest ps outcome
+    (rest : List ℕ) × (m : Nest) × Begins text p rest × (step at n (shape p) ≡ Ok m)
+    × Goes (at + length (spelling p)) m rest ps outcome
 
 -- The nest before the first piece.
 abbrev pub nothing : Nest

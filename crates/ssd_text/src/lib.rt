@@ -7,6 +7,7 @@
 
 mod bytes;
 mod distinct;
+pub mod limits;
 mod nest;
 mod pieces;
 mod read;

@@ -5,6 +5,7 @@ ghost use Rattle.ssd_text.specs.declared.refusal.TextRefusal.{TextRefusal as Ref
 ghost use Rattle.ssd_text.specs.Grammar.{Piece as GrammarPiece};
 ghost use Rattle.ssd_text.specs.Nesting.{no_piece, Next, Goes, nothing, Spells, mark_len, Entry, IsInOrder};
 ghost use Rattle.ssd_text.specs.Document.{SpellsDocument};
+ghost use Rattle.ilk_base.specs.declared.limits.TheConstants.{FILE_BYTES};
 ghost use Rattle.ssd_text.specs.Seen.{entries_of, nest_of, TellsOutcome};
 
 use crate::nest::{Nest, finish, step};
@@ -66,8 +67,9 @@ fn nodes_of<'a>(
     start: u32,
 ) -> Result<Vec<TreeElement<'a>>, TextRefusal>
     requires text { IsUtf8 bytes.now }
-    requires small { start + length bytes.now ≤ 8388608 }
-    ensures { TellsOutcome (λ v. entries_of v.items) result (λ o. (ps : List GrammarPiece) × Goes start nothing bytes.now ps o) }
+    requires small { start + length bytes.now ≤ FILE_BYTES }
+    ensures { TellsOutcome (λ v. entries_of v.items) result (λ o. (ps : List GrammarPiece)
+        × Goes start nothing bytes.now ps o) }
 {
     let mut nest = Nest {
         nodes: Vec::new(alloc),
@@ -95,7 +97,7 @@ fn nodes_of<'a>(
 /// that of the tree, and while a tag is read up to 32 bytes more for each of its attributes. After
 /// `Memory` nothing of the tree is left.
 pub fn read_text<'a>(alloc: Global, bytes: &'a [u8]) -> Result<Tree<'a>, TextRefusal>
-    requires { length bytes.now ≤ 8388608 }
+    requires { length bytes.now ≤ FILE_BYTES }
     ensures { TellsOutcome (λ tree. tree) result (λ o. Spells bytes.now o) }
 {
     if let Err(e) = str::from_utf8(bytes) {

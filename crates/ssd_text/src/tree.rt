@@ -5,6 +5,7 @@ ghost use Rattle.std.specs.Option.{option_map};
 ghost use Rattle.std.specs.Str.{bytes_eq};
 ghost use Rattle.ssd_text.specs.Nesting.{entry_at, IsInOrder};
 ghost use Rattle.ssd_text.specs.Seen.{pair_of, written};
+ghost use Rattle.ssd_text.specs.declared.limits.TheConstants.{ELEMENTS};
 
 use std::marker::Model;
 
@@ -47,8 +48,10 @@ impl<'a> Model for Tree<'a> {
     ghost view = { λ t. entries_of t.nodes.items };
 
     ghost use Rattle.ssd_text.specs.Nesting.{IsInOrder};
+    ghost use Rattle.ssd_text.specs.declared.limits.TheConstants.{ELEMENTS};
 
-    ghost invariant = { λ t. (0 < length t.nodes.items) × (length t.nodes.items ≤ 200000) × IsInOrder (entries_of t.nodes.items) };
+    ghost invariant = { λ t. (0 < length t.nodes.items) × (length t.nodes.items ≤ ELEMENTS)
+        × IsInOrder (entries_of t.nodes.items) };
 }
 
 /// An element, without its attributes.
@@ -68,7 +71,7 @@ impl<'a> Tree<'a> {
     pub fn count(&self) -> u32
         ensures count { result ≡ length self.now }
         ensures some { 0 < result }
-        ensures few { result ≤ 200000 }
+        ensures few { result ≤ ELEMENTS }
         ensures order { IsInOrder self.now }
     {
         self.nodes.len() as u32

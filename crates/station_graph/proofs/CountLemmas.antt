@@ -1,5 +1,6 @@
 -- Counts over lists and over numbers in a row.
-use Rattle.std.proofs.Common.{◌≡◌, ◌≢◌, ℕ, ◌+◌, ◌<◌, ◌≤◌, zero, suc, Bool, true, false, cond, List, [], ◌∷◌, ◌++◌, slice_get, Some, refl, ◌∙◌, ap, inl, inr, arith}
+use Rattle.std.proofs.Common.{◌≡◌, ◌≢◌, ℕ, ◌+◌, ◌<◌, ◌≤◌, zero, suc, Bool, true, false, cond, List, [], ◌∷◌, ◌++◌}
+use Rattle.std.proofs.Common.{slice_get, Some, refl, ◌∙◌, ap, inl, inr, arith}
 use Rattle.std.specs.Prelude.{count_by}
 use Rattle.std.specs.List.{range_with_len}
 use Rattle.std.proofs.lemmas.Bool.{cases_eq}
@@ -9,7 +10,8 @@ use Rattle.std.proofs.lemmas.List.Sums.{sum_by-cons, sum_by_push}
 abbrev pub counted : Bool → ℕ
 counted b = cond b 1 0
 
-pub count_by-cons : {X : Type 0} (p : X → Bool) (x : X) (xs : List X) → count_by p (x ∷ xs) ≡ counted (p x) + count_by p xs
+pub count_by-cons : {X : Type 0} (p : X → Bool) (x : X) (xs : List X) →
+    count_by p (x ∷ xs) ≡ counted (p x) + count_by p xs
 count_by-cons p x xs = sum_by-cons (λ y. cond (p y) 1 0) x xs
 
 pub counted_no : (b : Bool) → b ≡ false → counted b ≡ 0
@@ -45,7 +47,8 @@ module _ {X : Type 0} (p : X → Bool) where
   count_by-push xs x = sum_by_push (λ y. cond (p y) 1 0) xs x
 
 -- two tests that agree from a on count the same numbers from a on
-pub count_range-same : (f g : ℕ → Bool) (a n : ℕ) → ((j : ℕ) → a ≤ j → f j ≡ g j) → count_by g (range_with_len a n) ≡ count_by f (range_with_len a n)
+pub count_range-same : (f g : ℕ → Bool) (a n : ℕ) → ((j : ℕ) → a ≤ j → f j ≡ g j) →
+    count_by g (range_with_len a n) ≡ count_by f (range_with_len a n)
 count_range-same f g a zero h = refl
 count_range-same f g a (suc n) h =
     let first_f = count_by-cons f a (range_with_len (a + 1) n) in
@@ -55,7 +58,8 @@ count_range-same f g a (suc n) h =
     omega arith
 
 -- one more number passes
-pub count_range-one : (f g : ℕ → Bool) (k a n : ℕ) → a ≤ k → k < a + n → f k ≡ false → g k ≡ true → ((j : ℕ) → j ≢ k → f j ≡ g j) → count_by g (range_with_len a n) ≡ count_by f (range_with_len a n) + 1
+pub count_range-one : (f g : ℕ → Bool) (k a n : ℕ) → a ≤ k → k < a + n → f k ≡ false → g k ≡ true →
+    ((j : ℕ) → j ≢ k → f j ≡ g j) → count_by g (range_with_len a n) ≡ count_by f (range_with_len a n) + 1
 count_range-one f g k a zero low high without with_it h = absurd (omega arith)
 count_range-one f g k a (suc n) low high without with_it h =
     let first_f = count_by-cons f a (range_with_len (a + 1) n) in
@@ -73,7 +77,8 @@ count_range-one f g k a (suc n) low high without with_it h =
     ]
 
 -- a row that is one number longer
-pub count_range-more : (f : ℕ → Bool) (a n k : ℕ) → a + n ≡ k → f k ≡ false → count_by f (range_with_len a (suc n)) ≡ count_by f (range_with_len a n)
+pub count_range-more : (f : ℕ → Bool) (a n k : ℕ) → a + n ≡ k → f k ≡ false → count_by f (range_with_len a (suc n))
+    ≡ count_by f (range_with_len a n)
 count_range-more f a zero k at_k without =
     let here : f a ≡ false = ap f (omega arith) ∙ without in
     let first = count_by-cons f a [] in

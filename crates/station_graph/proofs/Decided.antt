@@ -1,5 +1,7 @@
 -- Each operation has an answer in each vector: what is joined can be decided.
-use Rattle.std.proofs.Common.{◌≡◌, ◌≢◌, ℕ, ◌+◌, ◌<◌, ◌≤◌, ◌⊎◌, zero, suc, Bool, true, false, List, length, slice_get, slice_set, slice_index, get_or, Option, Some, None, refl, sym, ◌∙◌, ap, subst, inl, inr, arith, length-set, add-one}
+use Rattle.std.proofs.Common.{◌≡◌, ◌≢◌, ℕ, ◌+◌, ◌<◌, ◌≤◌, ◌⊎◌, zero, suc, Bool, true, false, List, length, slice_get}
+use Rattle.std.proofs.Common.{slice_set, slice_index, get_or, Option, Some, None, refl, sym, ◌∙◌, ap, subst, inl, inr}
+use Rattle.std.proofs.Common.{arith, length-set, add-one}
 use Rattle.std.specs.Prelude.{MatchOption}
 use Rattle.std.specs.List.{range_with_len}
 use Rattle.std.proofs.lemmas.Option.{slice_get_within, slice_get_cases}
@@ -18,66 +20,99 @@ use Rattle.station_graph.specs.declared.items.Tap.{Tap}
 use Rattle.station_graph.specs.Diagram.{Diagram, IsStation, IsTwoEnded, HasTap, node_count}
 use Rattle.station_graph.specs.Connection.{Touching, Linked, Joined, Bonded, with_breakers_closed}
 use Rattle.station_graph.specs.Supply.{ClosedAt, Live, Quiet, Energisable, Earthable}
-use Rattle.station_graph.specs.CentralRules.{before, after, IsOperation, BreaksEarthing, BreaksClosing, BreaksFeeding, GapCarriesLoad, BreaksLoad, Breaks}
+use Rattle.station_graph.specs.CentralRules.{before, after, IsOperation, BreaksEarthing, BreaksClosing, BreaksFeeding}
+use Rattle.station_graph.specs.CentralRules.{GapCarriesLoad, BreaksLoad, Breaks}
 use Rattle.station_graph.specs.Alike.{IsVector}
 use Rattle.ilk_base.specs.declared.words.Kind.TheVariants.{Breaker, Disconnector, Earthing, Infeed}
 use Rattle.station_graph.specs.Classes.{LabelsLeast, merged}
 use Rattle.station_graph.proofs.BreakerLemmas.{length-close_breakers}
-use Rattle.station_graph.proofs.ClassesLemmas.{KeepsLabels, KeepsLabels-alone, LabelsLeast-from_keeps, same_from_linked, linked_from_same}
-use Rattle.station_graph.proofs.PartialEdges.{TouchingBelow, touching_back, below_none, after_closed, after_one_ended, after_open, after_link, after_passed_link, at_the_end}
+use Rattle.station_graph.proofs.ClassesLemmas.{KeepsLabels, KeepsLabels-alone, LabelsLeast-from_keeps}
+use Rattle.station_graph.proofs.ClassesLemmas.{same_from_linked, linked_from_same}
+use Rattle.station_graph.proofs.PartialEdges.{TouchingBelow, touching_back, below_none, after_closed, after_one_ended}
+use Rattle.station_graph.proofs.PartialEdges.{after_open, after_link, after_passed_link, at_the_end}
 
 -- the element at a place that is within the list
 pub element : {X : Type 0} (xs : List X) (i : ℕ) → i < length xs → (x : X) × (slice_get xs i ≡ Some x)
 element xs i h = elim ((slice_get_cases xs i).1) [ inl w ↦ (w.0, w.2) | inr w ↦ absurd (omega (arith, w.0)) ]
 
-module _ (bonds_only : Bool) (d : Diagram) (station : IsStation d) (v : List Bool) (fits : length v ≡ length d.switches) where
+module _ (bonds_only : Bool) (d : Diagram) (station : IsStation d) (v : List Bool)
+    (fits : length v ≡ length d.switches) where
   abbrev Kept : ℕ → ℕ → Type 0
   Kept i j = (labels : List ℕ) × KeepsLabels (TouchingBelow bonds_only d v i j) (node_count d) labels
 
-  switch_step : (i : ℕ) (x : Switch) (closed : Bool) (second : Option NodeId) → slice_get d.switches i ≡ Some x → slice_get v i ≡ Some closed → x.second ≡ second → Kept i 0 → Kept (i + 1) 0
-  switch_step i x true (Some n) at is two k = (merged k.0 x.first.0 n.0, after_closed bonds_only d station v k.0 i x n at two is k.1)
+  switch_step : (i : ℕ) (x : Switch) (closed : Bool) (second : Option NodeId) → slice_get d.switches i ≡ Some x →
+      slice_get v i ≡ Some closed → x.second ≡ second → Kept i 0 → Kept (i + 1) 0
+  switch_step i x true (Some n) at is two k = (
+    merged k.0 x.first.0 n.0,
+    after_closed bonds_only d station v k.0 i x n
+        at two is k.1,
+  )
   switch_step i x true None at is two k = (k.0, after_one_ended bonds_only d station v k.0 i x at two k.1)
   switch_step i x false second at is two k = (k.0, after_open bonds_only d station v k.0 i is k.1)
 
   switches_kept : (i : ℕ) → i ≤ length d.switches → Kept i 0
   switches_kept zero h = (
     range_with_len 0 (node_count d),
-    KeepsLabels-alone (TouchingBelow bonds_only d v 0 0) (node_count d) (range_with_len 0 (node_count d)) (length-range_with_len 0 (node_count d))
+    KeepsLabels-alone (TouchingBelow bonds_only d v 0 0) (node_count d) (range_with_len 0 (node_count d))
+        (length-range_with_len 0 (node_count d))
         (λ k k_in. get_or-range_with_len 0 (node_count d) k 0 k_in ∙ omega arith) (below_none bonds_only d v),
   )
   switches_kept (suc i) h =
       let x = element d.switches i (omega arith) in
       let closed = element v i (omega arith) in
-      subst (λ k. Kept k 0) (add-one i) (switch_step i x.0 closed.0 x.0.second x.1 closed.1 refl (switches_kept i (omega arith)))
+      subst (λ k. Kept k 0) (add-one i) (switch_step i x.0 closed.0 x.0.second x.1 closed.1 refl
+      (switches_kept i (omega arith)))
 
-  link_step : (j : ℕ) (x : Link) (bonds bond : Bool) → slice_get d.links j ≡ Some x → bonds_only ≡ bonds → x.bond ≡ bond → Kept (length d.switches) j → Kept (length d.switches) (j + 1)
-  link_step j x bonds true at is kind k = (merged k.0 x.first.0 x.second.0, after_link bonds_only d station v k.0 (length d.switches) j x at (λ _. kind) k.1)
-  link_step j x false false at is kind k = (merged k.0 x.first.0 x.second.0, after_link bonds_only d station v k.0 (length d.switches) j x at (λ e. absurd (cc)) k.1)
-  link_step j x true false at is kind k = (k.0, after_passed_link bonds_only d station v k.0 (length d.switches) j x at (λ h. let yes = h is in cc) k.1)
+  link_step : (j : ℕ) (x : Link) (bonds bond : Bool) → slice_get d.links j ≡ Some x → bonds_only ≡ bonds →
+      x.bond ≡ bond → Kept (length d.switches) j → Kept (length d.switches) (j + 1)
+  link_step j x bonds true at is kind k = (
+    merged k.0 x.first.0 x.second.0,
+    after_link bonds_only d station v k.0
+        (length d.switches) j x at (λ _. kind) k.1,
+  )
+  link_step j x false false at is kind k = (
+    merged k.0 x.first.0 x.second.0,
+    after_link bonds_only d station v k.0
+        (length d.switches) j x at (λ e. absurd (cc)) k.1,
+  )
+  link_step j x true false at is kind k = (
+    k.0,
+    after_passed_link bonds_only d station v k.0 (length d.switches) j x at
+        (λ h. let yes = h is in cc) k.1,
+  )
 
   links_kept : (j : ℕ) → j ≤ length d.links → Kept (length d.switches) j
   links_kept zero h = switches_kept (length d.switches) (omega arith)
   links_kept (suc j) h =
       let x = element d.links j (omega arith) in
-      subst (λ k. Kept (length d.switches) k) (add-one j) (link_step j x.0 bonds_only x.0.bond x.1 refl refl (links_kept j (omega arith)))
+      subst (λ k. Kept (length d.switches) k) (add-one j) (link_step j x.0 bonds_only x.0.bond x.1 refl refl
+      (links_kept j (omega arith)))
 
   -- there are labels
   pub some_labels : (labels : List ℕ) × LabelsLeast (Touching bonds_only d v) (node_count d) labels
   some_labels =
-      let all = links_kept (length d.links) (omega arith) in
-      (all.0, LabelsLeast-from_keeps (Touching bonds_only d v) (node_count d) all.0 (at_the_end bonds_only d station v all.0 (length d.switches) (length d.links) refl refl all.1))
+      let all = links_kept (length d.links) (omega arith) in (
+        all.0,
+        LabelsLeast-from_keeps (Touching bonds_only d v) (node_count d) all.0
+            (at_the_end bonds_only d station v all.0 (length d.switches) (length d.links) refl refl all.1),
+      )
 
   -- whether two nodes are linked is decided
-  pub linked_or_not : (a b : ℕ) → a < node_count d → b < node_count d → Linked (Touching bonds_only d v) a b ⊎ ¬ Linked (Touching bonds_only d v) a b
+  pub linked_or_not : (a b : ℕ) → a < node_count d → b < node_count d → Linked (Touching bonds_only d v) a b
+      ⊎ ¬ Linked (Touching bonds_only d v) a b
   linked_or_not a b a_in b_in =
       let l = some_labels in
       elim (cases_eq (slice_index l.0 a) (slice_index l.0 b)) [
-        | inl same ↦ inl (linked_from_same (Touching bonds_only d v) (node_count d) l.0 a b (touching_back bonds_only d v) l.1 a_in b_in same)
-        | inr other ↦ inr (λ joined. other (same_from_linked (Touching bonds_only d v) (node_count d) l.0 a b (touching_back bonds_only d v) l.1 a_in b_in joined))
+        | inl same ↦ inl (linked_from_same (Touching bonds_only d v) (node_count d) l.0 a b
+            (touching_back bonds_only d v) l.1 a_in b_in same)
+        | inr other ↦ inr (λ joined. other (same_from_linked (Touching bonds_only d v) (node_count d) l.0 a b
+            (touching_back bonds_only d v) l.1 a_in b_in joined))
       ]
 
 -- some element passes, or none does
-any_or_none : {X : Type 0} (P : ℕ → X → Type 0) (xs : List X) → ((i : ℕ) (x : X) → slice_get xs i ≡ Some x → P i x ⊎ ¬ P i x) → (n : ℕ) → n ≤ length xs → ((i : ℕ) × (x : X) × (slice_get xs i ≡ Some x) × P i x) ⊎ ((i : ℕ) (x : X) → i < n → slice_get xs i ≡ Some x → ¬ P i x)
+any_or_none : {X : Type 0} (P : ℕ → X → Type 0) (xs : List X) → ((i : ℕ) (x : X) → slice_get xs i ≡ Some x → P i x
+    ⊎ ¬ P i x) → (n : ℕ) → n ≤ length xs → ((i : ℕ) × (x : X) × (slice_get xs i ≡ Some x) × P i x)
+    ⊎ ((i : ℕ) (x : X) → i < n → slice_get xs i ≡ Some x → ¬ P i x)
 any_or_none P xs test zero h = inr (λ i x below at. absurd (omega (arith, below)))
 any_or_none P xs test (suc n) h =
     let here = element xs n (omega arith) in
@@ -118,7 +153,8 @@ both (inl p) (inl q) = inl (p, q)
 both (inl p) (inr q) = inr (λ h. q h.1)
 both (inr p) q = inr (λ h. p h.0)
 
-module _ (d : Diagram) (station : IsStation d) (w v : List Bool) (fits_w : length w ≡ length d.switches) (fits : length v ≡ length d.switches) where
+module _ (d : Diagram) (station : IsStation d) (w v : List Bool) (fits_w : length w ≡ length d.switches)
+    (fits : length v ≡ length d.switches) where
   closed_or_not : (i : ℕ) → i < length d.switches → (slice_get v i ≡ Some true) ⊎ ¬ (slice_get v i ≡ Some true)
   closed_or_not i h = closed_case (element v i (omega arith)) where
     closed_case : (b : Bool) × (slice_get v i ≡ Some b) → (slice_get v i ≡ Some true) ⊎ ¬ (slice_get v i ≡ Some true)
@@ -126,14 +162,26 @@ module _ (d : Diagram) (station : IsStation d) (w v : List Bool) (fits_w : lengt
     closed_case (false, at) = inr (λ e. cc)
 
   -- a closed switch of the kind is joined to the node, or none is
-  pub supplied_or_not : (kind : Kind) (n : ℕ) → n < node_count d → ((m : ℕ) × Joined d w n m × ClosedAt d v kind m) ⊎ ¬ ((m : ℕ) × Joined d w n m × ClosedAt d v kind m)
+  pub supplied_or_not : (kind : Kind) (n : ℕ) → n < node_count d → ((m : ℕ) × Joined d w n m × ClosedAt d v kind m)
+      ⊎ ¬ ((m : ℕ) × Joined d w n m × ClosedAt d v kind m)
   supplied_or_not kind n n_in =
       let P : ℕ → Switch → Type 0 = λ i x. ((slice_get v i ≡ Some true) × (x.kind ≡ kind)) × Joined d w n x.first.0 in
       let test : (i : ℕ) (x : Switch) → slice_get d.switches i ≡ Some x → P i x ⊎ ¬ P i x = λ i x at.
       both (both (closed_or_not i (slice_get_within d.switches i x at)) (kind_eq x.kind kind))
       (linked_or_not false d station w fits_w n x.first.0 n_in (station.items.switches_fit i x at).first_in) in
       elim (any_or_none P d.switches test (length d.switches) (omega arith)) [
-        | inl (i, x, at, p) ↦ inl (x.first.0, p.1, record { number = i; switch = x; listed = at; is_kind = p.0.1; closed = p.0.0; stands = refl })
+        | inl (i, x, at, p) ↦ inl (
+          x.first.0,
+          p.1,
+          record {
+            number = i;
+            switch = x;
+            listed = at;
+            is_kind = p.0.1;
+            closed = p.0.0;
+            stands = refl;
+          },
+        )
         | inr none ↦ inr (λ (m, join, at).
             none at.number at.switch (slice_get_within d.switches at.number at.switch at.listed) at.listed
             ((at.closed, at.is_kind), subst (λ k. Joined d w n k) (sym at.stands) join))
@@ -147,7 +195,8 @@ module _ (d : Diagram) (station : IsStation d) (w v : List Bool) (fits_w : lengt
       linked_or_not false d station w fits_w n x.node.0 n_in (station.items.taps_fit i x at).node_in in
       elim (any_or_none P d.taps test (length d.taps) (omega arith)) [
         | inl (i, x, at, p) ↦ inl (x.node.0, (i, x, at, refl), p)
-        | inr none ↦ inr (λ m (i, x, at, stands) joined. none i x (slice_get_within d.taps i x at) at (subst (λ k. Joined d w n k) (sym stands) joined))
+        | inr none ↦ inr (λ m (i, x, at, stands) joined. none i x (slice_get_within d.taps i x at) at
+            (subst (λ k. Joined d w n k) (sym stands) joined))
       ]
 
 direction_eq : (a b : Direction) → (a ≡ b) ⊎ (a ≢ b)
@@ -173,10 +222,12 @@ neither (inr p) = inl p
 
 module _ (d : Diagram) (station : IsStation d) (v : List Bool) (fits : IsVector d v) where
   energisable_or_not : (n : ℕ) → n < node_count d → Energisable d v n ⊎ ¬ Energisable d v n
-  energisable_or_not = supplied_or_not d station (with_breakers_closed d v) v (length-close_breakers d.switches v ∙ fits) fits Infeed
+  energisable_or_not = supplied_or_not d station (with_breakers_closed d v) v (length-close_breakers d.switches v
+      ∙ fits) fits Infeed
 
   earthable_or_not : (n : ℕ) → n < node_count d → Earthable d v n ⊎ ¬ Earthable d v n
-  earthable_or_not = supplied_or_not d station (with_breakers_closed d v) v (length-close_breakers d.switches v ∙ fits) fits Earthing
+  earthable_or_not = supplied_or_not d station (with_breakers_closed d v) v (length-close_breakers d.switches v ∙ fits)
+      fits Earthing
 
   live_or_not : (n : ℕ) → n < node_count d → Live d v n ⊎ ¬ Live d v n
   live_or_not = supplied_or_not d station v v fits fits Infeed
@@ -189,12 +240,14 @@ module _ (d : Diagram) (station : IsStation d) (v : List Bool) (fits : IsVector 
 
   gap_or_not : (a b : ℕ) → a < node_count d → b < node_count d → GapCarriesLoad d v a b ⊎ ¬ GapCarriesLoad d v a b
   gap_or_not a b a_in b_in =
-      elim (both (both (either (live_or_not a a_in) (live_or_not b b_in)) (both (neither (quiet_or_not a a_in)) (neither (quiet_or_not b b_in)))) (neither (linked_or_not true d station v fits a b a_in b_in))) [
+      elim (both (both (either (live_or_not a a_in) (live_or_not b b_in)) (both (neither (quiet_or_not a a_in))
+      (neither (quiet_or_not b b_in)))) (neither (linked_or_not true d station v fits a b a_in b_in))) [
         | inl p ↦ inl (record { live = p.0.0; first_loaded = p.0.1.0; second_loaded = p.0.1.1; not_bonded = p.1 })
         | inr p ↦ inr (λ h. p ((h.live, (h.first_loaded, h.second_loaded)), h.not_bonded))
       ]
 
-module _ (d : Diagram) (station : IsStation d) (v : List Bool) (fits : IsVector d v) (op : Op) (x : Switch) (at : slice_get d.switches op.switch.0 ≡ Some x) where
+module _ (d : Diagram) (station : IsStation d) (v : List Bool) (fits : IsVector d v) (op : Op) (x : Switch)
+    (at : slice_get d.switches op.switch.0 ≡ Some x) where
   fits_moved : (closed : Bool) → IsVector d (slice_set v op.switch.0 closed)
   fits_moved closed = length-set v op.switch.0 closed ∙ fits
 
@@ -202,28 +255,51 @@ module _ (d : Diagram) (station : IsStation d) (v : List Bool) (fits : IsVector 
   first_in = (station.items.switches_fit op.switch.0 x at).first_in
 
   earthing_or_not : BreaksEarthing d v op ⊎ ¬ BreaksEarthing d v op
-  earthing_or_not = elim (both (both (direction_eq op.direction ToOn) (kind_eq x.kind Earthing)) (energisable_or_not d station (before v op) (fits_moved false) x.first.0 first_in)) [
-    | inl p ↦ inl (record { switch = x; moves = at; closes = p.0.0; is_earthing = p.0.1; energisable = p.1 })
-    | inr p ↦ inr (λ h.
-        let same : h.switch ≡ x = cc (h.moves, at) in
-        p ((h.closes, subst (λ (y : Switch). y.kind ≡ Earthing) same h.is_earthing), subst (λ (y : Switch). Energisable d (before v op) y.first.0) same h.energisable))
-  ]
+  earthing_or_not = elim (both (both (direction_eq op.direction ToOn) (kind_eq x.kind Earthing))
+      (energisable_or_not d station (before v op) (fits_moved false) x.first.0 first_in)) [
+        | inl p ↦ inl (record { switch = x; moves = at; closes = p.0.0; is_earthing = p.0.1; energisable = p.1 })
+        | inr p ↦ inr (λ h.
+            let same : h.switch ≡ x = cc (h.moves, at) in
+            p (
+              (h.closes, subst (λ (y : Switch). y.kind ≡ Earthing) same h.is_earthing),
+              subst (λ (y : Switch). Energisable d (before v op) y.first.0) same h.energisable,
+            ))
+      ]
 
   feeding_or_not : BreaksFeeding d v op ⊎ ¬ BreaksFeeding d v op
-  feeding_or_not = elim (both (both (direction_eq op.direction ToOn) (kind_eq x.kind Infeed)) (earthable_or_not d station (before v op) (fits_moved false) x.first.0 first_in)) [
-    | inl p ↦ inl (record { switch = x; moves = at; closes = p.0.0; is_infeed = p.0.1; earthable = p.1 })
-    | inr p ↦ inr (λ h.
-        let same : h.switch ≡ x = cc (h.moves, at) in
-        p ((h.closes, subst (λ (y : Switch). y.kind ≡ Infeed) same h.is_infeed), subst (λ (y : Switch). Earthable d (before v op) y.first.0) same h.earthable))
-  ]
+  feeding_or_not = elim (both (both (direction_eq op.direction ToOn) (kind_eq x.kind Infeed))
+      (earthable_or_not d station (before v op) (fits_moved false) x.first.0 first_in)) [
+        | inl p ↦ inl (record { switch = x; moves = at; closes = p.0.0; is_infeed = p.0.1; earthable = p.1 })
+        | inr p ↦ inr (λ h.
+            let same : h.switch ≡ x = cc (h.moves, at) in
+            p (
+              (h.closes, subst (λ (y : Switch). y.kind ≡ Infeed) same h.is_infeed),
+              subst (λ (y : Switch). Earthable d (before v op) y.first.0) same h.earthable,
+            ))
+      ]
 
   closing_or_not : BreaksClosing d v op ⊎ ¬ BreaksClosing d v op
-  closing_or_not = elim (both (both (direction_eq op.direction ToOn) (two_ended_or_not x.kind)) (both (energisable_or_not d station (after v op) (fits_moved true) x.first.0 first_in) (earthable_or_not d station (after v op) (fits_moved true) x.first.0 first_in))) [
-    | inl p ↦ inl (record { switch = x; moves = at; closes = p.0.0; is_two_ended = p.0.1; energisable = p.1.0; earthable = p.1.1 })
-    | inr p ↦ inr (λ h.
-        let same : h.switch ≡ x = cc (h.moves, at) in
-        p ((h.closes, subst (λ (y : Switch). IsTwoEnded y.kind) same h.is_two_ended), (subst (λ (y : Switch). Energisable d (after v op) y.first.0) same h.energisable, subst (λ (y : Switch). Earthable d (after v op) y.first.0) same h.earthable)))
-  ]
+  closing_or_not = elim (both (both (direction_eq op.direction ToOn) (two_ended_or_not x.kind))
+      (both (energisable_or_not d station (after v op) (fits_moved true) x.first.0 first_in)
+      (earthable_or_not d station (after v op) (fits_moved true) x.first.0 first_in))) [
+        | inl p ↦ inl (record {
+          switch = x;
+          moves = at;
+          closes = p.0.0;
+          is_two_ended = p.0.1;
+          energisable = p.1.0;
+          earthable = p.1.1;
+        })
+        | inr p ↦ inr (λ h.
+            let same : h.switch ≡ x = cc (h.moves, at) in
+            p (
+              (h.closes, subst (λ (y : Switch). IsTwoEnded y.kind) same h.is_two_ended),
+              (
+                subst (λ (y : Switch). Energisable d (after v op) y.first.0) same h.energisable,
+                subst (λ (y : Switch). Earthable d (after v op) y.first.0) same h.earthable,
+              ),
+            ))
+      ]
 
   load_case : (second : Option NodeId) → x.second ≡ second → BreaksLoad d v op ⊎ ¬ BreaksLoad d v op
   load_case None is = inr (λ h.
@@ -231,14 +307,28 @@ module _ (d : Diagram) (station : IsStation d) (v : List Bool) (fits : IsVector 
       let none : Some h.second ≡ None = sym (subst (λ (y : Switch). y.second ≡ Some h.second) same h.has_second) ∙ is in
       cc none)
   load_case (Some n) is =
-      let second = subst (λ (o : Option NodeId). MatchOption o (¬ IsTwoEnded x.kind) (λ k. IsTwoEnded x.kind × (k.0 < node_count d) × (k.0 ≢ x.first.0))) is (station.items.switches_fit op.switch.0 x at).second in
-      elim (both (kind_eq x.kind Disconnector) (gap_or_not d station (before v op) (fits_moved false) x.first.0 n.0 first_in second.1)) [
-        | inl p ↦ inl (record { switch = x; second = n; moves = at; is_disconnector = p.0; has_second = is; load = p.1 })
+      let second = subst (λ (o : Option NodeId). MatchOption o (¬ IsTwoEnded x.kind) (λ k. IsTwoEnded x.kind
+      × (k.0 < node_count d) × (k.0 ≢ x.first.0))) is (station.items.switches_fit op.switch.0 x at).second in
+      elim (both (kind_eq x.kind Disconnector) (gap_or_not d station (before v op) (fits_moved false) x.first.0 n.0
+      first_in second.1)) [
+        | inl p ↦ inl (record {
+          switch = x;
+          second = n;
+          moves = at;
+          is_disconnector = p.0;
+          has_second = is;
+          load = p.1;
+        })
         | inr p ↦ inr (λ h.
             let same : h.switch ≡ x = cc (h.moves, at) in
-            let both_some : Some h.second ≡ Some n = sym (subst (λ (y : Switch). y.second ≡ Some h.second) same h.has_second) ∙ is in
+            let both_some : Some h.second ≡ Some n =
+            sym (subst (λ (y : Switch). y.second ≡ Some h.second) same h.has_second) ∙ is in
             let same_end : h.second ≡ n = cc both_some in
-            p (subst (λ (y : Switch). y.kind ≡ Disconnector) same h.is_disconnector, subst (λ (k : NodeId). GapCarriesLoad d (before v op) x.first.0 k.0) same_end (subst (λ (y : Switch). GapCarriesLoad d (before v op) y.first.0 h.second.0) same h.load)))
+            p (
+              subst (λ (y : Switch). y.kind ≡ Disconnector) same h.is_disconnector,
+              subst (λ (k : NodeId). GapCarriesLoad d (before v op) x.first.0 k.0) same_end
+                  (subst (λ (y : Switch). GapCarriesLoad d (before v op) y.first.0 h.second.0) same h.load),
+            ))
       ]
 
   answered : (answer : Option Rule) × Breaks d v op answer
@@ -254,7 +344,8 @@ module _ (d : Diagram) (station : IsStation d) (v : List Bool) (fits : IsVector 
   ]
 
 -- an operation of the station has an answer
-pub some_answer : (d : Diagram) (v : List Bool) (op : Op) → IsStation d → IsVector d v → IsOperation d op → (answer : Option Rule) × Breaks d v op answer
+pub some_answer : (d : Diagram) (v : List Bool) (op : Op) → IsStation d → IsVector d v → IsOperation d op →
+    (answer : Option Rule) × Breaks d v op answer
 some_answer d v op station fits is_op =
     let x = element d.switches op.switch.0 is_op in
     answered d station v fits op x.0 x.1

@@ -1,5 +1,6 @@
 -- What a builder keeps with each item.
-use Rattle.std.proofs.Common.{◌≡◌, ◌≢◌, ℕ, ◌+◌, ◌-◌, ◌<◌, ◌≤◌, ◌⊎◌, zero, suc, false, eqb, List, [], ◌∷◌, ◌++◌, length, slice_get, Contains, Option, Some, None, refl, sym, ◌∙◌, ap, subst, inl, inr, arith}
+use Rattle.std.proofs.Common.{◌≡◌, ◌≢◌, ℕ, ◌+◌, ◌-◌, ◌<◌, ◌≤◌, ◌⊎◌, zero, suc, false, eqb, List, [], ◌∷◌, ◌++◌, length}
+use Rattle.std.proofs.Common.{slice_get, Contains, Option, Some, None, refl, sym, ◌∙◌, ap, subst, inl, inr, arith}
 use Rattle.std.specs.Prelude.{count_by, nat_lt, MatchOption}
 use Rattle.std.specs.List.{range_with_len}
 use Rattle.std.proofs.lemmas.List.{length_push}
@@ -12,29 +13,43 @@ use Rattle.station_graph.specs.declared.items.Link.{Link}
 use Rattle.station_graph.specs.declared.items.Tap.{Tap}
 use Rattle.station_graph.specs.declared.limits.TheConstants.{PARTS, BAYS, NODES, SWITCHES, BAY_SWITCHES, LINKS, TAPS}
 use Rattle.station_graph.proofs.PathLemmas.{Differ-push, slice_get-push}
-use Rattle.station_graph.specs.Diagram.{Diagram, ItemsFit, Differ, PathsDiffer, IsOrdered, IsStation, InfeedsTapped, SwitchFits, LinkFits, TapFits, IsTwoEnded, node_count, part_count, bay_count, switches_in}
+use Rattle.station_graph.specs.Diagram.{Diagram, ItemsFit, Differ, PathsDiffer, IsOrdered, IsStation, InfeedsTapped}
+use Rattle.station_graph.specs.Diagram.{SwitchFits, LinkFits, TapFits, IsTwoEnded, node_count, part_count, bay_count}
+use Rattle.station_graph.specs.Diagram.{switches_in}
 use Rattle.station_graph.specs.Building.{IsDraft, CountsBays, FollowsLast}
-use Rattle.station_graph.proofs.CountLemmas.{counted, counted_no, counted_yes, count_by-none, count_by-push, count_range-same, count_range-one, count_range-more}
+use Rattle.station_graph.proofs.CountLemmas.{counted, counted_no, counted_yes, count_by-none, count_by-push}
+use Rattle.station_graph.proofs.CountLemmas.{count_range-same, count_range-one, count_range-more}
 
 -- an item that fits goes on to fit with more nodes and parts
-pub switch_fits_more : (d e : Diagram) (x : Switch) → node_count d ≤ node_count e → part_count d ≤ part_count e → SwitchFits d x → SwitchFits e x
+pub switch_fits_more : (d e : Diagram) (x : Switch) → node_count d ≤ node_count e → part_count d ≤ part_count e →
+    SwitchFits d x → SwitchFits e x
 switch_fits_more d e x n p h = record {
   first_in = omega (arith, h.first_in);
   part_in = omega (arith, h.part_in);
   second = second_more x.second h.second;
 } where
-  second_more : (o : Option NodeId) → MatchOption o (¬ IsTwoEnded x.kind) (λ m. IsTwoEnded x.kind × (m.0 < node_count d) × (m.0 ≢ x.first.0)) → MatchOption o (¬ IsTwoEnded x.kind) (λ m. IsTwoEnded x.kind × (m.0 < node_count e) × (m.0 ≢ x.first.0))
+  second_more : (o : Option NodeId) → MatchOption o (¬ IsTwoEnded x.kind) (λ m. IsTwoEnded x.kind × (m.0 < node_count d)
+      × (m.0 ≢ x.first.0)) → MatchOption o (¬ IsTwoEnded x.kind) (λ m. IsTwoEnded x.kind × (m.0 < node_count e)
+      × (m.0 ≢ x.first.0))
   second_more None g = g
   second_more (Some m) g = (g.0, omega (arith, g.1), g.2)
 
-pub link_fits_more : (d e : Diagram) (x : Link) → node_count d ≤ node_count e → part_count d ≤ part_count e → LinkFits d x → LinkFits e x
-link_fits_more d e x n p h = record { first_in = omega (arith, h.first_in); second_in = omega (arith, h.second_in); apart = h.apart; part_in = omega (arith, h.part_in) }
+pub link_fits_more : (d e : Diagram) (x : Link) → node_count d ≤ node_count e → part_count d ≤ part_count e →
+    LinkFits d x → LinkFits e x
+link_fits_more d e x n p h = record {
+  first_in = omega (arith, h.first_in);
+  second_in = omega (arith, h.second_in);
+  apart = h.apart;
+  part_in = omega (arith, h.part_in);
+}
 
-pub tap_fits_more : (d e : Diagram) (x : Tap) → node_count d ≤ node_count e → part_count d ≤ part_count e → TapFits d x → TapFits e x
+pub tap_fits_more : (d e : Diagram) (x : Tap) → node_count d ≤ node_count e → part_count d ≤ part_count e →
+    TapFits d x → TapFits e x
 tap_fits_more d e x n p h = record { node_in = omega (arith, h.node_in); part_in = omega (arith, h.part_in) }
 
 -- a part that no switch has has no switches
-pub switches_in-none : (d : Diagram) (part : ℕ) → ((i : ℕ) (x : Switch) → slice_get d.switches i ≡ Some x → x.bay.0 ≢ part) → switches_in d part ≡ 0
+pub switches_in-none : (d : Diagram) (part : ℕ) → ((i : ℕ) (x : Switch) → slice_get d.switches i ≡ Some x →
+    x.bay.0 ≢ part) → switches_in d part ≡ 0
 switches_in-none d part h = count_by-none (λ x. eqb x.bay.0 part) d.switches (λ i x e. ne_eqb x.bay.0 part (h i x e))
 
 pub IsStation-from_draft : (d : Diagram) → IsDraft d → InfeedsTapped d → IsStation d
@@ -49,7 +64,8 @@ IsStation-from_draft d h tapped = record {
 }
 
 -- The diagram with one more part.
-module _ (d : Diagram) (paths : List (List ℕ)) (p : List ℕ) (more : paths ≡ d.part_paths ++ p ∷ []) (room : part_count d < PARTS) where
+module _ (d : Diagram) (paths : List (List ℕ)) (p : List ℕ) (more : paths ≡ d.part_paths ++ p ∷ [])
+    (room : part_count d < PARTS) where
   abbrev pub with_part : Diagram
   with_part = record d { part_paths = paths }
 
@@ -58,11 +74,14 @@ module _ (d : Diagram) (paths : List (List ℕ)) (p : List ℕ) (more : paths �
 
   bay_count-part : ItemsFit d → bay_count with_part ≡ bay_count d
   bay_count-part h =
-      let empty : switches_in d (part_count d) ≡ 0 = switches_in-none d (part_count d) (λ i x e same. absurd (omega (arith, (h.switches_fit i x e).part_in))) in
-      let without : nat_lt 0 (switches_in d (part_count d)) ≡ false = le-ltb 0 (switches_in d (part_count d)) (omega arith) in
+      let empty : switches_in d (part_count d) ≡ 0 = switches_in-none d (part_count d)
+      (λ i x e same. absurd (omega (arith, (h.switches_fit i x e).part_in))) in
+      let without : nat_lt 0 (switches_in d (part_count d)) ≡ false = le-ltb 0 (switches_in d (part_count d))
+      (omega arith) in
       let len : length paths ≡ suc (part_count d) = omega (arith, one_part) in
       let row : range_with_len 0 (length paths) ≡ range_with_len 0 (suc (part_count d)) = ap (range_with_len 0) len in
-      ap (count_by (λ part. nat_lt 0 (switches_in d part))) row ∙ count_range-more (λ part. nat_lt 0 (switches_in d part)) 0 (part_count d) (part_count d) (omega arith) without
+      ap (count_by (λ part. nat_lt 0 (switches_in d part))) row
+      ∙ count_range-more (λ part. nat_lt 0 (switches_in d part)) 0 (part_count d) (part_count d) (omega arith) without
 
   pub IsDraft-part : ¬ Contains d.part_paths p → IsDraft d → IsDraft with_part
   IsDraft-part new h =
@@ -97,7 +116,8 @@ module _ (d : Diagram) (paths : List (List ℕ)) (p : List ℕ) (more : paths �
   }
 
 -- The diagram with one more node.
-module _ (d : Diagram) (paths : List (List ℕ)) (p : List ℕ) (more : paths ≡ d.node_paths ++ p ∷ []) (room : node_count d < NODES) where
+module _ (d : Diagram) (paths : List (List ℕ)) (p : List ℕ) (more : paths ≡ d.node_paths ++ p ∷ [])
+    (room : node_count d < NODES) where
   abbrev pub with_node : Diagram
   with_node = record d { node_paths = paths }
 
@@ -134,7 +154,8 @@ module _ (d : Diagram) (paths : List (List ℕ)) (p : List ℕ) (more : paths �
   CountsBays-node bays in_last c = record { all = c.all; last = c.last }
 
 -- The diagram with one more link.
-module _ (d : Diagram) (links : List Link) (x : Link) (more : links ≡ d.links ++ x ∷ []) (room : length d.links < LINKS) (fits : LinkFits d x) where
+module _ (d : Diagram) (links : List Link) (x : Link) (more : links ≡ d.links ++ x ∷ []) (room : length d.links < LINKS)
+    (fits : LinkFits d x) where
   abbrev pub with_link : Diagram
   with_link = record d { links = links }
 
@@ -159,7 +180,12 @@ module _ (d : Diagram) (links : List Link) (x : Link) (more : links ≡ d.links 
               ]);
           taps_fit = λ i y e. tap_fits_more d with_link y (omega arith) (omega arith) (items.taps_fit i y e);
         };
-        paths_differ = record { nodes = h.paths_differ.nodes; parts = h.paths_differ.parts; switches = h.paths_differ.switches };
+        paths_differ = record {
+          nodes = h.paths_differ.nodes;
+          parts = h.paths_differ.parts;
+          switches =
+              h.paths_differ.switches;
+        };
         ordered = h.ordered;
       }
 
@@ -167,7 +193,8 @@ module _ (d : Diagram) (links : List Link) (x : Link) (more : links ≡ d.links 
   CountsBays-link bays in_last c = record { all = c.all; last = c.last }
 
 -- The diagram with one more tap.
-module _ (d : Diagram) (taps : List Tap) (x : Tap) (more : taps ≡ d.taps ++ x ∷ []) (room : length d.taps < TAPS) (fits : TapFits d x) where
+module _ (d : Diagram) (taps : List Tap) (x : Tap) (more : taps ≡ d.taps ++ x ∷ []) (room : length d.taps < TAPS)
+    (fits : TapFits d x) where
   abbrev pub with_tap : Diagram
   with_tap = record d { taps = taps }
 
@@ -192,7 +219,12 @@ module _ (d : Diagram) (taps : List Tap) (x : Tap) (more : taps ≡ d.taps ++ x 
                 | inr new ↦ subst (λ (m : Tap). TapFits d m) new.1 fits
               ]);
         };
-        paths_differ = record { nodes = h.paths_differ.nodes; parts = h.paths_differ.parts; switches = h.paths_differ.switches };
+        paths_differ = record {
+          nodes = h.paths_differ.nodes;
+          parts = h.paths_differ.parts;
+          switches =
+              h.paths_differ.switches;
+        };
         ordered = h.ordered;
       }
 
@@ -200,27 +232,33 @@ module _ (d : Diagram) (taps : List Tap) (x : Tap) (more : taps ≡ d.taps ++ x 
   CountsBays-tap bays in_last c = record { all = c.all; last = c.last }
 
 -- each switch so far is of a part that the last one's part or a later one follows
-bay_before : (d : Diagram) (part i : ℕ) (x : Switch) → IsDraft d → FollowsLast d part → slice_get d.switches i ≡ Some x → x.bay.0 ≤ part
+bay_before : (d : Diagram) (part i : ℕ) (x : Switch) → IsDraft d → FollowsLast d part →
+    slice_get d.switches i ≡ Some x → x.bay.0 ≤ part
 bay_before d part i x h follows e =
     let within = slice_get_within d.switches i x e in
     let last = get_or d.switches (length d.switches - 1) x in
-    let at : slice_get d.switches (length d.switches - 1) ≡ Some last = slice_get-get_or d.switches (length d.switches - 1) x (omega arith) in
+    let at : slice_get d.switches (length d.switches - 1) ≡ Some last =
+    slice_get-get_or d.switches (length d.switches - 1) x (omega arith) in
     omega (arith, h.ordered i (length d.switches - 1) x last (omega arith) e at, follows last at)
 
 -- a part after the last switch's has no switch yet
-pub switches_in-later : (d : Diagram) (part : ℕ) (last : Switch) → IsDraft d → slice_get d.switches (length d.switches - 1) ≡ Some last → last.bay.0 < part → switches_in d part ≡ 0
+pub switches_in-later : (d : Diagram) (part : ℕ) (last : Switch) → IsDraft d →
+    slice_get d.switches (length d.switches - 1) ≡ Some last → last.bay.0 < part → switches_in d part ≡ 0
 switches_in-later d part last h at later =
     switches_in-none d part (λ i x e same.
     let within = slice_get_within d.switches i x e in
     absurd (omega (arith, h.ordered i (length d.switches - 1) x last (omega arith) e at)))
 
 -- The diagram with one more switch.
-module _ (d : Diagram) (switches : List Switch) (paths : List (List ℕ)) (p : List ℕ) (x : Switch) (more : switches ≡ d.switches ++ x ∷ []) (more_paths : paths ≡ d.switch_paths ++ p ∷ []) (room : length d.switches < SWITCHES) (fits : SwitchFits d x) (follows : FollowsLast d x.bay.0) where
+module _ (d : Diagram) (switches : List Switch) (paths : List (List ℕ)) (p : List ℕ) (x : Switch)
+    (more : switches ≡ d.switches ++ x ∷ []) (more_paths : paths ≡ d.switch_paths ++ p ∷ [])
+    (room : length d.switches < SWITCHES) (fits : SwitchFits d x) (follows : FollowsLast d x.bay.0) where
   abbrev pub with_switch : Diagram
   with_switch = record d { switches = switches; switch_paths = paths }
 
   switches_in-switch : (part : ℕ) → switches_in with_switch part ≡ switches_in d part + counted (eqb x.bay.0 part)
-  switches_in-switch part = ap (count_by (λ (y : Switch). eqb y.bay.0 part)) more ∙ count_by-push (λ (y : Switch). eqb y.bay.0 part) d.switches x
+  switches_in-switch part = ap (count_by (λ (y : Switch). eqb y.bay.0 part)) more
+      ∙ count_by-push (λ (y : Switch). eqb y.bay.0 part) d.switches x
 
   pub switches_in-here : switches_in with_switch x.bay.0 ≡ switches_in d x.bay.0 + 1
   switches_in-here =
@@ -236,7 +274,8 @@ module _ (d : Diagram) (switches : List Switch) (paths : List (List ℕ)) (p : L
 
   pub bay_count-new : switches_in d x.bay.0 ≡ 0 → bay_count with_switch ≡ bay_count d + 1
   bay_count-new none =
-      count_range-one (λ part. nat_lt 0 (switches_in d part)) (λ part. nat_lt 0 (switches_in with_switch part)) x.bay.0 0 (part_count d)
+      count_range-one (λ part. nat_lt 0 (switches_in d part)) (λ part. nat_lt 0 (switches_in with_switch part)) x.bay.0
+      0 (part_count d)
       (omega arith) (omega (arith, fits.part_in))
       (le-ltb 0 (switches_in d x.bay.0) (omega arith))
       (lt-ltb 0 (switches_in with_switch x.bay.0) (omega (arith, switches_in-here)))
@@ -244,16 +283,19 @@ module _ (d : Diagram) (switches : List Switch) (paths : List (List ℕ)) (p : L
 
   pub bay_count-known : 0 < switches_in d x.bay.0 → bay_count with_switch ≡ bay_count d
   bay_count-known some =
-      count_range-same (λ part. nat_lt 0 (switches_in d part)) (λ part. nat_lt 0 (switches_in with_switch part)) 0 (part_count d)
+      count_range-same (λ part. nat_lt 0 (switches_in d part)) (λ part. nat_lt 0 (switches_in with_switch part)) 0
+      (part_count d)
       (λ j le. elim (cases_eq j x.bay.0) [
         | inl e ↦
             let before_it : 0 < switches_in d j = subst (λ k. 0 < switches_in d k) (sym e) some in
-            let after_it : 0 < switches_in with_switch j = subst (λ k. 0 < switches_in with_switch k) (sym e) (omega (arith, switches_in-here)) in
+            let after_it : 0 < switches_in with_switch j = subst (λ k. 0 < switches_in with_switch k) (sym e)
+            (omega (arith, switches_in-here)) in
             lt-ltb 0 (switches_in d j) before_it ∙ sym (lt-ltb 0 (switches_in with_switch j) after_it)
         | inr ne ↦ ap (nat_lt 0) (sym (switches_in-there j ne))
       ])
 
-  pub IsDraft-switch : ¬ Contains d.switch_paths p → switches_in d x.bay.0 < BAY_SWITCHES → (switches_in d x.bay.0 ≡ 0 → bay_count d < BAYS) → IsDraft d → IsDraft with_switch
+  pub IsDraft-switch : ¬ Contains d.switch_paths p → switches_in d x.bay.0 < BAY_SWITCHES →
+      (switches_in d x.bay.0 ≡ 0 → bay_count d < BAYS) → IsDraft d → IsDraft with_switch
   IsDraft-switch new bay_room bays_room h =
       let items = h.items in
       let len : length switches ≡ length d.switches + 1 = ap length more ∙ length_push d.switches x in
@@ -288,12 +330,14 @@ module _ (d : Diagram) (switches : List Switch) (paths : List (List ℕ)) (p : L
           switches = subst Differ (sym more_paths) (Differ-push d.switch_paths p new h.paths_differ.switches);
         };
         ordered = λ i j y z ij yi zj.
-            let in_new : (k : ℕ) (w : Switch) → slice_get switches k ≡ Some w → (slice_get d.switches k ≡ Some w) ⊎ ((k ≡ length d.switches) × (x ≡ w)) =
+            let in_new : (k : ℕ) (w : Switch) → slice_get switches k ≡ Some w → (slice_get d.switches k ≡ Some w)
+            ⊎ ((k ≡ length d.switches) × (x ≡ w)) =
             λ k w e. slice_get-push d.switches x w k (subst (λ (ss : List Switch). slice_get ss k ≡ Some w) more e) in
             elim (in_new i y yi) [
               | inl old_y ↦ elim (in_new j z zj) [
                 | inl old_z ↦ h.ordered i j y z ij old_y old_z
-                | inr new_z ↦ subst (λ (w : Switch). y.bay.0 ≤ w.bay.0) new_z.1 (bay_before d x.bay.0 i y h follows old_y)
+                | inr new_z ↦ subst (λ (w : Switch). y.bay.0 ≤ w.bay.0) new_z.1
+                    (bay_before d x.bay.0 i y h follows old_y)
               ]
               | inr new_y ↦ elim (in_new j z zj) [
                 | inl old_z ↦ absurd (omega (arith, slice_get_within d.switches j z old_z, new_y.0))
@@ -304,13 +348,15 @@ module _ (d : Diagram) (switches : List Switch) (paths : List (List ℕ)) (p : L
             ];
       }
 
-  pub CountsBays-switch : (bays : ℕ) → bays ≡ bay_count with_switch → CountsBays with_switch bays (switches_in d x.bay.0 + 1)
+  pub CountsBays-switch : (bays : ℕ) → bays ≡ bay_count with_switch →
+      CountsBays with_switch bays (switches_in d x.bay.0 + 1)
   CountsBays-switch bays all = record {
     all = all;
     last = λ y e.
         let len : length switches - 1 ≡ length d.switches = omega (arith, ap length more, length_push d.switches x) in
         let at : slice_get (d.switches ++ x ∷ []) (length d.switches) ≡ Some y =
-        subst (λ (ss : List Switch). slice_get ss (length d.switches) ≡ Some y) more (subst (λ k. slice_get switches k ≡ Some y) len e) in
+        subst (λ (ss : List Switch). slice_get ss (length d.switches) ≡ Some y) more
+        (subst (λ k. slice_get switches k ≡ Some y) len e) in
         elim (slice_get-push d.switches x y (length d.switches) at) [
           | inl old ↦ absurd (omega (arith, slice_get_within d.switches (length d.switches) y old))
           | inr new ↦

@@ -1,5 +1,7 @@
 -- Marks on nodes, one set of nodes after another, and what they gather.
-use Rattle.std.proofs.Common.{◌≡◌, ◌≢◌, ◌↔◌, ℕ, ◌+◌, ◌<◌, ◌≤◌, ◌⊎◌, zero, suc, Bool, true, false, List, [], ◌∷◌, ◌++◌, length, slice_get, slice_index, get_or, Contains, take, Some, refl, sym, ◌∙◌, ap, subst, inl, inr, arith}
+use Rattle.std.proofs.Common.{◌≡◌, ◌≢◌, ◌↔◌, ℕ, ◌+◌, ◌<◌, ◌≤◌, ◌⊎◌, zero, suc, Bool, true, false, List, [], ◌∷◌, ◌++◌}
+use Rattle.std.proofs.Common.{length, slice_get, slice_index, get_or, Contains, take, Some, refl, sym, ◌∙◌, ap, subst}
+use Rattle.std.proofs.Common.{inl, inr, arith}
 use Rattle.std.proofs.Math.ListN.{replicate}
 use Rattle.std.proofs.Math.Seq.{take-append_seam}
 use Rattle.std.proofs.lemmas.Bool.{cases_lt}
@@ -15,7 +17,8 @@ Marks-none P old none = record {
   marked = λ n. (λ e. inl e, λ h. elim h [ inl e ↦ e | inr p ↦ absurd (none n p) ]);
 }
 
-pub Marks-same : (P Q : ℕ → Type 0) (old new : List Bool) → ((n : ℕ) → P n → Q n) → ((n : ℕ) → Q n → P n) → Marks P old new → Marks Q old new
+pub Marks-same : (P Q : ℕ → Type 0) (old new : List Bool) → ((n : ℕ) → P n → Q n) → ((n : ℕ) → Q n → P n) →
+    Marks P old new → Marks Q old new
 Marks-same P Q old new there back h = record {
   len = h.len;
   marked = λ n. (
@@ -24,7 +27,8 @@ Marks-same P Q old new there back h = record {
   );
 }
 
-pub Marks-then : (P Q : ℕ → Type 0) (old mid new : List Bool) → Marks P old mid → Marks Q mid new → Marks (λ n. P n ⊎ Q n) old new
+pub Marks-then : (P Q : ℕ → Type 0) (old mid new : List Bool) → Marks P old mid → Marks Q mid new →
+    Marks (λ n. P n ⊎ Q n) old new
 Marks-then P Q old mid new h g = record {
   len = g.len ∙ h.len;
   marked = λ n. (
@@ -43,7 +47,13 @@ Marks-then P Q old mid new h g = record {
 -- The first elements of a list, and one more.
 module _ {X : Type 0} (xs : List X) (P : X → Type 0) (k : ℕ) where
   pub SomeBelow-kept : SomeBelow xs P k → SomeBelow xs P (k + 1)
-  SomeBelow-kept h = record { place = h.place; item = h.item; below = omega (arith, h.below); listed = h.listed; holds = h.holds }
+  SomeBelow-kept h = record {
+    place = h.place;
+    item = h.item;
+    below = omega (arith, h.below);
+    listed = h.listed;
+    holds = h.holds;
+  }
 
   pub SomeBelow-next : (x : X) → slice_get xs k ≡ Some x → P x → SomeBelow xs P (k + 1)
   SomeBelow-next x at p = record { place = k; item = x; below = omega arith; listed = at; holds = p }
@@ -63,12 +73,21 @@ module _ {X : Type 0} (xs : List X) (P : X → Type 0) (k : ℕ) where
 pub SomeBelow-none : {X : Type 0} (xs : List X) (P : X → Type 0) → SomeBelow xs P 0 → ⊥
 SomeBelow-none xs P h = omega (arith, h.below)
 
-pub SomeBelow-from : {X : Type 0} (xs : List X) (P : X → Type 0) (i : ℕ) (x : X) → slice_get xs i ≡ Some x → P x → SomeBelow xs P (length xs)
-SomeBelow-from xs P i x at p = record { place = i; item = x; below = slice_get_within xs i x at; listed = at; holds = p }
+pub SomeBelow-from : {X : Type 0} (xs : List X) (P : X → Type 0) (i : ℕ) (x : X) → slice_get xs i ≡ Some x → P x →
+    SomeBelow xs P (length xs)
+SomeBelow-from xs P i x at p = record {
+  place = i;
+  item = x;
+  below = slice_get_within xs i x at;
+  listed = at;
+  holds = p;
+}
 
 -- One more element of a list: it marks its nodes, or it has none.
-module _ {X : Type 0} (xs : List X) (P : ℕ → X → Type 0) (k : ℕ) (x : X) (at : slice_get xs k ≡ Some x) (old mid : List Bool) (so_far : Marks (λ n. SomeBelow xs (P n) k) old mid) where
-  pub Marks-hit : (new : List Bool) (At : ℕ → Type 0) → ((n : ℕ) → At n → P n x) → ((n : ℕ) → P n x → At n) → Marks At mid new → Marks (λ n. SomeBelow xs (P n) (k + 1)) old new
+module _ {X : Type 0} (xs : List X) (P : ℕ → X → Type 0) (k : ℕ) (x : X) (at : slice_get xs k ≡ Some x)
+    (old mid : List Bool) (so_far : Marks (λ n. SomeBelow xs (P n) k) old mid) where
+  pub Marks-hit : (new : List Bool) (At : ℕ → Type 0) → ((n : ℕ) → At n → P n x) → ((n : ℕ) → P n x → At n) →
+      Marks At mid new → Marks (λ n. SomeBelow xs (P n) (k + 1)) old new
   Marks-hit new At there back h =
       Marks-same (λ n. SomeBelow xs (P n) k ⊎ At n) (λ n. SomeBelow xs (P n) (k + 1)) old new
       (λ n w. elim w [ inl s ↦ SomeBelow-kept xs (P n) k s | inr a ↦ SomeBelow-next xs (P n) k x at (there n a) ])
@@ -88,7 +107,8 @@ not_true_in_false (suc count) zero e = cc
 not_true_in_false (suc count) (suc n) e = not_true_in_false count n e
 
 -- where nothing was marked before, exactly what has P is marked
-pub marked_exactly : (P : ℕ → Type 0) (count : ℕ) (old new : List Bool) → old ≡ replicate count false → Marks P old new → (n : ℕ) → (slice_get new n ≡ Some true) ↔ P n
+pub marked_exactly : (P : ℕ → Type 0) (count : ℕ) (old new : List Bool) → old ≡ replicate count false →
+    Marks P old new → (n : ℕ) → (slice_get new n ≡ Some true) ↔ P n
 marked_exactly P count old new none h n = (
   λ e. elim ((h.marked n).0 e) [
     | inl o ↦ absurd (not_true_in_false count n (subst (λ (m : List Bool). slice_get m n ≡ Some true) none o))
@@ -111,7 +131,8 @@ Gathers-none here there = record {
 }
 
 module _ (here there : List Bool) (i : ℕ) (nodes : List ℕ) (h : Gathers here there i nodes) where
-  pub Gathers-push : slice_get here i ≡ Some true → slice_get there i ≡ Some true → Gathers here there (i + 1) (nodes ++ i ∷ [])
+  pub Gathers-push : slice_get here i ≡ Some true → slice_get there i ≡ Some true →
+      Gathers here there (i + 1) (nodes ++ i ∷ [])
   Gathers-push yes_here yes_there =
       let len : length (nodes ++ i ∷ []) ≡ length nodes + 1 = length_push nodes i in
       record {
@@ -154,7 +175,8 @@ module _ (here there : List Bool) (i : ℕ) (nodes : List ℕ) (h : Gathers here
         );
       }
 
-  pub Gathers-pass : ((slice_get here i ≡ Some true) × (slice_get there i ≡ Some true) → ⊥) → Gathers here there (i + 1) nodes
+  pub Gathers-pass : ((slice_get here i ≡ Some true) × (slice_get there i ≡ Some true) → ⊥) →
+      Gathers here there (i + 1) nodes
   Gathers-pass fails = record {
     rises = h.rises;
     below = λ k k_in. omega (arith, h.below k k_in);
@@ -164,7 +186,11 @@ module _ (here there : List Bool) (i : ℕ) (nodes : List ℕ) (h : Gathers here
         | inl less ↦ (h.exact n).1 (less, w.1, w.2)
         | inr more ↦
             let e : n ≡ i = omega (arith, w.0) in
-            absurd (fails (subst (λ m. slice_get here m ≡ Some true) e w.1, subst (λ m. slice_get there m ≡ Some true) e w.2))
+            absurd (fails (
+              subst (λ m. slice_get here m ≡ Some true) e w.1,
+              subst (λ m. slice_get there m ≡ Some true) e
+                  w.2,
+            ))
       ],
     );
   }

@@ -30,15 +30,21 @@ pub record KeepsMeetings {I : Type 0} (R : I → ℕ → ℕ → Type 0) (T K : 
   pub to_touched : (i : I) (a b : ℕ) → R i a b → T i b
   pub kept : (i j : I) (n : ℕ) → i ≢ j → T j n → T i n ⊎ K i n → K j n
 
-leads_end : (Q : ℕ → ℕ → Type 0) (P : ℕ → Type 0) → ((a b : ℕ) → Q a b → P b) → (a b : ℕ) (xs : List ℕ) → LeadsTo Q a xs b → (a ≡ b) ⊎ P b
+leads_end : (Q : ℕ → ℕ → Type 0) (P : ℕ → Type 0) → ((a b : ℕ) → Q a b → P b) → (a b : ℕ) (xs : List ℕ) →
+    LeadsTo Q a xs b → (a ≡ b) ⊎ P b
 leads_end Q P h a b [] e = inl e
-leads_end Q P h a b (x ∷ xs) l = elim (leads_end Q P h x b xs l.1) [ inl e ↦ inr (subst P e (h a x l.0)) | inr p ↦ inr p ]
+leads_end Q P h a b (x ∷ xs) l = elim (leads_end Q P h x b xs l.1) [
+  | inl e ↦ inr (subst P e (h a x l.0))
+  | inr p ↦ inr p
+]
 
 -- same tells sets apart
-module _ (I : Type 0) (same : (i j : I) → (i ≡ j) ⊎ (i ≢ j)) (R : I → ℕ → ℕ → Type 0) (T K : I → ℕ → Type 0) (meets : KeepsMeetings R T K) where
+module _ (I : Type 0) (same : (i j : I) → (i ≡ j) ⊎ (i ≢ j)) (R : I → ℕ → ℕ → Type 0) (T K : I → ℕ →
+    Type 0) (meets : KeepsMeetings R T K) where
   -- where a walk within a set is, the set touches or keeps
   at_the_end : (i : I) (a b : ℕ) → K i a → Linked (R i) a b → T i b ⊎ K i b
-  at_the_end i a b k l = elim (leads_end (R i) (T i) (meets.to_touched i) a b l.after l.leads) [ inl e ↦ inr (subst (K i) e k) | inr t ↦ inl t ]
+  at_the_end i a b k l = elim (leads_end (R i) (T i) (meets.to_touched i) a b l.after l.leads)
+      [ inl e ↦ inr (subst (K i) e k) | inr t ↦ inl t ]
 
   -- two sets that touch or keep a node both keep it, where one of them touches it
   kept_here : (i j : I) (n : ℕ) → i ≢ j → T i n ⊎ K i n → T j n ⊎ K j n → K j n
@@ -49,7 +55,12 @@ module _ (I : Type 0) (same : (i j : I) → (i ≡ j) ⊎ (i ≢ j)) (R : I → 
   changes : (i j : I) (a n : ℕ) → i ≢ j → Reaches R K i a n → T j n ⊎ K j n → Reaches R K j a n
   changes i j a n ne r bj =
       let bi : T i n ⊎ K i n = at_the_end i r.last n r.kept r.within in
-      let hop : Hop R K r.last n = record { set = i; from = r.kept; to = kept_here j i n (λ e. ne (sym e)) bj bi; within = r.within } in
+      let hop : Hop R K r.last n = record {
+        set = i;
+        from = r.kept;
+        to = kept_here j i n (λ e. ne (sym e)) bj bi;
+        within = r.within;
+      } in
       record {
         last = n;
         hops = linked_trans (Hop R K) a r.last n r.hops (linked_one (Hop R K) r.last n hop);
@@ -75,12 +86,18 @@ module _ (I : Type 0) (same : (i j : I) → (i ≡ j) ⊎ (i ≢ j)) (R : I → 
   walks i a n m [] r e = (i, subst (λ k. Reaches R K i a k) e r)
   walks i a n m (x ∷ xs) r l =
       let set = l.0.set in
-      walks set a x m xs (steps_on set a n x (moves_to i set a n r (inl (meets.from_touched set n x l.0.holds))) l.0.holds) l.1
+      walks set a x m xs (steps_on set a n x (moves_to i set a n r (inl (meets.from_touched set n x l.0.holds)))
+      l.0.holds) l.1
 
   -- a walk through the union from a kept node to one that a set touches or keeps ends within that set
   pub reaches : (i j : I) (a b : ℕ) → K i a → T j b ⊎ K j b → Linked (AnyOf R) a b → Reaches R K j a b
   reaches i j a b k bj l =
-      let start : Reaches R K i a a = record { last = a; hops = linked_self (Hop R K) a; kept = k; within = linked_self (R i) a } in
+      let start : Reaches R K i a a = record {
+        last = a;
+        hops = linked_self (Hop R K) a;
+        kept = k;
+        within = linked_self (R i) a;
+      } in
       let w = walks i a a b l.after start l.leads in
       moves_to w.0 j a b w.1 bj
 
@@ -95,5 +112,6 @@ module _ (I : Type 0) (same : (i j : I) → (i ≡ j) ⊎ (i ≢ j)) (R : I → 
 pub any_from_within : {I : Type 0} (R : I → ℕ → ℕ → Type 0) (i : I) (a b : ℕ) → Linked (R i) a b → Linked (AnyOf R) a b
 any_from_within R i a b l = linked_weaker (R i) (AnyOf R) (λ x y e. record { set = i; holds = e }) a b l
 
-pub any_from_hops : {I : Type 0} (R : I → ℕ → ℕ → Type 0) (K : I → ℕ → Type 0) (a b : ℕ) → Linked (Hop R K) a b → Linked (AnyOf R) a b
+pub any_from_hops : {I : Type 0} (R : I → ℕ → ℕ → Type 0) (K : I → ℕ → Type 0) (a b : ℕ) → Linked (Hop R K) a b →
+    Linked (AnyOf R) a b
 any_from_hops R K a b l = linked_flat (Hop R K) (AnyOf R) (λ x y h. any_from_within R h.set x y h.within) a b l

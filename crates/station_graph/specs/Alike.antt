@@ -29,7 +29,8 @@ DifferInPart d part v w = SamePositions (λ item. ¬ OfPart d part item) v w
 
 -- Each operation of a switch of the part has the same answer in v and in w.
 abbrev pub SameAnswers : Diagram → ℕ → List Bool → List Bool → Type 0
-SameAnswers d part v w = (op : Op) → OfPart d part (a_switch op.switch.0) → (answer : Option Rule) → Breaks d v op answer ↔ Breaks d w op answer
+SameAnswers d part v w = (op : Op) → OfPart d part (a_switch op.switch.0) → (answer : Option Rule) →
+    Breaks d v op answer ↔ Breaks d w op answer
 
 -- Bay b is irrelevant to bay c: two vectors that differ in switches of b alone always give the same
 -- answers for the operations of c.

@@ -1,12 +1,14 @@
 -- What a builder keeps, and when it refuses an item.
-use Rattle.std.specs.Prelude.{◌≡◌, ℕ, ◌+◌, ◌-◌, ◌≤◌, ◌==◌, ◌&&◌, if◌then◌else◌, List, [], ◌∷◌, ◌++◌, length, slice_get, slice_index_or, Contains, Option, Some, None}
+use Rattle.std.specs.Prelude.{◌≡◌, ℕ, ◌+◌, ◌-◌, ◌≤◌, ◌==◌, ◌&&◌, if◌then◌else◌, List, [], ◌∷◌, ◌++◌, length, slice_get}
+use Rattle.std.specs.Prelude.{slice_index_or, Contains, Option, Some, None}
 use Rattle.station_graph.specs.declared.items.Switch.{Switch}
 use Rattle.station_graph.specs.declared.fault.What.{What}
 use Rattle.station_graph.specs.declared.fault.What.TheVariants.{Parts, Bays, Nodes, Switches, BaySwitches, Links, Taps}
 use Rattle.station_graph.specs.declared.fault.BuildFault.{BuildFault}
 use Rattle.station_graph.specs.declared.fault.BuildFault.TheVariants.{Memory, Limit}
 use Rattle.station_graph.specs.declared.limits.TheConstants.{PARTS, BAYS, NODES, SWITCHES, BAY_SWITCHES, LINKS, TAPS}
-use Rattle.station_graph.specs.Diagram.{Diagram, ItemsFit, SwitchFits, PathsDiffer, IsOrdered, node_count, part_count, bay_count, switches_in}
+use Rattle.station_graph.specs.Diagram.{Diagram, ItemsFit, SwitchFits, PathsDiffer, IsOrdered, node_count, part_count}
+use Rattle.station_graph.specs.Diagram.{bay_count, switches_in}
 
 -- A diagram under way: its items fit, no path stands twice among its kind, and each switch is of the
 -- part of the one before it or of a later part.

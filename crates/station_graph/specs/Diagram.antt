@@ -1,6 +1,7 @@
 -- What a station is: a single-line diagram (IEC 61850-6) as lists of nodes, parts, switches, links and
 -- taps.
-use Rattle.std.specs.Prelude.{◌≡◌, ◌≢◌, ◌↔◌, ℕ, ◌+◌, ◌<◌, ◌≤◌, ◌==◌, nat_lt, count_by, List, [], length, take, slice_get, slice_index_or, Some, MatchOption}
+use Rattle.std.specs.Prelude.{◌≡◌, ◌≢◌, ◌↔◌, ℕ, ◌+◌, ◌<◌, ◌≤◌, ◌==◌, nat_lt, count_by, List, [], length, take}
+use Rattle.std.specs.Prelude.{slice_get, slice_index_or, Some, MatchOption}
 use Rattle.std.specs.List.{range_with_len}
 use Rattle.ilk_base.specs.declared.words.Kind.{Kind}
 use Rattle.ilk_base.specs.declared.words.Kind.TheVariants.{Breaker, Disconnector, Earthing, Infeed}
@@ -49,7 +50,8 @@ IsTwoEnded Infeed = ⊥
 -- Exactly breakers and disconnectors have a second end, which is one of so many nodes and another
 -- than the first.
 abbrev pub SecondFits : ℕ → Switch → Type 0
-SecondFits nodes x = MatchOption x.second (¬ IsTwoEnded x.kind) (λ n. IsTwoEnded x.kind × (n.0 < nodes) × (n.0 ≢ x.first.0))
+SecondFits nodes x = MatchOption x.second (¬ IsTwoEnded x.kind) (λ n. IsTwoEnded x.kind × (n.0 < nodes)
+    × (n.0 ≢ x.first.0))
 
 -- The ids of a switch are in range, and its second end fits its kind.
 pub record SwitchFits (d : Diagram) (x : Switch) : Type 0 where
@@ -105,7 +107,8 @@ pub record ItemsFit (d : Diagram) : Type 0 where
 
 -- Each infeed of these switches stands at a node of one of these taps.
 abbrev pub AllTapped : List Switch → List Tap → Type 0
-AllTapped switches taps = (i : ℕ) (x : Switch) → slice_get switches i ≡ Some x → x.kind ≡ Infeed → TapAmong taps x.first.0
+AllTapped switches taps = (i : ℕ) (x : Switch) → slice_get switches i ≡ Some x → x.kind ≡ Infeed →
+    TapAmong taps x.first.0
 
 -- The node of each infeed has a tap.
 abbrev pub InfeedsTapped : Diagram → Type 0
@@ -126,15 +129,18 @@ pub record PathsDiffer (d : Diagram) : Type 0 where
 pub record IsStation (d : Diagram) : Type 0 where
   pub items : ItemsFit d
   pub paths_differ : PathsDiffer d
-  pub neighbouring : (i j k : ℕ) (x y z : Switch) → i ≤ j → j ≤ k → slice_get d.switches i ≡ Some x → slice_get d.switches j ≡ Some y → slice_get d.switches k ≡ Some z → x.bay.0 ≡ z.bay.0 → y.bay.0 ≡ x.bay.0
+  pub neighbouring : (i j k : ℕ) (x y z : Switch) → i ≤ j → j ≤ k → slice_get d.switches i ≡ Some x →
+      slice_get d.switches j ≡ Some y → slice_get d.switches k ≡ Some z → x.bay.0 ≡ z.bay.0 → y.bay.0 ≡ x.bay.0
   pub infeeds_tapped : InfeedsTapped d
 
 -- Each switch is of the part of the one before it or of a later part.
 abbrev pub IsOrdered : List Switch → Type 0
-IsOrdered switches = (i j : ℕ) (x y : Switch) → i ≤ j → slice_get switches i ≡ Some x → slice_get switches j ≡ Some y → x.bay.0 ≤ y.bay.0
+IsOrdered switches = (i j : ℕ) (x y : Switch) → i ≤ j → slice_get switches i ≡ Some x → slice_get switches j ≡ Some y →
+    x.bay.0 ≤ y.bay.0
 
 -- The switches of the part are those from the first on, so many of them.
 pub record AreSwitchesOf (d : Diagram) (part first count : ℕ) : Type 0 where
   pub counted : count ≡ switches_in d part
   pub within : first + count ≤ length d.switches
-  pub those : (i : ℕ) (x : Switch) → slice_get d.switches i ≡ Some x → (x.bay.0 ≡ part) ↔ ((first ≤ i) × (i < first + count))
+  pub those : (i : ℕ) (x : Switch) → slice_get d.switches i ≡ Some x → (x.bay.0 ≡ part)
+      ↔ ((first ≤ i) × (i < first + count))

@@ -1,7 +1,8 @@
 -- The numbers of the limits of a station.
 use Rattle.std.specs.Prelude.{ℕ}
 use Rattle.station_graph.specs.declared.fault.What.{What}
-use Rattle.station_graph.specs.declared.fault.What.TheVariants.{Bytes, Parts, Bays, Nodes, Switches, BaySwitches, Links, Taps}
+use Rattle.station_graph.specs.declared.fault.What.TheVariants.{Bytes, Parts, Bays, Nodes, Switches, BaySwitches}
+use Rattle.station_graph.specs.declared.fault.What.TheVariants.{Links, Taps}
 
 -- The number of the limit for what is counted.
 abbrev pub limit_number : What → ℕ

@@ -38,4 +38,5 @@ TapsAt inside part d k n = SomeBelow d.taps (λ x. PartIs inside part x.part.0 �
 
 -- An item of that side touches the node.
 abbrev pub TouchedFrom : Bool → ℕ → Diagram → ℕ → Type 0
-TouchedFrom inside part d n = (SwitchesAt inside part d (length d.switches) n ⊎ LinksAt inside part d (length d.links) n) ⊎ TapsAt inside part d (length d.taps) n
+TouchedFrom inside part d n = (SwitchesAt inside part d (length d.switches) n
+    ⊎ LinksAt inside part d (length d.links) n) ⊎ TapsAt inside part d (length d.taps) n

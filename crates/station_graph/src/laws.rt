@@ -8,7 +8,8 @@ ghost use Rattle.station_graph.specs.Diagram.{Diagram, IsStation};
 ghost use Rattle.station_graph.specs.Connection.{SameButBreakers};
 ghost use Rattle.station_graph.specs.Sharing.{OfPart};
 ghost use Rattle.station_graph.specs.Supply.{Apart};
-ghost use Rattle.station_graph.specs.CentralRules.{before, after, carried_out, IsOperation, Breaks, GapBreaks, LoadBreaks};
+ghost use Rattle.station_graph.specs.CentralRules.{before, after, carried_out, IsOperation, Breaks, GapBreaks};
+ghost use Rattle.station_graph.specs.CentralRules.{LoadBreaks};
 ghost use Rattle.station_graph.specs.Alike.{IsVector, SamePositions, DifferInPart};
 
 /// An operation has one answer in a vector, and in a vector of its station it has some answer.

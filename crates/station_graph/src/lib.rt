@@ -3,6 +3,7 @@
 //! live, quiet, energisable and earthable, and of the rule that an operation breaks.
 #![tactic(auto)]
 
+mod accepts;
 mod builder;
 mod classes;
 mod fault;

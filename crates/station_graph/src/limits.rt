@@ -1,7 +1,5 @@
-//! The limits of a station, by the numbers of `What`. A count may reach its limit and not pass it.
-
-/// 1: the bytes of a file that is read
-pub const BYTES: usize = 8_388_608;
+//! The limits of a station, by the numbers of `What` (1, the bytes of a file, is
+//! `ilk_base::FILE_BYTES`). A count may reach its limit and not pass it.
 
 /// 2: the parts of a station
 pub const PARTS: usize = 200;

@@ -1,5 +1,6 @@
 //! Marks on the nodes that items of a part, or of the other parts, touch.
-ghost use Rattle.std.specs.Prelude.{◌≡◌, ℕ, ◌<◌, ◌↔◌, true, false, length, replicate, slice_get, Some, IfOk, IsTrue, Contains};
+ghost use Rattle.std.specs.Prelude.{◌≡◌, ℕ, ◌<◌, ◌↔◌, true, false, length, replicate, slice_get, Some, IfOk, IsTrue};
+ghost use Rattle.std.specs.Prelude.{Contains};
 ghost use Rattle.station_graph.specs.Diagram.{node_count, IsStation, SwitchFits};
 ghost use Rattle.station_graph.specs.Sharing.{AtSwitch, AtLink};
 ghost use Rattle.station_graph.specs.Marking.{Marks, PartIs, SwitchesAt, LinksAt, TapsAt, TouchedFrom};

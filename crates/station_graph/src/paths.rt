@@ -1,5 +1,6 @@
 //! The paths of one kind: of the nodes, of the parts or of the switches of a station.
-ghost use Rattle.std.specs.Prelude.{◌≡◌, ◌<◌, ◌++◌, [], ◌∷◌, List, ℕ, length, slice_get, Some, OnOk, OnErr, IfSome, IfNone, IsTrue, ◌↔◌, Contains, string_bytes};
+ghost use Rattle.std.specs.Prelude.{◌≡◌, ◌<◌, ◌++◌, [], ◌∷◌, List, ℕ, length, slice_get, Some, OnOk, OnErr, IfSome};
+ghost use Rattle.std.specs.Prelude.{IfNone, IsTrue, ◌↔◌, Contains, string_bytes};
 
 use indexmap::IndexSet;
 use std::alloc::{AllocFailed, Global};

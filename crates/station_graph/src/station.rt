@@ -1,6 +1,8 @@
 //! The station.
-ghost use Rattle.std.specs.Prelude.{◌≡◌, ℕ, ◌<◌, ◌↔◌, List, length, slice_get, Some, slice_index, IfOk, IfSome, IfNone, Contains};
-ghost use Rattle.station_graph.specs.Diagram.{Diagram, node_count, part_count, switches_in, AreSwitchesOf, IsStation, SwitchFits, LinkFits, TapFits};
+ghost use Rattle.std.specs.Prelude.{◌≡◌, ℕ, ◌<◌, ◌↔◌, List, length, slice_get, Some, slice_index, IfOk, IfSome, IfNone};
+ghost use Rattle.std.specs.Prelude.{Contains};
+ghost use Rattle.station_graph.specs.Diagram.{Diagram, node_count, part_count, switches_in, AreSwitchesOf, IsStation};
+ghost use Rattle.station_graph.specs.Diagram.{SwitchFits, LinkFits, TapFits};
 ghost use Rattle.station_graph.specs.Sharing.{IsShared};
 ghost use Rattle.station_graph.specs.Nodes.{Rises};
 

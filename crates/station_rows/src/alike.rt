@@ -1,12 +1,12 @@
 //! Which positions are alike: the rows of their contractions are equal or not.
 use crate::composed::{Items, kept_of};
-use crate::drawings::{Example, built};
 use contraction::Contraction;
 use ilk_base::Memory;
 use station_graph::Station;
 use std::alloc::Global;
 use std::process::Abort;
 use std::test::Fail;
+use worked_stations::{Example, built};
 
 // Two positions of some items, each on its nodes, and whether they have one gap view and one load view.
 struct Row {
@@ -225,7 +225,7 @@ fn expect_on(rt: &impl Abort, alloc: Global, station: &Station, row: &Row) -> Re
 }
 
 fn expect_alike(rt: &impl Abort, alloc: Global, row: &Row) -> Result<(), Fail> {
-    let station = built(rt, alloc, row.drawing)?;
+    let station = built(alloc, row.drawing)?;
     Ok(expect_on(rt, alloc, &station, row)?)
 }
 

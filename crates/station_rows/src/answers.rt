@@ -1,12 +1,12 @@
 //! What contractions answer on their kept nodes.
 use crate::composed::{Items, first_nodes, kept_of};
-use crate::drawings::{Example, built};
 use contraction::{Contraction, Supply};
 use ilk_base::NodeId;
 use station_graph::Station;
 use std::alloc::Global;
 use std::process::Abort;
 use std::test::Fail;
+use worked_stations::{Example, built};
 
 // Two kept nodes, and whether they are coupled, joined and bonded.
 type Pair = (u16, u16, bool, bool, bool);
@@ -280,7 +280,7 @@ fn expect_on(rt: &impl Abort, alloc: Global, station: &Station, row: &Row) -> Re
 }
 
 fn expect_row(rt: &impl Abort, alloc: Global, row: &Row) -> Result<(), Fail> {
-    let station = built(rt, alloc, row.drawing)?;
+    let station = built(alloc, row.drawing)?;
     expect_on(rt, alloc, &station, row)
 }
 

@@ -1,12 +1,12 @@
 //! What the contraction of all other items says of an operation: the rule that it breaks.
 use crate::composed::{Items, contraction_of};
-use crate::drawings::{Example, built};
 use contraction::Contraction;
 use ilk_base::{Direction, Memory, Op, Rule, SwitchId};
 use station_graph::Station;
 use std::alloc::Global;
 use std::process::Abort;
 use std::test::Fail;
+use worked_stations::{Example, built};
 
 // The positions, and for each switch the rule that opening it breaks and that closing it breaks.
 struct Row {
@@ -134,7 +134,7 @@ fn expect_on(rt: &impl Abort, alloc: Global, station: &Station, row: &Row) -> Re
 }
 
 fn expect_row(rt: &impl Abort, alloc: Global, row: &Row) -> Result<(), Fail> {
-    let station = built(rt, alloc, row.drawing)?;
+    let station = built(alloc, row.drawing)?;
     Ok(expect_on(rt, alloc, &station, row)?)
 }
 

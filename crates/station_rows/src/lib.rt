@@ -10,8 +10,6 @@ mod answers;
 #[cfg(test)]
 mod composed;
 #[cfg(test)]
-mod drawings;
-#[cfg(test)]
 mod ends;
 #[cfg(test)]
 mod limits;

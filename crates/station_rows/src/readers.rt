@@ -1,10 +1,10 @@
 //! What the readers of a station answer.
-use crate::drawings::{Example, built, drawing_of};
 use ilk_base::{BayId, Kind, Memory, NodeId, SwitchId};
 use station_graph::{Classes, Link, Station, Switch, Tap};
 use std::alloc::Global;
 use std::process::Abort;
 use std::test::Fail;
+use worked_stations::{Example, built, drawing_of};
 
 // A part, its first switch and how many it has, and the nodes that it shares.
 struct PartRow {
@@ -94,7 +94,7 @@ fn expect_part(
 }
 
 fn expect_part_row(rt: &impl Abort, alloc: Global, row: &PartRow) -> Result<(), Fail> {
-    let station = built(rt, alloc, row.drawing)?;
+    let station = built(alloc, row.drawing)?;
     Ok(expect_part(rt, alloc, &station, row)?)
 }
 
@@ -159,7 +159,7 @@ fn expect_parts(rt: &impl Abort, station: &Station, paths: &[&str]) {
 #[test]
 fn paths_are_given_back(rt: HostRuntime) -> Result<(), Fail> {
     for (example, paths) in SWITCH_PATHS {
-        let station = built(&rt, rt.alloc(), *example)?;
+        let station = built(rt.alloc(), *example)?;
         let drawing = drawing_of(*example);
         expect_switches(&rt, &station, paths);
         expect_nodes(&rt, &station, drawing.nodes);
@@ -227,7 +227,7 @@ const PATHS: &[PathRow] = &[
 
 #[test]
 fn paths_are_found(rt: HostRuntime) -> Result<(), Fail> {
-    let station = built(&rt, rt.alloc(), Example::TwoFeeders)?;
+    let station = built(rt.alloc(), Example::TwoFeeders)?;
     for row in PATHS {
         assert_eq!(rt; station.find_switch(row.path), row.switch.map(SwitchId));
         assert_eq!(rt; station.find_bay(row.path), row.bay.map(BayId));
@@ -237,7 +237,7 @@ fn paths_are_found(rt: HostRuntime) -> Result<(), Fail> {
 
 #[test]
 fn a_busbar_is_no_bay(rt: HostRuntime) -> Result<(), Fail> {
-    let station = built(&rt, rt.alloc(), Example::BareStub)?;
+    let station = built(rt.alloc(), Example::BareStub)?;
     assert_eq!(rt; station.find_bay("S/V1/W1"), None);
     assert_eq!(rt; station.find_bay("S/V1/Q1"), Some(BayId(1)));
     Ok(())
@@ -277,7 +277,7 @@ fn expect_tap(rt: &impl Abort, station: &Station) {
 // The first switch, and the last link and tap, of the two transformers.
 #[test]
 fn items_are_given_back(rt: HostRuntime) -> Result<(), Fail> {
-    let station = built(&rt, rt.alloc(), Example::TwoTransformers)?;
+    let station = built(rt.alloc(), Example::TwoTransformers)?;
     expect_switch(&rt, &station);
     expect_link(&rt, &station);
     expect_tap(&rt, &station);

@@ -1,5 +1,6 @@
 -- The states that the least and the greatest reading show are those over every reading.
-use Rattle.std.proofs.Common.{◌≡◌, ◌↔◌, ℕ, ◌+◌, Bool, true, false, List, [], ◌∷◌, ◌++◌, IsTrue, refl, sym, ◌∙◌, ap, subst, inl, inr}
+use Rattle.std.proofs.Common.{◌≡◌, ◌↔◌, ℕ, ◌+◌, Bool, true, false, List, [], ◌∷◌, ◌++◌, IsTrue, refl, sym, ◌∙◌, ap}
+use Rattle.std.proofs.Common.{subst, inl, inr}
 use Rattle.std.proofs.lemmas.List.{length_push}
 use Rattle.std.proofs.lemmas.Option.{none-some}
 use Rattle.ilk_base.specs.declared.words.Dbpos.{Dbpos}
@@ -9,12 +10,14 @@ use Rattle.station_graph.proofs.PathLemmas.{slice_get-push}
 use Rattle.station_state.specs.declared.certainty.Certainty.{Certainty}
 use Rattle.station_state.specs.declared.certainty.Certainty.TheVariants.{Always, Never, Unknown}
 use Rattle.station_state.specs.declared.certainty.NodeState.{NodeState}
-use Rattle.station_state.specs.State.{Earthed, HoldsIn, AreStates, Between, IsBetween, AreBetween, certainty_of, extreme}
+use Rattle.station_state.specs.State.{Earthed, HoldsIn, AreStates, Between, IsBetween, AreBetween, certainty_of}
+use Rattle.station_state.specs.State.{extreme}
 use Rattle.station_state.proofs.GrowLemmas.{Grows, live_grows, earthed_grows}
 use Rattle.station_state.proofs.ExtremeLemmas.{extreme_reads, least_grows, grows_greatest}
 
 -- of anything that only grows as switches close
-holds_in : (words : List Dbpos) (P : List Bool → Type 0) → ((v w : List Bool) → Grows v w → P v → P w) → (c : Certainty) → Between (P (extreme false words)) (P (extreme true words)) c → HoldsIn words P c
+holds_in : (words : List Dbpos) (P : List Bool → Type 0) → ((v w : List Bool) → Grows v w → P v → P w) →
+  (c : Certainty) → Between (P (extreme false words)) (P (extreme true words)) c → HoldsIn words P c
 holds_in words P grow Always least = λ v reads. grow (extreme false words) v (least_grows words v reads) least
 holds_in words P grow Never none = λ v reads p. none (grow v (extreme true words) (grows_greatest words v reads) p)
 holds_in words P grow Unknown (none, some) = (
@@ -22,11 +25,13 @@ holds_in words P grow Unknown (none, some) = (
   (extreme false words, extreme_reads false words, none),
 )
 
-pub states_are : (d : Diagram) (words : List Dbpos) (states : List NodeState) → AreBetween (node_count d) d (extreme false words) (extreme true words) states → AreStates d words states
+pub states_are : (d : Diagram) (words : List Dbpos) (states : List NodeState) →
+  AreBetween (node_count d) d (extreme false words) (extreme true words) states → AreStates d words states
 states_are d words states h = record {
   count = h.count;
   live = λ n s at. holds_in words (λ v. Live d v n) (λ v w grows. live_grows d v w grows n) s.live (h.each n s at).live;
-  earthed = λ n s at. holds_in words (λ v. Earthed d v n) (λ v w grows. earthed_grows d v w grows n) s.earthed (h.each n s at).earthed;
+  earthed = λ n s at. holds_in words (λ v. Earthed d v n) (λ v w grows. earthed_grows d v w grows n) s.earthed
+    (h.each n s at).earthed;
 }
 
 -- two facts by what was answered of them
@@ -39,7 +44,8 @@ module _ (d : Diagram) (least greatest : List Bool) where
   pub between_none : AreBetween 0 d least greatest []
   between_none = record { count = refl; each = λ n s at. absurd (none-some s at) }
 
-  pub between_next : (k : ℕ) (states : List NodeState) (s : NodeState) → AreBetween k d least greatest states → IsBetween d least greatest k s → AreBetween (k + 1) d least greatest (states ++ s ∷ [])
+  pub between_next : (k : ℕ) (states : List NodeState) (s : NodeState) → AreBetween k d least greatest states →
+    IsBetween d least greatest k s → AreBetween (k + 1) d least greatest (states ++ s ∷ [])
   between_next k states s so_far here = record {
     count = length_push states s ∙ ap (λ n. n + 1) so_far.count;
     each = λ n x at. elim (slice_get-push states s x n at) [

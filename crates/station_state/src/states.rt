@@ -46,8 +46,10 @@ fn state_of(least: &Supply<'_>, greatest: &Supply<'_>, node: NodeId) -> NodeStat
     requires greatest { IsSupply greatest.now }
     requires in_least { node.0 < node_count least.now.station.now }
     requires in_greatest { node.0 < node_count greatest.now.station.now }
-    ensures live { Between (Live least.now.station.now least.now.vector node.0) (Live greatest.now.station.now greatest.now.vector node.0) result.live }
-    ensures earthed { Between (Earthed least.now.station.now least.now.vector node.0) (Earthed greatest.now.station.now greatest.now.vector node.0) result.earthed }
+    ensures live { Between (Live least.now.station.now least.now.vector node.0)
+        (Live greatest.now.station.now greatest.now.vector node.0) result.live }
+    ensures earthed { Between (Earthed least.now.station.now least.now.vector node.0)
+        (Earthed greatest.now.station.now greatest.now.vector node.0) result.earthed }
 {
     NodeState {
         live: certainty_of(least.is_live(node), greatest.is_live(node)),

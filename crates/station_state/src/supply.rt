@@ -1,5 +1,6 @@
 //! What is live and what is earthed in one vector, by the classes of what is joined.
-ghost use Rattle.std.specs.Prelude.{◌≡◌, ◌<◌, ◌↔◌, ℕ, true, false, Some, length, replicate, slice_get, slice_index, IfOk, IsTrue};
+ghost use Rattle.std.specs.Prelude.{◌≡◌, ◌<◌, ◌↔◌, ℕ, true, false, Some, length, replicate, slice_get, slice_index};
+ghost use Rattle.std.specs.Prelude.{IfOk, IsTrue};
 ghost use Rattle.station_graph.specs.Alike.{IsVector};
 ghost use Rattle.station_graph.specs.Diagram.{node_count, IsStation};
 ghost use Rattle.station_graph.specs.Connection.{Touching};
@@ -44,7 +45,8 @@ fn mark_classes(
     requires vector { IsVector station.now vector.now }
     requires labels { LabelsLeast (Touching false station.now vector.now) (node_count station.now) labels.now }
     requires marks { length marks.old ≡ node_count station.now }
-    ensures { Marks (ClosedUnder station.now vector.now kind labels.now (length station.now.switches)) marks.old marks.new }
+    ensures { Marks (ClosedUnder station.now vector.now kind labels.now (length station.now.switches))
+        marks.old marks.new }
 {
     for i in 0..station.switch_count() {
         let switch = station.switch(SwitchId(i));

@@ -9,7 +9,7 @@ use Rattle.text_lines.specs.Lines.{filled_lines}
 use Rattle.operation_lines.specs.OperationLines.{NamesOperation, HasFault, fault_number}
 use Rattle.operation_lines.specs.declared.operation.LineFault.{LineFault}
 use Rattle.switching_orders.specs.declared.order.TheConstants.{MOST_STEPS}
-use Rattle.switching_orders.specs.declared.reading.TheConstants.{MOST_BYTES}
+use Rattle.ilk_base.specs.declared.limits.TheConstants.{FILE_BYTES}
 
 -- The lines name these operations, each one.
 abbrev pub NameSteps : Diagram → List (ℕ × List ℕ) → List Op → Type 0
@@ -17,7 +17,7 @@ NameSteps d lines ops = AllZip (λ line op. NamesOperation d line.1 op) lines op
 
 -- The bytes are an order with these steps.
 pub record IsOrder (d : Diagram) (bytes : List ℕ) (ops : List Op) : Type 0 where
-  pub few_bytes : length bytes ≤ MOST_BYTES
+  pub few_bytes : length bytes ≤ FILE_BYTES
   pub few_steps : length ops ≤ MOST_STEPS
   pub steps : NameSteps d (filled_lines bytes) ops
 
@@ -40,5 +40,5 @@ pub record IsFirstFault (d : Diagram) (bytes : List ℕ) (r : InputRefusal) : Ty
 -- Why the bytes are no order: they are too many (5, in no line), else by the first line with a fault.
 abbrev pub IsOrderFault : Diagram → List ℕ → InputRefusal → Type 0
 IsOrderFault d bytes r =
-    ((MOST_BYTES < length bytes) × (r ≡ record { number = 5; line = 0 }))
-    ⊎ ((length bytes ≤ MOST_BYTES) × IsFirstFault d bytes r)
+    ((FILE_BYTES < length bytes) × (r ≡ record { number = 5; line = 0 }))
+    ⊎ ((length bytes ≤ FILE_BYTES) × IsFirstFault d bytes r)

@@ -1,5 +1,6 @@
 -- How an order of switching is ruled on, step by step.
-use Rattle.std.specs.Prelude.{◌≡◌, ◌≢◌, ◌<◌, ◌≤◌, ℕ, Bool, ⊤, List, length, take, fold, All, slice_get, Option, Some, None}
+use Rattle.std.specs.Prelude.{◌≡◌, ◌≢◌, ◌<◌, ◌≤◌, ℕ, Bool, ⊤, List, length, take, fold, All, slice_get, Option, Some}
+use Rattle.std.specs.Prelude.{None}
 use Rattle.ilk_base.specs.declared.words.Op.{Op}
 use Rattle.station_graph.specs.Diagram.{Diagram}
 use Rattle.station_graph.specs.CentralRules.{wanted_end, carried_out, Breaks}

@@ -11,7 +11,8 @@ use station_graph::soundness_is_kept;
 /// An order undone gives the start: from a vector from which an order is accepted, its steps and then the
 /// steps of the order undone lead back to that vector, and no step of the order undone is idle.
 pub fn undone_gives_start()
-    ensures start { (d : Diagram) (v : List Bool) (ops : List Op) → IsAccepted d v ops → after_all (after_all v ops) (undone ops) ≡ v }
+    ensures start { (d : Diagram) (v : List Bool) (ops : List Op) → IsAccepted d v ops →
+        after_all (after_all v ops) (undone ops) ≡ v }
     ensures never_idle { (d : Diagram) (v : List Bool) (ops : List Op) → IsAccepted d v ops
         → (k : ℕ) (op : Op) → slice_get (undone ops) k ≡ Some op → ¬ IsIdle (after_all (after_all v ops) (take k (undone ops))) op }
 {}

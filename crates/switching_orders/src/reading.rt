@@ -5,14 +5,11 @@ ghost use Rattle.switching_orders.specs.OrderLines.{IsOrder, IsOrderFault};
 ghost use Rattle.switching_orders.specs.OrderFaults.{ForRefused};
 
 use crate::order::{MOST_STEPS, Order};
-use ilk_base::{InputRefusal, Memory};
+use ilk_base::{FILE_BYTES, InputRefusal, Memory};
 use operation_lines::read_operation;
 use station_graph::Station;
 use std::alloc::{AllocFailed, Global};
 use text_lines::Lines;
-
-// The most bytes that an order may have.
-const MOST_BYTES: usize = 8_388_608;
 
 /// Why a text gave no order.
 #[derive(Clone, Copy, Debug, PartialEq, Eq)]
@@ -52,7 +49,7 @@ pub fn read_order(alloc: Global, station: &Station, bytes: &[u8]) -> Result<Orde
     ensures switches { IfOk result (AreOperations station.now) }
     ensures err { IfErr result (λ e. ForRefused e (IsOrderFault station.now bytes.now)) }
 {
-    if bytes.len() > MOST_BYTES {
+    if bytes.len() > FILE_BYTES {
         return refused(5, 0);
     }
     let mut steps = Vec::new(alloc);

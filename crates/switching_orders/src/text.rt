@@ -1,5 +1,6 @@
 //! The text of `order`.
-ghost use Rattle.std.specs.Prelude.{◌≡◌, ◌<◌, ◌≤◌, ◌++◌, ◌+◌, length, take, slice_get, codes, decimal, Some, None, IfOk, OnOk};
+ghost use Rattle.std.specs.Prelude.{◌≡◌, ◌<◌, ◌≤◌, ◌++◌, ◌+◌, length, take, slice_get, codes, decimal, Some, None};
+ghost use Rattle.std.specs.Prelude.{IfOk, OnOk};
 ghost use Rattle.station_graph.specs.CentralRules.{IsOperation};
 ghost use Rattle.switching_orders.specs.OrderRuling.{after_all, IsRuling, AreOperations};
 ghost use Rattle.switching_orders.specs.Undoing.{undone};

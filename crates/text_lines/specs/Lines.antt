@@ -1,7 +1,8 @@
 -- The lines of a text in bytes, and which of them are not empty. What a line is, is said by `lines` of the
 -- standard library: a line ends with LF or CR LF, the last may end with the text, and a CR is part of the
 -- end only before LF.
-use Rattle.std.specs.Prelude.{◌≡◌, ◌≢◌, ℕ, ◌+◌, ◌-◌, ◌++◌, Bool, true, false, List, [], ◌∷◌, filter, length, slice_get, Some}
+use Rattle.std.specs.Prelude.{◌≡◌, ◌≢◌, ℕ, ◌+◌, ◌-◌, ◌++◌, Bool, true, false, List, [], ◌∷◌, filter, length, slice_get}
+use Rattle.std.specs.Prelude.{Some}
 use Rattle.std.specs.List.{enumerate_from}
 use Rattle.std.specs.Str.Lines.{lines}
 

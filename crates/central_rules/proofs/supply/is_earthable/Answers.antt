@@ -10,6 +10,8 @@ returns c =
     let w = with_breakers_closed d v in
     let station = c.closed_in_class.ensures.station in
     let answer = c.closed_in_class.ensures.answer in (
-      λ e. joined_from_closed d station w v c.args.coupled.now c.requires.coupled Earthing c.args.node.0 c.requires.node (answer.0 e),
-      λ e. answer.1 (closed_from_joined d station w v c.args.coupled.now c.requires.coupled Earthing c.args.node.0 c.requires.node e),
+      λ e. joined_from_closed d station w v c.args.coupled.now c.requires.coupled Earthing c.args.node.0 c.requires.node
+        (answer.0 e),
+      λ e. answer.1 (closed_from_joined d station w v c.args.coupled.now c.requires.coupled Earthing c.args.node.0
+        c.requires.node e),
     )

@@ -7,7 +7,8 @@ invariant-loop-made l = record {
   layer : 0 < length l.builder.layers;
   within : l.made ≤ l.count;
   counted : node_count l.builder ≡ node_count l.initial.builder + l.made;
-  shaped : (labels : ℕ) (cs ns : List ℕ) → IsShaped l.initial.builder labels cs (ns ++ 0 ∷ []) → IsShaped l.builder labels cs (ns ++ l.made ∷ []);
+  shaped : (labels : ℕ) (cs ns : List ℕ) → IsShaped l.initial.builder labels cs (ns ++ 0 ∷ []) →
+    IsShaped l.builder labels cs (ns ++ l.made ∷ []);
   bare : IsBare l.initial.builder → IsBare l.builder;
 }
 

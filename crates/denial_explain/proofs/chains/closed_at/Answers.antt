@@ -2,7 +2,8 @@ use Rattle.std.proofs.Common.{◌≡◌, arith, refl, rules}
 use Rattle.std.proofs.lemmas.Option.{slice_get_within}
 use Rattle.denial_explain.proofs.EndLemmas.{closed_later}
 use Rattle.denial_explain.proofs.chains.closed_at.Goals as goal
-use Rattle.denial_explain.proofs.chains.closed_at.Goals.{else-eq-via-then-eq+then-closed+else-eq-2, else-eq-via-then-eq+else-closed, else-eq-via-else-eq}
+use Rattle.denial_explain.proofs.chains.closed_at.Goals.{else-eq-via-then-eq+then-closed+else-eq-2}
+use Rattle.denial_explain.proofs.chains.closed_at.Goals.{else-eq-via-then-eq+else-closed, else-eq-via-else-eq}
 
 pub returns-then-eq-2-clause-at : goal.returns-then-eq-2-clause-at
 returns-then-eq-2-clause-at c =
@@ -22,7 +23,8 @@ returns-then-eq-2-clause-at c =
 
 pub loop-i-preserved : goal.loop-i-preserved
 loop-i-preserved c =
-    closed_later c.args.station.now c.args.vector.now c.args.kind c.loop-i.i c.args.node.0 c.switch-switch.result c.switch-switch.ensures.value
+    closed_later c.args.station.now c.args.vector.now c.args.kind c.loop-i.i c.args.node.0 c.switch-switch.result
+      c.switch-switch.ensures.value
     (λ is_kind closed stands. elim c.else-eq.branch [
       | else-eq-via-then-eq+then-closed+else-eq-2 w ↦ search rules
       | else-eq-via-then-eq+else-closed w ↦ cc (closed, w.if-closed.ensures)
@@ -33,4 +35,5 @@ loop-i-preserved c =
 pub unreachable-requires : goal.unreachable-requires
 unreachable-requires c =
     let there = c.requires.there in
-    omega (arith, c.loop-i.invariant there, slice_get_within c.args.station.now.switches there.number there.switch there.listed)
+    omega (arith, c.loop-i.invariant there, slice_get_within c.args.station.now.switches there.number there.switch
+      there.listed)

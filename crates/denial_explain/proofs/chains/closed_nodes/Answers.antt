@@ -1,7 +1,8 @@
 use Rattle.std.proofs.Common.{◌≡◌, arith, rules}
 use Rattle.denial_explain.proofs.EndLemmas.{gathers_closed, passes_other, closed_exact}
 use Rattle.denial_explain.proofs.chains.closed_nodes.Goals as goal
-use Rattle.denial_explain.proofs.chains.closed_nodes.Goals.{then-eq+then-closed+in_ok-push, else-eq, else-eq-via-then-eq+else-closed, else-eq-via-else-eq}
+use Rattle.denial_explain.proofs.chains.closed_nodes.Goals.{then-eq+then-closed+in_ok-push, else-eq}
+use Rattle.denial_explain.proofs.chains.closed_nodes.Goals.{else-eq-via-then-eq+else-closed, else-eq-via-else-eq}
 
 pub loop-i-preserved : goal.loop-i-preserved
 loop-i-preserved c =
@@ -27,4 +28,5 @@ loop-i-preserved c =
 
 pub returns-clause-exact : goal.returns-clause-exact
 returns-clause-exact c =
-    closed_exact c.args.station.now c.args.vector.now c.args.kind c.loop-i.i c.loop-i.nodes (omega arith) c.loop-i.invariant
+    closed_exact c.args.station.now c.args.vector.now c.args.kind c.loop-i.i c.loop-i.nodes (omega arith)
+      c.loop-i.invariant

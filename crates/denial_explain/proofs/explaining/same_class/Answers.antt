@@ -8,7 +8,8 @@ loop-i-preserved c =
     let P : ℕ → Type 0 = λ n. slice_index c.args.labels.now n ≡ c.get-class.result.0 in
     elim c.if-eq.branch [
       | then-eq+in_ok-push w ↦
-          rw (w.nodes-is, w.in_ok-push.ensures.ok) (Picks-push P c.loop-i.i c.loop-i.nodes c.loop-i.invariant (search rules))
+          rw (w.nodes-is, w.in_ok-push.ensures.ok) (Picks-push P c.loop-i.i c.loop-i.nodes c.loop-i.invariant
+            (search rules))
       | else-eq w ↦ rw w.nodes-is (Picks-pass P c.loop-i.i c.loop-i.nodes c.loop-i.invariant (search rules))
     ]
 

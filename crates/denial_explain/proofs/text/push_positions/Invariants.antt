@@ -4,4 +4,5 @@ use Rattle.denial_explain.specs.ExplanationText.{position_at}
 use Rattle.denial_explain.proofs.text.push_positions.Given as goal
 
 abbrev pub invariant-loop-i : goal.invariant-loop-i
-invariant-loop-i l = l.text ≡ l.initial.text ++ texts_below (position_at l.head l.moved.0 l.readings l.reading l.station) l.i
+invariant-loop-i l = l.text ≡ l.initial.text ++ texts_below (position_at l.head l.moved.0 l.readings l.reading
+  l.station) l.i

@@ -1,4 +1,5 @@
 use Rattle.std.proofs.Common.{◌≡◌, ◌<◌, ◌≤◌, ℕ, length, map, take, drop, None}
+use Rattle.ilk_base.specs.declared.limits.TheConstants.{FILE_BYTES}
 use Rattle.double_points.specs.Rows.{rows_of}
 use Rattle.double_points.specs.Positions.{given, fault_at, HaveWords}
 use Rattle.double_points.proofs.positions.read_positions.Given as goal
@@ -7,7 +8,7 @@ abbrev pub invariant-loop-found : goal.invariant-loop-found
 invariant-loop-found l =
     let all = rows_of l.bytes in
     record {
-      short : length l.bytes ≤ 8388608;
+      short : length l.bytes ≤ FILE_BYTES;
       few : length all ≤ length l.bytes;
       within : l.line ≤ length all;
       rest : l.rows ≡ drop l.line all;

@@ -5,4 +5,5 @@ use Rattle.equation_audit.specs.Findings.{IsStrictAt}
 use Rattle.equation_audit.proofs.auditing.find_strict.Given as goal
 
 abbrev pub invariant-loop-number : goal.invariant-loop-number
-invariant-loop-number g l = (k : ℕ) → k < l.number → ¬ IsStrictAt l.station l.block (placed (replicate (length l.station.switches) false) l.block-inside.own.items k)
+invariant-loop-number g l = (k : ℕ) → k < l.number →
+  ¬ IsStrictAt l.station l.block (placed (replicate (length l.station.switches) false) l.block-inside.own.items k)

@@ -2,7 +2,7 @@ use Rattle.std.proofs.Common.{◌≡◌, ◌≤◌, length}
 use Rattle.std.specs.Prelude.{flat_map}
 use Rattle.std.specs.Str.Lines.{lines}
 use Rattle.text_lines.specs.Lines.{filled_lines, filled_left, line_count}
-use Rattle.equation_audit.specs.declared.reading.TheConstants.{MOST_BYTES}
+use Rattle.ilk_base.specs.declared.limits.TheConstants.{FILE_BYTES}
 use Rattle.equation_audit.specs.Equations.{AreOfStation}
 use Rattle.equation_audit.specs.BlockLines.{whole, OneEach, AllFew}
 use Rattle.equation_audit.proofs.RestLemmas.{HasSaid}
@@ -11,7 +11,7 @@ use Rattle.equation_audit.proofs.reading.read_blocks.Given as goal
 abbrev pub invariant-loop-number : goal.invariant-loop-number
 invariant-loop-number l =
     record {
-      short : length l.bytes ≤ MOST_BYTES;
+      short : length l.bytes ≤ FILE_BYTES;
       said : HasSaid l.station (filled_lines l.bytes) (filled_left l.lines) (flat_map whole l.blocks.items);
       one_each : OneEach l.blocks.items;
       few : AllFew l.blocks.items;

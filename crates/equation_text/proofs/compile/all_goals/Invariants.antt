@@ -1,11 +1,12 @@
 use Rattle.std.proofs.Common.{List}
 use Rattle.equation_text.specs.EquationLines.{PartLines}
-use Rattle.equation_text.specs.Compiling.{AreExactParts, AreGoalsOf, AreFew}
+use Rattle.equation_text.specs.Compiling.{AreExactParts, AreGoalsOf}
+use Rattle.equation_text.specs.Apart.{StandApart}
 use Rattle.equation_text.proofs.compile.all_goals.Given as goal
 
 abbrev pub invariant-loop-i : goal.invariant-loop-i
 invariant-loop-i l =
     record {
       goals : (parts : List PartLines) → AreExactParts l.judge.diagram l.judge.alphabets parts → AreGoalsOf l.judge.diagram parts l.nodes.items l.i l.ops.items;
-      few : AreFew l.judge l.i l.nodes.items;
+      apart : (parts : List PartLines) → AreExactParts l.judge.diagram l.judge.alphabets parts → StandApart l.judge l.i l.ops.items l.nodes.items;
     }

@@ -1,7 +1,10 @@
-use Rattle.std.proofs.Common.{◌∙◌, List, length, sym, ap, subst, arith}
+use Rattle.std.proofs.Common.{◌∙◌, List, length, map, refl, sym, ap, subst}
 use Rattle.equation_text.specs.EquationLines.{NodeLine}
 use Rattle.equation_text.specs.EquationForm.{OpsFit}
+use Rattle.equation_text.specs.Growing.{turned_goals}
+use Rattle.equation_text.specs.NodeCount.{HaveFewNodes}
 use Rattle.equation_text.proofs.CompileLemmas.{parts_exact, parts_of, goals_within, compiled}
+use Rattle.equation_text.proofs.ReachedLemmas.{few_nodes}
 use Rattle.equation_text.proofs.compile.compile_equations.Goals as goal
 
 pub turned_ops-ops-requires : goal.turned_ops-ops-requires
@@ -35,7 +38,9 @@ invariant_of-result c =
     let are = parts_of d c.station.result.now a c.parts.result.now parts c.station.ensures.value c.parts.ensures.value c.in_ok-parts.ensures in
     let goals = c.in_ok-goals.ensures.goals parts (parts_exact d a parts c.parts.ensures.alphabets are) in
     let total = ap (λ (ns : List NodeLine). length ns) (sym c.deref.ensures.value) ∙ c.in_ok-total.ensures in
-    (compiled d a parts c.all_goals.new.nodes.items c.in_ok-lines.lines.items c.in_ok-goals.goals.items c.turned_ops-ops.result.items c.in_ok-total.total c.parts.ensures.alphabets are goals c.in_ok-lines.ensures total c.turned_ops-ops.ensures).whole
+    let apart = c.in_ok-goals.ensures.apart parts (parts_exact d a parts c.parts.ensures.alphabets are) in
+    let few : HaveFewNodes d (record { parts = parts; ops = map (turned_goals (length c.all_goals.new.nodes.items)) c.in_ok-goals.goals.items; nodes = c.in_ok-lines.lines.items }) = λ b edges has. few_nodes c.args.judge.now c.in_ok-goals.goals.items c.all_goals.new.nodes.items c.in_ok-lines.lines.items (length d.switches) apart goals.count (length d.switches) parts goals.grew c.in_ok-lines.ensures refl b edges has in
+    (compiled d a parts c.all_goals.new.nodes.items c.in_ok-lines.lines.items c.in_ok-goals.goals.items c.turned_ops-ops.result.items c.in_ok-total.total c.parts.ensures.alphabets are goals c.in_ok-lines.ensures total c.turned_ops-ops.ensures few).whole
 
 pub returns : goal.returns
 returns c =
@@ -45,5 +50,7 @@ returns c =
     let are = parts_of d c.station.result.now a c.parts.result.now parts c.station.ensures.value c.parts.ensures.value c.in_ok-parts.ensures in
     let goals = c.in_ok-goals.ensures.goals parts (parts_exact d a parts c.parts.ensures.alphabets are) in
     let total = ap (λ (ns : List NodeLine). length ns) (sym c.deref.ensures.value) ∙ c.in_ok-total.ensures in
-    let x = compiled d a parts c.all_goals.new.nodes.items c.in_ok-lines.lines.items c.in_ok-goals.goals.items c.turned_ops-ops.result.items c.in_ok-total.total c.parts.ensures.alphabets are goals c.in_ok-lines.ensures total c.turned_ops-ops.ensures in
-    record { of_station = x.equations; exact = x.exact; steps = x.steps; nodes = omega (arith, c.in_ok-lines.ensures.count, c.in_ok-goals.ensures.few) }
+    let apart = c.in_ok-goals.ensures.apart parts (parts_exact d a parts c.parts.ensures.alphabets are) in
+    let few : HaveFewNodes d (record { parts = parts; ops = map (turned_goals (length c.all_goals.new.nodes.items)) c.in_ok-goals.goals.items; nodes = c.in_ok-lines.lines.items }) = λ b edges has. few_nodes c.args.judge.now c.in_ok-goals.goals.items c.all_goals.new.nodes.items c.in_ok-lines.lines.items (length d.switches) apart goals.count (length d.switches) parts goals.grew c.in_ok-lines.ensures refl b edges has in
+    let x = compiled d a parts c.all_goals.new.nodes.items c.in_ok-lines.lines.items c.in_ok-goals.goals.items c.turned_ops-ops.result.items c.in_ok-total.total c.parts.ensures.alphabets are goals c.in_ok-lines.ensures total c.turned_ops-ops.ensures few in
+    record { of_station = x.equations; exact = x.exact; steps = x.steps; nodes = x.nodes }

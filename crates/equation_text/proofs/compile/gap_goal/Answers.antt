@@ -6,8 +6,10 @@ use Rattle.release_compile.specs.Lettered.{AreLettered}
 use Rattle.release_compile.specs.Judging.{ground, bay_at}
 use Rattle.equation_text.specs.declared.goal.Goal.{Goal}
 use Rattle.equation_text.specs.Growing.{AreGoals}
-use Rattle.equation_text.specs.Compiling.{ViewLeads}
+use Rattle.equation_text.specs.Apart.{AreFrom}
+use Rattle.equation_text.specs.Compiling.{ViewLeads, inner_total}
 use Rattle.equation_text.proofs.GrowingLemmas.{triple_fits}
+use Rattle.equation_text.proofs.ApartLemmas.{triple_from}
 use Rattle.equation_text.proofs.ReadyLemmas.{gap_ready, own_bay_of, is_bay, bay_in, switch_in, view_fits, view_has, view_leads}
 use Rattle.equation_text.proofs.compile.gap_goal.Goals as goal
 
@@ -51,10 +53,13 @@ returns-clause-grew c = λ parts exact free_fit grew.
     let fit = subst (λ (ends : List Goal). AreGoals (length c.args.nodes.now.items) ends) (sym c.in_ok-ends.ensures) (triple_fits (length c.args.nodes.now.items) c.args.free (Some R1) (Some R2) free_fit) in
     c.in_ok-goal.ensures.grew (length j.diagram.switches) parts has.others has.own fit grew
 
+pub returns-clause-apart : goal.returns-clause-apart
+returns-clause-apart c = λ lo le free all. c.in_ok-goal.ensures.apart lo le (subst (λ (ends : List Goal). AreFrom lo ends) (sym c.in_ok-ends.ensures) (triple_from lo c.args.free (Some R1) (Some R2) free)) all
+
 pub returns-clause-few : goal.returns-clause-few
 returns-clause-few c =
     let j = c.args.judge.now in
     let here = own_bay_of j.diagram c.args.id.0 c.args.own.bay.0 c.args.own.first.0 c.args.own.count c.requires in
-    let inner = ap node_total c.inner_gap-inner.ensures.value in
+    let inner = ap inner_total c.inner_gap-inner.ensures.value in
     let outer = ap node_total (c.outer_gap-outer.ensures.value ∙ ap (λ n. (bay_at j n).gap.outer) (sym here)) in
     omega (arith, c.in_ok-goal.ensures.few, inner, outer)

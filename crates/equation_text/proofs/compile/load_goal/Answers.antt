@@ -6,8 +6,10 @@ use Rattle.release_compile.specs.Lettered.{AreLettered}
 use Rattle.release_compile.specs.Judging.{ground, bay_at}
 use Rattle.equation_text.specs.declared.goal.Goal.{Goal}
 use Rattle.equation_text.specs.Growing.{AreGoals}
-use Rattle.equation_text.specs.Compiling.{ViewLeads}
+use Rattle.equation_text.specs.Apart.{AreFrom}
+use Rattle.equation_text.specs.Compiling.{ViewLeads, inner_total}
 use Rattle.equation_text.proofs.GrowingLemmas.{pair_fits}
+use Rattle.equation_text.proofs.ApartLemmas.{pair_from}
 use Rattle.equation_text.proofs.ReadyLemmas.{load_ready, own_bay_of, is_bay, bay_in, switch_in, view_fits, view_has, view_leads}
 use Rattle.equation_text.proofs.compile.load_goal.Goals as goal
 
@@ -51,10 +53,13 @@ returns-clause-grew c = λ parts exact grew.
     let fit = subst (λ (ends : List Goal). AreGoals (length c.args.nodes.now.items) ends) (sym c.in_ok-ends.ensures) (pair_fits (length c.args.nodes.now.items) None (Some R3)) in
     c.in_ok-goal.ensures.grew (length j.diagram.switches) parts has.others has.own fit grew
 
+pub returns-clause-apart : goal.returns-clause-apart
+returns-clause-apart c = λ lo le all. c.in_ok-goal.ensures.apart lo le (subst (λ (ends : List Goal). AreFrom lo ends) (sym c.in_ok-ends.ensures) (pair_from lo None (Some R3))) all
+
 pub returns-clause-few : goal.returns-clause-few
 returns-clause-few c =
     let j = c.args.judge.now in
     let here = own_bay_of j.diagram c.args.id.0 c.args.own.bay.0 c.args.own.first.0 c.args.own.count c.requires in
-    let inner = ap node_total c.inner_load-inner.ensures.value in
+    let inner = ap inner_total c.inner_load-inner.ensures.value in
     let outer = ap node_total (c.outer_load-outer.ensures.value ∙ ap (λ n. (bay_at j n).load.outer) (sym here)) in
     omega (arith, c.in_ok-goal.ensures.few, inner, outer)

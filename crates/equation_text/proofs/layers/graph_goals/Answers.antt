@@ -3,8 +3,10 @@ use Rattle.decision_graphs.specs.Label.{size_at, first_at, layer_at}
 use Rattle.equation_text.specs.declared.goal.Goal.{Goal}
 use Rattle.equation_text.specs.Subjects.{HasChoices}
 use Rattle.equation_text.specs.Growing.{AreGoals, AllLead}
+use Rattle.equation_text.specs.Apart.{AreFrom}
 use Rattle.equation_text.proofs.GraphFacts.{size_last, size_within, first_more}
 use Rattle.equation_text.proofs.GrowingLemmas.{extends_same, extends_all, graph_none, graph_step}
+use Rattle.equation_text.proofs.ApartLemmas.{longer}
 use Rattle.equation_text.proofs.layers.graph_goals.Goals as goal
 
 pub loop-layer-init : goal.loop-layer-init
@@ -18,6 +20,7 @@ loop-layer-init c =
       count = c.requires.ends ∙ sym (ap (size_at g.labels g.layers) n ∙ size_last g.labels g.layers);
       leads = subst (λ (k : ℕ). AllLead c.args.nodes.now.items c.args.subjects g k c.args.ends.items c.args.ends.items) (sym n) (graph_none c.args.nodes.now.items c.args.subjects g c.args.ends.items);
       grew = λ switches parts has fit grew. (grew, fit);
+      apart = λ lo le goals all. (all, goals);
       few = omega (arith, ap (first_at g.layers) n);
     }
 
@@ -42,6 +45,9 @@ loop-layer-preserved c =
           let before = inv.grew switches parts has fit grew in
           let here = subst (λ s. HasChoices switches parts s (layer_at g.layers (c.loop-layer.layer - 1)).choices) (sym c.at-subject.ensures) (has (c.loop-layer.layer - 1) (omega (arith, c.loop-layer-test.true)) j_in) in
           made.grew switches parts here (subst (λ (goals : List Goal). AreGoals (length old) goals) (sym same) before.1) before.0;
+      apart = λ lo le goals all.
+          let before = inv.apart lo le goals all in
+          made.apart lo (omega (arith, le, longer c.args.nodes.now.items old inv.extends)) (subst (λ (goals : List Goal). AreFrom lo goals) (sym same) before.1) before.0;
       few =
           let more = first_more g.layers (c.loop-layer.layer - 1) j_in in
           omega (arith, inv.few, made.few, more, ap (first_at g.layers) above);

@@ -3,6 +3,7 @@ use Rattle.std.proofs.lemmas.List.{length_push}
 use Rattle.decision_graphs.specs.Label.{layer_at}
 use Rattle.equation_text.specs.Subjects.{HasChoices}
 use Rattle.equation_text.proofs.GrowingLemmas.{extends_all, layer_more, goals_push, goals_stay, row_goals_fit}
+use Rattle.equation_text.proofs.ApartLemmas.{longer, row_from, from_push}
 use Rattle.equation_text.proofs.layers.layer_goals.Goals as goal
 
 pub loop-node-preserved : goal.loop-node-preserved
@@ -25,5 +26,9 @@ loop-node-preserved c =
           let row_has = subst (λ n. HasChoices switches parts c.args.subject n) (sym is.count) has in
           let after = by.grew switches parts row_has row_fit before.0 in
           (after.0, goals_push (length now) c.loop-node.goals.items _ c.in_ok-goal.goal pushed (goals_stay old now c.loop-node.goals.items by.extends before.1) after.1);
+      apart = λ lo le goals all.
+          let before = inv.apart lo le goals all in
+          let after = by.apart lo (omega (arith, le, longer c.args.nodes.now.items old inv.extends)) (row_from lo c.args.graph.now c.args.layer c.loop-node.node c.args.next.now row is goals) before.0 in
+          (after.0, from_push lo c.loop-node.goals.items _ c.in_ok-goal.goal pushed before.1 after.1);
       few = omega (arith, inv.few, by.few);
     }

@@ -2,6 +2,7 @@ use Rattle.std.proofs.Common.{◌≡◌, ◌≤◌, ◌+◌, ℕ, List, length}
 use Rattle.decision_graphs.specs.Label.{layer_at}
 use Rattle.equation_text.specs.EquationLines.{PartLines}
 use Rattle.equation_text.specs.Subjects.{HasChoices}
+use Rattle.equation_text.specs.Apart.{AreFrom, AllFrom}
 use Rattle.equation_text.specs.Growing.{Extends, AreGoals, AllGrew, LayerLeads}
 use Rattle.equation_text.proofs.layers.layer_goals.Given as goal
 
@@ -12,5 +13,6 @@ invariant-loop-node l =
       count : length l.goals.items ≡ l.node;
       leads : LayerLeads l.nodes.items l.subject (layer_at l.graph.layers l.layer) l.next l.goals.items;
       grew : (switches : ℕ) (parts : List PartLines) → HasChoices switches parts l.subject (layer_at l.graph.layers l.layer).choices → AreGoals (length l.fn.nodes.items) l.next → AllGrew switches parts l.fn.nodes.items → AllGrew switches parts l.nodes.items × AreGoals (length l.nodes.items) l.goals.items;
+      apart : (lo : ℕ) → lo ≤ length l.fn.nodes.items → AreFrom lo l.next → AllFrom lo l.fn.nodes.items → AllFrom lo l.nodes.items × AreFrom lo l.goals.items;
       few : length l.nodes.items ≤ length l.fn.nodes.items + l.node;
     }

@@ -1,12 +1,22 @@
-use Rattle.std.proofs.Common.{◌∙◌, List, length, sym, ap, inr}
+use Rattle.std.proofs.Common.{◌∙◌, List, length, sym, ap, inr, arith}
 use Rattle.std.specs.Prelude.{slice_get}
 use Rattle.equation_text.specs.declared.goal.Goal.{Goal}
 use Rattle.equation_text.specs.EquationLines.{NodeLine}
 use Rattle.equation_text.proofs.GrowingLemmas.{extends_push, new_leads, new_within, grew_push}
+use Rattle.equation_text.proofs.ApartLemmas.{nodes_push}
 use Rattle.equation_text.proofs.rows.goal_by.Goals as goal
 
 pub returns-in-Some-clause-grew : goal.returns-in-Some-clause-grew
 returns-in-Some-clause-grew c = λ switches parts has fit grew. (grew, fit 0 c.in-Some.goal (ap (λ (goals : List Goal). slice_get goals 0) (sym c.deref.ensures.value) ∙ c.in-Some.ensures.first))
+
+pub returns-in-Some-clause-apart : goal.returns-in-Some-clause-apart
+returns-in-Some-clause-apart c = λ lo le goals all. (all, goals 0 c.in-Some.goal (ap (λ (goals : List Goal). slice_get goals 0) (sym c.deref.ensures.value) ∙ c.in-Some.ensures.first))
+
+pub returns-clause-apart : goal.returns-clause-apart
+returns-clause-apart c = λ lo le goals all. (
+  nodes_push lo c.args.nodes.now.items c.push.new.self.items c.node_of.result c.in_ok-push.ensures.items all (c.node_of.ensures.apart lo goals),
+  omega (arith, le, c.in_ok-number.ensures ∙ ap (λ (ns : List NodeLine). length ns) c.deref-2.ensures.value),
+)
 
 pub returns-clause-extends : goal.returns-clause-extends
 returns-clause-extends c = extends_push c.args.nodes.now.items c.push.new.self.items c.node_of.result c.in_ok-push.ensures.items

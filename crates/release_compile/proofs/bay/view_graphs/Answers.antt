@@ -1,4 +1,4 @@
-use Rattle.std.proofs.Common.{◌≡◌, ◌∙◌, ◌-◌, suc, ℕ, List, refl, sym, ap, subst, slice_get, Some, arith}
+use Rattle.std.proofs.Common.{◌≡◌, ◌∙◌, ◌-◌, suc, ℕ, List, Vec, Global, map, refl, sym, ap, subst, slice_get, Some, arith}
 use Rattle.std.proofs.lemmas.Option.{slice_get_read}
 use Rattle.contraction.specs.Answers.{Answers}
 use Rattle.release_compile.specs.declared.pool.Pool.{Pool}
@@ -10,6 +10,9 @@ use Rattle.release_compile.specs.Counted.{OuterHas, SwitchesHave, Spends, Passes
 use Rattle.release_compile.specs.Built.{AreInner}
 use Rattle.release_compile.proofs.BayEdges.{view_spends, outer_view_passes, inner_view_passes}
 use Rattle.release_compile.proofs.ErrorLemmas.{passed_on}
+use Rattle.release_compile.proofs.LayeringLemmas.{grew_more}
+use Rattle.release_compile.proofs.InputsLemmas.{letters_stay}
+use Rattle.release_compile.proofs.NotingLemmas.{right_stays}
 use Rattle.release_compile.proofs.bay.view_graphs.Goals as goal
 
 pub inner_graphs-requires-clause-shared : goal.inner_graphs-requires-clause-shared
@@ -18,6 +21,24 @@ inner_graphs-requires-clause-shared c n =
     let row : List ℕ = c.index-shared-place.result in
     let here : slice_get c.args.shared.now b ≡ Some row = ap (slice_get c.args.shared.now) (sym c.from-place.ensures) ∙ slice_get_read c.args.shared.now _ c.from-place.result row refl (omega (arith, c.from-place.ensures, c.requires.bay, c.requires.shared.count)) c.index-shared-place.is in
     c.requires.shared.each b row here n
+
+pub outer_graph-requires-clause-letters : goal.outer_graph-requires-clause-letters
+outer_graph-requires-clause-letters c = rw c.deref.ensures.value c.requires.stock.letters
+
+pub returns-clause-stock : goal.returns-clause-stock
+returns-clause-stock c =
+    let a : Lettered = lettered c.args.station.now c.args.parts.now in
+    let p0 : Pool = c.args.stock.now.pool in
+    let p1 : Pool = c.outer_graph.new.pool in
+    let p2 : Pool = c.inner_graphs.new.pool in
+    let g1 = c.in_ok-outer.ensures.grew in
+    let g2 = c.in_ok-inners.ensures.grew in
+    record {
+      pool = g2.is_pool;
+      of_view = g2.view ∙ (g1.view ∙ c.requires.stock.of_view);
+      letters = letters_stay p0 p2 (grew_more p0 p1 p2 g1 g2) a (map (λ (v : Vec ℕ Global). v.items) c.args.stock.now.letters.items) (part_count c.args.station.now) c.requires.stock.letters;
+      last = right_stays p1 p2 g2 c.outer_graph.new.last c.in_ok-outer.ensures.last;
+    }
 
 pub returns-clause-graphs : goal.returns-clause-graphs
 returns-clause-graphs c =
@@ -28,8 +49,8 @@ returns-clause-graphs c =
     let count = c.args.count in
     let p1 : Pool = c.outer_graph.new.pool in
     let names : List Answers = values_at p1.values.items c.in_ok-outer.outer.names.items in
-    let view0 = c.new-pool.ensures.view in
-    let inner = rw c.deref.ensures.value at (c.in_ok-inners.ensures.inner c.args.parts.now) in
+    let view0 = c.requires.stock.of_view in
+    let inner = rw c.deref-2.ensures.value at (c.in_ok-inners.ensures.inner c.args.parts.now) in
     record {
       names = names;
       outer = subst (λ w. IsOuter w a b c.in_ok-outer.outer.graph names) view0 c.in_ok-outer.ensures.outer;
@@ -44,7 +65,7 @@ returns-clause-spent c =
     let b = c.args.bay.0 in
     let first = c.args.first in
     let count = c.args.count in
-    let view0 = c.new-pool.ensures.view in
+    let view0 = c.requires.stock.of_view in
     let others : ℕ = c.part_count-others.result - 1 in
     let e : suc others ≡ part_count d = omega (arith, c.requires.bay, c.part_count-others.ensures.count) in
     let outer = subst (λ w. Spends (OuterHas w d b others) d c.args.left c.in_ok-outer.outer.left) view0 c.in_ok-outer.ensures.spent in
@@ -57,7 +78,7 @@ returns-in_err-outer-clause-wide c = passed_on _ _ c.from_residual.result c.from
     let b = c.args.bay.0 in
     let others : ℕ = c.part_count-others.result - 1 in
     let e : suc others ≡ part_count d = omega (arith, c.requires.bay, c.part_count-others.ensures.count) in
-    outer_view_passes c.args.view d b c.args.first c.args.count others e c.args.left (subst (λ w. Passes (OuterHas w d b others) d c.args.left) c.new-pool.ensures.view (c.in_err-outer.ensures.wide (sym same ∙ is))))
+    outer_view_passes c.args.view d b c.args.first c.args.count others e c.args.left (subst (λ w. Passes (OuterHas w d b others) d c.args.left) c.requires.stock.of_view (c.in_err-outer.ensures.wide (sym same ∙ is))))
 
 pub returns-in_err-inners-clause-wide : goal.returns-in_err-inners-clause-wide
 returns-in_err-inners-clause-wide c = passed_on _ _ c.from_residual-in_err-inners.result c.from_residual-in_err-inners.ensures.1 (λ trouble same is.
@@ -65,7 +86,7 @@ returns-in_err-inners-clause-wide c = passed_on _ _ c.from_residual-in_err-inner
     let b = c.args.bay.0 in
     let first = c.args.first in
     let count = c.args.count in
-    let view0 = c.new-pool.ensures.view in
+    let view0 = c.requires.stock.of_view in
     let others : ℕ = c.part_count-others.result - 1 in
     let e : suc others ≡ part_count d = omega (arith, c.requires.bay, c.part_count-others.ensures.count) in
     let outer = subst (λ w. Spends (OuterHas w d b others) d c.args.left c.in_ok-outer.outer.left) view0 c.in_ok-outer.ensures.spent in

@@ -1,11 +1,22 @@
-use Rattle.std.proofs.Common.{◌≡◌, ◌+◌, ◌-◌, Option, ◌++◌, ◌∷◌, [], List, map, sym, ap, ◌∙◌, subst, arith}
+use Rattle.std.proofs.Common.{◌≡◌, ◌+◌, ◌-◌, Option, ◌++◌, ◌∷◌, [], List, map, refl, sym, ap, ◌∙◌, subst, arith}
 use Rattle.std.proofs.lemmas.List.{map-append}
 use Rattle.release_compile.specs.Lettered.{Lettered, lettered}
 use Rattle.release_compile.specs.Built.{BayOf, AreBays}
 use Rattle.release_compile.specs.BuiltView.{seen_part}
-use Rattle.release_compile.proofs.BayLemmas.{bays_more}
+use Rattle.release_compile.proofs.BayLemmas.{bays_none, bays_more}
 use Rattle.release_compile.proofs.BayEdges.{keep_more, first_wide}
 use Rattle.release_compile.proofs.build.all_bays.Goals as goal
+
+pub loop-part-init : goal.loop-part-init
+loop-part-init c =
+    let a : Lettered = lettered c.args.station.now c.args.parts.now in
+    record {
+      gap = c.in_ok-gap.ensures;
+      load = c.in_ok-load.ensures;
+      spent = omega arith;
+      edges = record { each = []; len = refl; counted = λ part size at. cc; all = refl; few = omega arith };
+      bays = subst (λ bs. AreBays a (map seen_part bs) 0) (sym c.new-bays.ensures.items) (bays_none a);
+    }
 
 pub loop-part-preserved : goal.loop-part-preserved
 loop-part-preserved c =
@@ -14,6 +25,8 @@ loop-part-preserved c =
     let bays : List (Option BayOf) = map seen_part c.loop-part.bays.items in
     let items : map seen_part c.keep.new.bays.items ≡ bays ++ g ∷ [] = ap (map seen_part) c.in_ok-keep-in-Ok.ensures ∙ map-append seen_part c.loop-part.bays.items _ in
     record {
+      gap = c.in-Ok.ensures.gap;
+      load = c.in-Ok.ensures.load;
       spent = omega (arith, c.allowed-left.ensures.all, c.loop-part.invariant.spent);
       edges = keep_more c.args.station.now c.loop-part.part c.loop-part.spent (c.allowed-left.result - c.in-Ok.made.left) c.loop-part.invariant.edges c.in-Ok.ensures.spent (omega (arith, c.allowed-left.ensures.bay)) (omega (arith, c.allowed-left.ensures.all));
       bays = subst (λ (bs : List (Option BayOf)). AreBays a bs (c.loop-part.part + 1)) (sym items) (bays_more a bays c.loop-part.part g c.loop-part.invariant.bays c.in-Ok.ensures.graphs);

@@ -3,10 +3,14 @@ use Rattle.release_compile.specs.Lettered.{lettered}
 use Rattle.release_compile.specs.Built.{AreBays}
 use Rattle.release_compile.specs.Judging.{KeepEdges}
 use Rattle.release_compile.specs.BuiltView.{seen_part}
+use Rattle.release_compile.specs.Stocking.{IsStock}
+use Rattle.release_compile.specs.declared.view.View.TheVariants.{Gap, Load}
 use Rattle.release_compile.proofs.build.all_bays.Given as goal
 
 abbrev pub invariant-loop-part : goal.invariant-loop-part
 invariant-loop-part l = record {
+  gap : IsStock (lettered l.station l.parts) Gap l.gap;
+  load : IsStock (lettered l.station l.parts) Load l.load;
   spent : l.spent ≤ 80000000;
   edges : KeepEdges l.station l.part l.spent;
   bays : AreBays (lettered l.station l.parts) (map seen_part l.bays.items) l.part;

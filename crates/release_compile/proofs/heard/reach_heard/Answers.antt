@@ -1,4 +1,4 @@
-use Rattle.std.proofs.Common.{◌-◌, suc, arith}
+use Rattle.std.proofs.Common.{◌-◌, suc, inl, inr, arith}
 use Rattle.release_compile.specs.declared.view.View.TheVariants.{Gap, Load}
 use Rattle.release_compile.specs.Lettered.{lettered}
 use Rattle.release_compile.proofs.HeardLemmas.{other_sets}
@@ -11,7 +11,7 @@ pub heard_sets-requires-clause-choices : goal.heard_sets-requires-clause-choices
 heard_sets-requires-clause-choices c j lt = c.requires.graphs.gap.outer.choices j (omega (arith, lt, c.requires.graphs.gap.outer.count, c.requires.bay))
 
 pub heard_sets-requires-clause-fit : goal.heard_sets-requires-clause-fit
-heard_sets-requires-clause-fit c part s ne at = omega (arith, (c.requires.fits part s ne at).count)
+heard_sets-requires-clause-fit c part s ne at = elim (c.requires.fits part s ne at) [ inl set ↦ inl (omega (arith, set.1.count)) | inr none ↦ inr none.1 ]
 
 pub reach-requires-clause-load : goal.reach-requires-clause-load
 reach-requires-clause-load c =

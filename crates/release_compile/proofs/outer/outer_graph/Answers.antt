@@ -1,47 +1,72 @@
-use Rattle.std.proofs.Common.{◌≡◌, ◌∙◌, ℕ, List, length, get_or, sym, ap, subst, arith}
-use Rattle.std.proofs.lemmas.List.{length-map}
-use Rattle.contraction.specs.Answers.{Answers}
-use Rattle.decision_graphs.specs.declared.finished.FinishedLayer.{FinishedLayer}
-use Rattle.decision_graphs.specs.Finished.{AreFinished}
-use Rattle.decision_graphs.specs.Label.{Layered}
+use Rattle.std.proofs.Common.{◌≡◌, ◌∙◌, length, subst, sym}
+use Rattle.release_compile.specs.declared.noted.Intake.{Intake}
 use Rattle.release_compile.specs.Lettered.{Lettered, lettered}
-use Rattle.release_compile.specs.Layering.{values_at, no_answers}
+use Rattle.release_compile.specs.Layering.{values_at}
 use Rattle.release_compile.specs.Graphs.{IsOuter}
-use Rattle.release_compile.specs.Plans.{layers_of}
-use Rattle.release_compile.proofs.OuterFits.{outer_named}
-use Rattle.release_compile.proofs.OuterGraphs.{outer_same, outer_small, names_of}
+use Rattle.release_compile.specs.Counted.{OuterHas, Spends, Passes, OuterIsSmall}
+use Rattle.release_compile.specs.Plans.{outer_plan}
+use Rattle.release_compile.specs.Noting.{rows_of}
+use Rattle.release_compile.proofs.LayeringLemmas.{grew_more}
+use Rattle.release_compile.proofs.NotingLemmas.{right_stays}
+use Rattle.release_compile.proofs.OuterFits.{outer_fits}
+use Rattle.release_compile.proofs.OuterEdges.{outer_passes}
+use Rattle.release_compile.proofs.OuterGraphs.{outer_linked}
+use Rattle.release_compile.proofs.OuterTaken.{taken_outer, taken_small, taken_names, taken_spends, taken_few, taken_left, taken_reduced}
+use Rattle.release_compile.proofs.ErrorLemmas.{passed_on}
 use Rattle.release_compile.proofs.outer.outer_graph.Goals as goal
 
-pub from_layers-requires-clause-finished : goal.from_layers-requires-clause-finished
-from_layers-requires-clause-finished c =
-    rw c.deref.ensures.value (subst (λ (xs : List ℕ). AreFinished (length xs) c.in_ok-drafts.drafts.layers.items) (sym c.as_slice-states.ensures.value) c.in_ok-drafts.ensures.finished)
+pub taken-requires-clause-last : goal.taken-requires-clause-last
+taken-requires-clause-last c = right_stays c.args.pool.now c.outer_intake.new.pool c.in_ok-intake.ensures.grew c.args.last.now c.requires.last
+
+pub taken-requires-clause-linked : goal.taken-requires-clause-linked
+taken-requires-clause-linked c =
+    let i : Intake = c.in_ok-intake.intake in
+    outer_linked (lettered c.args.station.now c.args.parts.now) c.args.bay.0 c.outer_intake.new.pool i.start (rows_of i) i.keeps.items c.in_ok-intake.ensures.ready
+
+pub returns-clause-grew : goal.returns-clause-grew
+returns-clause-grew c = grew_more c.args.pool.now c.outer_intake.new.pool c.taken.new.pool c.in_ok-intake.ensures.grew c.in_ok-outer.ensures.grew
 
 pub returns-clause-outer : goal.returns-clause-outer
 returns-clause-outer c =
     let a : Lettered = lettered c.args.station.now c.args.parts.now in
-    let b = c.args.bay.0 in
-    let view = c.args.pool.now.view in
-    let values = c.outer_drafts.new.pool.values.items in
-    let ids : List ℕ = c.in_ok-drafts.drafts.states.items in
-    let names : List Answers = values_at values ids in
-    let ls = layers_of c.in_ok-drafts.drafts.layers.items in
-    let exact = c.in_ok-drafts.ensures.exact in
-    let first = outer_named a b c.args.others c.part_count-count.ensures.station c.requires.count c.requires.bay view ls names exact (λ j lt. c.in_ok-drafts.ensures.choices j (omega (arith, lt, exact.count))) in
-    let build : ℕ → List FinishedLayer → Layered = λ n xs. record { labels = n; layers = layers_of xs } in
-    let labels : length c.as_slice-states.result.now ≡ length names = ap length c.as_slice-states.ensures.value ∙ sym (length-map ids (λ i. get_or values i no_answers)) in
-    let is : c.in_ok-whole.whole ≡ build (length names) c.in_ok-drafts.drafts.layers.items = c.in_ok-whole.ensures ∙ (ap (build (length c.as_slice-states.result.now)) c.deref.ensures.value ∙ ap (λ n. build n c.in_ok-drafts.drafts.layers.items) labels) in
-    let whole : IsOuter view a b c.in_ok-whole.whole names = subst (λ (g : Layered). IsOuter view a b g names) (sym is) first in
-    outer_same view a b names c.in_ok-whole.whole c.in_ok-graph.graph whole c.in_ok-graph.ensures.labels c.in_ok-graph.ensures.choices c.in_ok-graph.ensures.label c.labels-labels.ensures.layered
-
-pub returns-clause-names : goal.returns-clause-names
-returns-clause-names c =
-    let a : Lettered = lettered c.args.station.now c.args.parts.now in
-    let ids : List ℕ = c.in_ok-drafts.drafts.states.items in
-    names_of a c.args.bay.0 c.args.others c.args.pool.now c.outer_drafts.new.pool (layers_of c.in_ok-drafts.drafts.layers.items) ids c.part_count-count.ensures.station c.requires.count c.requires.bay c.in_ok-drafts.ensures.grew.view c.in_ok-drafts.ensures.exact c.in_ok-drafts.ensures.states_in (length-map ids (λ i. get_or c.outer_drafts.new.pool.values.items i no_answers))
+    let q = c.taken.new.pool in
+    subst (λ w. IsOuter w a c.args.bay.0 c.in_ok-outer.outer.graph (values_at q.values.items c.in_ok-outer.outer.names.items)) c.in_ok-intake.ensures.grew.view
+    (taken_outer a c.args.bay.0 c.args.others c.args.left c.outer_intake.new.pool q c.in_ok-intake.intake c.in_ok-outer.outer c.part_count-count.ensures.station c.requires.count c.requires.bay c.in_ok-intake.ensures.ready c.in_ok-outer.ensures.grew c.in_ok-outer.ensures.taken c.labels-labels.ensures.layered)
 
 pub returns-clause-small : goal.returns-clause-small
 returns-clause-small c =
     let a : Lettered = lettered c.args.station.now c.args.parts.now in
-    let ids : List ℕ = c.in_ok-drafts.drafts.states.items in
-    let same : c.in_ok-whole.whole.layers ≡ layers_of c.in_ok-drafts.drafts.layers.items = ap (λ (g : Layered). g.layers) c.in_ok-whole.ensures ∙ ap layers_of c.deref.ensures.value in
-    outer_small c.args.pool.now.view a c.args.bay.0 c.args.others (layers_of c.in_ok-drafts.drafts.layers.items) (values_at c.outer_drafts.new.pool.values.items ids) c.in_ok-whole.whole c.in_ok-graph.graph c.in_ok-drafts.ensures.exact same c.in_ok-graph.ensures.choices c.in_ok-graph.ensures.sizes
+    subst (λ w. OuterIsSmall w c.args.station.now c.args.bay.0 c.in_ok-outer.outer.graph) c.in_ok-intake.ensures.grew.view
+    (taken_small a c.args.bay.0 c.args.others c.args.left c.outer_intake.new.pool c.taken.new.pool c.in_ok-intake.intake c.in_ok-outer.outer c.part_count-count.ensures.station c.requires.count c.requires.bay c.in_ok-intake.ensures.ready c.in_ok-outer.ensures.grew c.in_ok-outer.ensures.taken)
+
+pub returns-clause-names : goal.returns-clause-names
+returns-clause-names c =
+    taken_names (lettered c.args.station.now c.args.parts.now) c.args.bay.0 c.args.others c.args.left c.outer_intake.new.pool c.taken.new.pool c.in_ok-intake.intake c.in_ok-outer.outer c.part_count-count.ensures.station c.requires.count c.requires.bay c.in_ok-intake.ensures.ready c.in_ok-outer.ensures.grew c.in_ok-outer.ensures.taken
+
+pub returns-clause-spent : goal.returns-clause-spent
+returns-clause-spent c =
+    subst (λ w. Spends (OuterHas w c.args.station.now c.args.bay.0 c.args.others) c.args.station.now c.args.left c.in_ok-outer.outer.left) c.in_ok-intake.ensures.grew.view
+    (taken_spends (lettered c.args.station.now c.args.parts.now) c.args.bay.0 c.args.others c.args.left c.outer_intake.new.pool c.taken.new.pool c.in_ok-intake.intake c.in_ok-outer.outer c.part_count-count.ensures.station c.requires.count c.requires.bay c.in_ok-intake.ensures.ready c.in_ok-outer.ensures.grew c.in_ok-outer.ensures.taken)
+
+pub returns-clause-names_few : goal.returns-clause-names_few
+returns-clause-names_few c =
+    taken_few (lettered c.args.station.now c.args.parts.now) c.args.bay.0 c.args.others c.args.left c.outer_intake.new.pool c.taken.new.pool c.in_ok-intake.intake c.in_ok-outer.outer c.part_count-count.ensures.station c.requires.count c.requires.bay c.in_ok-intake.ensures.ready c.in_ok-outer.ensures.grew c.in_ok-outer.ensures.taken
+
+pub returns-clause-left : goal.returns-clause-left
+returns-clause-left c =
+    taken_left (lettered c.args.station.now c.args.parts.now) c.args.bay.0 c.args.others c.args.left c.outer_intake.new.pool c.taken.new.pool c.in_ok-intake.intake c.in_ok-outer.outer c.part_count-count.ensures.station c.requires.count c.requires.bay c.in_ok-intake.ensures.ready c.in_ok-outer.ensures.grew c.in_ok-outer.ensures.taken
+
+pub returns-clause-reduced : goal.returns-clause-reduced
+returns-clause-reduced c =
+    taken_reduced (lettered c.args.station.now c.args.parts.now) c.args.bay.0 c.args.others c.args.left c.outer_intake.new.pool c.taken.new.pool c.in_ok-intake.intake c.in_ok-outer.outer c.part_count-count.ensures.station c.requires.count c.requires.bay c.in_ok-intake.ensures.ready c.in_ok-outer.ensures.grew c.in_ok-outer.ensures.taken
+
+pub returns-in_err-outer-clause-wide : goal.returns-in_err-outer-clause-wide
+returns-in_err-outer-clause-wide c = passed_on _ _ c.from_residual-in_err-outer.result c.from_residual-in_err-outer.ensures.1 (λ trouble same is.
+    let a : Lettered = lettered c.args.station.now c.args.parts.now in
+    let b = c.args.bay.0 in
+    let p = c.outer_intake.new.pool in
+    let i : Intake = c.in_ok-intake.intake in
+    let ready = c.in_ok-intake.ensures.ready in
+    let passes = outer_passes p.view a b p i.start (rows_of i) i.keeps.items ready c.args.left (c.in_err-outer.ensures.wide (sym same ∙ is) (outer_plan a b) (outer_fits a b p i.start (rows_of i) i.keeps.items ready)) in
+    subst (λ w. Passes (OuterHas w c.args.station.now b c.args.others) c.args.station.now c.args.left) c.in_ok-intake.ensures.grew.view
+    (subst (λ n. Passes (OuterHas p.view c.args.station.now b n) c.args.station.now c.args.left) c.in_ok-intake.ensures.count passes))

@@ -1,4 +1,4 @@
-use Rattle.std.proofs.Common.{◌≡◌, ◌<◌, ◌+◌, List, Bool, Some, length, sym, ap, ◌∙◌, subst, arith}
+use Rattle.std.proofs.Common.{◌≡◌, ◌<◌, ◌+◌, inl, inr, List, Bool, Some, length, sym, ap, ◌∙◌, subst, arith}
 use Rattle.std.specs.Prelude.{◌↔◌, IsTrue, slice_get}
 use Rattle.std.proofs.lemmas.List.{length_push}
 use Rattle.decision_graphs.specs.Reaching.{IsSet}
@@ -13,7 +13,7 @@ loop-index-init c = record {
 }
 
 pub heard_allows-yes-requires : goal.heard_allows-yes-requires
-heard_allows-yes-requires c s is = omega (arith, c.requires.fits s (c.get.ensures ∙ ap Some is), c.loop-index-test.true)
+heard_allows-yes-requires c s is = elim (c.requires.fits s (c.get.ensures ∙ ap Some is)) [ inl enough ↦ inl (omega (arith, enough, c.loop-index-test.true)) | inr empty ↦ inr empty ]
 
 pub loop-index-preserved : goal.loop-index-preserved
 loop-index-preserved c =

@@ -1,4 +1,4 @@
-use Rattle.std.proofs.Common.{◌≡◌, ◌<◌, List, Bool, slice_get, length, sym, ap, ◌∙◌, subst, arith}
+use Rattle.std.proofs.Common.{◌≡◌, ◌<◌, inl, inr, List, Bool, slice_get, length, sym, ap, ◌∙◌, subst, arith}
 use Rattle.bay_contract.specs.PartAlphabets.{size_of}
 use Rattle.release_compile.specs.Lettered.{lettered, index_count}
 use Rattle.release_compile.specs.Graphs.{other_of}
@@ -29,7 +29,7 @@ heard_marks-requires-clause-fits c s is =
     let j = c.loop-j.j in
     let e : c.other_number.result ≡ other_of 0 c.args.bay.0 j = c.other_number.ensures ∙ ap (λ b. other_of 0 b j) c.from.ensures in
     let fits = c.requires.fit c.other_number.result s (λ same. other_not c.args.bay.0 j (sym e ∙ same)) is in
-    omega (arith, fits, c.size.ensures.size)
+    elim fits [ inl enough ↦ inl (omega (arith, enough, c.size.ensures.size)) | inr empty ↦ inr empty ]
 
 pub allow_marked-requires-clause-layer : goal.allow_marked-requires-clause-layer
 allow_marked-requires-clause-layer c = omega (arith, length_sets c.args.outer.now.layers c.loop-j.sets c.loop-j.invariant.sets, c.requires.layers, c.loop-j-test.true)

@@ -18,15 +18,20 @@ loop-i-preserved c =
     let l = c.loop-i in
     let inside : l.i < length c.args.drawing.now = omega arith in
     record {
-      builds = flat_next empty l.builder c.add_name.new.builder naming_step c.args.drawing.now l.i nowhere inside l.invariant.builds c.in-Ok.ensures;
-      count = one_longer l.numbers.items c.push.new.self.items l.i c.part_count.result l.invariant.count c.in_ok-push.ensures.items;
-      numbers = numbers_more c.args.drawing.now l.numbers.items c.push.new.self.items l.i c.part_count.result l.invariant.count c.in_ok-push.ensures.items (c.part_count.ensures.count ∙ named_count c.args.drawing.now l.i l.builder l.invariant.builds) l.invariant.numbers;
+      builds = flat_next empty l.builder c.add_name.new.builder naming_step c.args.drawing.now l.i nowhere inside
+          l.invariant.builds c.in-Ok.ensures;
+      count = one_longer l.numbers.items c.push.new.self.items l.i c.part_count.result l.invariant.count
+          c.in_ok-push.ensures.items;
+      numbers = numbers_more c.args.drawing.now l.numbers.items c.push.new.self.items l.i c.part_count.result
+          l.invariant.count c.in_ok-push.ensures.items (c.part_count.ensures.count ∙ named_count c.args.drawing.now l.i
+          l.builder l.invariant.builds) l.invariant.numbers;
     }
 
 pub returns-in-Err-clause-named : goal.returns-in-Err-clause-named
 returns-in-Err-clause-named c =
     let inside : c.loop-i.i < length c.args.drawing.now = omega arith in
-    flat_refused empty c.loop-i.builder naming_step c.args.drawing.now c.loop-i.i nowhere c.in-Err.fault inside c.loop-i.invariant.builds c.in-Err.ensures
+    flat_refused empty c.loop-i.builder naming_step c.args.drawing.now c.loop-i.i nowhere c.in-Err.fault inside
+    c.loop-i.invariant.builds c.in-Err.ensures
 
 pub returns-clause-named : goal.returns-clause-named
 returns-clause-named c =

@@ -7,7 +7,10 @@ use Rattle.ssd_read.proofs.Given.{infeeds_tapped}
 use Rattle.ssd_read.proofs.build.build.Goals as goal
 
 pub finish-requires : goal.finish-requires
-finish-requires c = infeeds_tapped c.args.drawing.now (range_with_len 0 (length c.args.drawing.now)) c.add_items.new.builder c.in-Ok-add_items.ensures
+finish-requires c = infeeds_tapped c.args.drawing.now (range_with_len 0 (length c.args.drawing.now))
+    c.add_items.new.builder c.in-Ok-add_items.ensures
 
 pub returns-in-Err : goal.returns-in-Err
-returns-in-Err c = first_refused empty (flat_map naming_step c.args.drawing.now) (flat_map (item_steps_at c.args.drawing.now) (range_with_len 0 (length c.args.drawing.now))) c.in-Err.fault c.in-Err.ensures.named
+returns-in-Err c = first_refused empty (flat_map naming_step c.args.drawing.now)
+    (flat_map (item_steps_at c.args.drawing.now) (range_with_len 0 (length c.args.drawing.now))) c.in-Err.fault
+    c.in-Err.ensures.named

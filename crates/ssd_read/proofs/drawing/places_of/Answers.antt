@@ -9,7 +9,8 @@ use Rattle.ssd_read.proofs.drawing.places_of.Goals as goal
 pub loop-i-init : goal.loop-i-init
 loop-i-init c = record {
   len = ap length c.new-places.ensures.items;
-  elements = elements_start c.front_of_tree-front.result.now c.args.tree.now c.new-places.result.items c.front_of_tree-front.ensures c.new-places.ensures.items;
+  elements = elements_start c.front_of_tree-front.result.now c.args.tree.now c.new-places.result.items
+      c.front_of_tree-front.ensures c.new-places.ensures.items;
 }
 
 pub loop-i-preserved : goal.loop-i-preserved
@@ -19,13 +20,16 @@ loop-i-preserved c =
     let front = c.front_of_tree-front.result.now in
     let more : c.push.new.self.items ≡ l.places.items ++ c.in_ok-place.place ∷ [] = c.in_ok-push.ensures.items in
     let inside : l.i < length tree = omega arith in
-    let fits : placed (entry_at tree l.i) c.in_ok-place.place ≡ element_after front (placed_all tree l.places.items) (entry_at tree l.i) = rw (← c.deref.ensures.value) c.in_ok-place.ensures in
+    let fits : placed (entry_at tree l.i) c.in_ok-place.place ≡ element_after front (placed_all tree l.places.items)
+    (entry_at tree l.i) = rw (← c.deref.ensures.value) c.in_ok-place.ensures in
     record {
       len = ap length more ∙ grind (arith, common_steps, l.invariant.len);
-      elements = elements_next front tree l.places.items c.push.new.self.items c.in_ok-place.place l.i (elements_of tree) l.invariant.len inside more fits l.invariant.elements;
+      elements = elements_next front tree l.places.items c.push.new.self.items c.in_ok-place.place l.i
+          (elements_of tree) l.invariant.len inside more fits l.invariant.elements;
     }
 
 pub returns-clause-elements : goal.returns-clause-elements
 returns-clause-elements c =
     let past : length c.args.tree.now ≤ c.loop-i.i = omega arith in
-    elements_whole c.front_of_tree-front.result.now c.args.tree.now c.loop-i.places.items c.loop-i.i (elements_of c.args.tree.now) past c.loop-i.invariant.elements
+    elements_whole c.front_of_tree-front.result.now c.args.tree.now c.loop-i.places.items c.loop-i.i
+    (elements_of c.args.tree.now) past c.loop-i.invariant.elements

@@ -14,9 +14,11 @@ loop-i-preserved c =
       | else-b-eq47 w ↦ record {
         within = omega arith;
         past = rw w.start-is c.loop-i.invariant.past;
-        none = λ k h l e. other c.args.name.now c.loop-i.start c.if-b-eq47.start c.loop-i.i k w.start-is h l e c.loop-i.invariant.none w.if-b-eq47.false;
+        none = λ k h l e. other c.args.name.now c.loop-i.start c.if-b-eq47.start c.loop-i.i k w.start-is h l e
+            c.loop-i.invariant.none w.if-b-eq47.false;
       }
     ]
 
 pub returns : goal.returns
-returns c = c.split_at.ensures.back ∙ last_part c.args.name.now c.loop-i.start c.loop-i.i c.loop-i-test.false c.loop-i.invariant.past c.loop-i.invariant.none
+returns c = c.split_at.ensures.back ∙ last_part c.args.name.now c.loop-i.start c.loop-i.i c.loop-i-test.false
+    c.loop-i.invariant.past c.loop-i.invariant.none

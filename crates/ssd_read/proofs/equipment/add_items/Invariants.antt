@@ -4,4 +4,5 @@ use Rattle.ssd_read.specs.Steps.{built, item_steps_at}
 use Rattle.ssd_read.proofs.equipment.add_items.Given as goal
 
 abbrev pub invariant-loop-i : goal.invariant-loop-i
-invariant-loop-i l = built l.initial.builder (flat_map (item_steps_at l.drawing) (take l.i (range_with_len 0 (length l.drawing)))) ≡ Ok l.builder
+invariant-loop-i l = built l.initial.builder (flat_map (item_steps_at l.drawing)
+    (take l.i (range_with_len 0 (length l.drawing)))) ≡ Ok l.builder

@@ -6,9 +6,12 @@ use Rattle.ssd_read.proofs.equipment.add_other.Goals as goal
 pub returns-in-Ok-clause-builds : goal.returns-in-Ok-clause-builds
 returns-in-Ok-clause-builds c =
     let e = (element_at c.args.drawing.now c.args.i).entry in
-    rw (← c.in_ok-bond.ensures) (then_builds c.args.builder.now c.add_links.new.builder c.add_lone_tap.new.builder (links_along c.in_ok-bond.bond c.args.part.0 c.args.nodes.now) (lone_tap e c.args.part.0 c.args.nodes.now) c.add_lone_tap.result c.in-Ok.ensures.builds c.add_lone_tap.ensures.builds)
+    rw (← c.in_ok-bond.ensures) (then_builds c.args.builder.now c.add_links.new.builder c.add_lone_tap.new.builder
+    (links_along c.in_ok-bond.bond c.args.part.0 c.args.nodes.now) (lone_tap e c.args.part.0 c.args.nodes.now)
+    c.add_lone_tap.result c.in-Ok.ensures.builds c.add_lone_tap.ensures.builds)
 
 pub returns-in-Err-clause-builds : goal.returns-in-Err-clause-builds
 returns-in-Err-clause-builds c =
     let e = (element_at c.args.drawing.now c.args.i).entry in
-    rw (← c.in_ok-bond.ensures) (first_refused c.args.builder.now (links_along c.in_ok-bond.bond c.args.part.0 c.args.nodes.now) (lone_tap e c.args.part.0 c.args.nodes.now) c.in-Err.fault c.in-Err.ensures.builds)
+    rw (← c.in_ok-bond.ensures) (first_refused c.args.builder.now (links_along c.in_ok-bond.bond c.args.part.0
+    c.args.nodes.now) (lone_tap e c.args.part.0 c.args.nodes.now) c.in-Err.fault c.in-Err.ensures.builds)

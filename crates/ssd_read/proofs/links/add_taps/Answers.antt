@@ -11,7 +11,8 @@ loop-node-preserved c =
     let l = c.loop-node in
     let f : ℕ → List Step = λ n. tap_step c.args.part.0 n ∷ [] in
     record {
-      builds = flat_next c.args.builder.now l.builder c.add_tap.new.builder f c.args.nodes.now l.node-index 0 c.loop-node-test.true l.invariant.builds c.in-Ok.ensures.builds;
+      builds = flat_next c.args.builder.now l.builder c.add_tap.new.builder f c.args.nodes.now l.node-index 0
+          c.loop-node-test.true l.invariant.builds c.in-Ok.ensures.builds;
       nodes = c.in-Ok.ensures.nodes ∙ l.invariant.nodes;
       parts = c.in-Ok.ensures.parts ∙ l.invariant.parts;
       switches = c.in-Ok.ensures.switches ∙ l.invariant.switches;
@@ -21,7 +22,8 @@ pub returns-in-Err-clause-builds : goal.returns-in-Err-clause-builds
 returns-in-Err-clause-builds c =
     let l = c.loop-node in
     let f : ℕ → List Step = λ n. tap_step c.args.part.0 n ∷ [] in
-    flat_refused c.args.builder.now l.builder f c.args.nodes.now l.node-index 0 c.in-Err.fault c.loop-node-test.true l.invariant.builds c.in-Err.ensures.builds
+    flat_refused c.args.builder.now l.builder f c.args.nodes.now l.node-index 0 c.in-Err.fault c.loop-node-test.true
+    l.invariant.builds c.in-Err.ensures.builds
 
 pub returns-clause-builds : goal.returns-clause-builds
 returns-clause-builds c =

@@ -15,7 +15,8 @@ loop-i-preserved c =
     record {
       paths = c.in-Ok.ensures.paths before l.invariant.paths ∙ ap counted_paths (sym more);
       keys = c.in-Ok.ensures.keys before l.invariant.keys ∙ ap keys_of (sym more);
-      fault = fault_next name_fault all l.i (first_fault name_fault [] all) inside l.invariant.fault (c.in-Ok.ensures.fault before l.invariant.paths l.invariant.keys);
+      fault = fault_next name_fault all l.i (first_fault name_fault [] all) inside l.invariant.fault
+          (c.in-Ok.ensures.fault before l.invariant.paths l.invariant.keys);
     }
 
 pub returns-in-Err-clause-fault : goal.returns-in-Err-clause-fault
@@ -24,10 +25,12 @@ returns-in-Err-clause-fault c =
     let l = c.loop-i in
     let inside : l.i < length all = omega arith in
     let before = take l.i all in
-    finds_err c.in-Err.fault (name_fault before (element_at all l.i)) (first_fault name_fault [] all) (fault_here name_fault all l.i (first_fault name_fault [] all) c.in-Err.fault inside l.invariant.fault)
+    finds_err c.in-Err.fault (name_fault before (element_at all l.i)) (first_fault name_fault [] all)
+    (fault_here name_fault all l.i (first_fault name_fault [] all) c.in-Err.fault inside l.invariant.fault)
     (c.in-Err.ensures.fault before l.invariant.paths l.invariant.keys)
 
 pub returns-clause-fault : goal.returns-clause-fault
 returns-clause-fault c =
     let past : length c.args.drawing.now ≤ c.loop-i.i = omega arith in
-    fault_none name_fault c.args.drawing.now c.loop-i.i (first_fault name_fault [] c.args.drawing.now) past c.loop-i.invariant.fault
+    fault_none name_fault c.args.drawing.now c.loop-i.i (first_fault name_fault [] c.args.drawing.now) past
+    c.loop-i.invariant.fault

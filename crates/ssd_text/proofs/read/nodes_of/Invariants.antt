@@ -9,7 +9,8 @@ abbrev pub invariant-loop-rest : goal.invariant-loop-rest
 invariant-loop-rest l = record {
   text : IsUtf8 l.rest;
   place : l.at + length l.rest ≡ l.start + length l.bytes;
-  outcome : (o : Result (List Entry) TextRefusal) → HasOutcome l.at (nest_of l.nest) l.rest o → HasOutcome l.start nothing l.bytes o;
+  outcome : (o : Result (List Entry) TextRefusal) → HasOutcome l.at (nest_of l.nest) l.rest o →
+      HasOutcome l.start nothing l.bytes o;
 }
 
 abbrev pub decreases-loop-rest : goal.decreases-loop-rest

@@ -13,5 +13,18 @@ nodes_of-requires-clause-text c =
 
 pub invariant_of-result : goal.invariant_of-result
 invariant_of-result c =
-    let es = entries_of c.in-Ok.nodes.items in
-    (omega (arith, told_some c.mark_len-mark.result c.split_at.result.1.now es c.in-Ok.ensures, entries_len c.in-Ok.nodes.items), omega (arith, told_few c.mark_len-mark.result c.split_at.result.1.now es c.in-Ok.ensures, entries_len c.in-Ok.nodes.items), told_order c.mark_len-mark.result c.split_at.result.1.now es c.in-Ok.ensures)
+    let es = entries_of c.in-Ok.nodes.items in (
+      omega (
+        arith,
+        told_some c.mark_len-mark.result c.split_at.result.1.now es c.in-Ok.ensures,
+        entries_len c.in-Ok.nodes.items,
+      ),
+      omega (
+        arith,
+        told_few c.mark_len-mark.result c.split_at.result.1.now es
+            c.in-Ok.ensures,
+        entries_len c.in-Ok.nodes.items,
+      ),
+      told_order c.mark_len-mark.result c.split_at.result.1.now es
+          c.in-Ok.ensures,
+    )

@@ -4,5 +4,6 @@ use Rattle.station_graph.proofs.classes.relabel.Given as goal
 abbrev pub invariant-loop-label : goal.invariant-loop-label
 invariant-loop-label l =
     (length l.labels ≡ length l.initial.labels)
-    × ((k : ℕ) → k < l.label-index → slice_index l.labels k ≡ (if slice_index l.initial.labels k == l.from then l.to else slice_index l.initial.labels k))
+    × ((k : ℕ) → k < l.label-index → slice_index l.labels k ≡ (if slice_index l.initial.labels k == l.from then l.to
+    else slice_index l.initial.labels k))
     × ((k : ℕ) → l.label-index ≤ k → slice_index l.labels k ≡ slice_index l.initial.labels k)

@@ -6,4 +6,5 @@ mark-requires c = c.requires c.args.switch.first.0 (inl refl)
 
 pub mark-requires-in-Some : goal.mark-requires-in-Some
 mark-requires-in-Some c =
-    subst (λ k. c.in-Some.second.0 < k) (sym c.mark.ensures.len) (c.requires c.in-Some.second.0 (inr (c.in-Some.second, c.in-Some.is, refl)))
+    subst (λ k. c.in-Some.second.0 < k) (sym c.mark.ensures.len) (c.requires c.in-Some.second.0
+    (inr (c.in-Some.second, c.in-Some.is, refl)))

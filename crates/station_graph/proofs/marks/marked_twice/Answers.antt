@@ -2,7 +2,9 @@ use Rattle.std.proofs.Common.{arith, true}
 use Rattle.std.proofs.lemmas.Option.{slice_get_within}
 use Rattle.station_graph.proofs.MarkLemmas.{Gathers-push, Gathers-pass, is_marked, not_marked}
 use Rattle.station_graph.proofs.marks.marked_twice.Goals as goal
-use Rattle.station_graph.proofs.marks.marked_twice.Goals.{then-here-i+then-elsewhere-i+in_ok-push, else-here-i, else-here-i-via-then-here-i+else-elsewhere-i, else-here-i-via-else-here-i}
+use Rattle.station_graph.proofs.marks.marked_twice.Goals.{then-here-i+then-elsewhere-i+in_ok-push, else-here-i}
+use Rattle.station_graph.proofs.marks.marked_twice.Goals.{else-here-i-via-then-here-i+else-elsewhere-i}
+use Rattle.station_graph.proofs.marks.marked_twice.Goals.{else-here-i-via-else-here-i}
 
 pub loop-i-preserved : goal.loop-i-preserved
 loop-i-preserved c =
@@ -13,7 +15,8 @@ loop-i-preserved c =
     elim c.if-here-i.branch [
       | then-here-i+then-elsewhere-i+in_ok-push w ↦
           rw (w.nodes-is, w.in_ok-push.ensures.ok)
-          (Gathers-push here elsewhere i nodes c.loop-i.invariant (is_marked here i (omega arith) w.if-here-i.true) (is_marked elsewhere i (omega (arith, c.requires.len)) w.if-elsewhere-i.true))
+          (Gathers-push here elsewhere i nodes c.loop-i.invariant (is_marked here i (omega arith) w.if-here-i.true)
+          (is_marked elsewhere i (omega (arith, c.requires.len)) w.if-elsewhere-i.true))
       | else-here-i w ↦
           rw w.nodes-is
           (Gathers-pass here elsewhere i nodes c.loop-i.invariant (elim w.else-here-i.branch [

@@ -10,5 +10,8 @@ returns-clause-exact c =
     let d = c.args.station.now in
     let marks = c.in_ok-marks.marks in
     let new = c.mark_items.new.marks in
-    rw (taken_back new (drop (length new) marks.items) marks.len (omega (arith, c.mark_items.ensures.len, c.deref_mut.ensures.len)))
-    (marked_exactly (TouchedFrom c.args.inside c.args.part.0 d) (node_count d) c.deref_mut.result.now new (c.deref_mut.ensures.value ∙ (c.in_ok-marks.ensures ∙ ap (λ (k : ℕ). replicate k false) c.node_count.ensures.count)) c.mark_items.ensures)
+    rw (taken_back new (drop (length new) marks.items) marks.len
+    (omega (arith, c.mark_items.ensures.len, c.deref_mut.ensures.len)))
+    (marked_exactly (TouchedFrom c.args.inside c.args.part.0 d) (node_count d) c.deref_mut.result.now new
+    (c.deref_mut.ensures.value
+    ∙ (c.in_ok-marks.ensures ∙ ap (λ (k : ℕ). replicate k false) c.node_count.ensures.count)) c.mark_items.ensures)

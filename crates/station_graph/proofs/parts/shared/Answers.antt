@@ -22,10 +22,17 @@ returns-clause-exact c =
     let out_elsewhere = subst (λ (xs : List Bool). slice_get xs n ≡ Some true) (sym c.deref-2.ensures.value) in (
       λ there.
           let w = (h n).0 there in
-          IsShared-from_marks d part n ((c.in_ok-here.ensures.exact n).0 (in_here w.0), (c.in_ok-elsewhere.ensures.exact n).0 (in_elsewhere w.1)),
+          IsShared-from_marks d part n (
+            (c.in_ok-here.ensures.exact n).0 (in_here w.0),
+            (c.in_ok-elsewhere.ensures.exact n).0 (in_elsewhere w.1),
+          ),
       λ shared.
           let w = marks_from_IsShared d part n shared in
-          (h n).1 (out_here ((c.in_ok-here.ensures.exact n).1 w.0), out_elsewhere ((c.in_ok-elsewhere.ensures.exact n).1 w.1)),
+          (h n).1 (
+            out_here ((c.in_ok-here.ensures.exact n).1 w.0),
+            out_elsewhere ((c.in_ok-elsewhere.ensures.exact n).1
+                w.1),
+          ),
     ))
     c.marked_twice.ensures.exact
 

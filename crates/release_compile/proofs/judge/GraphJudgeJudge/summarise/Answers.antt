@@ -1,4 +1,5 @@
 use Rattle.std.proofs.Common.{sym, subst}
+use Rattle.station_graph.specs.Alike.{Partner}
 use Rattle.central_rules.specs.Meaning.{Summarises}
 use Rattle.bay_contract.specs.PartAlphabets.{Alphabets}
 use Rattle.bay_contract.specs.Alphabets.{AreAlphabets}
@@ -11,4 +12,5 @@ returns c =
     let j = c.args.self.now in
     let e = c.parts.ensures.value in
     let are = subst (λ (a : Alphabets). AreAlphabets j.diagram a) (sym e) c.parts.ensures.alphabets in
-    subst (λ (a : Alphabets). Summarises (by_indices (lettered j.diagram a)) c.args.bay.0 c.args._to.0 c.args.readings.now c.in_ok-summary.summary) e (c.in_ok-summary.ensures j.diagram c.args._to.0 c.diagram_is_station.ensures are)
+    let partner : Partner j.diagram c.args.bay.0 c.args.to.0 = c.is_partner.ensures.partner c.if-not-is_partner.false in
+    subst (λ (a : Alphabets). Summarises (by_indices (lettered j.diagram a)) c.args.bay.0 c.args.to.0 c.args.readings.now c.in_ok-summary.summary) e (c.in_ok-summary.ensures j.diagram c.args.to.0 c.diagram_is_station.ensures are partner)

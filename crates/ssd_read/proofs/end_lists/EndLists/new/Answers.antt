@@ -6,4 +6,5 @@ pub loop-init : goal.loop-init
 loop-init c = ap (map (λ (v : TerminalPlaces). v.items)) c.new-lists.ensures.items
 
 pub loop-preserved : goal.loop-preserved
-loop-preserved c = one_more_empty c.loop.lists.items c.push.new.self.items c.new.result c.loop.counter c.loop.invariant c.in_ok-push.ensures.items c.new.ensures.items
+loop-preserved c = one_more_empty c.loop.lists.items c.push.new.self.items c.new.result c.loop.counter c.loop.invariant
+    c.in_ok-push.ensures.items c.new.ensures.items

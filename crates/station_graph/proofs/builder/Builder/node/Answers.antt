@@ -22,5 +22,6 @@ invariant_of-self-2 c =
     c.requires.new (subst (λ (e : Diagram). Contains e.node_paths c.args.path.now) c.self.view_is
     (subst (λ (q : List ℕ). Contains d.node_paths q) c.in_ok-path.ensures.ok there)) in (
       IsDraft-node d c.push.new.self p c.in_ok-push.ensures.ok room new c.self.invariant.0,
-      CountsBays-node d c.push.new.self p c.in_ok-push.ensures.ok room c.self.inside.bays c.self.inside.in_last c.self.invariant.1,
+      CountsBays-node d c.push.new.self p c.in_ok-push.ensures.ok room c.self.inside.bays c.self.inside.in_last
+          c.self.invariant.1,
     )

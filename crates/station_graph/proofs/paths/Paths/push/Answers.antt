@@ -8,5 +8,7 @@ pub returns-clause-ok : goal.returns-clause-ok
 returns-clause-ok c =
     let keys = c.self.inside.paths.keys in
     let path = c.args.path in
-    ap (map string_bytes) (c.in_ok-insert.ensures.keys ∙ insert_key-new keys c.args.self.now c.self.view_is path c.requires.new)
-    ∙ (map-append string_bytes keys (path ∷ []) ∙ ap (λ (ps : List (List ℕ)). ps ++ string_bytes path ∷ []) c.self.view_is)
+    ap (map string_bytes) (c.in_ok-insert.ensures.keys ∙ insert_key-new keys c.args.self.now c.self.view_is path
+    c.requires.new)
+    ∙ (map-append string_bytes keys (path ∷ []) ∙ ap (λ (ps : List (List ℕ)). ps ++ string_bytes path ∷ [])
+    c.self.view_is)

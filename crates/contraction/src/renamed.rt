@@ -1,0 +1,87 @@
+//! Values on other nodes.
+ghost use Rattle.std.specs.Prelude.{◌≡◌, ◌↔◌, length, IfOk, IsTrue};
+ghost use Rattle.contraction.specs.Answers.{AreNodes, IsContraction};
+ghost use Rattle.contraction.specs.Renaming.{renamed, SameRow};
+
+use crate::row::Row;
+use crate::value::Contraction;
+use ilk_base::Memory;
+use station_graph::NodeList;
+use std::alloc::Global;
+
+// Whether the labels are the same.
+fn same_labels(a: &[u16], b: &[u16]) -> bool
+    ensures { IsTrue result ↔ (a.now ≡ b.now) }
+{
+    a == b
+}
+
+// Whether the marks are the same.
+fn same_marks(a: &[bool], b: &[bool]) -> bool
+    ensures { IsTrue result ↔ (a.now ≡ b.now) }
+{
+    a == b
+}
+
+impl Row {
+    // The same row again.
+    fn copy(&self, alloc: Global) -> Result<Row, Memory>
+        ensures labels { IfOk result (λ row. row.labels ≡ self.now.labels) }
+        ensures first { IfOk result (λ row. row.first.items ≡ self.now.first.items) }
+        ensures second { IfOk result (λ row. row.second.items ≡ self.now.second.items) }
+    {
+        Ok(Row {
+            labels: self.labels.clone()?,
+            first: Vec::from_slice(alloc, &self.first)?,
+            second: Vec::from_slice(alloc, &self.second)?,
+        })
+    }
+
+    // Whether both rows are the same.
+    fn is_as(&self, other: &Row) -> bool
+        ensures { IsTrue result ↔ SameRow self.now other.now }
+    {
+        let labels = same_labels(self.labels.numbers(), other.labels.numbers());
+        let first = same_marks(&self.first, &other.first);
+        let second = same_marks(&self.second, &other.second);
+        labels && first && second
+    }
+}
+
+impl Contraction {
+    /// The kept nodes, rising. At once; takes no memory.
+    pub fn nodes(&self) -> &[u16]
+        ensures nodes { result.now ≡ self.now.kept }
+        ensures answers { IsContraction self.now }
+    {
+        &self.kept
+    }
+
+    /// The same answers on other nodes, which rise and are as many as the kept ones: the first of them in the
+    /// place of the first kept node, and so on. So values of like items on other nodes need not be composed
+    /// anew. Time and memory: the nodes.
+    pub fn renamed(&self, alloc: Global, nodes: &NodeList) -> Result<Contraction, Memory>
+        requires nodes { AreNodes nodes.now }
+        requires count { length nodes.now ≡ length self.now.kept }
+        ensures renamed { IfOk result (λ c. c ≡ renamed nodes.now self.now) }
+        ensures contraction { IfOk result IsContraction }
+    {
+        Ok(Contraction {
+            kept: Vec::from_slice(alloc, nodes.numbers())?,
+            gap: self.gap.copy(alloc)?,
+            load: self.load.copy(alloc)?,
+            bonded: self.bonded.clone()?,
+        })
+    }
+
+    /// Whether both answer the same, place by place, whatever nodes they keep. Time: the kept nodes. Takes no
+    /// memory.
+    pub fn answers_as(&self, other: &Contraction) -> bool
+        ensures { IsTrue result ↔ (self.now ≡ renamed self.now.kept other.now) }
+    {
+        let gap = self.gap.is_as(&other.gap);
+        let load = self.load.is_as(&other.load);
+        let bonded = same_labels(self.bonded.numbers(), other.bonded.numbers());
+        gap && load && bonded
+    }
+}

@@ -1,0 +1,37 @@
+//! The command `compile`.
+ghost use Rattle.std.specs.Prelude.{IfOk, IfErr};
+ghost use Rattle.interlock_cli.specs.Commands.{Compile, form_of};
+ghost use Rattle.interlock_cli.specs.Form.{Gives, Stops};
+
+use crate::end::{End, Outcome, Output};
+use crate::loading::{build_judge, load_drawing};
+use equation_text::compile_text;
+use ilk_base::Shelf;
+use std::alloc::Global;
+
+// What `compile STATION` has to write.
+#[tactic(auto, using(crate::proofs::Later::fails_later, crate::proofs::Drawings::drawn_given, crate::proofs::Drawings::drawn_fails))]
+pub(crate) fn compile<F: Shelf>(
+    alloc: Global,
+    station: &str,
+    shelf: &mut F,
+) -> Result<Output, End>
+    ensures ok { IfOk result (Gives (form_of (Compile station.now)) (F.held shelf.old)) }
+    ensures err { IfErr result (Stops (form_of (Compile station.now)) (F.held shelf.old) (F.faults shelf.old) (F.faults shelf.new)) }
+{
+    let station = match load_drawing(alloc, station, shelf) {
+        Ok(station) => station,
+        Err(end) => return Err(end),
+    };
+    let judge = match build_judge(alloc, &station) {
+        Ok(judge) => judge,
+        Err(end) => return Err(end),
+    };
+    match compile_text(alloc, &station, &judge) {
+        Ok(text) => Ok(Output {
+            outcome: Outcome::Done,
+            text,
+        }),
+        Err(_) => Err(End::Memory),
+    }
+}

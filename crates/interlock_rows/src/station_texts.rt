@@ -1,0 +1,33 @@
+//! What `compile` and `plan` write of a station.
+use crate::drawings::AS_A_TOOL_WRITES;
+use crate::rows::expect;
+use interlock_cli::Status;
+use std::test::Fail;
+
+// The equations of the line with an earthing switch and an infeed at one node: closing the earthing switch is
+// denied where the infeed is on, and closing the infeed where the earthing switch is on.
+const EQUATIONS: &str = "equations
+switch 0 S/V1/Q1/QC9
+switch 1 S/V1/Q1/E1
+part 0 0
+step 0 0 0 1 2
+step 0 1 1 =0 =0
+step 0 2 1 =0 =0
+op 0 open ok
+op 0 close 1
+op 1 open ok
+op 1 close 0
+node 0 switch 0 ok R2
+node 1 switch 1 ok R1
+end
+";
+
+#[test]
+fn equations(rt: HostRuntime) -> Result<(), Fail> {
+    let alloc = rt.alloc();
+    let line = AS_A_TOOL_WRITES.as_bytes();
+    for (drawing, want) in [(line, EQUATIONS), (b"<SCL/>".as_slice(), "equations\nend\n")] {
+        expect(&rt, alloc, "compile a.ssd", drawing, b"", (Status::Done, want.as_bytes(), ""))?;
+    }
+    Ok(())
+}

@@ -1,0 +1,20 @@
+use Rattle.std.proofs.Common.{◌≡◌, IsTrue, true, rules, refl, sym, ap, subst}
+use Rattle.release_compile.specs.declared.noted.Intake.{Intake}
+use Rattle.release_compile.specs.Noting.{rows_of, IsRight}
+use Rattle.release_compile.proofs.noted.renew.Goals as goal
+
+pub returns-then-is_noted-clause-noted : goal.returns-then-is_noted-clause-noted
+returns-then-is_noted-clause-noted c =
+    let holds : IsTrue true = search rules in
+    let h : IsTrue c.is_noted.result = subst IsTrue (sym c.if-is_noted.true) holds in
+    let (n, at, same) = c.is_noted.ensures h in
+    (n, at, subst (λ o. IsRight c.args.pool.now o) at c.requires.last, same)
+
+pub returns-clause-noted : goal.returns-clause-noted
+returns-clause-noted c =
+    let e = c.in_ok-noted.ensures.intake in (
+      c.in_ok-noted.noted,
+      refl,
+      c.in_ok-noted.ensures.noted,
+      record { start = ap (λ (i : Intake). i.start) e; letters = ap rows_of e; keeps = ap (λ (i : Intake). i.keeps.items) e },
+    )

@@ -1,0 +1,186 @@
+//! The outer graph that was made last, so that bays to which all other parts look the same share it.
+ghost use Rattle.std.specs.Prelude.{◌≡◌, ℕ, ◌+◌, ◌<◌, ◌≤◌, length, map, slice_get, Some, IfOk, IfErr, OnOk, IsTrue};
+ghost use Rattle.release_compile.specs.Pooling.{IsPool, GrewTo};
+ghost use Rattle.release_compile.specs.Plans.{Plan, PlanFits, PlanPasses, AreLinked};
+ghost use Rattle.release_compile.specs.Noting.{rows_of, SameIntake, IsNoted, IsRight, IsTaken};
+ghost use Rattle.release_compile.specs.declared.noted.Noted.{Noted as Note};
+ghost use Rattle.release_compile.specs.declared.layer.Trouble.TheVariants.{Wide};
+
+use crate::layer::{Trouble, fold_layers};
+use crate::pool::Pool;
+use decision_graphs::Graph;
+use ilk_base::Memory;
+use std::alloc::Global;
+
+// What the layers of an outer graph take in, by the numbers of a pool: the start, the letters of each layer, and the
+// nodes kept before each and after the last.
+#[derive(Drop)]
+pub(crate) struct Intake {
+    pub(crate) start: usize,
+    pub(crate) letters: Vec<Vec<usize>>,
+    pub(crate) keeps: Vec<usize>,
+}
+
+// An outer graph, the values that its labels name, what its layers took in, and how many edges these have.
+#[derive(Drop)]
+pub(crate) struct Noted {
+    pub(crate) intake: Intake,
+    pub(crate) graph: Graph,
+    pub(crate) names: Vec<usize>,
+    pub(crate) edges: usize,
+}
+
+// An outer graph, the values that its labels name, and how many edges are left of those that may be made.
+#[derive(Drop)]
+pub(crate) struct Outer {
+    pub(crate) graph: Graph,
+    pub(crate) names: Vec<usize>,
+    pub(crate) left: usize,
+}
+
+// Whether two lists of numbers are the same.
+fn same_row(one: &Vec<usize>, other: &Vec<usize>) -> bool
+    ensures { IsTrue result → one.now.items ≡ other.now.items }
+{
+    one == other
+}
+
+// Whether two lists of rows are the same.
+fn same_rows(one: &[Vec<usize>], other: &[Vec<usize>]) -> bool
+    ensures { IsTrue result → map (λ v. v.items) one.now ≡ map (λ v. v.items) other.now }
+{
+    if one.len() != other.len() {
+        return false;
+    }
+    for place in 0..one.len() {
+        if !same_row(&one[place], &other[place]) {
+            return false;
+        }
+    }
+    true
+}
+
+// Whether layers take in the same.
+fn same_intake(one: &Intake, other: &Intake) -> bool
+    ensures { IsTrue result → SameIntake one.now other.now }
+{
+    one.start == other.start
+        && same_row(&one.keeps, &other.keeps)
+        && same_rows(&one.letters, &other.letters)
+}
+
+// Whether the graph made last took in the same.
+fn is_noted(last: &Option<Noted>, intake: &Intake) -> bool
+    ensures { IsTrue result → (n : Note) × (last.now ≡ Some n) × SameIntake n.intake intake.now }
+{
+    match last {
+        Some(noted) => same_intake(&noted.intake, intake),
+        None => false,
+    }
+}
+
+// The graph of layers that take this in. It is too wide where they have more than so many edges.
+fn note(alloc: Global, pool: &mut Pool, intake: Intake, budget: usize) -> Result<Noted, Trouble>
+    requires pool { IsPool pool.old }
+    requires linked { AreLinked pool.old intake.start (rows_of intake) intake.keeps.items }
+    requires few { length (rows_of intake) ≤ 65535 }
+    requires budget { budget ≤ 8000000 }
+    ensures grew { OnOk result (GrewTo pool.old pool.new) }
+    ensures noted { IfOk result (IsNoted pool.new) }
+    ensures intake { IfOk result (λ n. n.intake ≡ intake) }
+    ensures within { IfOk result (λ n. n.edges ≤ budget) }
+    ensures wide { IfErr result (λ e. e ≡ Wide → (plan : Plan) → PlanFits plan pool.old intake.start (rows_of intake) intake.keeps.items
+        → PlanPasses pool.old.view plan (rows_of intake) budget) }
+{
+    let drafts = fold_layers(
+        alloc,
+        pool,
+        intake.start,
+        &intake.letters,
+        &intake.keeps,
+        budget,
+    )?;
+    let states = drafts.states.as_slice();
+    let whole = Graph::from_layers(alloc, states.len() as u32, &drafts.layers)?;
+    let graph = whole.reduce(alloc)?;
+    let edges = budget - drafts.left;
+    Ok(Noted {
+        intake,
+        graph,
+        names: drafts.states,
+        edges,
+    })
+}
+
+// Makes the graph, unless the one made last took in the same.
+fn renew(
+    alloc: Global,
+    pool: &mut Pool,
+    last: &mut Option<Noted>,
+    intake: Intake,
+    budget: usize,
+) -> Result<(), Trouble>
+    requires pool { IsPool pool.old }
+    requires last { IsRight pool.old last.old }
+    requires linked { AreLinked pool.old intake.start (rows_of intake) intake.keeps.items }
+    requires few { length (rows_of intake) ≤ 65535 }
+    requires budget { budget ≤ 8000000 }
+    ensures grew { OnOk result (GrewTo pool.old pool.new) }
+    ensures noted { OnOk result ((n : Note) × (last.new ≡ Some n) × IsNoted pool.new n × SameIntake n.intake intake) }
+    ensures wide { IfErr result (λ e. e ≡ Wide → (plan : Plan) → PlanFits plan pool.old intake.start (rows_of intake) intake.keeps.items
+        → PlanPasses pool.old.view plan (rows_of intake) budget) }
+{
+    if is_noted(last, &intake) {
+        return Ok(());
+    }
+    let noted = note(alloc, pool, intake, budget)?;
+    *last = Some(noted);
+    Ok(())
+}
+
+// A copy of the graph made last. It is too wide where its layers have more than so many edges.
+fn copy_last(alloc: Global, last: &Option<Noted>, budget: usize) -> Result<Outer, Trouble>
+    requires { (n : Note) × (last.now ≡ Some n) }
+    ensures copy { IfOk result (λ o. (n : Note) → last.now ≡ Some n
+        → (o.graph ≡ n.graph) × (o.names.items ≡ n.names.items) × (n.edges + o.left ≡ budget)) }
+    ensures wide { IfErr result (λ e. e ≡ Wide → (n : Note) → last.now ≡ Some n → budget < n.edges) }
+{
+    match last {
+        Some(noted) => {
+            if noted.edges > budget {
+                return Err(Trouble::Wide);
+            }
+            Ok(Outer {
+                graph: noted.graph.copy(alloc)?,
+                names: Vec::from_slice(alloc, &noted.names)?,
+                left: budget - noted.edges,
+            })
+        }
+        None => unreachable!(),
+    }
+}
+
+// The graph of layers that take this in, with what its labels name; it is made only where the one made last took in
+// something else.
+pub(crate) fn taken(
+    alloc: Global,
+    pool: &mut Pool,
+    last: &mut Option<Noted>,
+    intake: Intake,
+    budget: usize,
+) -> Result<Outer, Trouble>
+    requires pool { IsPool pool.old }
+    requires last { IsRight pool.old last.old }
+    requires linked { AreLinked pool.old intake.start (rows_of intake) intake.keeps.items }
+    requires few { length (rows_of intake) ≤ 65535 }
+    requires budget { budget ≤ 8000000 }
+    ensures grew { OnOk result (GrewTo pool.old pool.new) }
+    ensures last { OnOk result (IsRight pool.new last.new) }
+    ensures taken { IfOk result (IsTaken pool.new intake budget) }
+    ensures wide { IfErr result (λ e. e ≡ Wide → (plan : Plan) → PlanFits plan pool.old intake.start (rows_of intake) intake.keeps.items
+        → PlanPasses pool.old.view plan (rows_of intake) budget) }
+{
+    renew(alloc, pool, last, intake, budget)?;
+    let outer = copy_last(alloc, last, budget)?;
+    Ok(outer)
+}

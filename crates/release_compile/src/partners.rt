@@ -1,0 +1,85 @@
+//! The partners of a bay, by its graphs. Another bay is a partner where some answer for an operation of the bay changes
+//! with the other bay's switches. Labels of an outer graph that no inner graph tells apart are made one; the parts on
+//! which one of the two graphs then depends are the partners.
+ghost use Rattle.std.specs.Prelude.{◌≡◌, ◌≢◌, ◌⊎◌, ℕ, ◌<◌, ◌≤◌, ◌↔◌, length, slice_index_or, true, false, IfOk, IsTrue, IsFalse};
+ghost use Rattle.station_graph.specs.Alike.{Partner, Irrelevant};
+ghost use Rattle.central_rules.specs.Meaning.{IsBay};
+ghost use Rattle.release_compile.specs.Graphs.{other_of};
+ghost use Rattle.release_compile.specs.PartnerLabels.{AreInnersOf, TellsOf};
+
+use crate::bay::ViewGraphs;
+use crate::build::GraphJudge;
+use crate::layers_told::tells_of;
+use ilk_base::{BayId, Memory};
+use std::alloc::Global;
+
+// For each place whether one of the two lists says so.
+fn either(alloc: Global, first: &[bool], second: &[bool]) -> Result<Vec<bool>, Memory>
+    requires { length first.now ≡ length second.now }
+    ensures count { IfOk result (λ v. length v.items ≡ length first.now) }
+    ensures each { IfOk result (λ v. (j : ℕ) → j < length first.now → (slice_index_or v.items j false ≡ true)
+        ↔ ((slice_index_or first.now j false ≡ true) ⊎ (slice_index_or second.now j false ≡ true))) }
+{
+    let mut both = Vec::new(alloc);
+    for (place, one) in first.iter().enumerate() {
+        both.push(*one || second[place])?;
+    }
+    Ok(both)
+}
+
+// For each other part, in document order, whether the graphs of this view tell of its layer.
+fn view_tells(alloc: Global, graphs: &ViewGraphs) -> Result<Vec<bool>, Memory>
+    requires { AreInnersOf graphs.now.outer.labels graphs.now.inner.items }
+    ensures count { IfOk result (λ v. length v.items ≡ length graphs.now.outer.layers) }
+    ensures told { IfOk result (λ v. (j : ℕ) → j < length graphs.now.outer.layers
+        → (slice_index_or v.items j false ≡ true) ↔ TellsOf graphs.now.outer graphs.now.inner.items j) }
+{
+    let told = tells_of(alloc, &graphs.outer, &graphs.inner)?;
+    Ok(told)
+}
+
+// For each other part, in document order, whether the graphs of one of the two views tell of its layer.
+pub(crate) fn told_layers(
+    alloc: Global,
+    gap: &ViewGraphs,
+    load: &ViewGraphs,
+) -> Result<Vec<bool>, Memory>
+    requires same { length gap.now.outer.layers ≡ length load.now.outer.layers }
+    requires gap_inners { AreInnersOf gap.now.outer.labels gap.now.inner.items }
+    requires load_inners { AreInnersOf load.now.outer.labels load.now.inner.items }
+    ensures count { IfOk result (λ v. length v.items ≡ length gap.now.outer.layers) }
+    ensures told { IfOk result (λ v. (j : ℕ) → j < length gap.now.outer.layers → (slice_index_or v.items j false ≡ true)
+        ↔ (TellsOf gap.now.outer gap.now.inner.items j ⊎ TellsOf load.now.outer load.now.inner.items j)) }
+{
+    let by_gap = view_tells(alloc, gap)?;
+    let by_load = view_tells(alloc, load)?;
+    let told = either(alloc, &by_gap, &by_load)?;
+    Ok(told)
+}
+
+// What the list of a bay's other parts says of another.
+fn told_at(told: &[bool], bay: BayId, other: BayId) -> bool
+    requires apart { other.0 ≢ bay.0 }
+    requires bay { bay.0 ≤ length told.now }
+    requires other { other.0 ≤ length told.now }
+    ensures { (j : ℕ) → other_of 0 bay.0 j ≡ other.0 → result ≡ slice_index_or told.now j false }
+{
+    let place = if other.0 < bay.0 {
+        other.0 as usize
+    } else {
+        other.0 as usize - 1
+    };
+    told[place]
+}
+
+// Whether the bay is a partner of the other.
+pub(crate) fn is_partner(judge: &GraphJudge, bay: BayId, to: BayId) -> bool
+    requires bay { IsBay judge.now.diagram bay.0 }
+    requires to { IsBay judge.now.diagram to.0 }
+    requires other { bay.0 ≢ to.0 }
+    ensures partner { IsTrue result → Partner judge.now.diagram bay.0 to.0 }
+    ensures other { IsFalse result → Irrelevant judge.now.diagram bay.0 to.0 }
+{
+    let graphs = judge.bay(to);
+    told_at(&graphs.told, to, bay)
+}

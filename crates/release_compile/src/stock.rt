@@ -1,0 +1,44 @@
+//! What the graphs of one view are made of, over the whole station.
+ghost use Rattle.std.specs.Prelude.{IfOk};
+ghost use Rattle.bay_contract.specs.Alphabets.{AreAlphabets};
+ghost use Rattle.release_compile.specs.Lettered.{lettered};
+ghost use Rattle.release_compile.specs.Needing.{AreShared};
+ghost use Rattle.release_compile.specs.Stocking.{IsStock};
+
+use crate::inputs::letter_rows;
+use crate::noted::Noted;
+use crate::pool::Pool;
+use crate::view::View;
+use bay_contract::Parts;
+use ilk_base::Memory;
+use station_graph::{NodeList, Station};
+use std::alloc::Global;
+
+// Values of one view, the numbers of each part's letters among them, and the outer graph that was made last.
+#[derive(Drop)]
+pub(crate) struct Stock {
+    pub(crate) pool: Pool,
+    pub(crate) letters: Vec<Vec<usize>>,
+    pub(crate) last: Option<Noted>,
+}
+
+// The letters of all parts.
+pub(crate) fn stock_of(
+    alloc: Global,
+    view: View,
+    station: &Station,
+    parts: &Parts,
+    shared: &[NodeList],
+) -> Result<Stock, Memory>
+    requires lettered { AreAlphabets station.now parts.now }
+    requires shared { AreShared station.now shared.now }
+    ensures { IfOk result (IsStock (lettered station.now parts.now) view) }
+{
+    let mut pool = Pool::new(alloc, view, Vec::new(alloc));
+    let letters = letter_rows(alloc, &mut pool, station, parts, shared)?;
+    Ok(Stock {
+        pool,
+        letters,
+        last: None,
+    })
+}

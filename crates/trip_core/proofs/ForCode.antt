@@ -1,0 +1,284 @@
+-- What the code needs.
+use Rattle.std.proofs.Common.{◌≡◌, ◌≢◌, ◌+◌, ◌-◌, ◌<◌, ◌≤◌, ◌==◌, ◌++◌, cond, ℕ, zero, suc, Bool, true, false, List, [], ◌∷◌, length, take, get_or, slice_get, Option, Some, None, Contains, refl, sym, subst, ap, ◌∙◌, inl, inr, arith, length-append}
+use Rattle.std.specs.Prelude.{is_some, option_map, IfSome, IfNone}
+use Rattle.std.proofs.lemmas.Bool.Decides.{eqb_tells}
+use Rattle.std.proofs.lemmas.Option.{slice_get_within}
+use Rattle.std.proofs.lemmas.List.{append-nil, get_or-append-add, get_or_append_left}
+use Rattle.ilk_base.specs.declared.words.BayId.{BayId}
+use Rattle.station_graph.specs.Diagram.{Diagram, IsStation, part_count}
+use Rattle.station_graph.specs.declared.limits.TheConstants.{BAYS}
+use Rattle.central_rules.specs.Meaning.{Meaning, IsBay, bay_of}
+use Rattle.bay_frames.specs.declared.frame.Frame.{Frame}
+use Rattle.bay_frames.specs.declared.frame.Body.TheVariants.{Answer}
+use Rattle.bay_protocol.specs.declared.values.Collection.{Collection}
+use Rattle.bay_protocol.specs.declared.values.NodeEvent.{NodeEvent}
+use Rattle.bay_protocol.specs.declared.values.NodeEvent.TheVariants.{Command as Commanded, Sense as Sensing, Frame as Arrival, Tick as Ticking, Withdraw as Withdrawing, Restart as Restarting, Cut as Cutting}
+use Rattle.bay_protocol.specs.State.{State}
+use Rattle.bay_protocol.specs.Step.{IsMeant}
+use Rattle.bay_protocol.specs.Counts.{Counts}
+use Rattle.reservation_core.specs.Scene.{Scene, node, stops}
+use Rattle.reservation_core.specs.Concern.{Concern, concern, arrival}
+use Rattle.reservation_core.specs.Happens.{Happens, InRange, NodeSteps}
+use Rattle.reservation_core.specs.RoundFacts.{RoundFacts, FrameFits}
+use Rattle.reservation_core.specs.World.{World, KeepsWords}
+use Rattle.reservation_core.specs.declared.values.Which.{Which}
+use Rattle.reservation_core.specs.declared.values.WorldEvent.{WorldEvent}
+use Rattle.reservation_core.specs.declared.values.WorldEvent.TheVariants.{Command, Sense, Deliver, Tick, Withdraw, Restart, Begin, End, Part, Cut}
+use Rattle.reservation_core.specs.declared.values.WorldOutcome.{WorldOutcome}
+use Rattle.reservation_core.specs.declared.values.WorldOutcome.TheVariants.{Premise}
+use Rattle.reservation_core.proofs.Sends.{facts_stops}
+use Rattle.reservation_core.proofs.Steps.{bay_of_is}
+use Rattle.reservation_core.proofs.Keeping.{got_there}
+use Rattle.reservation_core.proofs.Effects.{effect}
+use Rattle.reservation_core.proofs.Truths.{there_or_new}
+use Rattle.reservation_core.proofs.Ways.{Way, way}
+use Rattle.trip_core.specs.declared.values.Learning.{Learning}
+use Rattle.trip_core.specs.declared.values.Note.{Note}
+use Rattle.trip_core.specs.Trips.{TripScene, lost, note_at, own_note}
+use Rattle.trip_core.specs.Learning.{CountsOf, IsCounted, number_of, learned_note}
+use Rattle.trip_core.specs.Happens.{sensed_after, known_then, later, NotesTurn, NotesAfter, StepHappens}
+use Rattle.trip_core.specs.Facts.{IsClocked}
+
+-- ---- the bay that an event concerns
+
+-- it is one, and a frame that comes to it fits
+pub record TaskFits (d : Diagram) (c : Concern) : Type 0 where
+  pub bay : IsBay d c.bay
+  pub frame : (f : Frame) → c.event ≡ Arrival f → FrameFits d f × (f.to.0 ≡ c.bay)
+
+plainly : (d : Diagram) (b k : ℕ) (event : NodeEvent) (c : Concern) → IsBay d b → ((f : Frame) → event ≡ Arrival f → ⊥) → Some (let it : Concern = record { bay = b; message = k; event = event } in it) ≡ Some c → TaskFits d c
+plainly d b k event c bay none is =
+    let e : record { bay = b; message = k; event = event } ≡ c = cc is in
+    subst (TaskFits d) e (record { bay = bay; frame = λ f comes. absurd (none f comes) })
+
+arrives : (d : Diagram) (k : ℕ) (x : Option Frame) (c : Concern) → arrival k x ≡ Some c → ((f : Frame) → x ≡ Some f → FrameFits d f) → TaskFits d c
+arrives d k None c is fit = absurd (cc is)
+arrives d k (Some f) c is fit =
+    let e : record { bay = f.to.0; message = k; event = Arrival f } ≡ c = cc is in
+    subst (TaskFits d) e (record { bay = (fit f refl).receiver.0; frame = λ g comes. let same : f ≡ g = cc comes in subst (λ (x : Frame). FrameFits d x × (x.to.0 ≡ f.to.0)) same (fit f refl, refl) })
+
+pub task_fits : (m : Meaning) (w : Scene) (event : WorldEvent) (c : Concern) → IsStation m.diagram → RoundFacts m w → InRange m.diagram event → concern m.diagram w event ≡ Some c → TaskFits m.diagram c
+task_fits m w (Command op) c station facts lt is = plainly m.diagram _ _ _ c (bay_of_is m.diagram op.switch.0 station lt) (λ f comes. cc comes) is
+task_fits m w (Sense i word) c station facts lt is = plainly m.diagram _ _ _ c (bay_of_is m.diagram i.0 station lt) (λ f comes. cc comes) is
+task_fits m w (Deliver k) c station facts lt is = arrives m.diagram (k - 1) (slice_get w.sent (k - 1)) c is (λ f got. facts.bounds.fit f (got_there w.sent (k - 1) f got))
+task_fits m w (Tick b) c station facts bay is = plainly m.diagram _ _ _ c bay (λ f comes. cc comes) is
+task_fits m w (Withdraw b) c station facts bay is = plainly m.diagram _ _ _ c bay (λ f comes. cc comes) is
+task_fits m w (Restart b) c station facts bay is = plainly m.diagram _ _ _ c bay (λ f comes. cc comes) is
+task_fits m w (Begin i) c station facts lt is = absurd (cc is)
+task_fits m w (End i) c station facts lt is = absurd (cc is)
+task_fits m w (Part k bytes) c station facts lt is = absurd (cc is)
+task_fits m w (Cut i) c station facts lt is = plainly m.diagram _ _ _ c (bay_of_is m.diagram i.0 station lt) (λ f comes. cc comes) is
+
+-- ---- whose Answer counts
+
+round_in : (x : Option Collection) (r : ℕ) → option_map (λ (g : Collection). g.round) x ≡ Some r → (g : Collection) × (x ≡ Some g) × (g.round ≡ r)
+round_in None r is = absurd (cc is)
+round_in (Some g) r is = (g, refl, cc is)
+
+module _ (m : Meaning) (s : State) (f : Frame) (meant : IsMeant m.diagram s f) where
+  counts_it : IsCounted m f (option_map (λ (g : Collection). g.round) s.collecting) → Counts m m.diagram s f
+  counts_it counted =
+      let it = round_in s.collecting f.round counted.round in
+      record { meant = meant; round = it.0; collects = it.1; same = it.2; summary = counted.summary; answer = counted.answer; fits = subst (λ (b : ℕ). m.Fits f.from.0 b counted.summary) meant.here counted.fits }
+
+  counted_it : Counts m m.diagram s f → IsCounted m f (option_map (λ (g : Collection). g.round) s.collecting)
+  counted_it counts = record {
+    summary = counts.summary;
+    answer = counts.answer;
+    round = ap (λ (x : Option Collection). option_map (λ (g : Collection). g.round) x) counts.collects ∙ ap (λ (r : ℕ). Some r) counts.same;
+    fits = subst (λ (b : ℕ). m.Fits f.from.0 b counts.summary) (sym meant.here) counts.fits;
+  }
+
+module _ (m : Meaning) (w : Scene) (bay : ℕ) (event : NodeEvent) (rounds : RoundFacts m w) (fit : (f : Frame) → event ≡ Arrival f → FrameFits m.diagram f × (f.to.0 ≡ bay)) where
+  meant_in : (f : Frame) → event ≡ Arrival f → IsMeant m.diagram (node m.diagram w bay) f
+  meant_in f is =
+      let it = fit f is in
+      let named = rounds.shape.named bay in
+      let here : f.to.0 ≡ (node m.diagram w bay).bay = it.1 ∙ sym named in
+      record { here = here; other = (it.0.sender, λ same. it.0.receiver.1 (here ∙ sym same)) }
+
+  sender_counts : (collected : Option ℕ) (r : Option BayId) → collected ≡ option_map (λ (g : Collection). g.round) (node m.diagram w bay).collecting → IfSome r (λ b. (f : Frame) × (event ≡ Arrival f) × IsCounted m f collected × (b ≡ f.from)) → IfNone r ((f : Frame) → event ≡ Arrival f → ¬ IsCounted m f collected) → CountsOf m (node m.diagram w bay) event (number_of r)
+  sender_counts collected (Some b) is some none =
+      CountsOf.an_answer some.0 some.1 (counts_it m (node m.diagram w bay) some.0 (meant_in some.0 some.1) (subst (IsCounted m some.0) is some.2)) (ap (λ (x : BayId). Some x.0) some.3)
+  sender_counts collected None is some none =
+      CountsOf.nothing (λ f comes counts. none f comes (subst (IsCounted m f) (sym is) (counted_it m (node m.diagram w bay) f (meant_in f comes) counts))) refl
+
+pub learned_from : (m : Meaning) (d : Diagram) (w : Scene) (bay : ℕ) (event : NodeEvent) (collected : Option ℕ) (r : Option BayId) → m.diagram ≡ d → RoundFacts m w → ((f : Frame) → event ≡ Arrival f → FrameFits d f × (f.to.0 ≡ bay)) → collected ≡ option_map (λ (g : Collection). g.round) (node d w bay).collecting → IfSome r (λ b. (f : Frame) × (event ≡ Arrival f) × IsCounted m f collected × (b ≡ f.from)) → IfNone r ((f : Frame) → event ≡ Arrival f → ¬ IsCounted m f collected) → CountsOf m (node d w bay) event (number_of r)
+learned_from m d w bay event collected r same rounds fit is some none =
+    subst (λ (x : Diagram). CountsOf m (node x w bay) event (number_of r)) same
+    (sender_counts m w bay event rounds (λ f comes. subst (λ (x : Diagram). FrameFits x f × (f.to.0 ≡ bay)) (sym same) (fit f comes)) collected r (is ∙ ap (λ (x : Diagram). option_map (λ (g : Collection). g.round) (node x w bay).collecting) (sym same)) some none)
+
+-- ---- how many messages are sent
+
+pub record Grows (old new : Scene) : Type 0 where
+  pub more : List Frame
+  pub is : new.sent ≡ old.sent ++ more
+  -- an Answer goes alone
+  pub alone : (f : Frame) (s : List ℕ) → Contains more f → f.body ≡ Answer s → length more ≡ 1
+
+no_growth : (old new : Scene) → new.sent ≡ old.sent → Grows old new
+no_growth old new same = record { more = []; is = same ∙ sym (append-nil old.sent); alone = λ f s there. absurd (omega (arith, there.1)) }
+
+grows_by : (m : Meaning) (old new : Scene) (event : WorldEvent) (outcome : WorldOutcome) → RoundFacts m old → Way m old event new outcome → Grows old new
+grows_by m old new event outcome rounds (Way.refused which same says) = no_growth old new (ap (λ (w : Scene). w.sent) same)
+grows_by m old new event outcome rounds (Way.nothing same none fits) = no_growth old new (ap (λ (w : Scene). w.sent) same)
+grows_by m old new event outcome rounds (Way.drives i g at running none lt has switch is says) = no_growth old new (ap (λ (w : Scene). w.sent) is)
+grows_by m old new event outcome rounds (Way.turns c some fair s) = record {
+  more = s.turn.frames;
+  is = ap (λ (w : Scene). w.sent) s.world;
+  alone = (effect m (node m.diagram old c.bay) c.event s.turn (rounds.rounds c.bay fair.bay) s.step).alone;
+}
+grows_by m old new event outcome rounds (Way.cuts i c some fair s) = record {
+  more = s.turn.frames;
+  is = ap (λ (w : Scene). w.sent) s.world;
+  alone = (effect m (node m.diagram (stops old i) c.bay) c.event s.turn ((facts_stops m old i rounds).rounds c.bay fair.bay) s.step).alone;
+}
+
+pub grows : (m : Meaning) (old new : Scene) (event : WorldEvent) (outcome : WorldOutcome) → IsStation m.diagram → RoundFacts m old → InRange m.diagram event → Happens m old event new outcome → Grows old new
+grows m old new event outcome station rounds range happens = grows_by m old new event outcome rounds (way m station old new outcome rounds event range happens)
+
+length_grown : (old new : Scene) (g : Grows old new) → length new.sent ≡ length old.sent + length g.more
+length_grown old new g = ap (λ (x : List Frame). length x) g.is ∙ length-append old.sent g.more
+
+pub sent_rises : (old new : Scene) → Grows old new → length old.sent ≤ length new.sent
+sent_rises old new g = let e = length_grown old new g in omega (arith, e)
+
+-- ---- a step that was taken, with its notes
+
+first_taken : (xs : List (List Note)) (k : ℕ) → k ≡ 1 → get_or (take k xs) 0 [] ≡ get_or xs 0 []
+first_taken [] k is = rw is refl
+first_taken (x ∷ xs) k is = rw is refl
+
+length_taken : (xs : List (List Note)) (k : ℕ) → k ≤ length xs → length (take k xs) ≡ k
+length_taken xs zero le = refl
+length_taken [] (suc k) le = absurd (omega (arith, le))
+length_taken (x ∷ xs) (suc k) le = ap (λ n. suc n) (length_taken xs k (omega (arith, le)))
+
+if_same : {X : Type 0} (a b : ℕ) (x y : X) → a ≡ b → cond (a == b) x y ≡ x
+if_same a b x y is = elim (eqb_tells a b) [ inl p ↦ rw p.0 refl | inr p ↦ absurd (p.1 is) ]
+
+if_other : {X : Type 0} (a b : ℕ) (x y : X) → a ≢ b → cond (a == b) x y ≡ y
+if_other a b x y differs = elim (eqb_tells a b) [ inl p ↦ absurd (differs p.1) | inr p ↦ rw p.0 refl ]
+
+-- what the code has done
+pub record Done (m : Meaning) (old new : TripScene) (c : Concern) (own said : List Note) (spare : List (List Note)) (l : Learning) : Type 0 where
+  pub own_is : (i : ℕ) → i < length m.diagram.switches → get_or own i lost ≡ own_note m.diagram old i
+  pub said_is : said ≡ get_or old.beside c.message []
+  pub from : CountsOf m (node m.diagram old.world.scene c.bay) c.event (number_of l.from)
+  pub collected : l.collected ≡ is_some (node m.diagram old.world.scene c.bay).collecting
+  pub granted : l.granted ≡ is_some (node m.diagram old.world.scene c.bay).granted
+  pub first : get_or spare 0 [] ≡ own
+  pub enough : length spare ≡ 64
+  pub few : length new.world.scene.sent < length old.world.scene.sent + BAYS
+  pub beside : new.beside ≡ old.beside ++ take (length new.world.scene.sent - length old.beside) spare
+  pub tripped : new.tripped ≡ old.tripped
+  pub events : new.events ≡ old.events + 1
+  pub sensed : new.sensed ≡ sensed_after c.event old.sensed (old.events + 1)
+  pub each_known : length new.known ≡ length old.known
+  pub others : (b : ℕ) → b ≢ c.bay → get_or new.known b [] ≡ get_or old.known b []
+  pub each_note : length (get_or new.known c.bay []) ≡ length m.diagram.switches
+  pub learned : (i : ℕ) → i < length m.diagram.switches → get_or (get_or new.known c.bay []) i lost ≡ learned_note (number_of l.from) l.collected l.granted (is_some (node m.diagram new.world.scene c.bay).collecting) (bay_of m.diagram i) c.bay (get_or own i lost) (get_or said i lost) (get_or (get_or old.known c.bay []) i lost)
+
+module _ (m : Meaning) (old new : TripScene) (c : Concern) (own said : List Note) (spare : List (List Note)) (l : Learning) (clocked : IsClocked m.diagram old) (part : c.bay < part_count m.diagram) (g : Grows old.world.scene new.world.scene) (did : Done m old new c own said spare l) where
+  sent_is : length new.world.scene.sent ≡ length old.world.scene.sent + length g.more
+  sent_is = length_grown old.world.scene new.world.scene g
+
+  taken : length new.world.scene.sent - length old.beside ≡ length g.more
+  taken = let e = sent_is in omega (arith, e, clocked.each_beside)
+
+  all_beside : length new.beside ≡ length new.world.scene.sent
+  all_beside =
+      let bays : BAYS ≡ 64 = refl in
+      let some : length (take (length new.world.scene.sent - length old.beside) spare) ≡ length new.world.scene.sent - length old.beside = length_taken spare (length new.world.scene.sent - length old.beside) (let t = taken in omega (arith, t, did.few, bays, clocked.each_beside, did.enough)) in
+      let e = ap (λ (x : List (List Note)). length x) did.beside ∙ length-append old.beside (take (length new.world.scene.sent - length old.beside) spare) in
+      let s = sent_is in
+      omega (arith, e, some, s, clocked.each_beside)
+
+  new_beside : (j i : ℕ) (f : Frame) (s : List ℕ) → length old.world.scene.sent ≤ j → slice_get new.world.scene.sent j ≡ Some f → f.body ≡ Answer s → i < length m.diagram.switches → note_at new.beside j i ≡ own_note m.diagram old i
+  new_beside j i f s le got body lt =
+      let at : slice_get (old.world.scene.sent ++ g.more) j ≡ Some f = ap (λ (x : List Frame). slice_get x j) (sym g.is) ∙ got in
+      let inside : j < length new.world.scene.sent = slice_get_within new.world.scene.sent j f got in
+      elim (there_or_new old.world.scene.sent g.more j f at) [
+        | inl early ↦ absurd (omega (arith, early.0, le))
+        | inr late ↦
+            let one : length g.more ≡ 1 = g.alone f s late.1 body in
+            let place : j ≡ length old.beside + 0 = let e = sent_is in omega (arith, one, inside, le, e, clocked.each_beside) in
+            let stands : get_or new.beside j [] ≡ own =
+            ap (λ (x : List (List Note)). get_or x j []) did.beside
+            ∙ (ap (λ (x : ℕ). get_or (old.beside ++ take (length new.world.scene.sent - length old.beside) spare) x []) place
+            ∙ (get_or-append-add old.beside (take (length new.world.scene.sent - length old.beside) spare) 0 []
+            ∙ (first_taken spare (length new.world.scene.sent - length old.beside) (taken ∙ one) ∙ did.first))) in
+            ap (λ (x : List Note). get_or x i lost) stands ∙ did.own_is i lt
+      ]
+
+  known_is : (b i : ℕ) → i < length m.diagram.switches → note_at new.known b i ≡ known_then m old c (number_of l.from) (node m.diagram new.world.scene c.bay) b i
+  known_is b i lt = elim (eqb_tells b c.bay) [
+    | inr p ↦ ap (λ (x : List Note). get_or x i lost) (did.others b p.1) ∙ sym (if_other b c.bay _ (note_at old.known b i) p.1)
+    | inl p ↦
+        let said_at : get_or said i lost ≡ note_at old.beside c.message i = ap (λ (x : List Note). get_or x i lost) did.said_is in
+        let own_at : get_or own i lost ≡ own_note m.diagram old i = did.own_is i lt in
+        let collects = is_some (node m.diagram new.world.scene c.bay).collecting in
+        let bay = bay_of m.diagram i in
+        let known = note_at old.known c.bay i in
+        let here : note_at new.known c.bay i ≡ learned_note (number_of l.from) (is_some (node m.diagram old.world.scene c.bay).collecting) (is_some (node m.diagram old.world.scene c.bay).granted) collects bay c.bay (own_note m.diagram old i) (note_at old.beside c.message i) known =
+        did.learned i lt
+        ∙ (ap (λ (x : Bool). learned_note (number_of l.from) x l.granted collects bay c.bay (get_or own i lost) (get_or said i lost) known) did.collected
+        ∙ (ap (λ (x : Bool). learned_note (number_of l.from) (is_some (node m.diagram old.world.scene c.bay).collecting) x collects bay c.bay (get_or own i lost) (get_or said i lost) known) did.granted
+        ∙ (ap (λ (x : Note). learned_note (number_of l.from) (is_some (node m.diagram old.world.scene c.bay).collecting) (is_some (node m.diagram old.world.scene c.bay).granted) collects bay c.bay x (get_or said i lost) known) own_at
+        ∙ ap (λ (x : Note). learned_note (number_of l.from) (is_some (node m.diagram old.world.scene c.bay).collecting) (is_some (node m.diagram old.world.scene c.bay).granted) collects bay c.bay (own_note m.diagram old i) x known) said_at))) in
+        ap (λ (x : ℕ). note_at new.known x i) p.1 ∙ (here ∙ sym (if_same b c.bay _ (note_at old.known b i) p.1))
+  ]
+
+  pub turned : NotesTurn m old c new
+  turned = record {
+    sensed = did.sensed;
+    tripped = did.tripped;
+    events = did.events;
+    each_beside = all_beside;
+    each_known = did.each_known;
+    each_note = λ b. elim (eqb_tells b c.bay) [
+      | inr p ↦ ap (λ (x : List Note). length x) (did.others b p.1)
+      | inl p ↦ ap (λ (x : ℕ). length (get_or new.known x [])) p.1 ∙ (did.each_note ∙ (sym (clocked.each_note c.bay part) ∙ ap (λ (x : ℕ). length (get_or old.known x [])) (sym p.1)))
+    ];
+    before = λ j i lt ilt. ap (λ (x : List (List Note)). note_at x j i) did.beside ∙ ap (λ (x : List Note). get_or x i lost) (get_or_append_left old.beside (take (length new.world.scene.sent - length old.beside) spare) [] j (omega (arith, lt, clocked.each_beside)));
+    beside = λ j i f s le got body lt own_bay. new_beside j i f s le got body lt;
+    from = number_of l.from;
+    counts = did.from;
+    known = known_is;
+  }
+
+-- ---- a step
+
+-- the scene with another world
+abbrev with_world : TripScene → World → TripScene
+with_world s w = record { world = w; sensed = s.sensed; tripped = s.tripped; beside = s.beside; known = s.known; events = s.events }
+
+module _ (m : Meaning) (d : Diagram) (same : m.diagram ≡ d) (old new : TripScene) (event : WorldEvent) (out : WorldOutcome) (happens : Happens m old.world.scene event new.world.scene out) (words : KeepsWords d old.world new.world) where
+  words_kept : KeepsWords m.diagram old.world new.world
+  words_kept = subst (λ (x : Diagram). KeepsWords x old.world new.world) (sym same) words
+
+  pub refused : ((which : Which) × (out ≡ Premise which)) → ((which : Which) → out ≡ Premise which → new.world ≡ old.world) → new ≡ with_world old new.world → StepHappens m old event new out
+  refused premise unchanged is = record {
+    happens = happens;
+    words = words_kept;
+    notes = NotesAfter.refused premise.0 premise.1 (is ∙ ap (λ (w : World). with_world old w) (unchanged premise.0 premise.1));
+  }
+
+  pub passed : ((which : Which) → out ≢ Premise which) → concern d old.world.scene event ≡ None → new ≡ later old new.world → StepHappens m old event new out
+  passed fine none is = record {
+    happens = happens;
+    words = words_kept;
+    notes = NotesAfter.passes fine (ap (λ (x : Diagram). concern x old.world.scene event) same ∙ none) is;
+  }
+
+  pub turn_done : (c : Concern) (own said : List Note) (spare : List (List Note)) (l : Learning) → IsStation m.diagram → RoundFacts m old.world.scene → IsClocked d old → InRange d event → concern d old.world.scene event ≡ Some c → ((which : Which) → out ≢ Premise which) → Done m old new c own said spare l → StepHappens m old event new out
+  turn_done c own said spare l station rounds clocked range some fine did =
+      let within : InRange m.diagram event = subst (λ (x : Diagram). InRange x event) (sym same) range in
+      let here : concern m.diagram old.world.scene event ≡ Some c = ap (λ (x : Diagram). concern x old.world.scene event) same ∙ some in
+      let clocks : IsClocked m.diagram old = subst (λ (x : Diagram). IsClocked x old) (sym same) clocked in
+      let fit = task_fits m old.world.scene event c station rounds within here in
+      record {
+        happens = happens;
+        words = words_kept;
+        notes = NotesAfter.turns c here fine (turned m old new c own said spare l clocks fit.bay.0 (grows m old.world.scene new.world.scene event out station rounds within happens) did);
+      }

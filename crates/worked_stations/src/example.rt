@@ -1,0 +1,36 @@
+//! The worked stations by name.
+use crate::drawing::{Drawing, DrawingFault, station_of};
+use crate::tables::{BARE_STUB, EIGHT_EARTHED, TWO_BUSBARS, TWO_FEEDERS, TWO_TRANSFORMERS};
+use station_graph::Station;
+use std::alloc::Global;
+
+/// Which of the worked stations. Tables of tests name them so, and do not hold them whole.
+#[derive(Clone, Copy, Debug, PartialEq, Eq)]
+pub enum Example {
+    /// A busbar and two feeders.
+    TwoFeeders,
+    /// A fed busbar, and a stub on it by two disconnectors in parallel.
+    BareStub,
+    /// Two busbars of one voltage, each with a transformer to one busbar of another voltage.
+    TwoTransformers,
+    /// Two busbars, a coupler between them, and two feeders that stand at both.
+    TwoBusbars,
+    /// Two bays with an earthing switch at each of the same eight nodes.
+    EightEarthed,
+}
+
+/// What is drawn of the station.
+pub fn drawing_of(example: Example) -> Drawing {
+    match example {
+        Example::TwoFeeders => TWO_FEEDERS,
+        Example::BareStub => BARE_STUB,
+        Example::TwoTransformers => TWO_TRANSFORMERS,
+        Example::TwoBusbars => TWO_BUSBARS,
+        Example::EightEarthed => EIGHT_EARTHED,
+    }
+}
+
+/// The station itself.
+pub fn built(alloc: Global, example: Example) -> Result<Station, DrawingFault> {
+    station_of(alloc, drawing_of(example))
+}
