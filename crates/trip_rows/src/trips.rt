@@ -109,7 +109,9 @@ fn expect_report(
     assert!(rt; fits_plain(station));
     let judge = PlainJudge::new(station);
     let report = replay_trips(alloc, station, &log, &judge)?;
-    let want = joined(alloc, &[bays, story.report])?;
+    let mut want = Text::new(alloc);
+    push_lines(&mut want, bays)?;
+    push_lines(&mut want, story.report)?;
     let text = report.text(alloc, station)?;
     assert_eq!(rt; text.bytes(), want.bytes());
     assert_eq!(rt; report.premise(), story.premise);
