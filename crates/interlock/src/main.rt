@@ -2,7 +2,8 @@
 #![tactic(auto)]
 
 use ilk_base::{FileShelf, StdIn, StdOut, write_all};
-use interlock_cli::{Status, run};
+use interlock_cli::{Status, run_stored};
+use node_store::FileDevice;
 use std::alloc::AllocError;
 use std::io::ErrorKind;
 use std::process::ExitCode;
@@ -34,6 +35,20 @@ fn main(rt: HostRuntime) -> ExitCode {
         // A word that is no text is a word of no command.
         Err(_) => Vec::new(alloc),
     };
-    let status = run(alloc, &words, &mut shelf, &mut input, &mut out, &mut err);
+    // The device of a stored session is the file of its last word; for other words it is never asked.
+    let name = match words.get(3) {
+        Some(name) => name.as_str(),
+        None => "",
+    };
+    let mut device = FileDevice::new(alloc, &rt, name);
+    let status = run_stored(
+        alloc,
+        &words,
+        &mut shelf,
+        &mut input,
+        &mut out,
+        &mut err,
+        &mut device,
+    );
     ExitCode::from(status as u8)
 }

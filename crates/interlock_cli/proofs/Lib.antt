@@ -7,3 +7,5 @@ pub mod Pieces
 pub mod Stopping
 pub mod Through
 pub mod Naming
+pub mod Storing
+pub mod StoredNaming

@@ -79,7 +79,7 @@ same_content held (File name) a b told is = let h = rw told at is in sym h
 same_content held (Word word) a b told is = sym is ∙ told
 
 module _ (held : List ℕ → Option (List ℕ)) (before after : List ℕ → ℕ) where
-  fails_memory : (origin : Origin) (f : Format) (content : List ℕ) (value : Value f) (end : End) → IsTold held origin content → Accepts f content value → (¬ ReadRose before after origin) → Fails held before after origin f end → end ≡ e.Memory
+  pub fails_memory : (origin : Origin) (f : Format) (content : List ℕ) (value : Value f) (end : End) → IsTold held origin content → Accepts f content value → (¬ ReadRose before after origin) → Fails held before after origin f end → end ≡ e.Memory
   fails_memory origin f content value e.Memory told accepts calm fails = refl
   fails_memory origin f content value e.ReadFault told accepts calm fails = absurd (calm fails)
   fails_memory origin f content value end told accepts calm (other, is, refuses) =
@@ -88,7 +88,7 @@ module _ (held : List ℕ → Option (List ℕ)) (before after : List ℕ → �
 
 module _ (c : Call) where
   -- what is found of the first that is named is what is told of it
-  found_told : (origin : Origin) (f : Format) (content : List ℕ) (value : Value f) → IsTold c.held origin content → Given c.held origin f value → Accepts f content value
+  pub found_told : (origin : Origin) (f : Format) (content : List ℕ) (value : Value f) → IsTold c.held origin content → Given c.held origin f value → Accepts f content value
   found_told origin f content value told (other, is, accepted) =
       let same = same_content c.held origin content other told is in
       subst (λ (x : List ℕ). Accepts f x value) same accepted

@@ -13,3 +13,5 @@ pub mod Pieces
 pub mod Serving
 pub mod Ends
 pub mod Complete
+pub mod StoredWords
+pub mod StoredEnding

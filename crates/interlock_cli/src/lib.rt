@@ -14,11 +14,15 @@ mod order_command;
 mod replay_command;
 mod state_command;
 mod status;
+mod stored_command;
+mod stored_top;
+mod stored_words;
 mod tell;
 mod top;
 mod words;
 
 pub use status::Status;
+pub use stored_top::run_stored;
 pub use top::run;
 
 #[cfg(test)]

@@ -28,3 +28,5 @@ mod replays;
 mod rows;
 #[cfg(test)]
 mod sessions;
+#[cfg(test)]
+mod stored;
