@@ -104,7 +104,7 @@ wants_as_run command c err_old err_new err_before err_after same line =
       answers = record { end = e.Memory; status_is = refl; ends = ends; line = line };
       usage = λ is. absurd (memory_used is);
       unnamed = λ none. inr refl;
-      complete = completes t.Memory command c e.Memory refl ends;
+      complete = completes c t.Memory command e.Memory refl ends;
     }
 
 -- what holds of all words holds of these, if they are such
