@@ -16,6 +16,7 @@ const CLOSE: &[u8] = b"command close S/V1/Q1/QB1\n";
 const ROUND: &[u8] = b"collecting 1\nsend 010102000000010000\n";
 
 // How a call ends: its status, what `out` took, and its line on `err`.
+#[derive(Clone, Copy)]
 struct End {
     status: Status,
     text: &'static [u8],
@@ -68,7 +69,14 @@ fn a_stored_round(rt: HostRuntime) -> Result<(), Fail> {
         text: b"collecting 2\nsend 010102000000020000\n",
         line: "",
     };
-    expect_stored(&rt, alloc, Q1, b"tick\ncommand close S/V1/Q1/QB1", &mut device, &next)?;
+    expect_stored(
+        &rt,
+        alloc,
+        Q1,
+        b"tick\ncommand close S/V1/Q1/QB1",
+        &mut device,
+        &next,
+    )?;
     image[32] = 1;
     image[40] = 2;
     image[44] = 2;
@@ -134,7 +142,11 @@ fn an_unfit_record(rt: HostRuntime) -> Result<(), Fail> {
     assert!(rt; device.write(9, &[0xff; 18]).is_ok());
     expect_stored(&rt, alloc, Q1, CLOSE, &mut device, &unfit)?;
     // a record whose lock is of the bay itself: part 1, of its round 1
-    assert!(rt; device.write(9, &[0, 0, 0, 1, 1, 1, 0, 0, 0, 1, 0, 0, 0, 0, 0, 0, 0, 0]).is_ok());
+    assert!(rt;
+        device
+            .write(9, &[0, 0, 0, 1, 1, 1, 0, 0, 0, 1, 0, 0, 0, 0, 0, 0, 0, 0])
+            .is_ok()
+    );
     expect_stored(&rt, alloc, Q1, CLOSE, &mut device, &unfit)
 }
 
@@ -154,8 +166,22 @@ fn other_words(rt: HostRuntime) -> Result<(), Fail> {
     };
     let mut device = MemDevice::new(alloc, 40)?;
     expect_stored(&rt, alloc, "node a.ssd S/V1/Q1", CLOSE, &mut device, &node)?;
-    expect_stored(&rt, alloc, "stored a.ssd S/V1/Q1", CLOSE, &mut device, &usage)?;
-    expect_stored(&rt, alloc, "stored a.ssd S/V1/Q1 -", CLOSE, &mut device, &usage)?;
+    expect_stored(
+        &rt,
+        alloc,
+        "stored a.ssd S/V1/Q1",
+        CLOSE,
+        &mut device,
+        &usage,
+    )?;
+    expect_stored(
+        &rt,
+        alloc,
+        "stored a.ssd S/V1/Q1 -",
+        CLOSE,
+        &mut device,
+        &usage,
+    )?;
     assert_eq!(rt; device.bytes(), [0; 64].as_slice());
     Ok(())
 }
