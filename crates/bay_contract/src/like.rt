@@ -6,7 +6,7 @@ ghost use Rattle.bay_contract.specs.Courses.{AtOnePlace, AreRelated, IsLike, IsL
 use crate::course::{Course, Turn};
 use contraction::Contraction;
 
-// Whether the nodes stand at one place of two lists, the first of them for the first time.
+// Whether the nodes stand at one place of two lists.
 fn at_one_place(from: &[u16], to: &[u16], node: u16, other: u16) -> bool
     requires { length from.now ≡ length to.now }
     ensures { IsTrue result → AtOnePlace from.now to.now node other }

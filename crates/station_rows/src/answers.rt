@@ -318,17 +318,3 @@ fn no_item(rt: HostRuntime) -> Result<(), Fail> {
     expect_single(&rt, &value, (2, false, false, Supply::Bare));
     Ok(())
 }
-
-// No item, on the same nodes again: the answers stay. On two nodes they are others.
-#[test]
-fn same_nodes_again(rt: HostRuntime) -> Result<(), Fail> {
-    let nodes = first_nodes(rt.alloc(), 3)?;
-    let value = Contraction::empty(rt.alloc(), &nodes)?;
-    let again = value.renamed(rt.alloc(), &nodes)?;
-    let fewer = Contraction::empty(rt.alloc(), &first_nodes(rt.alloc(), 2)?)?;
-    assert_eq!(rt; again.nodes().len(), 3);
-    assert!(rt; again.keeps(NodeId(2)));
-    assert!(rt; again.answers_as(&value));
-    assert!(rt; !again.answers_as(&fewer));
-    Ok(())
-}
