@@ -3,17 +3,15 @@ ghost use Rattle.std.specs.Prelude.{◌≡◌, ◌<◌, ◌≤◌, length, IfOk}
 ghost use Rattle.station_graph.specs.CentralRules.{IsOperation};
 ghost use Rattle.double_points.specs.Words.{AreWords};
 
-use crate::drawings::{BARE_STUB, SECTIONS, TWO_TRANSFORMERS};
 use central_rules::{Judge, PLAIN_SWITCHES, PlainJudge, Verdict};
 use double_points::Readings;
-use ilk_base::{Dbpos, Direction, Memory, Op, Rule, SwitchId};
+use ilk_base::{Dbpos, Direction, Memory, Op, SwitchId};
 use release_compile::GraphJudge;
-use ssd_read::read_ssd;
 use station_graph::Station;
-use station_make::{LEAST_FEEDERS, make};
 use std::alloc::Global;
 use std::process::Abort;
 use std::test::Fail;
+use worked_stations::{Example, built};
 
 // Rows of words, each repeated over the switches in document order: a sign for each.
 const ROWS: [&[u8]; 12] = [
@@ -31,47 +29,43 @@ fn word_of(sign: u8) -> Dbpos {
     }
 }
 
+// The sign of a switch in a row that is repeated.
+fn sign_at(row: &[u8], i: u16) -> u8 {
+    if row.is_empty() {
+        return b'?';
+    }
+    row[usize::from(i) % row.len()]
+}
+
 // The words of all switches by a row.
 fn words(alloc: Global, station: &Station, row: &[u8]) -> Result<Readings, Memory>
     ensures { IfOk result (λ r. AreWords station.now r) }
 {
     let mut readings = Readings::lost(alloc, station)?;
-    let mut place = 0;
     for i in 0..station.switch_count() {
-        if place >= row.len() {
-            place = 0;
-        }
-        if place < row.len() {
-            readings.sense(SwitchId(i), word_of(row[place]));
-            place += 1;
-        }
+        readings.sense(SwitchId(i), word_of(sign_at(row, i)));
     }
     Ok(readings)
 }
 
-// The rule of a denial.
-fn rule_of(verdict: &Verdict) -> Option<Rule> {
+fn is_release(verdict: &Verdict) -> bool {
     match verdict {
-        Verdict::Release => None,
-        Verdict::Denied { rule, .. } => Some(*rule),
+        Verdict::Release => true,
+        Verdict::Denied { .. } => false,
     }
 }
 
-// The rule by which a judge denies the operation.
-fn rule_by<J: Judge>(
-    alloc: Global,
-    judge: &J,
-    op: Op,
-    readings: &Readings,
-) -> Result<Option<Rule>, Memory>
+// Whether a judge releases the operation.
+fn releases<J: Judge>(alloc: Global, judge: &J, op: Op, readings: &Readings) -> Result<bool, Memory>
     requires op { IsOperation (J.meaning judge.now).diagram op }
     requires words { AreWords (J.meaning judge.now).diagram readings.now }
 {
     let verdict = judge.judge_all(alloc, op, readings)?;
-    Ok(rule_of(&verdict))
+    Ok(is_release(&verdict))
 }
 
-// Both judges rule alike on the operation.
+// Both judges rule alike on the operation. Where several readings break a rule, each may show another, and so another
+// rule.
 fn expect_operation(
     rt: &impl Abort,
     alloc: Global,
@@ -87,9 +81,9 @@ fn expect_operation(
     requires op { IsOperation station.now op }
     requires words { AreWords station.now readings.now }
 {
-    let want = rule_by(alloc, plain, op, readings)?;
-    assert_eq!(rt; rule_by(alloc, graphs, op, readings)?, want);
-    assert_eq!(rt; rule_of(found), want);
+    let want = releases(alloc, plain, op, readings)?;
+    assert_eq!(rt; releases(alloc, graphs, op, readings)?, want);
+    assert_eq!(rt; is_release(found), want);
     Ok(())
 }
 
@@ -168,23 +162,24 @@ fn expect_station(rt: &impl Abort, alloc: Global, station: &Station) -> Result<(
     expect_rows(rt, alloc, station, &graphs, &plain)
 }
 
-// Of a drawing.
-fn expect_drawing(rt: &impl Abort, alloc: Global, drawing: &[u8]) -> Result<(), Fail> {
-    let station = read_ssd(alloc, drawing)?;
+fn expect_example(rt: &impl Abort, alloc: Global, example: Example) -> Result<(), Fail> {
+    let station = built(alloc, example)?;
     expect_station(rt, alloc, &station)
 }
 
 #[test]
-fn drawn_stations(rt: HostRuntime) -> Result<(), Fail> {
-    for drawing in [BARE_STUB, TWO_TRANSFORMERS, SECTIONS] {
-        expect_drawing(&rt, rt.alloc(), drawing.as_bytes())?;
+fn small_stations(rt: HostRuntime) -> Result<(), Fail> {
+    for example in [
+        Example::BareStub,
+        Example::TwoTransformers,
+        Example::TwoFeeders,
+    ] {
+        expect_example(&rt, rt.alloc(), example)?;
     }
     Ok(())
 }
 
-// Two busbars with a coupler and two feeders.
 #[test]
-fn made_station(rt: HostRuntime) -> Result<(), Fail> {
-    let made = make(rt.alloc(), LEAST_FEEDERS)?;
-    expect_drawing(&rt, rt.alloc(), made.station.bytes())
+fn two_busbars(rt: HostRuntime) -> Result<(), Fail> {
+    expect_example(&rt, rt.alloc(), Example::TwoBusbars)
 }

@@ -3,5 +3,3 @@
 
 #[cfg(test)]
 mod agree;
-#[cfg(test)]
-mod drawings;

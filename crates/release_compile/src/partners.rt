@@ -42,11 +42,7 @@ fn view_tells(alloc: Global, graphs: &ViewGraphs) -> Result<Vec<bool>, Memory>
 }
 
 // For each other part, in document order, whether the graphs of one of the two views tell of its layer.
-fn told_layers(
-    alloc: Global,
-    gap: &ViewGraphs,
-    load: &ViewGraphs,
-) -> Result<Vec<bool>, Memory>
+fn told_layers(alloc: Global, gap: &ViewGraphs, load: &ViewGraphs) -> Result<Vec<bool>, Memory>
     requires same { length gap.now.outer.layers ≡ length load.now.outer.layers }
     requires gap_inners { AreInnersOf gap.now.outer.labels gap.now.inner.items }
     requires load_inners { AreInnersOf load.now.outer.labels load.now.inner.items }
