@@ -7,12 +7,14 @@ use Rattle.bay_frames.specs.declared.frame.Body.TheVariants.{Reserve, Answer, Bu
 use Rattle.bay_frames.specs.Row.{payload_row, FitsRow, FitsBody}
 
 pub fits_answer : (f : Frame) (summary bytes : List ℕ) → f.body ≡ Answer summary → bytes ≡ summary → length bytes ≤ 32 →
-  f.round < 2 ^ 32 → FitsRow f
-fits_answer f summary bytes e same short round = record { round = round;
-  body = subst FitsBody (sym e) (subst (λ (s : List ℕ). length s ≤ 32) same short) }
+    f.round < 2 ^ 32 → FitsRow f
+fits_answer f summary bytes e same short round = record {
+  round = round;
+  body = subst FitsBody (sym e) (subst (λ (s : List ℕ). length s ≤ 32) same short);
+}
 
 pub fits_busy : (f : Frame) (holder : BayId) (q : ℕ) → f.body ≡ Busy holder q → q < 2 ^ 32 →
-  f.round < 2 ^ 32 → FitsRow f
+    f.round < 2 ^ 32 → FitsRow f
 fits_busy f holder q e lt round = record { round = round; body = subst FitsBody (sym e) lt }
 
 -- a body that carries nothing

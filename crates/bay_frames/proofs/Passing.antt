@@ -26,16 +26,16 @@ use Rattle.bay_frames.proofs.Rows.{IsBytes, frame_again, round_back, holder_back
 
 -- a list of which no test fails begins with one that does not, and so on
 pub passes_first : (b : Bool) (r : FrameRefusal) (tests : List (Option FrameRefusal)) →
-  first_refusal (refused_if b r ∷ tests) ≡ None → (b ≡ false) × (first_refusal tests ≡ None)
+    first_refusal (refused_if b r ∷ tests) ≡ None → (b ≡ false) × (first_refusal tests ≡ None)
 passes_first true r tests e = absurd cc
 passes_first false r tests e = (refl, e)
 
 pub passes : (b : Bool) (r : FrameRefusal) (tests : List (Option FrameRefusal)) → b ≡ false →
-  first_refusal tests ≡ None → first_refusal (refused_if b r ∷ tests) ≡ None
+    first_refusal tests ≡ None → first_refusal (refused_if b r ∷ tests) ≡ None
 passes b r tests e h = rw e h
 
 pub parts_pass : (xs ys : List (Option FrameRefusal)) → first_refusal (xs ++ ys) ≡ None → (first_refusal xs ≡ None)
-  × (first_refusal ys ≡ None)
+    × (first_refusal ys ≡ None)
 parts_pass [] ys e = (refl, e)
 parts_pass (None ∷ xs) ys e = parts_pass xs ys e
 parts_pass (Some r ∷ xs) ys e = absurd cc
@@ -73,8 +73,12 @@ size_fits bytes e =
     let f = passes_first (ltb (9 + said) n) (Long n (9 + said)) [] d.1 in
     let low : 9 + said ≤ n = ltb-false _ _ d.0 in
     let high : n ≤ 9 + said = ltb-false _ _ f.0 in
-    record { head = ltb-false _ _ a.0; kind = not-false _ b.0; fits = not-false _ c.0;
-      whole = omega (arith, low, high) }
+    record {
+      head = ltb-false _ _ a.0;
+      kind = not-false _ b.0;
+      fits = not-false _ c.0;
+      whole = omega (arith, low, high);
+    }
 
 pub size_passes : (bytes : List ℕ) → FitsSize bytes → first_refusal (size_tests bytes) ≡ None
 size_passes bytes h =
@@ -108,8 +112,8 @@ number_fits bytes fits = omega (arith, fits 0, fits 1, fits 2, fits 3)
 
 abbrev body_of : ℕ → List ℕ → BayId → ℕ → Body
 body_of kind rest holder q =
-  cond (eqb kind 1) Reserve (cond (eqb kind 2) (Answer rest) (cond (eqb kind 3) (Busy holder q)
-  (cond (eqb kind 4) Query Over)))
+    cond (eqb kind 1) Reserve (cond (eqb kind 2) (Answer rest) (cond (eqb kind 3) (Busy holder q)
+    (cond (eqb kind 4) Query Over)))
 
 record IsBody (kind : ℕ) (rest : List ℕ) (body : Body) : Type 0 where
   pub number : kind_number body ≡ kind
@@ -118,7 +122,7 @@ record IsBody (kind : ℕ) (rest : List ℕ) (body : Body) : Type 0 where
 
 abbrev BodyAt : List ℕ → BayId → ℕ → ℕ → Type 0
 BodyAt rest holder q kind = is_length kind (length rest) ≡ true →
-  (length rest ≡ 5 → holder.0 ∷ to_be_bytes w32 q ≡ rest) → q < 2 ^ 32 → IsBody kind rest (body_of kind rest holder q)
+    (length rest ≡ 5 → holder.0 ∷ to_be_bytes w32 q ≡ rest) → q < 2 ^ 32 → IsBody kind rest (body_of kind rest holder q)
 
 empty : (rest : List ℕ) → eqb (length rest) 0 ≡ true → [] ≡ rest
 empty rest e = sym (nil_from_length rest (eqb-true _ _ e))
@@ -149,10 +153,10 @@ body_is kind rest holder q is =
     ]
 
 holder_row : (rest : List ℕ) → IsBytes rest → length rest ≡ 5 →
-  get_or rest 0 0 ∷ to_be_bytes w32 (from_be_bytes w32 (drop 1 rest)) ≡ rest
+    get_or rest 0 0 ∷ to_be_bytes w32 (from_be_bytes w32 (drop 1 rest)) ≡ rest
 holder_row [] fits len = absurd (omega arith)
 holder_row (h ∷ q) fits len =
-  ap (λ (t : List ℕ). h ∷ t) (be_bytes_4 q _ (omega arith) (IsBytes-drop 1 (h ∷ q) fits) refl)
+    ap (λ (t : List ℕ). h ∷ t) (be_bytes_4 q _ (omega arith) (IsBytes-drop 1 (h ∷ q) fits) refl)
 
 -- ---- bytes that pass
 
@@ -161,23 +165,23 @@ row_is : (bytes : List ℕ) → IsBytes bytes → 9 ≤ length bytes → length 
 row_is (k ∷ a ∷ b ∷ r0 ∷ r1 ∷ r2 ∷ r3 ∷ l0 ∷ l1 ∷ rest) fits long len =
     let bytes : List ℕ = k ∷ a ∷ b ∷ r0 ∷ r1 ∷ r2 ∷ r3 ∷ l0 ∷ l1 ∷ rest in
     let round = be_bytes_4 (r0 ∷ r1 ∷ r2 ∷ r3 ∷ []) (round_at bytes 3) refl (IsBytes-take 4 (drop 3 bytes)
-      (IsBytes-drop 3 bytes fits)) refl in
+    (IsBytes-drop 3 bytes fits)) refl in
     let size = be_bytes_2 (l0 ∷ l1 ∷ []) (length rest) refl (IsBytes-take 2 (drop 7 bytes)
-      (IsBytes-drop 7 bytes fits)) len in
+    (IsBytes-drop 7 bytes fits)) len in
     let f : List ℕ → List ℕ = λ x. (k ∷ a ∷ b ∷ []) ++ x ++ to_be_bytes w16 (length rest) ++ rest in
     let g : List ℕ → List ℕ = λ x. (k ∷ a ∷ b ∷ []) ++ (r0 ∷ r1 ∷ r2 ∷ r3 ∷ []) ++ x ++ rest in
     ap f round ∙ ap g size
 row_is _ fits long len = absurd (omega arith)
 
 body_at_is : (bytes : List ℕ) → IsBytes bytes → FitsSize bytes →
-  IsBody (get_or bytes 0 0) (drop 9 bytes) (body_at bytes)
+    IsBody (get_or bytes 0 0) (drop 9 bytes) (body_at bytes)
 body_at_is (k ∷ a ∷ b ∷ r0 ∷ r1 ∷ r2 ∷ r3 ∷ l0 ∷ l1 ∷ rest) fits h =
     let bytes : List ℕ = k ∷ a ∷ b ∷ r0 ∷ r1 ∷ r2 ∷ r3 ∷ l0 ∷ l1 ∷ rest in
     let rest_fits = IsBytes-drop 9 bytes fits in
     let len : length rest ≡ said_length bytes = omega (arith, h.whole) in
     let lawful : is_length k (length rest) ≡ true = ap (λ (n : ℕ). is_length k n) len ∙ h.fits in
     body_is k rest (record { 0 = get_or rest 0 0 }) (from_be_bytes w32 (drop 1 rest)) h.kind lawful
-      (holder_row rest rest_fits) (number_fits (drop 1 rest) (IsBytes-drop 1 rest rest_fits))
+    (holder_row rest rest_fits) (number_fits (drop 1 rest) (IsBytes-drop 1 rest rest_fits))
 body_at_is _ fits h = absurd (omega (arith, h.head))
 
 pub is_row : (bytes : List ℕ) → IsBytes bytes → first_failure bytes ≡ None → bytes ≡ frame_row (frame_at bytes)
@@ -186,9 +190,9 @@ is_row bytes fits e =
     let b = body_at_is bytes fits h in
     let len : length (drop 9 bytes) ≡ said_length bytes = omega (arith, h.whole, h.head, length-drop 9 bytes) in
     let f : ℕ → List ℕ = λ k. row_of k (get_or bytes 1 0) (get_or bytes 2 0) (round_at bytes 3)
-      (payload_row (body_at bytes)) in
+    (payload_row (body_at bytes)) in
     let g : List ℕ → List ℕ = λ p. row_of (get_or bytes 0 0) (get_or bytes 1 0) (get_or bytes 2 0)
-      (round_at bytes 3) p in
+    (round_at bytes 3) p in
     sym (ap f b.number ∙ ap g b.payload ∙ row_is bytes fits h.head len)
 
 pub is_frame : (bytes : List ℕ) → IsBytes bytes → first_failure bytes ≡ None → FitsRow (frame_at bytes)
@@ -197,7 +201,7 @@ is_frame bytes fits e =
     record { round = number_fits (drop 3 bytes) (IsBytes-drop 3 bytes fits); body = (body_at_is bytes fits h).fits }
 
 lawful_body : (b1 b2 b3 b4 : Bool) (rest : List ℕ) (holder : BayId) (q : ℕ) →
-  first_refusal (cond b3 (refused_if (ltb 199 holder.0) (Field 9) ∷ refused_if (eqb q 0) (Field 10) ∷ []) []) ≡ None
+    first_refusal (cond b3 (refused_if (ltb 199 holder.0) (Field 9) ∷ refused_if (eqb q 0) (Field 10) ∷ []) []) ≡ None
     → IsLawfulBody (cond b1 Reserve (cond b2 (Answer rest) (cond b3 (Busy holder q) (cond b4 Query Over))))
 lawful_body true b2 b3 b4 rest holder q e = tt
 lawful_body false true b3 b4 rest holder q e = tt
@@ -230,13 +234,13 @@ is_lawful bytes e =
       other = eqb-false _ _ receiver.1;
       round = eqb-false _ _ c.0;
       body = lawful_body (eqb kind 1) (eqb kind 2) (eqb kind 3) (eqb kind 4) (drop 9 bytes) (bay_at bytes 9)
-        (round_at bytes 10) c.1;
+          (round_at bytes 10) c.1;
     }
 
 -- ---- rows pass
 
 joined : (xs ys : List (Option FrameRefusal)) → first_refusal xs ≡ None → first_refusal ys ≡ None →
-  first_refusal (xs ++ ys) ≡ None
+    first_refusal (xs ++ ys) ≡ None
 joined [] ys e h = h
 joined (None ∷ xs) ys e h = joined xs ys e h
 joined (Some r ∷ xs) ys e h = absurd cc
@@ -256,7 +260,7 @@ row_length Query h = refl
 row_length Over h = refl
 
 row_payload : (from to round : ℕ) (body : Body) → FitsBody body → IsLawfulBody body →
-  first_refusal (payload_tests (row_of (kind_number body) from to round (payload_row body))) ≡ None
+    first_refusal (payload_tests (row_of (kind_number body) from to round (payload_row body))) ≡ None
 row_payload from to round Reserve h l = refl
 row_payload from to round (Answer s) h l = refl
 row_payload from to round (Busy holder q) h l =
@@ -270,9 +274,9 @@ row_payload from to round Over h l = refl
 pub row_passes : (f : Frame) → FitsRow f → IsLawful f → first_failure (frame_row f) ≡ None
 row_passes f h l =
     let said : said_length (frame_row f) ≡ length (payload_row f.body) = length_said (kind_number f.body) f.from.0
-      f.to.0 f.round (payload_row f.body) (payload_short f.body h.body) in
+    f.to.0 f.round (payload_row f.body) (payload_short f.body h.body) in
     let round : round_at (frame_row f) 3 ≡ f.round = round_back (kind_number f.body) f.from.0 f.to.0 f.round
-      (payload_row f.body) h.round in
+    (payload_row f.body) h.round in
     let size = size_passes (frame_row f) (record {
       head = omega arith;
       kind = row_kind f.body;
@@ -284,9 +288,9 @@ row_passes f h l =
     joined (size_tests row) (field_tests row) size
     (passes (ltb 199 f.from.0) (Field 1) (from_receiver row) (le-ltb _ _ l.from)
     (passes (ltb 199 f.to.0 || eqb f.to.0 f.from.0) (Field 2) (from_round row) (or_from _ _ (le-ltb _ _ l.to)
-      (ne_eqb _ _ l.other))
+    (ne_eqb _ _ l.other))
     (passes (eqb (round_at row 3) 0) (Field 3) (payload_tests row) (ne_eqb _ _ other)
-      (row_payload f.from.0 f.to.0 f.round f.body h.body l.body))))
+    (row_payload f.from.0 f.to.0 f.round f.body h.body l.body))))
 
 -- ---- what reading answers
 
@@ -294,7 +298,7 @@ abbrev pub IsRead : List ℕ → Result Frame FrameRefusal → Type 0
 IsRead bytes r = PassesOrRefuses r (size_tests bytes ++ field_tests bytes) (λ f. f ≡ frame_at bytes)
 
 pub read_row : (bytes : List ℕ) (r : Result Frame FrameRefusal) → IsBytes bytes → IsRead bytes r →
-  IfOk r (λ f. bytes ≡ frame_row f)
+    IfOk r (λ f. bytes ≡ frame_row f)
 read_row bytes (Ok f) fits h = subst (λ (g : Frame). bytes ≡ frame_row g) (sym h.0) (is_row bytes fits h.1)
 read_row bytes (Err e) fits h = tt
 
@@ -303,7 +307,7 @@ read_lawful bytes (Ok f) h = subst (λ (g : Frame). IsLawful g) (sym h.0) (is_la
 read_lawful bytes (Err e) h = tt
 
 pub read_frame : (bytes : List ℕ) (r : Result Frame FrameRefusal) → IsBytes bytes → IsRead bytes r →
-  IfOk r (λ f. FitsRow f)
+    IfOk r (λ f. FitsRow f)
 read_frame bytes (Ok f) fits h = subst (λ (g : Frame). FitsRow g) (sym h.0) (is_frame bytes fits h.1)
 read_frame bytes (Err e) fits h = tt
 
@@ -311,7 +315,7 @@ abbrev found : Frame → Result Frame FrameRefusal
 found f = Ok f
 
 pub read_only : (bytes : List ℕ) (r : Result Frame FrameRefusal) (f : Frame) → IsRead bytes r → FitsRow f → IsLawful f →
-  bytes ≡ frame_row f → r ≡ Ok f
+    bytes ≡ frame_row f → r ≡ Ok f
 read_only bytes (Ok g) f h fits lawful e = ap found (h.0 ∙ ap frame_at e ∙ frame_again f fits)
 read_only bytes (Err x) f h fits lawful e =
     let none : first_failure bytes ≡ None = ap first_failure e ∙ row_passes f fits lawful in

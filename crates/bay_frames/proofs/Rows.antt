@@ -18,11 +18,11 @@ IsBytes bytes = (i : ℕ) → get_or bytes i 0 < 256
 -- ---- the fields of a row
 
 pub round_back : (kind from to round : ℕ) (payload : List ℕ) → round < 2 ^ 32 →
-  round_at (row_of kind from to round payload) 3 ≡ round
+    round_at (row_of kind from to round payload) 3 ≡ round
 round_back kind from to round payload lt = from_be_bytes-to_be_bytes_4 round lt
 
 pub holder_back : (kind from to round holder q : ℕ) → q < 2 ^ 32 →
-  round_at (row_of kind from to round (holder ∷ to_be_bytes w32 q)) 10 ≡ q
+    round_at (row_of kind from to round (holder ∷ to_be_bytes w32 q)) 10 ≡ q
 holder_back kind from to round holder q lt = from_be_bytes-to_be_bytes_4 q lt
 
 pub payload_short : (body : Body) → FitsBody body → length (payload_row body) ≤ 32
@@ -33,11 +33,11 @@ payload_short Query h = omega arith
 payload_short Over h = omega arith
 
 pub length_said : (kind from to round : ℕ) (payload : List ℕ) → length payload ≤ 32 →
-  said_length (row_of kind from to round payload) ≡ length payload
+    said_length (row_of kind from to round payload) ≡ length payload
 length_said kind from to round payload le = from_be_bytes-to_be_bytes_2 (length payload) (omega (arith, le))
 
 length_back : (kind from to round : ℕ) (payload more : List ℕ) → length payload ≤ 32 →
-  said_length (row_of kind from to round payload ++ more) ≡ length payload
+    said_length (row_of kind from to round payload ++ more) ≡ length payload
 length_back kind from to round payload more le = from_be_bytes-to_be_bytes_2 (length payload) (omega (arith, le))
 
 again : (from to : BayId) (round : ℕ) (body : Body) → round < 2 ^ 32 → FitsBody body
@@ -49,11 +49,15 @@ again from to round (Answer s) h b =
     let made : ℕ → Frame = λ r. record { from = from; to = to; round = r; body = Answer s } in
     ap made (round_back 2 from.0 to.0 round s h)
 again from to round (Busy holder q) h b =
-    let first : ℕ → Frame = λ r. record { from = from; to = to; round = r;
-      body = Busy holder (round_at (row_of 3 from.0 to.0 round (holder.0 ∷ to_be_bytes w32 q)) 10) } in
+    let first : ℕ → Frame = λ r. record {
+      from = from;
+      to = to;
+      round = r;
+      body = Busy holder (round_at (row_of 3 from.0 to.0 round (holder.0 ∷ to_be_bytes w32 q)) 10);
+    } in
     let second : ℕ → Frame = λ r. record { from = from; to = to; round = round; body = Busy holder r } in
     ap first (round_back 3 from.0 to.0 round (holder.0 ∷ to_be_bytes w32 q) h)
-      ∙ ap second (holder_back 3 from.0 to.0 round holder.0 q b)
+    ∙ ap second (holder_back 3 from.0 to.0 round holder.0 q b)
 again from to round Query h b =
     let made : ℕ → Frame = λ r. record { from = from; to = to; round = r; body = Query } in
     ap made (round_back 4 from.0 to.0 round [] h)
@@ -70,21 +74,21 @@ one_frame f g hf hg e = sym (frame_again f hf) ∙ ap frame_at e ∙ frame_again
 -- ---- no front
 
 nothing_behind : (f g : Frame) (more : List ℕ) → FitsRow f → FitsRow g → frame_row f ≡ frame_row g ++ more →
-  length more ≡ 0
+    length more ≡ 0
 nothing_behind f g more hf hg e =
     let said_f : said_length (frame_row f) ≡ length (payload_row f.body) = length_said (kind_number f.body) f.from.0
-      f.to.0 f.round (payload_row f.body) (payload_short f.body hf.body) in
+    f.to.0 f.round (payload_row f.body) (payload_short f.body hf.body) in
     let said_g : said_length (frame_row g ++ more) ≡ length (payload_row g.body) =
-      length_back (kind_number g.body) g.from.0 g.to.0 g.round (payload_row g.body) more
-      (payload_short g.body hg.body) in
+    length_back (kind_number g.body) g.from.0 g.to.0 g.round (payload_row g.body) more
+    (payload_short g.body hg.body) in
     let same : length (payload_row f.body) ≡ length (payload_row g.body) = sym said_f ∙ ap said_length e ∙ said_g in
     let long : length (frame_row f) ≡ length (frame_row g ++ more) = ap length e in
     omega (arith, same, long, length-append (frame_row g) more)
 
 pub no_front : (f g : Frame) (n : ℕ) → FitsRow f → FitsRow g → n < length (frame_row f) →
-  take n (frame_row f) ≢ frame_row g
+    take n (frame_row f) ≢ frame_row g
 no_front f g n hf hg lt e =
     let whole : frame_row f ≡ frame_row g ++ drop n (frame_row f) = sym (take-append-drop n (frame_row f))
-      ∙ ap (λ (t : List ℕ). t ++ drop n (frame_row f)) e in
+    ∙ ap (λ (t : List ℕ). t ++ drop n (frame_row f)) e in
     let none = nothing_behind f g (drop n (frame_row f)) hf hg whole in
     omega (arith, none, lt, length-drop n (frame_row f))

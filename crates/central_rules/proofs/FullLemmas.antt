@@ -22,7 +22,7 @@ use Rattle.central_rules.proofs.SameAnswerLemmas.{SameAnswers-trans, alike_same,
 
 -- words that are off or on leave a bay one position
 certain_same : (d : Diagram) (b : ℕ) (words : List Dbpos) (v w : List Bool) → IsVector d v → IsVector d w →
-  AllCertain d b words → BayAgrees d b words v → BayAgrees d b words w → SamePositions (OfPart d b) v w
+    AllCertain d b words → BayAgrees d b words v → BayAgrees d b words w → SamePositions (OfPart d b) v w
 certain_same d b words v w whole_v whole_w certain agrees_v agrees_w i of_b =
     let lt : i < length d.switches = slice_get_within d.switches i of_b.0 of_b.1 in
     let p = element v i (omega (arith, lt, whole_v)) in
@@ -39,7 +39,7 @@ certain_same d b words v w whole_v whole_w certain agrees_v agrees_w i of_b =
     ]
 
 module _ (d : Diagram) (station : IsStation d) (k : Known) (full : IsFull d k) (v w : List Bool)
-  (reads_v : IsReadingOf d k v) (reads_w : IsReadingOf d k w) where
+    (reads_v : IsReadingOf d k v) (reads_w : IsReadingOf d k w) where
   -- the parts below n stand as in w, the others as in v, and the answers are those of v
   record Turned (n : ℕ) : Type 0 where
     now : List Bool
@@ -55,7 +55,7 @@ module _ (d : Diagram) (station : IsStation d) (k : Known) (full : IsFull d k) (
     whole = t.whole;
     done = λ b lt i of_b. elim (cases_eq b n) [
       | inl e ↦ same i (subst (λ j. OfPart d j (a_switch i)) e of_b) ∙ t.rest n (omega arith) i
-        (subst (λ j. OfPart d j (a_switch i)) e of_b)
+          (subst (λ j. OfPart d j (a_switch i)) e of_b)
       | inr ne ↦ t.done b (omega (arith, lt, ne)) i of_b
     ];
     rest = λ b low. t.rest b (omega (arith, low));
@@ -64,11 +64,11 @@ module _ (d : Diagram) (station : IsStation d) (k : Known) (full : IsFull d k) (
 
   -- the next part is set as in w, where that changes no answer
   turns : (n : ℕ) (t : Turned n) → ((x : List Bool) → IsVector d x → SamePositions (OfPart d n) w x →
-    DifferInPart d n t.now x → SameAnswers d k.bay t.now x) → Turned (suc n)
+      DifferInPart d n t.now x → SameAnswers d k.bay t.now x) → Turned (suc n)
   turns n t answers =
       let m = mixed d n w t.now reads_w.whole t.whole in
       let others : (b : ℕ) → b ≢ n → SamePositions (OfPart d b) t.now m.0 =
-        λ b ne i of_b. m.3 i (λ of_n. ne (one_part d b n i of_b of_n)) in
+      λ b ne i of_b. m.3 i (λ of_n. ne (one_part d b n i of_b of_n)) in
       record {
         now = m.0;
         whole = m.1;
@@ -82,46 +82,46 @@ module _ (d : Diagram) (station : IsStation d) (k : Known) (full : IsFull d k) (
 
   -- a bay whose words are off or on stands in both readings alike to the one position of its words
   both_alike : (n : ℕ) (words : List Dbpos) → AllCertain d n words → StandsAlike d n words v → StandsAlike d n words w →
-    Alike d n v w
+      Alike d n v w
   both_alike n words certain p q =
       let one : Alike d n p.position q.position = alike_same d n p.position q.position
-        (certain_same d n words p.position q.position p.whole q.whole certain p.agrees q.agrees) in
+      (certain_same d n words p.position q.position p.whole q.whole certain p.agrees q.agrees) in
       alike_trans d n v p.position w p.alike (alike_trans d n p.position q.position w one
-        (alike_sym d n w q.position q.alike))
+      (alike_sym d n w q.position q.alike))
 
   -- the answers where part n turns, by what was heard of it
   answers_turn : (n : ℕ) (t : Turned n) (words : List Dbpos) → n ≢ k.bay → slice_get k.heard n ≡ Some (Some words) →
-    AllCertain d n words → (x : List Bool) → IsVector d x → SamePositions (OfPart d n) w x → DifferInPart d n t.now x →
-    SameAnswers d k.bay t.now x
+      AllCertain d n words → (x : List Bool) → IsVector d x → SamePositions (OfPart d n) w x → DifferInPart d n t.now x →
+      SameAnswers d k.bay t.now x
   answers_turn n t words differ told certain x whole there elsewhere = elim (reads_v.heard n words differ told) [
     | inl irrelevant ↦ irrelevant t.now x t.whole whole elsewhere
     | inr p ↦ elim (reads_w.heard n words differ told) [
       | inl irrelevant ↦ irrelevant t.now x t.whole whole elsewhere
       | inr q ↦
           let back : Alike d n t.now v = alike_same d n t.now v (SamePositions-sym (OfPart d n) v t.now
-            (t.rest n (omega arith))) in
+          (t.rest n (omega arith))) in
           let forth : Alike d n w x = alike_same d n w x there in
           same_answers d k.bay t.now x station (alike_differ d n k.bay t.now x differ elsewhere
-            (alike_trans d n t.now v x back (alike_trans d n v w x (both_alike n words certain p q) forth)))
+          (alike_trans d n t.now v x back (alike_trans d n v w x (both_alike n words certain p q) forth)))
     ]
   ]
 
   -- a part of which no words were heard has no switch
   unheard : (n : ℕ) → n ≢ k.bay → ((words : List Dbpos) → slice_get k.heard n ≡ Some (Some words) → ⊥) →
-    SamePositions (OfPart d n) w v
+      SamePositions (OfPart d n) w v
   unheard n differ none i of_n = let h = full.others n i differ of_n in absurd (none h.0 h.1)
 
   next : (n : ℕ) → Turned n → (entry : Option (Option (List Dbpos))) → slice_get k.heard n ≡ entry → Turned (suc n)
   next n t entry is = elim (cases_eq n k.bay) [
     | inl own ↦ stands n t (subst (λ b. SamePositions (OfPart d b) w v) (sym own)
-      (certain_same d k.bay k.own w v reads_w.whole reads_v.whole full.own reads_w.own reads_v.own))
+        (certain_same d k.bay k.own w v reads_w.whole reads_v.whole full.own reads_w.own reads_v.own))
     | inr differ ↦ by_entry entry is differ
   ]
     where
       by_entry : (o : Option (Option (List Dbpos))) → slice_get k.heard n ≡ o → n ≢ k.bay → Turned (suc n)
       by_entry None at differ = stands n t (unheard n differ (λ words told. none-some (Some words) (sym at ∙ told)))
       by_entry (Some None) at differ =
-        stands n t (unheard n differ (λ words told. none-some words (same_Some None (Some words) (sym at ∙ told))))
+          stands n t (unheard n differ (λ words told. none-some words (same_Some None (Some words) (sym at ∙ told))))
       by_entry (Some (Some words)) at differ = turns n t (answers_turn n t words differ at (λ i of_n.
           let h = full.others n i differ of_n in
           let same : words ≡ h.0 = same_Some words h.0 (same_Some (Some words) (Some h.0) (sym at ∙ h.1)) in
@@ -153,5 +153,5 @@ module _ (d : Diagram) (station : IsStation d) (k : Known) (full : IsFull d k) (
       subst (λ (x : List Bool). SameAnswers d k.bay v x) (same_list t.now w each) t.same
 
 pub same_by_full : (d : Diagram) (k : Known) (v w : List Bool) → IsStation d → IsFull d k → IsReadingOf d k v →
-  IsReadingOf d k w → SameAnswers d k.bay v w
+    IsReadingOf d k w → SameAnswers d k.bay v w
 same_by_full d k v w station full reads_v reads_w = full_answers d station k full v w reads_v reads_w

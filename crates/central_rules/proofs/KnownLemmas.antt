@@ -53,7 +53,7 @@ length_agreeing (suc n) [] = ap (λ k. suc k) (length_agreeing n [])
 length_agreeing (suc n) (x ∷ words) = ap (λ k. suc k) (length_agreeing n words)
 
 agreeing_agrees : (n : ℕ) (words : List Dbpos) (i : ℕ) (word : Dbpos) (closed : Bool) → slice_get words i ≡ Some word →
-  slice_get (agreeing n words) i ≡ Some closed → Agrees word closed
+    slice_get (agreeing n words) i ≡ Some closed → Agrees word closed
 unfolding agreeing
 agreeing_agrees zero words i word closed at at_v = absurd (none-some closed at_v)
 agreeing_agrees (suc n) [] i word closed at at_v = absurd (none-some word at)
@@ -77,7 +77,7 @@ module _ (m : Meaning) (k : Known) (heard : List (Option (List ℕ))) (v : List 
 
   -- the next part stands still
   stays : (n : ℕ) (t : Moved n) → ((s : List ℕ) → n ≢ k.bay → slice_get heard n ≡ Some (Some s) → m.Allows n s t.now) →
-    Moved (suc n)
+      Moved (suc n)
   stays n t allows = record {
     now = t.now;
     whole = t.whole;
@@ -85,7 +85,7 @@ module _ (m : Meaning) (k : Known) (heard : List (Option (List ℕ))) (v : List 
     rest = λ b low. t.rest b (omega (arith, low));
     allowed = λ b s lt other told. elim (cases_eq b n) [
       | inl e ↦ subst (λ j. m.Allows j s t.now) (sym e) (allows s (subst (λ j. j ≢ k.bay) e other)
-        (subst (λ j. slice_get heard j ≡ Some (Some s)) e told))
+          (subst (λ j. slice_get heard j ≡ Some (Some s)) e told))
       | inr ne ↦ t.allowed b s (omega (arith, lt, ne)) other told
     ];
     same = t.same;
@@ -93,18 +93,18 @@ module _ (m : Meaning) (k : Known) (heard : List (Option (List ℕ))) (v : List 
 
   -- the next part is moved to a position that agrees with its words, where that changes no answer
   moves : Laws m → (n : ℕ) (t : Moved n) (w : List Bool) (words : List Dbpos) (made : IsMade m n k.bay words heard) →
-    n ≢ k.bay → IsVector m.diagram w → BayAgrees m.diagram n words w → ((x : List Bool) → IsVector m.diagram x →
-    DifferInPart m.diagram n t.now x → SamePositions (OfPart m.diagram n) w x → SameAnswers m.diagram k.bay t.now x) →
-    Moved (suc n)
+      n ≢ k.bay → IsVector m.diagram w → BayAgrees m.diagram n words w → ((x : List Bool) → IsVector m.diagram x →
+      DifferInPart m.diagram n t.now x → SamePositions (OfPart m.diagram n) w x → SameAnswers m.diagram k.bay t.now x) →
+      Moved (suc n)
   moves laws n t w words made differ whole agrees answers =
       let d : Diagram = m.diagram in
       let x : List Bool = mix d.switches n w t.now in
       let whole_x : IsVector d x = length_mix d.switches n w t.now whole t.whole in
       let there : SamePositions (OfPart d n) w x = λ i of_n. mix_there d.switches n w t.now whole t.whole i of_n.0
-        of_n.1 of_n.2 in
+      of_n.1 of_n.2 in
       let elsewhere : DifferInPart d n t.now x = λ i not_n. mix_else d.switches n w t.now whole t.whole i not_n in
       let same : (b : ℕ) → b ≢ n → SamePositions (OfPart d b) t.now x =
-        λ b ne i of_b. elsewhere i (λ of_n. ne (one_part d b n i of_b of_n)) in
+      λ b ne i of_b. elsewhere i (λ of_n. ne (one_part d b n i of_b of_n)) in
       record {
         now = x;
         whole = whole_x;
@@ -114,21 +114,21 @@ module _ (m : Meaning) (k : Known) (heard : List (Option (List ℕ))) (v : List 
           | inl e ↦
               let here : slice_get heard n ≡ Some (Some s) = subst (λ j. slice_get heard j ≡ Some (Some s)) e told in
               let is : made.summary ≡ s = same_Some made.summary s (same_Some (Some made.summary) (Some s)
-                (sym made.stands ∙ here)) in
+              (sym made.stands ∙ here)) in
               let agrees_x : BayAgrees d n words x = λ i word closed of_n at at_x. agrees i word closed of_n at
-                (there i of_n ∙ at_x) in
+              (there i of_n ∙ at_x) in
               subst (λ j. m.Allows j s x) (sym e) (subst (λ y. m.Allows n y x) is (made.made.each x whole_x agrees_x))
           | inr ne ↦ laws.local b s t.now x t.whole whole_x (same b ne)
-            (t.allowed b s (omega (arith, lt, ne)) other told)
+              (t.allowed b s (omega (arith, lt, ne)) other told)
         ];
         same = SameAnswers-trans d k.bay v t.now x t.same (answers x whole_x elsewhere there);
       }
 
   module _ (laws : Laws m) (station : IsStation m.diagram) (made : AreMade m k heard)
-    (reads : IsReadingOf m.diagram k v) where
+      (reads : IsReadingOf m.diagram k v) where
     -- a part that was heard of
     hears : (n : ℕ) (t : Moved n) (words : List Dbpos) → n ≢ k.bay → slice_get k.heard n ≡ Some (Some words) →
-      Irrelevant m.diagram n k.bay ⊎ StandsAlike m.diagram n words v → Moved (suc n)
+        Irrelevant m.diagram n k.bay ⊎ StandsAlike m.diagram n words v → Moved (suc n)
     hears n t words differ told (inl irrelevant) =
         let count : ℕ = length m.diagram.switches in
         moves laws n t (agreeing count words) words (made.each n words differ told) differ (length_agreeing count words)
@@ -140,10 +140,10 @@ module _ (m : Meaning) (k : Known) (heard : List (Option (List ℕ))) (v : List 
         moves laws n t w words (made.each n words differ told) differ stands.whole stands.agrees
         (λ x whole elsewhere there.
         let back : Alike d n t.now v = alike_same d n t.now v (SamePositions-sym (OfPart d n) v t.now
-          (t.rest n (omega arith))) in
+        (t.rest n (omega arith))) in
         let forth : Alike d n v x = alike_trans d n v w x stands.alike (alike_same d n w x there) in
         same_answers d k.bay t.now x station (alike_differ d n k.bay t.now x differ elsewhere
-          (alike_trans d n t.now v x back forth)))
+        (alike_trans d n t.now v x back forth)))
 
     next : (n : ℕ) → Moved n → (entry : Option (Option (List ℕ))) → slice_get heard n ≡ entry → Moved (suc n)
     next n t None is = stays n t (λ s other told. absurd (none-some (Some s) (sym is ∙ told)))
@@ -168,8 +168,8 @@ module _ (m : Meaning) (k : Known) (heard : List (Option (List ℕ))) (v : List 
 
 -- for each reading there is a vector that the bay cannot exclude, with the same answers for its operations
 pub known_of : (m : Meaning) → Laws m → IsStation m.diagram → (k : Known) (heard : List (Option (List ℕ)))
-  (v : List Bool) → AreMade m k heard → IsReadingOf m.diagram k v → (w : List Bool) × Knows m k.bay k.own heard w
-  × SameAnswers m.diagram k.bay v w
+    (v : List Bool) → AreMade m k heard → IsReadingOf m.diagram k v → (w : List Bool) × Knows m k.bay k.own heard w
+    × SameAnswers m.diagram k.bay v w
 known_of m laws station k heard v made reads =
     let t = upto m k heard v laws station made reads (length heard) in (
       t.now,
@@ -183,8 +183,8 @@ known_of m laws station k heard v made reads =
 
 -- so an operation of the bay holds by words exactly where it breaks no rule in what the summaries allow
 pub holds_same : (m : Meaning) → Laws m → IsStation m.diagram → (op : Op) (k : Known) (heard : List (Option (List ℕ))) →
-  AreMade m k heard → OfPart m.diagram k.bay (a_switch op.switch.0) → Holds m.diagram op k ↔ ((v : List Bool) →
-  Knows m k.bay k.own heard v → Breaks m.diagram v op None)
+    AreMade m k heard → OfPart m.diagram k.bay (a_switch op.switch.0) → Holds m.diagram op k ↔ ((v : List Bool) →
+    Knows m k.bay k.own heard v → Breaks m.diagram v op None)
 holds_same m laws station op k heard made of_bay = (
   λ holds v knows. holds v (reading_of m laws k heard v made knows),
   λ none v reads.

@@ -10,7 +10,7 @@ use Rattle.station_graph.proofs.PositionLemmas.{SameGapView-positions, SameLoadV
 use Rattle.station_graph.proofs.PositionLemmas.{SameLoadView-sym, SameGapView-trans, SameLoadView-trans}
 
 pub SameAnswers-trans : (d : Diagram) (c : ℕ) (u v w : List Bool) → SameAnswers d c u v → SameAnswers d c v w →
-  SameAnswers d c u w
+    SameAnswers d c u w
 SameAnswers-trans d c u v w f g op of_c answer = (
   λ b. (g op of_c answer).0 ((f op of_c answer).0 b),
   λ b. (f op of_c answer).1 ((g op of_c answer).1 b),
@@ -31,13 +31,13 @@ alike_trans d part u v w f g = record {
 
 -- vectors that differ in one part alone, which stands alike in both, are the same for each other bay
 pub alike_differ : (d : Diagram) (part c : ℕ) (v w : List Bool) → part ≢ c → DifferInPart d part v w →
-  Alike d part v w → SameFor d c v w
+    Alike d part v w → SameFor d c v w
 alike_differ d part c v w ne differ alike = record {
   own = λ i of_c. differ i (λ of_part. ne (one_part d part c i of_part of_c));
   others = λ other not_c. elim (cases_eq other part) [
     | inl e ↦ subst (λ p. Alike d p v w) (sym e) alike
     | inr apart ↦ alike_same d other v w
-      (λ i of_other. differ i (λ of_part. apart (one_part d other part i of_other of_part)))
+        (λ i of_other. differ i (λ of_part. apart (one_part d other part i of_other of_part)))
   ];
 }
 

@@ -30,7 +30,7 @@ pub record IsReadingOf (d : Diagram) (k : Known) (v : List Bool) : Type 0 where
   pub whole : IsVector d v
   pub own : BayAgrees d k.bay k.own v
   pub heard : (b : ℕ) (words : List Dbpos) → b ≢ k.bay → slice_get k.heard b ≡ Some (Some words) → Irrelevant d b k.bay
-    ⊎ StandsAlike d b words v
+      ⊎ StandsAlike d b words v
 
 -- The operation breaks no rule in any reading of what is known.
 abbrev pub Holds : Diagram → Op → Known → Type 0
@@ -39,10 +39,10 @@ Holds d op k = (v : List Bool) → IsReadingOf d k v → Breaks d v op None
 -- Each switch of the bay has a word that is off or on.
 abbrev pub AllCertain : Diagram → ℕ → List Dbpos → Type 0
 AllCertain d b words = (i : ℕ) → OfPart d b (a_switch i) → (slice_get words i ≡ Some On)
-  ⊎ (slice_get words i ≡ Some Off)
+    ⊎ (slice_get words i ≡ Some Off)
 
 -- Full knowledge: the own words are off or on, and words were heard of each other bay, all off or on.
 pub record IsFull (d : Diagram) (k : Known) : Type 0 where
   pub own : AllCertain d k.bay k.own
   pub others : (b i : ℕ) → b ≢ k.bay → OfPart d b (a_switch i) → (words : List Dbpos)
-    × (slice_get k.heard b ≡ Some (Some words)) × AllCertain d b words
+      × (slice_get k.heard b ≡ Some (Some words)) × AllCertain d b words

@@ -25,7 +25,7 @@ pub record Meaning : Type 1 where
 pub record Laws (m : Meaning) : Type 0 where
   -- what a summary allows depends on the positions of its own bay alone
   pub local : (b : ℕ) (s : List ℕ) (v w : List Bool) → IsVector m.diagram v → IsVector m.diagram w →
-    SamePositions (OfPart m.diagram b) v w → m.Allows b s v → m.Allows b s w
+      SamePositions (OfPart m.diagram b) v w → m.Allows b s v → m.Allows b s w
   -- a bay that tells another nothing is irrelevant to it
   pub irrelevant : (b to : ℕ) → b ≢ to → m.Silent b to → Irrelevant m.diagram b to
   -- from such a bay exactly the empty summary fits
@@ -53,7 +53,7 @@ HeardFit m bay heard = (b : ℕ) (s : List ℕ) → b ≢ bay → slice_get hear
 -- A vector that the bay cannot exclude by its own words and the summaries that it has heard: its own
 -- switches agree with its own words, and each summary heard of another bay allows the vector.
 pub record Knows (m : Meaning) (bay : ℕ) (own : List Dbpos) (heard : List (Option (List ℕ)))
-  (v : List Bool) : Type 0 where
+    (v : List Bool) : Type 0 where
   pub whole : IsVector m.diagram v
   pub own_agree : BayAgrees m.diagram bay own v
   pub heard_allow : (b : ℕ) (s : List ℕ) → b ≢ bay → slice_get heard b ≡ Some (Some s) → m.Allows b s v
@@ -67,9 +67,9 @@ pub record IsMade (m : Meaning) (b to : ℕ) (words : List Dbpos) (heard : List 
 -- The summaries heard are those of the words of what is known, and of no other bay.
 pub record AreMade (m : Meaning) (k : Known) (heard : List (Option (List ℕ))) : Type 0 where
   pub each : (b : ℕ) (words : List Dbpos) → b ≢ k.bay → slice_get k.heard b ≡ Some (Some words) →
-    IsMade m b k.bay words heard
+      IsMade m b k.bay words heard
   pub no_other : (b : ℕ) (s : List ℕ) → b ≢ k.bay → slice_get heard b ≡ Some (Some s) → (words : List Dbpos)
-    × (slice_get k.heard b ≡ Some (Some words))
+      × (slice_get k.heard b ≡ Some (Some words))
 
 -- The bay of a switch of the station.
 abbrev pub bay_of : Diagram → ℕ → ℕ

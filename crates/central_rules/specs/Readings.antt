@@ -12,7 +12,7 @@ use Rattle.central_rules.specs.declared.verdict.Verdict.TheVariants.{Release, De
 pub record IsReadingFrom (from : ℕ) (words : List Dbpos) (v : List Bool) : Type 0 where
   pub whole : length v ≡ length words
   pub agree : (i : ℕ) (word : Dbpos) (closed : Bool) → from ≤ i → slice_get words i ≡ Some word →
-    slice_get v i ≡ Some closed → Agrees word closed
+      slice_get v i ≡ Some closed → Agrees word closed
 
 -- A reading of the words of all switches: a vector in which every switch agrees with its word.
 abbrev pub IsReading : List Dbpos → List Bool → Type 0

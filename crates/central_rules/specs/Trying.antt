@@ -17,4 +17,4 @@ NoneBreaks d at words old op = (v : List Bool) → IsReadingFrom at words v → 
 -- The same of those with this position there.
 abbrev pub NoneBreaksWith : Bool → Diagram → ℕ → List Dbpos → List Bool → Op → Type 0
 NoneBreaksWith closed d at words old op = (v : List Bool) → IsReadingFrom at words v → SameBelow at old v →
-  slice_get v at ≡ Some closed → Breaks d v op None
+    slice_get v at ≡ Some closed → Breaks d v op None

@@ -22,6 +22,6 @@ pub record AreRenamed (first : ℕ) (es names new : List ℕ) : Type 0 where
 pub record HasRenamedLabels (names : List ℕ) (ls ms : List Layer) : Type 0 where
   pub layers : length ms ≡ length ls
   pub before : (j k c : ℕ) → suc j < length ls → k < length (layer_at ls j).rows → c < (layer_at ls j).choices →
-    step (layer_at ms j) k c ≡ step (layer_at ls j) k c
+      step (layer_at ms j) k c ≡ step (layer_at ls j) k c
   pub last : (j k c : ℕ) → suc j ≡ length ls → k < length (layer_at ls j).rows → c < (layer_at ls j).choices →
-    step (layer_at ms j) k c ≡ slice_index names (step (layer_at ls j) k c)
+      step (layer_at ms j) k c ≡ slice_index names (step (layer_at ls j) k c)

@@ -21,12 +21,16 @@ pub sum-suc : (ns : List ℕ) (j : ℕ) → j < length ns → sum (take (suc j) 
 sum-suc ns j lt = sum_before-suc (λ n. n) ns 0 j lt
 
 pub sum-within : (ns : List ℕ) (j : ℕ) → j < length ns → sum (take j ns) + get_or ns j 0 ≤ sum ns
-sum-within ns j lt = omega (arith, sum-suc ns j lt, sum_before-mono (λ (n : ℕ). n) ns (suc j) (length ns) lt,
-  ap sum (take_all (length ns) ns (omega arith)))
+sum-within ns j lt = omega (
+  arith,
+  sum-suc ns j lt,
+  sum_before-mono (λ (n : ℕ). n) ns (suc j) (length ns) lt,
+  ap sum (take_all (length ns) ns (omega arith)),
+)
 
 pub sizes_hold : (labels : ℕ) (cs ns : List ℕ) (n total : ℕ) → 0 < labels → length cs ≡ length ns → length ns ≤ 65535 →
-  n ≡ length ns → ((j : ℕ) → j < n → 0 < get_or ns j 0) → ((j : ℕ) → j < n → 0 < get_or cs j 0) →
-  total ≡ sum (take n ns) → total ≤ 4294967295 → AreSizes labels cs ns
+    n ≡ length ns → ((j : ℕ) → j < n → 0 < get_or ns j 0) → ((j : ℕ) → j < n → 0 < get_or cs j 0) →
+    total ≡ sum (take n ns) → total ≤ 4294967295 → AreSizes labels cs ns
 sizes_hold labels cs ns n total some same layers all filled chosen is fits =
     record {
       any_label = some;
@@ -42,36 +46,47 @@ pub node_count-with_node : (d : Draft) → 0 < length d.layers → node_count (w
 node_count-with_node d some =
     let row = replicate (draft_layer_at d (length d.layers - 1)).choices None in
     let e = map-set (λ (l : DraftLayer). length l.rows) d.layers (length d.layers - 1)
-      (record { choices = (draft_layer_at d (length d.layers - 1)).choices;
+    (record {
+      choices = (draft_layer_at d (length d.layers - 1)).choices;
       rows = (draft_layer_at d (length d.layers - 1)).rows ++ replicate (draft_layer_at d (length d.layers - 1)).choices
-      None ∷ [] }) in
+          None ∷ [];
+    }) in
     let whole = node_count-sizes (with_node d) d.labels (choices_of (with_node d)) (sizes_of (with_node d))
-      (record { labels_are = refl; choices_are = refl; sizes_are = refl }) in
-    let before = node_count-sizes d d.labels (choices_of d) (sizes_of d) (record { labels_are = refl; choices_are =
-      refl; sizes_are = refl }) in
+    (record { labels_are = refl; choices_are = refl; sizes_are = refl }) in
+    let before = node_count-sizes d d.labels (choices_of d) (sizes_of d) (record {
+      labels_are = refl;
+      choices_are =
+          refl;
+      sizes_are = refl;
+    }) in
     let len = length-map d.layers (λ (l : DraftLayer). length l.rows) in
     let more = length_push (draft_layer_at d (length d.layers - 1)).rows row in
     let sums = sum_by-set (λ (n : ℕ). n) (sizes_of d) (length d.layers - 1)
-      (length ((draft_layer_at d (length d.layers - 1)).rows ++ row ∷ [])) 0 (omega arith) in
+    (length ((draft_layer_at d (length d.layers - 1)).rows ++ row ∷ [])) 0 (omega arith) in
     whole ∙ ap sum e ∙ omega (arith, before, sums, more, size_at-sizes d (length d.layers - 1))
 
 pub length-set_at-AreSetsOf : (ls : List Layer) (sets : List (List Bool)) (j : ℕ) → AreSetsOf ls sets →
-  length (set_at sets j) ≡ (layer_at ls j).choices
+    length (set_at sets j) ≡ (layer_at ls j).choices
 length-set_at-AreSetsOf ls sets j are = set_at-AreSetsOf ls sets j are ∙ get_or-map (λ (l : Layer). l.choices)
-  ls j no_layer
+    ls j no_layer
 
 pub some-with_node : (d : Draft) → 0 < length d.layers → 0 < length (with_node d).layers
-some-with_node d some = omega (arith, length-set d.layers (length d.layers - 1)
-  (record { choices = (draft_layer_at d (length d.layers - 1)).choices;
-  rows = (draft_layer_at d (length d.layers - 1)).rows ++ replicate (draft_layer_at d (length d.layers - 1)).choices
-  None ∷ [] }))
+some-with_node d some = omega (
+  arith,
+  length-set d.layers (length d.layers - 1)
+      (record {
+        choices = (draft_layer_at d (length d.layers - 1)).choices;
+        rows = (draft_layer_at d (length d.layers - 1)).rows ++ replicate (draft_layer_at d (length d.layers - 1)).choices
+            None ∷ [];
+      }),
+)
 
 pub take-next : (xs : List ℕ) (i : ℕ) → i < length xs → take (i + 1) xs ≡ take i xs ++ get_or xs i 0 ∷ []
 take-next xs i lt = ap (λ n. take n xs) (add-one i) ∙ take-suc xs i 0 lt
 
 -- the next layer may come
 pub may_grow : (d : Draft) (labels : ℕ) (cs ns : List ℕ) (i : ℕ) → AreSizes labels cs ns → i ≤ length ns →
-  IsShaped d labels (take i cs) (take i ns) → IsBare d → MayGrow d
+    IsShaped d labels (take i cs) (take i ns) → IsBare d → MayGrow d
 may_grow d labels cs ns i sizes le shaped bare =
     MayGrow-from_bare d bare
     (λ j last.
@@ -82,15 +97,20 @@ may_grow d labels cs ns i sizes le shaped bare =
 
 -- its nodes are within the limit
 pub room_for : (d : Draft) (labels : ℕ) (cs' cs ns : List ℕ) (i : ℕ) → AreSizes labels cs ns → i < length ns →
-  IsShaped d labels cs' (take i ns ++ 0 ∷ []) → node_count d + get_or ns i 0 ≤ 4294967295
+    IsShaped d labels cs' (take i ns ++ 0 ∷ []) → node_count d + get_or ns i 0 ≤ 4294967295
 room_for d labels cs' cs ns i sizes lt shaped =
-    omega (arith, node_count-sizes d labels cs' (take i ns ++ 0 ∷ []) shaped, sum_by_push (λ (n : ℕ). n) (take i ns) 0,
-      sum-within ns i lt, sizes.total)
+    omega (
+      arith,
+      node_count-sizes d labels cs' (take i ns ++ 0 ∷ []) shaped,
+      sum_by_push (λ (n : ℕ). n) (take i ns) 0,
+      sum-within ns i lt,
+      sizes.total,
+    )
 
 -- the numbers of the places after a layer
 pub places_fit : (labels : ℕ) (cs ns : List ℕ) (i first low places : ℕ) → AreSizes labels cs ns → labels < 4294967296 →
-  i < length ns → first ≡ sum (take i ns) → low ≡ cond (eqb (suc i) (length ns)) 0 (first + get_or ns i 0) →
-  places ≡ cond (eqb (suc i) (length ns)) labels (get_or ns (suc i) 0) → low + places ≤ 4294967295
+    i < length ns → first ≡ sum (take i ns) → low ≡ cond (eqb (suc i) (length ns)) 0 (first + get_or ns i 0) →
+    places ≡ cond (eqb (suc i) (length ns)) labels (get_or ns (suc i) 0) → low + places ≤ 4294967295
 places_fit labels cs ns i first low places sizes range lt begins low_is places_is =
     elim (cases_lt (suc i) (length ns)) [
       | inl more ↦
@@ -106,12 +126,12 @@ places_fit labels cs ns i first low places sizes range lt begins low_is places_i
     ]
 
 pub may_have : (d : Draft) (labels : ℕ) (cs ns : List ℕ) (i first low places : ℕ) → IsShaped d labels cs ns →
-  i < length ns → first ≡ sum (take i ns) → low ≡ cond (eqb (suc i) (length ns)) 0 (first + get_or ns i 0) →
-  places ≡ cond (eqb (suc i) (length ns)) labels (get_or ns (suc i) 0) → (k c t : ℕ) → k < get_or ns i 0 →
-  c < get_or cs i 0 → t < places → MayHaveEdge d (first + k) c (low + t)
+    i < length ns → first ≡ sum (take i ns) → low ≡ cond (eqb (suc i) (length ns)) 0 (first + get_or ns i 0) →
+    places ≡ cond (eqb (suc i) (length ns)) labels (get_or ns (suc i) 0) → (k c t : ℕ) → k < get_or ns i 0 →
+    c < get_or cs i 0 → t < places → MayHaveEdge d (first + k) c (low + t)
 may_have d labels cs ns i first low places shaped lt begins low_is places_is k c t in_nodes in_choices in_places =
     MayHaveEdge-from_sizes d labels cs ns i k (first + k) c (low + t) shaped lt in_nodes
-      (ap (λ n. n + k) begins) in_choices
+    (ap (λ n. n + k) begins) in_choices
     (λ last.
     let is : eqb (suc i) (length ns) ≡ true = grind (arith, nat_tests) in
     let low' = rw is at low_is in

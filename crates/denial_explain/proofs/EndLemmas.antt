@@ -18,8 +18,10 @@ pub record Gathers (At : ℕ → ℕ → Type 0) (i : ℕ) (nodes : List ℕ) : 
   pub only : (n : ℕ) → Contains nodes n → (k : ℕ) × (k < i) × At k n
 
 pub Gathers-none : (At : ℕ → ℕ → Type 0) → Gathers At 0 []
-Gathers-none At = record { listed = λ k n below at. absurd (omega (arith, below));
-  only = λ n h. absurd (omega (arith, h.1)) }
+Gathers-none At = record {
+  listed = λ k n below at. absurd (omega (arith, below));
+  only = λ n h. absurd (omega (arith, h.1));
+}
 
 module _ (At : ℕ → ℕ → Type 0) (i : ℕ) (nodes : List ℕ) (h : Gathers At i nodes) where
   pub Gathers-push : (node : ℕ) → At i node → ((n : ℕ) → At i n → n ≡ node) → Gathers At (i + 1) (nodes ++ node ∷ [])
@@ -29,7 +31,7 @@ module _ (At : ℕ → ℕ → Type 0) (i : ℕ) (nodes : List ℕ) (h : Gathers
       | inr more ↦
           let same : k ≡ i = omega (arith, below) in
           subst (λ m. Contains (nodes ++ node ∷ []) m) (sym (one n (subst (λ j. At j n) same at)))
-            (Contains-push nodes node)
+          (Contains-push nodes node)
     ];
     only = λ n c. elim (Contains-push_cases nodes node n c) [
       | inl old ↦ let w = h.only n old in (w.0, omega (arith, w.1), w.2)
@@ -56,22 +58,33 @@ pub record ClosedSwitch (d : Diagram) (v : List Bool) (kind : Kind) (i node : �
 
 module _ (d : Diagram) (v : List Bool) (kind : Kind) where
   closed_from : (i n : ℕ) → ClosedSwitch d v kind i n → ClosedAt d v kind n
-  closed_from i n h = record { number = i; switch = h.switch; listed = h.listed; is_kind = h.is_kind; closed = h.closed;
-    stands = h.stands }
+  closed_from i n h = record {
+    number = i;
+    switch = h.switch;
+    listed = h.listed;
+    is_kind = h.is_kind;
+    closed = h.closed;
+    stands = h.stands;
+  }
 
   closed_to : (n : ℕ) (at : ClosedAt d v kind n) → ClosedSwitch d v kind at.number n
-  closed_to n at = record { switch = at.switch; listed = at.listed; is_kind = at.is_kind; closed = at.closed;
-    stands = at.stands }
+  closed_to n at = record {
+    switch = at.switch;
+    listed = at.listed;
+    is_kind = at.is_kind;
+    closed = at.closed;
+    stands = at.stands;
+  }
 
   module _ (i : ℕ) (nodes : List ℕ) (x : Switch) (listed : slice_get d.switches i ≡ Some x)
-    (h : Gathers (ClosedSwitch d v kind) i nodes) where
+      (h : Gathers (ClosedSwitch d v kind) i nodes) where
     pub gathers_closed : x.kind ≡ kind → slice_get v i ≡ Some true →
-      Gathers (ClosedSwitch d v kind) (i + 1) (nodes ++ x.first.0 ∷ [])
+        Gathers (ClosedSwitch d v kind) (i + 1) (nodes ++ x.first.0 ∷ [])
     gathers_closed is_kind closed =
         Gathers-push (ClosedSwitch d v kind) i nodes h x.first.0
         (record { switch = x; listed = listed; is_kind = is_kind; closed = closed; stands = refl })
         (λ n at. let same : at.switch ≡ x = cc (at.listed, listed) in sym at.stands
-          ∙ ap (λ (y : Switch). y.first.0) same)
+        ∙ ap (λ (y : Switch). y.first.0) same)
 
     pub passes_other : (x.kind ≡ kind → slice_get v i ≡ Some true → ⊥) → Gathers (ClosedSwitch d v kind) (i + 1) nodes
     passes_other none =
@@ -80,29 +93,29 @@ module _ (d : Diagram) (v : List Bool) (kind : Kind) where
         none (ap (λ (y : Switch). y.kind) (sym same) ∙ at.is_kind) at.closed)
 
   pub closed_exact : (i : ℕ) (nodes : List ℕ) → length d.switches ≤ i → Gathers (ClosedSwitch d v kind) i nodes →
-    (n : ℕ) → Contains nodes n ↔ ClosedAt d v kind n
+      (n : ℕ) → Contains nodes n ↔ ClosedAt d v kind n
   closed_exact i nodes all h n = (
     λ c. let w = h.only n c in closed_from w.0 n w.2,
     λ at. h.listed at.number n (omega (arith, slice_get_within d.switches at.number at.switch at.listed))
-      (closed_to n at),
+        (closed_to n at),
   )
 
   -- where switch i is not one of them, each of those after the switches before it comes after it
   pub closed_later : (i node : ℕ) (x : Switch) → slice_get d.switches i ≡ Some x →
-    (x.kind ≡ kind → slice_get v i ≡ Some true → x.first.0 ≡ node → ⊥) → ((at : ClosedAt d v kind node) →
-    i ≤ at.number) → (at : ClosedAt d v kind node) → i + 1 ≤ at.number
+      (x.kind ≡ kind → slice_get v i ≡ Some true → x.first.0 ≡ node → ⊥) → ((at : ClosedAt d v kind node) →
+      i ≤ at.number) → (at : ClosedAt d v kind node) → i + 1 ≤ at.number
   closed_later i node x listed none from at = elim (cases_lt i at.number) [
     | inl less ↦ omega arith
     | inr more ↦
         let here : at.number ≡ i = omega (arith, from at) in
         let same : at.switch ≡ x = cc (at.listed, listed, here) in
         absurd (none (ap (λ (y : Switch). y.kind) (sym same) ∙ at.is_kind) (ap (slice_get v) (sym here) ∙ at.closed)
-          (ap (λ (y : Switch). y.first.0) (sym same) ∙ at.stands))
+        (ap (λ (y : Switch). y.first.0) (sym same) ∙ at.stands))
   ]
 
   -- where closed switches stand is a node of the station
   pub closed_below : IsStation d → (nodes : List ℕ) → ((n : ℕ) → Contains nodes n ↔ ClosedAt d v kind n) →
-    AllBelow (node_count d) nodes
+      AllBelow (node_count d) nodes
   closed_below station nodes exact i n e =
       let at = (exact n).0 (Contains-from_slice_get nodes i n e) in
       subst (λ m. m < node_count d) at.stands (station.items.switches_fit at.number at.switch at.listed).first_in
@@ -115,21 +128,24 @@ pub record TapAt (d : Diagram) (i node : ℕ) : Type 0 where
 
 module _ (d : Diagram) where
   pub gathers_tap : (i : ℕ) (nodes : List ℕ) (x : Tap) → slice_get d.taps i ≡ Some x → Gathers (TapAt d) i nodes →
-    Gathers (TapAt d) (i + 1) (nodes ++ x.node.0 ∷ [])
+      Gathers (TapAt d) (i + 1) (nodes ++ x.node.0 ∷ [])
   gathers_tap i nodes x listed h =
       Gathers-push (TapAt d) i nodes h x.node.0 (record { tap = x; listed = listed; stands = refl })
       (λ n at. let same : at.tap ≡ x = cc (at.listed, listed) in sym at.stands ∙ ap (λ (y : Tap). y.node.0) same)
 
   pub taps_exact : (i : ℕ) (nodes : List ℕ) → length d.taps ≤ i → Gathers (TapAt d) i nodes → (n : ℕ) → Contains nodes n
-    ↔ HasTap d n
+      ↔ HasTap d n
   taps_exact i nodes all h n = (
     λ c. let w = h.only n c in let t = w.2 in (w.0, t.tap, t.listed, t.stands),
-    λ (k, x, listed, stands). h.listed k n (omega (arith, slice_get_within d.taps k x listed)) (record { tap = x;
-      listed = listed; stands = stands }),
+    λ (k, x, listed, stands). h.listed k n (omega (arith, slice_get_within d.taps k x listed)) (record {
+      tap = x;
+      listed = listed;
+      stands = stands;
+    }),
   )
 
   pub taps_below : IsStation d → (nodes : List ℕ) → ((n : ℕ) → Contains nodes n ↔ HasTap d n) →
-    AllBelow (node_count d) nodes
+      AllBelow (node_count d) nodes
   taps_below station nodes exact i n e =
       let tap = (exact n).0 (Contains-from_slice_get nodes i n e) in
       subst (λ m. m < node_count d) tap.3 (station.items.taps_fit tap.0 tap.1 tap.2).node_in

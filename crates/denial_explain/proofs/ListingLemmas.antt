@@ -19,7 +19,7 @@ use Rattle.denial_explain.specs.Listing.{list_at, Listed, with_neighbour, with_n
 module _ (lists : List (List ℕ)) (a b : ℕ) where
   list_at-same : (x : ℕ) → a < length lists → x ≡ a → list_at (with_neighbour lists a b) x ≡ list_at lists a ++ b ∷ []
   list_at-same x a_in e = subst (λ y. list_at (with_neighbour lists a b) y ≡ list_at lists a ++ b ∷ []) (sym e)
-    (get_or-set_same lists a (list_at lists a ++ b ∷ []) [] a_in)
+      (get_or-set_same lists a (list_at lists a ++ b ∷ []) [] a_in)
 
   list_at-other : (x : ℕ) → x ≢ a → list_at (with_neighbour lists a b) x ≡ list_at lists x
   list_at-other x ne = get_or-set_other lists a x (list_at lists a ++ b ∷ []) [] ne
@@ -29,21 +29,21 @@ module _ (lists : List (List ℕ)) (a b : ℕ) where
     | inl e ↦
         let here : Contains (list_at lists a) y = subst (λ z. Contains (list_at lists z) y) e h in
         subst (λ (xs : List ℕ). Contains xs y) (sym (list_at-same x a_in e)) (Contains-append_left (list_at lists a)
-          (b ∷ []) y here)
+        (b ∷ []) y here)
     | inr ne ↦ subst (λ (xs : List ℕ). Contains xs y) (sym (list_at-other x ne)) h
   ]
 
   Listed-new : (x y : ℕ) → a < length lists → x ≡ a → y ≡ b → Listed (with_neighbour lists a b) x y
   Listed-new x y a_in e f =
       subst (λ (xs : List ℕ). Contains xs y) (sym (list_at-same x a_in e))
-        (subst (λ z. Contains (list_at lists a ++ b ∷ []) z) (sym f) (Contains-push (list_at lists a) b))
+      (subst (λ z. Contains (list_at lists a ++ b ∷ []) z) (sym f) (Contains-push (list_at lists a) b))
 
   Listed-only : (x y : ℕ) → a < length lists → Listed (with_neighbour lists a b) x y → Listed lists x y
-    ⊎ ((x ≡ a) × (y ≡ b))
+      ⊎ ((x ≡ a) × (y ≡ b))
   Listed-only x y a_in h = elim (cases_eq x a) [
     | inl e ↦
         let here : Contains (list_at lists a ++ b ∷ []) y = subst (λ (xs : List ℕ). Contains xs y)
-          (list_at-same x a_in e) h in
+        (list_at-same x a_in e) h in
         elim (Contains-push_cases (list_at lists a) b y here) [
           | inl old ↦ inl (subst (λ z. Contains (list_at lists z) y) (sym e) old)
           | inr new ↦ inr (e, sym new)
@@ -53,7 +53,7 @@ module _ (lists : List (List ℕ)) (a b : ℕ) where
 
 -- One more edge.
 module _ (R Q : ℕ → ℕ → Type 0) (count : ℕ) (lists : List (List ℕ)) (p q : ℕ) (adds : AddsEdge R Q p q)
-  (p_in : p < count) (q_in : q < count) (h : AreLists R count lists) where
+    (p_in : p < count) (q_in : q < count) (h : AreLists R count lists) where
   one : List (List ℕ)
   one = with_neighbour lists p q
 
@@ -90,7 +90,7 @@ module _ (R Q : ℕ → ℕ → Type 0) (count : ℕ) (lists : List (List ℕ)) 
   AreLists-edge = record { len = edge_len; exact = λ a b. (edge_only a b, edge_listed a b) }
 
 pub AreLists-same : (R Q : ℕ → ℕ → Type 0) (count : ℕ) (lists : List (List ℕ)) → SameEdges R Q →
-  AreLists R count lists → AreLists Q count lists
+    AreLists R count lists → AreLists Q count lists
 AreLists-same R Q count lists same h = record {
   len = h.len;
   exact = λ a b. (λ l. same.kept a b ((h.exact a b).0 l), λ e. (h.exact a b).1 (same.only a b e));
@@ -115,40 +115,40 @@ AreLists-none R count none = record {
 -- The steps of the two loops, over plain lists.
 module _ (d : Diagram) (station : IsStation d) (v : List Bool) (lists : List (List ℕ)) where
   pub lists_after_closed : (i : ℕ) (x : Switch) (n : NodeId) → slice_get d.switches i ≡ Some x → x.second ≡ Some n →
-    slice_get v i ≡ Some true → AreLists (TouchingBelow false d v i 0) (node_count d) lists →
-    AreLists (TouchingBelow false d v (i + 1) 0) (node_count d) (with_neighbours lists x.first.0 n.0)
+      slice_get v i ≡ Some true → AreLists (TouchingBelow false d v i 0) (node_count d) lists →
+      AreLists (TouchingBelow false d v (i + 1) 0) (node_count d) (with_neighbours lists x.first.0 n.0)
   lists_after_closed i x n listed second closed h =
       let fits = station.items.switches_fit i x listed in
       AreLists-edge (TouchingBelow false d v i 0) (TouchingBelow false d v (i + 1) 0) (node_count d) lists x.first.0 n.0
       (switch_adds false d v i 0 x n listed fits second closed) fits.first_in (second_fits d x n fits second).1 h
 
   pub lists_after_one_ended : (i : ℕ) (x : Switch) → slice_get d.switches i ≡ Some x → x.second ≡ None →
-    AreLists (TouchingBelow false d v i 0) (node_count d) lists → AreLists (TouchingBelow false d v (i + 1) 0)
-    (node_count d) lists
+      AreLists (TouchingBelow false d v i 0) (node_count d) lists → AreLists (TouchingBelow false d v (i + 1) 0)
+      (node_count d) lists
   lists_after_one_ended i x listed none h =
       AreLists-same (TouchingBelow false d v i 0) (TouchingBelow false d v (i + 1) 0) (node_count d) lists
       (switch_passed false d v i 0 (λ a b. one_end_joins_nothing d v i a b x listed none)) h
 
   pub lists_after_open : (i : ℕ) → slice_get v i ≡ Some false → AreLists (TouchingBelow false d v i 0) (node_count d)
-    lists → AreLists (TouchingBelow false d v (i + 1) 0) (node_count d) lists
+      lists → AreLists (TouchingBelow false d v (i + 1) 0) (node_count d) lists
   lists_after_open i is_open h =
       AreLists-same (TouchingBelow false d v i 0) (TouchingBelow false d v (i + 1) 0) (node_count d) lists
       (switch_passed false d v i 0 (λ a b. open_joins_nothing d v i a b is_open)) h
 
   pub lists_after_link : (i j : ℕ) (x : Link) → slice_get d.links j ≡ Some x →
-    AreLists (TouchingBelow false d v i j) (node_count d) lists → AreLists (TouchingBelow false d v i (j + 1))
-    (node_count d) (with_neighbours lists x.first.0 x.second.0)
+      AreLists (TouchingBelow false d v i j) (node_count d) lists → AreLists (TouchingBelow false d v i (j + 1))
+      (node_count d) (with_neighbours lists x.first.0 x.second.0)
   lists_after_link i j x listed h =
       let fits = station.items.links_fit j x listed in
       AreLists-edge (TouchingBelow false d v i j) (TouchingBelow false d v i (j + 1)) (node_count d) lists
-        x.first.0 x.second.0
+      x.first.0 x.second.0
       (link_adds false d v i j x listed (λ e. absurd (cc))) fits.first_in fits.second_in h
 
   pub lists_at_end : (i j : ℕ) → i ≡ length d.switches → j ≡ length d.links →
-    AreLists (TouchingBelow false d v i j) (node_count d) lists → AreLists (Touching false d v) (node_count d) lists
+      AreLists (TouchingBelow false d v i j) (node_count d) lists → AreLists (Touching false d v) (node_count d) lists
   lists_at_end i j at_i at_j h =
       AreLists-same (TouchingBelow false d v (length d.switches) (length d.links)) (Touching false d v) (node_count d)
-        lists (below_all false d v)
+      lists (below_all false d v)
       (subst (λ m. AreLists (TouchingBelow false d v m (length d.links)) (node_count d) lists) at_i
       (subst (λ m. AreLists (TouchingBelow false d v i m) (node_count d) lists) at_j h))
 
@@ -162,7 +162,7 @@ module _ (d : Diagram) (station : IsStation d) (v : List Bool) where
   between_in bonds_only (a_switch i) a b h =
       let fits = station.items.switches_fit i h.switch h.listed in
       ends_in h.switch.first.0 h.second.0 (node_count d) a b fits.first_in (second_fits d h.switch h.second fits
-        h.has_second).1 h.ends
+      h.has_second).1 h.ends
   between_in bonds_only (a_link i) a b h =
       let fits = station.items.links_fit i h.link h.listed in
       ends_in h.link.first.0 h.link.second.0 (node_count d) a b fits.first_in fits.second_in h.ends
@@ -173,9 +173,9 @@ module _ (d : Diagram) (station : IsStation d) (v : List Bool) where
 
   -- the neighbours in a station are undirected
   pub IsUndirected-station : (lists : List (List ℕ)) → AreLists (Touching false d v) (node_count d) lists →
-    IsUndirected lists
+      IsUndirected lists
   IsUndirected-station lists h = record {
     within = λ a b l. subst (λ n. b < n) (sym h.len)
-      (touching_in b a (touching_back false d v a b ((h.exact a b).0 l)));
+        (touching_in b a (touching_back false d v a b ((h.exact a b).0 l)));
     back = λ a b l. (h.exact b a).1 (touching_back false d v a b ((h.exact a b).0 l));
   }

@@ -15,17 +15,17 @@ use Rattle.denial_explain.proofs.ReachLemmas.{same_steps}
 -- The nodes before the front of the queue have had their turn. Along the queue the steps do not fall,
 -- and no node has more than one step more than the front.
 pub record Passed (R : ℕ → ℕ → Type 0) (Target : ℕ → Type 0) (count front : ℕ) (steps : List (Option ℕ))
-  (queue : List ℕ) : Type 0 where
+    (queue : List ℕ) : Type 0 where
   pub len : length steps ≡ count
   pub room : length queue + count_by is_none steps ≡ count
   pub within : front ≤ length queue
   pub stepped : (j n : ℕ) → slice_get queue j ≡ Some n → (k : ℕ) × HasSteps steps n k × (k ≤ j)
   pub queued : (n k : ℕ) → HasSteps steps n k → Contains queue n
   pub rises : (i j a b k l : ℕ) → i ≤ j → slice_get queue i ≡ Some a → slice_get queue j ≡ Some b → HasSteps steps a k →
-    HasSteps steps b l → k ≤ l
+      HasSteps steps b l → k ≤ l
   pub ahead : (b k n l : ℕ) → slice_get queue front ≡ Some b → HasSteps steps b k → HasSteps steps n l → l ≤ k + 1
   pub turned : (j b k a : ℕ) → j < front → slice_get queue j ≡ Some b → HasSteps steps b k → R a b → (l : ℕ)
-    × HasSteps steps a l × (l ≤ k + 1)
+      × HasSteps steps a l × (l ≤ k + 1)
   pub ends : (n : ℕ) → Target n → HasSteps steps n 0
   pub only_ends : (n : ℕ) → HasSteps steps n 0 → Target n
   pub nearer : (n k : ℕ) → HasSteps steps n (k + 1) → (m : ℕ) × R n m × HasSteps steps m k
@@ -38,12 +38,12 @@ no_steps (suc count) (suc n) k h = no_steps count n k h
 none_counted : (count : ℕ) → count_by is_none (replicate {A = Option ℕ} count None) ≡ count
 none_counted count =
     let e : count_by is_none (replicate {A = Option ℕ} count None) ≡ count * 1 =
-      sum_by-replicate (λ (o : Option ℕ). cond (is_none o) 1 0) count None in
+    sum_by-replicate (λ (o : Option ℕ). cond (is_none o) 1 0) count None in
     omega arith
 
 -- The ends are reached first.
 module _ (R : ℕ → ℕ → Type 0) (Target : ℕ → Type 0) (count : ℕ) (steps : List (Option ℕ)) (queue : List ℕ)
-  (h : ReachesAll Target 0 (replicate count None) steps [] queue) where
+    (h : ReachesAll Target 0 (replicate count None) steps [] queue) where
   all_zero : (n k : ℕ) → HasSteps steps n k → (k ≡ 0) × Target n × Contains queue n
   all_zero n k s = elim (h.only n k s) [ inl old ↦ absurd (no_steps count n k old) | inr w ↦ w ]
 
@@ -67,9 +67,9 @@ module _ (R : ℕ → ℕ → Type 0) (Target : ℕ → Type 0) (count : ℕ) (s
 
 -- One turn: the front b, which has s steps, reaches what is related to it.
 module _ (R : ℕ → ℕ → Type 0) (Target : ℕ → Type 0) (count : ℕ) (back : (a b : ℕ) → R a b → R b a) (front b s : ℕ)
-  (steps new : List (Option ℕ)) (queue longer : List ℕ) (p : Passed R Target count front steps queue)
-  (at : slice_get queue front ≡ Some b) (has : HasSteps steps b s) (h : ReachesAll (R b) (s + 1) steps new queue
-  longer) where
+    (steps new : List (Option ℕ)) (queue longer : List ℕ) (p : Passed R Target count front steps queue)
+    (at : slice_get queue front ≡ Some b) (has : HasSteps steps b s) (h : ReachesAll (R b) (s + 1) steps new queue
+    longer) where
   -- steps of a node of the queue before the turn are those that it had
   had : (j n k : ℕ) → slice_get queue j ≡ Some n → HasSteps new n k → HasSteps steps n k
   had j n k q t =
@@ -98,12 +98,12 @@ module _ (R : ℕ → ℕ → Type 0) (Target : ℕ → Type 0) (count : ℕ) (b
   queued : (n k : ℕ) → HasSteps new n k → Contains longer n
   queued n k t = elim (h.only n k t) [
     | inl old ↦ let w = place_of queue n (p.queued n k old) in Contains-from_slice_get longer w.0 n
-      (h.queue_kept w.0 n w.1)
+        (h.queue_kept w.0 n w.1)
     | inr w ↦ w.2
   ]
 
   rises : (i j a c k l : ℕ) → i ≤ j → slice_get longer i ≡ Some a → slice_get longer j ≡ Some c → HasSteps new a k →
-    HasSteps new c l → k ≤ l
+      HasSteps new c l → k ≤ l
   rises i j a c k l ij at_i at_j t u = elim (h.queue_only j c at_j) [
     | inl old_j ↦ elim (h.queue_only i a at_i) [
       | inl old_i ↦ p.rises i j a c k l ij old_i old_j (had i a k old_i t) (had j c l old_j u)
@@ -115,10 +115,10 @@ module _ (R : ℕ → ℕ → Type 0) (Target : ℕ → Type 0) (count : ℕ) (b
   -- the node after the front has at least its steps
   next_steps : (c k : ℕ) → slice_get longer (front + 1) ≡ Some c → HasSteps new c k → s ≤ k
   next_steps c k at_c t = rises front (front + 1) b c s k (omega arith) (h.queue_kept front b at) at_c
-    (h.kept b s has) t
+      (h.kept b s has) t
 
   turned : (j c k a : ℕ) → j < front + 1 → slice_get longer j ≡ Some c → HasSteps new c k → R a c → (l : ℕ)
-    × HasSteps new a l × (l ≤ k + 1)
+      × HasSteps new a l × (l ≤ k + 1)
   turned j c k a before q t r = elim (h.queue_only j c q) [
     | inr w ↦ absurd (omega (arith, w.0, front_in, before))
     | inl old ↦ elim (cases_lt j front) [
@@ -163,7 +163,7 @@ module _ (R : ℕ → ℕ → Type 0) (Target : ℕ → Type 0) (count : ℕ) (b
 
 -- After the last turn every node knows its steps.
 pub AreSteps-passed : (R : ℕ → ℕ → Type 0) (Target : ℕ → Type 0) (count front : ℕ) (steps : List (Option ℕ))
-  (queue : List ℕ) → length queue ≤ front → Passed R Target count front steps queue → AreSteps R Target count steps
+    (queue : List ℕ) → length queue ≤ front → Passed R Target count front steps queue → AreSteps R Target count steps
 AreSteps-passed R Target count front steps queue ended p = record {
   len = p.len;
   ends = p.ends;

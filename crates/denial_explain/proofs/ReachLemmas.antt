@@ -29,11 +29,11 @@ module _ (steps : List (Option ℕ)) (node next : ℕ) (none : slice_get steps n
   steps_new = slice_get-set_same steps node (Some next) (slice_get_within steps node None none)
 
   steps_only : (n k : ℕ) → HasSteps (slice_set steps node (Some next)) n k → HasSteps steps n k
-    ⊎ ((k ≡ next) × (n ≡ node))
+      ⊎ ((k ≡ next) × (n ≡ node))
   steps_only n k h = elim (cases_eq n node) [
     | inl e ↦
         let here : HasSteps (slice_set steps node (Some next)) n next =
-          subst (λ m. HasSteps (slice_set steps node (Some next)) m next) (sym e) steps_new in
+        subst (λ m. HasSteps (slice_set steps node (Some next)) m next) (sym e) steps_new in
         inr (same_steps (slice_set steps node (Some next)) n k next h here, e)
     | inr ne ↦ inl (sym (slice_get-set_other steps node n (Some next) ne) ∙ h)
   ]
@@ -42,16 +42,16 @@ module _ (steps : List (Option ℕ)) (node next : ℕ) (none : slice_get steps n
   steps_fewer =
       let was : get_or steps node None ≡ None = get_or_from_slice_get steps node None None none in
       let more = sum_by-set (λ o. cond (is_none o) 1 0) steps node (Some next) None
-        (slice_get_within steps node None none) in
+      (slice_get_within steps node None none) in
       let first : count_by is_none (slice_set steps node (Some next)) + cond (is_none (get_or steps node None)) 1 0
-        ≡ count_by is_none steps + 0 = more in
+      ≡ count_by is_none steps + 0 = more in
       let one : ◌≡◌ {A = ℕ} (cond (is_none (get_or steps node None)) 1 0) 1 =
-        ap (λ (o : Option ℕ). cond (is_none o) 1 0) was in
+      ap (λ (o : Option ℕ). cond (is_none o) 1 0) was in
       omega arith
 
 -- none of them, so far
 pub ReachesAll-none : (P : ℕ → Type 0) (next : ℕ) (steps : List (Option ℕ)) (queue : List ℕ) → ((n : ℕ) → P n → ⊥) →
-  ReachesAll P next steps steps queue queue
+    ReachesAll P next steps steps queue queue
 ReachesAll-none P next steps queue none = record {
   len = refl;
   room = refl;
@@ -65,8 +65,8 @@ ReachesAll-none P next steps queue none = record {
 
 -- the same for a set that holds alike
 pub ReachesAll-same : (P Q : ℕ → Type 0) (next : ℕ) (steps new : List (Option ℕ)) (queue longer : List ℕ) →
-  ((n : ℕ) → P n → Q n) → ((n : ℕ) → Q n → P n) → ReachesAll P next steps new queue longer →
-  ReachesAll Q next steps new queue longer
+    ((n : ℕ) → P n → Q n) → ((n : ℕ) → Q n → P n) → ReachesAll P next steps new queue longer →
+    ReachesAll Q next steps new queue longer
 ReachesAll-same P Q next steps new queue longer there back h = record {
   len = h.len;
   room = h.room;
@@ -80,26 +80,33 @@ ReachesAll-same P Q next steps new queue longer there back h = record {
 
 -- One node more.
 module _ (P Q : ℕ → Type 0) (node next : ℕ) (steps mid : List (Option ℕ)) (queue longer : List ℕ) (only : (n : ℕ) →
-  Q n → P n ⊎ (n ≡ node)) (kept : (n : ℕ) → P n → Q n) (added : Q node) (h : ReachesAll P next steps mid queue
-  longer) where
+    Q n → P n ⊎ (n ≡ node)) (kept : (n : ℕ) → P n → Q n) (added : Q node) (h : ReachesAll P next steps mid queue
+    longer) where
   reaches_new : slice_get mid node ≡ Some None → ReachesAll Q next steps (slice_set mid node (Some next)) queue
-    (longer ++ node ∷ [])
+      (longer ++ node ∷ [])
   reaches_new none = record {
     len = length-set mid node (Some next) ∙ h.len;
     room = omega (arith, h.room, steps_fewer mid node next none, length_push longer node);
     kept = λ n k s. steps_kept mid node next none n k (h.kept n k s);
     all = λ n q. elim (only n q) [
       | inl p ↦ let w = h.all n p in (w.0, steps_kept mid node next none n w.0 w.1)
-      | inr e ↦ (next, subst (λ m. HasSteps (slice_set mid node (Some next)) m next) (sym e)
-        (steps_new mid node next none))
+      | inr e ↦ (
+        next,
+        subst (λ m. HasSteps (slice_set mid node (Some next)) m next) (sym e)
+            (steps_new mid node next none),
+      )
     ];
     only = λ n k s. elim (steps_only mid node next none n k s) [
       | inl m ↦ elim (h.only n k m) [
         | inl old ↦ inl old
         | inr w ↦ inr (w.0, kept n w.1, Contains-append_left longer (node ∷ []) n w.2)
       ]
-      | inr w ↦ inr (w.0, subst Q (sym w.1) added, subst (λ m. Contains (longer ++ node ∷ []) m) (sym w.1)
-        (Contains-push longer node))
+      | inr w ↦ inr (
+        w.0,
+        subst Q (sym w.1) added,
+        subst (λ m. Contains (longer ++ node ∷ []) m) (sym w.1)
+            (Contains-push longer node),
+      )
     ];
     longer = omega (arith, h.longer, length_push longer node);
     queue_kept = λ j n q. slice_get-push_old longer node n j (h.queue_kept j n q);
@@ -108,8 +115,11 @@ module _ (P Q : ℕ → Type 0) (node next : ℕ) (steps mid : List (Option ℕ)
         | inl old ↦ inl old
         | inr w ↦ inr (w.0, steps_kept mid node next none n next w.1)
       ]
-      | inr w ↦ inr (omega (arith, h.longer, w.0), subst (λ m. HasSteps (slice_set mid node (Some next)) m next) w.1
-        (steps_new mid node next none))
+      | inr w ↦ inr (
+        omega (arith, h.longer, w.0),
+        subst (λ m. HasSteps (slice_set mid node (Some next)) m next) w.1
+            (steps_new mid node next none),
+      )
     ];
   }
 
@@ -129,26 +139,26 @@ module _ (P Q : ℕ → Type 0) (node next : ℕ) (steps mid : List (Option ℕ)
   }
 
   pub ReachesAll-more : (new : List (Option ℕ)) (last : List ℕ) → Visits node next mid new longer last →
-    ReachesAll Q next steps new queue last
+      ReachesAll Q next steps new queue last
   ReachesAll-more new last (inl (none, set, push)) =
       subst (λ (s : List (Option ℕ)). ReachesAll Q next steps s queue last) (sym set)
       (subst (λ (q : List ℕ). ReachesAll Q next steps (slice_set mid node (Some next)) queue q) (sym push)
-        (reaches_new none))
+      (reaches_new none))
   ReachesAll-more new last (inr (k, has, same, still)) =
       subst (λ (s : List (Option ℕ)). ReachesAll Q next steps s queue last) (sym same)
       (subst (λ (q : List ℕ). ReachesAll Q next steps mid queue q) (sym still) (reaches_old k has))
 
 -- the next node of a list
 pub ReachesAll-turn : (nodes : List ℕ) (i next : ℕ) (steps mid new : List (Option ℕ)) (queue longer last : List ℕ) →
-  i < length nodes → ReachesAll (Contains (take i nodes)) next steps mid queue longer →
-  Visits (get_or nodes i 0) next mid new longer last → ReachesAll (Contains (take (i + 1) nodes)) next steps
-  new queue last
+    i < length nodes → ReachesAll (Contains (take i nodes)) next steps mid queue longer →
+    Visits (get_or nodes i 0) next mid new longer last → ReachesAll (Contains (take (i + 1) nodes)) next steps
+    new queue last
 ReachesAll-turn nodes i next steps mid new queue longer last i_in h r =
     let more = take_more nodes i 0 i_in in
     let node = get_or nodes i 0 in
     ReachesAll-more (Contains (take i nodes)) (Contains (take (i + 1) nodes)) node next steps mid queue longer
     (λ n q. elim (Contains-push_cases (take i nodes) node n (subst (λ (xs : List ℕ). Contains xs n) more q))
-      [ inl p ↦ inl p | inr e ↦ inr (sym e) ])
+    [ inl p ↦ inl p | inr e ↦ inr (sym e) ])
     (λ n p. subst (λ (xs : List ℕ). Contains xs n) (sym more) (Contains-append_left (take i nodes) (node ∷ []) n p))
     (subst (λ (xs : List ℕ). Contains xs node) (sym more) (Contains-push (take i nodes) node))
     h new last r

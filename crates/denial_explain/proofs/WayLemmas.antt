@@ -11,19 +11,19 @@ use Rattle.denial_explain.proofs.ReachLemmas.{same_steps}
 
 -- a list that leads somewhere, with one node more
 leads_push : (R : ℕ → ℕ → Type 0) (a : ℕ) (xs : List ℕ) (b c : ℕ) → LeadsTo R a xs b → R b c →
-  LeadsTo R a (xs ++ c ∷ []) c
+    LeadsTo R a (xs ++ c ∷ []) c
 leads_push R a [] b c e r = (subst (λ n. R n c) (sym e) r, refl)
 leads_push R a (x ∷ xs) b c h r = (h.0, leads_push R x xs b c h.1 r)
 
 leads_weaker : (R Q : ℕ → ℕ → Type 0) → ((a b : ℕ) → R a b → Q a b) → (a : ℕ) (xs : List ℕ) (b : ℕ) → LeadsTo R a xs b →
-  LeadsTo Q a xs b
+    LeadsTo Q a xs b
 leads_weaker R Q w a [] b e = e
 leads_weaker R Q w a (x ∷ xs) b h = (w a x h.0, leads_weaker R Q w x xs b h.1)
 
 -- a way is one along a relation that holds alike, to ends that are alike
 pub IsWay-same : (R Q : ℕ → ℕ → Type 0) (Target Goal : ℕ → Type 0) (a last : ℕ) (nodes : List ℕ) →
-  ((x y : ℕ) → R x y → Q x y) → ((x y : ℕ) → Q x y → R x y) → ((n : ℕ) → Target n → Goal n) →
-  ((n : ℕ) → Goal n → Target n) → IsWay R Target a last nodes → IsWay Q Goal a last nodes
+    ((x y : ℕ) → R x y → Q x y) → ((x y : ℕ) → Q x y → R x y) → ((n : ℕ) → Target n → Goal n) →
+    ((n : ℕ) → Goal n → Target n) → IsWay R Target a last nodes → IsWay Q Goal a last nodes
 IsWay-same R Q Target Goal a last nodes there back end_there end_back w = record {
   after = w.after;
   begins = w.begins;
@@ -35,8 +35,8 @@ IsWay-same R Q Target Goal a last nodes there back end_there end_back w = record
 
 -- a node from which a list leads to an end has at most as many steps as the list has nodes
 pub steps_within : (R : ℕ → ℕ → Type 0) (Target : ℕ → Type 0) (count : ℕ) (steps : List (Option ℕ)) →
-  AreSteps R Target count steps → (a : ℕ) (other : List ℕ) (m : ℕ) → LeadsTo R a other m → Target m → (k : ℕ)
-  × HasSteps steps a k × (k ≤ length other)
+    AreSteps R Target count steps → (a : ℕ) (other : List ℕ) (m : ℕ) → LeadsTo R a other m → Target m → (k : ℕ)
+    × HasSteps steps a k × (k ≤ length other)
 steps_within R Target count steps h a [] m e end = (0, h.ends a (subst Target (sym e) end), omega arith)
 steps_within R Target count steps h a (x ∷ xs) m l end =
     let w = steps_within R Target count steps h x xs m l.1 end in
@@ -45,14 +45,14 @@ steps_within R Target count steps h a (x ∷ xs) m l end =
 
 -- a node that is linked to an end has steps
 pub steps_from : (R Q : ℕ → ℕ → Type 0) (Target : ℕ → Type 0) (count : ℕ) (steps : List (Option ℕ)) →
-  AreSteps R Target count steps → ((x y : ℕ) → Q x y → R x y) → (a m : ℕ) → Linked Q a m → Target m → (k : ℕ)
-  × HasSteps steps a k
+    AreSteps R Target count steps → ((x y : ℕ) → Q x y → R x y) → (a m : ℕ) → Linked Q a m → Target m → (k : ℕ)
+    × HasSteps steps a k
 steps_from R Q Target count steps h w a m l end =
     let s = steps_within R Target count steps h a l.after m (leads_weaker Q R w a l.after m l.leads) end in (s.0, s.1)
 
 -- the same steps, to the nodes without a step
 pub AreSteps-own_ends : (R : ℕ → ℕ → Type 0) (Target : ℕ → Type 0) (count : ℕ) (steps : List (Option ℕ)) →
-  AreSteps R Target count steps → AreSteps R (λ n. HasSteps steps n 0) count steps
+    AreSteps R Target count steps → AreSteps R (λ n. HasSteps steps n 0) count steps
 AreSteps-own_ends R Target count steps h = record {
   len = h.len;
   ends = λ n e. e;
@@ -74,19 +74,22 @@ one_place from zero n e = (refl, cc)
 one_place from (suc i) n e = cc
 
 pub Follows-start : (R : ℕ → ℕ → Type 0) (steps : List (Option ℕ)) (from left : ℕ) → HasSteps steps from left →
-  Follows R steps from from left (from ∷ [])
+    Follows R steps from from left (from ∷ [])
 Follows-start R steps from left has = record {
   after = [];
   begins = refl;
   leads = refl;
   here = has;
-  falls = λ i n e. let w = one_place from i n e in (left, subst (λ m. HasSteps steps m left) w.1 has,
-    omega (arith, w.0));
+  falls = λ i n e. let w = one_place from i n e in (
+    left,
+    subst (λ m. HasSteps steps m left) w.1 has,
+    omega (arith, w.0),
+  );
 }
 
 module _ (R : ℕ → ℕ → Type 0) (steps : List (Option ℕ)) (from last : ℕ) (nodes : List ℕ) where
   pub Follows-step : (left m : ℕ) → Follows R steps from last (left + 1) nodes → R last m → HasSteps steps m left →
-    Follows R steps from m left (nodes ++ m ∷ [])
+      Follows R steps from m left (nodes ++ m ∷ [])
   Follows-step left m h r has = record {
     after = h.after ++ m ∷ [];
     begins = ap (λ (xs : List ℕ). xs ++ m ∷ []) h.begins;
@@ -114,7 +117,7 @@ module _ (R : ℕ → ℕ → Type 0) (steps : List (Option ℕ)) (from last : �
 
   -- where no step is left, it is a shortest way
   pub IsWay-followed : (Target : ℕ → Type 0) (count : ℕ) → AreSteps R Target count steps →
-    Follows R steps from last 0 nodes → IsWay R Target from last nodes
+      Follows R steps from last 0 nodes → IsWay R Target from last nodes
   IsWay-followed Target count are h = record {
     after = h.after;
     begins = h.begins;

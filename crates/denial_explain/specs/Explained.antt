@@ -49,7 +49,7 @@ pub record ExplainsClosing (d : Diagram) (v : List Bool) (op : Op) (e : Explanat
 -- the second.
 abbrev pub LeadsLive : Diagram → List Bool → ℕ → ℕ → Chain → Type 0
 LeadsLive d v first second c = LeadsToClosed d v v Infeed first c
-  ⊎ ((¬ Live d v first) × LeadsToClosed d v v Infeed second c)
+    ⊎ ((¬ Live d v first) × LeadsToClosed d v v Infeed second c)
 
 -- R3: with the switch open, one side is live, a tap is joined to each side, and the second node is not
 -- among those that are bonded to the first.

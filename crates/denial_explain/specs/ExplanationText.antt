@@ -31,7 +31,7 @@ position_line head None closed path = []
 -- The line of switch i, where it has one: the moved switch has none.
 abbrev pub position_at : List ℕ → ℕ → List Dbpos → List Bool → Diagram → ℕ → List ℕ
 position_at head moved words v d i = if i == moved then [] else position_line head (slice_get words i) (slice_get v i)
-  (switch_path d i)
+    (switch_path d i)
 
 -- A line for each other switch whose word is neither off nor on, in document order.
 abbrev pub position_lines : List ℕ → ℕ → List Dbpos → List Bool → Diagram → List ℕ
@@ -59,7 +59,7 @@ earthed_lines d None = []
 abbrev pub load_lines : Diagram → Option (Chain × Chain) → List ℕ → List ℕ
 load_lines d (Some (first, second)) bonded =
     chain_lines d (codes "tap\n") first ++ chain_lines d (codes "tap\n") second ++ codes "bonded\n"
-      ++ node_lines d bonded
+    ++ node_lines d bonded
 load_lines d None bonded = []
 
 -- The whole text, with these words of all switches and this reading of them.

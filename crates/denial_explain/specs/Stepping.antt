@@ -20,12 +20,12 @@ pub record AreSteps (R : ℕ → ℕ → Type 0) (Target : ℕ → Type 0) (coun
 abbrev pub Visits : ℕ → ℕ → List (Option ℕ) → List (Option ℕ) → List ℕ → List ℕ → Type 0
 Visits node next steps new_steps queue new_queue =
     ((slice_get steps node ≡ Some None) × (new_steps ≡ slice_set steps node (Some next))
-      × (new_queue ≡ queue ++ node ∷ []))
+    × (new_queue ≡ queue ++ node ∷ []))
     ⊎ ((k : ℕ) × HasSteps steps node k × (new_steps ≡ steps) × (new_queue ≡ queue))
 
 -- Exactly those nodes with P that had no steps got these, and joined the queue.
 pub record ReachesAll (P : ℕ → Type 0) (next : ℕ) (steps new_steps : List (Option ℕ))
-  (queue new_queue : List ℕ) : Type 0 where
+    (queue new_queue : List ℕ) : Type 0 where
   pub len : length new_steps ≡ length steps
   pub room : length new_queue + count_by is_none new_steps ≡ length queue + count_by is_none steps
   pub kept : (n k : ℕ) → HasSteps steps n k → HasSteps new_steps n k
@@ -34,11 +34,11 @@ pub record ReachesAll (P : ℕ → Type 0) (next : ℕ) (steps new_steps : List 
   pub longer : length queue ≤ length new_queue
   pub queue_kept : (j n : ℕ) → slice_get queue j ≡ Some n → slice_get new_queue j ≡ Some n
   pub queue_only : (j n : ℕ) → slice_get new_queue j ≡ Some n → (slice_get queue j ≡ Some n)
-    ⊎ ((length queue ≤ j) × HasSteps new_steps n next)
+      ⊎ ((length queue ≤ j) × HasSteps new_steps n next)
 
 -- The neighbours of the node were reached, one step after it.
 pub record Spreads (lists : List (List ℕ)) (node : ℕ) (steps new_steps : List (Option ℕ))
-  (queue new_queue : List ℕ) : Type 0 where
+    (queue new_queue : List ℕ) : Type 0 where
   pub at : ℕ
   pub reached : HasSteps steps node at
   pub all : ReachesAll (Contains (list_at lists node)) (at + 1) steps new_steps queue new_queue

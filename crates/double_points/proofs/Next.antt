@@ -63,19 +63,19 @@ record Leaves (n : ℕ) (p : Read) : Type 0 where
   pub rests : ends_at_end p.1 ≡ false
 
 at_end : (b : Bool) (fields : List (List ℕ)) (p : Read) → cond b (Some (fields, st.StartRecord, [])) None
-  ≡ Some p → Leaves 0 p
+    ≡ Some p → Leaves 0 p
 at_end true fields p e = let h : (fields, st.StartRecord, []) ≡ p = cc e in
-  subst (Leaves 0) h (record { fewer = omega arith; rests = refl })
+    subst (Leaves 0) h (record { fewer = omega arith; rests = refl })
 at_end false fields p e = cc e
 
 -- a step that ends the record, or goes on
 on_step : (b : Bool) (one : Read) (more : Option Read) (n : ℕ) (p : Read) → (b ≡ true → Leaves n one) →
-  (more ≡ Some p → Leaves n p) → cond b (Some one) more ≡ Some p → Leaves n p
+    (more ≡ Some p → Leaves n p) → cond b (Some one) more ≡ Some p → Leaves n p
 on_step true one more n p h k e = let eq : one ≡ p = cc e in subst (Leaves n) eq (h refl)
 on_step false one more n p h k e = k e
 
 leaves : (s : State) (fields : List (List ℕ)) (field xs : List ℕ) (p : Read) →
-  next_record default_config s fields field xs ≡ Some p → Leaves (length xs) p
+    next_record default_config s fields field xs ≡ Some p → Leaves (length xs) p
 unfolding next_record
 leaves s fields field [] p e = at_end (ends_at_end s) _ p e
 leaves s fields field (c ∷ rest) p e =
@@ -91,7 +91,7 @@ pub record Shrinks (n : ℕ) (p : Read) : Type 0 where
   pub rests : ends_at_end p.1 ≡ false
 
 pub shrinks : (s : State) (xs : List ℕ) (p : Read) → ends_at_end s ≡ false → next_record default_config s [] [] xs
-  ≡ Some p → Shrinks (length xs) p
+    ≡ Some p → Shrinks (length xs) p
 unfolding next_record
 shrinks s [] p b e = let bad : next_record default_config s [] [] [] ≡ None = rw b refl in cc (e, bad)
 shrinks s (c ∷ rest) p b e =
@@ -103,13 +103,13 @@ shrinks s (c ∷ rest) p b e =
 
 -- enough turns give the same records
 same_after : (m n : ℕ) (o : Option Read) → ((p : Read) → o ≡ Some p → records_from default_config m p.1 p.2
-  ≡ records_from default_config n p.1 p.2)
+    ≡ records_from default_config n p.1 p.2)
     → records_next (records_from default_config m) o ≡ records_next (records_from default_config n) o
 same_after m n None h = refl
 same_after m n (Some p) h = ap (λ (l : List (List (List ℕ))). p.0 ∷ l) (h p refl)
 
 turns : (m n : ℕ) (s : State) (xs : List ℕ) → length xs < m → length xs < n → ends_at_end s ≡ false →
-  records_from default_config m s xs ≡ records_from default_config n s xs
+    records_from default_config m s xs ≡ records_from default_config n s xs
 unfolding records_from
 turns zero n s xs a b t = absurd (omega arith)
 turns (suc m) zero s xs a b t = absurd (omega arith)
@@ -119,28 +119,28 @@ turns (suc m) (suc n) s xs a b t = same_after m n (next_record default_config s 
 
 -- the next record, and those after it
 pub rows_from-some : (s : State) (xs : List ℕ) (p : Read) → ends_at_end s ≡ false →
-  next_record default_config s [] [] xs ≡ Some p
+    next_record default_config s [] [] xs ≡ Some p
     → rows_from s (Some xs) ≡ p.0 ∷ rows_from p.1 (Some p.2)
 unfolding rows_from records_from
 rows_from-some s xs p t e =
     let l = shrinks s xs p t e in
     rw (add-one, e) (ap (λ (r : List (List (List ℕ))). p.0 ∷ r) (turns (length xs) (length p.2 + 1) p.1 p.2 l.fewer
-      (omega arith) l.rests))
+    (omega arith) l.rests))
 
 pub rows_from-none : (s : State) (xs : List ℕ) → next_record default_config s [] [] xs ≡ None →
-  rows_from s (Some xs) ≡ []
+    rows_from s (Some xs) ≡ []
 unfolding rows_from records_from
 rows_from-none s xs e = rw (add-one, e) refl
 
 next_count : (n k : ℕ) (o : Option Read) →
-  ((p : Read) → o ≡ Some p → length (records_from default_config n p.1 p.2) < k) →
-  length (records_next (records_from default_config n) o) ≤ k
+    ((p : Read) → o ≡ Some p → length (records_from default_config n p.1 p.2) < k) →
+    length (records_next (records_from default_config n) o) ≤ k
 next_count n k None h = omega arith
 next_count n k (Some p) h = let l = h p refl in omega (arith, l)
 
 -- a record takes at least a byte
 pub length-records_from : (n : ℕ) (s : State) (xs : List ℕ) → ends_at_end s ≡ false →
-  length (records_from default_config n s xs) ≤ length xs
+    length (records_from default_config n s xs) ≤ length xs
 unfolding records_from
 length-records_from zero s xs t = omega arith
 length-records_from (suc n) s xs t = next_count n (length xs) (next_record default_config s [] [] xs) (λ p e.
@@ -167,18 +167,18 @@ pub record Took (s : State) (y : List ℕ) (known : Option (List ℕ)) (fields :
   pub state : s2 ≡ read.1
 
 pub took : (s : State) (y : List ℕ) (known : Option (List ℕ)) (fields : List (List ℕ)) (s2 : State) →
-  ReadsNext default_config s (Some y) known true fields s2 → Took s y known fields s2
+    ReadsNext default_config s (Some y) known true fields s2 → Took s y known fields s2
 took s y None fields s2 h = absurd h
 took s y (Some z) fields s2 h = took_some s y z fields s2 (next_record default_config s [] [] y) refl h
   where
     took_some : (s : State) (y z : List ℕ) (fields : List (List ℕ)) (s2 : State) (o : Option Read) →
-      next_record default_config s [] [] y ≡ o → NextIs o true fields s2 z → Took s y (Some z) fields s2
+        next_record default_config s [] [] y ≡ o → NextIs o true fields s2 z → Took s y (Some z) fields s2
     took_some s y z fields s2 None e h = cc h
     took_some s y z fields s2 (Some p) e h = record { read = p; was = e; left = ap Some h.3; gave = h.1; state = h.2 }
 
 -- a reader that took a record
 pub goes_on : (a b : Reader Bytes) (fields : List (List ℕ)) → ReaderStands a → ReadRecord told a b true fields →
-  b.first ≡ true → b.flexible ≡ a.flexible
+    b.first ≡ true → b.flexible ≡ a.flexible
     → ReaderStands b × (left_of a ≡ fields ∷ left_of b)
 goes_on a b fields i r first flexible =
     let t = took a.state i.bytes (pending_of (told b.rdr) b) fields b.state (rw (i.config, i.known) at r.0) in
@@ -199,13 +199,13 @@ goes_on a b fields i r first flexible =
 
 -- a reader that found none
 pub at_last : (a b : Reader Bytes) (fields : List (List ℕ)) → ReaderStands a → ReadRecord told a b false fields →
-  left_of a ≡ []
+    left_of a ≡ []
 at_last a b fields i r =
     rw i.known (rows_from-none a.state i.bytes (rows-end told a b fields default_config i.bytes i.config i.known r))
 
 -- an error of a reader that takes records of any length is of memory or of what is underneath
 pub only_stops : (a b : Reader Bytes) (k : ErrorKind) → a.flexible ≡ true → ExplainsRead told a b false k →
-  stops_reader k ≡ true
+    stops_reader k ≡ true
 only_stops a b (kind.Io e) f h = refl
 only_stops a b (kind.Utf8 pos err) f h = cc h.0
 only_stops a b (kind.UnequalLengths pos expected len) f h = cc (h.0, f)

@@ -33,21 +33,21 @@ there (p ∷ paths) (suc i) lt = there paths i (omega (arith, lt))
 -- paths that differ are distinct by their places
 pub distinct : (paths : List (List ℕ)) → Differ paths → IsDistinct paths
 distinct paths differ = λ i j a b e. differ i j (get_or paths i []) (there paths i a) (there paths j b
-  ∙ ap Some (sym e))
+    ∙ ap Some (sym e))
 
 behind : (p : List ℕ) (paths : List (List ℕ)) → Differ (p ∷ paths) → Differ paths
 behind p paths differ = λ i j q a b. let e : suc i ≡ suc j = differ (suc i) (suc j) q a b in omega (arith, e)
 
 -- the place of a path that stands there
 pub place_of-there : (paths : List (List ℕ)) (i : ℕ) (p : List ℕ) → Differ paths → slice_get paths i ≡ Some p →
-  place_of p paths ≡ Some i
+    place_of p paths ≡ Some i
 place_of-there [] i p differ at = cc at
 place_of-there (x ∷ paths) zero p differ at =
     let e : bytes_eq x p ≡ true = (bytes_eq-Decides x p).1 (cc at) in
     rw e refl
 place_of-there (x ∷ paths) (suc i) p differ at =
     let e : bytes_eq x p ≡ false = apart x p (λ same. let z : 0 ≡ suc i = differ 0 (suc i) p (ap Some same) at in
-      omega (arith, z)) in
+    omega (arith, z)) in
     let rest = place_of-there paths i p (behind x paths differ) at in
     rw (e, rest) refl
 
@@ -61,12 +61,12 @@ place_of-nowhere (x ∷ paths) p none =
 
 -- the place of a path is one at which it stands
 pub place_of-some : (paths : List (List ℕ)) (p : List ℕ) (i : ℕ) → place_of p paths ≡ Some i → (i < length paths)
-  × (get_or paths i [] ≡ p)
+    × (get_or paths i [] ≡ p)
 place_of-some [] p i e = cc e
 place_of-some (x ∷ paths) p i e = by_cases (bytes_eq x p) (place_of p paths) i refl (λ j h. place_of-some paths p j h) e
   where
     by_cases : (b : Bool) (o : Option ℕ) (i : ℕ) → bytes_eq x p ≡ b → ((j : ℕ) → o ≡ Some j → (j < length paths)
-      × (get_or paths j [] ≡ p)) → cond b (Some 0) (option_map suc o) ≡ Some i
+        × (get_or paths j [] ≡ p)) → cond b (Some 0) (option_map suc o) ≡ Some i
         → (i < suc (length paths)) × (get_or (x ∷ paths) i [] ≡ p)
     by_cases true o zero same more e = (omega arith, (bytes_eq-Decides x p).0 same)
     by_cases true o (suc i) same more e = cc e

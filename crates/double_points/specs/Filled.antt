@@ -11,12 +11,12 @@ pub record IsFilled {X : Type 0} (filler : X) (size : ℕ) (row : List X) (count
 
 -- What it holds has so many entries.
 pub held_count : {X : Type 0} (filler : X) (size : ℕ) (row : List X) (count : ℕ) → IsFilled filler size row count →
-  length (take count row) ≡ count
+    length (take count row) ≡ count
 held_count filler size row count f = length-take-le count row (subst (λ (k : ℕ). count ≤ k) (sym f.size_is) f.within)
 
 -- Filled up again, what it holds is the row.
 pub filled_again : {X : Type 0} (filler : X) (size : ℕ) (row : List X) (count : ℕ) → IsFilled filler size row count →
-  take count row ++ replicate (size - length (take count row)) filler ≡ row
+    take count row ++ replicate (size - length (take count row)) filler ≡ row
 filled_again {X} filler size row count f =
     ap (λ (k : ℕ). take count row ++ replicate (size - k) filler) (held_count filler size row count f)
     ∙ ap (λ (t : List X). take count row ++ t) (sym f.filled)

@@ -6,7 +6,7 @@ use Rattle.std.specs.Str.{bytes_eq}
 -- No two places have one path.
 abbrev pub IsDistinct : List (List ℕ) → Type 0
 IsDistinct paths = (i j : ℕ) → i < length paths → j < length paths →
-  slice_index_or paths i [] ≡ slice_index_or paths j [] → i ≡ j
+    slice_index_or paths i [] ≡ slice_index_or paths j [] → i ≡ j
 
 -- The place of the first path that is equal to it.
 abbrev pub place_of : List ℕ → List (List ℕ) → Option ℕ

@@ -66,7 +66,7 @@ words_of paths rows = map (λ path. unwrap_or (given rows path) Lost) paths
 -- The readings that a file gives, where it is accepted.
 abbrev pub IsAccepted : List (List ℕ) → List ℕ → List Dbpos → Type 0
 IsAccepted paths bytes words = (length bytes ≤ FILE_BYTES) × Accepts paths (rows_of bytes)
-  × (words ≡ words_of paths (rows_of bytes))
+    × (words ≡ words_of paths (rows_of bytes))
 
 -- Why a file is refused.
 abbrev pub IsRefusedWith : List (List ℕ) → List ℕ → InputRefusal → Type 0

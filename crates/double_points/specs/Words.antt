@@ -35,17 +35,17 @@ AreWords d words = length words ≡ length d.switches
 -- of the bay are looked at.
 abbrev pub BayAgrees : Diagram → ℕ → List Dbpos → List Bool → Type 0
 BayAgrees d b words v = (i : ℕ) (word : Dbpos) (closed : Bool) → OfPart d b (a_switch i) →
-  slice_get words i ≡ Some word → slice_get v i ≡ Some closed → Agrees word closed
+    slice_get words i ≡ Some word → slice_get v i ≡ Some closed → Agrees word closed
 
 -- The row is that of the bay's words: one for each of its switches, in their order.
 pub record AreWordsOf (d : Diagram) (bay : ℕ) (words row : List Dbpos) : Type 0 where
   pub count : length row ≡ switches_in d bay
   pub each : (i : ℕ) (word : Dbpos) → OfPart d bay (a_switch i) → slice_get words i ≡ Some word →
-    slice_get row (place_in d bay i) ≡ Some word
+      slice_get row (place_in d bay i) ≡ Some word
 
 -- The new words are lost for each switch of the bay, and the old ones for each other switch.
 pub record Forgets (d : Diagram) (bay : ℕ) (old new : List Dbpos) : Type 0 where
   pub count : length new ≡ length old
   pub own : (i : ℕ) (x : Switch) → slice_get d.switches i ≡ Some x → x.bay.0 ≡ bay → slice_get new i ≡ Some Lost
   pub others : (i : ℕ) (x : Switch) → slice_get d.switches i ≡ Some x → x.bay.0 ≢ bay →
-    slice_get new i ≡ slice_get old i
+      slice_get new i ≡ slice_get old i

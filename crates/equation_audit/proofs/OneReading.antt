@@ -41,7 +41,7 @@ AllInner-append [] ys first second = second
 AllInner-append (x ∷ xs) ys first second = (first.0, AllInner-append xs ys first.1 second)
 
 AllInner-parts : (xs : List Statement) (s : Statement) (zs : List Statement) → AllInner (xs ++ s ∷ zs) → IsInner s
-  × AllInner xs
+    × AllInner xs
 AllInner-parts [] s zs all = (all.0, tt)
 AllInner-parts (x ∷ xs) s zs all = let rest = AllInner-parts xs s zs all.1 in (rest.0, (all.0, rest.1))
 
@@ -52,7 +52,7 @@ when_inner (c ∷ cs) = (tt, when_inner cs)
 body_inner : (cs : List Condition) (rest : List (List Condition)) → AllInner (body (cs ∷ rest))
 body_inner cs [] = when_inner cs
 body_inner cs (next ∷ rest) = AllInner-append (map When cs) (Or ∷ body (next ∷ rest)) (when_inner cs)
-  (tt, body_inner next rest)
+    (tt, body_inner next rest)
 
 not_end : (s : Statement) → IsInner s → is_end s ≡ false
 not_end (Begins op) inner = refl
@@ -85,12 +85,12 @@ before_end-append : (xs ys : List Statement) → NoEnd xs → before_end (xs ++ 
 before_end-append [] ys none = refl
 before_end-append (x ∷ xs) ys none =
     ap (λ t. cond t [] (x ∷ before_end (xs ++ ys))) none.0 ∙ ap (λ (ss : List Statement). x ∷ ss)
-      (before_end-append xs ys none.1)
+    (before_end-append xs ys none.1)
 
 after_end-append : (xs ys : List Statement) → NoEnd xs → after_end (xs ++ ys) ≡ after_end ys
 after_end-append [] ys none = refl
 after_end-append (x ∷ xs) ys none = ap (λ t. cond t (xs ++ ys) (after_end (xs ++ ys))) none.0
-  ∙ after_end-append xs ys none.1
+    ∙ after_end-append xs ys none.1
 
 before_whole : (alts : List (List Condition)) (x : List Statement) → before_end (body alts ++ End ∷ x) ≡ body alts
 before_whole alts x = before_end-append (body alts) (End ∷ x) (body_no_end alts) ∙ append-nil (body alts)
@@ -109,7 +109,7 @@ gather (When c ∷ ss) = onto c (gather ss)
 gather (End ∷ ss) = []
 
 gather-when : (cs : List Condition) (ss : List Statement) (first : List Condition) (rest : List (List Condition)) →
-  gather ss ≡ first ∷ rest → gather (map When cs ++ ss) ≡ (cs ++ first) ∷ rest
+    gather ss ≡ first ∷ rest → gather (map When cs ++ ss) ≡ (cs ++ first) ∷ rest
 gather-when [] ss first rest is = is
 gather-when (c ∷ cs) ss first rest is = ap (onto c) (gather-when cs ss first rest is)
 
@@ -117,7 +117,7 @@ gather_body : (alts : List (List Condition)) → gather (body alts) ≡ alts
 gather_body [] = refl
 gather_body (cs ∷ []) =
     ap gather (sym (append-nil (map When cs))) ∙ gather-when cs [] [] [] refl
-      ∙ ap (λ (first : List Condition). let one : List (List Condition) = first ∷ [] in one) (append-nil cs)
+    ∙ ap (λ (first : List Condition). let one : List (List Condition) = first ∷ [] in one) (append-nil cs)
 gather_body (cs ∷ next ∷ rest) =
     gather-when cs (Or ∷ body (next ∷ rest)) [] (gather (body (next ∷ rest))) refl
     ∙ (λ i. append-nil cs i ∷ gather_body (next ∷ rest) i)
@@ -128,25 +128,25 @@ one_body alts others same = sym (gather_body alts) ∙ ap gather same ∙ gather
 
 -- what a body that goes on says next
 pub says_next : (alts before : List (List Condition)) (s : Statement) (zs : List Statement) →
-  body alts ≡ body before ++ s ∷ zs → ((before ≡ [] ∷ []) × (s ≡ Never)) ⊎ (IsInner s × AllInner (body before))
+    body alts ≡ body before ++ s ∷ zs → ((before ≡ [] ∷ []) × (s ≡ Never)) ⊎ (IsInner s × AllInner (body before))
 says_next [] before s zs same =
     let only = only_never (body before) s zs same in
     inl (one_body before ([] ∷ []) only.0, only.1)
   where
     only_never : (xs : List Statement) (t : Statement) (us : List Statement) → Never ∷ [] ≡ xs ++ t ∷ us → (xs ≡ [])
-      × (t ≡ Never)
+        × (t ≡ Never)
     only_never [] t us e = (refl, cc)
     only_never (x ∷ []) t us e = absurd (cc)
     only_never (x ∷ y ∷ xs) t us e = absurd (cc)
 says_next (cs ∷ rest) before s zs same =
-  inr (AllInner-parts (body before) s zs (subst AllInner same (body_inner cs rest)))
+    inr (AllInner-parts (body before) s zs (subst AllInner same (body_inner cs rest)))
 
 pub never_inner : (before : List (List Condition)) → before ≡ [] → AllInner (body before) → ⊥
 never_inner before is all = let here = subst (λ (alts : List (List Condition)). AllInner (body alts)) is all in here.0
 
 -- up to its end, a block goes on with what is not its end
 pub goes_on : (alts before : List (List Condition)) (s : Statement) (x ts : List Statement) → is_end s ≡ false →
-  body alts ++ End ∷ x ≡ body before ++ s ∷ ts → body alts ≡ body before ++ s ∷ before_end ts
+    body alts ++ End ∷ x ≡ body before ++ s ∷ ts → body alts ≡ body before ++ s ∷ before_end ts
 goes_on alts before s x ts other same =
     sym (before_whole alts x)
     ∙ ap before_end same
@@ -167,11 +167,11 @@ whole_one : (e f : Equation) (x y : List Statement) → whole e ++ x ≡ whole f
 whole_one e f x y same =
     let parts = same_begin e.op f.op _ _ (sym (whole-append e x) ∙ same ∙ whole-append f y) in
     let bodies : body e.alternatives ≡ body f.alternatives = sym (before_whole e.alternatives x) ∙ ap before_end parts.1
-      ∙ before_whole f.alternatives y in
+    ∙ before_whole f.alternatives y in
     let alternatives = one_body e.alternatives f.alternatives bodies in (
       (λ i. record { op = parts.0 i; alternatives = alternatives i }),
       sym (after_end-append (body e.alternatives) (End ∷ x) (body_no_end e.alternatives)) ∙ ap after_end parts.1
-        ∙ after_end-append (body f.alternatives) (End ∷ y) (body_no_end f.alternatives),
+          ∙ after_end-append (body f.alternatives) (End ∷ y) (body_no_end f.alternatives),
     )
 
 -- the blocks after those that are read
@@ -181,12 +181,12 @@ pub record More (es read : List Equation) (tail : List Statement) : Type 0 where
   pub say : flat_map whole more ≡ tail
 
 pub blocks_split : (es read : List Equation) (tail : List Statement) → flat_map whole es ≡ flat_map whole read ++ tail →
-  More es read tail
+    More es read tail
 blocks_split es [] tail same = record { more = es; those = refl; say = same }
 blocks_split [] (f ∷ read) tail same = absurd (cc)
 blocks_split (e ∷ es) (f ∷ read) tail same =
     let parts = whole_one e f (flat_map whole es) (flat_map whole read ++ tail) (same
-      ∙ append_assoc (whole f) (flat_map whole read) tail) in
+    ∙ append_assoc (whole f) (flat_map whole read) tail) in
     let rest = blocks_split es read tail parts.1 in
     record { more = rest.more; those = (λ i. parts.0 i ∷ rest.those i); say = rest.say }
 
@@ -198,11 +198,15 @@ pub record SaidNext (d : Diagram) (line : List ℕ) (before all : List Statement
   pub says : Says d line statement
 
 pub said_split : (d : Diagram) → Differ d.switch_paths → (ls : List (ℕ × List ℕ)) (ss : List Statement) → Say d ls ss →
-  (line : ℕ × List ℕ) (rest : List (ℕ × List ℕ)) (all : List Statement) → Say d (ls ++ line ∷ rest) all →
-  SaidNext d line.1 ss all
+    (line : ℕ × List ℕ) (rest : List (ℕ × List ℕ)) (all : List Statement) → Say d (ls ++ line ∷ rest) all →
+    SaidNext d line.1 ss all
 said_split d differ [] [] say line rest [] says = absurd says
-said_split d differ [] [] say line rest (s ∷ all) says = record { statement = s; rest = all; those = refl;
-  says = says.0 }
+said_split d differ [] [] say line rest (s ∷ all) says = record {
+  statement = s;
+  rest = all;
+  those = refl;
+  says = says.0;
+}
 said_split d differ [] (t ∷ ss) say line rest all says = absurd say
 said_split d differ (l ∷ ls) [] say line rest all says = absurd say
 said_split d differ (l ∷ ls) (t ∷ ss) say line rest [] says = absurd says
@@ -216,23 +220,23 @@ said_split d differ (l ∷ ls) (t ∷ ss) say line rest (s ∷ all) says =
     }
 
 pub said_same : (d : Diagram) → Differ d.switch_paths → (ls : List (ℕ × List ℕ)) (ss ts : List Statement) →
-  Say d ls ss → Say d ls ts → ss ≡ ts
+    Say d ls ss → Say d ls ts → ss ≡ ts
 said_same d differ [] [] [] x y = refl
 said_same d differ [] [] (t ∷ ts) x y = absurd y
 said_same d differ [] (s ∷ ss) ts x y = absurd x
 said_same d differ (l ∷ ls) [] ts x y = absurd x
 said_same d differ (l ∷ ls) (s ∷ ss) [] x y = absurd y
 said_same d differ (l ∷ ls) (s ∷ ss) (t ∷ ts) x y = λ i. one_statement d differ l.1 s t x.0 y.0 i ∷ said_same d differ
-  ls ss ts x.1 y.1 i
+    ls ss ts x.1 y.1 i
 
 HasBlock-mid : (es : List Equation) (e : Equation) (more : List Equation) (op : Op) → e.op ≡ op →
-  HasBlock (es ++ e ∷ more) op
+    HasBlock (es ++ e ∷ more) op
 HasBlock-mid [] e more op is = inl is
 HasBlock-mid (x ∷ es) e more op is = inr (HasBlock-mid es e more op is)
 
 -- none of the blocks before one is of its operation
 pub none_before : (es : List Equation) (e : Equation) (more : List Equation) → OneEach (es ++ e ∷ more) →
-  HasBlock es e.op → ⊥
+    HasBlock es e.op → ⊥
 none_before [] e more each has = has
 none_before (x ∷ es) e more each (inl is) = each.0 (HasBlock-mid es e more x.op (sym is))
 none_before (x ∷ es) e more each (inr has) = none_before es e more each.1 has
@@ -246,9 +250,9 @@ within [] e more = omega arith
 within (x ∷ es) e more = omega (arith, within es e more)
 
 pub few_mid : (es : List Equation) (e : Equation) (more : List Equation) → AllFew (es ++ e ∷ more) →
-  HasFewOwn e.alternatives
+    HasFewOwn e.alternatives
 few_mid es e more all = subst (λ (x : Equation). HasFewOwn x.alternatives) (at_mid es e e more)
-  (all (length es) e (within es e more))
+    (all (length es) e (within es e more))
 
 abbrev pub is_on : Statement → ℕ → Bool
 is_on (Begins op) i = false
@@ -270,8 +274,8 @@ names_body (cs ∷ next ∷ rest) i =
 
 -- what a body names that goes on with a condition
 pub names_more : (alts before : List (List Condition)) (c : Condition) (zs : List Statement) (i : ℕ) →
-  body alts ≡ body before ++ When c ∷ zs →
-  is_own alts i ≡ (is_own before i || ((c.switch.0 == i) || list_any (λ s. is_on s i) zs))
+    body alts ≡ body before ++ When c ∷ zs →
+    is_own alts i ≡ (is_own before i || ((c.switch.0 == i) || list_any (λ s. is_on s i) zs))
 names_more alts before c zs i same =
     sym (names_body alts i)
     ∙ ap (list_any (λ s. is_on s i)) same

@@ -10,22 +10,22 @@ use Rattle.equation_audit.specs.BlockLines.{Statement, Begins, Never, Or, When, 
 
 -- a line `open PATH` or `close PATH` is of one direction and of one path
 pub one_operation : (a b : Direction) (p q line : List ℕ) → IsOperationLine a p line → IsOperationLine b q line →
-  (a ≡ b) × (p ≡ q)
+    (a ≡ b) × (p ≡ q)
 one_operation ToOff ToOff p q line x y = (refl, ap (λ (l : List ℕ). drop 5 l) (sym x.is ∙ y.is))
 one_operation ToOff ToOn p q line x y = let first = ap (λ (l : List ℕ). slice_index l 0) (sym x.is ∙ y.is) in
-  absurd (omega (arith, first))
+    absurd (omega (arith, first))
 one_operation ToOn ToOff p q line x y = let first = ap (λ (l : List ℕ). slice_index l 0) (sym x.is ∙ y.is) in
-  absurd (omega (arith, first))
+    absurd (omega (arith, first))
 one_operation ToOn ToOn p q line x y = (refl, ap (λ (l : List ℕ). drop 6 l) (sym x.is ∙ y.is))
 
 -- a condition is on one position and on one path
 pub one_condition : (a b : Bool) (p q line : List ℕ) → IsConditionLine a p line → IsConditionLine b q line →
-  (a ≡ b) × (p ≡ q)
+    (a ≡ b) × (p ≡ q)
 one_condition false false p q line x y = (refl, ap (λ (l : List ℕ). drop 9 l) (sym x.is ∙ y.is))
 one_condition false true p q line x y = let at = ap (λ (l : List ℕ). slice_index l 6) (sym x.is ∙ y.is) in
-  absurd (omega (arith, at))
+    absurd (omega (arith, at))
 one_condition true false p q line x y = let at = ap (λ (l : List ℕ). slice_index l 6) (sym x.is ∙ y.is) in
-  absurd (omega (arith, at))
+    absurd (omega (arith, at))
 one_condition true true p q line x y = (refl, ap (λ (l : List ℕ). drop 8 l) (sym x.is ∙ y.is))
 
 abbrev way_byte : Direction → ℕ
@@ -64,9 +64,9 @@ both d line s t x y = sym (second_of d line s x) ∙ second_of d line t y
 
 -- what is said by a line in which `h` comes second is a condition
 pub is_condition : (d : Diagram) (line : List ℕ) (s : Statement) → Says d line s → slice_index line 1 ≡ 104 →
-  (c : Condition) × (s ≡ When c)
+    (c : Condition) × (s ≡ When c)
 is_condition d line (Begins op) says at = absurd (no_way op.direction 104 (sym (second_of d line (Begins op) says) ∙ at)
-  (λ e. omega (arith, e)) (λ e. omega (arith, e)))
+    (λ e. omega (arith, e)) (λ e. omega (arith, e)))
 is_condition d line Never says at = absurd (let e = sym (second_of d line Never says) ∙ at in omega (arith, e))
 is_condition d line Or says at = absurd (let e = sym (second_of d line Or says) ∙ at in omega (arith, e))
 is_condition d line (When c) says at = (c, refl)
@@ -74,33 +74,33 @@ is_condition d line End says at = absurd (let e = sym (second_of d line End says
 
 -- where paths differ, a line says one thing
 pub one_statement : (d : Diagram) → Differ d.switch_paths → (line : List ℕ) (s t : Statement) → Says d line s →
-  Says d line t → s ≡ t
+    Says d line t → s ≡ t
 one_statement d differ line (Begins a) (Begins b) x y =
     let same = one_operation a.direction b.direction x.path y.path line x.written y.written in
     let switch = differ a.switch.0 b.switch.0 y.path (x.named ∙ ap Some same.1) y.named in
     ap Begins (λ i. record { switch = record { 0 = switch i }; direction = same.0 i })
 one_statement d differ line (Begins a) Never x y = absurd (no_way a.direction 101 (both d line (Begins a) Never x y)
-  (λ e. omega (arith, e)) (λ e. omega (arith, e)))
+    (λ e. omega (arith, e)) (λ e. omega (arith, e)))
 one_statement d differ line (Begins a) Or x y = absurd (no_way a.direction 114 (both d line (Begins a) Or x y)
-  (λ e. omega (arith, e)) (λ e. omega (arith, e)))
+    (λ e. omega (arith, e)) (λ e. omega (arith, e)))
 one_statement d differ line (Begins a) (When c) x y =
-  absurd (no_way a.direction 104 (both d line (Begins a) (When c) x y) (λ e. omega (arith, e)) (λ e. omega (arith, e)))
+    absurd (no_way a.direction 104 (both d line (Begins a) (When c) x y) (λ e. omega (arith, e)) (λ e. omega (arith, e)))
 one_statement d differ line (Begins a) End x y = absurd (no_way a.direction 110 (both d line (Begins a) End x y)
-  (λ e. omega (arith, e)) (λ e. omega (arith, e)))
+    (λ e. omega (arith, e)) (λ e. omega (arith, e)))
 one_statement d differ line Never (Begins a) x y = absurd (no_way a.direction 101 (both d line (Begins a) Never y x)
-  (λ e. omega (arith, e)) (λ e. omega (arith, e)))
+    (λ e. omega (arith, e)) (λ e. omega (arith, e)))
 one_statement d differ line Never Never x y = refl
 one_statement d differ line Never Or x y = absurd (let e = both d line Never Or x y in omega (arith, e))
 one_statement d differ line Never (When c) x y = absurd (let e = both d line Never (When c) x y in omega (arith, e))
 one_statement d differ line Never End x y = absurd (let e = both d line Never End x y in omega (arith, e))
 one_statement d differ line Or (Begins a) x y = absurd (no_way a.direction 114 (both d line (Begins a) Or y x)
-  (λ e. omega (arith, e)) (λ e. omega (arith, e)))
+    (λ e. omega (arith, e)) (λ e. omega (arith, e)))
 one_statement d differ line Or Never x y = absurd (let e = both d line Or Never x y in omega (arith, e))
 one_statement d differ line Or Or x y = refl
 one_statement d differ line Or (When c) x y = absurd (let e = both d line Or (When c) x y in omega (arith, e))
 one_statement d differ line Or End x y = absurd (let e = both d line Or End x y in omega (arith, e))
 one_statement d differ line (When c) (Begins a) x y =
-  absurd (no_way a.direction 104 (both d line (Begins a) (When c) y x) (λ e. omega (arith, e)) (λ e. omega (arith, e)))
+    absurd (no_way a.direction 104 (both d line (Begins a) (When c) y x) (λ e. omega (arith, e)) (λ e. omega (arith, e)))
 one_statement d differ line (When c) Never x y = absurd (let e = both d line (When c) Never x y in omega (arith, e))
 one_statement d differ line (When c) Or x y = absurd (let e = both d line (When c) Or x y in omega (arith, e))
 one_statement d differ line (When a) (When b) x y =
@@ -109,7 +109,7 @@ one_statement d differ line (When a) (When b) x y =
     ap When (λ i. record { switch = record { 0 = switch i }; closed = same.0 i })
 one_statement d differ line (When c) End x y = absurd (let e = both d line (When c) End x y in omega (arith, e))
 one_statement d differ line End (Begins a) x y = absurd (no_way a.direction 110 (both d line (Begins a) End y x)
-  (λ e. omega (arith, e)) (λ e. omega (arith, e)))
+    (λ e. omega (arith, e)) (λ e. omega (arith, e)))
 one_statement d differ line End Never x y = absurd (let e = both d line End Never x y in omega (arith, e))
 one_statement d differ line End Or x y = absurd (let e = both d line End Or x y in omega (arith, e))
 one_statement d differ line End (When c) x y = absurd (let e = both d line End (When c) x y in omega (arith, e))

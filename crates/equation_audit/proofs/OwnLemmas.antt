@@ -25,24 +25,24 @@ or_right true b none = absurd (cc)
 or_right false b none = none
 
 pub is_among-push : (ids : List SwitchId) (id : SwitchId) (i : ℕ) →
-  is_among (ids ++ id ∷ []) i ≡ (is_among ids i || (id.0 == i))
+    is_among (ids ++ id ∷ []) i ≡ (is_among ids i || (id.0 == i))
 is_among-push ids id i = list_any-append (λ (x : SwitchId). x.0 == i) ids (id ∷ []) ∙ ap (λ b. is_among ids i || b)
-  (or_false (id.0 == i))
+    (or_false (id.0 == i))
 
 -- one more alternative names what its conditions name
 pub is_own-last : (earlier : List (List Condition)) (last : List Condition) (i : ℕ) →
-  is_own (earlier ++ last ∷ []) i ≡ (is_own earlier i || is_named last i)
+    is_own (earlier ++ last ∷ []) i ≡ (is_own earlier i || is_named last i)
 is_own-last earlier last i = list_any-append (λ (cs : List Condition). is_named cs i) earlier (last ∷ [])
-  ∙ ap (λ b. is_own earlier i || b) (or_false (is_named last i))
+    ∙ ap (λ b. is_own earlier i || b) (or_false (is_named last i))
 
 pub is_named-push : (cs : List Condition) (c : Condition) (i : ℕ) →
-  is_named (cs ++ c ∷ []) i ≡ (is_named cs i || (c.switch.0 == i))
+    is_named (cs ++ c ∷ []) i ≡ (is_named cs i || (c.switch.0 == i))
 is_named-push cs c i = list_any-append (λ (x : Condition). x.switch.0 == i) cs (c ∷ []) ∙ ap (λ b. is_named cs i || b)
-  (or_false (c.switch.0 == i))
+    (or_false (c.switch.0 == i))
 
 -- one more condition of the last alternative names its switch
 pub is_own-more : (earlier : List (List Condition)) (last : List Condition) (c : Condition) (i : ℕ) →
-  is_own (earlier ++ (last ++ c ∷ []) ∷ []) i ≡ (is_own (earlier ++ last ∷ []) i || (c.switch.0 == i))
+    is_own (earlier ++ (last ++ c ∷ []) ∷ []) i ≡ (is_own (earlier ++ last ∷ []) i || (c.switch.0 == i))
 is_own-more earlier last c i =
     is_own-last earlier (last ++ c ∷ []) i
     ∙ ap (λ b. is_own earlier i || b) (is_named-push last c i)
@@ -62,11 +62,11 @@ not_itself x y differ = by_test (y == x) refl
 
 -- a switch that is in no list before stands in it once
 pub AllDiffer-push : (ids : List SwitchId) (id : SwitchId) → AllDiffer ids → is_among ids id.0 ≡ false →
-  AllDiffer (ids ++ id ∷ [])
+    AllDiffer (ids ++ id ∷ [])
 AllDiffer-push [] id differ none = (refl, tt)
 AllDiffer-push (x ∷ ids) id differ none = (
   is_among-push ids id x.0 ∙ ap (λ b. b || (id.0 == x.0)) differ.0
-    ∙ not_itself x.0 id.0 (or_left (x.0 == id.0) (is_among ids id.0) none),
+      ∙ not_itself x.0 id.0 (or_left (x.0 == id.0) (is_among ids id.0) none),
   AllDiffer-push ids id differ.1 (or_right (x.0 == id.0) (is_among ids id.0) none),
 )
 
@@ -77,7 +77,7 @@ already ids j i is = by_test (j == i) refl
     by_test : (t : Bool) → (j == i) ≡ t → is_among ids i ≡ (is_among ids i || (j == i))
     by_test false other = sym (ap (λ b. is_among ids i || b) other ∙ or_false (is_among ids i))
     by_test true same = ap (is_among ids) (sym (eqb-true j i same)) ∙ is
-      ∙ sym (ap (λ b. b || (j == i)) (ap (is_among ids) (sym (eqb-true j i same)) ∙ is))
+        ∙ sym (ap (λ b. b || (j == i)) (ap (is_among ids) (sym (eqb-true j i same)) ∙ is))
 
 itself : (a b : Bool) → a ≡ true → (a || b) ≡ true
 itself true b is = refl
@@ -92,26 +92,26 @@ pub among_at : (ids : List SwitchId) (k : ℕ) (d : SwitchId) → k < length ids
 among_at [] k d lt = absurd (omega (arith, lt))
 among_at (id ∷ ids) zero d lt = itself (id.0 == id.0) (is_among ids id.0) (eq-eqb id.0 id.0 refl)
 among_at (id ∷ ids) (suc k) d lt = later (id.0 == (get_or ids k d).0) (is_among ids (get_or ids k d).0)
-  (among_at ids k d (omega (arith, lt)))
+    (among_at ids k d (omega (arith, lt)))
 
 -- the condition at a place names its switch
 pub named_at : (cs : List Condition) (k : ℕ) (d : Condition) → k < length cs →
-  is_named cs (get_or cs k d).switch.0 ≡ true
+    is_named cs (get_or cs k d).switch.0 ≡ true
 named_at [] k d lt = absurd (omega (arith, lt))
 named_at (c ∷ cs) zero d lt = itself (c.switch.0 == c.switch.0) (is_named cs c.switch.0)
-  (eq-eqb c.switch.0 c.switch.0 refl)
+    (eq-eqb c.switch.0 c.switch.0 refl)
 named_at (c ∷ cs) (suc k) d lt = later (c.switch.0 == (get_or cs k d).switch.0) (is_named cs (get_or cs k d).switch.0)
-  (named_at cs k d (omega (arith, lt)))
+    (named_at cs k d (omega (arith, lt)))
 
 -- what the alternative at a place names is own
 pub own_at_place : (alts : List (List Condition)) (k : ℕ) (d : List Condition) (i : ℕ) → k < length alts →
-  is_named (get_or alts k d) i ≡ true → is_own alts i ≡ true
+    is_named (get_or alts k d) i ≡ true → is_own alts i ≡ true
 own_at_place [] k d i lt named = absurd (omega (arith, lt))
 own_at_place (cs ∷ alts) zero d i lt named = itself (is_named cs i) (is_own alts i) named
 own_at_place (cs ∷ alts) (suc k) d i lt named = later (is_named cs i) (is_own alts i)
-  (own_at_place alts k d i (omega (arith, lt)) named)
+    (own_at_place alts k d i (omega (arith, lt)) named)
 
 -- the own switches, as they are listed, are among those of the station
 pub own_below : (n : ℕ) (alts : List (List Condition)) (own : List SwitchId) → AreOwn alts own → OwnBelow n alts →
-  AllBelow n own
+    AllBelow n own
 own_below n alts own are below = λ i among. below i (sym (are.each i) ∙ among)

@@ -19,12 +19,12 @@ pub not_equal : (a b : ℕ) → (a == b) ≡ false → b ≢ a
 not_equal a b differ same = let is : (a == b) ≡ true = eq-eqb a b (sym same) in cc (is, differ)
 
 take-suc : {X : Type 0} (xs : List X) (k : ℕ) (d : X) → k < length xs →
-  take (suc k) xs ≡ take k xs ++ get_or xs k d ∷ []
+    take (suc k) xs ≡ take k xs ++ get_or xs k d ∷ []
 take-suc [] k d lt = absurd (omega (arith, lt))
 take-suc (x ∷ xs) zero d lt = refl
 take-suc {X} (x ∷ xs) (suc k) d lt = ap (λ (ys : List X). x ∷ ys) (take-suc xs k d (omega (arith, lt)))
 
 -- one more element is taken
 pub take-next : {X : Type 0} (xs : List X) (k : ℕ) (d : X) → k < length xs →
-  take (k + 1) xs ≡ take k xs ++ get_or xs k d ∷ []
+    take (k + 1) xs ≡ take k xs ++ get_or xs k d ∷ []
 take-next xs k d lt = ap (λ n. take n xs) (add-one k) ∙ take-suc xs k d lt

@@ -28,7 +28,7 @@ neither false b none = (refl, none)
 
 -- a position leaves the other switches as they were
 placed-other : (v : List Bool) (own : List SwitchId) (k i : ℕ) → is_among own i ≡ false →
-  slice_get (placed v own k) i ≡ slice_get v i
+    slice_get (placed v own k) i ≡ slice_get v i
 placed-other v [] k i none = refl
 placed-other v (id ∷ own) k i none =
     let both = neither (id.0 == i) (is_among own i) none in
@@ -70,7 +70,7 @@ the_first true b some none = refl
 the_first false b some none = absurd (cc)
 
 one_more : (v : List Bool) (id : SwitchId) (own : List SwitchId) (w : List Bool) → id.0 < length v →
-  length w ≡ length v → is_among own id.0 ≡ false
+    length w ≡ length v → is_among own id.0 ≡ false
     → Number (set v id.0 (get_or w id.0 false)) own w → Number v (id ∷ own) w
 one_more v id own w within whole once rest =
     let b = get_or w id.0 false in
@@ -80,12 +80,12 @@ one_more v id own w within whole once rest =
     record {
       number = number;
       below = subst (λ n. number < n) (sym (pow-succ' 2 (length own))) (digit_below b rest.number (2 ^ length own)
-        rest.below);
+          rest.below);
       same = λ i among. by_rest i among (is_among own i) refl ∙ ap (λ (u : List Bool). slice_get u i) (sym is);
     }
   where
     by_rest : (i : ℕ) → ((id.0 == i) || is_among own i) ≡ true → (t : Bool) → is_among own i ≡ t →
-      slice_get w i ≡ slice_get (placed (set v id.0 (get_or w id.0 false)) own rest.number) i
+        slice_get w i ≡ slice_get (placed (set v id.0 (get_or w id.0 false)) own rest.number) i
     by_rest i among true in_rest = rest.same i in_rest
     by_rest i among false not_there =
         let first : (id.0 == i) ≡ true = the_first (id.0 == i) (is_among own i) among not_there in
@@ -98,30 +98,30 @@ one_more v id own w within whole once rest =
 
 -- each position has a number
 pub number_of : (v : List Bool) (own : List SwitchId) (w : List Bool) → AllDiffer own → AllBelow (length v) own →
-  length w ≡ length v → Number v own w
+    length w ≡ length v → Number v own w
 number_of v [] w differ below whole = record { number = 0; below = omega arith; same = λ i among. absurd (cc) }
 number_of v (id ∷ own) w differ below whole =
     let within : id.0 < length v = below id.0 (true_or (id.0 == id.0) (is_among own id.0) (eq-eqb id.0 id.0 refl)) in
     let kept : length (set v id.0 (get_or w id.0 false)) ≡ length v = length-set v id.0 (get_or w id.0 false) in
     one_more v id own w within whole differ.0 (number_of (set v id.0 (get_or w id.0 false)) own w differ.1
     (λ i among. subst (λ n. i < n) (sym kept) (below i (or_true (id.0 == i) (is_among own i) among))) (whole
-      ∙ sym kept))
+    ∙ sym kept))
 
 get_or_same : (v u : List Bool) (i : ℕ) → slice_get v i ≡ slice_get u i → get_or v i false ≡ get_or u i false
 get_or_same v u i same = sym (unwrap_or-slice_get v i false) ∙ ap (λ o. unwrap_or o false) same
-  ∙ unwrap_or-slice_get u i false
+    ∙ unwrap_or-slice_get u i false
 
 all_hold_same : (cs : List Condition) (v u : List Bool) → ((i : ℕ) → is_named cs i ≡ true →
-  slice_get v i ≡ slice_get u i) → list_all (holds v) cs ≡ list_all (holds u) cs
+    slice_get v i ≡ slice_get u i) → list_all (holds v) cs ≡ list_all (holds u) cs
 all_hold_same [] v u same = refl
 all_hold_same (c ∷ cs) v u same = λ j.
     beq (get_or_same v u c.switch.0 (same c.switch.0 (true_or (c.switch.0 == c.switch.0) (is_named cs c.switch.0)
-      (eq-eqb c.switch.0 c.switch.0 refl))) j) c.closed
+    (eq-eqb c.switch.0 c.switch.0 refl))) j) c.closed
     && all_hold_same cs v u (λ i named. same i (or_true (c.switch.0 == i) (is_named cs i) named)) j
 
 -- what is released depends on the own switches alone
 pub released_same : (alts : List (List Condition)) (v u : List Bool) → ((i : ℕ) → is_own alts i ≡ true →
-  slice_get v i ≡ slice_get u i) → is_released alts v ≡ is_released alts u
+    slice_get v i ≡ slice_get u i) → is_released alts v ≡ is_released alts u
 released_same [] v u same = refl
 released_same (cs ∷ alts) v u same = λ j.
     all_hold_same cs v u (λ i named. same i (true_or (is_named cs i) (is_own alts i) named)) j

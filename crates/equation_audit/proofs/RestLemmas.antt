@@ -30,36 +30,36 @@ pub nothing_said : (d : Diagram) (all : List (ℕ × List ℕ)) → HasSaid d al
 nothing_said d all = record { before = []; those = refl; say = tt }
 
 pub said_next : (d : Diagram) (all left : List (ℕ × List ℕ)) (line : ℕ × List ℕ) (rest : List (ℕ × List ℕ))
-  (ss more : List Statement) (s : Statement) → left ≡ line ∷ rest → more ≡ ss ++ s ∷ [] → Says d line.1 s →
-  HasSaid d all left ss → HasSaid d all rest more
+    (ss more : List Statement) (s : Statement) → left ≡ line ∷ rest → more ≡ ss ++ s ∷ [] → Says d line.1 s →
+    HasSaid d all left ss → HasSaid d all rest more
 said_next d all left line rest ss more s first next says said = record {
   before = said.before ++ line ∷ [];
   those = said.those ∙ ap (λ (xs : List (ℕ × List ℕ)). said.before ++ xs) first
-    ∙ sym (append_assoc said.before (line ∷ []) rest);
+      ∙ sym (append_assoc said.before (line ∷ []) rest);
   say = subst (λ (xs : List Statement). Say d (said.before ++ line ∷ []) xs) (sym next)
-    (Say-push d said.before line ss s said.say says);
+      (Say-push d said.before line ss s said.say says);
 }
 
 -- the body, and its end
 pub rest_read : (d : Diagram) (all left : List (ℕ × List ℕ)) (line : ℕ × List ℕ) (rest : List (ℕ × List ℕ))
-  (alts : List (List Condition)) → left ≡ line ∷ rest → line.1 ≡ codes "end" → HasSaid d all left (body alts) →
-  IsRest d all rest alts
+    (alts : List (List Condition)) → left ≡ line ∷ rest → line.1 ≡ codes "end" → HasSaid d all left (body alts) →
+    IsRest d all rest alts
 rest_read d all left line rest alts first is_end said =
     let h = said_next d all left line rest (body alts) (body alts ++ Statement.End ∷ []) Statement.End first refl
-      is_end said in
+    is_end said in
     record { passed = h.before; those = h.those; say = h.say }
 
 -- a body `never` and its end
 pub never_read : (d : Diagram) (all left : List (ℕ × List ℕ)) (line : ℕ × List ℕ) (rest new : List (ℕ × List ℕ)) →
-  left ≡ line ∷ rest → line.1 ≡ codes "never" → IsEndPassed rest new → HasSaid d all left [] → IsRest d all new []
+    left ≡ line ∷ rest → line.1 ≡ codes "never" → IsEndPassed rest new → HasSaid d all left [] → IsRest d all new []
 never_read d all left line rest new first is_never passed said =
     rest_read d all rest passed.line new [] passed.those passed.is_end (said_next d all left line rest [] (body [])
-      Statement.Never first refl is_never said)
+    Statement.Never first refl is_never said)
 
 -- the line at hand is the first fault of the rest of a block
 pub fault_here : (d : Diagram) (all left : List (ℕ × List ℕ)) (number : ℕ) (line : List ℕ) (rest : List (ℕ × List ℕ))
-  (alts : List (List Condition)) (count : ℕ) (r : InputRefusal) → left ≡ (number, line) ∷ rest → HasFewOwn alts →
-  (r.line ≡ number) × HasBodyFault d alts line r.number → HasSaid d all left (body alts) → IsRestFault d all count r
+    (alts : List (List Condition)) (count : ℕ) (r : InputRefusal) → left ≡ (number, line) ∷ rest → HasFewOwn alts →
+    (r.line ≡ number) × HasBodyFault d alts line r.number → HasSaid d all left (body alts) → IsRestFault d all count r
 fault_here d all left number line rest alts count r first few fault said = record {
   before = said.before;
   alternatives = alts;
@@ -78,8 +78,8 @@ no_more xs ys none = ap (λ (zs : List _). xs ++ zs) none ∙ append-nil xs
 
 -- nothing is left, and the block has no end
 pub ends_here : (d : Diagram) (all left : List (ℕ × List ℕ)) (alts : List (List Condition)) (count : ℕ)
-  (r : InputRefusal) → left ≡ [] → HasFewOwn alts → r ≡ record { number = 10; line = count + 1 } →
-  HasSaid d all left (body alts) → IsRestFault d all count r
+    (r : InputRefusal) → left ≡ [] → HasFewOwn alts → r ≡ record { number = 10; line = count + 1 } →
+    HasSaid d all left (body alts) → IsRestFault d all count r
 ends_here d all left alts count r none few refused said = record {
   before = said.before;
   alternatives = alts;
@@ -90,13 +90,13 @@ ends_here d all left alts count r none few refused said = record {
 
 -- what is wrong in the lines that are left, is wrong after those before
 after_more : (d : Diagram) (alts : List (List Condition)) (front_lines before left all : List (ℕ × List ℕ)) (count : ℕ)
-  (r : InputRefusal) → all ≡ front_lines ++ left → BodyFaultAfter d alts before left count r →
-  BodyFaultAfter d alts (front_lines ++ before) all count r
+    (r : InputRefusal) → all ≡ front_lines ++ left → BodyFaultAfter d alts before left count r →
+    BodyFaultAfter d alts (front_lines ++ before) all count r
 after_more d alts front_lines before left all count r those (inl at) = inl (record {
   line = at.line;
   rest = at.rest;
   stands = those ∙ ap (λ (xs : List (ℕ × List ℕ)). front_lines ++ xs) at.stands
-    ∙ sym (append_assoc front_lines before ((r.line, at.line) ∷ at.rest));
+      ∙ sym (append_assoc front_lines before ((r.line, at.line) ∷ at.rest));
   fault = at.fault;
 })
 after_more d alts front_lines before left all count r those (inr ends) = inr (record {
@@ -109,8 +109,8 @@ none_own = ([], record { are = record { differ = tt; each = λ i. refl }; few = 
 
 -- a body `never` that does not end
 pub never_fault : (d : Diagram) (all left : List (ℕ × List ℕ)) (line : ℕ × List ℕ) (rest : List (ℕ × List ℕ))
-  (count : ℕ) (r : InputRefusal) → left ≡ line ∷ rest → line.1 ≡ codes "never" → BodyFaultAfter d [] [] rest count r →
-  HasSaid d all left [] → IsRestFault d all count r
+    (count : ℕ) (r : InputRefusal) → left ≡ line ∷ rest → line.1 ≡ codes "never" → BodyFaultAfter d [] [] rest count r →
+    HasSaid d all left [] → IsRestFault d all count r
 never_fault d all left line rest count r first is_never fault said =
     let h = said_next d all left line rest [] (body []) Statement.Never first refl is_never said in
     record {
@@ -119,16 +119,18 @@ never_fault d all left line rest count r first is_never fault said =
       say = h.say;
       few = none_own;
       fault = subst (λ (xs : List (ℕ × List ℕ)). BodyFaultAfter d [] xs all count r) (append-nil h.before)
-        (after_more d [] h.before [] rest all count r h.those fault);
+          (after_more d [] h.before [] rest all count r h.those fault);
     }
 
 pub HasBlock-push : (es : List Equation) (e : Equation) (op : Op) → HasBlock (es ++ e ∷ []) op → HasBlock es op
-  ⊎ (e.op ≡ op)
+    ⊎ (e.op ≡ op)
 HasBlock-push [] e op (inl is) = inr is
 HasBlock-push [] e op (inr none) = absurd none
 HasBlock-push (x ∷ es) e op (inl is) = inl (inl is)
-HasBlock-push (x ∷ es) e op (inr later) = elim (HasBlock-push es e op later) [ inl has ↦ inl (inr has)
-  | inr is ↦ inr is ]
+HasBlock-push (x ∷ es) e op (inr later) = elim (HasBlock-push es e op later) [
+  | inl has ↦ inl (inr has)
+  | inr is ↦ inr is
+]
 
 -- one more block, of an operation that has none
 pub OneEach-push : (es : List Equation) (e : Equation) → OneEach es → ¬ HasBlock es e.op → OneEach (es ++ e ∷ [])
@@ -143,47 +145,50 @@ AllFew-push es e all few = All-push (λ (x : Equation). HasFewOwn x.alternatives
 
 -- whole blocks, and one more
 pub block_read : (d : Diagram) (all left : List (ℕ × List ℕ)) (line : ℕ × List ℕ) (rest new : List (ℕ × List ℕ))
-  (es : List Equation) (e : Equation) → left ≡ line ∷ rest → NamesOperation d line.1 e.op →
-  IsRest d rest new e.alternatives → HasSaid d all left (flat_map whole es) →
-  HasSaid d all new (flat_map whole (es ++ e ∷ []))
+    (es : List Equation) (e : Equation) → left ≡ line ∷ rest → NamesOperation d line.1 e.op →
+    IsRest d rest new e.alternatives → HasSaid d all left (flat_map whole es) →
+    HasSaid d all new (flat_map whole (es ++ e ∷ []))
 block_read d all left line rest new es e first names read said = record {
   before = said.before ++ line ∷ read.passed;
   those =
       said.those
       ∙ ap (λ (xs : List (ℕ × List ℕ)). said.before ++ xs) (first
-        ∙ ap (λ (xs : List (ℕ × List ℕ)). line ∷ xs) read.those)
+      ∙ ap (λ (xs : List (ℕ × List ℕ)). line ∷ xs) read.those)
       ∙ sym (append_assoc said.before (line ∷ read.passed) new);
   say = subst (λ (xs : List Statement). Say d (said.before ++ line ∷ read.passed) xs)
       (sym (flat_map-append whole es (e ∷ []) ∙ ap (λ (xs : List Statement). flat_map whole es ++ xs)
-        (append-nil (whole e))))
+      (append-nil (whole e))))
       (Say-append d said.before (line ∷ read.passed) (flat_map whole es) (whole e) said.say (names, read.say));
 }
 
 -- the first fault is in a block that is begun
 pub fault_in_block : (d : Diagram) (all left : List (ℕ × List ℕ)) (line : ℕ × List ℕ) (rest : List (ℕ × List ℕ))
-  (es : List Equation) (op : Op) (count : ℕ) (r : InputRefusal) → left ≡ line ∷ rest → NamesOperation d line.1 op →
-  IsRestFault d rest count r → HasSaid d all left (flat_map whole es)
+    (es : List Equation) (op : Op) (count : ℕ) (r : InputRefusal) → left ≡ line ∷ rest → NamesOperation d line.1 op →
+    IsRestFault d rest count r → HasSaid d all left (flat_map whole es)
     → (before : List (ℕ × List ℕ)) × (alts : List (List Condition)) × HasFewOwn alts
-      × Say d before (flat_map whole es ++ front (record { op = op; alternatives = alts }))
-      × BodyFaultAfter d alts before all count r
+    × Say d before (flat_map whole es ++ front (record { op = op; alternatives = alts }))
+    × BodyFaultAfter d alts before all count r
 fault_in_block d all left line rest es op count r first names fault said =
     let lines_before = said.before ++ line ∷ [] in
     let those : all ≡ lines_before ++ rest = said.those ∙ ap (λ (xs : List (ℕ × List ℕ)). said.before ++ xs) first
-      ∙ sym (append_assoc said.before (line ∷ []) rest) in (
+    ∙ sym (append_assoc said.before (line ∷ []) rest) in (
       lines_before ++ fault.before,
       fault.alternatives,
       fault.few,
-      subst (λ (xs : List (ℕ × List ℕ)). Say d xs (flat_map whole es ++ front (record { op = op; alternatives =
-        fault.alternatives }))) (sym (append_assoc said.before (line ∷ []) fault.before))
+      subst (λ (xs : List (ℕ × List ℕ)). Say d xs (flat_map whole es ++ front (record {
+        op = op;
+        alternatives =
+            fault.alternatives;
+      }))) (sym (append_assoc said.before (line ∷ []) fault.before))
           (Say-append d said.before (line ∷ fault.before) (flat_map whole es)
-            (front (record { op = op; alternatives = fault.alternatives })) said.say (names, fault.say)),
+          (front (record { op = op; alternatives = fault.alternatives })) said.say (names, fault.say)),
       after_more d fault.alternatives lines_before fault.before rest all count r those fault.fault,
     )
 
 -- the first fault is in a line between blocks
 pub first_head_fault : (d : Diagram) (bytes : List ℕ) (left : List (ℕ × List ℕ)) (number : ℕ) (line : List ℕ)
-  (rest : List (ℕ × List ℕ)) (es : List Equation) (r : InputRefusal) → left ≡ (number, line) ∷ rest → (r.line ≡ number)
-  × HasHeadFault d es line r.number → OneEach es → AllFew es
+    (rest : List (ℕ × List ℕ)) (es : List Equation) (r : InputRefusal) → left ≡ (number, line) ∷ rest → (r.line ≡ number)
+    × HasHeadFault d es line r.number → OneEach es → AllFew es
     → HasSaid d (filled_lines bytes) left (flat_map whole es) → IsFirstFault d bytes r
 first_head_fault d bytes left number line rest es r first fault one_each few said = record {
   before = said.before;
@@ -202,9 +207,9 @@ first_head_fault d bytes left number line rest es r first fault one_each few sai
 
 -- the first fault is in the block that the last line began
 pub first_body_fault : (d : Diagram) (bytes : List ℕ) (left : List (ℕ × List ℕ)) (line : ℕ × List ℕ)
-  (rest : List (ℕ × List ℕ)) (es : List Equation) (op : Op) (count : ℕ) (r : InputRefusal) → left ≡ line ∷ rest →
-  NamesOperation d line.1 op → count ≡ length (lines bytes) → IsRestFault d rest count r → OneEach es →
-  ¬ HasBlock es op → AllFew es
+    (rest : List (ℕ × List ℕ)) (es : List Equation) (op : Op) (count : ℕ) (r : InputRefusal) → left ≡ line ∷ rest →
+    NamesOperation d line.1 op → count ≡ length (lines bytes) → IsRestFault d rest count r → OneEach es →
+    ¬ HasBlock es op → AllFew es
     → HasSaid d (filled_lines bytes) left (flat_map whole es) → IsFirstFault d bytes r
 first_body_fault d bytes left line rest es op count r first names counted fault one_each new few said =
     let found = fault_in_block d (filled_lines bytes) left line rest es op count r first names fault said in
@@ -220,10 +225,15 @@ first_body_fault d bytes left line rest es op count r first names counted fault 
 
 -- where nothing but `end` may stand
 pub never_out : (line : List ℕ) → line ≢ codes "end" → IsOutOfPlace [] line
-never_out line other = record { no_end = other; no_never = λ is e. cc; no_or = λ is. refl; no_condition =
-  λ closed path is. refl }
+never_out line other = record {
+  no_end = other;
+  no_never = λ is e. cc;
+  no_or = λ is. refl;
+  no_condition =
+      λ closed path is. refl;
+}
 
 pub for_refused_weaker : (e : BlocksFault) (P Q : InputRefusal → Type 0) → ((r : InputRefusal) → P r → Q r) →
-  ForRefused e P → ForRefused e Q
+    ForRefused e P → ForRefused e Q
 for_refused_weaker Memory P Q weaker holds = tt
 for_refused_weaker (Refused r) P Q weaker holds = weaker r holds

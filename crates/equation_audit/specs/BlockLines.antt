@@ -114,7 +114,7 @@ HasBodyFault d alternatives line number =
     (IsOutOfPlace alternatives line × (number ≡ 10))
     ⊎ ((alternatives ≢ []) × NamesUnknown d line × (number ≡ 2))
     ⊎ ((alternatives ≢ []) × (c : Condition) × NamesCondition d line c × IsBroad alternatives c.switch.0
-      × (number ≡ 13))
+    × (number ≡ 13))
 
 -- The refusal is of this line, and this holds of its number.
 abbrev pub InLine : ℕ → (ℕ → Type 0) → InputRefusal → Type 0
@@ -134,13 +134,13 @@ pub record EndsAfter (before all : List (ℕ × List ℕ)) (count : ℕ) (r : In
 
 -- In a body that says this so far comes a fault, at a line or at the end of the text.
 abbrev pub BodyFaultAfter : Diagram → List (List Condition) → List (ℕ × List ℕ) → List (ℕ × List ℕ) → ℕ →
-  InputRefusal → Type 0
+    InputRefusal → Type 0
 BodyFaultAfter d alternatives before all count r = FaultAfter before all (HasBodyFault d alternatives) r
-  ⊎ EndsAfter before all count r
+    ⊎ EndsAfter before all count r
 
 -- What is wrong after whole blocks, and after those and one that is begun.
 abbrev pub HasFaultAfter : Diagram → List Equation → Option Equation → List (ℕ × List ℕ) → List (ℕ × List ℕ) → ℕ →
-  InputRefusal → Type 0
+    InputRefusal → Type 0
 HasFaultAfter d es None before all count r = FaultAfter before all (HasHeadFault d es) r
 HasFaultAfter d es (Some e) before all count r = BodyFaultAfter d e.alternatives before all count r
 

@@ -57,7 +57,7 @@ HasFewOwn alternatives = (own : List SwitchId) × AreFewOwn alternatives own
 -- One more than the few would be own: the switch is none of them, and they are as many as may be.
 abbrev pub IsBroad : List (List Condition) → ℕ → Type 0
 IsBroad alternatives i = (is_own alternatives i ≡ false) × (own : List SwitchId) × AreOwn alternatives own
-  × (length own ≡ MOST_OWN)
+    × (length own ≡ MOST_OWN)
 
 -- The own switches are among the first so many switches of the station.
 abbrev pub OwnBelow : ℕ → List (List Condition) → Type 0

@@ -24,7 +24,7 @@ IsLoose d e = (rule : Rule) × (v : List Bool) × IsLooseIn d e rule v
 -- It does so in no vector that gives the own switches the position that u gives them.
 abbrev pub NoneLooseBy : Diagram → Equation → List Bool → Type 0
 NoneLooseBy d e u = (rule : Rule) (v : List Bool) → SharesPosition d (is_own e.alternatives) u v →
-  ¬ IsLooseIn d e rule v
+    ¬ IsLooseIn d e rule v
 
 -- The position that u gives the own switches suffices for the rules: they forbid nothing in any vector with
 -- it.

@@ -52,7 +52,11 @@ pub(crate) fn judge_drawing(alloc: Global, bytes: &[u8]) -> Result<Station, End>
 }
 
 // The readings of the bytes of a file of positions.
-pub(crate) fn judge_positions(alloc: Global, station: &Station, bytes: &[u8]) -> Result<Readings, End>
+pub(crate) fn judge_positions(
+    alloc: Global,
+    station: &Station,
+    bytes: &[u8],
+) -> Result<Readings, End>
     ensures ok { IfOk result (Accepts (Positions station.now) bytes.now) }
     ensures count { IfOk result (AreWords station.now) }
     ensures err { IfErr result (JudgeFails (Positions station.now) bytes.now) }

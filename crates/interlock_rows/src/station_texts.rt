@@ -26,15 +26,26 @@ end
 fn equations(rt: HostRuntime) -> Result<(), Fail> {
     let alloc = rt.alloc();
     let line = AS_A_TOOL_WRITES.as_bytes();
-    for (drawing, want) in [(line, EQUATIONS), (b"<SCL/>".as_slice(), "equations\nend\n")] {
-        expect(&rt, alloc, "compile a.ssd", drawing, b"", (Status::Done, want.as_bytes(), ""))?;
+    for (drawing, want) in [
+        (line, EQUATIONS),
+        (b"<SCL/>".as_slice(), "equations\nend\n"),
+    ] {
+        expect(
+            &rt,
+            alloc,
+            "compile a.ssd",
+            drawing,
+            b"",
+            (Status::Done, want.as_bytes(), ""),
+        )?;
     }
     Ok(())
 }
 
 // Two feeders at one busbar can change each other's answers, each by one of eight ways to stand; at busbars of their
 // own they cannot.
-const PLAN: &str = "{\"bays\":[{\"bay\":1,\"partners\":[{\"bay\":2,\"bits\":8}],\"path\":\"S/V1/Q1\"},\
+const PLAN: &str =
+    "{\"bays\":[{\"bay\":1,\"partners\":[{\"bay\":2,\"bits\":8}],\"path\":\"S/V1/Q1\"},\
 {\"bay\":2,\"partners\":[{\"bay\":1,\"bits\":8}],\"path\":\"S/V1/Q2\"}]}\n";
 
 const PLAN_APART: &str = "{\"bays\":[{\"bay\":2,\"partners\":[],\"path\":\"S/V1/Q1\"},\
@@ -44,7 +55,14 @@ const PLAN_APART: &str = "{\"bays\":[{\"bay\":2,\"partners\":[],\"path\":\"S/V1/
 fn plans(rt: HostRuntime) -> Result<(), Fail> {
     let alloc = rt.alloc();
     for (drawing, want) in [(TWO_FEEDERS, PLAN), (FEEDERS_APART, PLAN_APART)] {
-        expect(&rt, alloc, "plan a.ssd", drawing.as_bytes(), b"", (Status::Done, want.as_bytes(), ""))?;
+        expect(
+            &rt,
+            alloc,
+            "plan a.ssd",
+            drawing.as_bytes(),
+            b"",
+            (Status::Done, want.as_bytes(), ""),
+        )?;
     }
     Ok(())
 }

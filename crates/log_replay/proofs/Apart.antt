@@ -39,23 +39,23 @@ contains_more : (xs ys : List Frame) (x : Frame) → Contains xs x → Contains 
 contains_more [] ys x (k, lt, is) = absurd (omega (arith, lt))
 contains_more (y ∷ xs) ys x (zero, lt, is) = (zero, omega arith, is)
 contains_more (y ∷ xs) ys x (suc k, lt, is) = let rest = contains_more xs ys x (k, omega (arith, lt), is) in
-  (suc rest.0, omega (arith, rest.1), rest.2)
+    (suc rest.0, omega (arith, rest.1), rest.2)
 
 same_sent : (old new : Scene) (f : Frame) → new.sent ≡ old.sent → Contains old.sent f → Contains new.sent f
 same_sent old new f is there = subst (λ (fs : List Frame). Contains fs f) (sym is) there
 
 way_sent : (m : Meaning) (old new : Scene) (e : WorldEvent) (outcome : WorldOutcome) (f : Frame) →
-  Way m old e new outcome → Contains old.sent f → Contains new.sent f
+    Way m old e new outcome → Contains old.sent f → Contains new.sent f
 way_sent m old new e outcome f (Way.refused which same says) there =
-  same_sent old new f (ap (λ (w : Scene). w.sent) same) there
+    same_sent old new f (ap (λ (w : Scene). w.sent) same) there
 way_sent m old new e outcome f (Way.nothing same none fits) there =
-  same_sent old new f (ap (λ (w : Scene). w.sent) same) there
+    same_sent old new f (ap (λ (w : Scene). w.sent) same) there
 way_sent m old new e outcome f (Way.turns c at fair t) there = subst (λ (w : Scene). Contains w.sent f) (sym t.world)
-  (contains_more old.sent t.turn.frames f there)
+    (contains_more old.sent t.turn.frames f there)
 way_sent m old new e outcome f (Way.drives i g at running none lt has switch moved says) there =
-  same_sent old new f (ap (λ (w : Scene). w.sent) moved) there
+    same_sent old new f (ap (λ (w : Scene). w.sent) moved) there
 way_sent m old new e outcome f (Way.cuts i c at fair t) there = subst (λ (w : Scene). Contains w.sent f) (sym t.world)
-  (contains_more old.sent t.turn.frames f there)
+    (contains_more old.sent t.turn.frames f there)
 
 -- ---- what was heard was sent
 
@@ -89,18 +89,18 @@ record SentFrame (m : Meaning) (w : Scene) (s : Sending) : Type 0 where
   there : Contains w.sent frame
   is : s.message ≡ message number frame
   words : (summary : List ℕ) → frame.body ≡ Answer summary →
-    Summarises m frame.from.0 frame.to.0 (words_at m.diagram s.lines) summary
+      Summarises m frame.from.0 frame.to.0 (words_at m.diagram s.lines) summary
 
 sending_frame : (m : Meaning) (start : List Bool) (lines : List Line) (w : Scene) (n : ℕ) (s : Sending) →
-  Linked m start lines w → sending lines n ≡ Some s → SentFrame m w s
+    Linked m start lines w → sending lines n ≡ Some s → SentFrame m w s
 sending_frame m start lines w zero s links is = let none = links.unsent zero (inl refl) in absurd (cc (is, none))
 sending_frame m start lines w (suc n) s links is = elim (in_or_past n (length w.sent)) [
   | inl lt ↦
       let it = got_at w.sent n lt in
       let b = links.sent n it.0 it.1 in
       let found : sending lines (suc n) ≡ Some (record { message = message (suc n) it.0; lines = b.at }) =
-        subst (λ (k : ℕ). sending lines k ≡ Some (record { message = message k it.0; lines = b.at }))
-        (omega arith) b.found in
+      subst (λ (k : ℕ). sending lines k ≡ Some (record { message = message k it.0; lines = b.at }))
+      (omega arith) b.found in
       let e : s ≡ record { message = message (suc n) it.0; lines = b.at } = cc (is, found) in
       record {
         number = suc n;
@@ -108,13 +108,13 @@ sending_frame m start lines w (suc n) s links is = elim (in_or_past n (length w.
         there = got_there w.sent n it.0 it.1;
         is = ap (λ (x : Sending). x.message) e;
         words = λ summary body. subst (λ (x : List Line). Summarises m it.0.from.0 it.0.to.0 (words_at m.diagram x)
-          summary) (sym (ap (λ (x : Sending). x.lines) e)) (b.words summary body);
+            summary) (sym (ap (λ (x : Sending). x.lines) e)) (b.words summary body);
       }
   | inr past ↦ let none = links.unsent (suc n) (inr (omega (arith, past))) in absurd (cc (is, none))
 ]
 
 delivered_frame : (m : Meaning) (start : List Bool) (lines : List Line) (w : Scene) (e : WorldEvent) (s : Sending) →
-  Linked m start lines w → delivered e lines ≡ Some s → SentFrame m w s
+    Linked m start lines w → delivered e lines ≡ Some s → SentFrame m w s
 delivered_frame m start lines w (Deliver n) s links is = sending_frame m start lines w n s links is
 delivered_frame m start lines w (Command op) s links is = absurd (cc is)
 delivered_frame m start lines w (Sense i word) s links is = absurd (cc is)
@@ -134,7 +134,7 @@ record TellsIt (d : Diagram) (b c : ℕ) (r : Option ℕ) (message_is : Option S
   tells : words_at d sending.lines ≡ words
 
 told_answer : (d : Diagram) (b c : ℕ) (r : Option ℕ) (x : Option Sending) (ws : List Dbpos) → told d x b c r ≡ Some ws →
-  TellsIt d b c r x ws
+    TellsIt d b c r x ws
 told_answer d b c r None ws is = absurd (cc is)
 told_answer d b c r (Some s) ws is = elim (cases_Bool (answers s.message b c r)) [
   | inl so ↦
@@ -145,25 +145,25 @@ told_answer d b c r (Some s) ws is = elim (cases_Bool (answers s.message b c r))
 
 -- what a line tells or leaves heard
 heard_cases : (o : Outcome) (new was : Option (List Dbpos)) (ws : List Dbpos) → heard_after o new was ≡ Some ws →
-  (round_shown o ≡ None) × ((new ≡ Some ws) ⊎ (was ≡ Some ws))
+    (round_shown o ≡ None) × ((new ≡ Some ws) ⊎ (was ≡ Some ws))
 heard_cases (Collecting r) new was ws is = absurd (cc is)
 heard_cases o None was ws is = (refl, inr is)
 heard_cases o (Some new) was ws is = (refl, inl is)
 
 heard_step : (m : Meaning) (start : List Bool) (before : List Line) (l : Line) (old : Scene) (b c : ℕ)
-  (words : List Dbpos) → Linked m start before old → (heard m.diagram before c b ≡ Some words →
-  AnswerTo m old b c (last_round before c) words) → heard m.diagram (l ∷ before) c b ≡ Some words →
-  (round_shown (of_bay l.shown c) ≡ None) × AnswerTo m old b c (last_round before c) words
+    (words : List Dbpos) → Linked m start before old → (heard m.diagram before c b ≡ Some words →
+    AnswerTo m old b c (last_round before c) words) → heard m.diagram (l ∷ before) c b ≡ Some words →
+    (round_shown (of_bay l.shown c) ≡ None) × AnswerTo m old b c (last_round before c) words
 heard_step m start before l old b c words links earlier is =
     let p = heard_cases (of_bay l.shown c) (told m.diagram (delivered l.event before) b c (last_round before c))
-      (heard m.diagram before c b) words is in (
+    (heard m.diagram before c b) words is in (
       p.0,
       elim p.1 [
         | inl new ↦
             let t = told_answer m.diagram b c (last_round before c) (delivered l.event before) words new in
             let f = delivered_frame m start before old l.event t.sending links t.is in
             let a : IsAnswer (message f.number f.frame) b c (last_round before c) =
-              subst (λ x. IsAnswer x b c (last_round before c)) f.is t.answer in
+            subst (λ x. IsAnswer x b c (last_round before c)) f.is t.answer in
             let body = answer_body f.frame.body a.kind in
             record {
               frame = f.frame;
@@ -174,56 +174,65 @@ heard_step m start before l old b c words links earlier is =
               round = a.round;
               body = body.1;
               sums = subst (λ (x : List Dbpos). Summarises m b c x body.0) t.tells
-                (subst (λ (x : ℕ). Summarises m b x (words_at m.diagram t.sending.lines) body.0) a.to
-                (subst (λ (x : ℕ). Summarises m x f.frame.to.0 (words_at m.diagram t.sending.lines) body.0) a.from
-                (f.words body.0 body.1)));
+                  (subst (λ (x : ℕ). Summarises m b x (words_at m.diagram t.sending.lines) body.0) a.to
+                  (subst (λ (x : ℕ). Summarises m x f.frame.to.0 (words_at m.diagram t.sending.lines) body.0) a.from
+                  (f.words body.0 body.1)));
             }
         | inr was ↦ earlier was
       ],
     )
 
 heard_sent : (m : Meaning) (start : List Bool) (lines : List Line) (w : Scene) (b c : ℕ) (words : List Dbpos) →
-  IsStation m.diagram → Laws m → Run m start lines w → heard m.diagram lines c b ≡ Some words →
-  AnswerTo m w b c (last_round lines c) words
+    IsStation m.diagram → Laws m → Run m start lines w → heard m.diagram lines c b ≡ Some words →
+    AnswerTo m w b c (last_round lines c) words
 heard_sent m start [] w b c words station laws run is = absurd (cc is)
 heard_sent m start (l ∷ before) w b c words station laws (old, run, leads) is =
     let p = heard_step m start before l old b c words (run_is m start before old station laws run).links
-      (heard_sent m start before old b c words station laws run) is in
+    (heard_sent m start before old b c words station laws run) is in
     let same : last_round (l ∷ before) c ≡ last_round before c = rw p.0 refl in
     let a = p.1 in
-    record { frame = a.frame; summary = a.summary; there = way_sent m old w l.event leads.outcome a.frame
-      (way m station old w leads.outcome (run_is m start before old station laws run).facts.rounds l.event leads.range
-      leads.happens) a.there; from = a.from; to = a.to; round = same ∙ a.round; body = a.body; sums = a.sums }
+    record {
+      frame = a.frame;
+      summary = a.summary;
+      there = way_sent m old w l.event leads.outcome a.frame
+          (way m station old w leads.outcome (run_is m start before old station laws run).facts.rounds l.event leads.range
+          leads.happens) a.there;
+      from = a.from;
+      to = a.to;
+      round = same ∙ a.round;
+      body = a.body;
+      sums = a.sums;
+    }
 
 -- what is heard at a line was sent before it
 pub heard_old : (m : Meaning) (start : List Bool) (before : List Line) (l : Line) (old : Scene) (b c : ℕ)
-  (words : List Dbpos) → IsStation m.diagram → Laws m → Run m start before old →
-  heard m.diagram (l ∷ before) c b ≡ Some words → AnswerTo m old b c (last_round before c) words
+    (words : List Dbpos) → IsStation m.diagram → Laws m → Run m start before old →
+    heard m.diagram (l ∷ before) c b ≡ Some words → AnswerTo m old b c (last_round before c) words
 heard_old m start before l old b c words station laws run is =
     (heard_step m start before l old b c words (run_is m start before old station laws run).links
-      (heard_sent m start before old b c words station laws run) is).1
+    (heard_sent m start before old b c words station laws run) is).1
 
 -- ---- two rounds at once
 
 under_some : (x : Option Collection) (y : Option Grant) → (x ≢ None) ⊎ (y ≢ None) → (q : ℕ)
-  × (under_way_of x y ≡ Some q)
+    × (under_way_of x y ≡ Some q)
 under_some (Some g) y some = (g.round, refl)
 under_some None (Some g) some = (g.round, refl)
 under_some None None (inl some) = absurd (some refl)
 under_some None None (inr some) = absurd (some refl)
 
 node_under_way : (m : Meaning) (start : List Bool) (lines : List Line) (w : Scene) (c : ℕ) → Linked m start lines w →
-  IsUnderWay lines c → (q : ℕ) × (under_way (node m.diagram w c) ≡ Some q)
+    IsUnderWay lines c → (q : ℕ) × (under_way (node m.diagram w c) ≡ Some q)
 node_under_way m start lines w c links (inl some) = under_some (node m.diagram w c).collecting
-  (node m.diagram w c).granted (inl (λ none. some (sym (links.nodes c).collecting ∙ ap opened none)))
+    (node m.diagram w c).granted (inl (λ none. some (sym (links.nodes c).collecting ∙ ap opened none)))
 node_under_way m start lines w c links (inr some) = under_some (node m.diagram w c).collecting
-  (node m.diagram w c).granted (inr (λ none. some (sym (links.nodes c).granted ∙ none)))
+    (node m.diagram w c).granted (inr (λ none. some (sym (links.nodes c).granted ∙ none)))
 
 no_round_locked : (x : Option Collection) (y : Option Grant) (q : ℕ) → x ≡ None → y ≡ None → under_way_of x y ≢ Some q
 no_round_locked x y q none nothing = rw (none, nothing) (λ e. absurd (cc e))
 
 none_collected : (x : Option Collection) (y : Option Lock) (l : Lock) → ((g : Collection) → x ≡ Some g → y ≡ None) →
-  y ≡ Some l → x ≡ None
+    y ≡ Some l → x ≡ None
 none_collected None y l none is = refl
 none_collected (Some g) y l none is = let no = none g refl in absurd (cc (no, is))
 
@@ -232,7 +241,7 @@ none_of None never = refl
 none_of (Some x) never = absurd (never x refl)
 
 hear_nothing : (m : Meaning) (start : List Bool) (lines : List Line) (w : Scene) → IsStation m.diagram → Laws m →
-  Run m start lines w → HearNothing m.diagram lines
+    Run m start lines w → HearNothing m.diagram lines
 hear_nothing m start lines w station laws run c d differ first second = elim (cases_Bool (is_another m.diagram c d)) [
   | inr stranger ↦ rw stranger refl
   | inl other ↦ rw other (none_of (heard m.diagram lines c d) (λ words got.
@@ -244,19 +253,25 @@ hear_nothing m start lines w station laws run c d differ first second = elim (ca
       let last = (is.links.nodes c).round mine.0 mine.1 (other_of m.diagram c d another) in
       let same : Some mine.0 ≡ Some a.frame.round = sym last ∙ a.round in
       let running : under_way (node m.diagram w a.frame.to.0) ≡ Some a.frame.round =
-        subst (λ (x : ℕ). under_way (node m.diagram w x) ≡ Some a.frame.round) (sym a.to) (mine.1 ∙ same) in
-      let locked = subst (λ (x : ℕ). (node m.diagram w x).lock ≡ Some (record { holder = a.frame.to;
-        round = a.frame.round })) a.from (is.facts.rounds.locks a.frame a.summary a.there a.body running) in
+      subst (λ (x : ℕ). under_way (node m.diagram w x) ≡ Some a.frame.round) (sym a.to) (mine.1 ∙ same) in
+      let locked = subst (λ (x : ℕ). (node m.diagram w x).lock ≡ Some (record {
+        holder = a.frame.to;
+        round = a.frame.round;
+      })) a.from (is.facts.rounds.locks a.frame a.summary a.there a.body running) in
       let ok = is.facts.rounds.rounds d another.0 in
       let fits = ok.kept.lock (record { holder = a.frame.to; round = a.frame.round }) locked in
       no_round_locked (node m.diagram w d).collecting (node m.diagram w d).granted theirs.0
-        (none_collected (node m.diagram w d).collecting (node m.diagram w d).lock (record { holder = a.frame.to;
-        round = a.frame.round }) (λ g has. (ok.collecting g has).no_lock) locked) fits.alone theirs.1))
+      (none_collected (node m.diagram w d).collecting (node m.diagram w d).lock (record {
+        holder = a.frame.to;
+        round = a.frame.round;
+      }) (λ g has. (ok.collecting g has).no_lock) locked) fits.alone theirs.1))
 ]
 
 -- two rounds at once hear nothing of each other
 pub run_apart : (m : Meaning) (start : List Bool) (lines : List Line) (w : Scene) → IsStation m.diagram → Laws m →
-  Run m start lines w → AtEach (HearNothing m.diagram) lines
+    Run m start lines w → AtEach (HearNothing m.diagram) lines
 run_apart m start [] w station laws run = hear_nothing m start [] w station laws run
-run_apart m start (l ∷ before) w station laws run = (hear_nothing m start (l ∷ before) w station laws run,
-  run_apart m start before run.0 station laws run.1)
+run_apart m start (l ∷ before) w station laws run = (
+  hear_nothing m start (l ∷ before) w station laws run,
+  run_apart m start before run.0 station laws run.1,
+)

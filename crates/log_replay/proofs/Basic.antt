@@ -36,8 +36,11 @@ and_right true b is = is
 and_right false b is = absurd (cc is)
 
 pub in_or_past : (k n : ℕ) → (k < n) ⊎ (n ≤ k)
-in_or_past k n = elim (cases_Bool (ltb k n)) [ inl below ↦ inl (ltb-true k n below) | inr past ↦ inr
-  (ltb-false k n past) ]
+in_or_past k n = elim (cases_Bool (ltb k n)) [
+  | inl below ↦ inl (ltb-true k n below)
+  | inr past ↦ inr
+      (ltb-false k n past)
+]
 
 -- ---- what a line shows of a bay
 
@@ -67,10 +70,10 @@ length_listed f zero = refl
 length_listed f (suc n) = ap (λ x. suc x) (length_listed (λ k. f (suc k)) n)
 
 pub set_is : (words : List Dbpos) (i : ℕ) (word : Dbpos) (j : ℕ) → i < length words →
-  get_or (set words i word) j Lost ≡ cond (i == j) word (get_or words j Lost)
+    get_or (set words i word) j Lost ≡ cond (i == j) word (get_or words j Lost)
 set_is words i word j lt = elim (eqb_tells i j) [
   | inl p ↦ rw p.0 (subst (λ (x : ℕ). get_or (set words i word) x Lost ≡ word) p.1
-    (get_or-set_same words i word Lost lt))
+      (get_or-set_same words i word Lost lt))
   | inr p ↦ rw p.0 (get_or-set_other words i j word Lost (λ is. p.1 (sym is)))
 ]
 
@@ -84,13 +87,13 @@ one_frame x f (zero, lt, is) = is
 one_frame x f (suc k, lt, is) = absurd (omega (arith, lt))
 
 frame_body : (from round : ℕ) (body : Body) (tos : List ℕ) (k : ℕ) (f : Frame) →
-  k < length (to_each from round body tos) → get_or (to_each from round body tos) k f ≡ f → f.body ≡ body
+    k < length (to_each from round body tos) → get_or (to_each from round body tos) k f ≡ f → f.body ≡ body
 frame_body from round body [] k f lt is = absurd (omega (arith, lt))
 frame_body from round body (t ∷ tos) zero f lt is = ap (λ (x : Frame). x.body) (sym is)
 frame_body from round body (t ∷ tos) (suc k) f lt is = frame_body from round body tos k f (omega (arith, lt)) is
 
 pub each_frame : (from round : ℕ) (body : Body) (tos : List ℕ) (f : Frame) → Contains (to_each from round body tos) f →
-  f.body ≡ body
+    f.body ≡ body
 each_frame from round body tos f there = frame_body from round body tos there.0 f there.1 there.2
 
 -- ---- numbered messages
@@ -98,23 +101,23 @@ each_frame from round body tos f there = frame_body from round body tos there.0 
 pub number_before : (n first : ℕ) (fs : List Frame) → n < first → with_number n (messages first fs) ≡ None
 number_before n first [] lt = refl
 number_before n first (f ∷ fs) lt = rw (eqb_differ first n (λ is. absurd (omega (arith, is, lt))))
-  (number_before n (first + 1) fs (omega (arith, lt)))
+    (number_before n (first + 1) fs (omega (arith, lt)))
 
 pub number_after : (n first : ℕ) (fs : List Frame) → first + length fs ≤ n → with_number n (messages first fs) ≡ None
 number_after n first [] past = refl
 number_after n first (f ∷ fs) past = rw (eqb_differ first n (λ is. absurd (omega (arith, is, past))))
-  (number_after n (first + 1) fs (omega (arith, past)))
+    (number_after n (first + 1) fs (omega (arith, past)))
 
 pub number_at : (n first : ℕ) (fs : List Frame) (k : ℕ) (f : Frame) → n ≡ first + k → slice_get fs k ≡ Some f →
-  with_number n (messages first fs) ≡ Some (message n f)
+    with_number n (messages first fs) ≡ Some (message n f)
 number_at n first [] k f is got = absurd (cc got)
 number_at n first (x ∷ fs) zero f is got =
     let e : x ≡ f = cc got in
     let at : first ≡ n = omega (arith, is) in
     rw (ap (λ y. y == n) at ∙ eqb_same n) (ap (λ (y : ℕ). Some (message y x)) at
-      ∙ ap (λ (y : Frame). Some (message n y)) e)
+    ∙ ap (λ (y : Frame). Some (message n y)) e)
 number_at n first (x ∷ fs) (suc k) f is got = rw (eqb_differ first n (λ same. absurd (omega (arith, is, same))))
-  (number_at n (first + 1) fs k f (omega (arith, is)) got)
+    (number_at n (first + 1) fs k f (omega (arith, is)) got)
 
 -- ---- answers
 
@@ -150,6 +153,6 @@ pub answer_is : (x : Message) (b c : ℕ) (r : Option ℕ) → IsAnswer x b c r 
 answer_is x b c r is = rw (is.kind, is.from, is.to, is.round, eqb_same b, eqb_same c, eqb_same x.round) refl
 
 pub told_nothing : (d : Diagram) (s : Sending) (b c : ℕ) (r : Option ℕ) → ¬ IsAnswer s.message b c r →
-  told d (Some s) b c r ≡ None
+    told d (Some s) b c r ≡ None
 told_nothing d s b c r never = elim (cases_Bool (answers s.message b c r))
-  [ inl p ↦ absurd (never (answer_tells s.message b c r p)) | inr p ↦ rw p refl ]
+    [ inl p ↦ absurd (never (answer_tells s.message b c r p)) | inr p ↦ rw p refl ]

@@ -16,7 +16,7 @@ use Rattle.log_replay.specs.RecordFaults.{kind_name, field_count, field, IsOfKin
 -- ---- the field at a place
 
 pub field_there : (row : List (List ℕ)) (place : ℕ) (text : List ℕ) → field_at row place ≡ Some text →
-  field row place ≡ text
+    field row place ≡ text
 unfolding field_at
 field_there [] place text is = cc is
 field_there (f ∷ row) zero text is = cc is
@@ -75,9 +75,12 @@ few_fields Part = omega arith
 few_fields Cut = omega arith
 
 pub has_form : (k : RecordKind) (row : List (List ℕ)) → IsOfKind row k → length row ≡ field_count k →
-  is_utf8 (field row 1) ≡ true → is_utf8 (field row 2) ≡ true → HasForm k row
-has_form k row named count first second = record { count = count; texts = λ i d lt. ap is_utf8 (same_default row i d lt)
-  ∙ each i (omega (arith, lt, count, few_fields k)) }
+    is_utf8 (field row 1) ≡ true → is_utf8 (field row 2) ≡ true → HasForm k row
+has_form k row named count first second = record {
+  count = count;
+  texts = λ i d lt. ap is_utf8 (same_default row i d lt)
+      ∙ each i (omega (arith, lt, count, few_fields k));
+}
   where
     each : (i : ℕ) → i < 3 → is_utf8 (field row i) ≡ true
     each zero lt = ap is_utf8 named ∙ name_is_text k
@@ -90,10 +93,10 @@ has_form k row named count first second = record { count = count; texts = λ i d
 -- no two numbers have one decimal text
 pub decimal_tells : (a b : ℕ) → a < 2 ^ 64 → b < 2 ^ 64 → decimal a ≡ decimal b → a ≡ b
 decimal_tells a b low high is = sym (decimal_is_IsNumeral a low).1 ∙ ap (digits_value 10) is
-  ∙ (decimal_is_IsNumeral b high).1
+    ∙ (decimal_is_IsNumeral b high).1
 
 -- the text of a number is read as it
 pub parsed : {E : Type 0} (most : ℕ) (text : List ℕ) (n : ℕ) (r : Result ℕ E) → most < 2 ^ 32 → IsNumber 0 most text n →
-  ParsesUnsigned 32 10 text r → r ≡ Ok n
+    ParsesUnsigned 32 10 text r → r ≡ Ok n
 parsed most text n r fits is parses = parse-decimal 32 n text r (omega (arith, fits, is.high))
-  (omega (arith, fits, is.high)) is.written parses
+    (omega (arith, fits, is.high)) is.written parses

@@ -45,16 +45,19 @@ abbrev line : WorldEvent → Shown → Line
 line e s = record { event = e; shown = s }
 
 pub before_of : (m : Meaning) (lines : List Line) (w : Scene) (b : ℕ) → RoundFacts m w → Spoken m lines w →
-  IsBay m.diagram b → Before m lines b (node m.diagram w b)
-before_of m lines w b facts links bay = record { is = links.nodes b; sound = facts.rounds b bay;
-  name = facts.shape.named b }
+    IsBay m.diagram b → Before m lines b (node m.diagram w b)
+before_of m lines w b facts links bay = record {
+  is = links.nodes b;
+  sound = facts.rounds b bay;
+  name = facts.shape.named b;
+}
 
 -- a step of node b of which all but the turn is plain
 node_spoken : (m : Meaning) (before : List Line) (old : Scene) (e : WorldEvent) (s : Shown) (b : ℕ) (turn : Turn)
-  (outcome : WorldOutcome) (new : Scene) → new ≡ posts (at_node old b turn.new) turn.frames → RoundFacts m old →
-  RoundFacts m new → Spoken m before old → IsBay m.diagram b → Tells (length old.sent) b (node m.diagram old b) turn
-  outcome → Shows outcome s → TurnIs m before b e turn → ((c : ℕ) → c ≢ b → Harmless m.diagram e c) →
-  ((c : ℕ) → c ≢ b → TellsNothing m.diagram before e c) → Spoken m (line e s ∷ before) new
+    (outcome : WorldOutcome) (new : Scene) → new ≡ posts (at_node old b turn.new) turn.frames → RoundFacts m old →
+    RoundFacts m new → Spoken m before old → IsBay m.diagram b → Tells (length old.sent) b (node m.diagram old b) turn
+    outcome → Shows outcome s → TurnIs m before b e turn → ((c : ℕ) → c ≢ b → Harmless m.diagram e c) →
+    ((c : ℕ) → c ≢ b → TellsNothing m.diagram before e c) → Spoken m (line e s ∷ before) new
 node_spoken m before old e s b turn outcome new is was facts links bay says shows turn_is harmless silent =
     turn_spoken m before old (line e s) b turn new is facts links (record {
       bay = bay;
@@ -67,24 +70,24 @@ node_spoken m before old e s b turn outcome new is was facts links bay says show
 
 -- a line that shows nothing, and that changes no node
 drive_spoken : (m : Meaning) (before : List Line) (old : Scene) (e : WorldEvent) (s : Shown) (new : Scene) →
-  new.nodes ≡ old.nodes → new.sent ≡ old.sent → RoundFacts m old → Spoken m before old → ShowsNothing s →
-  ((c : ℕ) → Harmless m.diagram e c) → ((c : ℕ) → TellsNothing m.diagram before e c) → Spoken m (line e s ∷ before) new
+    new.nodes ≡ old.nodes → new.sent ≡ old.sent → RoundFacts m old → Spoken m before old → ShowsNothing s →
+    ((c : ℕ) → Harmless m.diagram e c) → ((c : ℕ) → TellsNothing m.diagram before e c) → Spoken m (line e s ∷ before) new
 drive_spoken m before old e s new nodes sent facts links shows harmless silent = record {
   nodes = λ c.
       let P : State → Type 0 = λ n. NodeIs m (line e s ∷ before) c n.collecting n.granted n.words in
       subst (λ (ns : List (Option State)). P (unwrap_or (get_or ns c None) (new_node m.diagram c))) (sym nodes)
       (node_is m (line e s) before c (node m.diagram old c).collecting (node m.diagram old c).granted
-        (node m.diagram old c).words
+      (node m.diagram old c).words
       (subst (λ (o : Outcome). NodeAfter m before c (node m.diagram old c).collecting (node m.diagram old c).granted
-        (node m.diagram old c).words o e) (sym (of_quiet s c shows.outcome))
+      (node m.diagram old c).words o e) (sym (of_quiet s c shows.outcome))
       (stays m before e c (node m.diagram old c).collecting (node m.diagram old c).granted (node m.diagram old c).words
-        (links.nodes c) (harmless c) (λ g has. silent c)))
+      (links.nodes c) (harmless c) (λ g has. silent c)))
       (λ g has. grant_own m old c g facts has));
   sent = λ k f got.
       let was = links.sent k f (subst (λ (fs : List Frame). slice_get fs k ≡ Some f) sent got) in
       record { at = was.at; found = rw shows.messages was.found; words = was.words };
   unsent = λ n none. rw shows.messages (links.unsent n (subst (λ (fs : List Frame). (n ≡ 0) ⊎ (length fs < n))
-    sent none));
+      sent none));
 }
 
 -- ---- the events
@@ -94,17 +97,17 @@ back_one zero positive = absurd (positive refl)
 back_one (suc k) positive = omega arith
 
 pub brought_of : (m : Meaning) (before : List Line) (old : Scene) (k : ℕ) (f : Frame) → Spoken m before old →
-  IsMessage old k f → Brought m before k f
+    IsMessage old k f → Brought m before k f
 brought_of m before old k f links is = subst (λ (n : ℕ). Brought m before n f) (back_one k is.positive)
-  (links.sent (k - 1) f is.sent)
+    (links.sent (k - 1) f is.sent)
 
 module _ (m : Meaning) (before : List Line) (old new : Scene) (s : Shown) (outcome : WorldOutcome)
-  (station : IsStation m.diagram) (facts : RoundFacts m old) (now : RoundFacts m new) (links : Spoken m before old)
-  (shows : Shows outcome s) where
+    (station : IsStation m.diagram) (facts : RoundFacts m old) (now : RoundFacts m new) (links : Spoken m before old)
+    (shows : Shows outcome s) where
   sense_leads : (i : SwitchId) (word : Dbpos) → i.0 < length m.diagram.switches →
-    SenseHappens m old i word new outcome → Spoken m (line (Sense i word) s ∷ before) new
+      SenseHappens m old i word new outcome → Spoken m (line (Sense i word) s ∷ before) new
   sense_leads i word lt (SenseHappens.untrue false_word refused) =
-    absurd (not_refused old new outcome _ s refused shows)
+      absurd (not_refused old new outcome _ s refused shows)
   sense_leads i word lt (SenseHappens.reads truly t) =
       let b = bay_of m.diagram i.0 in
       let bay = bay_of_is m.diagram i.0 station lt in
@@ -118,27 +121,27 @@ module _ (m : Meaning) (before : List Line) (old new : Scene) (s : Shown) (outco
       let fit : FrameFits m.diagram f = facts.bounds.fit f (got_there old.sent (k - 1) f is.sent) in
       let brought = brought_of m before old k f links is in
       node_spoken m before old (Deliver k) s f.to.0 t.turn outcome new t.world facts now links fit.receiver.0
-        t.says shows
+      t.says shows
       (frame_turn m before k f.to.0 (node m.diagram old f.to.0) f t.turn (before_of m before old f.to.0 facts links
-        fit.receiver.0) brought refl fit.sender t.step)
+      fit.receiver.0) brought refl fit.sender t.step)
       (λ c other. tt)
       (λ c other. tells_nothing m.diagram before k c (record { message = message k f; lines = brought.at })
-        brought.found (λ b is_b a. other (sym a.to)))
+      brought.found (λ b is_b a. other (sym a.to)))
 
   part_leads : (k bytes : ℕ) → PartHappens m.diagram old k new outcome → Spoken m (line (Part k bytes) s ∷ before) new
   part_leads k bytes (PartHappens.unsent none refused) = absurd (not_refused old new outcome _ s refused shows)
   part_leads k bytes (PartHappens.nothing f is same quiet) =
       drive_spoken m before old (Part k bytes) s new (ap (λ (w : Scene). w.nodes) same)
-        (ap (λ (w : Scene). w.sent) same) facts links (quiet_shown (length old.sent) f.to.0 (node m.diagram old f.to.0)
-        outcome s quiet shows) (λ c. tt) (λ c b is. refl)
+      (ap (λ (w : Scene). w.sent) same) facts links (quiet_shown (length old.sent) f.to.0 (node m.diagram old f.to.0)
+      outcome s quiet shows) (λ c. tt) (λ c b is. refl)
 
   withdraw_leads : (b : ℕ) → IsBay m.diagram b → WithdrawHappens m old b new outcome →
-    Spoken m (line (Withdraw (record { 0 = b })) s ∷ before) new
+      Spoken m (line (Withdraw (record { 0 = b })) s ∷ before) new
   withdraw_leads b bay (WithdrawHappens.running g has on refused) =
-    absurd (not_refused old new outcome _ s refused shows)
+      absurd (not_refused old new outcome _ s refused shows)
   withdraw_leads b bay (WithdrawHappens.resting still t) =
       node_spoken m before old (Withdraw (record { 0 = b })) s b t.turn outcome new t.world facts now links bay
-        t.says shows
+      t.says shows
       (withdraw_turn m before b (node m.diagram old b) t.turn (before_of m before old b facts links bay) t.step)
       (λ c other. tt) (λ c other x is. refl)
 
@@ -146,27 +149,30 @@ module _ (m : Meaning) (before : List Line) (old new : Scene) (s : Shown) (outco
   begin_leads i (BeginHappens.not_open free refused) = absurd (not_refused old new outcome _ s refused shows)
   begin_leads i (BeginHappens.running on refused) = absurd (not_refused old new outcome _ s refused shows)
   begin_leads i (BeginHappens.there_already g opened at refused) =
-    absurd (not_refused old new outcome _ s refused shows)
+      absurd (not_refused old new outcome _ s refused shows)
   begin_leads i (BeginHappens.begins g opened off away drive) =
       drive_spoken m before old (Begin i) s new (ap (λ (w : Scene). w.nodes) drive.world)
-        (ap (λ (w : Scene). w.sent) drive.world) facts links (drive_shown new new outcome s drive.says shows) (λ c. tt)
-        (λ c b is. refl)
+      (ap (λ (w : Scene). w.sent) drive.world) facts links (drive_shown new new outcome s drive.says shows) (λ c. tt)
+      (λ c b is. refl)
 
   end_leads : (i : SwitchId) → EndHappens m.diagram old i.0 new outcome → Spoken m (line (End i) s ∷ before) new
   end_leads i (EndHappens.resting off refused) = absurd (not_refused old new outcome _ s refused shows)
   end_leads i (EndHappens.arrives g on opened drive) =
       drive_spoken m before old (End i) s new (ap (λ (w : Scene). w.nodes) drive.world)
-        (ap (λ (w : Scene). w.sent) drive.world) facts links (drive_shown new new outcome s drive.says shows) (λ c. tt)
-        (λ c b is. refl)
+      (ap (λ (w : Scene). w.sent) drive.world) facts links (drive_shown new new outcome s drive.says shows) (λ c. tt)
+      (λ c b is. refl)
 
   cut_leads : (i : SwitchId) → i.0 < length m.diagram.switches → CutHappens m old i new outcome →
-    Spoken m (line (Cut i) s ∷ before) new
+      Spoken m (line (Cut i) s ∷ before) new
   cut_leads i lt (CutHappens.resting off refused) = absurd (not_refused old new outcome _ s refused shows)
   cut_leads i lt (CutHappens.stops_between on t) =
       let b = bay_of m.diagram i.0 in
       let bay = bay_of_is m.diagram i.0 station lt in
-      turn_spoken m before (stops old i.0) (line (Cut i) s) b t.turn new t.world now (record { nodes = links.nodes;
-        sent = links.sent; unsent = links.unsent }) (record {
+      turn_spoken m before (stops old i.0) (line (Cut i) s) b t.turn new t.world now (record {
+        nodes = links.nodes;
+        sent = links.sent;
+        unsent = links.unsent;
+      }) (record {
         bay = bay;
         within = node_there m old b facts bay;
         shows = turn_shown (length old.sent) b (node m.diagram old b) t.turn outcome s t.says shows;
@@ -202,97 +208,97 @@ module _ (m : Meaning) (before : List Line) (old new : Scene) (s : Shown) (outco
 -- ---- true positions and drives
 
 ends_there : (d : Diagram) (before : List Line) (i j : ℕ) (op : Op) (was : Position) →
-  last_granted d before i ≡ Some op → cond (i == j) (end_position op.direction) was ≡ cond (i == j)
-  (end_of (last_granted d before j)) was
+    last_granted d before i ≡ Some op → cond (i == j) (end_position op.direction) was ≡ cond (i == j)
+    (end_of (last_granted d before j)) was
 ends_there d before i j op was last = elim (eqb_tells i j) [
   | inl p ↦ rw p.0 (subst (λ (x : ℕ). end_position op.direction ≡ end_of (last_granted d before x)) p.1
-    (ap end_of (sym last)))
+      (ap end_of (sym last)))
   | inr p ↦ rw p.0 refl
 ]
 
 -- what a line makes of a switch's true position and drive, whatever says them before
 pub record Moves (m : Meaning) (before : List Line) (e : WorldEvent) (old new : Scene) : Type 0 where
   pub truth : (i : ℕ) → i < length m.diagram.switches → (was : Position) → true_at old.truth i ≡ was →
-    true_at new.truth i ≡ moved e i (last_granted m.diagram before i) was
+      true_at new.truth i ≡ moved e i (last_granted m.diagram before i) was
   pub drives : (i : ℕ) → i < length m.diagram.switches → (was : Bool) → runs old.drives i ≡ was →
-    runs new.drives i ≡ driven e i was
+      runs new.drives i ≡ driven e i was
 
 -- a scene with the same true positions and drives
 rests : (m : Meaning) (before : List Line) (e : WorldEvent) (old new : Scene) → new.truth ≡ old.truth →
-  new.drives ≡ old.drives → ((i : ℕ) (was : Position) → moved e i (last_granted m.diagram before i) was ≡ was) →
-  ((i : ℕ) (was : Bool) → driven e i was ≡ was) → Moves m before e old new
+    new.drives ≡ old.drives → ((i : ℕ) (was : Position) → moved e i (last_granted m.diagram before i) was ≡ was) →
+    ((i : ℕ) (was : Bool) → driven e i was ≡ was) → Moves m before e old new
 rests m before e old new truth drives still quiet = record {
   truth = λ i lt was is. ap (λ (t : List Position). true_at t i) truth ∙ is ∙ sym (still i was);
   drives = λ i lt was is. ap (λ (d : List Bool). runs d i) drives ∙ is ∙ sym (quiet i was);
 }
 
 stepped : (m : Meaning) (before : List Line) (e : WorldEvent) (old new : Scene) (b : ℕ) (ev : NodeEvent)
-  (outcome : WorldOutcome) → NodeSteps m old b ev new outcome →
-  ((i : ℕ) (was : Position) → moved e i (last_granted m.diagram before i) was ≡ was) →
-  ((i : ℕ) (was : Bool) → driven e i was ≡ was) → Moves m before e old new
+    (outcome : WorldOutcome) → NodeSteps m old b ev new outcome →
+    ((i : ℕ) (was : Position) → moved e i (last_granted m.diagram before i) was ≡ was) →
+    ((i : ℕ) (was : Bool) → driven e i was ≡ was) → Moves m before e old new
 stepped m before e old new b ev outcome t = rests m before e old new (ap (λ (w : Scene). w.truth) t.world)
-  (ap (λ (w : Scene). w.drives) t.world)
+    (ap (λ (w : Scene). w.drives) t.world)
 
 module _ (m : Meaning) (before : List Line) (old new : Scene) (s : Shown) (outcome : WorldOutcome)
-  (facts : RoundFacts m old) (said : Spoken m before old) (shows : Shows outcome s) where
+    (facts : RoundFacts m old) (said : Spoken m before old) (shows : Shows outcome s) where
   begin_moves : (i : SwitchId) → i.0 < length m.diagram.switches → BeginHappens m.diagram old i.0 new outcome →
-    Moves m before (Begin i) old new
+      Moves m before (Begin i) old new
   begin_moves i lt (BeginHappens.not_open free refused) = absurd (not_refused old new outcome _ s refused shows)
   begin_moves i lt (BeginHappens.running on refused) = absurd (not_refused old new outcome _ s refused shows)
   begin_moves i lt (BeginHappens.there_already g opened at refused) =
-    absurd (not_refused old new outcome _ s refused shows)
+      absurd (not_refused old new outcome _ s refused shows)
   begin_moves i lt (BeginHappens.begins g opened off away drive) = record {
     truth = λ j less was is. ap (λ (w : Scene). true_at w.truth j) drive.world ∙ put_is old.truth i.0 j Between Between
-      (omega (arith, lt, facts.shape.truth)) ∙ ap (λ (p : Position). cond (i.0 == j) Between p) is;
+        (omega (arith, lt, facts.shape.truth)) ∙ ap (λ (p : Position). cond (i.0 == j) Between p) is;
     drives = λ j less was is. ap (λ (w : Scene). runs w.drives j) drive.world ∙ put_is old.drives i.0 j true false
-      (omega (arith, lt, facts.shape.drives)) ∙ ap (λ (p : Bool). cond (i.0 == j) true p) is;
+        (omega (arith, lt, facts.shape.drives)) ∙ ap (λ (p : Bool). cond (i.0 == j) true p) is;
   }
 
   end_moves : (i : SwitchId) → i.0 < length m.diagram.switches → EndHappens m.diagram old i.0 new outcome →
-    Moves m before (End i) old new
+      Moves m before (End i) old new
   end_moves i lt (EndHappens.resting off refused) = absurd (not_refused old new outcome _ s refused shows)
   end_moves i lt (EndHappens.arrives g on opened drive) =
       let last : last_granted m.diagram before i.0 ≡ Some g.op =
-        subst (λ (x : ℕ). last_granted m.diagram before x ≡ Some g.op) opened.switch
-        ((said.nodes (bay_of m.diagram i.0)).last g opened.granted) in
+      subst (λ (x : ℕ). last_granted m.diagram before x ≡ Some g.op) opened.switch
+      ((said.nodes (bay_of m.diagram i.0)).last g opened.granted) in
       record {
         truth = λ j less was is. ap (λ (w : Scene). true_at w.truth j) drive.world
-          ∙ put_is old.truth i.0 j (end_position g.op.direction) Between (omega (arith, lt, facts.shape.truth))
-          ∙ ap (λ (p : Position). cond (i.0 == j) (end_position g.op.direction) p) is
-          ∙ ends_there m.diagram before i.0 j g.op was last;
+            ∙ put_is old.truth i.0 j (end_position g.op.direction) Between (omega (arith, lt, facts.shape.truth))
+            ∙ ap (λ (p : Position). cond (i.0 == j) (end_position g.op.direction) p) is
+            ∙ ends_there m.diagram before i.0 j g.op was last;
         drives = λ j less was is. ap (λ (w : Scene). runs w.drives j) drive.world ∙ put_is old.drives i.0 j false false
-          (omega (arith, lt, facts.shape.drives)) ∙ ap (λ (p : Bool). cond (i.0 == j) false p) is;
+            (omega (arith, lt, facts.shape.drives)) ∙ ap (λ (p : Bool). cond (i.0 == j) false p) is;
       }
 
   cut_moves : (i : SwitchId) → i.0 < length m.diagram.switches → CutHappens m old i new outcome →
-    Moves m before (Cut i) old new
+      Moves m before (Cut i) old new
   cut_moves i lt (CutHappens.resting off refused) = absurd (not_refused old new outcome _ s refused shows)
   cut_moves i lt (CutHappens.stops_between on t) = record {
     truth = λ j less was is. ap (λ (w : Scene). true_at w.truth j) t.world ∙ is;
     drives = λ j less was is. ap (λ (w : Scene). runs w.drives j) t.world ∙ put_is old.drives i.0 j false false
-      (omega (arith, lt, facts.shape.drives)) ∙ ap (λ (p : Bool). cond (i.0 == j) false p) is;
+        (omega (arith, lt, facts.shape.drives)) ∙ ap (λ (p : Bool). cond (i.0 == j) false p) is;
   }
 
   sense_moves : (i : SwitchId) (word : Dbpos) → SenseHappens m old i word new outcome →
-    Moves m before (Sense i word) old new
+      Moves m before (Sense i word) old new
   sense_moves i word (SenseHappens.untrue false_word refused) = absurd (not_refused old new outcome _ s refused shows)
   sense_moves i word (SenseHappens.reads truly t) = stepped m before (Sense i word) old new _ _ outcome t
-    (λ j was. refl) (λ j was. refl)
+      (λ j was. refl) (λ j was. refl)
 
   deliver_moves : (k : ℕ) → DeliverHappens m old k new outcome → Moves m before (Deliver k) old new
   deliver_moves k (DeliverHappens.unsent none refused) = absurd (not_refused old new outcome _ s refused shows)
   deliver_moves k (DeliverHappens.comes f at t) = stepped m before (Deliver k) old new _ _ outcome t (λ j was. refl)
-    (λ j was. refl)
+      (λ j was. refl)
 
   part_moves : (k bytes : ℕ) → PartHappens m.diagram old k new outcome → Moves m before (Part k bytes) old new
   part_moves k bytes (PartHappens.unsent none refused) = absurd (not_refused old new outcome _ s refused shows)
   part_moves k bytes (PartHappens.nothing f at same quiet) = rests m before (Part k bytes) old new
-    (ap (λ (w : Scene). w.truth) same) (ap (λ (w : Scene). w.drives) same) (λ j was. refl) (λ j was. refl)
+      (ap (λ (w : Scene). w.truth) same) (ap (λ (w : Scene). w.drives) same) (λ j was. refl) (λ j was. refl)
 
   withdraw_moves : (b : BayId) → WithdrawHappens m old b.0 new outcome → Moves m before (Withdraw b) old new
   withdraw_moves b (WithdrawHappens.running g has on refused) = absurd (not_refused old new outcome _ s refused shows)
   withdraw_moves b (WithdrawHappens.resting still t) = stepped m before (Withdraw b) old new _ _ outcome t
-    (λ j was. refl) (λ j was. refl)
+      (λ j was. refl) (λ j was. refl)
 
   -- true positions and drives after a line
   pub happens_moves : (e : WorldEvent) → InRange m.diagram e → Happens m old e new outcome → Moves m before e old new
@@ -313,19 +319,19 @@ pub record RunIs (m : Meaning) (start : List Bool) (lines : List Line) (w : Scen
   pub links : Linked m start lines w
 
 pub run_is : (m : Meaning) (start : List Bool) (lines : List Line) (w : Scene) → IsStation m.diagram → Laws m →
-  Run m start lines w → RunIs m start lines w
+    Run m start lines w → RunIs m start lines w
 run_is m start [] w station laws run = record { facts = starts m start w run; links = start_linked m start w run }
 run_is m start (l ∷ before) w station laws (old, run, leads) =
     let was = run_is m start before old station laws run in
     let now = keeps_facts m old w l.event leads.outcome station laws was.facts leads.range leads.happens in
     let step = happens_moves m before old w l.shown leads.outcome was.facts.rounds was.links.said leads.shows l.event
-      leads.range leads.happens in
+    leads.range leads.happens in
     record {
       facts = now;
       links = record {
         truth = λ i lt. step.truth i lt (true_after m.diagram start before i) (was.links.truth i lt);
         drives = λ i lt. step.drives i lt (drive_runs before i) (was.links.drives i lt);
         said = speaks m before old w l.shown leads.outcome station was.facts.rounds now.rounds was.links.said
-          leads.shows l.event leads.range leads.happens;
+            leads.shows l.event leads.range leads.happens;
       };
     }

@@ -50,8 +50,8 @@ module _ (m : Meaning) (before : List Line) (old new : Scene) (s : Shown) (outco
       → TellsNothing m.diagram before e c) → (c : ℕ) → BayDecides m before (record { event = e; shown = s }) c
   nothing_bays e nothing not_tick silent c =
       quiet_bay m before (record { event = e; shown = s }) c (node m.diagram old c).collecting
-          (node m.diagram old c).granted (node m.diagram old c).words (links.nodes c) (of_quiet s c nothing.outcome)
-          (not_tick c) (silent c)
+      (node m.diagram old c).granted (node m.diagram old c).words (links.nodes c) (of_quiet s c nothing.outcome)
+      (not_tick c) (silent c)
 
   sense_bays : (i : SwitchId) (word : Dbpos) → i.0 < length m.diagram.switches → SenseHappens m old i word new outcome
       → (c : ℕ) → BayDecides m before (record { event = Sense i word; shown = s }) c
@@ -60,26 +60,31 @@ module _ (m : Meaning) (before : List Line) (old new : Scene) (s : Shown) (outco
       let b = bay_of m.diagram i.0 in
       node_bays (Sense i word) b t.turn t.says (λ c other e. cc e) (λ c other x is. refl)
       (λ shown_so. sense_bay m before s b i word (node m.diagram old b) t.turn (before_of m before old b facts links
-          (bay_of_is m.diagram i.0 station lt)) shown_so t.step)
+      (bay_of_is m.diagram i.0 station lt)) shown_so t.step)
 
-  deliver_bays : (k : ℕ) → DeliverHappens m old k new outcome → (c : ℕ) → BayDecides m before (record { event =
-      Deliver k; shown = s }) c
+  deliver_bays : (k : ℕ) → DeliverHappens m old k new outcome → (c : ℕ) → BayDecides m before (record {
+    event =
+        Deliver k;
+    shown = s;
+  }) c
   deliver_bays k (DeliverHappens.unsent none refused) = absurd (not_refused old new outcome _ s refused shows)
   deliver_bays k (DeliverHappens.comes f is t) =
       let fit : FrameFits m.diagram f = facts.bounds.fit f (got_there old.sent (k - 1) f is.sent) in
       let brought = brought_of m before old k f links is in
       node_bays (Deliver k) f.to.0 t.turn t.says (λ c other e. cc e)
-      (λ c other. tells_nothing m.diagram before k c (record { message = message k f;
-          lines = brought.at }) brought.found (λ b is_b a. other (sym a.to)))
+      (λ c other. tells_nothing m.diagram before k c (record {
+        message = message k f;
+        lines = brought.at;
+      }) brought.found (λ b is_b a. other (sym a.to)))
       (λ shown_so. frame_bay m before s k f.to.0 (node m.diagram old f.to.0) f t.turn station laws
-          (before_of m before old f.to.0 facts links fit.receiver.0) brought refl fit.sender shown_so t.step)
+      (before_of m before old f.to.0 facts links fit.receiver.0) brought refl fit.sender shown_so t.step)
 
   part_bays : (k bytes : ℕ) → PartHappens m.diagram old k new outcome → (c : ℕ) → BayDecides m before
       (record { event = Part k bytes; shown = s }) c
   part_bays k bytes (PartHappens.unsent none refused) = absurd (not_refused old new outcome _ s refused shows)
   part_bays k bytes (PartHappens.nothing f is same quiet) =
       nothing_bays (Part k bytes) (quiet_shown (length old.sent) f.to.0
-          (node m.diagram old f.to.0) outcome s quiet shows) (λ c e. cc e) (λ c b is. refl)
+      (node m.diagram old f.to.0) outcome s quiet shows) (λ c e. cc e) (λ c b is. refl)
 
   withdraw_bays : (b : ℕ) → IsBay m.diagram b → WithdrawHappens m old b new outcome → (c : ℕ)
       → BayDecides m before (record { event = Withdraw (record { 0 = b }); shown = s }) c
@@ -88,7 +93,7 @@ module _ (m : Meaning) (before : List Line) (old new : Scene) (s : Shown) (outco
   withdraw_bays b bay (WithdrawHappens.resting still t) =
       node_bays (Withdraw (record { 0 = b })) b t.turn t.says (λ c other e. cc e) (λ c other x is. refl)
       (λ shown_so. withdraw_bay m before s b (node m.diagram old b) t.turn
-          (before_of m before old b facts links bay) shown_so t.step)
+      (before_of m before old b facts links bay) shown_so t.step)
 
   begin_bays : (i : SwitchId) → BeginHappens m.diagram old i.0 new outcome → (c : ℕ)
       → BayDecides m before (record { event = Begin i; shown = s }) c
@@ -111,7 +116,7 @@ module _ (m : Meaning) (before : List Line) (old new : Scene) (s : Shown) (outco
       let b = bay_of m.diagram i.0 in
       node_bays (Cut i) b t.turn t.says (λ c other e. cc e) (λ c other x is. refl)
       (λ shown_so. cut_bay m before s b i (node m.diagram old b) t.turn (before_of m before old b facts links
-          (bay_of_is m.diagram i.0 station lt)) shown_so t.step)
+      (bay_of_is m.diagram i.0 station lt)) shown_so t.step)
 
   pub lead_bays : (e : WorldEvent) → InRange m.diagram e → Happens m old e new outcome → (c : ℕ)
       → BayDecides m before (record { event = e; shown = s }) c
@@ -119,19 +124,19 @@ module _ (m : Meaning) (before : List Line) (old new : Scene) (s : Shown) (outco
       let b = bay_of m.diagram op.switch.0 in
       node_bays (Command op) b t.turn t.says (λ c other e. cc e) (λ c other x is. refl)
       (λ shown_so. command_bay m before s b (node m.diagram old b) op t.turn station laws
-          (before_of m before old b facts links (bay_of_is m.diagram op.switch.0 station lt)) lt refl shown_so t.step)
+      (before_of m before old b facts links (bay_of_is m.diagram op.switch.0 station lt)) lt refl shown_so t.step)
   lead_bays (Sense i word) lt happens = sense_bays i word lt happens
   lead_bays (Deliver k) lt happens = deliver_bays k happens
   lead_bays (Tick b) bay t =
       node_bays (Tick b) b.0 t.turn t.says (λ c other e. let same : b ≡ record { 0 = c } = cc e in
-          other (sym (ap (λ (x : BayId). x.0) same))) (λ c other x is. refl)
+      other (sym (ap (λ (x : BayId). x.0) same))) (λ c other x is. refl)
       (λ shown_so. tick_bay m before s b.0 (node m.diagram old b.0) t.turn station laws
-          (before_of m before old b.0 facts links bay) shown_so t.step)
+      (before_of m before old b.0 facts links bay) shown_so t.step)
   lead_bays (Withdraw b) bay happens = withdraw_bays b.0 bay happens
   lead_bays (Restart b) bay t =
       node_bays (Restart b) b.0 t.turn t.says (λ c other e. cc e) (λ c other x is. refl)
       (λ shown_so. restart_bay m before s b.0 (node m.diagram old b.0) t.turn _
-          (before_of m before old b.0 facts links bay) shown_so t.step)
+      (before_of m before old b.0 facts links bay) shown_so t.step)
   lead_bays (Begin i) lt happens = begin_bays i happens
   lead_bays (End i) lt happens = end_bays i happens
   lead_bays (Part k bytes) lt happens = part_bays k bytes happens
@@ -143,6 +148,9 @@ pub decides_well : (m : Meaning) (start : List Bool) (l : Line) (before : List L
 decides_well m start l before w station laws (old, run, leads) =
     let was = run_is m start before old station laws run in
     let each = lead_bays m before old w l.shown leads.outcome station laws was.facts.rounds was.links.said
-        leads.shows l.event leads.range leads.happens in
-    record { shows = λ c o is. shows_it m before l c o (each c) is; no_other = λ c o is. decides_it m before l c o
-        (each c) is }
+    leads.shows l.event leads.range leads.happens in
+    record {
+      shows = λ c o is. shows_it m before l c o (each c) is;
+      no_other = λ c o is. decides_it m before l c o
+          (each c) is;
+    }

@@ -37,43 +37,43 @@ HeardIs m b c (Some summary) None = ⊥
 
 -- a node with this round, grant and these words is what the lines say of bay c
 pub record NodeIs (m : Meaning) (lines : List Line) (c : ℕ) (x : Option Collection) (y : Option Grant)
-  (words : List Dbpos) : Type 0 where
+    (words : List Dbpos) : Type 0 where
   pub granted : y ≡ open_of lines c
   pub collecting : opened x ≡ collecting lines c
   pub read : (i : ℕ) → i < length m.diagram.switches → bay_of m.diagram i ≡ c →
-    get_or words i Lost ≡ reading_at m.diagram lines i
+      get_or words i Lost ≡ reading_at m.diagram lines i
   pub last : (g : Grant) → y ≡ Some g → last_granted m.diagram lines g.op.switch.0 ≡ Some g.op
   pub round : (q : ℕ) → under_way_of x y ≡ Some q → others m.diagram c ≢ [] → last_round lines c ≡ Some q
   pub heard : (g : Collection) (b : ℕ) → x ≡ Some g →
-    HeardIs m b c (get_or g.heard b None) (heard_of m.diagram lines c b)
+      HeardIs m b c (get_or g.heard b None) (heard_of m.diagram lines c b)
   pub missing : (g : Collection) → x ≡ Some g → ¬ AllHeard m.diagram c g.heard
 
 -- the same after a further line with this event, of which this outcome is shown for bay c
 pub record NodeAfter (m : Meaning) (before : List Line) (c : ℕ) (x : Option Collection) (y : Option Grant)
-  (words : List Dbpos) (o : Outcome) (e : WorldEvent) : Type 0 where
+    (words : List Dbpos) (o : Outcome) (e : WorldEvent) : Type 0 where
   pub granted : y ≡ open_after o (open_of before c)
   pub collecting : opened x ≡ forgotten e c (collecting_after o e (collecting before c))
   pub read : (i : ℕ) → i < length m.diagram.switches → bay_of m.diagram i ≡ c →
-    get_or words i Lost ≡ cond (takes_word o (open_of before c) i) Lost (sensed e c i (reading_at m.diagram before i))
+      get_or words i Lost ≡ cond (takes_word o (open_of before c) i) Lost (sensed e c i (reading_at m.diagram before i))
   pub last : (g : Grant) → y ≡ Some g →
-    or_else (granted_for o g.op.switch.0) (last_granted m.diagram before g.op.switch.0) ≡ Some g.op
+      or_else (granted_for o g.op.switch.0) (last_granted m.diagram before g.op.switch.0) ≡ Some g.op
   pub round : (q : ℕ) → under_way_of x y ≡ Some q → others m.diagram c ≢ [] →
-    or_else (round_shown o) (last_round before c) ≡ Some q
+      or_else (round_shown o) (last_round before c) ≡ Some q
   pub heard : (g : Collection) (b : ℕ) → x ≡ Some g →
-    HeardIs m b c (get_or g.heard b None) (cond (is_another m.diagram c b)
-    (heard_after o (told m.diagram (delivered e before) b c (last_round before c)) (heard m.diagram before c b)) None)
+      HeardIs m b c (get_or g.heard b None) (cond (is_another m.diagram c b)
+      (heard_after o (told m.diagram (delivered e before) b c (last_round before c)) (heard m.diagram before c b)) None)
   pub missing : (g : Collection) → x ≡ Some g → ¬ AllHeard m.diagram c g.heard
 
 pub node_is : (m : Meaning) (l : Line) (before : List Line) (c : ℕ) (x : Option Collection) (y : Option Grant)
-  (words : List Dbpos) → NodeAfter m before c x y words (of_bay l.shown c) l.event →
-  ((g : Grant) → y ≡ Some g → bay_of m.diagram g.op.switch.0 ≡ c) → NodeIs m (l ∷ before) c x y words
+    (words : List Dbpos) → NodeAfter m before c x y words (of_bay l.shown c) l.event →
+    ((g : Grant) → y ≡ Some g → bay_of m.diagram g.op.switch.0 ≡ c) → NodeIs m (l ∷ before) c x y words
 node_is m l before c x y words a own = record {
   granted = a.granted;
   collecting = a.collecting;
   read = λ i lt is. subst (λ (b : ℕ). get_or words i Lost ≡ cond (takes_word (of_bay l.shown b) (open_of before b) i)
-    Lost (sensed l.event b i (reading_at m.diagram before i))) (sym is) (a.read i lt is);
+      Lost (sensed l.event b i (reading_at m.diagram before i))) (sym is) (a.read i lt is);
   last = λ g has. subst (λ (b : ℕ). or_else (granted_for (of_bay l.shown b) g.op.switch.0)
-    (last_granted m.diagram before g.op.switch.0) ≡ Some g.op) (sym (own g has)) (a.last g has);
+      (last_granted m.diagram before g.op.switch.0) ≡ Some g.op) (sym (own g has)) (a.last g has);
   round = a.round;
   heard = a.heard;
   missing = a.missing;
@@ -95,9 +95,9 @@ Harmless d (Part n bytes) c = ⊤
 Harmless d (Cut i) c = ⊤
 
 pub not_sensed : (d : Diagram) (e : WorldEvent) (c i : ℕ) (was : Dbpos) → Harmless d e c → bay_of d i ≡ c →
-  sensed e c i was ≡ was
+    sensed e c i was ≡ was
 not_sensed d (Sense j word) c i was harmless is =
-  rw (eqb_differ j.0 i (λ same. harmless (ap (λ (x : ℕ). bay_of d x) same ∙ is))) refl
+    rw (eqb_differ j.0 i (λ same. harmless (ap (λ (x : ℕ). bay_of d x) same ∙ is))) refl
 not_sensed d (Restart b) c i was harmless is = rw (eqb_differ b.0 c harmless) refl
 not_sensed d (Command op) c i was harmless is = refl
 not_sensed d (Deliver n) c i was harmless is = refl
@@ -109,7 +109,7 @@ not_sensed d (Part n bytes) c i was harmless is = refl
 not_sensed d (Cut j) c i was harmless is = refl
 
 pub not_forgotten : (d : Diagram) (e : WorldEvent) (c : ℕ) (was : Option Opened) → Harmless d e c →
-  forgotten e c was ≡ was
+    forgotten e c was ≡ was
 not_forgotten d (Restart b) c was harmless = rw (eqb_differ b.0 c harmless) refl
 not_forgotten d (Sense j word) c was harmless = refl
 not_forgotten d (Command op) c was harmless = refl
@@ -124,21 +124,21 @@ not_forgotten d (Cut j) c was harmless = refl
 -- the event tells bay c nothing of others that counts in its round
 abbrev pub TellsNothing : Diagram → List Line → WorldEvent → ℕ → Type 0
 TellsNothing d before e c = (b : ℕ) → is_another d c b ≡ true →
-  told d (delivered e before) b c (last_round before c) ≡ None
+    told d (delivered e before) b c (last_round before c) ≡ None
 
 nothing_heard : (m : Meaning) (before : List Line) (e : WorldEvent) (c b : ℕ) (s : Option (List ℕ)) →
-  TellsNothing m.diagram before e c →
-  HeardIs m b c s (cond (is_another m.diagram c b) (heard m.diagram before c b) None) →
-  HeardIs m b c s (cond (is_another m.diagram c b)
-  (or_else (told m.diagram (delivered e before) b c (last_round before c)) (heard m.diagram before c b)) None)
+    TellsNothing m.diagram before e c →
+    HeardIs m b c s (cond (is_another m.diagram c b) (heard m.diagram before c b) None) →
+    HeardIs m b c s (cond (is_another m.diagram c b)
+    (or_else (told m.diagram (delivered e before) b c (last_round before c)) (heard m.diagram before c b)) None)
 nothing_heard m before e c b s tells is = elim (cases_Bool (is_another m.diagram c b)) [
   | inl p ↦ rw (p, tells b p) (rw p at is)
   | inr p ↦ rw p (rw p at is)
 ]
 
 pub stays : (m : Meaning) (before : List Line) (e : WorldEvent) (c : ℕ) (x : Option Collection) (y : Option Grant)
-  (words : List Dbpos) → NodeIs m before c x y words → Harmless m.diagram e c → ((g : Collection) → x ≡ Some g →
-  TellsNothing m.diagram before e c) → NodeAfter m before c x y words Quiet e
+    (words : List Dbpos) → NodeIs m before c x y words → Harmless m.diagram e c → ((g : Collection) → x ≡ Some g →
+    TellsNothing m.diagram before e c) → NodeAfter m before c x y words Quiet e
 stays m before e c x y words is harmless tells = record {
   granted = is.granted;
   collecting = is.collecting ∙ sym (not_forgotten m.diagram e c (collecting before c) harmless);
@@ -164,6 +164,6 @@ IsDelivery (Cut i) = ⊥
 
 -- a message that is no answer to c from another bay in its round tells nothing
 pub tells_nothing : (d : Diagram) (before : List Line) (n : ℕ) (c : ℕ) (s : Sending) → sending before n ≡ Some s →
-  ((b : ℕ) → is_another d c b ≡ true → ¬ IsAnswer s.message b c (last_round before c)) →
-  TellsNothing d before (Deliver n) c
+    ((b : ℕ) → is_another d c b ≡ true → ¬ IsAnswer s.message b c (last_round before c)) →
+    TellsNothing d before (Deliver n) c
 tells_nothing d before n c s found never b other = rw found (told_nothing d s b c (last_round before c) (never b other))

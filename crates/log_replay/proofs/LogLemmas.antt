@@ -24,8 +24,12 @@ next_suc : {X : Type 0} (all : List X) (k : ℕ) (x : X) (rest : List X) → dro
     → (slice_get all k ≡ Some x) × (take (suc k) all ≡ take k all ++ x ∷ []) × (drop (suc k) all ≡ rest)
 next_suc [] zero x rest left = absurd (cc)
 next_suc [] (suc k) x rest left = absurd (cc)
-next_suc {X} (y ∷ all) zero x rest left = let same : y ≡ x = cc left in (ap Some same, ap (λ
-    (z : X). z ∷ []) same, cc left)
+next_suc {X} (y ∷ all) zero x rest left = let same : y ≡ x = cc left in (
+  ap Some same,
+  ap (λ
+      (z : X). z ∷ []) same,
+  cc left,
+)
 next_suc {X} (y ∷ all) (suc k) x rest left = let n = next_suc all k x rest left in
     (n.0, ap (λ (zs : List X). y ∷ zs) n.1, n.2)
 
@@ -66,13 +70,17 @@ order_more events e order follows k x at = elim (got_pushed events e k x at) [
       (arith, p.0)))) (order k x p.1)
   | inr p ↦
       let whole : take k (events ++ e ∷ []) ≡ events = ap (λ j. take j (events ++ e ∷ [])) p.0
-          ∙ take-append_seam events (e ∷ []) in
+      ∙ take-append_seam events (e ∷ []) in
       subst (λ (before : List LogEvent). MayFollow before x) (sym whole) (subst (MayFollow events) p.1 follows)
 ]
 
 pub tell_nothing : (d : Diagram) (rows : List (List (List ℕ))) → Tell d (take 0 rows) []
-tell_nothing d rows = record { each = tt; texts = λ k x lt. absurd (omega (arith, lt));
-    order = λ k e at. absurd (cc at); few = omega arith }
+tell_nothing d rows = record {
+  each = tt;
+  texts = λ k x lt. absurd (omega (arith, lt));
+  order = λ k e at. absurd (cc at);
+  few = omega arith;
+}
 
 pub tell_more : (d : Diagram) (all : List (List (List ℕ))) (events more : List LogEvent) (row : List (List ℕ))
     (e : LogEvent) (rest : List (List (List ℕ))) → more ≡ events ++ e ∷ [] → drop (length events) all ≡ row ∷ rest

@@ -62,10 +62,10 @@ module _ (m : Meaning) (truth_of : ℕ → Position) (drives_of : ℕ → Bool) 
       → SenseHappens m old i word new outcome → ExactAt (Sense i word)
   sense_exact i word lt (SenseHappens.untrue false_word refused) =
       Exactly.breaks Sensed (λ k. false_word (subst (λ (p : Position). IsTrueWord word p) (sym
-          (truth i.0 lt)) k)) refl refused.says
+      (truth i.0 lt)) k)) refl refused.says
   sense_exact i word lt (SenseHappens.reads truly t) =
       Exactly.keeps (subst (λ (p : Position). IsTrueWord word p) (truth i.0 lt) truly)
-          (node_no_premise m old _ _ new outcome t)
+      (node_no_premise m old _ _ new outcome t)
 
   sent_some : (k : ℕ) (f : Frame) → IsMessage old k f → sending before k ≢ None
   sent_some k f is none = let b = brought_of m before old k f said is in absurd (cc (b.found, none))
@@ -85,22 +85,22 @@ module _ (m : Meaning) (truth_of : ℕ → Position) (drives_of : ℕ → Bool) 
   withdraw_exact : (b : BayId) → WithdrawHappens m old b.0 new outcome → ExactAt (Withdraw b)
   withdraw_exact b (WithdrawHappens.running g has on refused) =
       Exactly.breaks Withdrawn (λ k. let off = k g (sym (said.nodes b.0).granted ∙ has) in
-          let still = drives g.op.switch.0 (granted_known m old b.0 g facts has) in
-          absurd (cc (off, still, on))) refl refused.says
+      let still = drives g.op.switch.0 (granted_known m old b.0 g facts has) in
+      absurd (cc (off, still, on))) refl refused.says
   withdraw_exact b (WithdrawHappens.resting still t) =
       Exactly.keeps
       (λ g is. let has : (node m.diagram old b.0).granted ≡ Some g = (said.nodes b.0).granted ∙ is in
-          sym (drives g.op.switch.0 (granted_known m old b.0 g facts has)) ∙ still g has)
+      sym (drives g.op.switch.0 (granted_known m old b.0 g facts has)) ∙ still g has)
       (node_no_premise m old _ _ new outcome t)
 
   begin_exact : (i : SwitchId) → i.0 < length m.diagram.switches → BeginHappens m.diagram old i.0 new outcome
       → ExactAt (Begin i)
   begin_exact i lt (BeginHappens.not_open free refused) =
       Exactly.breaks Begun (λ k. free k.grant ((said.nodes (bay_of m.diagram i.0)).granted
-          ∙ k.opened) k.switch) refl refused.says
+      ∙ k.opened) k.switch) refl refused.says
   begin_exact i lt (BeginHappens.running on refused) =
       Exactly.breaks Begun (λ k. let off = k.still in let is = drives i.0 lt in absurd (cc
-          (on, off, is))) refl refused.says
+      (on, off, is))) refl refused.says
   begin_exact i lt (BeginHappens.there_already g opened at refused) =
       Exactly.breaks Begun (λ k.
       let same : Some g ≡ Some k.grant = sym opened.granted ∙ (said.nodes (bay_of m.diagram i.0)).granted ∙ k.opened in
@@ -147,9 +147,11 @@ pub premise_exact : (m : Meaning) (start : List Bool) (before : List Line) (old 
 premise_exact m start before old new e outcome station laws run lt happens =
     let is = run_is m start before old station laws run in
     elim (happens_exact m (true_after m.diagram start before)
-        (drive_runs before) before old new outcome is.facts.rounds is.links.truth is.links.drives is.links.said e lt
-        happens) [
+    (drive_runs before) before old new outcome is.facts.rounds is.links.truth is.links.drives is.links.said e lt
+    happens) [
       | Exactly.keeps may never ↦ PremiseExact.keeps may never
-      | Exactly.breaks which never named says ↦ PremiseExact.breaks which (record { broken = never;
-          named = named }) says
+      | Exactly.breaks which never named says ↦ PremiseExact.breaks which (record {
+        broken = never;
+        named = named;
+      }) says
     ]

@@ -42,25 +42,25 @@ there paths i lt = (i, lt, same paths i lt)
     same (x ∷ xs) (suc k) low = same xs k (omega (arith, low))
 
 pub told_again : (d : Diagram) (before : List LogEvent) (k : RecordKind) (first second : List ℕ) (e : LogEvent) →
-  IsStation d → Says d (row_of k first second) e → is_again before e ≡ true → ToldAgain d before k first second
+    IsStation d → Says d (row_of k first second) e → is_again before e ≡ true → ToldAgain d before k first second
 told_again d before k first second (TellsStep e) station says again = cc again
 told_again d before k first second (TellsAt i closed) station says again =
     let named : kind_name k ≡ kind_name At = ap (λ (row : List (List ℕ)). get_or row 0 []) says.written in
     let path : first ≡ switch_path d i.0 = ap (λ (row : List (List ℕ)). get_or row 1 []) says.written in
     let at : k ≡ At = again_is_at k named in
     let written : row_of At first second ≡ event_row d (TellsAt i closed) =
-      subst (λ (x : RecordKind). row_of x first second ≡ event_row d (TellsAt i closed)) at says.written in
+    subst (λ (x : RecordKind). row_of x first second ≡ event_row d (TellsAt i closed)) at says.written in
     let it : ToldAgain d before At first second = record {
       is_at = refl;
       known = subst (Contains d.switch_paths) (sym path)
-        (there d.switch_paths i.0 (omega (arith, says.told, station.items.paths)));
+          (there d.switch_paths i.0 (omega (arith, says.told, station.items.paths)));
       word = (closed, ap (λ (row : List (List ℕ)). get_or row 2 []) written);
       again = (i.0, path, says.told, again);
     } in
     subst (λ (x : RecordKind). ToldAgain d before x first second) (sym at) it
 
 pub fault_of_kind : (d : Diagram) (before : List LogEvent) (k : RecordKind) (row : List (List ℕ))
-  (r : Result LogEvent ℕ) → length before < MOST_RECORDS → IsOfKind row k → IfErr r (KindFault d before k row) →
-  IfErr r (RecordFault d before row)
+    (r : Result LogEvent ℕ) → length before < MOST_RECORDS → IsOfKind row k → IfErr r (KindFault d before k row) →
+    IfErr r (RecordFault d before row)
 fault_of_kind d before k row (Ok e) few named fault = fault
 fault_of_kind d before k row (Err n) few named fault = RecordFault.of_kind k few named fault

@@ -60,12 +60,16 @@ lines_none (At i closed ∷ log) seen = refl
 lines_none (Step e ∷ log) seen = refl
 
 lines_step : (log : List LogEvent) (out : List Shown) (seen : List Line) (e : WorldEvent) (s : Shown)
-    → slice_get log (length out) ≡ Some (Step e) → lines_of log (out ++ s ∷ []) seen ≡ record { event = e;
-    shown = s } ∷ lines_of log out seen
+    → slice_get log (length out) ≡ Some (Step e) → lines_of log (out ++ s ∷ []) seen ≡ record {
+      event = e;
+      shown = s;
+    } ∷ lines_of log out seen
 lines_step [] out seen e s got = absurd (cc got)
 lines_step (At i closed ∷ log) [] seen e s got = absurd (cc got)
-lines_step (Step x ∷ log) [] seen e s got = let same : x ≡ e = cc got in lines_none log (record { event = x;
-    shown = s } ∷ seen) ∙ ap (λ (y : WorldEvent). let list : List Line = record { event = y; shown = s } ∷ seen in
+lines_step (Step x ∷ log) [] seen e s got = let same : x ≡ e = cc got in lines_none log (record {
+  event = x;
+  shown = s;
+} ∷ seen) ∙ ap (λ (y : WorldEvent). let list : List Line = record { event = y; shown = s } ∷ seen in
     list) same
 lines_step (At i closed ∷ log) (p ∷ out) seen e s got = lines_step log out seen e s got
 lines_step (Step x ∷ log) (p ∷ out) seen e s got = lines_step log out (record { event = x; shown = p } ∷ seen) e s got
@@ -76,8 +80,10 @@ lines_at [] out seen i closed s got = absurd (cc got)
 lines_at (At j shut ∷ log) [] seen i closed s got = lines_none log seen ∙ sym (lines_none (At j shut ∷ log) seen)
 lines_at (Step x ∷ log) [] seen i closed s got = absurd (cc got)
 lines_at (At j shut ∷ log) (p ∷ out) seen i closed s got = lines_at log out seen i closed s got
-lines_at (Step x ∷ log) (p ∷ out) seen i closed s got = lines_at log out (record { event = x;
-    shown = p } ∷ seen) i closed s got
+lines_at (Step x ∷ log) (p ∷ out) seen i closed s got = lines_at log out (record {
+  event = x;
+  shown = p;
+} ∷ seen) i closed s got
 
 pub shows_so : (o : WorldOutcome) → ((which : Which) → o ≢ Premise which) → Shows o (shown_of o)
 shows_so (Premise which) none = absurd (none which refl)
@@ -207,10 +213,10 @@ goes_on m log outs old new k (At i closed) None station laws r got lt told happe
     let start = start_of m.diagram log in
     let same = shown_more outs None in
     let lines : lines_of log (map shown_at (outs ++ None ∷ [])) [] ≡ lines_of log (map shown_at outs) [] = ap (λ
-        (ss : List Shown). lines_of log ss []) same ∙ lines_at log (map shown_at outs) [] i closed nothing_shown
-        (got_at log outs k (At i closed) r.count got) in
+    (ss : List Shown). lines_of log ss []) same ∙ lines_at log (map shown_at outs) [] i closed nothing_shown
+    (got_at log outs k (At i closed) r.count got) in
     let here : Run m start (lines_of log (map shown_at outs) []) new.scene = subst (λ (w : Scene). Run m start
-        (lines_of log (map shown_at outs) []) w) (sym happens) r.run in
+    (lines_of log (map shown_at outs) []) w) (sym happens) r.run in
     record {
       facts = facts;
       count = let long = length-append outs (None ∷ []) in omega (arith, long, r.count);
@@ -226,16 +232,20 @@ goes_on m log outs old new k (Step e) (Some o) station laws r got lt told happen
     let same = shown_more outs (Some o) in
     let l : Line = record { event = e; shown = shown_of o } in
     let lines : lines_of log (map shown_at (outs ++ Some o ∷ [])) [] ≡ l ∷ before = ap (λ
-        (ss : List Shown). lines_of log ss []) same ∙ lines_step log (map shown_at outs) [] e (shown_of o)
-        (got_at log outs k (Step e) r.count got) in
+    (ss : List Shown). lines_of log ss []) same ∙ lines_step log (map shown_at outs) [] e (shown_of o)
+    (got_at log outs k (Step e) r.count got) in
     let no_one : (which : Which) → o ≢ Premise which = λ which is. none which (ap Some is) in
     let may : MayHappen m.diagram start before e = elim
-        (premise_exact m start before old.scene new.scene e o station laws r.run told.0 happens) [
+    (premise_exact m start before old.scene new.scene e o station laws r.run told.0 happens) [
       | PremiseExact.keeps may never ↦ may
       | PremiseExact.breaks which is says ↦ absurd (no_one which says)
     ] in
-    let leads : Leads m old.scene l new.scene = record { range = told.0; outcome = o; happens = happens;
-        shows = shows_so o no_one } in
+    let leads : Leads m old.scene l new.scene = record {
+      range = told.0;
+      outcome = o;
+      happens = happens;
+      shows = shows_so o no_one;
+    } in
     record {
       facts = facts;
       count = let long = length-append outs (Some o ∷ []) in omega (arith, long, r.count);
@@ -285,7 +295,7 @@ is_stopped m log outs old new k (Step e) (Some o) which r station laws has rs go
     let before = lines_of log (map shown_at outs) [] in
     let is : o ≡ Premise which = cc broken in
     let breaks : IsBrokenBy m.diagram start before e which = elim
-        (premise_exact m start before old.scene new.scene e o station laws rs.run told.0 happens) [
+    (premise_exact m start before old.scene new.scene e o station laws rs.run told.0 happens) [
       | PremiseExact.keeps may never ↦ absurd (never which is)
       | PremiseExact.breaks other by says ↦ let same : other ≡ which = cc (is, says) in
           subst (IsBrokenBy m.diagram start before e) same by
@@ -293,8 +303,8 @@ is_stopped m log outs old new k (Step e) (Some o) which r station laws has rs go
     let long : length (map shown_at outs) ≡ k = length-map outs shown_at ∙ rs.count in
     subst (IsReplay m log) (sym (report_is r (map shown_at outs) (Some (k + 1, which)) first second))
     (IsReplay.stops old.scene e which (run_of m log outs old k has rs) (got_at log outs k
-        (Step e) rs.count got) breaks (ap (λ (n : ℕ). let b : Option (ℕ × Which) = Some (n + 1, which) in
-        b) (sym long)))
+    (Step e) rs.count got) breaks (ap (λ (n : ℕ). let b : Option (ℕ × Which) = Some (n + 1, which) in
+    b) (sym long)))
 
 pub no_start_is : (m : Meaning) (log : List LogEvent) (r : Replayed) → ¬ HasStart m.diagram log → r.out ≡ []
     → r.broken ≡ Some (at_count log + 1, Start) → IsReplay m log r
@@ -327,7 +337,7 @@ replay_headline m log r station laws (IsReplay.stops w e which is got breaks bro
     run_of_headline m log r.out w station laws is
 replay_headline m log r station laws (IsReplay.no_start none empty broken) =
     subst (Headline m.diagram (start_of m.diagram log)) (sym (ap (λ (ss : List Shown). lines_of log ss []) empty
-        ∙ lines_none log [])) (nothing_headline m.diagram (start_of m.diagram log))
+    ∙ lines_none log [])) (nothing_headline m.diagram (start_of m.diagram log))
 
 -- ---- of the station
 
@@ -347,7 +357,7 @@ pub start_with : (m : Meaning) (d : Diagram) (log : List LogEvent) (start : List
     → WorldFacts m v) → Replaying m log [] w 0
 start_with m d log start w same is new facts =
     let it : IsNewWorld m.diagram (start_of m.diagram log) w = subst (λ (x : Diagram). IsNewWorld x
-        (start_of x log) w) (sym same) (subst (λ (s : List Bool). IsNewWorld d s w) is new) in
+    (start_of x log) w) (sym same) (subst (λ (s : List Bool). IsNewWorld d s w) is new) in
     start_replaying m log w it.scene (facts (start_of m.diagram log) w it)
 
 pub told_in : (m : Meaning) (d : Diagram) (log : List LogEvent) (k : ℕ) (x : LogEvent) → m.diagram ≡ d

@@ -41,10 +41,10 @@ abbrev pub says : Diagram → Outcome → List ℕ
 says d (Collecting r) = codes "collecting " ++ decimal r
 says d (Granted r op) = codes "granted " ++ (decimal r ++ (codes " " ++ op_says d op.direction op.switch.0))
 says d (Denied r op rule v) =
-  codes "denied " ++ (decimal r ++ (codes " " ++ (rule_name rule ++ (codes " " ++ op_says d op.direction op.switch.0))))
+    codes "denied " ++ (decimal r ++ (codes " " ++ (rule_name rule ++ (codes " " ++ op_says d op.direction op.switch.0))))
 says d (BusyBy r bay holder q) =
-  codes "busy " ++ (decimal r
-  ++ (codes " from " ++ (decimal bay.0 ++ (codes " holder " ++ (decimal holder.0 ++ (codes " round " ++ decimal q))))))
+    codes "busy " ++ (decimal r
+    ++ (codes " from " ++ (decimal bay.0 ++ (codes " holder " ++ (decimal holder.0 ++ (codes " round " ++ decimal q))))))
 says d (HeldBy bay q) = codes "held " ++ (decimal bay.0 ++ (codes " round " ++ decimal q))
 says d (UnderWay r) = codes "underway " ++ decimal r
 says d There = codes "there"
@@ -65,8 +65,8 @@ outcome_rows p d o = (p ++ says d o) ∷ reading_rows p d o
 
 abbrev pub message_says : Message → List ℕ
 message_says x = codes "send "
-  ++ (decimal x.number ++ (codes " "
-  ++ (message_name x.kind ++ (codes " " ++ (decimal x.to ++ (codes " " ++ decimal x.round))))))
+    ++ (decimal x.number ++ (codes " "
+    ++ (message_name x.kind ++ (codes " " ++ (decimal x.to ++ (codes " " ++ decimal x.round))))))
 
 abbrev pub message_row : ℕ → Message → List ℕ
 message_row i x = line_prefix i x.from ++ message_says x
@@ -95,12 +95,12 @@ four a b c e = append_assoc (a ++ b) c e ∙ append_assoc a b (c ++ e)
 
 six : (a b c e f g : List ℕ) → a ++ b ++ c ++ e ++ f ++ g ≡ a ++ (b ++ (c ++ (e ++ (f ++ g))))
 six a b c e f g = append_assoc (a ++ b ++ c ++ e) f g ∙ append_assoc (a ++ b ++ c) e (f ++ g)
-  ∙ four a b c (e ++ (f ++ g))
+    ∙ four a b c (e ++ (f ++ g))
 
 eight : (a b c e f g h k : List ℕ) → a ++ b ++ c ++ e ++ f ++ g ++ h ++ k
-  ≡ a ++ (b ++ (c ++ (e ++ (f ++ (g ++ (h ++ k))))))
+    ≡ a ++ (b ++ (c ++ (e ++ (f ++ (g ++ (h ++ k))))))
 eight a b c e f g h k = append_assoc (a ++ b ++ c ++ e ++ f ++ g) h k ∙ append_assoc (a ++ b ++ c ++ e ++ f) g (h ++ k)
-  ∙ six a b c e f (g ++ (h ++ k))
+    ∙ six a b c e f (g ++ (h ++ k))
 
 closed_append : (xs ys : List (List ℕ)) → closed (xs ++ ys) ≡ closed xs ++ closed ys
 closed_append xs ys = flat_map-append (λ (r : List ℕ). r ++ codes "\n") xs ys
@@ -116,47 +116,47 @@ op_is : (d : Diagram) (op : Op) → operation d op ≡ op_says d op.direction op
 op_is d op = append_assoc (direction_name op.direction) (codes " ") (switch_path d op.switch.0)
 
 granted_is : (d : Diagram) (r : ℕ) (op : Op) → codes "granted " ++ decimal r ++ codes " " ++ operation d op ≡ says d
-  (Granted r op)
+    (Granted r op)
 granted_is d r op = four (codes "granted ") (decimal r) (codes " ") (operation d op)
-  ∙ ap (λ (t : List ℕ). codes "granted " ++ (decimal r ++ (codes " " ++ t))) (op_is d op)
+    ∙ ap (λ (t : List ℕ). codes "granted " ++ (decimal r ++ (codes " " ++ t))) (op_is d op)
 
 denied_is : (d : Diagram) (r : ℕ) (op : Op) (rule : Rule) (v : List Bool) →
-  codes "denied " ++ decimal r ++ codes " " ++ rule_name rule ++ codes " " ++ operation d op ≡ says d
-  (Denied r op rule v)
+    codes "denied " ++ decimal r ++ codes " " ++ rule_name rule ++ codes " " ++ operation d op ≡ says d
+    (Denied r op rule v)
 denied_is d r op rule v = six (codes "denied ") (decimal r) (codes " ") (rule_name rule) (codes " ") (operation d op)
-  ∙ ap (λ (t : List ℕ). codes "denied " ++ (decimal r ++ (codes " " ++ (rule_name rule ++ (codes " " ++ t)))))
-  (op_is d op)
+    ∙ ap (λ (t : List ℕ). codes "denied " ++ (decimal r ++ (codes " " ++ (rule_name rule ++ (codes " " ++ t)))))
+    (op_is d op)
 
 chosen : (b c : Bool) (p t : List ℕ) → (if b then [] else if c then line p t else []) ≡ closed
-  (if b then [] else if c then (p ++ t) ∷ [] else [])
+    (if b then [] else if c then (p ++ t) ∷ [] else [])
 chosen true c p t = refl
 chosen false true p t = one_closed p t
 chosen false false p t = refl
 
 with_closed : (p : List ℕ) (d : Diagram) (v : List Bool) (moved n : ℕ) → texts_below (with_line p d v moved) n ≡ closed
-  (with_rows p d v moved n)
+    (with_rows p d v moved n)
 with_closed p d v moved zero = refl
 with_closed p d v moved (suc n) =
     ap (λ (t : List ℕ). t ++ with_line p d v moved n) (with_closed p d v moved n)
     ∙ ap (λ (t : List ℕ). closed (with_rows p d v moved n) ++ t) (chosen (n == moved) (slice_index_or v n false) p
-      (codes "with " ++ switch_path d n))
+    (codes "with " ++ switch_path d n))
     ∙ sym (closed_append (with_rows p d v moved n) (with_row p d v moved n))
 
 outcome_closed : (p : List ℕ) (d : Diagram) (o : Outcome) → outcome_lines p d o ≡ closed (outcome_rows p d o)
 outcome_closed p d (Collecting r) = one_closed p (says d (Collecting r))
 outcome_closed p d (Granted r op) = said_closed p (codes "granted " ++ decimal r ++ codes " " ++ operation d op)
-  (says d (Granted r op)) (granted_is d r op)
+    (says d (Granted r op)) (granted_is d r op)
 outcome_closed p d (Denied r op rule v) =
     ap (λ (t : List ℕ). line p t ++ texts_below (with_line p d v op.switch.0) (length d.switches))
-      (denied_is d r op rule v)
+    (denied_is d r op rule v)
     ∙ ap (λ (t : List ℕ). line p (says d (Denied r op rule v)) ++ t) (with_closed p d v op.switch.0 (length d.switches))
 outcome_closed p d (BusyBy r bay holder q) =
     said_closed p (codes "busy " ++ decimal r ++ codes " from " ++ decimal bay.0 ++ codes " holder " ++ decimal holder.0
-      ++ codes " round " ++ decimal q) (says d (BusyBy r bay holder q))
+    ++ codes " round " ++ decimal q) (says d (BusyBy r bay holder q))
     (eight (codes "busy ") (decimal r) (codes " from ") (decimal bay.0) (codes " holder ") (decimal holder.0)
-      (codes " round ") (decimal q))
+    (codes " round ") (decimal q))
 outcome_closed p d (HeldBy bay q) = said_closed p (codes "held " ++ decimal bay.0 ++ codes " round " ++ decimal q)
-  (says d (HeldBy bay q)) (four (codes "held ") (decimal bay.0) (codes " round ") (decimal q))
+    (says d (HeldBy bay q)) (four (codes "held ") (decimal bay.0) (codes " round ") (decimal q))
 outcome_closed p d (UnderWay r) = one_closed p (says d (UnderWay r))
 outcome_closed p d There = one_closed p (says d There)
 outcome_closed p d Spent = one_closed p (says d Spent)
@@ -171,7 +171,7 @@ messages_closed i (x ∷ xs) =
     ap (λ (t : List ℕ). message_line i x ++ t) (messages_closed i xs)
     ∙ ap (λ (t : List ℕ). line (line_prefix i x.from) t ++ closed (message_rows i xs))
     (eight (codes "send ") (decimal x.number) (codes " ") (message_name x.kind) (codes " ") (decimal x.to) (codes " ")
-      (decimal x.round))
+    (decimal x.round))
 
 shown_closed : (d : Diagram) (i : ℕ) (s : Shown) → shown_lines d i s ≡ closed (shown_rows d i s)
 shown_closed d i s =
@@ -180,7 +180,7 @@ shown_closed d i s =
     ∙ sym (closed_append (outcome_rows (line_prefix i s.bay) d s.outcome) (message_rows i s.messages))
 
 all_closed : (d : Diagram) (k : ℕ) (out : List Shown) → flat_map (λ (p : ℕ × Shown). shown_lines d p.0 p.1)
-  (enumerate_from k out) ≡ closed (all_rows d k out)
+    (enumerate_from k out) ≡ closed (all_rows d k out)
 all_closed d k [] = refl
 all_closed d k (s ∷ out) =
     ap (λ (t : List ℕ). shown_lines d k s ++ t) (all_closed d (k + 1) out)

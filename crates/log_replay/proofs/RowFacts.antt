@@ -53,7 +53,7 @@ prefix_is i b t =
 
 whole_row : (i b : ℕ) (t : List ℕ) → IsNumber i → IsNumber b → IsRow t → IsRow (line_prefix i b ++ t)
 whole_row i b t few less row = ap (free 10) (prefix_is i b t) ∙ two_row i (32 ∷ (decimal b ++ 32 ∷ t)) few
-  (two_row b (32 ∷ t) less row)
+    (two_row b (32 ∷ t) less row)
 
 direction_row : (x : Direction) (t : List ℕ) → IsRow t → IsRow (direction_name x ++ t)
 direction_row ToOff t row = row
@@ -77,13 +77,13 @@ op_row d x i paths = direction_row x (codes " " ++ switch_path d i) (path_row d 
 says_row : (d : Diagram) (o : Outcome) → PathsAreLines d → AreNumbers o → IsRow (says d o)
 says_row d (Collecting r) paths n = number_row r n
 says_row d (Granted r op) paths n = two_row r (codes " " ++ op_says d op.direction op.switch.0) n
-  (op_row d op.direction op.switch.0 paths)
+    (op_row d op.direction op.switch.0 paths)
 says_row d (Denied r op rule v) paths n =
     two_row r (codes " " ++ (rule_name rule ++ (codes " " ++ op_says d op.direction op.switch.0))) n
     (rule_row rule (codes " " ++ op_says d op.direction op.switch.0) (op_row d op.direction op.switch.0 paths))
 says_row d (BusyBy r bay holder q) paths n =
     two_row r (codes " from "
-      ++ (decimal bay.0 ++ (codes " holder " ++ (decimal holder.0 ++ (codes " round " ++ decimal q))))) n.0
+    ++ (decimal bay.0 ++ (codes " holder " ++ (decimal holder.0 ++ (codes " round " ++ decimal q))))) n.0
     (two_row bay.0 (codes " holder " ++ (decimal holder.0 ++ (codes " round " ++ decimal q))) n.1
     (two_row holder.0 (codes " round " ++ decimal q) n.2 (number_row q n.3)))
 says_row d (HeldBy bay q) paths n = two_row bay.0 (codes " round " ++ decimal q) n.0 (number_row q n.1)
@@ -98,7 +98,7 @@ says_row d Quiet paths n = refl
 message_says_row : (x : Message) → IsNumbered x → IsRow (message_says x)
 message_says_row x n =
     two_row x.number (codes " "
-      ++ (message_name x.kind ++ (codes " " ++ (decimal x.to ++ (codes " " ++ decimal x.round))))) n.number
+    ++ (message_name x.kind ++ (codes " " ++ (decimal x.to ++ (codes " " ++ decimal x.round))))) n.number
     (kind_row x.kind (codes " " ++ (decimal x.to ++ (codes " " ++ decimal x.round)))
     (two_row x.to (codes " " ++ decimal x.round) n.to (number_row x.round n.round)))
 
@@ -106,8 +106,8 @@ message_says_row x n =
 
 -- a property of the rows of the switches that are closed in a reading
 with_one : (P : List ℕ → Type 0) (p : List ℕ) (d : Diagram) (v : List Bool) (moved i : ℕ) →
-  (i ≢ moved → slice_index_or v i false ≡ true → P (p ++ (codes "with " ++ switch_path d i))) →
-  Each P (with_row p d v moved i)
+    (i ≢ moved → slice_index_or v i false ≡ true → P (p ++ (codes "with " ++ switch_path d i))) →
+    Each P (with_row p d v moved i)
 with_one P p d v moved i has = elim (eqb_tells i moved) [
   | inl e ↦ rw e.0 tt
   | inr e ↦ elim (cases_Bool (slice_index_or v i false)) [
@@ -117,8 +117,8 @@ with_one P p d v moved i has = elim (eqb_tells i moved) [
 ]
 
 pub with_each : (P : List ℕ → Type 0) (p : List ℕ) (d : Diagram) (v : List Bool) (moved n : ℕ) →
-  ((i : ℕ) → i < n → i ≢ moved → slice_index_or v i false ≡ true → P (p ++ (codes "with " ++ switch_path d i))) →
-  Each P (with_rows p d v moved n)
+    ((i : ℕ) → i < n → i ≢ moved → slice_index_or v i false ≡ true → P (p ++ (codes "with " ++ switch_path d i))) →
+    Each P (with_rows p d v moved n)
 with_each P p d v moved zero has = tt
 with_each P p d v moved (suc n) has = each_append P (with_rows p d v moved n) (with_row p d v moved n)
     (with_each P p d v moved n (λ i less. has i (omega (arith, less))))
@@ -126,11 +126,11 @@ with_each P p d v moved (suc n) has = each_append P (with_rows p d v moved n) (w
 
 -- a property of all rows of an outcome
 pub outcome_each : (P : List ℕ → Type 0) (p : List ℕ) (d : Diagram) (o : Outcome) → P (p ++ says d o) →
-  ((i : ℕ) → P (p ++ (codes "with " ++ switch_path d i))) → Each P (outcome_rows p d o)
+    ((i : ℕ) → P (p ++ (codes "with " ++ switch_path d i))) → Each P (outcome_rows p d o)
 outcome_each P p d (Collecting r) has others = (has, tt)
 outcome_each P p d (Granted r op) has others = (has, tt)
 outcome_each P p d (Denied r op rule v) has others =
-  (has, with_each P p d v op.switch.0 (length d.switches) (λ i less differ closed. others i))
+    (has, with_each P p d v op.switch.0 (length d.switches) (λ i less differ closed. others i))
 outcome_each P p d (BusyBy r bay holder q) has others = (has, tt)
 outcome_each P p d (HeldBy bay q) has others = (has, tt)
 outcome_each P p d (UnderWay r) has others = (has, tt)
@@ -143,13 +143,13 @@ outcome_each P p d Quiet has others = tt
 
 -- a property of the rows of messages
 pub messages_each : (P : List ℕ → Type 0) (Q : Message → Type 0) (i : ℕ) (xs : List Message) →
-  ((x : Message) → Q x → P (message_row i x)) → All Q xs → Each P (message_rows i xs)
+    ((x : Message) → Q x → P (message_row i x)) → All Q xs → Each P (message_rows i xs)
 messages_each P Q i [] has all = tt
 messages_each P Q i (x ∷ xs) has all =
-  (has x (all 0 x (omega arith)), messages_each P Q i xs has (λ k d less. all (suc k) d (omega (arith, less))))
+    (has x (all 0 x (omega arith)), messages_each P Q i xs has (λ k d less. all (suc k) d (omega (arith, less))))
 
 shown_row : (d : Diagram) (i : ℕ) (s : Shown) → PathsAreLines d → IsNumber i → IsShowable d s →
-  Each IsRow (shown_rows d i s)
+    Each IsRow (shown_rows d i s)
 shown_row d i s paths few is =
     let p = line_prefix i s.bay in
     each_append IsRow (outcome_rows p d s.outcome) (message_rows i s.messages)
@@ -157,10 +157,10 @@ shown_row d i s paths few is =
     (whole_row i s.bay (says d s.outcome) few is.bay (says_row d s.outcome paths is.numbers))
     (λ j. whole_row i s.bay (codes "with " ++ switch_path d j) few is.bay (path_row d j paths)))
     (messages_each IsRow IsNumbered i s.messages (λ x n. whole_row i x.from (message_says x) few n.from
-      (message_says_row x n)) is.messages)
+    (message_says_row x n)) is.messages)
 
 pub all_row : (d : Diagram) (k : ℕ) (out : List Shown) → PathsAreLines d → k + length out < 2 ^ 32 →
-  All (IsShowable d) out → Each IsRow (all_rows d k out)
+    All (IsShowable d) out → Each IsRow (all_rows d k out)
 all_row d k [] paths few all = tt
 all_row d k (s ∷ out) paths few all =
     each_append IsRow (shown_rows d k s) (all_rows d (k + 1) out)
@@ -175,4 +175,4 @@ last_row (Some broken) count few = tt
 
 pub prefix_cut : (i b : ℕ) (t : List ℕ) → IsNumber i → cut 32 (line_prefix i b ++ t) ≡ (decimal i, decimal b ++ 32 ∷ t)
 prefix_cut i b t few = ap (cut 32) (prefix_is i b t) ∙ cut_at 32 (decimal i) (decimal b ++ 32 ∷ t)
-  (decimal_free 32 i no_blank (wide i few))
+    (decimal_free 32 i no_blank (wide i few))

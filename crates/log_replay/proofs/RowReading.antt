@@ -62,11 +62,11 @@ first_of_row i b t few = ap (λ (p : List ℕ × List ℕ). p.0) (prefix_cut i b
 
 pub said_of_row : (i b : ℕ) (t : List ℕ) → IsNumber i → IsNumber b → said (line_prefix i b ++ t) ≡ t
 said_of_row i b t few less = ap (λ (p : List ℕ × List ℕ). behind p.1) (prefix_cut i b t few)
-  ∙ ap (λ (p : List ℕ × List ℕ). p.1) (number_cut b t less)
+    ∙ ap (λ (p : List ℕ × List ℕ). p.1) (number_cut b t less)
 
 pub bay_of_row : (i b : ℕ) (t : List ℕ) → IsNumber i → IsNumber b → bay_in (line_prefix i b ++ t) ≡ b
 bay_of_row i b t few less = ap (λ (p : List ℕ × List ℕ). number_in (first p.1)) (prefix_cut i b t few)
-  ∙ ap (λ (p : List ℕ × List ℕ). number_in p.0) (number_cut b t less) ∙ number_is b less
+    ∙ ap (λ (p : List ℕ × List ℕ). number_in p.0) (number_cut b t less) ∙ number_is b less
 
 -- ---- switches by their paths
 
@@ -75,12 +75,12 @@ place [] p = 0
 place (q ∷ qs) p = if bytes_eq q p then 0 else suc (place qs p)
 
 place_is : (qs : List (List ℕ)) (p : List ℕ) (i : ℕ) → slice_get qs i ≡ Some p → ((j : ℕ) → slice_get qs j ≡ Some p →
-  j ≡ i) → place qs p ≡ i
+    j ≡ i) → place qs p ≡ i
 place_is [] p i at only = absurd (cc at)
 place_is (q ∷ qs) p zero at only = let same : q ≡ p = cc at in rw ((bytes_eq-Decides q p).1 same) refl
 place_is (q ∷ qs) p (suc i) at only = elim (cases_Bool (bytes_eq q p)) [
   | inl e ↦ absurd (let here : 0 ≡ suc i = only 0 (ap (λ (x : List ℕ). Some x) ((bytes_eq-Decides q p).0 e)) in
-    omega (arith, here))
+      omega (arith, here))
   | inr e ↦ rw e (ap suc (place_is qs p i at (λ j got. let it : suc j ≡ suc i = only (suc j) got in omega (arith, it))))
 ]
 
@@ -90,13 +90,13 @@ get_is (x ∷ xs) zero d less = refl
 get_is (x ∷ xs) (suc i) d less = get_is xs i d (omega (arith, less))
 
 path_at : (d : Diagram) → IsStation d → (i : ℕ) → i < length d.switches →
-  slice_get d.switch_paths i ≡ Some (switch_path d i)
+    slice_get d.switch_paths i ≡ Some (switch_path d i)
 path_at d station i less = let same = station.items.paths in get_is d.switch_paths i [] (omega (arith, less, same))
 
 one_path : (d : Diagram) → IsStation d → (i j : ℕ) → i < length d.switches → j < length d.switches →
-  switch_path d i ≡ switch_path d j → i ≡ j
+    switch_path d i ≡ switch_path d j → i ≡ j
 one_path d station i j first second same = station.paths_differ.switches i j (switch_path d i)
-  (path_at d station i first) (path_at d station j second ∙ ap (λ (p : List ℕ). Some p) (sym same))
+    (path_at d station i first) (path_at d station j second ∙ ap (λ (p : List ℕ). Some p) (sym same))
 
 place_of : (d : Diagram) → IsStation d → (i : ℕ) → i < length d.switches → place d.switch_paths (switch_path d i) ≡ i
 place_of d station i less = place_is d.switch_paths (switch_path d i) i (path_at d station i less)
@@ -111,14 +111,14 @@ abbrev pub read_op : Diagram → List ℕ → Op
 read_op d t = record { switch = record { 0 = place d.switch_paths (behind t) }; direction = read_direction (first t) }
 
 op_by : (d : Diagram) → IsStation d → (i : ℕ) (x : Direction) → i < length d.switches →
-  read_op d (op_says d x i) ≡ record { switch = record { 0 = i }; direction = x }
+    read_op d (op_says d x i) ≡ record { switch = record { 0 = i }; direction = x }
 op_by d station i ToOff less = ap (λ (k : ℕ). let op : Op = record { switch = record { 0 = k }; direction = ToOff } in
-  op) (place_of d station i less)
+    op) (place_of d station i less)
 op_by d station i ToOn less = ap (λ (k : ℕ). let op : Op = record { switch = record { 0 = k }; direction = ToOn } in op)
-  (place_of d station i less)
+    (place_of d station i less)
 
 op_read : (d : Diagram) → IsStation d → (op : Op) → op.switch.0 < length d.switches →
-  read_op d (op_says d op.direction op.switch.0) ≡ op
+    read_op d (op_says d op.direction op.switch.0) ≡ op
 op_read d station op less = op_by d station op.switch.0 op.direction less
 
 abbrev pub read_rule : List ℕ → Rule
@@ -149,7 +149,7 @@ any_first p [] ys is = absurd (cc is)
 any_first p (x ∷ xs) ys is = elim (cases_Bool (p x)) [
   | inl e ↦ rw e refl
   | inr e ↦ let rest : any_row p xs ≡ true = sym (ap (λ (b : Bool). if b then true else any_row p xs) e) ∙ is in
-    rw e (any_first p xs ys rest)
+      rw e (any_first p xs ys rest)
 ]
 
 any_last : (p : List ℕ → Bool) (xs ys : List (List ℕ)) → any_row p ys ≡ true → any_row p (xs ++ ys) ≡ true
@@ -164,14 +164,14 @@ abbrev pub names : Diagram → ℕ → List ℕ → Bool
 names d i r = bytes_eq (behind (said r)) (switch_path d i)
 
 with_any : (q : List ℕ → Bool) (p : List ℕ) (d : Diagram) (v : List Bool) (moved i n : ℕ) → i < n → i ≢ moved →
-  slice_index_or v i false ≡ true → q (p ++ (codes "with " ++ switch_path d i)) ≡ true →
-  any_row q (with_rows p d v moved n) ≡ true
+    slice_index_or v i false ≡ true → q (p ++ (codes "with " ++ switch_path d i)) ≡ true →
+    any_row q (with_rows p d v moved n) ≡ true
 with_any q p d v moved i zero less differ closed is = absurd (omega (arith, less))
 with_any q p d v moved i (suc n) less differ closed is = elim (eqb_tells i n) [
   | inl e ↦ any_last q (with_rows p d v moved n) (with_row p d v moved n)
-    (subst (λ (k : ℕ). any_row q (with_row p d v moved k) ≡ true) e.1 here)
+      (subst (λ (k : ℕ). any_row q (with_row p d v moved k) ≡ true) e.1 here)
   | inr e ↦ let below : i < n = omega (arith, less, e.1) in any_first q (with_rows p d v moved n)
-    (with_row p d v moved n) (with_any q p d v moved i n below differ closed is)
+      (with_row p d v moved n) (with_any q p d v moved i n below differ closed is)
 ]
   where
     here : any_row q (with_row p d v moved i) ≡ true
@@ -181,17 +181,17 @@ with_any q p d v moved i (suc n) less differ closed is = elim (eqb_tells i n) [
     ]
 
 names_row : (d : Diagram) (k b i j : ℕ) → IsNumber k → IsNumber b →
-  names d i (line_prefix k b ++ (codes "with " ++ switch_path d j)) ≡ bytes_eq (switch_path d j) (switch_path d i)
+    names d i (line_prefix k b ++ (codes "with " ++ switch_path d j)) ≡ bytes_eq (switch_path d j) (switch_path d i)
 names_row d k b i j few less = ap (λ (t : List ℕ). bytes_eq (behind t) (switch_path d i))
-  (said_of_row k b (codes "with " ++ switch_path d j) few less)
+    (said_of_row k b (codes "with " ++ switch_path d j) few less)
 
 pub reading_at : (d : Diagram) → IsStation d → (k b : ℕ) (v : List Bool) (moved i : ℕ) → IsNumber k → IsNumber b →
-  slice_index_or v moved false ≡ false → i < length d.switches →
-  any_row (names d i) (with_rows (line_prefix k b) d v moved (length d.switches)) ≡ slice_index_or v i false
+    slice_index_or v moved false ≡ false → i < length d.switches →
+    any_row (names d i) (with_rows (line_prefix k b) d v moved (length d.switches)) ≡ slice_index_or v i false
 reading_at d station k b v moved i few less unmoved within = elim (cases_Bool (slice_index_or v i false)) [
   | inl e ↦ with_any (names d i) (line_prefix k b) d v moved i (length d.switches) within
       (λ same. let off : slice_index_or v i false ≡ false = ap (λ (j : ℕ). slice_index_or v j false) same ∙ unmoved in
-        absurd (cc (e, off)))
+      absurd (cc (e, off)))
       e (names_row d k b i i few less ∙ (bytes_eq-Decides (switch_path d i) (switch_path d i)).1 refl) ∙ sym e
   | inr e ↦ none_any (names d i) (with_rows (line_prefix k b) d v moved (length d.switches))
       (with_each (λ (r : List ℕ). names d i r ≡ false) (line_prefix k b) d v moved (length d.switches)
@@ -199,25 +199,25 @@ reading_at d station k b v moved i few less unmoved within = elim (cases_Bool (s
 ]
   where
     other : (j : ℕ) → j < length d.switches → slice_index_or v j false ≡ true → slice_index_or v i false ≡ false →
-      bytes_eq (switch_path d j) (switch_path d i) ≡ false
+        bytes_eq (switch_path d j) (switch_path d i) ≡ false
     other j under closed off = elim (cases_Bool (bytes_eq (switch_path d j) (switch_path d i))) [
       | inl f ↦
           let same : j ≡ i = one_path d station j i under within
-            ((bytes_eq-Decides (switch_path d j) (switch_path d i)).0 f) in
+          ((bytes_eq-Decides (switch_path d j) (switch_path d i)).0 f) in
           let on : slice_index_or v i false ≡ true = ap (λ (m : ℕ). slice_index_or v m false) (sym same) ∙ closed in
-            absurd (cc (on, off))
+          absurd (cc (on, off))
       | inr f ↦ f
     ]
 
 pub listed_is : (n : ℕ) (v : List Bool) (f : ℕ → Bool) → length v ≡ n →
-  ((i : ℕ) → i < n → f i ≡ slice_index_or v i false) → listed f n ≡ v
+    ((i : ℕ) → i < n → f i ≡ slice_index_or v i false) → listed f n ≡ v
 listed_is zero [] f long each = refl
 listed_is zero (x ∷ v) f long each = absurd (omega (arith, long))
 listed_is (suc n) [] f long each = absurd (omega (arith, long))
 listed_is (suc n) (x ∷ v) f long each =
     ap (λ (b : Bool). b ∷ listed (λ (i : ℕ). f (suc i)) n) (each 0 (omega arith))
     ∙ ap (λ (w : List Bool). x ∷ w) (listed_is n v (λ (i : ℕ). f (suc i)) (omega (arith, long))
-      (λ i less. each (suc i) (omega (arith, less))))
+    (λ i less. each (suc i) (omega (arith, less))))
 
 abbrev pub read_vector : Diagram → List (List ℕ) → List Bool
 read_vector d rs = listed (λ (i : ℕ). any_row (names d i) rs) (length d.switches)
@@ -233,9 +233,9 @@ reading_of (Denied r op rule v) = v
 reading_of o = []
 
 pub unmoved_off : (r : ℕ) (op : Op) (rule : Rule) (v : List Bool) → shown (Denied r op rule v) ≡ Denied r op rule v →
-  slice_index_or v op.switch.0 false ≡ false
+    slice_index_or v op.switch.0 false ≡ false
 unmoved_off r op rule v is = sym (ap (λ (o : Outcome). slice_index_or (reading_of o) op.switch.0 false) is)
-  ∙ set_same v op.switch.0
+    ∙ set_same v op.switch.0
 
 -- ---- outcomes
 
@@ -245,11 +245,11 @@ read_outcome d w t v =
     if bytes_eq w (codes "collecting") then Collecting (number_in t)
     else if bytes_eq w (codes "granted") then Granted (number_in (first t)) (read_op d (behind t))
     else if bytes_eq w (codes "denied") then Denied (number_in (first t)) (read_op d (behind (behind t)))
-      (read_rule (first (behind t))) v
+    (read_rule (first (behind t))) v
     else if bytes_eq w (codes "busy") then BusyBy (number_in (first t))
-      (record { 0 = number_in (first (behind (behind t))) })
-      (record { 0 = number_in (first (behind (behind (behind (behind t))))) })
-      (number_in (behind (behind (behind (behind (behind (behind t)))))))
+    (record { 0 = number_in (first (behind (behind t))) })
+    (record { 0 = number_in (first (behind (behind (behind (behind t))))) })
+    (number_in (behind (behind (behind (behind (behind (behind t)))))))
     else if bytes_eq w (codes "held") then HeldBy (record { 0 = number_in (first t) }) (number_in (behind (behind t)))
     else if bytes_eq w (codes "underway") then UnderWay (number_in t)
     else if bytes_eq w (codes "there") then There
@@ -259,19 +259,29 @@ read_outcome d w t v =
     else Stopped (number_in t)
 
 pub granted_read : (d : Diagram) → IsStation d → (r : ℕ) (op : Op) → IsNumber r → op.switch.0 < length d.switches →
-  Granted (number_in (first (decimal r ++ 32 ∷ op_says d op.direction op.switch.0)))
-  (read_op d (behind (decimal r ++ 32 ∷ op_says d op.direction op.switch.0))) ≡ Granted r op
-granted_read d station r op few fits = rw (number_first r (op_says d op.direction op.switch.0) few, number_behind r
-  (op_says d op.direction op.switch.0) few, op_read d station op fits) refl
+    Granted (number_in (first (decimal r ++ 32 ∷ op_says d op.direction op.switch.0)))
+    (read_op d (behind (decimal r ++ 32 ∷ op_says d op.direction op.switch.0))) ≡ Granted r op
+granted_read d station r op few fits = rw (
+  number_first r (op_says d op.direction op.switch.0) few,
+  number_behind r
+      (op_says d op.direction op.switch.0) few,
+  op_read d station op fits,
+) refl
 
 pub denied_read : (d : Diagram) → IsStation d → (r : ℕ) (op : Op) (rule : Rule) (v : List Bool) (t : List ℕ) →
-  t ≡ decimal r ++ 32 ∷ (rule_name rule ++ 32 ∷ op_says d op.direction op.switch.0) → IsNumber r →
-  op.switch.0 < length d.switches → Denied (number_in (first t)) (read_op d (behind (behind t)))
-  (read_rule (first (behind t))) v ≡ Denied r op rule v
+    t ≡ decimal r ++ 32 ∷ (rule_name rule ++ 32 ∷ op_says d op.direction op.switch.0) → IsNumber r →
+    op.switch.0 < length d.switches → Denied (number_in (first t)) (read_op d (behind (behind t)))
+    (read_rule (first (behind t))) v ≡ Denied r op rule v
 denied_read d station r op rule v t is few fits =
     let round : number_in (first t) ≡ r = ap (λ (x : List ℕ). number_in (first x)) is
-      ∙ number_first r (rule_name rule ++ 32 ∷ op_says d op.direction op.switch.0) few in
+    ∙ number_first r (rule_name rule ++ 32 ∷ op_says d op.direction op.switch.0) few in
     let rest : behind t ≡ rule_name rule ++ 32 ∷ op_says d op.direction op.switch.0 = ap behind is
-      ∙ number_behind r (rule_name rule ++ 32 ∷ op_says d op.direction op.switch.0) few in
-    rw (round, rest, rule_first rule (op_says d op.direction op.switch.0), rule_behind rule
-      (op_says d op.direction op.switch.0), op_read d station op fits) refl
+    ∙ number_behind r (rule_name rule ++ 32 ∷ op_says d op.direction op.switch.0) few in
+    rw (
+      round,
+      rest,
+      rule_first rule (op_says d op.direction op.switch.0),
+      rule_behind rule
+          (op_says d op.direction op.switch.0),
+      op_read d station op fits,
+    ) refl

@@ -39,11 +39,11 @@ since_open m start [] w c r op station laws run since = absurd since
 since_open m start (l ∷ before) w c r op station laws run (inl now) = rw now refl
 since_open m start (l ∷ before) w c r op station laws run (inr (earlier, ends)) =
     let was : open_of before c ≡ Some (grant r op) =
-        since_open m start before run.0 c r op station laws run.1 earlier in
+    since_open m start before run.0 c r op station laws run.1 earlier in
     let is = run_is m start before run.0 station laws run.1 in
     let none : (p : Opened) → ¬ IsVerdictOn (of_bay l.shown c) p = λ p d.
     let idle = idle_at m before l run.0 w c p is.facts.rounds is.links.said run.2
-        ((decides_well m start l before w station laws run).no_other c p d) in
+    ((decides_well m start l before w station laws run).no_other c p d) in
     let shut = (is.links.nodes c).granted in
     absurd (cc (was, sym shut ∙ idle)) in
     ap (λ (g : Option Grant). open_after (of_bay l.shown c) g) was ∙ stays_open (of_bay l.shown c) r op none ends
@@ -58,5 +58,8 @@ obeys_since m start lines w station laws run c r op v since is = obeys_now m sta
 pub run_obeys : (m : Meaning) (start : List Bool) (lines : List Line) (w : Scene) → IsStation m.diagram → Laws m
     → Run m start lines w → AtEach (ObeysSince m.diagram start) lines
 run_obeys m start [] w station laws run = obeys_since m start [] w station laws run
-run_obeys m start (l ∷ before) w station laws run = (obeys_since m start
-    (l ∷ before) w station laws run, run_obeys m start before run.0 station laws run.1)
+run_obeys m start (l ∷ before) w station laws run = (
+  obeys_since m start
+      (l ∷ before) w station laws run,
+  run_obeys m start before run.0 station laws run.1,
+)

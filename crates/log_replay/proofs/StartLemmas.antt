@@ -15,64 +15,64 @@ use Rattle.log_replay.proofs.ReportLemmas.{take_next}
 -- ---- one switch
 
 or_first : (first before whole rest : Option Bool) → (before ≡ None → whole ≡ rest) → or_else first before ≡ None →
-  or_else first whole ≡ rest
+    or_else first whole ≡ rest
 or_first (Some closed) before whole rest tail is = absurd (cc is)
 or_first None before whole rest tail is = tail is
 
 told_after : (before : List LogEvent) (e : LogEvent) (rest : List LogEvent) (s : ℕ) → told_at before s ≡ None →
-  told_at (before ++ e ∷ rest) s ≡ or_else (told_by e s) (told_at rest s)
+    told_at (before ++ e ∷ rest) s ≡ or_else (told_by e s) (told_at rest s)
 told_after [] e rest s none = refl
 told_after (x ∷ before) e rest s none = or_first (told_by x s) (told_at before s) (told_at (before ++ e ∷ rest) s)
-  (or_else (told_by e s) (told_at rest s)) (told_after before e rest s) none
+    (or_else (told_by e s) (told_at rest s)) (told_after before e rest s) none
 
 whole_at : {X : Type 0} (xs : List X) (k : ℕ) (x : X) → slice_get xs k ≡ Some x → (rest : List X)
-  × (xs ≡ take k xs ++ x ∷ rest)
+    × (xs ≡ take k xs ++ x ∷ rest)
 whole_at [] k x at = absurd (cc at)
 whole_at {X} (y ∷ xs) zero x at = let same : y ≡ x = cc at in
-  (xs, ap (λ (z : X). let list : List X = z ∷ xs in list) same)
+    (xs, ap (λ (z : X). let list : List X = z ∷ xs in list) same)
 whole_at {X} (y ∷ xs) (suc k) x at = let it = whole_at xs k x at in (it.0, ap (λ (zs : List X). y ∷ zs) it.1)
 
 -- the first event that tells it
 pub told_first : (log : List LogEvent) (k : ℕ) (e : LogEvent) (s : ℕ) (closed : Bool) → told_at (take k log) s ≡ None →
-  slice_get log k ≡ Some e → told_by e s ≡ Some closed → told_at log s ≡ Some closed
+    slice_get log k ≡ Some e → told_by e s ≡ Some closed → told_at log s ≡ Some closed
 told_first log k e s closed none at tells =
     let whole = whole_at log k e at in
     ap (λ (es : List LogEvent). told_at es s) whole.1 ∙ told_after (take k log) e whole.0 s none
-      ∙ ap (λ (o : Option Bool). or_else o (told_at whole.0 s)) tells
+    ∙ ap (λ (o : Option Bool). or_else o (told_at whole.0 s)) tells
 
 -- an event that does not
 pub told_not : (log : List LogEvent) (k : ℕ) (e : LogEvent) (s : ℕ) → told_at (take k log) s ≡ None →
-  slice_get log k ≡ Some e → told_by e s ≡ None → told_at (take (k + 1) log) s ≡ None
+    slice_get log k ≡ Some e → told_by e s ≡ None → told_at (take (k + 1) log) s ≡ None
 told_not log k e s none at tells = ap (λ (es : List LogEvent). told_at es s) (take_next log k e at)
-  ∙ told_after (take k log) e [] s none ∙ ap (λ (o : Option Bool). or_else o None) tells
+    ∙ told_after (take k log) e [] s none ∙ ap (λ (o : Option Bool). or_else o None) tells
 
 -- what is told by an event at a place, if it is the first that tells it
 pub told_found : (log : List LogEvent) (k : ℕ) (e : LogEvent) (s : ℕ) (o : Option Bool) →
-  told_at (take k log) s ≡ None → slice_get log k ≡ Some e → o ≡ told_by e s → is_some o ≡ true → o ≡ told_at log s
+    told_at (take k log) s ≡ None → slice_get log k ≡ Some e → o ≡ told_by e s → is_some o ≡ true → o ≡ told_at log s
 told_found log k e s (Some closed) none at is some = sym (told_first log k e s closed none at (sym is))
 told_found log k e s None none at is some = absurd (cc some)
 
 pub told_missed : (log : List LogEvent) (k : ℕ) (e : LogEvent) (s : ℕ) (o : Option Bool) →
-  told_at (take k log) s ≡ None → slice_get log k ≡ Some e → o ≡ told_by e s → is_some o ≡ false →
-  told_at (take (k + 1) log) s ≡ None
+    told_at (take k log) s ≡ None → slice_get log k ≡ Some e → o ≡ told_by e s → is_some o ≡ false →
+    told_at (take (k + 1) log) s ≡ None
 told_missed log k e s (Some closed) none at is some = absurd (cc some)
 told_missed log k e s None none at is some = told_not log k e s none at (sym is)
 
 -- ---- how many tell it
 
 count_more : (log : List LogEvent) (k : ℕ) (e : LogEvent) → slice_get log k ≡ Some e →
-  at_count (take (k + 1) log) ≡ at_count (take k log) + cond (is_at e) 1 0
+    at_count (take (k + 1) log) ≡ at_count (take k log) + cond (is_at e) 1 0
 count_more log k e at = ap at_count (take_next log k e at)
-  ∙ fold-append (λ (n : ℕ) (x : LogEvent). n + cond (is_at x) 1 0) 0 (take k log) (e ∷ [])
+    ∙ fold-append (λ (n : ℕ) (x : LogEvent). n + cond (is_at x) 1 0) 0 (take k log) (e ∷ [])
 
 pub count_yes : (log : List LogEvent) (k : ℕ) (e : LogEvent) → slice_get log k ≡ Some e → is_at e ≡ true →
-  at_count (take (k + 1) log) ≡ at_count (take k log) + 1
+    at_count (take (k + 1) log) ≡ at_count (take k log) + 1
 count_yes log k e at is = count_more log k e at ∙ ap (λ (b : Bool). at_count (take k log) + cond b 1 0) is
 
 pub count_no : (log : List LogEvent) (k : ℕ) (e : LogEvent) → slice_get log k ≡ Some e → is_at e ≡ false →
-  at_count (take (k + 1) log) ≡ at_count (take k log)
+    at_count (take (k + 1) log) ≡ at_count (take k log)
 count_no log k e at is = let more = count_more log k e at ∙ ap (λ (b : Bool). at_count (take k log) + cond b 1 0) is in
-  omega (arith, more)
+    omega (arith, more)
 
 -- ---- all switches
 
@@ -83,7 +83,7 @@ pub record TellsSoFar (d : Diagram) (log : List LogEvent) (v : List Bool) (n : �
   pub some : (s : ℕ) → s < n → told_at log s ≢ None
 
 pub tells_nothing : (d : Diagram) (log : List LogEvent) (v : List Bool) → v ≡ replicate (length d.switches) false →
-  TellsSoFar d log v 0
+    TellsSoFar d log v 0
 tells_nothing d log v is = record {
   long = ap length is ∙ length-replicate (length d.switches) false;
   each = λ s lt. absurd (omega (arith, lt));
@@ -102,13 +102,13 @@ set_there (x ∷ v) (suc n) zero b lt = refl
 set_there (x ∷ v) (suc n) (suc s) b lt = set_there v n s b (omega (arith, lt))
 
 pub tells_more : (d : Diagram) (log : List LogEvent) (v : List Bool) (n : ℕ) (closed : Bool) → TellsSoFar d log v n →
-  n < length d.switches → told_at log n ≡ Some closed → TellsSoFar d log (slice_set v n closed) (n + 1)
+    n < length d.switches → told_at log n ≡ Some closed → TellsSoFar d log (slice_set v n closed) (n + 1)
 tells_more d log v n closed t lt tells = record {
   long = length-set v n closed ∙ t.long;
   each = λ s less. elim (cases s less) [
     | inl below ↦ set_there v n s closed below ∙ t.each s below
     | inr is ↦ ap (slice_get (slice_set v n closed)) is ∙ set_here v n closed (omega (arith, lt, t.long))
-      ∙ ap (λ (o : Option Bool). Some (unwrap_or o false)) (sym (ap (told_at log) is ∙ tells))
+        ∙ ap (λ (o : Option Bool). Some (unwrap_or o false)) (sym (ap (told_at log) is ∙ tells))
   ];
   some = λ s less none. elim (cases s less) [
     | inl below ↦ t.some s below none
@@ -120,20 +120,20 @@ tells_more d log v n closed t lt tells = record {
     cases s less = elim (cases_lt s n) [ inl below ↦ inl below | inr past ↦ inr (omega (arith, less, past)) ]
 
 same_list : (f : ℕ → Bool) (n : ℕ) (v : List Bool) → length v ≡ n → ((s : ℕ) → s < n → slice_get v s ≡ Some (f s)) →
-  v ≡ listed f n
+    v ≡ listed f n
 same_list f zero [] long each = refl
 same_list f zero (x ∷ v) long each = absurd (omega (arith, long))
 same_list f (suc n) [] long each = absurd (omega (arith, long))
 same_list f (suc n) (x ∷ v) long each =
     let first : x ≡ f zero = cc (each zero (omega arith)) in
     let rest : v ≡ listed (λ i. f (suc i)) n = same_list (λ i. f (suc i)) n v (omega (arith, long))
-      (λ s lt. each (suc s) (omega (arith, lt))) in
+    (λ s lt. each (suc s) (omega (arith, lt))) in
     λ i. first i ∷ rest i
 
 pub all_told : (d : Diagram) (log : List LogEvent) (v : List Bool) (n : ℕ) → TellsSoFar d log v n →
-  length d.switches ≡ n → (v ≡ start_of d log) × HasStart d log
+    length d.switches ≡ n → (v ≡ start_of d log) × HasStart d log
 all_told d log v n t all = (
   same_list (λ s. unwrap_or (told_at log s) false) (length d.switches) v t.long
-    (λ s lt. t.each s (omega (arith, lt, all))),
+      (λ s lt. t.each s (omega (arith, lt, all))),
   λ s lt. t.some s (omega (arith, lt, all)),
 )

@@ -48,99 +48,99 @@ StopOk g (Withdrawn r) = r ≡ g.round
 StopOk g outcome = ⊤
 
 so_ends : (g : Collection) (turn : Turn) (new : State) (o : Outcome) (fs : List Frame) → Ends turn new o fs →
-  StopOk g (shown o) → StopOk g (shown turn.outcome)
+    StopOk g (shown o) → StopOk g (shown turn.outcome)
 so_ends g turn new o fs end ok = subst (λ (x : Outcome). StopOk g (shown x)) (sym end.says) ok
 
 deciding_ok : (m : Meaning) (s : State) (h g : Collection) (turn : Turn) → Deciding m m.diagram s h turn →
-  StopOk g (shown turn.outcome)
+    StopOk g (shown turn.outcome)
 deciding_ok m s h g turn (Deciding.release verdict end) = so_ends g turn _ (Granted h.round h.op) _ end tt
 deciding_ok m s h g turn (Deciding.denial rule v verdict end) = so_ends g turn _ (Denied h.round h.op rule v) _ end tt
 
 same_round_of : (x : Option Collection) (g h : Collection) → x ≡ Some g → x ≡ Some h → g.round ≡ h.round
 same_round_of x g h a b = let e : Some g ≡ Some h = sym a ∙ b in let same : g ≡ h = cc e in
-  ap (λ (y : Collection). y.round) same
+    ap (λ (y : Collection). y.round) same
 
 command_ok : (m : Meaning) (s : State) (op : Op) (g : Collection) (turn : Turn) → s.collecting ≡ Some g →
-  CommandStep m m.diagram s op turn → StopOk g (shown turn.outcome)
+    CommandStep m m.diagram s op turn → StopOk g (shown turn.outcome)
 command_ok m s op g turn has (CommandStep.round_under_way q is end) = so_ends g turn _ (UnderWay q) _ end tt
 command_ok m s op g turn has (CommandStep.held l is lock end) = so_ends g turn _ (HeldBy l.holder l.round) _ end tt
 command_ok m s op g turn has (CommandStep.there free at end) = so_ends g turn _ There _ end tt
 command_ok m s op g turn has (CommandStep.spent free at top end) = so_ends g turn _ Spent _ end tt
 command_ok m s op g turn has (CommandStep.opens_round free at below (OpenStep.alone none deciding)) =
-  deciding_ok m _ _ g turn deciding
+    deciding_ok m _ _ g turn deciding
 command_ok m s op g turn has (CommandStep.opens_round free at below (OpenStep.reserves some end)) = let none =
-  idle_collecting s.collecting s.granted free.idle in absurd (cc (has, none))
+    idle_collecting s.collecting s.granted free.idle in absurd (cc (has, none))
 
 answer_ok : (m : Meaning) (s : State) (b r : ℕ) (summary : List ℕ) (g : Collection) (turn : Turn) →
-  AnswerStep m m.diagram s b r summary turn → StopOk g (shown turn.outcome)
+    AnswerStep m m.diagram s b r summary turn → StopOk g (shown turn.outcome)
 answer_ok m s b r summary g turn (AnswerStep.heard_one h has round fits all end) = so_ends g turn _ Quiet _ end tt
 answer_ok m s b r summary g turn (AnswerStep.heard_last h has round fits all deciding) =
-  deciding_ok m _ _ g turn deciding
+    deciding_ok m _ _ g turn deciding
 answer_ok m s b r summary g turn (AnswerStep.unfit h has round fits end) = so_ends g turn _ Quiet _ end tt
 answer_ok m s b r summary g turn (AnswerStep.other_round h has round end) = so_ends g turn _ Quiet _ end tt
 answer_ok m s b r summary g turn (AnswerStep.none_collected none end) = so_ends g turn _ Quiet _ end tt
 
 frame_ok : (m : Meaning) (s : State) (f : Frame) (g : Collection) (turn : Turn) → s.collecting ≡ Some g →
-  FrameStep m m.diagram s f turn → StopOk g (shown turn.outcome)
+    FrameStep m m.diagram s f turn → StopOk g (shown turn.outcome)
 frame_ok m s f g turn has (FrameStep.elsewhere differ end) = so_ends g turn _ Quiet _ end tt
 frame_ok m s f g turn has (FrameStep.stranger differ end) = so_ends g turn _ Quiet _ end tt
 frame_ok m s f g turn has (FrameStep.reserve meant body (ReserveStep.busy_itself q is end)) =
-  so_ends g turn _ Quiet _ end tt
+    so_ends g turn _ Quiet _ end tt
 frame_ok m s f g turn has (FrameStep.reserve meant body (ReserveStep.busy_locked l is lock differ end)) =
-  so_ends g turn _ Quiet _ end tt
+    so_ends g turn _ Quiet _ end tt
 frame_ok m s f g turn has (FrameStep.reserve meant body (ReserveStep.late l is lock same above end)) =
-  so_ends g turn _ Quiet _ end tt
+    so_ends g turn _ Quiet _ end tt
 frame_ok m s f g turn has (FrameStep.reserve meant body (ReserveStep.answers idle may a)) =
-  so_ends g turn _ Quiet _ a.end tt
+    so_ends g turn _ Quiet _ a.end tt
 frame_ok m s f g turn has (FrameStep.answer summary meant body step) =
-  answer_ok m s f.from.0 f.round summary g turn step
+    answer_ok m s f.from.0 f.round summary g turn step
 frame_ok m s f g turn has (FrameStep.busy holder q meant body (BusyStep.gives_up h got round end)) =
-  so_ends g turn _ (BusyBy f.round (record { 0 = f.from.0 }) holder q) _ end (sym round
-  ∙ same_round_of s.collecting h g got has)
+    so_ends g turn _ (BusyBy f.round (record { 0 = f.from.0 }) holder q) _ end (sym round
+    ∙ same_round_of s.collecting h g got has)
 frame_ok m s f g turn has (FrameStep.busy holder q meant body (BusyStep.other_round h got round end)) =
-  so_ends g turn _ Quiet _ end tt
+    so_ends g turn _ Quiet _ end tt
 frame_ok m s f g turn has (FrameStep.busy holder q meant body (BusyStep.none_collected none end)) =
-  so_ends g turn _ Quiet _ end tt
+    so_ends g turn _ Quiet _ end tt
 frame_ok m s f g turn has (FrameStep.query meant body (QueryStep.is_over low idle end)) =
-  so_ends g turn _ Quiet _ end tt
+    so_ends g turn _ Quiet _ end tt
 frame_ok m s f g turn has (FrameStep.query meant body (QueryStep.unknown_round above end)) =
-  so_ends g turn _ Quiet _ end tt
+    so_ends g turn _ Quiet _ end tt
 frame_ok m s f g turn has (FrameStep.query meant body (QueryStep.round_under_way is end)) =
-  so_ends g turn _ Quiet _ end tt
+    so_ends g turn _ Quiet _ end tt
 frame_ok m s f g turn has (FrameStep.over meant body (OverStep.unlocks_it l lock holder low end)) =
-  so_ends g turn _ Quiet _ end tt
+    so_ends g turn _ Quiet _ end tt
 frame_ok m s f g turn has (FrameStep.over meant body (OverStep.earlier_round l lock holder low end)) =
-  so_ends g turn _ Quiet _ end tt
+    so_ends g turn _ Quiet _ end tt
 frame_ok m s f g turn has (FrameStep.over meant body (OverStep.another_holder l lock holder end)) =
-  so_ends g turn _ Quiet _ end tt
+    so_ends g turn _ Quiet _ end tt
 frame_ok m s f g turn has (FrameStep.over meant body (OverStep.no_lock lock end)) = so_ends g turn _ Quiet _ end tt
 
 tick_ok : (m : Meaning) (s : State) (g : Collection) (turn : Turn) → TickStep m m.diagram s turn →
-  StopOk g (shown turn.outcome)
+    StopOk g (shown turn.outcome)
 tick_ok m s g turn (TickStep.decides h has deciding) = deciding_ok m _ _ g turn deciding
 tick_ok m s g turn (TickStep.asks l none lock end) = so_ends g turn _ Quiet _ end tt
 tick_ok m s g turn (TickStep.rests none lock end) = so_ends g turn _ Quiet _ end tt
 
 sense_ok : (m : Meaning) (s : State) (i : ℕ) (word : Dbpos) (g : Collection) (turn : Turn) →
-  SenseStep m.diagram s i word turn → StopOk g (shown turn.outcome)
+    SenseStep m.diagram s i word turn → StopOk g (shown turn.outcome)
 sense_ok m s i word g turn (SenseStep.finishes h at end) = so_ends g turn _ (Finished h.round) _ end tt
 sense_ok m s i word g turn (SenseStep.reads never end) = so_ends g turn _ Quiet _ end tt
 
 withdraw_ok : (m : Meaning) (s : State) (g : Collection) (turn : Turn) → s.collecting ≡ Some g →
-  WithdrawStep m.diagram s turn → StopOk g (shown turn.outcome)
+    WithdrawStep m.diagram s turn → StopOk g (shown turn.outcome)
 withdraw_ok m s g turn has (WithdrawStep.from_round h got end) = so_ends g turn _ (Withdrawn h.round) _ end
-  (same_round_of s.collecting h g got has)
+    (same_round_of s.collecting h g got has)
 withdraw_ok m s g turn has (WithdrawStep.from_grant h none got end) = absurd (cc (has, none))
 withdraw_ok m s g turn has (WithdrawStep.no_round idle end) = so_ends g turn _ Quiet _ end tt
 
 cut_ok : (m : Meaning) (s : State) (i : ℕ) (g : Collection) (turn : Turn) → CutStep m.diagram s i turn →
-  StopOk g (shown turn.outcome)
+    StopOk g (shown turn.outcome)
 cut_ok m s i g turn (CutStep.stops h has at end) = so_ends g turn _ (Stopped h.round) _ end tt
 cut_ok m s i g turn (CutStep.other_switch h has other end) = so_ends g turn _ Quiet _ end tt
 cut_ok m s i g turn (CutStep.no_grant none end) = so_ends g turn _ Quiet _ end tt
 
 step_ok : (m : Meaning) (s : State) (e : NodeEvent) (g : Collection) (turn : Turn) → s.collecting ≡ Some g →
-  Step m m.diagram s e turn → StopOk g (shown turn.outcome)
+    Step m m.diagram s e turn → StopOk g (shown turn.outcome)
 step_ok m s (Commanded op) g turn has step = command_ok m s op g turn has step
 step_ok m s (Sensing i word) g turn has step = sense_ok m s i.0 word g turn step
 step_ok m s (Arrival f) g turn has step = frame_ok m s f g turn has step
@@ -150,23 +150,25 @@ step_ok m s Restarting g turn has end = so_ends g turn _ Quiet _ end tt
 step_ok m s (Cutting i) g turn has step = cut_ok m s i.0 g turn step
 
 line_ok : (m : Meaning) (old : Scene) (s : Shown) (c : ℕ) (g : Collection) →
-  (node m.diagram old c).collecting ≡ Some g → Who m old s → StopOk g (of_bay s c)
+    (node m.diagram old c).collecting ≡ Some g → Who m old s → StopOk g (of_bay s c)
 line_ok m old s c g has (Who.nobody nothing) = subst (StopOk g) (sym (of_quiet s c nothing.outcome)) tt
 line_ok m old s c g has (Who.steps b e turn step shows) = elim (cases_eq c b) [
   | inl same ↦
       let here : (node m.diagram old b).collecting ≡ Some g =
-        subst (λ (x : ℕ). (node m.diagram old x).collecting ≡ Some g) same has in
+      subst (λ (x : ℕ). (node m.diagram old x).collecting ≡ Some g) same has in
       subst (StopOk g) (sym (of_own s c (shows.bay ∙ sym same) ∙ shows.outcome)) (step_ok m (node m.diagram old b) e g
-        turn here step)
+      turn here step)
   | inr other ↦ subst (StopOk g) (sym (of_other s c (λ is. other (sym is ∙ shows.bay)))) tt
 ]
 
 -- ---- exactly there
 
 restart_tells : (e : WorldEvent) (c : ℕ) (was : Option Opened) → (e ≡ Restart (record { 0 = c }))
-  ⊎ (forgotten e c was ≡ was)
-restart_tells (Restart b) c was = elim (eqb_tells b.0 c) [ inl p ↦ inl (ap (λ (x : ℕ). Restart (record { 0 = x })) p.1)
-  | inr p ↦ inr (rw p.0 refl) ]
+    ⊎ (forgotten e c was ≡ was)
+restart_tells (Restart b) c was = elim (eqb_tells b.0 c) [
+  | inl p ↦ inl (ap (λ (x : ℕ). Restart (record { 0 = x })) p.1)
+  | inr p ↦ inr (rw p.0 refl)
+]
 restart_tells (Command op) c was = inr refl
 restart_tells (Sense i word) c was = inr refl
 restart_tells (Deliver k) c was = inr refl
@@ -183,8 +185,8 @@ forgets_none e c = refl
 
 -- what an outcome makes of a round that is collected
 after_outcome : (x : Outcome) (e : WorldEvent) (g : Collection) (o : Opened) → g.round ≡ o.round → StopOk g x →
-  ((p : Opened) × IsVerdictOn x p)
-  ⊎ (IsBusy x o.round ⊎ (IsWithdrawal x o.round ⊎ (collecting_after x e (Some o) ≡ Some o)))
+    ((p : Opened) × IsVerdictOn x p)
+    ⊎ (IsBusy x o.round ⊎ (IsWithdrawal x o.round ⊎ (collecting_after x e (Some o) ≡ Some o)))
 after_outcome (Granted r op) e g o same ok = inl (record { round = r; op = op }, (refl, refl))
 after_outcome (Denied r op rule reading) e g o same ok = inl (record { round = r; op = op }, (refl, refl))
 after_outcome (BusyBy r from holder q) e g o same ok = inr (inl (ok ∙ same))
@@ -193,7 +195,7 @@ after_outcome (Collecting r) e g o same ok = absurd ok
 after_outcome x e g o same ok = inr (inr (inr refl))
 
 collection_of : (x : Option Collection) (before : List Line) (c : ℕ) (o : Opened) → opened x ≡ collecting before c →
-  collecting before c ≡ Some o → (g : Collection) × (x ≡ Some g) × (g.round ≡ o.round)
+    collecting before c ≡ Some o → (g : Collection) × (x ≡ Some g) × (g.round ≡ o.round)
 collection_of None before c o is has = absurd (cc (is, has))
 collection_of (Some g) before c o is has =
     let e : Some (record { round = g.round; op = g.op }) ≡ Some o = is ∙ has in
@@ -202,20 +204,20 @@ collection_of (Some g) before c o is has =
 
 -- while a round is collected, no bay decides but that round
 same_round : (m : Meaning) (start : List Bool) (before : List Line) (l : Line) (old : Scene) (c : ℕ) (o p : Opened) →
-  IsStation m.diagram → Laws m → Run m start before old → collecting before c ≡ Some o →
-  Decides m.diagram before l c p → p ≡ o
+    IsStation m.diagram → Laws m → Run m start before old → collecting before c ≡ Some o →
+    Decides m.diagram before l c p → p ≡ o
 same_round m start before l old c o p station laws run has (Decides.at_tick is e) = let x : Some p ≡ Some o = sym is
-  ∙ has in cc x
+    ∙ has in cc x
 same_round m start before l old c o p station laws run has (Decides.all_heard n is e all) = let x : Some p ≡ Some o =
-  sym is ∙ has in cc x
+    sym is ∙ has in cc x
 same_round m start before l old c o p station laws run has (Decides.alone e at none d) =
     let links = (run_is m start before old station laws run).links in
     let g = collection_of (node m.diagram old c).collecting before c o (links.nodes c).collecting has in
     absurd (missing_some m.diagram c g.0.heard ((links.nodes c).missing g.0 g.1) none)
 
 else_case : (m : Meaning) (start : List Bool) (before : List Line) (l : Line) (old w : Scene) (c : ℕ) (o : Opened) →
-  IsStation m.diagram → Laws m → Run m start before old → Leads m old l w → collecting before c ≡ Some o →
-  (StopsCollecting m.diagram before l c o) ⊎ (collecting (l ∷ before) c ≡ Some o)
+    IsStation m.diagram → Laws m → Run m start before old → Leads m old l w → collecting before c ≡ Some o →
+    (StopsCollecting m.diagram before l c o) ⊎ (collecting (l ∷ before) c ≡ Some o)
 else_case m start before l old w c o station laws run leads has =
     let links = (run_is m start before old station laws run).links in
     let g = collection_of (node m.diagram old c).collecting before c o (links.nodes c).collecting has in
@@ -226,20 +228,20 @@ else_case m start before l old w c o station laws run leads has =
         | inl d ↦
             let it = (decides_well m start l before w station laws (old, run, leads)).no_other c d.0 d.1 in
             inl (StopsCollecting.decided (subst (λ (x : Opened). Decides m.diagram before l c x)
-              (same_round m start before l old c o d.0 station laws run has it) it))
+            (same_round m start before l old c o d.0 station laws run has it) it))
         | inr rest ↦ elim rest [
           | inl busy ↦ inl (StopsCollecting.busy busy)
           | inr more ↦ elim more [
             | inl gone ↦ inl (StopsCollecting.withdrawn gone)
             | inr stays ↦ inr (same ∙ ap (λ (x : Option Opened). collecting_after (of_bay l.shown c) l.event x)
-              has ∙ stays)
+                has ∙ stays)
           ]
         ]
       ]
     ]
 
 verdict_stops : (d : Diagram) (k : Known) (o : Opened) (x : Outcome) (e : WorldEvent) (was : Option Opened) →
-  Verdict d k o x → collecting_after x e was ≡ None
+    Verdict d k o x → collecting_after x e was ≡ None
 verdict_stops d k o x e was (Verdict.grants is holds) = rw is refl
 verdict_stops d k o x e was (Verdict.denies rule v is reads breaks) = rw is refl
 
@@ -248,7 +250,7 @@ busy_stops (BusyBy q from holder p) r e was is = refl
 busy_stops x r e was is = absurd is
 
 withdrawn_stops : (x : Outcome) (r : ℕ) (e : WorldEvent) (was : Option Opened) → IsWithdrawal x r →
-  collecting_after x e was ≡ None
+    collecting_after x e was ≡ None
 withdrawn_stops (Withdrawn q) r e was is = refl
 withdrawn_stops x r e was is = absurd is
 
@@ -256,21 +258,21 @@ forgotten_none : (e : WorldEvent) (c : ℕ) (x : Option Opened) → x ≡ None �
 forgotten_none e c x is = subst (λ (y : Option Opened). forgotten e c y ≡ None) (sym is) (forgets_none e c)
 
 stop_case : (m : Meaning) (start : List Bool) (before : List Line) (l : Line) (w : Scene) (c : ℕ) (o : Opened) →
-  IsStation m.diagram → Laws m → Run m start (l ∷ before) w → StopsCollecting m.diagram before l c o →
-  collecting (l ∷ before) c ≡ None
+    IsStation m.diagram → Laws m → Run m start (l ∷ before) w → StopsCollecting m.diagram before l c o →
+    collecting (l ∷ before) c ≡ None
 stop_case m start before l w c o station laws run (StopsCollecting.decided d) =
-  forgotten_none l.event c _ (verdict_stops m.diagram _ o (of_bay l.shown c) l.event (collecting before c)
-  ((decides_well m start l before w station laws run).shows c o d))
+    forgotten_none l.event c _ (verdict_stops m.diagram _ o (of_bay l.shown c) l.event (collecting before c)
+    ((decides_well m start l before w station laws run).shows c o d))
 stop_case m start before l w c o station laws run (StopsCollecting.busy is) =
-  forgotten_none l.event c _ (busy_stops (of_bay l.shown c) o.round l.event (collecting before c) is)
+    forgotten_none l.event c _ (busy_stops (of_bay l.shown c) o.round l.event (collecting before c) is)
 stop_case m start before l w c o station laws run (StopsCollecting.withdrawn is) =
-  forgotten_none l.event c _ (withdrawn_stops (of_bay l.shown c) o.round l.event (collecting before c) is)
+    forgotten_none l.event c _ (withdrawn_stops (of_bay l.shown c) o.round l.event (collecting before c) is)
 stop_case m start before l w c o station laws run (StopsCollecting.restarted is) =
-  subst (λ (e : WorldEvent). forgotten e c (collecting_after (of_bay l.shown c) l.event (collecting before c)) ≡ None)
-  (sym is) (rw (eqb_same c) refl)
+    subst (λ (e : WorldEvent). forgotten e c (collecting_after (of_bay l.shown c) l.event (collecting before c)) ≡ None)
+    (sym is) (rw (eqb_same c) refl)
 
 pub stops_well : (m : Meaning) (start : List Bool) (before : List Line) (l : Line) (w : Scene) → IsStation m.diagram →
-  Laws m → Run m start (l ∷ before) w → StopsWell m.diagram before l
+    Laws m → Run m start (l ∷ before) w → StopsWell m.diagram before l
 stops_well m start before l w station laws run = record {
   stops = λ c o has is. stop_case m start before l w c o station laws run is;
   else_stays = λ c o has. else_case m start before l run.0 w c o station laws run.1 run.2 has;

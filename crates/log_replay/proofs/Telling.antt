@@ -29,14 +29,14 @@ abbrev BeginsWith : List ℕ → List ℕ → Type 0
 BeginsWith w r = first r ≡ w
 
 shown_begins : (d : Diagram) (i : ℕ) (s : Shown) → IsNumber i → IsShowable d s →
-  Each (BeginsWith (decimal i)) (shown_rows d i s)
+    Each (BeginsWith (decimal i)) (shown_rows d i s)
 shown_begins d i s few is =
     let p = line_prefix i s.bay in
     each_append (BeginsWith (decimal i)) (outcome_rows p d s.outcome) (message_rows i s.messages)
     (outcome_each (BeginsWith (decimal i)) p d s.outcome (first_of_row i s.bay (says d s.outcome) few)
-      (λ j. first_of_row i s.bay _ few))
+    (λ j. first_of_row i s.bay _ few))
     (messages_each (BeginsWith (decimal i)) IsNumbered i s.messages (λ x n. first_of_row i x.from (message_says x) few)
-      is.messages)
+    is.messages)
 
 -- the row begins with this word
 abbrev begins : List ℕ → List ℕ → Bool
@@ -71,67 +71,67 @@ no_letter k few is = omega (arith, few, is)
 
 done_differs : (i : ℕ) → IsNumber i → decimal i ≢ codes "done"
 done_differs i few same = let is : free 100 (codes "done") ≡ true = sym (ap (free 100) same)
-  ∙ decimal_free 100 i no_letter (wide i few) in absurd (cc is)
+    ∙ decimal_free 100 i no_letter (wide i few) in absurd (cc is)
 
 -- ---- the lines behind
 
 rest_dropped : (d : Diagram) (i k : ℕ) (out : List Shown) → i < k → k + length out < 2 ^ 32 → All (IsShowable d) out →
-  kept (begins (decimal i)) (all_rows d k out) ≡ []
+    kept (begins (decimal i)) (all_rows d k out) ≡ []
 rest_dropped d i k [] less few all = refl
 rest_dropped d i k (s ∷ out) less few all =
     kept_append (begins (decimal i)) (shown_rows d k s) (all_rows d (k + 1) out)
     ∙ ap (λ (rs : List (List ℕ)). rs ++ kept (begins (decimal i)) (all_rows d (k + 1) out))
     (words_dropped (decimal i) (decimal k) (shown_rows d k s) (others_differ i k (omega (arith, less, few))
-      (omega (arith, few)) (omega (arith, less))) (shown_begins d k s (omega (arith, few)) (all 0 s (omega arith))))
+    (omega (arith, few)) (omega (arith, less))) (shown_begins d k s (omega (arith, few)) (all 0 s (omega arith))))
     ∙ rest_dropped d i (k + 1) out (omega (arith, less)) (omega (arith, few))
-      (λ j x within. all (suc j) x (omega (arith, within)))
+    (λ j x within. all (suc j) x (omega (arith, within)))
 
 -- the rows of a line among those of all lines
 line_kept : (d : Diagram) (i k : ℕ) (out : List Shown) → IsNumber (k + i) → k + length out < 2 ^ 32 →
-  All (IsShowable d) out → kept (begins (decimal (k + i))) (all_rows d k out) ≡ shown_rows d (k + i) (shown_after out i)
+    All (IsShowable d) out → kept (begins (decimal (k + i))) (all_rows d k out) ≡ shown_rows d (k + i) (shown_after out i)
 line_kept d zero k [] number few all = refl
 line_kept d (suc i) k [] number few all = refl
 line_kept d zero k (s ∷ out) number few all =
     let here : k + zero ≡ k = omega arith in
     let mine = words_kept (decimal (k + zero)) (decimal k) (shown_rows d k s) (ap decimal here)
-      (shown_begins d k s (omega (arith, few)) (all 0 s (omega arith))) in
+    (shown_begins d k s (omega (arith, few)) (all 0 s (omega arith))) in
     kept_append (begins (decimal (k + zero))) (shown_rows d k s) (all_rows d (k + 1) out)
     ∙ ap (λ (rs : List (List ℕ)). rs ++ kept (begins (decimal (k + zero))) (all_rows d (k + 1) out)) mine
     ∙ ap (λ (rs : List (List ℕ)). shown_rows d k s ++ rs) (rest_dropped d (k + zero) (k + 1) out (omega arith)
-      (omega (arith, few)) (λ j x within. all (suc j) x (omega (arith, within))))
+    (omega (arith, few)) (λ j x within. all (suc j) x (omega (arith, within))))
     ∙ append-nil (shown_rows d k s)
     ∙ ap (λ (n : ℕ). shown_rows d n s) (sym here)
 line_kept d (suc i) k (s ∷ out) number few all =
     let next : k + suc i ≡ (k + 1) + i = omega arith in
     let dropped = words_dropped (decimal (k + suc i)) (decimal k) (shown_rows d k s) (others_differ (k + suc i) k number
-      (omega (arith, few)) (omega arith)) (shown_begins d k s (omega (arith, few)) (all 0 s (omega arith))) in
+    (omega (arith, few)) (omega arith)) (shown_begins d k s (omega (arith, few)) (all 0 s (omega arith))) in
     kept_append (begins (decimal (k + suc i))) (shown_rows d k s) (all_rows d (k + 1) out)
     ∙ ap (λ (rs : List (List ℕ)). rs ++ kept (begins (decimal (k + suc i))) (all_rows d (k + 1) out)) dropped
     ∙ ap (λ (n : ℕ). kept (begins (decimal n)) (all_rows d (k + 1) out)) next
     ∙ line_kept d i (k + 1) out (omega (arith, number)) (omega (arith, few))
-      (λ j x within. all (suc j) x (omega (arith, within)))
+    (λ j x within. all (suc j) x (omega (arith, within)))
     ∙ ap (λ (n : ℕ). shown_rows d n (shown_after out i)) (sym next)
 
 -- ---- the last row
 
 last_dropped : (i : ℕ) (broken : Option (ℕ × Which)) (count : ℕ) → IsNumber i →
-  kept (begins (decimal i)) (last_rows broken count) ≡ []
+    kept (begins (decimal i)) (last_rows broken count) ≡ []
 last_dropped i None count few = words_dropped (decimal i) (codes "done") (last_rows None count)
-  (done_differs i few) (refl, tt)
+    (done_differs i few) (refl, tt)
 last_dropped i (Some broken) count few = refl
 
 lines_dropped : (d : Diagram) (k : ℕ) (out : List Shown) → k + length out < 2 ^ 32 → All (IsShowable d) out →
-  kept (begins (codes "done")) (all_rows d k out) ≡ []
+    kept (begins (codes "done")) (all_rows d k out) ≡ []
 lines_dropped d k [] few all = refl
 lines_dropped d k (s ∷ out) few all =
     kept_append (begins (codes "done")) (shown_rows d k s) (all_rows d (k + 1) out)
     ∙ ap (λ (rs : List (List ℕ)). rs ++ kept (begins (codes "done")) (all_rows d (k + 1) out))
     (words_dropped (codes "done") (decimal k) (shown_rows d k s) (λ e. done_differs k (omega (arith, few)) (sym e))
-      (shown_begins d k s (omega (arith, few)) (all 0 s (omega arith))))
+    (shown_begins d k s (omega (arith, few)) (all 0 s (omega arith))))
     ∙ lines_dropped d (k + 1) out (omega (arith, few)) (λ j x within. all (suc j) x (omega (arith, within)))
 
 last_kept : (broken : Option (ℕ × Which)) (count : ℕ) → kept (begins (codes "done")) (last_rows broken count)
-  ≡ last_rows broken count
+    ≡ last_rows broken count
 last_kept None count = refl
 last_kept (Some broken) count = refl
 
@@ -140,7 +140,7 @@ count_in [] = 0
 count_in (r ∷ rs) = number_in (behind r)
 
 ended_same : (b c : Option (ℕ × Which)) (m n : ℕ) → IsNumber m → IsNumber n → last_rows b m ≡ last_rows c n → b ≡ None →
-  (c ≡ None) × (n ≡ m)
+    (c ≡ None) × (n ≡ m)
 ended_same None None m n few less same is = (refl, sym (number_is n less) ∙ sym (ap count_in same) ∙ number_is m few)
 ended_same None (Some c) m n few less same is = absurd (cc same)
 ended_same (Some b) c m n few less same is = absurd (cc is)
@@ -149,38 +149,44 @@ ended_same (Some b) c m n few less same is = absurd (cc is)
 
 -- what the text of a report tells of a line
 report_tells : (d : Diagram) (r : Replayed) (i : ℕ) → length r.out < 2 ^ 31 → i < 2 ^ 31 → All (IsShowable d) r.out →
-  kept (begins (decimal (1 + i))) (report_rows d r) ≡ shown_rows d (1 + i) (shown_after r.out i)
+    kept (begins (decimal (1 + i))) (report_rows d r) ≡ shown_rows d (1 + i) (shown_after r.out i)
 report_tells d r i few within all =
     kept_append (begins (decimal (1 + i))) (all_rows d 1 r.out) (last_rows r.broken r.count)
     ∙ ap (λ (rs : List (List ℕ)). kept (begins (decimal (1 + i))) (all_rows d 1 r.out) ++ rs)
-      (last_dropped (1 + i) r.broken r.count (omega (arith, within)))
+    (last_dropped (1 + i) r.broken r.count (omega (arith, within)))
     ∙ append-nil (kept (begins (decimal (1 + i))) (all_rows d 1 r.out))
     ∙ line_kept d i 1 r.out (omega (arith, within)) (omega (arith, few)) all
 
 report_ends : (d : Diagram) (r : Replayed) → length r.out < 2 ^ 31 → All (IsShowable d) r.out →
-  kept (begins (codes "done")) (report_rows d r) ≡ last_rows r.broken r.count
+    kept (begins (codes "done")) (report_rows d r) ≡ last_rows r.broken r.count
 report_ends d r few all =
     kept_append (begins (codes "done")) (all_rows d 1 r.out) (last_rows r.broken r.count)
     ∙ ap (λ (rs : List (List ℕ)). rs ++ kept (begins (codes "done")) (last_rows r.broken r.count))
-      (lines_dropped d 1 r.out (omega (arith, few)) all)
+    (lines_dropped d 1 r.out (omega (arith, few)) all)
     ∙ last_kept r.broken r.count
 
 rows_are : (d : Diagram) (r : Replayed) → PathsAreLines d → length r.out < 2 ^ 31 → All (IsShowable d) r.out →
-  IsNumber r.count → rows_of (closed (report_rows d r)) ≡ report_rows d r
+    IsNumber r.count → rows_of (closed (report_rows d r)) ≡ report_rows d r
 rows_are d r paths few all number = rows_closed (report_rows d r) (each_append IsRow (all_rows d 1 r.out)
-  (last_rows r.broken r.count) (all_row d 1 r.out paths (omega (arith, few)) all) (last_row r.broken r.count number))
+    (last_rows r.broken r.count) (all_row d 1 r.out paths (omega (arith, few)) all) (last_row r.broken r.count number))
 
 same_rows : (d : Diagram) (r t : Replayed) → PathsAreLines d → length r.out < 2 ^ 31 → length t.out < 2 ^ 31 →
-  All (IsShowable d) r.out → All (IsShowable d) t.out → IsNumber r.count → IsNumber t.count →
-  report_text d r ≡ report_text d t → report_rows d r ≡ report_rows d t
+    All (IsShowable d) r.out → All (IsShowable d) t.out → IsNumber r.count → IsNumber t.count →
+    report_text d r ≡ report_text d t → report_rows d r ≡ report_rows d t
 same_rows d r t paths few less all each one other same =
     let texts : closed (report_rows d r) ≡ closed (report_rows d t) = append_cancel_left (bay_lines d)
-      (closed (report_rows d r)) (closed (report_rows d t)) (sym (report_closed d r) ∙ same ∙ report_closed d t) in
+    (closed (report_rows d r)) (closed (report_rows d t)) (sym (report_closed d r) ∙ same ∙ report_closed d t) in
     sym (rows_are d r paths few all one) ∙ ap rows_of texts ∙ rows_are d t paths less each other
 
 nothing_showable : (d : Diagram) → IsShowable d nothing_shown
-nothing_showable d = record { fits = tt; unmoved = refl; bay = omega arith; numbers = tt; messages =
-  λ k x within. absurd (omega (arith, within)) }
+nothing_showable d = record {
+  fits = tt;
+  unmoved = refl;
+  bay = omega arith;
+  numbers = tt;
+  messages =
+      λ k x within. absurd (omega (arith, within));
+}
 
 behind_all : (out : List Shown) (i : ℕ) → length out ≤ i → shown_after out i ≡ nothing_shown
 behind_all [] zero few = refl
@@ -201,26 +207,26 @@ showable_after d (s ∷ out) zero all = all 0 s (omega arith)
 showable_after d (s ∷ out) (suc i) all = showable_after d out i (λ j x within. all (suc j) x (omega (arith, within)))
 
 line_told : (d : Diagram) → IsStation d → (r : Replayed) (i : ℕ) → length r.out < 2 ^ 31 → i < 2 ^ 31 →
-  All (IsShowable d) r.out → ShowSame (shown_after r.out i) (tell d (kept (begins (decimal (1 + i))) (report_rows d r)))
+    All (IsShowable d) r.out → ShowSame (shown_after r.out i) (tell d (kept (begins (decimal (1 + i))) (report_rows d r)))
 line_told d station r i few within all =
     subst (λ (rs : List (List ℕ)). ShowSame (shown_after r.out i) (tell d rs)) (sym (report_tells d r i few within all))
     (shown_read d station (1 + i) (shown_after r.out i) (omega (arith, within)) (showable_after d r.out i all))
 
 pub tells_all : (d : Diagram) → IsStation d → (r t : Replayed) → PathsAreLines d → length r.out < 2 ^ 31 →
-  length t.out < 2 ^ 31 → All (IsShowable d) r.out → All (IsShowable d) t.out → IsNumber r.count → IsNumber t.count →
-  report_text d r ≡ report_text d t → TellSame r t
+    length t.out < 2 ^ 31 → All (IsShowable d) r.out → All (IsShowable d) t.out → IsNumber r.count → IsNumber t.count →
+    report_text d r ≡ report_text d t → TellSame r t
 tells_all d station r t paths few less all each one other same =
     let rows = same_rows d r t paths few less all each one other same in
     record {
       lines = λ i. elim (cases_lt i (2 ^ 31)) [
         | inl within ↦ join_same (shown_after r.out i) (shown_after t.out i)
-          (tell d (kept (begins (decimal (1 + i))) (report_rows d t)))
+            (tell d (kept (begins (decimal (1 + i))) (report_rows d t)))
             (subst (λ (rs : List (List ℕ)). ShowSame (shown_after r.out i)
-              (tell d (kept (begins (decimal (1 + i))) rs))) rows (line_told d station r i few within all))
+            (tell d (kept (begins (decimal (1 + i))) rs))) rows (line_told d station r i few within all))
             (line_told d station t i less within each)
         | inr beyond ↦ subst (ShowSame (shown_after r.out i)) (behind_all r.out i (omega (arith, few, beyond))
-          ∙ sym (behind_all t.out i (omega (arith, less, beyond)))) (record { outcome = λ b. refl; messages = refl })
+            ∙ sym (behind_all t.out i (omega (arith, less, beyond)))) (record { outcome = λ b. refl; messages = refl })
       ];
       ended = ended_same r.broken t.broken r.count t.count one other (sym (report_ends d r few all)
-        ∙ ap (kept (begins (codes "done"))) rows ∙ report_ends d t less each);
+          ∙ ap (kept (begins (codes "done"))) rows ∙ report_ends d t less each);
     }

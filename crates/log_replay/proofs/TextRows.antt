@@ -102,7 +102,7 @@ rows_more (x ∷ a) t is = let p = pick (x == 10) (free 10 a) is in rw (p.0, row
 pub rows_closed : (rs : List (List ℕ)) → Each IsRow rs → rows_of (closed rs) ≡ rs
 rows_closed [] each = refl
 rows_closed (r ∷ rs) each = ap rows_of (append_assoc r (codes "\n") (closed rs)) ∙ rows_more r (closed rs) each.0
-  ∙ ap (λ (xs : List (List ℕ)). r ∷ xs) (rows_closed rs each.1)
+    ∙ ap (λ (xs : List (List ℕ)). r ∷ xs) (rows_closed rs each.1)
 
 -- ---- rows that are kept
 

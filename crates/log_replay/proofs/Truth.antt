@@ -101,7 +101,7 @@ idle_at m before l old new c o rounds said leads (Decides.all_heard n has e all)
 idle_at m before l old new c o rounds said leads (Decides.alone e at none d) =
     let b = bay_of m.diagram o.op.switch.0 in
     let t : NodeSteps m old b _ new leads.outcome = subst (λ
-        (x : WorldEvent). Happens m old x new leads.outcome) e leads.happens in
+    (x : WorldEvent). Happens m old x new leads.outcome) e leads.happens in
     let s = turn_shown (length old.sent) b (node m.diagram old b) t.turn leads.outcome l.shown t.says leads.shows in
     let shows : of_bay l.shown c ≡ shown t.turn.outcome = of_own l.shown c (s.bay ∙ at) ∙ s.outcome in
     subst (λ (x : ℕ). (node m.diagram old x).granted ≡ None) at
@@ -113,12 +113,12 @@ truth_at : (m : Meaning) (before : List Line) (l : Line) (old new : Scene) (c : 
     → Decides m.diagram before l c o → new.truth ≡ old.truth
 truth_at m before l old new c o leads (Decides.at_tick has e) =
     let t : NodeSteps m old c _ new leads.outcome = subst (λ
-        (x : WorldEvent). Happens m old x new leads.outcome) e leads.happens in ap (λ (w : Scene). w.truth) t.world
+    (x : WorldEvent). Happens m old x new leads.outcome) e leads.happens in ap (λ (w : Scene). w.truth) t.world
 truth_at m before l old new c o leads (Decides.all_heard n has e all) = deliver_truth m old new n leads.outcome (subst
     (λ (x : WorldEvent). Happens m old x new leads.outcome) e leads.happens)
 truth_at m before l old new c o leads (Decides.alone e at none d) =
     let t : NodeSteps m old (bay_of m.diagram o.op.switch.0) _ new leads.outcome = subst (λ
-        (x : WorldEvent). Happens m old x new leads.outcome) e leads.happens in ap (λ (w : Scene). w.truth) t.world
+    (x : WorldEvent). Happens m old x new leads.outcome) e leads.happens in ap (λ (w : Scene). w.truth) t.world
 
 -- ---- the true positions are a reading
 
@@ -127,11 +127,17 @@ round_at : (m : Meaning) (start : List Bool) (before : List Line) (l : Line) (ol
     → RunIs m start before old → Decides m.diagram before l c o → IsOther m.diagram c b
     → (q : ℕ) × (under_way (node m.diagram old c) ≡ Some q)
 round_at m start before l old c b o is (Decides.at_tick has e) other = let p =
-    collects_it m before old c o is.facts.rounds is.links.said has in (p.round.round, ap (λ
-    (x : Option Collection). under_way_of x (node m.diagram old c).granted) p.has)
+    collects_it m before old c o is.facts.rounds is.links.said has in (
+      p.round.round,
+      ap (λ
+          (x : Option Collection). under_way_of x (node m.diagram old c).granted) p.has,
+    )
 round_at m start before l old c b o is (Decides.all_heard n has e all) other = let p =
-    collects_it m before old c o is.facts.rounds is.links.said has in (p.round.round, ap (λ
-    (x : Option Collection). under_way_of x (node m.diagram old c).granted) p.has)
+    collects_it m before old c o is.facts.rounds is.links.said has in (
+      p.round.round,
+      ap (λ
+          (x : Option Collection). under_way_of x (node m.diagram old c).granted) p.has,
+    )
 round_at m start before l old c b o is (Decides.alone e at none d) other = absurd (other_of m.diagram c b other none)
 
 -- what is heard is heard of another bay
@@ -144,8 +150,11 @@ heard_of_is : (d : Diagram) (lines : List Line) (c b : ℕ) (words : List Dbpos)
 heard_of_is d lines c b words station got =
     let at = listed_at (heard_of d lines c) (part_count d) b (Some words) got in
     elim (cases_Bool (is_another d c b)) [
-      | inl other ↦ record { other = is_other d c b station other; words_are = subst (λ (y : Bool). cond y
-          (heard d lines c b) None ≡ Some words) other at.1 }
+      | inl other ↦ record {
+        other = is_other d c b station other;
+        words_are = subst (λ (y : Bool). cond y
+            (heard d lines c b) None ≡ Some words) other at.1;
+      }
       | inr stranger ↦ let none : None ≡ Some words = subst (λ (y : Bool). cond y
           (heard d lines c b) None ≡ Some words) stranger at.1 in absurd (cc none)
     ]
@@ -161,10 +170,10 @@ heard_reads m start before l old c b o words v station laws run decides whole re
     let last = (is.links.nodes c).round round.0 round.1 (other_of m.diagram c b said.other) in
     let same : Some round.0 ≡ Some a.frame.round = sym last ∙ a.round in
     let running : under_way (node m.diagram old a.frame.to.0) ≡ Some a.frame.round = subst (λ (x : ℕ). under_way
-        (node m.diagram old x) ≡ Some a.frame.round) (sym a.to) (round.1 ∙ same) in
+    (node m.diagram old x) ≡ Some a.frame.round) (sym a.to) (round.1 ∙ same) in
     let answered = answers m old is.facts a.frame a.summary a.there a.body running in
     let allowed : m.Allows b a.summary v = subst (λ (x : ℕ). m.Allows x a.summary v) a.from (answered.allowed v whole
-        (λ i closed own at. resolves i closed at)) in
+    (λ i closed own at. resolves i closed at)) in
     elim a.sums.no_more [
       | inl silent ↦ inl (laws.irrelevant b c said.other.1 silent.0)
       | inr alike ↦ inr (alike v whole allowed)
@@ -177,9 +186,9 @@ own_word m w c i facts none is =
     let held = facts.truth.held in
     let truly : IsTrueWord (held.own i) (true_at w.truth i) = facts.truth.facts.words i is.0 (λ g has.
     let no : (node m.diagram w (bay_of m.diagram i)).granted ≡ None = subst (λ (x : ℕ).
-        (node m.diagram w x).granted ≡ None) (sym is.1) none in absurd (cc (has, no))) in
+    (node m.diagram w x).granted ≡ None) (sym is.1) none in absurd (cc (has, no))) in
     let at : IsTrueWord (get_or (node m.diagram w (bay_of m.diagram i)).words i Lost) (true_at w.truth i) = subst (λ
-        (x : Dbpos). IsTrueWord x (true_at w.truth i)) (facts.truth.facts.words_are i is.0) truly in
+    (x : Dbpos). IsTrueWord x (true_at w.truth i)) (facts.truth.facts.words_are i is.0) truly in
     subst (λ (x : ℕ). IsTrueWord (get_or (node m.diagram w x).words i Lost) (true_at w.truth i)) is.1 at
 
 own_reads : (m : Meaning) (start : List Bool) (before : List Line) (old : Scene) (c : ℕ) (v : List Bool)
@@ -187,11 +196,11 @@ own_reads : (m : Meaning) (start : List Bool) (before : List Line) (old : Scene)
     → BayAgrees m.diagram c (words_at m.diagram before) v
 own_reads m start before old c v is none whole resolves = bay_agrees m c (words_at m.diagram before) v (λ i own.
     let e : get_or (node m.diagram old c).words i Lost ≡ get_or (words_at m.diagram before) i Lost =
-        (is.links.nodes c).read i own.0 own.1 ∙ sym (get_listed (reading_at m.diagram before)
-        (length m.diagram.switches) i Lost own.0) in
+    (is.links.nodes c).read i own.0 own.1 ∙ sym (get_listed (reading_at m.diagram before)
+    (length m.diagram.switches) i Lost own.0) in
     subst (λ (x : Dbpos). Agrees x (get_or v i false)) e
     (true_word_agrees (get_or (node m.diagram old c).words i Lost) (true_at old.truth i) (get_or v i false)
-        (own_word m old c i is.facts none own) (resolves i (get_or v i false) (stood m v i whole own.0))))
+    (own_word m old c i is.facts none own) (resolves i (get_or v i false) (stood m v i whole own.0))))
 
 truth_reads : (m : Meaning) (start : List Bool) (before : List Line) (l : Line) (old new : Scene) (c : ℕ) (o : Opened)
     (v : List Bool) → IsStation m.diagram → Laws m → Run m start before old → Leads m old l new
@@ -200,7 +209,7 @@ truth_reads : (m : Meaning) (start : List Bool) (before : List Line) (l : Line) 
 truth_reads m start before l old new c o v station laws run leads links decides may =
     let is = run_is m start before old station laws run in
     let was : Resolves old.truth v = subst (λ (t : List Position). Resolves t v)
-        (truth_at m before l old new c o leads decides) (to_scene m start (l ∷ before) new v links may) in
+    (truth_at m before l old new c o leads decides) (to_scene m start (l ∷ before) new v links may) in
     record {
       whole = may.whole;
       own = own_reads m start before old c v is
@@ -218,7 +227,7 @@ true_verdict d k T o outcome station full own reads (Verdict.grants is holds) = 
     (λ v may. holds v (reads v may))
 true_verdict d k T o outcome station full own reads (Verdict.denies rule v is reads_v breaks) =
     TrueVerdict.denies rule _ is (λ w may. (same_by_full d k v w station full reads_v (reads w may) o.op own
-        (Some rule)).0 breaks)
+    (Some rule)).0 breaks)
 
 op_at : (m : Meaning) (start : List Bool) (before : List Line) (l : Line) (old new : Scene) (c : ℕ) (o : Opened)
     → RunIs m start before old → Leads m old l new → Decides m.diagram before l c o → IsSwitchOf m c o.op.switch.0
@@ -234,8 +243,8 @@ truth_decides m start before l w station laws run =
     let is = run_is m start before run.0 station laws run.1 in
     let now = run_is m start (l ∷ before) w station laws run in
     let reads : (c : ℕ) (o : Opened) → Decides m.diagram before l c o → (v : List Bool)
-        → MayBeTrue m.diagram start (l ∷ before) v → IsReadingOf m.diagram (known_at m.diagram before l c) v =
-        λ c o d v may. truth_reads m start before l run.0 w c o v station laws run.1 run.2 now.links d may in
+    → MayBeTrue m.diagram start (l ∷ before) v → IsReadingOf m.diagram (known_at m.diagram before l c) v =
+    λ c o d v may. truth_reads m start before l run.0 w c o v station laws run.1 run.2 now.links d may in
     record {
       reading = reads;
       full = λ c o d full. true_verdict m.diagram (known_at m.diagram before l c) (MayBeTrue m.diagram start

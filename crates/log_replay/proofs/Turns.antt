@@ -42,10 +42,10 @@ pub record Before (m : Meaning) (lines : List Line) (b : ℕ) (s : State) : Type
 pub record TurnIs (m : Meaning) (lines : List Line) (b : ℕ) (e : WorldEvent) (turn : Turn) : Type 0 where
   pub node : NodeAfter m lines b turn.new.collecting turn.new.granted turn.new.words (shown turn.outcome) e
   pub tells : (f : Frame) (summary : List ℕ) → Contains turn.frames f → f.body ≡ Answer summary → (f.from.0 ≡ b)
-    × Summarises m b f.to.0 turn.new.words summary
+      × Summarises m b f.to.0 turn.new.words summary
 
 pub by_ends : (P : Turn → Type 0) (turn : Turn) (new : State) (o : Outcome) (fs : List Frame) → Ends turn new o fs →
-  P (record { new = new; outcome = o; frames = fs }) → P turn
+    P (record { new = new; outcome = o; frames = fs }) → P turn
 by_ends P turn new o fs end p =
     subst (λ (x : State). P (record { new = x; outcome = turn.outcome; frames = turn.frames })) (sym end.state)
     (subst (λ (y : Outcome). P (record { new = new; outcome = y; frames = turn.frames })) (sym end.says)
@@ -54,7 +54,7 @@ by_ends P turn new o fs end p =
 -- ---- frames that are no answers
 
 pub nothing_sent : (m : Meaning) (b : ℕ) (words : List Dbpos) → (f : Frame) (summary : List ℕ) → Contains [] f →
-  f.body ≡ Answer summary → (f.from.0 ≡ b) × Summarises m b f.to.0 words summary
+    f.body ≡ Answer summary → (f.from.0 ≡ b) × Summarises m b f.to.0 words summary
 nothing_sent m b words f summary there body = absurd (no_frame f there)
 
 abbrev pub NoAnswer : Body → Type 0
@@ -65,21 +65,21 @@ NoAnswer Query = ⊤
 NoAnswer Over = ⊤
 
 pub no_answers : (m : Meaning) (b : ℕ) (words : List Dbpos) (fs : List Frame) → ((f : Frame) → Contains fs f →
-  NoAnswer f.body) → (f : Frame) (summary : List ℕ) → Contains fs f → f.body ≡ Answer summary → (f.from.0 ≡ b)
-  × Summarises m b f.to.0 words summary
+    NoAnswer f.body) → (f : Frame) (summary : List ℕ) → Contains fs f → f.body ≡ Answer summary → (f.from.0 ≡ b)
+    × Summarises m b f.to.0 words summary
 no_answers m b words fs none f summary there body = absurd (subst NoAnswer body (none f there))
 
 pub one_sent : (m : Meaning) (b : ℕ) (words : List Dbpos) (x : Frame) → NoAnswer x.body →
-  (f : Frame) (summary : List ℕ) → Contains (x ∷ []) f → f.body ≡ Answer summary → (f.from.0 ≡ b)
-  × Summarises m b f.to.0 words summary
+    (f : Frame) (summary : List ℕ) → Contains (x ∷ []) f → f.body ≡ Answer summary → (f.from.0 ≡ b)
+    × Summarises m b f.to.0 words summary
 one_sent m b words x none = no_answers m b words (x ∷ []) (λ f there. subst (λ (y : Frame). NoAnswer y.body)
-  (one_frame x f there) none)
+    (one_frame x f there) none)
 
 pub each_sent : (m : Meaning) (b : ℕ) (words : List Dbpos) (from round : ℕ) (body : Body) (tos : List ℕ) →
-  NoAnswer body → (f : Frame) (summary : List ℕ) → Contains (to_each from round body tos) f → f.body ≡ Answer summary →
-  (f.from.0 ≡ b) × Summarises m b f.to.0 words summary
+    NoAnswer body → (f : Frame) (summary : List ℕ) → Contains (to_each from round body tos) f → f.body ≡ Answer summary →
+    (f.from.0 ≡ b) × Summarises m b f.to.0 words summary
 each_sent m b words from round body tos none = no_answers m b words (to_each from round body tos)
-  (λ f there. subst NoAnswer (sym (each_frame from round body tos f there)) none)
+    (λ f there. subst NoAnswer (sym (each_frame from round body tos f there)) none)
 
 -- ---- options and lists
 
@@ -97,7 +97,7 @@ get_none (suc n) (suc i) = get_none n i
 
 -- the switch of a round that is collected is one of the station
 pub own_known : (m : Meaning) (s : State) (g : Collection) → IsNode m.diagram s → s.collecting ≡ Some g →
-  g.op.switch.0 < length m.diagram.switches
+    g.op.switch.0 < length m.diagram.switches
 own_known m s g ok has = (switch_of m s.bay g.op.switch.0 (ok.collecting g has).own).0
 
 -- ---- outcomes that change nothing
@@ -110,16 +110,44 @@ IsInert Spent = ⊤
 IsInert outcome = ⊥
 
 inert : (m : Meaning) (before : List Line) (c : ℕ) (x : Option Collection) (y : Option Grant) (words : List Dbpos)
-  (o : Outcome) (e : WorldEvent) → IsInert o → NodeAfter m before c x y words Quiet e →
-  NodeAfter m before c x y words o e
-inert m before c x y words (UnderWay q) e ok a = record { granted = a.granted; collecting = a.collecting; read = a.read;
-  last = a.last; round = a.round; heard = a.heard; missing = a.missing }
-inert m before c x y words (HeldBy b r) e ok a = record { granted = a.granted; collecting = a.collecting; read = a.read;
-  last = a.last; round = a.round; heard = a.heard; missing = a.missing }
-inert m before c x y words There e ok a = record { granted = a.granted; collecting = a.collecting; read = a.read;
-  last = a.last; round = a.round; heard = a.heard; missing = a.missing }
-inert m before c x y words Spent e ok a = record { granted = a.granted; collecting = a.collecting; read = a.read;
-  last = a.last; round = a.round; heard = a.heard; missing = a.missing }
+    (o : Outcome) (e : WorldEvent) → IsInert o → NodeAfter m before c x y words Quiet e →
+    NodeAfter m before c x y words o e
+inert m before c x y words (UnderWay q) e ok a = record {
+  granted = a.granted;
+  collecting = a.collecting;
+  read = a.read;
+  last = a.last;
+  round = a.round;
+  heard = a.heard;
+  missing = a.missing;
+}
+inert m before c x y words (HeldBy b r) e ok a = record {
+  granted = a.granted;
+  collecting = a.collecting;
+  read = a.read;
+  last = a.last;
+  round = a.round;
+  heard = a.heard;
+  missing = a.missing;
+}
+inert m before c x y words There e ok a = record {
+  granted = a.granted;
+  collecting = a.collecting;
+  read = a.read;
+  last = a.last;
+  round = a.round;
+  heard = a.heard;
+  missing = a.missing;
+}
+inert m before c x y words Spent e ok a = record {
+  granted = a.granted;
+  collecting = a.collecting;
+  read = a.read;
+  last = a.last;
+  round = a.round;
+  heard = a.heard;
+  missing = a.missing;
+}
 inert m before c x y words o e ok a = absurd ok
 
 -- ---- deciding
@@ -129,26 +157,26 @@ pub record Ready (m : Meaning) (before : List Line) (b : ℕ) (t : State) (g : C
   pub granted : t.granted ≡ open_of before b
   pub none : t.granted ≡ None
   pub read : (i : ℕ) → i < length m.diagram.switches → bay_of m.diagram i ≡ b →
-    get_or t.words i Lost ≡ reading_at m.diagram before i
+      get_or t.words i Lost ≡ reading_at m.diagram before i
   pub long : length t.words ≡ length m.diagram.switches
   pub known : g.op.switch.0 < length m.diagram.switches
   pub round : others m.diagram b ≢ [] → last_round before b ≡ Some g.round
   pub harmless : Harmless m.diagram e b
 
 pub decided_turn : (m : Meaning) (before : List Line) (b : ℕ) (t : State) (g : Collection) (e : WorldEvent)
-  (turn : Turn) → Ready m before b t g e → Deciding m m.diagram t g turn → TurnIs m before b e turn
+    (turn : Turn) → Ready m before b t g e → Deciding m m.diagram t g turn → TurnIs m before b e turn
 decided_turn m before b t g e turn k (Deciding.release verdict end) =
     by_ends (TurnIs m before b e) turn (grants t g) (Granted g.round g.op) [] end (record {
       node = record {
         granted = refl;
         collecting = sym (not_forgotten m.diagram e b None k.harmless);
         read = λ i lt is. set_is t.words g.op.switch.0 Lost i (omega (arith, k.long, k.known))
-          ∙ ap (λ (w : Dbpos). cond (g.op.switch.0 == i) Lost w) (k.read i lt is
-          ∙ sym (not_sensed m.diagram e b i (reading_at m.diagram before i) k.harmless is));
+            ∙ ap (λ (w : Dbpos). cond (g.op.switch.0 == i) Lost w) (k.read i lt is
+            ∙ sym (not_sensed m.diagram e b i (reading_at m.diagram before i) k.harmless is));
         last = λ h has.
             let e' : record { round = g.round; op = g.op } ≡ h = cc has in
             subst (λ (y : Grant). or_else (cond (g.op.switch.0 == y.op.switch.0) (Some g.op) None)
-              (last_granted m.diagram before y.op.switch.0) ≡ Some y.op) e' (rw (eqb_same g.op.switch.0) refl);
+            (last_granted m.diagram before y.op.switch.0) ≡ Some y.op) e' (rw (eqb_same g.op.switch.0) refl);
         round = λ q is some. k.round some ∙ is;
         heard = λ h x has. absurd (cc has);
         missing = λ h has. absurd (cc has);
@@ -161,7 +189,7 @@ decided_turn m before b t g e turn k (Deciding.denial rule v verdict end) =
         granted = k.granted;
         collecting = sym (not_forgotten m.diagram e b None k.harmless);
         read = λ i lt is. k.read i lt is ∙ sym (not_sensed m.diagram e b i (reading_at m.diagram before i)
-          k.harmless is);
+            k.harmless is);
         last = λ h has. absurd (cc (has, k.none));
         round = λ q is some. absurd (no_round t.granted q k.none is);
         heard = λ h x has. absurd (cc has);
@@ -173,17 +201,17 @@ decided_turn m before b t g e turn k (Deciding.denial rule v verdict end) =
 -- ---- Command
 
 still_command : (m : Meaning) (before : List Line) (b : ℕ) (s : State) (op : Op) (turn : Turn) (o : Outcome) →
-  Before m before b s → IsInert o → shown o ≡ o → Ends turn s o [] → TurnIs m before b (Command op) turn
+    Before m before b s → IsInert o → shown o ≡ o → Ends turn s o [] → TurnIs m before b (Command op) turn
 still_command m before b s op turn o k ok same end = by_ends (TurnIs m before b (Command op)) turn s o [] end (record {
   node = subst (λ (y : Outcome). NodeAfter m before b s.collecting s.granted s.words y (Command op)) (sym same)
       (inert m before b s.collecting s.granted s.words o (Command op) ok (stays m before (Command op) b s.collecting
-        s.granted s.words k.is tt (λ g has x other. refl)));
+      s.granted s.words k.is tt (λ g has x other. refl)));
   tells = nothing_sent m b s.words;
 })
 
 ready_free : (m : Meaning) (before : List Line) (b : ℕ) (s : State) (op : Op) → Before m before b s →
-  op.switch.0 < length m.diagram.switches → IsFree s → others m.diagram s.bay ≡ [] →
-  Ready m before b (opens m.diagram s op) (fresh m.diagram s op) (Command op)
+    op.switch.0 < length m.diagram.switches → IsFree s → others m.diagram s.bay ≡ [] →
+    Ready m before b (opens m.diagram s op) (fresh m.diagram s op) (Command op)
 ready_free m before b s op k known free none = record {
   name = k.name;
   granted = k.is.granted;
@@ -196,19 +224,19 @@ ready_free m before b s op k known free none = record {
 }
 
 nobody_heard : (m : Meaning) (x b : ℕ) (c : Bool) →
-  HeardIs m x b (get_or (replicate (part_count m.diagram) nothing) x None) (cond c None None)
+    HeardIs m x b (get_or (replicate (part_count m.diagram) nothing) x None) (cond c None None)
 nobody_heard m x b true = rw (get_none (part_count m.diagram) x) tt
 nobody_heard m x b false = rw (get_none (part_count m.diagram) x) tt
 
 open_turn : (m : Meaning) (before : List Line) (b : ℕ) (s : State) (op : Op) (turn : Turn) → Before m before b s →
-  op.switch.0 < length m.diagram.switches → IsFree s → OpenStep m m.diagram s op turn →
-  TurnIs m before b (Command op) turn
+    op.switch.0 < length m.diagram.switches → IsFree s → OpenStep m m.diagram s op turn →
+    TurnIs m before b (Command op) turn
 open_turn m before b s op turn k known free (OpenStep.alone none deciding) =
     decided_turn m before b (opens m.diagram s op) (fresh m.diagram s op) (Command op) turn
-      (ready_free m before b s op k known free none) deciding
+    (ready_free m before b s op k known free none) deciding
 open_turn m before b s op turn k known free (OpenStep.reserves some end) =
     by_ends (TurnIs m before b (Command op)) turn (opens m.diagram s op) (Collecting (s.highest + 1))
-      (to_each s.bay (s.highest + 1) Reserve (others m.diagram s.bay)) end (record {
+    (to_each s.bay (s.highest + 1) Reserve (others m.diagram s.bay)) end (record {
       node = record {
         granted = k.is.granted;
         collecting = refl;
@@ -218,28 +246,28 @@ open_turn m before b s op turn k known free (OpenStep.reserves some end) =
         heard = λ g x has.
             let e : fresh m.diagram s op ≡ g = cc has in
             subst (λ (y : Collection). HeardIs m x b (get_or y.heard x None) (cond (is_another m.diagram b x) None
-              None)) e (nobody_heard m x b (is_another m.diagram b x));
+            None)) e (nobody_heard m x b (is_another m.diagram b x));
         missing = λ g has.
             let e : fresh m.diagram s op ≡ g = cc has in
             subst (λ (y : Collection). ¬ AllHeard m.diagram b y.heard) e (none_heard m.diagram b (part_count m.diagram)
-              (subst (λ (x : ℕ). others m.diagram x ≢ []) k.name some));
+            (subst (λ (x : ℕ). others m.diagram x ≢ []) k.name some));
       };
       tells = each_sent m b s.words s.bay (s.highest + 1) Reserve (others m.diagram s.bay) tt;
     })
 
 pub command_turn : (m : Meaning) (before : List Line) (b : ℕ) (s : State) (op : Op) (turn : Turn) →
-  Before m before b s → op.switch.0 < length m.diagram.switches → CommandStep m m.diagram s op turn →
-  TurnIs m before b (Command op) turn
+    Before m before b s → op.switch.0 < length m.diagram.switches → CommandStep m m.diagram s op turn →
+    TurnIs m before b (Command op) turn
 command_turn m before b s op turn k known (CommandStep.round_under_way q is end) = still_command m before b s op turn
-  (UnderWay q) k tt refl end
+    (UnderWay q) k tt refl end
 command_turn m before b s op turn k known (CommandStep.held l is lock end) = still_command m before b s op turn
-  (HeldBy l.holder l.round) k tt refl end
+    (HeldBy l.holder l.round) k tt refl end
 command_turn m before b s op turn k known (CommandStep.there free at end) = still_command m before b s op turn There
-  k tt refl end
+    k tt refl end
 command_turn m before b s op turn k known (CommandStep.spent free at top end) = still_command m before b s op turn Spent
-  k tt refl end
+    k tt refl end
 command_turn m before b s op turn k known (CommandStep.opens_round free at below step) =
-  open_turn m before b s op turn k known free step
+    open_turn m before b s op turn k known free step
 
 -- ---- Sense, Withdraw, Cut, Restart and Tick
 
@@ -250,16 +278,16 @@ of_it : (y : Option Grant) (g : Grant) (i : ℕ) → y ≡ Some g → is_of y g.
 of_it y g i is = rw is (rw (eqb_same g.round) refl)
 
 pub sense_turn : (m : Meaning) (before : List Line) (b : ℕ) (s : State) (i : SwitchId) (word : Dbpos) (turn : Turn) →
-  Before m before b s → i.0 < length m.diagram.switches → SenseStep m.diagram s i.0 word turn →
-  TurnIs m before b (Sense i word) turn
+    Before m before b s → i.0 < length m.diagram.switches → SenseStep m.diagram s i.0 word turn →
+    TurnIs m before b (Sense i word) turn
 sense_turn m before b s i word turn k lt (SenseStep.finishes g at end) =
     by_ends (TurnIs m before b (Sense i word)) turn (ends (senses s i.0 word)) (Finished g.round)
-      (overs m.diagram s g.round) end (record {
+    (overs m.diagram s g.round) end (record {
       node = record {
         granted = sym (closes_it (open_of before b) g (sym k.is.granted ∙ at.granted));
         collecting = k.is.collecting;
         read = λ j less is. set_is s.words i.0 word j (omega (arith, lt, k.sound.words))
-          ∙ ap (λ (w : Dbpos). cond (i.0 == j) word w) (k.is.read j less is);
+            ∙ ap (λ (w : Dbpos). cond (i.0 == j) word w) (k.is.read j less is);
         last = λ h has. absurd (cc has);
         round = λ q is some. k.is.round q (ended_round s.collecting s.granted q is) some;
         heard = k.is.heard;
@@ -273,7 +301,7 @@ sense_turn m before b s i word turn k lt (SenseStep.reads no_end end) =
         granted = k.is.granted;
         collecting = k.is.collecting;
         read = λ j less is. set_is s.words i.0 word j (omega (arith, lt, k.sound.words))
-          ∙ ap (λ (w : Dbpos). cond (i.0 == j) word w) (k.is.read j less is);
+            ∙ ap (λ (w : Dbpos). cond (i.0 == j) word w) (k.is.read j less is);
         last = k.is.last;
         round = k.is.round;
         heard = k.is.heard;
@@ -283,12 +311,12 @@ sense_turn m before b s i word turn k lt (SenseStep.reads no_end end) =
     })
 
 pub withdraw_turn : (m : Meaning) (before : List Line) (b : ℕ) (s : State) (turn : Turn) → Before m before b s →
-  WithdrawStep m.diagram s turn → TurnIs m before b (Withdraw (record { 0 = b })) turn
+    WithdrawStep m.diagram s turn → TurnIs m before b (Withdraw (record { 0 = b })) turn
 withdraw_turn m before b s turn k (WithdrawStep.from_round g has end) =
     let none : s.granted ≡ None = (k.sound.collecting g has).no_grant in
     let shut : open_of before b ≡ None = sym k.is.granted ∙ none in
     by_ends (TurnIs m before b (Withdraw (record { 0 = b }))) turn (drops s) (Withdrawn g.round)
-      (overs m.diagram s g.round) end (record {
+    (overs m.diagram s g.round) end (record {
       node = record {
         granted = rw shut none;
         collecting = refl;
@@ -303,14 +331,14 @@ withdraw_turn m before b s turn k (WithdrawStep.from_round g has end) =
 withdraw_turn m before b s turn k (WithdrawStep.from_grant g none has end) =
     let is_open : open_of before b ≡ Some g = sym k.is.granted ∙ has in
     by_ends (TurnIs m before b (Withdraw (record { 0 = b }))) turn (ends (senses s g.op.switch.0 Lost))
-      (Withdrawn g.round) (overs m.diagram s g.round) end (record {
+    (Withdrawn g.round) (overs m.diagram s g.round) end (record {
       node = record {
         granted = sym (closes_it (open_of before b) g is_open);
         collecting = ap opened none;
         read = λ i lt is. set_is s.words g.op.switch.0 Lost i
-          (omega (arith, (switch_of m s.bay g.op.switch.0 (k.sound.kept.granted g has).own).0, k.sound.words))
-          ∙ ap (λ (w : Dbpos). cond (g.op.switch.0 == i) Lost w) (k.is.read i lt is)
-          ∙ ap (λ (t : Bool). cond t Lost (reading_at m.diagram before i)) (sym (of_it (open_of before b) g i is_open));
+            (omega (arith, (switch_of m s.bay g.op.switch.0 (k.sound.kept.granted g has).own).0, k.sound.words))
+            ∙ ap (λ (w : Dbpos). cond (g.op.switch.0 == i) Lost w) (k.is.read i lt is)
+            ∙ ap (λ (t : Bool). cond t Lost (reading_at m.diagram before i)) (sym (of_it (open_of before b) g i is_open));
         last = λ h got. absurd (cc got);
         round = λ q is some. k.is.round q (ended_round s.collecting s.granted q is) some;
         heard = λ h x got. absurd (cc (got, none));
@@ -321,23 +349,23 @@ withdraw_turn m before b s turn k (WithdrawStep.from_grant g none has end) =
 withdraw_turn m before b s turn k (WithdrawStep.no_round idle end) =
     by_ends (TurnIs m before b (Withdraw (record { 0 = b }))) turn s Quiet [] end (record {
       node = stays m before (Withdraw (record { 0 = b })) b s.collecting s.granted s.words k.is tt
-        (λ g has x other. refl);
+          (λ g has x other. refl);
       tells = nothing_sent m b s.words;
     })
 
 pub cut_turn : (m : Meaning) (before : List Line) (b : ℕ) (s : State) (i : SwitchId) (turn : Turn) →
-  Before m before b s → i.0 < length m.diagram.switches → CutStep m.diagram s i.0 turn → TurnIs m before b (Cut i) turn
+    Before m before b s → i.0 < length m.diagram.switches → CutStep m.diagram s i.0 turn → TurnIs m before b (Cut i) turn
 cut_turn m before b s i turn k lt (CutStep.stops g has at end) =
     let is_open : open_of before b ≡ Some g = sym k.is.granted ∙ has in
     by_ends (TurnIs m before b (Cut i)) turn (ends (senses s i.0 Lost)) (Stopped g.round) (overs m.diagram s g.round)
-      end (record {
+    end (record {
       node = record {
         granted = sym (closes_it (open_of before b) g is_open);
         collecting = k.is.collecting;
         read = λ j less is. set_is s.words i.0 Lost j (omega (arith, lt, k.sound.words))
-          ∙ ap (λ (w : Dbpos). cond (i.0 == j) Lost w) (k.is.read j less is)
-          ∙ ap (λ (t : Bool). cond t Lost (reading_at m.diagram before j)) (ap (λ x. x == j) (sym at)
-          ∙ sym (of_it (open_of before b) g j is_open));
+            ∙ ap (λ (w : Dbpos). cond (i.0 == j) Lost w) (k.is.read j less is)
+            ∙ ap (λ (t : Bool). cond t Lost (reading_at m.diagram before j)) (ap (λ x. x == j) (sym at)
+            ∙ sym (of_it (open_of before b) g j is_open));
         last = λ h got. absurd (cc got);
         round = λ q is some. k.is.round q (ended_round s.collecting s.granted q is) some;
         heard = k.is.heard;
@@ -357,30 +385,30 @@ cut_turn m before b s i turn k lt (CutStep.no_grant none end) =
     })
 
 pub restart_turn : (m : Meaning) (before : List Line) (b : ℕ) (s : State) (turn : Turn) → Before m before b s →
-  Ends turn (restarts s) Quiet [] → TurnIs m before b (Restart (record { 0 = b })) turn
+    Ends turn (restarts s) Quiet [] → TurnIs m before b (Restart (record { 0 = b })) turn
 restart_turn m before b s turn k end = by_ends (TurnIs m before b (Restart (record { 0 = b }))) turn (restarts s) Quiet
-  [] end (record {
-  node = record {
-    granted = k.is.granted;
-    collecting = rw (eqb_same b) refl;
-    read = λ i lt is. get_lost (length s.words) i ∙ rw (eqb_same b) refl;
-    last = k.is.last;
-    round = λ q is some. k.is.round q (dropped_round s.collecting s.granted q
-      (λ g has. (k.sound.collecting g has).no_grant) is) some;
-    heard = λ g x has. absurd (cc has);
-    missing = λ g has. absurd (cc has);
-  };
-  tells = nothing_sent m b (replicate (length s.words) Lost);
-})
+    [] end (record {
+      node = record {
+        granted = k.is.granted;
+        collecting = rw (eqb_same b) refl;
+        read = λ i lt is. get_lost (length s.words) i ∙ rw (eqb_same b) refl;
+        last = k.is.last;
+        round = λ q is some. k.is.round q (dropped_round s.collecting s.granted q
+            (λ g has. (k.sound.collecting g has).no_grant) is) some;
+        heard = λ g x has. absurd (cc has);
+        missing = λ g has. absurd (cc has);
+      };
+      tells = nothing_sent m b (replicate (length s.words) Lost);
+    })
 
 -- the round that is collected was opened last
 pub last_opened : (m : Meaning) (before : List Line) (b : ℕ) (s : State) (g : Collection) → Before m before b s →
-  s.collecting ≡ Some g → others m.diagram b ≢ [] → last_round before b ≡ Some g.round
+    s.collecting ≡ Some g → others m.diagram b ≢ [] → last_round before b ≡ Some g.round
 last_opened m before b s g k has some =
-  k.is.round g.round (ap (λ (x : Option Collection). under_way_of x s.granted) has) some
+    k.is.round g.round (ap (λ (x : Option Collection). under_way_of x s.granted) has) some
 
 pub ready_collecting : (m : Meaning) (before : List Line) (b : ℕ) (s : State) (g : Collection) (e : WorldEvent) →
-  Before m before b s → s.collecting ≡ Some g → Harmless m.diagram e b → Ready m before b s g e
+    Before m before b s → s.collecting ≡ Some g → Harmless m.diagram e b → Ready m before b s g e
 ready_collecting m before b s g e k has harmless = record {
   name = k.name;
   granted = k.is.granted;
@@ -393,12 +421,12 @@ ready_collecting m before b s g e k has harmless = record {
 }
 
 pub tick_turn : (m : Meaning) (before : List Line) (b : ℕ) (s : State) (turn : Turn) → Before m before b s →
-  TickStep m m.diagram s turn → TurnIs m before b (Tick (record { 0 = b })) turn
+    TickStep m m.diagram s turn → TurnIs m before b (Tick (record { 0 = b })) turn
 tick_turn m before b s turn k (TickStep.decides g has deciding) = decided_turn m before b s g (Tick (record { 0 = b }))
-  turn (ready_collecting m before b s g (Tick (record { 0 = b })) k has tt) deciding
+    turn (ready_collecting m before b s g (Tick (record { 0 = b })) k has tt) deciding
 tick_turn m before b s turn k (TickStep.asks l none lock end) =
     by_ends (TurnIs m before b (Tick (record { 0 = b }))) turn s Quiet (frame s.bay l.holder.0 l.round Query ∷ [])
-      end (record {
+    end (record {
       node = stays m before (Tick (record { 0 = b })) b s.collecting s.granted s.words k.is tt (λ g has x other. refl);
       tells = one_sent m b s.words (frame s.bay l.holder.0 l.round Query) tt;
     })

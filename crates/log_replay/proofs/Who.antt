@@ -19,13 +19,13 @@ use Rattle.log_replay.proofs.Links.{TurnShown, turn_shown, quiet_shown, not_refu
 
 pub data Who (m : Meaning) (old : Scene) (s : Shown) : Type 0 where
   steps : (b : ℕ) (e : NodeEvent) (turn : Turn) → Step m m.diagram (node m.diagram old b) e turn →
-    TurnShown (length old.sent) b turn s → Who m old s
+      TurnShown (length old.sent) b turn s → Who m old s
   nobody : ShowsNothing s → Who m old s
 
 module _ (m : Meaning) (old new : Scene) (outcome : WorldOutcome) (s : Shown) (shows : Shows outcome s) where
   step_who : (b : ℕ) (e : NodeEvent) → NodeSteps m old b e new outcome → Who m old s
   step_who b e t = Who.steps b e t.turn t.step (turn_shown (length old.sent) b (node m.diagram old b) t.turn outcome s
-    t.says shows)
+      t.says shows)
 
   sense_who : (i : SwitchId) (word : Dbpos) → SenseHappens m old i word new outcome → Who m old s
   sense_who i word (SenseHappens.untrue false_word refused) = absurd (not_refused old new outcome _ s refused shows)
@@ -38,7 +38,7 @@ module _ (m : Meaning) (old new : Scene) (outcome : WorldOutcome) (s : Shown) (s
   part_who : (k : ℕ) → PartHappens m.diagram old k new outcome → Who m old s
   part_who k (PartHappens.unsent none refused) = absurd (not_refused old new outcome _ s refused shows)
   part_who k (PartHappens.nothing f is same quiet) =
-    Who.nobody (quiet_shown (length old.sent) f.to.0 (node m.diagram old f.to.0) outcome s quiet shows)
+      Who.nobody (quiet_shown (length old.sent) f.to.0 (node m.diagram old f.to.0) outcome s quiet shows)
 
   withdraw_who : (b : ℕ) → WithdrawHappens m old b new outcome → Who m old s
   withdraw_who b (WithdrawHappens.running g has on refused) = absurd (not_refused old new outcome _ s refused shows)
@@ -49,7 +49,7 @@ module _ (m : Meaning) (old new : Scene) (outcome : WorldOutcome) (s : Shown) (s
   begin_who i (BeginHappens.running on refused) = absurd (not_refused old new outcome _ s refused shows)
   begin_who i (BeginHappens.there_already g opened at refused) = absurd (not_refused old new outcome _ s refused shows)
   begin_who i (BeginHappens.begins g opened off away drive) =
-    Who.nobody (drive_shown new new outcome s drive.says shows)
+      Who.nobody (drive_shown new new outcome s drive.says shows)
 
   end_who : (i : ℕ) → EndHappens m.diagram old i new outcome → Who m old s
   end_who i (EndHappens.resting off refused) = absurd (not_refused old new outcome _ s refused shows)
@@ -60,7 +60,7 @@ module _ (m : Meaning) (old new : Scene) (outcome : WorldOutcome) (s : Shown) (s
   cut_who i (CutHappens.stops_between on t) =
       let b = bay_of m.diagram i.0 in
       Who.steps b (Cutting i) t.turn t.step (turn_shown (length old.sent) b (node m.diagram old b) t.turn outcome s
-        t.says shows)
+      t.says shows)
 
   pub who : (e : WorldEvent) → Happens m old e new outcome → Who m old s
   who (Command op) t = step_who _ _ t

@@ -111,29 +111,29 @@ pub data FieldFault (d : Diagram) (k : RecordKind) (first second : List ℕ) (nu
   unknown : ¬ IsKnown d k first → number ≡ 2 → FieldFault d k first second number
   no_word : IsKnown d k first → ¬ IsWord k second → number ≡ 3 → FieldFault d k first second number
   no_number : IsKnown d k first → IsWord k second → ¬ AreNumbers k first second → number ≡ 8 →
-    FieldFault d k first second number
+      FieldFault d k first second number
 
 -- A record of this kind is refused after these events: it has not the form (1), it is late (7), its path is
 -- unknown (2), its word is none (3), its switch was told of before (4), or its numbers are none (8).
 pub data KindFault (d : Diagram) (before : List LogEvent) (k : RecordKind) (row : List (List ℕ))
-  (number : ℕ) : Type 0 where
+    (number : ℕ) : Type 0 where
   no_form : ¬ HasForm k row → number ≡ 1 → KindFault d before k row number
   late : HasForm k row → IsLate before k → number ≡ 7 → KindFault d before k row number
   unknown : HasForm k row → ¬ IsLate before k → ¬ IsKnown d k (field row 1) → number ≡ 2 →
-    KindFault d before k row number
+      KindFault d before k row number
   no_word : HasForm k row → ¬ IsLate before k → IsKnown d k (field row 1) → ¬ IsWord k (field row 2) → number ≡ 3 →
-    KindFault d before k row number
+      KindFault d before k row number
   again : HasForm k row → ¬ IsLate before k → IsKnown d k (field row 1) → IsWord k (field row 2) →
-    IsAgain d before k (field row 1) → number ≡ 4 → KindFault d before k row number
+      IsAgain d before k (field row 1) → number ≡ 4 → KindFault d before k row number
   no_number : HasForm k row → ¬ IsLate before k → IsKnown d k (field row 1) → IsWord k (field row 2) →
-    ¬ IsAgain d before k (field row 1) → ¬ AreNumbers k (field row 1) (field row 2) → number ≡ 8 →
-    KindFault d before k row number
+      ¬ IsAgain d before k (field row 1) → ¬ AreNumbers k (field row 1) (field row 2) → number ≡ 8 →
+      KindFault d before k row number
 
 -- A record is refused after these events: there were too many (9), it is of no kind (6), or it has a fault of
 -- its kind.
 pub data RecordFault (d : Diagram) (before : List LogEvent) (row : List (List ℕ)) (number : ℕ) : Type 0 where
   too_many : MOST_RECORDS ≤ length before → number ≡ 9 → RecordFault d before row number
   no_kind : length before < MOST_RECORDS → ((k : RecordKind) → ¬ IsOfKind row k) → number ≡ 6 →
-    RecordFault d before row number
+      RecordFault d before row number
   of_kind : (k : RecordKind) → length before < MOST_RECORDS → IsOfKind row k → KindFault d before k row number →
-    RecordFault d before row number
+      RecordFault d before row number

@@ -217,11 +217,7 @@ fn read_of_kind(
 /// `MOST_RECORDS`; 6 its first field names no kind; 1 it has not the form of its kind; 7 it is an `at` after
 /// something has happened; 2 its path is unknown; 3 its word is none; 4 it is an `at` of a switch that was
 /// told of; 8 its numbers are none. Time: the record; for an `at` also the events. Takes no memory.
-pub fn read_record(
-    station: &Station,
-    before: &[LogEvent],
-    row: &ByteRecord,
-) -> Result<LogEvent, u8>
+pub fn read_record(station: &Station, before: &[LogEvent], row: &ByteRecord) -> Result<LogEvent, u8>
     ensures ok { IfOk result (Says station.now (fields_of row.now)) }
     ensures text { IfOk result (λ _. IsText (fields_of row.now)) }
     ensures follows { IfOk result (MayFollow before.now) }

@@ -33,11 +33,7 @@ fn told_at(log: &Log, id: SwitchId) -> Option<bool>
 
 /// Where each switch stands at first; none where the log does not tell it of each. Time: the records `at`
 /// times the switches; where a switch is not told of, the records. Memory: the switches.
-pub fn start_of(
-    alloc: Global,
-    station: &Station,
-    log: &Log,
-) -> Result<Option<Vector>, Memory>
+pub fn start_of(alloc: Global, station: &Station, log: &Log) -> Result<Option<Vector>, Memory>
     ensures some { IfOk result (λ o. IfSome o (λ v. v ≡ start_of station.now log.now)) }
     ensures has { IfOk result (λ o. IfSome o (λ _. HasStart station.now log.now)) }
     ensures none { IfOk result (λ o. IfNone o (¬ HasStart station.now log.now)) }

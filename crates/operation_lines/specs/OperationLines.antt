@@ -22,7 +22,7 @@ pub record NamesOperation (d : Diagram) (line : List ℕ) (op : Op) : Type 0 whe
 abbrev pub HasFault : Diagram → List ℕ → LineFault → Type 0
 HasFault d line Form = (direction : Direction) (path : List ℕ) → ¬ IsOperationLine direction path line
 HasFault d line Unknown = (direction : Direction) × (path : List ℕ) × IsOperationLine direction path line
-  × (¬ Contains d.switch_paths path)
+    × (¬ Contains d.switch_paths path)
 
 -- The number of the fault among the refusals of inputs.
 abbrev pub fault_number : LineFault → ℕ

@@ -96,7 +96,7 @@ on_content deep at es within name ps content rest free fits is h = (
 on_child : (deep at : ℕ) (es : List Entry) (o : Open) (os : List Open) (s : Shape)
     (ss element content rest : List Shape) → IsElement deep element → IsContent deep content →
     s ∷ ss ≡ (element ++ content) ++ (closes o.name ∷ rest) → Closes (suc deep) os rest →
-      deep + length (o ∷ os) ≡ DEPTH →
+    deep + length (o ∷ os) ≡ DEPTH →
     (begins_element s ≡ true → length es < ELEMENTS) → GoesOn at (nest es (o ∷ os)) s ss
 on_child deep at es o os s ss element content rest (at_once d name ps) c e h fits few =
     let head = head_is s (opens name ps true) ss (content ++ (closes o.name ∷ rest)) e in
@@ -126,7 +126,7 @@ on_child deep at es o os s ss element content rest (with_content d name ps inner
 inside : (deep at : ℕ) (es : List Entry) (o : Open) (os : List Open) (s : Shape) (ss content rest : List Shape) →
     IsContent deep content → s ∷ ss ≡ content ++ (closes o.name ∷ rest) → Closes (suc deep) os rest →
     deep + length (o ∷ os) ≡ DEPTH → (begins_element s ≡ true → length es < ELEMENTS) →
-      GoesOn at (nest es (o ∷ os)) s ss
+    GoesOn at (nest es (o ∷ os)) s ss
 inside deep at es o os s ss content rest (none d) e h fits few =
     let head = head_is s (closes o.name) ss rest e in
     let tail = tail_is s (closes o.name) ss rest e in
@@ -153,7 +153,7 @@ inside deep at es o os s ss content rest (child d element cs is c) e h fits few 
 -- ---- one step
 
 forth : (deep at : ℕ) (es : List Entry) (within : List Open) (s : Shape) (ss : List Shape) →
-  deep + length within ≡ DEPTH →
+    deep + length within ≡ DEPTH →
     (begins_element s ≡ true → length es < ELEMENTS) → Closes deep within (s ∷ ss) → GoesOn at (nest es within) s ss
 forth deep at es [] passed ss fits few h = on_passed deep at (nest es []) ss fits h
 forth deep at es [] (characters true) ss fits few h = (nest es [], deep, sym (told_blank at (nest es [])), fits, h)
@@ -180,7 +180,7 @@ ends deep at x es (o ∷ os) h = absurd (omega (arith, ap length h.3, length-app
 
 goes_on : (ps : List Piece) (deep at : ℕ) (x : Entry) (es : List Entry) (within : List Open) (bytes : List ℕ) →
     IsCut bytes ps → deep + length within ≡ DEPTH → length (x ∷ es) + count_by begins_element (map shape ps)
-      ≤ ELEMENTS →
+    ≤ ELEMENTS →
     Closes deep within (map shape ps) → (tree : List Entry) × Goes at (nest (x ∷ es) within) bytes ps (Ok tree)
 goes_on [] deep at x es within bytes cut fits few h = (x ∷ es, inl (cut, ends deep at x es within h))
 goes_on (p ∷ ps) deep at x es within bytes cut fits few h =
@@ -223,7 +223,7 @@ fewer s ss le is = let one = ap as_number is in omega (arith, le, one_in_front s
 -- from the root on
 root_goes : (p : Piece) (ps : List Piece) (deep at : ℕ) (bytes : List ℕ) (root behind : List Shape) →
     IsCut bytes (p ∷ ps) → deep ≡ DEPTH → shape p ∷ map shape ps ≡ root ++ behind → IsElement deep root →
-      IsBeside behind →
+    IsBeside behind →
     count_by begins_element (shape p ∷ map shape ps) ≤ ELEMENTS → (tree : List Entry)
     × Goes at nothing bytes (p ∷ ps) (Ok tree)
 root_goes p ps deep at bytes root behind cut all e (at_once d name qs) beside few =
@@ -274,7 +274,7 @@ document_goes [] at bytes before root behind cut e b is beside few =
       element_some DEPTH root is,
     ))
 document_goes (p ∷ ps) at bytes [] root behind cut e b is beside few =
-  root_goes p ps DEPTH at bytes root behind cut refl e
+    root_goes p ps DEPTH at bytes root behind cut refl e
     is beside few
 document_goes (p ∷ ps) at bytes (x ∷ before) root behind cut e b is beside few =
     let head = head_is (shape p) x (map shape ps) (before ++ (root ++ behind)) e in

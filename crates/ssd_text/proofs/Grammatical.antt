@@ -177,14 +177,14 @@ opens_room at n m name ps c e = by_fault (start_fault at (length n.within) (leng
 
 child_at_once : (deep : ℕ) (o : Open) (os : List Open) (name : List ℕ) (ps : List (List ℕ × List ℕ)) (ss : List Shape) →
     length (o ∷ os) < DEPTH → deep + length (o ∷ os) ≡ DEPTH → Left (o ∷ os) ss →
-      Closes deep (o ∷ os) (opens name ps true ∷ ss)
+    Closes deep (o ∷ os) (opens name ps true ∷ ss)
 child_at_once zero o os name ps ss room fits h = absurd (omega arith)
 child_at_once (suc deep) o os name ps ss room fits h = one_child (suc deep) o os (opens name ps true ∷ []) ss
     (at_once deep name ps) (h (suc deep) fits)
 
 child_with_content : (deep : ℕ) (o new : Open) (os : List Open) (name : List ℕ) (ps : List (List ℕ × List ℕ))
     (ss : List Shape) → new.name ≡ name → length (o ∷ os) < DEPTH → deep + length (o ∷ os) ≡ DEPTH →
-      Left (new ∷ o ∷ os) ss →
+    Left (new ∷ o ∷ os) ss →
     Closes deep (o ∷ os) (opens name ps false ∷ ss)
 child_with_content zero o new os name ps ss same room fits h = absurd (omega arith)
 child_with_content (suc deep) o new os name ps ss same room fits h = full_child deep o new os name ps ss same

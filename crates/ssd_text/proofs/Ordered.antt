@@ -143,7 +143,7 @@ opens_sound at n m name ps false e h =
 
 opens_step : (at : ℕ) (n m : Nest) (name : List ℕ) (ps : List (List ℕ × List ℕ)) (c : Bool) (o : Option TextRefusal) →
     option_map_or Err o (made (opened at n name ps c)) ≡ made m → IsSound n.entries n.within →
-      IsSound m.entries m.within
+    IsSound m.entries m.within
 opens_step at n m name ps c (Some f) e h = absurd cc
 opens_step at n m name ps c None e h = opens_sound at n m name ps c (sames (opened at n name ps c) m e) h
 

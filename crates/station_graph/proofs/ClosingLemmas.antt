@@ -296,8 +296,14 @@ closed_kind d v op x Disconnector listed is closes gap = closes_two d v op.switc
 closed_kind d v op x Earthing listed is closes gap = closes_earth d v op.switch.0 x listed is
     (λ live. gap.0 (record { switch = x; moves = listed; closes = closes; is_earthing = is; energisable = live }))
 closed_kind d v op x Infeed listed is closes gap = closes_feed d v op.switch.0 x listed is
-    (λ earthed. gap.1 (inr (record { switch = x; moves = listed; closes = closes; is_infeed = is; earthable =
-      earthed })))
+    (λ earthed. gap.1 (inr (record {
+      switch = x;
+      moves = listed;
+      closes = closes;
+      is_infeed = is;
+      earthable =
+          earthed;
+    })))
 
 -- closing keeps soundness where the first two rules give none
 pub apart_closed : (d : Diagram) (v : List Bool) (op : Op) → IsOperation d op → op.direction ≡ ToOn →

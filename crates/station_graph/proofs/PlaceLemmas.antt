@@ -13,7 +13,7 @@ use Rattle.station_graph.proofs.CountLemmas.{count_by-cons, counted_yes, counted
 -- a test that passes below i exactly from a place on passes as often as there are places between
 count_before : {X : Type 0} (p : X → Bool) (xs : List X) (first i : ℕ) → first ≤ i → i ≤ length xs →
     ((j : ℕ) (x : X) → slice_get xs j ≡ Some x → j < i → (p x ≡ true) ↔ (first ≤ j)) →
-      count_by p (take i xs) ≡ i - first
+    count_by p (take i xs) ≡ i - first
 count_before p [] first zero le within h = omega arith
 count_before p (x ∷ xs) first zero le within h = omega arith
 count_before p [] first (suc i) le within h = absurd (omega (arith, within))

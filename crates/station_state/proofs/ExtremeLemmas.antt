@@ -19,16 +19,16 @@ agrees_where uncertain Lost = tt
 
 -- the position of a switch in an extreme reading, by its word
 extreme_at : (uncertain : Bool) (words : List Dbpos) (i : ℕ) (word : Dbpos) → slice_get words i ≡ Some word →
-  slice_get (extreme uncertain words) i ≡ Some (closed_where uncertain word)
+    slice_get (extreme uncertain words) i ≡ Some (closed_where uncertain word)
 extreme_at uncertain words i word at = slice_get-map (closed_where uncertain) words i
-  ∙ ap (option_map (closed_where uncertain)) at
+    ∙ ap (option_map (closed_where uncertain)) at
 
 pub extreme_reads : (uncertain : Bool) (words : List Dbpos) → IsReading words (extreme uncertain words)
 extreme_reads uncertain words = record {
   whole = length-map words (closed_where uncertain);
   agree = λ i word closed from at at_v.
       subst (Agrees word) (same_Some (closed_where uncertain word) closed (sym (extreme_at uncertain words i word at)
-        ∙ at_v)) (agrees_where uncertain word);
+      ∙ at_v)) (agrees_where uncertain word);
 }
 
 -- a switch that is closed for certain is closed in each reading
@@ -62,9 +62,9 @@ module _ (words : List Dbpos) (v : List Bool) (reads : IsReading words v) where
       let word = entry words i in_words in
       let closed = entry v i in_v in
       let sure : closed_where false word.0 ≡ true = same_Some (closed_where false word.0) true
-        (sym (extreme_at false words i word.0 word.1) ∙ at) in
+      (sym (extreme_at false words i word.0 word.1) ∙ at) in
       let is : closed.0 ≡ true = closed_surely word.0 closed.0 sure (reads.agree i word.0 closed.0 (omega arith) word.1
-        closed.1) in
+      closed.1) in
       closed.1 ∙ ap Some is
 
   pub grows_greatest : Grows v (extreme true words)
@@ -72,11 +72,11 @@ module _ (words : List Dbpos) (v : List Bool) (reads : IsReading words v) where
       let in_words : i < length words = subst (λ n. i < n) reads.whole (slice_get_within v i true at) in
       let word = entry words i in_words in
       extreme_at true words i word.0 word.1
-        ∙ ap Some (closed_maybe word.0 (reads.agree i word.0 true (omega arith) word.1 at))
+      ∙ ap Some (closed_maybe word.0 (reads.agree i word.0 true (omega arith) word.1 at))
 
 -- lists of one length with the same entries are the same
 pub same_entries : {X : Type 0} (xs ys : List X) → length xs ≡ length ys →
-  ((k : ℕ) → k < length xs → slice_get xs k ≡ slice_get ys k) → xs ≡ ys
+    ((k : ℕ) → k < length xs → slice_get xs k ≡ slice_get ys k) → xs ≡ ys
 same_entries xs ys len same =
     same_lists xs ys len (λ k d h. sym (unwrap_or-slice_get xs k d) ∙ ap (λ o. unwrap_or o d) (same k h)
-      ∙ unwrap_or-slice_get ys k d)
+    ∙ unwrap_or-slice_get ys k d)

@@ -13,7 +13,7 @@ Grows v w = (i : ℕ) → slice_get v i ≡ Some true → slice_get w i ≡ Some
 
 module _ (d : Diagram) (v w : List Bool) (grows : Grows v w) where
   between_grows : (bonds_only : Bool) (item : Item) (a b : ℕ) → ItemBetween bonds_only d v item a b →
-    ItemBetween bonds_only d w item a b
+      ItemBetween bonds_only d w item a b
   between_grows bonds_only (a_switch i) a b h = record {
     switch = h.switch;
     second = h.second;
@@ -27,8 +27,12 @@ module _ (d : Diagram) (v w : List Bool) (grows : Grows v w) where
   between_grows bonds_only (a_tap i) a b h = h
 
   touching_grows : (bonds_only : Bool) (a b : ℕ) → Touching bonds_only d v a b → Touching bonds_only d w a b
-  touching_grows bonds_only a b h = record { item = h.item; among = h.among; between =
-    between_grows bonds_only h.item a b h.between }
+  touching_grows bonds_only a b h = record {
+    item = h.item;
+    among = h.among;
+    between =
+        between_grows bonds_only h.item a b h.between;
+  }
 
   pub joined_grows : (a b : ℕ) → Joined d v a b → Joined d w a b
   joined_grows a b h = linked_weaker (Touching false d v) (Touching false d w) (touching_grows false) a b h

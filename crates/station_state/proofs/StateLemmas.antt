@@ -17,7 +17,7 @@ use Rattle.station_state.proofs.ExtremeLemmas.{extreme_reads, least_grows, grows
 
 -- of anything that only grows as switches close
 holds_in : (words : List Dbpos) (P : List Bool → Type 0) → ((v w : List Bool) → Grows v w → P v → P w) →
-  (c : Certainty) → Between (P (extreme false words)) (P (extreme true words)) c → HoldsIn words P c
+    (c : Certainty) → Between (P (extreme false words)) (P (extreme true words)) c → HoldsIn words P c
 holds_in words P grow Always least = λ v reads. grow (extreme false words) v (least_grows words v reads) least
 holds_in words P grow Never none = λ v reads p. none (grow v (extreme true words) (grows_greatest words v reads) p)
 holds_in words P grow Unknown (none, some) = (
@@ -26,12 +26,12 @@ holds_in words P grow Unknown (none, some) = (
 )
 
 pub states_are : (d : Diagram) (words : List Dbpos) (states : List NodeState) →
-  AreBetween (node_count d) d (extreme false words) (extreme true words) states → AreStates d words states
+    AreBetween (node_count d) d (extreme false words) (extreme true words) states → AreStates d words states
 states_are d words states h = record {
   count = h.count;
   live = λ n s at. holds_in words (λ v. Live d v n) (λ v w grows. live_grows d v w grows n) s.live (h.each n s at).live;
   earthed = λ n s at. holds_in words (λ v. Earthed d v n) (λ v w grows. earthed_grows d v w grows n) s.earthed
-    (h.each n s at).earthed;
+      (h.each n s at).earthed;
 }
 
 -- two facts by what was answered of them
@@ -45,7 +45,7 @@ module _ (d : Diagram) (least greatest : List Bool) where
   between_none = record { count = refl; each = λ n s at. absurd (none-some s at) }
 
   pub between_next : (k : ℕ) (states : List NodeState) (s : NodeState) → AreBetween k d least greatest states →
-    IsBetween d least greatest k s → AreBetween (k + 1) d least greatest (states ++ s ∷ [])
+      IsBetween d least greatest k s → AreBetween (k + 1) d least greatest (states ++ s ∷ [])
   between_next k states s so_far here = record {
     count = length_push states s ∙ ap (λ n. n + 1) so_far.count;
     each = λ n x at. elim (slice_get-push states s x n at) [

@@ -12,8 +12,8 @@ abbrev pub first_lines : ℕ → List NodeState → List (List ℕ) → List ℕ
 first_lines k states paths = state_lines (take k states) (take k paths)
 
 lines_next : (states : List NodeState) (paths : List (List ℕ)) (i : ℕ) (s : NodeState) (p : List ℕ) →
-  slice_get states i ≡ Some s → slice_get paths i ≡ Some p → first_lines (suc i) states paths ≡ first_lines i states
-  paths ++ state_line s p
+    slice_get states i ≡ Some s → slice_get paths i ≡ Some p → first_lines (suc i) states paths ≡ first_lines i states
+    paths ++ state_line s p
 lines_next [] paths i s p at_s at_p = cc
 lines_next (x ∷ xs) [] i s p at_s at_p = cc
 lines_next (x ∷ xs) (q ∷ qs) zero s p at_s at_p =
@@ -22,17 +22,17 @@ lines_next (x ∷ xs) (q ∷ qs) zero s p at_s at_p =
     append-nil (state_line x q) ∙ ap (λ (y : NodeState). state_line y q) same_s ∙ ap (state_line s) same_p
 lines_next (x ∷ xs) (q ∷ qs) (suc i) s p at_s at_p =
     ap (λ rest. state_line x q ++ rest) (lines_next xs qs i s p at_s at_p)
-      ∙ sym (append_assoc (state_line x q) (first_lines i xs qs) (state_line s p))
+    ∙ sym (append_assoc (state_line x q) (first_lines i xs qs) (state_line s p))
 
 pub lines_more : (states : List NodeState) (paths : List (List ℕ)) (i : ℕ) (s : NodeState) (p : List ℕ) →
-  slice_get states i ≡ Some s → slice_get paths i ≡ Some p → first_lines (i + 1) states paths ≡ first_lines i states
-  paths ++ state_line s p
+    slice_get states i ≡ Some s → slice_get paths i ≡ Some p → first_lines (i + 1) states paths ≡ first_lines i states
+    paths ++ state_line s p
 lines_more states paths i s p at_s at_p =
     let e : i + 1 ≡ suc i = omega arith in
     ap (λ k. first_lines k states paths) e ∙ lines_next states paths i s p at_s at_p
 
 pub lines_all : (states : List NodeState) (paths : List (List ℕ)) (n : ℕ) → length states ≡ n → length paths ≡ n →
-  first_lines n states paths ≡ state_lines states paths
+    first_lines n states paths ≡ state_lines states paths
 lines_all states paths n at_states at_paths =
     let whole_states : take n states ≡ states = ap (λ k. take k states) (sym at_states) ∙ take-length states in
     let whole_paths : take n paths ≡ paths = ap (λ k. take k paths) (sym at_paths) ∙ take-length paths in

@@ -25,7 +25,7 @@ pub record ClosedUnder (d : Diagram) (v : List Bool) (kind : Kind) (labels : Lis
 pub record IsMarked (d : Diagram) (v : List Bool) (kind : Kind) (labels : List ℕ) (marks : List Bool) : Type 0 where
   pub count : length marks ≡ node_count d
   pub exact : (n : ℕ) → n < node_count d → (slice_get marks (slice_index labels n) ≡ Some true)
-    ↔ ClosedInClass d v kind labels n
+      ↔ ClosedInClass d v kind labels n
 
 -- The labels are those of what is joined in the vector, and the marks are right.
 pub record IsSupply (s : Supply) : Type 0 where

@@ -32,4 +32,4 @@ state_lines (s ∷ states) (path ∷ paths) = state_line s path ++ state_lines s
 -- The text shows the states of all nodes over every reading of the words.
 abbrev pub IsStateText : Diagram → List Dbpos → List ℕ → Type 0
 IsStateText d words text = (states : List NodeState) × AreStates d words states
-  × (text ≡ state_lines states d.node_paths)
+    × (text ≡ state_lines states d.node_paths)

@@ -16,7 +16,7 @@ pub record Next {X : Type 0} (all : List X) (k : ℕ) (x : X) (rest : List X) : 
   pub left : drop (k + 1) all ≡ rest
 
 drop-suc : {X : Type 0} (all : List X) (k : ℕ) (x : X) (rest : List X) → drop k all ≡ x ∷ rest →
-  (slice_get all k ≡ Some x) × (drop (suc k) all ≡ rest)
+    (slice_get all k ≡ Some x) × (drop (suc k) all ≡ rest)
 drop-suc [] zero x rest left = absurd (cc)
 drop-suc [] (suc k) x rest left = absurd (cc)
 drop-suc (y ∷ all) zero x rest left = (cc, cc)
@@ -28,7 +28,7 @@ next all k x rest left =
     record { at = h.0; taken = take-next all k x h.0; left = ap (λ n. drop n all) (add-one k) ∙ h.1 }
 
 pub NameSteps-push : (d : Diagram) (lines : List (ℕ × List ℕ)) (ops : List Op) (line : ℕ × List ℕ) (op : Op) →
-  NameSteps d lines ops → NamesOperation d line.1 op → NameSteps d (lines ++ line ∷ []) (ops ++ op ∷ [])
+    NameSteps d lines ops → NamesOperation d line.1 op → NameSteps d (lines ++ line ∷ []) (ops ++ op ∷ [])
 NameSteps-push d [] [] line op steps last = (last, tt)
 NameSteps-push d [] (x ∷ ops) line op steps last = absurd steps
 NameSteps-push d (l ∷ lines) [] line op steps last = absurd steps
@@ -42,14 +42,14 @@ nothing_left (x ∷ all) (suc k) left = ap (λ zs. x ∷ zs) (nothing_left all k
 
 -- after one more line, which names a step
 pub one_step_more : (d : Diagram) (all : List (ℕ × List ℕ)) (ops more : List Op) (line : ℕ × List ℕ) (op : Op)
-  (rest : List (ℕ × List ℕ)) → more ≡ ops ++ op ∷ [] → drop (length ops) all ≡ line ∷ rest →
-  NameSteps d (take (length ops) all) ops → NamesOperation d line.1 op
+    (rest : List (ℕ × List ℕ)) → more ≡ ops ++ op ∷ [] → drop (length ops) all ≡ line ∷ rest →
+    NameSteps d (take (length ops) all) ops → NamesOperation d line.1 op
     → NameSteps d (take (length more) all) more × (rest ≡ drop (length more) all)
 one_step_more d all ops more line op rest pushed left steps named =
     let n = next all (length ops) line rest left in
     let count : length more ≡ length ops + 1 = ap length pushed ∙ length-append ops (op ∷ []) in (
       subst (NameSteps d (take (length more) all)) (sym pushed)
           (subst (λ taken. NameSteps d taken (ops ++ op ∷ [])) (sym (ap (λ m. take m all) count ∙ n.taken))
-            (NameSteps-push d _ ops line op steps named)),
+          (NameSteps-push d _ ops line op steps named)),
       sym n.left ∙ ap (λ m. drop m all) (sym count),
     )

@@ -19,29 +19,29 @@ IsOk d v op = Rules d v op step.Ok
 
 -- after one more step that is ok
 pub each-next : (d : Diagram) (v w : List Bool) (ops : List Op) (k : ℕ) (op : Op) → slice_get ops k ≡ Some op →
-  w ≡ after_all v (take k ops) → EachAfter (IsOk d) v (take k ops) → Rules d w op step.Ok →
-  EachAfter (IsOk d) v (take (k + 1) ops)
+    w ≡ after_all v (take k ops) → EachAfter (IsOk d) v (take k ops) → Rules d w op step.Ok →
+    EachAfter (IsOk d) v (take (k + 1) ops)
 each-next d v w ops k op at is each ok =
     subst (EachAfter (IsOk d) v) (sym (take-next ops k op at))
     (EachAfter-push (IsOk d) v (take k ops) op each (subst (λ u. Rules d u op step.Ok) is ok))
 
 pub after-next : (v w : List Bool) (ops : List Op) (k : ℕ) (op : Op) → slice_get ops k ≡ Some op →
-  w ≡ after_all v (take k ops) → carried_out w op ≡ after_all v (take (k + 1) ops)
+    w ≡ after_all v (take k ops) → carried_out w op ≡ after_all v (take (k + 1) ops)
 after-next v w ops k op at is = ap (λ u. carried_out u op) is ∙ sym (ap (after_all v) (take-next ops k op at)
-  ∙ after_all-append v (take k ops) (op ∷ []))
+    ∙ after_all-append v (take k ops) (op ∷ []))
 
 pub stopped : (d : Diagram) (v w : List Bool) (ops : List Op) (k : ℕ) (op : Op) (s : Step) → k ≤ length ops →
-  slice_get ops k ≡ Some op → w ≡ after_all v (take k ops) → EachAfter (IsOk d) v (take k ops) → Rules d w op s →
-  s ≢ step.Ok → IsRuling d v ops (record { passed = k; stopped = Some s })
+    slice_get ops k ≡ Some op → w ≡ after_all v (take k ops) → EachAfter (IsOk d) v (take k ops) → Rules d w op s →
+    s ≢ step.Ok → IsRuling d v ops (record { passed = k; stopped = Some s })
 stopped d v w ops k op s within at is each rules stops = record {
   within = within;
   passed = index-from_EachAfter (IsOk d) v (take k ops) each;
   stopped = subst (λ o. StopsAt d (after_all v (take k ops)) o (Some s)) (sym at)
-    (subst (λ u. Rules d u op s) is rules, stops);
+      (subst (λ u. Rules d u op s) is rules, stops);
 }
 
 pub all_passed : (d : Diagram) (v : List Bool) (ops : List Op) (n k : ℕ) → n ≡ length ops → k ≡ length ops →
-  EachAfter (IsOk d) v (take k ops) → IsRuling d v ops (record { passed = n; stopped = None })
+    EachAfter (IsOk d) v (take k ops) → IsRuling d v ops (record { passed = n; stopped = None })
 all_passed d v ops n k all last each =
     let same : k ≡ n = last ∙ sym all in
     record {
@@ -71,21 +71,21 @@ past (op ∷ ops) zero none = absurd (none-some op (sym none))
 past (op ∷ ops) (suc k) none = omega (arith, past ops k none)
 
 accepts : (d : Diagram) (v : List Bool) (o : Option Op) (s : Option Step) → StopsAt d v o s →
-  ((op : Op) → o ≡ Some op → Rules d v op step.Ok) → s ≡ None
+    ((op : Op) → o ≡ Some op → Rules d v op step.Ok) → s ≡ None
 accepts d v o None stops ok = refl
 accepts d v None (Some s) stops ok = absurd stops
 accepts d v (Some op) (Some s) stops ok = absurd (is_ok d v op s stops.0 (ok op refl) stops.1)
 
 -- where nothing stops, the steps that are ok are all
 pub all_of : (d : Diagram) (v : List Bool) (ops : List Op) (r : Ruling) → IsRuling d v ops r → r.stopped ≡ None →
-  take r.passed ops ≡ ops
+    take r.passed ops ≡ ops
 all_of d v ops r rules none =
-  take_all r.passed ops (past ops r.passed
-  (never_stops d _ _ (subst (StopsAt d (after_all v (take r.passed ops)) (slice_get ops r.passed)) none rules.stopped)))
+    take_all r.passed ops (past ops r.passed
+    (never_stops d _ _ (subst (StopsAt d (after_all v (take r.passed ops)) (slice_get ops r.passed)) none rules.stopped)))
 
 -- nothing stops exactly an order that is accepted
 pub accepted : (d : Diagram) (v : List Bool) (ops : List Op) (r : Ruling) → IsRuling d v ops r → (r.stopped ≡ None)
-  ↔ IsAccepted d v ops
+    ↔ IsAccepted d v ops
 accepted d v ops r rules = (
   (λ none. subst (IsAccepted d v) (all_of d v ops r rules none) rules.passed),
   (λ ok. accepts d _ _ r.stopped rules.stopped (λ op at. ok r.passed op at)),

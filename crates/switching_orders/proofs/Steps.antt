@@ -14,20 +14,23 @@ EachAfter P v [] = ⊤
 EachAfter P v (op ∷ ops) = P v op × EachAfter P (carried_out v op) ops
 
 pub EachAfter-from_index : (P : List Bool → Op → Type 0) (v : List Bool) (ops : List Op) →
-  ((k : ℕ) (op : Op) → slice_get ops k ≡ Some op → P (after_all v (take k ops)) op) → EachAfter P v ops
+    ((k : ℕ) (op : Op) → slice_get ops k ≡ Some op → P (after_all v (take k ops)) op) → EachAfter P v ops
 EachAfter-from_index P v [] each = tt
-EachAfter-from_index P v (op ∷ ops) each = (each zero op refl, EachAfter-from_index P (carried_out v op) ops
-  (λ k next at. each (suc k) next at))
+EachAfter-from_index P v (op ∷ ops) each = (
+  each zero op refl,
+  EachAfter-from_index P (carried_out v op) ops
+      (λ k next at. each (suc k) next at),
+)
 
 pub index-from_EachAfter : (P : List Bool → Op → Type 0) (v : List Bool) (ops : List Op) → EachAfter P v ops →
-  (k : ℕ) (op : Op) → slice_get ops k ≡ Some op → P (after_all v (take k ops)) op
+    (k : ℕ) (op : Op) → slice_get ops k ≡ Some op → P (after_all v (take k ops)) op
 index-from_EachAfter P v [] each k op at = absurd (none-some op at)
 index-from_EachAfter P v (first ∷ ops) each zero op at = subst (P v) (same_Some first op at) each.0
 index-from_EachAfter P v (first ∷ ops) each (suc k) op at = index-from_EachAfter P (carried_out v first) ops
-  each.1 k op at
+    each.1 k op at
 
 pub EachAfter-push : (P : List Bool → Op → Type 0) (v : List Bool) (ops : List Op) (op : Op) → EachAfter P v ops →
-  P (after_all v ops) op → EachAfter P v (ops ++ op ∷ [])
+    P (after_all v ops) op → EachAfter P v (ops ++ op ∷ [])
 EachAfter-push P v [] op each last = (last, tt)
 EachAfter-push P v (first ∷ ops) op each last = (each.0, EachAfter-push P (carried_out v first) ops op each.1 last)
 
@@ -41,10 +44,10 @@ take-suc (y ∷ xs) zero x at = ap (λ z. z ∷ []) (same_Some y x at)
 take-suc {X} (y ∷ xs) (suc k) x at = ap (λ (zs : List X). y ∷ zs) (take-suc xs k x at)
 
 pub take-next : {X : Type 0} (xs : List X) (k : ℕ) (x : X) → slice_get xs k ≡ Some x →
-  take (k + 1) xs ≡ take k xs ++ x ∷ []
+    take (k + 1) xs ≡ take k xs ++ x ∷ []
 take-next xs k x at = ap (λ n. take n xs) (add-one k) ∙ take-suc xs k x at
 
 pub length-after_all : (v : List Bool) (ops : List Op) → length (after_all v ops) ≡ length v
 length-after_all v [] = refl
 length-after_all v (op ∷ ops) = length-after_all (carried_out v op) ops ∙ length-set v op.switch.0
-  (wanted_end op.direction)
+    (wanted_end op.direction)

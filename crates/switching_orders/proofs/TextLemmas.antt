@@ -14,15 +14,15 @@ use Rattle.switching_orders.specs.OrderText.{step_line, ok_lines, back_line}
 use Rattle.switching_orders.proofs.Steps.{take-next}
 
 enumerate_from-push : {X : Type 0} (n m : ℕ) (xs : List X) (x : X) → m ≡ n + length xs →
-  enumerate_from n (xs ++ x ∷ []) ≡ enumerate_from n xs ++ (m, x) ∷ []
+    enumerate_from n (xs ++ x ∷ []) ≡ enumerate_from n xs ++ (m, x) ∷ []
 enumerate_from-push {X} n m [] x is = let e : n ≡ m = omega arith in ap (λ k. let pairs : List (ℕ × X) =
-  (k, x) ∷ [] in pairs) e
+    (k, x) ∷ [] in pairs) e
 enumerate_from-push {X} n m (y ∷ xs) x is = ap (λ (ps : List (ℕ × X)). (n, y) ∷ ps) (enumerate_from-push (n + 1) m xs x
-  (omega arith))
+    (omega arith))
 
 -- one more step that is ok is one more line
 pub ok_lines-next : (d : Diagram) (ops : List Op) (k : ℕ) (op : Op) → slice_get ops k ≡ Some op →
-  ok_lines d (take (k + 1) ops) ≡ ok_lines d (take k ops) ++ step_line d (k + 1) step.Ok op
+    ok_lines d (take (k + 1) ops) ≡ ok_lines d (take k ops) ++ step_line d (k + 1) step.Ok op
 ok_lines-next d ops k op at =
     let line = λ (p : ℕ × Op). step_line d p.0 step.Ok p.1 in
     let within : k < length ops = slice_get_within ops k op at in
@@ -34,17 +34,17 @@ ok_lines-next d ops k op at =
 
 -- a text to which the line of one more step was appended
 pub one_line_more : (old now new lines line more : List ℕ) → new ≡ now ++ line → now ≡ old ++ lines →
-  more ≡ lines ++ line → new ≡ old ++ more
+    more ≡ lines ++ line → new ≡ old ++ more
 one_line_more old now new lines line more appended is next = appended ∙ ap (λ t. t ++ line) is
-  ∙ append_assoc old lines line ∙ ap (λ t. old ++ t) (sym next)
+    ∙ append_assoc old lines line ∙ ap (λ t. old ++ t) (sym next)
 
 -- the whole text of an order that is accepted
 pub accepted_text : (d : Diagram) (ops reverse_ops : List Op) (count : ℕ) (back : Ruling)
-  (passed with_count whole : List ℕ) → passed ≡ ok_lines d ops → with_count ≡ passed ++ codes "accepted " ++ decimal
-  count ++ codes "\n" → whole ≡ with_count ++ back_line d reverse_ops back back.stopped → count ≡ length ops →
-  reverse_ops ≡ undone ops
+    (passed with_count whole : List ℕ) → passed ≡ ok_lines d ops → with_count ≡ passed ++ codes "accepted " ++ decimal
+    count ++ codes "\n" → whole ≡ with_count ++ back_line d reverse_ops back back.stopped → count ≡ length ops →
+    reverse_ops ≡ undone ops
     → whole ≡ ok_lines d ops ++ codes "accepted " ++ decimal (length ops) ++ codes "\n" ++ back_line d (undone ops) back
-      back.stopped
+    back.stopped
 accepted_text d ops reverse_ops count back passed with_count whole lines counted told all reversed =
     told
     ∙ (λ i. counted i ++ back_line d (reversed i) back back.stopped)

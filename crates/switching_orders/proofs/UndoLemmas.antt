@@ -40,11 +40,11 @@ get_set (x ∷ v) (suc i) b c differ e = get_set v i b c differ e
 
 moved_back : (v : List Bool) (op : Op) → ¬ IsIdle v op → carried_out (carried_out v op) (opposite op) ≡ v
 moved_back v op idle = set_back v op.switch.0 (wanted_end op.direction) (wanted_end (other_way op.direction)) idle
-  (other_position op.direction)
+    (other_position op.direction)
 
 not_idle_back : (v : List Bool) (op : Op) → ¬ IsIdle (carried_out v op) (opposite op)
 not_idle_back v op = get_set v op.switch.0 (wanted_end op.direction) (wanted_end (other_way op.direction))
-  (other_position op.direction)
+    (other_position op.direction)
 
 pub map-append_one : {A B : Type 0} (f : A → B) (xs : List A) (x : A) → map f (xs ++ x ∷ []) ≡ map f xs ++ f x ∷ []
 map-append_one f [] x = refl
@@ -65,12 +65,12 @@ leads_back v (op ∷ ops) each =
     ∙ moved_back v op each.0
 
 pub moves_back : (v : List Bool) (ops : List Op) → EachAfter Moves v ops →
-  EachAfter Moves (after_all v ops) (undone ops)
+    EachAfter Moves (after_all v ops) (undone ops)
 moves_back v [] each = tt
 moves_back v (op ∷ ops) each =
     subst (EachAfter Moves (after_all (carried_out v op) ops)) (sym (undone-cons op ops))
     (EachAfter-push Moves (after_all (carried_out v op) ops) (undone ops) (opposite op)
-      (moves_back (carried_out v op) ops each.1)
+    (moves_back (carried_out v op) ops each.1)
     (subst (λ w. Moves w (opposite op)) (sym (leads_back (carried_out v op) ops each.1)) (not_idle_back v op)))
 
 -- the order undone moves the same switches
@@ -79,5 +79,5 @@ MoveSwitches-undone count [] moves = moves
 MoveSwitches-undone count (op ∷ ops) moves =
     subst (MoveSwitches count) (sym (undone-cons op ops))
     (All-push (λ (x : Op). x.switch.0 < count) (undone ops) (opposite op) (MoveSwitches-undone count ops
-      (All-tail (λ (x : Op). x.switch.0 < count) op ops moves)) (All-head (λ (x : Op). x.switch.0 < count)
-      op ops moves))
+    (All-tail (λ (x : Op). x.switch.0 < count) op ops moves)) (All-head (λ (x : Op). x.switch.0 < count)
+    op ops moves))

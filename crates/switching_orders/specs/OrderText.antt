@@ -46,11 +46,11 @@ back_line d ops back (Some s) = codes "back " ++ stop_of d ops back
 -- steps follows, and the ruling on the order undone from the vector at its end.
 abbrev pub TellsEnd : Diagram → List Bool → List Op → Ruling → Option Step → OrderReport → Type 0
 TellsEnd d start ops r (Some s) report = (report.differs ≡ true)
-  × (report.text ≡ ok_lines d (take r.passed ops) ++ stop_of d ops r)
+    × (report.text ≡ ok_lines d (take r.passed ops) ++ stop_of d ops r)
 TellsEnd d start ops r None report =
     (report.differs ≡ false) × (back : Ruling) × IsRuling d (after_all start ops) (undone ops) back
     × (report.text ≡ ok_lines d ops ++ codes "accepted " ++ decimal (length ops) ++ codes "\n" ++ back_line d
-      (undone ops) back back.stopped)
+    (undone ops) back back.stopped)
 
 -- The text of `order` for an order from this start, and whether a step of it is denied or idle.
 pub record IsOrderText (d : Diagram) (start : List Bool) (ops : List Op) (report : OrderReport) : Type 0 where

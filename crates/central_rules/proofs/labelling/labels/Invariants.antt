@@ -11,4 +11,4 @@ invariant-switches l =
 abbrev pub invariant-links : goal.invariant-links
 invariant-links l =
     KeepsLabels (TouchingBelow l.bonds_only l.station l.vector (length l.station.switches) l.i)
-      (node_count l.station) l.classes
+    (node_count l.station) l.classes

@@ -11,7 +11,7 @@ returns c =
     let v = c.args.vector.now in
     let back = touching_back true d v in (
       λ e. linked_from_same (Touching true d v) (node_count d) c.in_ok-bonded.bonded c.args.first.0 c.args.second.0 back
-        c.in_ok-bonded.ensures c.requires.first c.requires.second (search rules),
+          c.in_ok-bonded.ensures c.requires.first c.requires.second (search rules),
       λ e. let same = same_from_linked (Touching true d v) (node_count d) c.in_ok-bonded.bonded c.args.first.0
-        c.args.second.0 back c.in_ok-bonded.ensures c.requires.first c.requires.second e in search rules,
+          c.args.second.0 back c.in_ok-bonded.ensures c.requires.first c.requires.second e in search rules,
     )

@@ -11,7 +11,7 @@ returns c =
     let station = c.closed_in_class.ensures.station in
     let answer = c.closed_in_class.ensures.answer in (
       λ e. joined_from_closed d station w v c.args.coupled.now c.requires.coupled Infeed c.args.node.0 c.requires.node
-        (answer.0 e),
+          (answer.0 e),
       λ e. answer.1 (closed_from_joined d station w v c.args.coupled.now c.requires.coupled Infeed c.args.node.0
-        c.requires.node e),
+          c.requires.node e),
     )

@@ -9,4 +9,4 @@ returns-clause-whole c =
     let made = c.in_ok-joined.ensures in
     let all = take_all (length c.args.layers.now) c.args.layers.now (omega arith) in
     IsWhole-joined c.args.labels c.args.layers.now c.in_ok-joined.joined.shapes.items c.in_ok-joined.joined.edges.items
-      (omega (arith, c.ranges.labels.fits)) c.requires.finished made.laid (made.view ∙ ap (λ ls. map finished ls) all)
+    (omega (arith, c.ranges.labels.fits)) c.requires.finished made.laid (made.view ∙ ap (λ ls. map finished ls) all)

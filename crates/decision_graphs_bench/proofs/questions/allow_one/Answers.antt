@@ -7,5 +7,8 @@ pub allow-requires-clause-layer : goal.allow-requires-clause-layer
 allow-requires-clause-layer c = omega (arith, length-AreSetsOf c.args.graph.now.layers c.args.sets.now c.requires)
 
 pub allow-requires-clause-choice : goal.allow-requires-clause-choice
-allow-requires-clause-choice c = omega (arith, length-set_at-AreSetsOf c.args.graph.now.layers c.args.sets.now
-  c.args.layer c.requires)
+allow-requires-clause-choice c = omega (
+  arith,
+  length-set_at-AreSetsOf c.args.graph.now.layers c.args.sets.now
+      c.args.layer c.requires,
+)

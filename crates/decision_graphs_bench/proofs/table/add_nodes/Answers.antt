@@ -13,7 +13,7 @@ loop-made-preserved c =
       within = omega arith;
       counted = ap node_count e ∙ omega (arith, node_count-with_node c.loop-made.builder old.layer, old.counted);
       shaped = λ labels cs ns h. subst (λ (d : Draft). IsShaped d labels cs (ns ++ (c.loop-made.made + 1) ∷ [])) (sym e)
-        (IsShaped-node c.loop-made.builder labels cs ns c.loop-made.made (old.shaped labels cs ns h));
+          (IsShaped-node c.loop-made.builder labels cs ns c.loop-made.made (old.shaped labels cs ns h));
       bare = λ b. subst (λ (d : Draft). IsBare d) (sym e) (IsBare-node c.loop-made.builder old.layer (old.bare b));
     }
 

@@ -8,7 +8,7 @@ invariant-loop-made l = record {
   within : l.made ≤ l.count;
   counted : node_count l.builder ≡ node_count l.initial.builder + l.made;
   shaped : (labels : ℕ) (cs ns : List ℕ) → IsShaped l.initial.builder labels cs (ns ++ 0 ∷ []) →
-    IsShaped l.builder labels cs (ns ++ l.made ∷ []);
+      IsShaped l.builder labels cs (ns ++ l.made ∷ []);
   bare : IsBare l.initial.builder → IsBare l.builder;
 }
 

@@ -6,4 +6,4 @@ pub label_along-requires : goal.label_along-requires
 label_along-requires c =
     let h = rw c.in-Some.is at c.in_ok-found.ensures in
     length-AreAllowed c.args.sets.now c.in-Some.path h.0 ∙ length-AreSetsOf c.args.graph.now.layers c.args.sets.now
-      c.requires.sets
+    c.requires.sets

@@ -10,7 +10,7 @@ use Rattle.denial_explain.proofs.chains.chain_to_closed.Goals as goal
 pub way_to-requires-clause-ends : goal.way_to-requires-clause-ends
 way_to-requires-clause-ends c =
     closed_below c.args.station.now c.args.vector.now c.args.kind c.in_ok-ends.ensures.station c.in_ok-ends.ends
-      c.in_ok-ends.ensures.exact
+    c.in_ok-ends.ensures.exact
 
 pub way_to-requires-clause-there : goal.way_to-requires-clause-there
 way_to-requires-clause-there c =
@@ -25,7 +25,7 @@ returns-clause-chain c =
     record {
       last = way.last.0;
       way = IsWay-same joined joined (Contains ends) (ClosedAt c.args.station.now c.args.vector.now c.args.kind)
-        c.args.from.0 way.last.0 way.nodes
+          c.args.from.0 way.last.0 way.nodes
           (λ x y t. t) (λ x y t. t) (λ n e. (exact n).0 e) (λ n e. (exact n).1 e) c.in_ok-way.ensures.way;
       by = c.closed_at-by.result;
       named = refl;
@@ -39,9 +39,9 @@ returns-clause-fits c =
     let d = c.args.station.now in
     let at = c.closed_at-by.ensures.at in
     let within : c.closed_at-by.result.0 < length d.switches =
-      omega (arith, at.1, slice_get_within d.switches at.0.number at.0.switch at.0.listed) in
+    omega (arith, at.1, slice_get_within d.switches at.0.number at.0.switch at.0.listed) in
     record {
       nodes = c.in_ok-way.ensures.nodes;
       by = λ id e. let same : c.closed_at-by.result ≡ id = cc e in subst (λ (i : SwitchId). i.0 < length d.switches)
-        same within;
+          same within;
     }

@@ -24,7 +24,7 @@ returns-then-eq-2-clause-at c =
 pub loop-i-preserved : goal.loop-i-preserved
 loop-i-preserved c =
     closed_later c.args.station.now c.args.vector.now c.args.kind c.loop-i.i c.args.node.0 c.switch-switch.result
-      c.switch-switch.ensures.value
+    c.switch-switch.ensures.value
     (λ is_kind closed stands. elim c.else-eq.branch [
       | else-eq-via-then-eq+then-closed+else-eq-2 w ↦ search rules
       | else-eq-via-then-eq+else-closed w ↦ cc (closed, w.if-closed.ensures)
@@ -35,5 +35,9 @@ loop-i-preserved c =
 pub unreachable-requires : goal.unreachable-requires
 unreachable-requires c =
     let there = c.requires.there in
-    omega (arith, c.loop-i.invariant there, slice_get_within c.args.station.now.switches there.number there.switch
-      there.listed)
+    omega (
+      arith,
+      c.loop-i.invariant there,
+      slice_get_within c.args.station.now.switches there.number there.switch
+          there.listed,
+    )

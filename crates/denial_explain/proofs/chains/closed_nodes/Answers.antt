@@ -29,4 +29,4 @@ loop-i-preserved c =
 pub returns-clause-exact : goal.returns-clause-exact
 returns-clause-exact c =
     closed_exact c.args.station.now c.args.vector.now c.args.kind c.loop-i.i c.loop-i.nodes (omega arith)
-      c.loop-i.invariant
+    c.loop-i.invariant

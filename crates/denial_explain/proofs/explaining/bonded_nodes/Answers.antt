@@ -13,7 +13,7 @@ returns-clause-exact c =
     let v = c.args.vector.now in
     let labels = c.in_ok-labels.labels in
     IfOk-weaker c.same_class.result (IsClassOf labels c.args.node.0) (λ l. (n : ℕ) →
-      Contains l n ↔ Bonded d v c.args.node.0 n)
+    Contains l n ↔ Bonded d v c.args.node.0 n)
     (λ l h. class_bonded d v labels c.args.node.0 l c.is_station.ensures c.in_ok-labels.ensures c.requires.node h)
     c.same_class.ensures
 

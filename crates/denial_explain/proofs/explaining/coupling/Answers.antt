@@ -8,6 +8,6 @@ pub returns-clause-whole : goal.returns-clause-whole
 returns-clause-whole c =
     let d = c.args.station.now in
     IfOk-weaker c.with_breakers_closed.result (λ v. v ≡ with_breakers_closed d c.args.vector.now)
-      (λ v. length v ≡ length d.switches)
+    (λ v. length v ≡ length d.switches)
     (λ v e. ap (λ (u : List Bool). length u) e ∙ length-close_breakers d.switches c.args.vector.now ∙ c.requires)
     c.with_breakers_closed.ensures

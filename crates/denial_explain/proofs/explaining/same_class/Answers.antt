@@ -9,7 +9,7 @@ loop-i-preserved c =
     elim c.if-eq.branch [
       | then-eq+in_ok-push w ↦
           rw (w.nodes-is, w.in_ok-push.ensures.ok) (Picks-push P c.loop-i.i c.loop-i.nodes c.loop-i.invariant
-            (search rules))
+          (search rules))
       | else-eq w ↦ rw w.nodes-is (Picks-pass P c.loop-i.i c.loop-i.nodes c.loop-i.invariant (search rules))
     ]
 

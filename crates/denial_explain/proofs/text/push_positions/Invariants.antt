@@ -5,4 +5,4 @@ use Rattle.denial_explain.proofs.text.push_positions.Given as goal
 
 abbrev pub invariant-loop-i : goal.invariant-loop-i
 invariant-loop-i l = l.text ≡ l.initial.text ++ texts_below (position_at l.head l.moved.0 l.readings l.reading
-  l.station) l.i
+    l.station) l.i

@@ -12,10 +12,10 @@ pub position-requires : goal.position-requires
 position-requires g c =
     let n = length c.args.station.now.switches in
     let below = subst (λ (e : Equation). OwnBelow (length c.args.station.now.switches) e.alternatives)
-      (sym c.block.view_is) c.requires.block.own in
+    (sym c.block.view_is) c.requires.block.own in
     subst (AllBelow (length c.args.station.now.switches)) (sym c.deref-in-loop-number.ensures.value)
     (own_below (length c.args.station.now.switches) c.block.inside.alternatives.items c.block.inside.own.items
-      c.block.invariant.are below)
+    c.block.invariant.are below)
 
 pub loop-number-preserved : goal.loop-number-preserved
 loop-number-preserved g c =
@@ -23,14 +23,14 @@ loop-number-preserved g c =
     let none = rw c.in_default.is at c.in_ok-loose.ensures.none in
     below_more _ _ c.loop-number.invariant (subst (NoneLooseBy c.args.station.now c.args.block.now)
     (c.in_ok-vector.ensures.placed
-      ∙ ap (λ (own : List SwitchId). placed (replicate (length c.args.station.now.switches) false) own
-      c.loop-number.number) c.deref-in-loop-number.ensures.value) none)
+    ∙ ap (λ (own : List SwitchId). placed (replicate (length c.args.station.now.switches) false) own
+    c.loop-number.number) c.deref-in-loop-number.ensures.value) none)
 
 pub returns : goal.returns
 returns g c =
     let count = c.position_count-number-end.ensures ∙ ap (λ (own : List SwitchId). 2 ^ length own)
-      c.deref.ensures.value in
+    c.deref.ensures.value in
     never_loose c.args.station.now c.args.block.now c.block.inside.own.items
     (subst (λ (e : Equation). AreOwn e.alternatives c.block.inside.own.items) c.block.view_is c.block.invariant.are)
-      c.requires.block.own
+    c.requires.block.own
     (λ k lt. c.loop-number.invariant k (omega (arith, lt, count, c.loop-number-test.false)))

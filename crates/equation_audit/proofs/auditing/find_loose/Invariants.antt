@@ -6,4 +6,4 @@ use Rattle.equation_audit.proofs.auditing.find_loose.Given as goal
 
 abbrev pub invariant-loop-number : goal.invariant-loop-number
 invariant-loop-number g l = (k : ℕ) → k < l.number →
-  NoneLooseBy l.station l.block (placed (replicate (length l.station.switches) false) l.block-inside.own.items k)
+    NoneLooseBy l.station l.block (placed (replicate (length l.station.switches) false) l.block-inside.own.items k)

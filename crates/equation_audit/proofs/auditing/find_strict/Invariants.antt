@@ -6,4 +6,4 @@ use Rattle.equation_audit.proofs.auditing.find_strict.Given as goal
 
 abbrev pub invariant-loop-number : goal.invariant-loop-number
 invariant-loop-number g l = (k : ℕ) → k < l.number →
-  ¬ IsStrictAt l.station l.block (placed (replicate (length l.station.switches) false) l.block-inside.own.items k)
+    ¬ IsStrictAt l.station l.block (placed (replicate (length l.station.switches) false) l.block-inside.own.items k)

@@ -8,4 +8,4 @@ pub all_hold-requires : goal.all_hold-requires
 all_hold-requires c = λ i named.
     let same = c.deref.ensures.value ∙ c.alternative.view_is ∙ c.alternative-item.is in
     c.requires i (own_at_place c.args.alternatives.now c.loop-alternative.alternative-index _ i
-      c.loop-alternative-test.true (subst (λ (cs : List Condition). is_named cs i ≡ true) same named))
+    c.loop-alternative-test.true (subst (λ (cs : List Condition). is_named cs i ≡ true) same named))

@@ -8,5 +8,5 @@ invariant-loop-id l =
     record {
       count : length l.vector ≡ length l.station.switches;
       rest : placed l.vector (drop l.id-index l.own) l.left ≡ placed (replicate (length l.station.switches) false) l.own
-        l.fn.number;
+          l.fn.number;
     }

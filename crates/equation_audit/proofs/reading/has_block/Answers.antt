@@ -8,7 +8,7 @@ use Rattle.equation_audit.proofs.RestLemmas.{HasBlock-push}
 use Rattle.equation_audit.proofs.reading.has_block.Goals as goal
 
 has_at : (es : List Equation) (k : ℕ) (d : Equation) (op : Op) → k < length es → (get_or es k d).op ≡ op →
-  HasBlock es op
+    HasBlock es op
 has_at [] k d op lt is = absurd (omega (arith, lt))
 has_at (e ∷ es) zero d op lt is = inl is
 has_at (e ∷ es) (suc k) d op lt is = inr (has_at es k d op (omega (arith, lt)) is)
@@ -16,7 +16,7 @@ has_at (e ∷ es) (suc k) d op lt is = inr (has_at es k d op (omega (arith, lt))
 pub returns-then-is_of : goal.returns-then-is_of
 returns-then-is_of c = (
   (λ yes. has_at c.args.blocks.now c.loop-block.block-index c.block-item.result c.args.op c.loop-block-test.true
-    (ap (λ (e : Equation). e.op) (sym c.block-item.is) ∙ c.is_of.ensures.0 c.if-is_of.true)),
+      (ap (λ (e : Equation). e.op) (sym c.block-item.is) ∙ c.is_of.ensures.0 c.if-is_of.true)),
   (λ has. refl),
 )
 
@@ -25,8 +25,8 @@ loop-block-preserved c = λ has.
     let next = take-next c.args.blocks.now c.loop-block.block-index c.block-item.result c.loop-block-test.true in
     let more = subst (λ (es : List Equation). HasBlock es c.args.op) next has in
     elim (HasBlock-push (take c.loop-block.block-index c.args.blocks.now)
-      (get_or c.args.blocks.now c.loop-block.block-index c.block-item.result) c.args.op more) [
+    (get_or c.args.blocks.now c.loop-block.block-index c.block-item.result) c.args.op more) [
       | inl before ↦ c.loop-block.invariant before
       | inr here ↦ let yes : c.is_of.result ≡ true = c.is_of.ensures.1 (ap (λ (e : Equation). e.op) c.block-item.is
-        ∙ here) in absurd (let no_more = c.if-is_of.false in cc)
+          ∙ here) in absurd (let no_more = c.if-is_of.false in cc)
     ]

@@ -8,6 +8,9 @@ returns-then-not-is_end-clause-err c =
       line = c.in-Some.line.now;
       rest = _;
       stands = c.in-Some.ensures.some;
-      fault = inl (never_out c.in-Some.line.now (λ e. let yes : c.is_end.result ≡ true = c.is_end.ensures.1 e in
-        let not_so = c.if-not-is_end.true in cc), refl);
+      fault = inl (
+        never_out c.in-Some.line.now (λ e. let yes : c.is_end.result ≡ true = c.is_end.ensures.1 e in
+            let not_so = c.if-not-is_end.true in cc),
+        refl,
+      );
     }))

@@ -12,7 +12,7 @@ use Rattle.interlock_cli.proofs.check.told.Goals as goal
 
 -- a denial shows a vector
 shown_of : (d : Diagram) (words : List Dbpos) (op : Op) (verdict : Verdict) → AreWords d words →
-  Decides d (IsReading words) op verdict → IsShown d verdict
+    Decides d (IsReading words) op verdict → IsShown d verdict
 shown_of d words op Release are h = tt
 shown_of d words op (Denied rule v) are h = h.0.whole ∙ are
 

@@ -6,8 +6,8 @@ use Rattle.log_replay.proofs.following.replay.Goals as goal
 pub returns-in-Some-clause-headline : goal.returns-in-Some-clause-headline
 returns-in-Some-clause-headline g c =
     headline_if (g.J.Judge.meaning c.args.judge.now) c.args.station.now c.args.log.now c.replay_from.result
-      c.requires.same c.diagram_is_station.ensures (g.met.J.Judge.lawful c.args.judge.now) c.replay_from.ensures.replay
+    c.requires.same c.diagram_is_station.ensures (g.met.J.Judge.lawful c.args.judge.now) c.replay_from.ensures.replay
 
 pub returns-in-None-clause-headline : goal.returns-in-None-clause-headline
 returns-in-None-clause-headline g c = empty_headline c.args.station.now c.args.log.now c.new-in-None.result.out
-  (c.new-in-None.ensures.out ∙ ap (map shown_at) c.new.ensures.items)
+    (c.new-in-None.ensures.out ∙ ap (map shown_at) c.new.ensures.items)

@@ -18,7 +18,7 @@ returns-else-eq-clause-none c = λ n is.
     let number : c.in-Ok.number ≡ n = cc (read, came) in
     let written : decimal c.in-Ok.number ≡ c.args.text.now = ap decimal number ∙ sym is.written in
     let same : c.as_bytes.result.now ≡ c.as_bytes-2.result.now = c.as_bytes.ensures.value ∙ c.format.ensures.text
-      ∙ written ∙ sym c.as_bytes-2.ensures.value in
+    ∙ written ∙ sym c.as_bytes-2.ensures.value in
     let yes = c.eq.ensures ∙ (bytes_eq-Decides c.as_bytes.result.now c.as_bytes-2.result.now).1 same in
     let no = c.if-eq.false in
     cc (yes, no)

@@ -12,7 +12,7 @@ loop-i-preserved c =
     let got = slice_get_read outs (length outs) c.loop-i.i o refl c.loop-i-test.true c.index-outcomes-i.is in
     elim c.if-is_denied.branch [
       | then-is_denied w ↦ w.count-is ∙ ap (λ n. n + 1) c.loop-i.invariant
-        ∙ sym (many_yes is_denied outs c.loop-i.i o got (sym c.is_denied.ensures ∙ w.if-is_denied.true))
+          ∙ sym (many_yes is_denied outs c.loop-i.i o got (sym c.is_denied.ensures ∙ w.if-is_denied.true))
       | else-is_denied w ↦ w.count-is ∙ c.loop-i.invariant
-        ∙ sym (many_no is_denied outs c.loop-i.i o got (sym c.is_denied.ensures ∙ w.if-is_denied.false))
+          ∙ sym (many_no is_denied outs c.loop-i.i o got (sym c.is_denied.ensures ∙ w.if-is_denied.false))
     ]

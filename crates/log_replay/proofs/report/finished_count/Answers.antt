@@ -12,7 +12,7 @@ loop-i-preserved c =
     let got = slice_get_read outs (length outs) c.loop-i.i o refl c.loop-i-test.true c.index-outcomes-i.is in
     elim c.if-is_finished.branch [
       | then-is_finished w ↦ w.count-is ∙ ap (λ n. n + 1) c.loop-i.invariant
-        ∙ sym (many_yes is_finished outs c.loop-i.i o got (sym c.is_finished.ensures ∙ w.if-is_finished.true))
+          ∙ sym (many_yes is_finished outs c.loop-i.i o got (sym c.is_finished.ensures ∙ w.if-is_finished.true))
       | else-is_finished w ↦ w.count-is ∙ c.loop-i.invariant
-        ∙ sym (many_no is_finished outs c.loop-i.i o got (sym c.is_finished.ensures ∙ w.if-is_finished.false))
+          ∙ sym (many_no is_finished outs c.loop-i.i o got (sym c.is_finished.ensures ∙ w.if-is_finished.false))
     ]

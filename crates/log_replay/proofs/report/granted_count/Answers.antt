@@ -12,7 +12,7 @@ loop-i-preserved c =
     let got = slice_get_read outs (length outs) c.loop-i.i o refl c.loop-i-test.true c.index-outcomes-i.is in
     elim c.if-is_granted.branch [
       | then-is_granted w ↦ w.count-is ∙ ap (λ n. n + 1) c.loop-i.invariant
-        ∙ sym (many_yes is_granted outs c.loop-i.i o got (sym c.is_granted.ensures ∙ w.if-is_granted.true))
+          ∙ sym (many_yes is_granted outs c.loop-i.i o got (sym c.is_granted.ensures ∙ w.if-is_granted.true))
       | else-is_granted w ↦ w.count-is ∙ c.loop-i.invariant
-        ∙ sym (many_no is_granted outs c.loop-i.i o got (sym c.is_granted.ensures ∙ w.if-is_granted.false))
+          ∙ sym (many_no is_granted outs c.loop-i.i o got (sym c.is_granted.ensures ∙ w.if-is_granted.false))
     ]

@@ -8,4 +8,4 @@ returns c =
     let bay : IsBay c.args.station.now c.args.bay.0 = search rules in
     subst (λ (line : List ℕ). OnOk c.push_bay_line.result (c.push_bay_line.new.text ≡ c.args.text.now ++ line))
     (sym (bay_line_is c.args.station.now c.args.bay.0 c.part_path.result.now bay c.part_path.ensures.value))
-      c.push_bay_line.ensures
+    c.push_bay_line.ensures

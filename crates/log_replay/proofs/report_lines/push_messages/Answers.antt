@@ -8,11 +8,11 @@ use Rattle.log_replay.proofs.report_lines.push_messages.Goals as goal
 
 pub overflow_cast-i : goal.overflow_cast-i
 overflow_cast-i c = let it = numbers_below (2 ^ 32) c.args.first c.args.frames.now c.loop-i.i c.loop-i-test.true
-  c.requires in omega (arith, it)
+    c.requires in omega (arith, it)
 
 pub overflow_add-first : goal.overflow_add-first
 overflow_add-first c = let it = numbers_below (2 ^ 32) c.args.first c.args.frames.now c.loop-i.i c.loop-i-test.true
-  c.requires in omega (arith, it)
+    c.requires in omega (arith, it)
 
 pub loop-i-preserved : goal.loop-i-preserved
 loop-i-preserved c =
@@ -20,7 +20,7 @@ loop-i-preserved c =
     let frame = c.index-frames-i.result in
     let got = slice_get_read frames (length frames) c.loop-i.i frame refl c.loop-i-test.true c.index-frames-i.is in
     appended c.args.text.now c.loop-i.text c.push_message.new.text (flat_map (message_line c.args.line)
-      (messages c.args.first (take c.loop-i.i frames)))
-      (message_line c.args.line (message (c.args.first + c.loop-i.i) frame)) _
+    (messages c.args.first (take c.loop-i.i frames)))
+    (message_line c.args.line (message (c.args.first + c.loop-i.i) frame)) _
     c.in_ok-push_message.ensures c.loop-i.invariant (message_lines_more c.args.line c.args.first frames c.loop-i.i frame
-      got (omega (arith, c.loop-i-test.true)))
+    got (omega (arith, c.loop-i-test.true)))

@@ -4,8 +4,8 @@ use Rattle.log_replay.proofs.start.told_at.Goals as goal
 
 pub returns-then-is_some : goal.returns-then-is_some
 returns-then-is_some c = told_found c.args.log.now c.loop-i.i c.event.result c.args.id.0 c.told_by-told.result
-  c.loop-i.invariant c.event.ensures c.told_by-told.ensures (sym c.is_some.ensures ∙ c.if-is_some.true)
+    c.loop-i.invariant c.event.ensures c.told_by-told.ensures (sym c.is_some.ensures ∙ c.if-is_some.true)
 
 pub loop-i-preserved : goal.loop-i-preserved
 loop-i-preserved c = told_missed c.args.log.now c.loop-i.i c.event.result c.args.id.0 c.told_by-told.result
-  c.loop-i.invariant c.event.ensures c.told_by-told.ensures (sym c.is_some.ensures ∙ c.if-is_some.false)
+    c.loop-i.invariant c.event.ensures c.told_by-told.ensures (sym c.is_some.ensures ∙ c.if-is_some.false)

@@ -9,5 +9,11 @@ returns c =
     let u = c.args.uncertain in
     let words = c.args.readings.now in
     same_entries c.loop-i.vector (extreme u words) (c.loop-i.invariant.0 ∙ sym (length-map words (closed_where u)))
-    (λ k h. c.loop-i.invariant.1 k (omega (arith, h, c.loop-i.invariant.0, c.loop-i-test.false, c.requires,
-      c.switch_count-i-end.ensures.count)))
+    (λ k h. c.loop-i.invariant.1 k (omega (
+      arith,
+      h,
+      c.loop-i.invariant.0,
+      c.loop-i-test.false,
+      c.requires,
+      c.switch_count-i-end.ensures.count,
+    )))

@@ -10,8 +10,8 @@ returns c =
     let marks = c.in_ok-marks.marks in
     let new = c.mark_classes.new.marks in
     let none = c.deref_mut.ensures.value
-      ∙ (c.in_ok-marks.ensures ∙ ap (λ (k : ℕ). replicate k false) c.node_count.ensures.count) in
+    ∙ (c.in_ok-marks.ensures ∙ ap (λ (k : ℕ). replicate k false) c.node_count.ensures.count) in
     rw (taken_back new (drop (length new) marks.items) marks.len
-      (omega (arith, c.mark_classes.ensures.len, c.deref_mut.ensures.len)))
+    (omega (arith, c.mark_classes.ensures.len, c.deref_mut.ensures.len)))
     (is_marked d c.args.vector.now c.args.kind c.args.labels.now c.deref_mut.result.now new none
-      (length_none c.deref_mut.result.now d none) c.mark_classes.ensures)
+    (length_none c.deref_mut.result.now d none) c.mark_classes.ensures)

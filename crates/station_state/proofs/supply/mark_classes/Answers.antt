@@ -8,6 +8,6 @@ pub mark-requires : goal.mark-requires
 mark-requires c =
     let labels = c.args.labels.now in
     let lt = label_in (Touching false c.args.station.now c.args.vector.now) (node_count c.args.station.now) labels
-      c.requires.labels c.switch-switch.result.first.0 c.switch-switch.ensures.fits.first_in in
+    c.requires.labels c.switch-switch.result.first.0 c.switch-switch.ensures.fits.first_in in
     let from = ap (slice_index labels) c.from.ensures in
     omega (arith, lt, c.get.ensures, from, c.loop-i.invariant.len, c.requires.marks)

@@ -8,6 +8,6 @@ loop-i-preserved c =
     let states = c.args.states.now in
     let paths = c.args.station.now.node_paths in
     c.in_ok-push_state.ensures ∙ ap (λ (t : List ℕ). t ++ state_line c.state.result c.node_path.result.now)
-      c.loop-i.invariant
+    c.loop-i.invariant
     ∙ sym (lines_more states paths c.loop-i.i c.state.result c.node_path.result.now c.state.ensures
-      c.node_path.ensures.value)
+    c.node_path.ensures.value)

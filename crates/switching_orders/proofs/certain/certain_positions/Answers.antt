@@ -10,8 +10,8 @@ use Rattle.switching_orders.proofs.UndoLemmas.{map-append_one}
 use Rattle.switching_orders.proofs.certain.certain_positions.Goals as goal
 
 next_word : (words : List Dbpos) (v : List Bool) (i : ℕ) (word : Dbpos) (closed : Bool) →
-  slice_get words i ≡ Some word → word ≡ word_at closed → i < length v → take i words ≡ map word_at (take i v) →
-  take (i + 1) words ≡ map word_at (take (i + 1) (slice_set v i closed))
+    slice_get words i ≡ Some word → word ≡ word_at closed → i < length v → take i words ≡ map word_at (take i v) →
+    take (i + 1) words ≡ map word_at (take (i + 1) (slice_set v i closed))
 next_word words v i word closed at says within same =
     take-next words i word at
     ∙ (λ j. same j ++ says j ∷ [])
@@ -22,7 +22,7 @@ loop-i-preserved c = record {
   count = ap length c.set.ensures ∙ length-set c.loop-i.vector c.loop-i.i c.in-Some.closed ∙ c.loop-i.invariant.count;
   same =
       next_word c.args.readings.now c.loop-i.vector c.loop-i.i c.word.result c.in-Some.closed c.word.ensures
-        c.in-Some.ensures.some (omega (arith, c.loop-i.invariant.count, c.switch_count-i-end.ensures.count))
-        c.loop-i.invariant.same
+      c.in-Some.ensures.some (omega (arith, c.loop-i.invariant.count, c.switch_count-i-end.ensures.count))
+      c.loop-i.invariant.same
       ∙ ap (λ v. map word_at (take (c.loop-i.i + 1) v)) (sym c.set.ensures);
 }

@@ -11,9 +11,9 @@ use Rattle.switching_orders.proofs.laws.accepted_keeps_apart.Goals as goal
 
 -- step by step
 along : ((d : Diagram) (v : List Bool) (op : Op) → IsOperation d op → Breaks d v op None → Apart d v →
-  Apart d (carried_out v op))
+    Apart d (carried_out v op))
     → (d : Diagram) (v : List Bool) (ops : List Op) → AreOperations d ops → Apart d v → EachAfter (IsOk d) v ops →
-      (k : ℕ) → Apart d (after_all v (take k ops))
+    (k : ℕ) → Apart d (after_all v (take k ops))
 along keeps d v [] operations apart each zero = apart
 along keeps d v [] operations apart each (suc k) = apart
 along keeps d v (op ∷ ops) operations apart each zero = apart
@@ -23,4 +23,4 @@ along keeps d v (op ∷ ops) operations apart each (suc k) =
 
 pub returns : goal.returns
 returns c = λ d v ops operations apart accepted. along c.soundness_is_kept.ensures.carried_out d v ops operations apart
-  (EachAfter-from_index (IsOk d) v ops accepted)
+    (EachAfter-from_index (IsOk d) v ops accepted)

@@ -15,4 +15,4 @@ returns-clause-start c = λ d v ops accepted. leads_back v ops (moves d v ops ac
 
 pub returns-clause-never_idle : goal.returns-clause-never_idle
 returns-clause-never_idle c = λ d v ops accepted. index-from_EachAfter Moves (after_all v ops) (undone ops)
-  (moves_back v ops (moves d v ops accepted))
+    (moves_back v ops (moves d v ops accepted))

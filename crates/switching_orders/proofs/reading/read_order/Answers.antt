@@ -30,16 +30,21 @@ loop-number-preserved c =
     let inv = c.loop-number.invariant in
     let items = c.in_ok-push-in-Ok.ensures.items in
     let more = one_step_more c.args.station.now (filled_lines c.args.bytes.now) c.loop-number.steps.items _ _ c.in-Ok.op
-      _ items (sym inv.left ∙ c.in-Some.ensures.some) inv.named c.in-Ok.ensures.ok in
+    _ items (sym inv.left ∙ c.in-Some.ensures.some) inv.named c.in-Ok.ensures.ok in
     record {
       short = inv.short;
-      few = omega (arith, ap length items, length-append c.loop-number.steps.items (c.in-Ok.op ∷ []), c.len.ensures,
-        c.if-len-ge-MOST_STEPS.false);
+      few = omega (
+        arith,
+        ap length items,
+        length-append c.loop-number.steps.items (c.in-Ok.op ∷ []),
+        c.len.ensures,
+        c.if-len-ge-MOST_STEPS.false,
+      );
       left = more.1;
       named = more.0;
       moves = subst (MoveSwitches (length c.args.station.now.switches)) (sym items)
-        (All-push (λ (op : Op). op.switch.0 < length c.args.station.now.switches) _ c.in-Ok.op inv.moves
-        c.in-Ok.ensures.within);
+          (All-push (λ (op : Op). op.switch.0 < length c.args.station.now.switches) _ c.in-Ok.op inv.moves
+          c.in-Ok.ensures.within);
     }
 
 pub returns-in-Err-clause-err : goal.returns-in-Err-clause-err
@@ -54,8 +59,12 @@ returns-in-Err-clause-err c =
         steps = inv.named;
         few = inv.few;
         stands = n.at;
-        fault = inr (omega (arith, c.len.ensures, c.if-len-ge-MOST_STEPS.false), c.in-Err.fault, c.in-Err.ensures.err,
-          c.number.ensures);
+        fault = inr (
+          omega (arith, c.len.ensures, c.if-len-ge-MOST_STEPS.false),
+          c.in-Err.fault,
+          c.in-Err.ensures.err,
+          c.number.ensures,
+        );
       },
     ))
 
@@ -66,5 +75,5 @@ returns-clause-ok c =
       few_bytes = inv.short;
       few_steps = inv.few;
       steps = subst (λ lines. NameSteps c.args.station.now lines c.loop-number.steps.items)
-        (nothing_left _ _ (sym inv.left ∙ c.in_default.ensures.none)) inv.named;
+          (nothing_left _ _ (sym inv.left ∙ c.in_default.ensures.none)) inv.named;
     }

@@ -18,14 +18,16 @@ returns c =
     record {
       ruling = c.in_ok-ruling.ruling;
       rules = c.in_ok-ruling.ensures.ruling;
-      tells = subst (λ s. TellsEnd d c.args.start.now ops c.in_ok-ruling.ruling s (record { text = c.push_back.new.text;
-        differs = false })) (sym none) (
+      tells = subst (λ s. TellsEnd d c.args.start.now ops c.in_ok-ruling.ruling s (record {
+        text = c.push_back.new.text;
+        differs = false;
+      })) (sym none) (
         refl,
         c.in_ok-ruling-2.ruling,
         subst (λ back. IsRuling d (after_all c.args.start.now ops) back c.in_ok-ruling-2.ruling) undo back,
         accepted_text d ops c.in_ok-back.back c.len.result c.in_ok-ruling-2.ruling _ _ _ (passed
-          ∙ (λ i. c.new-text.ensures i ++ ok_lines d (all_of d c.args.start.now ops c.in_ok-ruling.ruling
-          c.in_ok-ruling.ensures.ruling none i))) c.in_ok-push_accepted.ensures c.in_ok-push_back.ensures
-          c.len.ensures.count undo,
+            ∙ (λ i. c.new-text.ensures i ++ ok_lines d (all_of d c.args.start.now ops c.in_ok-ruling.ruling
+            c.in_ok-ruling.ensures.ruling none i))) c.in_ok-push_accepted.ensures c.in_ok-push_back.ensures
+            c.len.ensures.count undo,
       );
     }

@@ -10,7 +10,7 @@ returns-clause-lawful c = read_lawful c.args.bytes.now c.read.result c.read.ensu
 
 pub returns-clause-fits : goal.returns-clause-fits
 returns-clause-fits c = read_frame c.args.bytes.now c.read.result (λ i. omega (arith, c.type_inv.bytes i))
-  c.read.ensures
+    c.read.ensures
 
 pub returns-clause-only : goal.returns-clause-only
 returns-clause-only c = λ f fits lawful e. read_only c.args.bytes.now c.read.result f c.read.ensures fits lawful e

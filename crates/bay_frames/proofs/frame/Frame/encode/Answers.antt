@@ -3,11 +3,11 @@ use Rattle.bay_frames.proofs.frame.Frame.encode.Goals as goal
 
 pub returns-in-Answer-clause-fits : goal.returns-in-Answer-clause-fits
 returns-in-Answer-clause-fits c = fits_answer c.args.self.now _ c.bytes.result.now c.in-Answer.is c.bytes.ensures.value
-  c.bytes.ensures.most c.put.ensures.fits
+    c.bytes.ensures.most c.put.ensures.fits
 
 pub returns-in-Busy-clause-fits : goal.returns-in-Busy-clause-fits
 returns-in-Busy-clause-fits c = fits_busy c.args.self.now _ c.in-Busy.holder_round c.in-Busy.is
-  c.holder_row.ensures.fits c.put-in-Busy.ensures.fits
+    c.holder_row.ensures.fits c.put-in-Busy.ensures.fits
 
 pub returns-in-Reserve : goal.returns-in-Reserve
 returns-in-Reserve c =

@@ -5,4 +5,4 @@ pub returns : goal.returns
 returns c =
     let all = rw (← c.self.view_is) at c.requires.all in
     rw (← c.self.view_is) (summarises c.self.inside.station.now c.args.bay.0 c.args._to.0 c.args.readings.now
-      c.row_of.result all c.row_of.ensures)
+    c.row_of.result all c.row_of.ensures)

@@ -5,5 +5,8 @@ use Rattle.decision_graphs.proofs.graph.Graph.layers.Goals as goal
 pub returns-clause-few_nodes : goal.returns-clause-few_nodes
 returns-clause-few_nodes c =
     let i = c.self.inside in
-    rw (← c.self.view_is) (omega (arith, node_total-view i.labels i.edges.items i.shapes.items,
-      c.self.invariant.whole.laid.nodes))
+    rw (← c.self.view_is) (omega (
+      arith,
+      node_total-view i.labels i.edges.items i.shapes.items,
+      c.self.invariant.whole.laid.nodes,
+    ))

@@ -8,4 +8,4 @@ returns-clause-sizes c =
     let new = c.in_ok-assembled.assembled in
     let fewer = rw c.deref.ensures.value at c.in_ok-assembled.ensures.sizes in
     rw (← c.self.view_is) (λ j. rw c.from_parts.ensures
-      (omega (arith, fewer j, rows-view new.edges.items new.shapes.items j, rows-view i.edges.items i.shapes.items j)))
+    (omega (arith, fewer j, rows-view new.edges.items new.shapes.items j, rows-view i.edges.items i.shapes.items j)))

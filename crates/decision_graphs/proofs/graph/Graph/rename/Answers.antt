@@ -9,4 +9,4 @@ returns-clause-sizes c =
     let new = c.in_ok-parts.parts in
     let same = c.in_ok-parts.ensures.same ∙ c.deref.ensures.value in
     rw (← c.self.view_is) (λ j. rw c.from_parts.ensures (rows-view new.edges.items new.shapes.items j
-      ∙ (ap (λ ss. (shape_at ss j).nodes) same ∙ sym (rows-view i.edges.items i.shapes.items j))))
+    ∙ (ap (λ ss. (shape_at ss j).nodes) same ∙ sym (rows-view i.edges.items i.shapes.items j))))

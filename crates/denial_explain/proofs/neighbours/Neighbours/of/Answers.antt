@@ -13,9 +13,9 @@ pub switches-init : goal.switches-init
 switches-init c =
     let d = c.args.station.now in
     let count : c.in_ok-neighbours.neighbours ≡ replicate (node_count d) [] = c.in_ok-neighbours.ensures
-      ∙ ap (λ n. replicate n []) c.node_count.ensures.count in
+    ∙ ap (λ n. replicate n []) c.node_count.ensures.count in
     rw count (AreLists-none (TouchingBelow false d c.args.joining.now 0 0) (node_count d)
-      (below_none false d c.args.joining.now))
+    (below_none false d c.args.joining.now))
 
 pub switches-preserved : goal.switches-preserved
 switches-preserved c =
@@ -26,14 +26,14 @@ switches-preserved c =
       | then-closed+in-Some+in_ok-join w ↦
           rw (w.neighbours-is, w.in_ok-join.ensures)
           (lists_after_closed d station v c.switches.neighbours c.switches.i w.switch-switch.result w.in-Some.second
-            w.switch-switch.ensures.value w.in-Some.is w.if-closed.ensures c.switches.invariant)
+          w.switch-switch.ensures.value w.in-Some.is w.if-closed.ensures c.switches.invariant)
       | then-closed+in_default w ↦
           rw w.neighbours-is
           (lists_after_one_ended d station v c.switches.neighbours c.switches.i w.switch-switch.result
-            w.switch-switch.ensures.value w.in_default.is c.switches.invariant)
+          w.switch-switch.ensures.value w.in_default.is c.switches.invariant)
       | else-closed w ↦
           rw w.neighbours-is (lists_after_open d station v c.switches.neighbours c.switches.i w.if-closed.ensures
-            c.switches.invariant)
+          c.switches.invariant)
     ]
 
 pub links-init : goal.links-init
@@ -41,17 +41,17 @@ links-init c =
     let d = c.args.station.now in
     let at_end : c.switches.i ≡ length d.switches = omega arith in
     subst (λ i. AreLists (TouchingBelow false d c.args.joining.now i 0) (node_count d) c.switches.neighbours) at_end
-      c.switches.invariant
+    c.switches.invariant
 
 pub links-preserved : goal.links-preserved
 links-preserved c =
     let d = c.args.station.now in
     rw c.in_ok-join-2.ensures
     (lists_after_link d c.node_count.ensures.station c.args.joining.now c.links.neighbours (length d.switches) c.links.i
-      c.link-link.result c.link-link.ensures.value c.links.invariant)
+    c.link-link.result c.link-link.ensures.value c.links.invariant)
 
 pub returns : goal.returns
 returns c =
     let d = c.args.station.now in
     lists_at_end d c.node_count.ensures.station c.args.joining.now c.links.neighbours (length d.switches) c.links.i refl
-      (omega arith) c.links.invariant
+    (omega arith) c.links.invariant

@@ -11,4 +11,4 @@ invariant-switches l =
 abbrev pub invariant-links : goal.invariant-links
 invariant-links l =
     AreLists (TouchingBelow false l.station l.joining (length l.station.switches) l.i) (node_count l.station)
-      l.neighbours
+    l.neighbours

@@ -5,4 +5,4 @@ use Rattle.double_points.proofs.bay_words.BayWords.new.Goals as goal
 
 pub invariant_of-result : goal.invariant_of-result
 invariant_of-result c = overwritten Lost 24 c.args.words.now c.copy_from_slice.new.self (omega arith)
-  c.copy_from_slice.ensures.after
+    c.copy_from_slice.ensures.after

@@ -8,8 +8,8 @@ pub returns : goal.returns
 returns c =
     let first = c.switches_of.result.0.0 in
     let p = placed c.args.station.now c.args.bay.0 first c.switches_of.result.1 c.args.id.0 c.switches_of.ensures.value
-      c.requires.switch in
+    c.requires.switch in
     let within : c.args.id.0 - first < length c.args.self.now =
-      omega (arith, p.from, p.below, c.requires.all, c.switches_of.ensures.value.counted) in
+    omega (arith, p.from, p.below, c.requires.all, c.switches_of.ensures.value.counted) in
     rw p.place (rw c.from.ensures (rw c.self.view_is (slice_get-get_or c.args.self.now (c.args.id.0 - first)
-      Intermediate within)))
+    Intermediate within)))

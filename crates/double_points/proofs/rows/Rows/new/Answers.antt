@@ -16,5 +16,8 @@ unfolding rows_from
 returns-clause-few c =
     let fr = c.from_reader-reader.ensures in
     let xs = strip_bom c.args.text.now in
-    rw (fr.state, fr.source) (omega (arith, length-records_from (length xs + 1) st.StartRecord xs refl,
-      length-strip_bom c.args.text.now))
+    rw (fr.state, fr.source) (omega (
+      arith,
+      length-records_from (length xs + 1) st.StartRecord xs refl,
+      length-strip_bom c.args.text.now,
+    ))

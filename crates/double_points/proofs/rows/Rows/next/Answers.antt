@@ -7,14 +7,14 @@ use Rattle.double_points.proofs.Next.{goes_on, at_last, only_stops}
 use Rattle.double_points.proofs.rows.Rows.next.Goals as goal
 
 stops : (a b : Reader Bytes) (r : Result Bool Error) → ReaderStands a →
-  IfErr r (λ e. Ready a → ExplainsRead told a b false (error_kind e)) →
-  IfErr r (λ e. stops_reader (error_kind e) ≡ true)
+    IfErr r (λ e. Ready a → ExplainsRead told a b false (error_kind e)) →
+    IfErr r (λ e. stops_reader (error_kind e) ≡ true)
 stops a b (Ok x) i h = h
 stops a b (Err e) i h = only_stops a b (error_kind e) i.flexible (h i.ready)
 
 pub without_cause-requires : goal.without_cause-requires
 without_cause-requires c = stops c.self.inside.reader c.read_byte_record.new.self c.read_byte_record.result
-  (c.self.invariant c.if-self.false) c.read_byte_record.ensures.why
+    (c.self.invariant c.if-self.false) c.read_byte_record.ensures.why
 
 pub invariant_of-self-then-found : goal.invariant_of-self-then-found
 invariant_of-self-then-found c = λ _.
@@ -22,7 +22,7 @@ invariant_of-self-then-found c = λ _.
     let e = c.read_byte_record.ensures in
     let was = c.in_ok-found.ensures ∙ ap Ok c.if-found.true in
     (goes_on _ c.read_byte_record.new.self _ i (rw was at e.reads i.plain i.ready) (rw was at e.ready i.plain)
-      (rw was at e.flexible)).0
+    (rw was at e.flexible)).0
 
 pub returns-then-found-clause-next : goal.returns-then-found-clause-next
 returns-then-found-clause-next c =
@@ -30,8 +30,8 @@ returns-then-found-clause-next c =
     let e = c.read_byte_record.ensures in
     let was = c.in_ok-found.ensures ∙ ap Ok c.if-found.true in
     rw (← c.self.view_is, c.if-self.false)
-      ((goes_on _ c.read_byte_record.new.self _ i (rw was at e.reads i.plain i.ready) (rw was at e.ready i.plain)
-      (rw was at e.flexible)).1)
+    ((goes_on _ c.read_byte_record.new.self _ i (rw was at e.reads i.plain i.ready) (rw was at e.ready i.plain)
+    (rw was at e.flexible)).1)
 
 pub returns-clause-next : goal.returns-clause-next
 returns-clause-next c =
@@ -39,4 +39,4 @@ returns-clause-next c =
     let e = c.read_byte_record.ensures in
     let was = c.in_ok-found.ensures ∙ ap Ok c.if-found.false in
     rw (← c.self.view_is, c.if-self.false) (at_last _ c.read_byte_record.new.self _ i
-      (rw was at e.reads i.plain i.ready))
+    (rw was at e.reads i.plain i.ready))

@@ -37,7 +37,7 @@ op_itself a = λ i. eq-eqb a.switch.0 a.switch.0 refl i && way_itself a.directio
 
 op_equal : (a b : Op) → a ≡ b → ((a.switch.0 == b.switch.0) && sameb the_type a.direction b.direction) ≡ true
 op_equal a b is = subst (λ (x : Op). ((a.switch.0 == x.switch.0) && sameb the_type a.direction x.direction) ≡ true) is
-  (op_itself a)
+    (op_itself a)
 
 pub returns : goal.returns
 returns c =

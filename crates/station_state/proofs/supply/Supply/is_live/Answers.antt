@@ -10,7 +10,7 @@ pub is_marked-requires-clause-label : goal.is_marked-requires-clause-label
 is_marked-requires-clause-label c =
     let s = c.args.self.now in
     let lt = label_in (Touching false s.station.now s.vector) (node_count s.station.now) s.labels
-      c.requires.supply.labels c.args.node.0 c.requires.node in
+    c.requires.supply.labels c.args.node.0 c.requires.node in
     omega (arith, lt, ap length c.deref.ensures.value, c.requires.supply.fed.count)
 
 pub returns : goal.returns
@@ -22,9 +22,9 @@ returns c =
     let exactly = c.requires.supply.fed.exact n c.requires.node in (
       λ e. joined_from_closed d station s.vector s.vector s.labels c.requires.supply.labels Infeed n c.requires.node
           (exactly.0 (subst (λ (m : List Bool). slice_get m (slice_index s.labels n) ≡ Some true) c.deref.ensures.value
-            (c.is_marked.ensures.0 e))),
+          (c.is_marked.ensures.0 e))),
       λ e. c.is_marked.ensures.1 (subst (λ (m : List Bool). slice_get m (slice_index s.labels n) ≡ Some true)
-        (sym c.deref.ensures.value)
+          (sym c.deref.ensures.value)
           (exactly.1 (closed_from_joined d station s.vector s.vector s.labels c.requires.supply.labels Infeed n
-            c.requires.node e))),
+          c.requires.node e))),
     )
