@@ -38,7 +38,8 @@ TOKENS += [b",", b"\n", b"\r\n", b"\r", b"\"\"", b"\x00", b"\xff", b"\xef\xbb\xb
 TOKENS += [b"grounded", b"S/V1/Q1/QB1", b"open ", b"close ", b"when on ", b"or\n", b"end\n", b"never\n", b"lost", b"part,1,64\n", b"deliver,1\n", b"restart,S/V1/Q1\n", b"cut,S/V1/Q1/QB1\n"]
 
 # What each command may end with, and the line of each status on standard error.
-STATUSES = {"check": {0, 5, 6}, "explain": {0, 5, 6}, "state": {0, 5, 6}, "order": {0, 1, 5, 6}, "replay": {0, 5, 6, 7}, "audit": {0, 1, 5, 6}, "node": {0, 5, 6}}
+STATUSES = {"check": {0, 5, 6}, "explain": {0, 5, 6}, "state": {0, 5, 6}, "order": {0, 1, 5, 6}, "replay": {0, 5, 6, 7}, "audit": {0, 1, 5, 6}, "node": {0, 5, 6},
+            "trips": {0, 5, 6, 7}, "plan": {0, 5}, "compile": {0, 5}}
 LINE = {
     0: r"", 1: r"",
     5: r"interlock: station refused (([1-9]|1[0134]) at \d+|12 at \d+ count \d+|15 limit \d+ count \d+|16 part \d+ step \d+|17 bay \d+)\n",
@@ -93,9 +94,11 @@ def case(seed, number, files):
     command = rng.choice(list(STATUSES))
     switch = rng.choice(positions.decode().splitlines()).split(",")[0]
     words = {"explain": ["station", "positions", rng.choice(("open", "close")), switch]}.get(command, ["station", "positions"])
-    if command in ("replay", "node"):
+    if command in ("plan", "compile"):
+        words = ["station"]
+    elif command in ("replay", "trips", "node"):
         station, extra = files["two_feeders.ssd"], files["two_feeders.log"]
-        words = ["station", "extra"] if command == "replay" else ["station", "S/V1/Q1"]
+        words = ["station", "S/V1/Q1"] if command == "node" else ["station", "extra"]
         given = NODE if command == "node" else b""
     elif command == "audit":
         station, extra, words = files["double_busbar.ssd"], files["double_busbar.equations"], ["station", "extra"]

@@ -53,6 +53,10 @@ COMMANDS = {
     "node": (["node", "station", "S/V1/Q1"], LINES, None),
     "audit": (["audit", "station", "equations"], b"", None),
     "make": (["make", "2", "station"], b"", None),
+    "plan": (["plan", "station"], b"", None),
+    "compile": (["compile", "station"], b"", None),
+    "trips": (["trips", "station", "log"], b"", None),
+    "work": (["work", "2"], b"", None),
 }
 
 # Refuses what malloc and realloc are asked for from the FIRST_REFUSED-th request to the LAST_REFUSED-th, and
