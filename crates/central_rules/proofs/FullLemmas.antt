@@ -91,7 +91,8 @@ module _ (d : Diagram) (station : IsStation d) (k : Known) (full : IsFull d k) (
 
   -- the answers where part n turns, by what was heard of it
   answers_turn : (n : ℕ) (t : Turned n) (words : List Dbpos) → n ≢ k.bay → slice_get k.heard n ≡ Some (Some words) →
-      AllCertain d n words → (x : List Bool) → IsVector d x → SamePositions (OfPart d n) w x → DifferInPart d n t.now x →
+      AllCertain d n words → (x : List Bool) → IsVector d x → SamePositions (OfPart d n) w x →
+      DifferInPart d n t.now x →
       SameAnswers d k.bay t.now x
   answers_turn n t words differ told certain x whole there elsewhere = elim (reads_v.heard n words differ told) [
     | inl irrelevant ↦ irrelevant t.now x t.whole whole elsewhere

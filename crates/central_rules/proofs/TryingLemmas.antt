@@ -67,7 +67,8 @@ below old new at closed h = λ i lt. h i (omega (arith, lt)) ∙ set_other old a
 
 -- a reading from the next switch on whose position here agrees
 reading_more : (words : List Dbpos) (v : List Bool) (at : ℕ) (word : Dbpos) (closed : Bool) →
-    slice_get words at ≡ Some word → slice_get v at ≡ Some closed → Agrees word closed → IsReadingFrom (at + 1) words v →
+    slice_get words at ≡ Some word → slice_get v at ≡ Some closed → Agrees word closed →
+    IsReadingFrom (at + 1) words v →
     IsReadingFrom at words v
 reading_more words v at word closed w here agrees r = record {
   whole = r.whole;

@@ -104,7 +104,8 @@ pub fn known_by_words<J: Judge>(judge: &J)
 pub fn words_by_known<J: Judge>(judge: &J)
     ensures { (k : Known) (heard : List (Option (List ℕ))) (v : List Bool)
         → AreMade (J.meaning judge.now) k heard → IsReadingOf (J.meaning judge.now).diagram k v
-        → (w : List Bool) × Knows (J.meaning judge.now) k.bay k.own heard w × SameAnswers (J.meaning judge.now).diagram k.bay v w }
+        → (w : List Bool) × Knows (J.meaning judge.now) k.bay k.own heard w
+        × SameAnswers (J.meaning judge.now).diagram k.bay v w }
 {
     judge.diagram_is_station();
 }
@@ -115,7 +116,9 @@ pub fn words_by_known<J: Judge>(judge: &J)
 pub fn holds_by_summaries<J: Judge>(judge: &J)
     ensures { (op : Operation) (k : Known) (heard : List (Option (List ℕ)))
         → AreMade (J.meaning judge.now) k heard → OfPart (J.meaning judge.now).diagram k.bay (a_switch op.switch.0)
-        → Holds (J.meaning judge.now).diagram op k ↔ ((v : List Bool) → Knows (J.meaning judge.now) k.bay k.own heard v → Breaks (J.meaning judge.now).diagram v op None) }
+        → Holds (J.meaning judge.now).diagram op k ↔
+        ((v : List Bool) → Knows (J.meaning judge.now) k.bay k.own heard v →
+        Breaks (J.meaning judge.now).diagram v op None) }
 {
     judge.diagram_is_station();
 }

@@ -77,7 +77,8 @@ pub(crate) fn is_energisable(
     requires vector { IsVector station.now vector.now }
     requires node { node.0 < node_count station.now }
     requires coupled { LabelsLeast
-        (Touching false station.now (with_breakers_closed station.now vector.now)) (node_count station.now) coupled.now }
+        (Touching false station.now (with_breakers_closed station.now vector.now))
+        (node_count station.now) coupled.now }
     ensures { IsTrue result ↔ Energisable station.now vector.now node.0 }
 {
     closed_in_class(station, vector, Kind::Infeed, coupled, node)
@@ -93,7 +94,8 @@ pub(crate) fn is_earthable(
     requires vector { IsVector station.now vector.now }
     requires node { node.0 < node_count station.now }
     requires coupled { LabelsLeast
-        (Touching false station.now (with_breakers_closed station.now vector.now)) (node_count station.now) coupled.now }
+        (Touching false station.now (with_breakers_closed station.now vector.now))
+        (node_count station.now) coupled.now }
     ensures { IsTrue result ↔ Earthable station.now vector.now node.0 }
 {
     closed_in_class(station, vector, Kind::Earthing, coupled, node)

@@ -1,5 +1,6 @@
 -- What the first element of a list with a property has.
-use Rattle.std.proofs.Common.{◌≡◌, ◌∙◌, sym, ap, refl, Bool, true, false, List, [], ◌∷◌, Option, Some, None, inl, inr, ◌&&◌, ◌||◌}
+use Rattle.std.proofs.Common.{◌≡◌, ◌∙◌, sym, ap, refl, Bool, true, false, List, [], ◌∷◌, Option, Some, None, inl, inr}
+use Rattle.std.proofs.Common.{◌&&◌, ◌||◌}
 use Rattle.std.specs.Prelude.{find}
 use Rattle.std.specs.List.{list_all, filter_map}
 use Rattle.std.proofs.lemmas.Bool.{cases_Bool}
@@ -24,7 +25,8 @@ both true false e = absurd (cc)
 both false b e = absurd (cc)
 
 -- and what all elements have
-pub find-all : {A : Type 0} (p q : A → Bool) (xs : List A) (x : A) → list_all q xs ≡ true → find p xs ≡ Some x → q x ≡ true
+pub find-all : {A : Type 0} (p q : A → Bool) (xs : List A) (x : A) → list_all q xs ≡ true → find p xs ≡ Some x →
+    q x ≡ true
 find-all p q [] x all found = absurd (cc)
 find-all {A} p q (y ∷ xs) x all found = elim (cases_Bool (p y)) [
   | inl holds ↦

@@ -1,15 +1,18 @@
 -- A command with one to four words: at which words it has no fault, and what it reads.
-use Rattle.std.proofs.Common.{◌≡◌, ◌≢◌, ◌∙◌, ◌==◌, ◌<◌, ◌≤◌, ap, ap₂, fold, sym, refl, ℕ, zero, suc, Bool, true, false, List, [], ◌∷◌, codes, Option, Some, None, length, map, not, arith}
+use Rattle.std.proofs.Common.{◌≡◌, ◌≢◌, ◌∙◌, ◌==◌, ◌<◌, ◌≤◌, ap, ap₂, fold, sym, refl, ℕ, zero, suc, Bool, true, false}
+use Rattle.std.proofs.Common.{List, [], ◌∷◌, codes, Option, Some, None, length, map, not, arith}
 use Rattle.std.specs.Str.{bytes_eq}
 use Rattle.std.specs.List.{filter_map, list_all}
 use Rattle.std.specs.Option.{option_map_or}
 use Rattle.std.proofs.lemmas.Bool.{ne_eqb}
 use Rattle.clap.specs.Lexer.{strip_byte}
 use Rattle.clap.specs.Words.{App, Shape, Rule, Text, Row, Kinds, first_of}
-use Rattle.clap.specs.Walk.{Held, Waiting, Walk, idle, nothing_held, walk, walk_from, walked, settled, finished, rows_after, arg_by_index, to_positional}
+use Rattle.clap.specs.Walk.{Held, Waiting, Walk, idle, nothing_held, walk, walk_from, walked, settled, finished}
+use Rattle.clap.specs.Walk.{rows_after, arg_by_index, to_positional}
 use Rattle.clap.specs.Simple.{built_leaf, inherited, with_leaf_noted, marked_built}
 use Rattle.clap.specs.Kinds.{or_else}
-use Rattle.clap.specs.Faults.{level_fault, walk_fault, turn_fault, positional_fault, stray_fault, settle_fault, defaults_fault, check_fault}
+use Rattle.clap.specs.Faults.{level_fault, walk_fault, turn_fault, positional_fault, stray_fault, settle_fault}
+use Rattle.clap.specs.Faults.{defaults_fault, check_fault}
 use Rattle.clap.specs.declared.error.ErrorKind.{ErrorKind}
 use Rattle.clap.specs.declared.error.ErrorKind.TheVariants as kind
 use Rattle.clap.proofs.OnLiterals.{clap_on_literals}
@@ -45,7 +48,8 @@ AreNoFlags (w ∷ ws) = IsNoFlag w × AreNoFlags ws
 abbrev pub Exactly : Kinds → Bool → Type 0
 Exactly kinds test = (kinds ≡ [] → test ≡ true) × (test ≡ true → kinds ≡ [])
 
-refused : (kinds : Kinds) (k : ErrorKind) (ks : Kinds) (test : Bool) → kinds ≡ k ∷ ks → test ≡ false → Exactly kinds test
+refused : (kinds : Kinds) (k : ErrorKind) (ks : Kinds) (test : Bool) → kinds ≡ k ∷ ks → test ≡ false →
+    Exactly kinds test
 refused kinds k ks test e not = (λ none. absurd (cc), λ holds. absurd (cc))
 
 taken : (kinds : Kinds) (test : Bool) → kinds ≡ [] → test ≡ true → Exactly kinds test
@@ -65,7 +69,8 @@ one_1 : (n : Text) (a : Text) (ha : IsNoFlag a) → leaf_fault (n, 1) (a ∷ [])
 unfolding clap_on_literals
 one_1 n a ha = simp (ha.0, ha.1)
 
-one_more : (n : Text) (a b : Text) (rest : List Text) (ha : IsNoFlag a) (hb : IsNoFlag b) → leaf_fault (n, 1) (a ∷ b ∷ rest) ≡ unknown
+one_more : (n : Text) (a b : Text) (rest : List Text) (ha : IsNoFlag a) (hb : IsNoFlag b) →
+    leaf_fault (n, 1) (a ∷ b ∷ rest) ≡ unknown
 unfolding clap_on_literals
 one_more n a b rest ha hb = simp (ha.0, ha.1, hb.0, hb.1)
 
@@ -85,7 +90,8 @@ two_2 : (n : Text) (a b : Text) (ha : IsNoFlag a) (hb : IsNoFlag b) → leaf_fau
 unfolding clap_on_literals
 two_2 n a b ha hb = simp (ha.0, ha.1, hb.0, hb.1)
 
-two_more : (n : Text) (a b c : Text) (rest : List Text) (ha : IsNoFlag a) (hb : IsNoFlag b) (hc : IsNoFlag c) → leaf_fault (n, 2) (a ∷ b ∷ c ∷ rest) ≡ unknown
+two_more : (n : Text) (a b c : Text) (rest : List Text) (ha : IsNoFlag a) (hb : IsNoFlag b) (hc : IsNoFlag c) →
+    leaf_fault (n, 2) (a ∷ b ∷ c ∷ rest) ≡ unknown
 unfolding clap_on_literals
 two_more n a b c rest ha hb hc = simp (ha.0, ha.1, hb.0, hb.1, hc.0, hc.1)
 
@@ -105,15 +111,18 @@ three_2 : (n : Text) (a b : Text) (ha : IsNoFlag a) (hb : IsNoFlag b) → leaf_f
 unfolding clap_on_literals
 three_2 n a b ha hb = simp (ha.0, ha.1, hb.0, hb.1)
 
-three_3 : (n : Text) (a b c : Text) (ha : IsNoFlag a) (hb : IsNoFlag b) (hc : IsNoFlag c) → leaf_fault (n, 3) (a ∷ b ∷ c ∷ []) ≡ []
+three_3 : (n : Text) (a b c : Text) (ha : IsNoFlag a) (hb : IsNoFlag b) (hc : IsNoFlag c) →
+    leaf_fault (n, 3) (a ∷ b ∷ c ∷ []) ≡ []
 unfolding clap_on_literals
 three_3 n a b c ha hb hc = simp (ha.0, ha.1, hb.0, hb.1, hc.0, hc.1)
 
-three_more : (n : Text) (a b c d : Text) (rest : List Text) (ha : IsNoFlag a) (hb : IsNoFlag b) (hc : IsNoFlag c) (hd : IsNoFlag d) → leaf_fault (n, 3) (a ∷ b ∷ c ∷ d ∷ rest) ≡ unknown
+three_more : (n : Text) (a b c d : Text) (rest : List Text) (ha : IsNoFlag a) (hb : IsNoFlag b) (hc : IsNoFlag c)
+    (hd : IsNoFlag d) → leaf_fault (n, 3) (a ∷ b ∷ c ∷ d ∷ rest) ≡ unknown
 unfolding clap_on_literals
 three_more n a b c d rest ha hb hc hd = simp (ha.0, ha.1, hb.0, hb.1, hc.0, hc.1, hd.0, hd.1)
 
-three_given : (n : Text) (a b c : Text) (ha : IsNoFlag a) (hb : IsNoFlag b) (hc : IsNoFlag c) → leaf_given (n, 3) (a ∷ b ∷ c ∷ []) ≡ a ∷ b ∷ c ∷ []
+three_given : (n : Text) (a b c : Text) (ha : IsNoFlag a) (hb : IsNoFlag b) (hc : IsNoFlag c) →
+    leaf_given (n, 3) (a ∷ b ∷ c ∷ []) ≡ a ∷ b ∷ c ∷ []
 unfolding clap_on_literals
 three_given n a b c ha hb hc = simp (ha.0, ha.1, hb.0, hb.1, hc.0, hc.1)
 
@@ -129,7 +138,8 @@ four_2 : (n : Text) (a b : Text) (ha : IsNoFlag a) (hb : IsNoFlag b) → leaf_fa
 unfolding clap_on_literals
 four_2 n a b ha hb = simp (ha.0, ha.1, hb.0, hb.1)
 
-four_3 : (n : Text) (a b c : Text) (ha : IsNoFlag a) (hb : IsNoFlag b) (hc : IsNoFlag c) → leaf_fault (n, 4) (a ∷ b ∷ c ∷ []) ≡ missing
+four_3 : (n : Text) (a b c : Text) (ha : IsNoFlag a) (hb : IsNoFlag b) (hc : IsNoFlag c) →
+    leaf_fault (n, 4) (a ∷ b ∷ c ∷ []) ≡ missing
 unfolding clap_on_literals
 four_3 n a b c ha hb hc = simp (ha.0, ha.1, hb.0, hb.1, hc.0, hc.1)
 
@@ -141,12 +151,14 @@ state h p = record { held = h; waiting = idle; position = p; is_trailing = false
 abbrev onward : List Rule → ℕ → Text → Walk → Walk
 onward c p word w = to_positional c (arg_by_index c p) word w w.held
 
-step : (c : List Rule) (h : Held) (p : ℕ) (word : Text) → IsNoFlag word → walked c [] (state h p) word ≡ onward c p word (state h p)
+step : (c : List Rule) (h : Held) (p : ℕ) (word : Text) → IsNoFlag word →
+    walked c [] (state h p) word ≡ onward c p word (state h p)
 unfolding walked
 step c h p word (a, b) = simp (a, b)
 
 turn : (s : Shape) (h : Held) (p : ℕ) (word : Text) → IsNoFlag word
-    → turn_fault s [] (state h p) word ≡ option_map_or (λ a. positional_fault s.rules s.args_override_self a h) (arg_by_index s.rules p) (stray_fault s)
+    → turn_fault s [] (state h p) word
+    ≡ option_map_or (λ a. positional_fault s.rules s.args_override_self a h) (arg_by_index s.rules p) (stray_fault s)
 turn s h p word (a, b) = simp (a, b)
 
 abbrev four_rules : List Rule
@@ -164,7 +176,8 @@ after_3 a b c = onward four_rules 3 c (after_2 a b)
 abbrev after_4 : Text → Text → Text → Text → Walk
 after_4 a b c d = onward four_rules 4 d (after_3 a b c)
 
-four_walk : (a b c d : Text) → IsNoFlag a → IsNoFlag b → IsNoFlag c → IsNoFlag d → walk four_rules [] nothing_held (a ∷ b ∷ c ∷ d ∷ []) ≡ after_4 a b c d
+four_walk : (a b c d : Text) → IsNoFlag a → IsNoFlag b → IsNoFlag c → IsNoFlag d →
+    walk four_rules [] nothing_held (a ∷ b ∷ c ∷ d ∷ []) ≡ after_4 a b c d
 four_walk a b c d ha hb hc hd =
     ap (λ x. fold (walked four_rules []) x (b ∷ c ∷ d ∷ [])) (step four_rules nothing_held 1 a ha)
     ∙ ap (λ x. fold (walked four_rules []) x (c ∷ d ∷ [])) (step four_rules (after_1 a).held 2 b hb)
@@ -174,11 +187,14 @@ four_walk a b c d ha hb hc hd =
 -- the faults of the words, one after another
 one_word : (s : Shape) (h : Held) (p : ℕ) (word : Text) (rest : List Text) → IsNoFlag word
     → walk_fault s [] (state h p) (word ∷ rest)
-    ≡ or_else (option_map_or (λ a. positional_fault s.rules s.args_override_self a h) (arg_by_index s.rules p) (stray_fault s)) (walk_fault s [] (onward s.rules p word (state h p)) rest)
+    ≡ or_else (option_map_or (λ a. positional_fault s.rules s.args_override_self a h) (arg_by_index s.rules p)
+    (stray_fault s)) (walk_fault s [] (onward s.rules p word (state h p)) rest)
 unfolding walk_fault
-one_word s h p word rest f = ap₂ (λ k x. or_else k (walk_fault s [] x rest)) (turn s h p word f) (step s.rules h p word f)
+one_word s h p word rest f =
+    ap₂ (λ k x. or_else k (walk_fault s [] x rest)) (turn s h p word f) (step s.rules h p word f)
 
-four_fault : (n a b c d : Text) → IsNoFlag a → IsNoFlag b → IsNoFlag c → IsNoFlag d → walk_fault (leaf (n, 4)) [] (walk_from nothing_held) (a ∷ b ∷ c ∷ d ∷ []) ≡ []
+four_fault : (n a b c d : Text) → IsNoFlag a → IsNoFlag b → IsNoFlag c → IsNoFlag d →
+    walk_fault (leaf (n, 4)) [] (walk_from nothing_held) (a ∷ b ∷ c ∷ d ∷ []) ≡ []
 unfolding walk_fault
 four_fault n a b c d ha hb hc hd =
     one_word (leaf (n, 4)) nothing_held 1 a (b ∷ c ∷ d ∷ []) ha
@@ -191,34 +207,43 @@ abbrev level_by : Shape → Walk → Kinds → Kinds
 level_by s e f = or_else f (or_else [] (or_else (settle_fault s.rules s.args_override_self e.held)
     (or_else (defaults_fault (settled s.rules e.held).rows s.rules) (check_fault s (finished s.rules e.held) false))))
 
-four_4 : (n a b c d : Text) (ha : IsNoFlag a) (hb : IsNoFlag b) (hc : IsNoFlag c) (hd : IsNoFlag d) → leaf_fault (n, 4) (a ∷ b ∷ c ∷ d ∷ []) ≡ []
+four_4 : (n a b c d : Text) (ha : IsNoFlag a) (hb : IsNoFlag b) (hc : IsNoFlag c) (hd : IsNoFlag d) →
+    leaf_fault (n, 4) (a ∷ b ∷ c ∷ d ∷ []) ≡ []
 unfolding defaults_fault
-four_4 n a b c d ha hb hc hd = ap₂ (level_by (leaf (n, 4))) (four_walk a b c d ha hb hc hd) (four_fault n a b c d ha hb hc hd)
+four_4 n a b c d ha hb hc hd =
+    ap₂ (level_by (leaf (n, 4))) (four_walk a b c d ha hb hc hd) (four_fault n a b c d ha hb hc hd)
 
-four_more : (n : Text) (a b c d e : Text) (rest : List Text) (ha : IsNoFlag a) (hb : IsNoFlag b) (hc : IsNoFlag c) (hd : IsNoFlag d) (he : IsNoFlag e) → leaf_fault (n, 4) (a ∷ b ∷ c ∷ d ∷ e ∷ rest) ≡ unknown
+four_more : (n : Text) (a b c d e : Text) (rest : List Text) (ha : IsNoFlag a) (hb : IsNoFlag b) (hc : IsNoFlag c)
+    (hd : IsNoFlag d) (he : IsNoFlag e) → leaf_fault (n, 4) (a ∷ b ∷ c ∷ d ∷ e ∷ rest) ≡ unknown
 unfolding clap_on_literals
 four_more n a b c d e rest ha hb hc hd he = simp (ha.0, ha.1, hb.0, hb.1, hc.0, hc.1, hd.0, hd.1, he.0, he.1)
 
-four_given : (n a b c d : Text) (ha : IsNoFlag a) (hb : IsNoFlag b) (hc : IsNoFlag c) (hd : IsNoFlag d) → leaf_given (n, 4) (a ∷ b ∷ c ∷ d ∷ []) ≡ a ∷ b ∷ c ∷ d ∷ []
-four_given n a b c d ha hb hc hd = ap (λ (e : Walk). filter_map (λ id. first_of id (finished four_rules e.held)) ids) (four_walk a b c d ha hb hc hd)
+four_given : (n a b c d : Text) (ha : IsNoFlag a) (hb : IsNoFlag b) (hc : IsNoFlag c) (hd : IsNoFlag d) →
+    leaf_given (n, 4) (a ∷ b ∷ c ∷ d ∷ []) ≡ a ∷ b ∷ c ∷ d ∷ []
+four_given n a b c d ha hb hc hd =
+    ap (λ (e : Walk). filter_map (λ id. first_of id (finished four_rules e.held)) ids) (four_walk a b c d ha hb hc hd)
 
 exactly_one : (n : Text) (rest : List Text) → AreNoFlags rest → Exactly (leaf_fault (n, 1) rest) (length rest == 1)
 exactly_one n [] p = refused _ _ _ _ (one_0 n) refl
 exactly_one n (a ∷ []) p = taken _ _ (one_1 n a p.0) refl
-exactly_one n (a ∷ b ∷ rest) p = refused _ _ _ _ (one_more n a b rest p.0 p.1.0) (ne_eqb _ 1 (λ e. absurd (omega (arith, e))))
+exactly_one n (a ∷ b ∷ rest) p =
+    refused _ _ _ _ (one_more n a b rest p.0 p.1.0) (ne_eqb _ 1 (λ e. absurd (omega (arith, e))))
 
 exactly_two : (n : Text) (rest : List Text) → AreNoFlags rest → Exactly (leaf_fault (n, 2) rest) (length rest == 2)
 exactly_two n [] p = refused _ _ _ _ (two_0 n) refl
 exactly_two n (a ∷ []) p = refused _ _ _ _ (two_1 n a p.0) refl
 exactly_two n (a ∷ b ∷ []) p = taken _ _ (two_2 n a b p.0 p.1.0) refl
-exactly_two n (a ∷ b ∷ c ∷ rest) p = refused _ _ _ _ (two_more n a b c rest p.0 p.1.0 p.1.1.0) (ne_eqb _ 2 (λ e. absurd (omega (arith, e))))
+exactly_two n (a ∷ b ∷ c ∷ rest) p =
+    refused _ _ _ _ (two_more n a b c rest p.0 p.1.0 p.1.1.0) (ne_eqb _ 2 (λ e. absurd (omega (arith, e))))
 
 exactly_three : (n : Text) (rest : List Text) → AreNoFlags rest → Exactly (leaf_fault (n, 3) rest) (length rest == 3)
 exactly_three n [] p = refused _ _ _ _ (three_0 n) refl
 exactly_three n (a ∷ []) p = refused _ _ _ _ (three_1 n a p.0) refl
 exactly_three n (a ∷ b ∷ []) p = refused _ _ _ _ (three_2 n a b p.0 p.1.0) refl
 exactly_three n (a ∷ b ∷ c ∷ []) p = taken _ _ (three_3 n a b c p.0 p.1.0 p.1.1.0) refl
-exactly_three n (a ∷ b ∷ c ∷ d ∷ rest) p = refused _ _ _ _ (three_more n a b c d rest p.0 p.1.0 p.1.1.0 p.1.1.1.0) (ne_eqb _ 3 (λ e. absurd (omega (arith, e))))
+exactly_three n (a ∷ b ∷ c ∷ d ∷ rest) p =
+    refused _ _ _ _ (three_more n a b c d rest p.0 p.1.0 p.1.1.0 p.1.1.1.0)
+    (ne_eqb _ 3 (λ e. absurd (omega (arith, e))))
 
 exactly_four : (n : Text) (rest : List Text) → AreNoFlags rest → Exactly (leaf_fault (n, 4) rest) (length rest == 4)
 exactly_four n [] p = refused _ _ _ _ (four_0 n) refl
@@ -226,10 +251,13 @@ exactly_four n (a ∷ []) p = refused _ _ _ _ (four_1 n a p.0) refl
 exactly_four n (a ∷ b ∷ []) p = refused _ _ _ _ (four_2 n a b p.0 p.1.0) refl
 exactly_four n (a ∷ b ∷ c ∷ []) p = refused _ _ _ _ (four_3 n a b c p.0 p.1.0 p.1.1.0) refl
 exactly_four n (a ∷ b ∷ c ∷ d ∷ []) p = taken _ _ (four_4 n a b c d p.0 p.1.0 p.1.1.0 p.1.1.1.0) refl
-exactly_four n (a ∷ b ∷ c ∷ d ∷ e ∷ rest) p = refused _ _ _ _ (four_more n a b c d e rest p.0 p.1.0 p.1.1.0 p.1.1.1.0 p.1.1.1.1.0) (ne_eqb _ 4 (λ e. absurd (omega (arith, e))))
+exactly_four n (a ∷ b ∷ c ∷ d ∷ e ∷ rest) p =
+    refused _ _ _ _ (four_more n a b c d e rest p.0 p.1.0 p.1.1.0 p.1.1.1.0 p.1.1.1.1.0)
+    (ne_eqb _ 4 (λ e. absurd (omega (arith, e))))
 
 -- a command has no fault exactly where there are as many words as its row says
-pub leaf_exactly : (n : Text) (count : ℕ) → 1 ≤ count → count ≤ 4 → (rest : List Text) → AreNoFlags rest → Exactly (leaf_fault (n, count) rest) (length rest == count)
+pub leaf_exactly : (n : Text) (count : ℕ) → 1 ≤ count → count ≤ 4 → (rest : List Text) → AreNoFlags rest →
+    Exactly (leaf_fault (n, count) rest) (length rest == count)
 leaf_exactly n zero some few rest p = absurd (omega arith)
 leaf_exactly n (suc zero) some few rest p = exactly_one n rest p
 leaf_exactly n (suc (suc zero)) some few rest p = exactly_two n rest p
@@ -264,7 +292,8 @@ given_four n (a ∷ b ∷ c ∷ d ∷ []) p count = four_given n a b c d p.0 p.1
 given_four n (a ∷ b ∷ c ∷ d ∷ e ∷ rest) p count = absurd (omega (arith, count))
 
 -- and then reads these words
-pub leaf_reads : (n : Text) (count : ℕ) → 1 ≤ count → count ≤ 4 → (rest : List Text) → AreNoFlags rest → length rest ≡ count → leaf_given (n, count) rest ≡ rest
+pub leaf_reads : (n : Text) (count : ℕ) → 1 ≤ count → count ≤ 4 → (rest : List Text) → AreNoFlags rest →
+    length rest ≡ count → leaf_given (n, count) rest ≡ rest
 leaf_reads n zero some few rest p e = absurd (omega arith)
 leaf_reads n (suc zero) some few rest p e = given_one n rest p e
 leaf_reads n (suc (suc zero)) some few rest p e = given_two n rest p e

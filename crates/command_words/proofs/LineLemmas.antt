@@ -1,22 +1,28 @@
 -- The command line: at which words it has no fault, and what it reads.
-use Rattle.std.proofs.Common.{◌≡◌, ◌∙◌, ◌==◌, ◌<◌, ◌≤◌, ◌&&◌, ◌⊎◌, ◌++◌, ap, ap₂, sym, subst, refl, ℕ, Bool, true, false, List, [], ◌∷◌, codes, is_some, Option, Some, None, length, map, fold, option_map, inl, inr, arith, append-nil, append_assoc}
+use Rattle.std.proofs.Common.{◌≡◌, ◌∙◌, ◌==◌, ◌<◌, ◌≤◌, ◌&&◌, ◌⊎◌, ◌++◌, ap, ap₂, sym, subst, refl, ℕ, Bool, true}
+use Rattle.std.proofs.Common.{false, List, [], ◌∷◌, codes, is_some, Option, Some, None, length, map, fold, option_map}
+use Rattle.std.proofs.Common.{inl, inr, arith, append-nil, append_assoc}
 use Rattle.std.specs.Prelude.{find, nat_lt}
 use Rattle.std.specs.Str.{bytes_eq}
 use Rattle.std.specs.List.{list_all, filter_map}
 use Rattle.std.proofs.lemmas.Bool.{cases_Bool, eqb-true, ltb-true}
 use Rattle.std.proofs.lemmas.Slice.Eq.{bytes_eq-Decides}
-use Rattle.clap.specs.Words.{App, Shape, Rule, Text, Row, Kinds, first_of, fault_of, built, is_simple, is_simple_and_free, subcommand_of}
-use Rattle.clap.specs.Walk.{Held, Waiting, Walk, Names, idle, walked, walk, walk_from, nothing_held, settled, finished, rows_after, answers_to, stop_after}
+use Rattle.clap.specs.Words.{App, Shape, Rule, Text, Row, Kinds, first_of, fault_of, built, is_simple}
+use Rattle.clap.specs.Words.{is_simple_and_free, subcommand_of}
+use Rattle.clap.specs.Walk.{Held, Waiting, Walk, Names, idle, walked, walk, walk_from, nothing_held, settled, finished}
+use Rattle.clap.specs.Walk.{rows_after, answers_to, stop_after}
 use Rattle.clap.specs.Simple.{entered, names_of, label_of, rows_at}
 use Rattle.clap.specs.Kinds.{or_else}
-use Rattle.clap.specs.Faults.{walk_fault, turn_fault, built_fault, entered_fault, level_fault, settle_fault, defaults_fault, check_fault}
+use Rattle.clap.specs.Faults.{walk_fault, turn_fault, built_fault, entered_fault, level_fault, settle_fault}
+use Rattle.clap.specs.Faults.{defaults_fault, check_fault}
 use Rattle.clap.specs.declared.error.ErrorKind.{ErrorKind}
 use Rattle.clap.specs.declared.error.ErrorKind.TheVariants as kind
 use Rattle.clap.proofs.OnLiterals.{clap_on_literals}
 use Rattle.command_words.specs.Rows.{is_plain, is_row, row_of, rows}
 use Rattle.command_words.specs.App.{command_line, ids}
 use Rattle.command_words.proofs.FindLemmas.{both, find-holds, find-all}
-use Rattle.command_words.proofs.LeafLemmas.{top, leaf, leaf_fault, leaf_given, leaf_exactly, leaf_reads, IsNoFlag, AreNoFlags, Exactly}
+use Rattle.command_words.proofs.LeafLemmas.{top, leaf, leaf_fault, leaf_given, leaf_exactly, leaf_reads, IsNoFlag}
+use Rattle.command_words.proofs.LeafLemmas.{AreNoFlags, Exactly}
 
 -- a command line with these commands, as it is built
 abbrev whole : List Shape → App
@@ -35,37 +41,50 @@ free = refl
 -- ---- the walk, after the name of a command
 
 stays : (c : List Rule) (names : Names) (h : Held) (wt : Waiting) (p : ℕ) (t : Bool) (n : Text) (acc rest : List Text)
-    → fold (walked c names) (record { held = h; waiting = wt; position = p; is_trailing = t; stopped = Some (n, acc) }) rest
+    → fold (walked c names) (record { held = h; waiting = wt; position = p; is_trailing = t; stopped = Some (n, acc) })
+    rest
     ≡ record { held = h; waiting = wt; position = p; is_trailing = t; stopped = Some (n, acc ++ rest) }
 unfolding walked
 stays c names h wt p t n acc [] = rw append-nil refl
 stays c names h wt p t n acc (r ∷ rest) = stays c names h wt p t n (acc ++ r ∷ []) rest ∙ rw append_assoc refl
 
 no_more : (s : Shape) (names : Names) (h : Held) (wt : Waiting) (p : ℕ) (t : Bool) (n : Text) (acc rest : List Text)
-    → walk_fault s names (record { held = h; waiting = wt; position = p; is_trailing = t; stopped = Some (n, acc) }) rest ≡ []
+    → walk_fault s names (record { held = h; waiting = wt; position = p; is_trailing = t; stopped = Some (n, acc) })
+    rest ≡ []
 unfolding walk_fault walked
 no_more s names h wt p t n acc [] = refl
 no_more s names h wt p t n acc (r ∷ rest) = no_more s names h wt p t n (acc ++ r ∷ []) rest
 
 stop_at : Text → List Text → Walk
-stop_at n words = record { held = nothing_held; waiting = idle; position = 1; is_trailing = false; stopped = Some (n, words) }
+stop_at n words = record {
+  held = nothing_held;
+  waiting = idle;
+  position = 1;
+  is_trailing = false;
+  stopped = Some (n, words);
+}
 
-first_word : (names : Names) (w : Text) (s : Text × List Text) → find (answers_to w) names ≡ Some s → walked [] names (walk_from nothing_held) w ≡ stop_at s.0 []
+first_word : (names : Names) (w : Text) (s : Text × List Text) → find (answers_to w) names ≡ Some s →
+    walked [] names (walk_from nothing_held) w ≡ stop_at s.0 []
 unfolding walked stop_at
 first_word names w s e = rw e refl
 
-all_words : (names : Names) (w : Text) (rest : List Text) (s : Text × List Text) → find (answers_to w) names ≡ Some s → walk [] names nothing_held (w ∷ rest) ≡ stop_at s.0 rest
+all_words : (names : Names) (w : Text) (rest : List Text) (s : Text × List Text) → find (answers_to w) names ≡ Some s →
+    walk [] names nothing_held (w ∷ rest) ≡ stop_at s.0 rest
 unfolding stop_at
 all_words names w rest s e =
-    ap (λ x. fold (walked [] names) x rest) (first_word names w s e) ∙ stays [] names nothing_held idle 1 false s.0 [] rest
+    ap (λ x. fold (walked [] names) x rest) (first_word names w s e)
+    ∙ stays [] names nothing_held idle 1 false s.0 [] rest
 
-first_turn : (names : Names) (w : Text) (s : Text × List Text) → find (answers_to w) names ≡ Some s → turn_fault top names (walk_from nothing_held) w ≡ []
+first_turn : (names : Names) (w : Text) (s : Text × List Text) → find (answers_to w) names ≡ Some s →
+    turn_fault top names (walk_from nothing_held) w ≡ []
 first_turn names w s e = elim (cases_Bool (bytes_eq s.0 (codes "help"))) [
   | inl holds ↦ rw (e, holds) refl
   | inr fails ↦ rw (e, fails) refl
 ]
 
-no_walk_fault : (names : Names) (w : Text) (rest : List Text) (s : Text × List Text) → find (answers_to w) names ≡ Some s → walk_fault top names (walk_from nothing_held) (w ∷ rest) ≡ []
+no_walk_fault : (names : Names) (w : Text) (rest : List Text) (s : Text × List Text) →
+    find (answers_to w) names ≡ Some s → walk_fault top names (walk_from nothing_held) (w ∷ rest) ≡ []
 unfolding walk_fault stop_at
 no_walk_fault names w rest s e =
     ap₂ (λ f x. or_else f (walk_fault top names x rest)) (first_turn names w s e) (first_word names w s e)
@@ -74,11 +93,15 @@ no_walk_fault names w rest s e =
 -- ---- the faults above a command
 
 by_walk : App → Walk → Kinds → Kinds
-by_walk a e f = or_else f (or_else (entered_fault a e.stopped) (or_else (settle_fault a.top.rules a.top.args_override_self e.held)
+by_walk a e f =
+    or_else f (or_else (entered_fault a e.stopped) (or_else (settle_fault a.top.rules a.top.args_override_self e.held)
     (or_else (defaults_fault (settled a.top.rules e.held).rows a.top.rules)
     (check_fault a.top (finished a.top.rules e.held) (is_some (entered a e.stopped))))))
 
-built_fault-walk : (a : App) (words : List Text) → built_fault a nothing_held words ≡ by_walk a (walk a.top.rules (names_of a) nothing_held words) (walk_fault a.top (names_of a) (walk_from nothing_held) words)
+built_fault-walk : (a : App) (words : List Text) →
+    built_fault a nothing_held words
+    ≡ by_walk a (walk a.top.rules (names_of a) nothing_held words)
+    (walk_fault a.top (names_of a) (walk_from nothing_held) words)
 unfolding by_walk
 built_fault-walk a words = refl
 
@@ -86,15 +109,18 @@ or_else-nil : (ks : Kinds) → or_else ks [] ≡ ks
 or_else-nil [] = refl
 or_else-nil (k ∷ ks) = refl
 
-fault_entered : (subs : List Shape) (w : Text) (rest : List Text) (s : Text × List Text) (r : Shape) → find (answers_to w) (names_of (whole subs)) ≡ Some s → find (λ x. answers_to s.0 (label_of x)) subs ≡ Some r
+fault_entered : (subs : List Shape) (w : Text) (rest : List Text) (s : Text × List Text) (r : Shape) →
+    find (answers_to w) (names_of (whole subs)) ≡ Some s → find (λ x. answers_to s.0 (label_of x)) subs ≡ Some r
     → built_fault (whole subs) nothing_held (w ∷ rest) ≡ level_fault r [] nothing_held rest false []
 unfolding by_walk stop_at defaults_fault
 fault_entered subs w rest s r named found =
     built_fault-walk (whole subs) (w ∷ rest)
-    ∙ ap₂ (by_walk (whole subs)) (all_words (names_of (whole subs)) w rest s named) (no_walk_fault (names_of (whole subs)) w rest s named)
+    ∙ ap₂ (by_walk (whole subs)) (all_words (names_of (whole subs)) w rest s named)
+    (no_walk_fault (names_of (whole subs)) w rest s named)
     ∙ rw found (or_else-nil _)
 
-fault_unknown : (subs : List Shape) (w : Text) (rest : List Text) → IsNoFlag w → find (answers_to w) (names_of (whole subs)) ≡ None
+fault_unknown : (subs : List Shape) (w : Text) (rest : List Text) → IsNoFlag w →
+    find (answers_to w) (names_of (whole subs)) ≡ None
     → built_fault (whole subs) nothing_held (w ∷ rest) ≡ kind.UnknownArgument ∷ kind.InvalidSubcommand ∷ []
 unfolding clap_on_literals
 fault_unknown subs w rest (a, b) e = simp (e, a, b)
@@ -105,14 +131,16 @@ fault_empty subs = refl
 
 -- ---- the command of a name
 
-found_name : (w : Text) (rs : List (Text × ℕ)) → find (answers_to w) (map label_of (map leaf rs)) ≡ option_map (λ r. (r.0, [])) (find (λ r. bytes_eq r.0 w) rs)
+found_name : (w : Text) (rs : List (Text × ℕ)) →
+    find (answers_to w) (map label_of (map leaf rs)) ≡ option_map (λ r. (r.0, [])) (find (λ r. bytes_eq r.0 w) rs)
 found_name w [] = refl
 found_name w (r ∷ rs) = elim (cases_Bool (bytes_eq r.0 w)) [
   | inl holds ↦ rw holds refl
   | inr fails ↦ rw fails (found_name w rs)
 ]
 
-found_leaf : (w : Text) (rs : List (Text × ℕ)) → find (λ s. answers_to w (label_of s)) (map leaf rs) ≡ option_map leaf (find (λ r. bytes_eq r.0 w) rs)
+found_leaf : (w : Text) (rs : List (Text × ℕ)) →
+    find (λ s. answers_to w (label_of s)) (map leaf rs) ≡ option_map leaf (find (λ r. bytes_eq r.0 w) rs)
 found_leaf w [] = refl
 found_leaf w (r ∷ rs) = elim (cases_Bool (bytes_eq r.0 w)) [
   | inl holds ↦ rw holds refl
@@ -129,7 +157,9 @@ record IsFound (w : Text) (r : Text × ℕ) : Type 0 where
 found : (w : Text) (r : Text × ℕ) → row_of w ≡ Some r → IsFound w r
 found w r e =
     let same : r.0 ≡ w = (bytes_eq-Decides r.0 w).0 (find-holds (λ x. bytes_eq x.0 w) rows r e) in
-    let counts = both (nat_lt 0 r.1) (nat_lt r.1 5) (find-all (λ x. bytes_eq x.0 w) (λ x. nat_lt 0 x.1 && nat_lt x.1 5) rows r refl e) in
+    let counts =
+    both (nat_lt 0 r.1) (nat_lt r.1 5)
+    (find-all (λ x. bytes_eq x.0 w) (λ x. nat_lt 0 x.1 && nat_lt x.1 5) rows r refl e) in
     record {
       named = found_name w rows ∙ ap (option_map (λ x. (x.0, []))) e;
       entered = found_leaf r.0 rows ∙ ap (option_map leaf) (ap row_of same ∙ e);
@@ -149,13 +179,16 @@ line_exactly (w ∷ rest) p = go (row_of w) refl
   where
     go : (o : Option (Text × ℕ)) → row_of w ≡ o → Exactly (fault_of command_line (w ∷ rest)) (is_row (w ∷ rest))
     go None e =
-        let unnamed : find (answers_to w) (names_of (whole (map leaf rows))) ≡ None = found_name w rows ∙ ap (option_map (λ x. (x.0, []))) e in
-        let fault : fault_of command_line (w ∷ rest) ≡ kind.UnknownArgument ∷ kind.InvalidSubcommand ∷ [] = fault_is (w ∷ rest) ∙ fault_unknown (map leaf rows) w rest p.0 unnamed in
+        let unnamed : find (answers_to w) (names_of (whole (map leaf rows))) ≡ None =
+        found_name w rows ∙ ap (option_map (λ x. (x.0, []))) e in
+        let fault : fault_of command_line (w ∷ rest) ≡ kind.UnknownArgument ∷ kind.InvalidSubcommand ∷ [] =
+        fault_is (w ∷ rest) ∙ fault_unknown (map leaf rows) w rest p.0 unnamed in
         let row : is_row (w ∷ rest) ≡ false = rw e refl in
         (λ none. absurd (cc), λ holds. absurd (cc))
     go (Some r) e =
         let f = found w r e in
-        let fault : fault_of command_line (w ∷ rest) ≡ leaf_fault r rest = fault_is (w ∷ rest) ∙ fault_entered (map leaf rows) w rest (r.0, []) (leaf r) f.named f.entered in
+        let fault : fault_of command_line (w ∷ rest) ≡ leaf_fault r rest =
+        fault_is (w ∷ rest) ∙ fault_entered (map leaf rows) w rest (r.0, []) (leaf r) f.named f.entered in
         let row : is_row (w ∷ rest) ≡ (length rest == r.1) = rw e refl in
         let ends = leaf_exactly r.0 r.1 f.some f.few rest p.1 in
         (λ none. row ∙ ends.0 (sym fault ∙ none), λ holds. fault ∙ ends.1 (sym row ∙ holds))
@@ -188,5 +221,7 @@ line_reads (w ∷ rest) p is = go (row_of w) refl
               ap (λ a. entered a (stop_after a.top.rules (names_of a) (w ∷ rest))) line_is
               ∙ ap (λ x. entered (whole subs) x.stopped) (all_words (names_of (whole subs)) w rest (r.0, []) f.named)
               ∙ ap (option_map (λ x. rows_at x rest)) f.entered;
-          are = ap₂ (λ n ws. n ∷ ws) same (leaf_reads r.0 r.1 f.some f.few rest p.1 (eqb-true (length rest) r.1 (sym row ∙ is)));
+          are =
+              ap₂ (λ n ws. n ∷ ws) same
+              (leaf_reads r.0 r.1 f.some f.few rest p.1 (eqb-true (length rest) r.1 (sym row ∙ is)));
         }

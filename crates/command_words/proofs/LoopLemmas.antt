@@ -1,5 +1,6 @@
 -- One row more of the command line, and one word more that is read.
-use Rattle.std.proofs.Common.{◌≡◌, ◌∙◌, ◌<◌, ◌+◌, ◌++◌, ap, sym, refl, ℕ, List, [], ◌∷◌, Option, Some, None, length, map, fold, take, option_map, get_or}
+use Rattle.std.proofs.Common.{◌≡◌, ◌∙◌, ◌<◌, ◌+◌, ◌++◌, ap, sym, refl, ℕ, List, [], ◌∷◌, Option, Some, None, length}
+use Rattle.std.proofs.Common.{map, fold, take, option_map, get_or}
 use Rattle.std.specs.Prelude.{option_to_list}
 use Rattle.std.specs.Borrow.{Bor}
 use Rattle.std.specs.List.{cons_option, filter_map}
@@ -31,7 +32,8 @@ pushed : (o : Option (Bor Text)) → map (λ w. w.now) (option_to_list o) ≡ co
 pushed None = refl
 pushed (Some w) = refl
 
-pub word_more : (first : Text → Option Text) (ids : List (Bor Text)) (i : ℕ) (d : Bor Text) (items more : List (Bor Text)) (o : Option (Bor Text)) → i < length ids
+pub word_more : (first : Text → Option Text) (ids : List (Bor Text)) (i : ℕ) (d : Bor Text)
+    (items more : List (Bor Text)) (o : Option (Bor Text)) → i < length ids
     → map (λ w. w.now) items ≡ filter_map first (map (λ id. id.now) (take i ids))
     → option_map (λ w. w.now) o ≡ first (get_or ids i d).now
     → more ≡ items ++ option_to_list o

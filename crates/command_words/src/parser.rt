@@ -87,7 +87,8 @@ fn with_rows<'a>(
     rows: &[(&'a str, usize)],
 ) -> Result<Command<'a>, AllocError>
     requires { list_all has_few_words rows.now ≡ true }
-    ensures { IfOk result (λ c. app_of c ≡ fold with_subcommand (app_of line.entry) (map row_shape (rows_from rows.entry.now))) }
+    ensures { IfOk result (λ c. app_of c ≡ fold with_subcommand (app_of line.entry)
+        (map row_shape (rows_from rows.entry.now))) }
 {
     for row in rows {
         line = line.subcommand(row_command(alloc, row.0, row.1)?)?;

@@ -1,5 +1,6 @@
 //! The reading of the words.
-ghost use Rattle.std.specs.Prelude.{◌≡◌, ◌≢◌, ◌++◌, map, option_map, option_to_list, string_bytes, true, None, IfOk, OnOk};
+ghost use Rattle.std.specs.Prelude.{◌≡◌, ◌≢◌, ◌++◌, map, option_map, option_to_list, string_bytes, true, None, IfOk};
+ghost use Rattle.std.specs.Prelude.{OnOk};
 ghost use Rattle.std.specs.List.{filter_map, list_all};
 ghost use Rattle.clap.specs.Words.{first_value, found_of, kind_of};
 ghost use Rattle.command_words.specs.Rows.{is_plain, row_words, written};
@@ -57,7 +58,8 @@ fn words_of<'a>(
     matches: &ArgMatches<'a>,
     ids: &[&str],
 ) -> Result<Vec<&'a str>, Memory>
-    ensures { IfOk result (λ v. map (λ w. w.now) v.items ≡ filter_map (first_value (found_of matches.now)) (map (λ id. id.now) ids.now)) }
+    ensures { IfOk result (λ v. map (λ w. w.now) v.items
+        ≡ filter_map (first_value (found_of matches.now)) (map (λ id. id.now) ids.now)) }
 {
     let mut words = Vec::new(alloc);
     for id in ids {

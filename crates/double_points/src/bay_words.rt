@@ -33,7 +33,8 @@ impl Model for BayWords {
     ghost inverse = { λ xs. record { words = xs ++ replicate (24 - length xs) Lost; count = length xs } };
 
     ghost inverse_ok = { λ a h.
-        ap {B = Inside} (λ (w : List Dbpos). record { words = w; count = length (take a.count a.words) }) (filled_again Lost 24 a.words a.count h)
+        ap {B = Inside} (λ (w : List Dbpos). record { words = w; count = length (take a.count a.words) })
+        (filled_again Lost 24 a.words a.count h)
         ∙ ap {B = Inside} (λ (k : ℕ). record { words = a.words; count = k }) (held_count Lost 24 a.words a.count h) };
 }
 

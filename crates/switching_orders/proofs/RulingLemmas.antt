@@ -81,7 +81,8 @@ pub all_of : (d : Diagram) (v : List Bool) (ops : List Op) (r : Ruling) → IsRu
     take r.passed ops ≡ ops
 all_of d v ops r rules none =
     take_all r.passed ops (past ops r.passed
-    (never_stops d _ _ (subst (StopsAt d (after_all v (take r.passed ops)) (slice_get ops r.passed)) none rules.stopped)))
+    (never_stops d _ _
+    (subst (StopsAt d (after_all v (take r.passed ops)) (slice_get ops r.passed)) none rules.stopped)))
 
 -- nothing stops exactly an order that is accepted
 pub accepted : (d : Diagram) (v : List Bool) (ops : List Op) (r : Ruling) → IsRuling d v ops r → (r.stopped ≡ None)

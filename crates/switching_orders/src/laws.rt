@@ -14,7 +14,8 @@ pub fn undone_gives_start()
     ensures start { (d : Diagram) (v : List Bool) (ops : List Op) → IsAccepted d v ops →
         after_all (after_all v ops) (undone ops) ≡ v }
     ensures never_idle { (d : Diagram) (v : List Bool) (ops : List Op) → IsAccepted d v ops
-        → (k : ℕ) (op : Op) → slice_get (undone ops) k ≡ Some op → ¬ IsIdle (after_all (after_all v ops) (take k (undone ops))) op }
+        → (k : ℕ) (op : Op) → slice_get (undone ops) k ≡ Some op →
+        ¬ IsIdle (after_all (after_all v ops) (take k (undone ops))) op }
 {}
 
 /// An accepted order keeps apart what is energisable and earthable: from a vector in which no node is both,

@@ -5,5 +5,7 @@ use Rattle.command_words.proofs.parser.with_rows.Goals as goal
 
 pub loop-row-preserved : goal.loop-row-preserved
 loop-row-preserved c =
-    row_more c.args.rows.now c.loop-row.row-index _ (app_of c.args.line) (app_of c.loop-row.line) (app_of c.in_ok-line.line) (omega arith) c.loop-row.invariant
-    (c.in_ok-line.ensures.shape c.in_ok-row_command.ensures.local ∙ ap (λ (a : App). with_subcommand (app_of c.loop-row.line) a.top) c.in_ok-row_command.ensures.app)
+    row_more c.args.rows.now c.loop-row.row-index _ (app_of c.args.line) (app_of c.loop-row.line)
+    (app_of c.in_ok-line.line) (omega arith) c.loop-row.invariant
+    (c.in_ok-line.ensures.shape c.in_ok-row_command.ensures.local
+    ∙ ap (λ (a : App). with_subcommand (app_of c.loop-row.line) a.top) c.in_ok-row_command.ensures.app)
