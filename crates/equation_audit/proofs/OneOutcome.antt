@@ -107,7 +107,8 @@ not_broad alts before c zs same few broad =
         (sym (broad.2.each i) ∙ later)
 
 no_body_fault : (d : Diagram) → Differ d.switch_paths → (alts before : List (List Condition)) (s : Statement)
-    (x ts : List Statement) (line : List ℕ) (number : ℕ) → HasFewOwn alts → body alts ++ End ∷ x ≡ body before ++ s ∷ ts →
+    (x ts : List Statement) (line : List ℕ) (number : ℕ) → HasFewOwn alts →
+    body alts ++ End ∷ x ≡ body before ++ s ∷ ts →
     Says d line s → HasBodyFault d before line number → ⊥
 no_body_fault d differ alts before s x ts line number few same says (inl (out, is)) =
     in_place d alts before s x ts line same says out

@@ -84,7 +84,8 @@ one_statement d differ line (Begins a) Never x y = absurd (no_way a.direction 10
 one_statement d differ line (Begins a) Or x y = absurd (no_way a.direction 114 (both d line (Begins a) Or x y)
     (λ e. omega (arith, e)) (λ e. omega (arith, e)))
 one_statement d differ line (Begins a) (When c) x y =
-    absurd (no_way a.direction 104 (both d line (Begins a) (When c) x y) (λ e. omega (arith, e)) (λ e. omega (arith, e)))
+    absurd (no_way a.direction 104 (both d line (Begins a) (When c) x y) (λ e. omega (arith, e))
+    (λ e. omega (arith, e)))
 one_statement d differ line (Begins a) End x y = absurd (no_way a.direction 110 (both d line (Begins a) End x y)
     (λ e. omega (arith, e)) (λ e. omega (arith, e)))
 one_statement d differ line Never (Begins a) x y = absurd (no_way a.direction 101 (both d line (Begins a) Never y x)
@@ -100,7 +101,8 @@ one_statement d differ line Or Or x y = refl
 one_statement d differ line Or (When c) x y = absurd (let e = both d line Or (When c) x y in omega (arith, e))
 one_statement d differ line Or End x y = absurd (let e = both d line Or End x y in omega (arith, e))
 one_statement d differ line (When c) (Begins a) x y =
-    absurd (no_way a.direction 104 (both d line (Begins a) (When c) y x) (λ e. omega (arith, e)) (λ e. omega (arith, e)))
+    absurd (no_way a.direction 104 (both d line (Begins a) (When c) y x) (λ e. omega (arith, e))
+    (λ e. omega (arith, e)))
 one_statement d differ line (When c) Never x y = absurd (let e = both d line (When c) Never x y in omega (arith, e))
 one_statement d differ line (When c) Or x y = absurd (let e = both d line (When c) Or x y in omega (arith, e))
 one_statement d differ line (When a) (When b) x y =

@@ -187,7 +187,8 @@ fault_in_block d all left line rest es op count r first names fault said =
 
 -- the first fault is in a line between blocks
 pub first_head_fault : (d : Diagram) (bytes : List ℕ) (left : List (ℕ × List ℕ)) (number : ℕ) (line : List ℕ)
-    (rest : List (ℕ × List ℕ)) (es : List Equation) (r : InputRefusal) → left ≡ (number, line) ∷ rest → (r.line ≡ number)
+    (rest : List (ℕ × List ℕ)) (es : List Equation) (r : InputRefusal) → left ≡ (number, line) ∷ rest →
+    (r.line ≡ number)
     × HasHeadFault d es line r.number → OneEach es → AllFew es
     → HasSaid d (filled_lines bytes) left (flat_map whole es) → IsFirstFault d bytes r
 first_head_fault d bytes left number line rest es r first fault one_each few said = record {

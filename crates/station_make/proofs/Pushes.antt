@@ -18,11 +18,17 @@ two t a b x y first second = second ∙ ap (λ s. s ++ y) first ∙ append_assoc
 pub three : (t a b c x y z : List ℕ) → a ≡ t ++ x → b ≡ a ++ y → c ≡ b ++ z → c ≡ t ++ (x ++ y ++ z)
 three t a b c x y z first second third = two t b c (x ++ y) z (two t a b x y first second) third
 
-pub four : (t a b c d x y z v : List ℕ) → a ≡ t ++ x → b ≡ a ++ y → c ≡ b ++ z → d ≡ c ++ v → d ≡ t ++ (x ++ y ++ z ++ v)
-four t a b c d x y z v first second third fourth = two t c d (x ++ y ++ z) v (three t a b c x y z first second third) fourth
+pub four : (t a b c d x y z v : List ℕ) → a ≡ t ++ x → b ≡ a ++ y → c ≡ b ++ z → d ≡ c ++ v →
+    d ≡ t ++ (x ++ y ++ z ++ v)
+four t a b c d x y z v first second third fourth =
+    two t c d (x ++ y ++ z) v (three t a b c x y z first second third) fourth
 
-pub five : (t a b c d e x y z v w : List ℕ) → a ≡ t ++ x → b ≡ a ++ y → c ≡ b ++ z → d ≡ c ++ v → e ≡ d ++ w → e ≡ t ++ (x ++ y ++ z ++ v ++ w)
-five t a b c d e x y z v w first second third fourth fifth = two t d e (x ++ y ++ z ++ v) w (four t a b c d x y z v first second third fourth) fifth
+pub five : (t a b c d e x y z v w : List ℕ) → a ≡ t ++ x → b ≡ a ++ y → c ≡ b ++ z → d ≡ c ++ v → e ≡ d ++ w →
+    e ≡ t ++ (x ++ y ++ z ++ v ++ w)
+five t a b c d e x y z v w first second third fourth fifth =
+    two t d e (x ++ y ++ z ++ v) w (four t a b c d x y z v first second third fourth) fifth
 
-pub six : (t a b c d e f x y z v w u : List ℕ) → a ≡ t ++ x → b ≡ a ++ y → c ≡ b ++ z → d ≡ c ++ v → e ≡ d ++ w → f ≡ e ++ u → f ≡ t ++ (x ++ y ++ z ++ v ++ w ++ u)
-six t a b c d e f x y z v w u first second third fourth fifth sixth = two t e f (x ++ y ++ z ++ v ++ w) u (five t a b c d e x y z v w first second third fourth fifth) sixth
+pub six : (t a b c d e f x y z v w u : List ℕ) → a ≡ t ++ x → b ≡ a ++ y → c ≡ b ++ z → d ≡ c ++ v → e ≡ d ++ w →
+    f ≡ e ++ u → f ≡ t ++ (x ++ y ++ z ++ v ++ w ++ u)
+six t a b c d e f x y z v w u first second third fourth fifth sixth =
+    two t e f (x ++ y ++ z ++ v ++ w) u (five t a b c d e x y z v w first second third fourth fifth) sixth

@@ -11,11 +11,14 @@ use Rattle.station_make.specs.Names.{bay_name, node_name, node_key, switch_name,
 
 -- The line of a node.
 unfoldable pub node_line : Bay → Node → List ℕ
-node_line bay node = codes "<ConnectivityNode name=\"" ++ node_name node ++ codes "\" pathName=\"" ++ node_key (node_at bay node) ++ codes "\"/>\n"
+node_line bay node =
+    codes "<ConnectivityNode name=\"" ++ node_name node ++ codes "\" pathName=\"" ++ node_key (node_at bay node)
+    ++ codes "\"/>\n"
 
 -- A terminal.
 unfoldable pub terminal_text : Terminal → List ℕ
-terminal_text t = codes "<Terminal connectivityNode=\"" ++ node_key t ++ codes "\" cNodeName=\"" ++ node_name t.node ++ codes "\"/>"
+terminal_text t =
+    codes "<Terminal connectivityNode=\"" ++ node_key t ++ codes "\" cNodeName=\"" ++ node_name t.node ++ codes "\"/>"
 
 -- The second terminal, if there is one.
 abbrev pub second_text : Option Terminal → List ℕ
@@ -24,11 +27,13 @@ second_text None = []
 
 -- The start of a switch of this name.
 unfoldable pub switch_start : Designation → List ℕ
-switch_start d = codes "<ConductingEquipment name=\"" ++ switch_name d ++ codes "\" type=\"" ++ switch_type d ++ codes "\">"
+switch_start d =
+    codes "<ConductingEquipment name=\"" ++ switch_name d ++ codes "\" type=\"" ++ switch_type d ++ codes "\">"
 
 -- The line of a switch.
 unfoldable pub switch_line : Switch → List ℕ
-switch_line s = switch_start s.designation ++ terminal_text s.first ++ second_text s.second ++ codes "</ConductingEquipment>\n"
+switch_line s =
+    switch_start s.designation ++ terminal_text s.first ++ second_text s.second ++ codes "</ConductingEquipment>\n"
 
 -- The lines of a bay: its nodes, then its switches.
 unfoldable pub bay_text : Bay → List ℕ

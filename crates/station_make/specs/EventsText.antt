@@ -35,7 +35,8 @@ command_records = moved_record (codes "command,") (codes ",close") ∷ []
 
 -- Its drive runs from end to end, and its bay reads it.
 abbrev pub drive_records : List (List ℕ)
-drive_records = moved_record (codes "begin,") [] ∷ moved_record (codes "end,") [] ∷ moved_record (codes "sense,") (codes ",on") ∷ []
+drive_records =
+    moved_record (codes "begin,") [] ∷ moved_record (codes "end,") [] ∷ moved_record (codes "sense,") (codes ",on") ∷ []
 
 -- The records of the log, for these switches and so many feeders. There are as many other bays as feeders:
 -- each is asked, and answers, and in the end each is told.

@@ -4,7 +4,8 @@ use Rattle.std.specs.List.{flat_map, range_with_len}
 use Rattle.station_make.specs.declared.equipment.Bay.{Bay}
 use Rattle.station_make.specs.declared.equipment.Bay.TheVariants.{FirstBusbar, SecondBusbar, Coupler, Feeder}
 use Rattle.station_make.specs.declared.equipment.Node.{Node}
-use Rattle.station_make.specs.declared.equipment.Node.TheVariants.{Busbar, CouplerFirst, CouplerSecond, FeederFirst, FeederSecond, FeederThird, Grounded}
+use Rattle.station_make.specs.declared.equipment.Node.TheVariants.{Busbar, CouplerFirst, CouplerSecond, FeederFirst}
+use Rattle.station_make.specs.declared.equipment.Node.TheVariants.{FeederSecond, FeederThird, Grounded}
 use Rattle.station_make.specs.declared.equipment.Terminal.{Terminal}
 use Rattle.station_make.specs.declared.equipment.Designation.{Designation}
 use Rattle.station_make.specs.declared.equipment.Designation.TheVariants.{Qb1, Qb2, Qa1, Qb9, Qc9, E1}
@@ -27,7 +28,13 @@ node_at bay node = record { bay = bay; node = node }
 
 -- The switch of the bay that stands between two nodes.
 abbrev pub switch_between : Bay → Designation → Terminal → Terminal → Bool → Switch
-switch_between bay designation first second is_on = record { bay = bay; designation = designation; first = first; second = Some second; is_on = is_on }
+switch_between bay designation first second is_on = record {
+  bay = bay;
+  designation = designation;
+  first = first;
+  second = Some second;
+  is_on = is_on;
+}
 
 -- The infeed of the bay, which is on.
 abbrev pub infeed_at : Bay → Terminal → Switch

@@ -3,7 +3,8 @@ use Rattle.std.specs.Prelude.{◌++◌, ℕ, Bool, true, false, List, codes, dec
 use Rattle.station_make.specs.declared.equipment.Bay.{Bay}
 use Rattle.station_make.specs.declared.equipment.Bay.TheVariants.{FirstBusbar, SecondBusbar, Coupler, Feeder}
 use Rattle.station_make.specs.declared.equipment.Node.{Node}
-use Rattle.station_make.specs.declared.equipment.Node.TheVariants.{Busbar, CouplerFirst, CouplerSecond, FeederFirst, FeederSecond, FeederThird, Grounded}
+use Rattle.station_make.specs.declared.equipment.Node.TheVariants.{Busbar, CouplerFirst, CouplerSecond, FeederFirst}
+use Rattle.station_make.specs.declared.equipment.Node.TheVariants.{FeederSecond, FeederThird, Grounded}
 use Rattle.station_make.specs.declared.equipment.Terminal.{Terminal}
 use Rattle.station_make.specs.declared.equipment.Designation.{Designation}
 use Rattle.station_make.specs.declared.equipment.Designation.TheVariants.{Qb1, Qb2, Qa1, Qb9, Qc9, E1}

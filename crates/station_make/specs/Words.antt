@@ -17,7 +17,8 @@ pub record NamesFeeders (word : List ℕ) (number : ℕ) : Type 0 where
 
 -- The number that a word names so, if it does.
 unfoldable pub feeders_of : List ℕ → Option ℕ
-feeders_of word = find (λ n. bytes_eq (decimal n) word) (range_with_len LEAST_FEEDERS (MOST_FEEDERS + 1 - LEAST_FEEDERS))
+feeders_of word =
+    find (λ n. bytes_eq (decimal n) word) (range_with_len LEAST_FEEDERS (MOST_FEEDERS + 1 - LEAST_FEEDERS))
 
 -- The text that a word names.
 abbrev pub text_named : List ℕ → Option MadeText

@@ -1,7 +1,8 @@
 //! The drawing of the station.
 ghost use Rattle.std.specs.Prelude.{◌≡◌, ◌++◌, OnOk, IfOk};
 ghost use Rattle.std.specs.List.{flat_map};
-ghost use Rattle.station_make.specs.DrawingText.{bay_text, drawing_of, node_line, second_text, switch_line, switch_start, terminal_text};
+ghost use Rattle.station_make.specs.DrawingText.{bay_text, drawing_of, node_line, second_text, switch_line};
+ghost use Rattle.station_make.specs.DrawingText.{switch_start, terminal_text};
 
 use crate::equipment::{Bay, Designation, Node, Switch, Terminal, node_at, nodes_of, switches_of};
 use crate::names::{node_name, push_bay_name, push_node_key, switch_name, switch_type};

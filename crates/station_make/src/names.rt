@@ -1,6 +1,7 @@
 //! What the texts call the bays, nodes and switches.
 ghost use Rattle.std.specs.Prelude.{◌≡◌, ◌++◌, decimal, OnOk};
-ghost use Rattle.station_make.specs.Names.{bay_name, bay_path, node_key, node_name, path_in, position_word, switch_name, switch_type};
+ghost use Rattle.station_make.specs.Names.{bay_name, bay_path, node_key, node_name, path_in, position_word};
+ghost use Rattle.station_make.specs.Names.{switch_name, switch_type};
 
 use crate::equipment::{Bay, Designation, Node, Terminal};
 use ilk_base::{Memory, Text};

@@ -10,5 +10,6 @@ returns c =
     on_ok c.push-3.result
     (six _ _ _ _ _ _ _ _ _ _ _ _ _ c.in_ok-push.ensures.ok c.in_ok-push_bay_name.ensures c.in_ok-push-2.ensures.ok
     (called _ _ _ _ (ap (flat_map (node_line c.args.bay)) c.nodes_of.ensures) c.in_ok-push_nodes.ensures)
-    (called _ _ _ _ (ap (flat_map switch_line) (c.deref.ensures.value ∙ c.in_ok-switches_of.ensures)) c.in_ok-push_switches.ensures))
+    (called _ _ _ _ (ap (flat_map switch_line) (c.deref.ensures.value ∙ c.in_ok-switches_of.ensures))
+    c.in_ok-push_switches.ensures))
     c.push-3.ensures.ok

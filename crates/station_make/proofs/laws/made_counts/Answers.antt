@@ -19,7 +19,8 @@ returns-clause-switches c = count_of_switches
 
 -- two records for each switch, one for each of three messages for a feeder, and four more
 count_of_records : (n : ℕ) (s : List Switch) (a b : List ℕ) (command : List (List ℕ)) (drive : List (List ℕ))
-    → length (map at_record s ++ map sense_record s ++ command ++ map deliver_record a ++ drive ++ map deliver_record b) ≡ 2 * length s + length command + length drive + length a + length b
+    → length (map at_record s ++ map sense_record s ++ command ++ map deliver_record a ++ drive ++ map deliver_record b)
+    ≡ 2 * length s + length command + length drive + length a + length b
 count_of_records n s a b command drive =
     simp (length-append, length-map) (omega arith)
 
