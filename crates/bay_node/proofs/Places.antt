@@ -2,7 +2,8 @@
 use Rattle.std.proofs.Common.{◌≡◌, ◌<◌, ℕ, zero, suc, List, [], ◌∷◌, length, slice_get, replicate, Some, refl, arith}
 use Rattle.std.proofs.lemmas.Option.{same_Some}
 
-pub same_places : {X : Type 0} (xs ys : List X) → length xs ≡ length ys → ((k : ℕ) → k < length xs → slice_get xs k ≡ slice_get ys k) → xs ≡ ys
+pub same_places : {X : Type 0} (xs ys : List X) → length xs ≡ length ys →
+    ((k : ℕ) → k < length xs → slice_get xs k ≡ slice_get ys k) → xs ≡ ys
 same_places [] [] e h = refl
 same_places [] (y ∷ ys) e h = absurd (omega (arith, e))
 same_places (x ∷ xs) [] e h = absurd (omega (arith, e))
@@ -11,7 +12,8 @@ same_places (x ∷ xs) (y ∷ ys) e h =
     let rest : xs ≡ ys = same_places xs ys (omega (arith, e)) (λ k low. h (suc k) (omega (arith, low))) in
     rw (first, rest) refl
 
-pub all_same : {X : Type 0} (xs : List X) (n : ℕ) (x : X) → length xs ≡ n → ((k : ℕ) → k < n → slice_get xs k ≡ Some x) → xs ≡ replicate n x
+pub all_same : {X : Type 0} (xs : List X) (n : ℕ) (x : X) → length xs ≡ n →
+    ((k : ℕ) → k < n → slice_get xs k ≡ Some x) → xs ≡ replicate n x
 all_same [] zero x e h = refl
 all_same [] (suc n) x e h = absurd (omega (arith, e))
 all_same (y ∷ xs) zero x e h = absurd (omega (arith, e))

@@ -1,5 +1,6 @@
 -- What the answers of a step's parts share.
-use Rattle.std.proofs.Common.{◌≡◌, ◌<◌, ◌+◌, ℕ, Bool, true, false, cond, List, [], ◌∷◌, ◌++◌, length, Option, Some, Result, Ok, Err, IfOk, refl, sym, ap, ◌∙◌, arith}
+use Rattle.std.proofs.Common.{◌≡◌, ◌<◌, ◌+◌, ℕ, Bool, true, false, cond, List, [], ◌∷◌, ◌++◌, length, Option, Some}
+use Rattle.std.proofs.Common.{Result, Ok, Err, IfOk, refl, sym, ap, ◌∙◌, arith}
 use Rattle.std.proofs.lemmas.List.{map-append, append-nil}
 use Rattle.std.proofs.lemmas.Option.{slice_get_within}
 use Rattle.std.specs.List.{filter, range_with_len}
@@ -31,24 +32,45 @@ pub own_bay : (d : Diagram) (b i : ℕ) → IsOwn d b i → bay_of d i ≡ b
 own_bay d b i own = rw own.1 own.2
 
 -- a node that collects g in its highest round
-pub collected_same : (s : State) (g : Collection) → s.collecting ≡ Some g → g.round ≡ s.highest → collects s g.round g ≡ s
+pub collected_same : (s : State) (g : Collection) → s.collecting ≡ Some g → g.round ≡ s.highest →
+    collects s g.round g ≡ s
 collected_same s g has newest =
-    ap (λ (p : ℕ). record { bay = s.bay; highest = p; lock = s.lock; granted = s.granted; collecting = Some g; words = s.words }) newest
-    ∙ ap (λ (x : Option Collection). record { bay = s.bay; highest = s.highest; lock = s.lock; granted = s.granted; collecting = x; words = s.words }) (sym has)
+    ap (λ (p : ℕ). record {
+      bay = s.bay;
+      highest = p;
+      lock = s.lock;
+      granted = s.granted;
+      collecting = Some g;
+      words = s.words;
+    }) newest
+    ∙ ap (λ (x : Option Collection). record {
+      bay = s.bay;
+      highest = s.highest;
+      lock = s.lock;
+      granted = s.granted;
+      collecting = x;
+      words = s.words;
+    }) (sym has)
 
 -- one more bay to which the same is sent, or a part to which nothing is
-module _ (d : Diagram) (b round : ℕ) (body : Body) (n : ℕ) (old new : List Frame) (sent : old ≡ to_each b round body (filter (is_another d b) (range_with_len 0 n))) where
-  with_next : (t : Bool) → is_another d b n ≡ t → new ≡ old ++ to_each b round body (cond t (n ∷ []) []) → new ≡ to_each b round body (filter (is_another d b) (range_with_len 0 (n + 1)))
+module _ (d : Diagram) (b round : ℕ) (body : Body) (n : ℕ) (old new : List Frame)
+    (sent : old ≡ to_each b round body (filter (is_another d b) (range_with_len 0 n))) where
+  with_next : (t : Bool) → is_another d b n ≡ t → new ≡ old ++ to_each b round body (cond t (n ∷ []) []) →
+      new ≡ to_each b round body (filter (is_another d b) (range_with_len 0 (n + 1)))
   with_next t is e =
       e ∙ ap (λ xs. xs ++ to_each b round body (cond t (n ∷ []) [])) sent
-      ∙ sym (map-append (λ to. frame b to round body) (filter (is_another d b) (range_with_len 0 n)) (cond t (n ∷ []) []))
-      ∙ ap (λ (x : Bool). to_each b round body (filter (is_another d b) (range_with_len 0 n) ++ cond x (n ∷ []) [])) (sym is)
+      ∙ sym (map-append (λ to. frame b to round body) (filter (is_another d b) (range_with_len 0 n))
+      (cond t (n ∷ []) []))
+      ∙ ap (λ (x : Bool). to_each b round body (filter (is_another d b) (range_with_len 0 n) ++ cond x (n ∷ []) []))
+      (sym is)
       ∙ ap (to_each b round body) (sym (filtered_more (is_another d b) n))
 
-  pub sent_more : IsOther d b n → new ≡ old ++ frame b n round body ∷ [] → new ≡ to_each b round body (filter (is_another d b) (range_with_len 0 (n + 1)))
+  pub sent_more : IsOther d b n → new ≡ old ++ frame b n round body ∷ [] →
+      new ≡ to_each b round body (filter (is_another d b) (range_with_len 0 (n + 1)))
   sent_more other e = with_next true (another_yes d b n other) e
 
-  pub sent_same : n < part_count d → ¬ IsOther d b n → new ≡ old → new ≡ to_each b round body (filter (is_another d b) (range_with_len 0 (n + 1)))
+  pub sent_same : n < part_count d → ¬ IsOther d b n → new ≡ old →
+      new ≡ to_each b round body (filter (is_another d b) (range_with_len 0 (n + 1)))
   sent_same low none e = with_next false (another_no d b n low none) (e ∙ sym (append-nil old))
 
 -- a list of no length

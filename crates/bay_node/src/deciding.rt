@@ -42,7 +42,8 @@ fn verdict<J: Judge>(
     requires words { AreWords (J.meaning judge.now).diagram words.now }
     requires heard { length heard.now ≡ part_count (J.meaning judge.now).diagram }
     requires fits { HeardFit (J.meaning judge.now) bay.0 heard.now }
-    ensures { IfOk result (Decides (J.meaning judge.now).diagram (Knows (J.meaning judge.now) bay.0 words.now heard.now) op) }
+    ensures { IfOk result (Decides (J.meaning judge.now).diagram
+        (Knows (J.meaning judge.now) bay.0 words.now heard.now) op) }
 {
     judge.judge(alloc, op, words, heard)
 }
@@ -61,7 +62,8 @@ impl Node {
         requires words { AreWords station.now self.old.words }
         requires heard { length collection.now.heard ≡ part_count station.now }
         requires fits { HeardFit (J.meaning judge.now) self.old.bay collection.now.heard }
-        ensures step { IfOk result (λ out. Deciding (J.meaning judge.now) station.now (collects self.old collection.now.round collection.now) collection.now (turn self.new out)) }
+        ensures step { IfOk result (λ out. Deciding (J.meaning judge.now) station.now
+            (collects self.old collection.now.round collection.now) collection.now (turn self.new out)) }
         ensures err { OnErr result (self.new ≡ self.old) }
     {
         let (round, op) = (collection.round, collection.op);
@@ -135,7 +137,8 @@ impl Node {
         requires same { (J.meaning judge.now).diagram ≡ station.now }
         requires node { IsNode station.now self.old }
         requires own { IsOwn station.now self.old.bay op.switch.0 }
-        ensures step { IfOk result (λ out. CommandStep (J.meaning judge.now) station.now self.old op (turn self.new out)) }
+        ensures step { IfOk result (λ out. CommandStep (J.meaning judge.now) station.now self.old op
+            (turn self.new out)) }
         ensures err { OnErr result (self.new ≡ self.old) }
     {
         if let Some(round) = self.under_way() {
@@ -172,7 +175,8 @@ impl Node {
         requires words { AreWords station.now self.old.words }
         requires heard { length collection.heard ≡ part_count station.now }
         requires fits { HeardFit (J.meaning judge.now) self.old.bay collection.heard }
-        ensures step { IfOk result (λ out. Deciding (J.meaning judge.now) station.now (collects self.old collection.round collection) collection (turn self.new out)) }
+        ensures step { IfOk result (λ out. Deciding (J.meaning judge.now) station.now
+            (collects self.old collection.round collection) collection (turn self.new out)) }
         ensures err { OnErr result (self.new ≡ collects self.old self.old.highest collection) }
     {
         match self.decide(alloc, station, judge, &collection) {

@@ -38,7 +38,8 @@ impl Node {
         outcome: Outcome,
     ) -> Result<NodeOutput, Memory>
         requires { grant.op.switch.0 < length self.old.words }
-        ensures step { IfOk result (λ out. Ends (turn self.new out) (ends (senses self.old grant.op.switch.0 word)) outcome (overs station.now self.old grant.round)) }
+        ensures step { IfOk result (λ out. Ends (turn self.new out) (ends (senses self.old grant.op.switch.0 word))
+            outcome (overs station.now self.old grant.round)) }
         ensures err { OnErr result (self.new ≡ self.old) }
     {
         let frames = to_others(alloc, station, self.bay, grant.round, &Body::Over)?;

@@ -38,7 +38,14 @@ impl Model for Node {
 
     ghost Value = { State };
 
-    ghost view = { λ a. record { bay = a.bay.0; highest = a.highest; lock = a.lock; granted = a.granted; collecting = a.collecting; words = a.words } };
+    ghost view = { λ a. record {
+      bay = a.bay.0;
+      highest = a.highest;
+      lock = a.lock;
+      granted = a.granted;
+      collecting = a.collecting;
+      words = a.words;
+    } };
 }
 
 // The new record, if it is another.
@@ -198,7 +205,8 @@ impl Node {
         requires same { (J.meaning judge.now).diagram ≡ station.now }
         requires node { IsNode station.now self.old }
         requires fits { FitsHeard (J.meaning judge.now) self.old }
-        ensures step { IfOk result (λ out. TakeStep (J.meaning judge.now) station.now self.old bytes.now (turn self.new out)) }
+        ensures step { IfOk result (λ out. TakeStep (J.meaning judge.now) station.now self.old bytes.now
+            (turn self.new out)) }
         ensures keep { IfOk result (λ out. IsKeep (kept_of self.old) (kept_of self.new) out.keep) }
         ensures lawful { IfOk result (λ out. All IsLawful out.frames) }
         ensures outcome { IfOk result (λ out. OutcomeFits station.now out.outcome) }

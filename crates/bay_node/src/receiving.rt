@@ -64,7 +64,8 @@ impl Node {
         requires bay { IsBay (J.meaning judge.now).diagram self.old.bay }
         requires other { IsOther (J.meaning judge.now).diagram self.old.bay from.0 }
         requires words { AreWords (J.meaning judge.now).diagram self.old.words }
-        ensures step { IfOk result (λ out. ReserveStep (J.meaning judge.now) self.old from.0 round (turn self.new out)) }
+        ensures step { IfOk result (λ out. ReserveStep (J.meaning judge.now) self.old from.0 round
+            (turn self.new out)) }
         ensures err { OnErr result (self.new ≡ self.old) }
     {
         if let Some(holder_round) = self.under_way() {
@@ -102,7 +103,8 @@ impl Node {
         requires node { IsNode station.now self.old }
         requires other { IsOther station.now self.old.bay from.0 }
         requires fits { FitsHeard (J.meaning judge.now) self.old }
-        ensures step { IfOk result (λ out. AnswerStep (J.meaning judge.now) station.now self.old from.0 round summary.now (turn self.new out)) }
+        ensures step { IfOk result (λ out. AnswerStep (J.meaning judge.now) station.now self.old from.0 round
+            summary.now (turn self.new out)) }
         ensures err { OnErr result (self.new ≡ self.old) }
     {
         let Some(collection) = &self.collecting else {
@@ -135,7 +137,8 @@ impl Node {
         holder: BayId,
         holder_round: u32,
     ) -> Result<NodeOutput, Memory>
-        ensures step { IfOk result (λ out. BusyStep station.now self.old from.0 round holder holder_round (turn self.new out)) }
+        ensures step { IfOk result (λ out. BusyStep station.now self.old from.0 round holder holder_round
+            (turn self.new out)) }
         ensures err { OnErr result (self.new ≡ self.old) }
     {
         let Some(collection) = &self.collecting else {
@@ -197,7 +200,8 @@ impl Node {
         requires same { (J.meaning judge.now).diagram ≡ station.now }
         requires node { IsNode station.now self.old }
         requires fits { FitsHeard (J.meaning judge.now) self.old }
-        ensures step { IfOk result (λ out. FrameStep (J.meaning judge.now) station.now self.old frame.now (turn self.new out)) }
+        ensures step { IfOk result (λ out. FrameStep (J.meaning judge.now) station.now self.old frame.now
+            (turn self.new out)) }
         ensures err { OnErr result (self.new ≡ self.old) }
     {
         if frame.to.0 != self.bay.0 {

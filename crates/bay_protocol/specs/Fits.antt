@@ -11,7 +11,8 @@ use Rattle.bay_protocol.specs.declared.values.Grant.{Grant}
 use Rattle.bay_protocol.specs.declared.values.Kept.{Kept}
 use Rattle.bay_protocol.specs.declared.values.Collection.{Collection}
 use Rattle.bay_protocol.specs.declared.values.NodeEvent.{NodeEvent}
-use Rattle.bay_protocol.specs.declared.values.NodeEvent.TheVariants.{Command, Sense, Frame as Arrival, Tick, Withdraw, Restart, Cut}
+use Rattle.bay_protocol.specs.declared.values.NodeEvent.TheVariants.{Command, Sense, Frame as Arrival, Tick, Withdraw}
+use Rattle.bay_protocol.specs.declared.values.NodeEvent.TheVariants.{Restart, Cut}
 use Rattle.bay_protocol.specs.State.{State, IsOther, kept_of}
 
 -- The switch is of this bay.

@@ -12,7 +12,9 @@ use Rattle.bay_protocol.specs.declared.values.Kept.{Kept}
 
 -- The number in the four bytes from a place on.
 abbrev pub number_at : List ℕ → ℕ → ℕ
-number_at bytes place = from_be_bytes w32 (slice_index bytes place ∷ slice_index bytes (place + 1) ∷ slice_index bytes (place + 2) ∷ slice_index bytes (place + 3) ∷ [])
+number_at bytes place =
+    from_be_bytes w32 (slice_index bytes place ∷ slice_index bytes (place + 1) ∷ slice_index bytes (place + 2)
+    ∷ slice_index bytes (place + 3) ∷ [])
 
 -- A lock, unless its first byte is 0.
 abbrev pub lock_at : List ℕ → Option Lock

@@ -21,7 +21,8 @@ direction_byte ToOn = 1
 -- there is none.
 abbrev pub grant_row : Option Grant → List ℕ
 grant_row None = replicate 8 0
-grant_row (Some g) = (1 ∷ []) ++ to_be_bytes w32 g.round ++ to_be_bytes w16 g.op.switch.0 ++ (direction_byte g.op.direction ∷ [])
+grant_row (Some g) =
+    (1 ∷ []) ++ to_be_bytes w32 g.round ++ to_be_bytes w16 g.op.switch.0 ++ (direction_byte g.op.direction ∷ [])
 
 -- The highest round in four bytes, the lock, the granted operation.
 abbrev pub kept_row : Kept → List ℕ

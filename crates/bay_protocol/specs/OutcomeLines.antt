@@ -1,5 +1,6 @@
 -- The lines of a report that show an outcome.
-use Rattle.std.specs.Prelude.{◌≡◌, ◌<◌, ◌++◌, ◌==◌, ⊤, ℕ, Bool, false, List, [], length, slice_index_or, codes, if◌then◌else◌}
+use Rattle.std.specs.Prelude.{◌≡◌, ◌<◌, ◌++◌, ◌==◌, ⊤, ℕ, Bool, false, List, [], length, slice_index_or, codes}
+use Rattle.std.specs.Prelude.{if◌then◌else◌}
 use Rattle.std.specs.Fmt.{decimal}
 use Rattle.ilk_base.specs.declared.words.Op.{Op}
 use Rattle.station_graph.specs.Diagram.{Diagram, switch_path}
@@ -7,7 +8,8 @@ use Rattle.station_graph.specs.Alike.{IsVector}
 use Rattle.station_graph.specs.CentralRules.{IsOperation}
 use Rattle.central_rules.specs.Names.{rule_name, direction_name, texts_below}
 use Rattle.bay_protocol.specs.declared.values.Outcome.{Outcome}
-use Rattle.bay_protocol.specs.declared.values.Outcome.TheVariants.{UnderWay, HeldBy, There, Spent, Collecting, Granted, Denied, BusyBy, Finished, Withdrawn, Stopped, Quiet}
+use Rattle.bay_protocol.specs.declared.values.Outcome.TheVariants.{UnderWay, HeldBy, There, Spent, Collecting, Granted}
+use Rattle.bay_protocol.specs.declared.values.Outcome.TheVariants.{Denied, BusyBy, Finished, Withdrawn, Stopped, Quiet}
 
 -- A line: the prefix, the text, and the end of the line.
 abbrev pub line : List ℕ → List ℕ → List ℕ
@@ -32,7 +34,8 @@ outcome_lines prefix d (Denied r op rule v) =
     line prefix (codes "denied " ++ decimal r ++ codes " " ++ rule_name rule ++ codes " " ++ operation d op)
     ++ texts_below (with_line prefix d v op.switch.0) (length d.switches)
 outcome_lines prefix d (BusyBy r bay holder q) =
-    line prefix (codes "busy " ++ decimal r ++ codes " from " ++ decimal bay.0 ++ codes " holder " ++ decimal holder.0 ++ codes " round " ++ decimal q)
+    line prefix (codes "busy " ++ decimal r ++ codes " from " ++ decimal bay.0 ++ codes " holder " ++ decimal holder.0
+    ++ codes " round " ++ decimal q)
 outcome_lines prefix d (HeldBy bay q) = line prefix (codes "held " ++ decimal bay.0 ++ codes " round " ++ decimal q)
 outcome_lines prefix d (UnderWay r) = line prefix (codes "underway " ++ decimal r)
 outcome_lines prefix d There = line prefix (codes "there")

@@ -1,5 +1,6 @@
 -- The state of a node, and the small changes of which a step of it is made.
-use Rattle.std.specs.Prelude.{◌≡◌, ◌≢◌, ◌+◌, ◌≤◌, ◌==◌, ◌&&◌, not, nat_lt, ℕ, Bool, List, length, filter, Option, Some, None, replicate, slice_set, slice_get, ⊤}
+use Rattle.std.specs.Prelude.{◌≡◌, ◌≢◌, ◌+◌, ◌≤◌, ◌==◌, ◌&&◌, not, nat_lt, ℕ, Bool, List, length, filter, Option, Some}
+use Rattle.std.specs.Prelude.{None, replicate, slice_set, slice_get, ⊤}
 use Rattle.std.specs.List.{range_with_len}
 use Rattle.ilk_base.specs.declared.words.BayId.{BayId}
 use Rattle.ilk_base.specs.declared.words.Dbpos.{Dbpos}
@@ -62,7 +63,14 @@ AllHeard d b heard = (c : ℕ) → IsOther d b c → IsHeard heard c
 
 -- The state of a bay that has nothing but this record: all words are lost, and no round is collected.
 abbrev pub resumed : Diagram → ℕ → Kept → State
-resumed d b k = record { bay = b; highest = k.highest; lock = k.lock; granted = k.granted; collecting = None; words = replicate (length d.switches) Lost }
+resumed d b k = record {
+  bay = b;
+  highest = k.highest;
+  lock = k.lock;
+  granted = k.granted;
+  collecting = None;
+  words = replicate (length d.switches) Lost;
+}
 
 -- The record of a bay to which nothing has happened.
 abbrev pub nothing_kept : Kept
@@ -72,7 +80,14 @@ nothing_kept = record { highest = 0; lock = None; granted = None }
 
 -- It collects g, in this highest round.
 abbrev pub collects : State → ℕ → Collection → State
-collects s highest g = record { bay = s.bay; highest = highest; lock = s.lock; granted = s.granted; collecting = Some g; words = s.words }
+collects s highest g = record {
+  bay = s.bay;
+  highest = highest;
+  lock = s.lock;
+  granted = s.granted;
+  collecting = Some g;
+  words = s.words;
+}
 
 -- The next round, in which nobody was heard.
 abbrev pub fresh : Diagram → State → Op → Collection
@@ -88,31 +103,80 @@ hears g b summary = record { round = g.round; op = g.op; heard = slice_set g.hea
 
 -- The operation of g is granted, and the word of its switch is lost.
 abbrev pub grants : State → Collection → State
-grants s g = record { bay = s.bay; highest = s.highest; lock = s.lock; granted = Some (record { round = g.round; op = g.op }); collecting = None; words = slice_set s.words g.op.switch.0 Lost }
+grants s g = record {
+  bay = s.bay;
+  highest = s.highest;
+  lock = s.lock;
+  granted = Some (record { round = g.round; op = g.op });
+  collecting = None;
+  words = slice_set s.words g.op.switch.0 Lost;
+}
 
 -- The round is collected no longer.
 abbrev pub drops : State → State
-drops s = record { bay = s.bay; highest = s.highest; lock = s.lock; granted = s.granted; collecting = None; words = s.words }
+drops s = record {
+  bay = s.bay;
+  highest = s.highest;
+  lock = s.lock;
+  granted = s.granted;
+  collecting = None;
+  words = s.words;
+}
 
 -- The granted operation has ended.
 abbrev pub ends : State → State
-ends s = record { bay = s.bay; highest = s.highest; lock = s.lock; granted = None; collecting = s.collecting; words = s.words }
+ends s = record {
+  bay = s.bay;
+  highest = s.highest;
+  lock = s.lock;
+  granted = None;
+  collecting = s.collecting;
+  words = s.words;
+}
 
 -- The lock is given to round r of bay c.
 abbrev pub locks : State → ℕ → ℕ → State
-locks s c r = record { bay = s.bay; highest = s.highest; lock = Some (record { holder = record { 0 = c }; round = r }); granted = s.granted; collecting = s.collecting; words = s.words }
+locks s c r = record {
+  bay = s.bay;
+  highest = s.highest;
+  lock = Some (record { holder = record { 0 = c }; round = r });
+  granted = s.granted;
+  collecting = s.collecting;
+  words = s.words;
+}
 
 -- The lock is given up.
 abbrev pub unlocks : State → State
-unlocks s = record { bay = s.bay; highest = s.highest; lock = None; granted = s.granted; collecting = s.collecting; words = s.words }
+unlocks s = record {
+  bay = s.bay;
+  highest = s.highest;
+  lock = None;
+  granted = s.granted;
+  collecting = s.collecting;
+  words = s.words;
+}
 
 -- The word of switch i is read.
 abbrev pub senses : State → ℕ → Dbpos → State
-senses s i word = record { bay = s.bay; highest = s.highest; lock = s.lock; granted = s.granted; collecting = s.collecting; words = slice_set s.words i word }
+senses s i word = record {
+  bay = s.bay;
+  highest = s.highest;
+  lock = s.lock;
+  granted = s.granted;
+  collecting = s.collecting;
+  words = slice_set s.words i word;
+}
 
 -- All words become lost, and the round that was being collected is forgotten.
 abbrev pub restarts : State → State
-restarts s = record { bay = s.bay; highest = s.highest; lock = s.lock; granted = s.granted; collecting = None; words = replicate (length s.words) Lost }
+restarts s = record {
+  bay = s.bay;
+  highest = s.highest;
+  lock = s.lock;
+  granted = s.granted;
+  collecting = None;
+  words = replicate (length s.words) Lost;
+}
 
 -- The lock may be given to round r of c: there is none, or c has it with no later round.
 abbrev pub MayLock : Option Lock → ℕ → ℕ → Type 0

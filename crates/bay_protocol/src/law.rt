@@ -46,11 +46,14 @@ pub fn step_keeps<J: Judge>(judge: &J)
 /// the outcome names is of the station.
 pub fn step_gives<J: Judge>(judge: &J)
     ensures lawful { (old : State) (event : Event) (turn : Turn) → let d = (J.meaning judge.now).diagram in
-        IsNode d old → EventFits d old.bay event → Step (J.meaning judge.now) d old event turn → All IsLawful turn.frames }
+        IsNode d old → EventFits d old.bay event → Step (J.meaning judge.now) d old event turn →
+        All IsLawful turn.frames }
     ensures few { (old : State) (event : Event) (turn : Turn) → let d = (J.meaning judge.now).diagram in
-        IsNode d old → EventFits d old.bay event → Step (J.meaning judge.now) d old event turn → length turn.frames < BAYS }
+        IsNode d old → EventFits d old.bay event → Step (J.meaning judge.now) d old event turn →
+        length turn.frames < BAYS }
     ensures outcome { (old : State) (event : Event) (turn : Turn) → let d = (J.meaning judge.now).diagram in
-        IsNode d old → EventFits d old.bay event → Step (J.meaning judge.now) d old event turn → OutcomeFits d turn.outcome }
+        IsNode d old → EventFits d old.bay event → Step (J.meaning judge.now) d old event turn →
+        OutcomeFits d turn.outcome }
 {
     judge.diagram_is_station();
 }

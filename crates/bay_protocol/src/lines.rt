@@ -75,7 +75,8 @@ fn push_granted(
     op: Op,
 ) -> Result<(), Memory>
     requires { IsOperation station.now op }
-    ensures { OnOk result (text.new ≡ text.old ++ line prefix.now (codes "granted " ++ decimal round ++ codes " " ++ operation station.now op)) }
+    ensures { OnOk result (text.new ≡ text.old
+        ++ line prefix.now (codes "granted " ++ decimal round ++ codes " " ++ operation station.now op)) }
 {
     text.push(prefix)?;
     push_number(text, b"granted ", round)?;
@@ -86,7 +87,8 @@ fn push_granted(
 
 // Appends `denied R RULE` and a blank.
 fn push_rule(text: &mut Text, round: u32, rule: Rule) -> Result<(), Memory>
-    ensures { OnOk result (text.new ≡ text.old ++ (codes "denied " ++ decimal round ++ codes " " ++ rule_name rule ++ codes " ")) }
+    ensures { OnOk result (text.new ≡ text.old
+        ++ (codes "denied " ++ decimal round ++ codes " " ++ rule_name rule ++ codes " ")) }
 {
     push_number(text, b"denied ", round)?;
     text.push(b" ")?;
@@ -104,7 +106,9 @@ fn push_denied(
     rule: Rule,
 ) -> Result<(), Memory>
     requires { IsOperation station.now op }
-    ensures { OnOk result (text.new ≡ text.old ++ line prefix.now (codes "denied " ++ decimal round ++ codes " " ++ rule_name rule ++ codes " " ++ operation station.now op)) }
+    ensures { OnOk result (text.new ≡ text.old
+        ++ line prefix.now (codes "denied " ++ decimal round ++ codes " " ++ rule_name rule ++ codes " "
+        ++ operation station.now op)) }
 {
     text.push(prefix)?;
     push_rule(text, round, rule)?;
@@ -147,7 +151,8 @@ fn push_reading(
     moved: SwitchId,
 ) -> Result<(), Memory>
     requires { IsVector station.now reading.now }
-    ensures { OnOk result (text.new ≡ text.old ++ texts_below (with_line prefix.now station.now reading.now moved.0) (length station.now.switches)) }
+    ensures { OnOk result (text.new ≡ text.old
+        ++ texts_below (with_line prefix.now station.now reading.now moved.0) (length station.now.switches)) }
 {
     for i in 0..station.switch_count() {
         push_with(text, prefix, station, reading, moved, SwitchId(i))?;
@@ -164,7 +169,8 @@ fn push_holder(text: &mut Text, words: &[u8], bay: BayId, round: u32) -> Result<
 }
 
 fn push_held(text: &mut Text, prefix: &[u8], bay: BayId, round: u32) -> Result<(), Memory>
-    ensures { OnOk result (text.new ≡ text.old ++ line prefix.now (codes "held " ++ decimal bay.0 ++ codes " round " ++ decimal round)) }
+    ensures { OnOk result (text.new ≡ text.old
+        ++ line prefix.now (codes "held " ++ decimal bay.0 ++ codes " round " ++ decimal round)) }
 {
     text.push(prefix)?;
     push_holder(text, b"held ", bay, round)?;
@@ -179,7 +185,9 @@ fn push_busy(
     holder: BayId,
     holder_round: u32,
 ) -> Result<(), Memory>
-    ensures { OnOk result (text.new ≡ text.old ++ line prefix.now (codes "busy " ++ decimal round ++ codes " from " ++ decimal bay.0 ++ codes " holder " ++ decimal holder.0 ++ codes " round " ++ decimal holder_round)) }
+    ensures { OnOk result (text.new ≡ text.old
+        ++ line prefix.now (codes "busy " ++ decimal round ++ codes " from " ++ decimal bay.0 ++ codes " holder "
+        ++ decimal holder.0 ++ codes " round " ++ decimal holder_round)) }
 {
     text.push(prefix)?;
     push_number(text, b"busy ", round)?;

@@ -1,11 +1,13 @@
 //! The record that a node keeps, as bytes and against the station.
-ghost use Rattle.std.specs.Prelude.{◌≡◌, ◌<◌, ◌+◌, ◌↔◌, ◌^◌, ℕ, [], ◌∷◌, length, Some, None, IfSome, IsTrue, slice_index};
+ghost use Rattle.std.specs.Prelude.{◌≡◌, ◌<◌, ◌+◌, ◌↔◌, ◌^◌, ℕ, [], ◌∷◌, length, Some, None, IfSome, IsTrue};
+ghost use Rattle.std.specs.Prelude.{slice_index};
 ghost use Rattle.std.specs.Int.{w16, w32, to_be_bytes};
 ghost use Rattle.central_rules.specs.Meaning.{IsBay};
 ghost use Rattle.bay_protocol.specs.declared.values.Kept.{Kept as Record};
 ghost use Rattle.bay_protocol.specs.Fits.{IsOwn, KeptFits, LockFits, GrantFits};
 ghost use Rattle.bay_protocol.specs.State.{IsOther};
-ghost use Rattle.bay_protocol.specs.KeptRow.{lock_row, grant_row, kept_row, direction_byte, LockInRow, GrantInRow, InRow};
+ghost use Rattle.bay_protocol.specs.KeptRow.{lock_row, grant_row, kept_row, direction_byte, LockInRow, GrantInRow};
+ghost use Rattle.bay_protocol.specs.KeptRow.{InRow};
 ghost use Rattle.bay_protocol.specs.KeptFields.{number_at, direction_at, lock_at, grant_at};
 
 use crate::values::{Grant, Kept, Lock};

@@ -24,7 +24,8 @@ pub(crate) const RESERVING: &[Row] = &[
         start: HIGHEST_0,
         first: COMMANDED,
         event: Happens::Bytes(&[2, 2, 1, 0, 0, 0, 1, 0, 5, 2, 2, 2, 2, 2]),
-        shown: b"denied 1 R2 close S/V1/Q1/QB1\nwith S/V1/Q1/QB9\nwith S/V1/Q2/QB1\nwith S/V1/Q2/QA1\nwith S/V1/Q2/QB9\nwith S/V1/Q2/QC9\nwith S/V1/Q2/E1\n",
+        shown: b"denied 1 R2 close S/V1/Q1/QB1\nwith S/V1/Q1/QB9\nwith S/V1/Q2/QB1\nwith S/V1/Q2/QA1\n\
+            with S/V1/Q2/QB9\nwith S/V1/Q2/QC9\nwith S/V1/Q2/E1\n",
         sent: &[OVER_TO_2],
         kept: HIGHEST_1,
         word: Dbpos::Off,

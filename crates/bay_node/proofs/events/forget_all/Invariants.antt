@@ -6,5 +6,6 @@ use Rattle.bay_node.proofs.events.forget_all.Given as goal
 abbrev pub invariant-loop-part : goal.invariant-loop-part
 invariant-loop-part l = record {
   count : length l.words ≡ length l.station.switches;
-  done : (i : ℕ) (x : Switch) → slice_get l.station.switches i ≡ Some x → x.bay.0 < l.part → slice_get l.words i ≡ Some Lost;
+  done : (i : ℕ) (x : Switch) → slice_get l.station.switches i ≡ Some x → x.bay.0 < l.part →
+      slice_get l.words i ≡ Some Lost;
 }

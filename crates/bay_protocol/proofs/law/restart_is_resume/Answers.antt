@@ -4,4 +4,12 @@ use Rattle.bay_protocol.specs.State.{State}
 use Rattle.bay_protocol.proofs.law.restart_is_resume.Goals as goal
 
 pub returns : goal.returns
-returns c = λ d s node. ap {B = State} (λ n. record { bay = s.bay; highest = s.highest; lock = s.lock; granted = s.granted; collecting = None; words = replicate n Lost }) node.words
+returns c =
+    λ d s node. ap {B = State} (λ n. record {
+      bay = s.bay;
+      highest = s.highest;
+      lock = s.lock;
+      granted = s.granted;
+      collecting = None;
+      words = replicate n Lost;
+    }) node.words
