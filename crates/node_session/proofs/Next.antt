@@ -1,5 +1,6 @@
 -- How the next line of a session goes.
-use Rattle.std.proofs.Common.{◌≡◌, ◌∙◌, refl, sym, ap, subst, arith, ℕ, ◌+◌, ◌<◌, ◌≤◌, ◌==◌, Bool, true, false, List, [], ◌∷◌, ◌++◌, length, take, drop, Option, Some, None}
+use Rattle.std.proofs.Common.{◌≡◌, ◌∙◌, refl, sym, ap, subst, arith, ℕ, ◌+◌, ◌<◌, ◌≤◌, ◌==◌, Bool, true, false, List}
+use Rattle.std.proofs.Common.{[], ◌∷◌, ◌++◌, length, take, drop, Option, Some, None}
 use Rattle.std.specs.Str.Lines.{strip_carriage_return}
 use Rattle.std.specs.Io.KnownBytes.{Appends, Consumes, Keeps, IsAtEnd}
 use Rattle.std.proofs.lemmas.List.{append-nil, length-append}
@@ -19,7 +20,8 @@ use Rattle.node_session.specs.SessionEnds.{Streams, SessionEnds, IsDone, IsStopp
 use Rattle.node_session.specs.Reading.{HasNoFeed, Grows, TakesPiece, BeginsLine, Fills, MoreFails, FillFails}
 use Rattle.node_session.specs.Progress.{AnswersLine, LineFails, Stands}
 use Rattle.node_session.proofs.Going.{appends_nothing, appends_both, stands_more, stands_past}
-use Rattle.node_session.proofs.Ending.{want, read_fault, stopped_line, stopped_long, stopped_last, done_empty, long, write_fault_line, write_fault_last, done_last}
+use Rattle.node_session.proofs.Ending.{want, read_fault, stopped_line, stopped_long, stopped_last, done_empty, long}
+use Rattle.node_session.proofs.Ending.{write_fault_line, write_fault_last, done_last}
 
 keeps_consumes : (a b : Option (List ℕ)) → Keeps a b → Consumes a b []
 keeps_consumes None b keeps = tt
@@ -38,121 +40,174 @@ pub record Written (now after : Streams) : Type 0 where
   pub reads : now.reads ≤ after.reads
   pub writes : now.writes ≤ after.writes
 
-module _ (m : Meaning) (d : Diagram) (b : ℕ) (before now : Streams) (held : List ℕ) (count : ℕ) (state : State) (at : Stands m d b before now held count state) where
+module _ (m : Meaning) (d : Diagram) (b : ℕ) (before now : Streams) (held : List ℕ) (count : ℕ) (state : State)
+    (at : Stands m d b before now held count state) where
   module _ (mid : Streams) (asked : Asked now mid) (held_new : List ℕ) where
     filled : Grows held held_new now.input mid.input → Stands m d b before mid held_new count state
-    filled grows = stands_more m d b before now mid held held_new count state at grows asked.out asked.reads asked.writes
+    filled grows =
+        stands_more m d b before now mid held held_new count state at grows asked.out asked.reads asked.writes
 
-    pub next_read_fault : FillFails held held_new now.input mid.input (Rose now.reads mid.reads) Failed → IsReadFault m d b before mid
-    next_read_fault (rose, grows, none) = read_fault m d b before mid held_new count state (filled grows) none (rose_earlier _ _ _ at.reads rose)
+    pub next_read_fault : FillFails held held_new now.input mid.input (Rose now.reads mid.reads) Failed →
+        IsReadFault m d b before mid
+    next_read_fault (rose, grows, none) =
+        read_fault m d b before mid held_new count state (filled grows) none (rose_earlier _ _ _ at.reads rose)
 
-    pub next_long : Fills held held_new now.input mid.input TooLong → count < MOST_LINES → IsStopped m d b before mid count
-    next_long fills few = stopped_long m d b before mid held_new count state (filled fills.grows) fills.is.0 fills.is.1 few fills.few
+    pub next_long : Fills held held_new now.input mid.input TooLong → count < MOST_LINES →
+        IsStopped m d b before mid count
+    next_long fills few =
+        stopped_long m d b before mid held_new count state (filled fills.grows) fills.is.0 fills.is.1 few fills.few
 
-    pub next_done : Fills held held_new now.input mid.input Last → held_new ≡ [] → count < MOST_LINES → IsDone m d b before mid
-    next_done fills empty few = done_empty m d b before mid held_new count state (filled fills.grows) empty fills.is.1 (omega (arith, few))
+    pub next_done : Fills held held_new now.input mid.input Last → held_new ≡ [] → count < MOST_LINES →
+        IsDone m d b before mid
+    next_done fills empty few =
+        done_empty m d b before mid held_new count state (filled fills.grows) empty fills.is.1 (omega (arith, few))
 
     -- after as many lines as there may be: more comes
     pub last_long : TakesPiece held held_new now.input mid.input true → count ≡ MOST_LINES → IsLong m d b before mid
     last_long takes all =
-        long m d b before mid held_new count state (filled (record { piece = takes.piece; parts = takes.parts; consumed = takes.consumed }))
+        long m d b before mid held_new count state
+        (filled (record { piece = takes.piece; parts = takes.parts; consumed = takes.consumed }))
         (omega (arith, takes.some refl, ap length takes.parts, length-append held takes.piece)) all
 
     -- none comes
-    pub last_done : TakesPiece held held_new now.input mid.input false → held ≡ [] → count ≡ MOST_LINES → IsDone m d b before mid
+    pub last_done : TakesPiece held held_new now.input mid.input false → held ≡ [] → count ≡ MOST_LINES →
+        IsDone m d b before mid
     last_done takes empty all =
         let (nothing, at_end) = takes.none refl in
-        done_empty m d b before mid held_new count state (filled (record { piece = takes.piece; parts = takes.parts; consumed = takes.consumed }))
+        done_empty m d b before mid held_new count state
+        (filled (record { piece = takes.piece; parts = takes.parts; consumed = takes.consumed }))
         (takes.parts ∙ ap (λ l. held ++ l) nothing ∙ append-nil held ∙ empty) at_end (omega (arith, all))
 
     -- the input fails
-    pub last_read_fault : MoreFails held held_new now.input mid.input (Rose now.reads mid.reads) Failed → held ≡ [] → IsReadFault m d b before mid
+    pub last_read_fault : MoreFails held held_new now.input mid.input (Rose now.reads mid.reads) Failed → held ≡ [] →
+        IsReadFault m d b before mid
     last_read_fault (rose, same, keeps) empty =
-        read_fault m d b before mid held_new count state (filled (record { piece = []; parts = same ∙ sym (append-nil held); consumed = keeps_consumes now.input mid.input keeps }))
+        read_fault m d b before mid held_new count state (filled
+        (record {
+          piece = [];
+          parts = same ∙ sym (append-nil held);
+          consumed = keeps_consumes now.input mid.input keeps;
+        }))
         (subst HasNoFeed (sym (same ∙ empty)) refl) (rose_earlier _ _ _ at.reads rose)
 
     module _ (after : Streams) (written : Written mid after) where
       -- nothing was written, and no line answered
-      unwritten : Stands m d b before mid held_new count state → Appends mid.out after.out [] → Stands m d b before after held_new count state
+      unwritten : Stands m d b before mid held_new count state → Appends mid.out after.out [] →
+          Stands m d b before after held_new count state
       unwritten there nothing = record {
         taken = there.taken;
         done = there.done;
         text = there.text;
-        consumed = subst (λ (i : Option (List ℕ)). Consumes before.input i (there.taken ++ held_new)) (sym written.input) there.consumed;
+        consumed =
+            subst (λ (i : Option (List ℕ)). Consumes before.input i (there.taken ++ held_new)) (sym written.input)
+            there.consumed;
         ends = there.ends;
         feeds = there.feeds;
         bay = there.bay;
         counted = there.counted;
         session = there.session;
-        wrote = subst (λ (t : List ℕ). Appends before.out after.out t) (append-nil there.text) (appends_both before.out mid.out after.out there.text [] there.wrote nothing);
+        wrote =
+            subst (λ (t : List ℕ). Appends before.out after.out t) (append-nil there.text)
+            (appends_both before.out mid.out after.out there.text [] there.wrote nothing);
         reads = omega (arith, there.reads, written.reads);
         writes = omega (arith, there.writes, written.writes);
       }
 
-      at_line : (n : ℕ) (line past : List ℕ) → length line ≡ n → held_new ≡ line ++ 10 ∷ past → (take n held_new ≡ line) × (drop (n + 1) held_new ≡ past)
+      at_line : (n : ℕ) (line past : List ℕ) → length line ≡ n → held_new ≡ line ++ 10 ∷ past →
+          (take n held_new ≡ line) × (drop (n + 1) held_new ≡ past)
       at_line n line past len parts = (
         ap (take n) parts ∙ ap (λ k. take k (line ++ 10 ∷ past)) (sym len) ∙ take-append_seam line (10 ∷ past),
-        ap (drop (n + 1)) parts ∙ ap (λ k. drop (k + 1) (line ++ 10 ∷ past)) (sym len) ∙ drop-append-add line (10 ∷ past) 1,
+        ap (drop (n + 1)) parts ∙ ap (λ k. drop (k + 1) (line ++ 10 ∷ past)) (sym len)
+            ∙ drop-append-add line (10 ∷ past) 1,
       )
 
-      pub next_line : (n : ℕ) (next : State) → Fills held held_new now.input mid.input (Line n) → AnswersLine m d (count == 0) state (strip_carriage_return (take n held_new)) next mid.out after.out → next.bay ≡ b
+      pub next_line : (n : ℕ) (next : State) → Fills held held_new now.input mid.input (Line n) →
+          AnswersLine m d (count == 0) state (strip_carriage_return (take n held_new)) next mid.out after.out →
+          next.bay ≡ b
           → Stands m d b before after (drop (n + 1) held_new) (count + 1) next
       next_line n next fills answered bay =
           let (line, past, len, begins) = fills.is in
           let there = at_line n line past len begins.parts in
           subst (λ (l : List ℕ). Stands m d b before after l (count + 1) next) (sym there.1)
           (stands_past m d b before mid after held_new past count state line next (filled fills.grows) begins
-          (subst (λ (l : List ℕ). AnswersLine m d (count == 0) state (strip_carriage_return l) next mid.out after.out) there.0 answered) bay written.input written.reads written.writes)
+          (subst (λ (l : List ℕ). AnswersLine m d (count == 0) state (strip_carriage_return l) next mid.out after.out)
+          there.0 answered) bay written.input written.reads written.writes)
 
-      line_fails : (line past : List ℕ) (end : SessionEnd) → Fills held held_new now.input mid.input (Line (length line)) → BeginsLine held_new line past → count < MOST_LINES
-          → LineFails m d count state (strip_carriage_return line) mid.out after.out (Rose mid.writes after.writes) end → SessionEnds m d b before after end
+      line_fails : (line past : List ℕ) (end : SessionEnd) →
+          Fills held held_new now.input mid.input (Line (length line)) → BeginsLine held_new line past →
+          count < MOST_LINES
+          → LineFails m d count state (strip_carriage_return line) mid.out after.out (Rose mid.writes after.writes)
+          end → SessionEnds m d b before after end
       line_fails line past e.Done fills begins few fails = absurd fails
-      line_fails line past (e.Refused number) fills begins few (is, refused, nothing) =
-          (count, is, stopped_line m d b before after held_new count state (unwritten (filled fills.grows) nothing) line past begins (subst (λ (k : ℕ). ¬ IsRequest d k (count == 0) (strip_carriage_return line)) at.bay refused) few fills.few)
+      line_fails line past (e.Refused number) fills begins few (is, refused, nothing) = (
+        count,
+        is,
+        stopped_line m d b before after held_new count state (unwritten (filled fills.grows) nothing) line past begins
+            (subst (λ (k : ℕ). ¬ IsRequest d k (count == 0) (strip_carriage_return line)) at.bay refused) few fills.few,
+      )
       line_fails line past e.Long fills begins few fails = absurd fails
       line_fails line past e.ReadFault fills begins few fails = absurd fails
       line_fails line past e.WriteFault fills begins few (rose, tells) =
           let there = filled fills.grows in
-          write_fault_line m d b before mid held_new count state there after written.input line past begins (rose_earlier _ _ _ there.writes rose) tells
-      line_fails line past e.Memory fills begins few nothing = want m d b before after held_new count state (unwritten (filled fills.grows) nothing)
+          write_fault_line m d b before mid held_new count state there after written.input line past begins
+          (rose_earlier _ _ _ there.writes rose) tells
+      line_fails line past e.Memory fills begins few nothing =
+          want m d b before after held_new count state (unwritten (filled fills.grows) nothing)
 
-      pub next_line_fails : (n : ℕ) (end : SessionEnd) → Fills held held_new now.input mid.input (Line n) → count < MOST_LINES
-          → LineFails m d count state (strip_carriage_return (take n held_new)) mid.out after.out (Rose mid.writes after.writes) end → SessionEnds m d b before after end
+      pub next_line_fails : (n : ℕ) (end : SessionEnd) → Fills held held_new now.input mid.input (Line n) →
+          count < MOST_LINES
+          → LineFails m d count state (strip_carriage_return (take n held_new)) mid.out after.out
+          (Rose mid.writes after.writes) end → SessionEnds m d b before after end
       next_line_fails n end fills few fails =
           let (line, past, len, begins) = fills.is in
           let there = at_line n line past len begins.parts in
-          line_fails line past end (subst (λ (k : ℕ). Fills held held_new now.input mid.input (Line k)) (sym len) fills) begins few
-          (subst (λ (l : List ℕ). LineFails m d count state (strip_carriage_return l) mid.out after.out (Rose mid.writes after.writes) end) there.0 fails)
+          line_fails line past end (subst (λ (k : ℕ). Fills held held_new now.input mid.input (Line k)) (sym len) fills)
+          begins few
+          (subst (λ (l : List ℕ). LineFails m d count state (strip_carriage_return l) mid.out after.out
+          (Rose mid.writes after.writes) end) there.0 fails)
 
-      pub next_last : (next : State) → Fills held held_new now.input mid.input Last → 0 < length held_new → AnswersLine m d (count == 0) state held_new next mid.out after.out → count < MOST_LINES → IsDone m d b before after
-      next_last next fills some answered few = done_last m d b before mid held_new count state (filled fills.grows) after written.input next fills.is.0 some fills.is.1 answered few
+      pub next_last : (next : State) → Fills held held_new now.input mid.input Last → 0 < length held_new →
+          AnswersLine m d (count == 0) state held_new next mid.out after.out → count < MOST_LINES →
+          IsDone m d b before after
+      next_last next fills some answered few =
+          done_last m d b before mid held_new count state (filled fills.grows) after written.input next fills.is.0 some
+          fills.is.1 answered few
 
-      pub next_last_fails : (end : SessionEnd) → Fills held held_new now.input mid.input Last → 0 < length held_new → count < MOST_LINES
-          → LineFails m d count state held_new mid.out after.out (Rose mid.writes after.writes) end → SessionEnds m d b before after end
+      pub next_last_fails : (end : SessionEnd) → Fills held held_new now.input mid.input Last → 0 < length held_new →
+          count < MOST_LINES
+          → LineFails m d count state held_new mid.out after.out (Rose mid.writes after.writes) end →
+          SessionEnds m d b before after end
       next_last_fails e.Done fills some few fails = absurd fails
       next_last_fails (e.Refused number) fills some few (is, refused, nothing) = (
         count,
         is,
-        stopped_last m d b before after held_new count state (unwritten (filled fills.grows) nothing) fills.is.0 some (subst IsAtEnd (sym written.input) fills.is.1)
+        stopped_last m d b before after held_new count state (unwritten (filled fills.grows) nothing) fills.is.0 some
+            (subst IsAtEnd (sym written.input) fills.is.1)
             (subst (λ (k : ℕ). ¬ IsRequest d k (count == 0) held_new) at.bay refused) few fills.few,
       )
       next_last_fails e.Long fills some few fails = absurd fails
       next_last_fails e.ReadFault fills some few fails = absurd fails
       next_last_fails e.WriteFault fills some few (rose, tells) =
           let there = filled fills.grows in
-          write_fault_last m d b before mid held_new count state there after written.input fills.is.0 some fills.is.1 (rose_earlier _ _ _ there.writes rose) tells
-      next_last_fails e.Memory fills some few nothing = want m d b before after held_new count state (unwritten (filled fills.grows) nothing)
+          write_fault_last m d b before mid held_new count state there after written.input fills.is.0 some fills.is.1
+          (rose_earlier _ _ _ there.writes rose) tells
+      next_last_fails e.Memory fills some few nothing =
+          want m d b before after held_new count state (unwritten (filled fills.grows) nothing)
 
   -- what was read is lost
-  pub next_want : (mid : Streams) → Asked now mid → (held_new : List ℕ) → FillFails held held_new now.input mid.input (Rose now.reads mid.reads) Memory → IsWant m d b before mid
-  next_want mid asked held_new (piece, consumed) = want m d b before mid (held ++ piece) count state (filled mid asked (held ++ piece) (record { piece = piece; parts = refl; consumed = consumed }))
+  pub next_want : (mid : Streams) → Asked now mid → (held_new : List ℕ) →
+      FillFails held held_new now.input mid.input (Rose now.reads mid.reads) Memory → IsWant m d b before mid
+  next_want mid asked held_new (piece, consumed) =
+      want m d b before mid (held ++ piece) count state
+      (filled mid asked (held ++ piece) (record { piece = piece; parts = refl; consumed = consumed }))
 
 consumes_nothing : (a : Option (List ℕ)) → Consumes a a []
 consumes_nothing None = tt
 consumes_nothing (Some x) = refl
 
 -- before the first line
-pub stands_first : (m : Meaning) (d : Diagram) (b : ℕ) (now : Streams) (held : List ℕ) (state : State) → held ≡ [] → state ≡ resumed d b nothing_kept → Stands m d b now now held 0 state
+pub stands_first : (m : Meaning) (d : Diagram) (b : ℕ) (now : Streams) (held : List ℕ) (state : State) → held ≡ [] →
+    state ≡ resumed d b nothing_kept → Stands m d b now now held 0 state
 stands_first m d b now held state empty is = subst (λ (s : State). Stands m d b now now held 0 s) (sym is) (record {
   taken = [];
   done = [];
@@ -186,6 +241,8 @@ pub held_some : (l held : List ℕ) (r : Bool) → held ≡ l → r ≡ (length 
 held_some l held r same test is = some_is (length l) (ap (λ k. length k == 0) (sym same) ∙ sym test ∙ is)
 
 -- what the last read gave is lost
-pub last_want : (m : Meaning) (d : Diagram) (b : ℕ) (before now : Streams) (held : List ℕ) (count : ℕ) (state : State) (at : Stands m d b before now held count state) (mid : Streams) → Asked now mid → (held_new : List ℕ)
+pub last_want : (m : Meaning) (d : Diagram) (b : ℕ) (before now : Streams) (held : List ℕ) (count : ℕ) (state : State)
+    (at : Stands m d b before now held count state) (mid : Streams) → Asked now mid → (held_new : List ℕ)
     → MoreFails held held_new now.input mid.input (Rose now.reads mid.reads) Memory → IsWant m d b before mid
-last_want m d b before now held count state at mid asked held_new (piece, consumed) = next_want m d b before now held count state at mid asked held_new (piece, consumed)
+last_want m d b before now held count state at mid asked held_new (piece, consumed) =
+    next_want m d b before now held count state at mid asked held_new (piece, consumed)

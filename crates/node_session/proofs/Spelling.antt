@@ -7,7 +7,8 @@ use Rattle.bay_protocol.specs.declared.values.Grant.{Grant}
 use Rattle.bay_protocol.specs.declared.values.Kept.{Kept}
 use Rattle.bay_protocol.specs.KeptRow.{kept_row}
 
-row_length : (highest : ℕ) (l : Option Lock) (g : Option Grant) → length (kept_row (record { highest = highest; lock = l; granted = g })) ≡ 18
+row_length : (highest : ℕ) (l : Option Lock) (g : Option Grant) →
+    length (kept_row (record { highest = highest; lock = l; granted = g })) ≡ 18
 row_length highest None None = refl
 row_length highest None (Some g) = refl
 row_length highest (Some l) None = refl
@@ -22,7 +23,9 @@ pub spells_18 : (digits bytes : List ℕ) → decode_sized digits 18 ≡ Ok byte
 spells_18 digits bytes read = sym (decode_sized-twice digits 18 (decode_sized-ok digits 18 bytes read)) ∙ read
 
 -- digits that spell a record are read as its row
-pub reads_18 : (digits : List ℕ) (k : Kept) → decode_of digits ≡ Ok (kept_row k) → decode_sized digits 18 ≡ Ok (kept_row k)
+pub reads_18 : (digits : List ℕ) (k : Kept) → decode_of digits ≡ Ok (kept_row k) →
+    decode_sized digits 18 ≡ Ok (kept_row k)
 reads_18 digits k spelled =
-    let twice : length digits ≡ 2 * 18 = omega (arith, (decode_of-ok digits (kept_row k) spelled).2, length-kept_row k) in
+    let twice : length digits ≡ 2 * 18 =
+    omega (arith, (decode_of-ok digits (kept_row k) spelled).2, length-kept_row k) in
     decode_sized-twice digits 18 twice ∙ spelled

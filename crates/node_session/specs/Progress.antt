@@ -1,5 +1,6 @@
 -- Where a session stands, and how one line of it goes.
-use Rattle.std.specs.Prelude.{◌≡◌, ◌==◌, ◌≤◌, ◌+◌, ◌++◌, ℕ, Bool, true, false, List, [], length, count_by, Option, Result, Ok, Err}
+use Rattle.std.specs.Prelude.{◌≡◌, ◌==◌, ◌≤◌, ◌+◌, ◌++◌, ℕ, Bool, true, false, List, [], length, count_by, Option}
+use Rattle.std.specs.Prelude.{Result, Ok, Err}
 use Rattle.std.specs.Str.Lines.{lines}
 use Rattle.std.specs.Io.KnownBytes.{Appends, Consumes}
 use Rattle.ilk_base.specs.Outside.{AppendsFront}
@@ -14,20 +15,23 @@ use Rattle.node_session.specs.SessionEnds.{Streams, SessionEnds, IsDone}
 use Rattle.node_session.specs.Reading.{is_feed}
 
 -- The line is answered, and its text written.
-pub record AnswersLine (m : Meaning) (d : Diagram) (first : Bool) (old : State) (line : List ℕ) (new : State) (before after : Option (List ℕ)) : Type 0 where
+pub record AnswersLine (m : Meaning) (d : Diagram) (first : Bool) (old : State) (line : List ℕ) (new : State)
+    (before after : Option (List ℕ)) : Type 0 where
   pub text : List ℕ
   pub answers : Answers m d first old line text new
   pub wrote : Appends before after text
 
 -- The text of the line was not written, or a front of it that is not all.
-pub record TellsFront (m : Meaning) (d : Diagram) (first : Bool) (old : State) (line : List ℕ) (before after : Option (List ℕ)) : Type 0 where
+pub record TellsFront (m : Meaning) (d : Diagram) (first : Bool) (old : State) (line : List ℕ)
+    (before after : Option (List ℕ)) : Type 0 where
   pub text : List ℕ
   pub new : State
   pub answers : Answers m d first old line text new
   pub wrote : AppendsFront before after text
 
 -- Why a line before which so many are answered is not answered.
-abbrev pub LineFails : Meaning → Diagram → ℕ → State → List ℕ → Option (List ℕ) → Option (List ℕ) → Type 0 → SessionEnd → Type 0
+abbrev pub LineFails : Meaning → Diagram → ℕ → State → List ℕ → Option (List ℕ) → Option (List ℕ) → Type 0 →
+    SessionEnd → Type 0
 LineFails m d count old line before after rose (Refused number) =
     (number ≡ count + 1) × (¬ IsRequest d old.bay (count == 0) line) × Appends before after []
 LineFails m d count old line before after rose WriteFault = rose × TellsFront m d (count == 0) old line before after
@@ -36,7 +40,8 @@ LineFails m d count old line before after rose end = ⊥
 
 -- Between two lines: so many are answered, the node is in this state, and these bytes of the input are held
 -- that follow them.
-pub record Stands (m : Meaning) (d : Diagram) (b : ℕ) (before now : Streams) (held : List ℕ) (count : ℕ) (state : State) : Type 0 where
+pub record Stands (m : Meaning) (d : Diagram) (b : ℕ) (before now : Streams) (held : List ℕ) (count : ℕ)
+    (state : State) : Type 0 where
   pub taken : List ℕ
   pub done : List (List ℕ)
   pub text : List ℕ

@@ -5,7 +5,8 @@ use Rattle.station_graph.specs.Diagram.{Diagram}
 use Rattle.central_rules.specs.Names.{direction_name, word_name}
 use Rattle.bay_protocol.specs.declared.values.Kept.{Kept as Record}
 use Rattle.bay_protocol.specs.declared.values.NodeEvent.{NodeEvent}
-use Rattle.bay_protocol.specs.declared.values.NodeEvent.TheVariants.{Command, Sense, Frame, Tick, Withdraw, Restart, Cut}
+use Rattle.bay_protocol.specs.declared.values.NodeEvent.TheVariants.{Command, Sense, Frame, Tick, Withdraw, Restart}
+use Rattle.bay_protocol.specs.declared.values.NodeEvent.TheVariants.{Cut}
 use Rattle.bay_protocol.specs.Fits.{IsOwn, KeptFits, EventFits}
 use Rattle.bay_protocol.specs.KeptRow.{kept_row, InRow}
 use Rattle.node_session.specs.declared.request.Request.{Request}
@@ -27,7 +28,8 @@ pub record NamesBytes (head bytes line : List ℕ) : Type 0 where
 
 -- The line names this event of bay b. A frame comes as its bytes, and is none of these.
 abbrev pub NamesEvent : Diagram → ℕ → List ℕ → NodeEvent → Type 0
-NamesEvent d b line (Command op) = NamesOwn d b (codes "command " ++ direction_name op.direction ++ codes " ") op.switch.0 line
+NamesEvent d b line (Command op) =
+    NamesOwn d b (codes "command " ++ direction_name op.direction ++ codes " ") op.switch.0 line
 NamesEvent d b line (Sense i word) = NamesOwn d b (codes "sense " ++ word_name word ++ codes " ") i.0 line
 NamesEvent d b line (Frame f) = ⊥
 NamesEvent d b line Tick = line ≡ codes "tick"

@@ -27,7 +27,8 @@ Does m d old (Event event) text new = Tells (Step m d old event) d old text new
 Does m d old (Arrival bytes) text new = Tells (TakeStep m d old bytes) d old text new
 
 -- The node answers one line: from the old state to the new, with this text.
-pub record Answers (m : Meaning) (d : Diagram) (first : Bool) (old : State) (line text : List ℕ) (new : State) : Type 0 where
+pub record Answers (m : Meaning) (d : Diagram) (first : Bool) (old : State) (line text : List ℕ)
+    (new : State) : Type 0 where
   pub short : length line ≤ MOST_LINE
   pub request : Request
   pub asks : Asks d old.bay first line request

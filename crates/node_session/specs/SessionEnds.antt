@@ -1,5 +1,6 @@
 -- How a session over an input and an output ends.
-use Rattle.std.specs.Prelude.{◌≡◌, ◌==◌, ◌≤◌, ◌<◌, ◌+◌, ◌++◌, ℕ, List, length, take, count_by, slice_get, Option, Some, IfSome}
+use Rattle.std.specs.Prelude.{◌≡◌, ◌==◌, ◌≤◌, ◌<◌, ◌+◌, ◌++◌, ℕ, List, length, take, count_by, slice_get, Option, Some}
+use Rattle.std.specs.Prelude.{IfSome}
 use Rattle.std.specs.Str.Lines.{lines}
 use Rattle.std.specs.Io.KnownBytes.{Appends, Consumes}
 use Rattle.ilk_base.specs.Outside.{Rose}

@@ -124,7 +124,8 @@ impl Reader {
     /// Takes some more of the input, in one read of at most `CHUNK` bytes; false at its end. Memory: what is held.
     pub fn more<I: Source>(&mut self, alloc: Global, input: &mut I) -> Result<bool, InputTrouble>
         ensures ok { IfOk result (TakesPiece self.old self.new (I.left input.old) (I.left input.new)) }
-        ensures err { IfErr result (MoreFails self.old self.new (I.left input.old) (I.left input.new) (Rose (I.faults input.old) (I.faults input.new))) }
+        ensures err { IfErr result (MoreFails self.old self.new (I.left input.old) (I.left input.new)
+            (Rose (I.faults input.old) (I.faults input.new))) }
         ensures grows { I.faults input.old ≤ I.faults input.new }
     {
         let mut chunk = [0; CHUNK];
@@ -143,7 +144,8 @@ impl Reader {
     pub fn fill<I: Source>(&mut self, alloc: Global, input: &mut I) -> Result<Front, InputTrouble>
         requires { length self.old ≤ CHUNK }
         ensures ok { IfOk result (Fills self.old self.new (I.left input.old) (I.left input.new)) }
-        ensures err { IfErr result (FillFails self.old self.new (I.left input.old) (I.left input.new) (Rose (I.faults input.old) (I.faults input.new))) }
+        ensures err { IfErr result (FillFails self.old self.new (I.left input.old) (I.left input.new)
+            (Rose (I.faults input.old) (I.faults input.new))) }
         ensures grows { I.faults input.old ≤ I.faults input.new }
     {
         loop {

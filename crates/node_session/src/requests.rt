@@ -65,7 +65,8 @@ fn command_of(station: &Station, bay: BayId, line: &[u8]) -> Option<NodeEvent>
 // `sense WORD PATH`.
 fn sense_of(station: &Station, bay: BayId, line: &[u8]) -> Option<NodeEvent>
     ensures some { IfSome result (NamesEvent station.now bay.0 line.now) }
-    ensures none { IfNone result ((id : Id) (word : Word) → ¬ NamesEvent station.now bay.0 line.now (Event.Sense id word)) }
+    ensures none { IfNone result ((id : Id) (word : Word) →
+        ¬ NamesEvent station.now bay.0 line.now (Event.Sense id word)) }
 {
     if let Some(switch) = own_after(station, bay, line, b"sense intermediate ") {
         let word = Dbpos::Intermediate;

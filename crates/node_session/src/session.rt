@@ -72,7 +72,8 @@ fn answer<J: Judge, O: Sink>(
     requires fits { FitsHeard (J.meaning judge.now) node.old }
     requires bay { node.old.bay ≡ bay.0 }
     requires few { count < MOST_LINES }
-    ensures ok { OnOk result (AnswersLine (J.meaning judge.now) station.now (count == 0) node.old line.now node.new (O.took out.old) (O.took out.new)) }
+    ensures ok { OnOk result (AnswersLine (J.meaning judge.now) station.now (count == 0) node.old line.now node.new
+        (O.took out.old) (O.took out.new)) }
     ensures err { IfErr result (LineFails (J.meaning judge.now) station.now count node.old line.now
         (O.took out.old) (O.took out.new) (Rose (O.faults out.old) (O.faults out.new))) }
     ensures grows { O.faults out.old ≤ O.faults out.new }

@@ -39,6 +39,7 @@ abbrev pub IsSettled : {D : Type 0} → (D → ℕ) → (D → ℕ → List ℕ 
 IsSettled moment since d image = (c : List ℕ) → since d (moment d) c → c ≡ image
 
 -- A crash at any moment from old to new leaves an image that has P.
-pub record LeavesOnly {D : Type 0} (moment : D → ℕ) (between : D → ℕ → ℕ → List ℕ → Type 0) (since : D → ℕ → List ℕ → Type 0) (old new : D) (P : List ℕ → Type 0) : Type 0 where
+pub record LeavesOnly {D : Type 0} (moment : D → ℕ) (between : D → ℕ → ℕ → List ℕ → Type 0)
+    (since : D → ℕ → List ℕ → Type 0) (old new : D) (P : List ℕ → Type 0) : Type 0 where
   pub past : KeepsPast moment between old new
   pub each : (c : List ℕ) → since new (moment old) c → P c

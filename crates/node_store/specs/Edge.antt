@@ -11,5 +11,6 @@ abbrev pub NothingToldBetween : {D : Type 0} → D → ℕ → ℕ → List ℕ 
 NothingToldBetween d t u c = ⊤
 
 -- The law on time, of a device of which nothing is told.
-pub nothing_splits : {D : Type 0} → (d : D) (t u : ℕ) (c : List ℕ) → t ≤ u → (NothingTold d t c ↔ (NothingToldBetween d t u c ⊎ NothingTold d u c))
+pub nothing_splits : {D : Type 0} → (d : D) (t u : ℕ) (c : List ℕ) → t ≤ u →
+    (NothingTold d t c ↔ (NothingToldBetween d t u c ⊎ NothingTold d u c))
 nothing_splits d t u c le = (λ h. inr tt, λ h. tt)

@@ -39,7 +39,9 @@ HasRecord image n kept = IsRowOf (record_bytes (slot image n)) kept
 pub record IsNewest (image : List ℕ) (n : ℕ) : Type 0 where
   pub is_slot : n < 2
   pub is_open : IsOpen image n
-  pub newest : IsOpen image (1 - n) → (sequence (slot image (1 - n)) < sequence (slot image n)) ⊎ ((sequence (slot image (1 - n)) ≡ sequence (slot image n)) × (n ≡ 0))
+  pub newest : IsOpen image (1 - n) →
+      (sequence (slot image (1 - n)) < sequence (slot image n))
+      ⊎ ((sequence (slot image (1 - n)) ≡ sequence (slot image n)) × (n ≡ 0))
 
 -- No slot is open.
 abbrev pub NoneOpen : List ℕ → Type 0
@@ -51,4 +53,5 @@ IsImageOf image kept = ((n : ℕ) × IsNewest image n × HasRecord image n kept)
 
 -- The newest slot is this one, and it is refused: it holds no record, or its sequence is too great to go on.
 abbrev pub IsRefusedSlot : List ℕ → ℕ → Type 0
-IsRefusedSlot image n = IsNewest image n × (((kept : Kept) → ¬ (HasRecord image n kept)) ⊎ (LAST_SEQUENCE < sequence (slot image n)))
+IsRefusedSlot image n =
+    IsNewest image n × (((kept : Kept) → ¬ (HasRecord image n kept)) ⊎ (LAST_SEQUENCE < sequence (slot image n)))

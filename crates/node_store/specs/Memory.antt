@@ -30,7 +30,8 @@ abbrev pub LeftBetween : MemDevice → ℕ → ℕ → List ℕ → Type 0
 LeftBetween d t u c = (k : ℕ) × (t ≤ k) × (k < u) × MayLeave (state_at d k) c
 
 before_or_after : (d : MemDevice) (t u : ℕ) (c : List ℕ) → LeftSince d t c → LeftBetween d t u c ⊎ LeftSince d u c
-before_or_after d t u c left = ⊎_elim (λ lt. inl (left.0, left.1, lt, left.2)) (λ ge. inr (left.0, ge, left.2)) (cases_lt left.0 u)
+before_or_after d t u c left =
+    ⊎_elim (λ lt. inl (left.0, left.1, lt, left.2)) (λ ge. inr (left.0, ge, left.2)) (cases_lt left.0 u)
 
 before : (d : MemDevice) (t u : ℕ) (c : List ℕ) → LeftBetween d t u c → LeftSince d t c
 before d t u c left = (left.0, left.1, left.3)
@@ -39,5 +40,6 @@ after : (d : MemDevice) (t u : ℕ) (c : List ℕ) → t ≤ u → LeftSince d u
 after d t u c le left = (left.0, le_trans le left.1, left.2)
 
 -- What a crash may leave from a moment on, it leaves before a later moment or from that on.
-pub since_splits : (d : MemDevice) (t u : ℕ) (c : List ℕ) → t ≤ u → (LeftSince d t c ↔ (LeftBetween d t u c ⊎ LeftSince d u c))
+pub since_splits : (d : MemDevice) (t u : ℕ) (c : List ℕ) → t ≤ u →
+    (LeftSince d t c ↔ (LeftBetween d t u c ⊎ LeftSince d u c))
 since_splits d t u c le = (before_or_after d t u c, ⊎_elim (before d t u c) (after d t u c le))

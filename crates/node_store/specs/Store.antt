@@ -60,7 +60,8 @@ pub record HoldsIfOpen (n number : ℕ) (kept : Kept) (image c : List ℕ) : Typ
 
 -- The record for which the image stands where the slot is closed: that of the other slot.
 abbrev pub HoldsBeside : List ℕ → ℕ → Kept → Type 0
-HoldsBeside image n kept = (IsOpen image (1 - n) × HasRecord image (1 - n) kept) ⊎ (¬ (IsOpen image (1 - n)) × (kept ≡ nothing_kept))
+HoldsBeside image n kept =
+    (IsOpen image (1 - n) × HasRecord image (1 - n) kept) ⊎ (¬ (IsOpen image (1 - n)) × (kept ≡ nothing_kept))
 
 -- The image stands for no record of this slot, so that it may take the next one, with a greater sequence.
 pub record MayTake (image : List ℕ) (next : NextSlot) : Type 0 where

@@ -33,7 +33,8 @@ pub trait Device {
     /// Reads the bytes from a place on.
     fn read(&mut self, at: u8, into: &mut [u8]) -> Result<(), Failed>
         requires { at + length into.old ≤ 64 }
-        ensures bytes { OnOk result (Told (content self.old) (λ image. into.new ≡ take (length into.old) (drop at image))) }
+        ensures bytes { OnOk result (Told (content self.old)
+            (λ image. into.new ≡ take (length into.old) (drop at image))) }
         ensures same { content self.new ≡ content self.old }
         ensures crash { LeavesFrom left_since (moment self.old) self.old self.new (λ c d. c ≡ d) }
         ensures past { KeepsPast moment left_between self.old self.new }
@@ -48,7 +49,8 @@ pub trait Device {
         requires { at + length piece.now ≤ 64 }
         ensures written { OnOk result (Becomes (content self.old) (content self.new) (IsWritten at piece.now)) }
         ensures changed { Becomes (content self.old) (content self.new) (IsChangedWithin at (length piece.now)) }
-        ensures crash { LeavesFrom left_since (moment self.old) self.old self.new (IsChangedWithin at (length piece.now)) }
+        ensures crash { LeavesFrom left_since (moment self.old) self.old self.new
+            (IsChangedWithin at (length piece.now)) }
         ensures past { KeepsPast moment left_between self.old self.new }
         ensures counted { RisesBy 1 (calls self.old) (calls self.new) }
         ensures others { read_faults self.new ≡ read_faults self.old }
@@ -57,7 +59,8 @@ pub trait Device {
 
     /// After it, a crash leaves the content.
     fn sync(&mut self) -> Result<(), Failed>
-        ensures settled { OnOk result (Told (content self.new) (λ image. (c : List ℕ) → left_since self.new (moment self.new) c → c ≡ image)) }
+        ensures settled { OnOk result (Told (content self.new)
+            (λ image. (c : List ℕ) → left_since self.new (moment self.new) c → c ≡ image)) }
         ensures same { content self.new ≡ content self.old }
         ensures crash { LeavesFrom left_since (moment self.old) self.old self.new (λ c d. c ≡ d) }
         ensures past { KeepsPast moment left_between self.old self.new }
@@ -68,5 +71,6 @@ pub trait Device {
 
     /// What a crash may have left since a moment, it may have left between that one and a later
     /// one, or since the later one.
-    ghost time: { (d : Self) (t u : ℕ) (c : List ℕ) → t ≤ u → (left_since d t c ↔ (left_between d t u c ⊎ left_since d u c)) };
+    ghost time: { (d : Self) (t u : ℕ) (c : List ℕ) → t ≤ u →
+        (left_since d t c ↔ (left_between d t u c ⊎ left_since d u c)) };
 }

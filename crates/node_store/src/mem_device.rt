@@ -1,6 +1,7 @@
 //! A device in memory. Each call is done at once; what was written since the last sync is marked, and
 //! a crash may leave any bytes there.
-ghost use Rattle.std.specs.Prelude.{◌≡◌, ◌≤◌, ◌<◌, ◌⊎◌, ◌+◌, ◌∷◌, ◌++◌, [], ℕ, List, Some, Bool, true, false, length, take, drop, slice_index, IsTrue, IfOk, OnOk, OnErr};
+ghost use Rattle.std.specs.Prelude.{◌≡◌, ◌≤◌, ◌<◌, ◌⊎◌, ◌+◌, ◌∷◌, ◌++◌, [], ℕ, List, Some, Bool, true, false, length};
+ghost use Rattle.std.specs.Prelude.{take, drop, slice_index, IsTrue, IfOk, OnOk, OnErr};
 ghost use Rattle.std.proofs.Math.ListN.{get_or, replicate};
 ghost use Rattle.ilk_base.specs.Outside.{Rose};
 ghost use Rattle.node_store.specs.Device.{IsChangedWithin, IsWritten, RisesBy};
@@ -48,7 +49,8 @@ fn mark(marks: &mut [bool; 64], at: usize, len: usize)
 impl MemDevice {
     /// A device of 64 zeros, with room for so many calls. It takes all its memory here.
     pub fn new(alloc: Global, calls: u32) -> Result<MemDevice, Memory>
-        ensures { IfOk result (λ d. (d.state.bytes ≡ replicate 64 0) × (d.state.marks ≡ replicate 64 false) × (d.past.items ≡ []) × (d.calls ≡ 0)) }
+        ensures { IfOk result (λ d. (d.state.bytes ≡ replicate 64 0) × (d.state.marks ≡ replicate 64 false)
+            × (d.past.items ≡ []) × (d.calls ≡ 0)) }
     {
         Ok(MemDevice {
             state: Snapshot {
@@ -73,7 +75,8 @@ impl MemDevice {
 
     /// Ends this, and makes what was written the content.
     pub fn mend(&mut self)
-        ensures { self.new ≡ record self.old { failing = None; state = record { bytes = self.old.state.bytes; marks = replicate 64 false } } }
+        ensures { self.new ≡ record self.old
+            { failing = None; state = record { bytes = self.old.state.bytes; marks = replicate 64 false } } }
     {
         self.failing = None;
         self.state.marks = [false; 64];

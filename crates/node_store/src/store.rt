@@ -6,7 +6,8 @@ ghost use Rattle.node_store.specs.declared.store.TheConstants.{LAST_SEQUENCE};
 ghost use Rattle.node_store.specs.Device.{Told, Becomes, LeavesFrom, KeepsPast, RisesBy, IsSettled, LeavesOnly};
 ghost use Rattle.node_store.specs.Image.{slot as slot_in, IsImageOf, IsRefusedSlot};
 ghost use Rattle.node_store.specs.Slots.{number};
-ghost use Rattle.node_store.specs.Store.{HasSlots, Matches, MatchesStore, store_sequence, NoneRefused, IsCause, MayTake};
+ghost use Rattle.node_store.specs.Store.{HasSlots, Matches, MatchesStore, store_sequence, NoneRefused, IsCause};
+ghost use Rattle.node_store.specs.Store.{MayTake};
 
 use crate::device::Device;
 use crate::slots::{Slot, kept_in, sequence_in};
@@ -99,11 +100,14 @@ fn bytes_of<'a>(slot: Slot, first: &'a [u8; 32], second: &'a [u8; 32]) -> &'a [u
 
 // The store for these two slots, or the slot that is refused.
 fn decide(first: &[u8; 32], second: &[u8; 32]) -> Result<Opened, u8>
-    ensures stands { IfOk result (λ o. (image : List ℕ) → HasSlots image first.now second.now → IsImageOf image o.kept) }
-    ensures knows { IfOk result (λ o. (image : List ℕ) → HasSlots image first.now second.now → MatchesStore image o.store) }
+    ensures stands { IfOk result (λ o. (image : List ℕ) → HasSlots image first.now second.now →
+        IsImageOf image o.kept) }
+    ensures knows { IfOk result (λ o. (image : List ℕ) → HasSlots image first.now second.now →
+        MatchesStore image o.store) }
     ensures none_refused { OnOk result ((image : List ℕ) → HasSlots image first.now second.now → NoneRefused image) }
     ensures last { IfOk result (λ o. store_sequence o.store ≤ LAST_SEQUENCE) }
-    ensures refused { IfErr result (λ n. (image : List ℕ) → HasSlots image first.now second.now → IsRefusedSlot image n) }
+    ensures refused { IfErr result (λ n. (image : List ℕ) → HasSlots image first.now second.now →
+        IsRefusedSlot image n) }
 {
     let Some(newest) = newest_of(first, second) else {
         return Ok(Opened {
@@ -133,13 +137,16 @@ impl Store {
     /// Opens the store on a device that may hold what a crash left.
     pub fn open<D: Device>(device: &mut D) -> Result<Opened, OpenTrouble>
         ensures stands { IfOk result (λ o. Told (D.content device.old) (λ image. IsImageOf image o.kept)) }
-        ensures knows { IfOk result (λ o. Told (D.content device.new) (λ image. MatchesStore image o.store × IsSettled D.moment D.left_since device.new image)) }
+        ensures knows { IfOk result (λ o. Told (D.content device.new)
+            (λ image. MatchesStore image o.store × IsSettled D.moment D.left_since device.new image)) }
         ensures last { IfOk result (λ o. store_sequence o.store ≤ LAST_SEQUENCE) }
         // `Record` comes exactly where that slot is refused, unless a call failed.
         ensures none_refused { OnOk result (Told (D.content device.old) NoneRefused) }
         ensures refused { IfErr result (λ e. Told (D.content device.old) (λ image. IsCause image e)) }
-        ensures sync_failed { IsErrOf result OpenTrouble.SyncFailed → Rose (D.write_faults device.old) (D.write_faults device.new) }
-        ensures read_failed { IsErrOf result OpenTrouble.ReadFailed → Rose (D.read_faults device.old) (D.read_faults device.new) }
+        ensures sync_failed { IsErrOf result OpenTrouble.SyncFailed →
+            Rose (D.write_faults device.old) (D.write_faults device.new) }
+        ensures read_failed { IsErrOf result OpenTrouble.ReadFailed →
+            Rose (D.read_faults device.old) (D.read_faults device.new) }
         // It changes nothing.
         ensures same { D.content device.new ≡ D.content device.old }
         ensures crash { LeavesFrom D.left_since (D.moment device.old) device.old device.new (λ c d. c ≡ d) }
@@ -190,10 +197,12 @@ impl Store {
     /// Puts a record in place of the one that is there. After `Failed` open the device again.
     pub fn put<D: Device>(self, device: &mut D, kept: &Kept) -> Result<Store, Failed>
         requires room { store_sequence self + 1 < 2 ^ 64 }
-        requires knows { Told (D.content device.old) (λ image. MatchesStore image self × IsSettled D.moment D.left_since device.old image) }
+        requires knows { Told (D.content device.old)
+            (λ image. MatchesStore image self × IsSettled D.moment D.left_since device.old image) }
         // A crash at any moment of the call leaves the old record or the new one.
         ensures crash { Told (D.content device.old) (λ image. (old : AnyRecord) → IsImageOf image old →
-            LeavesOnly D.moment D.left_between D.left_since device.old device.new (λ c. IsImageOf c old ⊎ IsImageOf c kept.now)) }
+            LeavesOnly D.moment D.left_between D.left_since device.old device.new
+            (λ c. IsImageOf c old ⊎ IsImageOf c kept.now)) }
         // Then a crash leaves the new one.
         ensures put { IfOk result (λ s. Becomes (D.content device.old) (D.content device.new) (λ _ after.
             IsSettled D.moment D.left_since device.new after × IsImageOf after kept.now × MatchesStore after s)) }

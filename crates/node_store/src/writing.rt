@@ -17,7 +17,8 @@ fn write_through<D: Device>(device: &mut D, at: u8, piece: &[u8]) -> Result<(), 
     requires settled { Told (D.content device.old) (λ image. IsSettled D.moment D.left_since device.old image) }
     // A crash leaves what was there, but for any bytes in the range.
     ensures crash { Told (D.content device.old) (λ image.
-        LeavesOnly D.moment D.left_between D.left_since device.old device.new (IsChangedWithin at (length piece.now) image)) }
+        LeavesOnly D.moment D.left_between D.left_since device.old device.new
+        (IsChangedWithin at (length piece.now) image)) }
     ensures written { OnOk result (Becomes (D.content device.old) (D.content device.new) (λ image after.
         IsSettled D.moment D.left_since device.new after × IsWritten at piece.now image after)) }
     ensures counted { RisesBy 2 (D.calls device.old) (D.calls device.new) }
@@ -32,12 +33,14 @@ fn write_through<D: Device>(device: &mut D, at: u8, piece: &[u8]) -> Result<(), 
 
 // Closes an open slot.
 fn close<D: Device>(device: &mut D, slot: Slot) -> Result<(), Failed>
-    requires { Told (D.content device.old) (λ image. IsSettled D.moment D.left_since device.old image × IsOpen image (number slot)) }
+    requires { Told (D.content device.old)
+        (λ image. IsSettled D.moment D.left_since device.old image × IsOpen image (number slot)) }
     // A crash leaves the slot closed or as it was.
     ensures crash { Told (D.content device.old) (λ image.
         LeavesOnly D.moment D.left_between D.left_since device.old device.new (MayClose (number slot) image)) }
     ensures closed { OnOk result (Becomes (D.content device.old) (D.content device.new) (λ image after.
-        IsSettled D.moment D.left_since device.new after × MayClose (number slot) image after × ¬ (IsOpen after (number slot)))) }
+        IsSettled D.moment D.left_since device.new after × MayClose (number slot) image after
+        × ¬ (IsOpen after (number slot)))) }
     ensures counted { RisesBy 2 (D.calls device.old) (D.calls device.new) }
     ensures others { D.read_faults device.new ≡ D.read_faults device.old }
     ensures grows { D.write_faults device.old ≤ D.write_faults device.new }
@@ -49,11 +52,13 @@ fn close<D: Device>(device: &mut D, slot: Slot) -> Result<(), Failed>
 // Closes the slot where it is open. The gate of a closed slot is not written: a crash in that write could
 // open what an earlier stop left there.
 pub(crate) fn make_room<D: Device>(device: &mut D, slot: Slot, is_open: bool) -> Result<(), Failed>
-    requires { Told (D.content device.old) (λ image. IsSettled D.moment D.left_since device.old image × (IsTrue is_open ↔ IsOpen image (number slot))) }
+    requires { Told (D.content device.old)
+        (λ image. IsSettled D.moment D.left_since device.old image × (IsTrue is_open ↔ IsOpen image (number slot))) }
     ensures crash { Told (D.content device.old) (λ image.
         LeavesOnly D.moment D.left_between D.left_since device.old device.new (MayClose (number slot) image)) }
     ensures closed { OnOk result (Becomes (D.content device.old) (D.content device.new) (λ image after.
-        IsSettled D.moment D.left_since device.new after × MayClose (number slot) image after × ¬ (IsOpen after (number slot)))) }
+        IsSettled D.moment D.left_since device.new after × MayClose (number slot) image after
+        × ¬ (IsOpen after (number slot)))) }
     ensures counted { RisesBy 2 (D.calls device.old) (D.calls device.new) }
     ensures others { D.read_faults device.new ≡ D.read_faults device.old }
     ensures grows { D.write_faults device.old ≤ D.write_faults device.new }
@@ -72,12 +77,15 @@ pub(crate) fn fill<D: Device>(
     sequence: u64,
     kept: &Kept,
 ) -> Result<(), Failed>
-    requires { Told (D.content device.old) (λ image. IsSettled D.moment D.left_since device.old image × ¬ (IsOpen image (number slot))) }
+    requires { Told (D.content device.old)
+        (λ image. IsSettled D.moment D.left_since device.old image × ¬ (IsOpen image (number slot))) }
     // A crash leaves the slot closed, or open with all of the record.
     ensures crash { Told (D.content device.old) (λ image.
-        LeavesOnly D.moment D.left_between D.left_since device.old device.new (HoldsIfOpen (number slot) sequence kept.now image)) }
+        LeavesOnly D.moment D.left_between D.left_since device.old device.new
+        (HoldsIfOpen (number slot) sequence kept.now image)) }
     ensures filled { OnOk result (Becomes (D.content device.old) (D.content device.new) (λ image after.
-        IsSettled D.moment D.left_since device.new after × HoldsIfOpen (number slot) sequence kept.now image after × IsOpen after (number slot))) }
+        IsSettled D.moment D.left_since device.new after × HoldsIfOpen (number slot) sequence kept.now image after
+        × IsOpen after (number slot))) }
     ensures counted { RisesBy 4 (D.calls device.old) (D.calls device.new) }
     ensures others { D.read_faults device.new ≡ D.read_faults device.old }
     ensures grows { D.write_faults device.old ≤ D.write_faults device.new }

@@ -1,11 +1,13 @@
 use Rattle.std.proofs.Common.{refl, ap, arith, length}
 use Rattle.bay_protocol.specs.State.{State, nothing_kept, resumed}
 use Rattle.node_session.proofs.Ending.{want, long}
-use Rattle.node_session.proofs.Next.{stands_first, last_long, last_done, last_read_fault, last_want, held_none, held_some}
+use Rattle.node_session.proofs.Next.{stands_first, last_long, last_done, last_read_fault, last_want, held_none}
+use Rattle.node_session.proofs.Next.{held_some}
 use Rattle.node_session.proofs.session.run.Goals as goal
 
 pub returns-in_default : goal.returns-in_default
-returns-in_default g c = want _ _ _ _ _ _ _ _ (stands_first _ _ _ _ _ (resumed c.args.station.now c.args.bay.0 nothing_kept) refl refl)
+returns-in_default g c =
+    want _ _ _ _ _ _ _ _ (stands_first _ _ _ _ _ (resumed c.args.station.now c.args.bay.0 nothing_kept) refl refl)
 
 pub loop-count-init : goal.loop-count-init
 loop-count-init g c = record {
@@ -21,25 +23,34 @@ returns-in-Ok-false g c = (rw c.in-Ok-false.field-0-test at c.in-Ok-false.ensure
 
 pub returns-then-not-is_empty : goal.returns-then-not-is_empty
 returns-then-not-is_empty g c =
-    long _ _ _ _ _ _ _ _ c.loop-count.invariant.stands (held_some c.loop-count.reader c.held.result.now c.is_empty.result c.held.ensures c.is_empty.ensures c.if-not-is_empty.true)
+    long _ _ _ _ _ _ _ _ c.loop-count.invariant.stands (held_some c.loop-count.reader c.held.result.now
+    c.is_empty.result c.held.ensures c.is_empty.ensures c.if-not-is_empty.true)
     (omega (arith, c.loop-count-test.false, c.loop-count.auto.count-end))
 
 pub returns-in-Ok-true-more : goal.returns-in-Ok-true-more
 returns-in-Ok-true-more g c =
-    last_long _ _ _ _ _ _ _ _ c.loop-count.invariant.stands _ (record { out = refl; reads = c.in-Ok-true-more.ensures.grows; writes = omega arith }) c.more.new.self
-    (rw c.in-Ok-true-more.field-0-test at c.in-Ok-true-more.ensures.ok) (omega (arith, c.loop-count-test.false, c.loop-count.auto.count-end))
+    last_long _ _ _ _ _ _ _ _ c.loop-count.invariant.stands _
+    (record { out = refl; reads = c.in-Ok-true-more.ensures.grows; writes = omega arith }) c.more.new.self
+    (rw c.in-Ok-true-more.field-0-test at c.in-Ok-true-more.ensures.ok)
+    (omega (arith, c.loop-count-test.false, c.loop-count.auto.count-end))
 
 pub returns-in-Ok-false-more : goal.returns-in-Ok-false-more
 returns-in-Ok-false-more g c =
-    last_done _ _ _ _ _ _ _ _ c.loop-count.invariant.stands _ (record { out = refl; reads = c.in-Ok-false-more.ensures.grows; writes = omega arith }) c.more.new.self
-    (rw c.in-Ok-false-more.field-0-test at c.in-Ok-false-more.ensures.ok) (held_none c.loop-count.reader c.held.result.now c.is_empty.result c.held.ensures c.is_empty.ensures c.if-not-is_empty.false)
+    last_done _ _ _ _ _ _ _ _ c.loop-count.invariant.stands _
+    (record { out = refl; reads = c.in-Ok-false-more.ensures.grows; writes = omega arith }) c.more.new.self
+    (rw c.in-Ok-false-more.field-0-test at c.in-Ok-false-more.ensures.ok) (held_none c.loop-count.reader
+    c.held.result.now c.is_empty.result c.held.ensures c.is_empty.ensures c.if-not-is_empty.false)
     (omega (arith, c.loop-count-test.false, c.loop-count.auto.count-end))
 
 pub returns-in-Err-Failed : goal.returns-in-Err-Failed
 returns-in-Err-Failed g c =
-    last_read_fault _ _ _ _ _ _ _ _ c.loop-count.invariant.stands _ (record { out = refl; reads = c.in-Err-Failed.ensures.grows; writes = omega arith }) c.more.new.self
-    (rw c.in-Err-Failed.field-0-is at c.in-Err-Failed.ensures.err) (held_none c.loop-count.reader c.held.result.now c.is_empty.result c.held.ensures c.is_empty.ensures c.if-not-is_empty.false)
+    last_read_fault _ _ _ _ _ _ _ _ c.loop-count.invariant.stands _
+    (record { out = refl; reads = c.in-Err-Failed.ensures.grows; writes = omega arith }) c.more.new.self
+    (rw c.in-Err-Failed.field-0-is at c.in-Err-Failed.ensures.err) (held_none c.loop-count.reader c.held.result.now
+    c.is_empty.result c.held.ensures c.is_empty.ensures c.if-not-is_empty.false)
 
 pub returns : goal.returns
 returns g c =
-    last_want _ _ _ _ _ _ _ _ c.loop-count.invariant.stands _ (record { out = refl; reads = c.in-Err-Memory.ensures.grows; writes = omega arith }) c.more.new.self (rw c.in-Err-Memory.field-0-is at c.in-Err-Memory.ensures.err)
+    last_want _ _ _ _ _ _ _ _ c.loop-count.invariant.stands _
+    (record { out = refl; reads = c.in-Err-Memory.ensures.grows; writes = omega arith }) c.more.new.self
+    (rw c.in-Err-Memory.field-0-is at c.in-Err-Memory.ensures.err)

@@ -6,4 +6,5 @@ use Rattle.node_store.proofs.law.stop_is_restart.Goals as goal
 
 pub returns : goal.returns
 returns c = λ d s image read node stands opened.
-    ap (λ (k : Kept). resumed d s.bay k) (stands_once image read (kept_of s) opened stands) ∙ sym (c.restart_is_resume.ensures d s node)
+    ap (λ (k : Kept). resumed d s.bay k) (stands_once image read (kept_of s) opened stands)
+    ∙ sym (c.restart_is_resume.ensures d s node)

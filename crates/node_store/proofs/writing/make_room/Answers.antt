@@ -10,7 +10,8 @@ close-requires g c image told = let had = c.requires image told in (had.0, had.1
 pub returns-clause-crash : goal.returns-clause-crash
 returns-clause-crash g c image told =
     let had = c.requires image told in
-    begins g.D.Device.moment g.D.Device.left_between g.D.Device.left_since g.met.D.Device.time c.args.device.now image (MayClose (number c.args.slot) image) had.0 (untouched (number c.args.slot) image)
+    begins g.D.Device.moment g.D.Device.left_between g.D.Device.left_since g.met.D.Device.time c.args.device.now image
+    (MayClose (number c.args.slot) image) had.0 (untouched (number c.args.slot) image)
 
 pub returns-clause-closed : goal.returns-clause-closed
 returns-clause-closed g c = record {

@@ -15,4 +15,5 @@ returns-clause-settled c image is crash left =
 pub returns-clause-crash : goal.returns-clause-crash
 returns-clause-crash c crash left =
     let now : Snapshot = record { bytes = c.begin.new.self.state.bytes; marks = replicate 64 false } in
-    sync_left c.args.self.now.past.items c.begin.new.self.past.items c.args.self.now.state now 64 crash (c.begin.ensures.kept c.if-not-begin.false) (ap (λ (s : Snapshot). s.bytes) c.begin.ensures.state) refl left
+    sync_left c.args.self.now.past.items c.begin.new.self.past.items c.args.self.now.state now 64 crash
+    (c.begin.ensures.kept c.if-not-begin.false) (ap (λ (s : Snapshot). s.bytes) c.begin.ensures.state) refl left
