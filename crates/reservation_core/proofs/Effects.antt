@@ -1,5 +1,6 @@
 -- What a step of a node does to its words, its grant, what it has heard, and the Answers that it sends.
-use Rattle.std.proofs.Common.{◌⊎◌, ◌≡◌, ◌+◌, ◌<◌, ℕ, List, [], ◌∷◌, length, get_or, set, replicate, Option, Some, None, Contains, refl, sym, subst, ap, ◌∙◌, inl, inr, arith, get_or-set_same}
+use Rattle.std.proofs.Common.{◌⊎◌, ◌≡◌, ◌+◌, ◌<◌, ℕ, List, [], ◌∷◌, length, get_or, set, replicate, Option, Some, None}
+use Rattle.std.proofs.Common.{Contains, refl, sym, subst, ap, ◌∙◌, inl, inr, arith, get_or-set_same}
 use Rattle.std.proofs.lemmas.Option.{slice_get_within}
 use Rattle.ilk_base.specs.declared.words.BayId.{BayId}
 use Rattle.ilk_base.specs.declared.words.Dbpos.{Dbpos}
@@ -15,11 +16,17 @@ use Rattle.bay_protocol.specs.declared.values.Grant.{Grant}
 use Rattle.bay_protocol.specs.declared.values.Collection.{Collection}
 use Rattle.bay_protocol.specs.declared.values.Outcome.{Outcome}
 use Rattle.bay_protocol.specs.declared.values.NodeEvent.{NodeEvent}
-use Rattle.bay_protocol.specs.declared.values.NodeEvent.TheVariants.{Command as Commanded, Sense as Sensing, Frame as Arrival, Tick as Ticking, Withdraw as Withdrawing, Restart as Restarting, Cut as Cutting}
+use Rattle.bay_protocol.specs.declared.values.NodeEvent.TheVariants.{Command as Commanded, Sense as Sensing}
+use Rattle.bay_protocol.specs.declared.values.NodeEvent.TheVariants.{Frame as Arrival, Tick as Ticking}
+use Rattle.bay_protocol.specs.declared.values.NodeEvent.TheVariants.{Withdraw as Withdrawing, Restart as Restarting}
+use Rattle.bay_protocol.specs.declared.values.NodeEvent.TheVariants.{Cut as Cutting}
 use Rattle.bay_protocol.specs.Sends.{frame, to_each, overs}
-use Rattle.bay_protocol.specs.State.{State, others, under_way, under_way_of, fresh, opens, collects, grants, drops, locks, unlocks, hears, senses, ends, restarts}
+use Rattle.bay_protocol.specs.State.{State, others, under_way, under_way_of, fresh, opens, collects, grants, drops}
+use Rattle.bay_protocol.specs.State.{locks, unlocks, hears, senses, ends, restarts}
 use Rattle.bay_protocol.specs.Fits.{IsNode, IsOwn}
-use Rattle.bay_protocol.specs.Step.{Turn, Step, Ends, Deciding, IsVerdict, IsMeant, OpenStep, CommandStep, ReserveStep, AnswerStep, BusyStep, QueryStep, OverStep, FrameStep, TickStep, SenseStep, WithdrawStep, CutStep}
+use Rattle.bay_protocol.specs.Step.{Turn, Step, Ends, Deciding, IsVerdict, IsMeant, OpenStep, CommandStep, ReserveStep}
+use Rattle.bay_protocol.specs.Step.{AnswerStep, BusyStep, QueryStep, OverStep, FrameStep, TickStep, SenseStep}
+use Rattle.bay_protocol.specs.Step.{WithdrawStep, CutStep}
 use Rattle.bay_protocol.specs.Counts.{Counts}
 use Rattle.reservation_core.proofs.Nodes.{get_set}
 use Rattle.reservation_core.proofs.Moves.{idle_collecting, idle_grant, get_lost, dropped_round, ended_round}
@@ -56,7 +63,8 @@ nobody d = replicate (part_count d) None
 pub data HeardFrom (m : Meaning) (old : State) (event : NodeEvent) (g : Collection) : Type 0 where
   kept : old.collecting ≡ Some g → ¬ CountsAt m old event → HeardFrom m old event g
   opened : old.collecting ≡ None → g.heard ≡ nobody m.diagram → HeardFrom m old event g
-  one_more : (h : Collection) (f : Frame) (s : List ℕ) → event ≡ Arrival f → Counts m m.diagram old f → f.body ≡ Answer s → old.collecting ≡ Some h → h.round ≡ f.round → g ≡ hears h f.from.0 s → HeardFrom m old event g
+  one_more : (h : Collection) (f : Frame) (s : List ℕ) → event ≡ Arrival f → Counts m m.diagram old f →
+      f.body ≡ Answer s → old.collecting ≡ Some h → h.round ≡ f.round → g ≡ hears h f.from.0 s → HeardFrom m old event g
 
 abbrev pub grant_of : Collection → Grant
 grant_of g = record { round = g.round; op = g.op }
@@ -88,9 +96,11 @@ pub record Said (m : Meaning) (old : State) (event : NodeEvent) (f : Frame) (s :
 
 pub record Effect (m : Meaning) (old : State) (event : NodeEvent) (new : State) (frames : List Frame) : Type 0 where
   pub counted : CountsAt m old event ⊎ ¬ CountsAt m old event
-  pub words : (i : ℕ) → (get_or new.words i Lost ≡ get_or old.words i Lost) ⊎ IsNewWord event i (get_or new.words i Lost)
+  pub words : (i : ℕ) →
+      (get_or new.words i Lost ≡ get_or old.words i Lost) ⊎ IsNewWord event i (get_or new.words i Lost)
   pub grants : (g : Grant) → new.granted ≡ Some g → (old.granted ≡ Some g) ⊎ Released m old event g
-  pub freed : (g : Grant) → old.granted ≡ Some g → (new.granted ≡ Some g) ⊎ IsNewWord event g.op.switch.0 (get_or new.words g.op.switch.0 Lost)
+  pub freed : (g : Grant) → old.granted ≡ Some g →
+      (new.granted ≡ Some g) ⊎ IsNewWord event g.op.switch.0 (get_or new.words g.op.switch.0 Lost)
   pub heard : (g : Collection) → new.collecting ≡ Some g → HeardFrom m old event g
   pub rounds : (q : ℕ) → under_way new ≡ Some q → (under_way old ≡ Some q) ⊎ (old.highest < q)
   pub answers : (f : Frame) (s : List ℕ) → Contains frames f → f.body ≡ Answer s → Said m old event f s
@@ -106,16 +116,21 @@ idle_uncounted m old Withdrawing idle never = never
 idle_uncounted m old Restarting idle never = never
 idle_uncounted m old (Cutting j) idle never = never
 
-counted_of : (m : Meaning) (old : State) (event : NodeEvent) (g : Collection) → HeardFrom m old event g → CountsAt m old event ⊎ ¬ CountsAt m old event
+counted_of : (m : Meaning) (old : State) (event : NodeEvent) (g : Collection) → HeardFrom m old event g →
+    CountsAt m old event ⊎ ¬ CountsAt m old event
 counted_of m old event g (HeardFrom.kept has uncounted) = inr uncounted
 counted_of m old event g (HeardFrom.opened idle nothing) = inr (idle_uncounted m old event idle)
-counted_of m old event g (HeardFrom.one_more h f s is counts body has round same) = inl (subst (CountsAt m old) (sym is) counts)
+counted_of m old event g (HeardFrom.one_more h f s is counts body has round same) =
+    inl (subst (CountsAt m old) (sym is) counts)
 
 -- ---- frames
 
 same_body : (b r : ℕ) (body : Body) (tos : List ℕ) (f : Frame) → Contains (to_each b r body tos) f → f.body ≡ body
 same_body b r body [] f there = absurd (none_there f there)
-same_body b r body (x ∷ xs) f there = elim (contains_cons (frame b x r body) (to_each b r body xs) f there) [ inl is ↦ ap (λ (y : Frame). y.body) (sym is) | inr later ↦ same_body b r body xs f later ]
+same_body b r body (x ∷ xs) f there = elim (contains_cons (frame b x r body) (to_each b r body xs) f there) [
+  | inl is ↦ ap (λ (y : Frame). y.body) (sym is)
+  | inr later ↦ same_body b r body xs f later
+]
 
 abbrev NoAnswer : List Frame → Type 0
 NoAnswer frames = (f : Frame) (s : List ℕ) → Contains frames f → f.body ≡ Answer s → ⊥
@@ -123,18 +138,24 @@ NoAnswer frames = (f : Frame) (s : List ℕ) → Contains frames f → f.body �
 no_frame : NoAnswer []
 no_frame f s there is = none_there f there
 
-no_each : (b r : ℕ) (body : Body) (tos : List ℕ) → ((s : List ℕ) → body ≡ Answer s → ⊥) → NoAnswer (to_each b r body tos)
+no_each : (b r : ℕ) (body : Body) (tos : List ℕ) → ((s : List ℕ) → body ≡ Answer s → ⊥) →
+    NoAnswer (to_each b r body tos)
 no_each b r body tos never f s there is = never s (sym (same_body b r body tos f there) ∙ is)
 
 no_over : (d : Diagram) (s : State) (r : ℕ) → NoAnswer (overs d s r)
 no_over d s r = no_each s.bay r Over (others d s.bay) (λ t is. cc is)
 
 one_frame : (g : Frame) → ((s : List ℕ) → g.body ≡ Answer s → ⊥) → NoAnswer (g ∷ [])
-one_frame g never f s there is = elim (contains_cons g [] f there) [ inl same ↦ never s (subst (λ (x : Frame). x.body ≡ Answer s) (sym same) is) | inr none ↦ none_there f none ]
+one_frame g never f s there is = elim (contains_cons g [] f there) [
+  | inl same ↦ never s (subst (λ (x : Frame). x.body ≡ Answer s) (sym same) is)
+  | inr none ↦ none_there f none
+]
 
 -- a switch of the node has a word
 has_word : (d : Diagram) (s : State) (i : ℕ) → IsNode d s → IsOwn d s.bay i → i < length s.words
-has_word d s i ok own = let lt : i < length d.switches = slice_get_within d.switches i own.0 own.1 in omega (arith, ok.words, lt)
+has_word d s i ok own =
+    let lt : i < length d.switches = slice_get_within d.switches i own.0 own.1 in
+    omega (arith, ok.words, lt)
 
 -- a round decides, in a state s that differs from the old one in its round alone
 record RoundOf (old s : State) : Type 0 where
@@ -146,11 +167,13 @@ module _ (m : Meaning) (old : State) (event : NodeEvent) (turn : Turn) (ok : IsN
   abbrev EffectOf : Type 0
   EffectOf = Effect m old event turn.new turn.frames
 
-  ended : (new : State) (outcome : Outcome) (frames : List Frame) → Ends turn new outcome frames → Effect m old event new frames → EffectOf
+  ended : (new : State) (outcome : Outcome) (frames : List Frame) → Ends turn new outcome frames →
+      Effect m old event new frames → EffectOf
   ended new outcome frames end effect = rw (end.state, end.sends) effect
 
   -- nothing but frames that are no Answers
-  still : (outcome : Outcome) (frames : List Frame) → ¬ CountsAt m old event → NoAnswer frames → Ends turn old outcome frames → EffectOf
+  still : (outcome : Outcome) (frames : List Frame) → ¬ CountsAt m old event → NoAnswer frames →
+      Ends turn old outcome frames → EffectOf
   still outcome frames uncounted none end = ended old outcome frames end (record {
     counted = inr uncounted;
     words = λ i. inl refl;
@@ -162,7 +185,8 @@ module _ (m : Meaning) (old : State) (event : NodeEvent) (turn : Turn) (ok : IsN
     alone = λ f s there is. absurd (none f s there is);
   })
 
-  dropped : (outcome : Outcome) (r : ℕ) → ¬ CountsAt m old event → Ends turn (drops old) outcome (overs m.diagram old r) → EffectOf
+  dropped : (outcome : Outcome) (r : ℕ) → ¬ CountsAt m old event →
+      Ends turn (drops old) outcome (overs m.diagram old r) → EffectOf
   dropped outcome r uncounted end = ended (drops old) outcome (overs m.diagram old r) end (record {
     counted = inr uncounted;
     words = λ i. inl refl;
@@ -174,10 +198,14 @@ module _ (m : Meaning) (old : State) (event : NodeEvent) (turn : Turn) (ok : IsN
     alone = λ f s there is. absurd (no_over m.diagram old r f s there is);
   })
 
-  decided : (s : State) (g : Collection) → RoundOf old s → old.granted ≡ None → HeardFrom m old event g → (under_way old ≡ Some g.round) ⊎ (old.highest < g.round) → Deciding m m.diagram s g turn → EffectOf
+  decided : (s : State) (g : Collection) → RoundOf old s → old.granted ≡ None → HeardFrom m old event g →
+      (under_way old ≡ Some g.round) ⊎ (old.highest < g.round) → Deciding m m.diagram s g turn → EffectOf
   decided s g same free heard round (Deciding.release none end) = ended (grants s g) _ [] end (record {
     counted = counted_of m old event g heard;
-    words = λ i. elim (get_set s.words g.op.switch.0 Lost i Lost) [ inl p ↦ inr (inl p.1) | inr p ↦ inl (p ∙ ap (λ (x : List Dbpos). get_or x i Lost) same.words) ];
+    words = λ i. elim (get_set s.words g.op.switch.0 Lost i Lost) [
+      | inl p ↦ inr (inl p.1)
+      | inr p ↦ inl (p ∙ ap (λ (x : List Dbpos). get_or x i Lost) same.words)
+    ];
     grants = λ k is. inr (record {
       round = g;
       is = let e : k ≡ grant_of g = cc is in e;
@@ -187,36 +215,49 @@ module _ (m : Meaning) (old : State) (event : NodeEvent) (turn : Turn) (ok : IsN
     });
     freed = λ k is. absurd (cc (is, free));
     heard = λ k is. absurd (cc is);
-    rounds = λ q is. let e : g.round ≡ q = cc is in subst (λ (x : ℕ). (under_way old ≡ Some x) ⊎ (old.highest < x)) e round;
+    rounds = λ q is.
+        let e : g.round ≡ q = cc is in
+        subst (λ (x : ℕ). (under_way old ≡ Some x) ⊎ (old.highest < x)) e round;
     answers = λ f t there is. absurd (no_frame f t there is);
     alone = λ f t there is. absurd (no_frame f t there is);
   })
-  decided s g same free heard round (Deciding.denial rule v verdict end) = ended (drops s) _ (overs m.diagram s g.round) end (record {
-    counted = counted_of m old event g heard;
-    words = λ i. inl (ap (λ (x : List Dbpos). get_or x i Lost) same.words);
-    grants = λ k is. inl (sym same.granted ∙ is);
-    freed = λ k is. inl (same.granted ∙ is);
-    heard = λ k is. absurd (cc is);
-    rounds = λ q is. let none : under_way_of None s.granted ≡ None = ap (λ x. under_way_of None x) (same.granted ∙ free) in absurd (cc (none, is));
-    answers = λ f t there is. absurd (no_over m.diagram s g.round f t there is);
-    alone = λ f t there is. absurd (no_over m.diagram s g.round f t there is);
-  })
+  decided s g same free heard round (Deciding.denial rule v verdict end) =
+      ended (drops s) _ (overs m.diagram s g.round) end (record {
+        counted = counted_of m old event g heard;
+        words = λ i. inl (ap (λ (x : List Dbpos). get_or x i Lost) same.words);
+        grants = λ k is. inl (sym same.granted ∙ is);
+        freed = λ k is. inl (same.granted ∙ is);
+        heard = λ k is. absurd (cc is);
+        rounds = λ q is.
+            let none : under_way_of None s.granted ≡ None = ap (λ x. under_way_of None x) (same.granted ∙ free) in
+            absurd (cc (none, is));
+        answers = λ f t there is. absurd (no_over m.diagram s g.round f t there is);
+        alone = λ f t there is. absurd (no_over m.diagram s g.round f t there is);
+      })
 
   -- a granted operation ends with a new word of its switch
-  finished : (outcome : Outcome) (g : Grant) (i : ℕ) (word : Dbpos) → ¬ CountsAt m old event → old.granted ≡ Some g → g.op.switch.0 ≡ i → IsNewWord event i word → Ends turn (ends (senses old i word)) outcome (overs m.diagram old g.round) → EffectOf
+  finished : (outcome : Outcome) (g : Grant) (i : ℕ) (word : Dbpos) → ¬ CountsAt m old event → old.granted ≡ Some g →
+      g.op.switch.0 ≡ i → IsNewWord event i word →
+      Ends turn (ends (senses old i word)) outcome (overs m.diagram old g.round) → EffectOf
   finished outcome g i word uncounted has switch fresh_word end =
-      let inside : i < length old.words = subst (λ (x : ℕ). x < length old.words) switch (has_word m.diagram old g.op.switch.0 ok (ok.kept.granted g has).own) in
+      let inside : i < length old.words =
+      subst (λ (x : ℕ). x < length old.words) switch
+      (has_word m.diagram old g.op.switch.0 ok (ok.kept.granted g has).own) in
       ended (ends (senses old i word)) outcome (overs m.diagram old g.round) end (record {
         counted = inr uncounted;
         words = λ j. elim (get_set old.words i word j Lost) [
-          | inl p ↦ inr (subst (λ (x : Dbpos). IsNewWord event j x) (sym p.1) (subst (λ (x : ℕ). IsNewWord event x word) (sym p.0) fresh_word))
+          | inl p ↦
+              inr (subst (λ (x : Dbpos). IsNewWord event j x) (sym p.1)
+              (subst (λ (x : ℕ). IsNewWord event x word) (sym p.0) fresh_word))
           | inr p ↦ inl p
         ];
         grants = λ k is. absurd (cc is);
         freed = λ k is.
             let e : k ≡ g = cc (is, has) in
             let at : k.op.switch.0 ≡ i = ap (λ (x : Grant). x.op.switch.0) e ∙ switch in
-            inr (subst (λ (x : ℕ). IsNewWord event x (get_or (set old.words i word) x Lost)) (sym at) (subst (λ (x : Dbpos). IsNewWord event i x) (sym (get_or-set_same old.words i word Lost inside)) fresh_word));
+            inr (subst (λ (x : ℕ). IsNewWord event x (get_or (set old.words i word) x Lost)) (sym at)
+            (subst (λ (x : Dbpos). IsNewWord event i x) (sym (get_or-set_same old.words i word Lost inside))
+            fresh_word));
         heard = λ k is. HeardFrom.kept is uncounted;
         rounds = λ q is. inl (ended_round old.collecting old.granted q is);
         answers = λ f s there is. absurd (no_over m.diagram old g.round f s there is);
@@ -224,7 +265,10 @@ module _ (m : Meaning) (old : State) (event : NodeEvent) (turn : Turn) (ok : IsN
       })
 
   -- the words are as they were, and only what has been said is changed
-  changed : (new : State) (outcome : Outcome) (frames : List Frame) → CountsAt m old event ⊎ ¬ CountsAt m old event → Ends turn new outcome frames → new.words ≡ old.words → new.granted ≡ old.granted → ((g : Collection) → new.collecting ≡ Some g → HeardFrom m old event g) → ((q : ℕ) → under_way new ≡ Some q → (under_way old ≡ Some q) ⊎ (old.highest < q)) → NoAnswer frames → EffectOf
+  changed : (new : State) (outcome : Outcome) (frames : List Frame) → CountsAt m old event ⊎ ¬ CountsAt m old event →
+      Ends turn new outcome frames → new.words ≡ old.words → new.granted ≡ old.granted →
+      ((g : Collection) → new.collecting ≡ Some g → HeardFrom m old event g) →
+      ((q : ℕ) → under_way new ≡ Some q → (under_way old ≡ Some q) ⊎ (old.highest < q)) → NoAnswer frames → EffectOf
   changed new outcome frames counted end words granted heard rounds none = ended new outcome frames end (record {
     counted = counted;
     words = λ i. inl (ap (λ (x : List Dbpos). get_or x i Lost) words);
@@ -238,124 +282,208 @@ module _ (m : Meaning) (old : State) (event : NodeEvent) (turn : Turn) (ok : IsN
 
 -- ---- the events
 
-open_effect : (m : Meaning) (old : State) (op : Op) (turn : Turn) → IsNode m.diagram old → old.collecting ≡ None → old.granted ≡ None → OpenStep m m.diagram old op turn → Effect m old (Commanded op) turn.new turn.frames
+open_effect : (m : Meaning) (old : State) (op : Op) (turn : Turn) → IsNode m.diagram old → old.collecting ≡ None →
+    old.granted ≡ None → OpenStep m m.diagram old op turn → Effect m old (Commanded op) turn.new turn.frames
 open_effect m old op turn ok idle free (OpenStep.alone none deciding) =
-    decided m old (Commanded op) turn ok (opens m.diagram old op) (fresh m.diagram old op) (record { bay = refl; words = refl; granted = refl }) free (HeardFrom.opened idle refl) (inr (omega arith)) deciding
+    decided m old (Commanded op) turn ok (opens m.diagram old op) (fresh m.diagram old op)
+    (record { bay = refl; words = refl; granted = refl }) free (HeardFrom.opened idle refl) (inr (omega arith)) deciding
 open_effect m old op turn ok idle free (OpenStep.reserves some end) =
     changed m old (Commanded op) turn ok (opens m.diagram old op) _ _ (inr (λ never. never)) end refl refl
     (λ g is. let e : g ≡ fresh m.diagram old op = cc is in HeardFrom.opened idle (ap (λ (x : Collection). x.heard) e))
     (λ q is. let e : old.highest + 1 ≡ q = cc is in inr (omega (arith, e)))
     (no_each old.bay (old.highest + 1) Reserve (others m.diagram old.bay) (λ s is. cc is))
 
-command_effect : (m : Meaning) (old : State) (op : Op) (turn : Turn) → IsNode m.diagram old → CommandStep m m.diagram old op turn → Effect m old (Commanded op) turn.new turn.frames
-command_effect m old op turn ok (CommandStep.round_under_way _ _ end) = still m old (Commanded op) turn ok _ [] (λ never. never) no_frame end
-command_effect m old op turn ok (CommandStep.held _ _ _ end) = still m old (Commanded op) turn ok _ [] (λ never. never) no_frame end
-command_effect m old op turn ok (CommandStep.there _ _ end) = still m old (Commanded op) turn ok _ [] (λ never. never) no_frame end
-command_effect m old op turn ok (CommandStep.spent _ _ _ end) = still m old (Commanded op) turn ok _ [] (λ never. never) no_frame end
-command_effect m old op turn ok (CommandStep.opens_round free _ _ step) = open_effect m old op turn ok (idle_collecting old.collecting old.granted free.idle) (idle_grant old.collecting old.granted free.idle) step
+command_effect : (m : Meaning) (old : State) (op : Op) (turn : Turn) → IsNode m.diagram old →
+    CommandStep m m.diagram old op turn → Effect m old (Commanded op) turn.new turn.frames
+command_effect m old op turn ok (CommandStep.round_under_way _ _ end) =
+    still m old (Commanded op) turn ok _ [] (λ never. never) no_frame end
+command_effect m old op turn ok (CommandStep.held _ _ _ end) =
+    still m old (Commanded op) turn ok _ [] (λ never. never) no_frame end
+command_effect m old op turn ok (CommandStep.there _ _ end) =
+    still m old (Commanded op) turn ok _ [] (λ never. never) no_frame end
+command_effect m old op turn ok (CommandStep.spent _ _ _ end) =
+    still m old (Commanded op) turn ok _ [] (λ never. never) no_frame end
+command_effect m old op turn ok (CommandStep.opens_round free _ _ step) =
+    open_effect m old op turn ok (idle_collecting old.collecting old.granted free.idle)
+    (idle_grant old.collecting old.granted free.idle) step
 
 -- a frame that is no Answer does not count
-not_answer : (m : Meaning) (old : State) (f : Frame) (body : Body) → f.body ≡ body → ((s : List ℕ) → body ≡ Answer s → ⊥) → ¬ CountsAt m old (Arrival f)
+not_answer : (m : Meaning) (old : State) (f : Frame) (body : Body) → f.body ≡ body →
+    ((s : List ℕ) → body ≡ Answer s → ⊥) → ¬ CountsAt m old (Arrival f)
 not_answer m old f body is never counts = never counts.summary (sym is ∙ counts.answer)
 
-reserve_effect : (m : Meaning) (old : State) (f : Frame) (turn : Turn) → IsNode m.diagram old → f.body ≡ Reserve → ReserveStep m old f.from.0 f.round turn → Effect m old (Arrival f) turn.new turn.frames
-reserve_effect m old f turn ok body (ReserveStep.busy_itself _ _ end) = still m old (Arrival f) turn ok _ _ (not_answer m old f Reserve body (λ s is. cc is)) (one_frame _ (λ s is. cc is)) end
-reserve_effect m old f turn ok body (ReserveStep.busy_locked _ _ _ _ end) = still m old (Arrival f) turn ok _ _ (not_answer m old f Reserve body (λ s is. cc is)) (one_frame _ (λ s is. cc is)) end
-reserve_effect m old f turn ok body (ReserveStep.late _ _ _ _ _ end) = still m old (Arrival f) turn ok _ [] (not_answer m old f Reserve body (λ s is. cc is)) no_frame end
-reserve_effect m old f turn ok body (ReserveStep.answers idle may it) = ended m old (Arrival f) turn ok (locks old f.from.0 f.round) _ _ it.end (record {
-  counted = inr (not_answer m old f Reserve body (λ s e. cc e));
-  words = λ i. inl refl;
-  grants = λ g is. inl is;
-  freed = λ g is. inl is;
-  heard = λ g is. HeardFrom.kept is (not_answer m old f Reserve body (λ s e. cc e));
-  rounds = λ q is. inl is;
-  answers = λ h s there is. elim (contains_cons (frame old.bay f.from.0 f.round (Answer it.summary)) [] h there) [
-    | inl same ↦
-        let said : Answer it.summary ≡ Answer s = subst (λ (x : Frame). x.body ≡ Answer s) (sym same) is in
-        let e : it.summary ≡ s = cc said in
-        subst (λ (x : Frame). Said m old (Arrival f) x s) same (record { asked = body; from = refl; idle = idle; sums = subst (Summarises m old.bay f.from.0 old.words) e it.of_words })
-    | inr none ↦ absurd (none_there h none)
-  ];
-  alone = λ h s there is. refl;
-})
+reserve_effect : (m : Meaning) (old : State) (f : Frame) (turn : Turn) → IsNode m.diagram old → f.body ≡ Reserve →
+    ReserveStep m old f.from.0 f.round turn → Effect m old (Arrival f) turn.new turn.frames
+reserve_effect m old f turn ok body (ReserveStep.busy_itself _ _ end) =
+    still m old (Arrival f) turn ok _ _ (not_answer m old f Reserve body (λ s is. cc is))
+    (one_frame _ (λ s is. cc is)) end
+reserve_effect m old f turn ok body (ReserveStep.busy_locked _ _ _ _ end) =
+    still m old (Arrival f) turn ok _ _ (not_answer m old f Reserve body (λ s is. cc is))
+    (one_frame _ (λ s is. cc is)) end
+reserve_effect m old f turn ok body (ReserveStep.late _ _ _ _ _ end) =
+    still m old (Arrival f) turn ok _ [] (not_answer m old f Reserve body (λ s is. cc is)) no_frame end
+reserve_effect m old f turn ok body (ReserveStep.answers idle may it) =
+    ended m old (Arrival f) turn ok (locks old f.from.0 f.round) _ _ it.end (record {
+      counted = inr (not_answer m old f Reserve body (λ s e. cc e));
+      words = λ i. inl refl;
+      grants = λ g is. inl is;
+      freed = λ g is. inl is;
+      heard = λ g is. HeardFrom.kept is (not_answer m old f Reserve body (λ s e. cc e));
+      rounds = λ q is. inl is;
+      answers = λ h s there is. elim (contains_cons (frame old.bay f.from.0 f.round (Answer it.summary)) [] h there) [
+        | inl same ↦
+            let said : Answer it.summary ≡ Answer s = subst (λ (x : Frame). x.body ≡ Answer s) (sym same) is in
+            let e : it.summary ≡ s = cc said in
+            subst (λ (x : Frame). Said m old (Arrival f) x s) same (record {
+              asked = body;
+              from = refl;
+              idle = idle;
+              sums = subst (Summarises m old.bay f.from.0 old.words) e it.of_words;
+            })
+        | inr none ↦ absurd (none_there h none)
+      ];
+      alone = λ h s there is. refl;
+    })
 
 -- the Answer that comes counts
-it_counts : (m : Meaning) (old : State) (f : Frame) (s : List ℕ) (g : Collection) → IsMeant m.diagram old f → f.body ≡ Answer s → old.collecting ≡ Some g → g.round ≡ f.round → m.Fits f.from.0 old.bay s → Counts m m.diagram old f
-it_counts m old f s g meant body has round fits = record { meant = meant; round = g; collects = has; same = round; summary = s; answer = body; fits = fits }
+it_counts : (m : Meaning) (old : State) (f : Frame) (s : List ℕ) (g : Collection) → IsMeant m.diagram old f →
+    f.body ≡ Answer s → old.collecting ≡ Some g → g.round ≡ f.round → m.Fits f.from.0 old.bay s →
+    Counts m m.diagram old f
+it_counts m old f s g meant body has round fits = record {
+  meant = meant;
+  round = g;
+  collects = has;
+  same = round;
+  summary = s;
+  answer = body;
+  fits = fits;
+}
 
-answer_effect : (m : Meaning) (old : State) (f : Frame) (s : List ℕ) (turn : Turn) → IsNode m.diagram old → IsMeant m.diagram old f → f.body ≡ Answer s → AnswerStep m m.diagram old f.from.0 f.round s turn → Effect m old (Arrival f) turn.new turn.frames
+answer_effect : (m : Meaning) (old : State) (f : Frame) (s : List ℕ) (turn : Turn) → IsNode m.diagram old →
+    IsMeant m.diagram old f → f.body ≡ Answer s → AnswerStep m m.diagram old f.from.0 f.round s turn →
+    Effect m old (Arrival f) turn.new turn.frames
 answer_effect m old f s turn ok meant body (AnswerStep.heard_one g has round fits all end) =
-    changed m old (Arrival f) turn ok (collects old old.highest (hears g f.from.0 s)) _ [] (inl (it_counts m old f s g meant body has round fits)) end refl refl
-    (λ k is. let e : k ≡ hears g f.from.0 s = cc is in HeardFrom.one_more g f s refl (it_counts m old f s g meant body has round fits) body has round e)
+    changed m old (Arrival f) turn ok (collects old old.highest (hears g f.from.0 s)) _ []
+    (inl (it_counts m old f s g meant body has round fits)) end refl refl
+    (λ k is.
+    let e : k ≡ hears g f.from.0 s = cc is in
+    HeardFrom.one_more g f s refl (it_counts m old f s g meant body has round fits) body has round e)
     (λ q is. inl (ap (λ x. under_way_of x old.granted) has ∙ is)) no_frame
 answer_effect m old f s turn ok meant body (AnswerStep.heard_last g has round fits all deciding) =
-    decided m old (Arrival f) turn ok (collects old old.highest (hears g f.from.0 s)) (hears g f.from.0 s) (record { bay = refl; words = refl; granted = refl }) (ok.collecting g has).no_grant
-    (HeardFrom.one_more g f s refl (it_counts m old f s g meant body has round fits) body has round refl) (inl (ap (λ x. under_way_of x old.granted) has)) deciding
+    decided m old (Arrival f) turn ok (collects old old.highest (hears g f.from.0 s)) (hears g f.from.0 s)
+    (record { bay = refl; words = refl; granted = refl }) (ok.collecting g has).no_grant
+    (HeardFrom.one_more g f s refl (it_counts m old f s g meant body has round fits) body has round refl)
+    (inl (ap (λ x. under_way_of x old.granted) has)) deciding
 answer_effect m old f s turn ok meant body (AnswerStep.unfit g has round unfit end) =
-    still m old (Arrival f) turn ok _ [] (λ counts. let said : Answer counts.summary ≡ Answer s = sym counts.answer ∙ body in let e : counts.summary ≡ s = cc said in unfit (subst (m.Fits f.from.0 old.bay) e counts.fits)) no_frame end
+    still m old (Arrival f) turn ok _ [] (λ counts.
+    let said : Answer counts.summary ≡ Answer s = sym counts.answer ∙ body in
+    let e : counts.summary ≡ s = cc said in
+    unfit (subst (m.Fits f.from.0 old.bay) e counts.fits)) no_frame end
 answer_effect m old f s turn ok meant body (AnswerStep.other_round g has round end) =
-    still m old (Arrival f) turn ok _ [] (λ counts. let e : g ≡ counts.round = cc (has, counts.collects) in round (ap (λ (x : Collection). x.round) e ∙ counts.same)) no_frame end
+    still m old (Arrival f) turn ok _ [] (λ counts.
+    let e : g ≡ counts.round = cc (has, counts.collects) in
+    round (ap (λ (x : Collection). x.round) e ∙ counts.same)) no_frame end
 answer_effect m old f s turn ok meant body (AnswerStep.none_collected has end) =
     still m old (Arrival f) turn ok _ [] (λ counts. cc (has, counts.collects)) no_frame end
 
-busy_effect : (m : Meaning) (old : State) (f : Frame) (holder : BayId) (q : ℕ) (turn : Turn) → IsNode m.diagram old → f.body ≡ Busy holder q → BusyStep m.diagram old f.from.0 f.round holder q turn → Effect m old (Arrival f) turn.new turn.frames
-busy_effect m old f holder q turn ok body (BusyStep.gives_up _ _ _ end) = dropped m old (Arrival f) turn ok _ f.round (not_answer m old f (Busy holder q) body (λ s e. cc e)) end
-busy_effect m old f holder q turn ok body (BusyStep.other_round _ _ _ end) = still m old (Arrival f) turn ok _ [] (not_answer m old f (Busy holder q) body (λ s is. cc is)) no_frame end
-busy_effect m old f holder q turn ok body (BusyStep.none_collected _ end) = still m old (Arrival f) turn ok _ [] (not_answer m old f (Busy holder q) body (λ s is. cc is)) no_frame end
+busy_effect : (m : Meaning) (old : State) (f : Frame) (holder : BayId) (q : ℕ) (turn : Turn) → IsNode m.diagram old →
+    f.body ≡ Busy holder q → BusyStep m.diagram old f.from.0 f.round holder q turn →
+    Effect m old (Arrival f) turn.new turn.frames
+busy_effect m old f holder q turn ok body (BusyStep.gives_up _ _ _ end) =
+    dropped m old (Arrival f) turn ok _ f.round (not_answer m old f (Busy holder q) body (λ s e. cc e)) end
+busy_effect m old f holder q turn ok body (BusyStep.other_round _ _ _ end) =
+    still m old (Arrival f) turn ok _ [] (not_answer m old f (Busy holder q) body (λ s is. cc is)) no_frame end
+busy_effect m old f holder q turn ok body (BusyStep.none_collected _ end) =
+    still m old (Arrival f) turn ok _ [] (not_answer m old f (Busy holder q) body (λ s is. cc is)) no_frame end
 
-query_effect : (m : Meaning) (old : State) (f : Frame) (turn : Turn) → IsNode m.diagram old → f.body ≡ Query → QueryStep old f.from.0 f.round turn → Effect m old (Arrival f) turn.new turn.frames
-query_effect m old f turn ok body (QueryStep.is_over _ _ end) = still m old (Arrival f) turn ok _ _ (not_answer m old f Query body (λ s is. cc is)) (one_frame _ (λ s is. cc is)) end
-query_effect m old f turn ok body (QueryStep.unknown_round _ end) = still m old (Arrival f) turn ok _ [] (not_answer m old f Query body (λ s is. cc is)) no_frame end
-query_effect m old f turn ok body (QueryStep.round_under_way _ end) = still m old (Arrival f) turn ok _ [] (not_answer m old f Query body (λ s is. cc is)) no_frame end
+query_effect : (m : Meaning) (old : State) (f : Frame) (turn : Turn) → IsNode m.diagram old → f.body ≡ Query →
+    QueryStep old f.from.0 f.round turn → Effect m old (Arrival f) turn.new turn.frames
+query_effect m old f turn ok body (QueryStep.is_over _ _ end) =
+    still m old (Arrival f) turn ok _ _ (not_answer m old f Query body (λ s is. cc is))
+    (one_frame _ (λ s is. cc is)) end
+query_effect m old f turn ok body (QueryStep.unknown_round _ end) =
+    still m old (Arrival f) turn ok _ [] (not_answer m old f Query body (λ s is. cc is)) no_frame end
+query_effect m old f turn ok body (QueryStep.round_under_way _ end) =
+    still m old (Arrival f) turn ok _ [] (not_answer m old f Query body (λ s is. cc is)) no_frame end
 
-over_effect : (m : Meaning) (old : State) (f : Frame) (turn : Turn) → IsNode m.diagram old → f.body ≡ Over → OverStep old f.from.0 f.round turn → Effect m old (Arrival f) turn.new turn.frames
+over_effect : (m : Meaning) (old : State) (f : Frame) (turn : Turn) → IsNode m.diagram old → f.body ≡ Over →
+    OverStep old f.from.0 f.round turn → Effect m old (Arrival f) turn.new turn.frames
 over_effect m old f turn ok body (OverStep.unlocks_it _ _ _ _ end) =
-    changed m old (Arrival f) turn ok (unlocks old) _ [] (inr (not_answer m old f Over body (λ s e. cc e))) end refl refl (λ k is. HeardFrom.kept is (not_answer m old f Over body (λ s e. cc e))) (λ q is. inl is) no_frame
-over_effect m old f turn ok body (OverStep.earlier_round _ _ _ _ end) = still m old (Arrival f) turn ok _ [] (not_answer m old f Over body (λ s is. cc is)) no_frame end
-over_effect m old f turn ok body (OverStep.another_holder _ _ _ end) = still m old (Arrival f) turn ok _ [] (not_answer m old f Over body (λ s is. cc is)) no_frame end
-over_effect m old f turn ok body (OverStep.no_lock _ end) = still m old (Arrival f) turn ok _ [] (not_answer m old f Over body (λ s is. cc is)) no_frame end
+    changed m old (Arrival f) turn ok (unlocks old) _ [] (inr (not_answer m old f Over body (λ s e. cc e))) end refl
+    refl (λ k is. HeardFrom.kept is (not_answer m old f Over body (λ s e. cc e))) (λ q is. inl is) no_frame
+over_effect m old f turn ok body (OverStep.earlier_round _ _ _ _ end) =
+    still m old (Arrival f) turn ok _ [] (not_answer m old f Over body (λ s is. cc is)) no_frame end
+over_effect m old f turn ok body (OverStep.another_holder _ _ _ end) =
+    still m old (Arrival f) turn ok _ [] (not_answer m old f Over body (λ s is. cc is)) no_frame end
+over_effect m old f turn ok body (OverStep.no_lock _ end) =
+    still m old (Arrival f) turn ok _ [] (not_answer m old f Over body (λ s is. cc is)) no_frame end
 
-frame_effect : (m : Meaning) (old : State) (f : Frame) (turn : Turn) → IsNode m.diagram old → FrameStep m m.diagram old f turn → Effect m old (Arrival f) turn.new turn.frames
-frame_effect m old f turn ok (FrameStep.elsewhere differ end) = still m old (Arrival f) turn ok _ [] (λ counts. differ counts.meant.here) no_frame end
-frame_effect m old f turn ok (FrameStep.stranger other end) = still m old (Arrival f) turn ok _ [] (λ counts. other counts.meant.other) no_frame end
+frame_effect : (m : Meaning) (old : State) (f : Frame) (turn : Turn) → IsNode m.diagram old →
+    FrameStep m m.diagram old f turn → Effect m old (Arrival f) turn.new turn.frames
+frame_effect m old f turn ok (FrameStep.elsewhere differ end) =
+    still m old (Arrival f) turn ok _ [] (λ counts. differ counts.meant.here) no_frame end
+frame_effect m old f turn ok (FrameStep.stranger other end) =
+    still m old (Arrival f) turn ok _ [] (λ counts. other counts.meant.other) no_frame end
 frame_effect m old f turn ok (FrameStep.reserve meant body step) = reserve_effect m old f turn ok body step
-frame_effect m old f turn ok (FrameStep.answer summary meant body step) = answer_effect m old f summary turn ok meant body step
+frame_effect m old f turn ok (FrameStep.answer summary meant body step) =
+    answer_effect m old f summary turn ok meant body step
 frame_effect m old f turn ok (FrameStep.busy holder q meant body step) = busy_effect m old f holder q turn ok body step
 frame_effect m old f turn ok (FrameStep.query meant body step) = query_effect m old f turn ok body step
 frame_effect m old f turn ok (FrameStep.over meant body step) = over_effect m old f turn ok body step
 
-tick_effect : (m : Meaning) (old : State) (turn : Turn) → IsNode m.diagram old → TickStep m m.diagram old turn → Effect m old Ticking turn.new turn.frames
-tick_effect m old turn ok (TickStep.decides g has deciding) = decided m old Ticking turn ok old g (record { bay = refl; words = refl; granted = refl }) (ok.collecting g has).no_grant (HeardFrom.kept has (λ never. never)) (inl (ap (λ x. under_way_of x old.granted) has)) deciding
-tick_effect m old turn ok (TickStep.asks _ _ _ end) = still m old Ticking turn ok _ _ (λ never. never) (one_frame _ (λ s is. cc is)) end
+tick_effect : (m : Meaning) (old : State) (turn : Turn) → IsNode m.diagram old → TickStep m m.diagram old turn →
+    Effect m old Ticking turn.new turn.frames
+tick_effect m old turn ok (TickStep.decides g has deciding) =
+    decided m old Ticking turn ok old g (record { bay = refl; words = refl; granted = refl })
+    (ok.collecting g has).no_grant (HeardFrom.kept has (λ never. never))
+    (inl (ap (λ x. under_way_of x old.granted) has)) deciding
+tick_effect m old turn ok (TickStep.asks _ _ _ end) =
+    still m old Ticking turn ok _ _ (λ never. never) (one_frame _ (λ s is. cc is)) end
 tick_effect m old turn ok (TickStep.rests _ _ end) = still m old Ticking turn ok _ [] (λ never. never) no_frame end
 
-sense_effect : (m : Meaning) (old : State) (i : ℕ) (event : NodeEvent) (word : Dbpos) (turn : Turn) → IsNode m.diagram old → ¬ CountsAt m old event → IsSensed event i word → SenseStep m.diagram old i word turn → Effect m old event turn.new turn.frames
-sense_effect m old i event word turn ok uncounted sensed (SenseStep.finishes g is end) = finished m old event turn ok _ g i word uncounted is.granted is.switch (inr sensed) end
-sense_effect m old i event word turn ok uncounted sensed (SenseStep.reads other end) = ended m old event turn ok (senses old i word) _ [] end (record {
-  counted = inr uncounted;
-  words = λ j. elim (get_set old.words i word j Lost) [
-    | inl p ↦ inr (inr (subst (λ (x : Dbpos). IsSensed event j x) (sym p.1) (subst (λ (x : ℕ). IsSensed event x word) (sym p.0) sensed)))
-    | inr p ↦ inl p
-  ];
-  grants = λ k is. inl is;
-  freed = λ k is. inl is;
-  heard = λ k is. HeardFrom.kept is uncounted;
-  rounds = λ q is. inl is;
-  answers = λ f s there is. absurd (no_frame f s there is);
-  alone = λ f s there is. absurd (no_frame f s there is);
-})
+sense_effect : (m : Meaning) (old : State) (i : ℕ) (event : NodeEvent) (word : Dbpos) (turn : Turn) →
+    IsNode m.diagram old → ¬ CountsAt m old event → IsSensed event i word → SenseStep m.diagram old i word turn →
+    Effect m old event turn.new turn.frames
+sense_effect m old i event word turn ok uncounted sensed (SenseStep.finishes g is end) =
+    finished m old event turn ok _ g i word uncounted is.granted is.switch (inr sensed) end
+sense_effect m old i event word turn ok uncounted sensed (SenseStep.reads other end) =
+    ended m old event turn ok (senses old i word) _ [] end (record {
+      counted = inr uncounted;
+      words = λ j. elim (get_set old.words i word j Lost) [
+        | inl p ↦
+            inr
+            (inr (subst (λ (x : Dbpos). IsSensed event j x) (sym p.1)
+            (subst (λ (x : ℕ). IsSensed event x word) (sym p.0) sensed)))
+        | inr p ↦ inl p
+      ];
+      grants = λ k is. inl is;
+      freed = λ k is. inl is;
+      heard = λ k is. HeardFrom.kept is uncounted;
+      rounds = λ q is. inl is;
+      answers = λ f s there is. absurd (no_frame f s there is);
+      alone = λ f s there is. absurd (no_frame f s there is);
+    })
 
-withdraw_effect : (m : Meaning) (old : State) (turn : Turn) → IsNode m.diagram old → WithdrawStep m.diagram old turn → Effect m old Withdrawing turn.new turn.frames
-withdraw_effect m old turn ok (WithdrawStep.from_round g has end) = dropped m old Withdrawing turn ok _ g.round (λ never. never) end
-withdraw_effect m old turn ok (WithdrawStep.from_grant g none has end) = finished m old Withdrawing turn ok _ g g.op.switch.0 Lost (λ never. never) has refl (inl refl) end
-withdraw_effect m old turn ok (WithdrawStep.no_round _ end) = still m old Withdrawing turn ok _ [] (λ never. never) no_frame end
+withdraw_effect : (m : Meaning) (old : State) (turn : Turn) → IsNode m.diagram old → WithdrawStep m.diagram old turn →
+    Effect m old Withdrawing turn.new turn.frames
+withdraw_effect m old turn ok (WithdrawStep.from_round g has end) =
+    dropped m old Withdrawing turn ok _ g.round (λ never. never) end
+withdraw_effect m old turn ok (WithdrawStep.from_grant g none has end) =
+    finished m old Withdrawing turn ok _ g g.op.switch.0 Lost (λ never. never) has refl (inl refl) end
+withdraw_effect m old turn ok (WithdrawStep.no_round _ end) =
+    still m old Withdrawing turn ok _ [] (λ never. never) no_frame end
 
-cut_effect : (m : Meaning) (old : State) (i : ℕ) (event : NodeEvent) (turn : Turn) → IsNode m.diagram old → ¬ CountsAt m old event → CutStep m.diagram old i turn → Effect m old event turn.new turn.frames
-cut_effect m old i event turn ok uncounted (CutStep.stops g has switch end) = finished m old event turn ok _ g i Lost uncounted has switch (inl refl) end
-cut_effect m old i event turn ok uncounted (CutStep.other_switch _ _ _ end) = still m old event turn ok _ [] uncounted no_frame end
-cut_effect m old i event turn ok uncounted (CutStep.no_grant _ end) = still m old event turn ok _ [] uncounted no_frame end
+cut_effect : (m : Meaning) (old : State) (i : ℕ) (event : NodeEvent) (turn : Turn) → IsNode m.diagram old →
+    ¬ CountsAt m old event → CutStep m.diagram old i turn → Effect m old event turn.new turn.frames
+cut_effect m old i event turn ok uncounted (CutStep.stops g has switch end) =
+    finished m old event turn ok _ g i Lost uncounted has switch (inl refl) end
+cut_effect m old i event turn ok uncounted (CutStep.other_switch _ _ _ end) =
+    still m old event turn ok _ [] uncounted no_frame end
+cut_effect m old i event turn ok uncounted (CutStep.no_grant _ end) =
+    still m old event turn ok _ [] uncounted no_frame end
 
-restart_effect : (m : Meaning) (old : State) (turn : Turn) (outcome : Outcome) → IsNode m.diagram old → Ends turn (restarts old) outcome [] → Effect m old Restarting turn.new turn.frames
+restart_effect : (m : Meaning) (old : State) (turn : Turn) (outcome : Outcome) → IsNode m.diagram old →
+    Ends turn (restarts old) outcome [] → Effect m old Restarting turn.new turn.frames
 restart_effect m old turn outcome ok end = ended m old Restarting turn ok (restarts old) outcome [] end (record {
   counted = inr (λ never. never);
   words = λ i. inr (inl (get_lost (length old.words) i));
@@ -367,9 +495,11 @@ restart_effect m old turn outcome ok end = ended m old Restarting turn ok (resta
   alone = λ f s there is. absurd (no_frame f s there is);
 })
 
-pub effect : (m : Meaning) (old : State) (event : NodeEvent) (turn : Turn) → IsNode m.diagram old → Step m m.diagram old event turn → Effect m old event turn.new turn.frames
+pub effect : (m : Meaning) (old : State) (event : NodeEvent) (turn : Turn) → IsNode m.diagram old →
+    Step m m.diagram old event turn → Effect m old event turn.new turn.frames
 effect m old (Commanded op) turn ok s = command_effect m old op turn ok s
-effect m old (Sensing i word) turn ok s = sense_effect m old i.0 (Sensing i word) word turn ok (λ never. never) (refl, refl) s
+effect m old (Sensing i word) turn ok s =
+    sense_effect m old i.0 (Sensing i word) word turn ok (λ never. never) (refl, refl) s
 effect m old (Arrival f) turn ok s = frame_effect m old f turn ok s
 effect m old Ticking turn ok s = tick_effect m old turn ok s
 effect m old Withdrawing turn ok s = withdraw_effect m old turn ok s

@@ -1,5 +1,7 @@
 -- The small changes of one node, of which each step is made.
-use Rattle.std.proofs.Common.{◌≡◌, ◌≢◌, ◌+◌, ◌<◌, ◌≤◌, ℕ, zero, suc, true, false, List, length, get_or, slice_get, set, replicate, Option, Some, None, Contains, refl, sym, subst, ap, ◌∙◌, inl, inr, arith, length-set}
+use Rattle.std.proofs.Common.{◌≡◌, ◌≢◌, ◌+◌, ◌<◌, ◌≤◌, ℕ, zero, suc, true, false, List, length, get_or, slice_get, set}
+use Rattle.std.proofs.Common.{replicate, Option, Some, None, Contains, refl, sym, subst, ap, ◌∙◌, inl, inr, arith}
+use Rattle.std.proofs.Common.{length-set}
 use Rattle.std.proofs.lemmas.List.{length-replicate}
 use Rattle.ilk_base.specs.declared.words.Dbpos.{Dbpos}
 use Rattle.ilk_base.specs.declared.words.Dbpos.TheVariants.{Lost}
@@ -11,7 +13,8 @@ use Rattle.bay_frames.specs.declared.frame.Body.TheVariants.{Over}
 use Rattle.bay_protocol.specs.declared.values.Lock.{Lock}
 use Rattle.bay_protocol.specs.declared.values.Grant.{Grant}
 use Rattle.bay_protocol.specs.declared.values.Collection.{Collection}
-use Rattle.bay_protocol.specs.State.{State, IsOther, MayLock, under_way, under_way_of, fresh, opens, collects, grants, drops, locks, unlocks, hears, senses, ends, restarts}
+use Rattle.bay_protocol.specs.State.{State, IsOther, MayLock, under_way, under_way_of, fresh, opens, collects, grants}
+use Rattle.bay_protocol.specs.State.{drops, locks, unlocks, hears, senses, ends, restarts}
 use Rattle.bay_protocol.specs.Step.{IsFree}
 use Rattle.bay_protocol.specs.Fits.{IsNode, IsOwn}
 use Rattle.reservation_core.specs.Scene.{Scene, node, runs}
@@ -31,24 +34,29 @@ idle_grant None (Some g) is = absurd (cc is)
 idle_grant None None is = refl
 
 -- what is dropped makes no round
-pub dropped_round : (x : Option Collection) (y : Option Grant) (q : ℕ) → ((g : Collection) → x ≡ Some g → y ≡ None) → under_way_of None y ≡ Some q → under_way_of x y ≡ Some q
+pub dropped_round : (x : Option Collection) (y : Option Grant) (q : ℕ) → ((g : Collection) → x ≡ Some g → y ≡ None) →
+    under_way_of None y ≡ Some q → under_way_of x y ≡ Some q
 dropped_round None y q none is = is
 dropped_round (Some g) (Some h) q none is = absurd (cc (none g refl))
 dropped_round (Some g) None q none is = absurd (cc is)
 
 -- what is granted no more makes no round
-pub ended_round : (x : Option Collection) (y : Option Grant) (q : ℕ) → under_way_of x None ≡ Some q → under_way_of x y ≡ Some q
+pub ended_round : (x : Option Collection) (y : Option Grant) (q : ℕ) → under_way_of x None ≡ Some q →
+    under_way_of x y ≡ Some q
 ended_round (Some g) y q is = is
 ended_round None y q is = absurd (cc is)
 
 -- the round under way is the highest
-round_of : (x : Option Collection) (y : Option Grant) (top q : ℕ) → ((g : Collection) → x ≡ Some g → g.round ≡ top) → ((g : Grant) → y ≡ Some g → g.round ≡ top) → under_way_of x y ≡ Some q → q ≡ top
+round_of : (x : Option Collection) (y : Option Grant) (top q : ℕ) → ((g : Collection) → x ≡ Some g → g.round ≡ top) →
+    ((g : Grant) → y ≡ Some g → g.round ≡ top) → under_way_of x y ≡ Some q → q ≡ top
 round_of (Some g) y top q xs ys is = let e : g.round ≡ q = cc is in sym e ∙ xs g refl
 round_of None (Some g) top q xs ys is = let e : g.round ≡ q = cc is in sym e ∙ ys g refl
 round_of None None top q xs ys is = absurd (cc is)
 
 pub round_is_highest : (d : Diagram) (s : State) (q : ℕ) → IsNode d s → under_way s ≡ Some q → q ≡ s.highest
-round_is_highest d s q ok is = round_of s.collecting s.granted s.highest q (λ g has. (ok.collecting g has).newest) (λ g has. (ok.kept.granted g has).newest) is
+round_is_highest d s q ok is =
+    round_of s.collecting s.granted s.highest q (λ g has. (ok.collecting g has).newest)
+    (λ g has. (ok.kept.granted g has).newest) is
 
 abbrev nothing : Option (List ℕ)
 nothing = None
@@ -65,7 +73,9 @@ get_lost (suc n) zero = refl
 get_lost (suc n) (suc i) = get_lost n i
 
 lock_is : (l : Lock) (c r : ℕ) → l.holder.0 ≡ c → r ≡ l.round → l ≡ record { holder = record { 0 = c }; round = r }
-lock_is l c r h e = subst (λ (x : ℕ). l ≡ record { holder = record { 0 = x }; round = r }) h (subst (λ (y : ℕ). l ≡ record { holder = record { 0 = l.holder.0 }; round = y }) (sym e) refl)
+lock_is l c r h e =
+    subst (λ (x : ℕ). l ≡ record { holder = record { 0 = x }; round = r }) h
+    (subst (λ (y : ℕ). l ≡ record { holder = record { 0 = l.holder.0 }; round = y }) (sym e) refl)
 
 -- the node of a bay is there
 pub node_there : (m : Meaning) (w : Scene) (b : ℕ) → RoundFacts m w → IsBay m.diagram b → b < length w.nodes
@@ -98,7 +108,8 @@ module _ (m : Meaning) (w : Scene) (b : ℕ) (facts : RoundFacts m w) (bay : IsB
   }
 
   -- a lock is given to round r of c
-  pub may_lock : (c r : ℕ) → under_way old ≡ None → MayLock old.lock c r → IsOther m.diagram b c → r ≢ 0 → r ≤ (node m.diagram w c).highest → MayBecome m w b (locks old c r)
+  pub may_lock : (c r : ℕ) → under_way old ≡ None → MayLock old.lock c r → IsOther m.diagram b c → r ≢ 0 →
+      r ≤ (node m.diagram w c).highest → MayBecome m w b (locks old c r)
   may_lock c r idle may other positive low = record {
     within = within;
     name = facts.shape.named b;
@@ -108,7 +119,11 @@ module _ (m : Meaning) (w : Scene) (b : ℕ) (facts : RoundFacts m w) (bay : IsB
       kept = record {
         lock = λ l is.
             let e : l ≡ record { holder = record { 0 = c }; round = r } = cc is in
-            rw e (record { holder = (other.0, λ same. other.1 (same ∙ facts.shape.named b)); positive = positive; alone = idle_grant old.collecting old.granted idle });
+            rw e (record {
+              holder = (other.0, λ same. other.1 (same ∙ facts.shape.named b));
+              positive = positive;
+              alone = idle_grant old.collecting old.granted idle;
+            });
         granted = ok.kept.granted;
       };
       collecting = λ g is. absurd (cc (is, idle_collecting old.collecting old.granted idle));
@@ -117,7 +132,9 @@ module _ (m : Meaning) (w : Scene) (b : ℕ) (facts : RoundFacts m w) (bay : IsB
     locks = λ l is. let e : l ≡ record { holder = record { 0 = c }; round = r } = cc is in rw e low;
     rounds = λ q is. inl is;
     locked = λ l is running.
-        let top : l.round ≡ (node m.diagram w l.holder.0).highest = round_is_highest m.diagram (node m.diagram w l.holder.0) l.round (facts.rounds l.holder.0 ((ok.kept.lock l is).holder).0) running in
+        let top : l.round ≡ (node m.diagram w l.holder.0).highest =
+        round_is_highest m.diagram (node m.diagram w l.holder.0) l.round
+        (facts.rounds l.holder.0 ((ok.kept.lock l is).holder).0) running in
         let fits : MayLock (Some l) c r = subst (λ (x : Option Lock). MayLock x c r) is may in
         let below : r ≤ (node m.diagram w l.holder.0).highest = rw fits.0 low in
         let same : r ≡ l.round = omega (arith, top, below, fits.1) in
@@ -127,7 +144,8 @@ module _ (m : Meaning) (w : Scene) (b : ℕ) (facts : RoundFacts m w) (bay : IsB
   }
 
   -- a lock is given up, at an Over of its round that was sent
-  pub may_unlock : (f : Frame) (l : Lock) → old.lock ≡ Some l → Contains w.sent f → f.body ≡ Over → l.holder.0 ≡ f.from.0 → l.round ≤ f.round → MayBecome m w b (unlocks old)
+  pub may_unlock : (f : Frame) (l : Lock) → old.lock ≡ Some l → Contains w.sent f → f.body ≡ Over →
+      l.holder.0 ≡ f.from.0 → l.round ≤ f.round → MayBecome m w b (unlocks old)
   may_unlock f l has there body from low = record {
     within = within;
     name = facts.shape.named b;
@@ -135,16 +153,30 @@ module _ (m : Meaning) (w : Scene) (b : ℕ) (facts : RoundFacts m w) (bay : IsB
       bay = ok.bay;
       words = ok.words;
       kept = record { lock = λ k is. absurd (cc is); granted = ok.kept.granted };
-      collecting = λ g is. let f = ok.collecting g is in record { own = f.own; newest = f.newest; positive = f.positive; places = f.places; no_lock = refl; no_grant = f.no_grant };
+      collecting = λ g is.
+          let f = ok.collecting g is in
+          record {
+            own = f.own;
+            newest = f.newest;
+            positive = f.positive;
+            places = f.places;
+            no_lock = refl;
+            no_grant = f.no_grant;
+          };
     };
     highest = omega arith;
     locks = λ k is. absurd (cc is);
     rounds = λ q is. inl is;
     locked = λ k is running.
         let e : k ≡ l = cc (is, has) in
-        let running' : under_way (node m.diagram w f.from.0) ≡ Some l.round = subst (λ (x : ℕ). under_way (node m.diagram w x) ≡ Some l.round) from (subst (λ (x : Lock). under_way (node m.diagram w x.holder.0) ≡ Some x.round) e running) in
-        let top : l.round ≡ (node m.diagram w f.from.0).highest = round_is_highest m.diagram (node m.diagram w f.from.0) l.round (facts.rounds f.from.0 (facts.bounds.fit f there).sender) running' in
-        let below : f.round ≤ (node m.diagram w f.from.0).highest = subst (λ x. f.round ≤ (node m.diagram w (round_bay f x)).highest) body (facts.bounds.frames f there) in
+        let running' : under_way (node m.diagram w f.from.0) ≡ Some l.round =
+        subst (λ (x : ℕ). under_way (node m.diagram w x) ≡ Some l.round) from
+        (subst (λ (x : Lock). under_way (node m.diagram w x.holder.0) ≡ Some x.round) e running) in
+        let top : l.round ≡ (node m.diagram w f.from.0).highest =
+        round_is_highest m.diagram (node m.diagram w f.from.0) l.round
+        (facts.rounds f.from.0 (facts.bounds.fit f there).sender) running' in
+        let below : f.round ≤ (node m.diagram w f.from.0).highest =
+        subst (λ x. f.round ≤ (node m.diagram w (round_bay f x)).highest) body (facts.bounds.frames f there) in
         let same : l.round ≡ f.round = omega (arith, top, below, low) in
         absurd (facts.overs f there body (running' ∙ ap (λ x. Some x) same));
     driven = λ g is on. is;
@@ -161,10 +193,20 @@ module _ (m : Meaning) (w : Scene) (b : ℕ) (facts : RoundFacts m w) (bay : IsB
         sound = record {
           bay = ok.bay;
           words = ok.words;
-          kept = record { lock = λ l is. absurd (cc (is, free.unlocked)); granted = λ g is. absurd (cc (is, no_grant)) };
+          kept = record {
+            lock = λ l is. absurd (cc (is, free.unlocked));
+            granted = λ g is. absurd (cc (is, no_grant));
+          };
           collecting = λ g is.
               let e : g ≡ fresh m.diagram old op = cc is in
-              rw e (record { own = own; newest = refl; positive = λ z. absurd (omega (arith, z)); places = length-replicate (part_count m.diagram) None; no_lock = free.unlocked; no_grant = no_grant });
+              rw e (record {
+                own = own;
+                newest = refl;
+                positive = λ z. absurd (omega (arith, z));
+                places = length-replicate (part_count m.diagram) None;
+                no_lock = free.unlocked;
+                no_grant = no_grant;
+              });
         };
         highest = omega arith;
         locks = λ l is. absurd (cc (is, free.unlocked));
@@ -173,20 +215,25 @@ module _ (m : Meaning) (w : Scene) (b : ℕ) (facts : RoundFacts m w) (bay : IsB
         driven = λ g is on. is;
         heard = λ g x summary is has.
             let e : g ≡ fresh m.diagram old op = cc is in
-            absurd (unheard (part_count m.diagram) x summary (ap (λ (y : Collection). slice_get y.heard x) (sym e) ∙ has));
+            absurd (unheard (part_count m.diagram) x summary
+            (ap (λ (y : Collection). slice_get y.heard x) (sym e) ∙ has));
       }
 
   -- what was heard, and the new Answer
-  heard_each : (g : Collection) (from : ℕ) (summary : List ℕ) → old.collecting ≡ Some g → HeardSent m w.sent b g.round from summary → (x : ℕ) (other : List ℕ) → slice_get (set g.heard from (Some summary)) x ≡ Some (Some other) → HeardSent m w.sent b g.round x other
+  heard_each : (g : Collection) (from : ℕ) (summary : List ℕ) → old.collecting ≡ Some g →
+      HeardSent m w.sent b g.round from summary → (x : ℕ) (other : List ℕ) →
+      slice_get (set g.heard from (Some summary)) x ≡ Some (Some other) → HeardSent m w.sent b g.round x other
   heard_each g from summary has sent x other got = elim (got_set g.heard from (Some summary) x (Some other) got) [
     | inl p ↦
         let e : summary ≡ other = cc p.1 in
-        subst (λ (y : ℕ). HeardSent m w.sent b g.round y other) (sym p.0) (subst (λ (s : List ℕ). HeardSent m w.sent b g.round from s) e sent)
+        subst (λ (y : ℕ). HeardSent m w.sent b g.round y other) (sym p.0)
+        (subst (λ (s : List ℕ). HeardSent m w.sent b g.round from s) e sent)
     | inr was ↦ facts.heard b x g other has was
   ]
 
   -- an Answer is heard
-  pub may_hear : (g : Collection) (from : ℕ) (summary : List ℕ) → old.collecting ≡ Some g → HeardSent m w.sent b g.round from summary → MayBecome m w b (collects old old.highest (hears g from summary))
+  pub may_hear : (g : Collection) (from : ℕ) (summary : List ℕ) → old.collecting ≡ Some g →
+      HeardSent m w.sent b g.round from summary → MayBecome m w b (collects old old.highest (hears g from summary))
   may_hear g from summary has sent =
       let good = ok.collecting g has in
       record {
@@ -198,7 +245,14 @@ module _ (m : Meaning) (w : Scene) (b : ℕ) (facts : RoundFacts m w) (bay : IsB
           kept = ok.kept;
           collecting = λ k is.
               let e : k ≡ hears g from summary = cc is in
-              rw e (record { own = good.own; newest = good.newest; positive = good.positive; places = length-set g.heard from (Some summary) ∙ good.places; no_lock = good.no_lock; no_grant = good.no_grant });
+              rw e (record {
+                own = good.own;
+                newest = good.newest;
+                positive = good.positive;
+                places = length-set g.heard from (Some summary) ∙ good.places;
+                no_lock = good.no_lock;
+                no_grant = good.no_grant;
+              });
         };
         highest = omega arith;
         locks = λ l is. facts.bounds.locks b l is;
@@ -207,7 +261,8 @@ module _ (m : Meaning) (w : Scene) (b : ℕ) (facts : RoundFacts m w) (bay : IsB
         driven = λ g is on. is;
         heard = λ k x other is got.
             let e : k ≡ hears g from summary = cc is in
-            subst (λ (y : Collection). HeardSent m w.sent b y.round x other) (sym e) (heard_each g from summary has sent x other (ap (λ (y : Collection). slice_get y.heard x) (sym e) ∙ got));
+            subst (λ (y : Collection). HeardSent m w.sent b y.round x other) (sym e)
+            (heard_each g from summary has sent x other (ap (λ (y : Collection). slice_get y.heard x) (sym e) ∙ got));
       }
 
   -- the round that is collected is dropped
@@ -233,7 +288,16 @@ module _ (m : Meaning) (w : Scene) (b : ℕ) (facts : RoundFacts m w) (bay : IsB
       bay = ok.bay;
       words = length-set old.words i word ∙ ok.words;
       kept = ok.kept;
-      collecting = λ g is. let f = ok.collecting g is in record { own = f.own; newest = f.newest; positive = f.positive; places = f.places; no_lock = f.no_lock; no_grant = f.no_grant };
+      collecting = λ g is.
+          let f = ok.collecting g is in
+          record {
+            own = f.own;
+            newest = f.newest;
+            positive = f.positive;
+            places = f.places;
+            no_lock = f.no_lock;
+            no_grant = f.no_grant;
+          };
     };
     highest = omega arith;
     locks = facts.bounds.locks b;
@@ -258,7 +322,10 @@ module _ (m : Meaning) (w : Scene) (b : ℕ) (facts : RoundFacts m w) (bay : IsB
     locks = facts.bounds.locks b;
     rounds = λ q is. inl (ended_round old.collecting old.granted q is);
     locked = λ l is running. is;
-    driven = λ k is on. let e : k ≡ g = cc (is, has) in let on' : runs w.drives g.op.switch.0 ≡ true = subst (λ (x : Grant). runs w.drives x.op.switch.0 ≡ true) e on in absurd (cc (on', still));
+    driven = λ k is on.
+        let e : k ≡ g = cc (is, has) in
+        let on' : runs w.drives g.op.switch.0 ≡ true = subst (λ (x : Grant). runs w.drives x.op.switch.0 ≡ true) e on in
+        absurd (cc (on', still));
     heard = λ k x summary. facts.heard b x k summary;
   }
 
@@ -267,7 +334,12 @@ module _ (m : Meaning) (w : Scene) (b : ℕ) (facts : RoundFacts m w) (bay : IsB
   may_restart = record {
     within = within;
     name = facts.shape.named b;
-    sound = record { bay = ok.bay; words = length-replicate (length old.words) Lost ∙ ok.words; kept = ok.kept; collecting = λ g is. absurd (cc is) };
+    sound = record {
+      bay = ok.bay;
+      words = length-replicate (length old.words) Lost ∙ ok.words;
+      kept = ok.kept;
+      collecting = λ g is. absurd (cc is);
+    };
     highest = omega arith;
     locks = facts.bounds.locks b;
     rounds = λ q is. inl (dropped_round old.collecting old.granted q (λ g has. (ok.collecting g has).no_grant) is);
@@ -288,7 +360,9 @@ module _ (m : Meaning) (w : Scene) (b : ℕ) (facts : RoundFacts m w) (bay : IsB
           words = length-set old.words g.op.switch.0 Lost ∙ ok.words;
           kept = record {
             lock = λ l is. absurd (cc (is, good.no_lock));
-            granted = λ k is. let e : k ≡ record { round = g.round; op = g.op } = cc is in rw e (record { own = good.own; newest = good.newest; positive = good.positive });
+            granted = λ k is.
+                let e : k ≡ record { round = g.round; op = g.op } = cc is in
+                rw e (record { own = good.own; newest = good.newest; positive = good.positive });
           };
           collecting = λ k is. absurd (cc is);
         };

@@ -15,4 +15,5 @@ AnswersAlone frames = (f : Frame) (s : List ℕ) → Contains frames f → f.bod
 
 -- Where a Reserve is delivered, the copy is of the words of the bay that it reaches.
 abbrev pub IsCopied : Diagram → Scene → WorldEvent → Option (List Dbpos) → Type 0
-IsCopied d w event copy = (k : ℕ) (f : Frame) → event ≡ Deliver k → IsMessage w k f → f.body ≡ Reserve → copy ≡ Some (node d w f.to.0).words
+IsCopied d w event copy =
+    (k : ℕ) (f : Frame) → event ≡ Deliver k → IsMessage w k f → f.body ≡ Reserve → copy ≡ Some (node d w f.to.0).words

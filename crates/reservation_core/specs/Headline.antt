@@ -10,7 +10,8 @@ use Rattle.station_graph.specs.Supply.{Apart}
 use Rattle.central_rules.specs.Knowledge.{Known, IsReadingOf, Holds, IsFull}
 use Rattle.bay_protocol.specs.declared.values.Grant.{Grant}
 use Rattle.bay_protocol.specs.declared.values.Outcome.{Outcome}
-use Rattle.bay_protocol.specs.declared.values.Outcome.TheVariants.{Granted, Denied, BusyBy, Finished, Withdrawn, Stopped}
+use Rattle.bay_protocol.specs.declared.values.Outcome.TheVariants.{Granted, Denied, BusyBy, Finished, Withdrawn}
+use Rattle.bay_protocol.specs.declared.values.Outcome.TheVariants.{Stopped}
 use Rattle.reservation_core.specs.Scene.{Stands}
 use Rattle.reservation_core.specs.declared.values.WorldEvent.TheVariants.{Restart}
 use Rattle.reservation_core.specs.Lines.{Message, Line, of_bay, shown}
@@ -23,7 +24,8 @@ use Rattle.reservation_core.specs.Hearing.{IsVerdictOn, Decides, known_at, heard
 -- reading of what is known, but for the moved switch, in which the rule is broken.
 pub data Verdict (d : Diagram) (k : Known) (o : Opened) (outcome : Outcome) : Type 0 where
   grants : outcome ≡ Granted o.round o.op → Holds d o.op k → Verdict d k o outcome
-  denies : (rule : Rule) (v : List Bool) → outcome ≡ shown (Denied o.round o.op rule v) → IsReadingOf d k v → Breaks d v o.op (Some rule) → Verdict d k o outcome
+  denies : (rule : Rule) (v : List Bool) → outcome ≡ shown (Denied o.round o.op rule v) → IsReadingOf d k v →
+      Breaks d v o.op (Some rule) → Verdict d k o outcome
 
 -- At a line that decides a round its verdict is shown, by what is known there; and at no other line.
 pub record DecidesWell (d : Diagram) (before : List Line) (l : Line) : Type 0 where
@@ -47,11 +49,13 @@ EndsIt outcome r = ⊥
 -- At one of these lines bay c was granted the operation in round r, and no line after it shows its end.
 abbrev pub OpenSince : List Line → ℕ → ℕ → Op → Type 0
 OpenSince [] c r op = ⊥
-OpenSince (l ∷ before) c r op = (of_bay l.shown c ≡ Granted r op) ⊎ (OpenSince before c r op × (¬ EndsIt (of_bay l.shown c) r))
+OpenSince (l ∷ before) c r op =
+    (of_bay l.shown c ≡ Granted r op) ⊎ (OpenSince before c r op × (¬ EndsIt (of_bay l.shown c) r))
 
 -- Each operation that was granted and has not ended breaks no rule in any vector that resolves the truth.
 abbrev pub ObeysSince : Diagram → List Bool → List Line → Type 0
-ObeysSince d start lines = (c r : ℕ) (op : Op) (v : List Bool) → OpenSince lines c r op → MayBeTrue d start lines v → Breaks d v op None
+ObeysSince d start lines =
+    (c r : ℕ) (op : Op) (v : List Bool) → OpenSince lines c r op → MayBeTrue d start lines v → Breaks d v op None
 
 -- ---- consequences
 
@@ -70,13 +74,16 @@ HearNothing d lines = (c b : ℕ) → c ≢ b → IsUnderWay lines c → IsUnder
 -- What is shown is the verdict of the true positions, whichever of the vectors T they are.
 pub data TrueVerdict (d : Diagram) (T : List Bool → Type 0) (o : Opened) (outcome : Outcome) : Type 0 where
   grants : outcome ≡ Granted o.round o.op → ((v : List Bool) → T v → Breaks d v o.op None) → TrueVerdict d T o outcome
-  denies : (rule : Rule) (reading : List Bool) → outcome ≡ Denied o.round o.op rule reading → ((v : List Bool) → T v → Breaks d v o.op (Some rule)) → TrueVerdict d T o outcome
+  denies : (rule : Rule) (reading : List Bool) → outcome ≡ Denied o.round o.op rule reading →
+      ((v : List Bool) → T v → Breaks d v o.op (Some rule)) → TrueVerdict d T o outcome
 
 -- At a line that decides, the true positions are a reading of what is known; and where all others are heard and
 -- all words known are off or on, they alone decide.
 pub record TruthDecides (d : Diagram) (start : List Bool) (before : List Line) (l : Line) : Type 0 where
-  pub reading : (c : ℕ) (o : Opened) → Decides d before l c o → (v : List Bool) → MayBeTrue d start (l ∷ before) v → IsReadingOf d (known_at d before l c) v
-  pub full : (c : ℕ) (o : Opened) → Decides d before l c o → IsFull d (known_at d before l c) → TrueVerdict d (MayBeTrue d start (l ∷ before)) o (of_bay l.shown c)
+  pub reading : (c : ℕ) (o : Opened) → Decides d before l c o → (v : List Bool) → MayBeTrue d start (l ∷ before) v →
+      IsReadingOf d (known_at d before l c) v
+  pub full : (c : ℕ) (o : Opened) → Decides d before l c o → IsFull d (known_at d before l c) →
+      TrueVerdict d (MayBeTrue d start (l ∷ before)) o (of_bay l.shown c)
 
 -- ---- rounds and messages
 
@@ -100,8 +107,10 @@ pub data StopsCollecting (d : Diagram) (before : List Line) (l : Line) (c : ℕ)
 -- A round stops being collected exactly at the line that decides it, at a Busy of its round, at its withdrawal,
 -- or at a restart; else it is collected still.
 pub record StopsWell (d : Diagram) (before : List Line) (l : Line) : Type 0 where
-  pub stops : (c : ℕ) (o : Opened) → collecting before c ≡ Some o → StopsCollecting d before l c o → collecting (l ∷ before) c ≡ None
-  pub else_stays : (c : ℕ) (o : Opened) → collecting before c ≡ Some o → StopsCollecting d before l c o ⊎ (collecting (l ∷ before) c ≡ Some o)
+  pub stops : (c : ℕ) (o : Opened) → collecting before c ≡ Some o → StopsCollecting d before l c o →
+      collecting (l ∷ before) c ≡ None
+  pub else_stays : (c : ℕ) (o : Opened) → collecting before c ≡ Some o →
+      StopsCollecting d before l c o ⊎ (collecting (l ∷ before) c ≡ Some o)
 
 -- Each message is sent by the bay that the line shows.
 abbrev pub OwnMessages : Line → Type 0
@@ -117,7 +126,8 @@ AtEach P (l ∷ before) = P (l ∷ before) × AtEach P before
 -- The last line decides well, by the truth where all is known, and says rightly what becomes of rounds.
 abbrev pub Decisions : Diagram → List Bool → List Line → Type 0
 Decisions d start [] = ⊤
-Decisions d start (l ∷ before) = DecidesWell d before l × TruthDecides d start before l × StopsWell d before l × OwnMessages l
+Decisions d start (l ∷ before) =
+    DecidesWell d before l × TruthDecides d start before l × StopsWell d before l × OwnMessages l
 
 -- The headline: every decision is exact, every movement obeys the rules on the true positions throughout, a
 -- sound start stays sound, and two rounds at once hear nothing of each other.

@@ -1,5 +1,6 @@
 -- What a bay knows at a line, by the lines.
-use Rattle.std.specs.Prelude.{◌≡◌, ◌≢◌, ◌==◌, ◌&&◌, ℕ, zero, suc, Bool, true, false, List, [], ◌∷◌, length, Option, Some, None, if◌then◌else◌}
+use Rattle.std.specs.Prelude.{◌≡◌, ◌≢◌, ◌==◌, ◌&&◌, ℕ, zero, suc, Bool, true, false, List, [], ◌∷◌, length, Option}
+use Rattle.std.specs.Prelude.{Some, None, if◌then◌else◌}
 use Rattle.ilk_base.specs.declared.words.Dbpos.{Dbpos}
 use Rattle.station_graph.specs.Diagram.{Diagram, part_count}
 use Rattle.central_rules.specs.Knowledge.{Known}
@@ -53,7 +54,8 @@ heard_after outcome new was = or_else new was
 -- The words of b that an answer has last told c in its round.
 abbrev pub heard : Diagram → List Line → ℕ → ℕ → Option (List Dbpos)
 heard d [] c b = None
-heard d (l ∷ before) c b = heard_after (of_bay l.shown c) (told d (delivered l.event before) b c (last_round before c)) (heard d before c b)
+heard d (l ∷ before) c b =
+    heard_after (of_bay l.shown c) (told d (delivered l.event before) b c (last_round before c)) (heard d before c b)
 
 -- The same of other bays than c alone.
 abbrev pub heard_of : Diagram → List Line → ℕ → ℕ → Option (List Dbpos)
@@ -77,8 +79,10 @@ IsVerdictOn outcome o = ⊥
 -- after which all others are heard; or it is the command that opens the round, and there are no others.
 pub data Decides (d : Diagram) (before : List Line) (l : Line) (c : ℕ) (o : Opened) : Type 0 where
   at_tick : collecting before c ≡ Some o → l.event ≡ Tick (record { 0 = c }) → Decides d before l c o
-  all_heard : (n : ℕ) → collecting before c ≡ Some o → l.event ≡ Deliver n → AreAllHeard d (l ∷ before) c → Decides d before l c o
-  alone : l.event ≡ Command o.op → bay_of d o.op.switch.0 ≡ c → others d c ≡ [] → IsVerdictOn (of_bay l.shown c) o → Decides d before l c o
+  all_heard : (n : ℕ) → collecting before c ≡ Some o → l.event ≡ Deliver n → AreAllHeard d (l ∷ before) c →
+      Decides d before l c o
+  alone : l.event ≡ Command o.op → bay_of d o.op.switch.0 ≡ c → others d c ≡ [] → IsVerdictOn (of_bay l.shown c) o →
+      Decides d before l c o
 
 -- What bay c knows at a line that decides: its own words before the line, and what it has heard at the line.
 abbrev pub known_at : Diagram → List Line → Line → ℕ → Known

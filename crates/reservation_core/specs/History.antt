@@ -1,6 +1,7 @@
 -- What the lines up to one of them say, newest first, of true positions, drives, operations, words, messages
 -- and rounds. Each definition says what one line changes.
-use Rattle.std.specs.Prelude.{◌==◌, ◌&&◌, ℕ, Bool, true, false, List, [], ◌∷◌, Option, Some, None, slice_index_or, if◌then◌else◌}
+use Rattle.std.specs.Prelude.{◌==◌, ◌&&◌, ℕ, Bool, true, false, List, [], ◌∷◌, Option, Some, None, slice_index_or}
+use Rattle.std.specs.Prelude.{if◌then◌else◌}
 use Rattle.ilk_base.specs.declared.words.Op.{Op}
 use Rattle.ilk_base.specs.declared.words.Dbpos.{Dbpos}
 use Rattle.ilk_base.specs.declared.words.Dbpos.TheVariants.{Lost}
@@ -8,7 +9,8 @@ use Rattle.station_graph.specs.Diagram.{Diagram}
 use Rattle.central_rules.specs.Meaning.{bay_of}
 use Rattle.bay_protocol.specs.declared.values.Grant.{Grant}
 use Rattle.bay_protocol.specs.declared.values.Outcome.{Outcome}
-use Rattle.bay_protocol.specs.declared.values.Outcome.TheVariants.{Granted, Denied, Finished, Withdrawn, Stopped, Collecting, BusyBy}
+use Rattle.bay_protocol.specs.declared.values.Outcome.TheVariants.{Granted, Denied, Finished, Withdrawn, Stopped}
+use Rattle.bay_protocol.specs.declared.values.Outcome.TheVariants.{Collecting, BusyBy}
 use Rattle.reservation_core.specs.Scene.{end_position}
 use Rattle.reservation_core.specs.Start.{position_of}
 use Rattle.reservation_core.specs.declared.values.Position.{Position}
@@ -107,7 +109,9 @@ sensed event b s was = was
 -- that grants, withdraws or stops an operation of it; lost where there is none.
 abbrev pub reading_at : Diagram → List Line → ℕ → Dbpos
 reading_at d [] s = Lost
-reading_at d (l ∷ before) s = if takes_word (of_bay l.shown (bay_of d s)) (open_of before (bay_of d s)) s then Lost else sensed l.event (bay_of d s) s (reading_at d before s)
+reading_at d (l ∷ before) s =
+    if takes_word (of_bay l.shown (bay_of d s)) (open_of before (bay_of d s)) s then Lost
+    else sensed l.event (bay_of d s) s (reading_at d before s)
 
 -- ---- messages
 

@@ -1,5 +1,6 @@
 -- The lines of a log, oldest record first, with what is shown at each.
-use Rattle.std.specs.Prelude.{◌≢◌, ◌<◌, ◌==◌, ℕ, Bool, true, false, List, [], ◌∷◌, length, count_by, Option, Some, None, unwrap_or, if◌then◌else◌}
+use Rattle.std.specs.Prelude.{◌≢◌, ◌<◌, ◌==◌, ℕ, Bool, true, false, List, [], ◌∷◌, length, count_by, Option, Some, None}
+use Rattle.std.specs.Prelude.{unwrap_or, if◌then◌else◌}
 use Rattle.station_graph.specs.Diagram.{Diagram}
 use Rattle.reservation_core.specs.declared.values.LogEvent.{LogEvent}
 use Rattle.reservation_core.specs.declared.values.LogEvent.TheVariants.{At, Step}

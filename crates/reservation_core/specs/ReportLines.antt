@@ -1,5 +1,6 @@
 -- The text of a report: the bays, what is shown at each line of the log, and the number of lines at the end.
-use Rattle.std.specs.Prelude.{◌++◌, ◌+◌, ℕ, Bool, true, false, List, [], ◌∷◌, nat_lt, slice_index_or, codes, decimal, if◌then◌else◌}
+use Rattle.std.specs.Prelude.{◌++◌, ◌+◌, ℕ, Bool, true, false, List, [], ◌∷◌, nat_lt, slice_index_or, codes, decimal}
+use Rattle.std.specs.Prelude.{if◌then◌else◌}
 use Rattle.std.specs.List.{flat_map, enumerate_from}
 use Rattle.station_graph.specs.Diagram.{Diagram, part_count, switches_in}
 use Rattle.central_rules.specs.Names.{texts_below}
@@ -8,7 +9,10 @@ use Rattle.reservation_core.specs.Lines.{MessageKind, Message, Shown}
 
 -- The line `bay B PATH` of a part that is a bay.
 abbrev pub bay_line : Diagram → ℕ → List ℕ
-bay_line d b = if nat_lt 0 (switches_in d b) then codes "bay " ++ decimal b ++ codes " " ++ slice_index_or d.part_paths b [] ++ codes "\n" else []
+bay_line d b =
+    if nat_lt 0 (switches_in d b) then codes "bay " ++ decimal b ++ codes " " ++ slice_index_or d.part_paths b []
+    ++ codes "\n"
+    else []
 
 -- The lines of all bays, in order.
 abbrev pub bay_lines : Diagram → List ℕ
@@ -28,7 +32,9 @@ line_prefix i b = decimal i ++ codes " " ++ decimal b ++ codes " "
 
 -- The line `I B send N KIND TO R` of a message.
 abbrev pub message_line : ℕ → Message → List ℕ
-message_line i x = line (line_prefix i x.from) (codes "send " ++ decimal x.number ++ codes " " ++ message_name x.kind ++ codes " " ++ decimal x.to ++ codes " " ++ decimal x.round)
+message_line i x =
+    line (line_prefix i x.from) (codes "send " ++ decimal x.number ++ codes " " ++ message_name x.kind ++ codes " "
+    ++ decimal x.to ++ codes " " ++ decimal x.round)
 
 -- The lines of what is shown at line i.
 abbrev pub shown_lines : Diagram → ℕ → Shown → List ℕ

@@ -61,7 +61,9 @@ IsLockedFor d w f = (node d w f.from.0).lock ≡ Some (record { holder = f.to; r
 
 -- Of fact 4 (answers), the lock: the sender of an Answer whose round is under way is locked for it.
 abbrev pub Locks : Diagram → Scene → Type 0
-Locks d w = (f : Frame) (summary : List ℕ) → Contains w.sent f → f.body ≡ Answer summary → under_way (node d w f.to.0) ≡ Some f.round → IsLockedFor d w f
+Locks d w =
+    (f : Frame) (summary : List ℕ) → Contains w.sent f → f.body ≡ Answer summary →
+    under_way (node d w f.to.0) ≡ Some f.round → IsLockedFor d w f
 
 -- The granted operation of its bay moves switch i, which is between.
 pub record Driven (d : Diagram) (w : Scene) (i : ℕ) : Type 0 where
@@ -95,7 +97,9 @@ pub record HeardSent (m : Meaning) (sent : List Frame) (c r b : ℕ) (summary : 
 -- Fact 8 (heard summaries): each summary that a collecting node has heard fits, and was sent to it for its
 -- round.
 abbrev pub Heard : Meaning → Scene → Type 0
-Heard m w = (c b : ℕ) (g : Collection) (summary : List ℕ) → (node m.diagram w c).collecting ≡ Some g → slice_get g.heard b ≡ Some (Some summary) → HeardSent m w.sent c g.round b summary
+Heard m w =
+    (c b : ℕ) (g : Collection) (summary : List ℕ) → (node m.diagram w c).collecting ≡ Some g →
+    slice_get g.heard b ≡ Some (Some summary) → HeardSent m w.sent c g.round b summary
 
 -- The round half of the facts.
 pub record RoundFacts (m : Meaning) (w : Scene) : Type 0 where

@@ -9,9 +9,11 @@ use Rattle.reservation_core.specs.Start.{IsStart}
 use Rattle.reservation_core.specs.Happens.{Happens, InRange}
 use Rattle.reservation_core.specs.declared.values.Position.{Position}
 use Rattle.reservation_core.specs.declared.values.Which.{Which}
-use Rattle.reservation_core.specs.declared.values.Which.TheVariants.{Sensed, Begun, Ended, Withdrawn, Unsent, Cut as NotCut}
+use Rattle.reservation_core.specs.declared.values.Which.TheVariants.{Sensed, Begun, Ended, Withdrawn, Unsent}
+use Rattle.reservation_core.specs.declared.values.Which.TheVariants.{Cut as NotCut}
 use Rattle.reservation_core.specs.declared.values.WorldEvent.{WorldEvent}
-use Rattle.reservation_core.specs.declared.values.WorldEvent.TheVariants.{Command, Sense, Deliver, Tick, Withdraw, Restart, Begin, End, Part, Cut}
+use Rattle.reservation_core.specs.declared.values.WorldEvent.TheVariants.{Command, Sense, Deliver, Tick, Withdraw}
+use Rattle.reservation_core.specs.declared.values.WorldEvent.TheVariants.{Restart, Begin, End, Part, Cut}
 use Rattle.reservation_core.specs.declared.values.WorldOutcome.{WorldOutcome}
 use Rattle.reservation_core.specs.declared.values.WorldOutcome.TheVariants.{Premise, Drive, Node}
 use Rattle.reservation_core.specs.Lines.{Line, Shown, shown, messages}
@@ -26,7 +28,11 @@ pub record ShowsNothing (s : Shown) : Type 0 where
 abbrev pub Shows : WorldOutcome → Shown → Type 0
 Shows (Premise which) s = ⊥
 Shows Drive s = ShowsNothing s
-Shows (Node bay first output) s = s ≡ record { bay = bay.0; outcome = shown output.outcome; messages = messages first output.frames }
+Shows (Node bay first output) s = s ≡ record {
+  bay = bay.0;
+  outcome = shown output.outcome;
+  messages = messages first output.frames;
+}
 
 -- Nothing shown.
 abbrev pub nothing_shown : Shown
@@ -34,7 +40,11 @@ nothing_shown = record { bay = 0; outcome = Quiet; messages = [] }
 
 -- What is shown of what comes of an event.
 abbrev pub shown_of : WorldOutcome → Shown
-shown_of (Node bay first output) = record { bay = bay.0; outcome = shown output.outcome; messages = messages first output.frames }
+shown_of (Node bay first output) = record {
+  bay = bay.0;
+  outcome = shown output.outcome;
+  messages = messages first output.frames;
+}
 shown_of (Premise which) = nothing_shown
 shown_of Drive = nothing_shown
 
@@ -69,7 +79,8 @@ MayHappenBy d truth drives before (Command op) = ⊤
 MayHappenBy d truth drives before (Sense i word) = IsTrueWord word (truth i.0)
 MayHappenBy d truth drives before (Begin i) = MayBegin d truth drives before i.0
 MayHappenBy d truth drives before (End i) = drives i.0 ≡ true
-MayHappenBy d truth drives before (Withdraw b) = (g : Grant) → open_of before b.0 ≡ Some g → drives g.op.switch.0 ≡ false
+MayHappenBy d truth drives before (Withdraw b) =
+    (g : Grant) → open_of before b.0 ≡ Some g → drives g.op.switch.0 ≡ false
 MayHappenBy d truth drives before (Deliver n) = sending before n ≢ None
 MayHappenBy d truth drives before (Part n bytes) = sending before n ≢ None
 MayHappenBy d truth drives before (Cut i) = drives i.0 ≡ true
@@ -99,11 +110,15 @@ IsPremiseOf (Tick b) which = ⊥
 IsPremiseOf (Restart b) which = ⊥
 
 -- The event breaks this premise, by the lines before it.
-pub record IsBrokenBy (d : Diagram) (start : List Bool) (before : List Line) (event : WorldEvent) (which : Which) : Type 0 where
+pub record IsBrokenBy (d : Diagram) (start : List Bool) (before : List Line) (event : WorldEvent)
+    (which : Which) : Type 0 where
   pub broken : ¬ MayHappen d start before event
   pub named : IsPremiseOf event which
 
 -- The event keeps its premise, and no broken premise comes of it; or it breaks this one, and that comes of it.
-pub data PremiseExact (d : Diagram) (start : List Bool) (before : List Line) (event : WorldEvent) (outcome : WorldOutcome) : Type 0 where
-  keeps : MayHappen d start before event → ((which : Which) → outcome ≢ Premise which) → PremiseExact d start before event outcome
-  breaks : (which : Which) → IsBrokenBy d start before event which → outcome ≡ Premise which → PremiseExact d start before event outcome
+pub data PremiseExact (d : Diagram) (start : List Bool) (before : List Line) (event : WorldEvent)
+    (outcome : WorldOutcome) : Type 0 where
+  keeps : MayHappen d start before event → ((which : Which) → outcome ≢ Premise which) →
+      PremiseExact d start before event outcome
+  breaks : (which : Which) → IsBrokenBy d start before event which → outcome ≡ Premise which →
+      PremiseExact d start before event outcome

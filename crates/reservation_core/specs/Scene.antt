@@ -1,6 +1,7 @@
 -- The world: the node of each bay, where each switch truly stands, which drives run, and all that was ever
 -- sent. And the small changes of which its steps are made.
-use Rattle.std.specs.Prelude.{◌≡◌, ℕ, Bool, false, true, List, ◌++◌, Option, Some, None, unwrap_or, slice_get, slice_set, slice_index_or, ⊤}
+use Rattle.std.specs.Prelude.{◌≡◌, ℕ, Bool, false, true, List, ◌++◌, Option, Some, None, unwrap_or, slice_get}
+use Rattle.std.specs.Prelude.{slice_set, slice_index_or, ⊤}
 use Rattle.ilk_base.specs.declared.words.Dbpos.{Dbpos}
 use Rattle.ilk_base.specs.declared.words.Dbpos.TheVariants.{Intermediate, Off, On, Bad, Lost}
 use Rattle.ilk_base.specs.declared.words.Direction.{Direction}
@@ -70,7 +71,12 @@ posts w frames = record { nodes = w.nodes; truth = w.truth; drives = w.drives; s
 
 -- Switch i stands so from now on, and its drive runs or not.
 abbrev pub moves : Scene → ℕ → Position → Bool → Scene
-moves w i at running = record { nodes = w.nodes; truth = slice_set w.truth i at; drives = slice_set w.drives i running; sent = w.sent }
+moves w i at running = record {
+  nodes = w.nodes;
+  truth = slice_set w.truth i at;
+  drives = slice_set w.drives i running;
+  sent = w.sent;
+}
 
 -- The drive of switch i runs no longer.
 abbrev pub stops : Scene → ℕ → Scene

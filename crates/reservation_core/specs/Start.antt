@@ -1,5 +1,6 @@
 -- The world before anything happens.
-use Rattle.std.specs.Prelude.{◌≡◌, ◌<◌, ℕ, Bool, false, List, [], length, slice_index_or, slice_get, Option, Some, None, if◌then◌else◌}
+use Rattle.std.specs.Prelude.{◌≡◌, ◌<◌, ℕ, Bool, false, List, [], length, slice_index_or, slice_get, Option, Some, None}
+use Rattle.std.specs.Prelude.{if◌then◌else◌}
 use Rattle.station_graph.specs.Diagram.{Diagram, part_count}
 use Rattle.central_rules.specs.Meaning.{IsBay}
 use Rattle.bay_protocol.specs.State.{State}

@@ -1,5 +1,6 @@
 -- A world: its scene, and the words that are kept beside the Answers.
-use Rattle.std.specs.Prelude.{◌≡◌, ◌++◌, ⊤, ℕ, Bool, List, [], length, map, drop, Option, Some, None, slice_get, slice_index_or}
+use Rattle.std.specs.Prelude.{◌≡◌, ◌++◌, ⊤, ℕ, Bool, List, [], length, map, drop, Option, Some, None, slice_get}
+use Rattle.std.specs.Prelude.{slice_index_or}
 use Rattle.std.specs.List.{All}
 use Rattle.ilk_base.specs.declared.words.Dbpos.{Dbpos}
 use Rattle.ilk_base.specs.declared.words.Dbpos.TheVariants.{Lost}
@@ -67,7 +68,8 @@ pub record WordsHeld (m : Meaning) (w : World) (beside : ℕ → ℕ → Dbpos) 
 pub record WorldFacts (m : Meaning) (w : World) : Type 0 where
   pub facts : Facts m w.scene
   pub count : length w.beside ≡ length w.scene.sent
-  pub words : (k : ℕ) (f : Frame) (s : List ℕ) → slice_get w.scene.sent k ≡ Some f → f.body ≡ Answer s → WordsHeld m w facts.truth.held.beside k f s
+  pub words : (k : ℕ) (f : Frame) (s : List ℕ) → slice_get w.scene.sent k ≡ Some f → f.body ≡ Answer s →
+      WordsHeld m w facts.truth.held.beside k f s
 
 -- Beside message k, an Answer, the words are kept of which its summary is made (fact 9); and while its round is
 -- under way each of them is true of its bay (fact 4).
@@ -75,11 +77,13 @@ pub record WordsKept (m : Meaning) (w : World) (k : ℕ) (f : Frame) (s : List �
   pub words : List Dbpos
   pub kept : slice_get w.beside k ≡ Some (Some words)
   pub made : Summarises m f.from.0 f.to.0 words s
-  pub truly : under_way (node m.diagram w.scene f.to.0) ≡ Some f.round → (i : ℕ) → IsSwitchOf m f.from.0 i → IsTrueWord (slice_index_or words i Lost) (true_at w.scene.truth i)
+  pub truly : under_way (node m.diagram w.scene f.to.0) ≡ Some f.round → (i : ℕ) → IsSwitchOf m f.from.0 i →
+      IsTrueWord (slice_index_or words i Lost) (true_at w.scene.truth i)
 
 -- So it is of each Answer.
 abbrev pub AreWordsKept : Meaning → World → Type 0
-AreWordsKept m w = (k : ℕ) (f : Frame) (s : List ℕ) → slice_get w.scene.sent k ≡ Some f → f.body ≡ Answer s → WordsKept m w k f s
+AreWordsKept m w =
+    (k : ℕ) (f : Frame) (s : List ℕ) → slice_get w.scene.sent k ≡ Some f → f.body ≡ Answer s → WordsKept m w k f s
 
 -- What an outcome names is of the station, and what is sent is lawful.
 abbrev pub OutputFits : Diagram → WorldOutcome → Type 0

@@ -4,7 +4,8 @@ ghost use Rattle.central_rules.specs.Meaning.{IsBay, bay_of as bay_at};
 ghost use Rattle.reservation_core.specs.Scene.{node, runs, IsTrueWord, end_position as end_place};
 ghost use Rattle.bay_protocol.specs.declared.values.Grant.{Grant as Granted};
 ghost use Rattle.reservation_core.specs.RoundFacts.{RoundFacts};
-ghost use Rattle.reservation_core.specs.Happens.{SenseHappens, WithdrawHappens, BeginHappens, EndHappens, CutHappens, IsOpened, IsMoving};
+ghost use Rattle.reservation_core.specs.Happens.{SenseHappens, WithdrawHappens, BeginHappens, EndHappens, CutHappens};
+ghost use Rattle.reservation_core.specs.Happens.{IsOpened, IsMoving};
 ghost use Rattle.reservation_core.specs.declared.values.TheConstants.{MESSAGES};
 
 use crate::scene::{Scene, bay_of};
@@ -71,7 +72,8 @@ impl Scene {
     // Whether the drive of the granted operation of a bay runs.
     fn is_moving(&self, station: &Station, bay: BayId) -> bool
         requires there { bay.0 < length self.now.nodes }
-        requires known { (g : Granted) → (node station.now self.now bay.0).granted ≡ Some g → g.op.switch.0 < length self.now.drives }
+        requires known { (g : Granted) → (node station.now self.now bay.0).granted ≡ Some g →
+            g.op.switch.0 < length self.now.drives }
         ensures { IsTrue result ↔ IsMoving station.now self.now bay.0 }
     {
         match self.granted_of(station, bay) {
@@ -128,7 +130,8 @@ impl Scene {
         requires there { bay_at station.now switch.0 < length self.old.nodes }
         requires truth { length self.old.truth ≡ length station.now.switches }
         requires drives { length self.old.drives ≡ length station.now.switches }
-        requires opened { runs self.old.drives switch.0 ≡ true → IsOpened (node station.now self.old (bay_at station.now switch.0)) switch.0 }
+        requires opened { runs self.old.drives switch.0 ≡ true →
+            IsOpened (node station.now self.old (bay_at station.now switch.0)) switch.0 }
         ensures { EndHappens station.now self.old switch.0 self.new result }
     {
         if !self.runs(switch) {

@@ -43,8 +43,10 @@ impl World {
     pub fn word(&self, station: &Station, switch: SwitchId) -> Dbpos
         requires known { switch.0 < length station.now.switches }
         requires there { bay_at station.now switch.0 < length self.now.scene.nodes }
-        requires words { length (node station.now self.now.scene (bay_at station.now switch.0)).words ≡ length station.now.switches }
-        ensures { result ≡ slice_index_or (node station.now self.now.scene (bay_at station.now switch.0)).words switch.0 Dbpos.Lost }
+        requires words { length (node station.now self.now.scene (bay_at station.now switch.0)).words
+            ≡ length station.now.switches }
+        ensures { result ≡ slice_index_or (node station.now self.now.scene (bay_at station.now switch.0)).words
+            switch.0 Dbpos.Lost }
     {
         let bay = bay_of(station, switch);
         match &self.scene.nodes[usize::from(bay.0)] {

@@ -1,5 +1,6 @@
 //! The nodes, the true positions, the drives and the messages of a world, and what is read of them.
-ghost use Rattle.std.specs.Prelude.{◌≡◌, ◌<◌, ◌≤◌, ◌-◌, length, drop, true, false, MatchOption, IfOk, slice_get, slice_index_or};
+ghost use Rattle.std.specs.Prelude.{◌≡◌, ◌<◌, ◌≤◌, ◌-◌, length, drop, true, false, MatchOption, IfOk, slice_get};
+ghost use Rattle.std.specs.Prelude.{slice_index_or};
 ghost use Rattle.station_graph.specs.Alike.{IsVector};
 ghost use Rattle.central_rules.specs.Meaning.{IsBay, bay_of};
 ghost use Rattle.bay_protocol.specs.Fits.{IsOwn};
@@ -33,7 +34,12 @@ impl Model for Scene {
 
     ghost Value = { Scene };
 
-    ghost view = { λ a. record { nodes = a.nodes.items; truth = a.truth.items; drives = a.drives.items; sent = a.sent.items } };
+    ghost view = { λ a. record {
+      nodes = a.nodes.items;
+      truth = a.truth.items;
+      drives = a.drives.items;
+      sent = a.sent.items;
+    } };
 }
 
 // The bay of a switch.
@@ -105,7 +111,8 @@ impl Scene {
         requires known { switch.0 < length station.now.switches }
         requires there { bay_of station.now switch.0 < length self.now.nodes }
         ensures { MatchOption result (NotGranted (node station.now self.now (bay_of station.now switch.0)) switch.0)
-            (λ op. (g : Granted) × IsOpenOperation (node station.now self.now (bay_of station.now switch.0)) switch.0 g × (op ≡ g.op)) }
+            (λ op. (g : Granted) × IsOpenOperation (node station.now self.now (bay_of station.now switch.0)) switch.0 g
+            × (op ≡ g.op)) }
     {
         match self.granted_of(station, bay_of(station, switch)) {
             Some(grant) if grant.op.switch == switch => Some(grant.op),

@@ -59,7 +59,8 @@ pub(crate) fn positions(
 ) -> Result<Vec<Position>, Memory>
     requires { IsVector station.now start.now }
     ensures count { IfOk result (λ v. length v.items ≡ length station.now.switches) }
-    ensures each { IfOk result (λ v. (i : ℕ) → i < length station.now.switches → true_at v.items i ≡ position_of (slice_index_or start.now i false)) }
+    ensures each { IfOk result (λ v. (i : ℕ) → i < length station.now.switches →
+        true_at v.items i ≡ position_of (slice_index_or start.now i false)) }
 {
     let mut truth = Vec::new(alloc);
     for i in 0..station.switch_count() {

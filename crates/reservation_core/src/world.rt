@@ -77,7 +77,8 @@ impl World {
         requires room { length self.old.scene.sent ≤ MESSAGES }
         ensures step { IfOk result (λ out. Happens (J.meaning judge.now) self.old.scene event self.new.scene out) }
         ensures words { IfOk result (λ out. KeepsWords station.now self.old self.new) }
-        ensures premise { IfOk result (λ out. (which : Broken) → (out ≡ Premise which) ↔ BreaksPremise station.now self.old.scene event which) }
+        ensures premise { IfOk result (λ out. (which : Broken) → (out ≡ Premise which) ↔
+            BreaksPremise station.now self.old.scene event which) }
         ensures unchanged { IfOk result (λ out. (which : Broken) → out ≡ Premise which → self.new ≡ self.old) }
         ensures output { IfOk result (OutputFits station.now) }
         ensures few { length self.new.scene.sent < length self.old.scene.sent + BAYS }
@@ -104,7 +105,8 @@ impl World {
         requires room { length self.old.scene.sent ≤ MESSAGES }
         ensures step { IfOk result (λ out. Happens (J.meaning judge.now) self.old.scene event self.new.scene out) }
         ensures words { IfOk result (λ out. KeepsWords station.now self.old self.new) }
-        ensures premise { IfOk result (λ out. (which : Broken) → (out ≡ Premise which) ↔ BreaksPremise station.now self.old.scene event which) }
+        ensures premise { IfOk result (λ out. (which : Broken) → (out ≡ Premise which) ↔
+            BreaksPremise station.now self.old.scene event which) }
         ensures unchanged { IfOk result (λ out. (which : Broken) → out ≡ Premise which → self.new ≡ self.old) }
         ensures output { IfOk result (OutputFits station.now) }
         ensures few { length self.new.scene.sent < length self.old.scene.sent + BAYS }

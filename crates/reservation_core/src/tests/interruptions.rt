@@ -62,7 +62,8 @@ pub(crate) const INTERRUPTIONS: &[Story] = &[
                 Says::Shows(
                     1,
                     3,
-                    b"denied 1 R2 close S/V1/Q1/QB1\nwith S/V1/Q1/QB9\nwith S/V1/Q2/QB1\nwith S/V1/Q2/QB9\nwith S/V1/Q2/QC9\nwith S/V1/Q2/E1\n",
+                    b"denied 1 R2 close S/V1/Q1/QB1\nwith S/V1/Q1/QB9\nwith S/V1/Q2/QB1\nwith S/V1/Q2/QB9\n\
+                        with S/V1/Q2/QC9\nwith S/V1/Q2/E1\n",
                     &[OVER],
                 ),
             ),
@@ -114,7 +115,8 @@ pub(crate) const INTERRUPTIONS: &[Story] = &[
                     Says::Shows(
                         1,
                         5,
-                        b"denied 2 R2 close S/V1/Q1/QA1\nwith S/V1/Q1/QB1\nwith S/V1/Q1/QB9\nwith S/V1/Q2/QB1\nwith S/V1/Q2/QB9\nwith S/V1/Q2/QC9\nwith S/V1/Q2/E1\n",
+                        b"denied 2 R2 close S/V1/Q1/QA1\nwith S/V1/Q1/QB1\nwith S/V1/Q1/QB9\nwith S/V1/Q2/QB1\n\
+                            with S/V1/Q2/QB9\nwith S/V1/Q2/QC9\nwith S/V1/Q2/E1\n",
                         &[&[5, 1, 2, 0, 0, 0, 2, 0, 0]],
                     ),
                 ),

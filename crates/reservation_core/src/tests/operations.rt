@@ -22,7 +22,8 @@ pub(crate) const OPERATIONS: &[Story] = &[
                 Says::Shows(
                     1,
                     3,
-                    b"denied 1 R2 close S/V1/Q1/QB1\nwith S/V1/Q1/QB9\nwith S/V1/Q2/QB1\nwith S/V1/Q2/QB9\nwith S/V1/Q2/QC9\nwith S/V1/Q2/E1\n",
+                    b"denied 1 R2 close S/V1/Q1/QB1\nwith S/V1/Q1/QB9\nwith S/V1/Q2/QB1\nwith S/V1/Q2/QB9\n\
+                        with S/V1/Q2/QC9\nwith S/V1/Q2/E1\n",
                     &[OVER],
                 ),
             ),

@@ -6,5 +6,7 @@ use Rattle.reservation_core.proofs.tests.expect_parts.Goals as goal
 
 pub sense_all-requires-clause-facts : goal.sense_all-requires-clause-facts
 sense_all-requires-clause-facts g c =
-    let facts = c.facts_hold_at_the_start.ensures.world c.args.start.now c.in_ok-world.world (subst (λ (d : Diagram). IsNewWorld d c.args.start.now c.in_ok-world.world) (sym c.requires.same) c.in_ok-world.ensures) in
+    let facts =
+    c.facts_hold_at_the_start.ensures.world c.args.start.now c.in_ok-world.world (subst
+    (λ (d : Diagram). IsNewWorld d c.args.start.now c.in_ok-world.world) (sym c.requires.same) c.in_ok-world.ensures) in
     subst (λ (d : Diagram). WorldFacts (by_rows d) c.in_ok-world.world) c.requires.same facts

@@ -8,4 +8,10 @@ use Rattle.reservation_core.proofs.scene.Scene.end.Goals as goal
 pub returns : goal.returns
 returns c =
     let o = c.in-Some.ensures in
-    EndHappens.arrives o.0 (sym c.runs.ensures ∙ c.if-not-runs.false) o.1 (record { world = c.put.ensures ∙ ap (λ (p : Position). moves c.args.self.now c.args.switch.0 p false) (c.end_position.ensures ∙ ap (λ (x : Op). end_position x.direction) o.2); says = refl })
+    EndHappens.arrives o.0 (sym c.runs.ensures ∙ c.if-not-runs.false) o.1 (record {
+      world =
+          c.put.ensures
+          ∙ ap (λ (p : Position). moves c.args.self.now c.args.switch.0 p false)
+          (c.end_position.ensures ∙ ap (λ (x : Op). end_position x.direction) o.2);
+      says = refl;
+    })

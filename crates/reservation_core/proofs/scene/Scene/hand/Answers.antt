@@ -10,31 +10,65 @@ use Rattle.reservation_core.proofs.ForCode.{placed, nobody, later, told, take_fe
 use Rattle.reservation_core.proofs.scene.Scene.hand.Goals as goal
 
 pub take-requires-clause-node : goal.take-requires-clause-node
-take-requires-clause-node g c = rw (← c.requires.same) ((placed (g.J.Judge.meaning c.args.judge.now) c.args.self.now c.args.bay.0 c.from.result c.self.inside.nodes.items c.index_mut.result.now c.in-Some.node c.requires.facts (rw c.requires.same c.requires.bay) (ap (λ s. s.nodes) c.self.view_is) c.from.ensures c.index_mut.ensures.value c.in-Some.is).good)
+take-requires-clause-node g c =
+    rw (← c.requires.same) ((placed (g.J.Judge.meaning c.args.judge.now) c.args.self.now c.args.bay.0 c.from.result
+    c.self.inside.nodes.items c.index_mut.result.now c.in-Some.node c.requires.facts (rw c.requires.same c.requires.bay)
+    (ap (λ s. s.nodes) c.self.view_is) c.from.ensures c.index_mut.ensures.value c.in-Some.is).good)
 
 pub take-requires-clause-fits : goal.take-requires-clause-fits
-take-requires-clause-fits g c = (placed (g.J.Judge.meaning c.args.judge.now) c.args.self.now c.args.bay.0 c.from.result c.self.inside.nodes.items c.index_mut.result.now c.in-Some.node c.requires.facts (rw c.requires.same c.requires.bay) (ap (λ s. s.nodes) c.self.view_is) c.from.ensures c.index_mut.ensures.value c.in-Some.is).fits
+take-requires-clause-fits g c =
+    (placed (g.J.Judge.meaning c.args.judge.now) c.args.self.now c.args.bay.0 c.from.result c.self.inside.nodes.items
+    c.index_mut.result.now c.in-Some.node c.requires.facts (rw c.requires.same c.requires.bay)
+    (ap (λ s. s.nodes) c.self.view_is) c.from.ensures c.index_mut.ensures.value c.in-Some.is).fits
 
 pub unreachable-requires : goal.unreachable-requires
-unreachable-requires g c = nobody (g.J.Judge.meaning c.args.judge.now) c.args.self.now c.args.bay.0 c.from.result c.self.inside.nodes.items c.index_mut.result.now c.requires.facts (rw c.requires.same c.requires.bay) (ap (λ s. s.nodes) c.self.view_is) c.from.ensures c.index_mut.ensures.value c.in-None.is
+unreachable-requires g c =
+    nobody (g.J.Judge.meaning c.args.judge.now) c.args.self.now c.args.bay.0 c.from.result c.self.inside.nodes.items
+    c.index_mut.result.now c.requires.facts (rw c.requires.same c.requires.bay) (ap (λ s. s.nodes) c.self.view_is)
+    c.from.ensures c.index_mut.ensures.value c.in-None.is
 
 pub post-requires : goal.post-requires
 post-requires g c =
-    let p = placed (g.J.Judge.meaning c.args.judge.now) c.args.self.now c.args.bay.0 c.from.result c.self.inside.nodes.items c.index_mut.result.now c.in-Some.node c.requires.facts (rw c.requires.same c.requires.bay) (ap (λ s. s.nodes) c.self.view_is) c.from.ensures c.index_mut.ensures.value c.in-Some.is in
-    let few = take_few (g.J.Judge.meaning c.args.judge.now) c.in-Some.node c.args.bytes.now (turn c.take.new.self c.in_ok-output-in-Some.output) (λ f lawful step. c.step_gives.ensures.few c.in-Some.node (Arrival f) (turn c.take.new.self c.in_ok-output-in-Some.output) p.good lawful step) (subst (λ (d : Diagram). TakeStep (g.J.Judge.meaning c.args.judge.now) d c.in-Some.node c.args.bytes.now (turn c.take.new.self c.in_ok-output-in-Some.output)) (sym c.requires.same) c.in_ok-output-in-Some.ensures.step) in
+    let p =
+    placed (g.J.Judge.meaning c.args.judge.now) c.args.self.now c.args.bay.0 c.from.result c.self.inside.nodes.items
+    c.index_mut.result.now c.in-Some.node c.requires.facts (rw c.requires.same c.requires.bay)
+    (ap (λ s. s.nodes) c.self.view_is) c.from.ensures c.index_mut.ensures.value c.in-Some.is in
+    let few =
+    take_few (g.J.Judge.meaning c.args.judge.now) c.in-Some.node c.args.bytes.now
+    (turn c.take.new.self c.in_ok-output-in-Some.output) (λ f lawful step. c.step_gives.ensures.few c.in-Some.node
+    (Arrival f) (turn c.take.new.self c.in_ok-output-in-Some.output) p.good lawful step) (subst
+    (λ (d : Diagram). TakeStep (g.J.Judge.meaning c.args.judge.now) d c.in-Some.node c.args.bytes.now
+    (turn c.take.new.self c.in_ok-output-in-Some.output)) (sym c.requires.same) c.in_ok-output-in-Some.ensures.step) in
     let bays : BAYS ≡ 64 = refl in
     omega (arith, few, bays, c.in_ok-reserve.ensures.ok, ap length c.frames.ensures)
 
 pub returns-clause-step : goal.returns-clause-step
 returns-clause-step g c =
-    let p = placed (g.J.Judge.meaning c.args.judge.now) c.args.self.now c.args.bay.0 c.from.result c.self.inside.nodes.items c.index_mut.result.now c.in-Some.node c.requires.facts (rw c.requires.same c.requires.bay) (ap (λ s. s.nodes) c.self.view_is) c.from.ensures c.index_mut.ensures.value c.in-Some.is in
+    let p =
+    placed (g.J.Judge.meaning c.args.judge.now) c.args.self.now c.args.bay.0 c.from.result c.self.inside.nodes.items
+    c.index_mut.result.now c.in-Some.node c.requires.facts (rw c.requires.same c.requires.bay)
+    (ap (λ s. s.nodes) c.self.view_is) c.from.ensures c.index_mut.ensures.value c.in-Some.is in
     record {
       turn = turn c.take.new.self c.in_ok-output-in-Some.output;
-      step = subst (λ (x : State). TakeStep (g.J.Judge.meaning c.args.judge.now) (g.J.Judge.meaning c.args.judge.now).diagram x c.args.bytes.now (turn c.take.new.self c.in_ok-output-in-Some.output)) (sym p.here) (subst (λ (d : Diagram). TakeStep (g.J.Judge.meaning c.args.judge.now) d c.in-Some.node c.args.bytes.now (turn c.take.new.self c.in_ok-output-in-Some.output)) (sym c.requires.same) c.in_ok-output-in-Some.ensures.step);
+      step =
+          subst (λ (x : State). TakeStep (g.J.Judge.meaning c.args.judge.now)
+          (g.J.Judge.meaning c.args.judge.now).diagram x c.args.bytes.now
+          (turn c.take.new.self c.in_ok-output-in-Some.output)) (sym p.here) (subst
+          (λ (d : Diagram). TakeStep (g.J.Judge.meaning c.args.judge.now) d c.in-Some.node c.args.bytes.now
+          (turn c.take.new.self c.in_ok-output-in-Some.output)) (sym c.requires.same)
+          c.in_ok-output-in-Some.ensures.step);
       world = later c.args.self.now c.args.bay.0 c.take.new.self c.in_ok-output-in-Some.output.frames _ _ _ _
-          (ap (λ (k : ℕ). set c.self.inside.nodes.items k (Some c.take.new.self)) c.from.ensures ∙ ap (λ (n : List (Option State)). set n c.args.bay.0 (Some c.take.new.self)) (ap (λ s. s.nodes) c.self.view_is))
+          (ap (λ (k : ℕ). set c.self.inside.nodes.items k (Some c.take.new.self)) c.from.ensures
+          ∙ ap (λ (n : List (Option State)). set n c.args.bay.0 (Some c.take.new.self))
+          (ap (λ s. s.nodes) c.self.view_is))
           (ap (λ s. s.truth) c.self.view_is) (ap (λ s. s.drives) c.self.view_is)
-          (c.post.ensures ∙ (ap (λ xs. xs ++ c.frames.result.now) (c.in_ok-reserve.ensures.items ∙ ap (λ s. s.sent) c.self.view_is) ∙ ap (λ xs. c.args.self.now.sent ++ xs) c.frames.ensures));
-      says = told (length c.args.self.now.sent) c.args.bay.0 (c.len.result + 1) (node (g.J.Judge.meaning c.args.judge.now).diagram c.args.self.now c.args.bay.0) c.take.new.self c.args.bay c.in_ok-output-in-Some.output refl
-          (omega (arith, c.len.ensures, ap (λ s. length s.sent) c.self.view_is, c.self.inside.sent.ok)) (rw p.here c.in_ok-output-in-Some.ensures.keep);
+          (c.post.ensures
+          ∙ (ap (λ xs. xs ++ c.frames.result.now) (c.in_ok-reserve.ensures.items ∙ ap (λ s. s.sent) c.self.view_is)
+          ∙ ap (λ xs. c.args.self.now.sent ++ xs) c.frames.ensures));
+      says =
+          told (length c.args.self.now.sent) c.args.bay.0 (c.len.result + 1)
+          (node (g.J.Judge.meaning c.args.judge.now).diagram c.args.self.now c.args.bay.0) c.take.new.self c.args.bay
+          c.in_ok-output-in-Some.output refl
+          (omega (arith, c.len.ensures, ap (λ s. length s.sent) c.self.view_is, c.self.inside.sent.ok))
+          (rw p.here c.in_ok-output-in-Some.ensures.keep);
     }
