@@ -13,11 +13,14 @@ use Rattle.interlock_cli.proofs.Cuts.{cut_stands}
 
 module _ (held : List ℕ → Option (List ℕ)) where
   -- the drawing whose first bytes were read
-  pub drawn : (name v : List ℕ) (r : Result Diagram End) → IfSome (held name) (λ b. v ≡ take 8388609 b) → IfOk r (λ d. Stands v (Ok d)) → IfOk r (Drawn held (File name))
-  drawn name v (Ok d) first stands = elim (held name) as (λ o. IfSome o (λ b. v ≡ take 8388609 b) → (content : List ℕ) × IfSome o (λ h. h ≡ content) × Stands content (Ok d)) [
-    | None ↦ λ first. (v, tt, stands)
-    | Some b ↦ λ first. (b, refl, cut_stands 8388609 b v (Ok d) refl first stands)
-  ] first
+  pub drawn : (name v : List ℕ) (r : Result Diagram End) → IfSome (held name) (λ b. v ≡ take 8388609 b) →
+      IfOk r (λ d. Stands v (Ok d)) → IfOk r (Drawn held (File name))
+  drawn name v (Ok d) first stands =
+      elim (held name) as (λ o. IfSome o (λ b. v ≡ take 8388609 b) →
+      (content : List ℕ) × IfSome o (λ h. h ≡ content) × Stands content (Ok d)) [
+        | None ↦ λ first. (v, tt, stands)
+        | Some b ↦ λ first. (b, refl, cut_stands 8388609 b v (Ok d) refl first stands)
+      ] first
   drawn name v (Err end) first stands = tt
 
   -- it is accepted where its station keeps the limits
@@ -25,8 +28,11 @@ module _ (held : List ℕ → Option (List ℕ)) where
   drawn_given origin d (content, is, stands) keeps = (content, is, (stands, keeps))
 
   -- and refused where its station passes one
-  pub drawn_fails : (before after : List ℕ → ℕ) (origin : Origin) (d : Diagram) (end : End) → Drawn held origin d → BuildFails d end → Fails held before after origin Drawing end
+  pub drawn_fails : (before after : List ℕ → ℕ) (origin : Origin) (d : Diagram) (end : End) → Drawn held origin d →
+      BuildFails d end → Fails held before after origin Drawing end
   drawn_fails before after origin d e.Memory drawing fails = tt
-  drawn_fails before after origin d (e.Many part step) (content, is, stands) (station, past) = (content, is, record { diagram = d; stands = stands; station = station; past = past })
-  drawn_fails before after origin d (e.Wide bay) (content, is, stands) (station, past) = (content, is, record { diagram = d; stands = stands; station = station; past = past })
+  drawn_fails before after origin d (e.Many part step) (content, is, stands) (station, past) =
+      (content, is, record { diagram = d; stands = stands; station = station; past = past })
+  drawn_fails before after origin d (e.Wide bay) (content, is, stands) (station, past) =
+      (content, is, record { diagram = d; stands = stands; station = station; past = past })
   drawn_fails before after origin d end drawing fails = absurd fails

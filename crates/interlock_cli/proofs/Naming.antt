@@ -1,12 +1,15 @@
 -- Words that are of no row name no command, so that what is read is what the words name.
-use Rattle.std.proofs.Common.{◌≡◌, ◌∙◌, ◌==◌, ap, sym, refl, ℕ, false, List, [], ◌∷◌, codes, length, Option, Some, None, inl, inr}
+use Rattle.std.proofs.Common.{◌≡◌, ◌∙◌, ◌==◌, ap, sym, refl, ℕ, false, List, [], ◌∷◌, codes, length, Option, Some, None}
+use Rattle.std.proofs.Common.{inl, inr}
 use Rattle.std.specs.Prelude.{if◌then◌else◌}
 use Rattle.std.specs.List.{list_all}
 use Rattle.std.specs.Str.{bytes_eq}
 use Rattle.std.proofs.lemmas.Bool.{cases_Bool}
 use Rattle.std.proofs.lemmas.Slice.Eq.{bytes_eq-Decides}
 use Rattle.command_words.specs.Rows.{is_plain, is_row, row_of, written}
-use Rattle.interlock_cli.specs.Commands.{Command, one_word, two_words, three_words, four_words, named, command_of, check_of, explain_of, state_of, order_of, replay_of, audit_of, node_of, make_of, trips_of, plan_of, compile_of, work_of}
+use Rattle.interlock_cli.specs.Commands.{Command, one_word, two_words, three_words, four_words, named, command_of}
+use Rattle.interlock_cli.specs.Commands.{check_of, explain_of, state_of, order_of, replay_of, audit_of, node_of}
+use Rattle.interlock_cli.specs.Commands.{make_of, trips_of, plan_of, compile_of, work_of}
 
 abbrev Text : Type 0
 Text = List ℕ
@@ -44,7 +47,8 @@ four names (a ∷ b ∷ c ∷ d ∷ e ∷ rest) other = refl
 module _ (name : Text) (rest : List Text) (none : is_row (name ∷ rest) ≡ false) where
   -- they are not those of this row, nor of the others
   row : (key : Text) (n : ℕ) (names : List Text → Option Command) (others : Option Command)
-      → row_of key ≡ Some (key, n) → Counts n names → others ≡ None → (if bytes_eq name key then names rest else others) ≡ None
+      → row_of key ≡ Some (key, n) → Counts n names → others ≡ None →
+      (if bytes_eq name key then names rest else others) ≡ None
   row key n names others is counts later = elim (cases_Bool (bytes_eq name key)) [
     | inl holds ↦
         let same : name ≡ key = (bytes_eq-Decides name key).0 holds in

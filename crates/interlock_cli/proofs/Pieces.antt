@@ -7,7 +7,8 @@ use Rattle.interlock_cli.specs.Lines.{fault_line, labelled}
 use Rattle.interlock_cli.specs.Pieces.{label_of, digits_of}
 
 -- the two pieces of a number
-joined : (label : List ℕ) (n : Option ℕ) (rest : List ℕ) → label_of label n ++ (digits_of n ++ rest) ≡ labelled label n ++ rest
+joined : (label : List ℕ) (n : Option ℕ) (rest : List ℕ) →
+    label_of label n ++ (digits_of n ++ rest) ≡ labelled label n ++ rest
 joined label None rest = refl
 joined label (Some n) rest = sym (append_assoc label (decimal n) rest)
 
@@ -26,13 +27,34 @@ pub record ArePieces (n : ℕ) (at what many : Option ℕ) (head digits a1 a2 w1
   pub many_digits : m2 ≡ digits_of many
   pub last_is : last ≡ codes "\n"
 
-whole : (h d l a w m : List ℕ) (at what many : Option ℕ) → h ++ (d ++ (label_of a at ++ (digits_of at ++ (label_of w what ++ (digits_of what ++ (label_of m many ++ (digits_of many ++ (l ++ [])))))))) ≡ h ++ d ++ labelled a at ++ labelled w what ++ labelled m many ++ l
+whole : (h d l a w m : List ℕ) (at what many : Option ℕ) →
+    h
+    ++ (d
+    ++ (label_of a at
+    ++ (digits_of at ++ (label_of w what ++ (digits_of what ++ (label_of m many ++ (digits_of many ++ (l ++ []))))))))
+    ≡ h ++ d ++ labelled a at ++ labelled w what ++ labelled m many ++ l
 whole h d l a w m at what many =
-    rw (joined m many (l ++ []), joined w what (labelled m many ++ (l ++ [])), joined a at (labelled w what ++ (labelled m many ++ (l ++ []))))
+    rw (
+      joined m many (l ++ []),
+      joined w what (labelled m many ++ (l ++ [])),
+      joined a at (labelled w what ++ (labelled m many ++ (l ++ []))),
+    )
     (nested h d (labelled a at) (labelled w what) (labelled m many) l)
 
-pub line_is : (n : ℕ) (at what many : Option ℕ) (head digits a1 a2 w1 w2 m1 m2 last : List ℕ) → ArePieces n at what many head digits a1 a2 w1 w2 m1 m2 last
+pub line_is : (n : ℕ) (at what many : Option ℕ) (head digits a1 a2 w1 w2 m1 m2 last : List ℕ) →
+    ArePieces n at what many head digits a1 a2 w1 w2 m1 m2 last
     → head ++ (digits ++ (a1 ++ (a2 ++ (w1 ++ (w2 ++ (m1 ++ (m2 ++ (last ++ [])))))))) ≡ fault_line n at what many
 line_is n at what many head digits a1 a2 w1 w2 m1 m2 last p =
-    rw (p.head_is, p.digits_is, p.at_label, p.at_digits, p.what_label, p.what_digits, p.many_label, p.many_digits, p.last_is)
-    (whole (codes "interlock: station refused ") (decimal n) (codes "\n") (codes " at ") (codes " limit ") (codes " count ") at what many)
+    rw (
+      p.head_is,
+      p.digits_is,
+      p.at_label,
+      p.at_digits,
+      p.what_label,
+      p.what_digits,
+      p.many_label,
+      p.many_digits,
+      p.last_is,
+    )
+    (whole (codes "interlock: station refused ") (decimal n) (codes "\n") (codes " at ") (codes " limit ")
+    (codes " count ") at what many)

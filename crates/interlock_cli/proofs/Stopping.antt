@@ -2,7 +2,8 @@
 use Rattle.std.proofs.Common.{ℕ, List, [], Option, Some, None, inl, inr, refl, sym, subst}
 use Rattle.std.specs.Io.KnownBytes.{Appends, Keeps}
 use Rattle.std.proofs.lemmas.List.{append-nil}
-use Rattle.interlock_cli.specs.Formats.{Format, Drawing, Positions, CertainPositions, OrderOf, LogOf, TripLogOf, BlocksOf, SwitchOf, BayOf, Refuses}
+use Rattle.interlock_cli.specs.Formats.{Format, Drawing, Positions, CertainPositions, OrderOf, LogOf, TripLogOf}
+use Rattle.interlock_cli.specs.Formats.{BlocksOf, SwitchOf, BayOf, Refuses}
 use Rattle.interlock_cli.specs.Form.{Form, Write, Take, Serve, Says, Gives, Stops}
 use Rattle.interlock_cli.specs.Commands.{Command, Make, form_of}
 use Rattle.interlock_cli.specs.Ends.{Call, FormEnds, Wrote, Unasked, Unread, Ends}
@@ -72,26 +73,33 @@ keeps_same None = tt
 keeps_same (Some x) = refl
 
 -- a form that ends so before it writes or serves
-pub stops_end : (form : Form) (x : Call) (end : End) → Appends x.before.out x.after.out [] → Stops form x.held x.reads_before x.reads_after end → FormEnds form x end
-stops_end form x (e.Written outcome) nothing stops = absurd (stops_unwritten x.held x.reads_before x.reads_after form outcome stops)
+pub stops_end : (form : Form) (x : Call) (end : End) → Appends x.before.out x.after.out [] →
+    Stops form x.held x.reads_before x.reads_after end → FormEnds form x end
+stops_end form x (e.Written outcome) nothing stops =
+    absurd (stops_unwritten x.held x.reads_before x.reads_after form outcome stops)
 stops_end form x e.WriteFault nothing stops = absurd (stops_unfailed x.held x.reads_before x.reads_after form stops)
 stops_end form x e.Usage nothing stops = absurd (stops_used x.held x.reads_before x.reads_after form stops)
 stops_end form x end nothing stops = (stops, nothing)
 
 -- what a form has to write was written, or a front of it
-pub wrote_end : (form : Form) (x : Call) (output : Output) (end : End) → Gives form x.held output → Wrote output x.before.writes x.after.writes x.before.out x.after.out end → FormEnds form x end
-wrote_end form x output (e.Written outcome) gives (is, wrote) = (output.text, subst (λ (o : Outcome). Says form x.held o output.text) (sym is) gives, wrote)
+pub wrote_end : (form : Form) (x : Call) (output : Output) (end : End) → Gives form x.held output →
+    Wrote output x.before.writes x.after.writes x.before.out x.after.out end → FormEnds form x end
+wrote_end form x output (e.Written outcome) gives (is, wrote) =
+    (output.text, subst (λ (o : Outcome). Says form x.held o output.text) (sym is) gives, wrote)
 wrote_end form x output e.WriteFault gives (rose, front) = (rose, output.outcome, output.text, gives, front)
 wrote_end form x output end gives wrote = absurd wrote
 
 -- a command that ends for memory before it writes or serves
-memory_stops : (held : List ℕ → Option (List ℕ)) (before after : List ℕ → ℕ) (command : Command) → Stops (form_of command) held before after e.Memory
+memory_stops : (held : List ℕ → Option (List ℕ)) (before after : List ℕ → ℕ) (command : Command) →
+    Stops (form_of command) held before after e.Memory
 memory_stops held before after (Make number text) = refl
 memory_stops held before after command = inl tt
 
 -- a call whose words are not read as a command
-pub unread_ends : (command : Option Command) (x : Call) (end : End) → Appends x.before.out x.after.out [] → Unasked x → Unread command end → Ends command x end
+pub unread_ends : (command : Option Command) (x : Call) (end : End) → Appends x.before.out x.after.out [] → Unasked x →
+    Unread command end → Ends command x end
 unread_ends None x end nothing unasked unread = (unread, nothing)
 unread_ends (Some command) x e.Usage nothing unasked unread = cc unread
-unread_ends (Some command) x e.Memory nothing unasked unread = inl ((memory_stops x.held x.reads_before x.reads_after command, nothing), unasked)
+unread_ends (Some command) x e.Memory nothing unasked unread =
+    inl ((memory_stops x.held x.reads_before x.reads_after command, nothing), unasked)
 unread_ends (Some command) x end nothing unasked unread = absurd unread

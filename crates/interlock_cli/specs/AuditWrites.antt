@@ -11,4 +11,5 @@ use Rattle.interlock_cli.specs.declared.end.Outcome.{Outcome}
 -- the text of what is found of each of the equations; one that is loose or strict is a difference
 abbrev pub AuditWrites : Diagram → List Equation → Outcome → List ℕ → Type 0
 AuditWrites d es outcome text =
-    (findings : List Finding) × AreFindings d es findings × (outcome ≡ outcome_of (some_differ findings)) × (text ≡ audit_text d findings)
+    (findings : List Finding) × AreFindings d es findings × (outcome ≡ outcome_of (some_differ findings))
+    × (text ≡ audit_text d findings)

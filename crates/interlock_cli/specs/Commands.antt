@@ -1,5 +1,6 @@
 -- The commands: one constructor, one row of words and one form for each.
-use Rattle.std.specs.Prelude.{◌≡◌, ℕ, List, [], ◌∷◌, Option, Some, None, option_and_then, option_map, codes, if◌then◌else◌}
+use Rattle.std.specs.Prelude.{◌≡◌, ℕ, List, [], ◌∷◌, Option, Some, None, option_and_then, option_map, codes}
+use Rattle.std.specs.Prelude.{if◌then◌else◌}
 use Rattle.std.specs.List.{list_all}
 use Rattle.std.specs.Str.{bytes_eq}
 use Rattle.ilk_base.specs.declared.words.Direction.{Direction}
@@ -11,7 +12,8 @@ use Rattle.station_make.specs.DrawingText.{station_text}
 use Rattle.station_make.specs.EventsText.{events_text}
 use Rattle.station_make.specs.PositionsText.{positions_text}
 use Rattle.station_make.specs.Words.{feeders_of, made_text, text_named}
-use Rattle.interlock_cli.specs.Formats.{Drawing, Positions, CertainPositions, OrderOf, LogOf, TripLogOf, BlocksOf, SwitchOf, BayOf}
+use Rattle.interlock_cli.specs.Formats.{Drawing, Positions, CertainPositions, OrderOf, LogOf, TripLogOf, BlocksOf}
+use Rattle.interlock_cli.specs.Formats.{SwitchOf, BayOf}
 use Rattle.interlock_cli.specs.Form.{Form, Write, Take, Serve, File, Word}
 use Rattle.interlock_cli.specs.CheckText.{IsCheckText}
 use Rattle.interlock_cli.specs.ExplainText.{IsExplainText}
@@ -54,7 +56,8 @@ pub data Command : Type 0 where
 
 -- the direction that a word names
 abbrev pub direction_of : List ℕ → Option Direction
-direction_of word = if bytes_eq word (codes "open") then Some ToOff else (if bytes_eq word (codes "close") then Some ToOn else None)
+direction_of word =
+    if bytes_eq word (codes "open") then Some ToOff else (if bytes_eq word (codes "close") then Some ToOn else None)
 
 -- one word, and what it names; and two, three or four
 abbrev pub one_word : (List ℕ → Option Command) → List (List ℕ) → Option Command
@@ -82,7 +85,9 @@ check_of = two_words (λ station positions. Some (Check station positions))
 
 -- the words behind `explain`
 abbrev pub explain_of : List (List ℕ) → Option Command
-explain_of = four_words (λ station positions direction switch. option_map (λ d. Explain station positions d switch) (direction_of direction))
+explain_of =
+    four_words (λ station positions direction switch. option_map (λ d. Explain station positions d switch)
+    (direction_of direction))
 
 -- the words behind `state`
 abbrev pub state_of : List (List ℕ) → Option Command
@@ -118,7 +123,8 @@ plan_of = one_word (λ station. Some (Plan station))
 
 -- the words behind `make`
 abbrev pub make_of : List (List ℕ) → Option Command
-make_of = two_words (λ number text. option_and_then (λ n. option_map (λ t. Make n t) (text_named text)) (feeders_of number))
+make_of =
+    two_words (λ number text. option_and_then (λ n. option_map (λ t. Make n t) (text_named text)) (feeders_of number))
 
 -- the words behind `work`
 abbrev pub work_of : List (List ℕ) → Option Command
@@ -153,12 +159,14 @@ IsDone IsText outcome text = (outcome ≡ Done) × IsText text
 -- what each command is given, in the order in which it is judged, and what it writes
 abbrev pub form_of : Command → Form
 form_of (Check station positions) =
-    Take (File station) Drawing (λ d. Take (File positions) (Positions d) (λ words. Write (IsDone (IsCheckText d words))))
+    Take (File station) Drawing
+    (λ d. Take (File positions) (Positions d) (λ words. Write (IsDone (IsCheckText d words))))
 form_of (Explain station positions direction switch) =
     Take (File station) Drawing (λ d. Take (File positions) (Positions d) (λ words.
     Take (Word switch) (SwitchOf d) (λ path. Write (IsDone (IsExplainText d words direction path)))))
 form_of (State station positions) =
-    Take (File station) Drawing (λ d. Take (File positions) (Positions d) (λ words. Write (IsDone (IsStateText d words))))
+    Take (File station) Drawing
+    (λ d. Take (File positions) (Positions d) (λ words. Write (IsDone (IsStateText d words))))
 form_of (Order station positions order) =
     Take (File station) Drawing (λ d. Take (File positions) (CertainPositions d) (λ start.
     Take (File order) (OrderOf d) (λ steps. Write (OrderWrites d start steps))))

@@ -28,13 +28,15 @@ abbrev pub IsAnswered : Form → (List ℕ → Option (List ℕ)) → Option (Li
 IsAnswered (Write writes) held input = ⊤
 IsAnswered (Serve d b) held input = (content : List ℕ) × (input ≡ Some content) × IsInput d b content
 IsAnswered (Take origin f next) held input =
-    (content : List ℕ) × IsTold held origin content × IsAcceptable f content × ((value : Value f) → Accepts f content value → IsAnswered (next value) held input)
+    (content : List ℕ) × IsTold held origin content × IsAcceptable f content
+    × ((value : Value f) → Accepts f content value → IsAnswered (next value) held input)
 
 -- no count rose of what the form reads
 abbrev pub ReadsCalm : Form → Call → Type 0
 ReadsCalm (Write writes) c = ⊤
 ReadsCalm (Serve d b) c = ¬ Rose c.before.reads c.after.reads
-ReadsCalm (Take origin f next) c = (¬ ReadRose c.reads_before c.reads_after origin) × ((value : Value f) → ReadsCalm (next value) c)
+ReadsCalm (Take origin f next) c =
+    (¬ ReadRose c.reads_before c.reads_after origin) × ((value : Value f) → ReadsCalm (next value) c)
 
 -- the call goes through: it ends as its text says, or has served the whole input; or it wants memory
 abbrev pub GoesThrough : Form → Call → Status → Type 0
@@ -45,5 +47,7 @@ GoesThrough form c status =
 -- where all is told, accepted and calm, the call goes through
 abbrev pub Completes : Status → Option Command → Call → Type 0
 Completes status None c = ⊤
-Completes status (Some command) c = IsAnswered (form_of command) c.held c.before.input → ReadsCalm (form_of command) c → ¬ Rose c.before.writes c.after.writes
+Completes status (Some command) c =
+    IsAnswered (form_of command) c.held c.before.input → ReadsCalm (form_of command) c →
+    ¬ Rose c.before.writes c.after.writes
     → GoesThrough (form_of command) c status

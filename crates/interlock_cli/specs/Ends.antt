@@ -29,9 +29,11 @@ pub record Call : Type 0 where
 -- `out` takes nothing before all is accepted; then the text, or after a fault of the write a front of it
 -- that is not all
 abbrev pub FormEnds : Form → Call → End → Type 0
-FormEnds form c (e.Written outcome) = (text : List ℕ) × Says form c.held outcome text × Appends c.before.out c.after.out text
+FormEnds form c (e.Written outcome) =
+    (text : List ℕ) × Says form c.held outcome text × Appends c.before.out c.after.out text
 FormEnds form c e.WriteFault =
-    Rose c.before.writes c.after.writes × (outcome : Outcome) × (text : List ℕ) × Says form c.held outcome text × AppendsFront c.before.out c.after.out text
+    Rose c.before.writes c.after.writes × (outcome : Outcome) × (text : List ℕ) × Says form c.held outcome text
+    × AppendsFront c.before.out c.after.out text
 FormEnds form c e.Usage = ⊥
 FormEnds form c end = Stops form c.held c.reads_before c.reads_after end × Appends c.before.out c.after.out []
 
@@ -73,7 +75,8 @@ abbrev pub WroteLine : Option (List ℕ) → Option (List ℕ) → ℕ → ℕ �
 WroteLine old new before after line = Appends old new line ⊎ (Rose before after × AppendsFront old new line)
 
 -- the call answers the status of an end that has its cause, and the line of this end went to `err`
-pub record Answers (status : Status) (command : Option Command) (c : Call) (err_old err_new : Option (List ℕ)) (err_before err_after : ℕ) : Type 0 where
+pub record Answers (status : Status) (command : Option Command) (c : Call) (err_old err_new : Option (List ℕ))
+    (err_before err_after : ℕ) : Type 0 where
   pub end : End
   pub status_is : status ≡ status_of end
   pub ends : Ends command c end

@@ -52,7 +52,8 @@ Fails held before after origin f end = Refused held origin f end
 abbrev pub Says : Form → (List ℕ → Option (List ℕ)) → Outcome → List ℕ → Type 0
 Says (Write writes) held outcome text = writes outcome text
 Says (Serve d b) held outcome text = ⊥
-Says (Take origin f next) held outcome text = (value : Value f) × Given held origin f value × Says (next value) held outcome text
+Says (Take origin f next) held outcome text =
+    (value : Value f) × Given held origin f value × Says (next value) held outcome text
 
 -- the same, of what a call has to write
 abbrev pub Gives : Form → (List ℕ → Option (List ℕ)) → Output → Type 0
@@ -63,7 +64,8 @@ abbrev pub Stops : Form → (List ℕ → Option (List ℕ)) → (List ℕ → �
 Stops (Write writes) held before after end = end ≡ e.Memory
 Stops (Serve d b) held before after end = ⊥
 Stops (Take origin f next) held before after end =
-    Fails held before after origin f end ⊎ ((value : Value f) × Given held origin f value × Stops (next value) held before after end)
+    Fails held before after origin f end
+    ⊎ ((value : Value f) × Given held origin f value × Stops (next value) held before after end)
 
 -- the form asks for the input
 abbrev pub AsksInput : Form → Type 0

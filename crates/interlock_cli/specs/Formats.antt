@@ -65,7 +65,8 @@ NamesBay d path b = (slice_get d.part_paths b ≡ Some path) × IsBay d b
 abbrev pub Accepts : (f : Format) → List ℕ → Value f → Type 0
 Accepts Drawing content d = Stands content (Ok d) × KeepsLimits d
 Accepts (Positions d) content words = IsAccepted d.switch_paths content words
-Accepts (CertainPositions d) content v = (words : List Dbpos) × IsAccepted d.switch_paths content words × AreWordsOf v words
+Accepts (CertainPositions d) content v =
+    (words : List Dbpos) × IsAccepted d.switch_paths content words × AreWordsOf v words
 Accepts (OrderOf d) content steps = IsOrder d content steps
 Accepts (LogOf d) content events = IsStation d × IsLog d content events
 Accepts (TripLogOf d) content events = IsStation d × IsTripLog d content events
@@ -76,7 +77,8 @@ Accepts (BayOf d) content b = NamesBay d content b
 -- the positions are accepted, and a word of them leaves a position open: 14, in no line
 abbrev pub IsUnsureRefusal : Diagram → List ℕ → InputRefusal → Type 0
 IsUnsureRefusal d content refusal =
-    (words : List Dbpos) × IsAccepted d.switch_paths content words × IsUnsure words × (refusal ≡ record { number = 14; line = 0 })
+    (words : List Dbpos) × IsAccepted d.switch_paths content words × IsUnsure words
+    × (refusal ≡ record { number = 14; line = 0 })
 
 -- the drawing is that of a station, which is refused since it passes a limit of its graphs
 pub record PassesLimit (content : List ℕ) (refusal : BuildRefusal) : Type 0 where
@@ -91,11 +93,14 @@ Refuses Drawing content (e.Station refusal) = Stands content (Err refusal)
 Refuses Drawing content (e.Many part step) = PassesLimit content (Many part step)
 Refuses Drawing content (e.Wide bay) = PassesLimit content (Wide bay)
 Refuses (Positions d) content (e.Input refusal) = IsRefusedWith d.switch_paths content refusal
-Refuses (CertainPositions d) content (e.Input refusal) = IsRefusedWith d.switch_paths content refusal ⊎ IsUnsureRefusal d content refusal
+Refuses (CertainPositions d) content (e.Input refusal) =
+    IsRefusedWith d.switch_paths content refusal ⊎ IsUnsureRefusal d content refusal
 Refuses (OrderOf d) content (e.Input refusal) = IsOrderFault d content refusal
 Refuses (LogOf d) content (e.Input refusal) = IsLogFault d content refusal
 Refuses (TripLogOf d) content (e.Input refusal) = IsTripLogFault d content refusal
 Refuses (BlocksOf d) content (e.Input refusal) = IsBlocksFault d content refusal
-Refuses (SwitchOf d) content (e.Input refusal) = (¬ Contains d.switch_paths content) × (refusal.number ≡ 11) × (refusal.line ≡ 0)
-Refuses (BayOf d) content (e.Input refusal) = ((b : ℕ) → ¬ NamesBay d content b) × (refusal.number ≡ 11) × (refusal.line ≡ 0)
+Refuses (SwitchOf d) content (e.Input refusal) =
+    (¬ Contains d.switch_paths content) × (refusal.number ≡ 11) × (refusal.line ≡ 0)
+Refuses (BayOf d) content (e.Input refusal) =
+    ((b : ℕ) → ¬ NamesBay d content b) × (refusal.number ≡ 11) × (refusal.line ≡ 0)
 Refuses _ content _ = ⊥

@@ -58,7 +58,8 @@ station_line refusal = numbered_line (number refusal) refusal
 abbrev pub outcome_line : Outcome → List ℕ
 outcome_line o.Done = []
 outcome_line o.Differs = []
-outcome_line (o.Premise number line) = codes "interlock: premise " ++ decimal number ++ codes " line " ++ decimal line ++ codes "\n"
+outcome_line (o.Premise number line) =
+    codes "interlock: premise " ++ decimal number ++ codes " line " ++ decimal line ++ codes "\n"
 
 -- the line on `err`
 abbrev pub line_of : End → List ℕ
@@ -67,8 +68,10 @@ line_of e.Usage = codes "interlock: usage\n"
 line_of e.ReadFault = codes "interlock: read fault\n"
 line_of e.WriteFault = codes "interlock: write fault\n"
 line_of (e.Station refusal) = station_line refusal
-line_of (e.Many part step) = codes "interlock: station refused 16 part " ++ decimal part.0 ++ codes " step " ++ decimal step ++ codes "\n"
+line_of (e.Many part step) =
+    codes "interlock: station refused 16 part " ++ decimal part.0 ++ codes " step " ++ decimal step ++ codes "\n"
 line_of (e.Wide bay) = codes "interlock: station refused 17 bay " ++ decimal bay.0 ++ codes "\n"
-line_of (e.Input refusal) = codes "interlock: input refused " ++ decimal refusal.number ++ codes " line " ++ decimal refusal.line ++ codes "\n"
+line_of (e.Input refusal) =
+    codes "interlock: input refused " ++ decimal refusal.number ++ codes " line " ++ decimal refusal.line ++ codes "\n"
 line_of e.Long = codes "interlock: input too long\n"
 line_of e.Memory = memory_line

@@ -15,4 +15,5 @@ outcome_of true = Differs
 -- the text of the order from this start; a step that is denied or idle is a difference
 abbrev pub OrderWrites : Diagram → List Bool → List Op → Outcome → List ℕ → Type 0
 OrderWrites d start steps outcome text =
-    (report : OrderReport) × IsOrderText d start steps report × (outcome ≡ outcome_of report.differs) × (text ≡ report.text)
+    (report : OrderReport) × IsOrderText d start steps report × (outcome ≡ outcome_of report.differs)
+    × (text ≡ report.text)

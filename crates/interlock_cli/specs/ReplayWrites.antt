@@ -31,4 +31,5 @@ pub record Replays (d : Diagram) (log : List LogEvent) (r : Replayed) : Type 0 w
 
 -- the text of the report; where a premise is broken, the call ends so
 abbrev pub ReplayWrites : Diagram → List LogEvent → Outcome → List ℕ → Type 0
-ReplayWrites d log outcome text = (r : Replayed) × Replays d log r × (outcome ≡ ended r.broken) × (text ≡ report_text d r)
+ReplayWrites d log outcome text =
+    (r : Replayed) × Replays d log r × (outcome ≡ ended r.broken) × (text ≡ report_text d r)

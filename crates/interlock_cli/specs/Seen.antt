@@ -1,7 +1,8 @@
 -- What a contract sees of a command.
 use Rattle.interlock_cli.specs.Commands as c
 use Rattle.interlock_cli.specs.declared.words.Command.{Command}
-use Rattle.interlock_cli.specs.declared.words.Command.TheVariants.{Check, Explain, State, Order, Replay, Audit, Node, Compile, Trips, Plan, Make, Work}
+use Rattle.interlock_cli.specs.declared.words.Command.TheVariants.{Check, Explain, State, Order, Replay, Audit, Node}
+use Rattle.interlock_cli.specs.declared.words.Command.TheVariants.{Compile, Trips, Plan, Make, Work}
 
 -- a command, as the definitions name it
 abbrev pub seen : Command → c.Command

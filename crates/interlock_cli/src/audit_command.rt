@@ -42,7 +42,8 @@ pub(crate) fn audit<F: Shelf>(
     shelf: &mut F,
 ) -> Result<Output, End>
     ensures ok { IfOk result (Gives (form_of (Audit station.now equations.now)) (F.held shelf.old)) }
-    ensures err { IfErr result (Stops (form_of (Audit station.now equations.now)) (F.held shelf.old) (F.faults shelf.old) (F.faults shelf.new)) }
+    ensures err { IfErr result (Stops (form_of (Audit station.now equations.now)) (F.held shelf.old)
+        (F.faults shelf.old) (F.faults shelf.new)) }
 {
     let station = match load_drawing(alloc, station, shelf) {
         Ok(station) => station,

@@ -18,7 +18,8 @@ pub(crate) fn check<F: Shelf>(
     shelf: &mut F,
 ) -> Result<Output, End>
     ensures ok { IfOk result (Gives (form_of (Check station.now positions.now)) (F.held shelf.old)) }
-    ensures err { IfErr result (Stops (form_of (Check station.now positions.now)) (F.held shelf.old) (F.faults shelf.old) (F.faults shelf.new)) }
+    ensures err { IfErr result (Stops (form_of (Check station.now positions.now)) (F.held shelf.old)
+        (F.faults shelf.old) (F.faults shelf.new)) }
 {
     let station = match load_drawing(alloc, station, shelf) {
         Ok(station) => station,

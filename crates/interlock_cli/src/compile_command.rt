@@ -13,7 +13,8 @@ use std::alloc::Global;
 #[tactic(auto, using(crate::proofs::Later::fails_later, crate::proofs::Drawings::drawn_given, crate::proofs::Drawings::drawn_fails))]
 pub(crate) fn compile<F: Shelf>(alloc: Global, station: &str, shelf: &mut F) -> Result<Output, End>
     ensures ok { IfOk result (Gives (form_of (Compile station.now)) (F.held shelf.old)) }
-    ensures err { IfErr result (Stops (form_of (Compile station.now)) (F.held shelf.old) (F.faults shelf.old) (F.faults shelf.new)) }
+    ensures err { IfErr result (Stops (form_of (Compile station.now)) (F.held shelf.old) (F.faults shelf.old)
+        (F.faults shelf.new)) }
 {
     let station = match load_drawing(alloc, station, shelf) {
         Ok(station) => station,

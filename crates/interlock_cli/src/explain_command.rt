@@ -19,8 +19,10 @@ pub(crate) fn explain<F: Shelf>(
     path: &str,
     shelf: &mut F,
 ) -> Result<Output, End>
-    ensures ok { IfOk result (Gives (form_of (Explain station.now positions.now direction path.now)) (F.held shelf.old)) }
-    ensures err { IfErr result (Stops (form_of (Explain station.now positions.now direction path.now)) (F.held shelf.old) (F.faults shelf.old) (F.faults shelf.new)) }
+    ensures ok { IfOk result (Gives (form_of (Explain station.now positions.now direction path.now))
+        (F.held shelf.old)) }
+    ensures err { IfErr result (Stops (form_of (Explain station.now positions.now direction path.now))
+        (F.held shelf.old) (F.faults shelf.old) (F.faults shelf.new)) }
 {
     let station = match load_drawing(alloc, station, shelf) {
         Ok(station) => station,

@@ -9,7 +9,8 @@ ghost use Rattle.switching_orders.specs.OrderRuling.{AreOperations};
 ghost use Rattle.equation_audit.specs.Equations.{AreOfStation};
 ghost use Rattle.double_points.specs.Words.{AreWords};
 ghost use Rattle.central_rules.specs.Meaning.{IsBay};
-ghost use Rattle.interlock_cli.specs.Formats.{Accepts, Drawing, Positions, CertainPositions, OrderOf, BlocksOf, SwitchOf, BayOf};
+ghost use Rattle.interlock_cli.specs.Formats.{Accepts, Drawing, Positions, CertainPositions, OrderOf, BlocksOf};
+ghost use Rattle.interlock_cli.specs.Formats.{SwitchOf, BayOf};
 ghost use Rattle.interlock_cli.specs.Form.{Given, Fails, File};
 ghost use Rattle.interlock_cli.specs.Judging.{Drawn, BuildFails, ReadFails, JudgeFails, Onward};
 
@@ -145,7 +146,8 @@ pub(crate) fn load_drawing<F: Shelf>(
     shelf: &mut F,
 ) -> Result<Station, End>
     ensures ok { IfOk result (Drawn (F.held shelf.old) (File name.now)) }
-    ensures err { IfErr result (Fails (F.held shelf.old) (F.faults shelf.old) (F.faults shelf.new) (File name.now) Drawing) }
+    ensures err { IfErr result (Fails (F.held shelf.old) (F.faults shelf.old) (F.faults shelf.new)
+        (File name.now) Drawing) }
     ensures onward { Onward (F.held shelf.old) (F.held shelf.new) (F.faults shelf.old) (F.faults shelf.new) }
 {
     let bytes = match read_file(name, shelf) {
@@ -163,7 +165,8 @@ pub(crate) fn load_station<F: Shelf>(
     shelf: &mut F,
 ) -> Result<Station, End>
     ensures ok { IfOk result (Given (F.held shelf.old) (File name.now) Drawing) }
-    ensures err { IfErr result (Fails (F.held shelf.old) (F.faults shelf.old) (F.faults shelf.new) (File name.now) Drawing) }
+    ensures err { IfErr result (Fails (F.held shelf.old) (F.faults shelf.old) (F.faults shelf.new)
+        (File name.now) Drawing) }
     ensures onward { Onward (F.held shelf.old) (F.held shelf.new) (F.faults shelf.old) (F.faults shelf.new) }
 {
     let station = match load_drawing(alloc, name, shelf) {
@@ -185,7 +188,8 @@ pub(crate) fn load_readings<F: Shelf>(
 ) -> Result<Readings, End>
     ensures ok { IfOk result (Given (F.held shelf.old) (File name.now) (Positions station.now)) }
     ensures count { IfOk result (AreWords station.now) }
-    ensures err { IfErr result (Fails (F.held shelf.old) (F.faults shelf.old) (F.faults shelf.new) (File name.now) (Positions station.now)) }
+    ensures err { IfErr result (Fails (F.held shelf.old) (F.faults shelf.old) (F.faults shelf.new) (File name.now)
+        (Positions station.now)) }
     ensures onward { Onward (F.held shelf.old) (F.held shelf.new) (F.faults shelf.old) (F.faults shelf.new) }
 {
     let bytes = match read_file(name, shelf) {
@@ -204,7 +208,8 @@ pub(crate) fn load_start<F: Shelf>(
 ) -> Result<Vector, End>
     ensures ok { IfOk result (Given (F.held shelf.old) (File name.now) (CertainPositions station.now)) }
     ensures vector { IfOk result (IsVector station.now) }
-    ensures err { IfErr result (Fails (F.held shelf.old) (F.faults shelf.old) (F.faults shelf.new) (File name.now) (CertainPositions station.now)) }
+    ensures err { IfErr result (Fails (F.held shelf.old) (F.faults shelf.old) (F.faults shelf.new) (File name.now)
+        (CertainPositions station.now)) }
     ensures onward { Onward (F.held shelf.old) (F.held shelf.new) (F.faults shelf.old) (F.faults shelf.new) }
 {
     let bytes = match read_file(name, shelf) {
@@ -223,7 +228,8 @@ pub(crate) fn load_order<F: Shelf>(
 ) -> Result<Order, End>
     ensures ok { IfOk result (Given (F.held shelf.old) (File name.now) (OrderOf station.now)) }
     ensures operations { IfOk result (AreOperations station.now) }
-    ensures err { IfErr result (Fails (F.held shelf.old) (F.faults shelf.old) (F.faults shelf.new) (File name.now) (OrderOf station.now)) }
+    ensures err { IfErr result (Fails (F.held shelf.old) (F.faults shelf.old) (F.faults shelf.new) (File name.now)
+        (OrderOf station.now)) }
     ensures onward { Onward (F.held shelf.old) (F.held shelf.new) (F.faults shelf.old) (F.faults shelf.new) }
 {
     let bytes = match read_file(name, shelf) {
@@ -242,7 +248,8 @@ pub(crate) fn load_blocks<F: Shelf>(
 ) -> Result<Blocks, End>
     ensures ok { IfOk result (Given (F.held shelf.old) (File name.now) (BlocksOf station.now)) }
     ensures of_station { IfOk result (AreOfStation station.now) }
-    ensures err { IfErr result (Fails (F.held shelf.old) (F.faults shelf.old) (F.faults shelf.new) (File name.now) (BlocksOf station.now)) }
+    ensures err { IfErr result (Fails (F.held shelf.old) (F.faults shelf.old) (F.faults shelf.new) (File name.now)
+        (BlocksOf station.now)) }
     ensures onward { Onward (F.held shelf.old) (F.held shelf.new) (F.faults shelf.old) (F.faults shelf.new) }
 {
     let bytes = match read_file(name, shelf) {

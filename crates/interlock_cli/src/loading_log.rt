@@ -53,7 +53,8 @@ pub(crate) fn load_log<F: Shelf>(
 ) -> Result<Log, End>
     ensures ok { IfOk result (Given (F.held shelf.old) (File name.now) (LogOf station.now)) }
     ensures told { IfOk result (All (MayBeTold station.now)) }
-    ensures err { IfErr result (Fails (F.held shelf.old) (F.faults shelf.old) (F.faults shelf.new) (File name.now) (LogOf station.now)) }
+    ensures err { IfErr result (Fails (F.held shelf.old) (F.faults shelf.old) (F.faults shelf.new) (File name.now)
+        (LogOf station.now)) }
     ensures onward { Onward (F.held shelf.old) (F.held shelf.new) (F.faults shelf.old) (F.faults shelf.new) }
 {
     let bytes = match read_file(name, shelf) {
@@ -72,7 +73,8 @@ pub(crate) fn load_trip_log<F: Shelf>(
 ) -> Result<TripLog, End>
     ensures ok { IfOk result (Given (F.held shelf.old) (File name.now) (TripLogOf station.now)) }
     ensures told { IfOk result (All (TripMayBeTold station.now)) }
-    ensures err { IfErr result (Fails (F.held shelf.old) (F.faults shelf.old) (F.faults shelf.new) (File name.now) (TripLogOf station.now)) }
+    ensures err { IfErr result (Fails (F.held shelf.old) (F.faults shelf.old) (F.faults shelf.new) (File name.now)
+        (TripLogOf station.now)) }
     ensures onward { Onward (F.held shelf.old) (F.held shelf.new) (F.faults shelf.old) (F.faults shelf.new) }
 {
     let bytes = match read_file(name, shelf) {

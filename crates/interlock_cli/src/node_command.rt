@@ -40,10 +40,21 @@ pub(crate) fn node<F: Shelf, I: Source, O: Sink>(
           held = F.held shelf.old;
           reads_before = F.faults shelf.old;
           reads_after = F.faults shelf.new;
-          before = record { input = I.left input.old; reads = I.faults input.old; out = O.took out.old; writes = O.faults out.old };
-          after = record { input = I.left input.new; reads = I.faults input.new; out = O.took out.new; writes = O.faults out.new };
+          before = record {
+            input = I.left input.old;
+            reads = I.faults input.old;
+            out = O.took out.old;
+            writes = O.faults out.old;
+          };
+          after = record {
+            input = I.left input.new;
+            reads = I.faults input.new;
+            out = O.took out.new;
+            writes = O.faults out.new;
+          };
         }) }
-    ensures err { IfErr result (Stops (form_of (Node station.now bay.now)) (F.held shelf.old) (F.faults shelf.old) (F.faults shelf.new)) }
+    ensures err { IfErr result (Stops (form_of (Node station.now bay.now)) (F.held shelf.old) (F.faults shelf.old)
+        (F.faults shelf.new)) }
     ensures unasked { OnErr result (input.new ≡ input.old) }
     ensures unwritten { OnErr result (out.new ≡ out.old) }
 {

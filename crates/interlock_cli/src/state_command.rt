@@ -18,7 +18,8 @@ pub(crate) fn state<F: Shelf>(
     shelf: &mut F,
 ) -> Result<Output, End>
     ensures ok { IfOk result (Gives (form_of (State station.now positions.now)) (F.held shelf.old)) }
-    ensures err { IfErr result (Stops (form_of (State station.now positions.now)) (F.held shelf.old) (F.faults shelf.old) (F.faults shelf.new)) }
+    ensures err { IfErr result (Stops (form_of (State station.now positions.now)) (F.held shelf.old)
+        (F.faults shelf.old) (F.faults shelf.new)) }
 {
     let station = match load_station(alloc, station, shelf) {
         Ok(station) => station,

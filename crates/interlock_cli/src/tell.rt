@@ -52,7 +52,8 @@ fn tell_fault<S: Sink>(
     count: Option<u32>,
 ) -> Result<(), Failed>
     ensures ok { OnOk result (Appends (S.took sink.old) (S.took sink.new) (fault_line number place limit count)) }
-    ensures err { OnErr result (AppendsFront (S.took sink.old) (S.took sink.new) (fault_line number place limit count)) }
+    ensures err { OnErr result (AppendsFront (S.took sink.old) (S.took sink.new)
+        (fault_line number place limit count)) }
     ensures grows { S.faults sink.old ≤ S.faults sink.new }
     ensures failed { OnErr result (Rose (S.faults sink.old) (S.faults sink.new)) }
 {
@@ -98,8 +99,10 @@ fn tell_two<S: Sink>(
     middle: &[u8],
     second: u32,
 ) -> Result<(), Failed>
-    ensures ok { OnOk result (Appends (S.took sink.old) (S.took sink.new) (head.now ++ decimal first ++ middle.now ++ decimal second ++ codes "\n")) }
-    ensures err { OnErr result (AppendsFront (S.took sink.old) (S.took sink.new) (head.now ++ decimal first ++ middle.now ++ decimal second ++ codes "\n")) }
+    ensures ok { OnOk result (Appends (S.took sink.old) (S.took sink.new)
+        (head.now ++ decimal first ++ middle.now ++ decimal second ++ codes "\n")) }
+    ensures err { OnErr result (AppendsFront (S.took sink.old) (S.took sink.new)
+        (head.now ++ decimal first ++ middle.now ++ decimal second ++ codes "\n")) }
     ensures grows { S.faults sink.old ≤ S.faults sink.new }
     ensures failed { OnErr result (Rose (S.faults sink.old) (S.faults sink.new)) }
 {
@@ -113,7 +116,8 @@ fn tell_two<S: Sink>(
 // Writes a line of one number.
 fn tell_one<S: Sink>(sink: &mut S, head: &[u8], number: u32) -> Result<(), Failed>
     ensures ok { OnOk result (Appends (S.took sink.old) (S.took sink.new) (head.now ++ decimal number ++ codes "\n")) }
-    ensures err { OnErr result (AppendsFront (S.took sink.old) (S.took sink.new) (head.now ++ decimal number ++ codes "\n")) }
+    ensures err { OnErr result (AppendsFront (S.took sink.old) (S.took sink.new)
+        (head.now ++ decimal number ++ codes "\n")) }
     ensures grows { S.faults sink.old ≤ S.faults sink.new }
     ensures failed { OnErr result (Rose (S.faults sink.old) (S.faults sink.new)) }
 {

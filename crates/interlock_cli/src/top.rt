@@ -29,7 +29,8 @@ use std::alloc::Global;
 fn output_of<F: Shelf>(alloc: Global, command: &Command, shelf: &mut F) -> Result<Output, End>
     requires { ¬ AsksInput (form_of (seen command.now)) }
     ensures ok { IfOk result (Gives (form_of (seen command.now)) (F.held shelf.old)) }
-    ensures err { IfErr result (Stops (form_of (seen command.now)) (F.held shelf.old) (F.faults shelf.old) (F.faults shelf.new)) }
+    ensures err { IfErr result (Stops (form_of (seen command.now)) (F.held shelf.old) (F.faults shelf.old)
+        (F.faults shelf.new)) }
 {
     match *command {
         Command::Check { station, positions } => check(alloc, station, positions, shelf),
@@ -79,8 +80,18 @@ fn call<F: Shelf, I: Source, O: Sink>(
           held = F.held shelf.old;
           reads_before = F.faults shelf.old;
           reads_after = F.faults shelf.new;
-          before = record { input = I.left input.old; reads = I.faults input.old; out = O.took out.old; writes = O.faults out.old };
-          after = record { input = I.left input.new; reads = I.faults input.new; out = O.took out.new; writes = O.faults out.new };
+          before = record {
+            input = I.left input.old;
+            reads = I.faults input.old;
+            out = O.took out.old;
+            writes = O.faults out.old;
+          };
+          after = record {
+            input = I.left input.new;
+            reads = I.faults input.new;
+            out = O.took out.new;
+            writes = O.faults out.new;
+          };
         }
         result }
     ensures unread { command_of (map string_bytes words.now) ≡ None → shelf.new ≡ shelf.old }
@@ -119,10 +130,10 @@ fn call<F: Shelf, I: Source, O: Sink>(
 /// text of the command, or after a fault of the write a front of it, and at every other end nothing, and
 /// that `err` took the end's line, or a front of it where its own count rose. Where a file is not told, it
 /// says the same of some content. Of `node` it says what `serve` of `node_session` does: which lines are
-/// answered, what `out` took of their texts, and how much of the input was taken. `usage` and `unread` say that the call is `Usage` exactly where the words
-/// name no command, and then reads no file. `complete` says that a call whose files are told and accepted,
-/// and in which no count rose, ends as its text says, or has served the whole input, or wants memory. No other
-/// command than `node` asks for the input (`input`).
+/// answered, what `out` took of their texts, and how much of the input was taken. `usage` and `unread` say that
+/// the call is `Usage` exactly where the words name no command, and then reads no file. `complete` says that a
+/// call whose files are told and accepted, and in which no count rose, ends as its text says, or has served the
+/// whole input, or wants memory. No other command than `node` asks for the input (`input`).
 pub fn run<F: Shelf, I: Source, O: Sink, E: Sink>(
     alloc: Global,
     words: &[String],
@@ -136,20 +147,41 @@ pub fn run<F: Shelf, I: Source, O: Sink, E: Sink>(
           held = F.held shelf.old;
           reads_before = F.faults shelf.old;
           reads_after = F.faults shelf.new;
-          before = record { input = I.left input.old; reads = I.faults input.old; out = O.took out.old; writes = O.faults out.old };
-          after = record { input = I.left input.new; reads = I.faults input.new; out = O.took out.new; writes = O.faults out.new };
+          before = record {
+            input = I.left input.old;
+            reads = I.faults input.old;
+            out = O.took out.old;
+            writes = O.faults out.old;
+          };
+          after = record {
+            input = I.left input.new;
+            reads = I.faults input.new;
+            out = O.took out.new;
+            writes = O.faults out.new;
+          };
         }
         (E.took err.old) (E.took err.new) (E.faults err.old) (E.faults err.new) }
     ensures usage { result ≡ Status.Usage → command_of (map string_bytes words.now) ≡ None }
-    ensures unnamed { command_of (map string_bytes words.now) ≡ None → (result ≡ Status.Usage) ⊎ (result ≡ Status.Memory) }
+    ensures unnamed { command_of (map string_bytes words.now) ≡ None →
+        (result ≡ Status.Usage) ⊎ (result ≡ Status.Memory) }
     ensures unread { command_of (map string_bytes words.now) ≡ None → shelf.new ≡ shelf.old }
     ensures complete { Completes result (command_of (map string_bytes words.now))
         record {
           held = F.held shelf.old;
           reads_before = F.faults shelf.old;
           reads_after = F.faults shelf.new;
-          before = record { input = I.left input.old; reads = I.faults input.old; out = O.took out.old; writes = O.faults out.old };
-          after = record { input = I.left input.new; reads = I.faults input.new; out = O.took out.new; writes = O.faults out.new };
+          before = record {
+            input = I.left input.old;
+            reads = I.faults input.old;
+            out = O.took out.old;
+            writes = O.faults out.old;
+          };
+          after = record {
+            input = I.left input.new;
+            reads = I.faults input.new;
+            out = O.took out.new;
+            writes = O.faults out.new;
+          };
         } }
     ensures input { ¬ Asks (command_of (map string_bytes words.now)) → input.new ≡ input.old }
 {

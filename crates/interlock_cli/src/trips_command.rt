@@ -45,7 +45,8 @@ pub(crate) fn trips<F: Shelf>(
     shelf: &mut F,
 ) -> Result<Output, End>
     ensures ok { IfOk result (Gives (form_of (Trips station.now log.now)) (F.held shelf.old)) }
-    ensures err { IfErr result (Stops (form_of (Trips station.now log.now)) (F.held shelf.old) (F.faults shelf.old) (F.faults shelf.new)) }
+    ensures err { IfErr result (Stops (form_of (Trips station.now log.now)) (F.held shelf.old) (F.faults shelf.old)
+        (F.faults shelf.new)) }
 {
     let station = match load_drawing(alloc, station, shelf) {
         Ok(station) => station,

@@ -1,6 +1,7 @@
 //! What the words name.
 ghost use Rattle.std.specs.Prelude.{◌≡◌, ◌∷◌, map, option_map, string_bytes, Some, IfOk, IfErr};
-ghost use Rattle.interlock_cli.specs.Commands.{replay_of, audit_of, check_of, command_of, direction_of, explain_of, make_of, named, node_of};
+ghost use Rattle.interlock_cli.specs.Commands.{replay_of, audit_of, check_of, command_of, direction_of, explain_of};
+ghost use Rattle.interlock_cli.specs.Commands.{make_of, named, node_of};
 ghost use Rattle.interlock_cli.specs.Commands.{plan_of, trips_of, compile_of, order_of, state_of, work_of};
 ghost use Rattle.interlock_cli.specs.Ends.{Unread};
 ghost use Rattle.interlock_cli.specs.Seen.{seen};

@@ -45,7 +45,8 @@ fn work_output(
 // What `work NUMBER` has to write. It is given no file: its texts are made, and then read as those of files are.
 pub(crate) fn work(alloc: Global, feeders: Feeders) -> Result<Output, End>
     ensures ok { IfOk result (λ o. (held : List ℕ → Option (List ℕ)) → Gives (form_of (Work feeders.number)) held o) }
-    ensures err { IfErr result (λ end. (held : List ℕ → Option (List ℕ)) (before after : List ℕ → ℕ) → Stops (form_of (Work feeders.number)) held before after end) }
+    ensures err { IfErr result (λ end. (held : List ℕ → Option (List ℕ)) (before after : List ℕ → ℕ) →
+        Stops (form_of (Work feeders.number)) held before after end) }
 {
     let made = match make(alloc, feeders.number) {
         Ok(made) => made,

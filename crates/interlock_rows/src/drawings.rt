@@ -12,21 +12,31 @@ pub(crate) const TWO_FEEDERS: &str = "<SCL>
 <ConnectivityNode name=\"n1\" pathName=\"S/V1/Q1/n1\"/>
 <ConnectivityNode name=\"n2\" pathName=\"S/V1/Q1/n2\"/>
 <ConnectivityNode name=\"n3\" pathName=\"S/V1/Q1/n3\"/>
-<ConductingEquipment name=\"QB1\" type=\"DIS\"><Terminal connectivityNode=\"S/V1/W1/B\" cNodeName=\"B\"/><Terminal connectivityNode=\"S/V1/Q1/n1\" cNodeName=\"n1\"/></ConductingEquipment>
-<ConductingEquipment name=\"QA1\" type=\"CBR\"><Terminal connectivityNode=\"S/V1/Q1/n1\" cNodeName=\"n1\"/><Terminal connectivityNode=\"S/V1/Q1/n2\" cNodeName=\"n2\"/></ConductingEquipment>
-<ConductingEquipment name=\"QB9\" type=\"DIS\"><Terminal connectivityNode=\"S/V1/Q1/n2\" cNodeName=\"n2\"/><Terminal connectivityNode=\"S/V1/Q1/n3\" cNodeName=\"n3\"/></ConductingEquipment>
-<ConductingEquipment name=\"QC9\" type=\"DIS\"><Terminal connectivityNode=\"S/V1/Q1/n3\" cNodeName=\"n3\"/><Terminal connectivityNode=\"S/V1/Q1/grounded\" cNodeName=\"grounded\"/></ConductingEquipment>
-<ConductingEquipment name=\"E1\" type=\"IFL\"><Terminal connectivityNode=\"S/V1/Q1/n3\" cNodeName=\"n3\"/></ConductingEquipment>
+<ConductingEquipment name=\"QB1\" type=\"DIS\"><Terminal connectivityNode=\"S/V1/W1/B\" cNodeName=\"B\"/>\
+    <Terminal connectivityNode=\"S/V1/Q1/n1\" cNodeName=\"n1\"/></ConductingEquipment>
+<ConductingEquipment name=\"QA1\" type=\"CBR\"><Terminal connectivityNode=\"S/V1/Q1/n1\" cNodeName=\"n1\"/>\
+    <Terminal connectivityNode=\"S/V1/Q1/n2\" cNodeName=\"n2\"/></ConductingEquipment>
+<ConductingEquipment name=\"QB9\" type=\"DIS\"><Terminal connectivityNode=\"S/V1/Q1/n2\" cNodeName=\"n2\"/>\
+    <Terminal connectivityNode=\"S/V1/Q1/n3\" cNodeName=\"n3\"/></ConductingEquipment>
+<ConductingEquipment name=\"QC9\" type=\"DIS\"><Terminal connectivityNode=\"S/V1/Q1/n3\" cNodeName=\"n3\"/>\
+    <Terminal connectivityNode=\"S/V1/Q1/grounded\" cNodeName=\"grounded\"/></ConductingEquipment>
+<ConductingEquipment name=\"E1\" type=\"IFL\">\
+    <Terminal connectivityNode=\"S/V1/Q1/n3\" cNodeName=\"n3\"/></ConductingEquipment>
 </Bay>
 <Bay name=\"Q2\">
 <ConnectivityNode name=\"n1\" pathName=\"S/V1/Q2/n1\"/>
 <ConnectivityNode name=\"n2\" pathName=\"S/V1/Q2/n2\"/>
 <ConnectivityNode name=\"n3\" pathName=\"S/V1/Q2/n3\"/>
-<ConductingEquipment name=\"QB1\" type=\"DIS\"><Terminal connectivityNode=\"S/V1/W1/B\" cNodeName=\"B\"/><Terminal connectivityNode=\"S/V1/Q2/n1\" cNodeName=\"n1\"/></ConductingEquipment>
-<ConductingEquipment name=\"QA1\" type=\"CBR\"><Terminal connectivityNode=\"S/V1/Q2/n1\" cNodeName=\"n1\"/><Terminal connectivityNode=\"S/V1/Q2/n2\" cNodeName=\"n2\"/></ConductingEquipment>
-<ConductingEquipment name=\"QB9\" type=\"DIS\"><Terminal connectivityNode=\"S/V1/Q2/n2\" cNodeName=\"n2\"/><Terminal connectivityNode=\"S/V1/Q2/n3\" cNodeName=\"n3\"/></ConductingEquipment>
-<ConductingEquipment name=\"QC9\" type=\"DIS\"><Terminal connectivityNode=\"S/V1/Q2/n3\" cNodeName=\"n3\"/><Terminal connectivityNode=\"S/V1/Q2/grounded\" cNodeName=\"grounded\"/></ConductingEquipment>
-<ConductingEquipment name=\"E1\" type=\"IFL\"><Terminal connectivityNode=\"S/V1/Q2/n3\" cNodeName=\"n3\"/></ConductingEquipment>
+<ConductingEquipment name=\"QB1\" type=\"DIS\"><Terminal connectivityNode=\"S/V1/W1/B\" cNodeName=\"B\"/>\
+    <Terminal connectivityNode=\"S/V1/Q2/n1\" cNodeName=\"n1\"/></ConductingEquipment>
+<ConductingEquipment name=\"QA1\" type=\"CBR\"><Terminal connectivityNode=\"S/V1/Q2/n1\" cNodeName=\"n1\"/>\
+    <Terminal connectivityNode=\"S/V1/Q2/n2\" cNodeName=\"n2\"/></ConductingEquipment>
+<ConductingEquipment name=\"QB9\" type=\"DIS\"><Terminal connectivityNode=\"S/V1/Q2/n2\" cNodeName=\"n2\"/>\
+    <Terminal connectivityNode=\"S/V1/Q2/n3\" cNodeName=\"n3\"/></ConductingEquipment>
+<ConductingEquipment name=\"QC9\" type=\"DIS\"><Terminal connectivityNode=\"S/V1/Q2/n3\" cNodeName=\"n3\"/>\
+    <Terminal connectivityNode=\"S/V1/Q2/grounded\" cNodeName=\"grounded\"/></ConductingEquipment>
+<ConductingEquipment name=\"E1\" type=\"IFL\">\
+    <Terminal connectivityNode=\"S/V1/Q2/n3\" cNodeName=\"n3\"/></ConductingEquipment>
 </Bay>
 </VoltageLevel>
 </Substation>
@@ -47,21 +57,31 @@ pub(crate) const FEEDERS_APART: &str = "<SCL>
 <ConnectivityNode name=\"n1\" pathName=\"S/V1/Q1/n1\"/>
 <ConnectivityNode name=\"n2\" pathName=\"S/V1/Q1/n2\"/>
 <ConnectivityNode name=\"n3\" pathName=\"S/V1/Q1/n3\"/>
-<ConductingEquipment name=\"QB1\" type=\"DIS\"><Terminal connectivityNode=\"S/V1/W1/B\" cNodeName=\"B\"/><Terminal connectivityNode=\"S/V1/Q1/n1\" cNodeName=\"n1\"/></ConductingEquipment>
-<ConductingEquipment name=\"QA1\" type=\"CBR\"><Terminal connectivityNode=\"S/V1/Q1/n1\" cNodeName=\"n1\"/><Terminal connectivityNode=\"S/V1/Q1/n2\" cNodeName=\"n2\"/></ConductingEquipment>
-<ConductingEquipment name=\"QB9\" type=\"DIS\"><Terminal connectivityNode=\"S/V1/Q1/n2\" cNodeName=\"n2\"/><Terminal connectivityNode=\"S/V1/Q1/n3\" cNodeName=\"n3\"/></ConductingEquipment>
-<ConductingEquipment name=\"QC9\" type=\"DIS\"><Terminal connectivityNode=\"S/V1/Q1/n3\" cNodeName=\"n3\"/><Terminal connectivityNode=\"S/V1/Q1/grounded\" cNodeName=\"grounded\"/></ConductingEquipment>
-<ConductingEquipment name=\"E1\" type=\"IFL\"><Terminal connectivityNode=\"S/V1/Q1/n3\" cNodeName=\"n3\"/></ConductingEquipment>
+<ConductingEquipment name=\"QB1\" type=\"DIS\"><Terminal connectivityNode=\"S/V1/W1/B\" cNodeName=\"B\"/>\
+    <Terminal connectivityNode=\"S/V1/Q1/n1\" cNodeName=\"n1\"/></ConductingEquipment>
+<ConductingEquipment name=\"QA1\" type=\"CBR\"><Terminal connectivityNode=\"S/V1/Q1/n1\" cNodeName=\"n1\"/>\
+    <Terminal connectivityNode=\"S/V1/Q1/n2\" cNodeName=\"n2\"/></ConductingEquipment>
+<ConductingEquipment name=\"QB9\" type=\"DIS\"><Terminal connectivityNode=\"S/V1/Q1/n2\" cNodeName=\"n2\"/>\
+    <Terminal connectivityNode=\"S/V1/Q1/n3\" cNodeName=\"n3\"/></ConductingEquipment>
+<ConductingEquipment name=\"QC9\" type=\"DIS\"><Terminal connectivityNode=\"S/V1/Q1/n3\" cNodeName=\"n3\"/>\
+    <Terminal connectivityNode=\"S/V1/Q1/grounded\" cNodeName=\"grounded\"/></ConductingEquipment>
+<ConductingEquipment name=\"E1\" type=\"IFL\">\
+    <Terminal connectivityNode=\"S/V1/Q1/n3\" cNodeName=\"n3\"/></ConductingEquipment>
 </Bay>
 <Bay name=\"Q2\">
 <ConnectivityNode name=\"n1\" pathName=\"S/V1/Q2/n1\"/>
 <ConnectivityNode name=\"n2\" pathName=\"S/V1/Q2/n2\"/>
 <ConnectivityNode name=\"n3\" pathName=\"S/V1/Q2/n3\"/>
-<ConductingEquipment name=\"QB1\" type=\"DIS\"><Terminal connectivityNode=\"S/V1/W2/B\" cNodeName=\"B\"/><Terminal connectivityNode=\"S/V1/Q2/n1\" cNodeName=\"n1\"/></ConductingEquipment>
-<ConductingEquipment name=\"QA1\" type=\"CBR\"><Terminal connectivityNode=\"S/V1/Q2/n1\" cNodeName=\"n1\"/><Terminal connectivityNode=\"S/V1/Q2/n2\" cNodeName=\"n2\"/></ConductingEquipment>
-<ConductingEquipment name=\"QB9\" type=\"DIS\"><Terminal connectivityNode=\"S/V1/Q2/n2\" cNodeName=\"n2\"/><Terminal connectivityNode=\"S/V1/Q2/n3\" cNodeName=\"n3\"/></ConductingEquipment>
-<ConductingEquipment name=\"QC9\" type=\"DIS\"><Terminal connectivityNode=\"S/V1/Q2/n3\" cNodeName=\"n3\"/><Terminal connectivityNode=\"S/V1/Q2/grounded\" cNodeName=\"grounded\"/></ConductingEquipment>
-<ConductingEquipment name=\"E1\" type=\"IFL\"><Terminal connectivityNode=\"S/V1/Q2/n3\" cNodeName=\"n3\"/></ConductingEquipment>
+<ConductingEquipment name=\"QB1\" type=\"DIS\"><Terminal connectivityNode=\"S/V1/W2/B\" cNodeName=\"B\"/>\
+    <Terminal connectivityNode=\"S/V1/Q2/n1\" cNodeName=\"n1\"/></ConductingEquipment>
+<ConductingEquipment name=\"QA1\" type=\"CBR\"><Terminal connectivityNode=\"S/V1/Q2/n1\" cNodeName=\"n1\"/>\
+    <Terminal connectivityNode=\"S/V1/Q2/n2\" cNodeName=\"n2\"/></ConductingEquipment>
+<ConductingEquipment name=\"QB9\" type=\"DIS\"><Terminal connectivityNode=\"S/V1/Q2/n2\" cNodeName=\"n2\"/>\
+    <Terminal connectivityNode=\"S/V1/Q2/n3\" cNodeName=\"n3\"/></ConductingEquipment>
+<ConductingEquipment name=\"QC9\" type=\"DIS\"><Terminal connectivityNode=\"S/V1/Q2/n3\" cNodeName=\"n3\"/>\
+    <Terminal connectivityNode=\"S/V1/Q2/grounded\" cNodeName=\"grounded\"/></ConductingEquipment>
+<ConductingEquipment name=\"E1\" type=\"IFL\">\
+    <Terminal connectivityNode=\"S/V1/Q2/n3\" cNodeName=\"n3\"/></ConductingEquipment>
 </Bay>
 </VoltageLevel>
 </Substation>
@@ -81,31 +101,46 @@ pub(crate) const DOUBLE_BUSBAR: &str = "<SCL>
 <Bay name=\"K0\">
 <ConnectivityNode name=\"k1\" pathName=\"S/V1/K0/k1\"/>
 <ConnectivityNode name=\"k2\" pathName=\"S/V1/K0/k2\"/>
-<ConductingEquipment name=\"QB1\" type=\"DIS\"><Terminal connectivityNode=\"S/V1/W1/B\" cNodeName=\"B\"/><Terminal connectivityNode=\"S/V1/K0/k1\" cNodeName=\"k1\"/></ConductingEquipment>
-<ConductingEquipment name=\"QA1\" type=\"CBR\"><Terminal connectivityNode=\"S/V1/K0/k1\" cNodeName=\"k1\"/><Terminal connectivityNode=\"S/V1/K0/k2\" cNodeName=\"k2\"/></ConductingEquipment>
-<ConductingEquipment name=\"QB2\" type=\"DIS\"><Terminal connectivityNode=\"S/V1/K0/k2\" cNodeName=\"k2\"/><Terminal connectivityNode=\"S/V1/W2/B\" cNodeName=\"B\"/></ConductingEquipment>
+<ConductingEquipment name=\"QB1\" type=\"DIS\"><Terminal connectivityNode=\"S/V1/W1/B\" cNodeName=\"B\"/>\
+    <Terminal connectivityNode=\"S/V1/K0/k1\" cNodeName=\"k1\"/></ConductingEquipment>
+<ConductingEquipment name=\"QA1\" type=\"CBR\"><Terminal connectivityNode=\"S/V1/K0/k1\" cNodeName=\"k1\"/>\
+    <Terminal connectivityNode=\"S/V1/K0/k2\" cNodeName=\"k2\"/></ConductingEquipment>
+<ConductingEquipment name=\"QB2\" type=\"DIS\"><Terminal connectivityNode=\"S/V1/K0/k2\" cNodeName=\"k2\"/>\
+    <Terminal connectivityNode=\"S/V1/W2/B\" cNodeName=\"B\"/></ConductingEquipment>
 </Bay>
 <Bay name=\"Q1\">
 <ConnectivityNode name=\"n1\" pathName=\"S/V1/Q1/n1\"/>
 <ConnectivityNode name=\"n2\" pathName=\"S/V1/Q1/n2\"/>
 <ConnectivityNode name=\"n3\" pathName=\"S/V1/Q1/n3\"/>
-<ConductingEquipment name=\"QB1\" type=\"DIS\"><Terminal connectivityNode=\"S/V1/W1/B\" cNodeName=\"B\"/><Terminal connectivityNode=\"S/V1/Q1/n1\" cNodeName=\"n1\"/></ConductingEquipment>
-<ConductingEquipment name=\"QB2\" type=\"DIS\"><Terminal connectivityNode=\"S/V1/W2/B\" cNodeName=\"B\"/><Terminal connectivityNode=\"S/V1/Q1/n1\" cNodeName=\"n1\"/></ConductingEquipment>
-<ConductingEquipment name=\"QA1\" type=\"CBR\"><Terminal connectivityNode=\"S/V1/Q1/n1\" cNodeName=\"n1\"/><Terminal connectivityNode=\"S/V1/Q1/n2\" cNodeName=\"n2\"/></ConductingEquipment>
-<ConductingEquipment name=\"QB9\" type=\"DIS\"><Terminal connectivityNode=\"S/V1/Q1/n2\" cNodeName=\"n2\"/><Terminal connectivityNode=\"S/V1/Q1/n3\" cNodeName=\"n3\"/></ConductingEquipment>
-<ConductingEquipment name=\"QC9\" type=\"DIS\"><Terminal connectivityNode=\"S/V1/Q1/n3\" cNodeName=\"n3\"/><Terminal connectivityNode=\"S/V1/Q1/grounded\" cNodeName=\"grounded\"/></ConductingEquipment>
-<ConductingEquipment name=\"E1\" type=\"IFL\"><Terminal connectivityNode=\"S/V1/Q1/n3\" cNodeName=\"n3\"/></ConductingEquipment>
+<ConductingEquipment name=\"QB1\" type=\"DIS\"><Terminal connectivityNode=\"S/V1/W1/B\" cNodeName=\"B\"/>\
+    <Terminal connectivityNode=\"S/V1/Q1/n1\" cNodeName=\"n1\"/></ConductingEquipment>
+<ConductingEquipment name=\"QB2\" type=\"DIS\"><Terminal connectivityNode=\"S/V1/W2/B\" cNodeName=\"B\"/>\
+    <Terminal connectivityNode=\"S/V1/Q1/n1\" cNodeName=\"n1\"/></ConductingEquipment>
+<ConductingEquipment name=\"QA1\" type=\"CBR\"><Terminal connectivityNode=\"S/V1/Q1/n1\" cNodeName=\"n1\"/>\
+    <Terminal connectivityNode=\"S/V1/Q1/n2\" cNodeName=\"n2\"/></ConductingEquipment>
+<ConductingEquipment name=\"QB9\" type=\"DIS\"><Terminal connectivityNode=\"S/V1/Q1/n2\" cNodeName=\"n2\"/>\
+    <Terminal connectivityNode=\"S/V1/Q1/n3\" cNodeName=\"n3\"/></ConductingEquipment>
+<ConductingEquipment name=\"QC9\" type=\"DIS\"><Terminal connectivityNode=\"S/V1/Q1/n3\" cNodeName=\"n3\"/>\
+    <Terminal connectivityNode=\"S/V1/Q1/grounded\" cNodeName=\"grounded\"/></ConductingEquipment>
+<ConductingEquipment name=\"E1\" type=\"IFL\">\
+    <Terminal connectivityNode=\"S/V1/Q1/n3\" cNodeName=\"n3\"/></ConductingEquipment>
 </Bay>
 <Bay name=\"Q2\">
 <ConnectivityNode name=\"n1\" pathName=\"S/V1/Q2/n1\"/>
 <ConnectivityNode name=\"n2\" pathName=\"S/V1/Q2/n2\"/>
 <ConnectivityNode name=\"n3\" pathName=\"S/V1/Q2/n3\"/>
-<ConductingEquipment name=\"QB1\" type=\"DIS\"><Terminal connectivityNode=\"S/V1/W1/B\" cNodeName=\"B\"/><Terminal connectivityNode=\"S/V1/Q2/n1\" cNodeName=\"n1\"/></ConductingEquipment>
-<ConductingEquipment name=\"QB2\" type=\"DIS\"><Terminal connectivityNode=\"S/V1/W2/B\" cNodeName=\"B\"/><Terminal connectivityNode=\"S/V1/Q2/n1\" cNodeName=\"n1\"/></ConductingEquipment>
-<ConductingEquipment name=\"QA1\" type=\"CBR\"><Terminal connectivityNode=\"S/V1/Q2/n1\" cNodeName=\"n1\"/><Terminal connectivityNode=\"S/V1/Q2/n2\" cNodeName=\"n2\"/></ConductingEquipment>
-<ConductingEquipment name=\"QB9\" type=\"DIS\"><Terminal connectivityNode=\"S/V1/Q2/n2\" cNodeName=\"n2\"/><Terminal connectivityNode=\"S/V1/Q2/n3\" cNodeName=\"n3\"/></ConductingEquipment>
-<ConductingEquipment name=\"QC9\" type=\"DIS\"><Terminal connectivityNode=\"S/V1/Q2/n3\" cNodeName=\"n3\"/><Terminal connectivityNode=\"S/V1/Q2/grounded\" cNodeName=\"grounded\"/></ConductingEquipment>
-<ConductingEquipment name=\"E1\" type=\"IFL\"><Terminal connectivityNode=\"S/V1/Q2/n3\" cNodeName=\"n3\"/></ConductingEquipment>
+<ConductingEquipment name=\"QB1\" type=\"DIS\"><Terminal connectivityNode=\"S/V1/W1/B\" cNodeName=\"B\"/>\
+    <Terminal connectivityNode=\"S/V1/Q2/n1\" cNodeName=\"n1\"/></ConductingEquipment>
+<ConductingEquipment name=\"QB2\" type=\"DIS\"><Terminal connectivityNode=\"S/V1/W2/B\" cNodeName=\"B\"/>\
+    <Terminal connectivityNode=\"S/V1/Q2/n1\" cNodeName=\"n1\"/></ConductingEquipment>
+<ConductingEquipment name=\"QA1\" type=\"CBR\"><Terminal connectivityNode=\"S/V1/Q2/n1\" cNodeName=\"n1\"/>\
+    <Terminal connectivityNode=\"S/V1/Q2/n2\" cNodeName=\"n2\"/></ConductingEquipment>
+<ConductingEquipment name=\"QB9\" type=\"DIS\"><Terminal connectivityNode=\"S/V1/Q2/n2\" cNodeName=\"n2\"/>\
+    <Terminal connectivityNode=\"S/V1/Q2/n3\" cNodeName=\"n3\"/></ConductingEquipment>
+<ConductingEquipment name=\"QC9\" type=\"DIS\"><Terminal connectivityNode=\"S/V1/Q2/n3\" cNodeName=\"n3\"/>\
+    <Terminal connectivityNode=\"S/V1/Q2/grounded\" cNodeName=\"grounded\"/></ConductingEquipment>
+<ConductingEquipment name=\"E1\" type=\"IFL\">\
+    <Terminal connectivityNode=\"S/V1/Q2/n3\" cNodeName=\"n3\"/></ConductingEquipment>
 </Bay>
 </VoltageLevel>
 </Substation>
@@ -121,9 +156,12 @@ pub(crate) const BARE_STUB: &str = "<SCL>
 </Bay>
 <Bay name=\"Q1\">
 <ConnectivityNode name=\"s\" pathName=\"S/V1/Q1/s\"/>
-<ConductingEquipment name=\"QB1\" type=\"DIS\"><Terminal connectivityNode=\"S/V1/W1/B\" cNodeName=\"B\"/><Terminal connectivityNode=\"S/V1/Q1/s\" cNodeName=\"s\"/></ConductingEquipment>
-<ConductingEquipment name=\"QB2\" type=\"DIS\"><Terminal connectivityNode=\"S/V1/W1/B\" cNodeName=\"B\"/><Terminal connectivityNode=\"S/V1/Q1/s\" cNodeName=\"s\"/></ConductingEquipment>
-<ConductingEquipment name=\"E1\" type=\"IFL\"><Terminal connectivityNode=\"S/V1/W1/B\" cNodeName=\"B\"/></ConductingEquipment>
+<ConductingEquipment name=\"QB1\" type=\"DIS\"><Terminal connectivityNode=\"S/V1/W1/B\" cNodeName=\"B\"/>\
+    <Terminal connectivityNode=\"S/V1/Q1/s\" cNodeName=\"s\"/></ConductingEquipment>
+<ConductingEquipment name=\"QB2\" type=\"DIS\"><Terminal connectivityNode=\"S/V1/W1/B\" cNodeName=\"B\"/>\
+    <Terminal connectivityNode=\"S/V1/Q1/s\" cNodeName=\"s\"/></ConductingEquipment>
+<ConductingEquipment name=\"E1\" type=\"IFL\">\
+    <Terminal connectivityNode=\"S/V1/W1/B\" cNodeName=\"B\"/></ConductingEquipment>
 </Bay>
 </VoltageLevel>
 </Substation>
@@ -135,12 +173,16 @@ pub(crate) const BARE_STUB: &str = "<SCL>
 pub(crate) const TWO_TRANSFORMERS: &str = "<SCL>
 <Substation name=\"S\">
 <PowerTransformer name=\"T1\" type=\"PTR\">
-<TransformerWinding name=\"1\" type=\"PTW\"><Terminal connectivityNode=\"S/V1/W1/H\" cNodeName=\"H\"/></TransformerWinding>
-<TransformerWinding name=\"2\" type=\"PTW\"><Terminal connectivityNode=\"S/V2/W1/L\" cNodeName=\"L\"/></TransformerWinding>
+<TransformerWinding name=\"1\" type=\"PTW\">\
+    <Terminal connectivityNode=\"S/V1/W1/H\" cNodeName=\"H\"/></TransformerWinding>
+<TransformerWinding name=\"2\" type=\"PTW\">\
+    <Terminal connectivityNode=\"S/V2/W1/L\" cNodeName=\"L\"/></TransformerWinding>
 </PowerTransformer>
 <PowerTransformer name=\"T2\" type=\"PTR\">
-<TransformerWinding name=\"1\" type=\"PTW\"><Terminal connectivityNode=\"S/V1/W2/H\" cNodeName=\"H\"/></TransformerWinding>
-<TransformerWinding name=\"2\" type=\"PTW\"><Terminal connectivityNode=\"S/V2/W1/L\" cNodeName=\"L\"/></TransformerWinding>
+<TransformerWinding name=\"1\" type=\"PTW\">\
+    <Terminal connectivityNode=\"S/V1/W2/H\" cNodeName=\"H\"/></TransformerWinding>
+<TransformerWinding name=\"2\" type=\"PTW\">\
+    <Terminal connectivityNode=\"S/V2/W1/L\" cNodeName=\"L\"/></TransformerWinding>
 </PowerTransformer>
 <VoltageLevel name=\"V1\">
 <Bay name=\"W1\">
@@ -150,8 +192,10 @@ pub(crate) const TWO_TRANSFORMERS: &str = "<SCL>
 <ConnectivityNode name=\"H\" pathName=\"S/V1/W2/H\"/>
 </Bay>
 <Bay name=\"Q1\">
-<ConductingEquipment name=\"QB1\" type=\"DIS\"><Terminal connectivityNode=\"S/V1/W1/H\" cNodeName=\"H\"/><Terminal connectivityNode=\"S/V1/W2/H\" cNodeName=\"H\"/></ConductingEquipment>
-<ConductingEquipment name=\"E1\" type=\"IFL\"><Terminal connectivityNode=\"S/V1/W1/H\" cNodeName=\"H\"/></ConductingEquipment>
+<ConductingEquipment name=\"QB1\" type=\"DIS\"><Terminal connectivityNode=\"S/V1/W1/H\" cNodeName=\"H\"/>\
+    <Terminal connectivityNode=\"S/V1/W2/H\" cNodeName=\"H\"/></ConductingEquipment>
+<ConductingEquipment name=\"E1\" type=\"IFL\">\
+    <Terminal connectivityNode=\"S/V1/W1/H\" cNodeName=\"H\"/></ConductingEquipment>
 </Bay>
 </VoltageLevel>
 <VoltageLevel name=\"V2\">
@@ -165,4 +209,17 @@ pub(crate) const TWO_TRANSFORMERS: &str = "<SCL>
 
 // A drawing of one bay as a tool writes it, with line ends of two bytes.
 pub(crate) const AS_A_TOOL_WRITES: &str =
-    "<?xml version=\"1.0\" encoding=\"utf-8\"?>\r\n<!-- one line bay -->\r\n<SCL xmlns=\"http://www.iec.ch/61850/2003/SCL\" xmlns:sxy=\"urn:draw\" version=\"2007\">\r\n  <Header id=\"demo\"/>\r\n  <Substation name='S'>\r\n    <Private type=\"vendor\"><x:y xmlns:x=\"urn:x\">a &amp; b</x:y></Private>\r\n    <VoltageLevel name=\"V1\" sxy:x=\"4\">\r\n      <Voltage multiplier=\"k\" unit=\"V\">110</Voltage>\r\n      <Bay name=\"Q&#49;\">\r\n        <ConductingEquipment name=\"QC9\" type=\"DIS\" sxy:x=\"1\" sxy:y=\"9\">\r\n          <LNode iedName=\"None\" lnClass=\"XSWI\" lnInst=\"1\"/>\r\n          <Terminal name=\"T1\" connectivityNode=\"S/V1/Q1/a\" cNodeName=\"a\"/>\r\n          <Terminal name=\"T2\" connectivityNode=\"S/V1/Q1/grounded\" cNodeName=\"grounded\"/>\r\n        </ConductingEquipment>\r\n        <ConductingEquipment name=\"E1\" type=\"IFL\">\r\n          <Terminal substationName=\"S\" voltageLevelName=\"V1\" bayName=\"Q1\" cNodeName=\"a\"/>\r\n        </ConductingEquipment>\r\n        <ConnectivityNode name=\"a\" pathName=\"S/V1/Q1/a\"/>\r\n      </Bay>\r\n    </VoltageLevel>\r\n  </Substation>\r\n</SCL>\r\n";
+    "<?xml version=\"1.0\" encoding=\"utf-8\"?>\r\n<!-- one line bay -->\r\n\
+        <SCL xmlns=\"http://www.iec.ch/61850/2003/SCL\" xmlns:sxy=\"urn:draw\" version=\"2007\">\r\n  \
+        <Header id=\"demo\"/>\r\n  <Substation name='S'>\r\n    \
+        <Private type=\"vendor\"><x:y xmlns:x=\"urn:x\">a &amp; b</x:y></Private>\r\n    \
+        <VoltageLevel name=\"V1\" sxy:x=\"4\">\r\n      <Voltage multiplier=\"k\" unit=\"V\">110</Voltage>\r\n      \
+        <Bay name=\"Q&#49;\">\r\n        \
+        <ConductingEquipment name=\"QC9\" type=\"DIS\" sxy:x=\"1\" sxy:y=\"9\">\r\n          \
+        <LNode iedName=\"None\" lnClass=\"XSWI\" lnInst=\"1\"/>\r\n          \
+        <Terminal name=\"T1\" connectivityNode=\"S/V1/Q1/a\" cNodeName=\"a\"/>\r\n          \
+        <Terminal name=\"T2\" connectivityNode=\"S/V1/Q1/grounded\" cNodeName=\"grounded\"/>\r\n        \
+        </ConductingEquipment>\r\n        <ConductingEquipment name=\"E1\" type=\"IFL\">\r\n          \
+        <Terminal substationName=\"S\" voltageLevelName=\"V1\" bayName=\"Q1\" cNodeName=\"a\"/>\r\n        \
+        </ConductingEquipment>\r\n        <ConnectivityNode name=\"a\" pathName=\"S/V1/Q1/a\"/>\r\n      </Bay>\r\n    \
+        </VoltageLevel>\r\n  </Substation>\r\n</SCL>\r\n";

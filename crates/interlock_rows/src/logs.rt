@@ -59,7 +59,8 @@ const ROWS: &[Row] = &[
         rest: "",
         status: Status::Done,
         line: "",
-        report: "21 1 collecting 1\n21 1 send 1 reserve 2 1\n22 2 send 2 answer 1 1\n23 1 granted 1 close S/V1/Q1/QB1\n26 1 finished 1\n26 1 send 3 over 2 1\ndone 27\n",
+        report: "21 1 collecting 1\n21 1 send 1 reserve 2 1\n22 2 send 2 answer 1 1\n23 1 granted 1 close S/V1/Q1/QB1\n\
+            26 1 finished 1\n26 1 send 3 over 2 1\ndone 27\n",
     },
     // Two rounds at once: neither bay answers the other.
     Row {
@@ -67,15 +68,21 @@ const ROWS: &[Row] = &[
         rest: "command,S/V1/Q2/QB1,open\ndeliver,1\ndeliver,2\ndeliver,3\ndeliver,4\ndeliver,5\n",
         status: Status::Done,
         line: "",
-        report: "21 1 collecting 1\n21 1 send 1 reserve 2 1\n22 2 collecting 1\n22 2 send 2 reserve 1 1\n23 2 send 3 busy 1 1\n24 1 send 4 busy 2 1\n25 1 busy 1 from 2 holder 2 round 1\n25 1 send 5 over 2 1\n26 2 busy 1 from 1 holder 1 round 1\n26 2 send 6 over 1 1\ndone 27\n",
+        report: "21 1 collecting 1\n21 1 send 1 reserve 2 1\n22 2 collecting 1\n22 2 send 2 reserve 1 1\n\
+            23 2 send 3 busy 1 1\n24 1 send 4 busy 2 1\n25 1 busy 1 from 2 holder 2 round 1\n25 1 send 5 over 2 1\n\
+            26 2 busy 1 from 1 holder 1 round 1\n26 2 send 6 over 1 1\ndone 27\n",
     },
     // Restarts, repeats and a query.
     Row {
         first: 23,
-        rest: "restart,S/V1/Q1\ncommand,S/V1/Q1/QA1,close\nrestart,S/V1/Q2\ncommand,S/V1/Q2/QA1,open\nbegin,S/V1/Q1/QB1\nend,S/V1/Q1/QB1\nsense,S/V1/Q1/QB1,on\ndeliver,3\ndeliver,1\ndeliver,2\ntick,S/V1/Q2\ndeliver,5\ndeliver,6\ncommand,S/V1/Q2/QA1,open\n",
+        rest: "restart,S/V1/Q1\ncommand,S/V1/Q1/QA1,close\nrestart,S/V1/Q2\ncommand,S/V1/Q2/QA1,open\n\
+            begin,S/V1/Q1/QB1\nend,S/V1/Q1/QB1\nsense,S/V1/Q1/QB1,on\ndeliver,3\ndeliver,1\ndeliver,2\ntick,S/V1/Q2\n\
+            deliver,5\ndeliver,6\ncommand,S/V1/Q2/QA1,open\n",
         status: Status::Done,
         line: "",
-        report: "21 1 collecting 1\n21 1 send 1 reserve 2 1\n22 2 send 2 answer 1 1\n23 1 granted 1 close S/V1/Q1/QB1\n25 1 underway 1\n27 2 held 1 round 1\n30 1 finished 1\n30 1 send 3 over 2 1\n32 2 send 4 answer 1 1\n34 2 send 5 query 1 1\n35 1 send 6 over 2 1\n37 2 collecting 1\n37 2 send 7 reserve 1 1\ndone 37\n",
+        report: "21 1 collecting 1\n21 1 send 1 reserve 2 1\n22 2 send 2 answer 1 1\n23 1 granted 1 close S/V1/Q1/QB1\n\
+            25 1 underway 1\n27 2 held 1 round 1\n30 1 finished 1\n30 1 send 3 over 2 1\n32 2 send 4 answer 1 1\n\
+            34 2 send 5 query 1 1\n35 1 send 6 over 2 1\n37 2 collecting 1\n37 2 send 7 reserve 1 1\ndone 37\n",
     },
     // Repeats after the end: the second feeder is reserved again, and answers.
     Row {
@@ -83,15 +90,19 @@ const ROWS: &[Row] = &[
         rest: "deliver,1\ndeliver,2\ndeliver,3\n",
         status: Status::Done,
         line: "",
-        report: "21 1 collecting 1\n21 1 send 1 reserve 2 1\n22 2 send 2 answer 1 1\n23 1 granted 1 close S/V1/Q1/QB1\n26 1 finished 1\n26 1 send 3 over 2 1\n28 2 send 4 answer 1 1\ndone 30\n",
+        report: "21 1 collecting 1\n21 1 send 1 reserve 2 1\n22 2 send 2 answer 1 1\n23 1 granted 1 close S/V1/Q1/QB1\n\
+            26 1 finished 1\n26 1 send 3 over 2 1\n28 2 send 4 answer 1 1\ndone 30\n",
     },
     // A drive stops between its ends: the operation has ended, and the switch is opened in a round of its own.
     Row {
         first: 24,
-        rest: "cut,S/V1/Q1/QB1\ncommand,S/V1/Q1/QB1,open\ndeliver,3\ndeliver,4\ndeliver,5\nbegin,S/V1/Q1/QB1\nend,S/V1/Q1/QB1\nsense,S/V1/Q1/QB1,off\ndeliver,6\n",
+        rest: "cut,S/V1/Q1/QB1\ncommand,S/V1/Q1/QB1,open\ndeliver,3\ndeliver,4\ndeliver,5\nbegin,S/V1/Q1/QB1\n\
+            end,S/V1/Q1/QB1\nsense,S/V1/Q1/QB1,off\ndeliver,6\n",
         status: Status::Done,
         line: "",
-        report: "21 1 collecting 1\n21 1 send 1 reserve 2 1\n22 2 send 2 answer 1 1\n23 1 granted 1 close S/V1/Q1/QB1\n25 1 stopped 1\n25 1 send 3 over 2 1\n26 1 collecting 2\n26 1 send 4 reserve 2 2\n28 2 send 5 answer 1 2\n29 1 granted 2 open S/V1/Q1/QB1\n32 1 finished 2\n32 1 send 6 over 2 2\ndone 33\n",
+        report: "21 1 collecting 1\n21 1 send 1 reserve 2 1\n22 2 send 2 answer 1 1\n23 1 granted 1 close S/V1/Q1/QB1\n\
+            25 1 stopped 1\n25 1 send 3 over 2 1\n26 1 collecting 2\n26 1 send 4 reserve 2 2\n28 2 send 5 answer 1 2\n\
+            29 1 granted 2 open S/V1/Q1/QB1\n32 1 finished 2\n32 1 send 6 over 2 2\ndone 33\n",
     },
     // Where the switches stand, and nothing more.
     Row {
@@ -136,7 +147,8 @@ const ROWS: &[Row] = &[
         rest: "withdraw,S/V1/Q1\n",
         status: Status::Premise,
         line: "interlock: premise 5 line 25\n",
-        report: "21 1 collecting 1\n21 1 send 1 reserve 2 1\n22 2 send 2 answer 1 1\n23 1 granted 1 close S/V1/Q1/QB1\n",
+        report: "21 1 collecting 1\n21 1 send 1 reserve 2 1\n22 2 send 2 answer 1 1\n\
+            23 1 granted 1 close S/V1/Q1/QB1\n",
     },
     Row {
         first: 10,
@@ -157,14 +169,16 @@ const ROWS: &[Row] = &[
         rest: "cut,S/V1/Q1/QB1\nsense,S/V1/Q1/QB1,on\n",
         status: Status::Premise,
         line: "interlock: premise 2 line 26\n",
-        report: "21 1 collecting 1\n21 1 send 1 reserve 2 1\n22 2 send 2 answer 1 1\n23 1 granted 1 close S/V1/Q1/QB1\n25 1 stopped 1\n25 1 send 3 over 2 1\n",
+        report: "21 1 collecting 1\n21 1 send 1 reserve 2 1\n22 2 send 2 answer 1 1\n23 1 granted 1 close S/V1/Q1/QB1\n\
+            25 1 stopped 1\n25 1 send 3 over 2 1\n",
     },
     Row {
         first: 24,
         rest: "cut,S/V1/Q1/QB1\nend,S/V1/Q1/QB1\n",
         status: Status::Premise,
         line: "interlock: premise 4 line 26\n",
-        report: "21 1 collecting 1\n21 1 send 1 reserve 2 1\n22 2 send 2 answer 1 1\n23 1 granted 1 close S/V1/Q1/QB1\n25 1 stopped 1\n25 1 send 3 over 2 1\n",
+        report: "21 1 collecting 1\n21 1 send 1 reserve 2 1\n22 2 send 2 answer 1 1\n23 1 granted 1 close S/V1/Q1/QB1\n\
+            25 1 stopped 1\n25 1 send 3 over 2 1\n",
     },
 ];
 
@@ -234,12 +248,16 @@ fn reports(rt: HostRuntime) -> Result<(), Fail> {
 // Reports with a denial, in two pieces: the reading that it names may have the breaker of the second feeder closed,
 // which a line between the pieces says, or open.
 const BY_A_TICK: [&str; 2] = [
-    "bay 1 S/V1/Q1\nbay 2 S/V1/Q2\n21 1 collecting 1\n21 1 send 1 reserve 2 1\n22 2 send 2 answer 1 1\n23 1 denied 1 R2 close S/V1/Q1/QB1\n23 1 with S/V1/Q1/QB9\n23 1 with S/V1/Q2/QB1\n",
+    "bay 1 S/V1/Q1\nbay 2 S/V1/Q2\n21 1 collecting 1\n21 1 send 1 reserve 2 1\n22 2 send 2 answer 1 1\n\
+        23 1 denied 1 R2 close S/V1/Q1/QB1\n23 1 with S/V1/Q1/QB9\n23 1 with S/V1/Q2/QB1\n",
     "23 1 with S/V1/Q2/QB9\n23 1 with S/V1/Q2/QC9\n23 1 with S/V1/Q2/E1\n23 1 send 3 over 2 1\ndone 24\n",
 ];
 
 const OF_ROUND_2: [&str; 2] = [
-    "bay 1 S/V1/Q1\nbay 2 S/V1/Q2\n21 1 collecting 1\n21 1 send 1 reserve 2 1\n22 2 send 2 answer 1 1\n23 1 granted 1 close S/V1/Q1/QB1\n26 1 finished 1\n26 1 send 3 over 2 1\n28 1 collecting 2\n28 1 send 4 reserve 2 2\n30 1 denied 2 R2 close S/V1/Q1/QA1\n30 1 with S/V1/Q1/QB1\n30 1 with S/V1/Q1/QB9\n30 1 with S/V1/Q2/QB1\n",
+    "bay 1 S/V1/Q1\nbay 2 S/V1/Q2\n21 1 collecting 1\n21 1 send 1 reserve 2 1\n22 2 send 2 answer 1 1\n\
+        23 1 granted 1 close S/V1/Q1/QB1\n26 1 finished 1\n26 1 send 3 over 2 1\n28 1 collecting 2\n\
+        28 1 send 4 reserve 2 2\n30 1 denied 2 R2 close S/V1/Q1/QA1\n30 1 with S/V1/Q1/QB1\n30 1 with S/V1/Q1/QB9\n\
+        30 1 with S/V1/Q2/QB1\n",
     "30 1 with S/V1/Q2/QB9\n30 1 with S/V1/Q2/QC9\n30 1 with S/V1/Q2/E1\n30 1 send 5 over 2 2\ndone 30\n",
 ];
 
@@ -293,7 +311,8 @@ fn granted_by_a_tick(rt: HostRuntime) -> Result<(), Fail> {
     log.push(b"command,S/V1/Q1/QB1,open\ndeliver,1\ntick,S/V1/Q1\n")?;
     let out = replayed(&rt, alloc, log.bytes(), Status::Done, "")?;
     let want =
-        b"bay 1 S/V1/Q1\nbay 2 S/V1/Q2\n21 1 collecting 1\n21 1 send 1 reserve 2 1\n22 2 send 2 answer 1 1\n23 1 granted 1 open S/V1/Q1/QB1\ndone 23\n";
+        b"bay 1 S/V1/Q1\nbay 2 S/V1/Q2\n21 1 collecting 1\n21 1 send 1 reserve 2 1\n22 2 send 2 answer 1 1\n\
+            23 1 granted 1 open S/V1/Q1/QB1\ndone 23\n";
     assert_eq!(rt; out.bytes(), want.as_slice());
     Ok(())
 }

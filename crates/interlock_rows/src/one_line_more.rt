@@ -75,8 +75,9 @@ struct Broken {
     line: &'static str,
 }
 
-// A restart of the bay before its grant forgets the round, so the drive may not begin; a restart of the other bay before
-// its answer leaves it without words, so the answer helps nothing; and a frame comes cut that was not sent yet.
+// A restart of the bay before its grant forgets the round, so the drive may not begin; a restart of the other
+// bay before its answer leaves it without words, so the answer helps nothing; and a frame comes cut that was
+// not sent yet.
 const BROKEN: &[Broken] = &[
     Broken {
         after: 21,
@@ -93,7 +94,8 @@ const BROKEN: &[Broken] = &[
     Broken {
         after: 21,
         more: "restart,S/V1/Q2\n",
-        report: "21 1 collecting 1\n21 1 send 1 reserve 2 1\n23 2 send 2 answer 1 1\n24 1 denied 1 R2 close S/V1/Q1/QB1\n",
+        report: "21 1 collecting 1\n21 1 send 1 reserve 2 1\n23 2 send 2 answer 1 1\n\
+            24 1 denied 1 R2 close S/V1/Q1/QB1\n",
         line: "interlock: premise 3 line 25\n",
     },
     Broken {

@@ -69,7 +69,8 @@ const ORDERS: &[Row] = &[
         order: "close S/V1/Q1/QB1\nclose S/V1/Q1/QB9\nclose S/V1/Q1/E1\nclose S/V1/Q1/QA1\n",
         want: (
             Status::Done,
-            "1 ok close S/V1/Q1/QB1\n2 ok close S/V1/Q1/QB9\n3 ok close S/V1/Q1/E1\n4 ok close S/V1/Q1/QA1\naccepted 4\nback accepted\n",
+            "1 ok close S/V1/Q1/QB1\n2 ok close S/V1/Q1/QB9\n3 ok close S/V1/Q1/E1\n4 ok close S/V1/Q1/QA1\n\
+                accepted 4\nback accepted\n",
             "",
         ),
     },

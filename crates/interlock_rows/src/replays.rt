@@ -33,7 +33,8 @@ fn expect_replay(
 // no log.
 const REPLAYS: &[(&str, (Status, &str, &str))] = &[
     (
-        "at,S/V1/Q1/QC9,off\nat,S/V1/Q1/E1,off\nsense,S/V1/Q1/QC9,off\nsense,S/V1/Q1/E1,off\ncommand,S/V1/Q1/QC9,close\nbegin,S/V1/Q1/QC9\nend,S/V1/Q1/QC9\nsense,S/V1/Q1/QC9,on\n",
+        "at,S/V1/Q1/QC9,off\nat,S/V1/Q1/E1,off\nsense,S/V1/Q1/QC9,off\nsense,S/V1/Q1/E1,off\n\
+            command,S/V1/Q1/QC9,close\nbegin,S/V1/Q1/QC9\nend,S/V1/Q1/QC9\nsense,S/V1/Q1/QC9,on\n",
         (
             Status::Done,
             "bay 0 S/V1/Q1\n5 0 granted 1 close S/V1/Q1/QC9\n8 0 finished 1\ndone 8\n",

@@ -222,7 +222,8 @@ fn releases_over_every_reading(rt: HostRuntime) -> Result<(), Fail> {
     expect_lines(&rt, alloc, station, unknown.bytes(), &lines)?;
     let station = TWO_FEEDERS.as_bytes();
     let positions =
-        b"S/V1/Q1/QA1,on\nS/V1/Q1/QB9,on\nS/V1/Q1/E1,on\nS/V1/Q2/QB1,on\nS/V1/Q2/QC9,bad\nS/V1/Q1/QB1,off\nS/V1/Q1/QC9,off\nS/V1/Q2/QA1,off\nS/V1/Q2/QB9,off\nS/V1/Q2/E1,off\n";
+        b"S/V1/Q1/QA1,on\nS/V1/Q1/QB9,on\nS/V1/Q1/E1,on\nS/V1/Q2/QB1,on\nS/V1/Q2/QC9,bad\nS/V1/Q1/QB1,off\n\
+            S/V1/Q1/QC9,off\nS/V1/Q2/QA1,off\nS/V1/Q2/QB9,off\nS/V1/Q2/E1,off\n";
     expect_lines(&rt, alloc, station, positions, &["1 1 - - S/V1/Q1/QB1\n"])?;
     Ok(())
 }

@@ -28,16 +28,22 @@ const ROWS: &[Row] = &[
     // its summary stands for, which releases the operation; then the end is sensed.
     Row {
         words: Q1,
-        input: b"sense off S/V1/Q1/QB1\nsense off S/V1/Q1/QA1\nsense on S/V1/Q1/QB9\nsense off S/V1/Q1/QC9\nsense off S/V1/Q1/E1\ncommand close S/V1/Q1/QB1\nframe 02020100000001000104\nsense on S/V1/Q1/QB1\n",
-        text: b"keep 000000010000000000000000000000000000\ncollecting 1\nsend 010102000000010000\nkeep 000000010000000000000100000001000001\ngranted 1 close S/V1/Q1/QB1\nkeep 000000010000000000000000000000000000\nfinished 1\nsend 050102000000010000\n",
+        input: b"sense off S/V1/Q1/QB1\nsense off S/V1/Q1/QA1\nsense on S/V1/Q1/QB9\nsense off S/V1/Q1/QC9\n\
+            sense off S/V1/Q1/E1\ncommand close S/V1/Q1/QB1\nframe 02020100000001000104\nsense on S/V1/Q1/QB1\n",
+        text: b"keep 000000010000000000000000000000000000\ncollecting 1\nsend 010102000000010000\n\
+            keep 000000010000000000000100000001000001\ngranted 1 close S/V1/Q1/QB1\n\
+            keep 000000010000000000000000000000000000\nfinished 1\nsend 050102000000010000\n",
         status: Status::Done,
         line: "",
     },
     // The drive stops between its ends: the operation has ended.
     Row {
         words: Q1,
-        input: b"sense off S/V1/Q1/QB1\r\nsense off S/V1/Q1/QA1\nsense on S/V1/Q1/QB9\nsense off S/V1/Q1/QC9\nsense off S/V1/Q1/E1\ncommand close S/V1/Q1/QB1\nframe 02020100000001000104\ncut S/V1/Q1/QB1",
-        text: b"keep 000000010000000000000000000000000000\ncollecting 1\nsend 010102000000010000\nkeep 000000010000000000000100000001000001\ngranted 1 close S/V1/Q1/QB1\nkeep 000000010000000000000000000000000000\nstopped 1\nsend 050102000000010000\n",
+        input: b"sense off S/V1/Q1/QB1\r\nsense off S/V1/Q1/QA1\nsense on S/V1/Q1/QB9\nsense off S/V1/Q1/QC9\n\
+            sense off S/V1/Q1/E1\ncommand close S/V1/Q1/QB1\nframe 02020100000001000104\ncut S/V1/Q1/QB1",
+        text: b"keep 000000010000000000000000000000000000\ncollecting 1\nsend 010102000000010000\n\
+            keep 000000010000000000000100000001000001\ngranted 1 close S/V1/Q1/QB1\n\
+            keep 000000010000000000000000000000000000\nstopped 1\nsend 050102000000010000\n",
         status: Status::Done,
         line: "",
     },
@@ -69,8 +75,10 @@ const ROWS: &[Row] = &[
     },
     Row {
         words: Q1,
-        input: b"kept fffffffe0000000000000000000000000000\ncommand close S/V1/Q1/QB1\nwithdraw\ncommand close S/V1/Q1/QB1\n",
-        text: b"keep ffffffff0000000000000000000000000000\ncollecting 4294967295\nsend 010102ffffffff0000\nwithdrawn 4294967295\nsend 050102ffffffff0000\nspent\n",
+        input: b"kept fffffffe0000000000000000000000000000\ncommand close S/V1/Q1/QB1\nwithdraw\n\
+            command close S/V1/Q1/QB1\n",
+        text: b"keep ffffffff0000000000000000000000000000\ncollecting 4294967295\nsend 010102ffffffff0000\n\
+            withdrawn 4294967295\nsend 050102ffffffff0000\nspent\n",
         status: Status::Done,
         line: "",
     },

@@ -9,7 +9,8 @@ returns-in-Ok-audit_output-clause-ok g c =
     let d = c.in-Ok.station in
     let second = c.in-Ok-load_blocks in (
       d,
-      drawn_given (g.F.Shelf.held c.args.shelf.now) (File c.args.station.now) d c.in-Ok.ensures.ok c.in-Ok-build_judge.ensures.ok,
+      drawn_given (g.F.Shelf.held c.args.shelf.now) (File c.args.station.now) d c.in-Ok.ensures.ok
+          c.in-Ok-build_judge.ensures.ok,
       (
         second.blocks,
         given_later c.in-Ok.ensures.onward (File c.args.equations.now) (BlocksOf d) second.blocks second.ensures.ok,

@@ -10,7 +10,8 @@ returns-in-Ok-check_text-clause-ok g c =
     let d = c.in-Ok.station in
     let second = c.in-Ok-load_readings in (
       d,
-      drawn_given (g.F.Shelf.held c.args.shelf.now) (File c.args.station.now) d c.in-Ok.ensures.ok c.in-Ok-build_judge.ensures.ok,
+      drawn_given (g.F.Shelf.held c.args.shelf.now) (File c.args.station.now) d c.in-Ok.ensures.ok
+          c.in-Ok-build_judge.ensures.ok,
       (
         second.readings,
         given_later c.in-Ok.ensures.onward (File c.args.positions.now) (Positions d) second.readings second.ensures.ok,

@@ -17,7 +17,8 @@ returns-in-Err-named_switch-clause-err g c =
       inr (
         second.readings,
         given_later first.onward (File c.args.positions.now) (Positions d) second.readings second.ensures.ok,
-        inl (word_fails (g.F.Shelf.held c.args.shelf.now) (g.F.Shelf.faults c.args.shelf.now) (g.F.Shelf.faults c.load_readings.new.shelf) (SwitchOf d) c.args.path.now third.end third.ensures.err),
+        inl (word_fails (g.F.Shelf.held c.args.shelf.now) (g.F.Shelf.faults c.args.shelf.now)
+            (g.F.Shelf.faults c.load_readings.new.shelf) (SwitchOf d) c.args.path.now third.end third.ensures.err),
       ),
     )
 

@@ -5,9 +5,12 @@ use Rattle.interlock_cli.proofs.loading.load_drawing.Goals as goal
 
 pub returns-clause-ok : goal.returns-clause-ok
 returns-clause-ok g c =
-    drawn (g.F.Shelf.held c.args.shelf.now) c.args.name.now c.in-Ok.bytes.items c.judge_drawing.result c.in-Ok.ensures.ok (rw c.deref.ensures.value at c.judge_drawing.ensures.ok)
+    drawn (g.F.Shelf.held c.args.shelf.now) c.args.name.now c.in-Ok.bytes.items c.judge_drawing.result
+    c.in-Ok.ensures.ok (rw c.deref.ensures.value at c.judge_drawing.ensures.ok)
 
 pub returns-clause-err : goal.returns-clause-err
 returns-clause-err g c =
-    failed Drawing drawing (g.F.Shelf.held c.args.shelf.now) (g.F.Shelf.faults c.args.shelf.now) (g.F.Shelf.faults c.read_file.new.shelf) c.args.name.now c.in-Ok.bytes.items c.judge_drawing.result c.in-Ok.ensures.ok
+    failed Drawing drawing (g.F.Shelf.held c.args.shelf.now) (g.F.Shelf.faults c.args.shelf.now)
+    (g.F.Shelf.faults c.read_file.new.shelf) c.args.name.now c.in-Ok.bytes.items c.judge_drawing.result
+    c.in-Ok.ensures.ok
     (rw c.deref.ensures.value at c.judge_drawing.ensures.err)

@@ -5,10 +5,13 @@ use Rattle.interlock_cli.proofs.loading.load_readings.Goals as goal
 pub returns-clause-ok : goal.returns-clause-ok
 returns-clause-ok g c =
     let d = c.args.station.now in
-    given (Positions d) (positions d) (g.F.Shelf.held c.args.shelf.now) c.args.name.now c.in-Ok.bytes.items c.judge_positions.result c.in-Ok.ensures.ok (rw c.deref.ensures.value at c.judge_positions.ensures.ok)
+    given (Positions d) (positions d) (g.F.Shelf.held c.args.shelf.now) c.args.name.now c.in-Ok.bytes.items
+    c.judge_positions.result c.in-Ok.ensures.ok (rw c.deref.ensures.value at c.judge_positions.ensures.ok)
 
 pub returns-clause-err : goal.returns-clause-err
 returns-clause-err g c =
     let d = c.args.station.now in
-    failed (Positions d) (positions d) (g.F.Shelf.held c.args.shelf.now) (g.F.Shelf.faults c.args.shelf.now) (g.F.Shelf.faults c.read_file.new.shelf) c.args.name.now c.in-Ok.bytes.items c.judge_positions.result c.in-Ok.ensures.ok
+    failed (Positions d) (positions d) (g.F.Shelf.held c.args.shelf.now) (g.F.Shelf.faults c.args.shelf.now)
+    (g.F.Shelf.faults c.read_file.new.shelf) c.args.name.now c.in-Ok.bytes.items c.judge_positions.result
+    c.in-Ok.ensures.ok
     (rw c.deref.ensures.value at c.judge_positions.ensures.err)

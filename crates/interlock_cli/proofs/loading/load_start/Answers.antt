@@ -5,10 +5,13 @@ use Rattle.interlock_cli.proofs.loading.load_start.Goals as goal
 pub returns-clause-ok : goal.returns-clause-ok
 returns-clause-ok g c =
     let d = c.args.station.now in
-    given (CertainPositions d) (certain_positions d) (g.F.Shelf.held c.args.shelf.now) c.args.name.now c.in-Ok.bytes.items c.judge_start.result c.in-Ok.ensures.ok (rw c.deref.ensures.value at c.judge_start.ensures.ok)
+    given (CertainPositions d) (certain_positions d) (g.F.Shelf.held c.args.shelf.now) c.args.name.now
+    c.in-Ok.bytes.items c.judge_start.result c.in-Ok.ensures.ok (rw c.deref.ensures.value at c.judge_start.ensures.ok)
 
 pub returns-clause-err : goal.returns-clause-err
 returns-clause-err g c =
     let d = c.args.station.now in
-    failed (CertainPositions d) (certain_positions d) (g.F.Shelf.held c.args.shelf.now) (g.F.Shelf.faults c.args.shelf.now) (g.F.Shelf.faults c.read_file.new.shelf) c.args.name.now c.in-Ok.bytes.items c.judge_start.result c.in-Ok.ensures.ok
+    failed (CertainPositions d) (certain_positions d) (g.F.Shelf.held c.args.shelf.now)
+    (g.F.Shelf.faults c.args.shelf.now) (g.F.Shelf.faults c.read_file.new.shelf) c.args.name.now c.in-Ok.bytes.items
+    c.judge_start.result c.in-Ok.ensures.ok
     (rw c.deref.ensures.value at c.judge_start.ensures.err)

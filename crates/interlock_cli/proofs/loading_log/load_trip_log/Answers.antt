@@ -5,10 +5,13 @@ use Rattle.interlock_cli.proofs.loading_log.load_trip_log.Goals as goal
 pub returns-clause-ok : goal.returns-clause-ok
 returns-clause-ok g c =
     let d = c.args.station.now in
-    given (TripLogOf d) (trip_log d) (g.F.Shelf.held c.args.shelf.now) c.args.name.now c.in-Ok.bytes.items c.judge_trip_log.result c.in-Ok.ensures.ok (rw c.deref.ensures.value at c.judge_trip_log.ensures.ok)
+    given (TripLogOf d) (trip_log d) (g.F.Shelf.held c.args.shelf.now) c.args.name.now c.in-Ok.bytes.items
+    c.judge_trip_log.result c.in-Ok.ensures.ok (rw c.deref.ensures.value at c.judge_trip_log.ensures.ok)
 
 pub returns-clause-err : goal.returns-clause-err
 returns-clause-err g c =
     let d = c.args.station.now in
-    failed (TripLogOf d) (trip_log d) (g.F.Shelf.held c.args.shelf.now) (g.F.Shelf.faults c.args.shelf.now) (g.F.Shelf.faults c.read_file.new.shelf) c.args.name.now c.in-Ok.bytes.items c.judge_trip_log.result c.in-Ok.ensures.ok
+    failed (TripLogOf d) (trip_log d) (g.F.Shelf.held c.args.shelf.now) (g.F.Shelf.faults c.args.shelf.now)
+    (g.F.Shelf.faults c.read_file.new.shelf) c.args.name.now c.in-Ok.bytes.items c.judge_trip_log.result
+    c.in-Ok.ensures.ok
     (rw c.deref.ensures.value at c.judge_trip_log.ensures.err)

@@ -7,7 +7,8 @@ pub returns-clause-ok : goal.returns-clause-ok
 returns-clause-ok g c =
     let d = c.in-Ok.station in (
       d,
-      drawn_given (g.F.Shelf.held c.args.shelf.now) (File c.args.station.now) d c.in-Ok.ensures.ok c.in-Ok-build_judge.ensures.ok,
+      drawn_given (g.F.Shelf.held c.args.shelf.now) (File c.args.station.now) d c.in-Ok.ensures.ok
+          c.in-Ok-build_judge.ensures.ok,
       (
         c.in-Ok-named_bay.bay.0,
         (c.args.bay.now, refl, c.in-Ok-named_bay.ensures.accepts),

@@ -16,7 +16,8 @@ returns-in-Err-load_order-clause-err g c =
       inr (
         second.start,
         given_later first.onward (File c.args.positions.now) (CertainPositions d) second.start second.ensures.ok,
-        inl (fails_later (onward_both first.onward second.ensures.onward) (g.F.Shelf.faults c.load_order.new.shelf) (File c.args.steps.now) (OrderOf d) third.end third.ensures.err),
+        inl (fails_later (onward_both first.onward second.ensures.onward) (g.F.Shelf.faults c.load_order.new.shelf)
+            (File c.args.steps.now) (OrderOf d) third.end third.ensures.err),
       ),
     )
 
@@ -33,7 +34,8 @@ returns-in-Ok-order_text-clause-ok g c =
         given_later first.onward (File c.args.positions.now) (CertainPositions d) second.start second.ensures.ok,
         (
           third.steps,
-          given_later (onward_both first.onward second.ensures.onward) (File c.args.steps.now) (OrderOf d) third.steps third.ensures.ok,
+          given_later (onward_both first.onward second.ensures.onward) (File c.args.steps.now) (OrderOf d) third.steps
+              third.ensures.ok,
           search rules,
         ),
       ),

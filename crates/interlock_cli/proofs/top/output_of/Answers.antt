@@ -46,9 +46,12 @@ pub returns-in-Trips-clause-err : goal.returns-in-Trips-clause-err
 returns-in-Trips-clause-err g c = rw c.in-Trips.is c.trips.ensures.err
 
 pub returns-in-Work-clause-ok : goal.returns-in-Work-clause-ok
-returns-in-Work-clause-ok g c = rw c.in-Work.is (at_held (g.F.Shelf.held c.args.shelf.now) (form_of (Work c.in-Work.feeders.number)) c.work.result c.work.ensures.ok)
+returns-in-Work-clause-ok g c =
+    rw c.in-Work.is (at_held (g.F.Shelf.held c.args.shelf.now) (form_of (Work c.in-Work.feeders.number)) c.work.result
+    c.work.ensures.ok)
 
 pub returns-in-Work-clause-err : goal.returns-in-Work-clause-err
 returns-in-Work-clause-err g c =
     rw c.in-Work.is
-    (stops_at (g.F.Shelf.held c.args.shelf.now) (g.F.Shelf.faults c.args.shelf.now) (g.F.Shelf.faults c.args.shelf.now) (form_of (Work c.in-Work.feeders.number)) c.work.result c.work.ensures.err)
+    (stops_at (g.F.Shelf.held c.args.shelf.now) (g.F.Shelf.faults c.args.shelf.now) (g.F.Shelf.faults c.args.shelf.now)
+    (form_of (Work c.in-Work.feeders.number)) c.work.result c.work.ensures.err)

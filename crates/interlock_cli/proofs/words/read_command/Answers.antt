@@ -6,12 +6,14 @@ use Rattle.interlock_cli.proofs.Naming.{of_written, unwritten}
 use Rattle.interlock_cli.proofs.words.read_command.Goals as goal
 
 pub returns-in_default-clause-err : goal.returns-in_default-clause-err
-returns-in_default-clause-err c = unwritten (map string_bytes c.args.words.now) (sym (ap (option_map row_words) c.in_default.is) ∙ c.in-Ok.ensures)
+returns-in_default-clause-err c =
+    unwritten (map string_bytes c.args.words.now) (sym (ap (option_map row_words) c.in_default.is) ∙ c.in-Ok.ensures)
 
 pub returns-in-Some-named-clause-ok : goal.returns-in-Some-named-clause-ok
 returns-in-Some-named-clause-ok c =
     let read = c.in-Some.row in
-    let is : Some (row_words read) ≡ written (map string_bytes c.args.words.now) = sym (ap (option_map row_words) c.in-Some.is) ∙ c.in-Ok.ensures in
+    let is : Some (row_words read) ≡ written (map string_bytes c.args.words.now) =
+    sym (ap (option_map row_words) c.in-Some.is) ∙ c.in-Ok.ensures in
     of_written (map string_bytes c.args.words.now) (row_words read) is
     ∙ sym (ap (λ ws. named (read.name.now ∷ map (λ w. w.now) ws)) c.deref.ensures.value)
     ∙ c.in-Some-named.ensures
@@ -19,7 +21,8 @@ returns-in-Some-named-clause-ok c =
 pub returns-clause-err : goal.returns-clause-err
 returns-clause-err c =
     let read = c.in-Some.row in
-    let is : Some (row_words read) ≡ written (map string_bytes c.args.words.now) = sym (ap (option_map row_words) c.in-Some.is) ∙ c.in-Ok.ensures in
+    let is : Some (row_words read) ≡ written (map string_bytes c.args.words.now) =
+    sym (ap (option_map row_words) c.in-Some.is) ∙ c.in-Ok.ensures in
     of_written (map string_bytes c.args.words.now) (row_words read) is
     ∙ sym (ap (λ ws. named (read.name.now ∷ map (λ w. w.now) ws)) c.deref.ensures.value)
     ∙ c.in-None.ensures
