@@ -98,7 +98,8 @@ pub record BaysSoFar (d : Diagram) (n count : ℕ) : Type 0 where
   pub few : count ≤ n
 
 step : (d : Diagram) (n : ℕ) (has : Bool) → has_switches d n ≡ has
-    → count_by (has_switches d) (range_with_len 0 (n + 1)) ≡ count_by (has_switches d) (range_with_len 0 n) + cond has 1 0
+    → count_by (has_switches d) (range_with_len 0 (n + 1))
+    ≡ count_by (has_switches d) (range_with_len 0 n) + cond has 1 0
 step d n has is =
     count_more (has_switches d) n ∙ ap (λ (b : Bool). count_by (has_switches d) (range_with_len 0 n) + cond b 1 0) is
 
