@@ -1,5 +1,6 @@
 //! One layer after another: the values after each switch of a part, and the steps that lead to them.
-ghost use Rattle.std.specs.Prelude.{◌≡◌, ℕ, ◌+◌, ◌*◌, ◌^◌, ◌<◌, ◌≤◌, length, slice_get, slice_index, Some, IfOk, IfSome, IfNone, Contains};
+ghost use Rattle.std.specs.Prelude.{◌≡◌, ℕ, ◌+◌, ◌*◌, ◌^◌, ◌<◌, ◌≤◌, length, slice_get, slice_index, Some, IfOk};
+ghost use Rattle.std.specs.Prelude.{IfSome, IfNone, Contains};
 ghost use Rattle.station_graph.specs.Nodes.{Rises};
 ghost use Rattle.contraction.specs.Answers.{Answers, Keeps};
 ghost use Rattle.bay_contract.specs.Building.{Forked, Ranked};

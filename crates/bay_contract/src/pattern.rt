@@ -1,5 +1,6 @@
 //! What is built of a part, so that it serves each part that is like it.
-ghost use Rattle.std.specs.Prelude.{◌≡◌, ◌≢◌, ℕ, ◌+◌, ◌<◌, ◌≤◌, Bool, List, [], ◌∷◌, ◌++◌, Some, length, slice_get, IfOk, IfErr, IfSome};
+ghost use Rattle.std.specs.Prelude.{◌≡◌, ◌≢◌, ℕ, ◌+◌, ◌<◌, ◌≤◌, Bool, List, [], ◌∷◌, ◌++◌, Some, length, slice_get};
+ghost use Rattle.std.specs.Prelude.{IfOk, IfErr, IfSome};
 ghost use Rattle.contraction.specs.Answers.{AreNodes};
 ghost use Rattle.bay_contract.specs.declared.pattern.Pattern.{Pattern};
 ghost use Rattle.bay_contract.specs.Layers.{rank, bits};

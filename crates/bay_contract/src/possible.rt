@@ -1,5 +1,6 @@
 //! Which indices are possible where words tell of the positions.
-ghost use Rattle.std.specs.Prelude.{◌≡◌, ℕ, ◌+◌, ◌-◌, ◌^◌, ◌<◌, ◌≤◌, ◌↔◌, List, Option, None, Some, length, slice_get, IfOk, IsTrue, MatchOption};
+ghost use Rattle.std.specs.Prelude.{◌≡◌, ℕ, ◌+◌, ◌-◌, ◌^◌, ◌<◌, ◌≤◌, ◌↔◌, List, Option, None, Some, length, slice_get};
+ghost use Rattle.std.specs.Prelude.{IfOk, IsTrue, MatchOption};
 ghost use Rattle.bay_contract.specs.PartAlphabets.{PartAlphabet};
 ghost use Rattle.bay_contract.specs.Paths.{NotesOne, NotesBoth, PathsTo, IsNoted, HasPath, MayLead, IsWay};
 ghost use Rattle.bay_contract.specs.Alphabets.{InSet};

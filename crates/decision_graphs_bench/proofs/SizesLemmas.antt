@@ -76,7 +76,8 @@ some-with_node d some = omega (
   length-set d.layers (length d.layers - 1)
       (record {
         choices = (draft_layer_at d (length d.layers - 1)).choices;
-        rows = (draft_layer_at d (length d.layers - 1)).rows ++ replicate (draft_layer_at d (length d.layers - 1)).choices
+        rows =
+            (draft_layer_at d (length d.layers - 1)).rows ++ replicate (draft_layer_at d (length d.layers - 1)).choices
             None ∷ [];
       }),
 )

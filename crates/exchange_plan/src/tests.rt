@@ -49,7 +49,8 @@ struct Row {
 // Two feeders on one busbar. Each can put voltage or earth on the busbar, in eight ways that its own nodes do not tell
 // apart. Neither is a partner of itself, and the busbar has no switches.
 const TOGETHER_ROW: Row = Row {
-    text: b"{\"bays\":[{\"bay\":1,\"partners\":[{\"bay\":2,\"bits\":8}],\"path\":\"S/V1/Q1\"},{\"bay\":2,\"partners\":[{\"bay\":1,\"bits\":8}],\"path\":\"S/V1/Q2\"}]}\n",
+    text: b"{\"bays\":[{\"bay\":1,\"partners\":[{\"bay\":2,\"bits\":8}],\"path\":\"S/V1/Q1\"},\
+        {\"bay\":2,\"partners\":[{\"bay\":1,\"bits\":8}],\"path\":\"S/V1/Q2\"}]}\n",
     bits: &[
         (1, 2, Some(8)),
         (2, 1, Some(8)),
@@ -61,7 +62,8 @@ const TOGETHER_ROW: Row = Row {
 
 // On two busbars no feeder touches what the other can reach.
 const APART_ROW: Row = Row {
-    text: b"{\"bays\":[{\"bay\":2,\"partners\":[],\"path\":\"S/V1/Q1\"},{\"bay\":3,\"partners\":[],\"path\":\"S/V1/Q2\"}]}\n",
+    text: b"{\"bays\":[{\"bay\":2,\"partners\":[],\"path\":\"S/V1/Q1\"},\
+        {\"bay\":3,\"partners\":[],\"path\":\"S/V1/Q2\"}]}\n",
     bits: &[(2, 3, None), (3, 2, None), (2, 2, None)],
 };
 

@@ -195,7 +195,8 @@ heard_sent m start (l ∷ before) w b c words station laws (old, run, leads) is 
       frame = a.frame;
       summary = a.summary;
       there = way_sent m old w l.event leads.outcome a.frame
-          (way m station old w leads.outcome (run_is m start before old station laws run).facts.rounds l.event leads.range
+          (way m station old w leads.outcome (run_is m start before old station laws run).facts.rounds
+          l.event leads.range
           leads.happens) a.there;
       from = a.from;
       to = a.to;

@@ -292,7 +292,8 @@ restart_bay m before s b old turn new k shows end = own_rests m before _ b old.c
 -- a delivery that decides nothing, where not all are heard after it
 delivery_rests : (m : Meaning) (before : List Line) (s : Shown) (n b : ℕ) (old : State) (turn : Turn) (new : State)
     (o : Outcome) (fs : List Frame) → Before m before b old → of_bay s b ≡ shown turn.outcome → Ends turn new o fs →
-    Undecided o → (old.collecting ≢ None → ¬ AreAllHeard m.diagram (record { event = Deliver n; shown = s } ∷ before) b) →
+    Undecided o →
+    (old.collecting ≢ None → ¬ AreAllHeard m.diagram (record { event = Deliver n; shown = s } ∷ before) b) →
     BayDecides m before (record { event = Deliver n; shown = s }) b
 delivery_rests m before s n b old turn new o fs k shows end un missing =
     bay_rests m before _ b old.collecting k.is.collecting
@@ -304,7 +305,8 @@ silent_rests : (m : Meaning) (before : List Line) (s : Shown) (n b : ℕ) (old :
     (new : State) (o : Outcome) (fs : List Frame) → Before m before b old → Brought m before n f →
     of_bay s b ≡ shown turn.outcome → Ends turn new o fs → Undecided o → Plain (shown o) →
     ((x : ℕ) → is_another m.diagram b x ≡ true → (g : Collection) → old.collecting ≡ Some g →
-    ¬ IsAnswer (message n f) x b (last_round before b)) → BayDecides m before (record { event = Deliver n; shown = s }) b
+    ¬ IsAnswer (message n f) x b (last_round before b)) →
+    BayDecides m before (record { event = Deliver n; shown = s }) b
 silent_rests m before s n b old f turn new o fs k brought shows end un plain never =
     delivery_rests m before s n b old turn new o fs k shows end un (λ some. not_all_heard m before
     (record { event = Deliver n; shown = s }) b old.collecting old.granted old.words k.is
@@ -372,7 +374,8 @@ answer_bay m before s n b old f summary turn station laws k brought to part othe
     (λ x is h got a. absurd (cc (got, none)))
 
 pub frame_bay : (m : Meaning) (before : List Line) (s : Shown) (n b : ℕ) (old : State) (f : Frame) (turn : Turn) →
-    IsStation m.diagram → Laws m → Before m before b old → Brought m before n f → f.to.0 ≡ b → IsBay m.diagram f.from.0 →
+    IsStation m.diagram → Laws m → Before m before b old → Brought m before n f → f.to.0 ≡ b →
+    IsBay m.diagram f.from.0 →
     of_bay s b ≡ shown turn.outcome → FrameStep m m.diagram old f turn →
     BayDecides m before (record { event = Deliver n; shown = s }) b
 frame_bay m before s n b old f turn station laws k brought to part shows (FrameStep.elsewhere differ end) =
@@ -387,10 +390,12 @@ frame_bay m before s n b old f turn station laws k brought to part shows (FrameS
     (ReserveStep.busy_itself q is end)) = silent_rests m before s n b old f turn _ Quiet _ k brought shows end tt tt
     (λ x other g has. other_kind n f x b _ MessageKind.reserve (ap kind_of body) (λ e. absurd (cc e)))
 frame_bay m before s n b old f turn station laws k brought to part shows (FrameStep.reserve meant body
-    (ReserveStep.busy_locked l is lock differ end)) = silent_rests m before s n b old f turn _ Quiet _ k brought shows end
+    (ReserveStep.busy_locked l is lock differ end)) =
+    silent_rests m before s n b old f turn _ Quiet _ k brought shows end
     tt tt (λ x other g has. other_kind n f x b _ MessageKind.reserve (ap kind_of body) (λ e. absurd (cc e)))
 frame_bay m before s n b old f turn station laws k brought to part shows (FrameStep.reserve meant body
-    (ReserveStep.late l is lock same above end)) = silent_rests m before s n b old f turn _ Quiet _ k brought shows end tt
+    (ReserveStep.late l is lock same above end)) =
+    silent_rests m before s n b old f turn _ Quiet _ k brought shows end tt
     tt (λ x other g has. other_kind n f x b _ MessageKind.reserve (ap kind_of body) (λ e. absurd (cc e)))
 frame_bay m before s n b old f turn station laws k brought to part shows (FrameStep.reserve meant body
     (ReserveStep.answers idle may a)) = silent_rests m before s n b old f turn _ Quiet _ k brought shows a.end tt tt
@@ -399,7 +404,8 @@ frame_bay m before s n b old f turn station laws k brought to part shows (FrameS
     answer_bay m before s n b old f summary turn station laws k brought to part meant.other body shows step
 frame_bay m before s n b old f turn station laws k brought to part shows (FrameStep.busy holder q meant body
     (BusyStep.gives_up g has round end)) = silent_rests m before s n b old f turn _
-    (BusyBy f.round (record { 0 = f.from.0 }) holder q) _ k brought shows end tt tt (λ x other h got. other_kind n f x b _
+    (BusyBy f.round (record { 0 = f.from.0 }) holder q) _ k brought shows end tt tt
+    (λ x other h got. other_kind n f x b _
     MessageKind.busy (ap kind_of body) (λ e. absurd (cc e)))
 frame_bay m before s n b old f turn station laws k brought to part shows (FrameStep.busy holder q meant body
     (BusyStep.other_round g has round end)) = silent_rests m before s n b old f turn _ Quiet _ k brought shows end tt tt
@@ -412,7 +418,8 @@ frame_bay m before s n b old f turn station laws k brought to part shows
     brought shows end tt tt (λ x other h got. other_kind n f x b _ MessageKind.query (ap kind_of body)
     (λ e. absurd (cc e)))
 frame_bay m before s n b old f turn station laws k brought to part shows
-    (FrameStep.query meant body (QueryStep.unknown_round above end)) = silent_rests m before s n b old f turn _ Quiet _ k
+    (FrameStep.query meant body (QueryStep.unknown_round above end)) =
+    silent_rests m before s n b old f turn _ Quiet _ k
     brought shows end tt tt (λ x other h got. other_kind n f x b _ MessageKind.query (ap kind_of body)
     (λ e. absurd (cc e)))
 frame_bay m before s n b old f turn station laws k brought to part shows
@@ -424,7 +431,8 @@ frame_bay m before s n b old f turn station laws k brought to part shows
     Quiet _ k brought shows end tt tt (λ x other h got. other_kind n f x b _ MessageKind.over (ap kind_of body)
     (λ e. absurd (cc e)))
 frame_bay m before s n b old f turn station laws k brought to part shows
-    (FrameStep.over meant body (OverStep.earlier_round l lock holder low end)) = silent_rests m before s n b old f turn _
+    (FrameStep.over meant body (OverStep.earlier_round l lock holder low end)) =
+    silent_rests m before s n b old f turn _
     Quiet _ k brought shows end tt tt (λ x other h got. other_kind n f x b _ MessageKind.over (ap kind_of body)
     (λ e. absurd (cc e)))
 frame_bay m before s n b old f turn station laws k brought to part shows

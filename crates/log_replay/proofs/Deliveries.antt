@@ -169,7 +169,8 @@ hears_it m before n b s g f summary k brought has to part other some body round 
 
 answer_turn : (m : Meaning) (before : List Line) (n b : ℕ) (s : State) (f : Frame) (summary : List ℕ) (turn : Turn) →
     Before m before b s → Brought m before n f → f.to.0 ≡ b → IsBay m.diagram f.from.0 →
-    IsOther m.diagram s.bay f.from.0 → f.body ≡ Answer summary → AnswerStep m m.diagram s f.from.0 f.round summary turn →
+    IsOther m.diagram s.bay f.from.0 → f.body ≡ Answer summary →
+    AnswerStep m m.diagram s f.from.0 f.round summary turn →
     TurnIs m before b (Deliver n) turn
 answer_turn m before n b s f summary turn k brought to part other body (AnswerStep.heard_one g has round fits all end) =
     let some = missing_some m.diagram b g.heard (k.is.missing g has) in
@@ -221,7 +222,8 @@ answer_turn m before n b s f summary turn k brought to part other body (AnswerSt
     (nothing_sent m b s.words)
 
 pub frame_turn : (m : Meaning) (before : List Line) (n b : ℕ) (s : State) (f : Frame) (turn : Turn) →
-    Before m before b s → Brought m before n f → f.to.0 ≡ b → IsBay m.diagram f.from.0 → FrameStep m m.diagram s f turn →
+    Before m before b s → Brought m before n f → f.to.0 ≡ b → IsBay m.diagram f.from.0 →
+    FrameStep m m.diagram s f turn →
     TurnIs m before b (Deliver n) turn
 frame_turn m before n b s f turn k brought to part (FrameStep.elsewhere differ end) = absurd (differ (to ∙ sym k.name))
 frame_turn m before n b s f turn k brought to part (FrameStep.stranger differ end) =

@@ -71,7 +71,8 @@ node_spoken m before old e s b turn outcome new is was facts links bay says show
 -- a line that shows nothing, and that changes no node
 drive_spoken : (m : Meaning) (before : List Line) (old : Scene) (e : WorldEvent) (s : Shown) (new : Scene) →
     new.nodes ≡ old.nodes → new.sent ≡ old.sent → RoundFacts m old → Spoken m before old → ShowsNothing s →
-    ((c : ℕ) → Harmless m.diagram e c) → ((c : ℕ) → TellsNothing m.diagram before e c) → Spoken m (line e s ∷ before) new
+    ((c : ℕ) → Harmless m.diagram e c) → ((c : ℕ) → TellsNothing m.diagram before e c) →
+    Spoken m (line e s ∷ before) new
 drive_spoken m before old e s new nodes sent facts links shows harmless silent = record {
   nodes = λ c.
       let P : State → Type 0 = λ n. NodeIs m (line e s ∷ before) c n.collecting n.granted n.words in

@@ -226,10 +226,12 @@ step_is (Step (event.Cut i)) = refl
 kinds_same : (d : Diagram) (row : List (List ℕ)) (x y : LogEvent) → Says d row x → Says d row y → kind_of x ≡ kind_of y
 kinds_same d row x y a b = one_kind (kind_of x) (kind_of y) (sym (of_row d row x a) ∙ of_row d row y b)
 
-pub steps_same : (d : Diagram) (row : List (List ℕ)) (x y : LogEvent) → Says d row x → Says d row y → is_step x ≡ is_step y
+pub steps_same : (d : Diagram) (row : List (List ℕ)) (x y : LogEvent) → Says d row x → Says d row y →
+    is_step x ≡ is_step y
 steps_same d row x y a b = step_is x ∙ ap step_kind (kinds_same d row x y a b) ∙ sym (step_is y)
 
-pub told_same : (d : Diagram) (s : ℕ) → IsStation d → (row : List (List ℕ)) (x y : LogEvent) → Says d row x → Says d row y →
+pub told_same : (d : Diagram) (s : ℕ) → IsStation d → (row : List (List ℕ)) (x y : LogEvent) → Says d row x →
+    Says d row y →
     is_told_of s x ≡ is_told_of s y
 told_same d s station row (TellsAt i closed) (TellsAt j shut) a b =
     let path : switch_path d i.0 ≡ switch_path d j.0 = ap (λ (r : List (List ℕ)). field r 1) (sym a.written

@@ -152,7 +152,8 @@ messages_more first (g ∷ fs) f k is = ap (λ (xs : List Message). message firs
 
 -- one message more
 pub message_lines_more : (i first : ℕ) (fs : List Frame) (k : ℕ) (f : Frame) → slice_get fs k ≡ Some f → k ≤ length fs →
-    flat_map (message_line i) (messages first (take (k + 1) fs)) ≡ flat_map (message_line i) (messages first (take k fs))
+    flat_map (message_line i) (messages first (take (k + 1) fs))
+    ≡ flat_map (message_line i) (messages first (take k fs))
     ++ message_line i (message (first + k) f)
 message_lines_more i first fs k f at few =
     ap (λ gs. flat_map (message_line i) (messages first gs)) (take_next fs k f at)
@@ -217,7 +218,8 @@ many_more p outs k o at =
     ∙ fold-append (λ (n : ℕ) (s : Shown). n + cond (p s.outcome) 1 0) 0 (map shown_at (take k outs)) (shown_at o ∷ [])
 
 pub many_yes : (p : Outcome → Bool) (outs : List (Option WorldOutcome)) (k : ℕ) (o : Option WorldOutcome) →
-    slice_get outs k ≡ Some o → p (shown_at o).outcome ≡ true → how_many p (map shown_at (take (k + 1) outs)) ≡ how_many p
+    slice_get outs k ≡ Some o → p (shown_at o).outcome ≡ true →
+    how_many p (map shown_at (take (k + 1) outs)) ≡ how_many p
     (map shown_at (take k outs)) + 1
 many_yes p outs k o at is = many_more p outs k o at
     ∙ ap (λ (b : Bool). how_many p (map shown_at (take k outs)) + cond b 1 0) is

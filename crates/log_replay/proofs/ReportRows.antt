@@ -41,10 +41,12 @@ abbrev pub says : Diagram → Outcome → List ℕ
 says d (Collecting r) = codes "collecting " ++ decimal r
 says d (Granted r op) = codes "granted " ++ (decimal r ++ (codes " " ++ op_says d op.direction op.switch.0))
 says d (Denied r op rule v) =
-    codes "denied " ++ (decimal r ++ (codes " " ++ (rule_name rule ++ (codes " " ++ op_says d op.direction op.switch.0))))
+    codes "denied "
+    ++ (decimal r ++ (codes " " ++ (rule_name rule ++ (codes " " ++ op_says d op.direction op.switch.0))))
 says d (BusyBy r bay holder q) =
     codes "busy " ++ (decimal r
-    ++ (codes " from " ++ (decimal bay.0 ++ (codes " holder " ++ (decimal holder.0 ++ (codes " round " ++ decimal q))))))
+    ++ (codes " from "
+    ++ (decimal bay.0 ++ (codes " holder " ++ (decimal holder.0 ++ (codes " round " ++ decimal q))))))
 says d (HeldBy bay q) = codes "held " ++ (decimal bay.0 ++ (codes " round " ++ decimal q))
 says d (UnderWay r) = codes "underway " ++ decimal r
 says d There = codes "there"

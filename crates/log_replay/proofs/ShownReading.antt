@@ -123,7 +123,8 @@ quiet_is b c = elim (cases_Bool (c == b)) [
 
 -- what the rows of an outcome tell is the outcome, and its bay, if something is shown
 outcome_read : (d : Diagram) → IsStation d → (i c : ℕ) (o : Outcome) → IsNumber i → IsNumber c → OutcomeFits d o →
-    AreNumbers o → shown o ≡ o → (b : ℕ) → told_of (read_rows d (outcome_rows (line_prefix i c) d o)) b ≡ told_of (c, o) b
+    AreNumbers o → shown o ≡ o → (b : ℕ) →
+    told_of (read_rows d (outcome_rows (line_prefix i c) d o)) b ≡ told_of (c, o) b
 outcome_read d station i c (Collecting r) few less fits n un b = ap (λ (p : ℕ × Outcome). told_of p b)
     (row_is d station i c (Collecting r) [] few less tt fits n (inl (λ v. refl)))
 outcome_read d station i c (Granted r op) few less fits n un b = ap (λ (p : ℕ × Outcome). told_of p b)
@@ -255,7 +256,8 @@ outcomes_other d i c o few less = outcome_each (Test is_sent false) (line_prefix
 messages_sent : (i : ℕ) (xs : List Message) → IsNumber i → All IsNumbered xs →
     Each (Test is_sent true) (message_rows i xs)
 messages_sent i xs few all = messages_each (Test is_sent true) IsNumbered i xs
-    (λ x n. ap (λ (t : List ℕ). bytes_eq (first t) (codes "send")) (said_of_row i x.from (message_says x) few n.from)) all
+    (λ x n. ap (λ (t : List ℕ). bytes_eq (first t) (codes "send")) (said_of_row i x.from (message_says x) few n.from))
+    all
 
 turned : (b : Bool) (rs : List (List ℕ)) → Each (Test is_sent b) rs →
     Each (Test is_other (if b then false else true)) rs

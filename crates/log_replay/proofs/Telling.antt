@@ -88,7 +88,8 @@ rest_dropped d i k (s ∷ out) less few all =
 
 -- the rows of a line among those of all lines
 line_kept : (d : Diagram) (i k : ℕ) (out : List Shown) → IsNumber (k + i) → k + length out < 2 ^ 32 →
-    All (IsShowable d) out → kept (begins (decimal (k + i))) (all_rows d k out) ≡ shown_rows d (k + i) (shown_after out i)
+    All (IsShowable d) out →
+    kept (begins (decimal (k + i))) (all_rows d k out) ≡ shown_rows d (k + i) (shown_after out i)
 line_kept d zero k [] number few all = refl
 line_kept d (suc i) k [] number few all = refl
 line_kept d zero k (s ∷ out) number few all =
@@ -207,7 +208,8 @@ showable_after d (s ∷ out) zero all = all 0 s (omega arith)
 showable_after d (s ∷ out) (suc i) all = showable_after d out i (λ j x within. all (suc j) x (omega (arith, within)))
 
 line_told : (d : Diagram) → IsStation d → (r : Replayed) (i : ℕ) → length r.out < 2 ^ 31 → i < 2 ^ 31 →
-    All (IsShowable d) r.out → ShowSame (shown_after r.out i) (tell d (kept (begins (decimal (1 + i))) (report_rows d r)))
+    All (IsShowable d) r.out →
+    ShowSame (shown_after r.out i) (tell d (kept (begins (decimal (1 + i))) (report_rows d r)))
 line_told d station r i few within all =
     subst (λ (rs : List (List ℕ)). ShowSame (shown_after r.out i) (tell d rs)) (sym (report_tells d r i few within all))
     (shown_read d station (1 + i) (shown_after r.out i) (omega (arith, within)) (showable_after d r.out i all))

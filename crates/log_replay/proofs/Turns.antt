@@ -76,7 +76,8 @@ one_sent m b words x none = no_answers m b words (x ∷ []) (λ f there. subst (
     (one_frame x f there) none)
 
 pub each_sent : (m : Meaning) (b : ℕ) (words : List Dbpos) (from round : ℕ) (body : Body) (tos : List ℕ) →
-    NoAnswer body → (f : Frame) (summary : List ℕ) → Contains (to_each from round body tos) f → f.body ≡ Answer summary →
+    NoAnswer body → (f : Frame) (summary : List ℕ) → Contains (to_each from round body tos) f →
+    f.body ≡ Answer summary →
     (f.from.0 ≡ b) × Summarises m b f.to.0 words summary
 each_sent m b words from round body tos none = no_answers m b words (to_each from round body tos)
     (λ f there. subst NoAnswer (sym (each_frame from round body tos f there)) none)
@@ -338,7 +339,8 @@ withdraw_turn m before b s turn k (WithdrawStep.from_grant g none has end) =
         read = λ i lt is. set_is s.words g.op.switch.0 Lost i
             (omega (arith, (switch_of m s.bay g.op.switch.0 (k.sound.kept.granted g has).own).0, k.sound.words))
             ∙ ap (λ (w : Dbpos). cond (g.op.switch.0 == i) Lost w) (k.is.read i lt is)
-            ∙ ap (λ (t : Bool). cond t Lost (reading_at m.diagram before i)) (sym (of_it (open_of before b) g i is_open));
+            ∙ ap (λ (t : Bool). cond t Lost (reading_at m.diagram before i))
+            (sym (of_it (open_of before b) g i is_open));
         last = λ h got. absurd (cc got);
         round = λ q is some. k.is.round q (ended_round s.collecting s.granted q is) some;
         heard = λ h x got. absurd (cc (got, none));
@@ -354,7 +356,8 @@ withdraw_turn m before b s turn k (WithdrawStep.no_round idle end) =
     })
 
 pub cut_turn : (m : Meaning) (before : List Line) (b : ℕ) (s : State) (i : SwitchId) (turn : Turn) →
-    Before m before b s → i.0 < length m.diagram.switches → CutStep m.diagram s i.0 turn → TurnIs m before b (Cut i) turn
+    Before m before b s → i.0 < length m.diagram.switches → CutStep m.diagram s i.0 turn →
+    TurnIs m before b (Cut i) turn
 cut_turn m before b s i turn k lt (CutStep.stops g has at end) =
     let is_open : open_of before b ≡ Some g = sym k.is.granted ∙ has in
     by_ends (TurnIs m before b (Cut i)) turn (ends (senses s i.0 Lost)) (Stopped g.round) (overs m.diagram s g.round)

@@ -36,7 +36,8 @@ pub record IsRunOf (m : Meaning) (log : List LogEvent) (out : List Shown) (w : S
 pub data IsReplay (m : Meaning) (log : List LogEvent) (r : Replayed) : Type 0 where
   whole : (w : Scene) → IsRunOf m log r.out w → length r.out ≡ length log → r.broken ≡ None → IsReplay m log r
   stops : (w : Scene) (e : WorldEvent) (which : Which) → IsRunOf m log r.out w →
-      slice_get log (length r.out) ≡ Some (Step e) → IsBrokenBy m.diagram (start_of m.diagram log) (lines_of log r.out [])
+      slice_get log (length r.out) ≡ Some (Step e) →
+      IsBrokenBy m.diagram (start_of m.diagram log) (lines_of log r.out [])
       e which → r.broken ≡ Some (length r.out + 1, which) → IsReplay m log r
   no_start : ¬ HasStart m.diagram log → r.out ≡ [] → r.broken ≡ Some (at_count log + 1, Start) → IsReplay m log r
 

@@ -28,7 +28,8 @@ pub fn headline_holds<J: Judge>(judge: &J)
 pub fn premises_are_exact<J: Judge>(judge: &J)
     ensures { (start : List Bool) (before : List Line) (old new : Scene) (event : Event) (outcome : Outcome) →
         let m = J.meaning judge.now in
-        Run m start before old → InRange m.diagram event → Happens m old event new outcome → PremiseExact m.diagram start before event outcome }
+        Run m start before old → InRange m.diagram event → Happens m old event new outcome →
+        PremiseExact m.diagram start before event outcome }
 {
     judge.diagram_is_station();
 }

@@ -8,4 +8,7 @@ use Rattle.exchange_plan.proofs.json.json_of.Goals as goal
 
 pub returns : goal.returns
 unfolding plan_json
-returns c = IfOk-weaker c.to_string.result _ _ (λ s text. text (ap has_float c.in_ok-value.ensures ∙ plan_plain c.args.station.now c.args.bays.now) ∙ ap compact_text c.in_ok-value.ensures) c.to_string.ensures.text
+returns c =
+    IfOk-weaker c.to_string.result _ _ (λ s text. text
+    (ap has_float c.in_ok-value.ensures ∙ plan_plain c.args.station.now c.args.bays.now)
+    ∙ ap compact_text c.in_ok-value.ensures) c.to_string.ensures.text

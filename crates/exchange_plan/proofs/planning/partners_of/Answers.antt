@@ -13,13 +13,24 @@ loop-number-preserved c =
     elim c.if-is_partner.branch [
       | then-is_partner+in_ok-push w ↦
           let items = ap (λ (v : Vec PartnerBits Global). v.items) w.partners-is ∙ w.in_ok-push.ensures.items in
-          let size = has_size d c.args.judge.now.diagram c.args.judge.now.alphabets c.parts-parts.result.now n w.size.result c.requires.station c.parts-parts.ensures.alphabets c.parts-parts.ensures.value (omega (arith, c.loop-number-test.true, c.loop-number.auto.number-end, c.part_count-number-end.ensures.count)) w.size.ensures.size in
+          let size =
+          has_size d c.args.judge.now.diagram c.args.judge.now.alphabets c.parts-parts.result.now n w.size.result
+          c.requires.station c.parts-parts.ensures.alphabets c.parts-parts.ensures.value (omega (
+            arith,
+            c.loop-number-test.true,
+            c.loop-number.auto.number-end,
+            c.part_count-number-end.ensures.count,
+          )) w.size.ensures.size in
           subst (λ (xs : List PartnerBits). PartnersBelow d b xs (n + 1)) (sym items)
-          (partners_more d b old n (record { bay = record { 0 = n }; bits = w.size.result }) c.loop-number.invariant refl (c.is_partner.ensures.partner w.if-is_partner.true) size)
+          (partners_more d b old n (record { bay = record { 0 = n }; bits = w.size.result }) c.loop-number.invariant
+          refl (c.is_partner.ensures.partner w.if-is_partner.true) size)
       | else-is_partner w ↦
           subst (λ (v : Vec PartnerBits Global). PartnersBelow d b v.items (n + 1)) (sym w.partners-is)
           (partners_pass d b old n c.loop-number.invariant (c.is_partner.ensures.other w.if-is_partner.false))
     ]
 
 pub returns : goal.returns
-returns c = partners_all c.args.station.now c.args.bay.0 c.loop-number.partners.items c.loop-number.number c.loop-number.invariant (omega (arith, c.loop-number-test.false, c.loop-number.auto.number-end, c.part_count-number-end.ensures.count))
+returns c =
+    partners_all c.args.station.now c.args.bay.0 c.loop-number.partners.items c.loop-number.number
+    c.loop-number.invariant
+    (omega (arith, c.loop-number-test.false, c.loop-number.auto.number-end, c.part_count-number-end.ensures.count))
