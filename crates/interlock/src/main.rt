@@ -5,7 +5,7 @@ use ilk_base::{FileShelf, StdIn, StdOut, write_all};
 use interlock_cli::{Status, run_stored};
 use node_store::FileDevice;
 use std::alloc::AllocError;
-use std::io::ErrorKind;
+use std::io::{ErrorKind, Write};
 use std::process::ExitCode;
 use std::{env, io};
 
@@ -20,6 +20,12 @@ fn words(rt: &HostRuntime) -> io::Result<Vec<String>> {
     Ok(words)
 }
 
+// Says that there was not enough memory.
+fn wants_memory<W: Write>(err: &mut StdOut<W>) -> ExitCode {
+    let _ = write_all(err, b"interlock: out of memory\n");
+    ExitCode::from(Status::Memory as u8)
+}
+
 fn main(rt: HostRuntime) -> ExitCode {
     let alloc = rt.alloc();
     let mut shelf = FileShelf::new(alloc, &rt);
@@ -28,10 +34,7 @@ fn main(rt: HostRuntime) -> ExitCode {
     let mut err = StdOut::new(rt.stderr());
     let words = match words(&rt) {
         Ok(words) => words,
-        Err(error) if error.kind() == ErrorKind::OutOfMemory => {
-            let _ = write_all(&mut err, b"interlock: out of memory\n");
-            return ExitCode::from(Status::Memory as u8);
-        }
+        Err(error) if error.kind() == ErrorKind::OutOfMemory => return wants_memory(&mut err),
         // A word that is no text is a word of no command.
         Err(_) => Vec::new(alloc),
     };
@@ -40,7 +43,10 @@ fn main(rt: HostRuntime) -> ExitCode {
         Some(name) => name.as_str(),
         None => "",
     };
-    let mut device = FileDevice::new(alloc, &rt, name);
+    let mut device = match FileDevice::new(alloc, &rt, name) {
+        Ok(device) => device,
+        Err(_) => return wants_memory(&mut err),
+    };
     let status = run_stored(
         alloc,
         &words,

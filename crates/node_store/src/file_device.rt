@@ -4,7 +4,7 @@ ghost use Rattle.ilk_base.specs.Outside.{Rose};
 ghost use Rattle.node_store.specs.Edge.{NothingTold, NothingToldBetween, nothing_splits};
 
 use crate::device::Device;
-use ilk_base::Failed;
+use ilk_base::{Failed, Memory};
 use std::alloc::Global;
 use std::fs;
 use std::fs::{OpenFile, OpenOptions};
@@ -17,9 +17,9 @@ use std::rt::Files;
 /// fewer bytes is left as it is, and a read past its end is a fault.
 #[derive(Drop)]
 pub struct FileDevice<'a, R: Files> {
-    alloc: Global,
     rt: R,
     name: &'a str,
+    beside: String,
     file: Option<R::File>,
     read_faults: u64,
     write_faults: u64,
@@ -31,20 +31,19 @@ fn open_file<R: Files>(rt: &R, name: &str) -> IoResult<R::File> {
 }
 
 // Makes the file whole beside its place, and puts it there.
-fn make_file<R: Files>(alloc: Global, rt: &R, name: &str) -> IoResult<()> {
-    let beside = format!(in alloc; "{name}.new")?;
-    let mut file = fs::create(rt, &beside)?;
+fn make_file<R: Files>(rt: &R, name: &str, beside: &str) -> IoResult<()> {
+    let mut file = fs::create(rt, beside)?;
     file.write_all(&[0; 64])?;
     file.sync_all()?;
-    fs::rename(rt, &beside, name)
+    fs::rename(rt, beside, name)
 }
 
 // The file, made where it is missing.
-fn open_or_make<R: Files>(alloc: Global, rt: &R, name: &str) -> IoResult<R::File> {
+fn open_or_make<R: Files>(rt: &R, name: &str, beside: &str) -> IoResult<R::File> {
     match open_file(rt, name) {
         Ok(file) => Ok(file),
         Err(e) if e.kind() == ErrorKind::NotFound => {
-            make_file(alloc, rt, name)?;
+            make_file(rt, name, beside)?;
             open_file(rt, name)
         }
         Err(e) => Err(e),
@@ -63,18 +62,22 @@ fn write_at<F: Write + Seek>(file: &mut F, at: u8, piece: &[u8]) -> IoResult<()>
 }
 
 impl<'a, R: Files> FileDevice<'a, R> {
-    /// The file of that name. Nothing is opened yet, and no memory is taken; a file that is made
-    /// takes room for its name.
-    pub fn new(alloc: Global, rt: R, name: &'a str) -> FileDevice<'a, R> {
-        FileDevice {
-            alloc,
+    /// The file of that name. Nothing is opened yet; memory is taken for the name under which a missing
+    /// file is made.
+    pub fn new(alloc: Global, rt: R, name: &'a str) -> Result<FileDevice<'a, R>, Memory>
+    where
+        R: Drop,
+    {
+        let beside = format!(in alloc; "{name}.new")?;
+        Ok(FileDevice {
             rt,
             name,
+            beside,
             file: None,
             read_faults: 0,
             write_faults: 0,
             calls: 0,
-        }
+        })
     }
 
     // The open file, unless it cannot be opened or made.
@@ -85,7 +88,7 @@ impl<'a, R: Files> FileDevice<'a, R> {
     {
         match self.file.take() {
             Some(file) => Some(file),
-            None => open_or_make(self.alloc, &self.rt, self.name).ok(),
+            None => open_or_make(&self.rt, self.name, &self.beside).ok(),
         }
     }
 }
