@@ -109,13 +109,24 @@ def stock():
     return parts
 
 
+def line_start(text, at):
+    """The place at which the line begins in which a place stands."""
+    return text.rfind(b"\n", 0, at) + 1
+
+
+def stretch(rng, text, lengths):
+    """Where a piece of the text begins and ends: any bytes, or whole lines."""
+    at = rng.randrange(len(text) + 1)
+    to = min(len(text), at + rng.choice(lengths))
+    return (at, to) if rng.random() < 0.5 else (line_start(text, at), text.find(b"\n", to) + 1 or len(text))
+
+
 def damaged(rng, text, others):
     """The text with some damage."""
     text = bytearray(text)
     little = rng.random() < 0.5
     for _ in range(1 if little else rng.randint(1, 6)):
-        at = rng.randrange(len(text) + 1)
-        to = min(len(text), at + rng.choice((1, 2, 8) if little else (1, 2, 8, 40, 300)))
+        at, to = stretch(rng, text, (1, 2, 8) if little else (1, 2, 8, 40, 300))
         kind = rng.randrange(7)
         if kind == 0 and text:
             text[at - 1] ^= 1 << rng.randrange(8)
@@ -126,12 +137,12 @@ def damaged(rng, text, others):
         elif kind == 3:
             piece = text[at:to]
             del text[at:to]
-            there = rng.randrange(len(text) + 1)
+            there, _ = stretch(rng, text, (1,))
             text[there:there] = piece
         elif kind == 4:
             other = rng.choice(others)
-            begin = rng.randrange(len(other) + 1)
-            text[at:to] = other[begin:begin + rng.choice((1, 10, 100, 1000))]
+            begin, end = stretch(rng, other, (1, 10, 100, 1000))
+            text[at:to] = other[begin:end]
         elif kind == 5:
             text[at:at] = rng.choice(TOKENS)
         elif rng.random() < 0.3:
