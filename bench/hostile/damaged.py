@@ -7,7 +7,7 @@ Build the program first: ./interlock --prove. Each run takes the files of an exa
 a word in one to six places (a byte is flipped, a piece is cut out, doubled, moved, or comes out of another file, a
 number or a mark that means something is put in, the end is cut off), and runs a command on it.
 
-- The run must end by itself within 20 seconds and in 2 GiB, with a status of the command, with the line of that status
+- The run must end by itself within a minute and in 2 GiB, with a status of the command, with the line of that status
   on standard error and nothing more, and with nothing on standard output where a file is refused.
 - Status 2 must come exactly where the words are those of no command.
 - A run of `stored` must end and write as `node` does that goes on from the record of its file. The file that it leaves
@@ -33,7 +33,7 @@ from running import lay, runner
 from stored_stops import EMPTY, SIZE, SLOT, record_of
 
 PROGRAM = TOP / "crates/interlock/out/interlock"
-SECONDS, PART = 20, 500
+SECONDS, PART = 60, 500
 
 # The line of each status on standard error.
 STATION = rb"([1-9]|1[0134]) at \d+|12 at \d+ count \d+|15 limit \d+ count \d+|16 part \d+ step \d+|17 bay \d+"

@@ -14,8 +14,10 @@ malloc. For N = 1, 2, 3 .. up to the last allocation of a run:
 The whole text is what a run with ample memory writes; that of `check` is worked by hand below. The station is a busbar
 with two feeders of a disconnector and an infeed each, both on. `stored` begins with a file that stands for a record
 (`stored-anew`: with none), and the file that a run leaves must stand for the record after some number of the lines, as
-`node` tells it, no fewer than those of whose text a byte was written. Four runs are made at a time.
+`node` tells it, no fewer than those of whose text a byte was written. Where memory for the name of a new file is refused,
+that file is not made, which is status 4. Four runs are made at a time.
 """
+import collections
 import multiprocessing
 import os
 import pathlib
@@ -32,6 +34,7 @@ sys.path.insert(0, str(TOP / "examples"))
 from stored_stops import RECORD, SIZE, SLOT, looked_at, record_of
 
 LINE = b"interlock: out of memory\n"
+UNMADE = (4, b"", b"interlock: write fault\n")
 PROGRAM = TOP / "crates/interlock/out/interlock"
 SECONDS, PART = 60, 50
 SWITCHES = {f"S/V1/{name}/{switch}": "on" for name in ("Q1", "Q2") for switch in ("QB1", "E1")}
@@ -168,9 +171,9 @@ def begin(name, library):
     return Sweep(name, library, whole, count, told, texts)
 
 
-def refused(sweep, n, ended, left):
-    """Whether the run ended for want of memory, as it must; else it must have ended as with ample memory. The file of a
-    stored session must stand for a record that its text allows."""
+def how(sweep, n, ended, left):
+    """How a run with a refused allocation ended: for want of memory, with a file that could not be made, or well, as with
+    ample memory. The file of a stored session must stand for a record that its text allows."""
     where = f"{sweep.name}, allocation {n}"
     if sweep.told:
         try:
@@ -178,38 +181,40 @@ def refused(sweep, n, ended, left):
         except SystemExit as end:
             raise Wrong(str(end)) from None
     if ended[:3] == sweep.whole[:3]:
-        return False
+        return "well"
+    if sweep.name == "stored-anew" and ended[:3] == UNMADE and left is None:
+        return "unmade"
     if ended.status != 8 or ended.err != LINE or not sweep.whole.out.startswith(ended.out):
         raise Wrong(f"{where}: status {ended.status}\n{ended.out}\n{ended.err}")
-    return True
+    return "wanting"
 
 
-def survives(runs, sweep, n):
-    """Refuses each allocation from the nth on, and then the nth alone: whether that run ended as with ample memory."""
+def refused(runs, sweep, n):
+    """Refuses each allocation from the nth on, and then the nth alone: how that run ended."""
     ended, _, left = sweep.run(runs, n, sys.maxsize)
-    if not refused(sweep, n, ended, left):
+    if how(sweep, n, ended, left) == "well":
         raise Wrong(f"{sweep.name}, allocation {n}: the run went on though all from it on were refused")
     ended, asked, left = sweep.run(runs, n, n)
-    if refused(sweep, n, ended, left):
-        return False
-    if asked <= sweep.count:
+    end = how(sweep, n, ended, left)
+    if end == "well" and asked <= sweep.count:
         raise Wrong(f"{sweep.name}, allocation {n}: the run went on and did not ask again")
-    return True
+    return end
 
 
 def part(sweep, numbers):
-    """Refuses each of these allocations in turn: how many of the runs ended as with ample memory."""
+    """Refuses each of these allocations in turn: how often a run ended so where one alone was refused."""
     with runner(PROGRAM, SECONDS) as runs:
-        return sum(survives(runs, sweep, n) for n in numbers)
+        return collections.Counter(refused(runs, sweep, n) for n in numbers)
 
 
 def swept(pool, name, library):
     """Refuses all allocations of a command, and says what was seen."""
     sweep = pool.apply(begin, (name, library))
     parts = [(sweep, range(first, min(first + PART, sweep.count + 1))) for first in range(1, sweep.count + 1, PART)]
-    survived = sum(pool.starmap(part, parts, chunksize=1))
-    print(f"{name:14} {sweep.count:6} allocations: refused from each on, status 8, its line and a front of the text;", end=" ")
-    print(f"each alone, the same for {sweep.count - survived}, and for {survived} the library asks again", flush=True)
+    ends = sum(pool.starmap(part, parts, chunksize=1), collections.Counter())
+    unmade = f"; for {ends['unmade']} the file is not made, status 4" if ends["unmade"] else ""
+    print(f"{name:14} {sweep.count:6} allocations: refused from each on, status 8, its line and a front of the text; each", end="")
+    print(f" alone, the same for {ends['wanting']}, and for {ends['well']} the library asks again{unmade}", flush=True)
 
 
 def main(names):
