@@ -1,160 +1,163 @@
 #!/usr/bin/env python3
-"""Runs the commands on damaged drawings, positions, logs, orders, equations and lines of `node`.
+"""Runs the commands on damaged drawings, positions, logs, orders, equations, lines, record files and words.
 
     bench/hostile/damaged.py [COUNT [SEED [WORKERS]]]      2,000 runs, seed 1 and 2 workers where they are not given
 
-Build the program first: ./interlock --prove. Each run takes the files of an example, damages one of them in one to six
-places (a byte is flipped, a piece is cut out, doubled, moved, or comes out of another file, a number or a mark that
-means something is put in, the end is cut off), and runs a command on it. The run must end by itself within 20 seconds
-and in 2 GiB, with a status of the command, with the line of that status on standard error and nothing more, and with
-nothing on standard output where a file is refused. What was seen is counted. The first run that does not end so is
-kept in a folder that is named, and ends the script with status 1. The same seed makes the same runs, whatever the count
-of workers.
+Build the program first: ./interlock --prove. Each run takes the files of an example, damages one of them, the input or
+a word in one to six places (a byte is flipped, a piece is cut out, doubled, moved, or comes out of another file, a
+number or a mark that means something is put in, the end is cut off), and runs a command on it.
+
+- The run must end by itself within a minute and in 2 GiB, with a status of the command, with the line of that status
+  on standard error and nothing more, and with nothing on standard output where a file is refused.
+- Status 2 must come exactly where the words are those of no command.
+- A run of `stored` must end and write as `node` does that goes on from the record of its file. The file that it leaves
+  must stand for the record that this `node` kept last. Status 3 must come exactly where the file is too short.
+
+What was seen is counted. A run that does not end so is kept in a folder that is named; its part, of at most 500 runs,
+ends there, and the status is 1. The same seed makes the same runs, whatever the count of workers.
 """
 import collections
 import multiprocessing
 import os
 import pathlib
-import random
 import re
 import resource
-import subprocess
 import sys
 import tempfile
 import time
 
 sys.path.insert(0, str(pathlib.Path(__file__).resolve().parents[1]))
+from cases import FORMS, LAST_SEQUENCE, case, stock
 from common import TOP
+from running import lay, runner
+from stored_stops import EMPTY, SIZE, SLOT, record_of
 
 PROGRAM = TOP / "crates/interlock/out/interlock"
-EXAMPLES = TOP / "examples"
-SCHEMES = sorted(p.stem for p in EXAMPLES.glob("*.ssd") if p.with_suffix(".csv").exists())
-LINES = [f"sense {word} S/V1/Q1/{switch}" for word, switch in zip(("off", "off", "on", "off", "off"), ("QB1", "QA1", "QB9", "QC9", "E1"))]
-LINES += ["command close S/V1/Q1/QB1", "frame 02020100000001000104", "tick", "cut S/V1/Q1/QB1", "sense on S/V1/Q1/QB1", "restart"]
-LINES += ["frame 010102000000010000", "frame 03020100000002000502" + "0000000a", "command open S/V1/Q1/QA1", "withdraw", "frame 050201000000010000", "frame "]
-NODE = ("kept 000000010000000000000000000000000000\n" + "\n".join(LINES) + "\n").encode()
-TOKENS = [b"<", b">", b"/>", b"</", b"\"", b"'", b"&#0;", b"&lt;", b"&", b"]]>", b"<!--", b"-->", b"<?", b"<!DOCTYPE", b"<![CDATA[", b"xmlns=\"a\"", b":", b"name=\"\""]
-TOKENS += [b",", b"\n", b"\r\n", b"\r", b"\"\"", b"\x00", b"\xff", b"\xef\xbb\xbf", b"\xc3", b"0", b"-1", b"1", b"4294967295", b"4294967296", b"99999999999999999999"]
-TOKENS += [b"grounded", b"S/V1/Q1/QB1", b"open ", b"close ", b"when on ", b"or\n", b"end\n", b"never\n", b"lost", b"part,1,64\n", b"deliver,1\n", b"restart,S/V1/Q1\n", b"cut,S/V1/Q1/QB1\n"]
+SECONDS, PART = 60, 500
 
-# What each command may end with, and the line of each status on standard error.
-STATUSES = {"check": {0, 5, 6}, "explain": {0, 5, 6}, "state": {0, 5, 6}, "order": {0, 1, 5, 6}, "replay": {0, 5, 6, 7}, "audit": {0, 1, 5, 6}, "node": {0, 5, 6},
-            "trips": {0, 5, 6, 7}, "plan": {0, 5}, "compile": {0, 5}}
+# The line of each status on standard error.
+STATION = rb"([1-9]|1[0134]) at \d+|12 at \d+ count \d+|15 limit \d+ count \d+|16 part \d+ step \d+|17 bay \d+"
 LINE = {
-    0: r"", 1: r"",
-    5: r"interlock: station refused (([1-9]|1[0134]) at \d+|12 at \d+ count \d+|15 limit \d+ count \d+|16 part \d+ step \d+|17 bay \d+)\n",
-    6: r"interlock: input refused ([1-9]|1[0-4]) line \d+\n",
-    7: r"interlock: premise [1-7] line \d+\n",
+    0: rb"", 1: rb"", 2: rb"interlock: usage\n", 3: rb"interlock: read fault\n",
+    5: rb"interlock: station refused (" + STATION + rb")\n",
+    6: rb"interlock: input refused ([1-9]|1[0-4]) line \d+\n",
+    7: rb"interlock: premise [1-7] line \d+\n",
 }
 
 
-def stock():
-    """Files by name, and the pieces that damage may put in."""
-    files = {p.name: p.read_bytes() for p in sorted(EXAMPLES.iterdir()) if p.suffix in (".ssd", ".csv", ".log", ".equations")}
-    files |= {p.name: p.read_bytes() for p in sorted((EXAMPLES / "orders").iterdir()) if p.suffix in (".csv", ".order")}
-    return files
+def is_text(word):
+    try:
+        word.decode()
+    except UnicodeDecodeError:
+        return False
+    return True
 
 
-def damaged(rng, text, others):
-    """The text with some damage."""
-    text = bytearray(text)
-    little = rng.random() < 0.5
-    for _ in range(1 if little else rng.randint(1, 6)):
-        at = rng.randrange(len(text) + 1)
-        to = min(len(text), at + rng.choice((1, 2, 8) if little else (1, 2, 8, 40, 300)))
-        kind = rng.randrange(7)
-        if kind == 0 and text:
-            text[at - 1] ^= 1 << rng.randrange(8)
-        elif kind == 1:
-            del text[at:to]
-        elif kind == 2:
-            text[at:at] = text[at:to] * rng.choice((1, 1, 1, 50))
-        elif kind == 3:
-            piece = text[at:to]
-            del text[at:to]
-            there = rng.randrange(len(text) + 1)
-            text[there:there] = piece
-        elif kind == 4:
-            other = rng.choice(others)
-            begin = rng.randrange(len(other) + 1)
-            text[at:to] = other[begin:begin + rng.choice((1, 10, 100, 1000))]
-        elif kind == 5:
-            text[at:at] = rng.choice(TOKENS)
-        elif rng.random() < 0.3:
-            del text[at:]
-    return bytes(text)
+def is_usage(one):
+    """Whether the words are those of no command, by their written form."""
+    if any(not word or word.startswith(b"-") or not is_text(word) for word in one.words):
+        return True
+    if one.command in ("make", "work") and not re.fullmatch(rb"[2-9]|[1-5][0-9]|60", one.words[0]):
+        return True
+    return one.command == "make" and one.words[1] not in (b"station", b"positions", b"log")
 
 
-def case(seed, number, files):
-    """The words, the files and the input of a run."""
-    rng = random.Random(seed * 1_000_003 + number)
-    others = list(files.values())
-    scheme = rng.choice(SCHEMES)
-    station, positions, extra, given = files[scheme + ".ssd"], files[scheme + ".csv"], b"", b""
-    command = rng.choice(list(STATUSES))
-    switch = rng.choice(positions.decode().splitlines()).split(",")[0]
-    words = {"explain": ["station", "positions", rng.choice(("open", "close")), switch]}.get(command, ["station", "positions"])
-    if command in ("plan", "compile"):
-        words = ["station"]
-    elif command in ("replay", "trips", "node"):
-        station, extra = files["two_feeders.ssd"], files["two_feeders.log"]
-        words = ["station", "S/V1/Q1"] if command == "node" else ["station", "extra"]
-        given = NODE if command == "node" else b""
-    elif command == "audit":
-        station, extra, words = files["double_busbar.ssd"], files["double_busbar.equations"], ["station", "extra"]
-    elif command == "order":
-        station, positions, extra = files["double_busbar.ssd"], files["earth_line_1.csv"], files["earth_line_1.order"]
-        words = ["station", "positions", "extra"]
-    if rng.random() < 0.25:
-        station = damaged(rng, station, others)
-    elif command == "node":
-        given = damaged(rng, given, others)
-    elif extra and (command != "order" or rng.random() < 0.7):
-        extra = damaged(rng, extra, others)
-    elif rng.random() < 0.5:
-        positions = damaged(rng, positions, others)
-    else:
-        station = damaged(rng, station, others)
-    return [command, *words], {"station": station, "positions": positions, "extra": extra}, given
-
-
-def fault(command, done):
+def fault(one, done):
     """What is wrong with the end of a run, if anything."""
-    status, out, err = done.returncode, done.stdout, done.stderr.decode(errors="replace")
-    if status not in STATUSES[command]:
+    status, out = done.status, done.out
+    if status is None:
+        return f"no end within {SECONDS} seconds"
+    if status not in FORMS[one.command].statuses or (status == 2) != is_usage(one):
         return f"status {status}"
-    if not re.fullmatch(LINE[status], err):
-        return f"status {status}, and on standard error {err!r}"
-    if out and (status == 5 or (status == 6 and command != "node")):
+    if not re.fullmatch(LINE[status], done.err):
+        return f"status {status}, and on standard error {done.err!r}"
+    if out and (status in (2, 3, 5) or (status == 6 and one.command not in ("node", "stored"))):
         return f"status {status}, and on standard output {out[:200]!r}"
     if out and not out.endswith(b"\n"):
         return f"status {status}, and the last line is cut: {out[-200:]!r}"
     return None
 
 
-def work(seed, numbers):
-    """Runs these cases: the counts of what was seen, the longest run, and the first fault."""
+# ---- a stored session beside a node
+
+def newest_sequence(image):
+    """The greatest sequence of an open slot, 0 where none is open."""
+    slots = (image[:SLOT], image[SLOT:SIZE])
+    return max((int.from_bytes(slot[1:9], "big") for slot in slots if slot[0] == 1), default=0)
+
+
+def wanted_of_stored(runs, one):
+    """How a stored session must end, as its status, its line and its text, and the record for which its file must stand
+    then; no record where the file must stay as it is. `node` runs on the same lines, from the record of the file."""
+    image = one.files.get("kept", bytes(SIZE))
+    record = record_of(image[:SIZE]) if len(image) >= SIZE else EMPTY
+    node = runs.run(["node", "station", one.words[1]], b"kept " + record.hex().encode() + b"\n" + one.given)
+    refused = re.fullmatch(rb"interlock: input refused 10 line (\d+)\n", node.err)
+    if node.status != 0 and not refused:
+        return node.status, node.err, b"", None
+    if len(image) < SIZE:
+        return 3, b"interlock: read fault\n", b"", None
+    if newest_sequence(image) > LAST_SEQUENCE or (refused and int(refused[1]) == 1):
+        return 6, b"interlock: input refused 12 line 0\n", b"", None
+    lines = node.out.splitlines(keepends=True)
+    kept = [bytes.fromhex(line[5:].decode()) for line in lines if line.startswith(b"keep ")]
+    err = b"interlock: input refused 10 line %d\n" % (int(refused[1]) - 1) if refused else b""
+    out = b"".join(line for line in lines if not line.startswith(b"keep "))
+    return node.status, err, out, kept[-1] if kept else record
+
+
+def fault_of_stored(runs, one, done):
+    """What is wrong with a stored session or with the file that it left, if anything."""
+    given = one.files.get("kept")
+    left = pathlib.Path("kept").read_bytes() if os.path.exists("kept") else None
+    status, err, out, record = wanted_of_stored(runs, one)
+    if (done.status, done.err, done.out) != (status, err, out):
+        return f"status {done.status}, {done.err!r} and {done.out!r}, not {status}, {err!r} and {out!r} as by `node`"
+    if record is None:
+        return None if left == given else f"the file was {given!r}, and is {left!r}"
+    if left is None or left[SIZE:] != (given or b"")[SIZE:] or record_of(left[:SIZE]) != record:
+        return f"the file is {left!r}, and must stand for {record.hex()}"
+    return None
+
+
+# ---- the runs
+
+def keep(one, number, wrong):
+    """Keeps the files of a run that did not end as it must: what to say of it."""
+    kept = tempfile.mkdtemp(prefix="damaged-")
+    for name, text in {**one.files, "input": one.given}.items():
+        pathlib.Path(kept, name).write_bytes(text)
+    return f"run {number}: {one.command} {one.words} in {kept}: {wrong}"
+
+
+def work(part):
+    """Runs the cases of a part: how many ended with each status, how long each command took, the longest run, and the
+    first fault."""
+    seed, numbers = part
     resource.setrlimit(resource.RLIMIT_AS, (2 << 30, 2 << 30))
-    files, seen, longest = stock(), collections.Counter(), 0.0
-    with tempfile.TemporaryDirectory(dir="/dev/shm" if os.path.isdir("/dev/shm") else None) as folder:
+    examples, seen, spent, longest = stock(), collections.Counter(), collections.Counter(), (0.0, "")
+    with runner(PROGRAM, SECONDS) as runs:
         for number in numbers:
-            words, texts, given = case(seed, number, files)
-            for name, text in texts.items():
-                pathlib.Path(folder, name).write_bytes(text)
-            start = time.monotonic()
-            try:
-                done = subprocess.run([PROGRAM, *words], cwd=folder, input=given, capture_output=True, timeout=20)
-                wrong = fault(words[0], done)
-            except subprocess.TimeoutExpired:
-                wrong = "no end within 20 seconds"
-            longest = max(longest, time.monotonic() - start)
+            one = case(seed, number, examples)
+            lay(one.files)
+            done = runs.run([one.command, *one.words], one.given)
+            wrong = fault(one, done) or (one.command == "stored" and fault_of_stored(runs, one, done))
             if wrong:
-                kept = tempfile.mkdtemp(prefix="damaged-")
-                for name, text in {**texts, "input": given}.items():
-                    pathlib.Path(kept, name).write_bytes(text)
-                return seen, longest, f"run {number}: {' '.join(words)} in {kept}: {wrong}"
-            seen[words[0], done.returncode] += 1
-    return seen, longest, None
+                return seen, spent, longest, keep(one, number, wrong)
+            seen[one.command, done.status] += 1
+            spent[one.command] += done.seconds
+            longest = max(longest, (done.seconds, one.command))
+    return seen, spent, longest, None
+
+
+def told(seen, spent):
+    """A line for each command: how often it ended with each status, and how long it took."""
+    for command, form in FORMS.items():
+        ends = {status: seen[command, status] for status in sorted(form.statuses) if seen[command, status]}
+        if ends:
+            each = 1000 * spent[command] / sum(ends.values())
+            counts = ", ".join(f"{count} with status {status}" for status, count in ends.items())
+            yield f"{command:8} {counts}; {each:.1f} ms each"
 
 
 def main(words):
@@ -163,20 +166,20 @@ def main(words):
     if not PROGRAM.exists():
         sys.exit("build the program first: ./interlock --prove")
     count, seed, workers = (int(word) for word in (words + ["2000", "1", "2"][len(words):]))
-    start = time.monotonic()
+    step, start = max(1, min(PART, count // workers)), time.monotonic()
+    parts = [(seed, range(first, min(first + step, count))) for first in range(0, count, step)]
+    seen, spent, longest, faults = collections.Counter(), collections.Counter(), (0.0, ""), 0
     with multiprocessing.Pool(workers) as pool:
-        step = max(1, min(500, count // workers))
-        parts = [(seed, range(first, min(first + step, count))) for first in range(0, count, step)]
-        seen, longest = collections.Counter(), 0.0
-        for counts, most, wrong in pool.starmap(work, parts, chunksize=1):
-            seen += counts
-            longest = max(longest, most)
+        for counts, seconds, most, wrong in pool.imap_unordered(work, parts):
+            seen, spent, longest = seen + counts, spent + seconds, max(longest, most)
             if wrong:
-                sys.exit(wrong)
-    for command in STATUSES:
-        ends = ", ".join(f"{seen[command, status]} with status {status}" for status in sorted(STATUSES[command]) if seen[command, status])
-        print(f"{command:8} {ends}")
-    print(f"{sum(seen.values())} runs, seed {seed}: no crash, no hang, the longest {longest:.2f} s; {time.monotonic() - start:.0f} s in all")
+                print(wrong, flush=True)
+                faults += 1
+    print(*told(seen, spent), sep="\n")
+    end = f"{faults} did not end as they must" if faults else "no crash, no hang"
+    print(f"{sum(seen.values())} runs, seed {seed}: {end}, the longest {longest[0]:.2f} s ({longest[1]});", end=" ")
+    print(f"{time.monotonic() - start:.0f} s in all")
+    sys.exit(1 if faults else 0)
 
 
 if __name__ == "__main__":

@@ -12,19 +12,31 @@ malloc. For N = 1, 2, 3 .. up to the last allocation of a run:
   and the text of a run with ample memory
 
 The whole text is what a run with ample memory writes; that of `check` is worked by hand below. The station is a busbar
-with two feeders of a disconnector and an infeed each, both on. Four runs are made at a time.
+with two feeders of a disconnector and an infeed each, both on. `stored` begins with a file that stands for a record
+(`stored-anew`: with none), and the file that a run leaves must stand for the record after some number of the lines, as
+`node` tells it, no fewer than those of whose text a byte was written. Where memory for the name of a new file is refused,
+that file is not made, which is status 4. Four runs are made at a time.
 """
-import concurrent.futures
+import collections
+import multiprocessing
+import os
 import pathlib
 import subprocess
 import sys
 import tempfile
+from typing import NamedTuple, Optional
 
 sys.path.insert(0, str(pathlib.Path(__file__).resolve().parents[1]))
 from common import TOP, bay, drawing, equipment
+from running import Ended, lay, runner
+
+sys.path.insert(0, str(TOP / "examples"))
+from stored_stops import RECORD, SIZE, SLOT, looked_at, record_of
 
 LINE = b"interlock: out of memory\n"
+UNMADE = (4, b"", b"interlock: write fault\n")
 PROGRAM = TOP / "crates/interlock/out/interlock"
+SECONDS, PART = 60, 50
 SWITCHES = {f"S/V1/{name}/{switch}": "on" for name in ("Q1", "Q2") for switch in ("QB1", "E1")}
 FEEDERS = [bay(q, ["n"], [equipment("QB1", "DIS", ["W/B", f"{q}/n"]), equipment("E1", "IFL", [f"{q}/n"])]) for q in ("Q1", "Q2")]
 LOG = [f"{kind},{path},{word}" for kind in ("at", "sense") for path, word in SWITCHES.items()]
@@ -37,6 +49,8 @@ FILES = {
     "order": "open S/V1/Q1/E1\nopen S/V1/Q1/QB1\nclose S/V1/Q1/QB1\n",
     "equations": "open S/V1/Q1/QB1\nwhen off S/V1/Q1/E1\nor\nwhen off S/V1/Q2/QB1\nend\nclose S/V1/Q2/E1\nnever\nend\n",
 }
+# The file of `stored`: two slots that are open, with the empty record in each.
+FILE = b"".join((b"\1" + sequence.to_bytes(8, "big")).ljust(SLOT, b"\0") for sequence in (1, 2))
 LINES = b"sense on S/V1/Q1/QB1\nsense on S/V1/Q1/E1\ncommand open S/V1/Q1/QB1\nframe 020201000000010001e0\ntick\ncommand open S/V1/Q1/E1\n"
 LINES += b"tick\nsense off S/V1/Q1/E1\nframe 010201000000010000\ntick\nrestart\nframe 01\n"
 
@@ -53,10 +67,14 @@ COMMANDS = {
     "node": (["node", "station", "S/V1/Q1"], LINES, None),
     "audit": (["audit", "station", "equations"], b"", None),
     "make": (["make", "2", "station"], b"", None),
+    "make-positions": (["make", "2", "positions"], b"", None),
+    "make-log": (["make", "2", "log"], b"", None),
     "plan": (["plan", "station"], b"", None),
     "compile": (["compile", "station"], b"", None),
     "trips": (["trips", "station", "log"], b"", None),
     "work": (["work", "2"], b"", None),
+    "stored": (["stored", "station", "S/V1/Q1", "kept"], LINES, None),
+    "stored-anew": (["stored", "station", "S/V1/Q1", "kept"], LINES, None),
 }
 
 # Refuses what malloc and realloc are asked for from the FIRST_REFUSED-th request to the LAST_REFUSED-th, and
@@ -90,55 +108,113 @@ __attribute__((destructor)) static void end(void) {
 """
 
 
-def refuser(folder):
-    """The library that refuses, built in the folder."""
-    source, library = folder / "refuser.c", folder / "refuser.so"
-    source.write_text(REFUSER)
-    subprocess.run(["cc", "-O1", "-shared", "-fPIC", "-o", library, source], check=True)
-    return library
+class Sweep(NamedTuple):
+    """A command: its name and the library; the run with ample memory, and how many allocations it made; and the record
+    after each number of lines and the text of each line, where it is a stored session."""
+    name: str
+    library: str
+    whole: Optional[Ended] = None
+    count: int = 0
+    told: tuple = ()
+    texts: tuple = ()
 
-
-def sweep(name, folders, library):
-    words, given, by_hand = COMMANDS[name]
-
-    def run(folder, first, last):
-        env = {"LD_PRELOAD": str(library), "FIRST_REFUSED": str(first), "LAST_REFUSED": str(last)}
-        done = subprocess.run([PROGRAM, *words], cwd=folder, env=env, input=given, capture_output=True, timeout=60)
-        return done, int((folder / "requests").read_text())
-
-    whole, count = run(folders[0], 0, 0)
-    if whole.returncode not in (0, 1) or (by_hand is not None and whole.stdout != by_hand):
-        sys.exit(f"{name}: the run with ample memory ended with status {whole.returncode}\n{whole.stdout}\n{whole.stderr}")
-
-    def refused(n, done):
-        """Whether the run ended for want of memory, as it must; else it must have ended as with ample memory."""
-        if (done.returncode, done.stdout, done.stderr) == (whole.returncode, whole.stdout, whole.stderr):
-            return False
-        if done.returncode != 8 or done.stderr != LINE or not whole.stdout.startswith(done.stdout):
-            raise Wrong(f"{name}, allocation {n}: status {done.returncode}\n{done.stdout}\n{done.stderr}")
-        return True
-
-    def part(number):
-        """Every so many-th allocation, in a folder of its own: how often the run ended well though one was refused."""
-        folder, survived = folders[number], 0
-        for n in range(1 + number, count + 1, len(folders)):
-            if not refused(n, run(folder, n, sys.maxsize)[0]):
-                raise Wrong(f"{name}, allocation {n}: the run went on though all from it on were refused")
-            done, asked = run(folder, n, n)
-            if not refused(n, done):
-                survived += 1
-                if asked <= count:
-                    raise Wrong(f"{name}, allocation {n}: the run went on and did not ask again")
-        return survived
-
-    with concurrent.futures.ThreadPoolExecutor(len(folders)) as pool:
-        survived = sum(pool.map(part, range(len(folders))))
-    print(f"{name:8} {count:6} allocations: refused from each on, status 8, its line and a front of the text;", end=" ")
-    print(f"each alone, the same for {count - survived}, and for {survived} the library asks again", flush=True)
+    def run(self, runs, first, last):
+        """A run with these allocations refused: how it ended, how many it asked for, and the file that it left."""
+        words, given, _ = COMMANDS[self.name]
+        files = {name: text.encode() for name, text in FILES.items() if name in words}
+        lay({**files, "kept": FILE} if self.name == "stored" else files)
+        ended = runs.run(words, given, {"LD_PRELOAD": self.library, "FIRST_REFUSED": str(first), "LAST_REFUSED": str(last)})
+        return ended, int(read("requests") or 0), read("kept")
 
 
 class Wrong(Exception):
     """A run that did not end as it must."""
+
+
+def read(name):
+    """The bytes of a file, if there is one."""
+    return pathlib.Path(name).read_bytes() if os.path.exists(name) else None
+
+
+def refuser(folder):
+    """The library that refuses, built in the folder."""
+    source, library = pathlib.Path(folder, "refuser.c"), pathlib.Path(folder, "refuser.so")
+    source.write_text(REFUSER)
+    subprocess.run(["cc", "-O1", "-shared", "-fPIC", "-o", library, source], check=True)
+    return str(library)
+
+
+def records(runs):
+    """The record after each number of lines, and the text of each line, as `node` tells them."""
+    told, texts, before = [bytes(RECORD)], [], 0
+    lines = LINES.splitlines(keepends=True)
+    lay({"station": FILES["station"].encode()})
+    for count in range(1, len(lines) + 1):
+        text = runs.run(COMMANDS["node"][0], b"".join(lines[:count])).out.decode().splitlines()
+        new, before = text[before:], len(text)
+        kept = [bytes.fromhex(line[5:]) for line in new if line.startswith("keep ")]
+        told.append(kept[-1] if kept else told[-1])
+        texts.append([line for line in new if not line.startswith("keep ")])
+    return tuple(told), tuple(texts)
+
+
+def begin(name, library):
+    """The sweep of a command, after a run with ample memory."""
+    with runner(PROGRAM, SECONDS) as runs:
+        told, texts = records(runs) if name.startswith("stored") else ((), ())
+        whole, count, left = Sweep(name, library).run(runs, 0, 0)
+    by_hand = COMMANDS[name][2]
+    if whole.status not in (0, 1) or (by_hand is not None and whole.out != by_hand):
+        raise Wrong(f"{name}: the run with ample memory ended with status {whole.status}\n{whole.out}\n{whole.err}")
+    if told and record_of(left) != told[-1]:
+        raise Wrong(f"{name}: with ample memory it left {left.hex()}, and not the record {told[-1].hex()}")
+    return Sweep(name, library, whole, count, told, texts)
+
+
+def how(sweep, n, ended, left):
+    """How a run with a refused allocation ended: for want of memory, with a file that could not be made, or well, as with
+    ample memory. The file of a stored session must stand for a record that its text allows."""
+    where = f"{sweep.name}, allocation {n}"
+    if sweep.told:
+        try:
+            looked_at(bytes(SIZE) if left is None else left, ended.out.decode().splitlines(), sweep.told, sweep.texts, where)
+        except SystemExit as end:
+            raise Wrong(str(end)) from None
+    if ended[:3] == sweep.whole[:3]:
+        return "well"
+    if sweep.name == "stored-anew" and ended[:3] == UNMADE and left is None:
+        return "unmade"
+    if ended.status != 8 or ended.err != LINE or not sweep.whole.out.startswith(ended.out):
+        raise Wrong(f"{where}: status {ended.status}\n{ended.out}\n{ended.err}")
+    return "wanting"
+
+
+def refused(runs, sweep, n):
+    """Refuses each allocation from the nth on, and then the nth alone: how that run ended."""
+    ended, _, left = sweep.run(runs, n, sys.maxsize)
+    if how(sweep, n, ended, left) == "well":
+        raise Wrong(f"{sweep.name}, allocation {n}: the run went on though all from it on were refused")
+    ended, asked, left = sweep.run(runs, n, n)
+    end = how(sweep, n, ended, left)
+    if end == "well" and asked <= sweep.count:
+        raise Wrong(f"{sweep.name}, allocation {n}: the run went on and did not ask again")
+    return end
+
+
+def part(sweep, numbers):
+    """Refuses each of these allocations in turn: how often a run ended so where one alone was refused."""
+    with runner(PROGRAM, SECONDS) as runs:
+        return collections.Counter(refused(runs, sweep, n) for n in numbers)
+
+
+def swept(pool, name, library):
+    """Refuses all allocations of a command, and says what was seen."""
+    sweep = pool.apply(begin, (name, library))
+    parts = [(sweep, range(first, min(first + PART, sweep.count + 1))) for first in range(1, sweep.count + 1, PART)]
+    ends = sum(pool.starmap(part, parts, chunksize=1), collections.Counter())
+    unmade = f"; for {ends['unmade']} the file is not made, status 4" if ends["unmade"] else ""
+    print(f"{name:14} {sweep.count:6} allocations: refused from each on, status 8, its line and a front of the text; each", end="")
+    print(f" alone, the same for {ends['wanting']}, and for {ends['well']} the library asks again{unmade}", flush=True)
 
 
 def main(names):
@@ -146,18 +222,14 @@ def main(names):
         sys.exit(__doc__.strip())
     if not PROGRAM.exists():
         sys.exit("build the program first: ./interlock --prove")
-    with tempfile.TemporaryDirectory() as place:
-        folders = [pathlib.Path(place, f"{number}") for number in range(4)]
-        for folder in folders:
-            folder.mkdir()
-            for name, text in FILES.items():
-                (folder / name).write_text(text)
-        library = refuser(pathlib.Path(place))
+    with tempfile.TemporaryDirectory() as place, multiprocessing.Pool(4) as pool:
+        library = refuser(place)
         try:
             for name in names or COMMANDS:
-                sweep(name, folders, library)
+                swept(pool, name, library)
         except Wrong as wrong:
             sys.exit(str(wrong))
 
 
-main(sys.argv[1:])
+if __name__ == "__main__":
+    main(sys.argv[1:])
