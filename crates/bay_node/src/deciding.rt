@@ -2,7 +2,7 @@
 ghost use Rattle.std.specs.Prelude.{◌≡◌, ◌≢◌, ◌<◌, length, IfOk, OnErr};
 ghost use Rattle.station_graph.specs.Diagram.{part_count};
 ghost use Rattle.double_points.specs.Words.{AreWords};
-ghost use Rattle.central_rules.specs.Meaning.{HeardFit, Knows};
+ghost use Rattle.central_rules.specs.Meaning.{HeardFit, CannotExclude};
 ghost use Rattle.central_rules.specs.Readings.{Decides};
 ghost use Rattle.bay_protocol.specs.State.{collects, opens, fresh};
 ghost use Rattle.bay_protocol.specs.Fits.{IsOwn, IsNode, FitsHeard};
@@ -43,7 +43,7 @@ fn verdict<J: Judge>(
     requires heard { length heard.now ≡ part_count (J.meaning judge.now).diagram }
     requires fits { HeardFit (J.meaning judge.now) bay.0 heard.now }
     ensures { IfOk result (Decides (J.meaning judge.now).diagram
-        (Knows (J.meaning judge.now) bay.0 words.now heard.now) op) }
+        (CannotExclude (J.meaning judge.now) bay.0 words.now heard.now) op) }
 {
     judge.judge(alloc, op, words, heard)
 }

@@ -13,7 +13,7 @@ use Rattle.station_graph.specs.Diagram.{Diagram}
 use Rattle.central_rules.specs.declared.verdict.Verdict.{Verdict}
 use Rattle.central_rules.specs.declared.verdict.Verdict.TheVariants.{Release, Denied as Denies}
 use Rattle.central_rules.specs.Readings.{Decides}
-use Rattle.central_rules.specs.Meaning.{Meaning, Summarises, Knows}
+use Rattle.central_rules.specs.Meaning.{Meaning, Summarises, CannotExclude}
 use Rattle.bay_frames.specs.declared.frame.Body.{Body}
 use Rattle.bay_frames.specs.declared.frame.Body.TheVariants.{Reserve, Answer, Busy, Query, Over}
 use Rattle.bay_frames.specs.declared.frame.Frame.{Frame}
@@ -52,7 +52,7 @@ Nothing old turn = Ends turn old Quiet []
 
 -- The judge decides so, by the own words and what was heard in g.
 abbrev pub IsVerdict : Meaning → State → Collection → Verdict → Type 0
-IsVerdict m s g verdict = Decides m.diagram (Knows m s.bay s.words g.heard) g.op verdict
+IsVerdict m s g verdict = Decides m.diagram (CannotExclude m s.bay s.words g.heard) g.op verdict
 
 -- A node that collects g decides.
 pub data Deciding (m : Meaning) (d : Diagram) (s : State) (g : Collection) (turn : Turn) : Type 0 where

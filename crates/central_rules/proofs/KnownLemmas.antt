@@ -18,7 +18,7 @@ use Rattle.station_graph.specs.Alike.{Alike, Irrelevant, IsVector, SamePositions
 use Rattle.station_graph.proofs.PositionLemmas.{SamePositions-sym, SameGapView-positions, SameLoadView-positions}
 use Rattle.station_graph.proofs.PositionLemmas.{SameGapView-trans, SameLoadView-trans}
 use Rattle.central_rules.specs.Knowledge.{StandsAlike, Known, IsReadingOf, Holds}
-use Rattle.central_rules.specs.Meaning.{Meaning, Laws, Knows, AreMade, IsMade}
+use Rattle.central_rules.specs.Meaning.{Meaning, Laws, CannotExclude, AreMade, IsMade}
 use Rattle.central_rules.proofs.AlikeLaw.{same_answers}
 use Rattle.station_graph.proofs.MixLemmas.{mix, length_mix, mix_there, mix_else, one_part}
 use Rattle.central_rules.proofs.MeaningLemmas.{reading_of}
@@ -168,7 +168,8 @@ module _ (m : Meaning) (k : Known) (heard : List (Option (List ℕ))) (v : List 
 
 -- for each reading there is a vector that the bay cannot exclude, with the same answers for its operations
 pub known_of : (m : Meaning) → Laws m → IsStation m.diagram → (k : Known) (heard : List (Option (List ℕ)))
-    (v : List Bool) → AreMade m k heard → IsReadingOf m.diagram k v → (w : List Bool) × Knows m k.bay k.own heard w
+    (v : List Bool) → AreMade m k heard → IsReadingOf m.diagram k v →
+    (w : List Bool) × CannotExclude m k.bay k.own heard w
     × SameAnswers m.diagram k.bay v w
 known_of m laws station k heard v made reads =
     let t = upto m k heard v laws station made reads (length heard) in (
@@ -184,7 +185,7 @@ known_of m laws station k heard v made reads =
 -- so an operation of the bay holds by words exactly where it breaks no rule in what the summaries allow
 pub holds_same : (m : Meaning) → Laws m → IsStation m.diagram → (op : Op) (k : Known) (heard : List (Option (List ℕ))) →
     AreMade m k heard → OfPart m.diagram k.bay (a_switch op.switch.0) → Holds m.diagram op k ↔ ((v : List Bool) →
-    Knows m k.bay k.own heard v → Breaks m.diagram v op None)
+    CannotExclude m k.bay k.own heard v → Breaks m.diagram v op None)
 holds_same m laws station op k heard made of_bay = (
   λ holds v knows. holds v (reading_of m laws k heard v made knows),
   λ none v reads.

@@ -8,11 +8,11 @@ use Rattle.ilk_base.specs.declared.words.Dbpos.{Dbpos}
 use Rattle.station_graph.specs.Alike.{Irrelevant}
 use Rattle.station_graph.proofs.PositionLemmas.{slice_get-set_other}
 use Rattle.central_rules.specs.Knowledge.{StandsAlike, Known, IsReadingOf}
-use Rattle.central_rules.specs.Meaning.{Meaning, Laws, HeardFit, Knows, AreMade, IsMade}
+use Rattle.central_rules.specs.Meaning.{Meaning, Laws, HeardFit, CannotExclude, AreMade, IsMade}
 
 -- a vector that the own words and the summaries allow is a reading of what the bay knows
 pub reading_of : (m : Meaning) → Laws m → (k : Known) (heard : List (Option (List ℕ))) (v : List Bool) →
-    AreMade m k heard → Knows m k.bay k.own heard v → IsReadingOf m.diagram k v
+    AreMade m k heard → CannotExclude m k.bay k.own heard v → IsReadingOf m.diagram k v
 reading_of m laws k heard v made knows = record {
   whole = knows.whole;
   own = knows.own_agree;

@@ -22,7 +22,7 @@ use Rattle.station_graph.proofs.PositionLemmas.{slice_get-set_other, SameGapView
 use Rattle.central_rules.specs.declared.verdict.Verdict.{Verdict}
 use Rattle.central_rules.specs.declared.verdict.Verdict.TheVariants.{Release, Denied}
 use Rattle.central_rules.specs.Readings.{IsReading, Decides}
-use Rattle.central_rules.specs.Meaning.{Summarises, Knows, bay_of}
+use Rattle.central_rules.specs.Meaning.{Summarises, CannotExclude, bay_of}
 use Rattle.central_rules.specs.WordRows.{code_of_word, word_of_code, heard_word, known_word, FirstAre, IsRowOf}
 use Rattle.central_rules.specs.WordRows.{RowAllows, by_rows}
 
@@ -139,8 +139,8 @@ module _ (d : Diagram) (bay : ℕ) (own : List Dbpos) (heard : List (Option (Lis
         slice_get words i ≡ Some (known_word d bay own heard i)
     word_at i x at = each i (omega (arith, slice_get_within d.switches i x at, count))
 
-    knows_from : (v : List Bool) → IsReading words v → Knows (by_rows d) bay own heard v
-    knows_from v r = record {
+    cannot_exclude_from : (v : List Bool) → IsReading words v → CannotExclude (by_rows d) bay own heard v
+    cannot_exclude_from v r = record {
       whole = r.whole ∙ count;
       own_agree = λ i word closed of_b at_o at_v.
           let is : known_word d bay own heard i ≡ word = known_own i of_b.0 of_b.1 of_b.2
@@ -154,7 +154,7 @@ module _ (d : Diagram) (bay : ℕ) (own : List Dbpos) (heard : List (Option (Lis
           (word_at i of_b.0 of_b.1) at_v);
     }
 
-    module _ (v : List Bool) (k : Knows (by_rows d) bay own heard v) (i : ℕ) (x : Switch) (closed : Bool)
+    module _ (v : List Bool) (k : CannotExclude (by_rows d) bay own heard v) (i : ℕ) (x : Switch) (closed : Bool)
         (at : slice_get d.switches i ≡ Some x) (at_v : slice_get v i ≡ Some closed) where
       in_place : (s : List ℕ) → RowAllows d x.bay.0 s v → (o : Option ℕ) → slice_get s (place_in d x.bay.0 i) ≡ o →
           Agrees (word_of_code (unwrap_or o 4)) closed
@@ -179,7 +179,7 @@ module _ (d : Diagram) (bay : ℕ) (own : List Dbpos) (heard : List (Option (Lis
             (heard_agrees ne (slice_get heard x.bay.0) refl)
       ]
 
-    reading_from : (v : List Bool) → Knows (by_rows d) bay own heard v → IsReading words v
+    reading_from : (v : List Bool) → CannotExclude (by_rows d) bay own heard v → IsReading words v
     reading_from v k = record {
       whole = k.whole ∙ sym count;
       agree = λ i word closed le at_w at_v. elim (slice_get_cases d.switches i).1 [
@@ -193,9 +193,9 @@ module _ (d : Diagram) (bay : ℕ) (own : List Dbpos) (heard : List (Option (Lis
 
     -- the verdict over the readings of the known words is that over what is known
     decides_known : {E : Type 0} (r : Result Verdict E) (op : Op) → IfOk r (Decides d (IsReading words) op) →
-        IfOk r (Decides d (Knows (by_rows d) bay own heard) op)
+        IfOk r (Decides d (CannotExclude (by_rows d) bay own heard) op)
     decides_known (Ok Release) op h = λ v k. h v (reading_from v k)
-    decides_known (Ok (Denied rule v)) op h = (knows_from v h.0, h.1)
+    decides_known (Ok (Denied rule v)) op h = (cannot_exclude_from v h.0, h.1)
     decides_known (Err e) op h = tt
 
 -- the same for an operation of a switch of the bay
@@ -203,7 +203,7 @@ pub decides_op : {E : Type 0} (r : Result Verdict E) (d : Diagram) (own : List D
     (words : List Dbpos) (op : Op) (x : Switch) → slice_get d.switches op.switch.0 ≡ Some x →
     length own ≡ length d.switches → length words ≡ length d.switches
     → FirstAre (known_word d x.bay.0 own heard) (length words) words → IfOk r (Decides d (IsReading words) op) →
-    IfOk r (Decides d (Knows (by_rows d) (bay_of d op.switch.0) own heard) op)
+    IfOk r (Decides d (CannotExclude (by_rows d) (bay_of d op.switch.0) own heard) op)
 decides_op r d own heard words op x at own_whole count each h =
-    subst (λ b. IfOk r (Decides d (Knows (by_rows d) b own heard) op)) (sym (bay_is d op.switch.0 x at))
+    subst (λ b. IfOk r (Decides d (CannotExclude (by_rows d) b own heard) op)) (sym (bay_is d op.switch.0 x at))
     (decides_known d x.bay.0 own heard own_whole words count each r op h)

@@ -52,7 +52,7 @@ HeardFit m bay heard = (b : ℕ) (s : List ℕ) → b ≢ bay → slice_get hear
 
 -- A vector that the bay cannot exclude by its own words and the summaries that it has heard: its own
 -- switches agree with its own words, and each summary heard of another bay allows the vector.
-pub record Knows (m : Meaning) (bay : ℕ) (own : List Dbpos) (heard : List (Option (List ℕ)))
+pub record CannotExclude (m : Meaning) (bay : ℕ) (own : List Dbpos) (heard : List (Option (List ℕ)))
     (v : List Bool) : Type 0 where
   pub whole : IsVector m.diagram v
   pub own_agree : BayAgrees m.diagram bay own v

@@ -9,7 +9,8 @@ ghost use Rattle.station_graph.specs.CentralRules.{Breaks, IsOperation};
 ghost use Rattle.station_graph.specs.Alike.{SameAnswers};
 ghost use Rattle.central_rules.specs.Readings.{IsReading, Decides};
 ghost use Rattle.central_rules.specs.Knowledge.{Known, IsReadingOf, Holds};
-ghost use Rattle.central_rules.specs.Meaning.{Meaning, Laws, Summarises, HeardFit, Knows, AreMade, bay_of, IsBay};
+ghost use Rattle.central_rules.specs.Meaning.{Meaning, Laws, Summarises, HeardFit, CannotExclude, AreMade, bay_of};
+ghost use Rattle.central_rules.specs.Meaning.{IsBay};
 ghost use Rattle.double_points.specs.Words.{AreWords};
 
 use crate::verdict::Verdict;
@@ -72,7 +73,7 @@ pub trait Judge {
         requires heard { length heard.now ≡ part_count (meaning self.now).diagram }
         requires fits { HeardFit (meaning self.now) (bay_of (meaning self.now).diagram op.switch.0) heard.now }
         ensures { IfOk result (Decides (meaning self.now).diagram
-            (Knows (meaning self.now) (bay_of (meaning self.now).diagram op.switch.0) own.now heard.now) op) };
+            (CannotExclude (meaning self.now) (bay_of (meaning self.now).diagram op.switch.0) own.now heard.now) op) };
 
     /// The verdict where the word of every switch is known.
     fn judge_all(&self, alloc: Global, op: Op, readings: &Readings) -> Result<Verdict, Memory>
@@ -93,7 +94,7 @@ pub trait Judge {
 /// the summaries allow is a reading of what it knows.
 pub fn known_by_words<J: Judge>(judge: &J)
     ensures { (k : Known) (heard : List (Option (List ℕ))) (v : List Bool)
-        → AreMade (J.meaning judge.now) k heard → Knows (J.meaning judge.now) k.bay k.own heard v
+        → AreMade (J.meaning judge.now) k heard → CannotExclude (J.meaning judge.now) k.bay k.own heard v
         → IsReadingOf (J.meaning judge.now).diagram k v }
 {}
 
@@ -104,7 +105,7 @@ pub fn known_by_words<J: Judge>(judge: &J)
 pub fn words_by_known<J: Judge>(judge: &J)
     ensures { (k : Known) (heard : List (Option (List ℕ))) (v : List Bool)
         → AreMade (J.meaning judge.now) k heard → IsReadingOf (J.meaning judge.now).diagram k v
-        → (w : List Bool) × Knows (J.meaning judge.now) k.bay k.own heard w
+        → (w : List Bool) × CannotExclude (J.meaning judge.now) k.bay k.own heard w
         × SameAnswers (J.meaning judge.now).diagram k.bay v w }
 {
     judge.diagram_is_station();
@@ -117,7 +118,7 @@ pub fn holds_by_summaries<J: Judge>(judge: &J)
     ensures { (op : Operation) (k : Known) (heard : List (Option (List ℕ)))
         → AreMade (J.meaning judge.now) k heard → OfPart (J.meaning judge.now).diagram k.bay (a_switch op.switch.0)
         → Holds (J.meaning judge.now).diagram op k ↔
-        ((v : List Bool) → Knows (J.meaning judge.now) k.bay k.own heard v →
+        ((v : List Bool) → CannotExclude (J.meaning judge.now) k.bay k.own heard v →
         Breaks (J.meaning judge.now).diagram v op None) }
 {
     judge.diagram_is_station();

@@ -1,8 +1,9 @@
 -- A file that was read up to a number of bytes, and the whole of it.
-use Rattle.std.proofs.Common.{◌≡◌, ◌<◌, ℕ, List, length, take, Option, Some, None, Result, Ok, Err, ap, ◌∙◌, arith, inl}
-use Rattle.std.proofs.Common.{inr, subst, refl}
+use Rattle.std.proofs.Common.{◌≡◌, ◌+◌, ◌<◌, ℕ, List, length, take, Option, Some, None, Result, Ok, Err, ap, ◌∙◌, arith}
+use Rattle.std.proofs.Common.{inl, inr, subst, refl}
 use Rattle.std.specs.Prelude.{IfSome, IfOk, IfErr}
 use Rattle.std.proofs.lemmas.List.{take_all, length-take}
+use Rattle.ilk_base.specs.declared.limits.TheConstants.{FILE_BYTES}
 use Rattle.ilk_base.specs.declared.words.Dbpos.{Dbpos}
 use Rattle.ilk_base.specs.declared.words.InputRefusal.{InputRefusal}
 use Rattle.ilk_base.specs.declared.words.Op.{Op}
@@ -30,157 +31,173 @@ use Rattle.interlock_cli.specs.Form.{File, Given, Fails}
 take_short : (n : ℕ) (b : List ℕ) → length (take n b) < n → take n b ≡ b
 take_short n b lt = take_all n b (omega (arith, lt, length-take n b))
 
-pub cut_stands : (n : ℕ) (b v : List ℕ) (o : Result Diagram SsdRefusal) → n ≡ 8388609 → v ≡ take n b → Stands v o →
-    Stands b o
+pub cut_stands : (n : ℕ) (b v : List ℕ) (o : Result Diagram SsdRefusal) → n ≡ FILE_BYTES + 1 → v ≡ take n b →
+    Stands v o → Stands b o
 cut_stands n b v o e h (inl long) = inl (omega (arith, long.0, ap length h, length-take n b), long.1)
 cut_stands n b v o e h (inr short) =
     let whole : v ≡ b = h ∙ take_short n b (omega (arith, e, ap length h, short.0)) in
     subst (λ (x : List ℕ). Stands x o) whole (inr short)
 
-cut_accepted : (n : ℕ) (b v : List ℕ) (paths : List (List ℕ)) (words : List Dbpos) → n ≡ 8388609 → v ≡ take n b →
+cut_accepted : (n : ℕ) (b v : List ℕ) (paths : List (List ℕ)) (words : List Dbpos) → n ≡ FILE_BYTES + 1 → v ≡ take n b →
     IsAccepted paths v words → IsAccepted paths b words
 cut_accepted n b v paths words e h a =
     let whole : v ≡ b = h ∙ take_short n b (omega (arith, e, ap length h, a.0)) in
     subst (λ (x : List ℕ). IsAccepted paths x words) whole a
 
-cut_fault : (n : ℕ) (b v : List ℕ) (paths : List (List ℕ)) (r : InputRefusal) → n ≡ 8388609 → v ≡ take n b →
+cut_fault : (n : ℕ) (b v : List ℕ) (paths : List (List ℕ)) (r : InputRefusal) → n ≡ FILE_BYTES + 1 → v ≡ take n b →
     IsRefusedWith paths v r → IsRefusedWith paths b r
 cut_fault n b v paths r e h (inl long) = inl (omega (arith, long.0, ap length h, length-take n b), long.1)
 cut_fault n b v paths r e h (inr short) =
     let whole : v ≡ b = h ∙ take_short n b (omega (arith, e, ap length h, short.0)) in
     subst (λ (x : List ℕ). IsRefusedWith paths x r) whole (inr short)
 
--- the first 8,388,609 bytes of a content tell what it is
+-- the bytes that a file may have, and one more, tell of a content what it is
 pub record Cuts (f : Format) : Type 0 where
-  pub accepts : (b v : List ℕ) (value : Value f) → v ≡ take 8388609 b → Accepts f v value → Accepts f b value
-  pub refuses : (b v : List ℕ) (end : End) → v ≡ take 8388609 b → Refuses f v end → Refuses f b end
+  pub accepts : (b v : List ℕ) (value : Value f) → v ≡ take (FILE_BYTES + 1) b → Accepts f v value → Accepts f b value
+  pub refuses : (b v : List ℕ) (end : End) → v ≡ take (FILE_BYTES + 1) b → Refuses f v end → Refuses f b end
 
-cut_order : (d : Diagram) (n : ℕ) (b v : List ℕ) (steps : List Op) → n ≡ 8388609 → v ≡ take n b → IsOrder d v steps →
-    IsOrder d b steps
+cut_order : (d : Diagram) (n : ℕ) (b v : List ℕ) (steps : List Op) → n ≡ FILE_BYTES + 1 → v ≡ take n b →
+    IsOrder d v steps → IsOrder d b steps
 cut_order d n b v steps e h order =
     let whole : v ≡ b = h ∙ take_short n b (omega (arith, e, ap length h, order.few_bytes)) in
     subst (λ (x : List ℕ). IsOrder d x steps) whole order
 
-cut_order_fault : (d : Diagram) (n : ℕ) (b v : List ℕ) (r : InputRefusal) → n ≡ 8388609 → v ≡ take n b →
+cut_order_fault : (d : Diagram) (n : ℕ) (b v : List ℕ) (r : InputRefusal) → n ≡ FILE_BYTES + 1 → v ≡ take n b →
     IsOrderFault d v r → IsOrderFault d b r
 cut_order_fault d n b v r e h (inl long) = inl (omega (arith, long.0, ap length h, length-take n b), long.1)
 cut_order_fault d n b v r e h (inr short) =
     let whole : v ≡ b = h ∙ take_short n b (omega (arith, e, ap length h, short.0)) in
     subst (λ (x : List ℕ). IsOrderFault d x r) whole (inr short)
 
-cut_limit : (b v : List ℕ) (refusal : BuildRefusal) → v ≡ take 8388609 b → PassesLimit v refusal → PassesLimit b refusal
+cut_limit : (b v : List ℕ) (refusal : BuildRefusal) → v ≡ take (FILE_BYTES + 1) b → PassesLimit v refusal →
+    PassesLimit b refusal
 cut_limit b v refusal h passes = record {
   diagram = passes.diagram;
-  stands = cut_stands 8388609 b v (Ok passes.diagram) refl h passes.stands;
+  stands = cut_stands (FILE_BYTES + 1) b v (Ok passes.diagram) refl h passes.stands;
   station = passes.station;
   past = passes.past;
 }
 
-refuses_drawing : (b v : List ℕ) (end : End) → v ≡ take 8388609 b → Refuses Drawing v end → Refuses Drawing b end
-refuses_drawing b v (e.Station refusal) h r = cut_stands 8388609 b v (Err refusal) refl h r
+refuses_drawing : (b v : List ℕ) (end : End) → v ≡ take (FILE_BYTES + 1) b → Refuses Drawing v end →
+    Refuses Drawing b end
+refuses_drawing b v (e.Station refusal) h r = cut_stands (FILE_BYTES + 1) b v (Err refusal) refl h r
 refuses_drawing b v (e.Many part step) h r = cut_limit b v (Many part step) h r
 refuses_drawing b v (e.Wide bay) h r = cut_limit b v (Wide bay) h r
 refuses_drawing b v _ h r = r
 
-refuses_positions : (d : Diagram) (b v : List ℕ) (end : End) → v ≡ take 8388609 b → Refuses (Positions d) v end →
-    Refuses (Positions d) b end
-refuses_positions d b v (e.Input refusal) h r = cut_fault 8388609 b v d.switch_paths refusal refl h r
+refuses_positions : (d : Diagram) (b v : List ℕ) (end : End) → v ≡ take (FILE_BYTES + 1) b →
+    Refuses (Positions d) v end → Refuses (Positions d) b end
+refuses_positions d b v (e.Input refusal) h r = cut_fault (FILE_BYTES + 1) b v d.switch_paths refusal refl h r
 refuses_positions d b v _ h r = r
 
-refuses_certain : (d : Diagram) (b v : List ℕ) (end : End) → v ≡ take 8388609 b → Refuses (CertainPositions d) v end →
-    Refuses (CertainPositions d) b end
-refuses_certain d b v (e.Input refusal) h (inl fault) = inl (cut_fault 8388609 b v d.switch_paths refusal refl h fault)
+refuses_certain : (d : Diagram) (b v : List ℕ) (end : End) → v ≡ take (FILE_BYTES + 1) b →
+    Refuses (CertainPositions d) v end → Refuses (CertainPositions d) b end
+refuses_certain d b v (e.Input refusal) h (inl fault) =
+    inl (cut_fault (FILE_BYTES + 1) b v d.switch_paths refusal refl h fault)
 refuses_certain d b v (e.Input refusal) h (inr (words, accepted, unsure, is)) =
-    inr (words, cut_accepted 8388609 b v d.switch_paths words refl h accepted, unsure, is)
+    inr (words, cut_accepted (FILE_BYTES + 1) b v d.switch_paths words refl h accepted, unsure, is)
 refuses_certain d b v _ h r = r
 
-refuses_order : (d : Diagram) (b v : List ℕ) (end : End) → v ≡ take 8388609 b → Refuses (OrderOf d) v end →
+refuses_order : (d : Diagram) (b v : List ℕ) (end : End) → v ≡ take (FILE_BYTES + 1) b → Refuses (OrderOf d) v end →
     Refuses (OrderOf d) b end
-refuses_order d b v (e.Input refusal) h r = cut_order_fault d 8388609 b v refusal refl h r
+refuses_order d b v (e.Input refusal) h r = cut_order_fault d (FILE_BYTES + 1) b v refusal refl h r
 refuses_order d b v _ h r = r
 
-cut_blocks : (d : Diagram) (n : ℕ) (b v : List ℕ) (es : List Equation) → n ≡ 8388609 → v ≡ take n b → AreBlocks d v es →
-    AreBlocks d b es
+cut_blocks : (d : Diagram) (n : ℕ) (b v : List ℕ) (es : List Equation) → n ≡ FILE_BYTES + 1 → v ≡ take n b →
+    AreBlocks d v es → AreBlocks d b es
 cut_blocks d n b v es e h blocks =
     let whole : v ≡ b = h ∙ take_short n b (omega (arith, e, ap length h, blocks.few_bytes)) in
     subst (λ (x : List ℕ). AreBlocks d x es) whole blocks
 
-cut_blocks_fault : (d : Diagram) (n : ℕ) (b v : List ℕ) (r : InputRefusal) → n ≡ 8388609 → v ≡ take n b →
+cut_blocks_fault : (d : Diagram) (n : ℕ) (b v : List ℕ) (r : InputRefusal) → n ≡ FILE_BYTES + 1 → v ≡ take n b →
     IsBlocksFault d v r → IsBlocksFault d b r
 cut_blocks_fault d n b v r e h (inl long) = inl (omega (arith, long.0, ap length h, length-take n b), long.1)
 cut_blocks_fault d n b v r e h (inr short) =
     let whole : v ≡ b = h ∙ take_short n b (omega (arith, e, ap length h, short.0)) in
     subst (λ (x : List ℕ). IsBlocksFault d x r) whole (inr short)
 
-refuses_blocks : (d : Diagram) (b v : List ℕ) (end : End) → v ≡ take 8388609 b → Refuses (BlocksOf d) v end →
+refuses_blocks : (d : Diagram) (b v : List ℕ) (end : End) → v ≡ take (FILE_BYTES + 1) b → Refuses (BlocksOf d) v end →
     Refuses (BlocksOf d) b end
-refuses_blocks d b v (e.Input refusal) h r = cut_blocks_fault d 8388609 b v refusal refl h r
+refuses_blocks d b v (e.Input refusal) h r = cut_blocks_fault d (FILE_BYTES + 1) b v refusal refl h r
 refuses_blocks d b v _ h r = r
 
-cut_log : (d : Diagram) (n : ℕ) (b v : List ℕ) (events : List LogEvent) → n ≡ 8388609 → v ≡ take n b →
+cut_log : (d : Diagram) (n : ℕ) (b v : List ℕ) (events : List LogEvent) → n ≡ FILE_BYTES + 1 → v ≡ take n b →
     IsLog d v events → IsLog d b events
 cut_log d n b v events e h log =
     let whole : v ≡ b = h ∙ take_short n b (omega (arith, e, ap length h, log.few_bytes)) in
     subst (λ (x : List ℕ). IsLog d x events) whole log
 
-cut_log_fault : (d : Diagram) (n : ℕ) (b v : List ℕ) (r : InputRefusal) → n ≡ 8388609 → v ≡ take n b →
+cut_log_fault : (d : Diagram) (n : ℕ) (b v : List ℕ) (r : InputRefusal) → n ≡ FILE_BYTES + 1 → v ≡ take n b →
     IsLogFault d v r → IsLogFault d b r
 cut_log_fault d n b v r e h (inl long) = inl (omega (arith, long.0, ap length h, length-take n b), long.1)
 cut_log_fault d n b v r e h (inr short) =
     let whole : v ≡ b = h ∙ take_short n b (omega (arith, e, ap length h, short.0)) in
     subst (λ (x : List ℕ). IsLogFault d x r) whole (inr short)
 
-refuses_log : (d : Diagram) (b v : List ℕ) (end : End) → v ≡ take 8388609 b → Refuses (LogOf d) v end →
+refuses_log : (d : Diagram) (b v : List ℕ) (end : End) → v ≡ take (FILE_BYTES + 1) b → Refuses (LogOf d) v end →
     Refuses (LogOf d) b end
-refuses_log d b v (e.Input refusal) h r = cut_log_fault d 8388609 b v refusal refl h r
+refuses_log d b v (e.Input refusal) h r = cut_log_fault d (FILE_BYTES + 1) b v refusal refl h r
 refuses_log d b v _ h r = r
 
-cut_trip_log : (d : Diagram) (n : ℕ) (b v : List ℕ) (events : List TripLogEvent) → n ≡ 8388609 → v ≡ take n b →
+cut_trip_log : (d : Diagram) (n : ℕ) (b v : List ℕ) (events : List TripLogEvent) → n ≡ FILE_BYTES + 1 → v ≡ take n b →
     IsTripLog d v events → IsTripLog d b events
 cut_trip_log d n b v events e h log =
     let whole : v ≡ b = h ∙ take_short n b (omega (arith, e, ap length h, log.few_bytes)) in
     subst (λ (x : List ℕ). IsTripLog d x events) whole log
 
-cut_trip_log_fault : (d : Diagram) (n : ℕ) (b v : List ℕ) (r : InputRefusal) → n ≡ 8388609 → v ≡ take n b →
+cut_trip_log_fault : (d : Diagram) (n : ℕ) (b v : List ℕ) (r : InputRefusal) → n ≡ FILE_BYTES + 1 → v ≡ take n b →
     IsTripLogFault d v r → IsTripLogFault d b r
 cut_trip_log_fault d n b v r e h (inl long) = inl (omega (arith, long.0, ap length h, length-take n b), long.1)
 cut_trip_log_fault d n b v r e h (inr short) =
     let whole : v ≡ b = h ∙ take_short n b (omega (arith, e, ap length h, short.0)) in
     subst (λ (x : List ℕ). IsTripLogFault d x r) whole (inr short)
 
-refuses_trip_log : (d : Diagram) (b v : List ℕ) (end : End) → v ≡ take 8388609 b → Refuses (TripLogOf d) v end →
-    Refuses (TripLogOf d) b end
-refuses_trip_log d b v (e.Input refusal) h r = cut_trip_log_fault d 8388609 b v refusal refl h r
+refuses_trip_log : (d : Diagram) (b v : List ℕ) (end : End) → v ≡ take (FILE_BYTES + 1) b →
+    Refuses (TripLogOf d) v end → Refuses (TripLogOf d) b end
+refuses_trip_log d b v (e.Input refusal) h r = cut_trip_log_fault d (FILE_BYTES + 1) b v refusal refl h r
 refuses_trip_log d b v _ h r = r
 
 pub drawing : Cuts Drawing
-drawing = record { accepts = λ b v d h a. (cut_stands 8388609 b v (Ok d) refl h a.0, a.1); refuses = refuses_drawing }
+drawing = record {
+  accepts = λ b v d h a. (cut_stands (FILE_BYTES + 1) b v (Ok d) refl h a.0, a.1);
+  refuses = refuses_drawing;
+}
 
 pub positions : (d : Diagram) → Cuts (Positions d)
 positions d = record {
-  accepts = λ b v words h a. cut_accepted 8388609 b v d.switch_paths words refl h a;
+  accepts = λ b v words h a. cut_accepted (FILE_BYTES + 1) b v d.switch_paths words refl h a;
   refuses = refuses_positions d;
 }
 
 pub certain_positions : (d : Diagram) → Cuts (CertainPositions d)
 certain_positions d = record {
   accepts =
-      λ b v start h (words, accepted, are). (words, cut_accepted 8388609 b v d.switch_paths words refl h accepted, are);
+      λ b v start h (words, accepted, are).
+      (words, cut_accepted (FILE_BYTES + 1) b v d.switch_paths words refl h accepted, are);
   refuses = refuses_certain d;
 }
 
 pub order : (d : Diagram) → Cuts (OrderOf d)
-order d = record { accepts = λ b v steps h a. cut_order d 8388609 b v steps refl h a; refuses = refuses_order d }
+order d = record {
+  accepts = λ b v steps h a. cut_order d (FILE_BYTES + 1) b v steps refl h a;
+  refuses = refuses_order d;
+}
 
 pub blocks : (d : Diagram) → Cuts (BlocksOf d)
-blocks d = record { accepts = λ b v es h a. (a.0, cut_blocks d 8388609 b v es refl h a.1); refuses = refuses_blocks d }
+blocks d = record {
+  accepts = λ b v es h a. (a.0, cut_blocks d (FILE_BYTES + 1) b v es refl h a.1);
+  refuses = refuses_blocks d;
+}
 
 pub log : (d : Diagram) → Cuts (LogOf d)
-log d = record { accepts = λ b v events h a. (a.0, cut_log d 8388609 b v events refl h a.1); refuses = refuses_log d }
+log d = record {
+  accepts = λ b v events h a. (a.0, cut_log d (FILE_BYTES + 1) b v events refl h a.1);
+  refuses = refuses_log d;
+}
 
 pub trip_log : (d : Diagram) → Cuts (TripLogOf d)
 trip_log d = record {
-  accepts = λ b v events h a. (a.0, cut_trip_log d 8388609 b v events refl h a.1);
+  accepts = λ b v events h a. (a.0, cut_trip_log d (FILE_BYTES + 1) b v events refl h a.1);
   refuses = refuses_trip_log d;
 }
 
@@ -197,29 +214,30 @@ no_fault (SwitchOf d) v r = r
 no_fault (BayOf d) v r = r
 
 module _ (f : Format) (cuts : Cuts f) where
-  whole : (known : Option (List ℕ)) (v : List ℕ) (value : Value f) → IfSome known (λ b. v ≡ take 8388609 b) →
+  whole : (known : Option (List ℕ)) (v : List ℕ) (value : Value f) → IfSome known (λ b. v ≡ take (FILE_BYTES + 1) b) →
       Accepts f v value → (content : List ℕ) × IfSome known (λ h. h ≡ content) × Accepts f content value
   whole None v value h a = (v, tt, a)
   whole (Some b) v value h a = (b, refl, cuts.accepts b v value h a)
 
-  whole_refused : (known : Option (List ℕ)) (v : List ℕ) (end : End) → IfSome known (λ b. v ≡ take 8388609 b) →
+  whole_refused : (known : Option (List ℕ)) (v : List ℕ) (end : End) → IfSome known (λ b. v ≡ take (FILE_BYTES + 1) b) →
       Refuses f v end → (content : List ℕ) × IfSome known (λ h. h ≡ content) × Refuses f content end
   whole_refused None v end h a = (v, tt, a)
   whole_refused (Some b) v end h a = (b, refl, cuts.refuses b v end h a)
 
   pub given : (held : List ℕ → Option (List ℕ)) (name v : List ℕ) (r : Result (Value f) End) →
-      IfSome (held name) (λ b. v ≡ take 8388609 b) → IfOk r (Accepts f v) → IfOk r (Given held (File name) f)
+      IfSome (held name) (λ b. v ≡ take (FILE_BYTES + 1) b) → IfOk r (Accepts f v) → IfOk r (Given held (File name) f)
   given held name v (Ok value) h a = whole (held name) v value h a
   given held name v (Err end) h a = tt
 
   fails : (held : List ℕ → Option (List ℕ)) (before after : List ℕ → ℕ) (name v : List ℕ) (end : End) →
-      IfSome (held name) (λ b. v ≡ take 8388609 b) → JudgeFails f v end → Fails held before after (File name) f end
+      IfSome (held name) (λ b. v ≡ take (FILE_BYTES + 1) b) → JudgeFails f v end →
+      Fails held before after (File name) f end
   fails held before after name v e.Memory h a = tt
   fails held before after name v e.ReadFault h a = absurd (no_fault f v a)
   fails held before after name v end h a = whole_refused (held name) v end h a
 
   pub failed : (held : List ℕ → Option (List ℕ)) (before after : List ℕ → ℕ) (name v : List ℕ)
-      (r : Result (Value f) End) → IfSome (held name) (λ b. v ≡ take 8388609 b) → IfErr r (JudgeFails f v) →
+      (r : Result (Value f) End) → IfSome (held name) (λ b. v ≡ take (FILE_BYTES + 1) b) → IfErr r (JudgeFails f v) →
       IfErr r (Fails held before after (File name) f)
   failed held before after name v (Ok value) h a = tt
   failed held before after name v (Err end) h a = fails held before after name v end h a

@@ -1,6 +1,7 @@
 -- A drawing whose station has a judge, and one whose station has none.
-use Rattle.std.proofs.Common.{◌≡◌, ℕ, List, take, Option, Some, None, Result, Ok, Err, refl}
+use Rattle.std.proofs.Common.{◌≡◌, ◌+◌, ℕ, List, take, Option, Some, None, Result, Ok, Err, refl}
 use Rattle.std.specs.Prelude.{IfSome, IfOk}
+use Rattle.ilk_base.specs.declared.limits.TheConstants.{FILE_BYTES}
 use Rattle.station_graph.specs.Diagram.{Diagram}
 use Rattle.ssd_read.specs.StandsFor.{Stands}
 use Rattle.release_compile.specs.Judging.{KeepsLimits}
@@ -13,13 +14,13 @@ use Rattle.interlock_cli.proofs.Cuts.{cut_stands}
 
 module _ (held : List ℕ → Option (List ℕ)) where
   -- the drawing whose first bytes were read
-  pub drawn : (name v : List ℕ) (r : Result Diagram End) → IfSome (held name) (λ b. v ≡ take 8388609 b) →
+  pub drawn : (name v : List ℕ) (r : Result Diagram End) → IfSome (held name) (λ b. v ≡ take (FILE_BYTES + 1) b) →
       IfOk r (λ d. Stands v (Ok d)) → IfOk r (Drawn held (File name))
   drawn name v (Ok d) first stands =
-      elim (held name) as (λ o. IfSome o (λ b. v ≡ take 8388609 b) →
+      elim (held name) as (λ o. IfSome o (λ b. v ≡ take (FILE_BYTES + 1) b) →
       (content : List ℕ) × IfSome o (λ h. h ≡ content) × Stands content (Ok d)) [
         | None ↦ λ first. (v, tt, stands)
-        | Some b ↦ λ first. (b, refl, cut_stands 8388609 b v (Ok d) refl first stands)
+        | Some b ↦ λ first. (b, refl, cut_stands (FILE_BYTES + 1) b v (Ok d) refl first stands)
       ] first
   drawn name v (Err end) first stands = tt
 

@@ -1,6 +1,7 @@
 //! What a command is given, read and judged.
-ghost use Rattle.std.specs.Prelude.{◌≡◌, ◌<◌, length, take, slice_get, Some, Ok, IfOk, IfErr, IfSome};
+ghost use Rattle.std.specs.Prelude.{◌≡◌, ◌+◌, ◌<◌, length, take, slice_get, Some, Ok, IfOk, IfErr, IfSome};
 ghost use Rattle.ilk_base.specs.Outside.{Rose};
+ghost use Rattle.ilk_base.specs.declared.limits.TheConstants.{FILE_BYTES};
 ghost use Rattle.ssd_read.specs.StandsFor.{Stands};
 ghost use Rattle.bay_contract.specs.Alphabets.{AreAlphabets};
 ghost use Rattle.release_compile.specs.Judging.{KeepsLimits};
@@ -17,7 +18,7 @@ ghost use Rattle.interlock_cli.specs.Judging.{Drawn, BuildFails, ReadFails, Judg
 use crate::end::End;
 use double_points::{PositionsFault, Readings, read_positions};
 use equation_audit::{Blocks, BlocksFault, read_blocks};
-use ilk_base::{BayId, InputRefusal, ReadTrouble, Shelf, SwitchId};
+use ilk_base::{BayId, FILE_BYTES, InputRefusal, ReadTrouble, Shelf, SwitchId};
 use release_compile::{BuildRefusal, GraphJudge};
 use ssd_read::{SsdRefusal, read_ssd};
 use station_graph::{Station, Vector};
@@ -25,11 +26,11 @@ use std::alloc::Global;
 use switching_orders::{Order, OrderFault, certain_positions, read_order};
 
 // One byte more than a file may have, so that a file that is too long is seen to be.
-const MOST: u32 = 8_388_609;
+const MOST: u32 = FILE_BYTES as u32 + 1;
 
 // As many bytes of a file as tell what it is.
 pub(crate) fn read_file<F: Shelf>(name: &str, shelf: &mut F) -> Result<Vec<u8>, End>
-    ensures ok { IfOk result (λ v. IfSome (F.held shelf.old name.now) (λ b. v.items ≡ take 8388609 b)) }
+    ensures ok { IfOk result (λ v. IfSome (F.held shelf.old name.now) (λ b. v.items ≡ take (FILE_BYTES + 1) b)) }
     ensures err { IfErr result (ReadFails (Rose (F.faults shelf.old name.now) (F.faults shelf.new name.now))) }
     ensures onward { Onward (F.held shelf.old) (F.held shelf.new) (F.faults shelf.old) (F.faults shelf.new) }
 {

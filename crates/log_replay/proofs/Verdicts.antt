@@ -7,7 +7,7 @@ use Rattle.ilk_base.specs.declared.words.Dbpos.{Dbpos}
 use Rattle.ilk_base.specs.declared.words.Dbpos.TheVariants.{Lost}
 use Rattle.station_graph.specs.Diagram.{Diagram, IsStation, part_count}
 use Rattle.central_rules.specs.Readings.{Decides}
-use Rattle.central_rules.specs.Meaning.{Meaning, Laws, Knows, AreMade, IsMade, bay_of}
+use Rattle.central_rules.specs.Meaning.{Meaning, Laws, CannotExclude, AreMade, IsMade, bay_of}
 use Rattle.central_rules.specs.declared.verdict.Verdict.TheVariants.{Release, Denied as Denies}
 use Rattle.central_rules.proofs.MeaningLemmas.{reading_of}
 use Rattle.central_rules.proofs.KnownLemmas.{holds_same}
@@ -118,7 +118,7 @@ own_words m before b words read i lt is = read i lt is
 -- other words that say the same of the bay
 knows_same : (m : Meaning) (c : ℕ) (words other : List Dbpos) (hs : List (Option (List ℕ))) (v : List Bool) →
     length words ≡ length m.diagram.switches → ((i : ℕ) → i < length m.diagram.switches → bay_of m.diagram i ≡ c →
-    get_or words i Lost ≡ get_or other i Lost) → Knows m c words hs v → Knows m c other hs v
+    get_or words i Lost ≡ get_or other i Lost) → CannotExclude m c words hs v → CannotExclude m c other hs v
 knows_same m c words other hs v long same knows = record {
   whole = knows.whole;
   own_agree = agree_same m c words other v long same knows.own_agree;
@@ -131,8 +131,8 @@ verdict_of : (m : Meaning) (before : List Line) (l : Line) (b : ℕ) (t : State)
     Verdict m.diagram (known_at m.diagram before l b) (opened_of g) (of_bay l.shown b)
 verdict_of m before l b t g turn station laws k shows made (Deciding.release verdict end) =
     let same = own_words m before b t.words k.read in
-    let none : Decides m.diagram (Knows m b t.words g.heard) g.op Release =
-    subst (λ (x : ℕ). Decides m.diagram (Knows m x t.words g.heard) g.op Release) k.name verdict in
+    let none : Decides m.diagram (CannotExclude m b t.words g.heard) g.op Release =
+    subst (λ (x : ℕ). Decides m.diagram (CannotExclude m x t.words g.heard) g.op Release) k.name verdict in
     Verdict.grants (shows ∙ ap shown end.says)
     ((holds_same m laws station g.op (known_at m.diagram before l b) g.heard made
     (of_part m b g.op.switch.0 (k.known, k.own))).1
@@ -140,8 +140,8 @@ verdict_of m before l b t g turn station laws k shows made (Deciding.release ver
     (length_listed (reading_at m.diagram before) (length m.diagram.switches)) (λ i lt is. sym (same i lt is)) knows)))
 verdict_of m before l b t g turn station laws k shows made (Deciding.denial rule v verdict end) =
     let same = own_words m before b t.words k.read in
-    let that : Decides m.diagram (Knows m b t.words g.heard) g.op (Denies rule v) =
-    subst (λ (x : ℕ). Decides m.diagram (Knows m x t.words g.heard) g.op (Denies rule v)) k.name verdict in
+    let that : Decides m.diagram (CannotExclude m b t.words g.heard) g.op (Denies rule v) =
+    subst (λ (x : ℕ). Decides m.diagram (CannotExclude m x t.words g.heard) g.op (Denies rule v)) k.name verdict in
     Verdict.denies rule v (shows ∙ ap shown end.says)
     (reading_of m laws (known_at m.diagram before l b) g.heard v made
     (knows_same m b t.words (words_at m.diagram before) g.heard v k.words same that.0))

@@ -12,7 +12,7 @@ use Rattle.release_compile.specs.Lettered.{Lettered, AreLettered, PartHas}
 use Rattle.central_rules.specs.declared.verdict.Verdict.{Verdict}
 use Rattle.central_rules.specs.declared.verdict.Verdict.TheVariants.{Release, Denied}
 use Rattle.central_rules.specs.Readings.{IsReading, Decides}
-use Rattle.central_rules.specs.Meaning.{Knows}
+use Rattle.central_rules.specs.Meaning.{CannotExclude}
 use Rattle.decision_graphs.specs.Reaching.{IsSet, set_at}
 use Rattle.release_compile.specs.Graphs.{other_of, PartChosen, Within}
 use Rattle.release_compile.specs.Summaries.{by_indices, HeardAllows, AreHeardSets, ArePossibleSets}
@@ -22,7 +22,7 @@ use Rattle.release_compile.proofs.OuterLemmas.{other_not}
 use Rattle.release_compile.proofs.OuterFits.{place_of_part}
 
 module _ (a : Lettered) (alphabets : AreLettered a) (bay n : ℕ) (count : suc n ≡ part_count a.diagram) (bay_in : bay < part_count a.diagram) (own : List Dbpos) (heard : List (Option (List ℕ))) (heard_count : length heard ≡ part_count a.diagram) (sets : List (List Bool)) (are : AreHeardSets a bay heard sets) where
-  pub within_known : (v : List Bool) → Knows (by_indices a) bay own heard v → Within a bay own sets v
+  pub within_known : (v : List Bool) → CannotExclude (by_indices a) bay own heard v → Within a bay own sets v
   within_known v k = record {
     whole = k.whole;
     own = k.own_agree;
@@ -45,7 +45,7 @@ module _ (a : Lettered) (alphabets : AreLettered a) (bay n : ℕ) (count : suc n
           let i = (alphabets.alphabets.each (other_of 0 bay j) (omega (arith, (other_in 0 bay n j (omega (arith, lt, count))).1, count))).indexed v k.whole in
           (i.0, i.1, (are j i.0 lt).1 (slice_get_within _ i.0 i.1.letter i.1.listed, subst (λ o. HeardAllows o i.0) (sym told) tt))
 
-  pub known_within : (v : List Bool) → Within a bay own sets v → Knows (by_indices a) bay own heard v
+  pub known_within : (v : List Bool) → Within a bay own sets v → CannotExclude (by_indices a) bay own heard v
   known_within v w = record {
     whole = w.whole;
     own_agree = w.own;
@@ -62,7 +62,7 @@ module _ (a : Lettered) (alphabets : AreLettered a) (bay n : ℕ) (count : suc n
   }
 
   -- the verdict over what the sets allow is that over what is known
-  pub decides_known : (op : Op) (r : Verdict) → Decides a.diagram (Within a bay own sets) op r → Decides a.diagram (Knows (by_indices a) bay own heard) op r
+  pub decides_known : (op : Op) (r : Verdict) → Decides a.diagram (Within a bay own sets) op r → Decides a.diagram (CannotExclude (by_indices a) bay own heard) op r
   decides_known op Release h = λ v k. h v (within_known v k)
   decides_known op (Denied rule v) h = (known_within v h.0, h.1)
 

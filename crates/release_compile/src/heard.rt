@@ -5,7 +5,7 @@ ghost use Rattle.station_graph.specs.Connection.{a_switch};
 ghost use Rattle.station_graph.specs.Sharing.{OfPart};
 ghost use Rattle.double_points.specs.Words.{AreWords};
 ghost use Rattle.central_rules.specs.Readings.{IsReading, Decides};
-ghost use Rattle.central_rules.specs.Meaning.{Knows, HeardFit};
+ghost use Rattle.central_rules.specs.Meaning.{CannotExclude, HeardFit};
 ghost use Rattle.bay_contract.specs.Alphabets.{AreAlphabets, CanHave};
 ghost use Rattle.release_compile.specs.declared.view.View.TheVariants.{Gap as GapView, Load as LoadView};
 ghost use Rattle.decision_graphs.specs.Reaching.{AreSetsOf, AreMarksOf, MarksReached, IsSet, set_at};
@@ -220,7 +220,7 @@ pub(crate) fn judge_heard(
     requires own { AreWords station.now own.now }
     requires heard { length heard.now ≡ part_count station.now }
     requires fits { HeardFit (by_indices (lettered station.now parts.now)) bay.0 heard.now }
-    ensures { IfOk result (Decides station.now (Knows (by_indices (lettered station.now parts.now)) bay.0 own.now heard.now) op) }
+    ensures { IfOk result (Decides station.now (CannotExclude (by_indices (lettered station.now parts.now)) bay.0 own.now heard.now) op) }
 {
     let _count = station.part_count();
     let place = place_of(station, bay, graphs, op);

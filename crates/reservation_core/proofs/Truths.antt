@@ -16,7 +16,7 @@ use Rattle.station_graph.specs.Alike.{IsVector}
 use Rattle.station_graph.specs.CentralRules.{Breaks}
 use Rattle.station_graph.proofs.GapLemmas.{moved_same}
 use Rattle.station_graph.proofs.PositionLemmas.{slice_get-set_other}
-use Rattle.central_rules.specs.Meaning.{Meaning, Laws, Knows, Summarises, bay_of}
+use Rattle.central_rules.specs.Meaning.{Meaning, Laws, CannotExclude, Summarises, bay_of}
 use Rattle.bay_frames.specs.declared.frame.Frame.{Frame}
 use Rattle.bay_frames.specs.declared.frame.Body.TheVariants.{Answer}
 use Rattle.bay_protocol.specs.declared.values.Lock.{Lock}
@@ -542,7 +542,7 @@ module _ (m : Meaning) (N : Type 0) (word : N → Dbpos) where
         IsSwitchOf m b g.op.switch.0 → IsVector m.diagram v →
         OwnAgreeBut m b g.op.switch.0 (λ i. word (after.known b i)) v → HeardAllow m b r.round.heard v → (x : Bool) →
         x ≡ agreeing (get_or (node m.diagram w b).words g.op.switch.0 Lost) →
-        Knows m (node m.diagram w b).bay (node m.diagram w b).words r.round.heard (set v g.op.switch.0 x)
+        CannotExclude m (node m.diagram w b).bay (node m.diagram w b).words r.round.heard (set v g.op.switch.0 x)
     restored g r v has at whole agrees allowed x x_is =
         let inside : g.op.switch.0 < length v = omega (arith, whole, at.0) in
         let length_is : IsVector m.diagram (set v g.op.switch.0 x) = length-set v g.op.switch.0 x ∙ whole in
