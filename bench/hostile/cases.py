@@ -14,6 +14,9 @@ EXAMPLES = TOP / "examples"
 # How often the files of an example are taken, beside 1 for all others. Those whose graphs are small take less time.
 SHARES = {"two_feeders": 20, "vendor": 20, "single_busbar": 4, "double_busbar": 4}
 
+# The system takes no words that are much longer.
+LONGEST_WORD = 100_000
+
 # The lines of `node` and `stored`, without the record with which those of `node` begin.
 LINES = b"""sense off S/V1/Q1/QB1
 sense off S/V1/Q1/QA1
@@ -165,7 +168,7 @@ def undamaged(rng, form, examples):
     parts["bay"] = b"S/V1/Q1"
     parts["switch"] = rng.choice(parts["positions"].splitlines()).split(b",")[0]
     parts["direction"] = rng.choice((b"open", b"close"))
-    parts["number"] = rng.choice((b"2", b"3", b"4", b"10"))
+    parts["number"] = rng.choice((b"2", b"3"))
     parts["text"] = rng.choice((b"station", b"positions", b"log"))
     return parts
 
@@ -180,7 +183,7 @@ def case(seed, number, examples):
     if part == "kept" and rng.random() < 0.5:
         parts["kept"] = parts["kept"][:SIZE].ljust(SIZE, b"\0")
     names = form.words.split()
-    words = [name.encode() if name in FILES else parts[name].replace(b"\0", b"") for name in names]
+    words = [name.encode() if name in FILES else parts[name].replace(b"\0", b"")[:LONGEST_WORD] for name in names]
     files = {name: parts[name] for name in names if name in FILES}
     if part == "lines" and rng.random() < 0.1:
         del files["kept"]
