@@ -1,8 +1,10 @@
 //! The judge that decides by decision graphs.
 ghost use Rattle.std.specs.Prelude.{◌≡◌};
 
+use crate::all_words::possible_by;
 use crate::build::{GraphJudge, switch_bay};
-use crate::heard::{judge_heard, judge_words, reach_words};
+use crate::by_words::{judge_words, reach_words};
+use crate::heard::judge_heard;
 use crate::partners::is_partner;
 use crate::summary::{is_index_set, summary_of};
 use central_rules::{Judge, Verdict};
@@ -66,8 +68,9 @@ impl<'a> Judge for GraphJudge<'a> {
         let bay = switch_bay(station, op.switch);
         let graphs = self.bay(bay);
         let parts = self.parts();
-        let reached = reach_words(alloc, station, parts, graphs, bay, readings)?;
-        let verdict = judge_words(alloc, station, parts, graphs, bay, op, readings, &reached)?;
+        let all = possible_by(alloc, station, parts, readings)?;
+        let reached = reach_words(alloc, station, parts, graphs, bay, &all)?;
+        let verdict = judge_words(alloc, station, parts, graphs, bay, op, &all, &reached)?;
         Ok(verdict)
     }
 
