@@ -4,8 +4,7 @@ use Rattle.std.proofs.Common.{◌∷◌, ◌++◌, take, drop, length, slice_get
 use Rattle.std.proofs.Common.{inl, inr, add-one, arith}
 use Rattle.std.proofs.lemmas.Bool.{cases_lt, cases_eq}
 use Rattle.std.proofs.lemmas.Grind.{common_steps}
-use Rattle.std.proofs.lemmas.Option.{slice_get_within}
-use Rattle.std.proofs.lemmas.List.{length-set, length_push}
+use Rattle.std.proofs.lemmas.List.{length-set}
 use Rattle.std.proofs.Math.Nat.{pow-le-pow_right}
 use Rattle.ilk_base.specs.declared.words.Dbpos.{Dbpos}
 use Rattle.station_graph.proofs.LinkedLemmas.{linked_self, linked_one, linked_trans}
@@ -21,7 +20,6 @@ use Rattle.bay_contract.specs.Shapes.{IsShaped}
 use Rattle.bay_contract.specs.Paths.{BeginsSo, LeadsHere, MayGo, IsNoted, HasPath, NotesOne, NotesBoth, PathsTo}
 use Rattle.bay_contract.proofs.RankLemmas.{digit_small}
 use Rattle.bay_contract.proofs.NextLemmas.{some_at}
-use Rattle.bay_contract.proofs.ForkLemmas.{get_push_old, get_push_new}
 use Rattle.bay_contract.proofs.AlphabetLemmas.{bits_below, bits_below_more, split, pow_more}
 use Rattle.bay_contract.proofs.PutLemmas.{bits_more}
 

@@ -1,5 +1,5 @@
 -- What is kept of an index that is possible.
-use Rattle.std.proofs.Common.{◌≡◌, ℕ, Option, None, Some, List, MatchOption, IfSome}
+use Rattle.std.proofs.Common.{ℕ, Option, None, Some, List, MatchOption, IfSome}
 use Rattle.ilk_base.specs.declared.words.Dbpos.{Dbpos}
 use Rattle.station_graph.specs.Diagram.{Diagram}
 use Rattle.bay_contract.specs.PartAlphabets.{Alphabets}

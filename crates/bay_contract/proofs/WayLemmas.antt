@@ -16,10 +16,12 @@ use Rattle.bay_contract.specs.Alphabets.{CanHave, IsAgreeing, IsAlphabet, IsPlac
 use Rattle.bay_contract.proofs.NextLemmas.{some_at}
 use Rattle.bay_contract.proofs.PutLemmas.{bits_some}
 
+-- what stands behind the first n
 get_behind : {X : Type 0} (n : ℕ) (xs : List X) (i : ℕ) → slice_get (drop n xs) i ≡ slice_get xs (n + i)
 get_behind zero xs i = (let e : i ≡ 0 + i = omega arith in ap (slice_get xs) e)
 get_behind (suc n) [] i = refl
-get_behind (suc n) (x ∷ xs) i = (let e : suc (n + i) ≡ suc n + i = omega arith in get_behind n xs i ∙ ap (slice_get (x ∷ xs)) e)
+get_behind (suc n) (x ∷ xs) i =
+    (let e : suc (n + i) ≡ suc n + i = omega arith in get_behind n xs i ∙ ap (slice_get (x ∷ xs)) e)
 
 module _ (x : PartAlphabet) (words : List Dbpos) (shaped : IsShaped x) (all : length words ≡ x.switches) (paths : List
     (Option ℕ)) (h : PathsTo x words (length x.forks) paths) where

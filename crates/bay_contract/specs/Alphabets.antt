@@ -79,7 +79,8 @@ InSet set index = (n : ℕ) × IsPlaced set index n
 
 -- The set has a place for each index of the part. In it are exactly those that the part can have by the
 -- words, each with a position that agrees with them.
-pub record IsPossible (d : Diagram) (a : Alphabets) (part : ℕ) (words : List Dbpos) (set : List (Option ℕ)) : Type 0 where
+pub record IsPossible (d : Diagram) (a : Alphabets) (part : ℕ) (words : List Dbpos)
+    (set : List (Option ℕ)) : Type 0 where
   pub count : length set ≡ size_of a part
   pub exact : (i : ℕ) → InSet set i ↔ CanHave d a part words i
   pub placed : (i n : ℕ) → IsPlaced set i n → IsAgreeing d a part words i n

@@ -1,5 +1,6 @@
 //! Which indices are possible where words tell of the positions.
-ghost use Rattle.std.specs.Prelude.{◌≡◌, ℕ, ◌+◌, ◌^◌, ◌<◌, ◌≤◌, ◌↔◌, drop, length, slice_get, IfOk, IsTrue, MatchOption};
+ghost use Rattle.std.specs.Prelude.{◌≡◌, ℕ, ◌+◌, ◌^◌, ◌<◌, ◌≤◌, ◌↔◌, drop, length};
+ghost use Rattle.std.specs.Prelude.{slice_get, IfOk, IsTrue, MatchOption};
 ghost use Rattle.bay_contract.specs.Paths.{NotesOne, NotesBoth, PathsTo, IsNoted, MayLead, IsWay};
 ghost use Rattle.bay_contract.specs.Alphabets.{IsPlaced, InSet};
 

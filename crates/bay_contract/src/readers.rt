@@ -9,7 +9,8 @@ ghost use Rattle.bay_contract.specs.Counting.{AreStepSizes};
 ghost use Rattle.bay_contract.specs.Diagrams.{LeadsTo};
 ghost use Rattle.bay_contract.specs.Targets.{number_of, IsTargetOf, IsStepAt};
 ghost use Rattle.bay_contract.specs.PartAlphabets.{letters_of, size_of, example_of, forks_of, IsPosition, StandsAt};
-ghost use Rattle.bay_contract.specs.Alphabets.{AreAlphabets, IsLetter, HasIndex, IsExample, CanHave, IsAgreeing, IsPlaced, IsPossible};
+ghost use Rattle.bay_contract.specs.Alphabets.{AreAlphabets, IsLetter, HasIndex, IsExample, CanHave, IsAgreeing};
+ghost use Rattle.bay_contract.specs.Alphabets.{IsPlaced, IsPossible};
 
 use crate::fork::{PartStep, Target};
 use crate::parts::Parts;

@@ -10,7 +10,8 @@ use Rattle.release_compile.specs.Lettered.{Lettered}
 -- The sets are those of the first n parts, each of exactly the indices that the part can have by the words.
 pub record ArePossible (a : Lettered) (words : List Dbpos) (sets : List (List (Option ℕ))) (n : ℕ) : Type 0 where
   pub len : length sets ≡ n
-  pub each : (part : ℕ) (set : List (Option ℕ)) → slice_get sets part ≡ Some set → IsPossible a.diagram a.alphabets part words set
+  pub each : (part : ℕ) (set : List (Option ℕ)) → slice_get sets part ≡ Some set
+      → IsPossible a.diagram a.alphabets part words set
 
 -- There is a word for each switch, and for each part the set of what it can have by them.
 pub record AreAllWords (a : Lettered) (w : AllWords) : Type 0 where

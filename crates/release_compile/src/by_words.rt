@@ -61,7 +61,8 @@ pub(crate) fn decide_words(
     requires lettered { AreAlphabets station.now parts.now }
     requires all { AreAllWords (lettered station.now parts.now) all.now }
     requires sides { AreSides (lettered station.now parts.now) op.switch.0 all.now.words.now sets.now sides.now }
-    requires possible { ArePossibleSets (lettered station.now parts.now) sides.now.place.bay.0 all.now.words.now sets.now }
+    requires possible { ArePossibleSets (lettered station.now parts.now) sides.now.place.bay.0 all.now.words.now
+        sets.now }
     ensures { IfOk result (Decides station.now (IsReading all.now.words.now) op) }
 {
     let _count = station.part_count();

@@ -41,13 +41,17 @@ fn vector_of(
     requires bay { place.bay.0 < part_count station.now }
     requires own { IsOwn station.now place.bay.0 op.switch.0 place.first place.others }
     requires outer { length choices.now.outer ≡ place.parts }
-    requires indices { (j c : ℕ) → slice_get choices.now.outer j ≡ Some c → c < size_of parts.now (other_of 0 place.bay.0 j) }
+    requires indices { (j c : ℕ) → slice_get choices.now.outer j ≡ Some c
+        → c < size_of parts.now (other_of 0 place.bay.0 j) }
     requires known { IfSome known (λ w. AreAllWords (lettered station.now parts.now) w.now) }
-    requires held { IfSome known (λ w. (j c : ℕ) → slice_get choices.now.outer j ≡ Some c → Holds w.now.possible.items (other_of 0 place.bay.0 j) c) }
+    requires held { IfSome known (λ w. (j c : ℕ) → slice_get choices.now.outer j ≡ Some c
+        → Holds w.now.possible.items (other_of 0 place.bay.0 j) c) }
     requires inner { length choices.now.inner ≡ suc place.others }
     requires small { (i c : ℕ) → slice_get (drop 1 choices.now.inner) i ≡ Some c → c < 2 }
-    ensures gives { IfOk result (GivesChoices (lettered station.now parts.now) place.bay.0 op.switch.0 place.first own.now choices.now.outer (drop 1 choices.now.inner)) }
-    ensures agree { IfOk result (λ v. IfSome known.entry (λ w. OthersAgree station.now place.bay.0 w.now.words.now place.parts v)) }
+    ensures gives { IfOk result (GivesChoices (lettered station.now parts.now) place.bay.0 op.switch.0 place.first
+        own.now choices.now.outer (drop 1 choices.now.inner)) }
+    ensures agree { IfOk result (λ v. IfSome known.entry (λ w. OthersAgree station.now place.bay.0 w.now.words.now
+        place.parts v)) }
 {
     let _count = station.switch_count();
     let mut vector = Vector::all_open(alloc, station)?;
@@ -88,8 +92,10 @@ pub(crate) fn decide(
     requires words { length own.now ≡ length station.now.switches }
     requires sides { AreSides (lettered station.now parts.now) op.switch.0 own.now sets.now sides.now }
     requires known { IfSome known (λ w. AreAllWords (lettered station.now parts.now) w.now) }
-    requires held { IfSome known (λ w. (j c : ℕ) → IsSet (set_at sets.now j) c → Holds w.now.possible.items (other_of 0 sides.now.place.bay.0 j) c) }
-    ensures { IfOk result (Decides station.now (WithinAll known.entry (lettered station.now parts.now) sides.now.place.bay.0 own.now sets.now sides.now.place.parts) op) }
+    requires held { IfSome known (λ w. (j c : ℕ) → IsSet (set_at sets.now j) c
+        → Holds w.now.possible.items (other_of 0 sides.now.place.bay.0 j) c) }
+    ensures { IfOk result (Decides station.now (WithinAll known.entry (lettered station.now parts.now)
+        sides.now.place.bay.0 own.now sets.now sides.now.place.parts) op) }
 {
     match search(alloc, op.direction, &sides.gap, &sides.load, sets)? {
         None => Ok(Verdict::Release),

@@ -84,8 +84,10 @@ fn view_side<'a>(
     requires sets { AreSetsOf graphs.now.outer.layers sets.now }
     requires marks { AreMarksOf graphs.now.outer marks.now }
     requires reached { MarksReached graphs.now.outer sets.now marks.now.labels }
-    requires graphs { AreViewGraphs view (lettered station.now parts.now) place.bay.0 place.first (suc place.others) (view_of graphs.now) }
-    ensures side { IfOk result (IsSide view (lettered station.now parts.now) place.bay.0 switch.0 place.first place.others own.now sets.now) }
+    requires graphs { AreViewGraphs view (lettered station.now parts.now) place.bay.0 place.first (suc place.others)
+        (view_of graphs.now) }
+    ensures side { IfOk result (IsSide view (lettered station.now parts.now) place.bay.0 switch.0 place.first
+        place.others own.now sets.now) }
     ensures labels { IfOk result (λ s. s.inner.now.labels ≡ labels_of view) }
 {
     let _count = station.switch_count();

@@ -89,7 +89,8 @@ fn decide_both(
     requires lettered { AreAlphabets station.now parts.now }
     requires all { AreAllWords (lettered station.now parts.now) all.now }
     requires sides { AreSides (lettered station.now parts.now) switch.0 all.now.words.now sets.now sides.now }
-    requires possible { ArePossibleSets (lettered station.now parts.now) sides.now.place.bay.0 all.now.words.now sets.now }
+    requires possible { ArePossibleSets (lettered station.now parts.now) sides.now.place.bay.0 all.now.words.now
+        sets.now }
     ensures { IfOk result (AreVerdictsOf station.now all.now.words.now switch.0) }
 {
     let open = Op {
@@ -158,15 +159,16 @@ fn judge_switch(
 impl<'a> GraphJudge<'a> {
     /// The verdicts of both operations of each switch in order, where the word of every switch is known: each as
     /// `judge_all` gives it. Time: the steps of the parts and the edges of all outer graphs, each once, and for each
-    /// operation the edges of its inner graphs; for each denial the edges of one outer graph more. Memory: the indices
-    /// of all parts for each bay.
+    /// operation the edges of its inner graphs; for each denial the edges of one outer graph more. Memory: for each bay
+    /// the indices of all parts and the nodes of its outer graphs.
     pub fn judge_station(
         &self,
         alloc: Global,
         readings: &Readings,
     ) -> Result<Vec<SwitchVerdicts>, Memory>
         requires { AreWords self.now.diagram readings.now }
-        ensures { IfOk result (λ v. AreVerdicts self.now.diagram readings.now v.items (length self.now.diagram.switches)) }
+        ensures { IfOk result (λ v. AreVerdicts self.now.diagram readings.now v.items
+            (length self.now.diagram.switches)) }
     {
         let all = possible_by(alloc, self.station(), self.parts(), readings)?;
         let reaches = reach_parts(alloc, self, &all)?;

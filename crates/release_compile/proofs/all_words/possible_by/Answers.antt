@@ -1,4 +1,4 @@
-use Rattle.std.proofs.Common.{◌≡◌, ◌+◌, ℕ, List, Option, sym, subst}
+use Rattle.std.proofs.Common.{◌+◌, ℕ, List, Option, sym, subst}
 use Rattle.release_compile.specs.Lettered.{lettered}
 use Rattle.release_compile.specs.Possible.{ArePossible}
 use Rattle.release_compile.proofs.PossibleLemmas.{possible_none, possible_more}

@@ -1,4 +1,4 @@
-use Rattle.std.proofs.Common.{◌≡◌, ℕ, Bool, List, Some, arith}
+use Rattle.std.proofs.Common.{Bool, List, Some, arith}
 use Rattle.central_rules.specs.Readings.{IsReading}
 use Rattle.release_compile.specs.Lettered.{Lettered, AreLettered, lettered}
 use Rattle.release_compile.specs.Graphs.{other_of}

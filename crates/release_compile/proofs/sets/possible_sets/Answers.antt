@@ -3,7 +3,7 @@ use Rattle.std.proofs.lemmas.Option.{slice_get-get_or}
 use Rattle.bay_contract.specs.PartAlphabets.{size_of}
 use Rattle.bay_contract.specs.Alphabets.{CanHave}
 use Rattle.release_compile.specs.Graphs.{other_of}
-use Rattle.release_compile.proofs.VerdictLemmas.{other_in, sets_at, length_sets}
+use Rattle.release_compile.proofs.VerdictLemmas.{other_in, sets_at}
 use Rattle.release_compile.proofs.SetsLemmas.{filled_none, filled_more}
 use Rattle.release_compile.proofs.sets.possible_sets.Goals as goal
 

@@ -1,5 +1,5 @@
 use Rattle.std.proofs.Common.{◌≡◌, ◌^◌, ◌<◌, ◌↔◌, length, sym, ◌∙◌, ap, subst}
-use Rattle.bay_contract.specs.PartAlphabets.{PartAlphabet, part_at, letters_of}
+use Rattle.bay_contract.specs.PartAlphabets.{PartAlphabet, part_at}
 use Rattle.bay_contract.specs.Paths.{MayLead, IsWay}
 use Rattle.bay_contract.specs.Alphabets.{InSet}
 use Rattle.bay_contract.proofs.IndexLemmas.{alphabet_at}
