@@ -3,7 +3,7 @@
 ghost use Rattle.std.specs.Prelude.{◌≡◌, ◌<◌, length, IfOk};
 ghost use Rattle.bay_contract.specs.Alphabets.{AreAlphabets};
 
-use bay_contract::{Parts, PartsRefusal, Target};
+use bay_contract::{IndexSet, Parts, PartsRefusal, Target};
 use double_points::Readings;
 use ilk_base::{BayId, Dbpos, Memory, SwitchId};
 use station_graph::{Station, Vector};
@@ -32,10 +32,11 @@ const INDICES: &[(&[u8; 10], u8)] = &[
     (b"1111111111", 7),
 ];
 
-// The words of a feeder, and which indices they leave open.
+// The words of a feeder, which indices they leave open, and the positions of those where each has only one.
 struct Row {
     words: [Dbpos; 5],
     open: &'static [u8],
+    only: &'static [u32],
 }
 
 // The busbar disconnector is lost, so the feeder may be away; the breaker is between its ends or bad; the
@@ -44,6 +45,7 @@ const WORDS: &[Row] = &[
     Row {
         words: [Dbpos::Lost, Dbpos::Off, Dbpos::On, Dbpos::Off, Dbpos::On],
         open: &[0, 1],
+        only: &[0b10100, 0b10101],
     },
     Row {
         words: [
@@ -54,14 +56,17 @@ const WORDS: &[Row] = &[
             Dbpos::On,
         ],
         open: &[1, 5],
+        only: &[0b10101, 0b10111],
     },
     Row {
         words: [Dbpos::On, Dbpos::Bad, Dbpos::On, Dbpos::On, Dbpos::Lost],
         open: &[2, 3, 6, 7],
+        only: &[0b01101, 0b11101, 0b01111, 0b11111],
     },
     Row {
         words: [Dbpos::Off, Dbpos::Lost, Dbpos::On, Dbpos::Bad, Dbpos::Lost],
         open: &[0],
+        only: &[],
     },
     Row {
         words: [
@@ -72,10 +77,12 @@ const WORDS: &[Row] = &[
             Dbpos::Lost,
         ],
         open: &[0, 1, 2, 3, 4, 5, 6, 7],
+        only: &[],
     },
     Row {
         words: [Dbpos::On, Dbpos::On, Dbpos::On, Dbpos::Off, Dbpos::Off],
         open: &[4],
+        only: &[0b00111],
     },
 ];
 
@@ -211,19 +218,27 @@ fn readings_of(alloc: Global, station: &Station, words: &[Dbpos; 5]) -> Result<R
     Ok(readings)
 }
 
+// The position of each open index, where it has only one.
+fn expect_only(rt: &impl Abort, open: &IndexSet, row: &Row) {
+    for (index, position) in row.open.iter().zip(row.only) {
+        assert_eq!(rt; open.position(*index), Some(*position));
+    }
+}
+
 fn expect_open(
     rt: &impl Abort,
     alloc: Global,
     parts: &Parts,
     readings: &Readings,
-    indices: &[u8],
+    row: &Row,
 ) -> Result<(), Memory>
     requires part { 1 < length parts.now.parts }
     requires readings { length readings.now ≡ parts.now.switches }
 {
     let open = parts.possible(alloc, BayId(1), readings)?;
+    expect_only(rt, &open, row);
     for index in 0..parts.size(BayId(1)) {
-        let wanted = indices.contains(&index);
+        let wanted = row.open.contains(&index);
         assert_eq!(rt; open.holds(index), wanted);
         let position = parts.agreeing(alloc, BayId(1), readings, index)?;
         assert_eq!(rt; position.is_some(), wanted);
@@ -236,7 +251,7 @@ fn expect_words(rt: &impl Abort, alloc: Global, station: &Station, row: &Row) ->
     assert!(rt; station.part_count() == 3);
     let parts = parts_of(alloc, station)?;
     let readings = readings_of(alloc, station, &row.words)?;
-    Ok(expect_open(rt, alloc, &parts, &readings, row.open)?)
+    Ok(expect_open(rt, alloc, &parts, &readings, row)?)
 }
 
 fn expect_row(rt: &impl Abort, alloc: Global, row: &Row) -> Result<(), Fail> {

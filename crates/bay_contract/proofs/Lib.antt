@@ -23,4 +23,5 @@ pub mod PutLemmas
 pub mod IndexLemmas
 pub mod PathLemmas
 pub mod WayLemmas
+pub mod SetLemmas
 pub mod OwnLemmas

@@ -2,11 +2,9 @@
 use Rattle.std.proofs.Common.{◌≡◌, ℕ, ◌+◌, ◌-◌, ◌*◌, ◌^◌, ◌<◌, ◌≤◌, ◌↔◌, Bool, true, false, Option, None, List, []}
 use Rattle.std.proofs.Common.{◌∷◌, ◌++◌, take, drop, length, slice_get, slice_set, Some, refl, sym, ◌∙◌, ap, subst}
 use Rattle.std.proofs.Common.{inl, inr, add-one, arith}
-use Rattle.std.specs.Prelude.{is_some}
 use Rattle.std.proofs.lemmas.Bool.{cases_lt, cases_eq}
 use Rattle.std.proofs.lemmas.Grind.{common_steps}
-use Rattle.std.proofs.lemmas.Option.{slice_get_within}
-use Rattle.std.proofs.lemmas.List.{length-set, length_push}
+use Rattle.std.proofs.lemmas.List.{length-set}
 use Rattle.std.proofs.Math.Nat.{pow-le-pow_right}
 use Rattle.ilk_base.specs.declared.words.Dbpos.{Dbpos}
 use Rattle.station_graph.proofs.LinkedLemmas.{linked_self, linked_one, linked_trans}
@@ -22,7 +20,6 @@ use Rattle.bay_contract.specs.Shapes.{IsShaped}
 use Rattle.bay_contract.specs.Paths.{BeginsSo, LeadsHere, MayGo, IsNoted, HasPath, NotesOne, NotesBoth, PathsTo}
 use Rattle.bay_contract.proofs.RankLemmas.{digit_small}
 use Rattle.bay_contract.proofs.NextLemmas.{some_at}
-use Rattle.bay_contract.proofs.ForkLemmas.{get_push_old, get_push_new}
 use Rattle.bay_contract.proofs.AlphabetLemmas.{bits_below, bits_below_more, split, pow_more}
 use Rattle.bay_contract.proofs.PutLemmas.{bits_more}
 
@@ -233,54 +230,6 @@ push_none paths more e none t p m = elim (slice_get-push paths None (Some p) t (
       | inl old ↦ none t p old
       | inr new ↦ cc (new.1)
     ]
-
--- What is known while the noted numbers after some steps are marked.
-pub record MarkedSoFar (paths : List (Option ℕ)) (steps at : ℕ) (marks : List Bool) : Type 0 where
-  pub len : steps + length marks ≡ at
-  pub noted : (k : ℕ) → slice_get marks k ≡ Some true → HasPath paths (steps + k)
-  pub marked : (k : ℕ) → k < length marks → HasPath paths (steps + k) → slice_get marks k ≡ Some true
-
-pub marked_none : (paths : List (Option ℕ)) (steps : ℕ) (marks : List Bool) → marks ≡ []
-    → MarkedSoFar paths steps steps marks
-marked_none paths steps marks e =
-    let none : length marks ≡ 0 = ap length e in
-    record {
-      len = omega arith;
-      noted = λ k m. absurd (omega (arith, slice_get_within marks k true m));
-      marked = λ k lt. absurd (omega arith);
-    }
-
-marked_by : (o : Option ℕ) (b : Bool) → b ≡ is_some o → b ≡ true → (p : ℕ) × (o ≡ Some p)
-marked_by None b e t = absurd (let no : true ≡ false = sym t ∙ e in cc)
-marked_by (Some p) b e t = (p, refl)
-
-pub marked_more : (paths : List (Option ℕ)) (steps at : ℕ) (marks more : List Bool) (o : Option ℕ) (b : Bool)
-    → slice_get paths at ≡ Some o → b ≡ is_some o → more ≡ marks ++ b ∷ [] → MarkedSoFar paths steps at marks
-    → MarkedSoFar paths steps (at + 1) more
-marked_more paths steps at marks more o b o_at is e h = subst (λ (l : List Bool). MarkedSoFar paths steps (at + 1) l)
-    (sym e) (record {
-      len = omega (arith, h.len, length_push marks b);
-      noted = λ k m. elim (slice_get-push marks b true k m) [
-        | inl old ↦ h.noted k old
-        | inr new ↦
-            let (p, o_is) = marked_by o b is new.1 in
-            let place : at ≡ steps + k = omega (arith, h.len, new.0) in
-            subst (λ n. HasPath paths n) place (p, o_at ∙ ap Some o_is)
-      ];
-      marked = λ k lt m. elim (cases_lt k (length marks)) [
-        | inl less ↦ get_push_old marks b true k (h.marked k less m)
-        | inr past ↦
-            let place : length marks ≡ k = omega (arith, length_push marks b) in
-            let o_is : o ≡ Some m.0 = cc (
-              o_at,
-              m.1,
-              ap (slice_get paths) (let here : at ≡ steps + k = omega
-                  (arith, h.len) in here),
-            ) in
-            let b_is : b ≡ true = is ∙ ap is_some o_is in
-            subst (λ n. slice_get (marks ++ b ∷ []) n ≡ Some true) place (get_push_new marks b ∙ ap Some b_is)
-      ];
-    })
 
 pub written_back : (new old : List (Option ℕ)) (n : ℕ) → n ≡ length new → take n (new ++ drop (length new) old) ≡ new
 written_back new old n e = let le : n ≤ length new = omega arith in grind (arith, common_steps)

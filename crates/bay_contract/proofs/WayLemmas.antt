@@ -1,6 +1,6 @@
 -- What the noted positions say at the end.
-use Rattle.std.proofs.Common.{◌≡◌, ℕ, ◌+◌, ◌-◌, ◌^◌, ◌<◌, ◌↔◌, Bool, Option, None, List, [], ◌∷◌, length, slice_get}
-use Rattle.std.proofs.Common.{Some, MatchOption, IfSome, sym, ◌∙◌, ap, subst, arith}
+use Rattle.std.proofs.Common.{◌≡◌, ℕ, zero, suc, ◌+◌, ◌-◌, ◌^◌, ◌<◌, ◌↔◌, Bool, Option, List, [], ◌∷◌, drop, length}
+use Rattle.std.proofs.Common.{slice_get, refl, sym, ◌∙◌, ap, subst, arith}
 use Rattle.std.proofs.lemmas.Option.{slice_get_within}
 use Rattle.ilk_base.specs.declared.words.Dbpos.{Dbpos}
 use Rattle.station_graph.specs.Connection.{LeadsTo as Chain, a_switch}
@@ -12,9 +12,16 @@ use Rattle.bay_contract.specs.Diagrams.{Goes}
 use Rattle.bay_contract.specs.PartAlphabets.{PartAlphabet, Alphabets, part_at, first_switch_of, count_of, StandsAt}
 use Rattle.bay_contract.specs.Shapes.{IsShaped}
 use Rattle.bay_contract.specs.Paths.{BeginsSo, TestedAgree, MayGo, IsNoted, HasPath, PathsTo, MayLead, IsWay}
-use Rattle.bay_contract.specs.Alphabets.{CanHave, IsAgreeing, IsAlphabet}
+use Rattle.bay_contract.specs.Alphabets.{CanHave, IsAgreeing, IsAlphabet, IsPlaced, InSet}
 use Rattle.bay_contract.proofs.NextLemmas.{some_at}
 use Rattle.bay_contract.proofs.PutLemmas.{bits_some}
+
+-- what stands behind the first n
+get_behind : {X : Type 0} (n : ℕ) (xs : List X) (i : ℕ) → slice_get (drop n xs) i ≡ slice_get xs (n + i)
+get_behind zero xs i = (let e : i ≡ 0 + i = omega arith in ap (slice_get xs) e)
+get_behind (suc n) [] i = refl
+get_behind (suc n) (x ∷ xs) i =
+    (let e : suc (n + i) ≡ suc n + i = omega arith in get_behind n xs i ∙ ap (slice_get (x ∷ xs)) e)
 
 module _ (x : PartAlphabet) (words : List Dbpos) (shaped : IsShaped x) (all : length words ≡ x.switches) (paths : List
     (Option ℕ)) (h : PathsTo x words (length x.forks) paths) where
@@ -64,16 +71,19 @@ module _ (x : PartAlphabet) (words : List Dbpos) (shaped : IsShaped x) (all : le
     λ m. chain_noted m.vector m.whole m.agrees 0 m.leads.after (length x.forks + i) h.start m.leads.leads,
   )
 
-  pub found_exactly : (i : ℕ) (o : Option ℕ) → slice_get paths (length x.forks + i) ≡ Some o
-      → MatchOption o (¬ MayLead x words i) (IsWay x words i)
-  found_exactly i None at = λ m. (let n = (noted_exactly i).1 m in cc (at, n.1))
-  found_exactly i (Some p) at = noted_way i p at
+  -- the places behind the steps
+  module _ (set : List (Option ℕ)) (behind : set ≡ drop (length x.forks) paths) where
+    place_of : (i : ℕ) → slice_get set i ≡ slice_get paths (length x.forks + i)
+    place_of i = ap (λ l. slice_get l i) behind ∙ get_behind (length x.forks) paths i
 
--- a position that is found is one of the part
-pub found_small : (x : PartAlphabet) (words : List Dbpos) (i : ℕ) (o : Option ℕ) → MatchOption o (¬ MayLead x words i)
-    (IsWay x words i) → IfSome o (λ n. n < 2 ^ x.count)
-found_small x words i None h = tt
-found_small x words i (Some p) h = h.small
+    pub placed_way : (i p : ℕ) → IsPlaced set i p → IsWay x words i p
+    placed_way i p at = noted_way i p (sym (place_of i) ∙ at)
+
+    pub held_exactly : (i : ℕ) → InSet set i ↔ MayLead x words i
+    held_exactly i = (
+      λ s. (noted_exactly i).0 (s.0, sym (place_of i) ∙ s.1),
+      λ m. (let n = (noted_exactly i).1 m in (n.0, place_of i ∙ n.1)),
+    )
 
 -- in the words of the station
 module _ (d : Diagram) (a : Alphabets) (part : ℕ) (is : IsAlphabet d a part) (words : List Dbpos) (switches :
@@ -118,8 +128,3 @@ module _ (d : Diagram) (a : Alphabets) (part : ℕ) (is : IsAlphabet d a part) (
         agrees = λ v vec s. agrees_in v (w.agrees v (begins v vec s));
         has = λ v vec s. (is.leads v i vec).1 (w.leads v (begins v vec s));
       }
-
-  pub agreeing_found : (i : ℕ) (o : Option ℕ) → MatchOption o (¬ MayLead (part_at a part) words i) (IsWay
-      (part_at a part) words i) → MatchOption o (¬ CanHave d a part words i) (IsAgreeing d a part words i)
-  agreeing_found i None none = λ c. none ((can_have i).1 c)
-  agreeing_found i (Some p) way = agreeing_way i p way

@@ -1,6 +1,6 @@
 -- The alphabet of a part: the list of its distinct contractions on the nodes that it shares, each placed
 -- by the least position that gives it.
-use Rattle.std.specs.Prelude.{◌≡◌, ℕ, ◌<◌, ◌≤◌, ◌↔◌, Bool, true, List, length, slice_get, Some}
+use Rattle.std.specs.Prelude.{◌≡◌, ℕ, ◌<◌, ◌≤◌, ◌↔◌, Bool, List, Option, Some, length, slice_get}
 use Rattle.ilk_base.specs.declared.words.Dbpos.{Dbpos}
 use Rattle.double_points.specs.Words.{BayAgrees}
 use Rattle.station_graph.specs.Diagram.{Diagram, AreSwitchesOf, part_count}
@@ -69,6 +69,18 @@ pub record IsAgreeing (d : Diagram) (a : Alphabets) (part : ℕ) (words : List D
   pub agrees : (v : List Bool) → IsVector d v → StandsAt a part n v → BayAgrees d part words v
   pub has : (v : List Bool) → IsVector d v → StandsAt a part n v → HasIndex d a part index v
 
--- The index is in the set.
-abbrev pub InSet : List Bool → ℕ → Type 0
-InSet marks index = slice_get marks index ≡ Some true
+-- The set keeps this position for the index.
+abbrev pub IsPlaced : List (Option ℕ) → ℕ → ℕ → Type 0
+IsPlaced set index n = slice_get set index ≡ Some (Some n)
+
+-- The index is in the set: a position is kept for it.
+abbrev pub InSet : List (Option ℕ) → ℕ → Type 0
+InSet set index = (n : ℕ) × IsPlaced set index n
+
+-- The set has a place for each index of the part. In it are exactly those that the part can have by the
+-- words, each with a position that agrees with them.
+pub record IsPossible (d : Diagram) (a : Alphabets) (part : ℕ) (words : List Dbpos)
+    (set : List (Option ℕ)) : Type 0 where
+  pub count : length set ≡ size_of a part
+  pub exact : (i : ℕ) → InSet set i ↔ CanHave d a part words i
+  pub placed : (i n : ℕ) → IsPlaced set i n → IsAgreeing d a part words i n

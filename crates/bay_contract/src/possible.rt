@@ -1,9 +1,8 @@
 //! Which indices are possible where words tell of the positions.
-ghost use Rattle.std.specs.Prelude.{◌≡◌, ℕ, ◌+◌, ◌-◌, ◌^◌, ◌<◌, ◌≤◌, ◌↔◌, List, Option, None, Some, length, slice_get};
-ghost use Rattle.std.specs.Prelude.{IfOk, IsTrue, MatchOption};
-ghost use Rattle.bay_contract.specs.PartAlphabets.{PartAlphabet};
-ghost use Rattle.bay_contract.specs.Paths.{NotesOne, NotesBoth, PathsTo, IsNoted, HasPath, MayLead, IsWay};
-ghost use Rattle.bay_contract.specs.Alphabets.{InSet};
+ghost use Rattle.std.specs.Prelude.{◌≡◌, ℕ, ◌+◌, ◌^◌, ◌<◌, ◌≤◌, ◌↔◌, drop, length};
+ghost use Rattle.std.specs.Prelude.{slice_get, IfOk, IsTrue, MatchOption};
+ghost use Rattle.bay_contract.specs.Paths.{NotesOne, NotesBoth, PathsTo, IsNoted, MayLead, IsWay};
+ghost use Rattle.bay_contract.specs.Alphabets.{IsPlaced, InSet};
 
 use crate::alphabet::Alphabet;
 use crate::fork::Fork;
@@ -12,27 +11,40 @@ use ilk_base::Memory;
 use std::alloc::Global;
 use std::marker::Model;
 
-/// A set of indices of a part, seen as a list with a mark for each index.
+/// A set of indices of a part, each with a position of the part. It is seen as a list with a place for each
+/// index: the position of an index that is in the set.
 #[derive(Debug, Drop)]
 pub struct IndexSet {
-    marks: Vec<bool>,
+    positions: Vec<Option<u32>>,
 }
 
 impl Model for IndexSet {
-    ghost use Rattle.std.specs.Prelude.{List, Bool};
+    ghost use Rattle.std.specs.Prelude.{ℕ, List, Option};
 
-    ghost Value = { List Bool };
+    ghost Value = { List (Option ℕ) };
 
-    ghost view = { λ s. s.marks.items };
+    ghost view = { λ s. s.positions.items };
 }
 
 impl IndexSet {
+    /// The position of the index, as bits: bit i is 1 where switch i of the part is closed; none exactly
+    /// where the index is not in the set. At once; takes no memory.
+    pub fn position(&self, index: u8) -> Option<u32>
+        ensures { MatchOption result (¬ InSet self.now index) (IsPlaced self.now index) }
+    {
+        let place = index as usize;
+        if place < self.positions.len() {
+            self.positions[place]
+        } else {
+            None
+        }
+    }
+
     /// Whether the index is in the set, at once. Takes no memory.
     pub fn holds(&self, index: u8) -> bool
         ensures { IsTrue result ↔ InSet self.now index }
     {
-        let place = index as usize;
-        place < self.marks.len() && self.marks[place]
+        self.position(index).is_some()
     }
 }
 
@@ -73,17 +85,13 @@ fn unnoted(alloc: Global, count: usize) -> Result<Vec<Option<u32>>, Memory>
     Ok(paths)
 }
 
-// The indices at which a position is noted: those after so many steps.
+// The positions that are noted at the indices, which are numbered behind so many steps.
 fn noted(alloc: Global, paths: &[Option<u32>], steps: usize) -> Result<IndexSet, Memory>
     requires { steps ≤ length paths.now }
-    ensures count { IfOk result (λ s. length s ≡ length paths.now - steps) }
-    ensures exact { IfOk result (λ s. (i : ℕ) → InSet s i ↔ HasPath paths.now (steps + i)) }
+    ensures { IfOk result (λ s. s ≡ drop steps paths.now) }
 {
-    let mut marks = Vec::new(alloc);
-    'numbers: for i in steps..paths.len() {
-        marks.push(paths[i].is_some())?;
-    }
-    Ok(IndexSet { marks })
+    let positions = Vec::from_slice(alloc, &paths[steps..])?;
+    Ok(IndexSet { positions })
 }
 
 impl Alphabet {
@@ -119,32 +127,16 @@ impl Alphabet {
         Ok(paths)
     }
 
-    // Exactly the indices of positions that agree with the words. Time and memory: the steps.
+    // Exactly the indices of positions that agree with the words, each with such a position. Time and
+    // memory: the steps.
     pub(crate) fn possible(&self, alloc: Global, readings: &Readings) -> Result<IndexSet, Memory>
         requires { length readings.now ≡ self.now.switches }
         ensures count { IfOk result (λ s. length s ≡ length self.now.letters) }
         ensures exact { IfOk result (λ s. (i : ℕ) → InSet s i ↔ MayLead self.now readings.now i) }
+        ensures placed { IfOk result (λ s. (i p : ℕ) → IsPlaced s i p → IsWay self.now readings.now i p) }
     {
         let paths = self.paths(alloc, readings)?;
-        let marks = noted(alloc, &paths, self.forks.len())?;
-        Ok(marks)
-    }
-
-    // A position that agrees with the words and has the index, if there is one. Time and memory: the
-    // steps.
-    pub(crate) fn agreeing(
-        &self,
-        alloc: Global,
-        readings: &Readings,
-        index: u8,
-    ) -> Result<Option<u32>, Memory>
-        requires readings { length readings.now ≡ self.now.switches }
-        requires index { index < length self.now.letters }
-        ensures { IfOk result (λ o. MatchOption o (¬ MayLead self.now readings.now index)
-            (IsWay self.now readings.now index)) }
-    {
-        let paths = self.paths(alloc, readings)?;
-        let place = self.forks.len() + index as usize;
-        Ok(paths[place])
+        let set = noted(alloc, &paths, self.forks.len())?;
+        Ok(set)
     }
 }

@@ -10,7 +10,8 @@ ghost use Rattle.bay_contract.specs.Counting.{AreStepSizes};
 ghost use Rattle.bay_contract.specs.Diagrams.{LeadsTo};
 ghost use Rattle.bay_contract.specs.Targets.{number_of, IsTargetOf, IsStepAt};
 ghost use Rattle.bay_contract.specs.PartAlphabets.{letters_of, size_of, example_of, forks_of, IsPosition, StandsAt};
-ghost use Rattle.bay_contract.specs.Alphabets.{AreAlphabets, IsLetter, HasIndex, IsExample, CanHave, IsAgreeing, InSet};
+ghost use Rattle.bay_contract.specs.Alphabets.{AreAlphabets, IsLetter, HasIndex, IsExample, CanHave, IsAgreeing};
+ghost use Rattle.bay_contract.specs.Alphabets.{IsPlaced, IsPossible};
 
 use crate::fork::{PartStep, Target};
 use crate::parts::Parts;
@@ -127,8 +128,8 @@ impl Parts {
         self.part(part).step(i)
     }
 
-    /// Exactly the indices of positions in which each switch of the part agrees with its word. Time and
-    /// memory: the steps of the part.
+    /// Exactly the indices of positions in which each switch of the part agrees with its word, each with such
+    /// a position. Time and memory: the steps of the part.
     pub fn possible(
         &self,
         alloc: Global,
@@ -138,15 +139,17 @@ impl Parts {
         requires part { part.0 < length self.now.parts }
         requires readings { length readings.now ≡ self.now.switches }
         ensures count { IfOk result (λ s. length s ≡ size_of self.now part.0) }
-        ensures exact { IfOk result (λ s. (d : Diagram) (i : ℕ) → AreAlphabets d self.now
-            → InSet s i ↔ CanHave d self.now part.0 readings.now i) }
+        ensures positions { IfOk result (λ s. (i p : ℕ) → IsPlaced s i p → IsPosition self.now part.0 p) }
+        ensures possible { IfOk result (λ s. (d : Diagram) → AreAlphabets d self.now
+            → IsPossible d self.now part.0 readings.now s) }
     {
-        let marks = self.part(part).possible(alloc, readings)?;
-        Ok(marks)
+        let set = self.part(part).possible(alloc, readings)?;
+        Ok(set)
     }
 
     /// A position, as bits, in which each switch of the part agrees with its word and which has this
-    /// index; none exactly where there is none. Time and memory: the steps of the part.
+    /// index; none exactly where there is none. Time and memory: the steps of the part. `possible` gives them
+    /// for all indices in the same time.
     pub fn agreeing(
         &self,
         alloc: Global,
@@ -162,7 +165,7 @@ impl Parts {
             → MatchOption o (¬ CanHave d self.now part.0 readings.now index)
             (IsAgreeing d self.now part.0 readings.now index)) }
     {
-        let found = self.part(part).agreeing(alloc, readings, index)?;
-        Ok(found)
+        let set = self.possible(alloc, part, readings)?;
+        Ok(set.position(index))
     }
 }

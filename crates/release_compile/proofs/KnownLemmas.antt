@@ -1,5 +1,6 @@
 -- What a bay knows by index sets is what its sets allow.
-use Rattle.std.proofs.Common.{◌≡◌, ℕ, ◌<◌, suc, Bool, true, List, length, slice_get, Option, Some, None, refl, sym, ap, ◌∙◌, subst, inl, inr, arith}
+use Rattle.std.proofs.Common.{◌≡◌, ℕ, ◌<◌, suc, Bool, List, length, slice_get, Option, Some, None, refl, sym, ap, ◌∙◌, subst, inl, inr, arith}
+use Rattle.std.specs.Borrow.{Bor}
 use Rattle.std.proofs.lemmas.Bool.{cases_eq}
 use Rattle.std.proofs.lemmas.Option.{slice_get_within, slice_get_cases}
 use Rattle.ilk_base.specs.declared.words.Dbpos.{Dbpos}
@@ -16,6 +17,7 @@ use Rattle.central_rules.specs.Meaning.{CannotExclude}
 use Rattle.decision_graphs.specs.Reaching.{IsSet, set_at}
 use Rattle.release_compile.specs.Graphs.{other_of, PartChosen, Within}
 use Rattle.release_compile.specs.Summaries.{by_indices, HeardAllows, AreHeardSets, ArePossibleSets}
+use Rattle.release_compile.specs.declared.all_words.AllWords.{AllWords}
 use Rattle.release_compile.specs.Deciding.{WithinAll}
 use Rattle.release_compile.proofs.VerdictLemmas.{other_in}
 use Rattle.release_compile.proofs.OuterLemmas.{other_not}
@@ -71,28 +73,31 @@ pub decides_over : (d : Diagram) (These Those : List Bool → Type 0) → ((v : 
 decides_over d These Those there back op Release h = λ v is. h v (back v is)
 decides_over d These Those there back op (Denied rule v) h = (there v h.0, h.1)
 
-module _ (a : Lettered) (alphabets : AreLettered a) (bay n : ℕ) (count : suc n ≡ part_count a.diagram) (bay_in : bay < part_count a.diagram) (words : List Dbpos) (all : AreWords a.diagram words) (sets : List (List Bool)) (are : ArePossibleSets a bay words sets) where
-  pub within_reading : (v : List Bool) → WithinAll true a bay words sets n v → IsReading words v
-  within_reading v w = record {
-    whole = w.within.whole ∙ sym all;
+module _ (a : Lettered) (alphabets : AreLettered a) (bay n : ℕ) (count : suc n ≡ part_count a.diagram) (bay_in : bay < part_count a.diagram) (w : Bor AllWords) (all : AreWords a.diagram w.now.words.now) (sets : List (List Bool)) (are : ArePossibleSets a bay w.now.words.now sets) where
+  abbrev words : List Dbpos
+  words = w.now.words.now
+
+  pub within_reading : (v : List Bool) → WithinAll (Some w) a bay words sets n v → IsReading words v
+  within_reading v h = record {
+    whole = h.within.whole ∙ sym all;
     agree = λ i word closed from at_w at_v.
         let x = switch_at i (omega (arith, slice_get_within words i word at_w, all)) in
         by i word closed x.0 x.1 at_w at_v;
   }
     where
       switch_at : (i : ℕ) → i < length a.diagram.switches → (s : Switch) × (slice_get a.diagram.switches i ≡ Some s)
-      switch_at i lt = elim ((slice_get_cases a.diagram.switches i).1) [ inl w ↦ (w.0, w.2) | inr w ↦ absurd (omega (arith, w.0, lt)) ]
+      switch_at i lt = elim ((slice_get_cases a.diagram.switches i).1) [ inl s ↦ (s.0, s.2) | inr past ↦ absurd (omega (arith, past.0, lt)) ]
 
       by : (i : ℕ) (word : Dbpos) (closed : Bool) (s : Switch) → slice_get a.diagram.switches i ≡ Some s → slice_get words i ≡ Some word → slice_get v i ≡ Some closed → Agrees word closed
       by i word closed s at at_w at_v = elim (cases_eq s.bay.0 bay) [
-        | inl own ↦ w.within.own i word closed (s, at, own) at_w at_v
+        | inl own ↦ h.within.own i word closed (s, at, own) at_w at_v
         | inr ne ↦
             let part_in : s.bay.0 < suc n = omega (arith, (alphabets.station.items.switches_fit i s at).part_in, count) in
             let r = place_of_part bay s.bay.0 n (omega (arith, bay_in, count)) ne part_in in
-            w.agree refl r.0 r.1 i word closed (s, at, sym r.2) at_w at_v
+            h.agree r.0 r.1 i word closed (s, at, sym r.2) at_w at_v
       ]
 
-  pub reading_within : (v : List Bool) → IsReading words v → WithinAll true a bay words sets n v
+  pub reading_within : (v : List Bool) → IsReading words v → WithinAll (Some w) a bay words sets n v
   reading_within v r = record {
     within = record {
       whole = whole;
@@ -101,7 +106,7 @@ module _ (a : Lettered) (alphabets : AreLettered a) (bay n : ℕ) (count : suc n
           let i = (alphabets.alphabets.each (other_of 0 bay j) (omega (arith, (other_in 0 bay n j (omega (arith, lt, count))).1, count))).indexed v whole in
           (i.0, i.1, (are j i.0 lt).1 record { vector = v; whole = whole; agrees = λ k word closed of_p at_w at_v. r.agree k word closed (omega arith) at_w at_v; has = i.1 });
     };
-    agree = λ full j lt k word closed of_p at_w at_v. r.agree k word closed (omega arith) at_w at_v;
+    agree = λ j lt k word closed of_p at_w at_v. r.agree k word closed (omega arith) at_w at_v;
   }
     where
       whole : IsVector a.diagram v

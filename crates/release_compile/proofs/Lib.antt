@@ -34,6 +34,8 @@ pub mod CodeLemmas
 pub mod BayLemmas
 pub mod PlacingLemmas
 pub mod DecideLemmas
+pub mod PossibleLemmas
+pub mod SidesLemmas
 pub mod KnownLemmas
 pub mod MadeLemmas
 pub mod MoveLemmas

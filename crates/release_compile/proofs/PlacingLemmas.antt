@@ -1,5 +1,6 @@
 -- Vectors that give choices.
-use Rattle.std.proofs.Common.{◌≡◌, ◌≢◌, ℕ, ◌+◌, ◌<◌, suc, Bool, List, [], ◌∷◌, length, drop, get_or, eqb, slice_get, slice_set, Some, refl, sym, ap, ◌∙◌, subst, inl, inr, arith}
+use Rattle.std.proofs.Common.{◌≡◌, ◌≢◌, ℕ, ◌+◌, ◌<◌, suc, Bool, List, [], ◌∷◌, length, drop, get_or, eqb, slice_get, slice_set, Option, Some, None, IfSome, refl, sym, ap, ◌∙◌, subst, inl, inr, arith}
+use Rattle.std.specs.Borrow.{Bor}
 use Rattle.std.proofs.lemmas.Bool.{cases_lt}
 use Rattle.std.proofs.lemmas.Option.{slice_get_within, slice_get-get_or, get_or_from_slice_get, same_Some}
 use Rattle.ilk_base.specs.declared.words.Dbpos.{Dbpos}
@@ -10,12 +11,13 @@ use Rattle.station_graph.specs.Sharing.{OfPart}
 use Rattle.station_graph.specs.Alike.{IsVector, SamePositions, DifferInPart}
 use Rattle.station_graph.proofs.PositionLemmas.{slice_get-set_other}
 use Rattle.contraction.proofs.MarkLemmas.{slice_get-set_same}
-use Rattle.bay_contract.specs.PartAlphabets.{StandsAt}
+use Rattle.bay_contract.specs.PartAlphabets.{Alphabets, StandsAt}
 use Rattle.double_points.specs.Words.{BayAgrees}
 use Rattle.release_compile.specs.Lettered.{Lettered, PartHas}
 use Rattle.release_compile.specs.Graphs.{other_of, PartChosen, SwitchChosen}
 use Rattle.release_compile.specs.Folding.{AreChosen}
-use Rattle.release_compile.specs.Deciding.{OthersAgree}
+use Rattle.release_compile.specs.declared.all_words.AllWords.{AllWords}
+use Rattle.release_compile.specs.Deciding.{IsPlaceFor, OthersAgree}
 use Rattle.release_compile.proofs.MoveLemmas.{index_moves}
 use Rattle.release_compile.proofs.OuterLemmas.{others_apart}
 use Rattle.release_compile.proofs.VerdictLemmas.{other_cases, length_after}
@@ -47,13 +49,21 @@ parts_more a b n index bits v w cs h is has whole stands stay i c lt at = elim (
 ]
 
 -- the parts placed so far agree with the words
-pub agree_more : (d : Diagram) (b n : ℕ) (words : List Dbpos) (v w : List Bool) → OthersAgree d b words n v → BayAgrees d (other_of 0 b n) words w → DifferInPart d (other_of 0 b n) v w → OthersAgree d b words (n + 1) w
+agree_more : (d : Diagram) (b n : ℕ) (words : List Dbpos) (v w : List Bool) → OthersAgree d b words n v → BayAgrees d (other_of 0 b n) words w → DifferInPart d (other_of 0 b n) v w → OthersAgree d b words (n + 1) w
 agree_more d b n words v w before now stay j lt i word closed of_p at_w at_v = elim (cases_lt j n) [
   | inl less ↦ before j less i word closed of_p at_w (part_stays d (other_of 0 b j) (other_of 0 b n) v w (others_apart b j n less) stay i of_p ∙ at_v)
   | inr last ↦
       let e : n ≡ j = omega (arith, last, lt) in
       now i word closed (subst (λ k. OfPart d (other_of 0 b k) (a_switch i)) (sym e) of_p) at_w at_v
 ]
+
+pub none_agree : (d : Diagram) (b : ℕ) (v : List Bool) (known : Option (Bor AllWords)) → IfSome known (λ w. OthersAgree d b w.now.words.now 0 v)
+none_agree d b v None = tt
+none_agree d b v (Some w) = λ j lt. absurd (omega (arith, lt))
+
+pub all_agree_more : (d : Diagram) (a : Alphabets) (b n index bits : ℕ) (v w : List Bool) (known : Option (Bor AllWords)) → IfSome known (λ x. OthersAgree d b x.now.words.now n v) → IsPlaceFor known d a (other_of 0 b n) index bits → IsVector d w → StandsAt a (other_of 0 b n) bits w → DifferInPart d (other_of 0 b n) v w → IfSome known (λ x. OthersAgree d b x.now.words.now (n + 1) w)
+all_agree_more d a b n index bits v w None before place whole stands stay = tt
+all_agree_more d a b n index bits v w (Some x) before place whole stands stay = agree_more d b n x.now.words.now v w before (place.agrees w whole stands) stay
 
 -- the other switches have different numbers, none of them the moved one
 pub switches_apart : (first m i j : ℕ) → i < j → other_of first m i ≢ other_of first m j

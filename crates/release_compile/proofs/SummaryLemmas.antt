@@ -1,5 +1,5 @@
 -- The summary of an index set is one of its words.
-use Rattle.std.proofs.Common.{◌≡◌, ◌≢◌, ℕ, ◌*◌, ◌<◌, ◌↔◌, zero, suc, Bool, true, false, List, [], ◌∷◌, length, map, slice_get, Some, refl, sym, ap, ◌∙◌, subst, inl, inr, arith}
+use Rattle.std.proofs.Common.{◌≡◌, ◌≢◌, ℕ, ◌*◌, ◌<◌, ◌↔◌, zero, suc, Bool, true, false, List, [], ◌∷◌, Option, length, map, slice_get, Some, refl, sym, ap, ◌∙◌, subst, inl, inr, arith}
 use Rattle.std.proofs.lemmas.List.{length-map}
 use Rattle.std.proofs.lemmas.Option.{slice_get_within, same_Some}
 use Rattle.ilk_base.specs.declared.words.Dbpos.{Dbpos}
@@ -58,7 +58,7 @@ same_index a b i v w lettered b_in hv hw =
 
 -- ---- the summary
 
-module _ (a : Lettered) (b to : ℕ) (words : List Dbpos) (set : List Bool) (s : List ℕ) (lettered : AreLettered a) (b_in : b < part_count a.diagram) (all : AreWords a.diagram words) (row : IsRowOf set s) (len : length set ≡ index_count a b) (exact : (i : ℕ) → InSet set i ↔ CanHave a.diagram a.alphabets b words i) (partner : Partner a.diagram b to) where
+module _ (a : Lettered) (b to : ℕ) (words : List Dbpos) (set : List (Option ℕ)) (s : List ℕ) (lettered : AreLettered a) (b_in : b < part_count a.diagram) (all : AreWords a.diagram words) (row : IsRowOf set s) (len : length set ≡ index_count a b) (exact : (i : ℕ) → InSet set i ↔ CanHave a.diagram a.alphabets b words i) (partner : Partner a.diagram b to) where
   in_row : (i : ℕ) → i < index_count a b → i < 8 * length s
   in_row i lt = omega (arith, lt, row.count, len)
 
@@ -72,7 +72,7 @@ module _ (a : Lettered) (b to : ℕ) (words : List Dbpos) (set : List Bool) (s :
         let can : CanHave a.diagram a.alphabets b words i.0 = record { vector = v; whole = whole; agrees = λ k word closed of_b at is. picked_at words k word closed at is; has = i.1 } in
         let lt : i.0 < index_count a b = slice_get_within _ i.0 i.1.letter i.1.listed in
         (i.0, lt, (row.bits i.0 (in_row i.0 lt)).1 ((exact i.0).1 can));
-    no_more = λ i lt bit. omega (arith, slice_get_within set i true ((row.bits i lt).0 bit), len);
+    no_more = λ i lt bit. (let held = (row.bits i lt).0 bit in omega (arith, slice_get_within set i (Some held.0) held.1, len));
   }
 
   set_alike : (v : List Bool) → SetAllows a b s v → StandsAlike a.diagram b words v

@@ -1,25 +1,30 @@
 -- Where a judge puts the other parts, and over which vectors it decides.
-use Rattle.std.specs.Prelude.{◌≡◌, ℕ, ◌<◌, Bool, true, List}
+use Rattle.std.specs.Prelude.{ℕ, ◌<◌, Bool, List, Option, IfSome}
+use Rattle.std.specs.Borrow.{Bor}
 use Rattle.ilk_base.specs.declared.words.Dbpos.{Dbpos}
 use Rattle.station_graph.specs.Diagram.{Diagram}
 use Rattle.station_graph.specs.Alike.{IsVector}
 use Rattle.bay_contract.specs.PartAlphabets.{Alphabets, StandsAt, IsPosition}
 use Rattle.bay_contract.specs.Alphabets.{HasIndex}
 use Rattle.double_points.specs.Words.{BayAgrees}
+use Rattle.release_compile.specs.declared.all_words.AllWords.{AllWords}
 use Rattle.release_compile.specs.Lettered.{Lettered}
 use Rattle.release_compile.specs.Graphs.{other_of, Within}
 
--- The number is a position in which the part has the index; where all words are known, one that agrees with them.
-pub record IsPlaceFor (full : Bool) (d : Diagram) (a : Alphabets) (part : ℕ) (words : List Dbpos) (index n : ℕ) : Type 0 where
+-- The number is a position in which the part has the index; where the words of all switches are known, one that agrees
+-- with them.
+pub record IsPlaceFor (known : Option (Bor AllWords)) (d : Diagram) (a : Alphabets) (part index n : ℕ) : Type 0 where
   pub position : IsPosition a part n
   pub has : (v : List Bool) → IsVector d v → StandsAt a part n v → HasIndex d a part index v
-  pub agrees : full ≡ true → (v : List Bool) → IsVector d v → StandsAt a part n v → BayAgrees d part words v
+  pub agrees : IfSome known (λ w. (v : List Bool) → IsVector d v → StandsAt a part n v
+      → BayAgrees d part w.now.words.now v)
 
 -- In the vector each of the first n other parts agrees with the words.
 abbrev pub OthersAgree : Diagram → ℕ → List Dbpos → ℕ → List Bool → Type 0
 OthersAgree d b words n v = (j : ℕ) → j < n → BayAgrees d (other_of 0 b j) words v
 
--- The vector is allowed; where all words are known, the n other parts agree with them.
-pub record WithinAll (full : Bool) (a : Lettered) (b : ℕ) (words : List Dbpos) (sets : List (List Bool)) (n : ℕ) (v : List Bool) : Type 0 where
+-- The vector is allowed; where the words of all switches are known, the n other parts agree with them.
+pub record WithinAll (known : Option (Bor AllWords)) (a : Lettered) (b : ℕ) (words : List Dbpos)
+    (sets : List (List Bool)) (n : ℕ) (v : List Bool) : Type 0 where
   pub within : Within a b words sets v
-  pub agree : full ≡ true → OthersAgree a.diagram b words n v
+  pub agree : IfSome known (λ w. OthersAgree a.diagram b w.now.words.now n v)

@@ -8,7 +8,9 @@ pub mod Needing
 pub mod Counted
 pub mod Summaries
 pub mod Rows
+pub mod Possible
 pub mod Deciding
+pub mod Sides
 pub mod Plans
 pub mod Noting
 pub mod Stocking

@@ -1,36 +1,28 @@
 //! The verdict by four graphs.
-ghost use Rattle.std.specs.Prelude.{◌≡◌, ℕ, suc, ◌<◌, drop, length, slice_get, true, Some, IfOk};
+ghost use Rattle.std.specs.Prelude.{◌≡◌, ℕ, suc, ◌<◌, drop, length, slice_get, Some, IfOk, IfSome};
 ghost use Rattle.station_graph.specs.Diagram.{part_count};
 ghost use Rattle.central_rules.specs.Readings.{Decides};
 ghost use Rattle.bay_contract.specs.PartAlphabets.{size_of};
-ghost use Rattle.bay_contract.specs.Alphabets.{AreAlphabets, CanHave};
+ghost use Rattle.bay_contract.specs.Alphabets.{AreAlphabets};
 ghost use Rattle.decision_graphs.specs.Reaching.{IsSet, set_at};
-ghost use Rattle.release_compile.specs.declared.view.View.TheVariants.{Gap, Load};
 ghost use Rattle.release_compile.specs.Lettered.{lettered};
-ghost use Rattle.release_compile.specs.Chaining.{IsReady};
-ghost use Rattle.release_compile.specs.Graphs.{other_of, IsOwn, IsSide, GivesChoices};
+ghost use Rattle.release_compile.specs.Graphs.{other_of, IsOwn, GivesChoices};
+ghost use Rattle.release_compile.specs.Possible.{AreAllWords, Holds};
 ghost use Rattle.release_compile.specs.Deciding.{OthersAgree, WithinAll};
+ghost use Rattle.release_compile.specs.Sides.{AreSides};
 
+use crate::all_words::AllWords;
 use crate::chain::Through;
 use crate::placing::{place_others, place_own};
-use crate::search::{Side, search};
+use crate::search::search;
+use crate::sides::{Place, Sides};
 use bay_contract::Parts;
 use central_rules::Verdict;
 use decision_graphs::ChoiceSets;
 use double_points::{Readings, agrees};
-use ilk_base::{BayId, Memory, Op};
+use ilk_base::{Memory, Op};
 use station_graph::{Station, Vector};
 use std::alloc::Global;
-
-// Whose operation is decided: the bay, its first switch and how many it has beside the moved one, and how many
-// other parts there are.
-#[derive(Clone, Copy)]
-pub(crate) struct Place {
-    pub(crate) bay: BayId,
-    pub(crate) first: u16,
-    pub(crate) others: u16,
-    pub(crate) parts: u16,
-}
 
 // A vector that gives the choices; where the words of all switches are known, each other part agrees with them in it.
 fn vector_of(
@@ -39,7 +31,7 @@ fn vector_of(
     parts: &Parts,
     place: Place,
     op: Op,
-    full: bool,
+    known: Option<&AllWords>,
     own: &Readings,
     choices: &Through,
 ) -> Result<Vector, Memory>
@@ -49,26 +41,29 @@ fn vector_of(
     requires bay { place.bay.0 < part_count station.now }
     requires own { IsOwn station.now place.bay.0 op.switch.0 place.first place.others }
     requires outer { length choices.now.outer ≡ place.parts }
-    requires indices { (j c : ℕ) → slice_get choices.now.outer j ≡ Some c → c < size_of parts.now (other_of 0 place.bay.0 j) }
-    requires can { full ≡ true → (j c : ℕ) → slice_get choices.now.outer j ≡ Some c → CanHave station.now parts.now (other_of 0 place.bay.0 j) own.now c }
+    requires indices { (j c : ℕ) → slice_get choices.now.outer j ≡ Some c
+        → c < size_of parts.now (other_of 0 place.bay.0 j) }
+    requires known { IfSome known (λ w. AreAllWords (lettered station.now parts.now) w.now) }
+    requires held { IfSome known (λ w. (j c : ℕ) → slice_get choices.now.outer j ≡ Some c
+        → Holds w.now.possible.items (other_of 0 place.bay.0 j) c) }
     requires inner { length choices.now.inner ≡ suc place.others }
     requires small { (i c : ℕ) → slice_get (drop 1 choices.now.inner) i ≡ Some c → c < 2 }
-    ensures gives { IfOk result (GivesChoices (lettered station.now parts.now) place.bay.0 op.switch.0 place.first own.now choices.now.outer (drop 1 choices.now.inner)) }
-    ensures agree { IfOk result (λ v. full ≡ true → OthersAgree station.now place.bay.0 own.now place.parts v) }
+    ensures gives { IfOk result (GivesChoices (lettered station.now parts.now) place.bay.0 op.switch.0 place.first
+        own.now choices.now.outer (drop 1 choices.now.inner)) }
+    ensures agree { IfOk result (λ v. IfSome known.entry (λ w. OthersAgree station.now place.bay.0 w.now.words.now
+        place.parts v)) }
 {
     let _count = station.switch_count();
     let mut vector = Vector::all_open(alloc, station)?;
     place_others(
-        alloc,
         station,
         parts,
         place.bay,
         place.parts,
-        full,
-        own,
+        known,
         &choices.outer,
         &mut vector,
-    )?;
+    );
     place_own(
         place.first,
         op.switch.0,
@@ -87,38 +82,26 @@ pub(crate) fn decide(
     alloc: Global,
     station: &Station,
     parts: &Parts,
-    place: Place,
+    sides: &Sides,
     op: Op,
-    full: bool,
+    known: Option<&AllWords>,
     own: &Readings,
-    gap: &Side,
-    load: &Side,
     sets: &ChoiceSets,
 ) -> Result<Verdict, Memory>
     requires lettered { AreAlphabets station.now parts.now }
     requires words { length own.now ≡ length station.now.switches }
-    requires count { suc place.parts ≡ part_count station.now }
-    requires bay { place.bay.0 < part_count station.now }
-    requires own { IsOwn station.now place.bay.0 op.switch.0 place.first place.others }
-    requires gap { IsReady gap.now sets.now }
-    requires load { IsReady load.now sets.now }
-    requires gap_labels { gap.now.inner.now.labels ≡ 3 }
-    requires load_labels { load.now.inner.now.labels ≡ 2 }
-    requires sets { length sets.now ≡ place.parts }
-    requires indices { (j c : ℕ) → IsSet (set_at sets.now j) c → c < size_of parts.now (other_of 0 place.bay.0 j) }
-    requires can { full ≡ true → (j c : ℕ) → IsSet (set_at sets.now j) c → CanHave station.now parts.now (other_of 0 place.bay.0 j) own.now c }
-    requires gap_inner { length gap.now.inner.now.layers ≡ suc place.others }
-    requires load_inner { length load.now.inner.now.layers ≡ suc place.others }
-    requires gap_small { (i c : ℕ) → IsSet (set_at gap.now.inner_sets (suc i)) c → c < 2 }
-    requires load_small { (i c : ℕ) → IsSet (set_at load.now.inner_sets (suc i)) c → c < 2 }
-    ensures { IfOk result (λ r. IsSide Gap (lettered station.now parts.now) place.bay.0 op.switch.0 place.first place.others own.now sets.now gap.now
-        → IsSide Load (lettered station.now parts.now) place.bay.0 op.switch.0 place.first place.others own.now sets.now load.now
-        → Decides station.now (WithinAll full (lettered station.now parts.now) place.bay.0 own.now sets.now place.parts) op r) }
+    requires sides { AreSides (lettered station.now parts.now) op.switch.0 own.now sets.now sides.now }
+    requires known { IfSome known (λ w. AreAllWords (lettered station.now parts.now) w.now) }
+    requires held { IfSome known (λ w. (j c : ℕ) → IsSet (set_at sets.now j) c
+        → Holds w.now.possible.items (other_of 0 sides.now.place.bay.0 j) c) }
+    ensures { IfOk result (Decides station.now (WithinAll known.entry (lettered station.now parts.now)
+        sides.now.place.bay.0 own.now sets.now sides.now.place.parts) op) }
 {
-    match search(alloc, op.direction, gap, load, sets)? {
+    match search(alloc, op.direction, &sides.gap, &sides.load, sets)? {
         None => Ok(Verdict::Release),
         Some(found) => {
-            let reading = vector_of(alloc, station, parts, place, op, full, own, &found.choices)?;
+            let place = sides.place;
+            let reading = vector_of(alloc, station, parts, place, op, known, own, &found.choices)?;
             Ok(Verdict::Denied {
                 rule: found.rule,
                 reading,

@@ -1,8 +1,10 @@
 //! The judge that decides by decision graphs.
 ghost use Rattle.std.specs.Prelude.{◌≡◌};
 
+use crate::all_words::possible_by;
 use crate::build::{GraphJudge, switch_bay};
-use crate::heard::{judge_heard, judge_words, reach_words};
+use crate::by_words::{judge_words, reach_words};
+use crate::heard::judge_heard;
 use crate::partners::is_partner;
 use crate::summary::{is_index_set, summary_of};
 use central_rules::{Judge, Verdict};
@@ -11,8 +13,9 @@ use ilk_base::{BayId, HeardList, Memory, Op, Summary};
 use std::alloc::Global;
 
 /// A bay tells another exactly where it is a partner of it: the set of its indices, as few bytes as hold a bit for each
-/// index of the bay, index 0 in the highest bit of the first byte, and spare bits 0. Else its summary is empty. Time of a verdict: the edges of the
-/// bay's outer graphs and of the switch's inner ones, and the steps of the parts; memory for their nodes.
+/// index of the bay, index 0 in the highest bit of the first byte, and spare bits 0. Else its summary is empty. Time of
+/// a verdict: the edges of the bay's outer graphs and of the switch's inner ones, and the steps of the parts; memory
+/// for their nodes, and for the indices of the parts.
 impl<'a> Judge for GraphJudge<'a> {
     ghost use Rattle.release_compile.specs.Summaries.{judges};
     ghost use Rattle.release_compile.specs.Judging.{ground};
@@ -66,8 +69,9 @@ impl<'a> Judge for GraphJudge<'a> {
         let bay = switch_bay(station, op.switch);
         let graphs = self.bay(bay);
         let parts = self.parts();
-        let reached = reach_words(alloc, station, parts, graphs, bay, readings)?;
-        let verdict = judge_words(alloc, station, parts, graphs, bay, op, readings, &reached)?;
+        let all = possible_by(alloc, station, parts, readings)?;
+        let reached = reach_words(alloc, station, parts, graphs, bay, &all)?;
+        let verdict = judge_words(alloc, station, parts, graphs, bay, op, &all, &reached)?;
         Ok(verdict)
     }
 

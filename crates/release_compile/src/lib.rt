@@ -1,8 +1,10 @@
 //! The decision graphs of each bay of a station, and the judge that decides by them.
 #![tactic(auto)]
 
+mod all_words;
 mod bay;
 mod build;
+mod by_words;
 mod chain;
 mod codes;
 mod decide;
@@ -25,6 +27,7 @@ mod reached;
 mod refusal;
 mod search;
 mod sets;
+mod sides;
 mod station;
 mod stock;
 mod summary;

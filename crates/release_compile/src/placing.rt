@@ -1,19 +1,19 @@
 //! A vector that gives the choices that were found.
-ghost use Rattle.std.specs.Prelude.{◌≡◌, ℕ, ◌+◌, ◌<◌, ◌≤◌, ◌⊎◌, suc, drop, length, slice_get, true, Some, IfOk, OnOk};
+ghost use Rattle.std.specs.Prelude.{◌≡◌, ℕ, ◌+◌, ◌<◌, ◌≤◌, ◌⊎◌, suc, drop, length, slice_get, Some, IfSome};
 ghost use Rattle.station_graph.specs.Diagram.{Diagram, part_count};
 ghost use Rattle.bay_contract.specs.PartAlphabets.{size_of};
-ghost use Rattle.bay_contract.specs.Alphabets.{AreAlphabets, CanHave};
+ghost use Rattle.bay_contract.specs.Alphabets.{AreAlphabets};
 ghost use Rattle.release_compile.specs.Lettered.{lettered};
 ghost use Rattle.release_compile.specs.Folding.{AreChosen};
 ghost use Rattle.release_compile.specs.Graphs.{other_of, PartChosen, SwitchChosen};
+ghost use Rattle.release_compile.specs.Possible.{AreAllWords, Holds};
 ghost use Rattle.release_compile.specs.Deciding.{IsPlaceFor, OthersAgree};
 
+use crate::all_words::AllWords;
 use bay_contract::Parts;
 use decision_graphs::ChoiceList;
-use double_points::Readings;
-use ilk_base::{BayId, Memory, SwitchId};
+use ilk_base::{BayId, SwitchId};
 use station_graph::{Station, Vector};
-use std::alloc::Global;
 
 // The i-th number from the first on that is not this one.
 pub(crate) fn other_number(first: u16, this: u16, i: u16) -> u16
@@ -28,62 +28,51 @@ pub(crate) fn other_number(first: u16, this: u16, i: u16) -> u16
 }
 
 // A position of the part that has the index; where the words of all switches are known, one that agrees with them.
-fn place_for(
-    alloc: Global,
-    parts: &Parts,
-    part: BayId,
-    full: bool,
-    words: &Readings,
-    index: u8,
-) -> Result<u32, Memory>
+fn place_for(parts: &Parts, part: BayId, known: Option<&AllWords>, index: u8) -> u32
     requires part { part.0 < length parts.now.parts }
-    requires words { length words.now ≡ parts.now.switches }
     requires index { index < size_of parts.now part.0 }
-    ensures { IfOk result (λ n. (d : Diagram) → AreAlphabets d parts.now → (full ≡ true → CanHave d parts.now part.0 words.now index)
-        → IsPlaceFor full d parts.now part.0 words.now index n) }
+    requires held { IfSome known (λ w. Holds w.now.possible.items part.0 index) }
+    ensures { (d : Diagram) → AreAlphabets d parts.now
+        → IfSome known.entry (λ w. AreAllWords (lettered d parts.now) w.now)
+        → IsPlaceFor known.entry d parts.now part.0 index result }
 {
-    if !full {
-        return Ok(parts.example(part, index));
-    }
-    match parts.agreeing(alloc, part, words, index)? {
-        Some(position) => Ok(position),
-        None => Ok(parts.example(part, index)),
+    match known {
+        Some(all) => all.possible[usize::from(part.0)].position(index).unwrap(),
+        None => parts.example(part, index),
     }
 }
 
 // Moves each other part to a position that has its index; where the words of all switches are known, to one that agrees
 // with them.
 pub(crate) fn place_others(
-    alloc: Global,
     station: &Station,
     parts: &Parts,
     bay: BayId,
     others: u16,
-    full: bool,
-    words: &Readings,
+    known: Option<&AllWords>,
     choices: &ChoiceList,
     vector: &mut Vector,
-) -> Result<(), Memory>
+)
     requires lettered { AreAlphabets station.now parts.now }
-    requires words { length words.now ≡ length station.now.switches }
     requires whole { length vector.old ≡ length station.now.switches }
     requires count { suc others ≡ part_count station.now }
     requires bay { bay.0 < part_count station.now }
     requires len { length choices.now ≡ others }
     requires indices { (j c : ℕ) → slice_get choices.now j ≡ Some c → c < size_of parts.now (other_of 0 bay.0 j) }
-    requires can { full ≡ true → (j c : ℕ) → slice_get choices.now j ≡ Some c → CanHave station.now parts.now (other_of 0 bay.0 j) words.now c }
-    ensures count { OnOk result (length vector.new ≡ length vector.old) }
-    ensures chosen { OnOk result (AreChosen (PartChosen (lettered station.now parts.now) bay.0) vector.new choices.now) }
-    ensures agree { OnOk result (full ≡ true → OthersAgree station.now bay.0 words.now others vector.new) }
+    requires known { IfSome known (λ w. AreAllWords (lettered station.now parts.now) w.now) }
+    requires held { IfSome known (λ w. (j c : ℕ) → slice_get choices.now j ≡ Some c
+        → Holds w.now.possible.items (other_of 0 bay.0 j) c) }
+    ensures count { length vector.new ≡ length vector.old }
+    ensures chosen { AreChosen (PartChosen (lettered station.now parts.now) bay.0) vector.new choices.now }
+    ensures agree { IfSome known.entry (λ w. OthersAgree station.now bay.0 w.now.words.now others vector.new) }
 {
     let _count = station.part_count();
     for j in 0..others {
         let part = BayId(other_number(0, u16::from(bay.0), j) as u8);
         let index = choices.choice(j) as u8;
-        let position = place_for(alloc, parts, part, full, words, index)?;
+        let position = place_for(parts, part, known, index);
         parts.put(part, position, vector);
     }
-    Ok(())
 }
 
 // Moves each other switch of the bay to the position of its choice.

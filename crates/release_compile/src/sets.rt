@@ -1,16 +1,18 @@
 //! Sets of allowed choices for the graphs of a bay.
 ghost use Rattle.std.specs.Prelude.{◌≡◌, ◌≢◌, ◌+◌, ◌*◌, ◌<◌, ◌≤◌, ◌==◌, ◌⊎◌, ◌↔◌, ℕ, suc, List, [], Bool, true, length, slice_get, Some, IfOk, IsTrue};
-ghost use Rattle.station_graph.specs.Diagram.{Diagram, part_count};
-ghost use Rattle.double_points.specs.Words.{Agrees, AreWords};
+ghost use Rattle.station_graph.specs.Diagram.{part_count};
+ghost use Rattle.double_points.specs.Words.{Agrees};
 ghost use Rattle.bay_contract.specs.PartAlphabets.{size_of};
-ghost use Rattle.bay_contract.specs.Alphabets.{AreAlphabets, CanHave, InSet};
+ghost use Rattle.bay_contract.specs.Alphabets.{AreAlphabets, InSet};
 ghost use Rattle.decision_graphs.specs.Label.{Layer, layer_at};
 ghost use Rattle.decision_graphs.specs.Reaching.{AreSetsOf, AreMarksOf, MarksReached, IsSet, set_at};
 ghost use Rattle.release_compile.specs.Lettered.{lettered};
 ghost use Rattle.release_compile.specs.Chaining.{AreInARow, IsReady};
 ghost use Rattle.release_compile.specs.Graphs.{other_of, OwnAllowed};
+ghost use Rattle.release_compile.specs.Possible.{AreAllWords};
 ghost use Rattle.release_compile.specs.Summaries.{has_bit, HeardAllows, AreHeardSets, ArePossibleSets};
 
+use crate::all_words::AllWords;
 use crate::placing::other_number;
 use crate::search::Side;
 use crate::summary::bit_of;
@@ -133,23 +135,6 @@ fn marks_of(alloc: Global, size: u8, set: &IndexSet) -> Result<Vec<bool>, Memory
     Ok(marks)
 }
 
-// Which indices of a part are possible by the words.
-fn possible_marks(
-    alloc: Global,
-    parts: &Parts,
-    part: BayId,
-    readings: &Readings,
-) -> Result<Vec<bool>, Memory>
-    requires part { part.0 < length parts.now.parts }
-    requires readings { length readings.now ≡ parts.now.switches }
-    ensures len { IfOk result (λ v. length v.items ≡ size_of parts.now part.0) }
-    ensures each { IfOk result (λ v. (d : Diagram) (c : ℕ) → AreAlphabets d parts.now → IsSet v.items c ↔ CanHave d parts.now part.0 readings.now c) }
-{
-    let set = parts.possible(alloc, part, readings)?;
-    let marks = marks_of(alloc, parts.size(part), &set)?;
-    Ok(marks)
-}
-
 // The indices of each other part that are possible by the words.
 pub(crate) fn possible_sets(
     alloc: Global,
@@ -158,22 +143,23 @@ pub(crate) fn possible_sets(
     outer: &Graph,
     bay: BayId,
     others: u16,
-    readings: &Readings,
+    all: &AllWords,
 ) -> Result<ChoiceSets, Memory>
     requires lettered { AreAlphabets station.now parts.now }
     requires count { suc others ≡ part_count station.now }
     requires bay { bay.0 < part_count station.now }
     requires layers { length outer.now.layers ≡ others }
     requires choices { (j : ℕ) → j < others → (layer_at outer.now.layers j).choices ≡ size_of parts.now (other_of 0 bay.0 j) }
-    requires words { AreWords station.now readings.now }
+    requires all { AreAllWords (lettered station.now parts.now) all.now }
     ensures sets { IfOk result (AreSetsOf outer.now.layers) }
-    ensures possible { IfOk result (ArePossibleSets (lettered station.now parts.now) bay.0 readings.now) }
+    ensures possible { IfOk result (ArePossibleSets (lettered station.now parts.now) bay.0 all.now.words.now) }
 {
     let _count = station.part_count();
     let mut sets = ChoiceSets::new(alloc, outer)?;
     for j in 0..others {
         let part = BayId(other_number(0, u16::from(bay.0), j) as u8);
-        let marks = possible_marks(alloc, parts, part, readings)?;
+        let set = &all.possible[usize::from(part.0)];
+        let marks = marks_of(alloc, parts.size(part), set)?;
         allow_marked(&mut sets, j, &marks);
     }
     Ok(sets)

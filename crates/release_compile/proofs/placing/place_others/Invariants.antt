@@ -1,4 +1,4 @@
-use Rattle.std.proofs.Common.{◌≡◌, true, length}
+use Rattle.std.proofs.Common.{◌≡◌, IfSome, length}
 use Rattle.release_compile.specs.Lettered.{lettered}
 use Rattle.release_compile.specs.Graphs.{PartChosen}
 use Rattle.release_compile.specs.Deciding.{OthersAgree}
@@ -9,5 +9,5 @@ abbrev pub invariant-loop-j : goal.invariant-loop-j
 invariant-loop-j l = record {
   count : length l.vector ≡ length l.fn.vector;
   chosen : ChosenBelow (PartChosen (lettered l.station l.parts) l.bay.0) l.j l.vector l.choices;
-  agree : l.full ≡ true → OthersAgree l.station l.bay.0 l.words l.j l.vector;
+  agree : IfSome l.known (λ w. OthersAgree l.station l.bay.0 w.now.words.now l.j l.vector);
 }

@@ -1,4 +1,4 @@
-use Rattle.std.proofs.Common.{◌<◌, ◌+◌, List, Bool, length, sym, ap, ◌∙◌, subst, arith}
+use Rattle.std.proofs.Common.{◌<◌, ◌+◌, List, Bool, Some, length, sym, ap, ◌∙◌, subst, arith}
 use Rattle.std.specs.Prelude.{◌↔◌}
 use Rattle.std.proofs.lemmas.List.{length_push}
 use Rattle.std.proofs.lemmas.Option.{slice_get_within}
@@ -27,4 +27,4 @@ returns-clause-len c = omega (arith, c.loop-index.invariant.len, c.loop-index.au
 pub returns-clause-each : goal.returns-clause-each
 returns-clause-each c k =
     let h = c.loop-index.invariant.each k in
-    (λ w. (h.0 w).1, λ held. h.1 (omega (arith, slice_get_within c.args.set.now k _ held, c.requires, c.loop-index.auto.index-end, c.loop-index-test.false), held))
+    (λ w. (h.0 w).1, λ held. h.1 (omega (arith, slice_get_within c.args.set.now k (Some held.0) held.1, c.requires, c.loop-index.auto.index-end, c.loop-index-test.false), held))

@@ -11,4 +11,4 @@ returns c d to station alphabets =
     (c.requires.readings ∙ alphabets.switches)
     c.row_of-row.ensures
     c.in_ok-set.ensures.count
-    (λ i. c.in_ok-set.ensures.exact d i alphabets)
+    (c.in_ok-set.ensures.possible d alphabets).exact

@@ -2,4 +2,4 @@ use Rattle.release_compile.specs.Reaches.{AreVerdicts}
 use Rattle.release_compile.proofs.build.GraphJudge.judge_station.Given as goal
 
 abbrev pub invariant-loop-switch : goal.invariant-loop-switch
-invariant-loop-switch l = record { all : AreVerdicts l.self.diagram l.readings l.all.items l.switch }
+invariant-loop-switch l = record { all : AreVerdicts l.self.diagram l.all.words.now l.verdicts.items l.switch }

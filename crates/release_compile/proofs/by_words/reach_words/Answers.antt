@@ -1,8 +1,8 @@
-use Rattle.std.proofs.Common.{◌-◌, suc, arith}
+use Rattle.std.proofs.Common.{arith}
 use Rattle.release_compile.specs.declared.view.View.TheVariants.{Gap, Load}
 use Rattle.release_compile.specs.Lettered.{lettered}
 use Rattle.release_compile.proofs.HeardLemmas.{other_sets}
-use Rattle.release_compile.proofs.heard.reach_words.Goals as goal
+use Rattle.release_compile.proofs.by_words.reach_words.Goals as goal
 
 pub possible_sets-requires-clause-layers : goal.possible_sets-requires-clause-layers
 possible_sets-requires-clause-layers c = omega (arith, c.requires.graphs.gap.outer.count, c.requires.bay)
