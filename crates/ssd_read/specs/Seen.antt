@@ -1,5 +1,5 @@
 -- What the types of the code stand for.
-use Rattle.std.specs.Prelude.{◌≡◌, List, [], ◌∷◌, Option, Some, None, Result, Ok, Err}
+use Rattle.std.specs.Prelude.{◌≡◌, ℕ, ◌<◌, List, [], ◌∷◌, length, slice_index, Option, Some, None, Result, Ok, Err}
 use Rattle.std.specs.String.{string_bytes}
 use Rattle.ssd_text.specs.Nesting.{Entry}
 use Rattle.ssd_read.specs.declared.drawing.DrawnElement.{DrawnElement}
@@ -10,7 +10,7 @@ use Rattle.ssd_text.specs.declared.refusal.TextRefusal.{TextRefusal}
 use Rattle.ssd_text.specs.declared.refusal.TextRefusal.TheVariants as texts
 use Rattle.station_graph.specs.declared.fault.BuildFault.{BuildFault}
 use Rattle.station_graph.specs.declared.fault.BuildFault.TheVariants as faults
-use Rattle.station_graph.specs.Diagram.{Diagram}
+use Rattle.station_graph.specs.Diagram.{Diagram, node_count}
 use Rattle.ssd_read.specs.Steps.{Step, built}
 use Rattle.ssd_read.specs.Elements.{Element}
 
@@ -43,6 +43,10 @@ IsRefused e outcome = outcome ≡ Err e
 abbrev pub Builds : {X : Type 0} → Diagram → List Step → Result X SsdRefusal → Diagram → Type 0
 Builds d steps (Ok x) new = built d steps ≡ Ok new
 Builds d steps (Err e) new = IsRefused e (built d steps)
+
+-- Each of these is a node of the diagram.
+abbrev pub AreNodes : Diagram → List ℕ → Type 0
+AreNodes d ns = (k : ℕ) → k < length ns → slice_index ns k < node_count d
 
 -- The refusal for a builder's fault.
 abbrev pub refusal_of : BuildFault → SsdRefusal

@@ -4,7 +4,7 @@ ghost use Rattle.station_graph.specs.Diagram.{node_count, part_count, IsTwoEnded
 ghost use Rattle.station_graph.specs.Building.{FollowsLast, path_in_part};
 ghost use Rattle.ssd_read.specs.Ends.{are_apart};
 ghost use Rattle.ssd_read.specs.Steps.{switch_step, breaker_steps, disconnector_steps, infeed_steps};
-ghost use Rattle.ssd_read.specs.Seen.{Builds};
+ghost use Rattle.ssd_read.specs.Seen.{Builds, AreNodes};
 
 use crate::links::add_tap;
 use crate::refusal::SsdRefusal;
@@ -82,7 +82,7 @@ pub(crate) fn add_breaker(
     nodes: &[u32],
 ) -> Result<(), SsdRefusal>
     requires part { part.0 < part_count builder.old }
-    requires nodes { (k : ℕ) → k < length nodes.now → slice_index nodes.now k < node_count builder.old }
+    requires nodes { AreNodes builder.old nodes.now }
     requires apart { are_apart nodes.now ≡ true }
     requires order { FollowsLast builder.old part.0 }
     requires new { ¬ Contains builder.old.switch_paths (path_in_part builder.old part.0 name.now) }
@@ -104,7 +104,7 @@ pub(crate) fn add_disconnector(
     nodes: &[u32],
 ) -> Result<(), SsdRefusal>
     requires part { part.0 < part_count builder.old }
-    requires nodes { (k : ℕ) → k < length nodes.now → slice_index nodes.now k < node_count builder.old }
+    requires nodes { AreNodes builder.old nodes.now }
     requires apart { are_apart nodes.now ≡ true }
     requires order { FollowsLast builder.old part.0 }
     requires new { ¬ Contains builder.old.switch_paths (path_in_part builder.old part.0 name.now) }
@@ -127,7 +127,7 @@ pub(crate) fn add_infeed(
     nodes: &[u32],
 ) -> Result<(), SsdRefusal>
     requires part { part.0 < part_count builder.old }
-    requires nodes { (k : ℕ) → k < length nodes.now → slice_index nodes.now k < node_count builder.old }
+    requires nodes { AreNodes builder.old nodes.now }
     requires order { FollowsLast builder.old part.0 }
     requires new { ¬ Contains builder.old.switch_paths (path_in_part builder.old part.0 name.now) }
     ensures { Builds builder.old (infeed_steps part.0 name.now nodes.now) result builder.new }
