@@ -23,9 +23,9 @@ nodes_in g = first_of g.shapes.now (length g.shapes.now)
 abbrev pub IsWholeLayout : Layout → Type 0
 IsWholeLayout g = IsWhole g.labels g.shapes.now g.edges.now
 
--- For each node, in order, the layer in which it stands.
-abbrev pub AreHomesIn : Layout → List ℕ → Type 0
-AreHomesIn g homes = AreHomes g.shapes.now (length g.shapes.now) homes
+-- For each node, in order, there is the layer in which it stands.
+abbrev pub HasHomes : Layout → Type 0
+HasHomes g = AreHomes g.shapes.now (length g.shapes.now) g.homes.now
 
 -- There is a mark for each node, and behind them one for each label.
 abbrev pub HasPlaces : Layout → List Bool → Type 0

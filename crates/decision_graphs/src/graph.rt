@@ -6,7 +6,7 @@ ghost use Rattle.decision_graphs.specs.Label.{AreChoices, AreReduced, AreLayers,
 ghost use Rattle.decision_graphs.specs.Reaching.{AreSetsOf, AreMarksOf, MarksReached, node_total, IsSet};
 ghost use Rattle.decision_graphs.specs.Finished.{AreFinished, finished};
 ghost use Rattle.decision_graphs.specs.Inside.{layered_of, IsGraph};
-ghost use Rattle.decision_graphs.specs.LaidOut.{layered_in, IsWholeLayout};
+ghost use Rattle.decision_graphs.specs.LaidOut.{layered_in, IsWholeLayout, HasHomes};
 
 use crate::assemble::reduced;
 use crate::choices::ChoiceList;
@@ -155,6 +155,7 @@ impl Graph {
     pub(crate) fn layout(&self) -> Layout<'_>
         ensures layered { layered_in result ≡ self.now }
         ensures whole { IsWholeLayout result }
+        ensures homes { HasHomes result }
     {
         self.parts.layout()
     }
@@ -193,7 +194,7 @@ impl Graph {
         ensures { IfOk result (λ o. MatchOption o (Reaches self.now sets.now label → ⊥)
             (λ p. AreAllowed sets.now p × (label_of self.now p ≡ label))) }
     {
-        match find_path(alloc, self.node_total(), &self.layout(), sets.sets(), label)? {
+        match find_path(alloc, &self.layout(), sets.sets(), label)? {
             Some(path) => Ok(Some(ChoiceList::from_vec(path))),
             None => Ok(None),
         }
@@ -243,8 +244,7 @@ impl Graph {
         ensures { IfOk result (λ b. IsTrue b ↔ DependsOn self.now layer) }
     {
         let reduced = self.reduce(alloc)?;
-        let nodes = reduced.node_total() as usize;
-        let depends = label_depends_on(alloc, nodes, &reduced.layout(), layer as usize)?;
+        let depends = label_depends_on(alloc, &reduced.layout(), layer as usize)?;
         Ok(depends)
     }
 
@@ -256,8 +256,7 @@ impl Graph {
             → (slice_index_or v.items j false ≡ true) ↔ DependsOn self.now j) }
     {
         let reduced = self.reduce(alloc)?;
-        let nodes = reduced.node_total() as usize;
-        let depended = layers_depended(alloc, nodes, &reduced.layout())?;
+        let depended = layers_depended(alloc, &reduced.layout())?;
         Ok(depended)
     }
 }
