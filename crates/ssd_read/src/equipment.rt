@@ -2,7 +2,6 @@
 ghost use Rattle.std.specs.Prelude.{◌≡◌, ℕ, ◌<◌, ◌++◌, [], length, Some, None, slice_index, slice_index_or, Contains};
 ghost use Rattle.std.specs.List.{flat_map};
 ghost use Rattle.station_graph.specs.Diagram.{node_count, part_count, empty};
-ghost use Rattle.station_graph.specs.Building.{FollowsLast, path_in_part};
 ghost use Rattle.ssd_read.specs.declared.role.Role.TheVariants.{ConductingEquipment};
 ghost use Rattle.ssd_read.specs.Elements.{element_at, name_of};
 ghost use Rattle.ssd_read.specs.Drawn.{IsDrawn};
@@ -12,7 +11,7 @@ ghost use Rattle.ssd_read.specs.Names.{first_fault, name_fault};
 ghost use Rattle.ssd_read.specs.Ends.{ends_of, end_fault, nodes_at, use_of, fault_of_ends};
 ghost use Rattle.ssd_read.specs.Steps.{is_part, naming_step, part_number, part_of, links_along, is_bond, lone_tap};
 ghost use Rattle.ssd_read.specs.Steps.{use_steps, winding_ends_of, built, steps_of, steps_before, item_steps_at};
-ghost use Rattle.ssd_read.specs.Seen.{Builds, AreNodes};
+ghost use Rattle.ssd_read.specs.Seen.{Builds, AreNodes, KeepsSwitches, MayTakeSwitch};
 
 use crate::attributes::name_or_nothing;
 use crate::build::is_part;
@@ -39,9 +38,7 @@ fn add_other(
     requires nodes { AreNodes builder.old nodes.now }
     ensures builds { (e : Entry) → kind ≡ type_of e → Builds builder.old
         (links_along (is_bond e) part.0 nodes.now ++ lone_tap e part.0 nodes.now) result builder.new }
-    ensures nodes { node_count builder.new ≡ node_count builder.old }
-    ensures parts { part_count builder.new ≡ part_count builder.old }
-    ensures switches { builder.new.switches ≡ builder.old.switches }
+    ensures same { KeepsSwitches builder.old builder.new }
 {
     match add_links(builder, is_bond(kind), part, nodes) {
         Ok(()) => add_lone_tap(builder, kind, part, nodes),
@@ -63,9 +60,7 @@ fn add_equipment(
     requires fault { fault_of_ends (element_at drawing.now i) ends.now ≡ None }
     requires part { part.0 < part_count builder.old }
     requires nodes { AreNodes builder.old (nodes_at ends.now) }
-    requires order { FollowsLast builder.old part.0 }
-    requires new { ¬ Contains builder.old.switch_paths (path_in_part builder.old part.0
-        (name_of (element_at drawing.now i).entry)) }
+    requires room { MayTakeSwitch builder.old part.0 (name_of (element_at drawing.now i).entry) }
     ensures { Builds builder.old (use_steps (use_of (element_at drawing.now i).entry) (element_at drawing.now i).entry
         part.0 (nodes_at ends.now)) result builder.new }
 {

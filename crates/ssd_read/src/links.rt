@@ -5,7 +5,7 @@ ghost use Rattle.ssd_text.specs.Nesting.{Entry};
 ghost use Rattle.ssd_read.specs.Types.{type_of};
 ghost use Rattle.ssd_read.specs.Steps.{tap_step, tap_steps, link_step, links_after, links_along};
 ghost use Rattle.ssd_read.specs.Steps.{lone_tap, transformer_steps};
-ghost use Rattle.ssd_read.specs.Seen.{Builds, AreNodes};
+ghost use Rattle.ssd_read.specs.Seen.{Builds, AreNodes, KeepsSwitches};
 
 use crate::refusal::SsdRefusal;
 use crate::types::{EquipmentType, is_tapless};
@@ -17,9 +17,7 @@ pub(crate) fn add_tap(builder: &mut Builder, part: BayId, node: u32) -> Result<(
     requires part { part.0 < part_count builder.old }
     requires node { node < node_count builder.old }
     ensures builds { Builds builder.old (tap_step part.0 node ∷ []) result builder.new }
-    ensures nodes { node_count builder.new ≡ node_count builder.old }
-    ensures parts { part_count builder.new ≡ part_count builder.old }
-    ensures switches { builder.new.switches ≡ builder.old.switches }
+    ensures same { KeepsSwitches builder.old builder.new }
 {
     let _count = builder.node_count();
     let item = Tap {
@@ -37,9 +35,7 @@ fn add_taps(builder: &mut Builder, part: BayId, nodes: &[u32]) -> Result<(), Ssd
     requires part { part.0 < part_count builder.old }
     requires nodes { AreNodes builder.old nodes.now }
     ensures builds { Builds builder.old (tap_steps part.0 nodes.now) result builder.new }
-    ensures nodes { node_count builder.new ≡ node_count builder.old }
-    ensures parts { part_count builder.new ≡ part_count builder.old }
-    ensures switches { builder.new.switches ≡ builder.old.switches }
+    ensures same { KeepsSwitches builder.old builder.new }
 {
     for node in nodes {
         match add_tap(builder, part, *node) {
@@ -62,9 +58,7 @@ fn add_link(
     requires first { first < node_count builder.old }
     requires second { second < node_count builder.old }
     ensures builds { Builds builder.old (link_step bond part.0 first second) result builder.new }
-    ensures nodes { node_count builder.new ≡ node_count builder.old }
-    ensures parts { part_count builder.new ≡ part_count builder.old }
-    ensures switches { builder.new.switches ≡ builder.old.switches }
+    ensures same { KeepsSwitches builder.old builder.new }
 {
     if first == second {
         return Ok(());
@@ -92,9 +86,7 @@ pub(crate) fn add_links(
     requires part { part.0 < part_count builder.old }
     requires nodes { AreNodes builder.old nodes.now }
     ensures builds { Builds builder.old (links_along bond part.0 nodes.now) result builder.new }
-    ensures nodes { node_count builder.new ≡ node_count builder.old }
-    ensures parts { part_count builder.new ≡ part_count builder.old }
-    ensures switches { builder.new.switches ≡ builder.old.switches }
+    ensures same { KeepsSwitches builder.old builder.new }
 {
     match nodes {
         [] => Ok(()),
@@ -114,9 +106,7 @@ fn add_links_after(
     requires part { part.0 < part_count builder.old }
     requires nodes { AreNodes builder.old nodes.now }
     ensures builds { Builds builder.old (links_after bond part.0 first nodes.now) result builder.new }
-    ensures nodes { node_count builder.new ≡ node_count builder.old }
-    ensures parts { part_count builder.new ≡ part_count builder.old }
-    ensures switches { builder.new.switches ≡ builder.old.switches }
+    ensures same { KeepsSwitches builder.old builder.new }
 {
     let mut last = first;
     for node in nodes {
@@ -140,9 +130,7 @@ pub(crate) fn add_lone_tap(
     requires nodes { AreNodes builder.old nodes.now }
     ensures builds { (e : Entry) → kind ≡ type_of e →
         Builds builder.old (lone_tap e part.0 nodes.now) result builder.new }
-    ensures nodes { node_count builder.new ≡ node_count builder.old }
-    ensures parts { part_count builder.new ≡ part_count builder.old }
-    ensures switches { builder.new.switches ≡ builder.old.switches }
+    ensures same { KeepsSwitches builder.old builder.new }
 {
     if nodes.len() != 1 {
         return Ok(());
@@ -162,9 +150,7 @@ pub(crate) fn add_transformer(
     requires part { part.0 < part_count builder.old }
     requires nodes { AreNodes builder.old nodes.now }
     ensures builds { Builds builder.old (transformer_steps part.0 nodes.now) result builder.new }
-    ensures nodes { node_count builder.new ≡ node_count builder.old }
-    ensures parts { part_count builder.new ≡ part_count builder.old }
-    ensures switches { builder.new.switches ≡ builder.old.switches }
+    ensures same { KeepsSwitches builder.old builder.new }
 {
     match add_links(builder, false, part, nodes) {
         Ok(()) => add_taps(builder, part, nodes),
