@@ -39,8 +39,10 @@ layer_end ss es j laid lt = omega (
 
 -- one layer more behind the last
 pub IsJoined-push : (ls : List FinishedLayer) (ss : List Shape) (es : List ℕ) (i : ℕ) (s : Shape) (l : FinishedLayer) →
-    IsJoined ls ss es i → take (i + 1) ls ≡ take i ls ++ l ∷ [] → i < 65535 → s.choices ≡ l.choices → s.nodes ≡ l.nodes →
-    s.first ≡ first_of ss (length ss) → s.base ≡ length es → length l.edges.items ≡ l.nodes * l.choices → 0 < l.choices →
+    IsJoined ls ss es i → take (i + 1) ls ≡ take i ls ++ l ∷ [] → i < 65535 → s.choices ≡ l.choices →
+    s.nodes ≡ l.nodes →
+    s.first ≡ first_of ss (length ss) → s.base ≡ length es → length l.edges.items ≡ l.nodes * l.choices →
+    0 < l.choices →
     first_of ss (length ss) + l.nodes ≤ 4294967295 → IsJoined ls (ss ++ s ∷ []) (es ++ l.edges.items) (i + 1)
 IsJoined-push ls ss es i s l made more few choices nodes first base counted some fits =
     record {

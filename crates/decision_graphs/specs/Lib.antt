@@ -14,3 +14,5 @@ pub mod Assembling
 pub mod Depending
 pub mod Renaming
 pub mod Finished
+pub mod LaidOut
+pub mod Made

@@ -1,10 +1,10 @@
 //! A graph out of finished layers.
 ghost use Rattle.std.specs.Prelude.{◌≡◌, ℕ, ◌+◌, ◌<◌, ◌≤◌, length, map, sum_by, IfOk};
 ghost use Rattle.decision_graphs.specs.Finished.{AreFinished, IsJoined, finished};
-ghost use Rattle.decision_graphs.specs.Shapes.{AreHomes};
-ghost use Rattle.decision_graphs.specs.Whole.{IsWhole, layer_of};
+ghost use Rattle.decision_graphs.specs.Inside.{layered_of, IsGraph};
 
-use crate::assemble::{Assembled, GraphParts, homes_of};
+use crate::assemble::{Assembled, parts_of};
+use crate::layout::GraphParts;
 use crate::shape::Shape;
 use ilk_base::Memory;
 use std::alloc::Global;
@@ -53,15 +53,10 @@ pub(crate) fn joined(
     requires finished { AreFinished labels layers.now }
     requires few_layers { length layers.now ≤ 65535 }
     requires few_nodes { sum_by (λ (l : FinishedLayer). l.nodes) layers.now ≤ 4294967295 }
-    ensures homes { IfOk result (λ a. AreHomes a.shapes.items (length a.shapes.items) a.homes.items) }
-    ensures whole { IfOk result (λ a. IsWhole labels a.shapes.items a.edges.items) }
-    ensures view { IfOk result (λ a. map (layer_of a.edges.items) a.shapes.items ≡ map finished layers.now) }
+    ensures graph { IfOk result IsGraph }
+    ensures view { IfOk result (λ g. layered_of g ≡ record { labels = labels; layers = map finished layers.now }) }
 {
-    let joined = join(alloc, labels, layers)?;
-    let homes = homes_of(alloc, &joined.shapes)?;
-    Ok(GraphParts {
-        shapes: joined.shapes,
-        homes,
-        edges: joined.edges,
-    })
+    let made = join(alloc, labels, layers)?;
+    let parts = parts_of(alloc, labels, made)?;
+    Ok(parts)
 }

@@ -5,21 +5,20 @@ ghost use Rattle.decision_graphs.specs.Label.{DependsOn, layer_at, first_at, Has
 ghost use Rattle.decision_graphs.specs.Label.{AreChoices, AreReduced, AreLayers, Layer, label_of, place_after, step};
 ghost use Rattle.decision_graphs.specs.Reaching.{AreSetsOf, AreMarksOf, MarksReached, node_total, IsSet};
 ghost use Rattle.decision_graphs.specs.Finished.{AreFinished, finished};
-ghost use Rattle.decision_graphs.specs.Whole.{layer_of, IsWhole};
-ghost use Rattle.decision_graphs.specs.Shapes.{AreHomes};
+ghost use Rattle.decision_graphs.specs.Inside.{layered_of, IsGraph};
+ghost use Rattle.decision_graphs.specs.LaidOut.{layered_in, IsWholeLayout, HasHomes};
 
 use crate::assemble::reduced;
 use crate::choices::ChoiceList;
 use crate::depend::{label_depends_on, layers_depended};
-use crate::find::edge_site;
 use crate::finished::{FinishedLayer, joined};
+use crate::layout::{GraphParts, Layout};
 use crate::marks::Marks;
 use crate::path::find_path;
 use crate::reach::mark_labels;
 use crate::rename::renamed;
 use crate::same::{same_edges, same_shapes};
 use crate::sets::ChoiceSets;
-use crate::shape::Shape;
 use ilk_base::Memory;
 use std::alloc::Global;
 use std::marker::Model;
@@ -31,10 +30,7 @@ use std::marker::Model;
 /// Contracts see it as its layers, where an edge is a number within the next layer.
 #[derive(Debug, Drop)]
 pub struct Graph {
-    labels: u32,
-    shapes: Vec<Shape>,
-    homes: Vec<u16>,
-    edges: Vec<u32>,
+    parts: GraphParts,
 }
 
 impl Model for Graph {
@@ -44,9 +40,9 @@ impl Model for Graph {
 
     ghost use Rattle.decision_graphs.specs.Inside.{layered_of, IsGraph};
 
-    ghost view = { layered_of };
+    ghost view = { λ g. layered_of g.parts };
 
-    ghost invariant = { IsGraph };
+    ghost invariant = { λ g. IsGraph g.parts };
 }
 
 impl Graph {
@@ -56,7 +52,7 @@ impl Graph {
         ensures count { result ≡ self.now.labels }
         ensures layered { AreLayers self.now.labels self.now.layers }
     {
-        self.labels
+        self.parts.labels
     }
 
     /// How many layers there are, and that they have at most 4,294,967,295 nodes. Constant time.
@@ -64,7 +60,7 @@ impl Graph {
         ensures count { result ≡ length self.now.layers }
         ensures few_nodes { node_total self.now ≤ 4294967295 }
     {
-        self.shapes.len() as u16
+        self.parts.shapes.len() as u16
     }
 
     /// How many choices each node of a layer has. Constant time.
@@ -72,7 +68,7 @@ impl Graph {
         requires { layer < length self.now.layers }
         ensures { result ≡ (layer_at self.now.layers layer).choices }
     {
-        self.shapes[layer as usize].choices
+        self.parts.shapes[layer as usize].choices
     }
 
     /// The number of a layer's first node, and how many nodes it has. Constant time.
@@ -81,7 +77,7 @@ impl Graph {
         ensures first { result.0 ≡ first_at self.now.layers layer }
         ensures count { result.1 ≡ length (layer_at self.now.layers layer).rows }
     {
-        let shape = self.shapes[layer as usize];
+        let shape = self.parts.shapes[layer as usize];
         (shape.first, shape.nodes)
     }
 
@@ -92,8 +88,8 @@ impl Graph {
         ensures { (j k : ℕ) → IsNode self.now j k from
             → result ≡ place_after self.now j (step (layer_at self.now.layers j) k choice) }
     {
-        let site = edge_site(&self.shapes, &self.homes, &self.edges, from, choice);
-        site.next + self.edges[site.place]
+        let site = self.parts.edge_site(from, choice);
+        site.next + self.parts.edges[site.place]
     }
 
     /// The graph of finished layers, for a caller that knows how many labels there are only once the last
@@ -110,26 +106,15 @@ impl Graph {
         ensures { IfOk result (λ g. g ≡ record { labels = labels; layers = map finished layers.now }) }
     {
         let parts = joined(alloc, labels, layers)?;
-        Ok(Graph::from_parts(labels, parts.shapes, parts.homes, parts.edges))
+        Ok(Graph::from_parts(parts))
     }
 
-    // The graph of these layers.
-    pub(crate) fn from_parts(
-        labels: u32,
-        shapes: Vec<Shape>,
-        homes: Vec<u16>,
-        edges: Vec<u32>,
-    ) -> Graph
-        requires whole { IsWhole labels shapes.items edges.items }
-        requires homes { AreHomes shapes.items (length shapes.items) homes.items }
-        ensures { result ≡ record { labels = labels; layers = map (layer_of edges.items) shapes.items } }
+    // The graph of these parts.
+    pub(crate) fn from_parts(parts: GraphParts) -> Graph
+        requires { IsGraph parts }
+        ensures { result ≡ layered_of parts }
     {
-        Graph {
-            labels,
-            shapes,
-            homes,
-            edges,
-        }
+        Graph { parts }
     }
 
     /// A copy of the graph. Linear in edges and nodes, as is the memory that it takes.
@@ -137,10 +122,12 @@ impl Graph {
         ensures { IfOk result (λ g. g ≡ self.now) }
     {
         Ok(Graph {
-            labels: self.labels,
-            shapes: Vec::from_slice(alloc, &self.shapes)?,
-            homes: Vec::from_slice(alloc, &self.homes)?,
-            edges: Vec::from_slice(alloc, &self.edges)?,
+            parts: GraphParts {
+                labels: self.parts.labels,
+                shapes: Vec::from_slice(alloc, &self.parts.shapes)?,
+                homes: Vec::from_slice(alloc, &self.parts.homes)?,
+                edges: Vec::from_slice(alloc, &self.parts.edges)?,
+            },
         })
     }
 
@@ -148,20 +135,29 @@ impl Graph {
     pub fn same(&self, other: &Graph) -> bool
         ensures { result ≡ true → self.now ≡ other.now }
     {
-        if self.labels != other.labels {
+        if self.parts.labels != other.parts.labels {
             return false;
         }
-        if !same_shapes(&self.shapes, &other.shapes) {
+        if !same_shapes(&self.parts.shapes, &other.parts.shapes) {
             return false;
         }
-        same_edges(&self.edges, &other.edges)
+        same_edges(&self.parts.edges, &other.parts.edges)
     }
 
     // How many nodes the graph has.
     pub(crate) fn node_total(&self) -> u32
         ensures { result ≡ node_total self.now }
     {
-        self.homes.len() as u32
+        self.parts.homes.len() as u32
+    }
+
+    // The lists in which the graph lies.
+    pub(crate) fn layout(&self) -> Layout<'_>
+        ensures layered { layered_in result ≡ self.now }
+        ensures whole { IsWholeLayout result }
+        ensures homes { HasHomes result }
+    {
+        self.parts.layout()
     }
 
     /// Marks exactly the labels to which some list of allowed choices leads, whatever was marked before.
@@ -182,7 +178,7 @@ impl Graph {
         ensures { (goal : ℕ) → goal < self.now.labels
             → IsSet seen.new (node_total self.now + goal) ↔ Reaches self.now (map (λ v. v.items) sets.now) goal }
     {
-        mark_labels(self.labels, &self.shapes, &self.edges, sets, seen);
+        mark_labels(&self.layout(), sets, seen);
     }
 
     /// A list of allowed choices that leads to the label, None exactly where no such list does. The sets
@@ -198,17 +194,7 @@ impl Graph {
         ensures { IfOk result (λ o. MatchOption o (Reaches self.now sets.now label → ⊥)
             (λ p. AreAllowed sets.now p × (label_of self.now p ≡ label))) }
     {
-        let nodes = self.node_total();
-        let found = find_path(
-            alloc,
-            nodes,
-            self.labels,
-            &self.shapes,
-            &self.edges,
-            sets.sets(),
-            label,
-        )?;
-        match found {
+        match find_path(alloc, &self.layout(), sets.sets(), label)? {
             Some(path) => Ok(Some(ChoiceList::from_vec(path))),
             None => Ok(None),
         }
@@ -228,13 +214,8 @@ impl Graph {
         ensures sizes { IfOk result (λ g. (j : ℕ) → length (layer_at g.layers j).rows ≤ length
             (layer_at self.now.layers j).rows) }
     {
-        let assembled = reduced(alloc, self.labels, &self.shapes, &self.edges)?;
-        Ok(Graph::from_parts(
-            self.labels,
-            assembled.shapes,
-            assembled.homes,
-            assembled.edges,
-        ))
+        let parts = reduced(alloc, &self.layout())?;
+        Ok(Graph::from_parts(parts))
     }
 
     /// The graph with so many labels in which each label is replaced by its name, `names[label]`. A graph
@@ -252,16 +233,8 @@ impl Graph {
         ensures sizes { IfOk result (λ g. (j : ℕ) → length (layer_at g.layers j).rows ≡ length
             (layer_at self.now.layers j).rows) }
     {
-        let parts = renamed(
-            alloc,
-            self.labels,
-            labels,
-            &self.shapes,
-            &self.homes,
-            &self.edges,
-            names,
-        )?;
-        Ok(Graph::from_parts(labels, parts.shapes, parts.homes, parts.edges))
+        let parts = renamed(alloc, &self.layout(), labels, names)?;
+        Ok(Graph::from_parts(parts))
     }
 
     /// Whether the choice in a layer makes a difference: exactly where two lists of choices that differ in
@@ -271,7 +244,7 @@ impl Graph {
         ensures { IfOk result (λ b. IsTrue b ↔ DependsOn self.now layer) }
     {
         let reduced = self.reduce(alloc)?;
-        let depends = reduced.reduced_depends_on(alloc, layer)?;
+        let depends = label_depends_on(alloc, &reduced.layout(), layer as usize)?;
         Ok(depends)
     }
 
@@ -283,34 +256,7 @@ impl Graph {
             → (slice_index_or v.items j false ≡ true) ↔ DependsOn self.now j) }
     {
         let reduced = self.reduce(alloc)?;
-        let depended = reduced.reduced_dependencies(alloc)?;
+        let depended = layers_depended(alloc, &reduced.layout())?;
         Ok(depended)
-    }
-
-    fn reduced_dependencies(&self, alloc: Global) -> Result<Vec<bool>, Memory>
-        requires { AreReduced self.now.layers }
-        ensures count { IfOk result (λ v. length v.items ≡ length self.now.layers) }
-        ensures exact { IfOk result (λ v. (j : ℕ) → j < length self.now.layers
-            → (slice_index_or v.items j false ≡ true) ↔ DependsOn self.now j) }
-    {
-        let mut seen = Vec::new(alloc);
-        seen.resize(self.homes.len() + self.labels as usize, false)?;
-        let depended = layers_depended(alloc, self.labels, &self.shapes, &self.edges, &mut seen)?;
-        Ok(depended)
-    }
-
-    fn reduced_depends_on(&self, alloc: Global, layer: u16) -> Result<bool, Memory>
-        requires reduced { AreReduced self.now.layers }
-        requires layer { layer < length self.now.layers }
-        ensures { IfOk result (λ b. IsTrue b ↔ DependsOn self.now layer) }
-    {
-        label_depends_on(
-            alloc,
-            self.homes.len(),
-            self.labels,
-            &self.shapes,
-            &self.edges,
-            layer as usize,
-        )
     }
 }

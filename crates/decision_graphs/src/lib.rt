@@ -17,6 +17,7 @@ mod fold;
 mod fold_all;
 mod graph;
 mod law;
+mod layout;
 mod marks;
 mod path;
 mod reach;

@@ -1,5 +1,6 @@
 pub mod Texts
 pub mod Placed
+pub mod Decoding
 pub mod Lists
 pub mod Faults
 pub mod Taken

@@ -1,5 +1,5 @@
 -- Terminals: where each stands, and what pass 2 refuses.
-use Rattle.std.specs.Prelude.{ℕ, Bool, true, false, ◌==◌, ◌&&◌, ◌||◌, not, nat_lt, List, [], ◌∷◌, ◌++◌, length, map}
+use Rattle.std.specs.Prelude.{ℕ, Bool, true, false, ◌==◌, ◌&&◌, not, nat_lt, List, [], ◌∷◌, ◌++◌, length, map}
 use Rattle.std.specs.Prelude.{filter, position, Option, Some, None, if◌then◌else◌, codes}
 use Rattle.std.specs.List.{list_any, filter_map}
 use Rattle.std.specs.Option.{option_map, option_or, option_map_or, option_and_then}
@@ -12,7 +12,8 @@ use Rattle.ssd_read.specs.declared.ends.Use.{Use}
 use Rattle.ssd_read.specs.declared.ends.Use.TheVariants as uses
 use Rattle.ssd_read.specs.declared.refusal.SsdRefusal.{SsdRefusal}
 use Rattle.ssd_read.specs.declared.refusal.SsdRefusal.TheVariants.{NodeMissing, Terminals, Grounded, Loop}
-use Rattle.ssd_read.specs.Elements.{Element, attribute, same_role, says}
+use Rattle.ssd_read.specs.Elements.{Element, attribute, same_role}
+use Rattle.ssd_read.specs.Types.{type_of, use_of_type}
 use Rattle.ssd_read.specs.Names.{FaultAfter, keys_of}
 
 -- What follows the last slash, or all.
@@ -119,11 +120,7 @@ infeed_fault at ends = unless (length (nodes_at ends) == 1) (Terminals at (lengt
 
 -- What equipment is, by its type.
 abbrev pub use_of : Entry → Use
-use_of e =
-    if says e (codes "type") (codes "CBR") then uses.Breaker
-    else if says e (codes "type") (codes "DIS") then uses.Disconnector
-    else if says e (codes "type") (codes "IFL") || says e (codes "type") (codes "GEN") then uses.Infeed
-    else uses.Other
+use_of e = use_of_type (type_of e)
 
 -- The fault of equipment that is used so, where all its ends are on earth or on nodes.
 abbrev pub use_fault : Use → ℕ → List TerminalPlace → Option SsdRefusal

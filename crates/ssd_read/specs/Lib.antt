@@ -1,5 +1,6 @@
 pub mod Elements
 pub mod Drawn
+pub mod Types
 pub mod Names
 pub mod Ends
 pub mod Steps
@@ -7,5 +8,6 @@ pub mod Lists
 pub mod StandsFor
 pub mod Laws
 pub mod Seen
+pub mod Decoded
 pub mod SeenPaths
 pub mod Shown

@@ -10,6 +10,7 @@ use Rattle.ssd_read.specs.declared.role.Role.TheVariants.{ConnectivityNode, Cond
 use Rattle.ssd_read.specs.declared.refusal.SsdRefusal.{SsdRefusal}
 use Rattle.ssd_read.specs.declared.refusal.SsdRefusal.TheVariants.{Root, NoName, Twice}
 use Rattle.ssd_read.specs.Elements.{Element, attribute, counted_as, same_role, front_of, is_named}
+use Rattle.ssd_read.specs.Types.{type_of}
 
 -- A place's fault, by the elements before it. The first of a list is that of its first place with a fault.
 abbrev pub FaultAfter : Type 0
@@ -35,7 +36,7 @@ lacks_name e = not (option_map_or is_good_name (attribute e (codes "name")) fals
 -- An element that needs a name has none, or equipment has no type.
 abbrev pub is_nameless : Element → Bool
 is_nameless x = is_some (counted_as x.role) && (lacks_name x.entry || (same_role x.role ConductingEquipment && not
-    (is_some (attribute x.entry (codes "type")))))
+    (is_some (type_of x.entry))))
 
 -- The key of a node is its path name where there is one, else its path.
 abbrev pub key_of : Element → List ℕ

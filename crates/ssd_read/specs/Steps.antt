@@ -1,7 +1,7 @@
 -- What a drawing adds to a station, step by step, and the first limit that it passes.
 use Rattle.std.specs.Prelude.{ℕ, Bool, false, ◌==◌, ◌&&◌, ◌||◌, not, List, [], ◌∷◌, ◌++◌, length, map, filter, take}
-use Rattle.std.specs.Prelude.{slice_get, Option, Some, None, Result, Ok, Err, if◌then◌else◌, codes}
-use Rattle.std.specs.List.{list_any, flat_map, range_with_len}
+use Rattle.std.specs.Prelude.{slice_get, Option, Some, None, Result, Ok, Err, if◌then◌else◌}
+use Rattle.std.specs.List.{flat_map, range_with_len}
 use Rattle.std.specs.Option.{option_map_or, option_and_then, unwrap_or}
 use Rattle.ilk_base.specs.declared.words.Kind.{Kind}
 use Rattle.ilk_base.specs.declared.words.Kind.TheVariants.{Breaker, Disconnector, Earthing, Infeed}
@@ -16,7 +16,8 @@ use Rattle.ssd_read.specs.declared.role.Role.TheVariants.{Bay, ConnectivityNode,
 use Rattle.ssd_read.specs.declared.role.Role.TheVariants.{TransformerWinding, Terminal}
 use Rattle.ssd_read.specs.declared.refusal.SsdRefusal.{SsdRefusal}
 use Rattle.ssd_read.specs.declared.refusal.SsdRefusal.TheVariants.{Limit}
-use Rattle.ssd_read.specs.Elements.{Element, element_at, name_of, same_role, says}
+use Rattle.ssd_read.specs.Elements.{Element, element_at, name_of, same_role}
+use Rattle.ssd_read.specs.Types.{type_of, is_bond_type, is_tapless_type}
 use Rattle.ssd_read.specs.declared.ends.TerminalPlace.{TerminalPlace}
 use Rattle.ssd_read.specs.declared.ends.Use.{Use}
 use Rattle.ssd_read.specs.declared.ends.Use.TheVariants as uses
@@ -95,17 +96,13 @@ abbrev pub links_along : Bool → ℕ → List ℕ → List Step
 links_along bond part [] = []
 links_along bond part (a ∷ ns) = links_after bond part a ns
 
--- The element's type is one of these words.
-abbrev pub has_type : Entry → List (List ℕ) → Bool
-has_type e words = list_any (says e (codes "type")) words
-
--- Current transformers, cables, lines and gas-insulated lines give bonds.
+-- The equipment gives bonds, by its type.
 abbrev pub is_bond : Entry → Bool
-is_bond e = has_type e (codes "CTR" ∷ codes "CAB" ∷ codes "LIN" ∷ codes "GIL" ∷ [])
+is_bond e = is_bond_type (type_of e)
 
--- Voltage and current transformers and arresters are no load.
+-- The equipment is no load, by its type.
 abbrev pub is_tapless : Entry → Bool
-is_tapless e = has_type e (codes "VTR" ∷ codes "SAR" ∷ codes "CTR" ∷ [])
+is_tapless e = is_tapless_type (type_of e)
 
 -- A tap where there is one node alone.
 abbrev pub lone_tap : Entry → ℕ → List ℕ → List Step

@@ -1,9 +1,11 @@
 //! The attributes of an element, decoded.
-ghost use Rattle.std.specs.Prelude.{◌≡◌, ◌<◌, ◌==◌, length, IfOk, Some, None, Option, string_bytes};
-ghost use Rattle.std.specs.Option.{option_map};
-ghost use Rattle.ssd_read.specs.Elements.{attribute, says, name_of};
+ghost use Rattle.std.specs.Prelude.{◌≡◌, ◌<◌, length, IfOk, Some, None, Option, [], string_bytes};
+ghost use Rattle.std.specs.Option.{option_map, unwrap_or};
+ghost use Rattle.ssd_read.specs.Elements.{attribute};
+ghost use Rattle.ssd_read.specs.Decoded.{IsNameOf};
 ghost use Rattle.ssd_text.specs.Nesting.{entry_at};
 
+use crate::role::{Role, counted_as};
 use ilk_base::Memory;
 use ssd_text::{Element as Entry, Tree};
 use std::alloc::Global;
@@ -37,30 +39,38 @@ pub(crate) fn attribute(
     }
 }
 
-// Whether the value of an attribute is this text.
-pub(crate) fn says(
+// The name of an element of this role, where it is counted by one and has one.
+pub(crate) fn name_in(
     alloc: Global,
     tree: &Tree<'_>,
     i: u32,
-    word: &str,
-    text: &str,
-) -> Result<bool, Memory>
+    role: Role,
+) -> Result<Option<String>, Memory>
     requires { i < length tree.now }
-    ensures { IfOk result (λ b. b ≡ says (entry_at tree.now i) word.now text.now) }
+    ensures { IfOk result (λ name. IsNameOf role (entry_at tree.now i) (option_map string_bytes name)) }
 {
-    match attribute(alloc, tree, i, word)? {
-        Some(value) => Ok(text == value.as_str()),
-        None => Ok(false),
+    if counted_as(role).is_none() {
+        return Ok(None);
+    }
+    attribute(alloc, tree, i, "name")
+}
+
+// The text of a name.
+pub(crate) fn text_of(name: &Option<String>) -> Option<&str>
+    ensures { option_map (λ s. s.now) result ≡ option_map string_bytes name.now }
+{
+    match name {
+        Some(name) => Some(name.as_str()),
+        None => None,
     }
 }
 
-// The name of an element, or nothing.
-pub(crate) fn name_of(alloc: Global, tree: &Tree<'_>, i: u32) -> Result<String, Memory>
-    requires { i < length tree.now }
-    ensures { IfOk result (λ s. string_bytes s ≡ name_of (entry_at tree.now i)) }
+// A name, or nothing.
+pub(crate) fn name_or_nothing(name: Option<&str>) -> &str
+    ensures { result.now ≡ unwrap_or (option_map (λ s. s.now) name.entry) [] }
 {
-    match attribute(alloc, tree, i, "name")? {
-        Some(name) => Ok(name),
-        None => Ok(String::new(alloc)),
+    match name {
+        Some(name) => name,
+        None => "",
     }
 }

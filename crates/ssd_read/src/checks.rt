@@ -6,7 +6,7 @@ ghost use Rattle.ssd_read.specs.declared.ends.TerminalPlace.{TerminalPlace as An
 ghost use Rattle.ssd_read.specs.Elements.{Element, element_at};
 ghost use Rattle.ssd_read.specs.Names.{first_fault};
 ghost use Rattle.ssd_read.specs.Ends.{nodes_at, missing_fault, are_apart, breaker_fault, disconnector_fault};
-ghost use Rattle.ssd_read.specs.Ends.{infeed_fault, use_of, use_fault, fault_of_ends, ends_of, end_fault};
+ghost use Rattle.ssd_read.specs.Ends.{infeed_fault, use_fault, fault_of_ends, ends_of, end_fault};
 ghost use Rattle.ssd_read.specs.Seen.{Finds};
 ghost use Rattle.ssd_text.specs.declared.limits.TheConstants.{ELEMENTS};
 
@@ -15,28 +15,9 @@ use crate::end_lists::EndLists;
 use crate::ends::{TerminalPlace, Use, nodes_at};
 use crate::refusal::SsdRefusal;
 use crate::role::Role;
+use crate::types::use_of;
 use ilk_base::Memory;
 use std::alloc::Global;
-
-// What the type of an element makes it.
-pub(crate) fn use_of(alloc: Global, drawing: &Drawing<'_>, i: u32) -> Result<Use, Memory>
-    requires { i < length drawing.now }
-    ensures { IfOk result (λ u. u ≡ use_of (element_at drawing.now i).entry) }
-{
-    if drawing.says(alloc, i, "type", "CBR")? {
-        return Ok(Use::Breaker);
-    }
-    if drawing.says(alloc, i, "type", "DIS")? {
-        return Ok(Use::Disconnector);
-    }
-    if drawing.says(alloc, i, "type", "IFL")? {
-        return Ok(Use::Infeed);
-    }
-    if drawing.says(alloc, i, "type", "GEN")? {
-        return Ok(Use::Infeed);
-    }
-    Ok(Use::Other)
-}
 
 // The first end without a node.
 fn missing_fault(ends: &[TerminalPlace]) -> Option<SsdRefusal>
@@ -149,7 +130,7 @@ fn fault_of_ends(
     if role == Role::TransformerWinding {
         return Ok(None);
     }
-    let kind = use_of(alloc, drawing, i)?;
+    let kind = use_of(drawing.kind(i));
     let nodes = nodes_at(alloc, ends)?;
     Ok(use_fault(kind, drawing.at(i), ends, &nodes))
 }

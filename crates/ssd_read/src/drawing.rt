@@ -1,16 +1,20 @@
 //! The elements of a drawing, and what each of them is.
 ghost use Rattle.std.specs.Prelude.{◌≡◌, ◌<◌, ◌≤◌, ◌==◌, List, [], length, IfOk, Some, None, Option, slice_get};
-ghost use Rattle.std.specs.Prelude.{string_bytes, option_and_then};
-ghost use Rattle.std.specs.Option.{option_map};
-ghost use Rattle.ssd_read.specs.Elements.{Element, attribute, says, front_of, front_of_tree, role_in, name_of};
+ghost use Rattle.std.specs.Prelude.{string_bytes, option_and_then, is_some, true, codes};
+ghost use Rattle.std.specs.Option.{option_map, unwrap_or};
+ghost use Rattle.ssd_read.specs.declared.role.Role.TheVariants.{ConductingEquipment};
+ghost use Rattle.ssd_read.specs.Elements.{Element, attribute, front_of, front_of_tree, role_in, name_of};
 ghost use Rattle.ssd_read.specs.Elements.{counted_as, elements_of, element_at, unless_grounded, path_in, element_after};
-ghost use Rattle.ssd_text.specs.Nesting.{entry_at};
+ghost use Rattle.ssd_read.specs.Types.{type_of};
+ghost use Rattle.ssd_read.specs.Decoded.{IsNameOf, IsDecoded, ArePlaces};
+ghost use Rattle.ssd_text.specs.Nesting.{Entry, entry_at};
 ghost use Rattle.ssd_read.specs.Drawn.{IsDrawn};
 ghost use Rattle.ssd_read.specs.Seen.{placed, placed_all};
 ghost use Rattle.ssd_text.specs.declared.limits.TheConstants.{ELEMENTS};
 
-use crate::attributes::{attribute, entry, name_of, says};
+use crate::attributes::{attribute, entry, name_in, name_or_nothing, text_of};
 use crate::role::{Role, counted_as, front_of, role_in, unless_grounded};
+use crate::types::{EquipmentType, type_in};
 use ilk_base::Memory;
 use ssd_text::Tree;
 use std::alloc::Global;
@@ -20,33 +24,32 @@ use std::marker::Model;
 // stands in, so names of megabytes over many elements would otherwise take gigabytes.
 const MOST_PATH_BYTES: usize = 67_108_864;
 
-// What an element is, what it stands in, and its path.
+// What an element is, what it stands in, its name, where it is counted by one, its path, and its type, where
+// it is equipment: each decoded once, for all passes.
 #[derive(Debug, Drop)]
 pub(crate) struct DrawnElement {
     pub(crate) role: Role,
     pub(crate) within: Role,
+    pub(crate) name: Option<String>,
     pub(crate) path: String,
+    pub(crate) kind: Option<EquipmentType>,
 }
 
-// The path of an element in one of this path.
-fn path_in(
-    alloc: Global,
-    tree: &Tree<'_>,
-    i: u32,
-    role: Role,
-    outer: &str,
-) -> Result<String, Memory>
-    requires { i < length tree.now }
-    ensures { IfOk result (λ s. string_bytes s ≡ path_in outer.now role (entry_at tree.now i)) }
+// The path of an element of this name in one of this path.
+fn path_in(alloc: Global, role: Role, outer: &str, name: &str) -> Result<String, Memory>
+    ensures { (e : Entry) → (is_some (counted_as role) ≡ true → name.now ≡ name_of e)
+        → IfOk result (λ s. string_bytes s ≡ path_in outer.now role e) }
 {
     match counted_as(role) {
         None => Ok(String::new(alloc)),
-        Some(Role::Substation) => name_of(alloc, tree, i),
+        Some(Role::Substation) => {
+            let path = String::from_str(alloc, name)?;
+            Ok(path)
+        }
         Some(_) => {
-            let name = name_of(alloc, tree, i)?;
             let mut path = String::from_str(alloc, outer)?;
             path.push_str("/")?;
-            path.push_str(name.as_str())?;
+            path.push_str(name)?;
             Ok(path)
         }
     }
@@ -65,13 +68,12 @@ impl<'a> Model for Drawing<'a> {
 
     ghost Value = { List Element };
 
-    ghost use Rattle.ssd_read.specs.Elements.{elements_of};
     ghost use Rattle.ssd_read.specs.Seen.{placed_all};
+    ghost use Rattle.ssd_read.specs.Decoded.{ArePlaces};
 
     ghost view = { λ d. placed_all d.tree d.places.items };
 
-    ghost invariant = { λ d. (length d.places.items ≡ length d.tree)
-        × (placed_all d.tree d.places.items ≡ elements_of d.tree) };
+    ghost invariant = { λ d. ArePlaces d.tree d.places.items };
 }
 
 // The place of the element in which one stands, where it stands in one.
@@ -91,23 +93,32 @@ fn place_of(
 ) -> Result<DrawnElement, Memory>
     requires next { i ≡ length before.now }
     requires within { i < length tree.now }
-    ensures { IfOk result (λ p. placed (entry_at tree.now i) p ≡ element_after front.now
+    ensures element { IfOk result (λ p. placed (entry_at tree.now i) p ≡ element_after front.now
         (placed_all tree.now before.now) (entry_at tree.now i)) }
+    ensures decoded { IfOk result (IsDecoded (entry_at tree.now i)) }
 {
     let entry = entry(tree, i);
     match above(before, entry.parent) {
         None => Ok(DrawnElement {
             role: Role::Root,
             within: Role::Skipped,
+            name: None,
             path: String::new(alloc),
+            kind: None,
         }),
         Some(above) => {
-            let role = unless_grounded(alloc, tree, i, role_in(above.role, front, entry.name))?;
-            let path = path_in(alloc, tree, i, role, above.path.as_str())?;
+            let named = role_in(above.role, front, entry.name);
+            let name = name_in(alloc, tree, i, named)?;
+            let text = text_of(&name);
+            let role = unless_grounded(named, text);
+            let path = path_in(alloc, role, above.path.as_str(), name_or_nothing(text))?;
+            let kind = type_in(alloc, tree, i, role)?;
             Ok(DrawnElement {
                 role,
                 within: above.role,
+                name,
                 path,
+                kind,
             })
         }
     }
@@ -137,8 +148,7 @@ fn take_room(room: &mut usize, path: &str) -> Result<(), Memory> {
 
 // The places of all elements. Paths of more than `MOST_PATH_BYTES` together are want of memory.
 fn places_of(alloc: Global, tree: &Tree<'_>) -> Result<Vec<DrawnElement>, Memory>
-    ensures elements { IfOk result (λ places. placed_all tree.now places.items ≡ elements_of tree.now) }
-    ensures len { IfOk result (λ places. length places.items ≡ length tree.now) }
+    ensures { IfOk result (λ places. ArePlaces tree.now places.items) }
 {
     let front = front_of_tree(tree);
     let mut places = Vec::new(alloc);
@@ -215,19 +225,21 @@ impl<'a> Drawing<'a> {
         attribute(alloc, &self.tree, i, word)
     }
 
-    // Whether the value of an attribute is this text.
-    pub(crate) fn says(&self, alloc: Global, i: u32, word: &str, text: &str) -> Result<bool, Memory>
-        requires { i < length self.now }
-        ensures { IfOk result (λ b. b ≡ says (element_at self.now i).entry word.now text.now) }
+    // The name of an element that is counted by it, where it has one.
+    pub(crate) fn name(&self, i: u32) -> Option<&str>
+        requires within { i < length self.now }
+        requires counted { is_some (counted_as (element_at self.now i).role) ≡ true }
+        ensures { option_map (λ s. s.now) result ≡ attribute (element_at self.now i).entry (codes "name") }
     {
-        says(alloc, &self.tree, i, word, text)
+        text_of(&self.places[i as usize].name)
     }
 
-    // The name of an element, or nothing.
-    pub(crate) fn name(&self, alloc: Global, i: u32) -> Result<String, Memory>
-        requires { i < length self.now }
-        ensures { IfOk result (λ s. string_bytes s ≡ name_of (element_at self.now i).entry) }
+    // The type of equipment, where it says one.
+    pub(crate) fn kind(&self, i: u32) -> Option<EquipmentType>
+        requires within { i < length self.now }
+        requires role { (element_at self.now i).role ≡ ConductingEquipment }
+        ensures { result ≡ type_of (element_at self.now i).entry }
     {
-        name_of(alloc, &self.tree, i)
+        self.places[i as usize].kind
     }
 }

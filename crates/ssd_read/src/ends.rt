@@ -1,10 +1,13 @@
 //! Where terminals stand.
 
 ghost use Rattle.std.specs.Prelude.{◌≡◌, ℕ, ◌<◌, ◌≤◌, ◌++◌, List, [], ◌∷◌, length, IfOk, OnOk, Option, Some, None};
-ghost use Rattle.std.specs.Prelude.{Bool, true, slice_set, slice_index_or, replicate, string_bytes, if◌then◌else◌};
+ghost use Rattle.std.specs.Prelude.{Bool, true, codes, slice_set, slice_index_or, replicate, string_bytes};
+ghost use Rattle.std.specs.Prelude.{if◌then◌else◌};
 ghost use Rattle.std.specs.Option.{option_map};
 ghost use Rattle.ssd_read.specs.declared.role.Role.TheVariants.{Terminal};
-ghost use Rattle.ssd_read.specs.Elements.{Element, element_at, same_role};
+ghost use Rattle.ssd_read.specs.Elements.{Element, element_at, same_role, attribute};
+ghost use Rattle.ssd_read.specs.Decoded.{AreNamesOf};
+ghost use Rattle.ssd_text.specs.Nesting.{Entry};
 ghost use Rattle.ssd_read.specs.Names.{keys_of};
 ghost use Rattle.ssd_read.specs.Ends.{after_slash, is_grounded, with_slash, joined_names, wanted_key, end_of};
 ghost use Rattle.ssd_read.specs.Ends.{is_terminal_of, ends_of, node_at, nodes_at};
@@ -56,16 +59,32 @@ fn after_slash(name: &[u8]) -> &[u8]
     last
 }
 
-// Whether a terminal is grounded.
-fn is_grounded(alloc: Global, drawing: &Drawing<'_>, i: u32) -> Result<bool, Memory>
+// The names by which a terminal says its node, decoded once: the node's key, and its own name.
+#[derive(Debug, Drop)]
+pub(crate) struct TerminalNames {
+    key: Option<String>,
+    node: Option<String>,
+}
+
+// The names by which a terminal says its node.
+fn names_of(alloc: Global, drawing: &Drawing<'_>, i: u32) -> Result<TerminalNames, Memory>
     requires { i < length drawing.now }
-    ensures { IfOk result (λ b. b ≡ is_grounded (element_at drawing.now i).entry) }
+    ensures { IfOk result (AreNamesOf (element_at drawing.now i).entry) }
 {
-    match drawing.attribute(alloc, i, "cNodeName")? {
-        Some(last) => Ok("grounded" == last.as_str()),
-        None => match drawing.attribute(alloc, i, "connectivityNode")? {
-            Some(key) => Ok("grounded".as_bytes() == after_slash(key.as_bytes())),
-            None => Ok(false),
+    let key = drawing.attribute(alloc, i, "connectivityNode")?;
+    let node = drawing.attribute(alloc, i, "cNodeName")?;
+    Ok(TerminalNames { key, node })
+}
+
+// Whether a terminal of these names is grounded.
+fn is_grounded(names: &TerminalNames) -> bool
+    ensures { (e : Entry) → AreNamesOf e names.now → result ≡ is_grounded e }
+{
+    match &names.node {
+        Some(node) => "grounded" == node.as_str(),
+        None => match &names.key {
+            Some(key) => "grounded".as_bytes() == after_slash(key.as_bytes()),
+            None => false,
         },
     }
 }
@@ -86,15 +105,20 @@ fn joined(front: Option<String>, back: Option<String>) -> Result<Option<String>,
     Ok(Some(path))
 }
 
-// The four names of a terminal joined, where all are there.
-fn joined_names(alloc: Global, drawing: &Drawing<'_>, i: u32) -> Result<Option<String>, Memory>
-    requires { i < length drawing.now }
+// The four names of a terminal joined, where all are there; the last is its node's.
+fn joined_names(
+    alloc: Global,
+    drawing: &Drawing<'_>,
+    i: u32,
+    node: Option<String>,
+) -> Result<Option<String>, Memory>
+    requires within { i < length drawing.now }
+    requires node { option_map string_bytes node ≡ attribute (element_at drawing.now i).entry (codes "cNodeName") }
     ensures { IfOk result (λ o. option_map string_bytes o ≡ joined_names (element_at drawing.now i).entry) }
 {
     let substation = drawing.attribute(alloc, i, "substationName")?;
     let level = drawing.attribute(alloc, i, "voltageLevelName")?;
     let bay = drawing.attribute(alloc, i, "bayName")?;
-    let node = drawing.attribute(alloc, i, "cNodeName")?;
     let level = joined(substation, level)?;
     let bay = joined(level, bay)?;
     let key = joined(bay, node)?;
@@ -102,13 +126,20 @@ fn joined_names(alloc: Global, drawing: &Drawing<'_>, i: u32) -> Result<Option<S
 }
 
 // The key of the node on which a terminal stands, where it says one.
-fn wanted_key(alloc: Global, drawing: &Drawing<'_>, i: u32) -> Result<Option<String>, Memory>
-    requires { i < length drawing.now }
+fn wanted_key(
+    alloc: Global,
+    drawing: &Drawing<'_>,
+    i: u32,
+    names: TerminalNames,
+) -> Result<Option<String>, Memory>
+    requires within { i < length drawing.now }
+    requires names { AreNamesOf (element_at drawing.now i).entry names }
     ensures { IfOk result (λ o. option_map string_bytes o ≡ wanted_key (element_at drawing.now i).entry) }
 {
-    match drawing.attribute(alloc, i, "connectivityNode")? {
+    let TerminalNames { key, node } = names;
+    match key {
         Some(key) => Ok(Some(key)),
-        None => joined_names(alloc, drawing, i),
+        None => joined_names(alloc, drawing, i, node),
     }
 }
 
@@ -124,10 +155,11 @@ fn end_of(
     requires few { length drawing.now ≤ ELEMENTS }
     ensures { IfOk result (λ e. e ≡ end_of drawing.now (element_at drawing.now i)) }
 {
-    if is_grounded(alloc, drawing, i)? {
+    let names = names_of(alloc, drawing, i)?;
+    if is_grounded(&names) {
         return Ok(TerminalPlace::Earth);
     }
-    match wanted_key(alloc, drawing, i)? {
+    match wanted_key(alloc, drawing, i, names)? {
         None => Ok(TerminalPlace::Missing(drawing.at(i))),
         Some(key) => match keys.find(key.as_str()) {
             Some(node) => Ok(TerminalPlace::Node(node as u32)),

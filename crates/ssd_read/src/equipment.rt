@@ -2,50 +2,46 @@
 ghost use Rattle.std.specs.Prelude.{◌≡◌, ℕ, ◌<◌, ◌++◌, [], length, Some, None, slice_index, slice_index_or, Contains};
 ghost use Rattle.std.specs.List.{flat_map};
 ghost use Rattle.station_graph.specs.Diagram.{node_count, part_count, empty};
-ghost use Rattle.station_graph.specs.Building.{FollowsLast, path_in_part};
 ghost use Rattle.ssd_read.specs.declared.role.Role.TheVariants.{ConductingEquipment};
 ghost use Rattle.ssd_read.specs.Elements.{element_at, name_of};
 ghost use Rattle.ssd_read.specs.Drawn.{IsDrawn};
+ghost use Rattle.ssd_read.specs.Types.{type_of};
+ghost use Rattle.ssd_text.specs.Nesting.{Entry};
 ghost use Rattle.ssd_read.specs.Names.{first_fault, name_fault};
 ghost use Rattle.ssd_read.specs.Ends.{ends_of, end_fault, nodes_at, use_of, fault_of_ends};
 ghost use Rattle.ssd_read.specs.Steps.{is_part, naming_step, part_number, part_of, links_along, is_bond, lone_tap};
 ghost use Rattle.ssd_read.specs.Steps.{use_steps, winding_ends_of, built, steps_of, steps_before, item_steps_at};
-ghost use Rattle.ssd_read.specs.Seen.{Builds};
+ghost use Rattle.ssd_read.specs.Seen.{Builds, AreNodes, KeepsSwitches, MayTakeSwitch};
 
+use crate::attributes::name_or_nothing;
 use crate::build::is_part;
-use crate::checks::use_of;
 use crate::drawing::Drawing;
 use crate::end_lists::EndLists;
 use crate::ends::{TerminalPlace, Use, nodes_at};
-use crate::links::{add_links, add_lone_tap, add_transformer, is_bond};
+use crate::links::{add_links, add_lone_tap, add_transformer};
 use crate::refusal::SsdRefusal;
 use crate::role::Role;
 use crate::switches::{add_breaker, add_disconnector, add_infeed};
+use crate::types::{EquipmentType, is_bond, use_of};
 use ilk_base::BayId;
 use station_graph::Builder;
 use std::alloc::Global;
 
 // Adds what equipment gives that is no switch.
 fn add_other(
-    alloc: Global,
-    drawing: &Drawing<'_>,
-    i: u32,
     builder: &mut Builder,
+    kind: Option<EquipmentType>,
     part: BayId,
     nodes: &[u32],
 ) -> Result<(), SsdRefusal>
-    requires within { i < length drawing.now }
     requires part { part.0 < part_count builder.old }
-    requires nodes { (k : ℕ) → k < length nodes.now → slice_index nodes.now k < node_count builder.old }
-    ensures builds { Builds builder.old (links_along (is_bond (element_at drawing.now i).entry) part.0 nodes.now
-        ++ lone_tap (element_at drawing.now i).entry part.0 nodes.now) result builder.new }
-    ensures nodes { node_count builder.new ≡ node_count builder.old }
-    ensures parts { part_count builder.new ≡ part_count builder.old }
-    ensures switches { builder.new.switches ≡ builder.old.switches }
+    requires nodes { AreNodes builder.old nodes.now }
+    ensures builds { (e : Entry) → kind ≡ type_of e → Builds builder.old
+        (links_along (is_bond e) part.0 nodes.now ++ lone_tap e part.0 nodes.now) result builder.new }
+    ensures same { KeepsSwitches builder.old builder.new }
 {
-    let bond = is_bond(alloc, drawing, i)?;
-    match add_links(builder, bond, part, nodes) {
-        Ok(()) => add_lone_tap(alloc, drawing, i, builder, part, nodes),
+    match add_links(builder, is_bond(kind), part, nodes) {
+        Ok(()) => add_lone_tap(builder, kind, part, nodes),
         Err(fault) => Err(fault),
     }
 }
@@ -63,21 +59,19 @@ fn add_equipment(
     requires role { (element_at drawing.now i).role ≡ ConductingEquipment }
     requires fault { fault_of_ends (element_at drawing.now i) ends.now ≡ None }
     requires part { part.0 < part_count builder.old }
-    requires nodes { (k : ℕ) → k < length (nodes_at ends.now) →
-        slice_index (nodes_at ends.now) k < node_count builder.old }
-    requires order { FollowsLast builder.old part.0 }
-    requires new { ¬ Contains builder.old.switch_paths (path_in_part builder.old part.0
-        (name_of (element_at drawing.now i).entry)) }
+    requires nodes { AreNodes builder.old (nodes_at ends.now) }
+    requires room { MayTakeSwitch builder.old part.0 (name_of (element_at drawing.now i).entry) }
     ensures { Builds builder.old (use_steps (use_of (element_at drawing.now i).entry) (element_at drawing.now i).entry
         part.0 (nodes_at ends.now)) result builder.new }
 {
     let nodes = nodes_at(alloc, ends)?;
-    let name = drawing.name(alloc, i)?;
-    match use_of(alloc, drawing, i)? {
-        Use::Breaker => add_breaker(builder, part, name.as_str(), &nodes),
-        Use::Disconnector => add_disconnector(builder, part, name.as_str(), &nodes),
-        Use::Infeed => add_infeed(builder, part, name.as_str(), &nodes),
-        Use::Other => add_other(alloc, drawing, i, builder, part, &nodes),
+    let name = name_or_nothing(drawing.name(i));
+    let kind = drawing.kind(i);
+    match use_of(kind) {
+        Use::Breaker => add_breaker(builder, part, name, &nodes),
+        Use::Disconnector => add_disconnector(builder, part, name, &nodes),
+        Use::Infeed => add_infeed(builder, part, name, &nodes),
+        Use::Other => add_other(builder, kind, part, &nodes),
     }
 }
 

@@ -21,12 +21,14 @@ mod read;
 mod refusal;
 mod role;
 mod switches;
+mod types;
 
 pub use ends::{TerminalPlace, Use};
 pub use laws::{has_in_order, one_station, stands_in_order};
 pub use read::read_ssd;
 pub use refusal::SsdRefusal;
 pub use role::Role;
+pub use types::EquipmentType;
 
 #[cfg(test)]
 mod tests;

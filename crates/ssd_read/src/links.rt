@@ -1,25 +1,23 @@
 //! The links and taps that equipment gives, added to a builder.
-ghost use Rattle.std.specs.Prelude.{◌≡◌, ℕ, ◌<◌, ◌==◌, [], ◌∷◌, length, IfOk, true, slice_index};
+ghost use Rattle.std.specs.Prelude.{◌≡◌, ℕ, ◌<◌, ◌==◌, [], ◌∷◌, length, slice_index};
 ghost use Rattle.station_graph.specs.Diagram.{node_count, part_count};
-ghost use Rattle.ssd_read.specs.Elements.{element_at};
-ghost use Rattle.ssd_read.specs.Steps.{tap_step, tap_steps, link_step, links_after, links_along, is_bond, is_tapless};
+ghost use Rattle.ssd_text.specs.Nesting.{Entry};
+ghost use Rattle.ssd_read.specs.Types.{type_of};
+ghost use Rattle.ssd_read.specs.Steps.{tap_step, tap_steps, link_step, links_after, links_along};
 ghost use Rattle.ssd_read.specs.Steps.{lone_tap, transformer_steps};
-ghost use Rattle.ssd_read.specs.Seen.{Builds};
+ghost use Rattle.ssd_read.specs.Seen.{Builds, AreNodes, KeepsSwitches};
 
-use crate::drawing::Drawing;
 use crate::refusal::SsdRefusal;
-use ilk_base::{BayId, Memory, NodeId};
+use crate::types::{EquipmentType, is_tapless};
+use ilk_base::{BayId, NodeId};
 use station_graph::{Builder, Link, Tap};
-use std::alloc::Global;
 
 // Adds a tap.
 pub(crate) fn add_tap(builder: &mut Builder, part: BayId, node: u32) -> Result<(), SsdRefusal>
     requires part { part.0 < part_count builder.old }
     requires node { node < node_count builder.old }
     ensures builds { Builds builder.old (tap_step part.0 node ∷ []) result builder.new }
-    ensures nodes { node_count builder.new ≡ node_count builder.old }
-    ensures parts { part_count builder.new ≡ part_count builder.old }
-    ensures switches { builder.new.switches ≡ builder.old.switches }
+    ensures same { KeepsSwitches builder.old builder.new }
 {
     let _count = builder.node_count();
     let item = Tap {
@@ -35,11 +33,9 @@ pub(crate) fn add_tap(builder: &mut Builder, part: BayId, node: u32) -> Result<(
 // Adds a tap on each node.
 fn add_taps(builder: &mut Builder, part: BayId, nodes: &[u32]) -> Result<(), SsdRefusal>
     requires part { part.0 < part_count builder.old }
-    requires nodes { (k : ℕ) → k < length nodes.now → slice_index nodes.now k < node_count builder.old }
+    requires nodes { AreNodes builder.old nodes.now }
     ensures builds { Builds builder.old (tap_steps part.0 nodes.now) result builder.new }
-    ensures nodes { node_count builder.new ≡ node_count builder.old }
-    ensures parts { part_count builder.new ≡ part_count builder.old }
-    ensures switches { builder.new.switches ≡ builder.old.switches }
+    ensures same { KeepsSwitches builder.old builder.new }
 {
     for node in nodes {
         match add_tap(builder, part, *node) {
@@ -62,9 +58,7 @@ fn add_link(
     requires first { first < node_count builder.old }
     requires second { second < node_count builder.old }
     ensures builds { Builds builder.old (link_step bond part.0 first second) result builder.new }
-    ensures nodes { node_count builder.new ≡ node_count builder.old }
-    ensures parts { part_count builder.new ≡ part_count builder.old }
-    ensures switches { builder.new.switches ≡ builder.old.switches }
+    ensures same { KeepsSwitches builder.old builder.new }
 {
     if first == second {
         return Ok(());
@@ -90,11 +84,9 @@ pub(crate) fn add_links(
     nodes: &[u32],
 ) -> Result<(), SsdRefusal>
     requires part { part.0 < part_count builder.old }
-    requires nodes { (k : ℕ) → k < length nodes.now → slice_index nodes.now k < node_count builder.old }
+    requires nodes { AreNodes builder.old nodes.now }
     ensures builds { Builds builder.old (links_along bond part.0 nodes.now) result builder.new }
-    ensures nodes { node_count builder.new ≡ node_count builder.old }
-    ensures parts { part_count builder.new ≡ part_count builder.old }
-    ensures switches { builder.new.switches ≡ builder.old.switches }
+    ensures same { KeepsSwitches builder.old builder.new }
 {
     match nodes {
         [] => Ok(()),
@@ -112,11 +104,9 @@ fn add_links_after(
 ) -> Result<(), SsdRefusal>
     requires first { first < node_count builder.old }
     requires part { part.0 < part_count builder.old }
-    requires nodes { (k : ℕ) → k < length nodes.now → slice_index nodes.now k < node_count builder.old }
+    requires nodes { AreNodes builder.old nodes.now }
     ensures builds { Builds builder.old (links_after bond part.0 first nodes.now) result builder.new }
-    ensures nodes { node_count builder.new ≡ node_count builder.old }
-    ensures parts { part_count builder.new ≡ part_count builder.old }
-    ensures switches { builder.new.switches ≡ builder.old.switches }
+    ensures same { KeepsSwitches builder.old builder.new }
 {
     let mut last = first;
     for node in nodes {
@@ -129,61 +119,23 @@ fn add_links_after(
     Ok(())
 }
 
-// Whether the links of an element are bonds.
-pub(crate) fn is_bond(alloc: Global, drawing: &Drawing<'_>, i: u32) -> Result<bool, Memory>
-    requires { i < length drawing.now }
-    ensures { IfOk result (λ b. b ≡ is_bond (element_at drawing.now i).entry) }
-{
-    if drawing.says(alloc, i, "type", "CTR")? {
-        return Ok(true);
-    }
-    if drawing.says(alloc, i, "type", "CAB")? {
-        return Ok(true);
-    }
-    if drawing.says(alloc, i, "type", "LIN")? {
-        return Ok(true);
-    }
-    let last = drawing.says(alloc, i, "type", "GIL")?;
-    Ok(last)
-}
-
-// Whether an element is no load.
-fn is_tapless(alloc: Global, drawing: &Drawing<'_>, i: u32) -> Result<bool, Memory>
-    requires { i < length drawing.now }
-    ensures { IfOk result (λ b. b ≡ is_tapless (element_at drawing.now i).entry) }
-{
-    if drawing.says(alloc, i, "type", "VTR")? {
-        return Ok(true);
-    }
-    if drawing.says(alloc, i, "type", "SAR")? {
-        return Ok(true);
-    }
-    let last = drawing.says(alloc, i, "type", "CTR")?;
-    Ok(last)
-}
-
 // Adds a tap where there is one node alone.
 pub(crate) fn add_lone_tap(
-    alloc: Global,
-    drawing: &Drawing<'_>,
-    i: u32,
     builder: &mut Builder,
+    kind: Option<EquipmentType>,
     part: BayId,
     nodes: &[u32],
 ) -> Result<(), SsdRefusal>
-    requires within { i < length drawing.now }
     requires part { part.0 < part_count builder.old }
-    requires nodes { (k : ℕ) → k < length nodes.now → slice_index nodes.now k < node_count builder.old }
-    ensures builds { Builds builder.old (lone_tap (element_at drawing.now i).entry part.0 nodes.now) result
-        builder.new }
-    ensures nodes { node_count builder.new ≡ node_count builder.old }
-    ensures parts { part_count builder.new ≡ part_count builder.old }
-    ensures switches { builder.new.switches ≡ builder.old.switches }
+    requires nodes { AreNodes builder.old nodes.now }
+    ensures builds { (e : Entry) → kind ≡ type_of e →
+        Builds builder.old (lone_tap e part.0 nodes.now) result builder.new }
+    ensures same { KeepsSwitches builder.old builder.new }
 {
     if nodes.len() != 1 {
         return Ok(());
     }
-    if is_tapless(alloc, drawing, i)? {
+    if is_tapless(kind) {
         return Ok(());
     }
     add_tap(builder, part, nodes[0])
@@ -196,11 +148,9 @@ pub(crate) fn add_transformer(
     nodes: &[u32],
 ) -> Result<(), SsdRefusal>
     requires part { part.0 < part_count builder.old }
-    requires nodes { (k : ℕ) → k < length nodes.now → slice_index nodes.now k < node_count builder.old }
+    requires nodes { AreNodes builder.old nodes.now }
     ensures builds { Builds builder.old (transformer_steps part.0 nodes.now) result builder.new }
-    ensures nodes { node_count builder.new ≡ node_count builder.old }
-    ensures parts { part_count builder.new ≡ part_count builder.old }
-    ensures switches { builder.new.switches ≡ builder.old.switches }
+    ensures same { KeepsSwitches builder.old builder.new }
 {
     match add_links(builder, false, part, nodes) {
         Ok(()) => add_taps(builder, part, nodes),

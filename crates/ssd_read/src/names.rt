@@ -1,9 +1,11 @@
 //! Pass 1: names that are missing, and names that are there twice.
 
 ghost use Rattle.std.specs.Prelude.{◌≡◌, ℕ, ◌<◌, ◌≤◌, ◌++◌, List, [], ◌∷◌, length, IfOk, OnOk, Bool, not, string_bytes};
-ghost use Rattle.std.specs.Prelude.{IsTrue};
+ghost use Rattle.std.specs.Prelude.{IsTrue, codes};
+ghost use Rattle.std.specs.Option.{option_map};
+ghost use Rattle.ssd_text.specs.Nesting.{Entry};
 ghost use Rattle.std.specs.List.{list_any, list_all};
-ghost use Rattle.ssd_read.specs.Elements.{Element, element_at};
+ghost use Rattle.ssd_read.specs.Elements.{Element, element_at, attribute};
 ghost use Rattle.ssd_read.specs.Names.{is_shown, is_good_name, lacks_name, is_nameless, key_of, same_path, same_key};
 ghost use Rattle.ssd_read.specs.Names.{counted_paths, keys_of, name_fault, first_fault};
 ghost use Rattle.ssd_read.specs.Seen.{Finds};
@@ -28,34 +30,32 @@ fn has_shown(name: &[u8]) -> bool
     name.iter().all(|b| *b >= 32 && *b != 127)
 }
 
-// Whether an element has no name that is good.
-fn lacks_name(alloc: Global, drawing: &Drawing<'_>, i: u32) -> Result<bool, Memory>
-    requires { i < length drawing.now }
-    ensures { IfOk result (λ b. b ≡ lacks_name (element_at drawing.now i).entry) }
+// Whether an element of this name has none that is good.
+fn lacks_name(name: Option<&str>) -> bool
+    ensures { (e : Entry) → option_map (λ s. s.now) name.entry ≡ attribute e (codes "name") → result ≡ lacks_name e }
 {
-    match drawing.attribute(alloc, i, "name")? {
-        Some(name) => Ok(!is_good_name(name.as_bytes())),
-        None => Ok(true),
+    match name {
+        Some(name) => !is_good_name(name.as_bytes()),
+        None => true,
     }
 }
 
 // Whether an element lacks a name that it needs, or its type.
-fn is_nameless(alloc: Global, drawing: &Drawing<'_>, i: u32) -> Result<bool, Memory>
+fn is_nameless(drawing: &Drawing<'_>, i: u32) -> bool
     requires { i < length drawing.now }
-    ensures { IfOk result (λ b. b ≡ is_nameless (element_at drawing.now i)) }
+    ensures { result ≡ is_nameless (element_at drawing.now i) }
 {
     let role = drawing.role(i);
     if counted_as(role).is_none() {
-        return Ok(false);
+        return false;
     }
-    if lacks_name(alloc, drawing, i)? {
-        return Ok(true);
+    if lacks_name(drawing.name(i)) {
+        return true;
     }
     if role != Role::ConductingEquipment {
-        return Ok(false);
+        return false;
     }
-    let kind = drawing.attribute(alloc, i, "type")?;
-    Ok(kind.is_none())
+    drawing.kind(i).is_none()
 }
 
 // The key of a node.
@@ -122,7 +122,7 @@ fn check_name(
     ensures keys { OnOk result ((before : List Element) → keys.old ≡ keys_of before →
         keys.new ≡ keys_of (before ++ element_at drawing.now i ∷ [])) }
 {
-    if is_nameless(alloc, drawing, i)? {
+    if is_nameless(drawing, i) {
         return Err(SsdRefusal::NoName { at: drawing.at(i) });
     }
     if !add_path(alloc, drawing, i, paths)? {

@@ -1,14 +1,10 @@
 //! What the elements of a drawing are, by their names and what they stand in.
-ghost use Rattle.std.specs.Prelude.{◌≡◌, ◌<◌, ◌==◌, ◌&&◌, ◌++◌, [], length, IfOk, IfSome, Some, None, Option, position};
+ghost use Rattle.std.specs.Prelude.{◌≡◌, ◌<◌, ◌==◌, ◌&&◌, ◌++◌, [], length, IfSome, Some, None, Option, position};
 ghost use Rattle.std.specs.Str.{bytes_eq};
 ghost use Rattle.ssd_text.specs.Nesting.{Entry as TreeEntry};
 ghost use Rattle.ssd_read.specs.Elements.{says, front_of, role_in, counted_as, unless_grounded};
-ghost use Rattle.ssd_text.specs.Nesting.{entry_at};
-
-use crate::attributes::says;
-use ilk_base::Memory;
-use ssd_text::Tree;
-use std::alloc::Global;
+ghost use Rattle.std.specs.Option.{option_map};
+ghost use Rattle.ssd_read.specs.Decoded.{IsNameOf};
 
 /// What an element of a drawing is, by its name and where it stands. The definitions speak of it.
 #[derive(Clone, Copy, Debug, PartialEq, Eq, Hash)]
@@ -90,23 +86,16 @@ pub(crate) fn role_in(parent: Role, front: &[u8], name: &str) -> Role
     }
 }
 
-// The role, but none for a node that is named as earth.
-pub(crate) fn unless_grounded(
-    alloc: Global,
-    tree: &Tree<'_>,
-    i: u32,
-    role: Role,
-) -> Result<Role, Memory>
-    requires { i < length tree.now }
-    ensures { IfOk result (λ r. r ≡ unless_grounded (entry_at tree.now i) role) }
+// The role of an element of this name, but none for a node that is named as earth.
+pub(crate) fn unless_grounded(role: Role, name: Option<&str>) -> Role
+    ensures { (e : TreeEntry) → IsNameOf role e (option_map (λ s. s.now) name.entry) → result ≡ unless_grounded e role }
 {
     if role != Role::ConnectivityNode {
-        return Ok(role);
+        return role;
     }
-    if says(alloc, tree, i, "name", "grounded")? {
-        Ok(Role::Skipped)
-    } else {
-        Ok(role)
+    match name {
+        Some(name) if "grounded" == name => Role::Skipped,
+        _ => role,
     }
 }
 

@@ -1,10 +1,9 @@
 //! The switches that equipment gives, added to a builder.
 ghost use Rattle.std.specs.Prelude.{◌≡◌, ◌≢◌, ℕ, ◌<◌, [], ◌∷◌, length, true, Some, None, slice_index, Contains};
 ghost use Rattle.station_graph.specs.Diagram.{node_count, part_count, IsTwoEnded};
-ghost use Rattle.station_graph.specs.Building.{FollowsLast, path_in_part};
 ghost use Rattle.ssd_read.specs.Ends.{are_apart};
 ghost use Rattle.ssd_read.specs.Steps.{switch_step, breaker_steps, disconnector_steps, infeed_steps};
-ghost use Rattle.ssd_read.specs.Seen.{Builds};
+ghost use Rattle.ssd_read.specs.Seen.{Builds, AreNodes, MayTakeSwitch};
 
 use crate::links::add_tap;
 use crate::refusal::SsdRefusal;
@@ -25,8 +24,7 @@ fn add_two_ended(
     requires first { first < node_count builder.old }
     requires second { second < node_count builder.old }
     requires apart { second ≢ first }
-    requires order { FollowsLast builder.old part.0 }
-    requires new { ¬ Contains builder.old.switch_paths (path_in_part builder.old part.0 name.now) }
+    requires room { MayTakeSwitch builder.old part.0 name.now }
     ensures builds { Builds builder.old (switch_step part.0 name.now kind first (Some second) ∷ []) result builder.new }
     ensures nodes { node_count builder.new ≡ node_count builder.old }
     ensures parts { part_count builder.new ≡ part_count builder.old }
@@ -55,8 +53,7 @@ fn add_one_ended(
     requires one_ended { ¬ IsTwoEnded kind }
     requires part { part.0 < part_count builder.old }
     requires node { node < node_count builder.old }
-    requires order { FollowsLast builder.old part.0 }
-    requires new { ¬ Contains builder.old.switch_paths (path_in_part builder.old part.0 name.now) }
+    requires room { MayTakeSwitch builder.old part.0 name.now }
     ensures builds { Builds builder.old (switch_step part.0 name.now kind node None ∷ []) result builder.new }
     ensures nodes { node_count builder.new ≡ node_count builder.old }
     ensures parts { part_count builder.new ≡ part_count builder.old }
@@ -82,10 +79,9 @@ pub(crate) fn add_breaker(
     nodes: &[u32],
 ) -> Result<(), SsdRefusal>
     requires part { part.0 < part_count builder.old }
-    requires nodes { (k : ℕ) → k < length nodes.now → slice_index nodes.now k < node_count builder.old }
+    requires nodes { AreNodes builder.old nodes.now }
     requires apart { are_apart nodes.now ≡ true }
-    requires order { FollowsLast builder.old part.0 }
-    requires new { ¬ Contains builder.old.switch_paths (path_in_part builder.old part.0 name.now) }
+    requires room { MayTakeSwitch builder.old part.0 name.now }
     ensures { Builds builder.old (breaker_steps part.0 name.now nodes.now) result builder.new }
 {
     match nodes {
@@ -104,10 +100,9 @@ pub(crate) fn add_disconnector(
     nodes: &[u32],
 ) -> Result<(), SsdRefusal>
     requires part { part.0 < part_count builder.old }
-    requires nodes { (k : ℕ) → k < length nodes.now → slice_index nodes.now k < node_count builder.old }
+    requires nodes { AreNodes builder.old nodes.now }
     requires apart { are_apart nodes.now ≡ true }
-    requires order { FollowsLast builder.old part.0 }
-    requires new { ¬ Contains builder.old.switch_paths (path_in_part builder.old part.0 name.now) }
+    requires room { MayTakeSwitch builder.old part.0 name.now }
     ensures { Builds builder.old (disconnector_steps part.0 name.now nodes.now) result builder.new }
 {
     match nodes {
@@ -127,9 +122,8 @@ pub(crate) fn add_infeed(
     nodes: &[u32],
 ) -> Result<(), SsdRefusal>
     requires part { part.0 < part_count builder.old }
-    requires nodes { (k : ℕ) → k < length nodes.now → slice_index nodes.now k < node_count builder.old }
-    requires order { FollowsLast builder.old part.0 }
-    requires new { ¬ Contains builder.old.switch_paths (path_in_part builder.old part.0 name.now) }
+    requires nodes { AreNodes builder.old nodes.now }
+    requires room { MayTakeSwitch builder.old part.0 name.now }
     ensures { Builds builder.old (infeed_steps part.0 name.now nodes.now) result builder.new }
 {
     match nodes {

@@ -1,7 +1,9 @@
-use Rattle.std.proofs.Common.{arith, ◌≤◌, ◌<◌, ◌≡◌, length, ap, ◌∙◌, ◌++◌, ◌∷◌, []}
+use Rattle.std.proofs.Common.{arith, sym, subst, ◌≤◌, ◌<◌, ◌≡◌, length, ap, ◌∙◌, ◌++◌, ◌∷◌, []}
 use Rattle.ssd_read.specs.Elements.{elements_of, element_after}
 use Rattle.ssd_text.specs.Nesting.{entry_at}
 use Rattle.ssd_read.specs.Seen.{placed, placed_all}
+use Rattle.ssd_read.specs.Decoded.{AreDecoded, IsDecoded}
+use Rattle.ssd_read.proofs.Decoding.{decoded_none, decoded_push}
 use Rattle.ssd_read.proofs.Placed.{elements_start, elements_next, elements_whole}
 use Rattle.std.proofs.lemmas.Grind.{common_steps}
 use Rattle.ssd_read.proofs.drawing.places_of.Goals as goal
@@ -11,6 +13,7 @@ loop-i-init c = record {
   len = ap length c.new-places.ensures.items;
   elements = elements_start c.front_of_tree-front.result.now c.args.tree.now c.new-places.result.items
       c.front_of_tree-front.ensures c.new-places.ensures.items;
+  decoded = subst (AreDecoded c.args.tree.now) (sym c.new-places.ensures.items) (decoded_none c.args.tree.now);
 }
 
 pub loop-i-preserved : goal.loop-i-preserved
@@ -21,15 +24,22 @@ loop-i-preserved c =
     let more : c.push.new.self.items ≡ l.places.items ++ c.in_ok-place.place ∷ [] = c.in_ok-push.ensures.items in
     let inside : l.i < length tree = omega arith in
     let fits : placed (entry_at tree l.i) c.in_ok-place.place ≡ element_after front (placed_all tree l.places.items)
-    (entry_at tree l.i) = rw (← c.deref.ensures.value) c.in_ok-place.ensures in
+    (entry_at tree l.i) = rw (← c.deref.ensures.value) c.in_ok-place.ensures.element in
     record {
       len = ap length more ∙ grind (arith, common_steps, l.invariant.len);
       elements = elements_next front tree l.places.items c.push.new.self.items c.in_ok-place.place l.i
           (elements_of tree) l.invariant.len inside more fits l.invariant.elements;
+      decoded = subst (AreDecoded tree) (sym more) (decoded_push tree l.places.items c.in_ok-place.place
+          l.invariant.decoded (subst (λ n. IsDecoded (entry_at tree n) c.in_ok-place.place) (sym l.invariant.len)
+          c.in_ok-place.ensures.decoded));
     }
 
-pub returns-clause-elements : goal.returns-clause-elements
-returns-clause-elements c =
+pub returns : goal.returns
+returns c =
     let past : length c.args.tree.now ≤ c.loop-i.i = omega arith in
-    elements_whole c.front_of_tree-front.result.now c.args.tree.now c.loop-i.places.items c.loop-i.i
-    (elements_of c.args.tree.now) past c.loop-i.invariant.elements
+    record {
+      len = omega (arith, c.loop-i.invariant.len);
+      elements = elements_whole c.front_of_tree-front.result.now c.args.tree.now c.loop-i.places.items c.loop-i.i
+          (elements_of c.args.tree.now) past c.loop-i.invariant.elements;
+      decoded = c.loop-i.invariant.decoded;
+    }

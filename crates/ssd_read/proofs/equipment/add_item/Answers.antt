@@ -1,8 +1,7 @@
 use Rattle.std.proofs.Common.{◌<◌, ap, ◌∙◌, sym, subst, ℕ}
 use Rattle.station_graph.specs.Diagram.{part_count}
-use Rattle.station_graph.specs.Building.{FollowsLast, path_in_part}
-use Rattle.std.specs.List.{Contains}
 use Rattle.ssd_read.specs.Elements.{element_at, name_of}
+use Rattle.ssd_read.specs.Seen.{MayTakeSwitch}
 use Rattle.ssd_read.specs.Steps.{built}
 use Rattle.ssd_read.proofs.Stepped.{built_none}
 use Rattle.ssd_read.proofs.Ready.{ends_good, equipment_part_in, transformer_part_in, follows, new_switch}
@@ -23,19 +22,15 @@ pub add_equipment-requires-clause-nodes : goal.add_equipment-requires-clause-nod
 add_equipment-requires-clause-nodes c = own_below c.args.drawing.now c.args.i c.args.builder.now c.args.own.now
     c.requires.own c.requires.before
 
-pub add_equipment-requires-clause-order : goal.add_equipment-requires-clause-order
-add_equipment-requires-clause-order c =
-    subst (λ (n : ℕ). FollowsLast c.args.builder.now n) (sym c.requires.part)
-    (follows c.args.drawing.now c.args.i c.args.builder.now c.requires.drawn c.requires.within
-    (sym c.in-ConductingEquipment.ensures) c.requires.before)
-
-pub add_equipment-requires-clause-new : goal.add_equipment-requires-clause-new
-add_equipment-requires-clause-new c =
+pub add_equipment-requires-clause-room : goal.add_equipment-requires-clause-room
+add_equipment-requires-clause-room c =
     let name = name_of (element_at c.args.drawing.now c.args.i).entry in
-    subst (λ (n : ℕ). Contains c.args.builder.now.switch_paths (path_in_part c.args.builder.now n name) →
-    ⊥) (sym c.requires.part)
-    (new_switch c.args.drawing.now c.args.i c.args.builder.now c.requires.drawn c.requires.within c.requires.names
-    (sym c.in-ConductingEquipment.ensures) c.requires.before)
+    subst (λ (n : ℕ). MayTakeSwitch c.args.builder.now n name) (sym c.requires.part) (record {
+      order = follows c.args.drawing.now c.args.i c.args.builder.now c.requires.drawn c.requires.within
+          (sym c.in-ConductingEquipment.ensures) c.requires.before;
+      new = new_switch c.args.drawing.now c.args.i c.args.builder.now c.requires.drawn c.requires.within
+          c.requires.names (sym c.in-ConductingEquipment.ensures) c.requires.before;
+    })
 
 pub add_transformer-requires-clause-part : goal.add_transformer-requires-clause-part
 add_transformer-requires-clause-part c =

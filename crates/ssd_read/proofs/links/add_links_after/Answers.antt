@@ -22,9 +22,9 @@ loop-node-preserved c =
           c.in-Ok.ensures.builds;
       last = last_next c.args.first c.args.nodes.now l.node-index c.loop-node-test.true;
       last_in = c.requires.nodes l.node-index c.loop-node-test.true;
-      nodes = c.in-Ok.ensures.nodes ∙ l.invariant.nodes;
-      parts = c.in-Ok.ensures.parts ∙ l.invariant.parts;
-      switches = c.in-Ok.ensures.switches ∙ l.invariant.switches;
+      nodes = c.in-Ok.ensures.same.nodes ∙ l.invariant.nodes;
+      parts = c.in-Ok.ensures.same.parts ∙ l.invariant.parts;
+      switches = c.in-Ok.ensures.same.switches ∙ l.invariant.switches;
     }
 
 pub returns-in-Err-clause-builds : goal.returns-in-Err-clause-builds

@@ -13,9 +13,9 @@ loop-node-preserved c =
     record {
       builds = flat_next c.args.builder.now l.builder c.add_tap.new.builder f c.args.nodes.now l.node-index 0
           c.loop-node-test.true l.invariant.builds c.in-Ok.ensures.builds;
-      nodes = c.in-Ok.ensures.nodes ∙ l.invariant.nodes;
-      parts = c.in-Ok.ensures.parts ∙ l.invariant.parts;
-      switches = c.in-Ok.ensures.switches ∙ l.invariant.switches;
+      nodes = c.in-Ok.ensures.same.nodes ∙ l.invariant.nodes;
+      parts = c.in-Ok.ensures.same.parts ∙ l.invariant.parts;
+      switches = c.in-Ok.ensures.same.switches ∙ l.invariant.switches;
     }
 
 pub returns-in-Err-clause-builds : goal.returns-in-Err-clause-builds

@@ -4,8 +4,8 @@ use Rattle.ssd_read.proofs.drawing.Drawing.at.Goals as goal
 
 pub entry-requires : goal.entry-requires
 entry-requires c = in_tree c.self.inside.tree c.self.inside.places.items c.args.self.now c.args.i c.self.view_is
-    c.self.invariant.0 c.requires
+    c.self.invariant.len c.requires
 
 pub returns : goal.returns
 returns c = c.entry.ensures.at ∙ ap (λ e. e.at) (entry_is c.self.inside.tree c.self.inside.places.items c.args.self.now
-    c.args.i c.self.view_is c.self.invariant.0 c.requires)
+    c.args.i c.self.view_is c.self.invariant.len c.requires)

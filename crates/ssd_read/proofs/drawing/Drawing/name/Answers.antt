@@ -1,12 +1,21 @@
-use Rattle.ssd_read.proofs.Placed.{in_tree, entry_is}
+use Rattle.std.proofs.Common.{arith, ap, ◌∙◌, is_some}
+use Rattle.ssd_read.specs.declared.role.Role.{Role}
+use Rattle.ssd_read.specs.Elements.{counted_as}
+use Rattle.ssd_read.proofs.Placed.{in_places}
+use Rattle.ssd_read.proofs.Decoding.{decoded_is, role_is}
 use Rattle.ssd_read.proofs.drawing.Drawing.name.Goals as goal
 
-pub name_of-requires : goal.name_of-requires
-name_of-requires c = in_tree c.self.inside.tree c.self.inside.places.items c.args.self.now c.args.i c.self.view_is
-    c.self.invariant.0 c.requires
+pub index-requires : goal.index-requires
+index-requires c = omega (
+  arith,
+  in_places c.self.inside.tree c.self.inside.places.items c.args.self.now c.args.i
+      c.self.view_is c.self.invariant.len c.requires.within,
+)
 
 pub returns : goal.returns
 returns c =
-    let e = entry_is c.self.inside.tree c.self.inside.places.items c.args.self.now c.args.i c.self.view_is
-    c.self.invariant.0 c.requires in
-    rw (← e) c.name_of.ensures
+    let role = role_is c.self.inside.tree c.self.inside.places.items c.args.self.now c.args.i c.index.result.now
+    c.self.view_is c.self.invariant.len c.requires.within c.index.ensures in
+    c.text_of.ensures ∙ (decoded_is c.self.inside.tree c.self.inside.places.items c.args.self.now c.args.i
+    c.index.result.now c.self.view_is c.self.invariant c.requires.within c.index.ensures).name
+    (ap (λ (r : Role). is_some (counted_as r)) role ∙ c.requires.counted)

@@ -6,9 +6,9 @@ pub index-requires : goal.index-requires
 index-requires c = omega (
   arith,
   in_places c.self.inside.tree c.self.inside.places.items c.args.self.now c.args.i
-      c.self.view_is c.self.invariant.0 c.requires,
+      c.self.view_is c.self.invariant.len c.requires,
 )
 
 pub returns : goal.returns
 returns c = ap (λ x. x.role) (sym (place_is c.self.inside.tree c.self.inside.places.items c.args.self.now c.args.i
-    c.index.result.now c.self.view_is c.self.invariant.0 c.requires c.index.ensures))
+    c.index.result.now c.self.view_is c.self.invariant.len c.requires c.index.ensures))
