@@ -4,7 +4,7 @@ ghost use Rattle.double_points.specs.Words.{AreWords};
 ghost use Rattle.bay_protocol.specs.State.{restarts, ends, senses};
 ghost use Rattle.bay_protocol.specs.Sends.{overs};
 ghost use Rattle.bay_protocol.specs.Fits.{IsNode};
-ghost use Rattle.bay_protocol.specs.Step.{SenseStep, WithdrawStep, CutStep, Ends};
+ghost use Rattle.bay_protocol.specs.Step.{SenseStep, WithdrawStep, CutStep, StepEnds};
 ghost use Rattle.bay_protocol.specs.Output.{turn};
 
 use crate::deciding::end_word;
@@ -38,7 +38,7 @@ impl Node {
         outcome: Outcome,
     ) -> Result<NodeOutput, Memory>
         requires { grant.op.switch.0 < length self.old.words }
-        ensures step { IfOk result (λ out. Ends (turn self.new out) (ends (senses self.old grant.op.switch.0 word))
+        ensures step { IfOk result (λ out. StepEnds (turn self.new out) (ends (senses self.old grant.op.switch.0 word))
             outcome (overs station.now self.old grant.round)) }
         ensures err { OnErr result (self.new ≡ self.old) }
     {
@@ -127,7 +127,7 @@ impl Node {
     // Forgets what is not kept.
     pub(crate) fn restart(&mut self, alloc: Global, station: &Station) -> NodeOutput
         requires { AreWords station.now self.old.words }
-        ensures { Ends (turn self.new result) (restarts self.old) Outcome.Quiet [] }
+        ensures { StepEnds (turn self.new result) (restarts self.old) Outcome.Quiet [] }
     {
         self.collecting = None;
         forget_all(&mut self.words, station);

@@ -23,7 +23,8 @@ use Rattle.bay_protocol.specs.declared.values.NodeEvent.TheVariants.{Restart, Cu
 use Rattle.bay_protocol.specs.State.{State, IsOther, kept_of, resumed, under_way, under_way_of, collects, fresh, opens}
 use Rattle.bay_protocol.specs.State.{hears, grants, drops, ends, locks, unlocks, senses, restarts}
 use Rattle.bay_protocol.specs.Fits.{IsOwn, LockFits, GrantFits, KeptFits, CollectionFits, IsNode, FitsHeard, EventFits}
-use Rattle.bay_protocol.specs.Step.{Turn, Ends, Step, IsFree, Deciding, OpenStep, CommandStep, ReserveStep, AnswerStep}
+use Rattle.bay_protocol.specs.Step.{Turn, StepEnds, Step, IsFree, Deciding, OpenStep, CommandStep, ReserveStep}
+use Rattle.bay_protocol.specs.Step.{AnswerStep}
 use Rattle.bay_protocol.specs.Step.{BusyStep, QueryStep, OverStep, FrameStep, TickStep, SenseStep, WithdrawStep}
 use Rattle.bay_protocol.specs.Step.{CutStep}
 
@@ -227,7 +228,7 @@ module _ (m : Meaning) (d : Diagram) (bay : ℕ) where
   }
 
   -- the new state is a good one
-  by_end : (turn : Turn) (s : State) (o : Outcome) (fs : List Frame) → Ends turn s o fs → Good m d bay s →
+  by_end : (turn : Turn) (s : State) (o : Outcome) (fs : List Frame) → StepEnds turn s o fs → Good m d bay s →
       Good m d bay turn.new
   by_end turn s o fs end good = subst (Good m d bay) (sym end.state) good
 

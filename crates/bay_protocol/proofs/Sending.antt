@@ -23,7 +23,8 @@ use Rattle.bay_protocol.specs.declared.values.NodeEvent.TheVariants.{Restart, Cu
 use Rattle.bay_protocol.specs.State.{State, IsOther, others, under_way, under_way_of, hears}
 use Rattle.bay_protocol.specs.Sends.{frame, to_each}
 use Rattle.bay_protocol.specs.Fits.{IsNode, EventFits}
-use Rattle.bay_protocol.specs.Step.{Turn, Ends, Step, IsFree, Deciding, OpenStep, CommandStep, ReserveStep, AnswerStep}
+use Rattle.bay_protocol.specs.Step.{Turn, StepEnds, Step, IsFree, Deciding, OpenStep, CommandStep, ReserveStep}
+use Rattle.bay_protocol.specs.Step.{AnswerStep}
 use Rattle.bay_protocol.specs.Step.{BusyStep, QueryStep, OverStep, FrameStep, TickStep, SenseStep, WithdrawStep}
 use Rattle.bay_protocol.specs.Step.{CutStep}
 use Rattle.bay_protocol.proofs.Others.{others_each, others_count}

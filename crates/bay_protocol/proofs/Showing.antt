@@ -15,7 +15,7 @@ use Rattle.bay_protocol.specs.declared.values.NodeEvent.TheVariants.{Command, Se
 use Rattle.bay_protocol.specs.declared.values.NodeEvent.TheVariants.{Restart, Cut}
 use Rattle.bay_protocol.specs.State.{State}
 use Rattle.bay_protocol.specs.Fits.{IsOwn, IsNode, EventFits}
-use Rattle.bay_protocol.specs.Step.{Turn, Ends, Step, Deciding, OpenStep, CommandStep, ReserveStep, AnswerStep}
+use Rattle.bay_protocol.specs.Step.{Turn, StepEnds, Step, Deciding, OpenStep, CommandStep, ReserveStep, AnswerStep}
 use Rattle.bay_protocol.specs.Step.{BusyStep, QueryStep, OverStep, FrameStep, TickStep, SenseStep, WithdrawStep}
 use Rattle.bay_protocol.specs.Step.{CutStep}
 use Rattle.bay_protocol.specs.OutcomeLines.{OutcomeFits}
@@ -25,7 +25,7 @@ pub own_within : (d : Diagram) (b i : ℕ) → IsOwn d b i → i < length d.swit
 own_within d b i own = slice_get_within d.switches i own.0 own.1
 
 module _ (d : Diagram) where
-  by_end : (turn : Turn) (s : State) (o : Outcome) (fs : List Frame) → Ends turn s o fs → OutcomeFits d o →
+  by_end : (turn : Turn) (s : State) (o : Outcome) (fs : List Frame) → StepEnds turn s o fs → OutcomeFits d o →
       OutcomeFits d turn.outcome
   by_end turn s o fs end fits = subst (OutcomeFits d) (sym end.says) fits
 

@@ -39,14 +39,14 @@ pub record Turn : Type 0 where
   pub frames : List Frame
 
 -- The step ends so.
-pub record Ends (turn : Turn) (new : State) (outcome : Outcome) (frames : List Frame) : Type 0 where
+pub record StepEnds (turn : Turn) (new : State) (outcome : Outcome) (frames : List Frame) : Type 0 where
   pub state : turn.new ≡ new
   pub says : turn.outcome ≡ outcome
   pub sends : turn.frames ≡ frames
 
 -- Nothing: no change, no frame, and nothing to show.
 abbrev pub Nothing : State → Turn → Type 0
-Nothing old turn = Ends turn old Quiet []
+Nothing old turn = StepEnds turn old Quiet []
 
 -- ---- deciding
 
@@ -56,9 +56,9 @@ IsVerdict m s g verdict = Decides m.diagram (CannotExclude m s.bay s.words g.hea
 
 -- A node that collects g decides.
 pub data Deciding (m : Meaning) (d : Diagram) (s : State) (g : Collection) (turn : Turn) : Type 0 where
-  release : IsVerdict m s g Release → Ends turn (grants s g) (Granted g.round g.op) [] → Deciding m d s g turn
+  release : IsVerdict m s g Release → StepEnds turn (grants s g) (Granted g.round g.op) [] → Deciding m d s g turn
   denial : (rule : Rule) (v : List Bool) → IsVerdict m s g (Denies rule v) →
-      Ends turn (drops s) (Denied g.round g.op rule v) (overs d s g.round) → Deciding m d s g turn
+      StepEnds turn (drops s) (Denied g.round g.op rule v) (overs d s g.round) → Deciding m d s g turn
 
 -- ---- Command
 
@@ -80,16 +80,16 @@ IsThere s op = slice_get s.words op.switch.0 ≡ Some (end_word op.direction)
 pub data OpenStep (m : Meaning) (d : Diagram) (old : State) (op : Op) (turn : Turn) : Type 0 where
   alone : others d old.bay ≡ [] → Deciding m d (opens d old op) (fresh d old op) turn → OpenStep m d old op turn
   reserves : others d old.bay ≢ [] →
-      Ends turn (opens d old op) (Collecting (old.highest + 1))
+      StepEnds turn (opens d old op) (Collecting (old.highest + 1))
       (to_each old.bay (old.highest + 1) Reserve (others d old.bay)) → OpenStep m d old op turn
 
 -- The step at a command.
 pub data CommandStep (m : Meaning) (d : Diagram) (old : State) (op : Op) (turn : Turn) : Type 0 where
-  round_under_way : (q : ℕ) → under_way old ≡ Some q → Ends turn old (UnderWay q) [] → CommandStep m d old op turn
-  held : (l : Lock) → under_way old ≡ None → old.lock ≡ Some l → Ends turn old (HeldBy l.holder l.round) [] →
+  round_under_way : (q : ℕ) → under_way old ≡ Some q → StepEnds turn old (UnderWay q) [] → CommandStep m d old op turn
+  held : (l : Lock) → under_way old ≡ None → old.lock ≡ Some l → StepEnds turn old (HeldBy l.holder l.round) [] →
       CommandStep m d old op turn
-  there : IsFree old → IsThere old op → Ends turn old There [] → CommandStep m d old op turn
-  spent : IsFree old → ¬ IsThere old op → old.highest ≡ LAST_ROUND → Ends turn old Spent [] →
+  there : IsFree old → IsThere old op → StepEnds turn old There [] → CommandStep m d old op turn
+  spent : IsFree old → ¬ IsThere old op → old.highest ≡ LAST_ROUND → StepEnds turn old Spent [] →
       CommandStep m d old op turn
   opens_round : IsFree old → ¬ IsThere old op → old.highest < LAST_ROUND → OpenStep m d old op turn →
       CommandStep m d old op turn
@@ -100,14 +100,14 @@ pub data CommandStep (m : Meaning) (d : Diagram) (old : State) (op : Op) (turn :
 pub record Answering (m : Meaning) (old : State) (c r : ℕ) (turn : Turn) : Type 0 where
   pub summary : List ℕ
   pub of_words : Summarises m old.bay c old.words summary
-  pub end : Ends turn (locks old c r) Quiet (frame old.bay c r (Answer summary) ∷ [])
+  pub end : StepEnds turn (locks old c r) Quiet (frame old.bay c r (Answer summary) ∷ [])
 
 -- Reserve from bay c with round r.
 pub data ReserveStep (m : Meaning) (old : State) (c r : ℕ) (turn : Turn) : Type 0 where
   busy_itself : (q : ℕ) → under_way old ≡ Some q →
-      Ends turn old Quiet (frame old.bay c r (Busy (record { 0 = old.bay }) q) ∷ []) → ReserveStep m old c r turn
+      StepEnds turn old Quiet (frame old.bay c r (Busy (record { 0 = old.bay }) q) ∷ []) → ReserveStep m old c r turn
   busy_locked : (l : Lock) → under_way old ≡ None → old.lock ≡ Some l → l.holder.0 ≢ c →
-      Ends turn old Quiet (frame old.bay c r (Busy l.holder l.round) ∷ []) → ReserveStep m old c r turn
+      StepEnds turn old Quiet (frame old.bay c r (Busy l.holder l.round) ∷ []) → ReserveStep m old c r turn
   late : (l : Lock) → under_way old ≡ None → old.lock ≡ Some l → l.holder.0 ≡ c → r < l.round → Nothing old turn →
       ReserveStep m old c r turn
   answers : under_way old ≡ None → MayLock old.lock c r → Answering m old c r turn → ReserveStep m old c r turn
@@ -116,7 +116,7 @@ pub data ReserveStep (m : Meaning) (old : State) (c r : ℕ) (turn : Turn) : Typ
 pub data AnswerStep (m : Meaning) (d : Diagram) (old : State) (b r : ℕ) (summary : List ℕ) (turn : Turn) : Type 0 where
   heard_one : (g : Collection) → old.collecting ≡ Some g → g.round ≡ r → m.Fits b old.bay summary →
       ¬ AllHeard d old.bay (hears g b summary).heard →
-      Ends turn (collects old old.highest (hears g b summary)) Quiet [] → AnswerStep m d old b r summary turn
+      StepEnds turn (collects old old.highest (hears g b summary)) Quiet [] → AnswerStep m d old b r summary turn
   heard_last : (g : Collection) → old.collecting ≡ Some g → g.round ≡ r → m.Fits b old.bay summary →
       AllHeard d old.bay (hears g b summary).heard →
       Deciding m d (collects old old.highest (hears g b summary)) (hears g b summary) turn →
@@ -130,7 +130,7 @@ pub data AnswerStep (m : Meaning) (d : Diagram) (old : State) (b r : ℕ) (summa
 -- Busy from bay b with round r: it holds still for this round of this holder.
 pub data BusyStep (d : Diagram) (old : State) (b r : ℕ) (holder : BayId) (holder_round : ℕ) (turn : Turn) : Type 0 where
   gives_up : (g : Collection) → old.collecting ≡ Some g → g.round ≡ r →
-      Ends turn (drops old) (BusyBy r (record { 0 = b }) holder holder_round) (overs d old r) →
+      StepEnds turn (drops old) (BusyBy r (record { 0 = b }) holder holder_round) (overs d old r) →
       BusyStep d old b r holder holder_round turn
   other_round : (g : Collection) → old.collecting ≡ Some g → g.round ≢ r → Nothing old turn →
       BusyStep d old b r holder holder_round turn
@@ -138,14 +138,14 @@ pub data BusyStep (d : Diagram) (old : State) (b r : ℕ) (holder : BayId) (hold
 
 -- Query from bay b with round r.
 pub data QueryStep (old : State) (b r : ℕ) (turn : Turn) : Type 0 where
-  is_over : r ≤ old.highest → under_way old ≢ Some r → Ends turn old Quiet (frame old.bay b r Over ∷ []) →
+  is_over : r ≤ old.highest → under_way old ≢ Some r → StepEnds turn old Quiet (frame old.bay b r Over ∷ []) →
       QueryStep old b r turn
   unknown_round : old.highest < r → Nothing old turn → QueryStep old b r turn
   round_under_way : under_way old ≡ Some r → Nothing old turn → QueryStep old b r turn
 
 -- Over from bay c with round r.
 pub data OverStep (old : State) (c r : ℕ) (turn : Turn) : Type 0 where
-  unlocks_it : (l : Lock) → old.lock ≡ Some l → l.holder.0 ≡ c → l.round ≤ r → Ends turn (unlocks old) Quiet [] →
+  unlocks_it : (l : Lock) → old.lock ≡ Some l → l.holder.0 ≡ c → l.round ≤ r → StepEnds turn (unlocks old) Quiet [] →
       OverStep old c r turn
   earlier_round : (l : Lock) → old.lock ≡ Some l → l.holder.0 ≡ c → r < l.round → Nothing old turn →
       OverStep old c r turn
@@ -175,7 +175,7 @@ pub data FrameStep (m : Meaning) (d : Diagram) (old : State) (f : Frame) (turn :
 pub data TickStep (m : Meaning) (d : Diagram) (old : State) (turn : Turn) : Type 0 where
   decides : (g : Collection) → old.collecting ≡ Some g → Deciding m d old g turn → TickStep m d old turn
   asks : (l : Lock) → old.collecting ≡ None → old.lock ≡ Some l →
-      Ends turn old Quiet (frame old.bay l.holder.0 l.round Query ∷ []) → TickStep m d old turn
+      StepEnds turn old Quiet (frame old.bay l.holder.0 l.round Query ∷ []) → TickStep m d old turn
   rests : old.collecting ≡ None → old.lock ≡ None → Nothing old turn → TickStep m d old turn
 
 -- The word of switch i is the wanted end of the granted operation.
@@ -187,22 +187,23 @@ pub record IsEnd (s : State) (i : ℕ) (word : Dbpos) (g : Grant) : Type 0 where
 -- The step at a sensed word.
 pub data SenseStep (d : Diagram) (old : State) (i : ℕ) (word : Dbpos) (turn : Turn) : Type 0 where
   finishes : (g : Grant) → IsEnd old i word g →
-      Ends turn (ends (senses old i word)) (Finished g.round) (overs d old g.round) → SenseStep d old i word turn
-  reads : ((g : Grant) → ¬ IsEnd old i word g) → Ends turn (senses old i word) Quiet [] → SenseStep d old i word turn
+      StepEnds turn (ends (senses old i word)) (Finished g.round) (overs d old g.round) → SenseStep d old i word turn
+  reads : ((g : Grant) → ¬ IsEnd old i word g) → StepEnds turn (senses old i word) Quiet [] →
+      SenseStep d old i word turn
 
 -- The step at a withdrawal.
 pub data WithdrawStep (d : Diagram) (old : State) (turn : Turn) : Type 0 where
   from_round : (g : Collection) → old.collecting ≡ Some g →
-      Ends turn (drops old) (Withdrawn g.round) (overs d old g.round) → WithdrawStep d old turn
+      StepEnds turn (drops old) (Withdrawn g.round) (overs d old g.round) → WithdrawStep d old turn
   from_grant : (g : Grant) → old.collecting ≡ None → old.granted ≡ Some g →
-      Ends turn (ends (senses old g.op.switch.0 Lost)) (Withdrawn g.round) (overs d old g.round) →
+      StepEnds turn (ends (senses old g.op.switch.0 Lost)) (Withdrawn g.round) (overs d old g.round) →
       WithdrawStep d old turn
   no_round : under_way old ≡ None → Nothing old turn → WithdrawStep d old turn
 
 -- The drive of switch i stopped.
 pub data CutStep (d : Diagram) (old : State) (i : ℕ) (turn : Turn) : Type 0 where
   stops : (g : Grant) → old.granted ≡ Some g → g.op.switch.0 ≡ i →
-      Ends turn (ends (senses old i Lost)) (Stopped g.round) (overs d old g.round) → CutStep d old i turn
+      StepEnds turn (ends (senses old i Lost)) (Stopped g.round) (overs d old g.round) → CutStep d old i turn
   other_switch : (g : Grant) → old.granted ≡ Some g → g.op.switch.0 ≢ i → Nothing old turn → CutStep d old i turn
   no_grant : old.granted ≡ None → Nothing old turn → CutStep d old i turn
 
@@ -216,7 +217,7 @@ Step m d old (Sense i word) turn = SenseStep d old i.0 word turn
 Step m d old (Arrival f) turn = FrameStep m d old f turn
 Step m d old Tick turn = TickStep m d old turn
 Step m d old Withdraw turn = WithdrawStep d old turn
-Step m d old Restart turn = Ends turn (restarts old) Quiet []
+Step m d old Restart turn = StepEnds turn (restarts old) Quiet []
 Step m d old (Cut i) turn = CutStep d old i.0 turn
 
 -- These bytes arrive: where they are the row of a lawful frame, it is the step with that frame; else nothing.

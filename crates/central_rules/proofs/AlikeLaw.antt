@@ -47,14 +47,14 @@ module _ (d : Diagram) (c : ℕ) (bonds_only : Bool) (v w : List Bool) (same : (
       (parts_from_station bonds_only d v a b l))))
 
   -- the last stretch of a walk to a node that a part touches
-  record Ends (part a b : ℕ) : Type 0 where
+  record LastStretch (part a b : ℕ) : Type 0 where
     last : ℕ
     before_it : Linked (Touching bonds_only d w) a last
     kept : MattersTo d c part last
     within : Linked (JoinsIn bonds_only d v part) last b
 
   ends_in : (i part a b : ℕ) → MattersTo d c i a → TouchedBy (OfPart d part) d b →
-      Linked (Touching bonds_only d v) a b → Ends part a b
+      Linked (Touching bonds_only d v) a b → LastStretch part a b
   ends_in i part a b ka tb l =
       let r : Reaches (JoinsIn bonds_only d v) (MattersTo d c) part a b =
       reaches ℕ cases_eq (JoinsIn bonds_only d v) (λ p n. TouchedBy (OfPart d p) d n) (MattersTo d c)
@@ -129,7 +129,7 @@ module _ (d : Diagram) (c : ℕ) (v w : List Bool) (h : SameFor d c v w) where
   coupled_to_alike kind in_part a ka (m, l, at) =
       let part : ℕ = at.switch.bay.0 in
       let here : ClosedAtBy (OfPart d part) d v kind m = record { at = at; among = (at.switch, at.listed, refl) } in
-      let e : Ends d c false (with_breakers_closed d v) (with_breakers_closed d w) part_coupled part a m =
+      let e : LastStretch d c false (with_breakers_closed d v) (with_breakers_closed d w) part_coupled part a m =
       ends_in d c false (with_breakers_closed d v) (with_breakers_closed d w) part_coupled c part a m ka
       (closed_touches (OfPart d part) d v kind m here) l in
       let there = in_part part e.last e.kept (m, e.within, here) in (
@@ -149,7 +149,7 @@ module _ (d : Diagram) (c : ℕ) (v w : List Bool) (h : SameFor d c v w) where
   live_alike a ka (m, l, at) =
       let part : ℕ = at.switch.bay.0 in
       let here : ClosedAtBy (OfPart d part) d v Infeed m = record { at = at; among = (at.switch, at.listed, refl) } in
-      let e : Ends d c false v w part_joined part a m = ends_in d c false v w part_joined c part a m ka
+      let e : LastStretch d c false v w part_joined part a m = ends_in d c false v w part_joined c part a m ka
       (closed_touches (OfPart d part) d v Infeed m here) l in
       let there : FedBy (OfPart d part) d w e.last = ((load part).supply e.last e.kept fed).0 (m, e.within, here) in (
         there.0,
@@ -168,7 +168,7 @@ module _ (d : Diagram) (c : ℕ) (v w : List Bool) (h : SameFor d c v w) where
         stands = at;
         among = (x, listed, refl);
       } in
-      let e : Ends d c false v w part_joined part a m = ends_in d c false v w part_joined c part a m ka
+      let e : LastStretch d c false v w part_joined part a m = ends_in d c false v w part_joined c part a m ka
       (tap_touches (OfPart d part) d m here) l in
       let joins : (n : ℕ) → Linked (JoinsIn false d w part) e.last n → Joined d w a n =
       λ n k. linked_trans (Touching false d w) a e.last n e.before_it (station_from_part false d w part e.last n k) in

@@ -75,7 +75,7 @@ abbrev pub WroteLine : Option (List ℕ) → Option (List ℕ) → ℕ → ℕ �
 WroteLine old new before after line = Appends old new line ⊎ (Rose before after × AppendsFront old new line)
 
 -- the call answers the status of an end that has its cause, and the line of this end went to `err`
-pub record Answers (status : Status) (command : Option Command) (c : Call) (err_old err_new : Option (List ℕ))
+pub record AnswersCall (status : Status) (command : Option Command) (c : Call) (err_old err_new : Option (List ℕ))
     (err_before err_after : ℕ) : Type 0 where
   pub end : End
   pub status_is : status ≡ status_of end

@@ -17,7 +17,7 @@ use Rattle.interlock_cli.specs.Formats.{Drawing, BayOf, Accepts}
 use Rattle.interlock_cli.specs.Form.{File, Word, Given, Stops}
 use Rattle.interlock_cli.specs.Commands.{Command, Node, form_of}
 use Rattle.interlock_cli.specs.Complete.{IsAcceptable, Completes}
-use Rattle.interlock_cli.specs.Ends.{Call, Unasked, WroteLine, Answers}
+use Rattle.interlock_cli.specs.Ends.{Call, Unasked, WroteLine, AnswersCall}
 use Rattle.interlock_cli.specs.Lines.{line_of, status_of}
 use Rattle.interlock_cli.specs.StoredWords.{StoredWords}
 use Rattle.interlock_cli.specs.declared.end.Outcome.TheVariants.{Done}
@@ -109,7 +109,7 @@ CompletesStored v status w c old new = IsAnsweredStored v w c old → IsCalm v w
 -- and when it goes through.
 pub record SaysAsRun (status : Status) (command : Option Command) (c : Call) (err_old err_new : Option (List ℕ))
     (err_before err_after : ℕ) : Type 0 where
-  pub answers : Answers status command c err_old err_new err_before err_after
+  pub answers : AnswersCall status command c err_old err_new err_before err_after
   pub usage : status ≡ t.Usage → command ≡ None
   pub unnamed : command ≡ None → (status ≡ t.Usage) ⊎ (status ≡ t.Memory)
   pub complete : Completes status command c

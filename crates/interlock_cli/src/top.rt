@@ -3,7 +3,7 @@ ghost use Rattle.std.specs.Prelude.{◌≡◌, ◌⊎◌, map, string_bytes, Non
 ghost use Rattle.interlock_cli.specs.Commands.{command_of, form_of};
 ghost use Rattle.interlock_cli.specs.Seen.{seen};
 ghost use Rattle.interlock_cli.specs.Form.{AsksInput, Gives, Stops};
-ghost use Rattle.interlock_cli.specs.Ends.{Answers, Asks, Ends, Wrote};
+ghost use Rattle.interlock_cli.specs.Ends.{AnswersCall, Asks, Ends, Wrote};
 ghost use Rattle.interlock_cli.specs.Complete.{Completes};
 
 use crate::audit_command::audit;
@@ -142,7 +142,7 @@ pub fn run<F: Shelf, I: Source, O: Sink, E: Sink>(
     out: &mut O,
     err: &mut E,
 ) -> Status
-    ensures answers { Answers result (command_of (map string_bytes words.now))
+    ensures answers { AnswersCall result (command_of (map string_bytes words.now))
         record {
           held = F.held shelf.old;
           reads_before = F.faults shelf.old;

@@ -17,7 +17,7 @@ const ROUND: &[u8] = b"collecting 1\nsend 010102000000010000\n";
 
 // How a call ends: its status, what `out` took, and its line on `err`.
 #[derive(Clone, Copy)]
-struct End {
+struct CallEnd {
     status: Status,
     text: &'static [u8],
     line: &'static str,
@@ -30,7 +30,7 @@ fn expect_stored(
     words: &str,
     input: &[u8],
     device: &mut MemDevice,
-    want: &End,
+    want: &CallEnd,
 ) -> Result<(), Fail> {
     let words = words_of(alloc, words)?;
     let mut shelf = MemShelf::new(alloc);
@@ -51,7 +51,7 @@ fn expect_stored(
 fn a_stored_round(rt: HostRuntime) -> Result<(), Fail> {
     let alloc = rt.alloc();
     let mut device = MemDevice::new(alloc, 40)?;
-    let round = End {
+    let round = CallEnd {
         status: Status::Done,
         text: ROUND,
         line: "",
@@ -64,7 +64,7 @@ fn a_stored_round(rt: HostRuntime) -> Result<(), Fail> {
     image[12] = 1;
     assert_eq!(rt; device.bytes(), image.as_slice());
     // the next session goes on from it, and puts into the other slot; its last line has no end
-    let next = End {
+    let next = CallEnd {
         status: Status::Done,
         text: b"collecting 2\nsend 010102000000020000\n",
         line: "",
@@ -82,7 +82,7 @@ fn a_stored_round(rt: HostRuntime) -> Result<(), Fail> {
     image[44] = 2;
     assert_eq!(rt; device.bytes(), image.as_slice());
     // a record that is handed back is a line of no stored session
-    let refused = End {
+    let refused = CallEnd {
         status: Status::InputRefused,
         text: b"",
         line: "interlock: input refused 10 line 2\n",
@@ -96,12 +96,12 @@ fn a_stored_round(rt: HostRuntime) -> Result<(), Fail> {
 #[test]
 fn a_failing_device(rt: HostRuntime) -> Result<(), Fail> {
     let alloc = rt.alloc();
-    let read = End {
+    let read = CallEnd {
         status: Status::ReadFault,
         text: b"",
         line: "interlock: read fault\n",
     };
-    let write = End {
+    let write = CallEnd {
         status: Status::WriteFault,
         text: b"",
         line: "interlock: write fault\n",
@@ -130,7 +130,7 @@ fn a_failing_device(rt: HostRuntime) -> Result<(), Fail> {
 #[test]
 fn an_unfit_record(rt: HostRuntime) -> Result<(), Fail> {
     let alloc = rt.alloc();
-    let unfit = End {
+    let unfit = CallEnd {
         status: Status::InputRefused,
         text: b"",
         line: "interlock: input refused 12 line 0\n",
@@ -154,12 +154,12 @@ fn an_unfit_record(rt: HostRuntime) -> Result<(), Fail> {
 #[test]
 fn other_words(rt: HostRuntime) -> Result<(), Fail> {
     let alloc = rt.alloc();
-    let node = End {
+    let node = CallEnd {
         status: Status::Done,
         text: b"keep 000000010000000000000000000000000000\ncollecting 1\nsend 010102000000010000\n",
         line: "",
     };
-    let usage = End {
+    let usage = CallEnd {
         status: Status::Usage,
         text: b"",
         line: "interlock: usage\n",

@@ -17,7 +17,7 @@ use Rattle.bay_protocol.specs.declared.values.Outcome.{Outcome}
 use Rattle.bay_protocol.specs.declared.values.Outcome.TheVariants.{UnderWay, HeldBy, There, Spent, Collecting, Granted}
 use Rattle.bay_protocol.specs.declared.values.Outcome.TheVariants.{Denied, BusyBy, Finished, Withdrawn, Stopped, Quiet}
 use Rattle.bay_protocol.specs.State.{State, IsOther, AllHeard, is_another, others, opens, fresh, collects, hears}
-use Rattle.bay_protocol.specs.Step.{Turn, Ends, OpenStep, CommandStep, ReserveStep, AnswerStep, BusyStep, QueryStep}
+use Rattle.bay_protocol.specs.Step.{Turn, StepEnds, OpenStep, CommandStep, ReserveStep, AnswerStep, BusyStep, QueryStep}
 use Rattle.bay_protocol.specs.Step.{OverStep, FrameStep, TickStep, SenseStep, WithdrawStep, CutStep}
 use Rattle.bay_protocol.proofs.Others.{another_yes, another_no}
 use Rattle.reservation_core.specs.declared.values.WorldEvent.{WorldEvent}
@@ -171,7 +171,7 @@ no_delivery e n other is = subst IsPlainEvent is other
 
 own_rests : (m : Meaning) (before : List Line) (l : Line) (b : ℕ) (x : Option Collection) (turn : Turn) (new : State)
     (o : Outcome) (fs : List Frame) → opened x ≡ collecting before b → IsPlainEvent l.event →
-    of_bay l.shown b ≡ shown turn.outcome → Ends turn new o fs → Undecided o → BayDecides m before l b
+    of_bay l.shown b ≡ shown turn.outcome → StepEnds turn new o fs → Undecided o → BayDecides m before l b
 own_rests m before l b x turn new o fs is other shows end un =
     bay_rests m before l b x is (λ p d. not_decided o un p (subst (λ (y : Outcome). IsVerdictOn y p) (shows
     ∙ ap shown end.says) d))
@@ -282,7 +282,7 @@ cut_bay m before s b i old turn k shows (CutStep.no_grant none end) = own_rests 
     _ k.is.collecting tt shows end tt
 
 pub restart_bay : (m : Meaning) (before : List Line) (s : Shown) (b : ℕ) (old : State) (turn : Turn) (new : State) →
-    Before m before b old → of_bay s b ≡ shown turn.outcome → Ends turn new Quiet [] →
+    Before m before b old → of_bay s b ≡ shown turn.outcome → StepEnds turn new Quiet [] →
     BayDecides m before (record { event = Restart (record { 0 = b }); shown = s }) b
 restart_bay m before s b old turn new k shows end = own_rests m before _ b old.collecting turn new Quiet []
     k.is.collecting tt shows end tt
@@ -291,7 +291,7 @@ restart_bay m before s b old turn new k shows end = own_rests m before _ b old.c
 
 -- a delivery that decides nothing, where not all are heard after it
 delivery_rests : (m : Meaning) (before : List Line) (s : Shown) (n b : ℕ) (old : State) (turn : Turn) (new : State)
-    (o : Outcome) (fs : List Frame) → Before m before b old → of_bay s b ≡ shown turn.outcome → Ends turn new o fs →
+    (o : Outcome) (fs : List Frame) → Before m before b old → of_bay s b ≡ shown turn.outcome → StepEnds turn new o fs →
     Undecided o →
     (old.collecting ≢ None → ¬ AreAllHeard m.diagram (record { event = Deliver n; shown = s } ∷ before) b) →
     BayDecides m before (record { event = Deliver n; shown = s }) b
@@ -303,7 +303,7 @@ delivery_rests m before s n b old turn new o fs k shows end un missing =
 -- one that tells nothing
 silent_rests : (m : Meaning) (before : List Line) (s : Shown) (n b : ℕ) (old : State) (f : Frame) (turn : Turn)
     (new : State) (o : Outcome) (fs : List Frame) → Before m before b old → Brought m before n f →
-    of_bay s b ≡ shown turn.outcome → Ends turn new o fs → Undecided o → Plain (shown o) →
+    of_bay s b ≡ shown turn.outcome → StepEnds turn new o fs → Undecided o → Plain (shown o) →
     ((x : ℕ) → is_another m.diagram b x ≡ true → (g : Collection) → old.collecting ≡ Some g →
     ¬ IsAnswer (message n f) x b (last_round before b)) →
     BayDecides m before (record { event = Deliver n; shown = s }) b

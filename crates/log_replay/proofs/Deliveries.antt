@@ -11,7 +11,7 @@ use Rattle.bay_protocol.specs.declared.values.Outcome.TheVariants.{BusyBy, Quiet
 use Rattle.bay_protocol.specs.Sends.{frame, overs}
 use Rattle.bay_protocol.specs.State.{State, IsOther, AllHeard, is_another, others, collects, drops, locks, unlocks}
 use Rattle.bay_protocol.specs.State.{hears}
-use Rattle.bay_protocol.specs.Step.{Turn, Ends, ReserveStep, AnswerStep, BusyStep, QueryStep, OverStep, FrameStep}
+use Rattle.bay_protocol.specs.Step.{Turn, StepEnds, ReserveStep, AnswerStep, BusyStep, QueryStep, OverStep, FrameStep}
 use Rattle.bay_protocol.proofs.Others.{another_yes, another_no}
 use Rattle.reservation_core.specs.Lines.{MessageKind, Line, message, kind_of}
 use Rattle.reservation_core.specs.History.{or_else, sending, last_round}
@@ -34,7 +34,7 @@ pub record Brought (m : Meaning) (before : List Line) (n : ℕ) (f : Frame) : Ty
 still_delivery : (m : Meaning) (before : List Line) (n b : ℕ) (s new : State) (f : Frame) (fs : List Frame)
     (turn : Turn) → Before m before b s → Brought m before n f → ((x : ℕ) → is_another m.diagram b x ≡ true →
     (g : Collection) → s.collecting ≡ Some g → ¬ IsAnswer (message n f) x b (last_round before b)) →
-    new.collecting ≡ s.collecting → new.granted ≡ s.granted → new.words ≡ s.words → Ends turn new Quiet fs →
+    new.collecting ≡ s.collecting → new.granted ≡ s.granted → new.words ≡ s.words → StepEnds turn new Quiet fs →
     ((h : Frame) (summary : List ℕ) → Contains fs h → h.body ≡ Answer summary → (h.from.0 ≡ b)
     × Summarises m b h.to.0 s.words summary) → TurnIs m before b (Deliver n) turn
 still_delivery m before n b s new f fs turn k brought never x y w end tells =

@@ -17,7 +17,7 @@ use Rattle.bay_protocol.specs.declared.values.NodeEvent.TheVariants.{Withdraw as
 use Rattle.bay_protocol.specs.declared.values.NodeEvent.TheVariants.{Cut as Cutting}
 use Rattle.bay_protocol.specs.Sends.{frame, to_each}
 use Rattle.bay_protocol.specs.State.{State, others}
-use Rattle.bay_protocol.specs.Step.{Turn, Ends, Step, Deciding, OpenStep, CommandStep, ReserveStep, AnswerStep}
+use Rattle.bay_protocol.specs.Step.{Turn, StepEnds, Step, Deciding, OpenStep, CommandStep, ReserveStep, AnswerStep}
 use Rattle.bay_protocol.specs.Step.{BusyStep, QueryStep, OverStep, FrameStep, TickStep, SenseStep, WithdrawStep}
 use Rattle.bay_protocol.specs.Step.{CutStep}
 use Rattle.reservation_core.specs.Scene.{Scene, node}
@@ -47,7 +47,7 @@ each_at b r body (t ∷ tos) (suc k) f lt is = each_at b r body tos k f (omega (
 each_from : (b r : ℕ) (body : Body) (tos : List ℕ) → From b (to_each b r body tos)
 each_from b r body tos f there = each_at b r body tos there.0 f there.1 there.2
 
-ends_from : (b : ℕ) (turn : Turn) (new : State) (o : Outcome) (fs : List Frame) → Ends turn new o fs → From b fs →
+ends_from : (b : ℕ) (turn : Turn) (new : State) (o : Outcome) (fs : List Frame) → StepEnds turn new o fs → From b fs →
     From b turn.frames
 ends_from b turn new o fs end own = subst (From b) (sym end.sends) own
 

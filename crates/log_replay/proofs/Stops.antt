@@ -19,7 +19,7 @@ use Rattle.bay_protocol.specs.declared.values.NodeEvent.TheVariants.{Frame as Ar
 use Rattle.bay_protocol.specs.declared.values.NodeEvent.TheVariants.{Withdraw as Withdrawing, Restart as Restarting}
 use Rattle.bay_protocol.specs.declared.values.NodeEvent.TheVariants.{Cut as Cutting}
 use Rattle.bay_protocol.specs.State.{State}
-use Rattle.bay_protocol.specs.Step.{Turn, Ends, Step, Deciding, OpenStep, CommandStep, ReserveStep, AnswerStep}
+use Rattle.bay_protocol.specs.Step.{Turn, StepEnds, Step, Deciding, OpenStep, CommandStep, ReserveStep, AnswerStep}
 use Rattle.bay_protocol.specs.Step.{BusyStep, QueryStep, OverStep, FrameStep, TickStep, SenseStep, WithdrawStep}
 use Rattle.bay_protocol.specs.Step.{CutStep}
 use Rattle.reservation_core.specs.Scene.{Scene, node}
@@ -47,7 +47,7 @@ StopOk g (BusyBy r from holder q) = r ≡ g.round
 StopOk g (Withdrawn r) = r ≡ g.round
 StopOk g outcome = ⊤
 
-so_ends : (g : Collection) (turn : Turn) (new : State) (o : Outcome) (fs : List Frame) → Ends turn new o fs →
+so_ends : (g : Collection) (turn : Turn) (new : State) (o : Outcome) (fs : List Frame) → StepEnds turn new o fs →
     StopOk g (shown o) → StopOk g (shown turn.outcome)
 so_ends g turn new o fs end ok = subst (λ (x : Outcome). StopOk g (shown x)) (sym end.says) ok
 

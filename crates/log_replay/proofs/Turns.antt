@@ -20,7 +20,7 @@ use Rattle.bay_protocol.specs.Sends.{frame, to_each, overs}
 use Rattle.bay_protocol.specs.Fits.{IsNode}
 use Rattle.bay_protocol.specs.State.{State, under_way_of, AllHeard, is_another, others, fresh, opens, grants, drops}
 use Rattle.bay_protocol.specs.State.{senses, ends, restarts}
-use Rattle.bay_protocol.specs.Step.{Turn, Ends, Deciding, IsFree, OpenStep, CommandStep, TickStep, SenseStep}
+use Rattle.bay_protocol.specs.Step.{Turn, StepEnds, Deciding, IsFree, OpenStep, CommandStep, TickStep, SenseStep}
 use Rattle.bay_protocol.specs.Step.{WithdrawStep, CutStep}
 use Rattle.reservation_core.specs.Lines.{Line, shown}
 use Rattle.reservation_core.specs.History.{or_else, last_granted, open_of, is_of, closes, reading_at, last_round}
@@ -44,7 +44,7 @@ pub record TurnIs (m : Meaning) (lines : List Line) (b : ℕ) (e : WorldEvent) (
   pub tells : (f : Frame) (summary : List ℕ) → Contains turn.frames f → f.body ≡ Answer summary → (f.from.0 ≡ b)
       × Summarises m b f.to.0 turn.new.words summary
 
-pub by_ends : (P : Turn → Type 0) (turn : Turn) (new : State) (o : Outcome) (fs : List Frame) → Ends turn new o fs →
+pub by_ends : (P : Turn → Type 0) (turn : Turn) (new : State) (o : Outcome) (fs : List Frame) → StepEnds turn new o fs →
     P (record { new = new; outcome = o; frames = fs }) → P turn
 by_ends P turn new o fs end p =
     subst (λ (x : State). P (record { new = x; outcome = turn.outcome; frames = turn.frames })) (sym end.state)
@@ -202,7 +202,7 @@ decided_turn m before b t g e turn k (Deciding.denial rule v verdict end) =
 -- ---- Command
 
 still_command : (m : Meaning) (before : List Line) (b : ℕ) (s : State) (op : Op) (turn : Turn) (o : Outcome) →
-    Before m before b s → IsInert o → shown o ≡ o → Ends turn s o [] → TurnIs m before b (Command op) turn
+    Before m before b s → IsInert o → shown o ≡ o → StepEnds turn s o [] → TurnIs m before b (Command op) turn
 still_command m before b s op turn o k ok same end = by_ends (TurnIs m before b (Command op)) turn s o [] end (record {
   node = subst (λ (y : Outcome). NodeAfter m before b s.collecting s.granted s.words y (Command op)) (sym same)
       (inert m before b s.collecting s.granted s.words o (Command op) ok (stays m before (Command op) b s.collecting
@@ -388,7 +388,7 @@ cut_turn m before b s i turn k lt (CutStep.no_grant none end) =
     })
 
 pub restart_turn : (m : Meaning) (before : List Line) (b : ℕ) (s : State) (turn : Turn) → Before m before b s →
-    Ends turn (restarts s) Quiet [] → TurnIs m before b (Restart (record { 0 = b })) turn
+    StepEnds turn (restarts s) Quiet [] → TurnIs m before b (Restart (record { 0 = b })) turn
 restart_turn m before b s turn k end = by_ends (TurnIs m before b (Restart (record { 0 = b }))) turn (restarts s) Quiet
     [] end (record {
       node = record {

@@ -14,7 +14,7 @@ use Rattle.node_session.specs.declared.request.TheConstants.{MOST_LINE}
 use Rattle.node_session.specs.declared.reader.TheConstants.{CHUNK}
 use Rattle.node_session.specs.declared.end.TheConstants.{MOST_LINES}
 use Rattle.node_session.specs.Requests.{IsRequest}
-use Rattle.node_session.specs.Session.{Answers, Session}
+use Rattle.node_session.specs.Session.{AnswersWith, Session}
 use Rattle.node_session.specs.SessionEnds.{Streams, Takes, Answered, IsDone, IsStopped, IsLong, IsReadFault}
 use Rattle.node_session.specs.SessionEnds.{IsWriteFault, IsWant}
 use Rattle.node_session.specs.Reading.{is_feed, is_long, HasNoFeed, BeginsLine}
@@ -86,7 +86,7 @@ module _ (m : Meaning) (d : Diagram) (b : ℕ) (before now : Streams) (held : Li
 
   -- and one more
   one_more_of : (content line answer : List ℕ) (next : State) (rest : List (List ℕ)) →
-      lines content ≡ at.done ++ line ∷ rest → Answers m d (count == 0) state line answer next
+      lines content ≡ at.done ++ line ∷ rest → AnswersWith m d (count == 0) state line answer next
       → Answered m d b content (count + 1) (at.text ++ answer)
   one_more_of content line answer next rest parts answers =
       let front : take (count + 1) (lines content) ≡ at.done ++ line ∷ [] =

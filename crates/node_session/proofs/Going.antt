@@ -7,7 +7,7 @@ use Rattle.std.proofs.lemmas.List.{append-nil, append_assoc, length-append}
 use Rattle.station_graph.specs.Diagram.{Diagram}
 use Rattle.central_rules.specs.Meaning.{Meaning}
 use Rattle.bay_protocol.specs.State.{State, nothing_kept, resumed}
-use Rattle.node_session.specs.Session.{Answers, Session}
+use Rattle.node_session.specs.Session.{AnswersWith, Session}
 use Rattle.node_session.specs.SessionEnds.{Streams}
 use Rattle.node_session.specs.Reading.{Grows, BeginsLine}
 use Rattle.node_session.specs.Progress.{AnswersLine, Stands}
@@ -29,12 +29,12 @@ at_first (line ∷ done) = grind arith
 
 more : (m : Meaning) (d : Diagram) (first : Bool) (start : State) (done : List (List ℕ)) (text : List ℕ) (state : State)
     (line answer : List ℕ) (next : State)
-    → Session m d first start done text state → Answers m d (is_next_first first done) state line answer next →
+    → Session m d first start done text state → AnswersWith m d (is_next_first first done) state line answer next →
     Session m d first start (done ++ line ∷ []) (text ++ answer) next
 more m d first start [] text state line answer next (nothing, same) answers = (
   answer,
   next,
-  subst (λ (s : State). Answers m d first s line answer next) same answers,
+  subst (λ (s : State). AnswersWith m d first s line answer next) same answers,
   [],
   (refl, refl),
   ap (λ t. t ++ answer) nothing ∙ sym (append-nil answer),
@@ -45,18 +45,19 @@ more m d first start (l ∷ done) text state line answer next (one, mid, answere
   answered,
   rest ++ answer,
   more m d false mid done rest state line answer next session
-      (subst (λ t. Answers m d t state line answer next) (sym (never_again done)) answers),
+      (subst (λ t. AnswersWith m d t state line answer next) (sym (never_again done)) answers),
   ap (λ t. t ++ answer) is ∙ append_assoc one rest answer,
 )
 
 -- the lines that are answered, and one more
 pub session_more : (m : Meaning) (d : Diagram) (start : State) (done : List (List ℕ)) (text : List ℕ) (state : State)
     (line answer : List ℕ) (next : State) (count : ℕ)
-    → length done ≡ count → Session m d true start done text state → Answers m d (count == 0) state line answer next →
+    → length done ≡ count → Session m d true start done text state →
+    AnswersWith m d (count == 0) state line answer next →
     Session m d true start (done ++ line ∷ []) (text ++ answer) next
 session_more m d start done text state line answer next count counted session answers =
     more m d true start done text state line answer next session
-    (subst (λ t. Answers m d t state line answer next) (sym (at_first done ∙ ap (λ n. n == 0) counted)) answers)
+    (subst (λ t. AnswersWith m d t state line answer next) (sym (at_first done ∙ ap (λ n. n == 0) counted)) answers)
 
 pub appends_nothing : (a : Option (List ℕ)) → Appends a a []
 appends_nothing None = tt

@@ -10,7 +10,7 @@ use Rattle.bay_protocol.specs.State.{State, nothing_kept, resumed}
 use Rattle.node_session.specs.declared.end.SessionEnd.{SessionEnd}
 use Rattle.node_session.specs.declared.end.SessionEnd.TheVariants.{Refused, WriteFault, Memory}
 use Rattle.node_session.specs.Requests.{IsRequest}
-use Rattle.node_session.specs.Session.{Answers, Session}
+use Rattle.node_session.specs.Session.{AnswersWith, Session}
 use Rattle.node_session.specs.SessionEnds.{Streams, SessionEnds, IsDone}
 use Rattle.node_session.specs.Reading.{is_feed}
 
@@ -18,7 +18,7 @@ use Rattle.node_session.specs.Reading.{is_feed}
 pub record AnswersLine (m : Meaning) (d : Diagram) (first : Bool) (old : State) (line : List ℕ) (new : State)
     (before after : Option (List ℕ)) : Type 0 where
   pub text : List ℕ
-  pub answers : Answers m d first old line text new
+  pub answers : AnswersWith m d first old line text new
   pub wrote : Appends before after text
 
 -- The text of the line was not written, or a front of it that is not all.
@@ -26,7 +26,7 @@ pub record TellsFront (m : Meaning) (d : Diagram) (first : Bool) (old : State) (
     (before after : Option (List ℕ)) : Type 0 where
   pub text : List ℕ
   pub new : State
-  pub answers : Answers m d first old line text new
+  pub answers : AnswersWith m d first old line text new
   pub wrote : AppendsFront before after text
 
 -- Why a line before which so many are answered is not answered.

@@ -27,7 +27,7 @@ Does m d old (Event event) text new = Tells (Step m d old event) d old text new
 Does m d old (Arrival bytes) text new = Tells (TakeStep m d old bytes) d old text new
 
 -- The node answers one line: from the old state to the new, with this text.
-pub record Answers (m : Meaning) (d : Diagram) (first : Bool) (old : State) (line text : List ℕ)
+pub record AnswersWith (m : Meaning) (d : Diagram) (first : Bool) (old : State) (line text : List ℕ)
     (new : State) : Type 0 where
   pub short : length line ≤ MOST_LINE
   pub request : Request
@@ -39,7 +39,7 @@ pub record Answers (m : Meaning) (d : Diagram) (first : Bool) (old : State) (lin
 abbrev pub Session : Meaning → Diagram → Bool → State → List (List ℕ) → List ℕ → State → Type 0
 Session m d first old [] text new = (text ≡ []) × (new ≡ old)
 Session m d first old (line ∷ lines) text new =
-    (answer : List ℕ) × (next : State) × Answers m d first old line answer next
+    (answer : List ℕ) × (next : State) × AnswersWith m d first old line answer next
     × (rest : List ℕ) × Session m d false next lines rest new × (text ≡ answer ++ rest)
 
 -- The node to which nothing has happened answers the lines of an input with this text.

@@ -24,7 +24,8 @@ use Rattle.bay_protocol.specs.Sends.{frame, to_each, overs}
 use Rattle.bay_protocol.specs.State.{State, others, under_way, under_way_of, fresh, opens, collects, grants, drops}
 use Rattle.bay_protocol.specs.State.{locks, unlocks, hears, senses, ends, restarts}
 use Rattle.bay_protocol.specs.Fits.{IsNode, IsOwn}
-use Rattle.bay_protocol.specs.Step.{Turn, Step, Ends, Deciding, IsVerdict, IsMeant, OpenStep, CommandStep, ReserveStep}
+use Rattle.bay_protocol.specs.Step.{Turn, Step, StepEnds, Deciding, IsVerdict, IsMeant, OpenStep, CommandStep}
+use Rattle.bay_protocol.specs.Step.{ReserveStep}
 use Rattle.bay_protocol.specs.Step.{AnswerStep, BusyStep, QueryStep, OverStep, FrameStep, TickStep, SenseStep}
 use Rattle.bay_protocol.specs.Step.{WithdrawStep, CutStep}
 use Rattle.bay_protocol.specs.Counts.{Counts}
@@ -167,13 +168,13 @@ module _ (m : Meaning) (old : State) (event : NodeEvent) (turn : Turn) (ok : IsN
   abbrev EffectOf : Type 0
   EffectOf = Effect m old event turn.new turn.frames
 
-  ended : (new : State) (outcome : Outcome) (frames : List Frame) → Ends turn new outcome frames →
+  ended : (new : State) (outcome : Outcome) (frames : List Frame) → StepEnds turn new outcome frames →
       Effect m old event new frames → EffectOf
   ended new outcome frames end effect = rw (end.state, end.sends) effect
 
   -- nothing but frames that are no Answers
   still : (outcome : Outcome) (frames : List Frame) → ¬ CountsAt m old event → NoAnswer frames →
-      Ends turn old outcome frames → EffectOf
+      StepEnds turn old outcome frames → EffectOf
   still outcome frames uncounted none end = ended old outcome frames end (record {
     counted = inr uncounted;
     words = λ i. inl refl;
@@ -186,7 +187,7 @@ module _ (m : Meaning) (old : State) (event : NodeEvent) (turn : Turn) (ok : IsN
   })
 
   dropped : (outcome : Outcome) (r : ℕ) → ¬ CountsAt m old event →
-      Ends turn (drops old) outcome (overs m.diagram old r) → EffectOf
+      StepEnds turn (drops old) outcome (overs m.diagram old r) → EffectOf
   dropped outcome r uncounted end = ended (drops old) outcome (overs m.diagram old r) end (record {
     counted = inr uncounted;
     words = λ i. inl refl;
@@ -238,7 +239,7 @@ module _ (m : Meaning) (old : State) (event : NodeEvent) (turn : Turn) (ok : IsN
   -- a granted operation ends with a new word of its switch
   finished : (outcome : Outcome) (g : Grant) (i : ℕ) (word : Dbpos) → ¬ CountsAt m old event → old.granted ≡ Some g →
       g.op.switch.0 ≡ i → IsNewWord event i word →
-      Ends turn (ends (senses old i word)) outcome (overs m.diagram old g.round) → EffectOf
+      StepEnds turn (ends (senses old i word)) outcome (overs m.diagram old g.round) → EffectOf
   finished outcome g i word uncounted has switch fresh_word end =
       let inside : i < length old.words =
       subst (λ (x : ℕ). x < length old.words) switch
@@ -266,7 +267,7 @@ module _ (m : Meaning) (old : State) (event : NodeEvent) (turn : Turn) (ok : IsN
 
   -- the words are as they were, and only what has been said is changed
   changed : (new : State) (outcome : Outcome) (frames : List Frame) → CountsAt m old event ⊎ ¬ CountsAt m old event →
-      Ends turn new outcome frames → new.words ≡ old.words → new.granted ≡ old.granted →
+      StepEnds turn new outcome frames → new.words ≡ old.words → new.granted ≡ old.granted →
       ((g : Collection) → new.collecting ≡ Some g → HeardFrom m old event g) →
       ((q : ℕ) → under_way new ≡ Some q → (under_way old ≡ Some q) ⊎ (old.highest < q)) → NoAnswer frames → EffectOf
   changed new outcome frames counted end words granted heard rounds none = ended new outcome frames end (record {
@@ -483,7 +484,7 @@ cut_effect m old i event turn ok uncounted (CutStep.no_grant _ end) =
     still m old event turn ok _ [] uncounted no_frame end
 
 restart_effect : (m : Meaning) (old : State) (turn : Turn) (outcome : Outcome) → IsNode m.diagram old →
-    Ends turn (restarts old) outcome [] → Effect m old Restarting turn.new turn.frames
+    StepEnds turn (restarts old) outcome [] → Effect m old Restarting turn.new turn.frames
 restart_effect m old turn outcome ok end = ended m old Restarting turn ok (restarts old) outcome [] end (record {
   counted = inr (λ never. never);
   words = λ i. inr (inl (get_lost (length old.words) i));

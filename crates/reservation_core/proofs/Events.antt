@@ -20,7 +20,7 @@ use Rattle.bay_protocol.specs.Sends.{frame, to_each, overs}
 use Rattle.bay_protocol.specs.State.{State, IsOther, others, under_way, under_way_of, fresh, opens, collects, drops}
 use Rattle.bay_protocol.specs.State.{locks, unlocks, hears, senses, ends, restarts}
 use Rattle.bay_protocol.specs.Fits.{IsOwn}
-use Rattle.bay_protocol.specs.Step.{Turn, Ends, Deciding, OpenStep, CommandStep, ReserveStep, Answering, AnswerStep}
+use Rattle.bay_protocol.specs.Step.{Turn, StepEnds, Deciding, OpenStep, CommandStep, ReserveStep, Answering, AnswerStep}
 use Rattle.bay_protocol.specs.Step.{BusyStep, QueryStep, OverStep, FrameStep, TickStep, SenseStep, WithdrawStep}
 use Rattle.bay_protocol.specs.Step.{CutStep, IsMeant, IsFree, end_word}
 use Rattle.reservation_core.specs.Scene.{Scene, node, at_node, posts, true_at, runs, IsTrueWord}
@@ -37,13 +37,13 @@ use Rattle.reservation_core.proofs.Steps.{overs_sent, round_dropped, decided}
 
 -- a node that changes and sends nothing
 becomes : (m : Meaning) (w : Scene) (b : ℕ) (turn : Turn) (s : State) (outcome : Outcome) → RoundFacts m w →
-    Ends turn s outcome [] → MayBecome m w b s → After m w b turn
+    StepEnds turn s outcome [] → MayBecome m w b s → After m w b turn
 becomes m w b turn s outcome facts end may =
     settle m w b turn s outcome [] end (nothing_sent m (at_node w b s) (facts_at m w b s facts may))
 
 -- a node that does nothing
 still : (m : Meaning) (w : Scene) (b : ℕ) (turn : Turn) (outcome : Outcome) → RoundFacts m w → IsBay m.diagram b →
-    Ends turn (node m.diagram w b) outcome [] → After m w b turn
+    StepEnds turn (node m.diagram w b) outcome [] → After m w b turn
 still m w b turn outcome facts bay end =
     becomes m w b turn (node m.diagram w b) outcome facts end (may_stay m w b facts bay)
 
@@ -67,7 +67,7 @@ may_send_still m w b f facts bay may = record {
 
 -- a node that sends one frame
 sends_one : (m : Meaning) (w : Scene) (b : ℕ) (turn : Turn) (outcome : Outcome) (f : Frame) → RoundFacts m w →
-    IsBay m.diagram b → Ends turn (node m.diagram w b) outcome (f ∷ []) → MaySend m w f → After m w b turn
+    IsBay m.diagram b → StepEnds turn (node m.diagram w b) outcome (f ∷ []) → MaySend m w f → After m w b turn
 sends_one m w b turn outcome f facts bay end may =
     settle m w b turn (node m.diagram w b) outcome (f ∷ []) end
     (one_sent m (at_node w b (node m.diagram w b)) f
@@ -257,7 +257,7 @@ module _ (m : Meaning) (station : IsStation m.diagram) where
       BusyStep m.diagram (node m.diagram w b) f.from.0 f.round holder q turn → After m w b turn
   busy_keeps w b f holder q turn facts taken (BusyStep.gives_up g has round end) =
       round_dropped m station w b g turn _ facts taken.bay has (subst
-      (λ (x : ℕ). Ends turn (drops (node m.diagram w b)) (BusyBy f.round f.from holder q)
+      (λ (x : ℕ). StepEnds turn (drops (node m.diagram w b)) (BusyBy f.round f.from holder q)
       (overs m.diagram (node m.diagram w b) x)) (sym round) end)
   busy_keeps w b f holder q turn facts taken (BusyStep.other_round _ _ _ end) = still m w b turn _ facts taken.bay end
   busy_keeps w b f holder q turn facts taken (BusyStep.none_collected _ end) = still m w b turn _ facts taken.bay end
@@ -332,7 +332,7 @@ module _ (m : Meaning) (station : IsStation m.diagram) where
   -- the word of its switch is set, then it ends
   ended : (w : Scene) (b : ℕ) (g : Grant) (i : ℕ) (word : Dbpos) (turn : Turn) (outcome : Outcome) → RoundFacts m w →
       IsBay m.diagram b → (node m.diagram w b).granted ≡ Some g → g.op.switch.0 ≡ i → runs w.drives i ≡ false →
-      Ends turn (ends (senses (node m.diagram w b) i word)) outcome (overs m.diagram (node m.diagram w b) g.round) →
+      StepEnds turn (ends (senses (node m.diagram w b) i word)) outcome (overs m.diagram (node m.diagram w b) g.round) →
       After m w b turn
   ended w b g i word turn outcome facts bay has switch rests end =
       let old : State = node m.diagram w b in
@@ -398,6 +398,6 @@ module _ (m : Meaning) (station : IsStation m.diagram) where
   cut_keeps w b i turn facts bay rests (CutStep.no_grant _ end) = still m w b turn _ facts bay end
 
   pub restart_keeps : (w : Scene) (b : ℕ) (turn : Turn) → RoundFacts m w → IsBay m.diagram b → (outcome : Outcome) →
-      Ends turn (restarts (node m.diagram w b)) outcome [] → After m w b turn
+      StepEnds turn (restarts (node m.diagram w b)) outcome [] → After m w b turn
   restart_keeps w b turn facts bay outcome end =
       becomes m w b turn (restarts (node m.diagram w b)) outcome facts end (may_restart m w b facts bay)

@@ -28,7 +28,7 @@ use Rattle.reservation_core.specs.declared.values.WorldEvent.{WorldEvent}
 use Rattle.reservation_core.specs.declared.values.WorldOutcome.{WorldOutcome}
 use Rattle.reservation_core.specs.RoundFacts.{RoundFacts}
 use Rattle.reservation_core.specs.Held.{Held, IsSwitchOf}
-use Rattle.reservation_core.specs.Facts.{itself, IsGood, PlainFacts, Facts, Obeys, ObeysFirstTwo, Answers, Words}
+use Rattle.reservation_core.specs.Facts.{itself, IsGood, PlainFacts, Facts, Obeys, ObeysFirstTwo, AnswersAllow, Words}
 use Rattle.reservation_core.specs.Facts.{Grants}
 use Rattle.reservation_core.specs.Happens.{Happens, InRange, NodeSteps}
 use Rattle.reservation_core.proofs.Nodes.{node_here, node_other}
@@ -296,7 +296,7 @@ obeys_first_two m w facts c g v granted whole resolves =
 place_of : (xs : List Frame) (f : Frame) → Contains xs f → (k : ℕ) × (slice_get xs k ≡ Some f)
 place_of xs f there = (there.0, slice_get-get_or xs there.0 f there.1 ∙ ap (λ (x : Frame). Some x) there.2)
 
-pub answers : (m : Meaning) (w : Scene) → Facts m w → Answers m w
+pub answers : (m : Meaning) (w : Scene) → Facts m w → AnswersAllow m w
 answers m w facts f s there body running =
     let place = place_of w.sent f there in
     record {

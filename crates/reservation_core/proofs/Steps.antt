@@ -15,7 +15,7 @@ use Rattle.bay_protocol.specs.declared.values.Collection.{Collection}
 use Rattle.bay_protocol.specs.declared.values.Outcome.{Outcome}
 use Rattle.bay_protocol.specs.Sends.{frame, to_each, overs}
 use Rattle.bay_protocol.specs.State.{State, IsOther, others, under_way, under_way_of, grants, drops}
-use Rattle.bay_protocol.specs.Step.{Turn, Ends, Deciding}
+use Rattle.bay_protocol.specs.Step.{Turn, StepEnds, Deciding}
 use Rattle.bay_protocol.proofs.Others.{others_each}
 use Rattle.reservation_core.specs.Scene.{Scene, node, at_node, posts}
 use Rattle.reservation_core.specs.RoundFacts.{RoundFacts, FrameFits}
@@ -96,7 +96,7 @@ abbrev pub After : Meaning → Scene → ℕ → Turn → Type 0
 After m w b turn = RoundFacts m (posts (at_node w b turn.new) turn.frames)
 
 pub settle : (m : Meaning) (w : Scene) (b : ℕ) (turn : Turn) (new : State) (outcome : Outcome) (frames : List Frame) →
-    Ends turn new outcome frames → RoundFacts m (posts (at_node w b new) frames) → After m w b turn
+    StepEnds turn new outcome frames → RoundFacts m (posts (at_node w b new) frames) → After m w b turn
 settle m w b turn new outcome frames end facts = rw (end.state, end.sends) facts
 
 pub nothing_sent : (m : Meaning) (w : Scene) → RoundFacts m w → RoundFacts m (posts w [])
@@ -138,7 +138,8 @@ module _ (m : Meaning) (station : IsStation m.diagram) where
 
   pub round_dropped : (w : Scene) (b : ℕ) (g : Collection) (turn : Turn) (outcome : Outcome) → RoundFacts m w →
       IsBay m.diagram b → (node m.diagram w b).collecting ≡ Some g →
-      Ends turn (drops (node m.diagram w b)) outcome (overs m.diagram (node m.diagram w b) g.round) → After m w b turn
+      StepEnds turn (drops (node m.diagram w b)) outcome (overs m.diagram (node m.diagram w b) g.round) →
+      After m w b turn
   round_dropped w b g turn outcome facts bay has end =
       let good = (facts.rounds b bay).collecting g has in
       let idle : under_way (drops (node m.diagram w b)) ≡ None = ap (λ x. under_way_of None x) good.no_grant in

@@ -70,8 +70,8 @@ pub record Answered (m : Meaning) (w : Scene) (f : Frame) (s : List ℕ) : Type 
       m.Allows f.from.0 s v
 
 -- Fact 4 (answers), of each Answer whose round is under way.
-abbrev pub Answers : Meaning → Scene → Type 0
-Answers m w =
+abbrev pub AnswersAllow : Meaning → Scene → Type 0
+AnswersAllow m w =
     (f : Frame) (s : List ℕ) → Contains w.sent f → f.body ≡ Answer s →
     under_way (node m.diagram w f.to.0) ≡ Some f.round → Answered m w f s
 

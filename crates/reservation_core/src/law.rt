@@ -6,7 +6,7 @@ ghost use Rattle.reservation_core.specs.declared.values.WorldOutcome.{WorldOutco
 ghost use Rattle.reservation_core.specs.declared.values.WorldOutcome.TheVariants.{Premise};
 ghost use Rattle.reservation_core.specs.declared.values.Which.{Which as Broken};
 ghost use Rattle.reservation_core.specs.RoundFacts.{RoundFacts};
-ghost use Rattle.reservation_core.specs.Facts.{Facts, Obeys, Answers, Words, Grants, IsSoundTruth};
+ghost use Rattle.reservation_core.specs.Facts.{Facts, Obeys, AnswersAllow, Words, Grants, IsSoundTruth};
 ghost use Rattle.reservation_core.specs.Start.{IsStart};
 ghost use Rattle.reservation_core.specs.Happens.{Happens, InRange};
 ghost use Rattle.reservation_core.specs.World.{World as Whole, IsNewWorld, WorldFacts, WorldRounds, AreWordsKept};
@@ -44,7 +44,7 @@ pub fn facts_are_kept<J: Judge>(judge: &J)
 /// the switch is granted; and each granted operation is backed by Answers.
 pub fn granted_operations_obey<J: Judge>(judge: &J)
     ensures obeys { (w : Scene) → Facts (J.meaning judge.now) w → Obeys (J.meaning judge.now) w }
-    ensures answers { (w : Scene) → Facts (J.meaning judge.now) w → Answers (J.meaning judge.now) w }
+    ensures answers { (w : Scene) → Facts (J.meaning judge.now) w → AnswersAllow (J.meaning judge.now) w }
     ensures words { (w : Scene) → Facts (J.meaning judge.now) w → Words (J.meaning judge.now) w }
     ensures grants { (w : Scene) → Facts (J.meaning judge.now) w → Grants (J.meaning judge.now) w }
 {}

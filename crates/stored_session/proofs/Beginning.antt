@@ -11,7 +11,7 @@ use Rattle.node_store.specs.Image.{IsImageOf}
 use Rattle.node_store.proofs.Runs.{one_call, then_more, stays_settled}
 use Rattle.stored_session.specs.View.{View, KeepsTime}
 use Rattle.stored_session.specs.Along.{StandsAlong}
-use Rattle.stored_session.specs.Ends.{EndsSo, Ends, IsIdle}
+use Rattle.stored_session.specs.Ends.{EndsSo, BegunEnds, IsIdle}
 use Rattle.stored_session.specs.declared.end.StoredEnd.{StoredEnd}
 use Rattle.stored_session.specs.declared.end.StoredEnd.TheVariants.{Done, Unfit, Refused, Long, ReadFault, WriteFault}
 use Rattle.stored_session.specs.declared.end.StoredEnd.TheVariants.{Memory}
@@ -61,7 +61,7 @@ module _ {D : Type 0} (v : View D) (time : KeepsTime v) (old mid : D) (same : v.
   -- the session that follows the opening, with it
   begun_at : (m : Meaning) (d : Diagram) (b : ℕ) (start : State) (before now : Streams) (new : D) (end : StoredEnd)
       → v.writes old ≤ v.writes mid → Told (v.content old) (λ image. IsImageOf image (kept_of start))
-      → Ends v m d b 0 start before now mid new end → Ends v m d b 3 start before now old new end
+      → BegunEnds v m d b 0 start before now mid new end → BegunEnds v m d b 3 start before now old new end
   begun_at m d b start before now new end grows stands ends = record {
     lines = ends.lines;
     text = ends.text;
@@ -93,7 +93,7 @@ module _ {D : Type 0} (v : View D) (time : KeepsTime v) (old mid : D) (same : v.
   pub begun : (m : Meaning) (d : Diagram) (b : ℕ) (node start : State) (before now : Streams) (new : D)
       (end : StoredEnd)
       → node ≡ start → v.writes old ≤ v.writes mid → Told (v.content old) (λ image. IsImageOf image (kept_of start))
-      → Ends v m d b 0 node before now mid new end → Ends v m d b 3 start before now old new end
+      → BegunEnds v m d b 0 node before now mid new end → BegunEnds v m d b 3 start before now old new end
   begun m d b node start before now new end is grows stands ends =
       begun_at m d b start before now new end grows stands (subst (λ
-      (s : State). Ends v m d b 0 s before now mid new end) is ends)
+      (s : State). BegunEnds v m d b 0 s before now mid new end) is ends)

@@ -18,7 +18,7 @@ use Rattle.stored_session.specs.Kept.{LeavesNow}
 use Rattle.stored_session.specs.Stored.{AnswersStored, WritesFront, LineFails}
 use Rattle.stored_session.specs.Through.{HasNext, TakesNear}
 use Rattle.stored_session.specs.Progress.{IsEndAt}
-use Rattle.stored_session.specs.Ends.{WritesAll, EndsSo, Ends}
+use Rattle.stored_session.specs.Ends.{WritesAll, EndsSo, BegunEnds}
 use Rattle.stored_session.specs.declared.line.LineEnd.{LineEnd}
 use Rattle.stored_session.specs.declared.line.LineEnd.TheVariants as l
 use Rattle.stored_session.specs.declared.end.StoredEnd.{StoredEnd}
@@ -37,7 +37,7 @@ not_done is = cc is
 module _ {D : Type 0} (v : View D) (time : KeepsTime v) (m : Meaning) (d : Diagram) (b : ℕ) (start : State)
     (before : Streams) (old : D) where
   abbrev pub EndsNow : Streams → D → StoredEnd → Type 0
-  EndsNow now device end = Ends v m d b 0 start before now old device end
+  EndsNow now device end = BegunEnds v m d b 0 start before now old device end
 
   -- the session ends between two lines
   pub ends_here : (now : Streams) (device : D) (done : List (List ℕ)) (store : Store) (state : State) (end : StoredEnd)

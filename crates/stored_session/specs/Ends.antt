@@ -72,12 +72,12 @@ EndsSo m d b start before now stores lines text low Memory =
     Begins before.input lines × WritesAll before now lines text low
 EndsSo m d b start before now stores lines text low Unfit = ⊥
 
--- A session ends so. It took these lines, from the first state to the last, with these texts. Where nothing was
--- pending on the device at first, a crash at any moment leaves the record after some number of the lines. A crash at
--- the return leaves it after no fewer than `low`; that is all lines of whose text `out` took a byte, or more. Where
--- all is done, the record after all lines stands on the device. `opening` is how many calls of the device came before
--- the lines.
-pub record Ends {D : Type 0} (v : View D) (m : Meaning) (d : Diagram) (b opening : ℕ) (start : State)
+-- A session that has begun ends so. It took these lines, from the first state to the last, with these texts. Where
+-- nothing was pending on the device at first, a crash at any moment leaves the record after some number of the lines.
+-- A crash at the return leaves it after no fewer than `low`; that is all lines of whose text `out` took a byte, or
+-- more. Where all is done, the record after all lines stands on the device. `opening` is how many calls of the device
+-- came before the lines.
+pub record BegunEnds {D : Type 0} (v : View D) (m : Meaning) (d : Diagram) (b opening : ℕ) (start : State)
     (before now : Streams) (old device : D) (end : StoredEnd) : Type 0 where
   pub lines : List (List ℕ)
   pub text : List ℕ
@@ -121,7 +121,8 @@ abbrev pub StoredEnds : {D : Type 0} → View D → Meaning → Diagram → ℕ 
 StoredEnds v m d b before now old device end =
     (IsIdle v before now old device
     × IdleSo d b (v.content old) (Rose (v.reads old) (v.reads device)) (Rose (v.writes old) (v.writes device)) end)
-    ⊎ ((kept : Kept) × Begun d b (v.content old) kept × Ends v m d b 3 (resumed d b kept) before now old device end)
+    ⊎ ((kept : Kept) × Begun d b (v.content old) kept
+    × BegunEnds v m d b 3 (resumed d b kept) before now old device end)
 
 -- An input that a stored session answers to its end: it has no more lines than it may, and each is one of an input and
 -- hands back no record.

@@ -12,7 +12,7 @@ use Rattle.stored_session.specs.Kept.{IsKept}
 use Rattle.stored_session.specs.Stored.{StoredSession}
 use Rattle.stored_session.specs.Along.{StandsAlong}
 use Rattle.stored_session.specs.Through.{ReadsThrough}
-use Rattle.stored_session.specs.Ends.{Ends}
+use Rattle.stored_session.specs.Ends.{BegunEnds}
 use Rattle.stored_session.specs.declared.line.LineEnd.{LineEnd}
 use Rattle.stored_session.specs.declared.line.LineEnd.TheVariants as l
 use Rattle.stored_session.specs.declared.end.StoredEnd.{StoredEnd}
@@ -46,7 +46,8 @@ abbrev pub Goes : {D : Type 0} → View D → Meaning → Diagram → ℕ → St
     → Result Store StoredEnd → Type 0
 Goes v m d b start before now old device held count state (Ok store) =
     Stands v m d b start before now old device held (count + 1) store state
-Goes v m d b start before now old device held count state (Err end) = Ends v m d b 0 start before now old device end
+Goes v m d b start before now old device held count state (Err end) =
+    BegunEnds v m d b 0 start before now old device end
 
 -- How a session ends at a line before which so many are answered.
 abbrev pub IsEndAt : ℕ → LineEnd → StoredEnd → Type 0

@@ -13,7 +13,7 @@ ghost use Rattle.stored_session.specs.View.{view, streams};
 ghost use Rattle.stored_session.specs.Kept.{IsKept};
 ghost use Rattle.stored_session.specs.Opening.{IsUnfit};
 ghost use Rattle.stored_session.specs.Progress.{Stands, Goes};
-ghost use Rattle.stored_session.specs.Ends.{Ends, StoredEnds, IsStoredInput};
+ghost use Rattle.stored_session.specs.Ends.{BegunEnds, StoredEnds, IsStoredInput};
 
 use crate::end::{StoredEnd, end_at};
 use crate::line::take_line;
@@ -107,7 +107,7 @@ fn run<J: Judge, I: Source, O: Sink, D: Device>(
     requires room { store_sequence store + MOST_LINES < 2 ^ 64 }
     requires kept { Told (D.content device.old) (λ image.
         IsKept D.moment D.left_since device.old store image (kept_of node.old)) }
-    ensures ends { Ends (view D.content D.moment D.left_between D.left_since D.read_faults D.write_faults D.calls)
+    ensures ends { BegunEnds (view D.content D.moment D.left_between D.left_since D.read_faults D.write_faults D.calls)
         (J.meaning judge.now) station.now bay.0 0 node.old
         (streams (I.left input.old) (I.faults input.old) (O.took out.old) (O.faults out.old))
         (streams (I.left input.new) (I.faults input.new) (O.took out.new) (O.faults out.new))
