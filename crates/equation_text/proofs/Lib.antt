@@ -27,3 +27,16 @@ pub mod TopLemmas
 pub mod WholeLemmas
 pub mod ReadLemmas
 pub mod StepsLemmas
+pub mod WholeText
+pub mod FilledLemmas
+pub mod FormedLemmas
+pub mod StopLemmas
+pub mod LineLemmas
+pub mod EntryLemmas
+pub mod KeptLemmas
+pub mod NumberLemmas
+pub mod LinesBefore
+pub mod FirstFault
+pub mod NamedLemmas
+pub mod AmongLemmas
+pub mod ThereLemmas

@@ -1,5 +1,5 @@
 -- A line of a group is read in one way.
-use Rattle.std.proofs.Common.{◌≡◌, ◌∙◌, ℕ, ◌<◌, ◌^◌, suc, List, [], ◌∷◌, ◌++◌, refl, sym}
+use Rattle.std.proofs.Common.{◌≡◌, ◌∙◌, ℕ, ◌<◌, ◌≤◌, ◌^◌, suc, List, [], ◌∷◌, ◌++◌, refl, sym}
 use Rattle.std.proofs.Common.{ap, subst, arith, append_assoc}
 use Rattle.std.specs.Prelude.{codes, decimal}
 use Rattle.std.proofs.lemmas.Fmt.{decimal_injective}
@@ -70,7 +70,7 @@ test_lacks s small off on =
     (lacks_all 10 (target_text s.off) (codes " " ++ target_text s.on) (lacks_target 10 s.off (omega arith) off)
     (blank_then (target_text s.on) (lacks_target 10 s.on (omega arith) on)))
 
-pub step_lacks : (p m : ℕ) (s : PartStep) → p < NUMBERS → m < NUMBERS → s.switch.0 < NUMBERS → IsTarget NUMBERS s.off
+pub step_lacks : (p m : ℕ) (s : PartStep) → p < NUMBERS → m ≤ NUMBERS → s.switch.0 < NUMBERS → IsTarget NUMBERS s.off
     → IsTarget NUMBERS s.on → Lacks 10 (step_line p m s)
 step_lacks p m s small_p small_m small off on =
     subst (λ (z : List ℕ). Lacks 10 z) (sym (step_parts p m s))

@@ -1,5 +1,5 @@
 -- What a step may be, and what its words can say.
-use Rattle.std.proofs.Common.{ℕ, ◌<◌, arith}
+use Rattle.std.proofs.Common.{ℕ, ◌<◌, ◌≤◌, arith}
 use Rattle.station_graph.specs.Diagram.{Diagram, IsStation}
 use Rattle.bay_contract.specs.declared.fork.PartStep.{PartStep}
 use Rattle.equation_text.specs.Beginnings.{MayBeStep, IsTest}
@@ -15,7 +15,7 @@ test_of d part m s station may = record {
   on = any_target m s.on may.fits.on;
 }
 
-pub may_lacks : (d : Diagram) (part m : ℕ) (s : PartStep) → m < NUMBERS → IsStation d → MayBeStep d part m s
+pub may_lacks : (d : Diagram) (part m : ℕ) (s : PartStep) → m ≤ NUMBERS → IsStation d → MayBeStep d part m s
     → Lacks 10 (step_line part m s)
 may_lacks d part m s small_m station may =
     let own = may.own in

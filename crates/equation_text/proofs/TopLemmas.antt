@@ -28,6 +28,7 @@ use Rattle.equation_text.proofs.ReadLemmas.{start_of, StartFits, start_one, ops_
 use Rattle.equation_text.proofs.ReadLemmas.{node_of, whole_groups}
 use Rattle.equation_text.proofs.StepsLemmas.{StepIs, part_steps, parts_once}
 use Rattle.equation_text.proofs.ReadLoops.{starts_fit, ops_fit, NodeIs, nodes_one, nodes_fit}
+use Rattle.equation_text.specs.Faults.{AreFormed}
 
 -- a text has no fewer bytes than lines
 length_text : (ls : List (List ℕ)) → length ls ≤ length (text_of ls)
@@ -85,14 +86,6 @@ node_may switches n m parts (switch_node switch off on) few fits = (
   few_later_goal n m on few (fits.goals 1 on refl),
 )
 
-abbrev first_byte : List ℕ → ℕ
-first_byte [] = 0
-first_byte (b ∷ bs) = b
-
--- a text that does not begin as a step has none
-no_step_first : (d : Diagram) (part m : ℕ) (text : List ℕ) → first_byte text ≢ 115 → NoStep d part m text
-no_step_first d part m text differs = λ s rest may is. differs (ap first_byte is)
-
 -- the text of what was read, group by group
 pub sound : (d : Diagram) (ts : List Target) (parts : List PartLines) (ops : List SwitchGoals) (nodes : List NodeLine)
     (text l1 l2 l3 l4 l5 : List ℕ) → text ≡ front_text d ++ l1 → l1 ≡ text_of (start_lines ts) ++ l2
@@ -121,10 +114,6 @@ parts_may d ts old new parts may read = record {
   steps = read.steps;
 }
 
-same_lines : (e : EquationLines) (parts : List PartLines) (ops : List SwitchGoals) (nodes : List NodeLine)
-    → parts ≡ e.parts → ops ≡ e.ops → nodes ≡ e.nodes → e ≡ record { parts = parts; ops = ops; nodes = nodes }
-same_lines e parts ops nodes p q r = sym (λ i. record { parts = p i; ops = q i; nodes = r i })
-
 module _ (d : Diagram) (station : IsStation d) (e : EquationLines) (are : AreEquations d e) (text : List ℕ)
     (is : text ≡ text_of (lines_of d e)) (short : length text ≤ 4294967294) where
   abbrev starts : List Target
@@ -142,7 +131,7 @@ module _ (d : Diagram) (station : IsStation d) (e : EquationLines) (are : AreEqu
   abbrev at_starts : List ℕ
   at_starts = text_of (start_lines starts) ++ at_steps
 
-  pub groups : text ≡ front_text d ++ at_starts
+  groups : text ≡ front_text d ++ at_starts
   groups = is ∙ whole_groups d e
 
   few_parts : part_count d ≤ NUMBERS
@@ -166,38 +155,7 @@ module _ (d : Diagram) (station : IsStation d) (e : EquationLines) (are : AreEqu
   few_nodes : length e.nodes ≤ NUMBERS
   few_nodes = omega (arith, length_single node_line 0 e.nodes, length_text (node_lines e.nodes), lengths, short)
 
-  pub starts_may : MayBeStarts (part_count d) starts
-  starts_may = record {
-    count = length-map e.parts (λ (x : PartLines). x.start) ∙ are.parts;
-    each = λ p t at.
-        let x = unmapped (λ (y : PartLines). y.start) e.parts p t at in
-        subst (λ (u : Target). IsTarget NUMBERS u) x.2 (few_target (length x.0.steps) x.0.start (few_steps p x.0 x.1)
-        (are.whole.parts p x.0 x.1).start);
-  }
-
-  pub all_steps : (i m : ℕ) (x : PartLines) (s : PartStep) → slice_get e.parts i ≡ Some x
-      → slice_get x.steps m ≡ Some s → StepIs d (0 + i) m s
-  all_steps i m x s at at_step =
-      let fits = (are.whole.parts i x at).steps m s at_step in
-      let few = few_steps i x at in
-      let off = few_later (length x.steps) m s.off few fits.off in
-      let on = few_later (length x.steps) m s.on few fits.on in
-      let number : i ≡ 0 + i = omega arith in
-      subst (λ k. StepIs d k m s) number (record {
-        may = record {
-          fits = record { switch = omega (arith, fits.switch, are.ops); off = off; on = on };
-          own = are.own i m x s at at_step;
-        };
-        fits = record {
-          part_number = omega (arith, slice_get_within e.parts i x at, are.parts, few_parts);
-          number = omega (arith, slice_get_within x.steps m s at_step, few);
-          switch = omega (arith, fits.switch, are.ops, few_switches);
-          off = any_target m s.off off;
-          on = any_target m s.on on;
-        };
-      })
-
-  pub ops_may : MayBeOps (length d.switches) e.ops
+  ops_may : MayBeOps (length d.switches) e.ops
   ops_may = record {
     count = are.ops;
     fit = λ s x at. let fits = are.whole.ops s x at in record {
@@ -208,106 +166,34 @@ module _ (d : Diagram) (station : IsStation d) (e : EquationLines) (are : AreEqu
     };
   }
 
-  pub nodes_may : MayBeNodes (length d.switches) (map index_count e.parts) e.nodes
+  nodes_may : MayBeNodes (length d.switches) (map index_count e.parts) e.nodes
   nodes_may = record {
     few = few_nodes;
     each = λ n x at. subst (λ k. MayBeNode k (map index_count e.parts) n x) are.ops (node_may (length e.ops)
         (length e.nodes) n e.parts x few_nodes (are.whole.nodes n x at));
   }
 
-  -- what is left behind each group
-  pub left_starts : (left : List ℕ) → text ≡ front_text d ++ left → left ≡ at_starts
-  left_starts left at = append_cancel_left (front_text d) left at_starts (sym at ∙ groups)
-
-  pub left_steps : (ts : List Target) (left rest : List ℕ) → left ≡ at_starts → MayBeStarts (part_count d) ts
-      → left ≡ text_of (start_lines ts) ++ rest → (ts ≡ starts) × (rest ≡ at_steps)
-  left_steps ts left rest here may at = once start_of StartFits start_one 0 ts starts rest at_steps (starts_fit
-      (part_count d) ts few_parts may) (starts_fit (part_count d) starts few_parts starts_may) (may.count
-      ∙ sym starts_may.count) (sym at ∙ here)
-
-  no_step : (part m : ℕ) → NoStep d part m at_ops
-  no_step part m = no_step_first d part m at_ops (by e.ops e.nodes)
-    where
-      by : (ops : List SwitchGoals) (nodes : List NodeLine) → first_byte (text_of (op_lines ops) ++ (text_of
-          (node_lines nodes) ++ codes "end\n")) ≢ 115
-      by [] [] same = omega (arith, same)
-      by [] (x ∷ nodes) same = omega (arith, same)
-      by (x ∷ ops) nodes same = omega (arith, same)
-
-  pub left_ops : (ts : List Target) (parts : List PartLines) (left rest : List ℕ) → ts ≡ starts → left ≡ at_steps
-      → AreAllSteps d ts left rest parts → (parts ≡ e.parts) × (rest ≡ at_ops)
-  left_ops ts parts left rest same here read =
-      let count : length parts ≡ part_count d = sym (length-map parts (λ (x : PartLines). x.start)) ∙ ap length
-      (read.starts_are ∙ same) ∙ starts_may.count in
-      parts_once d 0 parts e.parts rest at_ops (omega (arith, count, few_parts)) (parts_steps count) all_steps
-      (read.starts_are ∙ same)
-      (λ i x at none. let number : i ≡ 0 + i = omega arith in subst (λ k. NoStep d k (length x.steps) rest) number
-      (read.last i x at none))
-      (λ i x at none. no_step (0 + i) (length x.steps))
-      (sym read.text ∙ here)
-    where
-      parts_steps : length parts ≡ part_count d → (i m : ℕ) (x : PartLines) (s : PartStep)
-          → slice_get parts i ≡ Some x → slice_get x.steps m ≡ Some s → StepIs d (0 + i) m s
-      parts_steps count i m x s at at_step =
-          let may = (read.steps i x at).each m s at_step in
-          let number : i ≡ 0 + i = omega arith in
-          subst (λ k. StepIs d k m s) number (record {
-            may = may;
-            fits = record {
-              part_number = omega (arith, slice_get_within parts i x at, count, few_parts);
-              number = omega (arith, slice_get_within x.steps m s at_step, (read.steps i x at).few);
-              switch = omega (arith, may.fits.switch, few_switches);
-              off = any_target m s.off may.fits.off;
-              on = any_target m s.on may.fits.on;
+  -- the lines are of the form
+  pub formed : AreFormed d e
+  formed = record {
+    parts = record {
+      count = are.parts;
+      starts = λ p x at. few_target (length x.steps) x.start (few_steps p x at) (are.whole.parts p x at).start;
+      steps = λ p x at. record {
+        few = few_steps p x at;
+        each = λ m s at_step.
+            let fits = (are.whole.parts p x at).steps m s at_step in
+            let few = few_steps p x at in
+            record {
+              fits = record {
+                switch = omega (arith, fits.switch, are.ops);
+                off = few_later (length x.steps) m s.off few fits.off;
+                on = few_later (length x.steps) m s.on few fits.on;
+              };
+              own = are.own p m x s at at_step;
             };
-          })
-
-  pub left_nodes : (ops : List SwitchGoals) (left rest : List ℕ) → left ≡ at_ops → MayBeOps (length d.switches) ops
-      → left ≡ text_of (op_lines ops) ++ rest → (ops ≡ e.ops) × (rest ≡ at_end)
-  left_nodes ops left rest here may at =
-      let few : length d.switches ≤ NUMBERS = omega (arith, few_switches) in
-      once ops_of OpFits op_one 0 ops e.ops rest at_end (ops_fit (length d.switches) ops few may) (ops_fit
-      (length d.switches) e.ops few ops_may) (may.count ∙ sym are.ops) (sym at ∙ here)
-
-  pub left_none : (nodes : List NodeLine) (left rest : List ℕ) → left ≡ at_end → MayBeNodes (length d.switches)
-      (map index_count e.parts) nodes → left ≡ text_of (node_lines nodes) ++ (codes "end\n" ++ rest)
-      → (nodes ≡ e.nodes) × (rest ≡ [])
-  left_none nodes left rest here may at =
-      elim (cases_lt (length nodes) (length e.nodes)) [
-        | inl less ↦ absurd (shorter nodes e.nodes rest [] fit_nodes fit_more less (sym at ∙ here))
-        | inr past ↦ elim (cases_lt (length e.nodes) (length nodes)) [
-          | inl less ↦ absurd (shorter e.nodes nodes [] rest fit_more fit_nodes less (sym here ∙ at))
-          | inr equal ↦
-              let same = once node_of (NodeIs (length d.switches) (map index_count e.parts)) (nodes_one
-              (length d.switches) (map index_count e.parts)) 0 nodes e.nodes (codes "end\n" ++ rest)
-              (codes "end\n" ++ []) fit_nodes fit_more (omega (arith, past, equal)) (sym at ∙ here) in
-              (same.0, append_cancel_left (codes "end\n") rest [] same.1)
-        ]
-      ]
-    where
-      few_counts : length (map index_count e.parts) ≤ 256
-      few_counts = omega (arith, length-map e.parts index_count, are.parts, station.items.parts_few)
-
-      fit_nodes : (i : ℕ) (x : NodeLine) → slice_get nodes i ≡ Some x → NodeIs (length d.switches)
-          (map index_count e.parts) (0 + i) x
-      fit_nodes = nodes_fit (length d.switches) (map index_count e.parts) nodes few_switches few_counts may.few may.each
-
-      fit_more : (i : ℕ) (x : NodeLine) → slice_get e.nodes i ≡ Some x → NodeIs (length d.switches)
-          (map index_count e.parts) (0 + i) x
-      fit_more = nodes_fit (length d.switches)
-          (map index_count e.parts) e.nodes few_switches few_counts nodes_may.few nodes_may.each
-
-      shorter : (xs ys : List NodeLine) (r s : List ℕ) → ((i : ℕ) (x : NodeLine) → slice_get xs i ≡ Some x
-          → NodeIs (length d.switches) (map index_count e.parts) (0 + i) x) → ((i : ℕ) (x : NodeLine)
-          → slice_get ys i ≡ Some x → NodeIs (length d.switches) (map index_count e.parts) (0 + i) x)
-          → length xs < length ys → text_of (node_lines xs) ++ (codes "end\n" ++ r) ≡ text_of (node_lines ys) ++
-          (codes "end\n" ++ s) → ⊥
-      shorter xs ys r s fit_x fit_y less same =
-          let f = next node_of (NodeIs (length d.switches) (map index_count e.parts)) (nodes_one (length d.switches)
-          (map index_count e.parts)) 0 xs ys (codes "end\n" ++ r) (codes "end\n" ++ s) fit_x fit_y less same in
-          let byte : 101 ≡ 110 = ap first_byte (f.is ∙ text_one (node_line (0 + length xs) f.entry) f.rest) in
-          omega (arith, byte)
-
-  pub all_same : (parts : List PartLines) (ops : List SwitchGoals) (nodes : List NodeLine) → parts ≡ e.parts
-      → ops ≡ e.ops → nodes ≡ e.nodes → e ≡ record { parts = parts; ops = ops; nodes = nodes }
-  all_same parts ops nodes p q r = same_lines e parts ops nodes p q r
+      };
+    };
+    ops = ops_may;
+    nodes = nodes_may;
+  }

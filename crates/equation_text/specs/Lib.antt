@@ -14,3 +14,6 @@ pub mod Beginnings
 pub mod Reading
 pub mod Defined
 pub mod ReadText
+pub mod Faults
+pub mod Stops
+pub mod Entries

@@ -4,7 +4,9 @@
 
 mod compile;
 mod defined;
+mod entries;
 mod equations;
+mod front;
 mod goal;
 mod law;
 mod layers;

@@ -11,11 +11,12 @@ ghost use Rattle.equation_text.specs.EquationText.{part_line, step_line, op_line
 ghost use Rattle.equation_text.specs.Beginnings.{MayBeStep, IsTest, test_text};
 
 use crate::goal::Goal;
-use crate::words::{behind, behind_number, cut_word, goal, number, target};
+use crate::words::{behind, behind_number, cut_word, goal, target};
 use bay_contract::{PartStep, Target};
 use central_rules::direction_name;
 use ilk_base::{BayId, Direction, SwitchId};
 use station_graph::Station;
+use text_lines::decimal_number;
 
 // Where the steps of the part begin, by its line.
 pub(crate) fn read_part(line: &[u8], part: u32) -> Option<Target>
@@ -39,7 +40,7 @@ fn read_test(words: &[u8]) -> Option<PartStep>
     let Some((word, rest)) = cut_word(words) else {
         return None;
     };
-    let Some(switch) = number(word) else {
+    let Some(switch) = decimal_number(word) else {
         return None;
     };
     let Some((word, rest)) = cut_word(rest) else {

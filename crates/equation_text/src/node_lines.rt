@@ -9,9 +9,10 @@ ghost use Rattle.equation_text.specs.Beginnings.{goals_text, IsSwitchNode, IsPar
 
 use crate::goal::Goal;
 use crate::node::Node;
-use crate::words::{behind, behind_number, cut_word, first_word, goal, number};
+use crate::words::{behind, behind_number, cut_word, first_word, goal};
 use ilk_base::{BayId, Memory, SwitchId};
 use std::alloc::Global;
+use text_lines::decimal_number;
 
 // The goal of node n that the word is: a greater node, or an answer.
 fn later_goal(word: &[u8], n: u32) -> Option<Goal>
@@ -54,7 +55,7 @@ fn read_switch_node(words: &[u8], n: u32, switches: u16) -> Option<Node>
     let Some((word, rest)) = cut_word(words) else {
         return None;
     };
-    let Some(switch) = number(word) else {
+    let Some(switch) = decimal_number(word) else {
         return None;
     };
     let Some((word, rest)) = cut_word(rest) else {
@@ -94,7 +95,7 @@ fn read_part_node(
         (IsPartNode counts.now n words.now)) }
 {
     let (word, rest) = first_word(words);
-    let Some(part) = number(word) else {
+    let Some(part) = decimal_number(word) else {
         return Ok(None);
     };
     let found = read_goals(alloc, rest, n)?;

@@ -1,22 +1,22 @@
 //! Equations, read from a text.
-ghost use Rattle.std.specs.Prelude.{◌≡◌, ◌≢◌, ◌≤◌, ◌↔◌, ◌++◌, List, ℕ, length, IfOk, IfErr, IsTrue, IsFalse, MatchOption};
+ghost use Rattle.std.specs.Prelude.{◌≡◌, ◌≤◌, ◌↔◌, length, min, IfOk, IfErr, IfSome, IsTrue, MatchOption};
 ghost use Rattle.station_graph.specs.Diagram.{IsStation};
 ghost use Rattle.equation_text.specs.EquationLines.{EquationLines};
 ghost use Rattle.equation_text.specs.EquationText.{IsTextOf};
 ghost use Rattle.equation_text.specs.Defined.{PartsMay, AreThere};
-ghost use Rattle.equation_text.specs.Reading.{front_text};
+ghost use Rattle.equation_text.specs.Faults.{IsFirstFault};
 ghost use Rattle.equation_text.specs.ReadText.{AreLines, ForRefused};
+ghost use Rattle.equation_text.specs.Stops.{StopsWrong};
 
 use crate::defined::{index_counts, nodes_there, ops_there, parts_there};
 use crate::equations::Equations;
+use crate::front::read_front;
 use crate::goal::SwitchGoals;
 use crate::node::Node;
 use crate::part::PartSteps;
 use crate::reading::{Left, read_all_steps, read_nodes, read_ops, read_starts};
-use crate::undefined::{step_count, undefined_node, undefined_op, undefined_start, undefined_step};
-use crate::words::behind;
-use crate::writing::push_switches;
-use ilk_base::{InputRefusal, Memory, Text};
+use crate::undefined::{line_behind, undefined_line};
+use ilk_base::{InputRefusal, Memory};
 use station_graph::Station;
 use std::alloc::{AllocFailed, Global};
 
@@ -57,41 +57,6 @@ struct Lines {
     nodes: Vec<Node>,
 }
 
-// What follows the bytes in which the two texts are alike.
-fn unlike<'a>(text: &'a [u8], other: &[u8]) -> &'a [u8] {
-    let both = text.len().min(other.len());
-    for i in 0..both {
-        if text[i] != other[i] {
-            return &text[i..];
-        }
-    }
-    &text[both..]
-}
-
-// The lines before those of the parts.
-fn front_of(alloc: Global, station: &Station) -> Result<Text, Memory>
-    ensures { IfOk result (λ t. t ≡ front_text station.now) }
-{
-    let mut front = Text::new(alloc);
-    front.push(b"equations\n")?;
-    push_switches(&mut front, station)?;
-    Ok(front)
-}
-
-// Passes the lines before those of the parts.
-fn read_front(alloc: Global, left: &mut Left<'_>, station: &Station) -> Result<bool, Memory>
-    ensures front { IfOk result (λ b. IsTrue b → left.old.text.now ≡ front_text station.now ++ left.new.text.now) }
-    ensures none { IfOk result (λ b. IsFalse b → (rest : List ℕ) → left.old.text.now ≢ front_text station.now ++ rest) }
-{
-    let front = front_of(alloc, station)?;
-    let Some(rest) = behind(left.text, front.bytes()) else {
-        left.text = unlike(left.text, front.bytes());
-        return Ok(false);
-    };
-    left.text = rest;
-    Ok(true)
-}
-
 // The lines of a text, of which nothing is left then.
 fn read_lines(
     alloc: Global,
@@ -99,7 +64,7 @@ fn read_lines(
     station: &Station,
 ) -> Result<Option<Lines>, Memory>
     requires { length left.old.text.now ≤ 4294967294 }
-    ensures { IfOk result (λ o. MatchOption o ((e : EquationLines) → ¬ IsTextOf station.now left.old.text.now e)
+    ensures { IfOk result (λ o. MatchOption o (StopsWrong station.now left.old.text.now left.new.text.now)
         (λ v. AreLines station.now left.old.text.now v.parts.items v.ops.items v.nodes.items)) }
 {
     let _parts = station.part_count();
@@ -137,34 +102,21 @@ fn are_there(lines: &Lines) -> bool
         && nodes_there(&lines.nodes)
 }
 
-// The line of the first step or node that is named and not there, where the lines before those of parts are so
-// many.
-fn undefined_line(lines: &Lines, switches: u16) -> u32 {
-    let before = usize::from(switches) + 1;
-    let steps = before.saturating_add(lines.parts.len());
-    let ops = steps.saturating_add(step_count(&lines.parts));
-    let nodes = ops.saturating_add(lines.ops.len().saturating_mul(2));
-    let place = if let Some(i) = undefined_start(&lines.parts) {
-        before.saturating_add(i)
-    } else if let Some(i) = undefined_step(&lines.parts) {
-        steps.saturating_add(i)
-    } else if let Some(i) = undefined_op(&lines.ops, lines.nodes.len()) {
-        ops.saturating_add(i)
-    } else {
-        nodes.saturating_add(undefined_node(&lines.nodes))
-    };
-    (place.min(4_294_967_294) as u32) + 1
+// The lesser line, where there are two.
+fn least(wrong: u32, undefined: Option<u32>) -> u32
+    ensures { MatchOption undefined (result ≡ wrong) (λ line. result ≡ min line wrong) }
+{
+    match undefined {
+        Some(line) => line.min(wrong),
+        None => wrong,
+    }
 }
 
-// How many lines end before the place at which so many bytes are left, and one more.
-fn line_at(text: &[u8], left: usize) -> u32 {
-    let mut line = 1u32;
-    for byte in &text[..text.len().saturating_sub(left)] {
-        if *byte == b'\n' {
-            line = line.saturating_add(1);
-        }
-    }
-    line
+// The line, where there is one.
+fn line_of(undefined: Option<u32>) -> u32
+    ensures { IfSome undefined (λ line. result ≡ line) }
+{
+    undefined.unwrap_or(0)
 }
 
 // The refusal in this line.
@@ -176,8 +128,9 @@ fn refused(line: u32) -> EquationsFault
 
 /// Reads the text of a station's equations (docs/FORMATS.md). Accepted are exactly the texts of the form, each
 /// as the lines that it says; so what `Equations::text` writes is read again as the same lines. Any other text
-/// is refused with 10, at the first line that cannot stand where it does, or else at the first that names a step
-/// or node that no line defines; of which line it is no clause speaks. Time and memory: the text.
+/// is refused with 10, at its first line with a fault: the one that cannot stand where it does, or the line
+/// behind a text that ends too early, or a line that names a step or node that no line defines. Time: the text
+/// times the logarithm of its lines; memory: the text.
 pub fn read_equations(
     alloc: Global,
     station: &Station,
@@ -188,14 +141,19 @@ pub fn read_equations(
     ensures once { IfOk result (λ e. (other : EquationLines) → IsTextOf station.now bytes.now other → other ≡ e) }
     ensures number { IfErr result (λ f. ForRefused f (λ r. r.number ≡ 10)) }
     ensures none { IfErr result (λ f. ForRefused f (λ _. (e : EquationLines) → ¬ IsTextOf station.now bytes.now e)) }
+    ensures line { IfErr result (λ f. ForRefused f (λ r. IsFirstFault station.now bytes.now r.line)) }
 {
+    let _parts = station.part_count();
     let mut left = Left { text: bytes };
     let read = read_lines(alloc, &mut left, station)?;
     let Some(lines) = read else {
-        return Err(refused(line_at(bytes, left.text.len())));
+        let wrong = line_behind(&bytes[..bytes.len() - left.text.len()]);
+        let undefined = undefined_line(alloc, station, bytes)?;
+        return Err(refused(least(wrong, undefined)));
     };
     if !are_there(&lines) {
-        return Err(refused(undefined_line(&lines, station.switch_count())));
+        let undefined = undefined_line(alloc, station, bytes)?;
+        return Err(refused(line_of(undefined)));
     }
     Ok(Equations {
         parts: lines.parts,

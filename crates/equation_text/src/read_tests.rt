@@ -64,6 +64,41 @@ const REFUSED: &[(&[u8], u32)] = &[
         b"equations\nswitch 0 S/V1/Q1/QC9\nswitch 1 S/V1/Q1/E1\npart 0 =0\nop 0 open ok\nop 0 close ok\nop 1 open ok\nop 1 close ok\nnode 0 part 0\nend\n",
         9,
     ),
+    // a node that no line defines, before a line that cannot stand where it does
+    (
+        b"equations\nswitch 0 S/V1/Q1/QC9\nswitch 1 S/V1/Q1/E1\npart 0 =0\nop 0 open ok\nop 0 close 1\nop 1 open ok\nop 1 close ok\nnode 0 switch 7 ok R1\nend\n",
+        6,
+    ),
+    // the same node, defined by a line that cannot stand where it does, at the end of the text, or behind it
+    (
+        b"equations\nswitch 0 S/V1/Q1/QC9\nswitch 1 S/V1/Q1/E1\npart 0 =0\nop 0 open ok\nop 0 close 1\nop 1 open ok\nop 1 close ok\nnode 0 switch 1 ok R1\nnode 1 switch 7 ok R1\nend\n",
+        10,
+    ),
+    (
+        b"equations\nswitch 0 S/V1/Q1/QC9\nswitch 1 S/V1/Q1/E1\npart 0 =0\nop 0 open ok\nop 0 close 1\nop 1 open ok\nop 1 close ok\nnode 0 switch 1 ok R1\nnode 1 switch 0",
+        10,
+    ),
+    (
+        b"equations\nswitch 0 S/V1/Q1/QC9\nswitch 1 S/V1/Q1/E1\npart 0 =0\nop 0 open ok\nop 0 close 1\nop 1 open ok\nop 1 close ok\nend\nnode 1 switch 0 ok R1\n",
+        10,
+    ),
+    // a step that no line defines, in a text that ends too early; a step of another part and a node do not define it
+    (
+        b"equations\nswitch 0 S/V1/Q1/QC9\nswitch 1 S/V1/Q1/E1\npart 0 1\nstep 0 0 0 =0 =1\nop 0 open ok\n",
+        4,
+    ),
+    (
+        b"equations\nswitch 0 S/V1/Q1/QC9\nswitch 1 S/V1/Q1/E1\npart 0 1\nstep 0 0 0 =0 =1\nstep 1 1 0 =0 =1\nnode 1 switch 0 ok R1\n",
+        4,
+    ),
+    (
+        b"equations\nswitch 0 S/V1/Q1/QC9\nswitch 1 S/V1/Q1/E1\npart 0 1\nstep 0 0 0 =0 =1\nstep 0 1\n",
+        4,
+    ),
+    (
+        b"equations\nswitch 0 S/V1/Q1/QC9\nswitch 1 S/V1/Q1/E1\npart 0 1\nstep 0 0 0 =0 =1\nstep 0 1 5\n",
+        6,
+    ),
 ];
 
 // The line at which a text is refused.

@@ -9,6 +9,7 @@ ghost use Rattle.equation_text.specs.EquationLines.{NodeLine, goal_towards};
 ghost use Rattle.equation_text.specs.EquationForm.{IsGoal, SwitchGoalsFit};
 ghost use Rattle.equation_text.specs.EquationText.{step_line, op_line, text_of};
 ghost use Rattle.equation_text.specs.Beginnings.{MayBeStep};
+ghost use Rattle.equation_text.specs.Stops.{NoOp, StopsAtStart, StopsAtOp, StopsAtOps, StopsAtNode};
 ghost use Rattle.equation_text.specs.Reading.{start_lines, step_lines, op_lines, node_lines, MayBeStarts, MayBeSteps, NoStep, AreAllSteps, MayBeOps, MayBeNodes};
 
 use crate::goal::{Goal, SwitchGoals};
@@ -35,7 +36,7 @@ pub(crate) fn read_starts(
     left: &mut Left<'_>,
     parts: u16,
 ) -> Result<Option<Vec<Target>>, Memory>
-    ensures { IfOk result (λ o. MatchOption o ((ts : List TargetOf) (rest : List ℕ) → MayBeStarts parts ts → left.old.text.now ≢ text_of (start_lines ts) ++ rest)
+    ensures { IfOk result (λ o. MatchOption o (StopsAtStart parts left.old.text.now left.new.text.now)
         (λ v. MayBeStarts parts v.items × (left.old.text.now ≡ text_of (start_lines v.items) ++ left.new.text.now))) }
 {
     let mut starts = Vec::new(alloc);
@@ -131,8 +132,8 @@ pub(crate) fn read_all_steps(
 fn next_op(left: &mut Left<'_>, switch: u16, direction: Direction) -> Option<Goal>
     ensures some { IfSome result (λ g. IsGoal NUMBERS g × ((x : GoalsOf) → goal_towards x direction ≡ g
         → left.old.text.now ≡ op_line direction switch x ++ 10 ∷ left.new.text.now)) }
-    ensures none { IfNone result ((x : GoalsOf) (rest : List ℕ) → IsGoal NUMBERS (goal_towards x direction)
-        → left.old.text.now ≢ op_line direction switch x ++ 10 ∷ rest) }
+    ensures none { IfNone result (NoOp direction switch left.old.text.now) }
+    ensures same { IfNone result (left.new.text.now ≡ left.old.text.now) }
 {
     let Some((line, rest)) = cut_line(left.text) else {
         return None;
@@ -148,8 +149,7 @@ fn next_op(left: &mut Left<'_>, switch: u16, direction: Direction) -> Option<Goa
 fn next_ops(left: &mut Left<'_>, switch: u16) -> Option<SwitchGoals>
     ensures some { IfSome result (λ x. SwitchGoalsFit NUMBERS x
         × (left.old.text.now ≡ op_line ToOff switch x ++ 10 ∷ (op_line ToOn switch x ++ 10 ∷ left.new.text.now))) }
-    ensures none { IfNone result ((x : GoalsOf) (rest : List ℕ) → SwitchGoalsFit NUMBERS x
-        → left.old.text.now ≢ op_line ToOff switch x ++ 10 ∷ (op_line ToOn switch x ++ 10 ∷ rest)) }
+    ensures none { IfNone result (StopsAtOp switch left.old.text.now left.new.text.now) }
 {
     let Some(opening) = next_op(left, switch, Direction::ToOff) else {
         return None;
@@ -166,7 +166,7 @@ pub(crate) fn read_ops(
     left: &mut Left<'_>,
     switches: u16,
 ) -> Result<Option<Vec<SwitchGoals>>, Memory>
-    ensures { IfOk result (λ o. MatchOption o ((ops : List GoalsOf) (rest : List ℕ) → MayBeOps switches ops → left.old.text.now ≢ text_of (op_lines ops) ++ rest)
+    ensures { IfOk result (λ o. MatchOption o (StopsAtOps switches left.old.text.now left.new.text.now)
         (λ v. MayBeOps switches v.items × (left.old.text.now ≡ text_of (op_lines v.items) ++ left.new.text.now))) }
 {
     let mut ops = Vec::new(alloc);
@@ -187,8 +187,7 @@ pub(crate) fn read_nodes(
     counts: &[u16],
 ) -> Result<Option<Vec<Node>>, Memory>
     requires { length counts.now ≤ 256 }
-    ensures { IfOk result (λ o. MatchOption o ((nodes : List NodeLine) (rest : List ℕ) → MayBeNodes switches counts.now nodes
-        → left.old.text.now ≢ text_of (node_lines nodes) ++ (codes "end\n" ++ rest))
+    ensures { IfOk result (λ o. MatchOption o (StopsAtNode switches counts.now left.old.text.now left.new.text.now)
         (λ v. MayBeNodes switches counts.now v.items × (left.old.text.now ≡ text_of (node_lines v.items) ++ (codes "end\n" ++ left.new.text.now)))) }
 {
     let mut nodes = Vec::new(alloc);

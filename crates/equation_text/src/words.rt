@@ -1,5 +1,5 @@
 //! The words of a line.
-ghost use Rattle.std.specs.Prelude.{◌≡◌, ◌≢◌, ◌<◌, ◌++◌, ◌==◌, List, ℕ, Option, codes, decimal, IfSome, IfNone, IsSomeAnd, position};
+ghost use Rattle.std.specs.Prelude.{◌≡◌, ◌≢◌, ◌++◌, ◌==◌, List, ℕ, Option, codes, IfSome, IfNone, position};
 ghost use Rattle.ilk_base.specs.declared.words.Rule.{Rule as RuleOf};
 ghost use Rattle.bay_contract.specs.declared.fork.Target.{Target as TargetOf};
 ghost use Rattle.equation_text.specs.declared.goal.Goal.{Goal as GoalOf};
@@ -12,6 +12,7 @@ use crate::goal::{GREATEST_INDEX, Goal};
 use bay_contract::Target;
 use ilk_base::Rule;
 use itoa::Buffer;
+use text_lines::decimal_number;
 
 // The place of the first such byte.
 fn first(text: &[u8], byte: u8) -> Option<usize>
@@ -68,35 +69,6 @@ pub(crate) fn behind<'a>(line: &'a [u8], head: &[u8]) -> Option<&'a [u8]>
     Some(rest)
 }
 
-// The number that a text reads as.
-fn parsed(text: &str) -> Option<u32>
-    ensures { (n : ℕ) → n < NUMBERS → text.now ≡ decimal n → IsSomeAnd result (λ k. k ≡ n) }
-{
-    match text.parse::<u32>() {
-        Ok(number) => Some(number),
-        Err(_) => None,
-    }
-}
-
-// The number that the word is, in decimal without sign or leading zeros.
-pub(crate) fn number(word: &[u8]) -> Option<u32>
-    ensures some { IfSome result (λ n. (n < NUMBERS) × (word.now ≡ decimal n)) }
-    ensures none { IfNone result ((n : ℕ) → n < NUMBERS → word.now ≢ decimal n) }
-{
-    let Ok(text) = str::from_utf8(word) else {
-        return None;
-    };
-    let Some(number) = parsed(text) else {
-        return None;
-    };
-    let mut digits = Buffer::new();
-    if digits.format(number).as_bytes() == word {
-        Some(number)
-    } else {
-        None
-    }
-}
-
 // What follows the head, this number and a blank in the line.
 pub(crate) fn behind_number<'a>(line: &'a [u8], head: &[u8], n: u32) -> Option<&'a [u8]>
     ensures some { IfSome result (λ rest. line.now ≡ numbered_head head.now n ++ rest.now) }
@@ -120,7 +92,7 @@ fn index(word: &[u8]) -> Option<Target>
     ensures some { IfSome result (λ t. IsTarget NUMBERS t × (codes "=" ++ word.now ≡ target_text t)) }
     ensures none { IfNone result ((t : TargetOf) → IsTarget NUMBERS t → codes "=" ++ word.now ≢ target_text t) }
 {
-    let Some(number) = number(word) else {
+    let Some(number) = decimal_number(word) else {
         return None;
     };
     if number > u32::from(GREATEST_INDEX) {
@@ -135,7 +107,7 @@ fn step(word: &[u8]) -> Option<Target>
     ensures some { IfSome result (λ t. IsTarget NUMBERS t × (word.now ≡ target_text t)) }
     ensures none { IfNone result ((t : TargetOf) → IsTarget NUMBERS t → word.now ≢ target_text t) }
 {
-    let Some(number) = number(word) else {
+    let Some(number) = decimal_number(word) else {
         return None;
     };
     Some(Target::Step(number))
@@ -181,7 +153,7 @@ pub(crate) fn goal(word: &[u8]) -> Option<Goal>
     if let Some(answer) = answer(word) {
         return Some(Goal::Answer(answer));
     }
-    let Some(number) = number(word) else {
+    let Some(number) = decimal_number(word) else {
         return None;
     };
     Some(Goal::Node(number))

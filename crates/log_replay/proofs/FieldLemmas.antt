@@ -1,17 +1,17 @@
 -- The fields of a record, and numbers in them.
-use Rattle.std.proofs.Common.{◌≡◌, ◌<◌, ◌≤◌, ◌^◌, ℕ, zero, suc, true, List, [], ◌∷◌, length, get_or, Some, None, Ok}
-use Rattle.std.proofs.Common.{Result, All, refl, sym, ap, ◌∙◌, inl, inr, arith}
+use Rattle.std.proofs.Common.{◌≡◌, ◌<◌, ◌≤◌, ◌^◌, ℕ, zero, suc, true, List, [], ◌∷◌, length, get_or, Some, None}
+use Rattle.std.proofs.Common.{All, refl, sym, ap, ◌∙◌, inl, inr, arith}
 use Rattle.std.specs.Prelude.{decimal}
 use Rattle.std.specs.Str.{is_utf8}
-use Rattle.std.specs.Str.Parse.{digits_value, ParsesUnsigned}
+use Rattle.std.specs.Str.Parse.{digits_value}
 use Rattle.std.proofs.lemmas.Bool.{cases_lt}
-use Rattle.std.proofs.lemmas.Fmt.{decimal_is_IsNumeral, parse-decimal}
+use Rattle.std.proofs.lemmas.Fmt.{decimal_is_IsNumeral}
 use Rattle.std.proofs.lemmas.Str.{IsUtf8-nil, is_utf8-from_IsUtf8}
 use Rattle.csv.specs.Records.{field_at}
 use Rattle.log_replay.specs.declared.kinds.RecordKind.{RecordKind}
 use Rattle.log_replay.specs.declared.kinds.RecordKind.TheVariants.{At, Command, Sense, Begin, End, Deliver, Tick}
 use Rattle.log_replay.specs.declared.kinds.RecordKind.TheVariants.{Withdraw, Restart, Part, Cut}
-use Rattle.log_replay.specs.RecordFaults.{kind_name, field_count, field, IsOfKind, HasForm, IsNumber}
+use Rattle.log_replay.specs.RecordFaults.{kind_name, field_count, field, IsOfKind, HasForm}
 
 -- ---- the field at a place
 
@@ -94,9 +94,3 @@ has_form k row named count first second = record {
 pub decimal_tells : (a b : ℕ) → a < 2 ^ 64 → b < 2 ^ 64 → decimal a ≡ decimal b → a ≡ b
 decimal_tells a b low high is = sym (decimal_is_IsNumeral a low).1 ∙ ap (digits_value 10) is
     ∙ (decimal_is_IsNumeral b high).1
-
--- the text of a number is read as it
-pub parsed : {E : Type 0} (most : ℕ) (text : List ℕ) (n : ℕ) (r : Result ℕ E) → most < 2 ^ 32 → IsNumber 0 most text n →
-    ParsesUnsigned 32 10 text r → r ≡ Ok n
-parsed most text n r fits is parses = parse-decimal 32 n text r (omega (arith, fits, is.high))
-    (omega (arith, fits, is.high)) is.written parses

@@ -1,5 +1,5 @@
 //! Which lines a text has. The expected lines are written out by hand.
-use crate::{Lines, after};
+use crate::{Lines, after, decimal_number};
 use std::test::Fail;
 
 // The texts and their lines that are not empty, with their numbers.
@@ -39,6 +39,30 @@ const HEADS: &[(&[u8], Option<&[u8]>)] = &[
 fn what_follows_a_head(rt: HostRuntime) -> Result<(), Fail> {
     for (line, wanted) in HEADS {
         assert_eq!(rt; after(line, b"open "), *wanted);
+    }
+    Ok(())
+}
+
+// Words, and the numbers that they are.
+const WORDS: &[(&[u8], Option<u32>)] = &[
+    (b"0", Some(0)),
+    (b"10", Some(10)),
+    (b"4294967295", Some(4_294_967_295)),
+    (b"4294967296", None),
+    (b"00", None),
+    (b"01", None),
+    (b"+1", None),
+    (b"-0", None),
+    (b"1 ", None),
+    (b"x1", None),
+    (b"\xff", None),
+    (b"", None),
+];
+
+#[test]
+fn numbers(rt: HostRuntime) -> Result<(), Fail> {
+    for (word, wanted) in WORDS {
+        assert_eq!(rt; decimal_number(word), *wanted);
     }
     Ok(())
 }

@@ -9,12 +9,13 @@ pub returns-in_default-clause-none : goal.returns-in_default-clause-none
 returns-in_default-clause-none c = λ s fits is. not_cut 32 c.args.words.now (decimal s.switch.0) (target_text s.off ++
     (codes " " ++ target_text s.on)) c.in_default.ensures.none is
 
-pub returns-in_default-number-clause-none : goal.returns-in_default-number-clause-none
-returns-in_default-number-clause-none c = λ s fits is.
+pub returns-in_default-decimal_number-clause-none : goal.returns-in_default-decimal_number-clause-none
+returns-in_default-decimal_number-clause-none c = λ s fits is.
     let first = cut_said 32 c.args.words.now c.in-Some.word.now (decimal s.switch.0) c.in-Some.rest.now
     (target_text s.off ++ (codes " " ++ target_text s.on)) c.in-Some.ensures.some (lacks_decimal 32 s.switch.0
     (omega arith) (omega (arith, fits.switch))) is in
-    c.in_default-number.ensures.none s.switch.0 (omega (arith, fits.switch)) first.0
+    c.in_default-decimal_number.ensures.none s.switch.0
+    (record { small = omega (arith, fits.switch); written = first.0 })
 
 pub returns-in_default-cut_word-clause-none : goal.returns-in_default-cut_word-clause-none
 returns-in_default-cut_word-clause-none c = λ s fits is.
@@ -48,6 +49,6 @@ returns-then-switch-gt65535-clause-none c = λ s fits is.
     let first = cut_said 32 c.args.words.now c.in-Some.word.now (decimal s.switch.0) c.in-Some.rest.now
     (target_text s.off ++ (codes " " ++ target_text s.on)) c.in-Some.ensures.some (lacks_decimal 32 s.switch.0
     (omega arith) (omega (arith, fits.switch))) is in
-    let same = decimal_injective c.in-Some-number.switch s.switch.0 (omega (arith, c.in-Some-number.ensures.some.0))
-    (omega (arith, fits.switch)) (sym c.in-Some-number.ensures.some.1 ∙ first.0) in
+    let same = decimal_injective c.in-Some-decimal_number.switch s.switch.0 (omega (arith, c.in-Some-decimal_number.ensures.some.small))
+    (omega (arith, fits.switch)) (sym c.in-Some-decimal_number.ensures.some.written ∙ first.0) in
     omega (arith, same, fits.switch, c.if-switch-gt65535.true)

@@ -14,7 +14,7 @@ returns-in_default c = λ x h.
     let words =
     part_words c.args.words.now c.first_word.result.0.now c.first_word.result.1.now h.part h.goals
     c.first_word.ensures (omega (arith, lt, c.requires)) h.are in
-    c.in_default.ensures.none h.part (omega (arith, lt, c.requires)) words.0
+    c.in_default.ensures.none h.part (record { small = omega (arith, lt, c.requires); written = words.0 })
 
 pub returns-in_default-found : goal.returns-in_default-found
 returns-in_default-found c = λ x h.
@@ -30,8 +30,8 @@ returns-then-not-has_indices c = λ x h.
     let words =
     part_words c.args.words.now c.first_word.result.0.now c.first_word.result.1.now h.part h.goals
     c.first_word.ensures (omega (arith, lt, c.requires)) h.are in
-    let part = decimal_injective c.in-Some.part h.part (omega (arith, c.in-Some.ensures.some.0)) (omega
-    (arith, lt, c.requires)) (sym c.in-Some.ensures.some.1 ∙ words.0) in
+    let part = decimal_injective c.in-Some.part h.part (omega (arith, c.in-Some.ensures.some.small)) (omega
+    (arith, lt, c.requires)) (sym c.in-Some.ensures.some.written ∙ words.0) in
     let told = some_told c.in_ok-found.found _ _ c.in-Some-found.goals c.in-Some-found.is c.in_ok-found.ensures in
     let goals = goals_once c.args.n c.in-Some-found.goals.items h.goals told.0 h.later (sym told.1 ∙ words.1) in
     true_false (sym (c.has_indices.ensures.1 (ap (λ k. slice_get c.args.counts.now k) part ∙ h.indices ∙ ap (λ

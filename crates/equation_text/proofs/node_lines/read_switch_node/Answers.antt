@@ -10,12 +10,13 @@ pub returns-in_default-clause-none : goal.returns-in_default-clause-none
 returns-in_default-clause-none c = λ x h. not_cut 32 c.args.words.now (decimal h.switch) (goal_text h.off ++
     (codes " " ++ goal_text h.on)) c.in_default.ensures.none h.are
 
-pub returns-in_default-number-clause-none : goal.returns-in_default-number-clause-none
-returns-in_default-number-clause-none c = λ x h.
+pub returns-in_default-decimal_number-clause-none : goal.returns-in_default-decimal_number-clause-none
+returns-in_default-decimal_number-clause-none c = λ x h.
     let first = cut_said 32 c.args.words.now c.in-Some.word.now (decimal h.switch) c.in-Some.rest.now
     (goal_text h.off ++ (codes " " ++ goal_text h.on)) c.in-Some.ensures.some (lacks_decimal 32 h.switch
     (omega arith) (omega (arith, h.within, c.ranges.switches.fits))) h.are in
-    c.in_default-number.ensures.none h.switch (omega (arith, h.within, c.ranges.switches.fits)) first.0
+    c.in_default-decimal_number.ensures.none h.switch
+    (record { small = omega (arith, h.within, c.ranges.switches.fits); written = first.0 })
 
 pub returns-in_default-cut_word-clause-none : goal.returns-in_default-cut_word-clause-none
 returns-in_default-cut_word-clause-none c = λ x h.
@@ -49,6 +50,6 @@ returns-then-switch-from-clause-none c = λ x h.
     let first = cut_said 32 c.args.words.now c.in-Some.word.now (decimal h.switch) c.in-Some.rest.now
     (goal_text h.off ++ (codes " " ++ goal_text h.on)) c.in-Some.ensures.some (lacks_decimal 32 h.switch
     (omega arith) (omega (arith, h.within, c.ranges.switches.fits))) h.are in
-    let same = decimal_injective c.in-Some-number.switch h.switch (omega (arith, c.in-Some-number.ensures.some.0))
-    (omega (arith, h.within, c.ranges.switches.fits)) (sym c.in-Some-number.ensures.some.1 ∙ first.0) in
+    let same = decimal_injective c.in-Some-decimal_number.switch h.switch (omega (arith, c.in-Some-decimal_number.ensures.some.small))
+    (omega (arith, h.within, c.ranges.switches.fits)) (sym c.in-Some-decimal_number.ensures.some.written ∙ first.0) in
     omega (arith, same, h.within, c.if-switch-from.true, c.from.ensures)

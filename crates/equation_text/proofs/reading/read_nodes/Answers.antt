@@ -1,43 +1,44 @@
-use Rattle.std.proofs.Common.{◌∙◌, ◌++◌, ◌∷◌, List, ℕ, length, sym, ap, inl, inr, arith}
+use Rattle.std.proofs.Common.{◌∙◌, ◌++◌, ◌∷◌, List, ℕ, length, sym, ap, arith}
 use Rattle.std.proofs.lemmas.List.{length_push}
 use Rattle.equation_text.specs.EquationLines.{NodeLine}
 use Rattle.equation_text.specs.EquationText.{node_line}
 use Rattle.equation_text.proofs.WordLemmas.{not_cut, cut_said, none_told, some_told}
 use Rattle.equation_text.proofs.OnceLemmas.{node_lacks}
-use Rattle.equation_text.proofs.ReadLoops.{after_nodes, node_unread, nodes_push, line_next, writable}
+use Rattle.equation_text.proofs.ReadLoops.{node_unread, nodes_push, line_next, writable}
 use Rattle.equation_text.proofs.reading.read_nodes.Goals as goal
 
 pub returns-in_default-cut_line : goal.returns-in_default-cut_line
-returns-in_default-cut_line c = λ nodes rest may is.
+returns-in_default-cut_line c =
     let inv = c.loop-rest.invariant in
-    elim (after_nodes c.args.switches c.args.counts.now c.loop-rest.nodes.items nodes c.args.left.now.text.now
-    c.loop-rest.left.text.now rest (omega (arith, c.ranges.switches.fits)) c.requires (omega
-    (arith, inv.few)) inv.each may inv.sound is) [
-      | inl next ↦ not_cut 10 c.loop-rest.left.text.now (node_line
-          (length c.loop-rest.nodes.items) next.node) next.rest c.in_default-cut_line.ensures.none next.is
-      | inr end ↦ c.in_default.ensures.none rest end
-    ]
+    record {
+      nodes = c.loop-rest.nodes.items;
+      may = record { few = omega (arith, inv.few); each = inv.each };
+      passed = inv.sound;
+      none = λ x rest may is. not_cut 10 c.loop-rest.left.text.now (node_line (length c.loop-rest.nodes.items) x) rest
+          c.in_default-cut_line.ensures.none is;
+      no_end = c.in_default.ensures.none;
+    }
 
 pub returns-in_default-found : goal.returns-in_default-found
-returns-in_default-found c = λ nodes rest may is.
+returns-in_default-found c =
     let inv = c.loop-rest.invariant in
-    elim (after_nodes c.args.switches c.args.counts.now c.loop-rest.nodes.items nodes c.args.left.now.text.now
-    c.loop-rest.left.text.now rest (omega (arith, c.ranges.switches.fits)) c.requires (omega
-    (arith, inv.few)) inv.each may inv.sound is) [
-      | inl next ↦
+    let number = ap (λ (ns : List NodeLine). length ns) (sym c.deref.ensures.value)
+    ∙ sym c.in_ok-number.ensures.number in
+    record {
+      nodes = c.loop-rest.nodes.items;
+      may = record { few = omega (arith, inv.few); each = inv.each };
+      passed = inv.sound;
+      none = λ x rest may is.
           let line = cut_said 10 c.loop-rest.left.text.now c.in-Some-cut_line.line.now (node_line
-          (length c.loop-rest.nodes.items) next.node) c.in-Some-cut_line.rest.now next.rest
-          c.in-Some-cut_line.ensures.some
-          (node_lacks (length c.loop-rest.nodes.items) next.node next.number (writable c.args.switches
-          (length c.loop-rest.nodes.items) c.args.counts.now next.node (omega
-          (arith, c.ranges.switches.fits)) c.requires next.may)) next.is in
-          node_unread c.args.switches c.args.counts.now
-          (length c.loop-rest.nodes.items) c.in_ok-number.number c.in-Some-cut_line.line.now next.node next.may
-          line.0 (ap (λ (ns : List NodeLine). length ns) (sym c.deref.ensures.value)
-          ∙ sym c.in_ok-number.ensures.number)
-          (none_told c.in_ok-found.found _ _ c.in_default-found.is c.in_ok-found.ensures)
-      | inr end ↦ c.in_default.ensures.none rest end
-    ]
+          (length c.loop-rest.nodes.items) x) c.in-Some-cut_line.rest.now rest c.in-Some-cut_line.ensures.some
+          (node_lacks (length c.loop-rest.nodes.items) x (omega (arith, number, c.in_ok-number.ensures.small))
+          (writable c.args.switches (length c.loop-rest.nodes.items) c.args.counts.now x (omega
+          (arith, c.ranges.switches.fits)) c.requires may)) is in
+          node_unread c.args.switches c.args.counts.now (length c.loop-rest.nodes.items) c.in_ok-number.number
+          c.in-Some-cut_line.line.now x may line.0 number
+          (none_told c.in_ok-found.found _ _ c.in_default-found.is c.in_ok-found.ensures);
+      no_end = c.in_default.ensures.none;
+    }
 
 pub loop-rest-preserved : goal.loop-rest-preserved
 loop-rest-preserved c =

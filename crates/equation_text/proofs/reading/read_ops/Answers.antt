@@ -1,14 +1,20 @@
-use Rattle.std.proofs.Common.{refl, arith}
-use Rattle.equation_text.proofs.ReadLoops.{ops_push, next_ops, ops_next}
+use Rattle.std.proofs.Common.{refl, sym, subst, arith}
+use Rattle.equation_text.specs.Stops.{StopsAtOp}
+use Rattle.equation_text.proofs.ReadLoops.{ops_push, ops_next}
 use Rattle.equation_text.proofs.reading.read_ops.Goals as goal
 
 pub returns-in_default : goal.returns-in_default
-returns-in_default c = λ ops rest fits is.
+returns-in_default c =
     let inv = c.loop-switch.invariant in
-    let next = next_ops c.args.switches c.loop-switch.switch c.loop-switch.ops.items ops c.args.left.now.text.now
-    c.loop-switch.left.text.now rest (omega
-    (arith, c.ranges.switches.fits)) c.loop-switch-test.true inv.fits fits inv.sound is in
-    c.in_default.ensures.none next.goals next.rest next.fit next.is
+    record {
+      ops = c.loop-switch.ops.items;
+      few = omega (arith, c.loop-switch-test.true, inv.fits.count);
+      may = record { count = refl; fit = inv.fits.fit };
+      middle = c.loop-switch.left.text.now;
+      passed = inv.sound;
+      stop = subst (λ k. StopsAtOp k c.loop-switch.left.text.now c.next_ops.new.left.text.now) (sym inv.fits.count)
+          c.in_default.ensures.none;
+    }
 
 pub loop-switch-preserved : goal.loop-switch-preserved
 loop-switch-preserved c =

@@ -1,6 +1,6 @@
 use Rattle.std.proofs.Common.{◌≡◌, arith}
 use Rattle.std.proofs.lemmas.Fmt.{parse-decimal}
-use Rattle.equation_text.proofs.words.parsed.Goals as goal
+use Rattle.text_lines.proofs.decimals.parsed.Goals as goal
 
 pub returns-in-Ok : goal.returns-in-Ok
 returns-in-Ok c = λ n small is.
