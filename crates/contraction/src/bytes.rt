@@ -35,12 +35,13 @@ fn push_flags(text: &mut Text, row: &[bool]) -> Result<(), Memory>
 }
 
 impl Contraction {
-    // A row that begins with the kept nodes.
-    fn row_start(&self, alloc: Global) -> Result<Text, Memory>
+    // A row that begins with the kept nodes, with room for so many bytes for each of them.
+    fn row_start(&self, alloc: Global, bytes: usize) -> Result<Text, Memory>
         ensures row { IfOk result (λ t. t ≡ words self.now.kept) }
         ensures answers { IsContraction self.now }
     {
-        let mut text = Text::new(alloc);
+        let room = self.kept.len().saturating_mul(bytes);
+        let mut text = Text::with_capacity(alloc, room)?;
         push_words(&mut text, &self.kept)?;
         Ok(text)
     }
@@ -73,7 +74,7 @@ impl Contraction {
             → (t ≡ whole_row other) ↔ (SameGap self.now other × SameLoad self.now other)) }
         ensures answers { IsContraction self.now }
     {
-        let mut text = self.row_start(alloc)?;
+        let mut text = self.row_start(alloc, 12)?;
         self.push_gap(&mut text)?;
         self.push_load(&mut text)?;
         Ok(text)
@@ -87,7 +88,7 @@ impl Contraction {
             → (t ≡ gap_row other) ↔ SameGap self.now other) }
         ensures answers { IsContraction self.now }
     {
-        let mut text = self.row_start(alloc)?;
+        let mut text = self.row_start(alloc, 6)?;
         self.push_gap(&mut text)?;
         Ok(text)
     }
@@ -100,7 +101,7 @@ impl Contraction {
             → (t ≡ load_row other) ↔ SameLoad self.now other) }
         ensures answers { IsContraction self.now }
     {
-        let mut text = self.row_start(alloc)?;
+        let mut text = self.row_start(alloc, 8)?;
         self.push_load(&mut text)?;
         Ok(text)
     }
