@@ -6,15 +6,17 @@ use Rattle.station_graph.specs.Diagram.{Diagram}
 use Rattle.station_graph.specs.Connection.{Item}
 use Rattle.station_graph.specs.Views.{EnergisableBy, EarthableBy, FedBy, TappedBy}
 use Rattle.contraction.specs.declared.row.Row.{Row}
-use Rattle.contraction.specs.declared.selection.Selection.{Selection}
+use Rattle.contraction.specs.declared.layout.Layout.{Layout}
 use Rattle.contraction.specs.declared.value.Contraction.TheInside.{Inside}
+use Rattle.contraction.specs.declared.selection.Selection.TheInside.{Inside as Chosen}
 use Rattle.contraction.specs.Answers.{Answers, Keeps, MarkedAt, AreLabels, IsContraction}
-use Rattle.contraction.specs.Inside.{answers_of}
+use Rattle.contraction.specs.Inside.{answers_of, selected_of, IsLaid}
 use Rattle.contraction.specs.Single.{AreApart}
 use Rattle.contraction.specs.Stands.{Among, MeetsKept, GapStandsFor, LoadStandsFor}
 use Rattle.contraction.specs.Merging.{LabelsFit, RowFits}
 use Rattle.contraction.specs.Composing.{Composes, ComposesGap, ComposesLoad, Restricts, IsGapOfBoth, IsLoadOfBoth}
-use Rattle.contraction.specs.Selecting.{IsSelection, SelectionFits, RowSelected, LabelsSelected}
+use Rattle.contraction.specs.Renaming.{renamed}
+use Rattle.contraction.specs.Selecting.{Selected, IsLayout, LayoutFits, RowSelected, LabelsSelected}
 use Rattle.contraction.proofs.MergeLemmas.{merged_nodes, few_nodes, rises_short}
 use Rattle.contraction.proofs.ItemSets.{Either, gap_over, load_over, among_both}
 use Rattle.contraction.proofs.ComposedLemmas.{Steps, composed, composed_well}
@@ -68,37 +70,34 @@ load_twice_well x w = record {
   fed_loaded = w.fed_loaded;
 }
 
--- what is seen of the two lists is that of the values
-pub selected : (a a1 b b1 nodes : List ℕ) (s : Selection) → a ≡ a1 → b ≡ b1 → IsSelection a b nodes s → IsSelection a1 b1 nodes s
-selected a a1 b b1 nodes s ea eb h = subst (λ l. IsSelection l b1 nodes s) ea (subst (λ l. IsSelection a l nodes s) eb h)
-
-pub inside_seen : (x y sx sy : Answers) (nodes : List ℕ) → x ≡ sx → y ≡ sy → ((n : ℕ) → Contains nodes n → Keeps sx.kept n ⊎ Keeps sy.kept n) → (n : ℕ) → Contains nodes n → Keeps x.kept n ⊎ Keeps y.kept n
+-- what is seen of the values is theirs
+inside_seen : (x y sx sy : Answers) (nodes : List ℕ) → x ≡ sx → y ≡ sy → ((n : ℕ) → Contains nodes n → Keeps sx.kept n ⊎ Keeps sy.kept n) → (n : ℕ) → Contains nodes n → Keeps x.kept n ⊎ Keeps y.kept n
 inside_seen x y sx sy nodes ex ey h n has =
     subst (λ (z : Answers). Keeps x.kept n ⊎ Keeps z.kept n) (sym ey) (subst (λ (z : Answers). Keeps z.kept n ⊎ Keeps sy.kept n) (sym ex) (h n has))
 
-pub gap_seen : (nodes : List ℕ) (x y sx sy z : Answers) → x ≡ sx → y ≡ sy → IsGapOfBoth nodes x y z → IsGapOfBoth nodes sx sy z
+gap_seen : (nodes : List ℕ) (x y sx sy z : Answers) → x ≡ sx → y ≡ sy → IsGapOfBoth nodes x y z → IsGapOfBoth nodes sx sy z
 gap_seen nodes x y sx sy z ex ey h = subst (λ l. IsGapOfBoth nodes l sy z) ex (subst (λ l. IsGapOfBoth nodes x l z) ey h)
 
-pub load_seen : (nodes : List ℕ) (x y sx sy z : Answers) → x ≡ sx → y ≡ sy → IsLoadOfBoth nodes x y z → IsLoadOfBoth nodes sx sy z
+load_seen : (nodes : List ℕ) (x y sx sy z : Answers) → x ≡ sx → y ≡ sy → IsLoadOfBoth nodes x y z → IsLoadOfBoth nodes sx sy z
 load_seen nodes x y sx sy z ex ey h = subst (λ l. IsLoadOfBoth nodes l sy z) ex (subst (λ l. IsLoadOfBoth nodes x l z) ey h)
 
-pub labels_seen : (s : Selection) (a a1 b b1 labels : List ℕ) → a ≡ a1 → b ≡ b1 → LabelsSelected s a b labels → LabelsSelected s a1 b1 labels
+pub labels_seen : (s : Layout) (a a1 b b1 labels : List ℕ) → a ≡ a1 → b ≡ b1 → LabelsSelected s a b labels → LabelsSelected s a1 b1 labels
 labels_seen s a a1 b b1 labels ea eb h = subst (λ l. LabelsSelected s l b1 labels) ea (subst (λ l. LabelsSelected s a l labels) eb h)
 
 -- the rows fit the selection
-module _ (x y : Inside) (wx : IsContraction (answers_of x)) (wy : IsContraction (answers_of y)) (nodes : List ℕ) (s : Selection) (is : IsSelection x.kept.items y.kept.items nodes s) where
-  pub selection_few : length s.union.kept.items ≤ 1024
-  selection_few = few_nodes s.union.kept.items (merged_nodes x.kept.items y.kept.items s.union.kept.items s.union.first.items s.union.second.items wx.nodes wy.nodes is.merged)
+module _ (x y : Inside) (wx : IsContraction (answers_of x)) (wy : IsContraction (answers_of y)) (nodes : List ℕ) (s : Layout) (is : IsLayout x.kept.items y.kept.items nodes s) where
+  pub layout_few : length s.union.kept.items ≤ 1024
+  layout_few = few_nodes s.union.kept.items (merged_nodes x.kept.items y.kept.items s.union.kept.items s.union.first.items s.union.second.items wx.nodes wy.nodes is.merged)
 
-  pub selection_fits : SelectionFits s
-  selection_fits = record {
-    few = selection_few;
-    fewer = (let short : length s.places.items ≤ length s.union.kept.items = rises_short s.places.items (length s.union.kept.items) is.places.rises is.places.below in omega (arith, selection_few));
+  pub layout_fits : LayoutFits s
+  layout_fits = record {
+    few = layout_few;
+    fewer = (let short : length s.places.items ≤ length s.union.kept.items = rises_short s.places.items (length s.union.kept.items) is.places.rises is.places.below in omega (arith, layout_few));
     inside = is.places.below;
   }
 
   pub kept_few : length s.kept.items ≤ 1024
-  kept_few = omega (arith, selection_fits.fewer, is.kept.len)
+  kept_few = omega (arith, layout_fits.fewer, is.kept.len)
 
   pub first_labels_fit : (l : List ℕ) → AreLabels (length x.kept.items) l → LabelsFit s.union.first.items (length s.union.kept.items) l
   first_labels_fit l w = record {
@@ -135,7 +134,7 @@ pub record IsBare (count : ℕ) (row : Row) : Type 0 where
 pub bare_of : (count n : ℕ) (row : Row) → n ≡ count → IsBare n row → IsBare count row
 bare_of count n row e h = subst (λ k. IsBare k row) e h
 
-module _ (x y : Inside) (wx : IsContraction (answers_of x)) (wy : IsContraction (answers_of y)) (nodes : List ℕ) (s : Selection) (is : IsSelection x.kept.items y.kept.items nodes s) (inside : (n : ℕ) → Contains nodes n → Keeps x.kept.items n ⊎ Keeps y.kept.items n) where
+module _ (x y : Inside) (wx : IsContraction (answers_of x)) (wy : IsContraction (answers_of y)) (nodes : List ℕ) (s : Layout) (is : IsLayout x.kept.items y.kept.items nodes s) (inside : (n : ℕ) → Contains nodes n → Keeps x.kept.items n ⊎ Keeps y.kept.items n) where
   module _ (row other : Row) (bonded : List ℕ) (h : RowSelected s x.gap y.gap row) (bare : IsBare (length s.kept.items) other) (apart : AreApart (length s.kept.items) bonded) where
     abbrev gap_wide : Answers
     gap_wide = twice s.union.kept.items h.wide.labels h.wide.labels h.wide.first.items h.wide.second.items h.wide.first.items
@@ -298,6 +297,33 @@ module _ (x y : Inside) (wx : IsContraction (answers_of x)) (wy : IsContraction 
       composes = load_value_composes;
       bare = load_value_bare;
     }
+
+-- ON A SELECTION OF THE NODES THAT BOTH VALUES KEEP
+module _ (x y : Inside) (t : Chosen) (sx sy : Answers) (s : Selected) (wx : IsContraction (answers_of x)) (wy : IsContraction (answers_of y)) (laid : IsLaid t) (ex : answers_of x ≡ sx) (ey : answers_of y ≡ sy) (et : selected_of t ≡ s) (ef : s.first ≡ sx.kept) (es : s.second ≡ sy.kept) where
+  pub laid_on : IsLayout x.kept.items y.kept.items s.nodes t.layout
+  laid_on =
+      let first : t.first.items ≡ x.kept.items = ap (λ (r : Selected). r.first) et ∙ ef ∙ sym (ap (λ (a : Answers). a.kept) ex) in
+      let second : t.second.items ≡ y.kept.items = ap (λ (r : Selected). r.second) et ∙ es ∙ sym (ap (λ (a : Answers). a.kept) ey) in
+      subst (λ l. IsLayout x.kept.items y.kept.items l t.layout) (ap (λ (r : Selected). r.nodes) et)
+      (subst (λ l. IsLayout x.kept.items l t.nodes.items t.layout) second
+      (subst (λ l. IsLayout l t.second.items t.nodes.items t.layout) first laid))
+
+  module _ (inside : (n : ℕ) → Contains s.nodes n → Keeps sx.kept n ⊎ Keeps sy.kept n) (kept : List ℕ) (is_kept : kept ≡ t.layout.kept.items) (count : ℕ) (is_count : count ≡ length t.layout.kept.items) (row other : Row) (bonded : List ℕ) (bare : IsBare count other) where
+    pub gap_on : RowSelected t.layout x.gap y.gap row → AreApart count bonded → IsGapOfBoth s.nodes sx sy (renamed kept (answers_of (record { kept = t.layout.kept; gap = row; load = other; bonded = bonded })))
+    gap_on h apart =
+        let z : Answers = answers_of (record { kept = t.layout.kept; gap = row; load = other; bonded = bonded }) in
+        subst (λ l. IsGapOfBoth s.nodes sx sy (renamed l z)) (sym is_kept)
+        (gap_seen s.nodes (answers_of x) (answers_of y) sx sy z ex ey
+        (gap_of_both x y wx wy s.nodes t.layout laid_on (inside_seen (answers_of x) (answers_of y) sx sy s.nodes ex ey inside) row other bonded h
+        (bare_of (length t.layout.kept.items) count other is_count bare) (subst (λ n. AreApart n bonded) is_count apart)))
+
+    pub load_on : RowSelected t.layout x.load y.load row → LabelsSelected t.layout x.bonded y.bonded bonded → IsLoadOfBoth s.nodes sx sy (renamed kept (answers_of (record { kept = t.layout.kept; gap = other; load = row; bonded = bonded })))
+    load_on h k =
+        let z : Answers = answers_of (record { kept = t.layout.kept; gap = other; load = row; bonded = bonded }) in
+        subst (λ l. IsLoadOfBoth s.nodes sx sy (renamed l z)) (sym is_kept)
+        (load_seen s.nodes (answers_of x) (answers_of y) sx sy z ex ey
+        (load_of_both x y wx wy s.nodes t.layout laid_on (inside_seen (answers_of x) (answers_of y) sx sy s.nodes ex ey inside) row other bonded h k
+        (bare_of (length t.layout.kept.items) count other is_count bare)))
 
 -- ONE VIEW OF BOTH TOGETHER STANDS FOR BOTH LISTS OF ITEMS
 pub gap_lists : (x y z : Answers) → ComposesGap x y z → (items others : List Item) (d : Diagram) (v : List Bool) → MeetsKept (Among items) (Among others) d x.kept y.kept → GapStandsFor (Among items) d v x → GapStandsFor (Among others) d v y → GapStandsFor (Among (items ++ others)) d v z
