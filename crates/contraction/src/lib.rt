@@ -7,6 +7,7 @@
 
 mod bytes;
 mod compose;
+mod composed_row;
 mod ends;
 mod items;
 mod labels;
