@@ -1,8 +1,9 @@
 -- How the answers of a composition and of a restriction follow from those of what they were made of.
-use Rattle.std.specs.Prelude.{ℕ, ◌⊎◌, ◌↔◌, Bool, List, [], Contains}
+use Rattle.std.specs.Prelude.{◌≡◌, ℕ, ◌⊎◌, ◌↔◌, Bool, List, [], Contains}
 use Rattle.station_graph.specs.Diagram.{Diagram}
 use Rattle.station_graph.specs.Connection.{Linked}
 use Rattle.contraction.specs.Answers.{Answers, Keeps, SameAt, MarkedAt, SaysCoupled, SaysJoined, SaysBonded, SaysEnergisable, SaysEarthable, SaysFed, SaysLoaded, IsContraction}
+use Rattle.contraction.specs.Rows.{gap_row, load_row}
 use Rattle.contraction.specs.Stands.{Among, GapStandsFor, LoadStandsFor}
 
 -- One of two values gives two nodes one label.
@@ -71,3 +72,19 @@ pub record IsLoadOfBoth (nodes : List ℕ) (x y c : Answers) : Type 0 where
   pub kept : (n : ℕ) → Keeps c.kept n ↔ Contains nodes n
   pub composes : ComposesLoad x y c
   pub bare : (d : Diagram) (v : List Bool) → GapStandsFor (Among []) d v c
+
+-- The bytes are the gap row of a value on exactly these nodes that has the gap view of two values together.
+pub record IsGapRowOfBoth (nodes : List ℕ) (x y : Answers) (bytes : List ℕ) : Type 0 where
+  pub value : Answers
+  pub contraction : IsContraction value
+  pub kept : (n : ℕ) → Keeps value.kept n ↔ Contains nodes n
+  pub composes : ComposesGap x y value
+  pub row : bytes ≡ gap_row value
+
+-- The bytes are the load row of a value on exactly these nodes that has the load view of two values together.
+pub record IsLoadRowOfBoth (nodes : List ℕ) (x y : Answers) (bytes : List ℕ) : Type 0 where
+  pub value : Answers
+  pub contraction : IsContraction value
+  pub kept : (n : ℕ) → Keeps value.kept n ↔ Contains nodes n
+  pub composes : ComposesLoad x y value
+  pub row : bytes ≡ load_row value

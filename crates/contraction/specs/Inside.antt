@@ -1,6 +1,8 @@
--- How the fields of a contraction are seen.
+-- How the fields of a contraction and of a selection are seen.
 use Rattle.contraction.specs.Answers.{Answers}
+use Rattle.contraction.specs.Selecting.{Selected, IsLayout}
 use Rattle.contraction.specs.declared.value.Contraction.TheInside.{Inside}
+use Rattle.contraction.specs.declared.selection.Selection.TheInside.{Inside as Chosen}
 
 -- The answers that the struct holds.
 abbrev pub answers_of : Inside → Answers
@@ -14,3 +16,11 @@ answers_of c = record {
   fed = c.load.first.items;
   loaded = c.load.second.items;
 }
+
+-- The lists that a selection was made of.
+abbrev pub selected_of : Chosen → Selected
+selected_of s = record { first = s.first.items; second = s.second.items; nodes = s.nodes.items }
+
+-- The layout is that of these lists.
+abbrev pub IsLaid : Chosen → Type 0
+IsLaid s = IsLayout s.first.items s.second.items s.nodes.items s.layout

@@ -1,6 +1,7 @@
 -- The rows of a contraction, as bytes.
 use Rattle.std.specs.Prelude.{ℕ, ◌/◌, ◌%◌, Bool, List, [], ◌∷◌, ◌++◌, true, false}
 use Rattle.contraction.specs.Answers.{Answers}
+use Rattle.contraction.specs.declared.row.Row.{Row}
 
 -- Two bytes for each number, the higher one first.
 abbrev pub words : List ℕ → List ℕ
@@ -16,6 +17,14 @@ flag false = 0
 abbrev pub flags : List Bool → List ℕ
 flags [] = []
 flags (b ∷ bs) = flag b ∷ flags bs
+
+-- The bytes of the labels and marks of a row.
+abbrev pub row_bytes : Row → List ℕ
+row_bytes r = words r.labels ++ flags r.first.items ++ flags r.second.items
+
+-- The same with the labels of the bonds beside those of the row.
+abbrev pub bonded_bytes : Row → List ℕ → List ℕ
+bonded_bytes r bonded = words r.labels ++ words bonded ++ flags r.first.items ++ flags r.second.items
 
 -- The bytes of the gap view, and of the load view.
 abbrev pub gap_bytes : Answers → List ℕ

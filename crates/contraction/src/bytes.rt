@@ -1,10 +1,12 @@
 //! The rows of a contraction, which tell contractions apart.
 ghost use Rattle.std.specs.Prelude.{◌≡◌, ◌↔◌, ◌++◌, ℕ, length, List, IfOk};
 ghost use Rattle.contraction.specs.Answers.{Answers, IsContraction, SameGap, SameLoad};
-ghost use Rattle.contraction.specs.Rows.{words, flag, flags, gap_bytes, load_bytes, gap_row, load_row, whole_row};
+ghost use Rattle.contraction.specs.Rows.{words, flag, flags, row_bytes, bonded_bytes, gap_bytes, load_bytes, gap_row, load_row, whole_row};
 
+use crate::row::Row;
 use crate::value::Contraction;
 use ilk_base::{Memory, Text};
+use station_graph::NodeList;
 use std::alloc::Global;
 
 // Appends two bytes for each number, the higher one first.
@@ -34,34 +36,65 @@ fn push_flags(text: &mut Text, row: &[bool]) -> Result<(), Memory>
     Ok(())
 }
 
+// How many bytes the gap row, the load row and the row of both views have for each kept node.
+pub(crate) const GAP_BYTES: usize = 6;
+
+pub(crate) const LOAD_BYTES: usize = 8;
+
+const WHOLE_BYTES: usize = 12;
+
+// The bytes of these nodes, with room for so many bytes in all for each of them.
+pub(crate) fn bytes_from(alloc: Global, nodes: &[u16], each: usize) -> Result<Text, Memory>
+    ensures { IfOk result (λ t. t ≡ words nodes.now) }
+{
+    let room = nodes.len().saturating_mul(each);
+    let mut text = Text::with_capacity(alloc, room)?;
+    push_words(&mut text, nodes)?;
+    Ok(text)
+}
+
+impl Row {
+    // Appends the labels and marks.
+    pub(crate) fn push_to(&self, text: &mut Text) -> Result<(), Memory>
+        ensures { IfOk result (λ _. text.new ≡ text.old ++ row_bytes self.now) }
+    {
+        push_words(text, self.labels.numbers())?;
+        push_flags(text, &self.first)?;
+        push_flags(text, &self.second)
+    }
+
+    // Appends the labels, those of the bonds beside them, and the marks.
+    pub(crate) fn push_with(&self, text: &mut Text, bonded: &NodeList) -> Result<(), Memory>
+        ensures { IfOk result (λ _. text.new ≡ text.old ++ bonded_bytes self.now bonded.now) }
+    {
+        push_words(text, self.labels.numbers())?;
+        push_words(text, bonded.numbers())?;
+        push_flags(text, &self.first)?;
+        push_flags(text, &self.second)
+    }
+}
+
 impl Contraction {
-    // A row that begins with the kept nodes.
-    fn row_start(&self, alloc: Global) -> Result<Text, Memory>
+    // A row that begins with the kept nodes, with room for so many bytes for each of them.
+    fn row_start(&self, alloc: Global, each: usize) -> Result<Text, Memory>
         ensures row { IfOk result (λ t. t ≡ words self.now.kept) }
         ensures answers { IsContraction self.now }
     {
-        let mut text = Text::new(alloc);
-        push_words(&mut text, &self.kept)?;
-        Ok(text)
+        bytes_from(alloc, &self.kept, each)
     }
 
     // Appends the gap view.
     fn push_gap(&self, text: &mut Text) -> Result<(), Memory>
         ensures { IfOk result (λ _. text.new ≡ text.old ++ gap_bytes self.now) }
     {
-        push_words(text, self.gap.labels.numbers())?;
-        push_flags(text, &self.gap.first)?;
-        push_flags(text, &self.gap.second)
+        self.gap.push_to(text)
     }
 
     // Appends the load view.
     fn push_load(&self, text: &mut Text) -> Result<(), Memory>
         ensures { IfOk result (λ _. text.new ≡ text.old ++ load_bytes self.now) }
     {
-        push_words(text, self.load.labels.numbers())?;
-        push_words(text, self.bonded.numbers())?;
-        push_flags(text, &self.load.first)?;
-        push_flags(text, &self.load.second)
+        self.load.push_with(text, &self.bonded)
     }
 
     /// The kept nodes and both views as bytes. Two such rows are equal exactly where the contractions
@@ -73,7 +106,7 @@ impl Contraction {
             → (t ≡ whole_row other) ↔ (SameGap self.now other × SameLoad self.now other)) }
         ensures answers { IsContraction self.now }
     {
-        let mut text = self.row_start(alloc)?;
+        let mut text = self.row_start(alloc, WHOLE_BYTES)?;
         self.push_gap(&mut text)?;
         self.push_load(&mut text)?;
         Ok(text)
@@ -87,7 +120,7 @@ impl Contraction {
             → (t ≡ gap_row other) ↔ SameGap self.now other) }
         ensures answers { IsContraction self.now }
     {
-        let mut text = self.row_start(alloc)?;
+        let mut text = self.row_start(alloc, GAP_BYTES)?;
         self.push_gap(&mut text)?;
         Ok(text)
     }
@@ -100,7 +133,7 @@ impl Contraction {
             → (t ≡ load_row other) ↔ SameLoad self.now other) }
         ensures answers { IsContraction self.now }
     {
-        let mut text = self.row_start(alloc)?;
+        let mut text = self.row_start(alloc, LOAD_BYTES)?;
         self.push_load(&mut text)?;
         Ok(text)
     }

@@ -19,7 +19,7 @@ pub(crate) fn apart(alloc: Global, count: u16) -> Result<NodeList, Memory>
 pub(crate) fn two_labels(alloc: Global, same: bool) -> Result<NodeList, Memory>
     ensures { IfOk result (λ labels. labels ≡ 0 ∷ (if same then 0 else 1) ∷ []) }
 {
-    let mut labels = NodeList::new(alloc);
+    let mut labels = NodeList::with_capacity(alloc, 2)?;
     labels.push(NodeId(0))?;
     labels.push(NodeId(if same { 0 } else { 1 }))?;
     Ok(labels)
@@ -29,7 +29,7 @@ pub(crate) fn two_labels(alloc: Global, same: bool) -> Result<NodeList, Memory>
 pub(crate) fn one_label(alloc: Global) -> Result<NodeList, Memory>
     ensures { IfOk result (λ labels. labels ≡ 0 ∷ []) }
 {
-    let mut labels = NodeList::new(alloc);
+    let mut labels = NodeList::with_capacity(alloc, 1)?;
     labels.push(NodeId(0))?;
     Ok(labels)
 }
@@ -85,7 +85,7 @@ pub(crate) fn labels_at(alloc: Global, labels: &[u16], places: &[u16]) -> Result
     requires few { length places.now ≤ 1024 }
     ensures { IfOk result (LabelsRestrict labels.now places.now) }
 {
-    let mut row = NodeList::new(alloc);
+    let mut row = NodeList::with_capacity(alloc, places.len())?;
     for k in 0..places.len() {
         let label = labels[places[k] as usize];
         row.push(NodeId(first_with(labels, places, label, k) as u16))?;

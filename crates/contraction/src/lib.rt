@@ -7,10 +7,12 @@
 
 mod bytes;
 mod compose;
+mod composed_row;
 mod ends;
 mod items;
 mod labels;
 mod laws;
+mod layout;
 mod marks;
 mod merge;
 mod one_view;
@@ -27,5 +29,6 @@ pub use laws::{
     restriction_respects_views, same_items_stand, same_nodes_are_one_list, same_views_stand,
     values_tell_views,
 };
+pub use selection::Selection;
 pub use supply::Supply;
 pub use value::Contraction;

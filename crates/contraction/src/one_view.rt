@@ -1,5 +1,5 @@
 //! The contraction of two lists of items together on some nodes, in one view alone.
-ghost use Rattle.std.specs.Prelude.{◌⊎◌, ◌++◌, ℕ, Bool, List, IfOk, Contains};
+ghost use Rattle.std.specs.Prelude.{◌≡◌, ◌⊎◌, ◌++◌, ℕ, Bool, List, IfOk, Contains};
 ghost use Rattle.station_graph.specs.Diagram.{Diagram};
 ghost use Rattle.station_graph.specs.Connection.{Item};
 ghost use Rattle.contraction.specs.Answers.{Keeps};
@@ -33,11 +33,36 @@ impl Contraction {
             → GapStandsFor (Among others) d v other.now
             → GapStandsFor (Among (items ++ others)) d v c) }
     {
-        let selection = Selection::of(alloc, &self.kept, &other.kept, nodes)?;
-        let gap = selection.row(alloc, &self.gap, &other.gap)?;
-        let count = selection.kept.len() as u16;
+        let selection = Selection::of(alloc, self.nodes(), other.nodes(), nodes)?;
+        self.compose_gap_on(alloc, other, &selection)
+    }
+
+    /// What `compose_gap` gives, on a selection of the nodes that both values keep. So one selection serves all pairs
+    /// of values that keep the same nodes.
+    ///
+    /// Time: the kept nodes, times the classes of more than one of them. Memory: the kept nodes.
+    pub fn compose_gap_on(
+        &self,
+        alloc: Global,
+        other: &Contraction,
+        selection: &Selection,
+    ) -> Result<Contraction, Memory>
+        requires first { selection.now.first ≡ self.now.kept }
+        requires second { selection.now.second ≡ other.now.kept }
+        requires nodes { (n : ℕ) → Contains selection.now.nodes n
+            → Keeps self.now.kept n ⊎ Keeps other.now.kept n }
+        ensures both { IfOk result (IsGapOfBoth selection.now.nodes self.now other.now) }
+        ensures gap { IfOk result (λ c. (items others : List Item) (d : Diagram) (v : List Bool)
+            → MeetsKept (Among items) (Among others) d self.now.kept other.now.kept
+            → GapStandsFor (Among items) d v self.now
+            → GapStandsFor (Among others) d v other.now
+            → GapStandsFor (Among (items ++ others)) d v c) }
+    {
+        let layout = &selection.layout;
+        let gap = layout.row(alloc, &self.gap, &other.gap)?;
+        let count = layout.kept.len() as u16;
         Ok(Contraction {
-            kept: selection.kept,
+            kept: Vec::from_slice(alloc, &layout.kept)?,
             gap,
             load: Row::bare(alloc, count)?,
             bonded: apart(alloc, count)?,
@@ -63,12 +88,37 @@ impl Contraction {
             → LoadStandsFor (Among others) d v other.now
             → LoadStandsFor (Among (items ++ others)) d v c) }
     {
-        let selection = Selection::of(alloc, &self.kept, &other.kept, nodes)?;
-        let load = selection.row(alloc, &self.load, &other.load)?;
-        let bonded = selection.labels(alloc, self.bonded.numbers(), other.bonded.numbers())?;
-        let count = selection.kept.len() as u16;
+        let selection = Selection::of(alloc, self.nodes(), other.nodes(), nodes)?;
+        self.compose_load_on(alloc, other, &selection)
+    }
+
+    /// What `compose_load` gives, on a selection of the nodes that both values keep. So one selection serves all
+    /// pairs of values that keep the same nodes.
+    ///
+    /// Time: the kept nodes, times the classes of more than one of them. Memory: the kept nodes.
+    pub fn compose_load_on(
+        &self,
+        alloc: Global,
+        other: &Contraction,
+        selection: &Selection,
+    ) -> Result<Contraction, Memory>
+        requires first { selection.now.first ≡ self.now.kept }
+        requires second { selection.now.second ≡ other.now.kept }
+        requires nodes { (n : ℕ) → Contains selection.now.nodes n
+            → Keeps self.now.kept n ⊎ Keeps other.now.kept n }
+        ensures both { IfOk result (IsLoadOfBoth selection.now.nodes self.now other.now) }
+        ensures load { IfOk result (λ c. (items others : List Item) (d : Diagram) (v : List Bool)
+            → MeetsKept (Among items) (Among others) d self.now.kept other.now.kept
+            → LoadStandsFor (Among items) d v self.now
+            → LoadStandsFor (Among others) d v other.now
+            → LoadStandsFor (Among (items ++ others)) d v c) }
+    {
+        let layout = &selection.layout;
+        let load = layout.row(alloc, &self.load, &other.load)?;
+        let bonded = layout.labels(alloc, self.bonded.numbers(), other.bonded.numbers())?;
+        let count = layout.kept.len() as u16;
         Ok(Contraction {
-            kept: selection.kept,
+            kept: Vec::from_slice(alloc, &layout.kept)?,
             gap: Row::bare(alloc, count)?,
             load,
             bonded,

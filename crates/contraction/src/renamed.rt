@@ -9,8 +9,8 @@ use ilk_base::Memory;
 use station_graph::NodeList;
 use std::alloc::Global;
 
-// Whether the labels are the same.
-fn same_labels(a: &[u16], b: &[u16]) -> bool
+// Whether the numbers are the same.
+pub(crate) fn same_numbers(a: &[u16], b: &[u16]) -> bool
     ensures { IsTrue result ↔ (a.now ≡ b.now) }
 {
     a == b
@@ -41,7 +41,7 @@ impl Row {
     fn is_as(&self, other: &Row) -> bool
         ensures { IsTrue result ↔ SameRow self.now other.now }
     {
-        let labels = same_labels(self.labels.numbers(), other.labels.numbers());
+        let labels = same_numbers(self.labels.numbers(), other.labels.numbers());
         let first = same_marks(&self.first, &other.first);
         let second = same_marks(&self.second, &other.second);
         labels && first && second
@@ -81,7 +81,7 @@ impl Contraction {
     {
         let gap = self.gap.is_as(&other.gap);
         let load = self.load.is_as(&other.load);
-        let bonded = same_labels(self.bonded.numbers(), other.bonded.numbers());
+        let bonded = same_numbers(self.bonded.numbers(), other.bonded.numbers());
         gap && load && bonded
     }
 }

@@ -1,28 +1,40 @@
-//! Some of the nodes of two values together, and what the rows of both say of them.
-ghost use Rattle.std.specs.Prelude.{length, IfOk};
+//! Some of the nodes of two contractions together, for each pair of contractions that keep these.
+ghost use Rattle.std.specs.Prelude.{◌≡◌, ◌↔◌, IfOk, IsTrue};
 ghost use Rattle.contraction.specs.Answers.{AreNodes};
-ghost use Rattle.contraction.specs.Merging.{LabelsFit, RowFits};
-ghost use Rattle.contraction.specs.Selecting.{IsSelection, SelectionFits, RowSelected, LabelsSelected};
 
-use crate::labels::{labels_at, labels_of_both};
-use crate::merge::{Union, merge};
-use crate::places::{picked, places_of};
-use crate::row::Row;
+use crate::layout::Layout;
+use crate::renamed::same_numbers;
 use ilk_base::Memory;
 use station_graph::NodeList;
 use std::alloc::Global;
+use std::marker::Model;
 
-// Two rising lists of nodes as one, and some of its nodes with their places in it.
+/// The kept nodes of two contractions merged, and those of them that are asked for. Many pairs of contractions keep
+/// the same nodes: `compose_gap_on` and `compose_load_on` take one selection for all of them.
 #[derive(Debug, Drop)]
-pub(crate) struct Selection {
-    pub(crate) union: Union,
-    pub(crate) places: Vec<u16>,
-    pub(crate) kept: Vec<u16>,
+pub struct Selection {
+    first: Vec<u16>,
+    second: Vec<u16>,
+    nodes: Vec<u16>,
+    pub(crate) layout: Layout,
+}
+
+impl Model for Selection {
+    ghost use Rattle.contraction.specs.Selecting.{Selected};
+
+    ghost Value = { Selected };
+
+    ghost use Rattle.contraction.specs.Inside.{selected_of, IsLaid};
+
+    ghost view = { selected_of };
+
+    ghost invariant = { IsLaid };
 }
 
 impl Selection {
-    // Those of the nodes that either list has.
-    pub(crate) fn of(
+    /// Those of the nodes that either list has, for contractions that keep these lists. Time: the kept nodes times the
+    /// nodes. Memory: the nodes of all three lists.
+    pub fn of(
         alloc: Global,
         first: &[u16],
         second: &[u16],
@@ -30,41 +42,25 @@ impl Selection {
     ) -> Result<Selection, Memory>
         requires first { AreNodes first.now }
         requires second { AreNodes second.now }
-        ensures { IfOk result (IsSelection first.now second.now nodes.now) }
+        ensures first { IfOk result (λ s. s.first ≡ first.now) }
+        ensures second { IfOk result (λ s. s.second ≡ second.now) }
+        ensures nodes { IfOk result (λ s. s.nodes ≡ nodes.now) }
     {
-        let union = merge(alloc, first, second)?;
-        let all = union.kept.as_slice();
-        let places = places_of(alloc, all, nodes.numbers())?;
-        let kept = picked(alloc, all, places.as_slice())?;
+        let layout = Layout::of(alloc, first, second, nodes)?;
         Ok(Selection {
-            union,
-            places,
-            kept,
+            first: Vec::from_slice(alloc, first)?,
+            second: Vec::from_slice(alloc, second)?,
+            nodes: Vec::from_slice(alloc, nodes.numbers())?,
+            layout,
         })
     }
 
-    // The rows of both lists as the row of the selected nodes.
-    pub(crate) fn row(&self, alloc: Global, x: &Row, y: &Row) -> Result<Row, Memory>
-        requires fits { SelectionFits self.now }
-        requires first { RowFits self.now.union.first.items (length self.now.union.kept.items) x.now }
-        requires second { RowFits self.now.union.second.items (length self.now.union.kept.items) y.now }
-        ensures { IfOk result (RowSelected self.now x.now y.now) }
+    /// Whether it is that of these lists. Time: their nodes. Takes no memory.
+    pub fn is_of(&self, first: &[u16], second: &[u16], nodes: &NodeList) -> bool
+        ensures { IsTrue result ↔ ((self.now.first ≡ first.now) × (self.now.second ≡ second.now) × (self.now.nodes ≡ nodes.now)) }
     {
-        let wide = Row::of_both(alloc, &self.union, x, y)?;
-        wide.at(alloc, self.places.as_slice())
-    }
-
-    // The labels of both lists as those of the selected nodes.
-    pub(crate) fn labels(&self, alloc: Global, x: &[u16], y: &[u16]) -> Result<NodeList, Memory>
-        requires fits { SelectionFits self.now }
-        requires first { LabelsFit self.now.union.first.items (length self.now.union.kept.items) x.now }
-        requires second { LabelsFit self.now.union.second.items (length self.now.union.kept.items) y.now }
-        ensures { IfOk result (LabelsSelected self.now x.now y.now) }
-    {
-        let count = self.union.kept.len() as u16;
-        let first = self.union.first.as_slice();
-        let second = self.union.second.as_slice();
-        let wide = labels_of_both(alloc, count, first, x, second, y)?;
-        labels_at(alloc, wide.numbers(), self.places.as_slice())
+        let firsts = same_numbers(&self.first, first);
+        let seconds = same_numbers(&self.second, second);
+        firsts && seconds && same_numbers(&self.nodes, nodes.numbers())
     }
 }

@@ -29,9 +29,11 @@ impl Classes {
         ensures count { IfOk result (λ c. length c ≡ count) }
         ensures alone { IfOk result (λ c. EachIndex c (λ k. slice_index c k ≡ k)) }
     {
-        Ok(Classes {
-            labels: (0..count).collect(alloc)?,
-        })
+        let mut labels = Vec::with_capacity(alloc, count as usize)?;
+        for number in 0..count {
+            labels.push(number)?;
+        }
+        Ok(Classes { labels })
     }
 
     /// Makes the classes of two numbers one. Time: one step where they are one already, so in time of

@@ -1,5 +1,5 @@
 //! Lists of nodes.
-ghost use Rattle.std.specs.Prelude.{◌≡◌, ℕ, ◌<◌, List, [], ◌∷◌, ◌++◌, length, slice_index, OnOk, OnErr, ◌==◌};
+ghost use Rattle.std.specs.Prelude.{◌≡◌, ℕ, ◌<◌, List, [], ◌∷◌, ◌++◌, length, slice_index, IfOk, OnOk, OnErr, ◌==◌};
 ghost use Rattle.std.specs.Str.{bytes_eq};
 ghost use Rattle.std.specs.Cmp.{partial_equiv_from_equiv};
 ghost use Rattle.std.specs.Cmp.Lexicographic.{nat_list_eq_equiv};
@@ -29,6 +29,15 @@ impl NodeList {
         NodeList {
             numbers: Vec::new(alloc),
         }
+    }
+
+    /// The empty list with room for so many nodes, which are added without a move.
+    pub fn with_capacity(alloc: Global, count: usize) -> Result<NodeList, Memory>
+        ensures { IfOk result (λ l. l ≡ []) }
+    {
+        Ok(NodeList {
+            numbers: Vec::with_capacity(alloc, count)?,
+        })
     }
 
     // The nodes of these numbers.

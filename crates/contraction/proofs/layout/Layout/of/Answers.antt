@@ -1,6 +1,6 @@
 use Rattle.std.proofs.Common.{◌≤◌, length, refl, ap, arith}
 use Rattle.contraction.proofs.MergeLemmas.{merged_few}
-use Rattle.contraction.proofs.selection.Selection.of.Goals as goal
+use Rattle.contraction.proofs.layout.Layout.of.Goals as goal
 
 pub places_of-requires : goal.places_of-requires
 places_of-requires c =

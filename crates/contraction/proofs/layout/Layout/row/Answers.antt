@@ -1,6 +1,6 @@
 use Rattle.std.proofs.lemmas.Result.{IfOk-weaker}
 use Rattle.contraction.proofs.RestrictLemmas.{row_restricts_at}
-use Rattle.contraction.proofs.selection.Selection.row.Goals as goal
+use Rattle.contraction.proofs.layout.Layout.row.Goals as goal
 
 pub returns : goal.returns
 returns c =

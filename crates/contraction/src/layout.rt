@@ -1,0 +1,70 @@
+//! How the nodes of two contractions lie in one list, and what the rows of both say of some of them.
+ghost use Rattle.std.specs.Prelude.{length, IfOk};
+ghost use Rattle.contraction.specs.Answers.{AreNodes};
+ghost use Rattle.contraction.specs.Merging.{LabelsFit, RowFits};
+ghost use Rattle.contraction.specs.Selecting.{IsLayout, LayoutFits, RowSelected, LabelsSelected};
+
+use crate::labels::{labels_at, labels_of_both};
+use crate::merge::{Union, merge};
+use crate::places::{picked, places_of};
+use crate::row::Row;
+use ilk_base::Memory;
+use station_graph::NodeList;
+use std::alloc::Global;
+
+// Two rising lists of nodes as one, and some of its nodes with their places in it.
+#[derive(Debug, Drop)]
+pub(crate) struct Layout {
+    pub(crate) union: Union,
+    pub(crate) places: Vec<u16>,
+    pub(crate) kept: Vec<u16>,
+}
+
+impl Layout {
+    // Those of the nodes that either list has.
+    pub(crate) fn of(
+        alloc: Global,
+        first: &[u16],
+        second: &[u16],
+        nodes: &NodeList,
+    ) -> Result<Layout, Memory>
+        requires first { AreNodes first.now }
+        requires second { AreNodes second.now }
+        ensures { IfOk result (IsLayout first.now second.now nodes.now) }
+    {
+        let union = merge(alloc, first, second)?;
+        let all = union.kept.as_slice();
+        let places = places_of(alloc, all, nodes.numbers())?;
+        let kept = picked(alloc, all, places.as_slice())?;
+        Ok(Layout {
+            union,
+            places,
+            kept,
+        })
+    }
+
+    // The rows of both lists as the row of the selected nodes.
+    pub(crate) fn row(&self, alloc: Global, x: &Row, y: &Row) -> Result<Row, Memory>
+        requires fits { LayoutFits self.now }
+        requires first { RowFits self.now.union.first.items (length self.now.union.kept.items) x.now }
+        requires second { RowFits self.now.union.second.items (length self.now.union.kept.items) y.now }
+        ensures { IfOk result (RowSelected self.now x.now y.now) }
+    {
+        let wide = Row::of_both(alloc, &self.union, x, y)?;
+        wide.at(alloc, self.places.as_slice())
+    }
+
+    // The labels of both lists as those of the selected nodes.
+    pub(crate) fn labels(&self, alloc: Global, x: &[u16], y: &[u16]) -> Result<NodeList, Memory>
+        requires fits { LayoutFits self.now }
+        requires first { LabelsFit self.now.union.first.items (length self.now.union.kept.items) x.now }
+        requires second { LabelsFit self.now.union.second.items (length self.now.union.kept.items) y.now }
+        ensures { IfOk result (LabelsSelected self.now x.now y.now) }
+    {
+        let count = self.union.kept.len() as u16;
+        let first = self.union.first.as_slice();
+        let second = self.union.second.as_slice();
+        let wide = labels_of_both(alloc, count, first, x, second, y)?;
+        labels_at(alloc, wide.numbers(), self.places.as_slice())
+    }
+}
