@@ -13,8 +13,9 @@ number or a mark that means something is put in, the end is cut off), and runs a
 - A run of `stored` must end and write as `node` does that goes on from the record of its file. The file that it leaves
   must stand for the record that this `node` kept last. Status 3 must come exactly where the file is too short.
 
-What was seen is counted. A run that does not end so is kept in a folder that is named; its part, of at most 500 runs,
-ends there, and the status is 1. The same seed makes the same runs, whatever the count of workers.
+What was seen is counted, with the time of the processor. A run that does not end so is kept in a folder that is named;
+its part, of at most 500 runs, ends there, and the status is 1. The same seed makes the same runs, whatever the count of
+workers.
 """
 import collections
 import multiprocessing
@@ -131,8 +132,8 @@ def keep(one, number, wrong):
 
 
 def work(part):
-    """Runs the cases of a part: how many ended with each status, how long each command took, the longest run, and the
-    first fault."""
+    """Runs the cases of a part: how many ended with each status, how long each command took of a processor, the longest
+    run, and the first fault."""
     seed, numbers = part
     resource.setrlimit(resource.RLIMIT_AS, (2 << 30, 2 << 30))
     examples, seen, spent, longest = stock(), collections.Counter(), collections.Counter(), (0.0, "")

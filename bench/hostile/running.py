@@ -8,13 +8,12 @@ import os
 import select
 import signal
 import tempfile
-import time
 from typing import NamedTuple, Optional
 
 
 class Ended(NamedTuple):
     """How a run ended: its status (below 0 where a signal ended it, none where it did not end in time), what it wrote,
-    and how long it took."""
+    and how many seconds of a processor it took."""
     status: Optional[int]
     out: bytes
     err: bytes
@@ -34,20 +33,19 @@ class Runner:
             os.ftruncate(stream, 0)
             os.pwrite(stream, text, 0)
             os.lseek(stream, 0, os.SEEK_SET)
-        start = time.monotonic()
         child = os.posix_spawn(self.program, [self.program, *words], env or {}, file_actions=self.actions)
-        status = self.status_of(child)
-        return Ended(status, self.written(1), self.written(2), time.monotonic() - start)
+        status, seconds = self.end_of(child)
+        return Ended(status, self.written(1), self.written(2), seconds)
 
-    def status_of(self, child):
-        """The status of a child, which is killed where it does not end in time."""
+    def end_of(self, child):
+        """The status of a child, which is killed where it does not end in time, and the seconds that it took."""
         handle = os.pidfd_open(child)
         ended = select.select([handle], [], [], self.seconds)[0]
         os.close(handle)
         if not ended:
             os.kill(child, signal.SIGKILL)
-        status = os.waitstatus_to_exitcode(os.waitpid(child, 0)[1])
-        return status if ended else None
+        _, status, usage = os.wait4(child, 0)
+        return os.waitstatus_to_exitcode(status) if ended else None, usage.ru_utime + usage.ru_stime
 
     def written(self, place):
         """All that stands in a stream."""
