@@ -1,4 +1,4 @@
-use Rattle.std.proofs.Common.{◌-◌, suc, arith}
+use Rattle.std.proofs.Common.{arith}
 use Rattle.release_compile.specs.declared.view.View.TheVariants.{Gap, Load}
 use Rattle.release_compile.specs.Lettered.{lettered}
 use Rattle.release_compile.proofs.HeardLemmas.{other_sets}

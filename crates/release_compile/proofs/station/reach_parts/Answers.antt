@@ -1,4 +1,4 @@
-use Rattle.std.proofs.Common.{◌≡◌, ◌+◌, sym, subst, arith, List, Option}
+use Rattle.std.proofs.Common.{◌+◌, sym, subst, List, Option}
 use Rattle.release_compile.specs.declared.reached.Reached.{Reached}
 use Rattle.release_compile.specs.Reaches.{AreReaches}
 use Rattle.release_compile.proofs.ReachesLemmas.{reaches_none, reaches_more}

@@ -1,4 +1,4 @@
-use Rattle.std.proofs.Common.{◌≡◌, ◌+◌, sym, subst, arith, List}
+use Rattle.std.proofs.Common.{◌+◌, sym, subst, List}
 use Rattle.release_compile.specs.declared.station.SwitchVerdicts.{SwitchVerdicts}
 use Rattle.release_compile.specs.Reaches.{AreVerdicts}
 use Rattle.release_compile.proofs.ReachesLemmas.{verdicts_none, verdicts_more}
