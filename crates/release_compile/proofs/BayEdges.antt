@@ -1,10 +1,8 @@
 -- The edges of a bay's graphs, as they are spent graph by graph.
-use Rattle.std.proofs.Common.{◌≡◌, ℕ, ◌+◌, ◌-◌, ◌<◌, ◌≤◌, ◌⊎◌, zero, suc, List, [], ◌∷◌, ◌++◌, length, slice_get, Some, refl, sym, ap, ◌∙◌, subst, inl, inr, arith}
-use Rattle.std.specs.List.{sum}
+use Rattle.std.proofs.Common.{◌≡◌, ℕ, ◌+◌, ◌-◌, ◌<◌, ◌≤◌, ◌⊎◌, suc, [], ◌∷◌, ◌++◌, refl, sym, ◌∙◌, subst, inl, inr, arith}
 use Rattle.std.proofs.lemmas.List.{length_push}
 use Rattle.std.proofs.lemmas.List.Sums.{sum_by_push}
 use Rattle.station_graph.specs.Diagram.{Diagram, part_count, AreSwitchesOf}
-use Rattle.station_graph.specs.Alike.{Alike}
 use Rattle.station_graph.proofs.PathLemmas.{slice_get-push}
 use Rattle.bay_contract.specs.Counting.{AreSoMany}
 use Rattle.bay_contract.specs.PartAlphabets.{Alphabets}

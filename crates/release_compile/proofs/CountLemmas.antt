@@ -3,18 +3,17 @@ use Rattle.std.proofs.Common.{◌≡◌, ℕ, ◌<◌, ◌≤◌, ◌↔◌, zer
 use Rattle.std.proofs.lemmas.Option.{slice_get_within, same_Some}
 use Rattle.station_graph.specs.Diagram.{Diagram}
 use Rattle.station_graph.specs.Connection.{Item}
-use Rattle.station_graph.specs.Alike.{IsVector, Alike}
-use Rattle.station_graph.specs.Sharing.{OfPart}
+use Rattle.station_graph.specs.Alike.{IsVector}
 use Rattle.contraction.specs.Answers.{Answers, Keeps}
 use Rattle.contraction.proofs.RisingLemmas.{rising_equal}
 use Rattle.contraction.proofs.SameLemmas.{gap_self, load_self, gap_fewer, load_fewer}
 use Rattle.contraction.proofs.ViewLemmas.{gap_told, load_told}
-use Rattle.bay_contract.specs.Counting.{AreDistinct, HasSame, AreSoMany}
+use Rattle.bay_contract.specs.Counting.{AreDistinct, AreSoMany}
 use Rattle.bay_contract.proofs.ViewIndexLemmas.{list_of}
 use Rattle.release_compile.specs.declared.view.View.{View}
 use Rattle.release_compile.specs.declared.view.View.TheVariants.{Gap, Load}
 use Rattle.release_compile.specs.Seen.{SeenFor, SameSeen, SameView}
-use Rattle.release_compile.specs.Folding.{StandsIn, AreRising, AreApart, AreMade, AreViews}
+use Rattle.release_compile.specs.Folding.{StandsIn, AreRising, AreApart, AreMade}
 use Rattle.release_compile.specs.Counted.{AreAtLeast}
 
 -- values that answer in vectors with one view are the same

@@ -1,10 +1,9 @@
 -- How many edges the graphs of a bay have: what is known of some layers or switches is known of all.
-use Rattle.std.proofs.Common.{◌≡◌, ℕ, ◌+◌, ◌*◌, ◌<◌, ◌≤◌, zero, suc, Bool, List, [], ◌∷◌, ◌++◌, length, slice_get, Some, refl, sym, ap, ◌∙◌, subst, inl, inr, arith}
-use Rattle.std.specs.List.{sum, sum_by}
+use Rattle.std.proofs.Common.{◌≡◌, ℕ, ◌+◌, ◌*◌, ◌<◌, zero, suc, Bool, List, [], ◌∷◌, ◌++◌, refl, sym, ◌∙◌, subst, inl, inr, arith}
 use Rattle.std.proofs.lemmas.List.{length_push}
 use Rattle.std.proofs.lemmas.List.Sums.{sum_by_push}
 use Rattle.std.proofs.lemmas.Option.{slice_get_within}
-use Rattle.station_graph.specs.Diagram.{Diagram, part_count}
+use Rattle.station_graph.specs.Diagram.{Diagram}
 use Rattle.station_graph.specs.Alike.{IsVector, Alike}
 use Rattle.station_graph.proofs.PathLemmas.{slice_get-push}
 use Rattle.bay_contract.specs.Counting.{AreSoMany}

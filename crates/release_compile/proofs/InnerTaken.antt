@@ -1,8 +1,6 @@
 -- What an inner graph that was noted is for a switch that takes in the same by places.
-use Rattle.std.proofs.Common.{◌≡◌, ℕ, ◌+◌, ◌<◌, ◌≤◌, ◌∙◌, suc, List, [], length, map, get_or, slice_get, Some, sym, ap, subst, arith}
-use Rattle.std.proofs.lemmas.List.{length-map}
+use Rattle.std.proofs.Common.{◌≡◌, ℕ, ◌+◌, ◌<◌, ◌∙◌, suc, List, [], length, map, get_or, slice_get, Some, sym, ap, subst, arith}
 use Rattle.std.proofs.lemmas.Option.{slice_get-get_or}
-use Rattle.contraction.specs.Answers.{Answers}
 use Rattle.contraction.specs.Renaming.{KeepsOrder, mapped}
 use Rattle.bay_contract.specs.Counting.{AreSoMany}
 use Rattle.decision_graphs.specs.Label.{Layer, Layered, layer_at}

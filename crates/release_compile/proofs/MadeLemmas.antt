@@ -1,6 +1,6 @@
 -- The values that are reached from the distinct views of some items by those of others are distinct views of both.
 use Rattle.std.proofs.Common.{◌≡◌, ℕ, ◌*◌, ◌+◌, ◌/◌, ◌%◌, ◌<◌, List, ◌++◌, Bool, length, get_or, slice_get, Some, sym, ap, ◌∙◌, subst, arith}
-use Rattle.std.proofs.lemmas.Option.{slice_get_within, slice_get-get_or, same_Some}
+use Rattle.std.proofs.lemmas.Option.{slice_get-get_or, same_Some}
 use Rattle.station_graph.specs.Diagram.{Diagram}
 use Rattle.station_graph.specs.Connection.{Item}
 use Rattle.station_graph.specs.Alike.{IsVector}
@@ -8,7 +8,7 @@ use Rattle.contraction.specs.Answers.{Answers}
 use Rattle.contraction.specs.Stands.{Among, MeetsKept}
 use Rattle.release_compile.specs.declared.view.View.{View}
 use Rattle.release_compile.specs.Seen.{SeenFor, ComposesIn}
-use Rattle.release_compile.specs.Folding.{StandsIn, IsStep, AreReached, AreMade, AreViews}
+use Rattle.release_compile.specs.Folding.{StandsIn, IsStep, AreReached, AreMade}
 use Rattle.release_compile.specs.Plans.{CanBoth}
 use Rattle.release_compile.specs.Layering.{no_answers}
 use Rattle.release_compile.proofs.LayeringLemmas.{state_in}

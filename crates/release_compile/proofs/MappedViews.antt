@@ -1,5 +1,5 @@
 -- One view of values where other nodes stand in place of those that they keep.
-use Rattle.std.proofs.Common.{ℕ, List}
+use Rattle.std.proofs.Common.{ℕ}
 use Rattle.contraction.specs.Answers.{Answers, IsContraction}
 use Rattle.contraction.specs.Renaming.{KeepsOrder, mapped}
 use Rattle.contraction.proofs.OneViewLemmas.{gap_lists, load_lists}

@@ -1,17 +1,16 @@
 -- A station that keeps its limits is not refused: at least so many edges are no more than exactly so many.
-use Rattle.std.proofs.Common.{◌≡◌, ℕ, ◌+◌, ◌-◌, ◌*◌, ◌<◌, ◌≤◌, ◌⊎◌, zero, suc, Bool, List, [], ◌∷◌, length, get_or, slice_get, Some, refl, sym, ap, ◌∙◌, subst, inl, inr, arith}
+use Rattle.std.proofs.Common.{◌≡◌, ℕ, ◌+◌, ◌-◌, ◌*◌, ◌<◌, ◌≤◌, ◌⊎◌, zero, suc, Bool, List, [], ◌∷◌, length, get_or, slice_get, Some, refl, sym, ◌∙◌, subst, inl, inr, arith}
 use Rattle.std.specs.List.{sum, sum_by}
 use Rattle.std.proofs.Math.Nat.{mul-le-mul_right}
 use Rattle.std.proofs.lemmas.Bool.{cases_lt}
 use Rattle.std.proofs.lemmas.List.Sums.{sum_by-cons}
-use Rattle.std.proofs.lemmas.Option.{slice_get_within, slice_get-get_or, slice_get_cases, same_Some}
-use Rattle.station_graph.specs.declared.items.Switch.{Switch}
+use Rattle.std.proofs.lemmas.Option.{slice_get-get_or, slice_get_cases}
 use Rattle.station_graph.specs.Diagram.{Diagram, IsStation, part_count, AreSwitchesOf}
 use Rattle.station_graph.specs.Connection.{Item}
 use Rattle.station_graph.specs.Alike.{Alike}
 use Rattle.station_graph.specs.Sharing.{OfPart, IsShared}
 use Rattle.station_graph.proofs.PositionLemmas.{SameGapView-sym, SameLoadView-sym, SameGapView-trans, SameLoadView-trans}
-use Rattle.bay_contract.specs.Counting.{AreSoMany, ArePast, StepFits, PartFits, PartIsPast}
+use Rattle.bay_contract.specs.Counting.{AreSoMany, StepFits, PartIsPast}
 use Rattle.bay_contract.proofs.CountingLemmas.{not_longer, so_many_once, layer_past}
 use Rattle.central_rules.specs.Meaning.{IsBay}
 use Rattle.release_compile.specs.declared.view.View.{View}
@@ -23,9 +22,8 @@ use Rattle.release_compile.specs.Graphs.{other_of}
 use Rattle.release_compile.specs.Listing.{parts_before}
 use Rattle.release_compile.specs.Needing.{IsNeededOuter, IsNeededInner}
 use Rattle.contraction.specs.Stands.{Among}
-use Rattle.release_compile.specs.Counted.{Size, edges_in, AreAtLeast, before_switch, OuterHas, InnerHas, SwitchHas, SwitchesHave, ViewHas, BayHas, Passes}
+use Rattle.release_compile.specs.Counted.{Size, edges_in, AreAtLeast, before_switch, OuterHas, InnerHas, SwitchHas, ViewHas, BayHas, Passes}
 use Rattle.release_compile.specs.Judging.{PartHasEdges, KeepEdges, KeepsLimits, IsBuildRefusal}
-use Rattle.release_compile.proofs.CountLemmas.{at_least_of}
 use Rattle.release_compile.proofs.EdgesLemmas.{view_at_least}
 
 -- ---- views and contractions are the same to and fro

@@ -2,7 +2,7 @@
 use Rattle.std.proofs.Common.{◌≡◌, ℕ, ◌-◌, ◌<◌, ◌≤◌, ◌⊎◌, ◌↔◌, zero, suc, Bool, List, [], length, map, get_or, slice_get, Some, sym, ap, ◌∙◌, subst, inl, inr, arith}
 use Rattle.std.specs.Prelude.{Contains}
 use Rattle.std.proofs.lemmas.Option.{slice_get_within, slice_get-get_or, same_Some}
-use Rattle.station_graph.specs.Diagram.{Diagram, part_count}
+use Rattle.station_graph.specs.Diagram.{part_count}
 use Rattle.contraction.specs.Answers.{Answers, Keeps}
 use Rattle.decision_graphs.specs.Label.{Layer, Layered, layer_at, no_layer, label_of, AreChoices, AreLayers}
 use Rattle.release_compile.specs.declared.view.View.{View}

@@ -1,5 +1,5 @@
 -- PARTNERS: another bay is a partner exactly where the graphs of one of the two views tell of its layer.
-use Rattle.std.proofs.Common.{◌≡◌, ℕ, ◌+◌, ◌-◌, ◌<◌, ◌⊎◌, ◌↔◌, Bool, true, false, List, ◌∷◌, length, drop, get_or, slice_get, Some, MatchBool, refl, ◌∙◌, inl, inr, arith}
+use Rattle.std.proofs.Common.{◌≡◌, ℕ, ◌+◌, ◌-◌, ◌<◌, ◌⊎◌, ◌↔◌, Bool, true, false, List, length, drop, get_or, slice_get, Some, MatchBool, refl, ◌∙◌, inl, inr, arith}
 use Rattle.std.proofs.lemmas.Bool.{false≢true}
 use Rattle.station_graph.specs.Diagram.{Diagram, AreSwitchesOf}
 use Rattle.station_graph.specs.Connection.{a_switch}

@@ -2,10 +2,9 @@
 use Rattle.std.proofs.Common.{◌≡◌, ◌≢◌, ℕ, ◌+◌, ◌<◌, ◌≤◌, zero, suc, Bool, false, List, [], ◌∷◌, length, drop, get_or, set, replicate, slice_get, Some, refl, sym, ap, ◌∙◌, subst, inl, inr, arith}
 use Rattle.std.proofs.lemmas.Bool.{cases_eq}
 use Rattle.std.proofs.lemmas.List.{get_or-set_other, length-replicate}
-use Rattle.std.proofs.lemmas.Option.{slice_get-get_or, slice_get_within, slice_get_cases, same_Some}
-use Rattle.station_graph.specs.declared.items.Switch.{Switch}
+use Rattle.std.proofs.lemmas.Option.{slice_get-get_or, slice_get_within, same_Some}
 use Rattle.station_graph.specs.Diagram.{Diagram, AreSwitchesOf}
-use Rattle.station_graph.specs.Connection.{Item, a_switch}
+use Rattle.station_graph.specs.Connection.{a_switch}
 use Rattle.station_graph.specs.Sharing.{OfPart}
 use Rattle.station_graph.specs.Alike.{IsVector, SamePositions, DifferInPart}
 use Rattle.station_graph.proofs.PositionLemmas.{slice_get-set_other}

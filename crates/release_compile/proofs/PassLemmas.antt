@@ -1,11 +1,9 @@
 -- The edges of a plan's layers, one layer after another, and when they pass a limit.
-use Rattle.std.proofs.Common.{◌≡◌, ℕ, ◌+◌, ◌-◌, ◌*◌, ◌<◌, ◌≤◌, zero, suc, Bool, List, [], ◌∷◌, ◌++◌, length, slice_get, Some, refl, sym, ap, ◌∙◌, subst, inl, inr, arith}
-use Rattle.std.specs.Prelude.{Contains, ◌↔◌}
-use Rattle.std.specs.List.{sum_by}
+use Rattle.std.proofs.Common.{◌≡◌, ℕ, ◌+◌, ◌-◌, ◌*◌, ◌<◌, ◌≤◌, suc, Bool, List, [], ◌∷◌, ◌++◌, length, slice_get, Some, refl, sym, ap, ◌∙◌, subst, inl, inr, arith}
+use Rattle.std.specs.Prelude.{◌↔◌}
 use Rattle.std.proofs.lemmas.List.{length-map, length_push}
 use Rattle.std.proofs.lemmas.List.Sums.{sum_by_push}
 use Rattle.std.proofs.lemmas.Option.{slice_get_within, slice_get_cases, same_Some}
-use Rattle.station_graph.specs.Alike.{IsVector}
 use Rattle.station_graph.proofs.PathLemmas.{slice_get-push}
 use Rattle.contraction.specs.Answers.{Answers, Keeps}
 use Rattle.contraction.specs.Stands.{Among}
@@ -13,10 +11,10 @@ use Rattle.bay_contract.specs.Counting.{AreSoMany}
 use Rattle.decision_graphs.specs.Label.{Layer}
 use Rattle.release_compile.specs.declared.view.View.{View}
 use Rattle.release_compile.specs.declared.pool.Pool.{Pool}
-use Rattle.release_compile.specs.Counted.{Size, edges_in, AreAtLeast, Spends, Passes}
+use Rattle.release_compile.specs.Counted.{Size, edges_in, AreAtLeast, Spends}
 use Rattle.release_compile.specs.Pooling.{GrewTo}
 use Rattle.release_compile.specs.Folding.{IsExact, ReachesMore}
-use Rattle.release_compile.specs.Layering.{AreEdges, values_at, no_answers}
+use Rattle.release_compile.specs.Layering.{AreEdges, values_at}
 use Rattle.release_compile.specs.Plans.{Plan, PlanFits, AreLinked, PlanHas, PlanPasses, SameBefore, diagram_of, ChosenBy, items_of, new_of, NeededBy}
 use Rattle.release_compile.proofs.BridgeLemmas.{reached_by_edges}
 use Rattle.release_compile.proofs.CountLemmas.{at_least_of, views_so_many, views_at_least}

@@ -1,32 +1,30 @@
 -- Values by places of a list of nodes.
-use Rattle.std.proofs.Common.{◌≡◌, ℕ, ◌+◌, ◌-◌, ◌<◌, ◌≤◌, ◌↔◌, zero, suc, Bool, List, [], ◌∷◌, ◌++◌, map, take, length, get_or, slice_get, slice_index, Some, refl, sym, ap, ◌∙◌, subst, inl, inr, arith}
+use Rattle.std.proofs.Common.{◌≡◌, ℕ, ◌+◌, ◌-◌, ◌<◌, ◌≤◌, ◌↔◌, suc, Bool, List, [], ◌∷◌, ◌++◌, map, take, length, get_or, slice_get, slice_index, Some, sym, ap, ◌∙◌, subst, inl, inr, arith}
 use Rattle.std.specs.Prelude.{Contains}
 use Rattle.std.proofs.lemmas.List.{length-map, map-append, take_more, get_or_past}
 use Rattle.std.proofs.lemmas.Option.{slice_get_within, slice_get-get_or, get_or_from_slice_get, same_Some}
 use Rattle.std.proofs.lemmas.Bool.{cases_lt, cases_eq}
 use Rattle.station_graph.specs.Diagram.{Diagram, IsStation, part_count}
-use Rattle.station_graph.specs.Connection.{Item}
 use Rattle.station_graph.specs.Sharing.{OfPart, TouchedBy, IsShared}
-use Rattle.station_graph.specs.Alike.{IsVector}
 use Rattle.station_graph.specs.Nodes.{Rises}
 use Rattle.station_graph.specs.declared.limits.TheConstants.{NODES}
 use Rattle.contraction.specs.Answers.{Answers, Keeps, AreNodes, IsContraction}
 use Rattle.contraction.specs.Renaming.{KeepsOrder, mapped}
 use Rattle.contraction.specs.Stands.{Among}
-use Rattle.contraction.proofs.MappedLemmas.{keeps_map, keeps_of, keeps_back, rises_map, mapped_well}
+use Rattle.contraction.proofs.MappedLemmas.{rises_map, mapped_well}
 use Rattle.contraction.proofs.MergeLemmas.{few_nodes}
-use Rattle.contraction.proofs.PlaceLemmas.{keeps_from_has, has_from_keeps}
+use Rattle.contraction.proofs.PlaceLemmas.{keeps_from_has}
 use Rattle.decision_graphs.specs.Label.{Layered}
 use Rattle.release_compile.specs.declared.pool.Pool.{Pool}
 use Rattle.release_compile.specs.Lettered.{Lettered}
 use Rattle.release_compile.specs.Seen.{SeenFor, SameSeen}
-use Rattle.release_compile.specs.Pooling.{HasSame, HasCopy}
+use Rattle.release_compile.specs.Pooling.{HasSame}
 use Rattle.release_compile.specs.Places.{node_of, pool_on}
 use Rattle.release_compile.specs.Layering.{values_at, no_answers}
 use Rattle.release_compile.specs.Folding.{StandsIn}
 use Rattle.release_compile.specs.Graphs.{other_of, OfOthers, IsInner}
-use Rattle.release_compile.specs.Listing.{part_items, parts_before}
-use Rattle.release_compile.specs.Needing.{IsNeededOuter, IsNeededInner, InnerNeeds}
+use Rattle.release_compile.specs.Listing.{parts_before}
+use Rattle.release_compile.specs.Needing.{IsNeededOuter, IsNeededInner}
 use Rattle.release_compile.specs.Inputs.{AreCopies, HasCopyAt, AreNames}
 use Rattle.release_compile.proofs.BridgeLemmas.{at_number, number_at}
 use Rattle.release_compile.proofs.MappedPools.{at_mapped}

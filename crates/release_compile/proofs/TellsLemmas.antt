@@ -1,5 +1,5 @@
 -- What the list of a bay's other parts says of another bay.
-use Rattle.std.proofs.Common.{◌≡◌, ◌≢◌, ℕ, ◌-◌, ◌<◌, suc, Bool, false, List, length, get_or, MatchBool, ap, sym, ◌∙◌, subst, arith}
+use Rattle.std.proofs.Common.{◌≡◌, ◌≢◌, ℕ, ◌<◌, Bool, false, List, length, get_or, MatchBool, sym, subst, arith}
 use Rattle.station_graph.specs.Diagram.{Diagram, part_count}
 use Rattle.station_graph.specs.Alike.{Irrelevant, Partner}
 use Rattle.release_compile.specs.Graphs.{other_of}

@@ -1,12 +1,12 @@
 -- The law of a judge holds of index sets.
-use Rattle.std.specs.Prelude.{◌≡◌, ℕ, Bool, List, refl}
+use Rattle.std.specs.Prelude.{ℕ, Bool, List, refl}
 use Rattle.std.proofs.Common.{inl, inr}
 use Rattle.station_graph.specs.Sharing.{OfPart}
 use Rattle.station_graph.specs.Alike.{SamePositions}
 use Rattle.contraction.proofs.MoveLemmas.{stands_moves}
 use Rattle.central_rules.specs.Meaning.{Laws}
 use Rattle.release_compile.specs.Lettered.{Lettered}
-use Rattle.release_compile.specs.Summaries.{SetAllows, SummaryAllows, by_indices}
+use Rattle.release_compile.specs.Summaries.{SummaryAllows, by_indices}
 
 -- What an index set allows depends on the positions of its own bay alone.
 pub allows_moves : (a : Lettered) (b : ℕ) (s : List ℕ) (v w : List Bool) → SamePositions (OfPart a.diagram b) v w → SummaryAllows a b s v → SummaryAllows a b s w

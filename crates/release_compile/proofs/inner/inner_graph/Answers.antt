@@ -1,11 +1,10 @@
 use Rattle.std.proofs.Common.{◌≡◌, ◌∙◌, ◌+◌, ◌<◌, ◌≤◌, ℕ, List, [], length, map, get_or, slice_get, Some, suc, refl, sym, ap, subst, inr, arith}
 use Rattle.std.proofs.lemmas.List.{length-map}
-use Rattle.contraction.specs.Answers.{Answers, Keeps}
+use Rattle.contraction.specs.Answers.{Answers}
 use Rattle.contraction.specs.Renaming.{mapped}
 use Rattle.contraction.proofs.MappedLemmas.{keeps_map}
 use Rattle.bay_contract.specs.PartAlphabets.{Alphabets}
 use Rattle.decision_graphs.specs.Label.{Layer, Layered, layer_at, label_of}
-use Rattle.release_compile.specs.declared.view.View.{View}
 use Rattle.release_compile.specs.declared.pool.Pool.{Pool}
 use Rattle.release_compile.specs.declared.noted.Intake.{Intake}
 use Rattle.release_compile.specs.declared.noted.Copied.{Copied}
@@ -61,7 +60,7 @@ taken_again-requires-clause-few c =
 pub codes-requires-clause-within : goal.codes-requires-clause-within
 codes-requires-clause-within c k i at =
     let t = c.in_ok-whole.ensures.taken in
-    t.right.within k i (ap (λ (xs : List ℕ). slice_get xs k) (sym t.names ∙ refl) ∙ (ap (λ (xs : List ℕ). slice_get xs k) (sym c.as_slice-states.ensures.value) ∙ at))
+    t.right.within k i (ap (λ (xs : List ℕ). slice_get xs k) (sym t.names) ∙ (ap (λ (xs : List ℕ). slice_get xs k) (sym c.as_slice-states.ensures.value) ∙ at))
 
 pub codes-requires-clause-places : goal.codes-requires-clause-places
 codes-requires-clause-places c k place x at kept =

@@ -1,4 +1,4 @@
-use Rattle.std.proofs.Common.{◌≡◌, ◌∙◌, ℕ, List, [], Vec, Global, map, suc, refl, sym, inl, inr, arith}
+use Rattle.std.proofs.Common.{ℕ, List, [], Vec, Global, map, refl, inl, inr, arith}
 use Rattle.contraction.specs.Answers.{Answers}
 use Rattle.bay_contract.specs.PartAlphabets.{Alphabets}
 use Rattle.release_compile.specs.declared.pool.Pool.{Pool}

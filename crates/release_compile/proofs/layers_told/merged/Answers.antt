@@ -1,4 +1,4 @@
-use Rattle.std.proofs.Common.{◌<◌, arith}
+use Rattle.std.proofs.Common.{arith}
 use Rattle.release_compile.proofs.PartnerChoices.{some_label}
 use Rattle.release_compile.proofs.layers_told.merged.Goals as goal
 

@@ -1,4 +1,4 @@
-use Rattle.std.proofs.Common.{◌≡◌, ◌+◌, ℕ, List, Bool, sym, subst, arith}
+use Rattle.std.proofs.Common.{◌≡◌, ◌+◌, List, Bool, sym, subst, arith}
 use Rattle.station_graph.specs.Diagram.{node_count}
 use Rattle.release_compile.specs.Needing.{AreMet}
 use Rattle.release_compile.proofs.NodesLemmas.{met_none, met_more}

@@ -1,9 +1,9 @@
-use Rattle.std.proofs.Common.{◌≡◌, ◌∙◌, ◌++◌, ◌∷◌, [], List, length, slice_get, Some, refl, sym, ap, subst}
+use Rattle.std.proofs.Common.{◌∙◌, ◌++◌, ◌∷◌, [], List, length, slice_get, sym, ap, subst}
 use Rattle.release_compile.specs.declared.noted.Intake.{Intake}
 use Rattle.release_compile.specs.declared.noted.Noted.{Noted}
-use Rattle.release_compile.specs.Noting.{rows_of, SameIntake, AreRight}
+use Rattle.release_compile.specs.Noting.{rows_of, AreRight}
 use Rattle.release_compile.proofs.LayerLemmas.{get_last}
-use Rattle.release_compile.proofs.LayeringLemmas.{grew_same, grows}
+use Rattle.release_compile.proofs.LayeringLemmas.{grows}
 use Rattle.release_compile.proofs.NotingLemmas.{all_right_stay, all_right_more}
 use Rattle.release_compile.proofs.noted.noted_at.Goals as goal
 

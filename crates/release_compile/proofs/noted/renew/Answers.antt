@@ -1,4 +1,4 @@
-use Rattle.std.proofs.Common.{◌≡◌, IsTrue, true, rules, refl, sym, ap, subst, arith}
+use Rattle.std.proofs.Common.{IsTrue, true, rules, refl, sym, ap, subst, arith}
 use Rattle.release_compile.specs.declared.noted.Intake.{Intake}
 use Rattle.release_compile.specs.Noting.{rows_of, IsRight}
 use Rattle.release_compile.proofs.noted.renew.Goals as goal

@@ -1,4 +1,4 @@
-use Rattle.std.proofs.Common.{◌≡◌, ℕ, ◌<◌, ◌+◌, suc, List, [], ◌∷◌, Vec, Global, slice_get, Some, length, map, refl, sym, ap, ◌∙◌, subst, inl, inr, arith, rules, IsTrue, true}
+use Rattle.std.proofs.Common.{◌≡◌, ℕ, ◌<◌, suc, List, [], ◌∷◌, Vec, Global, slice_get, Some, length, map, refl, sym, ap, ◌∙◌, subst, inl, inr, arith, rules, IsTrue, true}
 use Rattle.std.proofs.lemmas.Option.{slice_get_read, slice_get_within, same_Some}
 use Rattle.std.proofs.lemmas.Bool.{cases_lt}
 use Rattle.release_compile.proofs.noted.same_rows.Goals as goal

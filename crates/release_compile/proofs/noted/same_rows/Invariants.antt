@@ -1,4 +1,4 @@
-use Rattle.std.proofs.Common.{◌≡◌, ℕ, ◌<◌, Vec, Global, slice_get, Some, length}
+use Rattle.std.proofs.Common.{◌≡◌, ℕ, ◌<◌, Vec, Global, slice_get, Some}
 use Rattle.release_compile.proofs.noted.same_rows.Given as goal
 
 abbrev pub invariant-loop-place : goal.invariant-loop-place

@@ -1,4 +1,4 @@
-use Rattle.std.proofs.Common.{◌≡◌, ◌∙◌, length, subst, sym}
+use Rattle.std.proofs.Common.{◌∙◌, subst, sym}
 use Rattle.release_compile.specs.declared.noted.Intake.{Intake}
 use Rattle.release_compile.specs.Lettered.{Lettered, lettered}
 use Rattle.release_compile.specs.Layering.{values_at}

@@ -1,5 +1,4 @@
-use Rattle.std.proofs.Common.{◌≡◌, ◌∙◌, ℕ, List, Vec, Global, map, length, suc, sym, ap, subst, arith}
-use Rattle.std.proofs.lemmas.List.{length-map}
+use Rattle.std.proofs.Common.{ℕ, List, Vec, Global, map, subst}
 use Rattle.station_graph.specs.Diagram.{part_count}
 use Rattle.release_compile.specs.declared.pool.Pool.{Pool}
 use Rattle.release_compile.specs.Lettered.{Lettered, lettered}

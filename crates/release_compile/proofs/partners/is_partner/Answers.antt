@@ -1,4 +1,4 @@
-use Rattle.std.proofs.Common.{◌≡◌, ℕ, List, Bool, true, false, get_or, MatchBool, sym, ap, ◌∙◌, subst}
+use Rattle.std.proofs.Common.{◌≡◌, ℕ, List, Bool, false, get_or, MatchBool, sym, ap, ◌∙◌, subst}
 use Rattle.station_graph.specs.Alike.{Irrelevant, Partner}
 use Rattle.release_compile.specs.Graphs.{other_of}
 use Rattle.release_compile.specs.Built.{BayOf, AreTold}

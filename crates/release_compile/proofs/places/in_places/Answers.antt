@@ -1,4 +1,4 @@
-use Rattle.std.proofs.Common.{◌≡◌, ◌∙◌, ℕ, List, map, length, sym, ap, subst, arith}
+use Rattle.std.proofs.Common.{◌∙◌, ℕ, List, map, length, ap, subst, arith}
 use Rattle.std.proofs.lemmas.List.{length-map}
 use Rattle.contraction.specs.Answers.{Answers, Keeps}
 use Rattle.contraction.specs.Renaming.{renamed}

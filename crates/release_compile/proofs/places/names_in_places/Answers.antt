@@ -1,6 +1,6 @@
-use Rattle.std.proofs.Common.{◌≡◌, ◌+◌, ◌∙◌, ◌<◌, ℕ, List, get_or, slice_get, Some, length, refl, sym, subst, arith}
+use Rattle.std.proofs.Common.{◌≡◌, ◌+◌, ℕ, List, get_or, slice_get, Some, length, sym, subst, arith}
 use Rattle.std.proofs.lemmas.List.{length-map}
-use Rattle.std.proofs.lemmas.Option.{slice_get-get_or, same_Some}
+use Rattle.std.proofs.lemmas.Option.{slice_get-get_or}
 use Rattle.contraction.specs.Answers.{Answers}
 use Rattle.release_compile.specs.Places.{node_of, pool_on}
 use Rattle.release_compile.specs.Layering.{values_at, no_answers}

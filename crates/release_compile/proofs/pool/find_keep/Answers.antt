@@ -1,4 +1,4 @@
-use Rattle.std.proofs.Common.{◌≡◌, Some, List, ℕ, slice_get, refl, sym, ap, ◌∙◌}
+use Rattle.std.proofs.Common.{Some, List, ℕ, refl, sym, ap, ◌∙◌}
 use Rattle.std.proofs.lemmas.Slice.Eq.{bytes_eq-Decides}
 use Rattle.std.proofs.lemmas.Option.{slice_get_read}
 use Rattle.release_compile.proofs.pool.find_keep.Goals as goal

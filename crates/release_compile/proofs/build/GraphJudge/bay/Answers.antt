@@ -1,9 +1,7 @@
-use Rattle.std.proofs.Common.{◌≡◌, ◌∙◌, map, slice_get, Some, sym, ap, subst}
-use Rattle.std.specs.Prelude.{option_map}
-use Rattle.std.proofs.lemmas.Option.{slice_get-map}
+use Rattle.std.proofs.Common.{map, sym, ap, subst}
 use Rattle.station_graph.specs.Diagram.{part_count}
 use Rattle.release_compile.specs.Built.{BayOf, AreBayGraphs}
-use Rattle.release_compile.specs.BuiltView.{seen_bay, seen_part}
+use Rattle.release_compile.specs.BuiltView.{seen_part}
 use Rattle.release_compile.specs.Judging.{ground, or_no_bay}
 use Rattle.release_compile.specs.JudgingInside.{judging_of}
 use Rattle.release_compile.proofs.BayLemmas.{bay_listed, raw_bay}
