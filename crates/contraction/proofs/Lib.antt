@@ -24,3 +24,4 @@ pub mod RisingLemmas
 pub mod SameLemmas
 pub mod MoveLemmas
 pub mod OneViewLemmas
+pub mod MappedLemmas

@@ -1,5 +1,5 @@
 -- A value on other nodes.
-use Rattle.std.specs.Prelude.{◌≡◌, ℕ, List}
+use Rattle.std.specs.Prelude.{◌≡◌, ℕ, ◌<◌, List, map}
 use Rattle.contraction.specs.Answers.{Answers}
 use Rattle.contraction.specs.declared.row.Row.{Row}
 
@@ -15,6 +15,14 @@ renamed nodes c = record {
   fed = c.fed;
   loaded = c.loaded;
 }
+
+-- The map keeps the order of numbers.
+abbrev pub KeepsOrder : (ℕ → ℕ) → Type 0
+KeepsOrder f = (a b : ℕ) → a < b → f a < f b
+
+-- The same rows, with each kept node mapped to another.
+abbrev pub mapped : (ℕ → ℕ) → Answers → Answers
+mapped f c = renamed (map f c.kept) c
 
 -- Two rows have the same labels and marks.
 pub record SameRow (x y : Row) : Type 0 where

@@ -5,8 +5,8 @@ use Rattle.std.proofs.lemmas.List.{length-map}
 use Rattle.std.proofs.lemmas.Option.{slice_get-map, get_or_from_slice_get, same_Some, none-some}
 use Rattle.contraction.specs.Answers.{Answers, Keeps}
 use Rattle.release_compile.specs.declared.view.View.{View}
-use Rattle.release_compile.specs.Seen.{Carries}
-use Rattle.release_compile.specs.Folding.{Carried, AreApart, AreWell, IsStep, AreReached}
+use Rattle.release_compile.specs.Seen.{ComposesIn}
+use Rattle.release_compile.specs.Folding.{Carried, AreApart, AreRising, IsStep, AreReached}
 use Rattle.release_compile.specs.Layering.{LeadsToMade, AreEdges, no_answers, values_at}
 
 pub from_map : {X Y : Type 0} (f : X → Y) (o : Option X) (y : Y) → option_map f o ≡ Some y → (x : X) × (o ≡ Some x) × (f x ≡ y)
@@ -20,7 +20,7 @@ pub number_at : (values : List Answers) (ids : List ℕ) (k i : ℕ) (x : Answer
 number_at values ids k i x at listed =
     slice_get-map (λ n. get_or values n no_answers) ids k ∙ (ap (option_map (λ n. get_or values n no_answers)) at ∙ ap Some (get_or_from_slice_get values i x no_answers listed))
 
-module _ (view : View) (values : List Answers) (keep states letters next edges : List ℕ) (n : ℕ) (h : AreEdges view values keep states letters next edges n) (apart : AreApart view values) (well : AreWell values) where
+module _ (view : View) (values : List Answers) (keep states letters next edges : List ℕ) (n : ℕ) (h : AreEdges view values keep states letters next edges n) (apart : AreApart view values) (rising : AreRising values) where
   states_len : length (values_at values states) ≡ length states
   states_len = length-map states (λ i. get_or values i no_answers)
 
@@ -57,7 +57,7 @@ module _ (view : View) (values : List Answers) (keep states letters next edges :
   pub reached_by_edges : AreReached view keep (values_at values states) (values_at values letters) (values_at values next)
   reached_by_edges = record {
     kept = λ t r at. (next_made t r at).3;
-    well = λ t r at. let m = next_made t r at in well m.0 r m.2;
+    rising = λ t r at. let m = next_made t r at in rising m.0 r m.2;
     apart = λ t u x y at_t at_u same.
         let m = next_made t x at_t in
         let q = next_made u y at_u in
@@ -76,7 +76,7 @@ module _ (view : View) (values : List Answers) (keep states letters next edges :
           y = l.y;
           first = number_at values states (w.0 / length letters) w.1 l.x w.4 l.first;
           second = number_at values letters (w.0 % length letters) w.2 l.y w.5 l.second;
-          carries = subst (λ z. Carries view l.x l.y z) is l.made.carries;
+          composes = subst (λ z. ComposesIn view l.x l.y z) is l.made.composes;
         };
   }
 
@@ -93,10 +93,10 @@ module _ (view : View) (values : List Answers) (keep states letters next edges :
         subst (λ z. Carried view x z (values_at values next) (get_or edges p 0)) ey (subst (λ z. Carried view z l.y (values_at values next) (get_or edges p 0)) ex (record {
           value = l.made.value;
           listed = number_at values next (get_or edges p 0) l.id l.made.value l.at l.made.listed;
-          carries = l.made.carries;
+          composes = l.made.composes;
         }));
     kept = λ t r at. (next_made t r at).3;
-    well = λ t r at. let m = next_made t r at in well m.0 r m.2;
+    rising = λ t r at. let m = next_made t r at in rising m.0 r m.2;
     apart = λ t u x y at_t at_u same.
         let m = next_made t x at_t in
         let q = next_made u y at_u in

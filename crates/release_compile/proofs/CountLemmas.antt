@@ -5,8 +5,8 @@ use Rattle.station_graph.specs.Diagram.{Diagram}
 use Rattle.station_graph.specs.Connection.{Item}
 use Rattle.station_graph.specs.Alike.{IsVector, Alike}
 use Rattle.station_graph.specs.Sharing.{OfPart}
-use Rattle.contraction.specs.Answers.{Answers, Keeps, IsContraction}
-use Rattle.contraction.proofs.RisingLemmas.{kept_equal}
+use Rattle.contraction.specs.Answers.{Answers, Keeps}
+use Rattle.contraction.proofs.RisingLemmas.{rising_equal}
 use Rattle.contraction.proofs.SameLemmas.{gap_self, load_self, gap_fewer, load_fewer}
 use Rattle.contraction.proofs.ViewLemmas.{gap_told, load_told}
 use Rattle.bay_contract.specs.Counting.{AreDistinct, HasSame, AreSoMany}
@@ -14,7 +14,7 @@ use Rattle.bay_contract.proofs.ViewIndexLemmas.{list_of}
 use Rattle.release_compile.specs.declared.view.View.{View}
 use Rattle.release_compile.specs.declared.view.View.TheVariants.{Gap, Load}
 use Rattle.release_compile.specs.Seen.{SeenFor, SameSeen, SameView}
-use Rattle.release_compile.specs.Folding.{StandsIn, AreWell, AreApart, AreMade, AreViews}
+use Rattle.release_compile.specs.Folding.{StandsIn, AreRising, AreApart, AreMade, AreViews}
 use Rattle.release_compile.specs.Counted.{AreAtLeast}
 
 -- values that answer in vectors with one view are the same
@@ -34,7 +34,7 @@ pub record AnswersIn (view : View) (These : Item → Type 0) (d : Diagram) (valu
   pub listed : slice_get values t ≡ Some value
   pub seen : SeenFor view These d v value
 
-module _ (view : View) (These : Item → Type 0) (d : Diagram) (Kept : ℕ → Type 0) (values : List Answers) (kept : (t : ℕ) (r : Answers) → slice_get values t ≡ Some r → (n : ℕ) → Keeps r.kept n ↔ Kept n) (well : AreWell values) (apart : AreApart view values) (made : AreMade view These d values) where
+module _ (view : View) (These : Item → Type 0) (d : Diagram) (Kept : ℕ → Type 0) (values : List Answers) (kept : (t : ℕ) (r : Answers) → slice_get values t ≡ Some r → (n : ℕ) → Keeps r.kept n ↔ Kept n) (rising : AreRising values) (apart : AreApart view values) (made : AreMade view These d values) where
   answers_some : (t : ℕ) → t < length values → (v : List Bool) × AnswersIn view These d values t v
   answers_some t lt =
       let (r, at) = some_at values t lt in
@@ -48,7 +48,7 @@ module _ (view : View) (These : Item → Type 0) (d : Diagram) (Kept : ℕ → T
 
   apart_in : (t u : ℕ) (v w : List Bool) → AnswersIn view These d values t v → AnswersIn view These d values u w → SameView view Kept These d v w → t ≡ u
   apart_in t u v w a b same =
-      let one = kept_equal a.value b.value (well t a.value a.listed) (well u b.value b.listed) (λ n. (λ k. (kept u b.value b.listed n).1 ((kept t a.value a.listed n).0 k), λ k. (kept t a.value a.listed n).1 ((kept u b.value b.listed n).0 k))) in
+      let one = rising_equal a.value.kept b.value.kept (rising t a.value a.listed) (rising u b.value b.listed) (λ n. (λ k. (kept u b.value b.listed n).1 ((kept t a.value a.listed n).0 k), λ k. (kept t a.value a.listed n).1 ((kept u b.value b.listed n).0 k))) in
       apart t u a.value b.value a.listed b.listed (view_told view These d v w a.value b.value Kept one (λ n k. (kept t a.value a.listed n).0 k) a.seen b.seen same)
 
   distinct_of : (list : List (List Bool)) → ((t : ℕ) (v : List Bool) → slice_get list t ≡ Some v → AnswersIn view These d values t v) → AreDistinct d (SameView view Kept These d) list

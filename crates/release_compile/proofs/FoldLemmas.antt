@@ -19,6 +19,7 @@ use Rattle.release_compile.specs.Folding.{IsStep, StandsIn, AreChosen, AreViews,
 use Rattle.release_compile.specs.Plans.{CanBoth}
 use Rattle.decision_graphs.specs.Finished.{layer_with}
 use Rattle.release_compile.proofs.StepLemmas.{carried_at, layer_fits}
+use Rattle.release_compile.proofs.MappedViews.{carries_of}
 use Rattle.release_compile.proofs.CountLemmas.{views_so_many}
 use Rattle.release_compile.proofs.MadeLemmas.{step_reaches, made_more, cover_more}
 use Rattle.release_compile.proofs.LayerLemmas.{snoc, get_front, get_last, leads_more, layers_more}
@@ -49,7 +50,7 @@ module _ (view : View) (d : Diagram) (Chosen : ℕ → ℕ → List Bool → Typ
     count = longer j ls (layer_with (length letters) (length states) edges) old.count;
     fits = layers_more (length next) ls (layer_with (length letters) (length states) edges) (subst (λ n. AreLayers n ls) (sym (length-rows_of (length letters) (length states) edges)) old.fits) (layer_fits view keep states letters next edges s some_state some_letter);
     kept = λ t r at n. (λ k. (needed n).0 ((s.kept t r at n).0 k), λ h. (s.kept t r at n).1 ((needed n).1 h));
-    well = s.well;
+    rising = s.rising;
     apart = s.apart;
     stands = λ v cs whole len chosen.
         let parts = snoc j cs len in
@@ -65,7 +66,7 @@ module _ (view : View) (d : Diagram) (Chosen : ℕ → ℕ → List Bool → Typ
         record {
           value = r.value;
           listed = ap (slice_get next) led ∙ r.listed;
-          stands = subst (λ xs. SeenFor view (Among xs) d v r.value) (sym more) (r.carries (items j) new d v (meets (leads ls 0 front) last before.value here.value before.listed here.listed) before.stands here.stands);
+          stands = subst (λ xs. SeenFor view (Among xs) d v r.value) (sym more) (carries_of view before.value here.value r.value r.composes (items j) new d v (meets (leads ls 0 front) last before.value here.value before.listed here.listed) before.stands here.stands);
         };
     views = subst (λ xs. AreViews view (Among xs) d next) (sym more) (record {
       made = made_more view d (items j) new keep states letters next meets (step_reaches view keep states letters next edges s some_letter) give old.views.made;
@@ -75,7 +76,7 @@ module _ (view : View) (d : Diagram) (Chosen : ℕ → ℕ → List Bool → Typ
       | inl before ↦ old.counted i l before
       | inr here ↦
           let e : j ≡ i = sym (here.0 ∙ old.count) in
-          let now = views_so_many view (Among (items j)) d (Needed j) states old.kept old.well old.apart old.views.made old.views.cover in
+          let now = views_so_many view (Among (items j)) d (Needed j) states old.kept old.rising old.apart old.views.made old.views.cover in
           let rows : length states ≡ length l.rows = sym (length-rows_of (length letters) (length states) edges) ∙ ap (λ (m : Layer). length m.rows) here.1 in
           subst (λ n. AreSoMany d (SameView view (Needed i) (Among (items i)) d) n) rows
           (subst (λ k. AreSoMany d (SameView view (Needed k) (Among (items k)) d) (length states)) e now)

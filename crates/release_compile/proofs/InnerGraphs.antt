@@ -17,7 +17,6 @@ use Rattle.release_compile.specs.declared.view.View.{View}
 use Rattle.release_compile.specs.declared.pool.Pool.{Pool}
 use Rattle.release_compile.specs.Lettered.{Lettered}
 use Rattle.decision_graphs.specs.declared.finished.FinishedLayer.{FinishedLayer}
-use Rattle.release_compile.specs.Pooling.{GrewTo}
 use Rattle.bay_contract.specs.Counting.{AreSoMany}
 use Rattle.release_compile.specs.Seen.{SameView}
 use Rattle.release_compile.specs.Counted.{InnerIsSmall}
@@ -33,7 +32,7 @@ use Rattle.release_compile.proofs.InnerFits.{number_of}
 use Rattle.release_compile.proofs.InnerEdges.{before_items}
 use Rattle.release_compile.proofs.OuterFits.{seen_over, others_all, needed_at}
 use Rattle.release_compile.proofs.PlacingLemmas.{switch_not}
-use Rattle.release_compile.proofs.LayeringLemmas.{grew_more}
+use Rattle.release_compile.proofs.LayeringLemmas.{Grows, grows_more}
 use Rattle.release_compile.proofs.InputsLemmas.{base_listed, listed_base, keeps_stay, names_stay, links_stay}
 use Rattle.release_compile.proofs.ChoiceLemmas.{choices_each, row_choices, same_choices, same_count}
 
@@ -220,13 +219,12 @@ ends_kept d m first others x kept s at = record {
 }
 
 -- what the layers of an inner graph take in, from what the calls give
-pub inner_ready : (a : Lettered) (b m first others : ℕ) (p0 p1 p2 p3 : Pool) (nodes : List ℕ) (start : ℕ) (names : List ℕ) (rows : List (List ℕ)) (keeps : List ℕ) → IsStation a.diagram → b < part_count a.diagram → IsOwn a.diagram b m first others → GrewTo p0 p1 → GrewTo p1 p2 → GrewTo p2 p3 → AreNames p0 a.diagram b names → ((n : ℕ) → Contains nodes n ↔ InnerNeeds a.diagram b m first others 0 n) → HasLinks p1 a.diagram b (Contains nodes) start → AreKeeps (InnerNeeds a.diagram b m first others) p2 keeps (suc (suc others)) → AreInnerRows a.diagram m first p3 names rows others → IsInnerReady a b m first others p3 start names rows keeps
+pub inner_ready : (a : Lettered) (b m first others : ℕ) (p0 p1 p2 p3 : Pool) (nodes : List ℕ) (start : ℕ) (names : List ℕ) (rows : List (List ℕ)) (keeps : List ℕ) → IsStation a.diagram → b < part_count a.diagram → IsOwn a.diagram b m first others → Grows p0 p1 → Grows p1 p2 → Grows p2 p3 → AreNames p0 a.diagram b names → ((n : ℕ) → Contains nodes n ↔ InnerNeeds a.diagram b m first others 0 n) → HasLinks p1 a.diagram b (Contains nodes) start → AreKeeps (InnerNeeds a.diagram b m first others) p2 keeps (suc (suc others)) → AreInnerRows a.diagram m first p3 names rows others → IsInnerReady a b m first others p3 start names rows keeps
 inner_ready a b m first others p0 p1 p2 p3 nodes start names rows keeps station b_in own g1 g2 g3 named exact begins kept are = record {
   station = station;
-  pool = g3.is_pool;
   bay_in = b_in;
   own = own;
-  named = names_stay p0 p3 (grew_more p0 p2 p3 (grew_more p0 p1 p2 g1 g2) g3) a.diagram b names named;
+  named = names_stay p0 p3 (grows_more p0 p2 p3 (grows_more p0 p1 p2 g1 g2) g3) a.diagram b names named;
   rows = are;
   needed = keeps_stay p2 p3 g3 (InnerNeeds a.diagram b m first others) keeps (suc (suc others)) kept;
   begins =
@@ -236,7 +234,7 @@ inner_ready a b m first others p0 p1 p2 p3 nodes start names rows keeps station 
         kept = λ n. (λ h. (exact n).0 ((begins.kept n).0 h), λ h. (begins.kept n).1 ((exact n).1 h));
         stands = begins.stands;
       } in
-      links_stay p1 p3 (grew_more p1 p2 p3 g2 g3) a.diagram b (InnerNeeds a.diagram b m first others 0) start here;
+      links_stay p1 p3 (grows_more p1 p2 p3 g2 g3) a.diagram b (InnerNeeds a.diagram b m first others 0) start here;
 }
 
 pub inner_choices : (d : Diagram) (m first others : ℕ) (p : Pool) (names : List ℕ) (rows : List (List ℕ)) (ds : List FinishedLayer) → AreInnerRows d m first p names rows others → map (λ (l : FinishedLayer). l.choices) ds ≡ map length rows → (i : ℕ) → i < others → (layer_at (layers_of ds) (suc i)).choices ≡ 2

@@ -19,7 +19,7 @@ use Rattle.release_compile.specs.declared.view.View.{View}
 use Rattle.release_compile.specs.declared.pool.Pool.{Pool}
 use Rattle.release_compile.specs.Lettered.{Lettered, letters_in}
 use Rattle.release_compile.specs.Seen.{SeenFor}
-use Rattle.release_compile.specs.Pooling.{IsPool, GrewTo, HasSame, HasCopy}
+use Rattle.release_compile.specs.Pooling.{HasSame, HasCopy}
 use Rattle.release_compile.specs.Layering.{values_at, no_answers}
 use Rattle.release_compile.specs.Folding.{AreViews}
 use Rattle.release_compile.specs.Graphs.{other_of, OfOthers}
@@ -28,13 +28,13 @@ use Rattle.release_compile.specs.Inputs.{HasNodes, AreKeeps, HasCopyAt, AreCopie
 use Rattle.release_compile.proofs.LayerLemmas.{get_front, get_last}
 use Rattle.release_compile.proofs.OuterLemmas.{among_from, among_to}
 use Rattle.release_compile.proofs.OuterFits.{seen_over, seen_of, seen_same, kept_of_same}
-use Rattle.release_compile.proofs.LayeringLemmas.{grew_in}
+use Rattle.release_compile.proofs.LayeringLemmas.{Grows, value_in}
 use Rattle.release_compile.proofs.PlanLemmas.{values_more}
 use Rattle.std.proofs.lemmas.Bool.{cases_lt}
 
 -- ---- growing
 
-module _ (p q : Pool) (g : GrewTo p q) where
+module _ (p q : Pool) (g : Grows p q) where
   pub nodes_stay : (Kind : ℕ → Type 0) (k : ℕ) → HasNodes Kind p k → HasNodes Kind q k
   nodes_stay Kind k h = record { nodes = h.nodes; listed = g.keeps k h.nodes h.listed; exact = h.exact }
 
@@ -85,7 +85,7 @@ module _ (p q : Pool) (g : GrewTo p q) where
   pub names_stay : (d : Diagram) (b : ℕ) (names : List ℕ) → AreNames p d b names → AreNames q d b names
   names_stay d b names h = record {
     some = h.some;
-    within = λ t i at. grew_in p q i no_answers g (h.within t i at);
+    within = λ t i at. value_in p q i no_answers g (h.within t i at);
     kept = λ t x at. h.kept t x (ap (λ l. slice_get l t) (sym (values_more p.values.items q.values.items names g.values h.within)) ∙ at);
     views = subst (λ w. AreViews w (OfOthers d b) d (values_at q.values.items names)) (sym g.view)
         (subst (λ xs. AreViews p.view (OfOthers d b) d xs) (sym (values_more p.values.items q.values.items names g.values h.within)) h.views);
@@ -100,7 +100,7 @@ keeps_none Needed p = record { len = refl; each = λ j k at. absurd (no_entry j 
     no_entry zero k at = cc
     no_entry (suc j) k at = cc
 
-pub keeps_more : (Needed : ℕ → ℕ → Type 0) (p q : Pool) (keeps : List ℕ) (n id : ℕ) → GrewTo p q → AreKeeps Needed p keeps n → HasNodes (Needed n) q id → AreKeeps Needed q (keeps ++ id ∷ []) (n + 1)
+pub keeps_more : (Needed : ℕ → ℕ → Type 0) (p q : Pool) (keeps : List ℕ) (n id : ℕ) → Grows p q → AreKeeps Needed p keeps n → HasNodes (Needed n) q id → AreKeeps Needed q (keeps ++ id ∷ []) (n + 1)
 keeps_more Needed p q keeps n id g h new = record {
   len = omega (arith, length_push keeps id, h.len);
   each = λ j k at. elim (slice_get-push keeps id k j at) [
@@ -117,7 +117,7 @@ pub record CopiesBelow (p : Pool) (values : List Answers) (ids : List ℕ) (n : 
 pub copies_none : (p : Pool) (values : List Answers) → CopiesBelow p values [] 0
 copies_none p values = record { len = refl; each = λ c x lt at. absurd (omega (arith, lt)) }
 
-pub copies_more : (p q : Pool) (values : List Answers) (ids : List ℕ) (n id : ℕ) (y : Answers) → GrewTo p q → CopiesBelow p values ids n → slice_get values n ≡ Some y → HasCopy q y id → CopiesBelow q values (ids ++ id ∷ []) (n + 1)
+pub copies_more : (p q : Pool) (values : List Answers) (ids : List ℕ) (n id : ℕ) (y : Answers) → Grows p q → CopiesBelow p values ids n → slice_get values n ≡ Some y → HasCopy q y id → CopiesBelow q values (ids ++ id ∷ []) (n + 1)
 copies_more p q values ids n id y g h at_n copy = record {
   len = omega (arith, length_push ids id, h.len);
   each = λ c x lt at. by c x lt at;
@@ -142,7 +142,7 @@ rows_none a b p = record { len = refl; each = λ j ids at. absurd (no_row j ids 
     no_row zero ids at = cc
     no_row (suc j) ids at = cc
 
-pub rows_more : (a : Lettered) (b : ℕ) (p q : Pool) (rows : List (List ℕ)) (n : ℕ) (row : List ℕ) → GrewTo p q → AreRows a b p rows n → AreCopies q (letters_in a (other_of 0 b n)) row → AreRows a b q (rows ++ row ∷ []) (n + 1)
+pub rows_more : (a : Lettered) (b : ℕ) (p q : Pool) (rows : List (List ℕ)) (n : ℕ) (row : List ℕ) → Grows p q → AreRows a b p rows n → AreCopies q (letters_in a (other_of 0 b n)) row → AreRows a b q (rows ++ row ∷ []) (n + 1)
 rows_more a b p q rows n row g h new = record {
   len = omega (arith, length_push rows row, h.len);
   each = λ j ids at. elim (slice_get-push rows row ids j at) [
@@ -158,7 +158,7 @@ letters_none a p = record { len = refl; each = λ part ids at. absurd (no_row pa
     no_row zero ids at = cc
     no_row (suc j) ids at = cc
 
-pub letters_more : (a : Lettered) (p q : Pool) (rows : List (List ℕ)) (n : ℕ) (row : List ℕ) → GrewTo p q → AreLetters a p rows n → AreCopies q (letters_in a n) row → AreLetters a q (rows ++ row ∷ []) (n + 1)
+pub letters_more : (a : Lettered) (p q : Pool) (rows : List (List ℕ)) (n : ℕ) (row : List ℕ) → Grows p q → AreLetters a p rows n → AreCopies q (letters_in a n) row → AreLetters a q (rows ++ row ∷ []) (n + 1)
 letters_more a p q rows n row g h new = record {
   len = omega (arith, length_push rows row, h.len);
   each = λ j ids at. elim (slice_get-push rows row ids j at) [
@@ -194,7 +194,7 @@ inner_rows_first d m first p names = record { len = refl; first_row = refl; pair
     no_row zero ids at = cc
     no_row (suc i) ids at = cc
 
-pub inner_rows_more : (d : Diagram) (m first : ℕ) (p q : Pool) (names : List ℕ) (rows : List (List ℕ)) (n : ℕ) (row : List ℕ) → GrewTo p q → AreInnerRows d m first p names rows n → HasPair q d (other_of first m n) row → AreInnerRows d m first q names (rows ++ row ∷ []) (n + 1)
+pub inner_rows_more : (d : Diagram) (m first : ℕ) (p q : Pool) (names : List ℕ) (rows : List (List ℕ)) (n : ℕ) (row : List ℕ) → Grows p q → AreInnerRows d m first p names rows n → HasPair q d (other_of first m n) row → AreInnerRows d m first q names (rows ++ row ∷ []) (n + 1)
 inner_rows_more d m first p q names rows n row g h new = record {
   len = omega (arith, length_push rows row, h.len);
   first_row = get_front rows (row ∷ []) 0 names h.first_row;
@@ -206,28 +206,28 @@ inner_rows_more d m first p q names rows n row g h new = record {
 
 -- ---- what is interned
 
-pub copy_of : (q : Pool) (x value : Answers) (id : ℕ) → IsPool q → HasSame q value id → ((n : ℕ) → Keeps value.kept n ↔ Keeps x.kept n) → ((view : View) (items : List Item) (d : Diagram) (v : List Bool) → SeenFor view (Among items) d v x → SeenFor view (Among items) d v value) → HasCopy q x id
-copy_of q x value id pool h kept stands = record {
+pub copy_of : (q : Pool) (x value : Answers) (id : ℕ) → HasSame q value id → ((n : ℕ) → Keeps value.kept n ↔ Keeps x.kept n) → ((view : View) (items : List Item) (d : Diagram) (v : List Bool) → SeenFor view (Among items) d v x → SeenFor view (Among items) d v value) → HasCopy q x id
+copy_of q x value id h kept stands = record {
   value = h.same;
   listed = h.listed;
   kept = λ n. subst (λ ks. Keeps ks n ↔ Keeps x.kept n) (kept_of_same q.view value h.same h.is_same) (kept n);
-  stands = λ items d v s. seen_same q.view (Among items) d v value h.same h.well (pool.well id h.same h.listed) h.is_same (stands q.view items d v s);
+  stands = λ items d v s. seen_same q.view (Among items) d v value h.same h.well h.well_same h.is_same (stands q.view items d v s);
 }
 
-pub nothing_of : (q : Pool) (value : Answers) (id : ℕ) → IsPool q → HasSame q value id → value.kept ≡ [] → ((d : Diagram) (v : List Bool) → StandsFor (Among []) d v value) → HasNothing q id
-nothing_of q value id pool h bare stands = record {
+pub nothing_of : (q : Pool) (value : Answers) (id : ℕ) → HasSame q value id → value.kept ≡ [] → ((d : Diagram) (v : List Bool) → StandsFor (Among []) d v value) → HasNothing q id
+nothing_of q value id h bare stands = record {
   value = h.same;
   listed = h.listed;
   bare = sym (kept_of_same q.view value h.same h.is_same) ∙ bare;
-  stands = λ d v. seen_same q.view (Among []) d v value h.same h.well (pool.well id h.same h.listed) h.is_same (seen_of q.view (Among []) d v value (stands d v));
+  stands = λ d v. seen_same q.view (Among []) d v value h.same h.well h.well_same h.is_same (seen_of q.view (Among []) d v value (stands d v));
 }
 
-pub switch_of : (q : Pool) (d : Diagram) (i : ℕ) (closed : Bool) (value : Answers) (id : ℕ) → IsPool q → HasSame q value id → ((n : ℕ) → Keeps value.kept n ↔ Touches d (a_switch i) n) → ((v : List Bool) → slice_get v i ≡ Some closed → StandsFor (Among (a_switch i ∷ [])) d v value) → HasSwitch q d i closed id
-switch_of q d i closed value id pool h kept stands = record {
+pub switch_of : (q : Pool) (d : Diagram) (i : ℕ) (closed : Bool) (value : Answers) (id : ℕ) → HasSame q value id → ((n : ℕ) → Keeps value.kept n ↔ Touches d (a_switch i) n) → ((v : List Bool) → slice_get v i ≡ Some closed → StandsFor (Among (a_switch i ∷ [])) d v value) → HasSwitch q d i closed id
+switch_of q d i closed value id h kept stands = record {
   value = h.same;
   listed = h.listed;
   kept = λ n. subst (λ ks. Keeps ks n ↔ Touches d (a_switch i) n) (kept_of_same q.view value h.same h.is_same) (kept n);
-  stands = λ v at. seen_same q.view (Among (a_switch i ∷ [])) d v value h.same h.well (pool.well id h.same h.listed) h.is_same (seen_of q.view (Among (a_switch i ∷ [])) d v value (stands v at));
+  stands = λ v at. seen_same q.view (Among (a_switch i ∷ [])) d v value h.same h.well h.well_same h.is_same (seen_of q.view (Among (a_switch i ∷ [])) d v value (stands v at));
 }
 
 sum_zero : (i : ℕ) → 0 + i ≡ i
@@ -253,11 +253,11 @@ listed_base d b it h = elim ((among_both _ _ it).1 h) [
       subst (λ i. IsBase d b i) is (r.1, r.2, eqb-true r.1.part.0 b r.3)
 ]
 
-pub links_of : (q : Pool) (d : Diagram) (b : ℕ) (nodes : List ℕ) (value : Answers) (id : ℕ) → IsPool q → HasSame q value id → ((n : ℕ) → Keeps value.kept n ↔ Contains nodes n) → ((v : List Bool) → StandsFor (IsBase d b) d v value) → HasLinks q d b (Contains nodes) id
-links_of q d b nodes value id pool h kept stands = record {
+pub links_of : (q : Pool) (d : Diagram) (b : ℕ) (nodes : List ℕ) (value : Answers) (id : ℕ) → HasSame q value id → ((n : ℕ) → Keeps value.kept n ↔ Contains nodes n) → ((v : List Bool) → StandsFor (IsBase d b) d v value) → HasLinks q d b (Contains nodes) id
+links_of q d b nodes value id h kept stands = record {
   value = h.same;
   listed = h.listed;
   kept = λ n. subst (λ ks. Keeps ks n ↔ Contains nodes n) (kept_of_same q.view value h.same h.is_same) (kept n);
-  stands = λ v. seen_same q.view (Among (own_links d b)) d v value h.same h.well (pool.well id h.same h.listed) h.is_same
+  stands = λ v. seen_same q.view (Among (own_links d b)) d v value h.same h.well h.well_same h.is_same
       (seen_over q.view (IsBase d b) (Among (own_links d b)) d v value (λ it is. (base_listed d b it, listed_base d b it)) (seen_of q.view (IsBase d b) d v value (stands v)));
 }

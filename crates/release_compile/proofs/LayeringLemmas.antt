@@ -15,6 +15,7 @@ use Rattle.contraction.specs.Answers.{Answers}
 use Rattle.release_compile.specs.declared.view.View.{View}
 use Rattle.release_compile.specs.declared.pool.Pool.{Pool}
 use Rattle.release_compile.specs.Pooling.{Extends, IsMade, WasMade, IsPool, GrewTo, EitherKeeps}
+use Rattle.release_compile.specs.Folding.{AreApart, AreRising}
 use Rattle.release_compile.specs.Layering.{NoneTwice, IsPlaced, LeadsToMade, AreEdges}
 use Rattle.release_compile.proofs.LayerLemmas.{get_front}
 
@@ -83,6 +84,30 @@ at_least n w some = omega (arith, mul-le-mul_left n (let h : 1 ≤ w = omega (ar
 
 -- ---- growing
 
+-- No two values are the same, and the nodes that each keeps rise.
+pub record AreSound (p : Pool) : Type 0 where
+  pub apart : AreApart p.view p.values.items
+  pub rising : AreRising p.values.items
+
+-- All values and lists of nodes of the one are those of the other.
+pub record Grows (old new : Pool) : Type 0 where
+  pub view : new.view ≡ old.view
+  pub keeps : Extends old.keeps.items new.keeps.items
+  pub values : Extends old.values.items new.values.items
+
+pub sound : (p : Pool) → IsPool p → AreSound p
+sound p h = record { apart = h.apart; rising = λ t r at. (h.well t r at).nodes.rises }
+
+pub grows : (p q : Pool) → GrewTo p q → Grows p q
+grows p q g = record { view = g.view; keeps = g.keeps; values = g.values }
+
+pub grows_more : (p q r : Pool) → Grows p q → Grows q r → Grows p r
+grows_more p q r a b = record {
+  view = b.view ∙ a.view;
+  keeps = λ k ns at. b.keeps k ns (a.keeps k ns at);
+  values = λ i x at. b.values i x (a.values i x at);
+}
+
 pub grew_same : (p : Pool) → IsPool p → GrewTo p p
 grew_same p h = record { is_pool = h; view = refl; keeps = λ k ns at. at; values = λ i x at. at }
 
@@ -94,20 +119,29 @@ grew_more p q r a b = record {
   values = λ i x at. b.values i x (a.values i x at);
 }
 
+pub value_in : (p q : Pool) (i : ℕ) (d : Answers) → Grows p q → i < length p.values.items → i < length q.values.items
+value_in p q i d g lt = slice_get_within q.values.items i (get_or p.values.items i d) (g.values i (get_or p.values.items i d) (slice_get-get_or p.values.items i d lt))
+
 pub grew_in : (p q : Pool) (i : ℕ) (d : Answers) → GrewTo p q → i < length p.values.items → i < length q.values.items
-grew_in p q i d g lt = slice_get_within q.values.items i (get_or p.values.items i d) (g.values i (get_or p.values.items i d) (slice_get-get_or p.values.items i d lt))
+grew_in p q i d g lt = value_in p q i d (grows p q g) lt
 
 -- lists of nodes that were there are there
-pub keep_in : (p q : Pool) (k : ℕ) → GrewTo p q → k < length p.keeps.items → k < length q.keeps.items
-keep_in p q k g lt = slice_get_within q.keeps.items k (get_or p.keeps.items k []) (g.keeps k (get_or p.keeps.items k []) (slice_get-get_or p.keeps.items k [] lt))
+pub list_in : (p q : Pool) (k : ℕ) → Grows p q → k < length p.keeps.items → k < length q.keeps.items
+list_in p q k g lt = slice_get_within q.keeps.items k (get_or p.keeps.items k []) (g.keeps k (get_or p.keeps.items k []) (slice_get-get_or p.keeps.items k [] lt))
 
-pub keep_was : (p q : Pool) (k : ℕ) (nodes : List ℕ) → GrewTo p q → k < length p.keeps.items → slice_get q.keeps.items k ≡ Some nodes → slice_get p.keeps.items k ≡ Some nodes
-keep_was p q k nodes g lt at =
+pub keep_in : (p q : Pool) (k : ℕ) → GrewTo p q → k < length p.keeps.items → k < length q.keeps.items
+keep_in p q k g lt = list_in p q k (grows p q g) lt
+
+pub list_was : (p q : Pool) (k : ℕ) (nodes : List ℕ) → Grows p q → k < length p.keeps.items → slice_get q.keeps.items k ≡ Some nodes → slice_get p.keeps.items k ≡ Some nodes
+list_was p q k nodes g lt at =
     let was = slice_get-get_or p.keeps.items k [] lt in
     was ∙ (sym (g.keeps k (get_or p.keeps.items k []) was) ∙ at)
 
+pub keep_was : (p q : Pool) (k : ℕ) (nodes : List ℕ) → GrewTo p q → k < length p.keeps.items → slice_get q.keeps.items k ≡ Some nodes → slice_get p.keeps.items k ≡ Some nodes
+keep_was p q k nodes g lt at = list_was p q k nodes (grows p q g) lt at
+
 made_more : (view : View) (x y : Answers) (keep : List ℕ) (values values' : List Answers) (t : ℕ) → Extends values values' → IsMade view x y keep values t → IsMade view x y keep values' t
-made_more view x y keep values values' t more m = record { value = m.value; listed = more t m.value m.listed; carries = m.carries; kept = m.kept }
+made_more view x y keep values values' t more m = record { value = m.value; listed = more t m.value m.listed; composes = m.composes; kept = m.kept }
 
 -- ---- edges
 

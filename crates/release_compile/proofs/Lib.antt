@@ -4,6 +4,8 @@ pub mod StepLemmas
 pub mod CountLemmas
 pub mod FoldLemmas
 pub mod ChainLemmas
+pub mod MappedViews
+pub mod MappedPools
 pub mod PoolLemmas
 pub mod LayeringLemmas
 pub mod VerdictLemmas
@@ -20,12 +22,14 @@ pub mod OuterFits
 pub mod InnerFits
 pub mod NodesLemmas
 pub mod InputsLemmas
+pub mod PlacesLemmas
 pub mod ChoiceLemmas
 pub mod NotingLemmas
 pub mod TellingLemmas
 pub mod OuterGraphs
 pub mod OuterTaken
 pub mod InnerGraphs
+pub mod InnerTaken
 pub mod CodeLemmas
 pub mod BayLemmas
 pub mod PlacingLemmas

@@ -7,18 +7,19 @@ use Rattle.station_graph.specs.Alike.{IsVector}
 use Rattle.contraction.specs.Answers.{Answers}
 use Rattle.contraction.specs.Stands.{Among, MeetsKept}
 use Rattle.release_compile.specs.declared.view.View.{View}
-use Rattle.release_compile.specs.Seen.{SeenFor, Carries}
+use Rattle.release_compile.specs.Seen.{SeenFor, ComposesIn}
 use Rattle.release_compile.specs.Folding.{StandsIn, IsStep, AreReached, AreMade, AreViews}
 use Rattle.release_compile.specs.Plans.{CanBoth}
 use Rattle.release_compile.specs.Layering.{no_answers}
 use Rattle.release_compile.proofs.LayeringLemmas.{state_in}
 use Rattle.release_compile.proofs.StepLemmas.{carried_at}
+use Rattle.release_compile.proofs.MappedViews.{carries_of}
 
 -- what a step leads to is reached
 pub step_reaches : (view : View) (keep : List ℕ) (states letters next : List Answers) (edges : List ℕ) → IsStep view keep states letters next edges → 0 < length letters → AreReached view keep states letters next
 step_reaches view keep states letters next edges s some = record {
   kept = s.kept;
-  well = s.well;
+  rising = s.rising;
   apart = s.apart;
   carried = λ t r at.
       let h = s.hit t r at in
@@ -37,7 +38,7 @@ step_reaches view keep states letters next edges s some = record {
         y = get_or letters (p % w) no_answers;
         first = at_x;
         second = at_y;
-        carries = subst (λ z. Carries view (get_or states (p / w) no_answers) (get_or letters (p % w) no_answers) z) same c.carries;
+        composes = subst (λ z. ComposesIn view (get_or states (p / w) no_answers) (get_or letters (p % w) no_answers) z) same c.composes;
       };
 }
 
@@ -48,7 +49,7 @@ module _ (view : View) (d : Diagram) (before new : List Item) (keep : List ℕ) 
       let c = reached.carried t r at in
       let m = made c.state c.x c.first in
       let g = give c.letter c.x c.y m.0 c.second m.1 m.2 in
-      (g.vector, g.whole, c.carries before new d g.vector (meets c.state c.letter c.x c.y c.first c.second) g.first g.second)
+      (g.vector, g.whole, carries_of view c.x c.y r c.composes before new d g.vector (meets c.state c.letter c.x c.y c.first c.second) g.first g.second)
 
   -- each vector has one of them
   pub cover_more : (edges : List ℕ) → IsStep view keep states letters next edges → ((v : List Bool) → IsVector d v → (t : ℕ) × StandsIn view (Among before) d v states t) → ((v : List Bool) → IsVector d v → (c : ℕ) × StandsIn view (Among new) d v letters c) → (v : List Bool) → IsVector d v → (t : ℕ) × StandsIn view (Among (before ++ new)) d v next t
@@ -57,5 +58,5 @@ module _ (view : View) (d : Diagram) (before new : List Item) (keep : List ℕ) 
       let (c, b) = here v whole in
       let r = carried_at view keep states letters next edges s k c a.value b.value a.listed b.listed in (
         get_or edges (k * length letters + c) 0,
-        record { value = r.value; listed = r.listed; stands = r.carries before new d v (meets k c a.value b.value a.listed b.listed) a.stands b.stands },
+        record { value = r.value; listed = r.listed; stands = carries_of view a.value b.value r.value r.composes before new d v (meets k c a.value b.value a.listed b.listed) a.stands b.stands },
       )

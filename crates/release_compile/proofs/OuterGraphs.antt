@@ -22,6 +22,7 @@ use Rattle.release_compile.specs.Needing.{IsNeededOuter}
 use Rattle.release_compile.specs.Inputs.{AreCopies, AreRows, AreKeeps, HasNothing, AreNames}
 use Rattle.release_compile.specs.Plans.{outer_plan, items_of, AreLinked, IsOuterReady, layers_of}
 use Rattle.decision_graphs.specs.declared.finished.FinishedLayer.{FinishedLayer}
+use Rattle.release_compile.proofs.LayeringLemmas.{grows}
 use Rattle.release_compile.proofs.InputsLemmas.{rows_stay, keeps_stay}
 use Rattle.release_compile.proofs.BridgeLemmas.{number_at}
 use Rattle.release_compile.proofs.VerdictLemmas.{other_in}
@@ -131,8 +132,8 @@ outer_ready a b p1 p2 p3 start rows keeps others lettered count b_in g2 g3 kept 
   pool = g3.is_pool;
   count = ap suc are.len ∙ count;
   bay_in = b_in;
-  rows = subst (λ n. AreRows a b p3 rows n) (sym are.len) (rows_stay p2 p3 g3 a b rows others are);
-  needed = subst (λ n. AreKeeps (IsNeededOuter a.diagram b) p3 keeps (suc n)) (sym are.len) (keeps_stay p2 p3 g3 (IsNeededOuter a.diagram b) keeps (suc others) (keeps_stay p1 p2 g2 (IsNeededOuter a.diagram b) keeps (suc others) kept));
+  rows = subst (λ n. AreRows a b p3 rows n) (sym are.len) (rows_stay p2 p3 (grows p2 p3 g3) a b rows others are);
+  needed = subst (λ n. AreKeeps (IsNeededOuter a.diagram b) p3 keeps (suc n)) (sym are.len) (keeps_stay p2 p3 (grows p2 p3 g3) (IsNeededOuter a.diagram b) keeps (suc others) (keeps_stay p1 p2 (grows p1 p2 g2) (IsNeededOuter a.diagram b) keeps (suc others) kept));
   begins = begins;
 }
 

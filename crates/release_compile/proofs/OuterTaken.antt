@@ -17,9 +17,12 @@ use Rattle.release_compile.specs.Needing.{IsNeededOuter}
 use Rattle.release_compile.specs.Folding.{IsExact}
 use Rattle.release_compile.specs.Inputs.{AreNames}
 use Rattle.release_compile.specs.Counted.{OuterHas, Spends, OuterIsSmall}
-use Rattle.release_compile.specs.Plans.{outer_plan, items_of, PlanHas, PlanFits, IsOuterReady}
+use Rattle.release_compile.specs.Places.{pool_on}
+use Rattle.release_compile.specs.Plans.{outer_plan, items_of, PlanHas, PlanFits, AreLinked, IsOuterReady}
 use Rattle.release_compile.specs.Noting.{rows_of, AreLaid, IsTaken}
-use Rattle.release_compile.proofs.NotingLemmas.{laid_same, fits_stays}
+use Rattle.release_compile.proofs.LayeringLemmas.{grows}
+use Rattle.release_compile.proofs.MappedPools.{values_at_self, order_self}
+use Rattle.release_compile.proofs.NotingLemmas.{laid_same, fits_stays, linked_stays, fits_self}
 use Rattle.release_compile.proofs.ChoiceLemmas.{plain_choices}
 use Rattle.release_compile.proofs.OuterFits.{outer_fits, outer_named}
 use Rattle.release_compile.proofs.OuterEdges.{outer_spends}
@@ -29,8 +32,13 @@ module _ (a : Lettered) (b others budget : ℕ) (p q : Pool) (i : Intake) (o : O
   laid : AreLaid q i.start (rows_of i) i.keeps.items o.names.items t.note.edges t.right.layers
   laid = laid_same q t.note.intake i t.note.names.items o.names.items t.note.edges t.right.layers t.same (sym t.names) t.right.laid
 
-  fits : PlanFits (outer_plan a b) q i.start (rows_of i) i.keeps.items
-  fits = fits_stays p q g i.start (rows_of i) i.keeps.items (outer_linked a b p i.start (rows_of i) i.keeps.items ready) (outer_plan a b) (outer_fits a b p i.start (rows_of i) i.keeps.items ready)
+  linked : AreLinked p i.start (rows_of i) i.keeps.items
+  linked = outer_linked a b p i.start (rows_of i) i.keeps.items ready
+
+  fits : PlanFits (outer_plan a b) (pool_on (λ n. n) q) i.start (rows_of i) i.keeps.items
+  fits =
+      fits_self q i.start (rows_of i) i.keeps.items (linked_stays p q (grows p q g) i.start (rows_of i) i.keeps.items linked) (outer_plan a b)
+      (fits_stays p q (grows p q g) i.start (rows_of i) i.keeps.items linked (outer_plan a b) (outer_fits a b p i.start (rows_of i) i.keeps.items ready))
 
   rows_count : length (rows_of i) ≡ others
   rows_count = omega (arith, ready.count, count)
@@ -41,7 +49,7 @@ module _ (a : Lettered) (b others budget : ℕ) (p q : Pool) (i : Intake) (o : O
   exact : IsExact p.view a.diagram (PartChosen a b) (items_of (outer_plan a b)) (IsNeededOuter a.diagram b) others t.right.layers (values_at q.values.items o.names.items)
   exact =
       subst (λ w. IsExact w a.diagram (PartChosen a b) (items_of (outer_plan a b)) (IsNeededOuter a.diagram b) others t.right.layers (values_at q.values.items o.names.items)) g.view
-      (subst (λ n. IsExact q.view a.diagram (PartChosen a b) (items_of (outer_plan a b)) (IsNeededOuter a.diagram b) n t.right.layers (values_at q.values.items o.names.items)) rows_count (laid.exact (outer_plan a b) fits))
+      (subst (λ n. IsExact q.view a.diagram (PartChosen a b) (items_of (outer_plan a b)) (IsNeededOuter a.diagram b) n t.right.layers (values_at q.values.items o.names.items)) rows_count (subst (λ xs. IsExact q.view a.diagram (PartChosen a b) (items_of (outer_plan a b)) (IsNeededOuter a.diagram b) (length (rows_of i)) t.right.layers xs) (values_at_self q.values.items o.names.items) (laid.exact (λ n. n) (outer_plan a b) order_self fits)))
 
   indices : (j : ℕ) → j < others → (layer_at t.right.layers j).choices ≡ index_count a (other_of 0 b j)
   indices j lt =
@@ -78,12 +86,9 @@ module _ (a : Lettered) (b others budget : ℕ) (p q : Pool) (i : Intake) (o : O
       subst (λ n. Spends (OuterHas p.view a.diagram b n) a.diagram budget o.left) rows_count
       (outer_spends p.view a b p i.start (rows_of i) i.keeps.items ready budget o.left (record {
         edges = t.note.edges;
-        has = subst (λ w. PlanHas w (outer_plan a b) (rows_of i) (length (rows_of i)) (AreSoMany a.diagram) t.note.edges) g.view (laid.has (outer_plan a b) fits);
+        has = subst (λ w. PlanHas w (outer_plan a b) (rows_of i) (length (rows_of i)) (AreSoMany a.diagram) t.note.edges) g.view (laid.has (λ n. n) (outer_plan a b) order_self fits);
         all = t.all;
       }))
-
-  pub taken_few : length o.names.items ≤ 8000001
-  taken_few = omega (arith, t.right.few, ap length t.names)
 
   pub taken_left : o.left ≤ budget
   taken_left = omega (arith, t.all)

@@ -20,6 +20,7 @@ use Rattle.release_compile.specs.Layering.{AreEdges, values_at, no_answers}
 use Rattle.release_compile.specs.Plans.{Plan, PlanFits, AreLinked, PlanHas, PlanPasses, SameBefore, diagram_of, ChosenBy, items_of, new_of, NeededBy}
 use Rattle.release_compile.proofs.BridgeLemmas.{reached_by_edges}
 use Rattle.release_compile.proofs.CountLemmas.{at_least_of, views_so_many, views_at_least}
+use Rattle.release_compile.proofs.LayeringLemmas.{Grows, sound}
 use Rattle.release_compile.proofs.MadeLemmas.{made_more}
 use Rattle.release_compile.proofs.PlanLemmas.{values_more}
 
@@ -83,12 +84,12 @@ passes_next view plan letters j limit left count most spent many past some not_l
 
 -- the states are as many as the distinct views
 pub states_count : (view : View) (plan : Plan) (j : ℕ) (ls : List Layer) (states : List Answers) → IsExact view (diagram_of plan) (ChosenBy plan) (items_of plan) (NeededBy plan) j ls states → AreSoMany (diagram_of plan) (SameBefore view plan j) (length states)
-states_count view plan j ls states e = views_so_many view (Among (items_of plan j)) (diagram_of plan) (NeededBy plan j) states e.kept e.well e.apart e.views.made e.views.cover
+states_count view plan j ls states e = views_so_many view (Among (items_of plan j)) (diagram_of plan) (NeededBy plan j) states e.kept e.rising e.apart e.views.made e.views.cover
 
 -- edges that lead to more values than a limit
 pub more_reached : (p q : Pool) → GrewTo p q → (nodes states letters next edges : List ℕ) (n most : ℕ) → ((k i : ℕ) → slice_get states k ≡ Some i → i < length p.values.items) → ((c i : ℕ) → slice_get letters c ≡ Some i → i < length p.values.items) → AreEdges q.view q.values.items nodes states letters next edges n → length next ≤ n → n ≤ length states * length letters → most < length next → ReachesMore p.view nodes (values_at p.values.items states) (values_at p.values.items letters) most
 more_reached p q g nodes states letters next edges n most states_in letters_in e few_next few past =
-    let reached = reached_by_edges q.view q.values.items nodes states letters next edges n e g.is_pool.apart g.is_pool.well in
+    let reached = reached_by_edges q.view q.values.items nodes states letters next edges n e g.is_pool.apart (sound q g.is_pool).rising in
     let states_same = values_more p.values.items q.values.items states g.values states_in in
     let letters_same = values_more p.values.items q.values.items letters g.values letters_in in
     let all : ReachesMore q.view nodes (values_at q.values.items states) (values_at q.values.items letters) most = record {
@@ -105,7 +106,7 @@ more_reached p q g nodes states letters next edges n most states_in letters_in e
     len r ids = length-map ids _
 
 -- more values are reached than may have the next layer's choices
-module _ (p q : Pool) (start : ℕ) (letters : List (List ℕ)) (keeps : List ℕ) (linked : AreLinked p start letters keeps) (g : GrewTo p q) (j k : ℕ) (ids nodes states : List ℕ) (at_j : slice_get letters j ≡ Some ids) (at_k : slice_get keeps (suc j) ≡ Some k) (at_nodes : slice_get p.keeps.items k ≡ Some nodes) (plan : Plan) (fits : PlanFits plan p start letters keeps) (ls : List Layer) (exact : IsExact p.view (diagram_of plan) (ChosenBy plan) (items_of plan) (NeededBy plan) j ls (values_at q.values.items states)) where
+module _ (p q : Pool) (start : ℕ) (letters : List (List ℕ)) (keeps : List ℕ) (linked : AreLinked p start letters keeps) (g : Grows p q) (j k : ℕ) (ids nodes states : List ℕ) (at_j : slice_get letters j ≡ Some ids) (at_k : slice_get keeps (suc j) ≡ Some k) (at_nodes : slice_get p.keeps.items k ≡ Some nodes) (plan : Plan) (fits : PlanFits plan p start letters keeps) (ls : List Layer) (exact : IsExact p.view (diagram_of plan) (ChosenBy plan) (items_of plan) (NeededBy plan) j ls (values_at q.values.items states)) where
   pub reached_at_least : (most : ℕ) → ReachesMore q.view nodes (values_at q.values.items states) (values_at q.values.items ids) most → (count : ℕ) × (most < count) × (count ≤ length states * length ids) × AreAtLeast (diagram_of plan) (SameBefore p.view plan (suc j)) count
   reached_at_least most more =
       let letters_same = values_more p.values.items q.values.items ids g.values (λ c i at. linked.letters_in j c i ids at_j at) in
@@ -119,7 +120,7 @@ module _ (p q : Pool) (start : ℕ) (letters : List (List ℕ)) (keeps : List �
         length here.next,
         here.past,
         omega (arith, here.few, ap (λ n. n * length (values_at p.values.items ids)) (len q states), ap (λ n. length states * n) (len p ids)),
-        views_at_least p.view (Among (items_of plan (suc j))) (diagram_of plan) (NeededBy plan (suc j)) here.next kept here.reached.well here.reached.apart made,
+        views_at_least p.view (Among (items_of plan (suc j))) (diagram_of plan) (NeededBy plan (suc j)) here.next kept here.reached.rising here.reached.apart made,
       )
     where
       len : (r : Pool) (xs : List ℕ) → length (values_at r.values.items xs) ≡ length xs

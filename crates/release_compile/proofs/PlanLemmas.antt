@@ -11,10 +11,10 @@ use Rattle.decision_graphs.proofs.RowLemmas.{row_end}
 use Rattle.release_compile.specs.declared.pool.Pool.{Pool}
 use Rattle.release_compile.specs.Folding.{StandsIn, IsStep, IsExact}
 use Rattle.decision_graphs.specs.Finished.{layer_with}
-use Rattle.release_compile.specs.Pooling.{Extends, IsPool, GrewTo, EitherKeeps}
+use Rattle.release_compile.specs.Pooling.{Extends, GrewTo, EitherKeeps}
 use Rattle.release_compile.specs.Layering.{AreEdges, no_answers, values_at}
 use Rattle.release_compile.specs.Plans.{Plan, PlanFits, AreLinked, diagram_of, ChosenBy, items_of, new_of, base_of, NeededBy}
-use Rattle.release_compile.proofs.LayeringLemmas.{state_in, keep_was}
+use Rattle.release_compile.proofs.LayeringLemmas.{AreSound, Grows, state_in, keep_was}
 use Rattle.release_compile.proofs.BridgeLemmas.{step_of_edges, next_listed}
 use Rattle.release_compile.proofs.FoldLemmas.{fold_step}
 
@@ -27,8 +27,8 @@ values_more old new (i ∷ is) more within =
 
 -- ---- the start
 
-pub start_exact : (plan : Plan) (p : Pool) (start : ℕ) (letters : List (List ℕ)) (keeps : List ℕ) → IsPool p → AreLinked p start letters keeps → PlanFits plan p start letters keeps → IsExact p.view (diagram_of plan) (ChosenBy plan) (items_of plan) (NeededBy plan) 0 [] (values_at p.values.items (start ∷ []))
-start_exact plan p start letters keeps pool linked fits = record {
+pub start_exact : (plan : Plan) (p : Pool) (start : ℕ) (letters : List (List ℕ)) (keeps : List ℕ) → AreSound p → AreLinked p start letters keeps → PlanFits plan p start letters keeps → IsExact p.view (diagram_of plan) (ChosenBy plan) (items_of plan) (NeededBy plan) 0 [] (values_at p.values.items (start ∷ []))
+start_exact plan p start letters keeps holds linked fits = record {
   count = refl;
   fits = omega arith;
   kept = λ t r at n.
@@ -40,7 +40,7 @@ start_exact plan p start letters keeps pool linked fits = record {
       let a = linked.start_kept r k nodes is at_k at_nodes n in
       let b = fits.needed 0 k nodes at_k at_nodes n in
       (λ h. b.0 (a.0 h), λ h. a.1 (b.1 h));
-  well = λ t r at. pool.well start r (value_is t r at);
+  rising = λ t r at. holds.rising start r (value_is t r at);
   apart = λ t u a b at_t at_u same. place_is t a at_t ∙ sym (place_is u b at_u);
   stands = λ v cs whole len chosen. at_start v whole (leads [] 0 cs) refl;
   views = record {
@@ -70,7 +70,7 @@ start_exact plan p start letters keeps pool linked fits = record {
 
 -- ---- one layer more
 
-module _ (p q r : Pool) (start : ℕ) (letters : List (List ℕ)) (keeps : List ℕ) (linked : AreLinked p start letters keeps) (g : GrewTo p q) (h : GrewTo q r) (j k : ℕ) (ids : List ℕ) (nodes : List ℕ) (at_j : slice_get letters j ≡ Some ids) (at_k : slice_get keeps (suc j) ≡ Some k) (at_nodes : slice_get p.keeps.items k ≡ Some nodes) (states next edges : List ℕ) (states_in : (t i : ℕ) → slice_get states t ≡ Some i → i < length q.values.items) (some : 0 < length states) (e : AreEdges r.view r.values.items nodes states ids next edges (length states * length ids)) where
+module _ (p q r : Pool) (start : ℕ) (letters : List (List ℕ)) (keeps : List ℕ) (linked : AreLinked p start letters keeps) (g : Grows p q) (h : Grows q r) (holds : AreSound r) (j k : ℕ) (ids : List ℕ) (nodes : List ℕ) (at_j : slice_get letters j ≡ Some ids) (at_k : slice_get keeps (suc j) ≡ Some k) (at_nodes : slice_get p.keeps.items k ≡ Some nodes) (states next edges : List ℕ) (states_in : (t i : ℕ) → slice_get states t ≡ Some i → i < length q.values.items) (some : 0 < length states) (e : AreEdges r.view r.values.items nodes states ids next edges (length states * length ids)) where
   p_to_r : Extends p.values.items r.values.items
   p_to_r i x at = h.values i x (g.values i x at)
 
@@ -82,7 +82,7 @@ module _ (p q r : Pool) (start : ℕ) (letters : List (List ℕ)) (keeps : List 
 
   step : IsStep p.view nodes (values_at r.values.items states) (values_at r.values.items ids) (values_at r.values.items next) edges
   step = subst (λ v. IsStep v nodes (values_at r.values.items states) (values_at r.values.items ids) (values_at r.values.items next) edges) (h.view ∙ g.view)
-      (step_of_edges r.view r.values.items nodes states ids next edges (length states * length ids) e h.is_pool.apart h.is_pool.well refl)
+      (step_of_edges r.view r.values.items nodes states ids next edges (length states * length ids) e holds.apart holds.rising refl)
 
   some_letter : 0 < length ids
   some_letter = linked.some j ids at_j
@@ -105,12 +105,12 @@ module _ (p q r : Pool) (start : ℕ) (letters : List (List ℕ)) (keeps : List 
 
   pub next_kept : (t i : ℕ) (x : Answers) → slice_get next t ≡ Some i → slice_get r.values.items i ≡ Some x → (n : ℕ) → Keeps x.kept n ↔ Contains nodes n
   next_kept t i x at listed n =
-      let m = next_listed r.view r.values.items nodes states ids next edges (length states * length ids) e h.is_pool.apart h.is_pool.well t i at in
+      let m = next_listed r.view r.values.items nodes states ids next edges (length states * length ids) e holds.apart holds.rising t i at in
       subst (λ z. Keeps z.kept n ↔ Contains nodes n) (same_Some m.0 x (sym m.1 ∙ listed)) (m.2 n)
 
   pub next_in : (t i : ℕ) → slice_get next t ≡ Some i → i < length r.values.items
   next_in t i at =
-      let m = next_listed r.view r.values.items nodes states ids next edges (length states * length ids) e h.is_pool.apart h.is_pool.well t i at in
+      let m = next_listed r.view r.values.items nodes states ids next edges (length states * length ids) e holds.apart holds.rising t i at in
       slice_get_within r.values.items i m.0 m.1
 
   -- each edge leads to a value of the next layer

@@ -12,7 +12,7 @@ use Rattle.std.specs.HashMap.{HashMap, get, Updates}
 use Rattle.std.proofs.lemmas.Bool.{false≢true}
 use Rattle.std.proofs.lemmas.Slice.Eq.{bytes_eq-Decides}
 use Rattle.station_graph.proofs.PathLemmas.{slice_get-push}
-use Rattle.release_compile.specs.Seen.{SeenFor, SameSeen, Carries, seen_row}
+use Rattle.release_compile.specs.Seen.{SeenFor, SameSeen, ComposesIn, seen_row}
 use Rattle.release_compile.specs.Folding.{AreApart}
 use Rattle.std.specs.Prelude.{nat_eq, ◌&&◌}
 use Rattle.std.proofs.lemmas.Bool.Decides.{Decides-eqb}
@@ -22,23 +22,15 @@ use Rattle.release_compile.specs.declared.pool.Made.{Made}
 use Rattle.release_compile.specs.Folding.{AreWell}
 use Rattle.std.specs.Prelude.{Contains}
 use Rattle.contraction.specs.Answers.{Keeps}
-use Rattle.contraction.proofs.LawLemmas.{gap_stands, load_stands}
 use Rattle.release_compile.specs.declared.pool.Pool.{Pool}
-use Rattle.release_compile.specs.Pooling.{HasSame, IsPool, IsRowIndex, Extends, IsMade, WasMade, same_made, NotesAreRight}
+use Rattle.release_compile.specs.Pooling.{HasSame, IsRowIndex, Extends, IsMade, WasMade, same_made, NotesAreRight}
 use Rattle.release_compile.proofs.LayerLemmas.{get_front, get_last}
+use Rattle.release_compile.proofs.MappedViews.{composes_same}
 
--- what a composition says goes over to fewer nodes
-pub composed_carries : {E : Type 0} (r : Result Answers E) (x y both : Answers)
-    → ((items others : List Item) (d : Diagram) (v : List Bool) → MeetsKept (Among items) (Among others) d x.kept y.kept → GapStandsFor (Among items) d v x → GapStandsFor (Among others) d v y → GapStandsFor (Among (items ++ others)) d v both)
-    → ((items others : List Item) (d : Diagram) (v : List Bool) → MeetsKept (Among items) (Among others) d x.kept y.kept → LoadStandsFor (Among items) d v x → LoadStandsFor (Among others) d v y → LoadStandsFor (Among (items ++ others)) d v both)
-    → IfOk r (λ c. (items : List Item) (d : Diagram) (v : List Bool) → GapStandsFor (Among items) d v both → GapStandsFor (Among items) d v c)
-    → IfOk r (λ c. (items : List Item) (d : Diagram) (v : List Bool) → LoadStandsFor (Among items) d v both → LoadStandsFor (Among items) d v c)
-    → IfOk r (λ c. (view : View) → Carries view x y c)
-composed_carries {E} (Ok c) x y both gap load keep_gap keep_load = by_view where
-  by_view : (view : View) → Carries view x y c
-  by_view Gap = λ items others d v meets sx sy. keep_gap (items ++ others) d v (gap items others d v meets sx sy)
-  by_view Load = λ items others d v meets sx sy. keep_load (items ++ others) d v (load items others d v meets sx sy)
-composed_carries (Err e) x y both gap load keep_gap keep_load = tt
+-- what holds of a result goes over to what follows from it
+pub if_ok : {A E : Type 0} (r : Result A E) (P Q : A → Type 0) → ((x : A) → P x → Q x) → IfOk r P → IfOk r Q
+if_ok (Ok x) P Q on h = on x h
+if_ok (Err e) P Q on h = tt
 
 -- a value more in the index
 pub index_more : {S : Type 0} (view : View) (values : List Answers) (x : Answers) (old new : HashMap (List ℕ) ℕ S) (row : List ℕ) → IsRowIndex view values old → row ≡ seen_row view x → Updates bytes_eq old new row (Some (length values)) → IsRowIndex view (values ++ x ∷ []) new
@@ -118,7 +110,7 @@ notes_stay view values values' keeps m more right k t e =
       first = more k.first w.x w.first;
       second = more k.second w.y w.second;
       nodes = w.nodes;
-      made = record { value = w.made.value; listed = more t w.made.value w.made.listed; carries = w.made.carries; kept = w.made.kept };
+      made = record { value = w.made.value; listed = more t w.made.value w.made.listed; composes = w.made.composes; kept = w.made.kept };
     }
 
 -- ---- a new value
@@ -143,21 +135,17 @@ module _ (view : View) (values : List Answers) (x : Answers) (well : AreWell val
     ]
   ]
 
--- ---- a value that is the same may stand in place of another
-
-carries_same : (view : View) (x y value r : Answers) → IsContraction value → IsContraction r → SameSeen view value r → Carries view x y value → Carries view x y r
-carries_same Gap x y value r w1 w2 same carries = λ items others d v meets sx sy. gap_stands (Among (items ++ others)) d v value r same (carries items others d v meets sx sy)
-carries_same Load x y value r w1 w2 same carries = λ items others d v meets sx sy. load_stands (Among (items ++ others)) d v value r w1 w2 same (carries items others d v meets sx sy)
+-- ---- a value that is the same stands in place of another
 
 kept_same : (view : View) (x y : Answers) → SameSeen view x y → x.kept ≡ y.kept
 kept_same Gap x y h = h.kept
 kept_same Load x y h = h.kept
 
-pub made_same : (p : Pool) (x y value : Answers) (keep : List ℕ) (t : ℕ) → IsPool p → HasSame p value t → Carries p.view x y value → ((n : ℕ) → Keeps value.kept n ↔ Contains keep n) → IsMade p.view x y keep p.values.items t
-made_same p x y value keep t pool h carries kept = record {
+pub made_same : (p : Pool) (x y value : Answers) (keep : List ℕ) (t : ℕ) → HasSame p value t → ComposesIn p.view x y value → ((n : ℕ) → Keeps value.kept n ↔ Contains keep n) → IsMade p.view x y keep p.values.items t
+made_same p x y value keep t h composes kept = record {
   value = h.same;
   listed = h.listed;
-  carries = carries_same p.view x y value h.same h.well (pool.well t h.same h.listed) h.is_same carries;
+  composes = composes_same p.view x y value h.same h.well h.well_same h.is_same composes;
   kept = λ n. subst (λ ks. Keeps ks n ↔ Contains keep n) (kept_same p.view value h.same h.is_same) (kept n);
 }
 

@@ -3,18 +3,19 @@ use Rattle.std.specs.Prelude.{◌≡◌, ℕ, ◌*◌, ◌/◌, ◌%◌, ◌<◌
 use Rattle.station_graph.specs.Diagram.{Diagram}
 use Rattle.station_graph.specs.Connection.{Item}
 use Rattle.station_graph.specs.Alike.{IsVector}
+use Rattle.station_graph.specs.Nodes.{Rises}
 use Rattle.contraction.specs.Answers.{Answers, Keeps, IsContraction}
 use Rattle.contraction.specs.Stands.{Among}
 use Rattle.bay_contract.specs.Counting.{AreSoMany}
 use Rattle.decision_graphs.specs.Label.{Layer, leads, AreLayers}
 use Rattle.release_compile.specs.declared.view.View.{View}
-use Rattle.release_compile.specs.Seen.{SeenFor, SameSeen, SameView, Carries}
+use Rattle.release_compile.specs.Seen.{SeenFor, SameSeen, SameView, ComposesIn}
 
--- The value of this number carries the two on.
+-- The value of this number is the two together.
 pub record Carried (view : View) (x y : Answers) (values : List Answers) (t : ℕ) : Type 0 where
   pub value : Answers
   pub listed : slice_get values t ≡ Some value
-  pub carries : Carries view x y value
+  pub composes : ComposesIn view x y value
 
 -- Each value keeps exactly these nodes.
 abbrev pub AllKeep : List Answers → List ℕ → Type 0
@@ -23,6 +24,10 @@ AllKeep values keep = (t : ℕ) (r : Answers) → slice_get values t ≡ Some r 
 -- Each value is a contraction.
 abbrev pub AreWell : List Answers → Type 0
 AreWell values = (t : ℕ) (r : Answers) → slice_get values t ≡ Some r → IsContraction r
+
+-- The nodes that each value keeps rise.
+abbrev pub AreRising : List Answers → Type 0
+AreRising values = (t : ℕ) (r : Answers) → slice_get values t ≡ Some r → Rises r.kept
 
 -- No two values are the same in this view.
 abbrev pub AreApart : View → List Answers → Type 0
@@ -33,11 +38,11 @@ pub record IsStep (view : View) (keep : List ℕ) (states letters next : List An
   pub len : length edges ≡ length states * length letters
   pub carried : (p : ℕ) (x y : Answers) → p < length edges → slice_get states (p / length letters) ≡ Some x → slice_get letters (p % length letters) ≡ Some y → Carried view x y next (slice_index edges p)
   pub kept : AllKeep next keep
-  pub well : AreWell next
+  pub rising : AreRising next
   pub apart : AreApart view next
   pub hit : (t : ℕ) (r : Answers) → slice_get next t ≡ Some r → (p : ℕ) × (p < length edges) × (slice_index edges p ≡ t)
 
--- A state of these and a letter of these carry on to the value.
+-- The value is a state of these and a letter of these together.
 pub record IsCarriedOn (view : View) (states letters : List Answers) (r : Answers) : Type 0 where
   pub state : ℕ
   pub letter : ℕ
@@ -45,12 +50,12 @@ pub record IsCarriedOn (view : View) (states letters : List Answers) (r : Answer
   pub y : Answers
   pub first : slice_get states state ≡ Some x
   pub second : slice_get letters letter ≡ Some y
-  pub carries : Carries view x y r
+  pub composes : ComposesIn view x y r
 
 -- Each of these values comes of a state and a letter.
 pub record AreReached (view : View) (keep : List ℕ) (states letters next : List Answers) : Type 0 where
   pub kept : AllKeep next keep
-  pub well : AreWell next
+  pub rising : AreRising next
   pub apart : AreApart view next
   pub carried : (t : ℕ) (r : Answers) → slice_get next t ≡ Some r → IsCarriedOn view states letters r
 
@@ -87,7 +92,7 @@ pub record IsExact (view : View) (d : Diagram) (Chosen : ℕ → ℕ → List Bo
   pub count : length ls ≡ j
   pub fits : AreLayers (length states) ls
   pub kept : (t : ℕ) (r : Answers) → slice_get states t ≡ Some r → (n : ℕ) → Keeps r.kept n ↔ Needed j n
-  pub well : AreWell states
+  pub rising : AreRising states
   pub apart : AreApart view states
   pub stands : (v : List Bool) (cs : List ℕ) → IsVector d v → length cs ≡ j → AreChosen Chosen v cs → StandsIn view (Among (items j)) d v states (leads ls 0 cs)
   pub views : AreViews view (Among (items j)) d states

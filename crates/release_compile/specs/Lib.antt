@@ -13,6 +13,7 @@ pub mod Plans
 pub mod Noting
 pub mod Stocking
 pub mod Pooling
+pub mod Places
 pub mod Layering
 pub mod Inputs
 pub mod Coding

@@ -1,5 +1,6 @@
--- The outer graph that was made last, and what it is for every plan that takes in the same.
+-- Graphs that were made before, and what they are for every plan that takes in the same.
 use Rattle.std.specs.Prelude.{◌≡◌, ℕ, ◌+◌, ◌<◌, ◌≤◌, List, length, map, slice_get, Option, Some, None}
+use Rattle.contraction.specs.Renaming.{KeepsOrder, mapped}
 use Rattle.bay_contract.specs.Counting.{AreSoMany}
 use Rattle.decision_graphs.specs.Label.{Layer, layer_at, leads, label_of, AreChoices, AreReduced}
 use Rattle.release_compile.specs.declared.noted.Intake.{Intake}
@@ -8,7 +9,10 @@ use Rattle.release_compile.specs.declared.noted.Outer.{Outer}
 use Rattle.release_compile.specs.declared.pool.Pool.{Pool}
 use Rattle.release_compile.specs.Folding.{IsExact}
 use Rattle.release_compile.specs.Layering.{values_at}
-use Rattle.release_compile.specs.Plans.{Plan, PlanFits, PlanHas, AreLinked, diagram_of, ChosenBy, items_of, NeededBy}
+use Rattle.release_compile.specs.Lettered.{Lettered}
+use Rattle.release_compile.specs.Inputs.{AreCopies}
+use Rattle.release_compile.specs.Places.{node_of, pool_on}
+use Rattle.release_compile.specs.Plans.{Plan, PlanFits, PlanHas, AreLinked, IsInnerReady, diagram_of, ChosenBy, items_of, NeededBy}
 
 -- The letters of the layers, as numbers.
 abbrev pub rows_of : Intake → List (List ℕ)
@@ -20,10 +24,11 @@ pub record SameIntake (i j : Intake) : Type 0 where
   pub letters : rows_of i ≡ rows_of j
   pub keeps : i.keeps.items ≡ j.keeps.items
 
--- For every plan that takes this in, the layers are exact, have so many edges, and lead to the values of these names.
+-- For every plan that takes this in, whatever nodes in the same order stand in place of those that the values keep, the
+-- layers are exact, have so many edges, and lead to the values of these names.
 pub record AreLaid (p : Pool) (start : ℕ) (letters : List (List ℕ)) (keeps names : List ℕ) (edges : ℕ) (layers : List Layer) : Type 0 where
-  pub exact : (plan : Plan) → PlanFits plan p start letters keeps → IsExact p.view (diagram_of plan) (ChosenBy plan) (items_of plan) (NeededBy plan) (length letters) layers (values_at p.values.items names)
-  pub has : (plan : Plan) → PlanFits plan p start letters keeps → PlanHas p.view plan letters (length letters) (AreSoMany (diagram_of plan)) edges
+  pub exact : (f : ℕ → ℕ) (plan : Plan) → KeepsOrder f → PlanFits plan (pool_on f p) start letters keeps → IsExact p.view (diagram_of plan) (ChosenBy plan) (items_of plan) (NeededBy plan) (length letters) layers (values_at (map (mapped f) p.values.items) names)
+  pub has : (f : ℕ → ℕ) (plan : Plan) → KeepsOrder f → PlanFits plan (pool_on f p) start letters keeps → PlanHas p.view plan letters (length letters) (AreSoMany (diagram_of plan)) edges
   pub choices : map (λ (l : Layer). l.choices) layers ≡ map length letters
 
 -- The graph is that of such layers, reduced, and its labels are named.
@@ -32,17 +37,26 @@ pub record IsNoted (p : Pool) (n : Noted) : Type 0 where
   pub linked : AreLinked p n.intake.start (rows_of n.intake) n.intake.keeps.items
   pub laid : AreLaid p n.intake.start (rows_of n.intake) n.intake.keeps.items n.names.items n.edges layers
   pub within : (t i : ℕ) → slice_get n.names.items t ≡ Some i → i < length p.values.items
-  pub few : length n.names.items ≤ 8000001
   pub labels : n.graph.labels ≡ length n.names.items
   pub same_choices : map (λ (l : Layer). l.choices) n.graph.layers ≡ map (λ (l : Layer). l.choices) layers
   pub label : (cs : List ℕ) → AreChoices layers cs → label_of n.graph cs ≡ leads layers 0 cs
   pub reduced : AreReduced n.graph.layers
   pub sizes : (j : ℕ) → length (layer_at n.graph.layers j).rows ≤ length (layer_at layers j).rows
 
--- What is noted, if there is a note, is so.
+-- By places of the list, what is taken in is that of the inner graph of a switch, and the names are copies of these.
+pub record IsInPlaces (a : Lettered) (b m first others : ℕ) (list : List ℕ) (old p : Pool) (names : List ℕ) (i : Intake) : Type 0 where
+  pub labels : List ℕ
+  pub ready : IsInnerReady a b m first others (pool_on (node_of list) p) i.start labels (rows_of i) i.keeps.items
+  pub copies : AreCopies (pool_on (node_of list) p) (values_at old.values.items names) labels
+
+-- What is noted, if there is a note, is so, and its labels are few.
 abbrev pub IsRight : Pool → Option Noted → Type 0
 IsRight p None = Unit {0}
-IsRight p (Some n) = IsNoted p n
+IsRight p (Some n) = IsNoted p n × (length n.names.items ≤ 8000001)
+
+-- What is noted is so.
+abbrev pub AreRight : Pool → List Noted → Type 0
+AreRight p notes = (k : ℕ) (n : Noted) → slice_get notes k ≡ Some n → IsNoted p n
 
 -- The graph is the one noted for what is taken in, and with its edges and those left these are so many.
 pub record IsTaken (p : Pool) (i : Intake) (budget : ℕ) (o : Outer) : Type 0 where

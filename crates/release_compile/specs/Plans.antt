@@ -122,7 +122,6 @@ pub record IsOuterReady (a : Lettered) (b : ℕ) (p : Pool) (start : ℕ) (lette
 -- answers for the bay's links and taps, and the nodes are those that are needed.
 pub record IsInnerReady (a : Lettered) (b m first others : ℕ) (p : Pool) (start : ℕ) (names : List ℕ) (letters : List (List ℕ)) (keeps : List ℕ) : Type 0 where
   pub station : IsStation a.diagram
-  pub pool : IsPool p
   pub bay_in : b < part_count a.diagram
   pub own : IsOwn a.diagram b m first others
   pub named : AreNames p a.diagram b names

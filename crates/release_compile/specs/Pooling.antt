@@ -9,7 +9,7 @@ use Rattle.contraction.specs.Stands.{Among}
 use Rattle.release_compile.specs.declared.view.View.{View}
 use Rattle.release_compile.specs.declared.pool.Made.{Made}
 use Rattle.release_compile.specs.declared.pool.Pool.{Pool}
-use Rattle.release_compile.specs.Seen.{SeenFor, SameSeen, Carries, seen_row}
+use Rattle.release_compile.specs.Seen.{SeenFor, SameSeen, ComposesIn, seen_row}
 use Rattle.release_compile.specs.Folding.{AreApart, AreWell}
 
 -- The number that the index has for a row.
@@ -29,7 +29,7 @@ Extends {X} old new = (i : ℕ) (x : X) → slice_get old i ≡ Some x → slice
 pub record IsMade (view : View) (x y : Answers) (keep : List ℕ) (values : List Answers) (t : ℕ) : Type 0 where
   pub value : Answers
   pub listed : slice_get values t ≡ Some value
-  pub carries : Carries view x y value
+  pub composes : ComposesIn view x y value
   pub kept : (n : ℕ) → Keeps value.kept n ↔ Contains keep n
 
 -- The value of this number was made as the key says.
@@ -70,6 +70,7 @@ pub record HasSame (p : Pool) (value : Answers) (t : ℕ) : Type 0 where
   pub listed : slice_get p.values.items t ≡ Some same
   pub is_same : SameSeen p.view value same
   pub well : IsContraction value
+  pub well_same : IsContraction same
 
 -- The value of this number keeps the same nodes as this one, and answers for all that it answers for.
 pub record HasCopy (p : Pool) (x : Answers) (t : ℕ) : Type 0 where

@@ -12,6 +12,7 @@ ghost use Rattle.release_compile.specs.Inputs.{AreNames};
 ghost use Rattle.release_compile.specs.Built.{AreInner, AreViewGraphs, AreBayGraphs};
 ghost use Rattle.release_compile.specs.Counted.{SwitchesHave, ViewHas, BayHas, Spends, Passes};
 ghost use Rattle.release_compile.specs.Stocking.{IsStock};
+ghost use Rattle.release_compile.specs.Noting.{AreRight};
 ghost use Rattle.release_compile.specs.Telling.{IsToldBy, HaveTold};
 ghost use Rattle.release_compile.specs.declared.view.View.TheVariants.{Gap, Load};
 ghost use Rattle.release_compile.specs.declared.layer.Trouble.TheVariants.{Wide};
@@ -19,6 +20,7 @@ ghost use Rattle.release_compile.specs.BuiltView.{view_of, seen_bay};
 
 use crate::inner::inner_graph;
 use crate::layer::Trouble;
+use crate::noted::Noted;
 use crate::outer::outer_graph;
 use crate::partners::told_like;
 use crate::pool::Pool;
@@ -72,6 +74,7 @@ pub(crate) struct Bay {
 fn inner_graphs(
     alloc: Global,
     pool: &mut Pool,
+    notes: &mut Vec<Noted>,
     station: &Station,
     shared: &NodeList,
     bay: BayId,
@@ -81,6 +84,7 @@ fn inner_graphs(
     left: usize,
 ) -> Result<Inners, Trouble>
     requires pool { IsPool pool.old }
+    requires notes { AreRight pool.old notes.old.items }
     requires bay { bay.0 < part_count station.now }
     requires switches { AreSwitchesOf station.now bay.0 first count }
     requires shared { (n : ℕ) → Contains shared.now n ↔ IsShared station.now bay.0 n }
@@ -88,6 +92,7 @@ fn inner_graphs(
     requires few { length names.now ≤ 8000001 }
     requires left { left ≤ 8000000 }
     ensures grew { OnOk result (GrewTo pool.old pool.new) }
+    ensures notes { OnOk result (AreRight pool.new notes.new.items) }
     ensures inner { IfOk result (λ r. (a : Alphabets) → AreInner pool.old.view (lettered station.now a) bay.0 first count (values_at pool.old.values.items names.now) r.graphs.items count) }
     ensures wide { IfErr result (λ e. e ≡ Wide → Passes (SwitchesHave pool.old.view station.now bay.0 first count count) station.now left) }
     ensures spent { IfOk result (λ r. Spends (SwitchesHave pool.old.view station.now bay.0 first count count) station.now left r.left) }
@@ -100,7 +105,7 @@ fn inner_graphs(
         let others = count - 1;
         let moved = first + i;
         let made = inner_graph(
-            alloc, pool, station, shared, bay, first, moved, others, names, rest,
+            alloc, pool, notes, station, shared, bay, first, moved, others, names, rest,
         )?;
         rest = made.left;
         graphs.push(made.graph)?;
@@ -152,6 +157,7 @@ fn view_graphs(
     let inners = inner_graphs(
         alloc,
         &mut stock.pool,
+        &mut stock.inner,
         station,
         nodes,
         bay,

@@ -1,15 +1,18 @@
 //! The labels of inner graphs.
-ghost use Rattle.std.specs.Prelude.{◌≡◌, ◌<◌, ℕ, length, slice_get, Some, IfOk};
-ghost use Rattle.contraction.specs.Answers.{Answers};
+ghost use Rattle.std.specs.Prelude.{◌≡◌, ◌<◌, ℕ, length, map, slice_get, Some, IfOk};
+ghost use Rattle.contraction.specs.Answers.{Answers, Keeps, AreNodes};
+ghost use Rattle.contraction.specs.Renaming.{mapped};
+ghost use Rattle.release_compile.specs.Places.{node_of};
 ghost use Rattle.release_compile.specs.Layering.{values_at};
 ghost use Rattle.release_compile.specs.Coding.{labels_of, CodeSays, KeepsEnds, AreCodes};
 ghost use Rattle.release_compile.specs.declared.view.View.TheVariants.{Gap as GapView, Load as LoadView};
 
+use crate::places::on_nodes;
 use crate::pool::Pool;
 use crate::view::View;
 use contraction::Contraction;
 use ilk_base::{Direction, Memory, Op, Rule, SwitchId};
-use station_graph::Station;
+use station_graph::{NodeList, Station};
 use std::alloc::Global;
 
 // How many labels an inner graph has.
@@ -71,25 +74,29 @@ fn code(view: View, station: &Station, id: SwitchId, value: &Contraction) -> u32
     }
 }
 
-// What each of these values says of the switch.
+// What each of these values, by places of the list, says of the switch.
 pub(crate) fn codes(
     alloc: Global,
     pool: &Pool,
     station: &Station,
     id: SwitchId,
+    list: &NodeList,
     states: &[usize],
 ) -> Result<Vec<u32>, Memory>
     requires switch { id.0 < length station.now.switches }
+    requires nodes { AreNodes list.now }
     requires within { (t i : ℕ) → slice_get states.now t ≡ Some i → i < length pool.now.values.items }
-    requires ends { (t : ℕ) (x : Answers) → slice_get (values_at pool.now.values.items states.now) t ≡ Some x → KeepsEnds station.now id.0 x }
-    ensures { IfOk result (λ v. AreCodes pool.now.view station.now id.0 (values_at pool.now.values.items states.now) v.items) }
+    requires places { (t p : ℕ) (x : Answers) → slice_get (values_at pool.now.values.items states.now) t ≡ Some x → Keeps x.kept p → p < length list.now }
+    requires ends { (t : ℕ) (x : Answers) → slice_get (values_at (map (mapped (node_of list.now)) pool.now.values.items) states.now) t ≡ Some x → KeepsEnds station.now id.0 x }
+    ensures { IfOk result (λ v. AreCodes pool.now.view station.now id.0 (values_at (map (mapped (node_of list.now)) pool.now.values.items) states.now) v.items) }
 {
     let mut codes = Vec::new(alloc);
     let count = states.len();
     for t in 0..count {
         let state = states[t];
         let value = &pool.values[state];
-        let label = code(pool.view, station, id, value);
+        let actual = on_nodes(alloc, list, value)?;
+        let label = code(pool.view, station, id, &actual);
         codes.push(label)?;
     }
     Ok(codes)

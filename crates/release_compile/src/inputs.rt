@@ -1,15 +1,19 @@
 //! What the layers of a graph take in: values and lists of nodes, by their numbers in a pool.
 ghost use Rattle.std.specs.Prelude.{◌≡◌, ℕ, suc, ◌+◌, ◌<◌, ◌≤◌, ◌↔◌, length, map, slice_get, Some, OnOk, IfOk, Contains, true, false};
 ghost use Rattle.station_graph.specs.Diagram.{part_count};
-ghost use Rattle.station_graph.specs.Sharing.{IsShared};
+ghost use Rattle.station_graph.specs.Connection.{a_switch};
+ghost use Rattle.station_graph.specs.Sharing.{Touches};
 ghost use Rattle.contraction.specs.Answers.{Answers, Keeps, AreNodes};
 ghost use Rattle.bay_contract.specs.Alphabets.{AreAlphabets};
 ghost use Rattle.release_compile.specs.Lettered.{lettered};
 ghost use Rattle.release_compile.specs.Pooling.{IsPool, GrewTo};
+ghost use Rattle.release_compile.specs.Places.{node_of, pool_on};
+ghost use Rattle.release_compile.specs.Graphs.{other_of};
 ghost use Rattle.release_compile.specs.Needing.{AreShared, IsNeededOuter, InnerNeeds};
 ghost use Rattle.release_compile.specs.Inputs.{AreKeeps, AreCopies, AreLetters, AreOtherRows, HasNothing, HasLinks, HasSwitch, HasPair, AreInnerRows};
 
-use crate::needed::{inner_nodes, met_nodes, outer_nodes, start_nodes};
+use crate::needed::{inner_nodes, met_nodes, outer_nodes};
+use crate::places::{intern_in_places, places_of};
 use crate::placing::other_number;
 use crate::pool::Pool;
 use bay_contract::{Parts, base};
@@ -125,13 +129,13 @@ pub(crate) fn nothing(alloc: Global, pool: &mut Pool) -> Result<usize, Memory>
     Ok(id)
 }
 
-// The numbers of the nodes that are kept before each layer of an inner graph.
+// The numbers of the lists of nodes that are kept before each layer of an inner graph, by places in the first of them.
 pub(crate) fn inner_keeps(
     alloc: Global,
     pool: &mut Pool,
     station: &Station,
     bay: BayId,
-    start: NodeList,
+    list: &NodeList,
     first: u16,
     moved: u16,
     others: u16,
@@ -139,101 +143,113 @@ pub(crate) fn inner_keeps(
     requires pool { IsPool pool.old }
     requires moved { moved < length station.now.switches }
     requires those { first + others < length station.now.switches }
-    requires start { (n : ℕ) → Contains start n ↔ InnerNeeds station.now bay.0 moved first others 0 n }
+    requires nodes { AreNodes list.now }
+    requires start { (n : ℕ) → Contains list.now n ↔ InnerNeeds station.now bay.0 moved first others 0 n }
     ensures grew { OnOk result (GrewTo pool.old pool.new) }
-    ensures keeps { IfOk result (λ v. AreKeeps (InnerNeeds station.now bay.0 moved first others) pool.new v.items (suc (suc others))) }
+    ensures keeps { IfOk result (λ v. AreKeeps (InnerNeeds station.now bay.0 moved first others) (pool_on (node_of list.now) pool.new) v.items (suc (suc others))) }
 {
     let _count = station.switch_count();
     let mut keeps = Vec::new(alloc);
-    let id = pool.keep(start)?;
+    let all = list.numbers();
+    let places = places_of(alloc, list, all)?;
+    let id = pool.keep(places)?;
     keeps.push(id)?;
     let count = others + 1;
     for from in 0..count {
         let nodes = inner_nodes(alloc, station, first, moved, from, others)?;
-        let id = pool.keep(nodes)?;
+        let places = places_of(alloc, list, nodes.numbers())?;
+        let id = pool.keep(places)?;
         keeps.push(id)?;
     }
     Ok(keeps)
 }
 
-// The number of the value of the bay's links and taps, on these nodes.
+// The number of the value of the bay's links and taps, on these nodes by their places.
 pub(crate) fn links(
     alloc: Global,
     pool: &mut Pool,
     station: &Station,
     bay: BayId,
-    nodes: &NodeList,
+    list: &NodeList,
 ) -> Result<usize, Memory>
     requires pool { IsPool pool.old }
-    requires nodes { AreNodes nodes.now }
+    requires nodes { AreNodes list.now }
     ensures grew { OnOk result (GrewTo pool.old pool.new) }
-    ensures links { IfOk result (HasLinks pool.new station.now bay.0 (Contains nodes.now)) }
+    ensures links { IfOk result (HasLinks (pool_on (node_of list.now) pool.new) station.now bay.0 (Contains list.now)) }
 {
-    let value = base(alloc, station, bay, nodes)?;
-    let id = pool.intern(alloc, value)?;
+    let value = base(alloc, station, bay, list)?;
+    let id = intern_in_places(alloc, pool, list, &value)?;
     Ok(id)
 }
 
-// The number of the value of a switch in a position.
+// The number of the value of a switch in a position, by places of a list that has its ends.
 fn switch_id(
     alloc: Global,
     pool: &mut Pool,
     station: &Station,
+    list: &NodeList,
     id: SwitchId,
     closed: bool,
 ) -> Result<usize, Memory>
     requires pool { IsPool pool.old }
+    requires nodes { AreNodes list.now }
     requires switch { id.0 < length station.now.switches }
+    requires has { (n : ℕ) → Touches station.now (a_switch id.0) n → Contains list.now n }
     ensures grew { OnOk result (GrewTo pool.old pool.new) }
-    ensures has { IfOk result (HasSwitch pool.new station.now id.0 closed) }
+    ensures has { IfOk result (HasSwitch (pool_on (node_of list.now) pool.new) station.now id.0 closed) }
 {
     let value = Contraction::of_switch(alloc, station, id, closed)?;
-    let place = pool.intern(alloc, value)?;
+    let place = intern_in_places(alloc, pool, list, &value)?;
     Ok(place)
 }
 
-// The numbers of the values of a switch, open and closed.
+// The numbers of the values of a switch, open and closed, by places of a list that has its ends.
 fn switch_pair(
     alloc: Global,
     pool: &mut Pool,
     station: &Station,
+    list: &NodeList,
     id: SwitchId,
 ) -> Result<Vec<usize>, Memory>
     requires pool { IsPool pool.old }
+    requires nodes { AreNodes list.now }
     requires switch { id.0 < length station.now.switches }
+    requires has { (n : ℕ) → Touches station.now (a_switch id.0) n → Contains list.now n }
     ensures grew { OnOk result (GrewTo pool.old pool.new) }
-    ensures pair { IfOk result (λ v. HasPair pool.new station.now id.0 v.items) }
+    ensures pair { IfOk result (λ v. HasPair (pool_on (node_of list.now) pool.new) station.now id.0 v.items) }
 {
-    let off = switch_id(alloc, pool, station, id, false)?;
-    let on = switch_id(alloc, pool, station, id, true)?;
+    let off = switch_id(alloc, pool, station, list, id, false)?;
+    let on = switch_id(alloc, pool, station, list, id, true)?;
     let mut ids = Vec::new(alloc);
     ids.push(off)?;
     ids.push(on)?;
     Ok(ids)
 }
 
-// The names, and the numbers of the values of the bay's other switches.
+// The names, and the numbers of the values of the bay's other switches by places of a list that has their ends.
 pub(crate) fn inner_rows(
     alloc: Global,
     pool: &mut Pool,
     station: &Station,
-    names: &[usize],
+    list: &NodeList,
+    names: Vec<usize>,
     first: u16,
     moved: u16,
     others: u16,
 ) -> Result<Vec<Vec<usize>>, Memory>
     requires pool { IsPool pool.old }
+    requires nodes { AreNodes list.now }
     requires those { first + others < length station.now.switches }
+    requires has { (i n : ℕ) → i < others → Touches station.now (a_switch (other_of first moved i)) n → Contains list.now n }
     ensures grew { OnOk result (GrewTo pool.old pool.new) }
-    ensures rows { IfOk result (λ v. AreInnerRows station.now moved first pool.new names.now (map (λ r. r.items) v.items) others) }
+    ensures rows { IfOk result (λ v. AreInnerRows station.now moved first (pool_on (node_of list.now) pool.new) names.items (map (λ r. r.items) v.items) others) }
 {
     let _count = station.switch_count();
     let mut rows = Vec::new(alloc);
-    let labels = Vec::from_slice(alloc, names)?;
-    rows.push(labels)?;
+    rows.push(names)?;
     for i in 0..others {
         let id = SwitchId(other_number(first, moved, i));
-        let pair = switch_pair(alloc, pool, station, id)?;
+        let pair = switch_pair(alloc, pool, station, list, id)?;
         rows.push(pair)?;
     }
     Ok(rows)

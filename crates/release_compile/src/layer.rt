@@ -1,7 +1,9 @@
 //! One layer of a graph: from the values of its nodes to those of the next.
 ghost use Rattle.std.specs.Prelude.{◌≡◌, [], ◌∷◌, ℕ, suc, ◌+◌, ◌*◌, ◌<◌, ◌≤◌, length, map, slice_get, sum_by, List, Some, IfOk, IfErr, OnOk, IsTrue, IsFalse};
 ghost use Rattle.decision_graphs.specs.Finished.{AreFinished};
+ghost use Rattle.contraction.specs.Renaming.{KeepsOrder, mapped};
 ghost use Rattle.release_compile.specs.Pooling.{IsPool, GrewTo, EitherKeeps};
+ghost use Rattle.release_compile.specs.Places.{pool_on};
 ghost use Rattle.release_compile.specs.Layering.{IsPlaced, AreEdges, values_at};
 ghost use Rattle.release_compile.specs.Counted.{Spends};
 ghost use Rattle.release_compile.specs.Folding.{IsExact, ReachesMore};
@@ -160,8 +162,9 @@ fn most_nodes(letters: &[Vec<usize>], j: usize, left: usize) -> usize
     left / choices
 }
 
-// The layers of a graph, from a start value and the letters of each layer, and the values of its labels. It is too wide
-// where they have more than so many edges.
+// The layers of a graph, from a start value and the letters of each layer, and the values of its labels, whatever nodes
+// in the same order stand in place of those that the values keep. It is too wide where they have more than so many
+// edges.
 pub(crate) fn fold_layers(
     alloc: Global,
     pool: &mut Pool,
@@ -174,12 +177,12 @@ pub(crate) fn fold_layers(
     requires linked { AreLinked pool.old start (map (λ v. v.items) letters.now) keeps.now }
     requires budget { budget ≤ 80000000 }
     ensures grew { OnOk result (GrewTo pool.old pool.new) }
-    ensures wide { IfErr result (λ e. e ≡ Wide → (plan : Plan) → PlanFits plan pool.old start (map (λ v. v.items) letters.now) keeps.now
+    ensures wide { IfErr result (λ e. e ≡ Wide → (f : ℕ → ℕ) (plan : Plan) → KeepsOrder f → PlanFits plan (pool_on f pool.old) start (map (λ v. v.items) letters.now) keeps.now
         → PlanPasses pool.old.view plan (map (λ v. v.items) letters.now) budget) }
-    ensures spent { IfOk result (λ r. (plan : Plan) → PlanFits plan pool.old start (map (λ v. v.items) letters.now) keeps.now
+    ensures spent { IfOk result (λ r. (f : ℕ → ℕ) (plan : Plan) → KeepsOrder f → PlanFits plan (pool_on f pool.old) start (map (λ v. v.items) letters.now) keeps.now
         → Spends (PlanHas pool.old.view plan (map (λ v. v.items) letters.now) (length letters.now)) (diagram_of plan) budget r.left) }
-    ensures exact { IfOk result (λ r. (plan : Plan) → PlanFits plan pool.old start (map (λ v. v.items) letters.now) keeps.now
-        → IsExact pool.old.view (diagram_of plan) (ChosenBy plan) (items_of plan) (NeededBy plan) (length letters.now) (layers_of r.layers.items) (values_at pool.new.values.items r.states.items)) }
+    ensures exact { IfOk result (λ r. (f : ℕ → ℕ) (plan : Plan) → KeepsOrder f → PlanFits plan (pool_on f pool.old) start (map (λ v. v.items) letters.now) keeps.now
+        → IsExact pool.old.view (diagram_of plan) (ChosenBy plan) (items_of plan) (NeededBy plan) (length letters.now) (layers_of r.layers.items) (values_at (map (mapped f) pool.new.values.items) r.states.items)) }
     ensures finished { IfOk result (λ r. AreFinished (length r.states.items) r.layers.items) }
     ensures choices { IfOk result (λ r. map (λ (l : FinishedLayer). l.choices) r.layers.items ≡ map length (map (λ v. v.items) letters.now)) }
     ensures few { IfOk result (λ r. sum_by (λ (l : FinishedLayer). l.nodes) r.layers.items + r.left ≤ budget) }

@@ -18,6 +18,7 @@ mod needed;
 mod noted;
 mod outer;
 mod partners;
+mod places;
 mod placing;
 mod pool;
 mod reached;

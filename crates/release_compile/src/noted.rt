@@ -1,8 +1,10 @@
-//! The outer graph that was made last, so that bays to which all other parts look the same share it.
-ghost use Rattle.std.specs.Prelude.{◌≡◌, ℕ, ◌+◌, ◌<◌, ◌≤◌, length, map, slice_get, Some, IfOk, IfErr, OnOk, IsTrue};
+//! Graphs that were made before, so that bays that look the same share them.
+ghost use Rattle.std.specs.Prelude.{◌≡◌, ℕ, suc, ◌+◌, ◌<◌, ◌≤◌, length, map, slice_get, Some, IfOk, IfErr, IfSome, OnOk, IsTrue};
+ghost use Rattle.contraction.specs.Renaming.{KeepsOrder};
 ghost use Rattle.release_compile.specs.Pooling.{IsPool, GrewTo};
+ghost use Rattle.release_compile.specs.Places.{pool_on};
 ghost use Rattle.release_compile.specs.Plans.{Plan, PlanFits, PlanPasses, AreLinked};
-ghost use Rattle.release_compile.specs.Noting.{rows_of, SameIntake, IsNoted, IsRight, IsTaken};
+ghost use Rattle.release_compile.specs.Noting.{rows_of, SameIntake, IsNoted, IsRight, AreRight, IsTaken};
 ghost use Rattle.release_compile.specs.declared.noted.Noted.{Noted as Note};
 ghost use Rattle.release_compile.specs.declared.layer.Trouble.TheVariants.{Wide};
 
@@ -12,7 +14,7 @@ use decision_graphs::Graph;
 use ilk_base::Memory;
 use std::alloc::Global;
 
-// What the layers of an outer graph take in, by the numbers of a pool: the start, the letters of each layer, and the
+// What the layers of a graph take in, by the numbers of a pool: the start, the letters of each layer, and the
 // nodes kept before each and after the last.
 #[derive(Drop)]
 pub(crate) struct Intake {
@@ -21,7 +23,7 @@ pub(crate) struct Intake {
     pub(crate) keeps: Vec<usize>,
 }
 
-// An outer graph, the values that its labels name, what its layers took in, and how many edges these have.
+// A graph, the values that its labels name, what its layers took in, and how many edges these have.
 #[derive(Drop)]
 pub(crate) struct Noted {
     pub(crate) intake: Intake,
@@ -30,7 +32,7 @@ pub(crate) struct Noted {
     pub(crate) edges: usize,
 }
 
-// An outer graph, the values that its labels name, and how many edges are left of those that may be made.
+// A copy of a noted graph, the values that its labels name, and how many edges are left of those that may be made.
 #[derive(Drop)]
 pub(crate) struct Outer {
     pub(crate) graph: Graph,
@@ -84,12 +86,13 @@ fn note(alloc: Global, pool: &mut Pool, intake: Intake, budget: usize) -> Result
     requires pool { IsPool pool.old }
     requires linked { AreLinked pool.old intake.start (rows_of intake) intake.keeps.items }
     requires few { length (rows_of intake) ≤ 65535 }
-    requires budget { budget ≤ 8000000 }
+    requires budget { budget ≤ 16000001 }
     ensures grew { OnOk result (GrewTo pool.old pool.new) }
     ensures noted { IfOk result (IsNoted pool.new) }
+    ensures few { IfOk result (λ n. length n.names.items ≤ suc budget) }
     ensures intake { IfOk result (λ n. n.intake ≡ intake) }
     ensures within { IfOk result (λ n. n.edges ≤ budget) }
-    ensures wide { IfErr result (λ e. e ≡ Wide → (plan : Plan) → PlanFits plan pool.old intake.start (rows_of intake) intake.keeps.items
+    ensures wide { IfErr result (λ e. e ≡ Wide → (f : ℕ → ℕ) (plan : Plan) → KeepsOrder f → PlanFits plan (pool_on f pool.old) intake.start (rows_of intake) intake.keeps.items
         → PlanPasses pool.old.view plan (rows_of intake) budget) }
 {
     let drafts = fold_layers(
@@ -126,8 +129,8 @@ fn renew(
     requires few { length (rows_of intake) ≤ 65535 }
     requires budget { budget ≤ 8000000 }
     ensures grew { OnOk result (GrewTo pool.old pool.new) }
-    ensures noted { OnOk result ((n : Note) × (last.new ≡ Some n) × IsNoted pool.new n × SameIntake n.intake intake) }
-    ensures wide { IfErr result (λ e. e ≡ Wide → (plan : Plan) → PlanFits plan pool.old intake.start (rows_of intake) intake.keeps.items
+    ensures noted { OnOk result ((n : Note) × (last.new ≡ Some n) × IsNoted pool.new n × (length n.names.items ≤ 8000001) × SameIntake n.intake intake) }
+    ensures wide { IfErr result (λ e. e ≡ Wide → (f : ℕ → ℕ) (plan : Plan) → KeepsOrder f → PlanFits plan (pool_on f pool.old) intake.start (rows_of intake) intake.keeps.items
         → PlanPasses pool.old.view plan (rows_of intake) budget) }
 {
     if is_noted(last, &intake) {
@@ -138,6 +141,23 @@ fn renew(
     Ok(())
 }
 
+// A copy of a noted graph. It is too wide where its layers have more than so many edges.
+fn copy_noted(alloc: Global, noted: &Noted, budget: usize) -> Result<Outer, Trouble>
+    ensures graph { IfOk result (λ o. o.graph ≡ noted.now.graph) }
+    ensures names { IfOk result (λ o. o.names.items ≡ noted.now.names.items) }
+    ensures all { IfOk result (λ o. noted.now.edges + o.left ≡ budget) }
+    ensures wide { IfErr result (λ e. e ≡ Wide → budget < noted.now.edges) }
+{
+    if noted.edges > budget {
+        return Err(Trouble::Wide);
+    }
+    Ok(Outer {
+        graph: noted.graph.copy(alloc)?,
+        names: Vec::from_slice(alloc, &noted.names)?,
+        left: budget - noted.edges,
+    })
+}
+
 // A copy of the graph made last. It is too wide where its layers have more than so many edges.
 fn copy_last(alloc: Global, last: &Option<Noted>, budget: usize) -> Result<Outer, Trouble>
     requires { (n : Note) × (last.now ≡ Some n) }
@@ -146,16 +166,7 @@ fn copy_last(alloc: Global, last: &Option<Noted>, budget: usize) -> Result<Outer
     ensures wide { IfErr result (λ e. e ≡ Wide → (n : Note) → last.now ≡ Some n → budget < n.edges) }
 {
     match last {
-        Some(noted) => {
-            if noted.edges > budget {
-                return Err(Trouble::Wide);
-            }
-            Ok(Outer {
-                graph: noted.graph.copy(alloc)?,
-                names: Vec::from_slice(alloc, &noted.names)?,
-                left: budget - noted.edges,
-            })
-        }
+        Some(noted) => copy_noted(alloc, noted, budget),
         None => unreachable!(),
     }
 }
@@ -177,10 +188,79 @@ pub(crate) fn taken(
     ensures grew { OnOk result (GrewTo pool.old pool.new) }
     ensures last { OnOk result (IsRight pool.new last.new) }
     ensures taken { IfOk result (IsTaken pool.new intake budget) }
-    ensures wide { IfErr result (λ e. e ≡ Wide → (plan : Plan) → PlanFits plan pool.old intake.start (rows_of intake) intake.keeps.items
+    ensures few { IfOk result (λ o. length o.names.items ≤ 8000001) }
+    ensures wide { IfErr result (λ e. e ≡ Wide → (f : ℕ → ℕ) (plan : Plan) → KeepsOrder f → PlanFits plan (pool_on f pool.old) intake.start (rows_of intake) intake.keeps.items
         → PlanPasses pool.old.view plan (rows_of intake) budget) }
 {
     renew(alloc, pool, last, intake, budget)?;
     let outer = copy_last(alloc, last, budget)?;
+    Ok(outer)
+}
+
+// The place of the note of layers that take this in, if there is one.
+fn find_noted(notes: &[Noted], intake: &Intake) -> Option<usize>
+    ensures { IfSome result (λ k. (n : Note) × (slice_get notes.now k ≡ Some n) × SameIntake n.intake intake.now) }
+{
+    for place in 0..notes.len() {
+        if same_intake(&notes[place].intake, intake) {
+            return Some(place);
+        }
+    }
+    None
+}
+
+// The place of the note of layers that take this in. Their graph is made and noted only where there is none.
+fn noted_at(
+    alloc: Global,
+    pool: &mut Pool,
+    notes: &mut Vec<Noted>,
+    intake: Intake,
+    budget: usize,
+) -> Result<usize, Trouble>
+    requires pool { IsPool pool.old }
+    requires notes { AreRight pool.old notes.old.items }
+    requires linked { AreLinked pool.old intake.start (rows_of intake) intake.keeps.items }
+    requires few { length (rows_of intake) ≤ 65535 }
+    requires budget { budget ≤ 16000001 }
+    ensures grew { OnOk result (GrewTo pool.old pool.new) }
+    ensures notes { OnOk result (AreRight pool.new notes.new.items) }
+    ensures noted { IfOk result (λ k. (n : Note) × (slice_get notes.new.items k ≡ Some n) × SameIntake n.intake intake) }
+    ensures wide { IfErr result (λ e. e ≡ Wide → (f : ℕ → ℕ) (plan : Plan) → KeepsOrder f → PlanFits plan (pool_on f pool.old) intake.start (rows_of intake) intake.keeps.items
+        → PlanPasses pool.old.view plan (rows_of intake) budget) }
+{
+    let held = notes.as_slice();
+    if let Some(place) = find_noted(held, &intake) {
+        return Ok(place);
+    }
+    let place = held.len();
+    let noted = note(alloc, pool, intake, budget)?;
+    notes.push(noted)?;
+    Ok(place)
+}
+
+// The graph of layers that take this in, with what its labels name; it is made only where none is noted. It is too wide
+// where its layers have more than so many edges.
+pub(crate) fn taken_again(
+    alloc: Global,
+    pool: &mut Pool,
+    notes: &mut Vec<Noted>,
+    intake: Intake,
+    budget: usize,
+) -> Result<Outer, Trouble>
+    requires pool { IsPool pool.old }
+    requires notes { AreRight pool.old notes.old.items }
+    requires linked { AreLinked pool.old intake.start (rows_of intake) intake.keeps.items }
+    requires few { length (rows_of intake) ≤ 65535 }
+    requires budget { budget ≤ 16000001 }
+    ensures grew { OnOk result (GrewTo pool.old pool.new) }
+    ensures notes { OnOk result (AreRight pool.new notes.new.items) }
+    ensures taken { IfOk result (IsTaken pool.new intake budget) }
+    ensures wide { IfErr result (λ e. e ≡ Wide → (f : ℕ → ℕ) (plan : Plan) → KeepsOrder f → PlanFits plan (pool_on f pool.old) intake.start (rows_of intake) intake.keeps.items
+        → PlanPasses pool.old.view plan (rows_of intake) budget) }
+{
+    let place = noted_at(alloc, pool, notes, intake, budget)?;
+    let held = notes.as_slice();
+    let noted = &held[place];
+    let outer = copy_noted(alloc, noted, budget)?;
     Ok(outer)
 }

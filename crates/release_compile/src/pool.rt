@@ -3,7 +3,7 @@ ghost use Rattle.std.specs.Prelude.{◌≡◌, ℕ, ◌<◌, ◌⊎◌, ◌↔�
 ghost use Rattle.contraction.specs.Answers.{Answers, Keeps};
 ghost use Rattle.release_compile.specs.declared.pool.Made.{Made as Key};
 ghost use Rattle.release_compile.specs.declared.view.View.{View as Seen};
-ghost use Rattle.release_compile.specs.Seen.{Carries, seen_row};
+ghost use Rattle.release_compile.specs.Seen.{ComposesIn, seen_row};
 ghost use Rattle.release_compile.specs.Pooling.{IsRowIndex, NotesAreRight, WasMade, IsMade, IsPool, GrewTo, HasSame, HasCopy, EitherKeeps};
 
 use crate::view::{View, row_in};
@@ -40,7 +40,7 @@ pub(crate) fn composed(
     keep: &NodeList,
 ) -> Result<Contraction, Memory>
     requires { (n : ℕ) → Contains keep.now n → Keeps x.now.kept n ⊎ Keeps y.now.kept n }
-    ensures carries { IfOk result (Carries view x.now y.now) }
+    ensures composes { IfOk result (ComposesIn view x.now y.now) }
     ensures kept { IfOk result (λ r. (n : ℕ) → Keeps r.kept n ↔ Contains keep.now n) }
 {
     match view {

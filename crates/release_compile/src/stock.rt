@@ -14,12 +14,14 @@ use ilk_base::Memory;
 use station_graph::{NodeList, Station};
 use std::alloc::Global;
 
-// Values of one view, the numbers of each part's letters among them, and the outer graph that was made last.
+// Values of one view, the numbers of each part's letters among them, the outer graph that was made last, and the inner
+// graphs of switches that were unlike all before them.
 #[derive(Drop)]
 pub(crate) struct Stock {
     pub(crate) pool: Pool,
     pub(crate) letters: Vec<Vec<usize>>,
     pub(crate) last: Option<Noted>,
+    pub(crate) inner: Vec<Noted>,
 }
 
 // The letters of all parts.
@@ -40,5 +42,6 @@ pub(crate) fn stock_of(
         pool,
         letters,
         last: None,
+        inner: Vec::new(alloc),
     })
 }

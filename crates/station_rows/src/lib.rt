@@ -15,3 +15,5 @@ mod ends;
 mod limits;
 #[cfg(test)]
 mod readers;
+#[cfg(test)]
+mod renamed;

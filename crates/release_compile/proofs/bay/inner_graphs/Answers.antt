@@ -10,7 +10,7 @@ use Rattle.bay_contract.specs.Counting.{AreSoMany}
 use Rattle.release_compile.specs.Counted.{InnerHas, SwitchesHave, Spends, Passes, InnerIsSmall}
 use Rattle.release_compile.proofs.EdgesLemmas.{switches_none}
 use Rattle.release_compile.proofs.BayEdges.{switches_spend, switches_pass}
-use Rattle.release_compile.proofs.LayeringLemmas.{grew_same, grew_more}
+use Rattle.release_compile.proofs.LayeringLemmas.{grew_same, grew_more, grows}
 use Rattle.release_compile.proofs.PlanLemmas.{values_more}
 use Rattle.release_compile.proofs.InputsLemmas.{names_stay}
 use Rattle.release_compile.proofs.BayLemmas.{own_of, inner_none, inner_more}
@@ -20,6 +20,7 @@ use Rattle.release_compile.proofs.bay.inner_graphs.Goals as goal
 pub loop-i-init : goal.loop-i-init
 loop-i-init c = record {
   grew = grew_same c.args.pool.now c.requires.pool;
+  notes = c.requires.notes;
   left = omega arith;
   spends = record { edges = 0; has = switches_none c.args.pool.now.view c.args.station.now c.args.bay.0 (AreSoMany c.args.station.now) c.args.first c.args.count; all = omega arith };
   inner = λ a. subst (λ (gs : List Layered). AreInner c.args.pool.now.view (lettered c.args.station.now a) c.args.bay.0 c.args.first c.args.count (values_at c.args.pool.now.values.items c.args.names.now) gs 0) (sym c.new-graphs.ensures.items) (inner_none c.args.pool.now.view (lettered c.args.station.now a) c.args.bay.0 c.args.first c.args.count (values_at c.args.pool.now.values.items c.args.names.now));
@@ -29,7 +30,7 @@ pub inner_graph-requires-clause-own : goal.inner_graph-requires-clause-own
 inner_graph-requires-clause-own c = own_of c.args.station.now c.args.bay.0 c.args.first c.args.count c.loop-i.i c.requires.switches c.loop-i-test.true
 
 pub inner_graph-requires-clause-names : goal.inner_graph-requires-clause-names
-inner_graph-requires-clause-names c = names_stay c.args.pool.now c.loop-i.pool c.loop-i.invariant.grew c.args.station.now c.args.bay.0 c.args.names.now c.requires.names
+inner_graph-requires-clause-names c = names_stay c.args.pool.now c.loop-i.pool (grows c.args.pool.now c.loop-i.pool c.loop-i.invariant.grew) c.args.station.now c.args.bay.0 c.args.names.now c.requires.names
 
 pub loop-i-preserved : goal.loop-i-preserved
 loop-i-preserved c =
@@ -43,6 +44,7 @@ loop-i-preserved c =
     let same = values_more p0.values.items p.values.items c.args.names.now c.loop-i.invariant.grew.values c.requires.names.within in
     record {
       grew = grew_more p0 p q c.loop-i.invariant.grew g;
+      notes = c.in_ok-made.ensures.notes;
       left = omega (arith, c.in_ok-made.ensures.left, c.loop-i.invariant.left);
       spends = switches_spend p0.view c.args.station.now c.args.bay.0 c.args.first c.args.count i c.args.left c.loop-i.rest c.in_ok-made.made.left c.loop-i-test.true c.loop-i.invariant.spends
           (subst (λ w. Spends (InnerHas w c.args.station.now c.args.bay.0 (c.args.first + i) c.args.first (c.args.count - 1) (c.args.count - 1)) c.args.station.now c.loop-i.rest c.in_ok-made.made.left) c.loop-i.invariant.grew.view c.in_ok-made.ensures.spent);

@@ -10,9 +10,9 @@ use Rattle.release_compile.specs.Counted.{OuterHas, SwitchesHave, Spends, Passes
 use Rattle.release_compile.specs.Built.{AreInner}
 use Rattle.release_compile.proofs.BayEdges.{view_spends, outer_view_passes, inner_view_passes}
 use Rattle.release_compile.proofs.ErrorLemmas.{passed_on}
-use Rattle.release_compile.proofs.LayeringLemmas.{grew_more}
+use Rattle.release_compile.proofs.LayeringLemmas.{grew_more, grows}
 use Rattle.release_compile.proofs.InputsLemmas.{letters_stay}
-use Rattle.release_compile.proofs.NotingLemmas.{right_stays}
+use Rattle.release_compile.proofs.NotingLemmas.{right_stays, all_right_stay}
 use Rattle.release_compile.proofs.bay.view_graphs.Goals as goal
 
 pub inner_graphs-requires-clause-shared : goal.inner_graphs-requires-clause-shared
@@ -21,6 +21,12 @@ inner_graphs-requires-clause-shared c n =
     let row : List ℕ = c.index-shared-place.result in
     let here : slice_get c.args.shared.now b ≡ Some row = ap (slice_get c.args.shared.now) (sym c.from-place.ensures) ∙ slice_get_read c.args.shared.now _ c.from-place.result row refl (omega (arith, c.from-place.ensures, c.requires.bay, c.requires.shared.count)) c.index-shared-place.is in
     c.requires.shared.each b row here n
+
+pub inner_graphs-requires-clause-notes : goal.inner_graphs-requires-clause-notes
+inner_graphs-requires-clause-notes c =
+    let p0 : Pool = c.args.stock.now.pool in
+    let p1 : Pool = c.outer_graph.new.pool in
+    all_right_stay p0 p1 (grows p0 p1 c.in_ok-outer.ensures.grew) c.args.stock.now.inner.items c.requires.stock.inner
 
 pub outer_graph-requires-clause-letters : goal.outer_graph-requires-clause-letters
 outer_graph-requires-clause-letters c = rw c.deref.ensures.value c.requires.stock.letters
@@ -36,8 +42,9 @@ returns-clause-stock c =
     record {
       pool = g2.is_pool;
       of_view = g2.view ∙ (g1.view ∙ c.requires.stock.of_view);
-      letters = letters_stay p0 p2 (grew_more p0 p1 p2 g1 g2) a (map (λ (v : Vec ℕ Global). v.items) c.args.stock.now.letters.items) (part_count c.args.station.now) c.requires.stock.letters;
-      last = right_stays p1 p2 g2 c.outer_graph.new.last c.in_ok-outer.ensures.last;
+      letters = letters_stay p0 p2 (grows p0 p2 (grew_more p0 p1 p2 g1 g2)) a (map (λ (v : Vec ℕ Global). v.items) c.args.stock.now.letters.items) (part_count c.args.station.now) c.requires.stock.letters;
+      last = right_stays p1 p2 (grows p1 p2 g2) c.outer_graph.new.last c.in_ok-outer.ensures.last;
+      inner = c.in_ok-inners.ensures.notes;
     }
 
 pub returns-clause-graphs : goal.returns-clause-graphs

@@ -1,7 +1,7 @@
 use Rattle.std.proofs.Common.{◌≡◌, ◌+◌, ℕ, List, slice_get, Some, length, refl, sym, subst, arith}
 use Rattle.std.proofs.lemmas.Option.{slice_get_read}
 use Rattle.contraction.specs.Answers.{Answers}
-use Rattle.release_compile.proofs.LayeringLemmas.{grew_same, grew_more}
+use Rattle.release_compile.proofs.LayeringLemmas.{grew_same, grew_more, grows}
 use Rattle.release_compile.proofs.InputsLemmas.{CopiesBelow, copies_none, copies_more, copies_all}
 use Rattle.release_compile.proofs.inputs.copies.Goals as goal
 
@@ -26,7 +26,7 @@ loop-place-preserved c =
     record {
       grew = grew_more c.args.pool.now p q c.loop-place.invariant.grew g;
       copies = subst (λ (ids : List ℕ). CopiesBelow q c.args.values.now ids (c.loop-place.place + 1)) (sym c.in_ok-push.ensures.items)
-          (copies_more p q c.args.values.now c.loop-place.ids.items c.loop-place.place c.in_ok-id.id y g c.loop-place.invariant.copies at c.in_ok-id.ensures.copy);
+          (copies_more p q c.args.values.now c.loop-place.ids.items c.loop-place.place c.in_ok-id.id y (grows p q g) c.loop-place.invariant.copies at c.in_ok-id.ensures.copy);
     }
 
 pub returns-clause-copies : goal.returns-clause-copies

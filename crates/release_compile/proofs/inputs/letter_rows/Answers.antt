@@ -5,7 +5,7 @@ use Rattle.station_graph.specs.Diagram.{part_count}
 use Rattle.contraction.specs.Answers.{Answers}
 use Rattle.release_compile.specs.Lettered.{lettered, letters_in}
 use Rattle.release_compile.specs.Inputs.{AreLetters, AreCopies}
-use Rattle.release_compile.proofs.LayeringLemmas.{grew_same, grew_more}
+use Rattle.release_compile.proofs.LayeringLemmas.{grew_same, grew_more, grows}
 use Rattle.release_compile.proofs.InputsLemmas.{letters_none, letters_more}
 use Rattle.release_compile.proofs.inputs.letter_rows.Goals as goal
 
@@ -44,7 +44,7 @@ loop-part-preserved c =
     let items : map (λ (v : Vec ℕ Global). v.items) c.push.new.self.items ≡ rows ++ row ∷ [] = ap (map (λ (v : Vec ℕ Global). v.items)) c.in_ok-push.ensures.items ∙ map-append (λ (v : Vec ℕ Global). v.items) c.loop-part.rows.items _ in
     record {
       grew = grew_more c.args.pool.now p q c.loop-part.invariant.grew g;
-      rows = subst (λ (rs : List (List ℕ)). AreLetters a q rs (j + 1)) (sym items) (letters_more a p q rows j row g c.loop-part.invariant.rows copies);
+      rows = subst (λ (rs : List (List ℕ)). AreLetters a q rs (j + 1)) (sym items) (letters_more a p q rows j row (grows p q g) c.loop-part.invariant.rows copies);
     }
 
 pub returns-clause-rows : goal.returns-clause-rows

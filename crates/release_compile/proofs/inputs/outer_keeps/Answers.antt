@@ -1,7 +1,7 @@
 use Rattle.std.proofs.Common.{◌≡◌, ◌+◌, ℕ, List, suc, sym, subst, arith}
 use Rattle.release_compile.specs.Needing.{IsNeededOuter}
 use Rattle.release_compile.specs.Inputs.{AreKeeps}
-use Rattle.release_compile.proofs.LayeringLemmas.{grew_same, grew_more}
+use Rattle.release_compile.proofs.LayeringLemmas.{grew_same, grew_more, grows}
 use Rattle.release_compile.proofs.InputsLemmas.{keeps_none, keeps_more}
 use Rattle.release_compile.proofs.inputs.outer_keeps.Goals as goal
 
@@ -19,7 +19,7 @@ loop-place-preserved c =
     record {
       grew = grew_more c.args.pool.now p q c.loop-place.invariant.grew g;
       keeps = subst (λ (ks : List ℕ). AreKeeps (IsNeededOuter c.args.station.now c.args.bay.0) q ks (c.loop-place.place + 1)) (sym c.in_ok-push.ensures.items)
-          (keeps_more (IsNeededOuter c.args.station.now c.args.bay.0) p q c.loop-place.keeps.items c.loop-place.place c.in_ok-id.id g c.loop-place.invariant.keeps
+          (keeps_more (IsNeededOuter c.args.station.now c.args.bay.0) p q c.loop-place.keeps.items c.loop-place.place c.in_ok-id.id (grows p q g) c.loop-place.invariant.keeps
           (record { nodes = c.in_ok-nodes.nodes; listed = c.in_ok-id.ensures.kept; exact = c.in_ok-nodes.ensures }));
     }
 

@@ -9,12 +9,15 @@ use Rattle.decision_graphs.specs.Finished.{finished, AreFinished, IsFinished}
 use Rattle.decision_graphs.proofs.FinishedLemmas.{AreFinished-push}
 use Rattle.std.specs.List.{sum_by}
 use Rattle.std.proofs.lemmas.List.Sums.{sum_by_push}
+use Rattle.contraction.specs.Renaming.{mapped}
+use Rattle.release_compile.specs.Places.{pool_on}
 use Rattle.release_compile.specs.Layering.{AreEdges, values_at, no_answers}
 use Rattle.release_compile.specs.Counted.{Spends, AreAtLeast}
 use Rattle.release_compile.specs.Folding.{IsExact, ReachesMore}
 use Rattle.decision_graphs.specs.Finished.{layer_with}
 use Rattle.release_compile.specs.Plans.{PlanHas, SameBefore, diagram_of, ChosenBy, items_of, NeededBy, layers_of}
-use Rattle.release_compile.proofs.LayeringLemmas.{grew_same, grew_more, grew_in, keep_in, at_least}
+use Rattle.release_compile.proofs.LayeringLemmas.{grew_same, grew_more, grew_in, keep_in, at_least, grows, sound}
+use Rattle.release_compile.proofs.MappedPools.{at_mapped, grows_on, linked_on, sound_on, edges_on, reaches_on}
 use Rattle.release_compile.proofs.PlanLemmas.{start_exact, layer_exact, next_kept, next_in, next_some, edges_lead, either_here, one_in, start_kept_at}
 use Rattle.release_compile.proofs.CountLemmas.{at_least_of}
 use Rattle.release_compile.proofs.PassLemmas.{plan_none, plan_spends, plan_passes, states_count, reached_at_least, passes_next}
@@ -32,14 +35,14 @@ layers-init c =
       some = omega (arith, ap length is);
       few = omega (arith, ap length is);
       nodes = omega (arith, ap (sum_by (λ (l : FinishedLayer). l.nodes)) c.new-layers.ensures.items);
-      spends = λ plan fits. record { edges = 0; has = plan_none (AreSoMany (diagram_of plan)) p.view plan letters; all = omega arith };
+      spends = λ f plan order fits. record { edges = 0; has = plan_none (AreSoMany (diagram_of plan)) p.view plan letters; all = omega arith };
       choices = ap (map (λ (l : FinishedLayer). l.choices)) c.new-layers.ensures.items;
       finished = subst (λ ls. AreFinished (length c.in_ok-states.states.items) ls) (sym c.new-layers.ensures.items) (omega (arith, ap length is));
       kept = λ t i m x nodes at_i at_x at_m at_nodes n. start_kept_at p c.args.start letters c.args.keeps.now c.requires.linked t i m x nodes (ap (λ xs. slice_get xs t) (sym is) ∙ at_i) at_x at_m at_nodes n;
-      exact = λ plan fits.
-          subst (λ ds. IsExact p.view (diagram_of plan) (ChosenBy plan) (items_of plan) (NeededBy plan) 0 (layers_of ds) (values_at p.values.items c.in_ok-states.states.items)) (sym c.new-layers.ensures.items)
-          (subst (λ xs. IsExact p.view (diagram_of plan) (ChosenBy plan) (items_of plan) (NeededBy plan) 0 [] (values_at p.values.items xs)) (sym is)
-          (start_exact plan p c.args.start letters c.args.keeps.now c.requires.pool c.requires.linked fits));
+      exact = λ f plan order fits.
+          subst (λ ds. IsExact p.view (diagram_of plan) (ChosenBy plan) (items_of plan) (NeededBy plan) 0 (layers_of ds) (values_at (map (mapped f) p.values.items) c.in_ok-states.states.items)) (sym c.new-layers.ensures.items)
+          (subst (λ xs. IsExact p.view (diagram_of plan) (ChosenBy plan) (items_of plan) (NeededBy plan) 0 [] (values_at (map (mapped f) p.values.items) xs)) (sym is)
+          (start_exact plan (pool_on f p) c.args.start letters c.args.keeps.now (sound_on f order p (sound p c.requires.pool)) (linked_on f p c.args.start letters c.args.keeps.now c.requires.linked) fits));
     }
 
 pub next_layer-requires-clause-states : goal.next_layer-requires-clause-states
@@ -114,6 +117,9 @@ layers-preserved c =
     let at_nodes : slice_get p.keeps.items k ≡ Some nodes = slice_get-get_or p.keeps.items k [] (c.requires.linked.keeps_in (suc j) k at_k) in
     let g = c.layers.invariant.grew in
     let h = c.in_ok-step.ensures.grew in
+    let gg = grows p q g in
+    let hh = grows q r h in
+    let holds = sound r h.is_pool in
     let at_q : slice_get q.keeps.items k ≡ Some nodes = g.keeps k nodes at_nodes in
     let e : AreEdges r.view r.values.items nodes states row next edges (length states * length row) =
     subst (λ xs. AreEdges r.view r.values.items nodes xs row next edges (length xs * length row)) c.as_slice-held.ensures.value (c.in_ok-step.ensures.edges nodes at_q) in
@@ -132,19 +138,19 @@ layers-preserved c =
       choice = omega (arith, wide, some_row);
       node = omega (arith, count, c.layers.invariant.some);
       counted = e.len ∙ sym product;
-      leads = λ t lt. edges_lead p q r c.args.start letters keeps c.requires.linked g h j k row nodes at_j at_k at_nodes states next edges c.layers.invariant.states_in c.layers.invariant.some e t (omega (arith, lt, e.len));
+      leads = λ t lt. edges_lead p q r c.args.start letters keeps c.requires.linked gg hh holds j k row nodes at_j at_k at_nodes states next edges c.layers.invariant.states_in c.layers.invariant.some e t (omega (arith, lt, e.len));
     } in
     record {
       grew = grew_more p q r g h;
-      states_in = next_in p q r c.args.start letters keeps c.requires.linked g h j k row nodes at_j at_k at_nodes states next edges c.layers.invariant.states_in c.layers.invariant.some e;
-      some = next_some p q r c.args.start letters keeps c.requires.linked g h j k row nodes at_j at_k at_nodes states next edges c.layers.invariant.states_in c.layers.invariant.some e;
+      states_in = next_in p q r c.args.start letters keeps c.requires.linked gg hh holds j k row nodes at_j at_k at_nodes states next edges c.layers.invariant.states_in c.layers.invariant.some e;
+      some = next_some p q r c.args.start letters keeps c.requires.linked gg hh holds j k row nodes at_j at_k at_nodes states next edges c.layers.invariant.states_in c.layers.invariant.some e;
       few = omega (arith, few_next, room, product, c.layers.invariant.nodes);
       nodes = omega (arith, ap (sum_by (λ (l : FinishedLayer). l.nodes)) c.in_ok-push.ensures.items, sum_by_push (λ (l : FinishedLayer). l.nodes) c.layers.layers.items layer, count, c.layers.invariant.nodes, nodes_few, room);
-      spends = λ plan fits.
-          let values : List Answers = values_at q.values.items states in
-          let made : length values * length row ≡ length c.as_slice-held.result.now * length row = ap (λ n. n * length row) (length-map states (λ i. get_or q.values.items i no_answers) ∙ sym count) in
+      spends = λ f plan order fits.
+          let values : List Answers = values_at (map (mapped f) q.values.items) states in
+          let made : length values * length row ≡ length c.as_slice-held.result.now * length row = ap (λ n. n * length row) (length-map states (λ i. get_or (map (mapped f) q.values.items) i no_answers) ∙ sym count) in
           subst (λ n. Spends (PlanHas p.view plan letters (j + 1)) (diagram_of plan) c.args.budget (c.layers.left - n)) made
-          (plan_spends p.view plan letters j c.args.budget c.layers.left (length values) row (c.layers.invariant.spends plan fits) at_j (states_count p.view plan j (layers_of c.layers.layers.items) values (c.layers.invariant.exact plan fits)) (omega (arith, made, room)));
+          (plan_spends p.view plan letters j c.args.budget c.layers.left (length values) row (c.layers.invariant.spends f plan order fits) at_j (states_count p.view plan j (layers_of c.layers.layers.items) values (c.layers.invariant.exact f plan order fits)) (omega (arith, made, room)));
       choices =
           ap (map (λ (l : FinishedLayer). l.choices)) c.in_ok-push.ensures.items
           ∙ (map-append (λ (l : FinishedLayer). l.choices) c.layers.layers.items (layer ∷ [])
@@ -152,16 +158,19 @@ layers-preserved c =
           ∙ (ap (λ n. map length (take j letters) ++ n ∷ []) (wide ∙ ap length (sym (get_or_from_slice_get letters j row [] at_j)))
           ∙ (sym (map-append length (take j letters) (get_or letters j [] ∷ [])) ∙ ap (map length) (sym (take_more letters j [] (omega (arith, len, c.layers-test.true))))))));
       finished = subst (λ ls. AreFinished (length next) ls) (sym c.in_ok-push.ensures.items)
-          (AreFinished-push (length states) (length next) c.layers.layers.items layer c.layers.invariant.finished count fits_layer (next_some p q r c.args.start letters keeps c.requires.linked g h j k row nodes at_j at_k at_nodes states next edges c.layers.invariant.states_in c.layers.invariant.some e));
+          (AreFinished-push (length states) (length next) c.layers.layers.items layer c.layers.invariant.finished count fits_layer (next_some p q r c.args.start letters keeps c.requires.linked gg hh holds j k row nodes at_j at_k at_nodes states next edges c.layers.invariant.states_in c.layers.invariant.some e));
       kept = λ t i m x ns at_i at_x at_m at_ns n.
           let same_k : k ≡ m = same_Some k m (sym at_k1 ∙ at_m) in
           let same_nodes : nodes ≡ ns = same_Some nodes ns (sym at_nodes ∙ (ap (slice_get p.keeps.items) same_k ∙ at_ns)) in
-          subst (λ l. Keeps x.kept n ↔ Contains l n) same_nodes (next_kept p q r c.args.start letters keeps c.requires.linked g h j k row nodes at_j at_k at_nodes states next edges c.layers.invariant.states_in c.layers.invariant.some e t i x at_i at_x n);
-      exact = λ plan fits.
-          let done = layer_exact p q r c.args.start letters keeps c.requires.linked g h j k row nodes at_j at_k at_nodes states next edges c.layers.invariant.states_in c.layers.invariant.some e plan (layers_of c.layers.layers.items) fits (c.layers.invariant.exact plan fits) in
-          let with_count = subst (λ n. IsExact p.view (diagram_of plan) (ChosenBy plan) (items_of plan) (NeededBy plan) (suc j) (layers_of c.layers.layers.items ++ layer_with (length row) n edges ∷ []) (values_at r.values.items next)) (sym count) done in
-          let with_drafts = subst (λ ls. IsExact p.view (diagram_of plan) (ChosenBy plan) (items_of plan) (NeededBy plan) (suc j) ls (values_at r.values.items next)) (sym drafts) with_count in
-          subst (λ n. IsExact p.view (diagram_of plan) (ChosenBy plan) (items_of plan) (NeededBy plan) n (layers_of c.push.new.self.items) (values_at r.values.items next)) (sym (add-one j)) with_drafts;
+          subst (λ l. Keeps x.kept n ↔ Contains l n) same_nodes (next_kept p q r c.args.start letters keeps c.requires.linked gg hh holds j k row nodes at_j at_k at_nodes states next edges c.layers.invariant.states_in c.layers.invariant.some e t i x at_i at_x n);
+      exact = λ f plan order fits.
+          let in_on : (i : ℕ) → i < length q.values.items → i < length (map (mapped f) q.values.items) = λ i lt. omega (arith, lt, length-map q.values.items (mapped f)) in
+          let at_on : slice_get (map (map f) p.keeps.items) k ≡ Some (map f nodes) = at_mapped (map f) p.keeps.items k nodes at_nodes in
+          let e_on = edges_on f order r.view r.values.items nodes states row next edges (length states * length row) e in
+          let done = layer_exact (pool_on f p) (pool_on f q) (pool_on f r) c.args.start letters keeps (linked_on f p c.args.start letters keeps c.requires.linked) (grows_on f p q gg) (grows_on f q r hh) (sound_on f order r holds) j k row (map f nodes) at_j at_k at_on states next edges (λ t i at. in_on i (c.layers.invariant.states_in t i at)) c.layers.invariant.some e_on plan (layers_of c.layers.layers.items) fits (c.layers.invariant.exact f plan order fits) in
+          let with_count = subst (λ n. IsExact p.view (diagram_of plan) (ChosenBy plan) (items_of plan) (NeededBy plan) (suc j) (layers_of c.layers.layers.items ++ layer_with (length row) n edges ∷ []) (values_at (map (mapped f) r.values.items) next)) (sym count) done in
+          let with_drafts = subst (λ ls. IsExact p.view (diagram_of plan) (ChosenBy plan) (items_of plan) (NeededBy plan) (suc j) ls (values_at (map (mapped f) r.values.items) next)) (sym drafts) with_count in
+          subst (λ n. IsExact p.view (diagram_of plan) (ChosenBy plan) (items_of plan) (NeededBy plan) n (layers_of c.push.new.self.items) (values_at (map (mapped f) r.values.items) next)) (sym (add-one j)) with_drafts;
     }
   where
     length-letters : (xs : List (Vec ℕ Global)) → length (map (λ (v : Vec ℕ Global). v.items) xs) ≡ length xs
@@ -175,13 +184,20 @@ returns-clause-choices c =
     c.layers.invariant.choices ∙ ap (map length) (take_all c.layers.j letters (omega (arith, done, length-map c.args.letters.now (λ (v : Vec ℕ Global). v.items))))
 
 pub returns-clause-exact : goal.returns-clause-exact
-returns-clause-exact c plan fits =
+returns-clause-exact c f plan order fits =
     let p = c.args.pool.now in
     let done : c.layers.j ≡ length c.args.letters.now = omega (arith, c.layers.auto.j-end, c.layers-test.false) in
-    subst (λ n. IsExact p.view (diagram_of plan) (ChosenBy plan) (items_of plan) (NeededBy plan) n (layers_of c.layers.layers.items) (values_at c.layers.pool.values.items c.layers.states.items)) done (c.layers.invariant.exact plan fits)
+    subst (λ n. IsExact p.view (diagram_of plan) (ChosenBy plan) (items_of plan) (NeededBy plan) n (layers_of c.layers.layers.items) (values_at (map (mapped f) c.layers.pool.values.items) c.layers.states.items)) done (c.layers.invariant.exact f plan order fits)
+
+pub returns-clause-spent : goal.returns-clause-spent
+returns-clause-spent c f plan order fits =
+    let p = c.args.pool.now in
+    let letters : List (List ℕ) = map (λ (v : Vec ℕ Global). v.items) c.args.letters.now in
+    let done : c.layers.j ≡ length c.args.letters.now = omega (arith, c.layers.auto.j-end, c.layers-test.false) in
+    subst (λ n. Spends (PlanHas p.view plan letters n) (diagram_of plan) c.args.budget c.layers.left) done (c.layers.invariant.spends f plan order fits)
 
 pub returns-then-too_many-clause-wide : goal.returns-then-too_many-clause-wide
-returns-then-too_many-clause-wide c e plan fits =
+returns-then-too_many-clause-wide c e f plan order fits =
     let p = c.args.pool.now in
     let q = c.layers.pool in
     let j = c.layers.j in
@@ -189,13 +205,13 @@ returns-then-too_many-clause-wide c e plan fits =
     let row : List ℕ = c.as_slice-row.result.now in
     let at0 : slice_get c.args.letters.now j ≡ Some c.index-letters-j.result = slice_get_read c.args.letters.now _ j c.index-letters-j.result refl c.layers-test.true c.index-letters-j.is in
     let at_j : slice_get letters j ≡ Some row = slice_get-map (λ (v : Vec ℕ Global). v.items) c.args.letters.now j ∙ (ap (option_map (λ (v : Vec ℕ Global). v.items)) at0 ∙ ap Some (sym c.as_slice-row.ensures.value)) in
-    let values : List Answers = values_at q.values.items c.layers.states.items in
-    let made : length values * length row ≡ length c.as_slice-held.result.now * length row = ap (λ n. n * length row) (length-map c.layers.states.items (λ i. get_or q.values.items i no_answers) ∙ sym (ap length c.as_slice-held.ensures.value)) in
-    let many = at_least_of (diagram_of plan) (SameBefore p.view plan j) (length values) (states_count p.view plan j (layers_of c.layers.layers.items) values (c.layers.invariant.exact plan fits)) in
-    plan_passes p.view plan letters j c.args.budget c.layers.left (length values) row (c.layers.invariant.spends plan fits) at_j many (omega (arith, made, c.too_many.ensures.many c.if-too_many.true))
+    let values : List Answers = values_at (map (mapped f) q.values.items) c.layers.states.items in
+    let made : length values * length row ≡ length c.as_slice-held.result.now * length row = ap (λ n. n * length row) (length-map c.layers.states.items (λ i. get_or (map (mapped f) q.values.items) i no_answers) ∙ sym (ap length c.as_slice-held.ensures.value)) in
+    let many = at_least_of (diagram_of plan) (SameBefore p.view plan j) (length values) (states_count p.view plan j (layers_of c.layers.layers.items) values (c.layers.invariant.exact f plan order fits)) in
+    plan_passes p.view plan letters j c.args.budget c.layers.left (length values) row (c.layers.invariant.spends f plan order fits) at_j many (omega (arith, made, c.too_many.ensures.many c.if-too_many.true))
 
 pub returns-in_err-step-clause-wide : goal.returns-in_err-step-clause-wide
-returns-in_err-step-clause-wide c = passed_on _ _ c.from_residual-in_err-step.result c.from_residual-in_err-step.ensures.1 (λ trouble same is plan fits.
+returns-in_err-step-clause-wide c = passed_on _ _ c.from_residual-in_err-step.result c.from_residual-in_err-step.ensures.1 (λ trouble same is f plan order fits.
     let p = c.args.pool.now in
     let q = c.layers.pool in
     let keeps = c.args.keeps.now in
@@ -212,14 +228,16 @@ returns-in_err-step-clause-wide c = passed_on _ _ c.from_residual-in_err-step.re
     let nodes : List ℕ = get_or p.keeps.items k [] in
     let at_nodes : slice_get p.keeps.items k ≡ Some nodes = slice_get-get_or p.keeps.items k [] (c.requires.linked.keeps_in (suc j) k at_k) in
     let g = c.layers.invariant.grew in
-    let values : List Answers = values_at q.values.items states in
-    let exact = c.layers.invariant.exact plan fits in
-    let made : length values * length row ≡ length c.as_slice-held.result.now * length row = ap (λ n. n * length row) (length-map states (λ i. get_or q.values.items i no_answers) ∙ sym (ap length c.as_slice-held.ensures.value)) in
+    let values : List Answers = values_at (map (mapped f) q.values.items) states in
+    let exact = c.layers.invariant.exact f plan order fits in
+    let made : length values * length row ≡ length c.as_slice-held.result.now * length row = ap (λ n. n * length row) (length-map states (λ i. get_or (map (mapped f) q.values.items) i no_answers) ∙ sym (ap length c.as_slice-held.ensures.value)) in
     let same_count : length states * length row ≡ length c.as_slice-held.result.now * length row = ap (λ n. n * length row) (sym (ap length c.as_slice-held.ensures.value)) in
     let room = c.too_many.ensures.few c.if-too_many.false in
-    let spent = plan_spends p.view plan letters j c.args.budget c.layers.left (length values) row (c.layers.invariant.spends plan fits) at_j (states_count p.view plan j (layers_of c.layers.layers.items) values exact) (omega (arith, made, room)) in
-    let more : ReachesMore q.view nodes values (values_at q.values.items row) c.most_nodes-most.result = subst (λ (xs : List ℕ). ReachesMore q.view nodes (values_at q.values.items xs) (values_at q.values.items row) c.most_nodes-most.result) c.as_slice-held.ensures.value (c.in_err-step.ensures.wide (sym same ∙ is) nodes (g.keeps k nodes at_nodes)) in
-    let reached = reached_at_least p q c.args.start letters keeps c.requires.linked g j k row nodes states at_j at_k at_nodes plan fits (layers_of c.layers.layers.items) exact c.most_nodes-most.result more in
+    let spent = plan_spends p.view plan letters j c.args.budget c.layers.left (length values) row (c.layers.invariant.spends f plan order fits) at_j (states_count p.view plan j (layers_of c.layers.layers.items) values exact) (omega (arith, made, room)) in
+    let more : ReachesMore q.view nodes (values_at q.values.items states) (values_at q.values.items row) c.most_nodes-most.result = subst (λ (xs : List ℕ). ReachesMore q.view nodes (values_at q.values.items xs) (values_at q.values.items row) c.most_nodes-most.result) c.as_slice-held.ensures.value (c.in_err-step.ensures.wide (sym same ∙ is) nodes (g.keeps k nodes at_nodes)) in
+    let at_on : slice_get (map (map f) p.keeps.items) k ≡ Some (map f nodes) = at_mapped (map f) p.keeps.items k nodes at_nodes in
+    let more_on = reaches_on f order q.view nodes q.values.items states row c.most_nodes-most.result more in
+    let reached = reached_at_least (pool_on f p) (pool_on f q) c.args.start letters keeps (linked_on f p c.args.start letters keeps c.requires.linked) (grows_on f p q (grows p q g)) j k row (map f nodes) states at_j at_k at_on plan fits (layers_of c.layers.layers.items) exact c.most_nodes-most.result more_on in
     passes_next p.view plan letters j c.args.budget (c.layers.left - length values * length row) reached.0 c.most_nodes-most.result spent (subst (λ n. AreAtLeast (diagram_of plan) (SameBefore p.view plan n) reached.0) (sym (add-one j)) reached.3)
     (λ ids at some. subst (λ n. c.layers.left - n < reached.0 * length ids) (sym made) (c.most_nodes-most.ensures.many reached.0 ids at some reached.1))
     c.requires.linked.some

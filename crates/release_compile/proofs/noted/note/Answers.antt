@@ -6,6 +6,7 @@ use Rattle.decision_graphs.specs.Label.{Layer, Layered, layer_at, label_of, AreC
 use Rattle.release_compile.specs.declared.pool.Pool.{Pool}
 use Rattle.release_compile.specs.Plans.{layers_of}
 use Rattle.release_compile.specs.Noting.{rows_of}
+use Rattle.release_compile.proofs.LayeringLemmas.{grows}
 use Rattle.release_compile.proofs.NotingLemmas.{linked_stays, folded_laid}
 use Rattle.release_compile.proofs.ErrorLemmas.{passed_on}
 use Rattle.release_compile.proofs.noted.note.Goals as goal
@@ -33,10 +34,9 @@ returns-clause-noted c =
     let is : c.in_ok-whole.whole ≡ build (length names) ds = c.in_ok-whole.ensures ∙ (ap (build (length c.as_slice-states.result.now)) c.deref-3.ensures.value ∙ ap (λ n. build n ds) (ap length c.as_slice-states.ensures.value)) in
     record {
       layers = layers_of ds;
-      linked = linked_stays p q g i.start rows i.keeps.items c.requires.linked;
-      laid = folded_laid p q g i.start rows i.keeps.items c.requires.linked (length i.letters.items) c.args.budget c.in_ok-drafts.drafts.left names ds (sym (length-map i.letters.items (λ (v : Vec ℕ Global). v.items))) spent exact choices;
+      linked = linked_stays p q (grows p q g) i.start rows i.keeps.items c.requires.linked;
+      laid = folded_laid p q (grows p q g) i.start rows i.keeps.items c.requires.linked (length i.letters.items) c.args.budget c.in_ok-drafts.drafts.left names ds (sym (length-map i.letters.items (λ (v : Vec ℕ Global). v.items))) spent exact choices;
       within = c.in_ok-drafts.ensures.states_in;
-      few = omega (arith, c.in_ok-drafts.ensures.states_few, c.requires.budget);
       labels = c.in_ok-graph.ensures.labels ∙ ap (λ (h : Layered). h.labels) is;
       same_choices = c.in_ok-graph.ensures.choices ∙ ap (λ (h : Layered). map (λ (l : Layer). l.choices) h.layers) is;
       label = λ cs h. c.in_ok-graph.ensures.label cs (subst (λ (k : Layered). AreChoices k.layers cs) (sym is) h) ∙ ap (λ (k : Layered). label_of k cs) is;

@@ -1,4 +1,4 @@
-use Rattle.std.proofs.Common.{◌≡◌, IsTrue, true, rules, refl, sym, ap, subst}
+use Rattle.std.proofs.Common.{◌≡◌, IsTrue, true, rules, refl, sym, ap, subst, arith}
 use Rattle.release_compile.specs.declared.noted.Intake.{Intake}
 use Rattle.release_compile.specs.Noting.{rows_of, IsRight}
 use Rattle.release_compile.proofs.noted.renew.Goals as goal
@@ -8,7 +8,8 @@ returns-then-is_noted-clause-noted c =
     let holds : IsTrue true = search rules in
     let h : IsTrue c.is_noted.result = subst IsTrue (sym c.if-is_noted.true) holds in
     let (n, at, same) = c.is_noted.ensures h in
-    (n, at, subst (λ o. IsRight c.args.pool.now o) at c.requires.last, same)
+    let right = subst (λ o. IsRight c.args.pool.now o) at c.requires.last in
+    (n, at, right.0, right.1, same)
 
 pub returns-clause-noted : goal.returns-clause-noted
 returns-clause-noted c =
@@ -16,5 +17,6 @@ returns-clause-noted c =
       c.in_ok-noted.noted,
       refl,
       c.in_ok-noted.ensures.noted,
+      omega (arith, c.in_ok-noted.ensures.few, c.requires.budget),
       record { start = ap (λ (i : Intake). i.start) e; letters = ap rows_of e; keeps = ap (λ (i : Intake). i.keeps.items) e },
     )

@@ -6,17 +6,18 @@ use Rattle.release_compile.specs.Graphs.{IsOuter}
 use Rattle.release_compile.specs.Counted.{OuterHas, Spends, Passes, OuterIsSmall}
 use Rattle.release_compile.specs.Plans.{outer_plan}
 use Rattle.release_compile.specs.Noting.{rows_of}
-use Rattle.release_compile.proofs.LayeringLemmas.{grew_more}
-use Rattle.release_compile.proofs.NotingLemmas.{right_stays}
+use Rattle.release_compile.proofs.LayeringLemmas.{grew_more, grows}
+use Rattle.release_compile.proofs.MappedPools.{order_self}
+use Rattle.release_compile.proofs.NotingLemmas.{right_stays, fits_self}
 use Rattle.release_compile.proofs.OuterFits.{outer_fits}
 use Rattle.release_compile.proofs.OuterEdges.{outer_passes}
 use Rattle.release_compile.proofs.OuterGraphs.{outer_linked}
-use Rattle.release_compile.proofs.OuterTaken.{taken_outer, taken_small, taken_names, taken_spends, taken_few, taken_left, taken_reduced}
+use Rattle.release_compile.proofs.OuterTaken.{taken_outer, taken_small, taken_names, taken_spends, taken_left, taken_reduced}
 use Rattle.release_compile.proofs.ErrorLemmas.{passed_on}
 use Rattle.release_compile.proofs.outer.outer_graph.Goals as goal
 
 pub taken-requires-clause-last : goal.taken-requires-clause-last
-taken-requires-clause-last c = right_stays c.args.pool.now c.outer_intake.new.pool c.in_ok-intake.ensures.grew c.args.last.now c.requires.last
+taken-requires-clause-last c = right_stays c.args.pool.now c.outer_intake.new.pool (grows c.args.pool.now c.outer_intake.new.pool c.in_ok-intake.ensures.grew) c.args.last.now c.requires.last
 
 pub taken-requires-clause-linked : goal.taken-requires-clause-linked
 taken-requires-clause-linked c =
@@ -49,8 +50,7 @@ returns-clause-spent c =
     (taken_spends (lettered c.args.station.now c.args.parts.now) c.args.bay.0 c.args.others c.args.left c.outer_intake.new.pool c.taken.new.pool c.in_ok-intake.intake c.in_ok-outer.outer c.part_count-count.ensures.station c.requires.count c.requires.bay c.in_ok-intake.ensures.ready c.in_ok-outer.ensures.grew c.in_ok-outer.ensures.taken)
 
 pub returns-clause-names_few : goal.returns-clause-names_few
-returns-clause-names_few c =
-    taken_few (lettered c.args.station.now c.args.parts.now) c.args.bay.0 c.args.others c.args.left c.outer_intake.new.pool c.taken.new.pool c.in_ok-intake.intake c.in_ok-outer.outer c.part_count-count.ensures.station c.requires.count c.requires.bay c.in_ok-intake.ensures.ready c.in_ok-outer.ensures.grew c.in_ok-outer.ensures.taken
+returns-clause-names_few c = c.in_ok-outer.ensures.few
 
 pub returns-clause-left : goal.returns-clause-left
 returns-clause-left c =
@@ -67,6 +67,6 @@ returns-in_err-outer-clause-wide c = passed_on _ _ c.from_residual-in_err-outer.
     let p = c.outer_intake.new.pool in
     let i : Intake = c.in_ok-intake.intake in
     let ready = c.in_ok-intake.ensures.ready in
-    let passes = outer_passes p.view a b p i.start (rows_of i) i.keeps.items ready c.args.left (c.in_err-outer.ensures.wide (sym same ∙ is) (outer_plan a b) (outer_fits a b p i.start (rows_of i) i.keeps.items ready)) in
+    let passes = outer_passes p.view a b p i.start (rows_of i) i.keeps.items ready c.args.left (c.in_err-outer.ensures.wide (sym same ∙ is) (λ n. n) (outer_plan a b) order_self (fits_self p i.start (rows_of i) i.keeps.items (outer_linked a b p i.start (rows_of i) i.keeps.items ready) (outer_plan a b) (outer_fits a b p i.start (rows_of i) i.keeps.items ready))) in
     subst (λ w. Passes (OuterHas w c.args.station.now b c.args.others) c.args.station.now c.args.left) c.in_ok-intake.ensures.grew.view
     (subst (λ n. Passes (OuterHas p.view c.args.station.now b n) c.args.station.now c.args.left) c.in_ok-intake.ensures.count passes))

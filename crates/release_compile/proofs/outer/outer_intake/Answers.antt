@@ -4,7 +4,7 @@ use Rattle.station_graph.specs.Diagram.{part_count}
 use Rattle.release_compile.specs.declared.pool.Pool.{Pool}
 use Rattle.release_compile.specs.Lettered.{Lettered, lettered}
 use Rattle.release_compile.specs.Inputs.{AreOtherRows, AreRows}
-use Rattle.release_compile.proofs.LayeringLemmas.{grew_same, grew_more}
+use Rattle.release_compile.proofs.LayeringLemmas.{grew_same, grew_more, grows}
 use Rattle.release_compile.proofs.InputsLemmas.{rows_of_letters, rows_stay}
 use Rattle.release_compile.proofs.OuterGraphs.{outer_ready}
 use Rattle.release_compile.proofs.outer.outer_intake.Goals as goal
@@ -24,7 +24,7 @@ returns-clause-ready c =
     let others : AreOtherRows b all rows c.args.others = subst (λ k. AreOtherRows k all rows c.args.others) c.from.ensures c.in_ok-letters.ensures in
     let are : AreRows a b p0 rows c.args.others = rows_of_letters a b p0 all rows (part_count d) c.args.others c.requires.letters others in
     let g1 = c.in_ok-keeps.ensures.grew in
-    outer_ready a b p1 p1 c.nothing.new.pool c.in_ok-start.start rows c.in_ok-keeps.keeps.items c.args.others (record { station = c.part_count-count.ensures.station; alphabets = c.requires.lettered }) c.requires.count c.requires.bay (grew_same p1 g1.is_pool) c.in_ok-start.ensures.grew c.in_ok-keeps.ensures.keeps (rows_stay p0 p1 g1 a b rows c.args.others are) c.in_ok-start.ensures.nothing
+    outer_ready a b p1 p1 c.nothing.new.pool c.in_ok-start.start rows c.in_ok-keeps.keeps.items c.args.others (record { station = c.part_count-count.ensures.station; alphabets = c.requires.lettered }) c.requires.count c.requires.bay (grew_same p1 g1.is_pool) c.in_ok-start.ensures.grew c.in_ok-keeps.ensures.keeps (rows_stay p0 p1 (grows p0 p1 g1) a b rows c.args.others are) c.in_ok-start.ensures.nothing
 
 pub returns-clause-count : goal.returns-clause-count
 returns-clause-count c = c.in_ok-letters.ensures.len

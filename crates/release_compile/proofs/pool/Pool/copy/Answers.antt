@@ -11,6 +11,6 @@ returns-clause-copy c =
     let q = c.intern.new.self in
     let x : Answers = c.args.value.now in
     let y : Answers = c.in_ok-same.same in
-    copy_of q x y c.in_ok-id.id c.in_ok-id.ensures.grew.is_pool c.in_ok-id.ensures.same
+    copy_of q x y c.in_ok-id.id c.in_ok-id.ensures.same
     (λ n. (let k = c.in_ok-same.ensures.kept n in let r = c.requires.nodes n in (λ h. r.1 (k.0 h), λ h. k.1 (r.0 h))))
     (λ view. kept_view view x y c.in_ok-same.ensures.gap c.in_ok-same.ensures.load)

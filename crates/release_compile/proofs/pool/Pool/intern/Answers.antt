@@ -15,6 +15,7 @@ returns-in-Some-clause-same c =
       listed = h.1;
       is_same = (c.in_ok-row.ensures.tells h.0 (c.requires.well c.in-Some.place h.0 h.1)).0 h.2;
       well = c.row_in.ensures.answers;
+      well_same = c.requires.well c.in-Some.place h.0 h.1;
     }
 
 pub returns-in_ok-push-in-None-clause-grew : goal.returns-in_ok-push-in-None-clause-grew
@@ -46,4 +47,5 @@ returns-in_ok-push-in-None-clause-same c =
       listed = ap (λ vs. slice_get vs (length c.as_slice-held.result.now)) c.in_ok-push-in-None.ensures.items ∙ ap (slice_get (p.values.items ++ x ∷ [])) (ap length c.as_slice-held.ensures.value) ∙ get_last p.values.items x;
       is_same = (c.in_ok-row.ensures.tells x c.row_in.ensures.answers).0 c.in_ok-row.ensures.row;
       well = c.row_in.ensures.answers;
+      well_same = c.row_in.ensures.answers;
     }

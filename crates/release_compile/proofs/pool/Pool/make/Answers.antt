@@ -1,7 +1,7 @@
 use Rattle.std.proofs.Common.{ℕ, List, refl, sym, subst}
 use Rattle.std.proofs.lemmas.Option.{slice_get_read}
 use Rattle.contraction.specs.Answers.{Answers}
-use Rattle.release_compile.specs.Seen.{Carries}
+use Rattle.release_compile.specs.Seen.{ComposesIn}
 use Rattle.release_compile.specs.Pooling.{WasMade}
 use Rattle.release_compile.proofs.PoolLemmas.{made_same}
 use Rattle.release_compile.proofs.pool.Pool.make.Goals as goal
@@ -31,7 +31,7 @@ returns-clause-made c =
       first = g.values k.first x (slice_get_read p.values.items _ k.first x refl c.requires.first c.index-x.ensures);
       second = g.values k.second y (slice_get_read p.values.items _ k.second y refl c.requires.second c.index-y.ensures);
       nodes = g.keeps k.keep nodes (slice_get_read p.keeps.items _ k.keep nodes refl c.requires.keep c.index.ensures);
-      made = made_same q x y c.in_ok-value.value nodes c.in_ok-place.place g.is_pool c.in_ok-place.ensures.same (subst (λ w. Carries w x y c.in_ok-value.value) (sym g.view) c.in_ok-value.ensures.carries) c.in_ok-value.ensures.kept;
+      made = made_same q x y c.in_ok-value.value nodes c.in_ok-place.place c.in_ok-place.ensures.same (subst (λ w. ComposesIn w x y c.in_ok-value.value) (sym g.view) c.in_ok-value.ensures.composes) c.in_ok-value.ensures.kept;
     }
 
 pub returns-clause-grew : goal.returns-clause-grew
@@ -50,7 +50,7 @@ returns-clause-grew c =
       first = g.values k.first x (slice_get_read p.values.items _ k.first x refl c.requires.first c.index-x.ensures);
       second = g.values k.second y (slice_get_read p.values.items _ k.second y refl c.requires.second c.index-y.ensures);
       nodes = g.keeps k.keep nodes (slice_get_read p.keeps.items _ k.keep nodes refl c.requires.keep c.index.ensures);
-      made = made_same q x y c.in_ok-value.value nodes c.in_ok-place.place g.is_pool c.in_ok-place.ensures.same (subst (λ w. Carries w x y c.in_ok-value.value) (sym g.view) c.in_ok-value.ensures.carries) c.in_ok-value.ensures.kept;
+      made = made_same q x y c.in_ok-value.value nodes c.in_ok-place.place c.in_ok-place.ensures.same (subst (λ w. ComposesIn w x y c.in_ok-value.value) (sym g.view) c.in_ok-value.ensures.composes) c.in_ok-value.ensures.kept;
     } in
     record {
       is_pool = record {
