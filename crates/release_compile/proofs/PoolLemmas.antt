@@ -149,6 +149,11 @@ made_same p x y value keep t h composes kept = record {
   kept = λ n. subst (λ ks. Keeps ks n ↔ Contains keep n) (kept_same p.view value h.same h.is_same) (kept n);
 }
 
+-- values with one row have one view
+pub rows_tell : (view : View) (x y : Answers) → IsContraction x → IsContraction y → seen_row view x ≡ seen_row view y → SameSeen view x y
+rows_tell Gap x y wx wy same = (gap_rows x y wx wy).0 same
+rows_tell Load x y wx wy same = (load_rows x y wx wy).0 same
+
 -- ---- nothing yet
 
 pub index_none : {S : Type 0} (view : View) (values : List Answers) (m : HashMap (List ℕ) ℕ S) → values ≡ [] → m.entries ≡ [] → IsRowIndex view values m

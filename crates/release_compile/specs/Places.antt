@@ -16,4 +16,4 @@ with_mapped g v = record { ptr = v.ptr; len = v.len; cap = v.cap; alloc = v.allo
 
 -- The pool as it is where other nodes stand in place of those that its values keep.
 abbrev pub pool_on : (ℕ → ℕ) → Pool → Pool
-pool_on f p = record { view = p.view; values = with_mapped (mapped f) p.values; index = p.index; keeps = with_mapped (map f) p.keeps; notes = p.notes }
+pool_on f p = record { view = p.view; values = with_mapped (mapped f) p.values; index = p.index; keeps = with_mapped (map f) p.keeps; notes = p.notes; selection = p.selection }

@@ -5,6 +5,7 @@ use Rattle.std.specs.HashMap.{HashMap, get}
 use Rattle.station_graph.specs.Diagram.{Diagram}
 use Rattle.station_graph.specs.Connection.{Item}
 use Rattle.contraction.specs.Answers.{Answers, Keeps, IsContraction}
+use Rattle.contraction.specs.Selecting.{Selected}
 use Rattle.contraction.specs.Stands.{Among}
 use Rattle.release_compile.specs.declared.view.View.{View}
 use Rattle.release_compile.specs.declared.pool.Made.{Made}
@@ -82,3 +83,21 @@ pub record HasCopy (p : Pool) (x : Answers) (t : ℕ) : Type 0 where
 -- Each of the nodes of this number is kept by one of the two values.
 abbrev pub EitherKeeps : Pool → ℕ → ℕ → ℕ → Type 0
 EitherKeeps p first second keep = (x y : Answers) (nodes : List ℕ) → slice_get p.values.items first ≡ Some x → slice_get p.values.items second ≡ Some y → slice_get p.keeps.items keep ≡ Some nodes → (n : ℕ) → Contains nodes n → Keeps x.kept n ⊎ Keeps y.kept n
+
+-- The selection is that of these of the nodes that two values keep.
+pub record Selects (x y : Answers) (nodes : List ℕ) (s : Selected) : Type 0 where
+  pub first : s.first ≡ x.kept
+  pub second : s.second ≡ y.kept
+  pub asked : s.nodes ≡ nodes
+
+-- So for the two values and the nodes of these numbers.
+abbrev pub SelectsFor : Pool → Made → Selected → Type 0
+SelectsFor p k s = (x y : Answers) (nodes : List ℕ) → slice_get p.values.items k.first ≡ Some x → slice_get p.values.items k.second ≡ Some y → slice_get p.keeps.items k.keep ≡ Some nodes → Selects x y nodes s
+
+-- The bytes are the row of a value on exactly these nodes that is two values together in this view.
+pub record IsRowOfBoth (view : View) (nodes : List ℕ) (x y : Answers) (bytes : List ℕ) : Type 0 where
+  pub value : Answers
+  pub contraction : IsContraction value
+  pub kept : (n : ℕ) → Keeps value.kept n ↔ Contains nodes n
+  pub composes : ComposesIn view x y value
+  pub row : bytes ≡ seen_row view value

@@ -4,10 +4,10 @@ ghost use Rattle.contraction.specs.Answers.{Answers, Keeps};
 ghost use Rattle.release_compile.specs.declared.pool.Made.{Made as Key};
 ghost use Rattle.release_compile.specs.declared.view.View.{View as Seen};
 ghost use Rattle.release_compile.specs.Seen.{ComposesIn, seen_row};
-ghost use Rattle.release_compile.specs.Pooling.{IsRowIndex, NotesAreRight, WasMade, IsMade, IsPool, GrewTo, HasSame, HasCopy, EitherKeeps};
+ghost use Rattle.release_compile.specs.Pooling.{IsRowIndex, NotesAreRight, WasMade, IsMade, IsPool, GrewTo, HasSame, HasCopy, EitherKeeps, Selects, SelectsFor, IsRowOfBoth};
 
 use crate::view::{View, row_in};
-use contraction::Contraction;
+use contraction::{Contraction, Selection};
 use ilk_base::{Memory, Text};
 use station_graph::NodeList;
 use std::alloc::Global;
@@ -21,7 +21,8 @@ pub(crate) struct Made {
     pub(crate) keep: usize,
 }
 
-// Values of one view, each once. Compositions are noted, so that none is made twice.
+// Values of one view, each once. Compositions are noted, so that none is made twice. The selection of the last one is at
+// hand for the next, which is mostly of values on the same nodes.
 #[derive(Drop)]
 pub(crate) struct Pool {
     pub(crate) view: View,
@@ -29,23 +30,63 @@ pub(crate) struct Pool {
     pub(crate) index: HashMap<Text, usize>,
     pub(crate) keeps: Vec<NodeList>,
     pub(crate) notes: HashMap<Made, usize>,
+    pub(crate) selection: Option<Selection>,
 }
 
-// The composition of two values in this view, on these nodes.
-pub(crate) fn composed(
+// The selection of these of the nodes that two values keep: the one at hand where it is that, else a new one.
+fn selection_for(
+    alloc: Global,
+    held: Option<Selection>,
+    x: &Contraction,
+    y: &Contraction,
+    keep: &NodeList,
+) -> Result<Selection, Memory>
+    ensures { IfOk result (Selects x.now y.now keep.now) }
+{
+    if let Some(selection) = held {
+        if selection.is_of(x.nodes(), y.nodes(), keep) {
+            return Ok(selection);
+        }
+    }
+    Selection::of(alloc, x.nodes(), y.nodes(), keep)
+}
+
+// The row of the composition of two values in this view, on a selection of their nodes.
+fn composed_row(
     alloc: Global,
     view: View,
     x: &Contraction,
     y: &Contraction,
-    keep: &NodeList,
-) -> Result<Contraction, Memory>
-    requires { (n : ℕ) → Contains keep.now n → Keeps x.now.kept n ⊎ Keeps y.now.kept n }
-    ensures composes { IfOk result (ComposesIn view x.now y.now) }
-    ensures kept { IfOk result (λ r. (n : ℕ) → Keeps r.kept n ↔ Contains keep.now n) }
+    selection: &Selection,
+) -> Result<Text, Memory>
+    requires first { selection.now.first ≡ x.now.kept }
+    requires second { selection.now.second ≡ y.now.kept }
+    requires nodes { (n : ℕ) → Contains selection.now.nodes n → Keeps x.now.kept n ⊎ Keeps y.now.kept n }
+    ensures { IfOk result (IsRowOfBoth view selection.now.nodes x.now y.now) }
 {
     match view {
-        View::Gap => x.compose_gap(alloc, y, keep),
-        View::Load => x.compose_load(alloc, y, keep),
+        View::Gap => x.composed_gap_row(alloc, y, selection),
+        View::Load => x.composed_load_row(alloc, y, selection),
+    }
+}
+
+// The composition of two values in this view, on a selection of their nodes.
+fn composed(
+    alloc: Global,
+    view: View,
+    x: &Contraction,
+    y: &Contraction,
+    selection: &Selection,
+) -> Result<Contraction, Memory>
+    requires first { selection.now.first ≡ x.now.kept }
+    requires second { selection.now.second ≡ y.now.kept }
+    requires nodes { (n : ℕ) → Contains selection.now.nodes n → Keeps x.now.kept n ⊎ Keeps y.now.kept n }
+    ensures composes { IfOk result (ComposesIn view x.now y.now) }
+    ensures kept { IfOk result (λ r. (n : ℕ) → Keeps r.kept n ↔ Contains selection.now.nodes n) }
+{
+    match view {
+        View::Gap => x.compose_gap_on(alloc, y, selection),
+        View::Load => x.compose_load_on(alloc, y, selection),
     }
 }
 
@@ -117,6 +158,7 @@ impl Pool {
             index: HashMap::new(alloc),
             keeps,
             notes: HashMap::new(alloc),
+            selection: None,
         }
     }
 
@@ -199,6 +241,36 @@ impl Pool {
         self.make(alloc, key)
     }
 
+    // The number of the value that two values on this selection of their nodes make together. Where the pool has it,
+    // its row tells it, and it is not made.
+    fn find_or_make(
+        &mut self,
+        alloc: Global,
+        key: Made,
+        selection: &Selection,
+    ) -> Result<usize, Memory>
+        requires pool { IsPool self.old }
+        requires first { key.first < length self.old.values.items }
+        requires second { key.second < length self.old.values.items }
+        requires keep { key.keep < length self.old.keeps.items }
+        requires nodes { EitherKeeps self.old key.first key.second key.keep }
+        requires selection { SelectsFor self.old key selection.now }
+        ensures grew { OnOk result (GrewTo self.old self.new) }
+        ensures made { IfOk result (λ t. WasMade self.new.view self.new.values.items self.new.keeps.items key t) }
+    {
+        let x = &self.values[key.first];
+        let y = &self.values[key.second];
+        let nodes = &self.keeps[key.keep];
+        let _ = nodes;
+        let row = composed_row(alloc, self.view, x, y, selection)?;
+        if let Some(place) = find_row(&self.index, &row) {
+            return Ok(place);
+        }
+        let value = composed(alloc, self.view, x, y, selection)?;
+        let place = self.intern(alloc, value)?;
+        Ok(place)
+    }
+
     // Composes and notes it.
     fn make(&mut self, alloc: Global, key: Made) -> Result<usize, Memory>
         requires pool { IsPool self.old }
@@ -209,11 +281,13 @@ impl Pool {
         ensures grew { OnOk result (GrewTo self.old self.new) }
         ensures made { IfOk result (λ t. WasMade self.new.view self.new.values.items self.new.keeps.items key t) }
     {
+        let held = self.selection.take();
         let x = &self.values[key.first];
         let y = &self.values[key.second];
-        let value = composed(alloc, self.view, x, y, &self.keeps[key.keep])?;
-        let place = self.intern(alloc, value)?;
+        let selection = selection_for(alloc, held, x, y, &self.keeps[key.keep])?;
+        let place = self.find_or_make(alloc, key, &selection)?;
         note_made(&mut self.notes, key, place)?;
+        self.selection = Some(selection);
         Ok(place)
     }
 }
