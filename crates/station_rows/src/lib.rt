@@ -17,3 +17,5 @@ mod limits;
 mod readers;
 #[cfg(test)]
 mod renamed;
+#[cfg(test)]
+mod selected;
