@@ -34,7 +34,7 @@ pub(crate) struct Noted {
 
 // A copy of a noted graph, the values that its labels name, and how many edges are left of those that may be made.
 #[derive(Drop)]
-pub(crate) struct Outer {
+pub(crate) struct Copied {
     pub(crate) graph: Graph,
     pub(crate) names: Vec<usize>,
     pub(crate) left: usize,
@@ -142,7 +142,7 @@ fn renew(
 }
 
 // A copy of a noted graph. It is too wide where its layers have more than so many edges.
-fn copy_noted(alloc: Global, noted: &Noted, budget: usize) -> Result<Outer, Trouble>
+fn copy_noted(alloc: Global, noted: &Noted, budget: usize) -> Result<Copied, Trouble>
     ensures graph { IfOk result (λ o. o.graph ≡ noted.now.graph) }
     ensures names { IfOk result (λ o. o.names.items ≡ noted.now.names.items) }
     ensures all { IfOk result (λ o. noted.now.edges + o.left ≡ budget) }
@@ -151,7 +151,7 @@ fn copy_noted(alloc: Global, noted: &Noted, budget: usize) -> Result<Outer, Trou
     if noted.edges > budget {
         return Err(Trouble::Wide);
     }
-    Ok(Outer {
+    Ok(Copied {
         graph: noted.graph.copy(alloc)?,
         names: Vec::from_slice(alloc, &noted.names)?,
         left: budget - noted.edges,
@@ -159,7 +159,7 @@ fn copy_noted(alloc: Global, noted: &Noted, budget: usize) -> Result<Outer, Trou
 }
 
 // A copy of the graph made last. It is too wide where its layers have more than so many edges.
-fn copy_last(alloc: Global, last: &Option<Noted>, budget: usize) -> Result<Outer, Trouble>
+fn copy_last(alloc: Global, last: &Option<Noted>, budget: usize) -> Result<Copied, Trouble>
     requires { (n : Note) × (last.now ≡ Some n) }
     ensures copy { IfOk result (λ o. (n : Note) → last.now ≡ Some n
         → (o.graph ≡ n.graph) × (o.names.items ≡ n.names.items) × (n.edges + o.left ≡ budget)) }
@@ -179,7 +179,7 @@ pub(crate) fn taken(
     last: &mut Option<Noted>,
     intake: Intake,
     budget: usize,
-) -> Result<Outer, Trouble>
+) -> Result<Copied, Trouble>
     requires pool { IsPool pool.old }
     requires last { IsRight pool.old last.old }
     requires linked { AreLinked pool.old intake.start (rows_of intake) intake.keeps.items }
@@ -246,7 +246,7 @@ pub(crate) fn taken_again(
     notes: &mut Vec<Noted>,
     intake: Intake,
     budget: usize,
-) -> Result<Outer, Trouble>
+) -> Result<Copied, Trouble>
     requires pool { IsPool pool.old }
     requires notes { AreRight pool.old notes.old.items }
     requires linked { AreLinked pool.old intake.start (rows_of intake) intake.keeps.items }
@@ -261,6 +261,6 @@ pub(crate) fn taken_again(
     let place = noted_at(alloc, pool, notes, intake, budget)?;
     let held = notes.as_slice();
     let noted = &held[place];
-    let outer = copy_noted(alloc, noted, budget)?;
-    Ok(outer)
+    let copy = copy_noted(alloc, noted, budget)?;
+    Ok(copy)
 }

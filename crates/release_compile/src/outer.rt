@@ -16,7 +16,7 @@ ghost use Rattle.release_compile.specs.declared.layer.Trouble.TheVariants.{Wide}
 
 use crate::inputs::{nothing, other_rows, outer_keeps};
 use crate::layer::Trouble;
-use crate::noted::{Intake, Noted, Outer, taken};
+use crate::noted::{Copied, Intake, Noted, taken};
 use crate::pool::Pool;
 use bay_contract::Parts;
 use ilk_base::{BayId, Memory};
@@ -68,7 +68,7 @@ pub(crate) fn outer_graph(
     bay: BayId,
     others: u16,
     left: usize,
-) -> Result<Outer, Trouble>
+) -> Result<Copied, Trouble>
     requires pool { IsPool pool.old }
     requires lettered { AreAlphabets station.now parts.now }
     requires letters { AreLetters (lettered station.now parts.now) pool.old (map (λ v. v.items) letters.now) (part_count station.now) }

@@ -8,7 +8,7 @@ use Rattle.decision_graphs.specs.Label.{Layer, Layered, layer_at, label_of}
 use Rattle.release_compile.specs.declared.view.View.{View}
 use Rattle.release_compile.specs.declared.pool.Pool.{Pool}
 use Rattle.release_compile.specs.declared.noted.Intake.{Intake}
-use Rattle.release_compile.specs.declared.noted.Outer.{Outer}
+use Rattle.release_compile.specs.declared.noted.Copied.{Copied}
 use Rattle.release_compile.specs.Lettered.{Lettered, lettered}
 use Rattle.release_compile.specs.Places.{node_of, pool_on}
 use Rattle.release_compile.specs.Layering.{values_at, no_answers}
@@ -80,7 +80,7 @@ codes-requires-clause-places c k place x at kept =
     let i : Intake = c.in_ok-intake.intake in
     let r = c.in_ok-intake.ensures.ready none in
     let q : Pool = c.taken_again.new.pool in
-    let o : Outer = c.in_ok-whole.whole in
+    let o : Copied = c.in_ok-whole.whole in
     let g = grows p q c.in_ok-whole.ensures.grew in
     let t = c.in_ok-whole.ensures.taken in
     let budget : ℕ = c.args.left + length c.args.names.now in
@@ -109,7 +109,7 @@ codes-requires-clause-ends c k x at =
     let i : Intake = c.in_ok-intake.intake in
     let r = c.in_ok-intake.ensures.ready none in
     let q : Pool = c.taken_again.new.pool in
-    let o : Outer = c.in_ok-whole.whole in
+    let o : Copied = c.in_ok-whole.whole in
     let g = grows p q c.in_ok-whole.ensures.grew in
     let t = c.in_ok-whole.ensures.taken in
     let budget : ℕ = c.args.left + length c.args.names.now in
@@ -156,7 +156,7 @@ returns-clause-inner c letters =
     let i : Intake = c.in_ok-intake.intake in
     let r = c.in_ok-intake.ensures.ready letters in
     let q : Pool = c.taken_again.new.pool in
-    let o : Outer = c.in_ok-whole.whole in
+    let o : Copied = c.in_ok-whole.whole in
     let g = grows p q c.in_ok-whole.ensures.grew in
     let t = c.in_ok-whole.ensures.taken in
     let budget : ℕ = c.args.left + length c.args.names.now in
@@ -207,7 +207,7 @@ returns-clause-small c =
     let i : Intake = c.in_ok-intake.intake in
     let r = c.in_ok-intake.ensures.ready none in
     let q : Pool = c.taken_again.new.pool in
-    let o : Outer = c.in_ok-whole.whole in
+    let o : Copied = c.in_ok-whole.whole in
     let g = grows p q c.in_ok-whole.ensures.grew in
     let t = c.in_ok-whole.ensures.taken in
     let budget : ℕ = c.args.left + length c.args.names.now in
@@ -238,7 +238,7 @@ returns-clause-spent c =
     let i : Intake = c.in_ok-intake.intake in
     let r = c.in_ok-intake.ensures.ready none in
     let q : Pool = c.taken_again.new.pool in
-    let o : Outer = c.in_ok-whole.whole in
+    let o : Copied = c.in_ok-whole.whole in
     let g = grows p q c.in_ok-whole.ensures.grew in
     let t = c.in_ok-whole.ensures.taken in
     let budget : ℕ = c.args.left + length c.args.names.now in
@@ -266,7 +266,7 @@ returns-clause-left c =
     let i : Intake = c.in_ok-intake.intake in
     let r = c.in_ok-intake.ensures.ready none in
     let q : Pool = c.taken_again.new.pool in
-    let o : Outer = c.in_ok-whole.whole in
+    let o : Copied = c.in_ok-whole.whole in
     let g = grows p q c.in_ok-whole.ensures.grew in
     let t = c.in_ok-whole.ensures.taken in
     let budget : ℕ = c.args.left + length c.args.names.now in
