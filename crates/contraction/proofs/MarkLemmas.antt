@@ -1,6 +1,7 @@
 -- The classes of marked entries, one by one.
-use Rattle.std.proofs.Common.{◌≡◌, ℕ, ◌+◌, ◌<◌, ◌⊎◌, zero, suc, Bool, true, false, List, [], ◌∷◌, length, slice_get, slice_set, slice_index, Some, refl, sym, ◌∙◌, subst, inl, inr, arith, length-set, Result, Ok, Err, IfOk}
+use Rattle.std.proofs.Common.{◌≡◌, ℕ, ◌+◌, ◌<◌, ◌⊎◌, zero, suc, Bool, true, false, List, [], ◌∷◌, length, slice_get, slice_set, slice_index, get_or, Some, refl, ap, sym, ◌∙◌, subst, inl, inr, arith, length-set, Result, Ok, Err, IfOk}
 use Rattle.std.proofs.lemmas.Bool.{cases_eq, cases_lt}
+use Rattle.std.proofs.lemmas.Option.{slice_get-get_or}
 use Rattle.contraction.specs.Merging.{MarksClass, Noted}
 use Rattle.station_graph.proofs.PositionLemmas.{slice_get-set_other}
 
@@ -13,6 +14,23 @@ slice_get-set_same (x ∷ xs) (suc i) b h = slice_get-set_same xs i b (omega ari
 pub if_ok_both : {X Y : Type 0} (r : Result X Y) (P Q R : X → Type 0) → ((x : X) → P x → Q x → R x) → IfOk r P → IfOk r Q → IfOk r R
 if_ok_both (Ok x) P Q R h p q = h x p q
 if_ok_both (Err e) P Q R h p q = tt
+
+-- for each place what is told of its class
+abbrev spread : List Bool → List ℕ → List Bool
+spread classes [] = []
+spread classes (x ∷ xs) = get_or classes x false ∷ spread classes xs
+
+length-spread : (classes : List Bool) (labels : List ℕ) → length (spread classes labels) ≡ length labels
+length-spread classes [] = refl
+length-spread classes (x ∷ xs) = ap suc (length-spread classes xs)
+
+spread_at : (classes : List Bool) (labels : List ℕ) (k : ℕ) → k < length labels → slice_index labels k < length classes → slice_get (spread classes labels) k ≡ slice_get classes (slice_index labels k)
+spread_at classes [] k k_in l_in = absurd (omega (arith, k_in))
+spread_at classes (x ∷ xs) zero k_in l_in = sym (slice_get-get_or classes x false l_in)
+spread_at classes (x ∷ xs) (suc k) k_in l_in = spread_at classes xs k (omega arith) l_in
+
+pub spread_list : (classes : List Bool) (labels : List ℕ) → (w : List Bool) × (length w ≡ length labels) × ((k : ℕ) → k < length labels → slice_index labels k < length classes → slice_get w k ≡ slice_get classes (slice_index labels k))
+spread_list classes labels = (spread classes labels, length-spread classes labels, spread_at classes labels)
 
 module _ (labels places : List ℕ) (marks old : List Bool) where
   marks_less : (i c : ℕ) → MarksClass places labels marks i c → MarksClass places labels marks (i + 1) c

@@ -144,7 +144,7 @@ bare_of count n row e h = subst (λ k. IsBare k row) e h
 module _ (x y : Inside) (wx : IsContraction (answers_of x)) (wy : IsContraction (answers_of y)) (nodes : List ℕ) (s : Layout) (is : IsLayout x.kept.items y.kept.items nodes s) (inside : (n : ℕ) → Contains nodes n → Keeps x.kept.items n ⊎ Keeps y.kept.items n) where
   module _ (row : Row) (h : RowSelected s x.gap y.gap row) where
     abbrev gap_wide : Answers
-    gap_wide = twice s.union.kept.items h.wide.labels h.wide.labels h.wide.first.items h.wide.second.items h.wide.first.items
+    gap_wide = twice s.union.kept.items h.wide h.wide h.first.wide h.second.wide h.first.wide
 
     abbrev gap_fewer : Answers
     gap_fewer = twice s.kept.items row.labels row.labels row.first.items row.second.items row.first.items
@@ -152,13 +152,13 @@ module _ (x y : Inside) (wx : IsContraction (answers_of x)) (wy : IsContraction 
     gap_steps : Steps (gap_twice (answers_of x)) (gap_twice (answers_of y)) s.union.first.items s.union.second.items gap_wide
     gap_steps = record {
       merged = is.merged;
-      coupled = h.composes.labels;
-      joined = h.composes.labels;
-      bonded = h.composes.labels;
-      energisable = h.composes.first;
-      earthable = h.composes.second;
-      fed = h.composes.first;
-      loaded = h.composes.first;
+      coupled = h.composes;
+      joined = h.composes;
+      bonded = h.composes;
+      energisable = h.first.composes;
+      earthable = h.second.composes;
+      fed = h.first.composes;
+      loaded = h.first.composes;
     }
 
     gap_wide_well : IsContraction gap_wide
@@ -171,13 +171,13 @@ module _ (x y : Inside) (wx : IsContraction (answers_of x)) (wy : IsContraction 
     gap_restricts = record {
       places_of = is.places;
       kept = is.kept;
-      coupled = h.restricts.labels;
-      joined = h.restricts.labels;
-      bonded = h.restricts.labels;
-      energisable = h.restricts.first;
-      earthable = h.restricts.second;
-      fed = h.restricts.first;
-      loaded = h.restricts.first;
+      coupled = h.restricts;
+      joined = h.restricts;
+      bonded = h.restricts;
+      energisable = h.first.restricts;
+      earthable = h.second.restricts;
+      fed = h.first.restricts;
+      loaded = h.first.restricts;
     }
 
     gap_fewer_well : IsContraction gap_fewer
@@ -247,7 +247,7 @@ module _ (x y : Inside) (wx : IsContraction (answers_of x)) (wy : IsContraction 
 
   module _ (row : Row) (bonded : List ℕ) (h : RowSelected s x.load y.load row) (k : LabelsSelected s x.bonded y.bonded bonded) where
     abbrev load_wide : Answers
-    load_wide = twice s.union.kept.items h.wide.labels k.wide h.wide.first.items h.wide.second.items h.wide.second.items
+    load_wide = twice s.union.kept.items h.wide k.wide h.first.wide h.second.wide h.second.wide
 
     abbrev load_fewer : Answers
     load_fewer = twice s.kept.items row.labels bonded row.first.items row.second.items row.second.items
@@ -255,13 +255,13 @@ module _ (x y : Inside) (wx : IsContraction (answers_of x)) (wy : IsContraction 
     load_steps : Steps (load_twice (answers_of x)) (load_twice (answers_of y)) s.union.first.items s.union.second.items load_wide
     load_steps = record {
       merged = is.merged;
-      coupled = h.composes.labels;
-      joined = h.composes.labels;
+      coupled = h.composes;
+      joined = h.composes;
       bonded = k.composes;
-      energisable = h.composes.first;
-      earthable = h.composes.second;
-      fed = h.composes.first;
-      loaded = h.composes.second;
+      energisable = h.first.composes;
+      earthable = h.second.composes;
+      fed = h.first.composes;
+      loaded = h.second.composes;
     }
 
     load_wide_well : IsContraction load_wide
@@ -274,13 +274,13 @@ module _ (x y : Inside) (wx : IsContraction (answers_of x)) (wy : IsContraction 
     load_restricts = record {
       places_of = is.places;
       kept = is.kept;
-      coupled = h.restricts.labels;
-      joined = h.restricts.labels;
+      coupled = h.restricts;
+      joined = h.restricts;
       bonded = k.restricts;
-      energisable = h.restricts.first;
-      earthable = h.restricts.second;
-      fed = h.restricts.first;
-      loaded = h.restricts.second;
+      energisable = h.first.restricts;
+      earthable = h.second.restricts;
+      fed = h.first.restricts;
+      loaded = h.second.restricts;
     }
 
     load_fewer_well : IsContraction load_fewer

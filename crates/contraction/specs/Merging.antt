@@ -85,6 +85,11 @@ abbrev pub LabelsOfBoth : List ℕ → List ℕ → List ℕ → List ℕ → �
 LabelsOfBoth first first_labels second second_labels count labels =
     KeepsLabels (EdgeOf first first_labels (length first) second second_labels (length second)) count labels
 
+-- A class is marked where a marked entry of either row stands in it.
+pub record AreMarkedClasses (labels first : List ℕ) (first_marks : List Bool) (second : List ℕ) (second_marks classes : List Bool) : Type 0 where
+  pub len : length classes ≡ length labels
+  pub told : (c : ℕ) → c < length labels → (slice_get classes c ≡ Some true) ↔ MarkedInEither labels first first_marks (length first) second second_marks (length second) c
+
 -- A place is marked where a marked entry of either row stands in its class.
 pub record MarksOfBoth (labels first : List ℕ) (first_marks : List Bool) (second : List ℕ) (second_marks marks : List Bool) : Type 0 where
   pub len : length marks ≡ length labels

@@ -1,6 +1,8 @@
 -- Rows of fewer places.
-use Rattle.std.specs.Prelude.{◌≡◌, ◌≢◌, ℕ, ◌<◌, ◌≤◌, ◌↔◌, List, length, slice_get, slice_index, Contains}
+use Rattle.std.specs.Prelude.{◌≡◌, ◌≢◌, ℕ, ◌<◌, ◌≤◌, ◌↔◌, Bool, List, length, slice_get, slice_index, Contains}
 use Rattle.contraction.specs.declared.row.Row.{Row}
+use Rattle.contraction.specs.declared.merge.Union.{Union}
+use Rattle.contraction.specs.Merging.{LabelsOfBoth, MarksOfBoth}
 use Rattle.station_graph.specs.Nodes.{Rises}
 use Rattle.contraction.specs.Answers.{AreLabels}
 
@@ -13,6 +15,20 @@ pub record LabelsRestrict (labels places row : List ℕ) : Type 0 where
 pub record Picks {X : Type 0} (all : List X) (places : List ℕ) (row : List X) : Type 0 where
   pub len : length row ≡ length places
   pub told : (k : ℕ) → k < length places → slice_get row k ≡ slice_get all (slice_index places k)
+
+-- The marks are those of two rows together at these places of their merged list.
+pub record MarksAt (labels places first : List ℕ) (first_marks : List Bool) (second : List ℕ) (second_marks row : List Bool) : Type 0 where
+  pub wide : List Bool
+  pub composes : MarksOfBoth labels first first_marks second second_marks wide
+  pub restricts : Picks wide places row
+
+-- The third row is the first two together at these places of their merged list.
+pub record RowOfBothAt (u : Union) (places : List ℕ) (x y row : Row) : Type 0 where
+  pub wide : List ℕ
+  pub composes : LabelsOfBoth u.first.items x.labels u.second.items y.labels (length u.kept.items) wide
+  pub restricts : LabelsRestrict wide places row.labels
+  pub first : MarksAt wide places u.first.items x.first.items u.second.items y.first.items row.first.items
+  pub second : MarksAt wide places u.first.items x.second.items u.second.items y.second.items row.second.items
 
 -- The row is the other one at these places.
 pub record RowRestricts (all : Row) (places : List ℕ) (row : Row) : Type 0 where

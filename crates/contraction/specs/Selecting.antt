@@ -2,8 +2,8 @@
 use Rattle.std.specs.Prelude.{ℕ, ◌<◌, ◌≤◌, List, length, slice_index}
 use Rattle.contraction.specs.declared.row.Row.{Row}
 use Rattle.contraction.specs.declared.layout.Layout.{Layout}
-use Rattle.contraction.specs.Merging.{IsMerged, LabelsOfBoth, RowOfBoth}
-use Rattle.contraction.specs.Restricting.{PlacesOf, Picks, LabelsRestrict, RowRestricts}
+use Rattle.contraction.specs.Merging.{IsMerged, LabelsOfBoth}
+use Rattle.contraction.specs.Restricting.{PlacesOf, Picks, LabelsRestrict, RowOfBothAt}
 
 -- The kept nodes of two contractions, and the nodes that are asked for.
 pub record Selected : Type 0 where
@@ -24,10 +24,8 @@ pub record LayoutFits (s : Layout) : Type 0 where
   pub inside : (k : ℕ) → k < length s.places.items → slice_index s.places.items k < length s.union.kept.items
 
 -- The third row is that of the selected places in the first two rows together.
-pub record RowSelected (s : Layout) (x y row : Row) : Type 0 where
-  pub wide : Row
-  pub composes : RowOfBoth s.union x y wide
-  pub restricts : RowRestricts wide s.places.items row
+abbrev pub RowSelected : Layout → Row → Row → Row → Type 0
+RowSelected s = RowOfBothAt s.union s.places.items
 
 -- So for labels alone.
 pub record LabelsSelected (s : Layout) (x y labels : List ℕ) : Type 0 where

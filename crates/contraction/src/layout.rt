@@ -50,8 +50,7 @@ impl Layout {
         requires second { RowFits self.now.union.second.items (length self.now.union.kept.items) y.now }
         ensures { IfOk result (RowSelected self.now x.now y.now) }
     {
-        let wide = Row::of_both(alloc, &self.union, x, y)?;
-        wide.at(alloc, self.places.as_slice())
+        Row::of_both_at(alloc, &self.union, self.places.as_slice(), x, y)
     }
 
     // The labels of both lists as those of the selected nodes.

@@ -1,6 +1,7 @@
 //! Rows of marks.
 ghost use Rattle.std.specs.Prelude.{◌≡◌, ℕ, ◌<◌, ◌≤◌, ◌↔◌, length, slice_get, slice_index, Some, true, false, IfOk, replicate};
-ghost use Rattle.contraction.specs.Merging.{Noted, MarkedInEither, MarksOfBoth};
+ghost use Rattle.contraction.specs.Merging.{Noted, MarkedInEither, AreMarkedClasses, MarksOfBoth};
+ghost use Rattle.contraction.specs.Restricting.{MarksAt};
 
 use ilk_base::Memory;
 use std::alloc::Global;
@@ -57,6 +58,55 @@ fn spread(alloc: Global, classes: &[bool], labels: &[u16]) -> Result<Vec<bool>, 
     Ok(marks)
 }
 
+// For each of these places whether its class is noted.
+fn spread_at(
+    alloc: Global,
+    classes: &[bool],
+    labels: &[u16],
+    places: &[u16],
+) -> Result<Vec<bool>, Memory>
+    requires labels { (k : ℕ) → k < length labels.now → slice_index labels.now k < length classes.now }
+    requires places { (k : ℕ) → k < length places.now → slice_index places.now k < length labels.now }
+    ensures len { IfOk result (λ marks. length marks.items ≡ length places.now) }
+    ensures marks { IfOk result (λ marks. (k : ℕ) → k < length places.now → slice_get marks.items k
+        ≡ slice_get classes.now (slice_index labels.now (slice_index places.now k))) }
+{
+    let mut marks = Vec::with_capacity(alloc, places.len())?;
+    for k in 0..places.len() {
+        marks.push(classes[labels[places[k] as usize] as usize])?;
+    }
+    Ok(marks)
+}
+
+// For each class whether an entry of it is marked in one of both rows.
+fn marked_classes(
+    alloc: Global,
+    labels: &[u16],
+    first: &[u16],
+    first_marks: &[bool],
+    second: &[u16],
+    second_marks: &[bool],
+) -> Result<Vec<bool>, Memory>
+    requires first_len { length first_marks.now ≡ length first.now }
+    requires second_len { length second_marks.now ≡ length second.now }
+    requires first_in { (k : ℕ) → k < length first.now → slice_index first.now k < length labels.now }
+    requires second_in { (k : ℕ) → k < length second.now → slice_index second.now k < length labels.now }
+    requires below { (k : ℕ) → k < length labels.now → slice_index labels.now k ≤ k }
+    ensures { IfOk result (λ classes.
+        AreMarkedClasses labels.now first.now first_marks.now second.now second_marks.now classes.items) }
+{
+    let mut classes = vec![in alloc; false; labels.len()]?;
+    note_both(
+        &mut classes,
+        labels,
+        first,
+        first_marks,
+        second,
+        second_marks,
+    );
+    Ok(classes)
+}
+
 // The marks of the places of a merged list, from the marks of both lists: a place is marked where an
 // entry of its class was.
 pub(crate) fn marks_of_both(
@@ -75,14 +125,29 @@ pub(crate) fn marks_of_both(
     ensures { IfOk result (λ marks.
         MarksOfBoth labels.now first.now first_marks.now second.now second_marks.now marks.items) }
 {
-    let mut classes = vec![in alloc; false; labels.len()]?;
-    note_both(
-        &mut classes,
-        labels,
-        first,
-        first_marks,
-        second,
-        second_marks,
-    );
+    let classes = marked_classes(alloc, labels, first, first_marks, second, second_marks)?;
     spread(alloc, &classes, labels)
+}
+
+// The marks of these of the places of a merged list.
+pub(crate) fn marks_at(
+    alloc: Global,
+    labels: &[u16],
+    places: &[u16],
+    first: &[u16],
+    first_marks: &[bool],
+    second: &[u16],
+    second_marks: &[bool],
+) -> Result<Vec<bool>, Memory>
+    requires places { (k : ℕ) → k < length places.now → slice_index places.now k < length labels.now }
+    requires first_len { length first_marks.now ≡ length first.now }
+    requires second_len { length second_marks.now ≡ length second.now }
+    requires first_in { (k : ℕ) → k < length first.now → slice_index first.now k < length labels.now }
+    requires second_in { (k : ℕ) → k < length second.now → slice_index second.now k < length labels.now }
+    requires below { (k : ℕ) → k < length labels.now → slice_index labels.now k ≤ k }
+    ensures { IfOk result (λ marks.
+        MarksAt labels.now places.now first.now first_marks.now second.now second_marks.now marks.items) }
+{
+    let classes = marked_classes(alloc, labels, first, first_marks, second, second_marks)?;
+    spread_at(alloc, &classes, labels, places)
 }

@@ -1,11 +1,11 @@
 //! Kept nodes in classes, with marks: one view of a contraction.
 ghost use Rattle.std.specs.Prelude.{◌≡◌, ℕ, ◌<◌, ◌≤◌, Bool, false, replicate, [], ◌∷◌, if◌then◌else◌, length, slice_index, IfOk};
 ghost use Rattle.contraction.specs.Merging.{LabelsFit, RowFits, RowOfBoth};
-ghost use Rattle.contraction.specs.Restricting.{RowRestricts};
+ghost use Rattle.contraction.specs.Restricting.{RowRestricts, RowOfBothAt};
 ghost use Rattle.contraction.specs.Single.{AreApart};
 
 use crate::labels::{apart, labels_at, labels_of_both, one_label, two_labels};
-use crate::marks::marks_of_both;
+use crate::marks::{marks_at, marks_of_both};
 use crate::merge::Union;
 use crate::places::picked;
 use ilk_base::Memory;
@@ -84,6 +84,43 @@ impl Row {
         let seconds = marks_of_both(alloc, labels, first, &x.second, second, &y.second)?;
         Ok(Row {
             labels: row,
+            first: firsts,
+            second: seconds,
+        })
+    }
+
+    // The rows of two lists as the row of these places of their union.
+    pub(crate) fn of_both_at(
+        alloc: Global,
+        union: &Union,
+        places: &[u16],
+        x: &Row,
+        y: &Row,
+    ) -> Result<Row, Memory>
+        requires few { length union.now.kept.items ≤ 1024 }
+        requires fewer { length places.now ≤ 1024 }
+        requires inside { (k : ℕ) → k < length places.now
+            → slice_index places.now k < length union.now.kept.items }
+        requires first { RowFits union.now.first.items (length union.now.kept.items) x.now }
+        requires second { RowFits union.now.second.items (length union.now.kept.items) y.now }
+        ensures { IfOk result (RowOfBothAt union.now places.now x.now y.now) }
+    {
+        let count = union.kept.len() as u16;
+        let first = union.first.as_slice();
+        let second = union.second.as_slice();
+        let wide = labels_of_both(
+            alloc,
+            count,
+            first,
+            x.labels.numbers(),
+            second,
+            y.labels.numbers(),
+        )?;
+        let labels = wide.numbers();
+        let firsts = marks_at(alloc, labels, places, first, &x.first, second, &y.first)?;
+        let seconds = marks_at(alloc, labels, places, first, &x.second, second, &y.second)?;
+        Ok(Row {
+            labels: labels_at(alloc, labels, places)?,
             first: firsts,
             second: seconds,
         })
