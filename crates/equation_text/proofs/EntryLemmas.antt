@@ -1,5 +1,5 @@
--- What lines define is told by how they begin, and by its key.
-use Rattle.std.proofs.Common.{◌≡◌, ◌≢◌, ◌∙◌, ◌⊎◌, ℕ, ◌+◌, ◌*◌, ◌<◌, ◌^◌, suc, List, [], ◌∷◌, ◌++◌, length, refl, sym}
+-- What lines define is told by how they begin.
+use Rattle.std.proofs.Common.{◌≡◌, ◌∙◌, ◌⊎◌, ℕ, ◌<◌, ◌^◌, suc, List, [], ◌∷◌, ◌++◌, length, refl, sym}
 use Rattle.std.proofs.Common.{ap, subst, inl, inr, arith, append_assoc}
 use Rattle.std.specs.Prelude.{codes, decimal}
 use Rattle.std.proofs.lemmas.Bool.{cases_lt}
@@ -7,7 +7,7 @@ use Rattle.std.proofs.lemmas.Fmt.{decimal_injective}
 use Rattle.std.proofs.lemmas.List.{append_cancel_left}
 use Rattle.equation_text.specs.Words.{Lacks}
 use Rattle.equation_text.specs.Faults.{Entry, step_of, node_of, head_of}
-use Rattle.equation_text.specs.Entries.{key_of, IsSmall}
+use Rattle.equation_text.specs.Entries.{IsSmall}
 use Rattle.equation_text.proofs.WordLemmas.{lacks_all, lacks_by, lacks_decimal, cut_once}
 
 pub step_head : (p m : ℕ) (rest : List ℕ) → head_of (step_of p m) ++ rest ≡ codes "step " ++ (decimal p ++ 32 ∷
@@ -72,16 +72,3 @@ head_once (node_of n) (step_of p m) r s small other same = absurd (let e : 110 �
     (arith, e))
 head_once (node_of n) (node_of k) r s small other same = node_once n k r s small other
     (sym (node_head n r) ∙ same ∙ node_head k s)
-
-parts_same : (p m q k : ℕ) → m < 2 ^ 32 → k < 2 ^ 32 → (p + 1) * 4294967296 + m ≡ (q + 1) * 4294967296 + k → p ≡ q
-parts_same p m q k small other same = omega (arith, small, other, same)
-
--- a key tells its entry
-pub key_once : (x y : Entry) → IsSmall x → IsSmall y → key_of x ≡ key_of y → x ≡ y
-key_once (step_of p m) (step_of q k) small other same =
-    let part = parts_same p m q k small.1 other.1 same in
-    let number : m ≡ k = omega (arith, part, same) in
-    ap (λ z. step_of z m) part ∙ ap (λ z. step_of q z) number
-key_once (step_of p m) (node_of n) small other same = absurd (omega (arith, small.0, small.1, other, same))
-key_once (node_of n) (step_of p m) small other same = absurd (omega (arith, small, other.0, other.1, same))
-key_once (node_of n) (node_of k) small other same = ap (λ z. node_of z) same

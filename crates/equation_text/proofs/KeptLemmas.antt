@@ -1,20 +1,18 @@
--- The keys of what lines define.
+-- What is kept of the lines that define something.
 use Rattle.std.proofs.Common.{◌≡◌, ◌≢◌, ◌∙◌, ◌⊎◌, ℕ, Bool, true, false, List, [], ◌∷◌, ◌++◌, refl, sym, ap, subst}
-use Rattle.std.proofs.Common.{inl, inr, arith}
-use Rattle.std.specs.Prelude.{◌↔◌, IsTrue}
-use Rattle.std.specs.Ordering.{nat_cmp}
-use Rattle.std.specs.BTreeSet.{BTreeSet, contains, Updates, IsEmpty}
-use Rattle.std.specs.BTreeMap.{is_at}
+use Rattle.std.proofs.Common.{inl, inr}
+use Rattle.std.specs.Prelude.{◌↔◌, ◌&&◌, IsTrue, nat_eq}
+use Rattle.std.specs.HashSet.{contains, Updates, IsEmpty}
 use Rattle.std.specs.List.{list_any}
-use Rattle.std.proofs.lemmas.Bool.{cases_eq}
-use Rattle.std.proofs.lemmas.Bool.Decides.{nat_tests}
-use Rattle.std.proofs.lemmas.Grind.{common_steps}
+use Rattle.std.proofs.lemmas.Bool.Decides.{Decides-eqb}
+use Rattle.equation_text.specs.declared.entries.Step.{Step}
+use Rattle.equation_text.specs.declared.entries.Entries.{Entries}
 use Rattle.equation_text.specs.Words.{Lacks}
 use Rattle.equation_text.specs.Faults.{Entry, step_of, node_of, head_of, HasLine, IsDefined}
-use Rattle.equation_text.specs.Entries.{key_of, IsSmall, DefinesKey, DefinesNone, AddsLine, AreDefined}
+use Rattle.equation_text.specs.Entries.{same_step, has_entry, IsSmall, Defines, DefinesNone, AddsLine, AreDefined}
 use Rattle.equation_text.proofs.WordLemmas.{true_false}
 use Rattle.equation_text.proofs.LineLemmas.{line_here, line_later, line_split, last_here, last_only}
-use Rattle.equation_text.proofs.EntryLemmas.{head_lacks, head_once, key_once}
+use Rattle.equation_text.proofs.EntryLemmas.{head_lacks, head_once}
 
 -- a line that defines no step and no node defines nothing
 pub no_entry : (line : List ℕ) → ((p m : ℕ) (rest : List ℕ) → IsSmall (step_of p m) → line ≢ head_of
@@ -23,7 +21,7 @@ pub no_entry : (line : List ℕ) → ((p m : ℕ) (rest : List ℕ) → IsSmall 
 no_entry line steps nodes (step_of p m) rest small is = steps p m rest small is
 no_entry line steps nodes (node_of n) rest small is = nodes n rest small is
 
-pub adds_none : (line : List ℕ) (has : ℕ → Bool) → DefinesNone line → AddsLine line has has
+pub adds_none : (line : List ℕ) (has : Entry → Bool) → DefinesNone line → AddsLine line has has
 adds_none line has none x small = (
   λ had. inr had,
   λ e. elim e [
@@ -32,54 +30,89 @@ adds_none line has none x small = (
   ],
 )
 
-unlike : (key q : ℕ) → key ≢ q → is_at (nat_cmp key) q ≡ false
-unlike key q differ = grind (arith, common_steps, nat_tests, differ)
-
-pub adds_line : (line : List ℕ) (old new : BTreeSet ℕ) (key : ℕ) → DefinesKey line key → Updates nat_cmp old new key true
-    → AddsLine line (contains nat_cmp old) (contains nat_cmp new)
-adds_line line old new key by up x small = (to, from)
+-- what makes an entry be there, and leaves each other as it was, adds a line that defines it
+pub adds_line : (line : List ℕ) (old new : Entry → Bool) (entry : Entry) → Defines line entry → IsTrue (new entry)
+    → ((x : Entry) → (x ≡ entry) ⊎ (new x ≡ old x)) → AddsLine line old new
+adds_line line old new entry by there others x small = (to, from)
   where
-    there : key ≡ key_of x → IsTrue (contains nat_cmp new (key_of x))
-    there same = subst (λ k. IsTrue (contains nat_cmp new k)) same up.1
-
-    to : IsTrue (contains nat_cmp new (key_of x)) → ((rest : List ℕ) × (line ≡ head_of x ++ rest)) ⊎ IsTrue
-        (contains nat_cmp old (key_of x))
-    to has = elim (cases_eq key (key_of x)) [
-      | inl same ↦
-          let entry = key_once by.entry x by.small small (sym by.key_is ∙ same) in
-          inl (by.rest, by.is ∙ ap (λ (e : Entry). head_of e ++ by.rest) entry)
-      | inr differ ↦ inr (sym (up.2 (key_of x) (unlike key (key_of x) differ)) ∙ has)
+    to : IsTrue (new x) → ((rest : List ℕ) × (line ≡ head_of x ++ rest)) ⊎ IsTrue (old x)
+    to has = elim (others x) [
+      | inl same ↦ inl (by.rest, by.is ∙ ap (λ (e : Entry). head_of e ++ by.rest) (sym same))
+      | inr stays ↦ inr (sym stays ∙ has)
     ]
 
-    from : ((rest : List ℕ) × (line ≡ head_of x ++ rest)) ⊎ IsTrue (contains nat_cmp old (key_of x))
-        → IsTrue (contains nat_cmp new (key_of x))
+    from : ((rest : List ℕ) × (line ≡ head_of x ++ rest)) ⊎ IsTrue (old x) → IsTrue (new x)
     from (inl begins) =
-        let entry = head_once by.entry x by.rest begins.0 by.small small (sym by.is ∙ begins.1) in
-        there (by.key_is ∙ ap key_of entry)
-    from (inr had) = elim (cases_eq key (key_of x)) [
-      | inl same ↦ there same
-      | inr differ ↦ up.2 (key_of x) (unlike key (key_of x) differ) ∙ had
+        let same = head_once entry x by.rest begins.0 by.small small (sym by.is ∙ begins.1) in
+        subst (λ (e : Entry). IsTrue (new e)) same there
+    from (inr had) = elim (others x) [
+      | inl same ↦ subst (λ (e : Entry). IsTrue (new e)) (sym same) there
+      | inr stays ↦ stays ∙ had
     ]
 
-pub none_kept : (s : BTreeSet ℕ) (k : ℕ) → IsEmpty s → IsTrue (contains nat_cmp s k) → ⊥
-none_kept s k empty has =
-    let none : contains nat_cmp s k ≡ false = ap (list_any (is_at (nat_cmp k))) empty in
-    true_false (sym has ∙ none)
+both_true : (p q : Bool) → (p && q) ≡ true → (p ≡ true) × (q ≡ true)
+both_true true true e = (refl, refl)
+both_true true false e = cc
+both_true false true e = cc
+both_true false false e = cc
+
+same_entry : (s : Step) (p m : ℕ) → same_step s (record { part = p; number = m }) ≡ true
+    → step_of p m ≡ step_of s.part s.number
+same_entry s p m e =
+    let both = both_true (nat_eq s.part p) (nat_eq s.number m) e in
+    let part : s.part ≡ p = (Decides-eqb s.part p).0 both.0 in
+    let number : s.number ≡ m = (Decides-eqb s.number m).0 both.1 in
+    sym (ap (λ z. step_of z s.number) part ∙ ap (λ z. step_of p z) number)
+
+pub adds_step : (line : List ℕ) (old new : Entries) (s : Step) → Defines line (step_of s.part s.number)
+    → Updates same_step old.steps new.steps s true → new.nodes ≡ old.nodes
+    → AddsLine line (has_entry old) (has_entry new)
+adds_step line old new s by up nodes = adds_line line (has_entry old) (has_entry new) (step_of s.part s.number) by up.1
+    others
+  where
+    others : (x : Entry) → (x ≡ step_of s.part s.number) ⊎ (has_entry new x ≡ has_entry old x)
+    others (node_of n) = inr (ap (λ k. contains nat_eq k n) nodes)
+    others (step_of p m) = told (same_step s (record { part = p; number = m })) refl
+      where
+        told : (b : Bool) → same_step s (record { part = p; number = m }) ≡ b
+            → (step_of p m ≡ step_of s.part s.number) ⊎ (has_entry new (step_of p m) ≡ has_entry old (step_of p m))
+        told true e = inl (same_entry s p m e)
+        told false e = inr (up.2 (record { part = p; number = m }) e)
+
+pub adds_node : (line : List ℕ) (old new : Entries) (n : ℕ) → Defines line (node_of n)
+    → Updates nat_eq old.nodes new.nodes n true → new.steps ≡ old.steps
+    → AddsLine line (has_entry old) (has_entry new)
+adds_node line old new n by up steps = adds_line line (has_entry old) (has_entry new) (node_of n) by up.1 others
+  where
+    others : (x : Entry) → (x ≡ node_of n) ⊎ (has_entry new x ≡ has_entry old x)
+    others (step_of p m) = inr (ap (λ k. contains same_step k (record { part = p; number = m })) steps)
+    others (node_of k) = told (nat_eq n k) refl
+      where
+        told : (b : Bool) → nat_eq n k ≡ b → (node_of k ≡ node_of n) ⊎ (has_entry new (node_of k) ≡ has_entry old
+            (node_of k))
+        told true e = inl (ap (λ z. node_of z) (sym ((Decides-eqb n k).0 e)))
+        told false e = inr (up.2 k e)
+
+none_kept : (entries : Entries) (x : Entry) → IsEmpty entries.steps → IsEmpty entries.nodes
+    → has_entry entries x ≡ false
+none_kept entries (step_of p m) steps nodes = ap (list_any (same_step (record { part = p; number = m }))) steps
+none_kept entries (node_of n) steps nodes = ap (list_any (nat_eq n)) nodes
 
 -- what was kept of a text so far
-abbrev pub KeptSoFar : List ℕ → List ℕ → (ℕ → Bool) → Type 0
-KeptSoFar text left has = (x : Entry) → IsSmall x → IsDefined text x ↔ (IsTrue (has (key_of x)) ⊎ IsDefined left x)
+abbrev pub KeptSoFar : List ℕ → List ℕ → (Entry → Bool) → Type 0
+KeptSoFar text left has = (x : Entry) → IsSmall x → IsDefined text x ↔ (IsTrue (has x) ⊎ IsDefined left x)
 
-pub kept_at_first : (text : List ℕ) (s : BTreeSet ℕ) → IsEmpty s → KeptSoFar text text (contains nat_cmp s)
-kept_at_first text s empty x small = (
+pub kept_at_first : (text : List ℕ) (entries : Entries) → IsEmpty entries.steps → IsEmpty entries.nodes
+    → KeptSoFar text text (has_entry entries)
+kept_at_first text entries steps nodes x small = (
   λ has. inr has,
   λ e. elim e [
-    | inl kept ↦ absurd (none_kept s (key_of x) empty kept)
+    | inl kept ↦ absurd (true_false (sym kept ∙ none_kept entries x steps nodes))
     | inr has ↦ has
   ],
 )
 
-module _ (text left : List ℕ) (old new : ℕ → Bool) (so_far : KeptSoFar text left old) where
+module _ (text left : List ℕ) (old new : Entry → Bool) (so_far : KeptSoFar text left old) where
   pub kept_next : (line rest : List ℕ) → Lacks 10 line → left ≡ line ++ 10 ∷ rest → AddsLine line old new
       → KeptSoFar text rest new
   kept_next line rest lacks is adds x small = (

@@ -1,5 +1,6 @@
 -- The lines before the first that names what no line defines.
-use Rattle.std.proofs.Common.{◌≡◌, ◌≢◌, ◌∙◌, ◌⊎◌, ℕ, ◌+◌, ◌<◌, ◌≤◌, ◌^◌, suc, zero, Bool, true, false, List, [], ◌∷◌, ◌++◌}
+use Rattle.std.proofs.Common.{◌≡◌, ◌≢◌, ◌∙◌, ◌⊎◌, ℕ, ◌+◌, ◌<◌, ◌≤◌, ◌^◌, suc, zero, Bool, true, false, List}
+use Rattle.std.proofs.Common.{[], ◌∷◌, ◌++◌}
 use Rattle.std.proofs.Common.{length, refl, sym, ap, subst, inl, inr, arith, append_assoc}
 use Rattle.std.specs.Prelude.{IsTrue, ◌↔◌, ◌==◌, count_by}
 use Rattle.std.proofs.lemmas.List.{append_cancel_left, length-append}
@@ -11,7 +12,7 @@ use Rattle.text_lines.specs.Decimals.{IsDecimal}
 use Rattle.equation_text.specs.Words.{Lacks}
 use Rattle.equation_text.specs.Faults.{Entry, step_of, node_of, feeds, IsWhole, IsLine, LeadsIn, HasNumber, Names}
 use Rattle.equation_text.specs.Faults.{NamesUndefined, IsDefined}
-use Rattle.equation_text.specs.Entries.{key_of, IsSmall, AreDefined, AllKept, OneLost, IsFirstUndefined, NoneUndefined}
+use Rattle.equation_text.specs.Entries.{IsSmall, AreDefined, AllKept, OneLost, IsFirstUndefined, NoneUndefined}
 use Rattle.equation_text.proofs.WordLemmas.{true_false, not_cut, cut_once}
 use Rattle.equation_text.proofs.WholeText.{whole_line, whole_more}
 use Rattle.equation_text.proofs.LineLemmas.{first_or_later}
@@ -50,7 +51,7 @@ names_small line (step_of p m) named = (
 )
 names_small line (node_of n) named = (named.2).number.small
 
-module _ (text : List ℕ) (has : ℕ → Bool) (defined : AreDefined text has) (line : List ℕ) where
+module _ (text : List ℕ) (has : Entry → Bool) (defined : AreDefined text has) (line : List ℕ) where
   pub names_it : OneLost has line → NamesUndefined text line
   names_it lost = record {
     entry = lost.entry;

@@ -1,5 +1,5 @@
 -- The numbers among words, each after a blank.
-use Rattle.std.proofs.Common.{◌≡◌, ◌≢◌, ◌∙◌, ◌⊎◌, ℕ, ◌+◌, ◌*◌, ◌<◌, ◌^◌, Bool, true, false, List, [], ◌∷◌, ◌++◌, refl, sym}
+use Rattle.std.proofs.Common.{◌≡◌, ◌≢◌, ◌∙◌, ◌⊎◌, ℕ, Bool, List, [], ◌∷◌, ◌++◌, refl, sym}
 use Rattle.std.proofs.Common.{ap, subst, inl, inr, arith, append_assoc}
 use Rattle.std.specs.Prelude.{decimal, codes, IsTrue}
 use Rattle.std.proofs.lemmas.Fmt.{decimal_injective}
@@ -7,7 +7,9 @@ use Rattle.std.proofs.lemmas.List.{append_cancel_left}
 use Rattle.text_lines.specs.Decimals.{IsDecimal}
 use Rattle.equation_text.specs.Words.{Lacks, EndsWord}
 use Rattle.equation_text.specs.Faults.{Entry, step_of, node_of, IsNextWord, Behind, HasNumber, Leads, LeadsIn, Names}
-use Rattle.equation_text.specs.Entries.{key_of, InPart, NumberIsLost, NumbersKept, NumberLost, StepsKept, StepLost}
+use Rattle.equation_text.specs.declared.entries.Kind.{Kind}
+use Rattle.equation_text.specs.declared.entries.Kind.TheVariants.{StepsOf, Nodes}
+use Rattle.equation_text.specs.Entries.{entry_in, InPart, NumberIsLost, NumbersKept, NumberLost, StepsKept, StepLost}
 use Rattle.equation_text.specs.Entries.{NodesKept, NodeLost, AllKept, OneLost}
 use Rattle.equation_text.proofs.WordLemmas.{word_once}
 
@@ -100,14 +102,14 @@ no_number (b ∷ text) m ends none has = none text (ap (λ z. z ∷ text) ends)
 
 -- ---- words kept so far
 
-pub record WordsSoFar (has : ℕ → Bool) (base : ℕ) (words left : List ℕ) : Type 0 where
+pub record WordsSoFar (has : Entry → Bool) (kind : Kind) (words left : List ℕ) : Type 0 where
   pub ends : EndsWord left
-  pub kept : (m : ℕ) → HasNumber words m → IsTrue (has (base + m)) ⊎ HasNumber left m
+  pub kept : (m : ℕ) → HasNumber words m → IsTrue (has (entry_in kind m)) ⊎ HasNumber left m
   pub back : (m : ℕ) → HasNumber left m → HasNumber words m
 
-module _ (has : ℕ → Bool) (base : ℕ) (words left : List ℕ) (so_far : WordsSoFar has base words left) where
-  pub words_next : (w rest : List ℕ) → IsNextWord left w rest → ((m : ℕ) → IsDecimal w m → IsTrue (has (base + m)))
-      → WordsSoFar has base words rest
+module _ (has : Entry → Bool) (kind : Kind) (words left : List ℕ) (so_far : WordsSoFar has kind words left) where
+  pub words_next : (w rest : List ℕ) → IsNextWord left w rest
+      → ((m : ℕ) → IsDecimal w m → IsTrue (has (entry_in kind m))) → WordsSoFar has kind words rest
   words_next w rest next kept = record {
     ends = next.ends;
     kept = λ m named. elim (so_far.kept m named) [
@@ -120,21 +122,22 @@ module _ (has : ℕ → Bool) (base : ℕ) (words left : List ℕ) (so_far : Wor
     back = λ m named. so_far.back m (number_later left w rest m next named);
   }
 
-  pub words_lost : (w rest : List ℕ) → IsNextWord left w rest → NumberIsLost has base w → NumberLost has base words
+  pub words_lost : (w rest : List ℕ) → IsNextWord left w rest → NumberIsLost has kind w → NumberLost has kind words
   words_lost w rest next lost = (lost.0, so_far.back lost.0 (number_here left w rest lost.0 next lost.1), lost.2)
 
-  pub words_kept : ((rest : List ℕ) → left ≢ 32 ∷ rest) → NumbersKept has base words
+  pub words_kept : ((rest : List ℕ) → left ≢ 32 ∷ rest) → NumbersKept has kind words
   words_kept none m named = elim (so_far.kept m named) [
     | inl there ↦ there
     | inr behind ↦ absurd (no_number left m so_far.ends none behind)
   ]
 
-pub words_first : (has : ℕ → Bool) (base : ℕ) (words : List ℕ) → EndsWord words → WordsSoFar has base words words
-words_first has base words ends = record { ends = ends; kept = λ m named. inr named; back = λ m named. named }
+pub words_first : (has : Entry → Bool) (kind : Kind) (words : List ℕ) → EndsWord words → WordsSoFar has kind words words
+words_first has kind words ends = record { ends = ends; kept = λ m named. inr named; back = λ m named. named }
 
 -- ---- what stands behind so many words
 
-pub two_once : (text a b r1 r2 rest : List ℕ) → IsNextWord text a r1 → IsNextWord r1 b r2 → Behind 2 text rest → r2 ≡ rest
+pub two_once : (text a b r1 r2 rest : List ℕ) → IsNextWord text a r1 → IsNextWord r1 b r2 → Behind 2 text rest
+    → r2 ≡ rest
 two_once text a b r1 r2 rest first second whole =
     let inner : Behind 1 whole.1 rest = whole.3 in
     let one = next_once text a whole.0 r1 whole.1 first whole.2 in
@@ -178,33 +181,30 @@ leads_of head line words p k more i behind = record {
   behind = behind;
 }
 
-key_from : (p m : ℕ) → key_of (step_of p 0) + m ≡ key_of (step_of p m)
-key_from p m = omega arith
-
-module _ (has : ℕ → Bool) (head line : List ℕ) (p k : ℕ) (more words : List ℕ) (i : InPart head line p more)
+module _ (has : Entry → Bool) (head line : List ℕ) (p k : ℕ) (more words : List ℕ) (i : InPart head line p more)
     (behind : Behind k more words) (once : (other : List ℕ) → Behind k more other → words ≡ other) where
-  pub steps_kept_by : NumbersKept has (key_of (step_of p 0)) words → StepsKept has head k line
+  pub steps_kept_by : NumbersKept has (StepsOf p) words → StepsKept has head k line
   steps_kept_by kept q m others leads named =
       let same = part_once head line p q more leads.more i (in_part_of head line others q k leads) in
       let words_are = once others (subst (λ (z : List ℕ). Behind k z others) (sym same.1) leads.behind) in
       let there = kept m (subst (λ (z : List ℕ). HasNumber z m) (sym words_are) named) in
-      subst (λ z. IsTrue (has z)) (key_from p m ∙ ap (λ z. key_of (step_of z m)) same.0) there
+      subst (λ z. IsTrue (has (step_of z m))) same.0 there
 
-  pub step_lost_by : NumberLost has (key_of (step_of p 0)) words → StepLost has head k line
+  pub step_lost_by : NumberLost has (StepsOf p) words → StepLost has head k line
   step_lost_by lost = record {
     part = p;
     number = lost.0;
     words = words;
     leads = leads_of head line words p k more i behind;
     named = lost.1;
-    lost = ap has (sym (key_from p lost.0)) ∙ lost.2;
+    lost = lost.2;
   }
 
-pub no_part : (has : ℕ → Bool) (head line : List ℕ) (k : ℕ) → ((p : ℕ) (more : List ℕ) → InPart head line p more → ⊥)
-    → StepsKept has head k line
+pub no_part : (has : Entry → Bool) (head line : List ℕ) (k : ℕ)
+    → ((p : ℕ) (more : List ℕ) → InPart head line p more → ⊥) → StepsKept has head k line
 no_part has head line k none p m words leads named = absurd (none p leads.more (in_part_of head line words p k leads))
 
-pub no_words : (has : ℕ → Bool) (head line : List ℕ) (p k : ℕ) (more : List ℕ) → InPart head line p more
+pub no_words : (has : Entry → Bool) (head line : List ℕ) (p k : ℕ) (more : List ℕ) → InPart head line p more
     → ((rest : List ℕ) → Behind k more rest → ⊥) → StepsKept has head k line
 no_words has head line p k more i none q m words leads named =
     let same = part_once head line p q more leads.more i (in_part_of head line words q k leads) in
@@ -212,38 +212,36 @@ no_words has head line p k more i none q m words leads named =
 
 -- ---- nodes
 
-from_zero : (n : ℕ) → 0 + n ≡ n
-from_zero n = omega arith
-
-pub no_head : (has : ℕ → Bool) (head line : List ℕ) (k : ℕ) → ((rest : List ℕ) → line ≢ head ++ rest)
+pub no_head : (has : Entry → Bool) (head line : List ℕ) (k : ℕ) → ((rest : List ℕ) → line ≢ head ++ rest)
     → NodesKept has head k line
 no_head has head line k none n words leads named = absurd (none leads.rest leads.is)
 
-module _ (has : ℕ → Bool) (head line rest : List ℕ) (k : ℕ) (is : line ≡ head ++ rest) where
+module _ (has : Entry → Bool) (head line rest : List ℕ) (k : ℕ) (is : line ≡ head ++ rest) where
   same_rest : (words : List ℕ) (leads : Leads head k line words) → Behind k rest words
-  same_rest words leads = subst (λ (z : List ℕ). Behind k z words) (append_cancel_left head leads.rest rest (sym leads.is
-      ∙ is)) leads.behind
+  same_rest words leads = subst (λ (z : List ℕ). Behind k z words) (append_cancel_left head leads.rest rest
+      (sym leads.is ∙ is)) leads.behind
 
   pub none_behind : ((words : List ℕ) → Behind k rest words → ⊥) → NodesKept has head k line
   none_behind none n words leads named = absurd (none words (same_rest words leads))
 
   module _ (words : List ℕ) (behind : Behind k rest words) (once : (other : List ℕ) → Behind k rest other
       → words ≡ other) where
-    pub nodes_kept_by : NumbersKept has 0 words → NodesKept has head k line
+    pub nodes_kept_by : NumbersKept has Nodes words → NodesKept has head k line
     nodes_kept_by kept n others leads named =
         let words_are = once others (same_rest others leads) in
-        subst (λ z. IsTrue (has z)) (from_zero n) (kept n (subst (λ (z : List ℕ). HasNumber z n) (sym words_are) named))
+        kept n (subst (λ (z : List ℕ). HasNumber z n) (sym words_are) named)
 
-    pub node_lost_by : NumberLost has 0 words → NodeLost has head k line
+    pub node_lost_by : NumberLost has Nodes words → NodeLost has head k line
     node_lost_by lost = record {
       number = lost.0;
       words = words;
       leads = record { rest = rest; is = is; behind = behind };
       named = lost.1;
-      lost = ap has (sym (from_zero lost.0)) ∙ lost.2;
+      lost = lost.2;
     }
 
-pub three_once : (text a r1 rest other : List ℕ) → IsNextWord text a r1 → Behind 2 r1 rest → Behind 3 text other → rest ≡ other
+pub three_once : (text a r1 rest other : List ℕ) → IsNextWord text a r1 → Behind 2 r1 rest
+    → Behind 3 text other → rest ≡ other
 three_once text a r1 rest other first behind whole =
     let one = next_once text a whole.0 r1 whole.1 first whole.2 in
     behind_once r1 rest other behind (subst (λ (z : List ℕ). Behind 2 z other) (sym one.1) whole.3)
@@ -256,7 +254,7 @@ three_none text a r1 first none other whole =
 
 -- ---- a whole line
 
-module _ (has : ℕ → Bool) (line : List ℕ) where
+module _ (has : Entry → Bool) (line : List ℕ) where
   pub all_kept_by : StepsKept has (codes "part") 0 line → StepsKept has (codes "step") 2 line
       → NodesKept has (codes "op") 2 line → NodesKept has (codes "node") 3 line → AllKept has line
   all_kept_by a b c e (step_of p m) named = elim named.1 [

@@ -1,25 +1,38 @@
--- What lines define, each as a key, and whether what lines name is there.
-use Rattle.std.specs.Prelude.{◌≡◌, ◌≢◌, ◌<◌, ◌≤◌, ◌^◌, ◌↔◌, ◌+◌, ◌*◌, ◌++◌, ◌⊎◌, suc, ℕ, Bool, false, List, IsTrue, codes}
+-- What lines define, and whether what lines name is there.
+use Rattle.std.specs.Prelude.{◌≡◌, ◌≢◌, ◌<◌, ◌≤◌, ◌^◌, ◌↔◌, ◌++◌, ◌⊎◌, ◌&&◌, ℕ, Bool, false, List, IsTrue, codes}
+use Rattle.std.specs.Prelude.{nat_eq}
+use Rattle.std.specs.HashSet.{contains}
 use Rattle.station_graph.specs.Diagram.{Diagram}
 use Rattle.text_lines.specs.Decimals.{IsDecimal}
-use Rattle.equation_text.specs.Faults.{Entry, step_of, node_of, head_of, IsDefined, IsNextWord, HasNumber, Leads, LeadsIn}
-use Rattle.equation_text.specs.Faults.{feeds, Names, NamesUndefined, IsLine, HasUndefined}
+use Rattle.equation_text.specs.declared.entries.Step.{Step}
+use Rattle.equation_text.specs.declared.entries.Kind.{Kind}
+use Rattle.equation_text.specs.declared.entries.Kind.TheVariants.{StepsOf, Nodes}
+use Rattle.equation_text.specs.declared.entries.Entries.{Entries}
+use Rattle.equation_text.specs.Faults.{Entry, step_of, node_of, head_of, IsDefined, IsNextWord, HasNumber, Leads}
+use Rattle.equation_text.specs.Faults.{LeadsIn, feeds, Names, NamesUndefined, IsLine, HasUndefined}
 
--- The key of an entry.
-abbrev pub key_of : Entry → ℕ
-key_of (step_of p m) = (p + 1) * 4294967296 + m
-key_of (node_of n) = n
+-- The two steps are the same.
+abbrev pub same_step : Step → Step → Bool
+same_step a b = nat_eq a.part b.part && nat_eq a.number b.number
+
+-- The entry is there.
+abbrev pub has_entry : Entries → Entry → Bool
+has_entry entries (step_of p m) = contains same_step entries.steps (record { part = p; number = m })
+has_entry entries (node_of n) = contains nat_eq entries.nodes n
+
+-- The entry of the kind with this number.
+abbrev pub entry_in : Kind → ℕ → Entry
+entry_in (StepsOf p) m = step_of p m
+entry_in Nodes n = node_of n
 
 -- Its numbers have 32 bits.
 abbrev pub IsSmall : Entry → Type 0
 IsSmall (step_of p m) = (p < 2 ^ 32) × (m < 2 ^ 32)
 IsSmall (node_of n) = n < 2 ^ 32
 
--- The line defines the entry of this key.
-pub record DefinesKey (line : List ℕ) (key : ℕ) : Type 0 where
-  pub entry : Entry
+-- The line defines the entry, whose numbers have 32 bits.
+pub record Defines (line : List ℕ) (entry : Entry) : Type 0 where
   pub small : IsSmall entry
-  pub key_is : key ≡ key_of entry
   pub rest : List ℕ
   pub is : line ≡ head_of entry ++ rest
 
@@ -27,26 +40,26 @@ pub record DefinesKey (line : List ℕ) (key : ℕ) : Type 0 where
 abbrev pub DefinesNone : List ℕ → Type 0
 DefinesNone line = (x : Entry) (rest : List ℕ) → IsSmall x → line ≢ head_of x ++ rest
 
--- The new keys are the old ones, and that of what the line defines.
-abbrev pub AddsLine : List ℕ → (ℕ → Bool) → (ℕ → Bool) → Type 0
+-- What is there now was there before, or the line defines it.
+abbrev pub AddsLine : List ℕ → (Entry → Bool) → (Entry → Bool) → Type 0
 AddsLine line old new = (x : Entry) → IsSmall x
-    → IsTrue (new (key_of x)) ↔ (((rest : List ℕ) × (line ≡ head_of x ++ rest)) ⊎ IsTrue (old (key_of x)))
+    → IsTrue (new x) ↔ (((rest : List ℕ) × (line ≡ head_of x ++ rest)) ⊎ IsTrue (old x))
 
--- A key is there exactly where a line of the text defines its entry.
-abbrev pub AreDefined : List ℕ → (ℕ → Bool) → Type 0
-AreDefined text has = (x : Entry) → IsSmall x → IsTrue (has (key_of x)) ↔ IsDefined text x
+-- An entry is there exactly where a line of the text defines it.
+abbrev pub AreDefined : List ℕ → (Entry → Bool) → Type 0
+AreDefined text has = (x : Entry) → IsSmall x → IsTrue (has x) ↔ IsDefined text x
 
--- The number that the word is is not there, as a key from this one on.
-abbrev pub NumberIsLost : (ℕ → Bool) → ℕ → List ℕ → Type 0
-NumberIsLost has base word = (m : ℕ) × IsDecimal word m × (has (base + m) ≡ false)
+-- The entry of the number that the word is is not there.
+abbrev pub NumberIsLost : (Entry → Bool) → Kind → List ℕ → Type 0
+NumberIsLost has kind word = (m : ℕ) × IsDecimal word m × (has (entry_in kind m) ≡ false)
 
--- Each number of the words is there.
-abbrev pub NumbersKept : (ℕ → Bool) → ℕ → List ℕ → Type 0
-NumbersKept has base words = (m : ℕ) → HasNumber words m → IsTrue (has (base + m))
+-- That of each number of the words is.
+abbrev pub NumbersKept : (Entry → Bool) → Kind → List ℕ → Type 0
+NumbersKept has kind words = (m : ℕ) → HasNumber words m → IsTrue (has (entry_in kind m))
 
--- One is not.
-abbrev pub NumberLost : (ℕ → Bool) → ℕ → List ℕ → Type 0
-NumberLost has base words = (m : ℕ) × HasNumber words m × (has (base + m) ≡ false)
+-- That of one is not.
+abbrev pub NumberLost : (Entry → Bool) → Kind → List ℕ → Type 0
+NumberLost has kind words = (m : ℕ) × HasNumber words m × (has (entry_in kind m) ≡ false)
 
 -- The line begins with this word, and next stands this number.
 pub record InPart (head line : List ℕ) (p : ℕ) (more : List ℕ) : Type 0 where
@@ -57,41 +70,41 @@ pub record InPart (head line : List ℕ) (p : ℕ) (more : List ℕ) : Type 0 wh
   pub number : IsDecimal word p
 
 -- Each step that such a line names is there.
-abbrev pub StepsKept : (ℕ → Bool) → List ℕ → ℕ → List ℕ → Type 0
+abbrev pub StepsKept : (Entry → Bool) → List ℕ → ℕ → List ℕ → Type 0
 StepsKept has head skipped line = (p m : ℕ) (words : List ℕ) → LeadsIn head p skipped line words → HasNumber words m
-    → IsTrue (has (key_of (step_of p m)))
+    → IsTrue (has (step_of p m))
 
 -- One is not.
-pub record StepLost (has : ℕ → Bool) (head : List ℕ) (skipped : ℕ) (line : List ℕ) : Type 0 where
+pub record StepLost (has : Entry → Bool) (head : List ℕ) (skipped : ℕ) (line : List ℕ) : Type 0 where
   pub part : ℕ
   pub number : ℕ
   pub words : List ℕ
   pub leads : LeadsIn head part skipped line words
   pub named : HasNumber words number
-  pub lost : has (key_of (step_of part number)) ≡ false
+  pub lost : has (step_of part number) ≡ false
 
 -- Each node that such a line names is there.
-abbrev pub NodesKept : (ℕ → Bool) → List ℕ → ℕ → List ℕ → Type 0
+abbrev pub NodesKept : (Entry → Bool) → List ℕ → ℕ → List ℕ → Type 0
 NodesKept has head skipped line = (n : ℕ) (words : List ℕ) → Leads head skipped line words → HasNumber words n
-    → IsTrue (has (key_of (node_of n)))
+    → IsTrue (has (node_of n))
 
 -- One is not.
-pub record NodeLost (has : ℕ → Bool) (head : List ℕ) (skipped : ℕ) (line : List ℕ) : Type 0 where
+pub record NodeLost (has : Entry → Bool) (head : List ℕ) (skipped : ℕ) (line : List ℕ) : Type 0 where
   pub number : ℕ
   pub words : List ℕ
   pub leads : Leads head skipped line words
   pub named : HasNumber words number
-  pub lost : has (key_of (node_of number)) ≡ false
+  pub lost : has (node_of number) ≡ false
 
 -- All that the line names is there.
-abbrev pub AllKept : (ℕ → Bool) → List ℕ → Type 0
-AllKept has line = (x : Entry) → Names line x → IsTrue (has (key_of x))
+abbrev pub AllKept : (Entry → Bool) → List ℕ → Type 0
+AllKept has line = (x : Entry) → Names line x → IsTrue (has x)
 
 -- Something that the line names is not.
-pub record OneLost (has : ℕ → Bool) (line : List ℕ) : Type 0 where
+pub record OneLost (has : Entry → Bool) (line : List ℕ) : Type 0 where
   pub entry : Entry
   pub named : Names line entry
-  pub lost : has (key_of entry) ≡ false
+  pub lost : has entry ≡ false
 
 -- So many lines of the text stand before the first that names an entry which none defines.
 pub record IsFirstUndefined (text : List ℕ) (count : ℕ) : Type 0 where

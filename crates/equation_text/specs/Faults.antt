@@ -1,6 +1,7 @@
 -- Which lines of a text have a fault: the line that cannot stand where it does, and each that names a step or
 -- node that no line defines.
-use Rattle.std.specs.Prelude.{◌≡◌, ◌≤◌, ◌==◌, ◌++◌, ◌⊎◌, zero, suc, ℕ, List, [], ◌∷◌, length, map, codes, decimal, count_by}
+use Rattle.std.specs.Prelude.{◌≡◌, ◌≤◌, ◌==◌, ◌++◌, ◌⊎◌, zero, suc, ℕ, List, [], ◌∷◌, length, map, codes, decimal}
+use Rattle.std.specs.Prelude.{count_by}
 use Rattle.station_graph.specs.Diagram.{Diagram}
 use Rattle.text_lines.specs.Decimals.{IsDecimal}
 use Rattle.equation_text.specs.EquationLines.{EquationLines, index_count}
@@ -99,8 +100,8 @@ pub record LeadsIn (head : List ℕ) (p skipped : ℕ) (line words : List ℕ) :
 -- A number of the line names the entry: where it is the line of a part, a step, an operation or a node, one of
 -- the words that say where it leads.
 abbrev pub Names : List ℕ → Entry → Type 0
-Names line (step_of p m) = (words : List ℕ) × (LeadsIn (codes "part") p 0 line words ⊎ LeadsIn (codes "step") p 2 line words)
-    × HasNumber words m
+Names line (step_of p m) = (words : List ℕ)
+    × (LeadsIn (codes "part") p 0 line words ⊎ LeadsIn (codes "step") p 2 line words) × HasNumber words m
 Names line (node_of n) = (words : List ℕ) × (Leads (codes "op") 2 line words ⊎ Leads (codes "node") 3 line words)
     × HasNumber words n
 

@@ -1,21 +1,19 @@
 //! The first line that names a step or node that no line defines.
-ghost use Rattle.std.specs.Prelude.{◌≡◌, ◌≢◌, ◌<◌, ◌≤◌, ◌+◌, ◌^◌, ◌∷◌, ℕ, List, suc, codes, length, IfOk, IfSome, IfNone, IsTrue, IsFalse, MatchOption};
-ghost use Rattle.std.specs.Ordering.{nat_cmp};
-ghost use Rattle.std.specs.BTreeSet.{contains};
+ghost use Rattle.std.specs.Prelude.{◌≡◌, ◌≢◌, ◌≤◌, ◌+◌, ◌∷◌, ℕ, List, suc, codes, length, IfOk, IfSome, IfNone};
+ghost use Rattle.std.specs.Prelude.{IsTrue, IsFalse, MatchOption};
 ghost use Rattle.text_lines.specs.Decimals.{IsDecimal};
 ghost use Rattle.equation_text.specs.Words.{EndsWord};
 ghost use Rattle.equation_text.specs.Faults.{feeds, IsNextWord, Behind};
-ghost use Rattle.equation_text.specs.Entries.{AreDefined, NumberIsLost, NumbersKept, NumberLost, InPart, StepsKept, StepLost};
-ghost use Rattle.equation_text.specs.Entries.{NodesKept, NodeLost, AllKept, OneLost, IsFirstUndefined, NoneUndefined};
-ghost use Rattle.equation_text.specs.Entries.{IsFirstWithout, NoneWithout};
+ghost use Rattle.equation_text.specs.Entries.{has_entry, entry_in, AreDefined, NumberIsLost, NumbersKept, NumberLost};
+ghost use Rattle.equation_text.specs.Entries.{InPart, StepsKept, StepLost, NodesKept, NodeLost, AllKept, OneLost};
+ghost use Rattle.equation_text.specs.Entries.{IsFirstUndefined, NoneUndefined, IsFirstWithout, NoneWithout};
 
-use crate::entries::{entries_of, step_key};
+use crate::entries::{Entries, Kind, entries_of};
 use crate::front::front_of;
 use crate::words::{behind, cut_line, first_word};
 use ilk_base::Memory;
 use station_graph::Station;
 use std::alloc::Global;
-use std::collections::BTreeSet;
 use text_lines::decimal_number;
 
 // The word behind the blank with which the text begins, and what follows it.
@@ -61,29 +59,26 @@ fn in_part<'a>(line: &'a [u8], head: &[u8]) -> Option<(u32, &'a [u8])>
     Some((part, more))
 }
 
-// Whether the key of the number that the word is, if it is one, is there, where that of 0 is this one.
-fn is_kept(word: &[u8], base: u128, entries: &BTreeSet<u128>) -> bool
-    requires { base < 2 ^ 80 }
-    ensures yes { IsTrue result → (m : ℕ) → IsDecimal word.now m → IsTrue (contains nat_cmp entries.now (base + m)) }
-    ensures no { IsFalse result → NumberIsLost (contains nat_cmp entries.now) base word.now }
+// Whether the step or node of the number that the word is, if it is one, is there.
+fn is_kept(word: &[u8], kind: Kind, entries: &Entries) -> bool
+    ensures yes { IsTrue result → (m : ℕ) → IsDecimal word.now m → IsTrue (has_entry entries.now (entry_in kind m)) }
+    ensures no { IsFalse result → NumberIsLost (has_entry entries.now) kind word.now }
 {
     let Some(number) = decimal_number(word) else {
         return true;
     };
-    let key = base + u128::from(number);
-    entries.contains(&key)
+    entries.has(kind, number)
 }
 
 // Whether that of each number among these words is.
-fn are_kept(words: &[u8], base: u128, entries: &BTreeSet<u128>) -> bool
-    requires ends { EndsWord words.now }
-    requires base { base < 2 ^ 80 }
-    ensures yes { IsTrue result → NumbersKept (contains nat_cmp entries.now) base words.now }
-    ensures no { IsFalse result → NumberLost (contains nat_cmp entries.now) base words.now }
+fn are_kept(words: &[u8], kind: Kind, entries: &Entries) -> bool
+    requires { EndsWord words.now }
+    ensures yes { IsTrue result → NumbersKept (has_entry entries.now) kind words.now }
+    ensures no { IsFalse result → NumberLost (has_entry entries.now) kind words.now }
 {
     let mut left = words;
     while let Some((word, rest)) = next_word(left) {
-        if !is_kept(word, base, entries) {
+        if !is_kept(word, kind, entries) {
             return false;
         }
         left = rest;
@@ -92,20 +87,20 @@ fn are_kept(words: &[u8], base: u128, entries: &BTreeSet<u128>) -> bool
 }
 
 // Whether the step is there at which the line of a part says that it begins.
-fn start_kept(line: &[u8], entries: &BTreeSet<u128>) -> bool
-    ensures yes { IsTrue result → StepsKept (contains nat_cmp entries.now) (codes "part") 0 line.now }
-    ensures no { IsFalse result → StepLost (contains nat_cmp entries.now) (codes "part") 0 line.now }
+fn start_kept(line: &[u8], entries: &Entries) -> bool
+    ensures yes { IsTrue result → StepsKept (has_entry entries.now) (codes "part") 0 line.now }
+    ensures no { IsFalse result → StepLost (has_entry entries.now) (codes "part") 0 line.now }
 {
     let Some((part, words)) = in_part(line, b"part") else {
         return true;
     };
-    are_kept(words, step_key(part, 0), entries)
+    are_kept(words, Kind::StepsOf { part }, entries)
 }
 
 // Whether the steps are there to which the line of a step leads.
-fn steps_kept(line: &[u8], entries: &BTreeSet<u128>) -> bool
-    ensures yes { IsTrue result → StepsKept (contains nat_cmp entries.now) (codes "step") 2 line.now }
-    ensures no { IsFalse result → StepLost (contains nat_cmp entries.now) (codes "step") 2 line.now }
+fn steps_kept(line: &[u8], entries: &Entries) -> bool
+    ensures yes { IsTrue result → StepsKept (has_entry entries.now) (codes "step") 2 line.now }
+    ensures no { IsFalse result → StepLost (has_entry entries.now) (codes "step") 2 line.now }
 {
     let Some((part, rest)) = in_part(line, b"step") else {
         return true;
@@ -113,13 +108,13 @@ fn steps_kept(line: &[u8], entries: &BTreeSet<u128>) -> bool
     let Some(words) = behind_two(rest) else {
         return true;
     };
-    are_kept(words, step_key(part, 0), entries)
+    are_kept(words, Kind::StepsOf { part }, entries)
 }
 
 // Whether the node is there to which the line of an operation leads.
-fn goal_kept(line: &[u8], entries: &BTreeSet<u128>) -> bool
-    ensures yes { IsTrue result → NodesKept (contains nat_cmp entries.now) (codes "op") 2 line.now }
-    ensures no { IsFalse result → NodeLost (contains nat_cmp entries.now) (codes "op") 2 line.now }
+fn goal_kept(line: &[u8], entries: &Entries) -> bool
+    ensures yes { IsTrue result → NodesKept (has_entry entries.now) (codes "op") 2 line.now }
+    ensures no { IsFalse result → NodeLost (has_entry entries.now) (codes "op") 2 line.now }
 {
     let Some(rest) = behind(line, b"op") else {
         return true;
@@ -127,13 +122,13 @@ fn goal_kept(line: &[u8], entries: &BTreeSet<u128>) -> bool
     let Some(words) = behind_two(rest) else {
         return true;
     };
-    are_kept(words, 0, entries)
+    are_kept(words, Kind::Nodes, entries)
 }
 
 // Whether the nodes are there to which the line of a node leads.
-fn goals_kept(line: &[u8], entries: &BTreeSet<u128>) -> bool
-    ensures yes { IsTrue result → NodesKept (contains nat_cmp entries.now) (codes "node") 3 line.now }
-    ensures no { IsFalse result → NodeLost (contains nat_cmp entries.now) (codes "node") 3 line.now }
+fn goals_kept(line: &[u8], entries: &Entries) -> bool
+    ensures yes { IsTrue result → NodesKept (has_entry entries.now) (codes "node") 3 line.now }
+    ensures no { IsFalse result → NodeLost (has_entry entries.now) (codes "node") 3 line.now }
 {
     let Some(rest) = behind(line, b"node") else {
         return true;
@@ -144,13 +139,13 @@ fn goals_kept(line: &[u8], entries: &BTreeSet<u128>) -> bool
     let Some(words) = behind_two(rest) else {
         return true;
     };
-    are_kept(words, 0, entries)
+    are_kept(words, Kind::Nodes, entries)
 }
 
 // Whether all that the line names is there.
-fn all_kept(line: &[u8], entries: &BTreeSet<u128>) -> bool
-    ensures yes { IsTrue result → AllKept (contains nat_cmp entries.now) line.now }
-    ensures no { IsFalse result → OneLost (contains nat_cmp entries.now) line.now }
+fn all_kept(line: &[u8], entries: &Entries) -> bool
+    ensures yes { IsTrue result → AllKept (has_entry entries.now) line.now }
+    ensures no { IsFalse result → OneLost (has_entry entries.now) line.now }
 {
     if !start_kept(line, entries) {
         return false;
@@ -165,9 +160,9 @@ fn all_kept(line: &[u8], entries: &BTreeSet<u128>) -> bool
 }
 
 // How many lines stand before the first that names an entry that is not there.
-fn lines_before(text: &[u8], entries: &BTreeSet<u128>) -> Option<u32>
+fn lines_before(text: &[u8], entries: &Entries) -> Option<u32>
     requires short { length text.now ≤ 4294967294 }
-    requires defined { AreDefined text.now (contains nat_cmp entries.now) }
+    requires defined { AreDefined text.now (has_entry entries.now) }
     ensures { MatchOption result (NoneUndefined text.now) (IsFirstUndefined text.now) }
 {
     let mut left = text;
@@ -203,7 +198,8 @@ pub(crate) fn undefined_line(
     text: &[u8],
 ) -> Result<Option<u32>, Memory>
     requires { length text.now ≤ 4294967294 }
-    ensures { IfOk result (λ o. MatchOption o (NoneWithout station.now text.now) (IsFirstWithout station.now text.now)) }
+    ensures { IfOk result (λ o. MatchOption o (NoneWithout station.now text.now)
+        (IsFirstWithout station.now text.now)) }
 {
     let front = front_of(alloc, station)?;
     let Some(body) = behind(text, front.bytes()) else {

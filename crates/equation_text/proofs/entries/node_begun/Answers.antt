@@ -1,7 +1,6 @@
 use Rattle.std.proofs.Common.{◌≡◌, ◌∙◌, ◌++◌, ◌∷◌, ◌<◌, ◌^◌, List, ℕ, sym, ap, arith}
 use Rattle.std.specs.Prelude.{codes, decimal}
 use Rattle.std.proofs.lemmas.List.{append_cancel_left}
-use Rattle.equation_text.specs.Faults.{node_of}
 use Rattle.equation_text.proofs.WordLemmas.{not_cut, cut_said, lacks_decimal}
 use Rattle.equation_text.proofs.EntryLemmas.{node_head}
 use Rattle.equation_text.proofs.entries.node_begun.Goals as goal
@@ -30,9 +29,7 @@ returns-clause-some c =
     let first = c.in-Some-decimal_number.ensures.some in
     let rest = c.in-Some-cut_word._rest.now in
     record {
-      entry = node_of n;
       small = first.small;
-      key_is = c.from.ensures;
       rest = rest;
       is = c.in-Some.ensures.some
           ∙ ap (λ (z : List ℕ). codes "node " ++ z) (c.in-Some-cut_word.ensures.some.is

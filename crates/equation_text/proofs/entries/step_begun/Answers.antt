@@ -1,7 +1,6 @@
 use Rattle.std.proofs.Common.{◌≡◌, ◌∙◌, ◌++◌, ◌∷◌, ◌<◌, ◌^◌, List, ℕ, sym, ap, arith}
 use Rattle.std.specs.Prelude.{codes, decimal}
 use Rattle.std.proofs.lemmas.List.{append_cancel_left}
-use Rattle.equation_text.specs.Faults.{step_of}
 use Rattle.equation_text.proofs.WordLemmas.{not_cut, cut_said, lacks_decimal}
 use Rattle.equation_text.proofs.EntryLemmas.{step_head}
 use Rattle.equation_text.proofs.entries.step_begun.Goals as goal
@@ -49,14 +48,12 @@ returns-in_default-decimal_number-2-clause-none c = λ p m rest small is.
 pub returns-clause-some : goal.returns-clause-some
 returns-clause-some c =
     let p = c.in-Some-decimal_number.part in
-    let m = c.in-Some-decimal_number-2.m in
+    let m = c.in-Some-decimal_number-2.number in
     let first = c.in-Some-decimal_number.ensures.some in
     let second = c.in-Some-decimal_number-2.ensures.some in
     let rest = c.in-Some-cut_word-2._rest.now in
     record {
-      entry = step_of p m;
       small = (first.small, second.small);
-      key_is = c.step_key.ensures;
       rest = rest;
       is = c.in-Some.ensures.some
           ∙ ap (λ (z : List ℕ). codes "step " ++ z) (c.in-Some-cut_word.ensures.some.is

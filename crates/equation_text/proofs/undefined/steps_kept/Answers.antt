@@ -1,31 +1,27 @@
 use Rattle.std.proofs.Common.{◌≡◌, ◌∙◌, List, ℕ, refl, sym, subst}
 use Rattle.std.specs.Prelude.{codes}
-use Rattle.std.specs.Ordering.{nat_cmp}
-use Rattle.std.specs.BTreeSet.{contains}
-use Rattle.equation_text.specs.Entries.{NumbersKept, NumberLost}
+use Rattle.equation_text.specs.Entries.{has_entry}
 use Rattle.equation_text.proofs.NumberLemmas.{no_part, no_words, behind_once, steps_kept_by, step_lost_by}
 use Rattle.equation_text.proofs.undefined.steps_kept.Goals as goal
 
 pub returns-in_default-clause-yes : goal.returns-in_default-clause-yes
-returns-in_default-clause-yes c = λ _. no_part (contains nat_cmp c.args.entries.now) (codes "step") c.args.line.now 2
+returns-in_default-clause-yes c = λ _. no_part (has_entry c.args.entries.now) (codes "step") c.args.line.now 2
     c.in_default.ensures.none
 
 pub returns-in_default-behind_two-clause-yes : goal.returns-in_default-behind_two-clause-yes
-returns-in_default-behind_two-clause-yes c = λ _. no_words (contains nat_cmp c.args.entries.now) (codes "step")
+returns-in_default-behind_two-clause-yes c = λ _. no_words (has_entry c.args.entries.now) (codes "step")
     c.args.line.now c.in-Some.part 2 c.in-Some.rest.now c.in-Some.ensures.some c.in_default-behind_two.ensures.none
 
 pub returns-clause-yes : goal.returns-clause-yes
-returns-clause-yes c = λ yes. steps_kept_by (contains nat_cmp c.args.entries.now) (codes "step") c.args.line.now
+returns-clause-yes c = λ yes. steps_kept_by (has_entry c.args.entries.now) (codes "step") c.args.line.now
     c.in-Some.part 2 c.in-Some.rest.now c.in-Some-behind_two.words.now c.in-Some.ensures.some
     c.in-Some-behind_two.ensures.some (λ other same. behind_once c.in-Some.rest.now c.in-Some-behind_two.words.now other
     c.in-Some-behind_two.ensures.some same)
-    (subst (λ k. NumbersKept (contains nat_cmp c.args.entries.now) k c.in-Some-behind_two.words.now) c.step_key.ensures
-    (c.are_kept.ensures.yes yes))
+    (c.are_kept.ensures.yes yes)
 
 pub returns-clause-no : goal.returns-clause-no
-returns-clause-no c = λ no. step_lost_by (contains nat_cmp c.args.entries.now) (codes "step") c.args.line.now
+returns-clause-no c = λ no. step_lost_by (has_entry c.args.entries.now) (codes "step") c.args.line.now
     c.in-Some.part 2 c.in-Some.rest.now c.in-Some-behind_two.words.now c.in-Some.ensures.some
     c.in-Some-behind_two.ensures.some (λ other same. behind_once c.in-Some.rest.now c.in-Some-behind_two.words.now other
     c.in-Some-behind_two.ensures.some same)
-    (subst (λ k. NumberLost (contains nat_cmp c.args.entries.now) k c.in-Some-behind_two.words.now) c.step_key.ensures
-    (c.are_kept.ensures.no no))
+    (c.are_kept.ensures.no no)
