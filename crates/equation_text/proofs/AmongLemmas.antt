@@ -56,7 +56,8 @@ only_one l k a = by a.place a.at
 
 -- ---- lines that begin with these words
 
-pub among_or_later : (ls : List (List ℕ)) (tail head : List ℕ) → ((l : List ℕ) → Among l ls → Lacks 10 l) → Lacks 10 head
+pub among_or_later : (ls : List (List ℕ)) (tail head : List ℕ) → ((l : List ℕ) → Among l ls → Lacks 10 l) →
+    Lacks 10 head
     → HasLine (text_of ls ++ tail) head
     → ((l more : List ℕ) × Among l ls × (l ≡ head ++ more)) ⊎ HasLine tail head
 among_or_later [] tail head lacks plain has = inr has

@@ -1,5 +1,6 @@
 -- The first line of a text with a fault.
-use Rattle.std.proofs.Common.{◌≡◌, ◌≢◌, ◌∙◌, ◌⊎◌, ℕ, ◌+◌, ◌-◌, ◌≤◌, ◌<◌, suc, List, [], ◌∷◌, ◌++◌, length, take, min, Option, None}
+use Rattle.std.proofs.Common.{◌≡◌, ◌≢◌, ◌∙◌, ◌⊎◌, ℕ, ◌+◌, ◌-◌, ◌≤◌, ◌<◌, suc, List, [], ◌∷◌, ◌++◌, length, take, min}
+use Rattle.std.proofs.Common.{Option, None}
 use Rattle.std.proofs.Common.{Some, refl, sym, ap, subst, inl, inr, arith, append_assoc, append-nil}
 use Rattle.std.specs.Prelude.{MatchOption, IfSome}
 use Rattle.std.proofs.lemmas.Bool.{cases_lt, cases_eq}
@@ -9,7 +10,8 @@ use Rattle.equation_text.specs.EquationLines.{EquationLines}
 use Rattle.equation_text.specs.EquationText.{lines_of, text_of}
 use Rattle.equation_text.specs.Words.{Lacks}
 use Rattle.equation_text.specs.Reading.{front_text}
-use Rattle.equation_text.specs.Faults.{feeds, IsWhole, AreFormed, Begins, IsWrongAt, IsWrong, HasUndefined, IsFirstFault}
+use Rattle.equation_text.specs.Faults.{feeds, IsWhole, AreFormed, Begins, IsWrongAt, IsWrong, HasUndefined}
+use Rattle.equation_text.specs.Faults.{IsFirstFault}
 use Rattle.equation_text.specs.Faults.{HasFault, IsLine, NamesUndefined}
 use Rattle.equation_text.specs.Entries.{IsFirstUndefined, NoneUndefined, IsFirstWithout, NoneWithout}
 use Rattle.equation_text.specs.Stops.{StopsWrong}
@@ -52,7 +54,8 @@ first_line (b ∷ c) rest = elim (cases_eq b 10) [
 
 module _ (d : Diagram) (text : List ℕ) where
   -- no line of whole lines with which a text of the form begins is one that cannot stand where it does
-  none_before : (before left m after : List ℕ) → IsWrongAt d before left → Begins d (before ++ m) → IsWhole (before ++ m)
+  none_before : (before left m after : List ℕ) → IsWrongAt d before left → Begins d (before ++ m) →
+      IsWhole (before ++ m)
       → left ≡ m ++ after → m ≡ []
   none_before before left m after wrong begins whole is = elim (rest_whole before m whole) [
     | inl none ↦ none
@@ -166,7 +169,8 @@ module _ (d : Diagram) (text : List ℕ) where
       };
       first = λ j has.
           let same = same_body j has in
-          let less = found.first has.before has.line (subst (λ (z : List ℕ). IsLine z has.before has.line) same has.stands)
+          let less = found.first has.before has.line
+          (subst (λ (z : List ℕ). IsLine z has.before has.line) same has.stands)
           (subst (λ (z : List ℕ). NamesUndefined z has.line) same has.names) in
           omega (arith, at, less, has.number, feeds_more (front_text d) has.before);
     }

@@ -8,7 +8,8 @@ use Rattle.equation_text.proofs.WordLemmas.{not_cut, cut_once}
 use Rattle.equation_text.proofs.WholeText.{whole_line, whole_more}
 
 -- a line that begins as a text without LF does
-peel : (head rest l tail : List ℕ) → Lacks 10 head → l ++ 10 ∷ tail ≡ head ++ rest → (more : List ℕ) × (l ≡ head ++ more)
+peel : (head rest l tail : List ℕ) → Lacks 10 head → l ++ 10 ∷ tail ≡ head ++ rest →
+    (more : List ℕ) × (l ≡ head ++ more)
 peel [] rest l tail lacks same = (l, refl)
 peel (h ∷ head) rest [] tail lacks same = absurd (lacks.0 (let e : 10 ≡ h = cc same in sym e))
 peel (h ∷ head) rest (x ∷ l) tail lacks same =

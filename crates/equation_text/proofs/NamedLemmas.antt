@@ -1,5 +1,6 @@
 -- What the lines of a form name.
-use Rattle.std.proofs.Common.{◌≡◌, ◌∙◌, ℕ, ◌<◌, ◌^◌, zero, suc, List, [], ◌∷◌, ◌++◌, refl, sym, ap, arith, Some, inl, inr}
+use Rattle.std.proofs.Common.{◌≡◌, ◌∙◌, ℕ, ◌<◌, ◌^◌, zero, suc, List, [], ◌∷◌, ◌++◌, refl, sym, ap, arith, Some, inl}
+use Rattle.std.proofs.Common.{inr}
 use Rattle.std.proofs.Common.{append_assoc, append-nil}
 use Rattle.std.specs.Prelude.{codes, decimal, slice_get}
 use Rattle.ilk_base.specs.declared.words.Direction.{Direction}
@@ -53,7 +54,8 @@ number_next n rest small = record { is = refl; first = digits_lack n small; ends
 
 -- ---- parts
 
-pub start_names : (p m : ℕ) (x : PartLines) → x.start ≡ Step m → p < 2 ^ 32 → m < 2 ^ 32 → Names (part_line p x) (step_of p m)
+pub start_names : (p m : ℕ) (x : PartLines) → x.start ≡ Step m → p < 2 ^ 32 → m < 2 ^ 32 →
+    Names (part_line p x) (step_of p m)
 start_names p m x start small_p small_m =
     let words : List ℕ = 32 ∷ decimal m in (
       words,

@@ -159,7 +159,8 @@ goals_lacks [] n fits = tt
 goals_lacks (g ∷ goals) n fits = (
   (λ e. omega (arith, e)),
   lacks_all 10 (goal_text g) (goals_text goals)
-      (lacks_goal 10 g (omega arith) (any_goal n g (fits 0 g refl))) (goals_lacks goals n (λ i h at. fits (suc i) h at)),
+      (lacks_goal 10 g (omega arith) (any_goal n g (fits 0 g refl)))
+      (goals_lacks goals n (λ i h at. fits (suc i) h at)),
 )
 
 pub goals_once : (n : ℕ) (goals more : List Goal) → AreLaterGoals NUMBERS n goals → AreLaterGoals NUMBERS n more

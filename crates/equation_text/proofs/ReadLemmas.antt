@@ -62,7 +62,8 @@ pub step_one : (part m : ℕ) (x y : PartStep) (r s : List ℕ) → StepFits par
 step_one part m x y r s fx fy same =
     let cut = cut_once 10 (step_line part m x) (step_line part m y) r s
     (step_lacks part m x fx.part_number (omega (arith, fx.number)) fx.switch fx.off fx.on)
-    (step_lacks part m y fy.part_number (omega (arith, fy.number)) fy.switch fy.off fy.on) (line_once (step_line part m x)
+    (step_lacks part m y fy.part_number (omega (arith, fy.number)) fy.switch fy.off fy.on)
+    (line_once (step_line part m x)
     (step_line part m y) r s (step_of part m x) (step_of part m y) refl refl same) in
     (step_once part m x y fx.switch fy.switch fx.off fy.off fx.on fy.on cut.0, cut.1)
 

@@ -72,7 +72,8 @@ module _ (d : Diagram) (station : IsStation d) where
         (at_starts d station e formed whole refl) more (at_steps d station e formed whole refl) few_parts stop.few
         stop.may (starts_may d station e formed whole refl) here refl in
         let found = alike.line (part_line (length stop.starts) (part_of next.start)) next.rest
-        (part_lacks (length stop.starts) (part_of next.start) (omega (arith, stop.few, few_parts)) next.target) next.is in
+        (part_lacks (length stop.starts) (part_of next.start) (omega (arith, stop.few, few_parts)) next.target)
+        next.is in
         stop.none (part_of next.start) found.0 next.target found.1
 
     pub wrong_start : StopsWrong d text left
@@ -234,7 +235,8 @@ module _ (d : Diagram) (station : IsStation d) where
             let b = at_first (second ++ text_of (op_lines more_ops)) (begins_ops d parts more_ops may_parts
             (omega (arith, stop.few, count_more)) may) in
             begins_prefix d before_two last (subst (λ (z : List ℕ). Begins d z) (sym (nest_four (front_text d) first
-            second third line last)) (subst (λ (z : List ℕ). Begins d (front_text d ++ (first ++ (second ++ z)))) ops_are
+            second third line last))
+            (subst (λ (z : List ℕ). Begins d (front_text d ++ (first ++ (second ++ z)))) ops_are
             b))
 
         wrong_closing : StopsWrong d text left
@@ -323,7 +325,8 @@ module _ (d : Diagram) (station : IsStation d) where
           is = text_is (fourth ++ (fifth ++ left)) (e3 ∙ ap (λ (z : List ℕ). fourth ++ z) stop.passed)
               ∙ sym (nest_four (front_text d) first second fourth fifth left);
           wrong = wrong_at d before_three left (whole_five (front_text d) first second fourth fifth
-              (front_whole d) whole_first whole_second (whole_text (op_lines ops)) (whole_text (node_lines stop.nodes))) (at_first (second ++ (fourth ++ fifth)) (begins_nodes d (lines_with stop.nodes)
+              (front_whole d) whole_first whole_second (whole_text (op_lines ops)) (whole_text (node_lines stop.nodes)))
+              (at_first (second ++ (fourth ++ fifth)) (begins_nodes d (lines_with stop.nodes)
               (formed_with stop.nodes stop.may))) no_node;
         }
 
@@ -343,7 +346,8 @@ module _ (d : Diagram) (station : IsStation d) where
             (codes "end\n") left)) in
             let may = subst (λ (ps : List PartLines). MayBeNodes (length d.switches) (map index_count ps) nodes)
             g.parts_are may4 in
-            let none = left_none d station e formed whole refl nodes (at_end d station e formed whole refl) more refl may
+            let none = left_none d station e formed whole refl nodes (at_end d station e formed whole refl) more
+            refl may
             (sym g.is ∙ append_assoc (text_of (node_lines nodes)) (codes "end\n") more) in
             some (alike.none none.1)
 

@@ -1,5 +1,6 @@
 -- Where no line names what none defines, each number is that of a step or node that is there.
-use Rattle.std.proofs.Common.{◌≡◌, ◌≢◌, ◌∙◌, ◌⊎◌, ℕ, ◌+◌, ◌<◌, ◌≤◌, ◌^◌, zero, suc, List, [], ◌∷◌, ◌++◌, length, map, refl}
+use Rattle.std.proofs.Common.{◌≡◌, ◌≢◌, ◌∙◌, ◌⊎◌, ℕ, ◌+◌, ◌<◌, ◌≤◌, ◌^◌, zero, suc, List, [], ◌∷◌, ◌++◌, length, map}
+use Rattle.std.proofs.Common.{refl}
 use Rattle.std.proofs.Common.{sym, ap, subst, inl, inr, arith, Some, append_assoc}
 use Rattle.std.specs.Prelude.{codes, decimal, slice_get}
 use Rattle.std.proofs.lemmas.Bool.{cases_lt}
@@ -81,7 +82,8 @@ later_goal n (Answer a) later = tt
 
 -- the number with which the line of a node begins
 node_begins : (k : ℕ) (y : NodeLine) → (rest : List ℕ) × (node_line k y ≡ codes "node " ++ (decimal k ++ 32 ∷ rest))
-node_begins k (part_node part goals) = (codes "part " ++ (decimal part ++ goals_text goals), part_node_parts k part goals)
+node_begins k (part_node part goals) =
+    (codes "part " ++ (decimal part ++ goals_text goals), part_node_parts k part goals)
 node_begins k (switch_node switch off on) = (
   codes "switch " ++ choice_text switch off on,
   switch_node_parts k switch off
@@ -140,7 +142,8 @@ module _ (d : Diagram) (station : IsStation d) (e : EquationLines) (formed : Are
 
   past : (ls : List (List ℕ)) (tail : List ℕ) (x : Entry) → ((l : List ℕ) → Among l ls → IsPlain l) → IsSmall x
       → IsDefined (text_of ls ++ tail) x → IsThere x ⊎ IsDefined tail x
-  past ls tail x plain small has = elim (among_or_later ls tail (head_of x) (λ l a. (plain l a).lacks) (head_lacks x small)
+  past ls tail x plain small has =
+      elim (among_or_later ls tail (head_of x) (λ l a. (plain l a).lacks) (head_lacks x small)
       has) [
         | inl found ↦ inl ((plain found.0 found.2).told x found.1 small found.3)
         | inr later ↦ inr later
@@ -246,7 +249,8 @@ module _ (d : Diagram) (station : IsStation d) (e : EquationLines) (formed : Are
       let number : f.place ≡ 0 + f.place = omega arith in
       let line : node_line f.place f.entry ≡ l = ap (λ k. node_line k f.entry) number ∙ same in
       subst IsPlain line (record {
-        lacks = node_lacks f.place f.entry (omega (arith, node_small f.place f.entry f.at)) (writable (length d.switches)
+        lacks =
+            node_lacks f.place f.entry (omega (arith, node_small f.place f.entry f.at)) (writable (length d.switches)
             f.place (map index_count e.parts) f.entry few_switches few_counts (formed.nodes.each f.place f.entry f.at));
         told = λ x more small begins. node_told f.place f.entry x more f.at small begins;
       })
@@ -383,7 +387,8 @@ module _ (d : Diagram) (station : IsStation d) (e : EquationLines) (formed : Are
         let on_may = any_target k s.on may.fits.on in (
           target_there (length x.steps) s.off off_may (λ m named.
               let small = small_target s.off m off_may named in
-              step_there p m x (step_line p k s) at small lacks (step_stands p k x s at at_step) (off_names p k m s named
+              step_there p m x (step_line p k s) at small lacks (step_stands p k x s at at_step)
+              (off_names p k m s named
               number count switch small)),
           target_there (length x.steps) s.on on_may (λ m named.
               let small = small_target s.on m on_may named in

@@ -36,5 +36,7 @@ pub record StandApart (j : Judging) (n : ℕ) (ops : List SwitchGoals) (nodes : 
   pub climbs : (m : ℕ) → m < n → starts m ≤ starts (suc m)
   pub few : (m : ℕ) → m < n → starts (suc m) ≤ starts m + switch_nodes j m
   pub graphs : (m : ℕ) → m < n → AreBayGraphs (ground j) (bay_of j.diagram m) (bay_at j (bay_of j.diagram m))
-  pub goals : (m : ℕ) (x : SwitchGoals) → slice_get ops m ≡ Some x → BothFrom (starts m) x × SwitchGoalsFit (starts (suc m)) x
-  pub closed : (m k : ℕ) (x : NodeLine) → m < n → starts m ≤ k → k < starts (suc m) → slice_get nodes k ≡ Some x → AreFrom (starts m) (goals_of x)
+  pub goals : (m : ℕ) (x : SwitchGoals) → slice_get ops m ≡ Some x →
+      BothFrom (starts m) x × SwitchGoalsFit (starts (suc m)) x
+  pub closed : (m k : ℕ) (x : NodeLine) → m < n → starts m ≤ k → k < starts (suc m) → slice_get nodes k ≡ Some x →
+      AreFrom (starts m) (goals_of x)

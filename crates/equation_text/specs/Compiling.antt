@@ -30,7 +30,9 @@ use Rattle.equation_text.specs.Growing.{AllGrew, LeadsToEnd}
 
 -- The meaning of the lines is what the rules say, for every operation and vector of the station.
 abbrev pub AreExact : Diagram → EquationLines → Type 0
-AreExact d e = (op : Op) (v : List Bool) (answer : Option Rule) → IsOperation d op → IsVector d v → Means e op v answer ↔ Breaks d v op answer
+AreExact d e =
+    (op : Op) (v : List Bool) (answer : Option Rule) → IsOperation d op → IsVector d v → Means e op v answer ↔
+    Breaks d v op answer
 
 -- The step is that of this number in the part's decision diagram.
 pub record IsPartStep (a : Alphabets) (part m : ℕ) (s : PartStep) : Type 0 where
@@ -85,19 +87,24 @@ switch_nodes j m =
     view_nodes bay bay.load m + view_nodes bay bay.gap m
 
 -- In v the goal leads to the goal of a label that says what holds of switch m.
-pub record ViewLeads (view : View) (d : Diagram) (parts : List PartLines) (nodes : List NodeLine) (v : List Bool) (m : ℕ) (goal : Goal) (ends : List Goal) : Type 0 where
+pub record ViewLeads (view : View) (d : Diagram) (parts : List PartLines) (nodes : List NodeLine) (v : List Bool)
+    (m : ℕ) (goal : Goal) (ends : List Goal) : Type 0 where
   pub label : ℕ
   pub says : Says view d m v label
   pub leads : LeadsToEnd parts nodes v goal ends label
 
 -- In v the goals of the switch lead to the answers of the rules.
-pub record SwitchIsExact (d : Diagram) (parts : List PartLines) (nodes : List NodeLine) (goals : SwitchGoals) (switch : ℕ) (v : List Bool) : Type 0 where
-  pub answer : (op : Op) → op.switch.0 ≡ switch → (a : Option Rule) × Breaks d v op a × Leads (NextGoal parts nodes v) (goal_towards goals op.direction) (Answer a)
+pub record SwitchIsExact (d : Diagram) (parts : List PartLines) (nodes : List NodeLine) (goals : SwitchGoals)
+    (switch : ℕ) (v : List Bool) : Type 0 where
+  pub answer : (op : Op) → op.switch.0 ≡ switch →
+      (a : Option Rule) × Breaks d v op a × Leads (NextGoal parts nodes v) (goal_towards goals op.direction) (Answer a)
 
 -- The goals are those of the first n switches, and lead through these nodes to the answers of the rules.
-pub record AreGoalsOf (d : Diagram) (parts : List PartLines) (nodes : List NodeLine) (n : ℕ) (ops : List SwitchGoals) : Type 0 where
+pub record AreGoalsOf (d : Diagram) (parts : List PartLines) (nodes : List NodeLine) (n : ℕ)
+    (ops : List SwitchGoals) : Type 0 where
   pub count : length ops ≡ n
-  pub exact : (switch : ℕ) (goals : SwitchGoals) (v : List Bool) → slice_get ops switch ≡ Some goals → IsVector d v → SwitchIsExact d parts nodes goals switch v
+  pub exact : (switch : ℕ) (goals : SwitchGoals) (v : List Bool) → slice_get ops switch ≡ Some goals → IsVector d v →
+      SwitchIsExact d parts nodes goals switch v
   pub fit : OpsFit (length nodes) ops
   pub grew : AllGrew (length d.switches) parts nodes
 

@@ -83,7 +83,8 @@ PartsFit switches parts = (part : ℕ) (x : PartLines) → slice_get parts part 
 
 -- Each node's line fits.
 abbrev pub NodesFit : ℕ → List PartLines → List NodeLine → Type 0
-NodesFit switches parts nodes = (n : ℕ) (x : NodeLine) → slice_get nodes n ≡ Some x → NodeLineFits switches parts (length nodes) n x
+NodesFit switches parts nodes =
+    (n : ℕ) (x : NodeLine) → slice_get nodes n ≡ Some x → NodeLineFits switches parts (length nodes) n x
 
 -- Each switch's goals are nodes or answers.
 abbrev pub OpsFit : ℕ → List SwitchGoals → Type 0
@@ -102,4 +103,5 @@ pub record AreEquations (d : Diagram) (e : EquationLines) : Type 0 where
   pub whole : AreWhole e
   pub parts : length e.parts ≡ part_count d
   pub ops : length e.ops ≡ length d.switches
-  pub own : (part m : ℕ) (x : PartLines) (s : PartStep) → slice_get e.parts part ≡ Some x → slice_get x.steps m ≡ Some s → OfPart d part (a_switch s.switch.0)
+  pub own : (part m : ℕ) (x : PartLines) (s : PartStep) → slice_get e.parts part ≡ Some x →
+      slice_get x.steps m ≡ Some s → OfPart d part (a_switch s.switch.0)

@@ -46,16 +46,22 @@ part_line p x = codes "part" ++ then_number p ++ then_word (target_text x.start)
 
 -- `step P M S A B`.
 abbrev pub step_line : ℕ → ℕ → PartStep → List ℕ
-step_line p m s = codes "step" ++ then_number p ++ then_number m ++ then_number s.switch.0 ++ then_word (target_text s.off) ++ then_word (target_text s.on)
+step_line p m s =
+    codes "step" ++ then_number p ++ then_number m ++ then_number s.switch.0 ++ then_word (target_text s.off)
+    ++ then_word (target_text s.on)
 
 -- `op S open T` or `op S close T`.
 abbrev pub op_line : Direction → ℕ → SwitchGoals → List ℕ
-op_line direction s x = codes "op" ++ then_number s ++ then_word (direction_name direction) ++ then_word (goal_text (goal_towards x direction))
+op_line direction s x =
+    codes "op" ++ then_number s ++ then_word (direction_name direction)
+    ++ then_word (goal_text (goal_towards x direction))
 
 -- What a node leads on by, and its goals: `part P` and a goal for each index, or `switch S A B`.
 abbrev pub lead_text : NodeLine → List ℕ
-lead_text (part_node part goals) = codes " part" ++ then_number part ++ flat_map (λ (g : Goal). then_word (goal_text g)) goals
-lead_text (switch_node switch off on) = codes " switch" ++ then_number switch ++ then_word (goal_text off) ++ then_word (goal_text on)
+lead_text (part_node part goals) =
+    codes " part" ++ then_number part ++ flat_map (λ (g : Goal). then_word (goal_text g)) goals
+lead_text (switch_node switch off on) =
+    codes " switch" ++ then_number switch ++ then_word (goal_text off) ++ then_word (goal_text on)
 
 -- `node N part P` and so on, or `node N switch S A B`.
 abbrev pub node_line : ℕ → NodeLine → List ℕ

@@ -30,15 +30,19 @@ AllGrew switches parts nodes = (n : ℕ) (x : NodeLine) → slice_get nodes n �
 
 -- The layers from one on have a choice for each choice of what they look at.
 abbrev pub LayersHaveChoices : ℕ → List PartLines → Subjects → Layered → ℕ → Type 0
-LayersHaveChoices switches parts subjects g from = (j : ℕ) → from ≤ j → j < length g.layers → HasChoices switches parts (subject_at subjects j) (layer_at g.layers j).choices
+LayersHaveChoices switches parts subjects g from =
+    (j : ℕ) → from ≤ j → j < length g.layers →
+    HasChoices switches parts (subject_at subjects j) (layer_at g.layers j).choices
 
 -- The edges of node k of layer j lead to these goals, where `next` has a goal for each place behind the layer.
 pub record IsRow (g : Layered) (j k : ℕ) (next goals : List Goal) : Type 0 where
   pub count : length goals ≡ (layer_at g.layers j).choices
-  pub each : (c : ℕ) (goal : Goal) → slice_get goals c ≡ Some goal → slice_get next (step (layer_at g.layers j) k c) ≡ Some goal
+  pub each : (c : ℕ) (goal : Goal) → slice_get goals c ≡ Some goal →
+      slice_get next (step (layer_at g.layers j) k c) ≡ Some goal
 
 -- In v the goal leads on to the last of these goals that has this place.
-pub record LeadsToEnd (parts : List PartLines) (nodes : List NodeLine) (v : List Bool) (goal : Goal) (ends : List Goal) (place : ℕ) : Type 0 where
+pub record LeadsToEnd (parts : List PartLines) (nodes : List NodeLine) (v : List Bool) (goal : Goal) (ends : List Goal)
+    (place : ℕ) : Type 0 where
   pub end : Goal
   pub listed : slice_get ends place ≡ Some end
   pub leads : Leads (NextGoal parts nodes v) goal end
@@ -47,13 +51,15 @@ pub record LeadsToEnd (parts : List PartLines) (nodes : List NodeLine) (v : List
 -- choice leads.
 abbrev pub LayerLeads : List NodeLine → Subject → Layer → List Goal → List Goal → Type 0
 LayerLeads nodes subject l next goals =
-    (parts : List PartLines) (v : List Bool) (k c : ℕ) (goal : Goal) → slice_get goals k ≡ Some goal → IsChosen parts v subject c → c < l.choices
+    (parts : List PartLines) (v : List Bool) (k c : ℕ) (goal : Goal) → slice_get goals k ≡ Some goal →
+    IsChosen parts v subject c → c < l.choices
     → LeadsToEnd parts nodes v goal next (step l k c)
 
 -- In each vector the goals of the nodes of layer j lead to the goals of the labels to which the choices lead.
 abbrev pub AllLead : List NodeLine → Subjects → Layered → ℕ → List Goal → List Goal → Type 0
 AllLead nodes subjects g j goals ends =
-    (parts : List PartLines) (v : List Bool) (k : ℕ) (goal : Goal) (cs : List ℕ) → slice_get goals k ≡ Some goal → j + length cs ≡ length g.layers → AreChosenFrom parts v subjects g j cs
+    (parts : List PartLines) (v : List Bool) (k : ℕ) (goal : Goal) (cs : List ℕ) → slice_get goals k ≡ Some goal →
+    j + length cs ≡ length g.layers → AreChosenFrom parts v subjects g j cs
     → LeadsToEnd parts nodes v goal ends (leads (drop j g.layers) k cs)
 
 -- The goals that stand for a place of nodes counted from the other end.
@@ -73,4 +79,5 @@ turned_goals total x = record { opening = turned_goal total x.opening; closing =
 -- The second nodes are the first ones from the last to the first, with their goals turned.
 pub record IsTurned (nodes turned : List NodeLine) : Type 0 where
   pub count : length turned ≡ length nodes
-  pub each : (n : ℕ) (x : NodeLine) → slice_get nodes n ≡ Some x → slice_get turned (length nodes - suc n) ≡ Some (turned_line (length nodes) x)
+  pub each : (n : ℕ) (x : NodeLine) → slice_get nodes n ≡ Some x →
+      slice_get turned (length nodes - suc n) ≡ Some (turned_line (length nodes) x)

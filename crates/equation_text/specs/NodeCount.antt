@@ -47,4 +47,5 @@ AreAtMost most P = (ns : List ℕ) → NoneTwice ns → ((i n : ℕ) → slice_g
 -- as its inner graphs have.
 abbrev pub HaveFewNodes : Diagram → EquationLines → Type 0
 HaveFewNodes d e = (b edges : ℕ) → (has : BayHas d b (AreSoMany d) edges) →
-    AreAtMost (2 * (has.count * (has.gap.outer_edges + has.load.outer_edges)) + (has.gap.inner_edges + has.load.inner_edges)) (IsNodeOf d e b)
+    AreAtMost (2 * (has.count * (has.gap.outer_edges + has.load.outer_edges))
+    + (has.gap.inner_edges + has.load.inner_edges)) (IsNodeOf d e b)

@@ -40,7 +40,8 @@ IsChosen parts v (Switch s) c = IsPositionOf v s.0 c
 abbrev pub AreChosenFrom : List PartLines → List Bool → Subjects → Layered → ℕ → List ℕ → Type 0
 AreChosenFrom parts v subjects g j [] = Unit {0}
 AreChosenFrom parts v subjects g j (c ∷ cs) =
-    IsChosen parts v (subject_at subjects j) c × (c < (layer_at g.layers j).choices) × AreChosenFrom parts v subjects g (suc j) cs
+    IsChosen parts v (subject_at subjects j) c × (c < (layer_at g.layers j).choices)
+    × AreChosenFrom parts v subjects g (suc j) cs
 
 -- A part has so many indices in its lines.
 pub record HasIndices (parts : List PartLines) (part n : ℕ) : Type 0 where

@@ -1,5 +1,6 @@
 //! The equations of a station's judge.
-ghost use Rattle.std.specs.Prelude.{◌≡◌, ◌<◌, ◌≤◌, ◌+◌, ◌∷◌, [], ℕ, Bool, List, length, slice_get, Some, None, IfOk, OnOk};
+ghost use Rattle.std.specs.Prelude.{◌≡◌, ◌<◌, ◌≤◌, ◌+◌, ◌∷◌, [], ℕ, Bool, List, length, slice_get, Some, None, IfOk};
+ghost use Rattle.std.specs.Prelude.{OnOk};
 ghost use Rattle.ilk_base.specs.declared.words.Rule.TheVariants.{R1, R2, R3};
 ghost use Rattle.station_graph.specs.Alike.{IsVector};
 ghost use Rattle.release_compile.specs.declared.view.View.TheVariants.{Gap, Load};
@@ -13,7 +14,8 @@ ghost use Rattle.equation_text.specs.Growing.{Extends, AllGrew};
 ghost use Rattle.equation_text.specs.Apart.{IsFrom, BothFrom, AllFrom, StandApart};
 ghost use Rattle.equation_text.specs.NodeCount.{HaveFewNodes};
 ghost use Rattle.equation_text.specs.CompileText.{IsCompileText};
-ghost use Rattle.equation_text.specs.Compiling.{AreExact, AreExactParts, IsOwnBay, ViewLeads, SwitchIsExact, AreGoalsOf, HaveFewSteps, view_nodes, switch_nodes};
+ghost use Rattle.equation_text.specs.Compiling.{AreExact, AreExactParts, IsOwnBay, ViewLeads, SwitchIsExact};
+ghost use Rattle.equation_text.specs.Compiling.{AreGoalsOf, HaveFewSteps, view_nodes, switch_nodes};
 
 use crate::equations::Equations;
 use crate::goal::{Goal, SwitchGoals};
@@ -77,16 +79,21 @@ fn load_goal(
 ) -> Result<Goal, Memory>
     requires { IsOwnBay judge.now.diagram id.0 own.bay.0 own.first.0 own.count }
     ensures extends { OnOk result (Extends nodes.old.items nodes.new.items) }
-    ensures leads { IfOk result (λ goal. (parts : List PartLines) (v : List Bool) → AreExactParts judge.now.diagram judge.now.alphabets parts
-        → IsVector judge.now.diagram v → ViewLeads Load judge.now.diagram parts nodes.new.items v id.0 goal (Answer None ∷ Answer (Some R3) ∷ [])) }
-    ensures grew { IfOk result (λ goal. (parts : List PartLines) → AreExactParts judge.now.diagram judge.now.alphabets parts
+    ensures leads { IfOk result (λ goal. (parts : List PartLines) (v : List Bool) →
+        AreExactParts judge.now.diagram judge.now.alphabets parts
+        → IsVector judge.now.diagram v →
+        ViewLeads Load judge.now.diagram parts nodes.new.items v id.0 goal (Answer None ∷ Answer (Some R3) ∷ [])) }
+    ensures grew { IfOk result (λ goal. (parts : List PartLines) →
+        AreExactParts judge.now.diagram judge.now.alphabets parts
         → AllGrew (length judge.now.diagram.switches) parts nodes.old.items
         → AllGrew (length judge.now.diagram.switches) parts nodes.new.items × IsGoal (length nodes.new.items) goal) }
     ensures apart { IfOk result (λ goal. (lo : ℕ) → lo ≤ length nodes.old.items → AllFrom lo nodes.old.items
         → AllFrom lo nodes.new.items × IsFrom lo goal) }
     ensures few { OnOk result (length nodes.new.items ≤ length nodes.old.items
-        + view_nodes (bay_at judge.now (bay_of judge.now.diagram id.0)) (bay_at judge.now (bay_of judge.now.diagram id.0)).load id.0) }
-    ensures graphs { IfOk result (λ _. AreBayGraphs (ground judge.now) (bay_of judge.now.diagram id.0) (bay_at judge.now (bay_of judge.now.diagram id.0))) }
+        + view_nodes (bay_at judge.now (bay_of judge.now.diagram id.0))
+        (bay_at judge.now (bay_of judge.now.diagram id.0)).load id.0) }
+    ensures graphs { IfOk result (λ _. AreBayGraphs (ground judge.now) (bay_of judge.now.diagram id.0)
+        (bay_at judge.now (bay_of judge.now.diagram id.0))) }
 {
     let ends = load_ends(alloc)?;
     let _alphabets = judge.parts();
@@ -113,15 +120,21 @@ fn gap_goal(
 ) -> Result<Goal, Memory>
     requires { IsOwnBay judge.now.diagram id.0 own.bay.0 own.first.0 own.count }
     ensures extends { OnOk result (Extends nodes.old.items nodes.new.items) }
-    ensures leads { IfOk result (λ goal. (parts : List PartLines) (v : List Bool) → AreExactParts judge.now.diagram judge.now.alphabets parts
-        → IsVector judge.now.diagram v → ViewLeads Gap judge.now.diagram parts nodes.new.items v id.0 goal (free ∷ Answer (Some R1) ∷ Answer (Some R2) ∷ [])) }
-    ensures grew { IfOk result (λ goal. (parts : List PartLines) → AreExactParts judge.now.diagram judge.now.alphabets parts
+    ensures leads { IfOk result (λ goal. (parts : List PartLines) (v : List Bool) →
+        AreExactParts judge.now.diagram judge.now.alphabets parts
+        → IsVector judge.now.diagram v →
+        ViewLeads Gap judge.now.diagram parts nodes.new.items v id.0 goal
+        (free ∷ Answer (Some R1) ∷ Answer (Some R2) ∷ [])) }
+    ensures grew { IfOk result (λ goal. (parts : List PartLines) →
+        AreExactParts judge.now.diagram judge.now.alphabets parts
         → IsGoal (length nodes.old.items) free → AllGrew (length judge.now.diagram.switches) parts nodes.old.items
         → AllGrew (length judge.now.diagram.switches) parts nodes.new.items × IsGoal (length nodes.new.items) goal) }
-    ensures apart { IfOk result (λ goal. (lo : ℕ) → lo ≤ length nodes.old.items → IsFrom lo free → AllFrom lo nodes.old.items
+    ensures apart { IfOk result (λ goal. (lo : ℕ) → lo ≤ length nodes.old.items → IsFrom lo free →
+        AllFrom lo nodes.old.items
         → AllFrom lo nodes.new.items × IsFrom lo goal) }
     ensures few { OnOk result (length nodes.new.items ≤ length nodes.old.items
-        + view_nodes (bay_at judge.now (bay_of judge.now.diagram id.0)) (bay_at judge.now (bay_of judge.now.diagram id.0)).gap id.0) }
+        + view_nodes (bay_at judge.now (bay_of judge.now.diagram id.0))
+        (bay_at judge.now (bay_of judge.now.diagram id.0)).gap id.0) }
 {
     let ends = gap_ends(alloc, free)?;
     let _alphabets = judge.parts();
@@ -146,14 +159,19 @@ fn switch_goals(
 ) -> Result<SwitchGoals, Memory>
     requires { id.0 < length judge.now.diagram.switches }
     ensures extends { OnOk result (Extends nodes.old.items nodes.new.items) }
-    ensures exact { IfOk result (λ goals. (parts : List PartLines) (v : List Bool) → AreExactParts judge.now.diagram judge.now.alphabets parts
+    ensures exact { IfOk result (λ goals. (parts : List PartLines) (v : List Bool) →
+        AreExactParts judge.now.diagram judge.now.alphabets parts
         → IsVector judge.now.diagram v → SwitchIsExact judge.now.diagram parts nodes.new.items goals id.0 v) }
-    ensures grew { IfOk result (λ goals. (parts : List PartLines) → AreExactParts judge.now.diagram judge.now.alphabets parts
+    ensures grew { IfOk result (λ goals. (parts : List PartLines) →
+        AreExactParts judge.now.diagram judge.now.alphabets parts
         → AllGrew (length judge.now.diagram.switches) parts nodes.old.items
-        → AllGrew (length judge.now.diagram.switches) parts nodes.new.items × SwitchGoalsFit (length nodes.new.items) goals) }
-    ensures apart { IfOk result (λ goals. AllFrom (length nodes.old.items) nodes.new.items × BothFrom (length nodes.old.items) goals) }
+        → AllGrew (length judge.now.diagram.switches) parts nodes.new.items
+        × SwitchGoalsFit (length nodes.new.items) goals) }
+    ensures apart { IfOk result (λ goals. AllFrom (length nodes.old.items) nodes.new.items
+        × BothFrom (length nodes.old.items) goals) }
     ensures few { OnOk result (length nodes.new.items ≤ length nodes.old.items + switch_nodes judge.now id.0) }
-    ensures graphs { IfOk result (λ _. AreBayGraphs (ground judge.now) (bay_of judge.now.diagram id.0) (bay_at judge.now (bay_of judge.now.diagram id.0))) }
+    ensures graphs { IfOk result (λ _. AreBayGraphs (ground judge.now) (bay_of judge.now.diagram id.0)
+        (bay_at judge.now (bay_of judge.now.diagram id.0))) }
 {
     let own = own_bay(judge, id);
     let opening = load_goal(alloc, judge, nodes, id, own)?;
@@ -168,9 +186,11 @@ fn all_goals(
     nodes: &mut Vec<Node>,
 ) -> Result<Vec<SwitchGoals>, Memory>
     requires { nodes.old.items ≡ [] }
-    ensures goals { IfOk result (λ ops. (parts : List PartLines) → AreExactParts judge.now.diagram judge.now.alphabets parts
+    ensures goals { IfOk result (λ ops. (parts : List PartLines) →
+        AreExactParts judge.now.diagram judge.now.alphabets parts
         → AreGoalsOf judge.now.diagram parts nodes.new.items (length judge.now.diagram.switches) ops.items) }
-    ensures apart { IfOk result (λ ops. (parts : List PartLines) → AreExactParts judge.now.diagram judge.now.alphabets parts
+    ensures apart { IfOk result (λ ops. (parts : List PartLines) →
+        AreExactParts judge.now.diagram judge.now.alphabets parts
         → StandApart judge.now (length judge.now.diagram.switches) ops.items nodes.new.items) }
 {
     let station = judge.station();

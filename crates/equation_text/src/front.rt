@@ -59,7 +59,8 @@ pub(crate) fn read_front(
     station: &Station,
 ) -> Result<bool, Memory>
     ensures front { IfOk result (λ b. IsTrue b → left.old.text.now ≡ front_text station.now ++ left.new.text.now) }
-    ensures stops { IfOk result (λ b. IsFalse b → StopsIn (front_text station.now) left.old.text.now left.new.text.now) }
+    ensures stops { IfOk result (λ b. IsFalse b →
+        StopsIn (front_text station.now) left.old.text.now left.new.text.now) }
 {
     let front = front_of(alloc, station)?;
     Ok(pass_lines(left, front.bytes()))

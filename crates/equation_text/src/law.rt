@@ -14,6 +14,7 @@ ghost use Rattle.equation_text.specs.Compiling.{AreExact};
 /// operation and vector the answer that the rules give. It does nothing and costs nothing: a caller cites its
 /// contract.
 pub fn text_means_the_answer()
-    ensures { (d : Diagram) (e : EquationLines) (op : Op) (v : List Bool) (answer : Option Rule) → AreEquations d e → AreExact d e
+    ensures { (d : Diagram) (e : EquationLines) (op : Op) (v : List Bool) (answer : Option Rule) → AreEquations d e →
+        AreExact d e
         → IsOperation d op → IsVector d v → Breaks d v op answer → TextMeans d (text_of (lines_of d e)) op v answer }
 {}

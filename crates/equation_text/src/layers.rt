@@ -1,5 +1,6 @@
 //! Graphs as nodes of equations, from the last layer to the first.
-ghost use Rattle.std.specs.Prelude.{◌≡◌, ◌<◌, ◌≤◌, ◌+◌, ◌-◌, ◌∷◌, ℕ, Bool, List, suc, length, slice_get, Some, IfOk, OnOk};
+ghost use Rattle.std.specs.Prelude.{◌≡◌, ◌<◌, ◌≤◌, ◌+◌, ◌-◌, ◌∷◌, ℕ, Bool, List, suc, length, slice_get, Some, IfOk};
+ghost use Rattle.std.specs.Prelude.{OnOk};
 ghost use Rattle.decision_graphs.specs.Label.{layer_at, size_at, first_at, step, label_of};
 ghost use Rattle.decision_graphs.specs.Reaching.{node_total};
 ghost use Rattle.release_compile.specs.Chaining.{AreInARow};
@@ -7,7 +8,8 @@ ghost use Rattle.equation_text.specs.declared.goal.Goal.{Goal as GoalOf};
 ghost use Rattle.equation_text.specs.EquationLines.{PartLines};
 ghost use Rattle.equation_text.specs.EquationForm.{IsGoal};
 ghost use Rattle.equation_text.specs.Subjects.{IsRowFor, IsChosen, HasChoices, AreChosenFrom, LayersLook};
-ghost use Rattle.equation_text.specs.Growing.{Extends, AreGoals, AllGrew, LayersHaveChoices, LayerLeads, LeadsToEnd, AllLead};
+ghost use Rattle.equation_text.specs.Growing.{Extends, AreGoals, AllGrew, LayersHaveChoices, LayerLeads, LeadsToEnd};
+ghost use Rattle.equation_text.specs.Growing.{AllLead};
 ghost use Rattle.equation_text.specs.Apart.{IsFrom, AreFrom, AllFrom};
 ghost use Rattle.equation_text.specs.Compiling.{inner_total};
 
@@ -33,13 +35,17 @@ fn layer_goals(
     requires row { IsRowFor subject (layer_at graph.now.layers layer).choices }
     ensures extends { OnOk result (Extends nodes.old.items nodes.new.items) }
     ensures count { IfOk result (λ v. length v.items ≡ length (layer_at graph.now.layers layer).rows) }
-    ensures leads { IfOk result (λ v. LayerLeads nodes.new.items subject (layer_at graph.now.layers layer) next.now v.items) }
-    ensures grew { IfOk result (λ v. (switches : ℕ) (parts : List PartLines) → HasChoices switches parts subject (layer_at graph.now.layers layer).choices
+    ensures leads { IfOk result (λ v. LayerLeads nodes.new.items subject (layer_at graph.now.layers layer)
+        next.now v.items) }
+    ensures grew { IfOk result (λ v. (switches : ℕ) (parts : List PartLines) →
+        HasChoices switches parts subject (layer_at graph.now.layers layer).choices
         → AreGoals (length nodes.old.items) next.now → AllGrew switches parts nodes.old.items
         → AllGrew switches parts nodes.new.items × AreGoals (length nodes.new.items) v.items) }
-    ensures apart { IfOk result (λ v. (lo : ℕ) → lo ≤ length nodes.old.items → AreFrom lo next.now → AllFrom lo nodes.old.items
+    ensures apart { IfOk result (λ v. (lo : ℕ) → lo ≤ length nodes.old.items → AreFrom lo next.now →
+        AllFrom lo nodes.old.items
         → AllFrom lo nodes.new.items × AreFrom lo v.items) }
-    ensures few { OnOk result (length nodes.new.items ≤ length nodes.old.items + length (layer_at graph.now.layers layer).rows) }
+    ensures few { OnOk result (length nodes.new.items
+        ≤ length nodes.old.items + length (layer_at graph.now.layers layer).rows) }
 {
     let (_, count) = graph.nodes(layer);
     let mut goals = Vec::new(alloc);
@@ -66,12 +72,15 @@ fn graph_goals(
     ensures extends { OnOk result (Extends nodes.old.items nodes.new.items) }
     ensures count { IfOk result (λ v. length v.items ≡ size_at graph.now.labels graph.now.layers from) }
     ensures leads { IfOk result (λ v. AllLead nodes.new.items subjects graph.now from v.items ends.items) }
-    ensures grew { IfOk result (λ v. (switches : ℕ) (parts : List PartLines) → LayersHaveChoices switches parts subjects graph.now from
+    ensures grew { IfOk result (λ v. (switches : ℕ) (parts : List PartLines) →
+        LayersHaveChoices switches parts subjects graph.now from
         → AreGoals (length nodes.old.items) ends.items → AllGrew switches parts nodes.old.items
         → AllGrew switches parts nodes.new.items × AreGoals (length nodes.new.items) v.items) }
-    ensures apart { IfOk result (λ v. (lo : ℕ) → lo ≤ length nodes.old.items → AreFrom lo ends.items → AllFrom lo nodes.old.items
+    ensures apart { IfOk result (λ v. (lo : ℕ) → lo ≤ length nodes.old.items → AreFrom lo ends.items →
+        AllFrom lo nodes.old.items
         → AllFrom lo nodes.new.items × AreFrom lo v.items) }
-    ensures few { OnOk result (length nodes.new.items + first_at graph.now.layers from ≤ length nodes.old.items + node_total graph.now) }
+    ensures few { OnOk result (length nodes.new.items + first_at graph.now.layers from
+        ≤ length nodes.old.items + node_total graph.now) }
 {
     let mut layer = graph.layers();
     let mut goals = ends;
@@ -108,9 +117,11 @@ pub(crate) fn view_goal(
         → LayersHaveChoices switches parts others outer.now 0 → LayersHaveChoices switches parts own inner.now 1
         → AreGoals (length nodes.old.items) ends.items → AllGrew switches parts nodes.old.items
         → AllGrew switches parts nodes.new.items × IsGoal (length nodes.new.items) goal) }
-    ensures apart { IfOk result (λ goal. (lo : ℕ) → lo ≤ length nodes.old.items → AreFrom lo ends.items → AllFrom lo nodes.old.items
+    ensures apart { IfOk result (λ goal. (lo : ℕ) → lo ≤ length nodes.old.items → AreFrom lo ends.items →
+        AllFrom lo nodes.old.items
         → AllFrom lo nodes.new.items × IsFrom lo goal) }
-    ensures few { OnOk result (length nodes.new.items ≤ length nodes.old.items + (inner_total inner.now + node_total outer.now)) }
+    ensures few { OnOk result (length nodes.new.items
+        ≤ length nodes.old.items + (inner_total inner.now + node_total outer.now)) }
 {
     let _fits = inner.labels();
     let _outer_fits = outer.labels();

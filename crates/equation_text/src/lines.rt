@@ -20,7 +20,8 @@ use text_lines::decimal_number;
 
 // Where the steps of the part begin, by its line.
 pub(crate) fn read_part(line: &[u8], part: u32) -> Option<Target>
-    ensures some { IfSome result (λ t. IsTarget NUMBERS t × ((x : PartLines) → x.start ≡ t → line.now ≡ part_line part x)) }
+    ensures some { IfSome result (λ t. IsTarget NUMBERS t
+        × ((x : PartLines) → x.start ≡ t → line.now ≡ part_line part x)) }
     ensures none { IfNone result ((x : PartLines) → IsTarget NUMBERS x.start → line.now ≢ part_line part x) }
 {
     let Some(word) = behind_number(line, b"part ", part) else {
@@ -111,8 +112,10 @@ pub(crate) fn read_step(station: &Station, line: &[u8], part: BayId, m: u32) -> 
 
 // The goal of an operation, by its line.
 pub(crate) fn read_op(line: &[u8], switch: u32, direction: Direction) -> Option<Goal>
-    ensures some { IfSome result (λ g. IsGoal NUMBERS g × ((x : GoalsOf) → goal_towards x direction ≡ g → line.now ≡ op_line direction switch x)) }
-    ensures none { IfNone result ((x : GoalsOf) → IsGoal NUMBERS (goal_towards x direction) → line.now ≢ op_line direction switch x) }
+    ensures some { IfSome result (λ g. IsGoal NUMBERS g
+        × ((x : GoalsOf) → goal_towards x direction ≡ g → line.now ≡ op_line direction switch x)) }
+    ensures none { IfNone result ((x : GoalsOf) → IsGoal NUMBERS (goal_towards x direction) →
+        line.now ≢ op_line direction switch x) }
 {
     let Some(rest) = behind_number(line, b"op ", switch) else {
         return None;

@@ -1,5 +1,6 @@
 //! What the line of a node says.
-ghost use Rattle.std.specs.Prelude.{◌≡◌, ◌≢◌, ◌≤◌, ◌↔◌, List, length, slice_get, Some, IfOk, IfSome, IfNone, IsTrue, MatchOption};
+ghost use Rattle.std.specs.Prelude.{◌≡◌, ◌≢◌, ◌≤◌, ◌↔◌, List, length, slice_get, Some, IfOk, IfSome, IfNone, IsTrue};
+ghost use Rattle.std.specs.Prelude.{MatchOption};
 ghost use Rattle.equation_text.specs.declared.goal.Goal.{Goal as GoalOf};
 ghost use Rattle.equation_text.specs.declared.goal.TheConstants.{NUMBERS};
 ghost use Rattle.equation_text.specs.EquationLines.{NodeLine};
@@ -28,7 +29,8 @@ fn later_goal(word: &[u8], n: u32) -> Option<Goal>
 
 // The goals of node n, each after a blank.
 fn read_goals(alloc: Global, words: &[u8], n: u32) -> Result<Option<Vec<Goal>>, Memory>
-    ensures { IfOk result (λ o. MatchOption o ((gs : List GoalOf) → AreLaterGoals NUMBERS n gs → words.now ≢ goals_text gs)
+    ensures { IfOk result (λ o. MatchOption o
+        ((gs : List GoalOf) → AreLaterGoals NUMBERS n gs → words.now ≢ goals_text gs)
         (λ v. AreLaterGoals NUMBERS n v.items × (words.now ≡ goals_text v.items))) }
 {
     let mut left = words;

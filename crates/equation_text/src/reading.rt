@@ -1,5 +1,6 @@
 //! The lines of a text, read group by group.
-ghost use Rattle.std.specs.Prelude.{◌≡◌, ◌≢◌, ◌<◌, ◌≤◌, ◌++◌, ◌∷◌, [], List, ℕ, codes, length, slice_get, Some, IfOk, IfSome, IfNone, OnOk, MatchOption};
+ghost use Rattle.std.specs.Prelude.{◌≡◌, ◌≢◌, ◌<◌, ◌≤◌, ◌++◌, ◌∷◌, [], List, ℕ, codes, length, slice_get, Some, IfOk};
+ghost use Rattle.std.specs.Prelude.{IfSome, IfNone, OnOk, MatchOption};
 ghost use Rattle.ilk_base.specs.declared.words.Direction.TheVariants.{ToOff, ToOn};
 ghost use Rattle.station_graph.specs.Diagram.{part_count};
 ghost use Rattle.bay_contract.specs.declared.fork.Target.{Target as TargetOf};
@@ -10,7 +11,8 @@ ghost use Rattle.equation_text.specs.EquationForm.{IsGoal, SwitchGoalsFit};
 ghost use Rattle.equation_text.specs.EquationText.{step_line, op_line, text_of};
 ghost use Rattle.equation_text.specs.Beginnings.{MayBeStep};
 ghost use Rattle.equation_text.specs.Stops.{NoOp, StopsAtStart, StopsAtOp, StopsAtOps, StopsAtNode};
-ghost use Rattle.equation_text.specs.Reading.{start_lines, step_lines, op_lines, node_lines, MayBeStarts, MayBeSteps, NoStep, AreAllSteps, MayBeOps, MayBeNodes};
+ghost use Rattle.equation_text.specs.Reading.{start_lines, step_lines, op_lines, node_lines, MayBeStarts, MayBeSteps};
+ghost use Rattle.equation_text.specs.Reading.{NoStep, AreAllSteps, MayBeOps, MayBeNodes};
 
 use crate::goal::{Goal, SwitchGoals};
 use crate::lines::{read_op, read_part, read_step};
@@ -55,7 +57,8 @@ pub(crate) fn read_starts(
 
 // The next step of a part, if the next line is one.
 fn next_step(left: &mut Left<'_>, station: &Station, part: BayId, m: u32) -> Option<PartStep>
-    ensures some { IfSome result (λ s. MayBeStep station.now part.0 m s × (left.old.text.now ≡ step_line part.0 m s ++ 10 ∷ left.new.text.now)) }
+    ensures some { IfSome result (λ s. MayBeStep station.now part.0 m s
+        × (left.old.text.now ≡ step_line part.0 m s ++ 10 ∷ left.new.text.now)) }
     ensures none { IfNone result (NoStep station.now part.0 m left.old.text.now) }
     ensures same { IfNone result (left.new.text.now ≡ left.old.text.now) }
 {
@@ -103,7 +106,8 @@ fn start_at(starts: &[Target], part: u16) -> Target
 
 // Puts the lines of one more part last.
 fn keep(parts: &mut Vec<PartSteps>, start: Target, steps: Vec<PartStep>) -> Result<(), Memory>
-    ensures { IfOk result (λ _. parts.new.items ≡ parts.old.items ++ (record { start = start; steps = steps.items }) ∷ []) }
+    ensures { IfOk result (λ _. parts.new.items
+        ≡ parts.old.items ++ (record { start = start; steps = steps.items }) ∷ []) }
 {
     parts.push(PartSteps { start, steps })?;
     Ok(())
@@ -188,7 +192,8 @@ pub(crate) fn read_nodes(
 ) -> Result<Option<Vec<Node>>, Memory>
     requires { length counts.now ≤ 256 }
     ensures { IfOk result (λ o. MatchOption o (StopsAtNode switches counts.now left.old.text.now left.new.text.now)
-        (λ v. MayBeNodes switches counts.now v.items × (left.old.text.now ≡ text_of (node_lines v.items) ++ (codes "end\n" ++ left.new.text.now)))) }
+        (λ v. MayBeNodes switches counts.now v.items
+        × (left.old.text.now ≡ text_of (node_lines v.items) ++ (codes "end\n" ++ left.new.text.now)))) }
 {
     let mut nodes = Vec::new(alloc);
     loop {

@@ -1,5 +1,6 @@
 //! The goals of a graph's nodes.
-ghost use Rattle.std.specs.Prelude.{◌≡◌, ◌<◌, ◌≤◌, ◌+◌, ◌⊎◌, ℕ, Bool, List, suc, length, slice_get, Some, IfOk, IfSome, OnOk};
+ghost use Rattle.std.specs.Prelude.{◌≡◌, ◌<◌, ◌≤◌, ◌+◌, ◌⊎◌, ℕ, Bool, List, suc, length, slice_get, Some, IfOk, IfSome};
+ghost use Rattle.std.specs.Prelude.{OnOk};
 ghost use Rattle.decision_graphs.specs.Label.{layer_at, size_at, step};
 ghost use Rattle.equation_text.specs.declared.goal.Goal.{Goal as GoalOf};
 ghost use Rattle.equation_text.specs.EquationLines.{PartLines};
@@ -103,12 +104,15 @@ pub(crate) fn goal_by(
 ) -> Result<Goal, Memory>
     requires { IsRowFor subject (length goals.items) }
     ensures extends { OnOk result (Extends nodes.old.items nodes.new.items) }
-    ensures leads { IfOk result (λ goal. (parts : List PartLines) (v : List Bool) (c : ℕ) (g : GoalOf) → IsChosen parts v subject c
+    ensures leads { IfOk result (λ goal. (parts : List PartLines) (v : List Bool) (c : ℕ) (g : GoalOf) →
+        IsChosen parts v subject c
         → slice_get goals.items c ≡ Some g → (goal ≡ g) ⊎ NextGoal parts nodes.new.items v goal g) }
-    ensures grew { IfOk result (λ goal. (switches : ℕ) (parts : List PartLines) → HasChoices switches parts subject (length goals.items)
+    ensures grew { IfOk result (λ goal. (switches : ℕ) (parts : List PartLines) →
+        HasChoices switches parts subject (length goals.items)
         → AreGoals (length nodes.old.items) goals.items → AllGrew switches parts nodes.old.items
         → AllGrew switches parts nodes.new.items × IsGoal (length nodes.new.items) goal) }
-    ensures apart { IfOk result (λ goal. (lo : ℕ) → lo ≤ length nodes.old.items → AreFrom lo goals.items → AllFrom lo nodes.old.items
+    ensures apart { IfOk result (λ goal. (lo : ℕ) → lo ≤ length nodes.old.items → AreFrom lo goals.items →
+        AllFrom lo nodes.old.items
         → AllFrom lo nodes.new.items × IsFrom lo goal) }
     ensures few { OnOk result (length nodes.new.items ≤ length nodes.old.items + 1) }
 {

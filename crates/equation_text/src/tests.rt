@@ -110,7 +110,9 @@ const TEXTS: &[(Example, &[u8])] = &[
     (Example::Empty, b"equations\nend\n"),
     (
         Example::EarthedLine,
-        b"equations\nswitch 0 S/V1/Q1/QC9\nswitch 1 S/V1/Q1/E1\npart 0 0\nstep 0 0 0 1 2\nstep 0 1 1 =0 =0\nstep 0 2 1 =0 =0\nop 0 open ok\nop 0 close 1\nop 1 open ok\nop 1 close 0\nnode 0 switch 0 ok R2\nnode 1 switch 1 ok R1\nend\n",
+        b"equations\nswitch 0 S/V1/Q1/QC9\nswitch 1 S/V1/Q1/E1\npart 0 0\nstep 0 0 0 1 2\nstep 0 1 1 =0 =0\n\
+            step 0 2 1 =0 =0\nop 0 open ok\nop 0 close 1\nop 1 open ok\nop 1 close 0\nnode 0 switch 0 ok R2\n\
+            node 1 switch 1 ok R1\nend\n",
     ),
 ];
 

@@ -4,7 +4,9 @@ ghost use Rattle.std.specs.List.{flat_map};
 ghost use Rattle.ilk_base.specs.declared.words.Direction.TheVariants.{ToOff, ToOn};
 ghost use Rattle.equation_text.specs.declared.goal.Goal.{Goal as GoalOf};
 ghost use Rattle.equation_text.specs.EquationLines.{PartLines};
-ghost use Rattle.equation_text.specs.EquationText.{then_word, then_number, target_text, goal_text, switch_line, part_line, step_line, op_line, lead_text, node_line, numbered, lines_of, text_of};
+ghost use Rattle.equation_text.specs.EquationText.{then_word, then_number, target_text, goal_text, switch_line};
+ghost use Rattle.equation_text.specs.EquationText.{part_line, step_line, op_line, lead_text, node_line, numbered};
+ghost use Rattle.equation_text.specs.EquationText.{lines_of, text_of};
 
 use crate::goal::{Goal, SwitchGoals, goal_towards};
 use crate::node::{Lead, Node};
@@ -115,7 +117,8 @@ fn push_op(
 
 // Appends the lines of a switch's two operations.
 fn push_ops(text: &mut Text, number: usize, goals: SwitchGoals) -> Result<(), Memory>
-    ensures { OnOk result (text.new ≡ text.old ++ (op_line ToOff number goals ++ codes "\n") ++ (op_line ToOn number goals ++ codes "\n")) }
+    ensures { OnOk result (text.new ≡ text.old ++ (op_line ToOff number goals ++ codes "\n")
+        ++ (op_line ToOn number goals ++ codes "\n")) }
 {
     push_op(text, number, Direction::ToOff, goals)?;
     push_op(text, number, Direction::ToOn, goals)
@@ -152,7 +155,8 @@ fn push_node(text: &mut Text, number: usize, node: &Node) -> Result<(), Memory>
 
 // Appends the lines of all switches.
 pub(crate) fn push_switches(text: &mut Text, station: &Station) -> Result<(), Memory>
-    ensures { OnOk result (text.new ≡ text.old ++ text_of (numbered (λ s path. switch_line s path ∷ []) station.now.switch_paths)) }
+    ensures { OnOk result (text.new ≡ text.old
+        ++ text_of (numbered (λ s path. switch_line s path ∷ []) station.now.switch_paths)) }
 {
     for i in 0..station.switch_count() {
         push_switch(text, i as usize, station.switch_path(SwitchId(i)))?;
@@ -182,7 +186,8 @@ fn push_steps(text: &mut Text, part: usize, steps: &[PartStep]) -> Result<(), Me
 
 // Appends the lines of the steps of all parts.
 fn push_all_steps(text: &mut Text, parts: &[PartSteps]) -> Result<(), Memory>
-    ensures { OnOk result (text.new ≡ text.old ++ text_of (numbered (λ p (x : PartLines). numbered (λ m s. step_line p m s ∷ []) x.steps) parts.now)) }
+    ensures { OnOk result (text.new ≡ text.old
+        ++ text_of (numbered (λ p (x : PartLines). numbered (λ m s. step_line p m s ∷ []) x.steps) parts.now)) }
 {
     for (i, part) in parts.iter().enumerate() {
         push_steps(text, i, part.steps())?;
@@ -192,7 +197,8 @@ fn push_all_steps(text: &mut Text, parts: &[PartSteps]) -> Result<(), Memory>
 
 // Appends the lines of all operations.
 fn push_all_ops(text: &mut Text, ops: &[SwitchGoals]) -> Result<(), Memory>
-    ensures { OnOk result (text.new ≡ text.old ++ text_of (numbered (λ s x. op_line ToOff s x ∷ op_line ToOn s x ∷ []) ops.now)) }
+    ensures { OnOk result (text.new ≡ text.old
+        ++ text_of (numbered (λ s x. op_line ToOff s x ∷ op_line ToOn s x ∷ []) ops.now)) }
 {
     for (i, goals) in ops.iter().enumerate() {
         push_ops(text, i, *goals)?;
@@ -218,7 +224,8 @@ pub(crate) fn write_lines(
     ops: &[SwitchGoals],
     nodes: &[Node],
 ) -> Result<(), Memory>
-    ensures { OnOk result (text.new ≡ text.old ++ text_of (lines_of station.now (record { parts = parts.now; ops = ops.now; nodes = nodes.now }))) }
+    ensures { OnOk result (text.new ≡ text.old
+        ++ text_of (lines_of station.now (record { parts = parts.now; ops = ops.now; nodes = nodes.now }))) }
 {
     text.push(b"equations\n")?;
     push_switches(text, station)?;

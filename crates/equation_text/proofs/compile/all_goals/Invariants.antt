@@ -7,6 +7,8 @@ use Rattle.equation_text.proofs.compile.all_goals.Given as goal
 abbrev pub invariant-loop-i : goal.invariant-loop-i
 invariant-loop-i l =
     record {
-      goals : (parts : List PartLines) → AreExactParts l.judge.diagram l.judge.alphabets parts → AreGoalsOf l.judge.diagram parts l.nodes.items l.i l.ops.items;
-      apart : (parts : List PartLines) → AreExactParts l.judge.diagram l.judge.alphabets parts → StandApart l.judge l.i l.ops.items l.nodes.items;
+      goals : (parts : List PartLines) → AreExactParts l.judge.diagram l.judge.alphabets parts →
+          AreGoalsOf l.judge.diagram parts l.nodes.items l.i l.ops.items;
+      apart : (parts : List PartLines) → AreExactParts l.judge.diagram l.judge.alphabets parts →
+          StandApart l.judge l.i l.ops.items l.nodes.items;
     }

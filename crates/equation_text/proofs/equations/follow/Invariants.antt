@@ -10,7 +10,8 @@ abbrev pub invariant-loop-at : goal.invariant-loop-at
 invariant-loop-at l =
     record {
       goal : IsGoal (length l.nodes) l.at;
-      leads : (a : Option Rule) → Leads (NextGoal l.parts l.nodes l.vector) l.at (Answer a) → Leads (NextGoal l.parts l.nodes l.vector) l.fn.start (Answer a);
+      leads : (a : Option Rule) → Leads (NextGoal l.parts l.nodes l.vector) l.at (Answer a) →
+          Leads (NextGoal l.parts l.nodes l.vector) l.fn.start (Answer a);
     }
 
 abbrev pub decreases-loop-at : goal.decreases-loop-at

@@ -14,8 +14,11 @@ invariant-loop-layer l =
       extends : Extends l.fn.nodes.items l.nodes.items;
       count : length l.goals.items ≡ size_at l.graph.labels l.graph.layers l.layer;
       leads : AllLead l.nodes.items l.subjects l.graph l.layer l.goals.items l.fn.ends.items;
-      grew : (switches : ℕ) (parts : List PartLines) → LayersHaveChoices switches parts l.subjects l.graph l.from → AreGoals (length l.fn.nodes.items) l.fn.ends.items → AllGrew switches parts l.fn.nodes.items → AllGrew switches parts l.nodes.items × AreGoals (length l.nodes.items) l.goals.items;
-      apart : (lo : ℕ) → lo ≤ length l.fn.nodes.items → AreFrom lo l.fn.ends.items → AllFrom lo l.fn.nodes.items → AllFrom lo l.nodes.items × AreFrom lo l.goals.items;
+      grew : (switches : ℕ) (parts : List PartLines) → LayersHaveChoices switches parts l.subjects l.graph l.from →
+          AreGoals (length l.fn.nodes.items) l.fn.ends.items → AllGrew switches parts l.fn.nodes.items →
+          AllGrew switches parts l.nodes.items × AreGoals (length l.nodes.items) l.goals.items;
+      apart : (lo : ℕ) → lo ≤ length l.fn.nodes.items → AreFrom lo l.fn.ends.items → AllFrom lo l.fn.nodes.items →
+          AllFrom lo l.nodes.items × AreFrom lo l.goals.items;
       few : length l.nodes.items + first_at l.graph.layers l.layer ≤ length l.fn.nodes.items + node_total l.graph;
     }
 

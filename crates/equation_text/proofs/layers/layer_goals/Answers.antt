@@ -19,16 +19,23 @@ loop-node-preserved c =
     record {
       extends = extends_all c.args.nodes.now.items old now inv.extends by.extends;
       count = ap length pushed ∙ length_push c.loop-node.goals.items c.in_ok-goal.goal ∙ ap (λ n. n + 1) inv.count;
-      leads = layer_more old now c.args.subject layer c.args.next.now c.loop-node.goals.items _ row c.in_ok-goal.goal c.loop-node.node by.extends inv.count pushed is.count is.each by.leads inv.leads;
+      leads =
+          layer_more old now c.args.subject layer c.args.next.now c.loop-node.goals.items _ row c.in_ok-goal.goal
+          c.loop-node.node by.extends inv.count pushed is.count is.each by.leads inv.leads;
       grew = λ switches parts has next_fit old_fit.
           let before = inv.grew switches parts has next_fit old_fit in
-          let row_fit = row_goals_fit c.args.nodes.now.items old c.args.graph.now c.args.layer c.loop-node.node c.args.next.now row inv.extends is next_fit in
+          let row_fit = row_goals_fit c.args.nodes.now.items old c.args.graph.now c.args.layer c.loop-node.node
+          c.args.next.now row inv.extends is next_fit in
           let row_has = subst (λ n. HasChoices switches parts c.args.subject n) (sym is.count) has in
-          let after = by.grew switches parts row_has row_fit before.0 in
-          (after.0, goals_push (length now) c.loop-node.goals.items _ c.in_ok-goal.goal pushed (goals_stay old now c.loop-node.goals.items by.extends before.1) after.1);
+          let after = by.grew switches parts row_has row_fit before.0 in (
+            after.0,
+            goals_push (length now) c.loop-node.goals.items _ c.in_ok-goal.goal pushed
+                (goals_stay old now c.loop-node.goals.items by.extends before.1) after.1,
+          );
       apart = λ lo le goals all.
           let before = inv.apart lo le goals all in
-          let after = by.apart lo (omega (arith, le, longer c.args.nodes.now.items old inv.extends)) (row_from lo c.args.graph.now c.args.layer c.loop-node.node c.args.next.now row is goals) before.0 in
+          let after = by.apart lo (omega (arith, le, longer c.args.nodes.now.items old inv.extends))
+          (row_from lo c.args.graph.now c.args.layer c.loop-node.node c.args.next.now row is goals) before.0 in
           (after.0, from_push lo c.loop-node.goals.items _ c.in_ok-goal.goal pushed before.1 after.1);
       few = omega (arith, inv.few, by.few);
     }

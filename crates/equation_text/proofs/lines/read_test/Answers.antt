@@ -49,6 +49,7 @@ returns-then-switch-gt65535-clause-none c = λ s fits is.
     let first = cut_said 32 c.args.words.now c.in-Some.word.now (decimal s.switch.0) c.in-Some.rest.now
     (target_text s.off ++ (codes " " ++ target_text s.on)) c.in-Some.ensures.some (lacks_decimal 32 s.switch.0
     (omega arith) (omega (arith, fits.switch))) is in
-    let same = decimal_injective c.in-Some-decimal_number.switch s.switch.0 (omega (arith, c.in-Some-decimal_number.ensures.some.small))
+    let same = decimal_injective c.in-Some-decimal_number.switch s.switch.0
+    (omega (arith, c.in-Some-decimal_number.ensures.some.small))
     (omega (arith, fits.switch)) (sym c.in-Some-decimal_number.ensures.some.written ∙ first.0) in
     omega (arith, same, fits.switch, c.if-switch-gt65535.true)

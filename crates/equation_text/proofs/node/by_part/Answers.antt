@@ -9,15 +9,21 @@ pub bounds-goals-index : goal.bounds-goals-index
 bounds-goals-index c =
     let parts = c.args.parts.now in
     let has = c.requires.has in
-    let at : slice_get parts c.args.part.0 ≡ Some c.index-parts-part.result = slice_get_read parts (length parts) c.args.part.0 c.index-parts-part.result refl (slice_get_within parts c.args.part.0 has.lines has.listed) c.index-parts-part.is in
-    by_index parts c.args.part.0 c.args.goals.now c.index-parts-part.result c.args.vector.now c.index_of-index.result has at c.index_of-index.ensures
+    let at : slice_get parts c.args.part.0 ≡ Some c.index-parts-part.result =
+    slice_get_read parts (length parts) c.args.part.0 c.index-parts-part.result refl
+    (slice_get_within parts c.args.part.0 has.lines has.listed) c.index-parts-part.is in
+    by_index parts c.args.part.0 c.args.goals.now c.index-parts-part.result c.args.vector.now c.index_of-index.result
+    has at c.index_of-index.ensures
 
 pub returns : goal.returns
 returns c =
     let parts = c.args.parts.now in
     let has = c.requires.has in
-    let at : slice_get parts c.args.part.0 ≡ Some c.index-parts-part.result = slice_get_read parts (length parts) c.args.part.0 c.index-parts-part.result refl (slice_get_within parts c.args.part.0 has.lines has.listed) c.index-parts-part.is in
-    let lt = by_index parts c.args.part.0 c.args.goals.now c.index-parts-part.result c.args.vector.now c.index_of-index.result has at c.index_of-index.ensures in
+    let at : slice_get parts c.args.part.0 ≡ Some c.index-parts-part.result =
+    slice_get_read parts (length parts) c.args.part.0 c.index-parts-part.result refl
+    (slice_get_within parts c.args.part.0 has.lines has.listed) c.index-parts-part.is in
+    let lt = by_index parts c.args.part.0 c.args.goals.now c.index-parts-part.result c.args.vector.now
+    c.index_of-index.result has at c.index_of-index.ensures in
     record {
       lines = c.index-parts-part.result;
       index = c.index_of-index.result;

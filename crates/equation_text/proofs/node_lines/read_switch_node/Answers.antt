@@ -50,6 +50,7 @@ returns-then-switch-from-clause-none c = λ x h.
     let first = cut_said 32 c.args.words.now c.in-Some.word.now (decimal h.switch) c.in-Some.rest.now
     (goal_text h.off ++ (codes " " ++ goal_text h.on)) c.in-Some.ensures.some (lacks_decimal 32 h.switch
     (omega arith) (omega (arith, h.within, c.ranges.switches.fits))) h.are in
-    let same = decimal_injective c.in-Some-decimal_number.switch h.switch (omega (arith, c.in-Some-decimal_number.ensures.some.small))
+    let same = decimal_injective c.in-Some-decimal_number.switch h.switch
+    (omega (arith, c.in-Some-decimal_number.ensures.some.small))
     (omega (arith, h.within, c.ranges.switches.fits)) (sym c.in-Some-decimal_number.ensures.some.written ∙ first.0) in
     omega (arith, same, h.within, c.if-switch-from.true, c.from.ensures)

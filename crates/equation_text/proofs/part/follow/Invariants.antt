@@ -9,7 +9,8 @@ abbrev pub invariant-loop-at : goal.invariant-loop-at
 invariant-loop-at l =
     record {
       target : IsTarget (length l.steps) l.at;
-      leads : (i : ℕ) → Leads (NextTarget l.steps l.vector) l.at (Index i) → Leads (NextTarget l.steps l.vector) l.fn.start (Index i);
+      leads : (i : ℕ) → Leads (NextTarget l.steps l.vector) l.at (Index i) →
+          Leads (NextTarget l.steps l.vector) l.fn.start (Index i);
     }
 
 abbrev pub decreases-loop-at : goal.decreases-loop-at

@@ -47,7 +47,8 @@ returns-in_default-clause-none c =
     let stop = none_told c.in_ok-read.read _ _ c.in_default.is c.in_ok-read.ensures in
     subst (λ (f : EquationsFault). ForRefused f (λ r. (e : EquationLines)
     → ¬ IsTextOf c.args.station.now c.args.bytes.now e)) (sym c.refused.ensures) (λ e h.
-    let of_form = formed c.args.station.now c.part_count-parts.ensures.station e h.are c.args.bytes.now h.is c.requires in
+    let of_form = formed c.args.station.now c.part_count-parts.ensures.station e h.are c.args.bytes.now
+    h.is c.requires in
     stops_none c.args.station.now c.args.bytes.now c.read_lines.new.left.text.now stop e of_form h.is)
 
 pub returns-in_default-clause-line : goal.returns-in_default-clause-line
@@ -58,7 +59,8 @@ returns-in_default-clause-line c =
     (z : List ℕ). suc (feeds z)) front in
     subst (λ (f : EquationsFault). ForRefused f (λ r. IsFirstFault c.args.station.now c.args.bytes.now r.line))
     (sym c.refused.ensures) (first_of c.args.station.now c.args.bytes.now c.read_lines.new.left.text.now stop
-    c.line_behind-wrong.result c.least.result c.in_ok-undefined.undefined wrong c.in_ok-undefined.ensures c.least.ensures)
+    c.line_behind-wrong.result c.least.result c.in_ok-undefined.undefined wrong c.in_ok-undefined.ensures
+    c.least.ensures)
 
 pub returns-then-not-are_there-clause-line : goal.returns-then-not-are_there-clause-line
 returns-then-not-are_there-clause-line c =

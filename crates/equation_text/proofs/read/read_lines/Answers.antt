@@ -126,20 +126,26 @@ returns c =
       once = λ e h.
           let f = formed c.args.station.now c.part_count-parts.ensures.station e h.are c.args.left.now.text.now h.is
           c.requires in
-          let l1 = left_starts c.args.station.now c.part_count-parts.ensures.station e f c.args.left.now.text.now h.is c.read_front.new.left.text.now (c.in_ok-passed.ensures.front c.if-not-passed.false) in
-          let l2 = left_steps c.args.station.now c.part_count-parts.ensures.station e f c.args.left.now.text.now h.is c.in-Some.starts.items c.read_front.new.left.text.now c.read_starts.new.left.text.now
+          let l1 = left_starts c.args.station.now c.part_count-parts.ensures.station e f c.args.left.now.text.now h.is
+          c.read_front.new.left.text.now (c.in_ok-passed.ensures.front c.if-not-passed.false) in
+          let l2 = left_steps c.args.station.now c.part_count-parts.ensures.station e f c.args.left.now.text.now h.is
+          c.in-Some.starts.items c.read_front.new.left.text.now c.read_starts.new.left.text.now
           l1 may1 told1.1 in
-          let l3 = left_ops c.args.station.now c.part_count-parts.ensures.station e f c.args.left.now.text.now h.is c.in-Some.starts.items c.in_ok-parts.parts.items c.read_starts.new.left.text.now
+          let l3 = left_ops c.args.station.now c.part_count-parts.ensures.station e f c.args.left.now.text.now h.is
+          c.in-Some.starts.items c.in_ok-parts.parts.items c.read_starts.new.left.text.now
           c.read_all_steps.new.left.text.now l2.0 l2.1 steps in
-          let l4 = left_nodes c.args.station.now c.part_count-parts.ensures.station e f c.args.left.now.text.now h.is c.in-Some-ops_read.ops.items c.read_all_steps.new.left.text.now
+          let l4 = left_nodes c.args.station.now c.part_count-parts.ensures.station e f c.args.left.now.text.now h.is
+          c.in-Some-ops_read.ops.items c.read_all_steps.new.left.text.now
           c.read_ops.new.left.text.now l3.1 may3 told3.1 in
           let counts_e : c.deref-3.result.now ≡ map index_count e.parts = c.deref-3.ensures.value
           ∙ c.in_ok-counts.ensures ∙ ap (λ (ps : List PartLines). map index_count ps) (c.deref-2.ensures.value
           ∙ l3.0) in
           let may4 = subst (λ (cs : List ℕ). MayBeNodes
           (length c.args.station.now.switches) cs c.in-Some-nodes_read.nodes.items) counts_e nodes4 in
-          let l5 = left_none c.args.station.now c.part_count-parts.ensures.station e f c.args.left.now.text.now h.is c.in-Some-nodes_read.nodes.items c.read_ops.new.left.text.now
+          let l5 = left_none c.args.station.now c.part_count-parts.ensures.station e f c.args.left.now.text.now h.is
+          c.in-Some-nodes_read.nodes.items c.read_ops.new.left.text.now
           c.read_nodes.new.left.text.now l4.1 may4 told4.1 in
-          all_same c.args.station.now c.part_count-parts.ensures.station e f c.args.left.now.text.now h.is c.in_ok-parts.parts.items c.in-Some-ops_read.ops.items c.in-Some-nodes_read.nodes.items l3.0
+          all_same c.args.station.now c.part_count-parts.ensures.station e f c.args.left.now.text.now h.is
+          c.in_ok-parts.parts.items c.in-Some-ops_read.ops.items c.in-Some-nodes_read.nodes.items l3.0
           l4.0 l5.0;
     }

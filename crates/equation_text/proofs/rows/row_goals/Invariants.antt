@@ -8,5 +8,6 @@ abbrev pub invariant-loop-choice : goal.invariant-loop-choice
 invariant-loop-choice l =
     record {
       count : length l.goals.items ≡ l.choice;
-      each : (c : ℕ) (x : Goal) → slice_get l.goals.items c ≡ Some x → slice_get l.next (step (layer_at l.graph.layers l.layer) l.node c) ≡ Some x;
+      each : (c : ℕ) (x : Goal) → slice_get l.goals.items c ≡ Some x →
+          slice_get l.next (step (layer_at l.graph.layers l.layer) l.node c) ≡ Some x;
     }

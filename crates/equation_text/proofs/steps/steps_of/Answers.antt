@@ -10,5 +10,8 @@ loop-i-preserved c =
     let is = c.step.ensures in
     record {
       count = ap length items ∙ length_push c.loop-i.steps.items c.step.result ∙ ap (λ n. n + 1) inv.count;
-      each = λ m s at. steps_more c.args.parts.now c.args.part.0 c.loop-i.i c.loop-i.steps.items c.push.new.self.items c.step.result items inv.count (record { step = is.step; off = is.off; on = is.on; own = is.own }) inv.each m s at;
+      each =
+          λ m s at. steps_more c.args.parts.now c.args.part.0 c.loop-i.i c.loop-i.steps.items c.push.new.self.items
+          c.step.result items inv.count (record { step = is.step; off = is.off; on = is.on; own = is.own }) inv.each m
+          s at;
     }

@@ -11,5 +11,7 @@ evaluate-requires-clause-op c =
 pub evaluate-requires-clause-vector : goal.evaluate-requires-clause-vector
 evaluate-requires-clause-vector c =
     let same = ap (λ (d : Diagram). length d.switches) c.requires.same in
-    let count : length c.in_ok-vector.vector ≡ length c.args.station.now.switches = ap length c.in_ok-vector.ensures ∙ length-replicate (length c.args.station.now.switches) false in
-    ap length c.set.ensures ∙ (length-set c.in_ok-vector.vector _ _ ∙ (count ∙ (sym same ∙ sym c.in_ok-equations.ensures.of_station.ops)))
+    let count : length c.in_ok-vector.vector ≡ length c.args.station.now.switches =
+    ap length c.in_ok-vector.ensures ∙ length-replicate (length c.args.station.now.switches) false in
+    ap length c.set.ensures
+    ∙ (length-set c.in_ok-vector.vector _ _ ∙ (count ∙ (sym same ∙ sym c.in_ok-equations.ensures.of_station.ops)))

@@ -12,4 +12,6 @@ loop-i-preserved c =
     let x : Goal = get_or c.loop-i.goals c.loop-i.i (Node 0) in
     let within : c.loop-i.i < length c.loop-i.goals = omega (arith, c.loop-i-test.true, c.loop-i.auto.goals) in
     ap (set c.loop-i.goals c.loop-i.i) c.turned.ensures
-    ∙ map_over_more (turned_goal c.args.total) c.args.goals.now c.loop-i.goals c.loop-i.i (get_or c.loop-i.goals c.loop-i.i (Node 0)) c.loop-i-test.true c.loop-i.invariant (get_or_default c.loop-i.goals c.loop-i.i (Node 0) (get_or c.loop-i.goals c.loop-i.i (Node 0)) within)
+    ∙ map_over_more (turned_goal c.args.total) c.args.goals.now c.loop-i.goals c.loop-i.i
+    (get_or c.loop-i.goals c.loop-i.i (Node 0)) c.loop-i-test.true c.loop-i.invariant
+    (get_or_default c.loop-i.goals c.loop-i.i (Node 0) (get_or c.loop-i.goals c.loop-i.i (Node 0)) within)

@@ -11,6 +11,11 @@ loop-i-preserved c =
     let none : SwitchGoals = record { opening = Node 0; closing = Node 0 } in
     let x : SwitchGoals = get_or c.loop-i.ops c.loop-i.i none in
     let within : c.loop-i.i < length c.loop-i.ops = omega (arith, c.loop-i-test.true, c.loop-i.auto.ops) in
-    let new : ◌≡◌ {A = SwitchGoals} (record { opening = c.turned.result; closing = c.turned-in-loop-i.result }) (turned_goals c.args.total x) = λ i. record { opening = c.turned.ensures i; closing = c.turned-in-loop-i.ensures i } in
+    let new : ◌≡◌ {A = SwitchGoals} (record { opening = c.turned.result; closing = c.turned-in-loop-i.result })
+    (turned_goals c.args.total x) = λ i. record {
+      opening = c.turned.ensures i;
+      closing = c.turned-in-loop-i.ensures i;
+    } in
     ap (set c.loop-i.ops c.loop-i.i) new
-    ∙ map_over_more (turned_goals c.args.total) c.args.ops.now c.loop-i.ops c.loop-i.i x c.loop-i-test.true c.loop-i.invariant (get_or_default c.loop-i.ops c.loop-i.i none x within)
+    ∙ map_over_more (turned_goals c.args.total) c.args.ops.now c.loop-i.ops c.loop-i.i x c.loop-i-test.true
+    c.loop-i.invariant (get_or_default c.loop-i.ops c.loop-i.i none x within)

@@ -9,7 +9,8 @@ invariant-loop-node l =
     record {
       left : l.left.items ≡ take (length l.left.items) l.fn.nodes.items;
       few : length l.left.items + length l.out.items ≡ l.total;
-      each : (n : ℕ) (x : NodeLine) → length l.left.items ≤ n → slice_get l.fn.nodes.items n ≡ Some x → slice_get l.out.items (l.total - suc n) ≡ Some (turned_line l.total x);
+      each : (n : ℕ) (x : NodeLine) → length l.left.items ≤ n → slice_get l.fn.nodes.items n ≡ Some x →
+          slice_get l.out.items (l.total - suc n) ≡ Some (turned_line l.total x);
     }
 
 abbrev pub decreases-loop-node : goal.decreases-loop-node

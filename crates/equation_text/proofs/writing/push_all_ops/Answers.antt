@@ -10,4 +10,5 @@ pub loop-i-preserved : goal.loop-i-preserved
 loop-i-preserved c =
     let ops = c.args.ops.now in
     let none : SwitchGoals = record { opening = Node 0; closing = Node 0 } in
-    two_more (λ s (x : SwitchGoals). op_line ToOff s x) (λ s (x : SwitchGoals). op_line ToOn s x) ops c.loop-i.i _ _ _ _ (slice_get-get_or ops c.loop-i.i none c.loop-i-test.true) c.loop-i.invariant c.in_ok-push_ops.ensures
+    two_more (λ s (x : SwitchGoals). op_line ToOff s x) (λ s (x : SwitchGoals). op_line ToOn s x) ops c.loop-i.i _ _ _ _
+    (slice_get-get_or ops c.loop-i.i none c.loop-i-test.true) c.loop-i.invariant c.in_ok-push_ops.ensures

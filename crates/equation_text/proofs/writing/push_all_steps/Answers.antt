@@ -11,5 +11,8 @@ loop-i-preserved c =
     let parts = c.args.parts.now in
     let x = c.index-parts-i.result in
     let lines : ℕ → PartLines → List (List ℕ) = λ p y. numbered (λ m (s : PartStep). step_line p m s ∷ []) y.steps in
-    written_more lines parts c.loop-i.i x _ _ _ (slice_get_read parts (length parts) c.loop-i.i x refl c.loop-i-test.true c.index-parts-i.is) c.loop-i.invariant
-    (c.in_ok-push_steps.ensures ∙ ap (λ (steps : List PartStep). c.loop-i.text ++ text_of (numbered (λ m (s : PartStep). step_line c.loop-i.i m s ∷ []) steps)) c.steps.ensures)
+    written_more lines parts c.loop-i.i x _ _ _
+    (slice_get_read parts (length parts) c.loop-i.i x refl c.loop-i-test.true c.index-parts-i.is) c.loop-i.invariant
+    (c.in_ok-push_steps.ensures
+    ∙ ap (λ (steps : List PartStep). c.loop-i.text
+    ++ text_of (numbered (λ m (s : PartStep). step_line c.loop-i.i m s ∷ []) steps)) c.steps.ensures)

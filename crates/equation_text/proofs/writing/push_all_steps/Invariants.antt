@@ -4,4 +4,7 @@ use Rattle.equation_text.specs.EquationText.{step_line, numbered, text_of}
 use Rattle.equation_text.proofs.writing.push_all_steps.Given as goal
 
 abbrev pub invariant-loop-i : goal.invariant-loop-i
-invariant-loop-i l = l.text ≡ l.fn.text ++ text_of (numbered (λ p (x : PartLines). numbered (λ m s. step_line p m s ∷ []) x.steps) (take l.i l.parts))
+invariant-loop-i l =
+    l.text
+    ≡ l.fn.text
+    ++ text_of (numbered (λ p (x : PartLines). numbered (λ m s. step_line p m s ∷ []) x.steps) (take l.i l.parts))

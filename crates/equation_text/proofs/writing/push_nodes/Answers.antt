@@ -9,4 +9,6 @@ pub loop-i-preserved : goal.loop-i-preserved
 loop-i-preserved c =
     let nodes = c.args.nodes.now in
     let x = c.index-nodes-i.result in
-    line_more (λ n (y : NodeLine). node_line n y) nodes c.loop-i.i x _ _ _ (slice_get_read nodes (length nodes) c.loop-i.i x refl c.loop-i-test.true c.index-nodes-i.is) c.loop-i.invariant c.in_ok-push_node.ensures
+    line_more (λ n (y : NodeLine). node_line n y) nodes c.loop-i.i x _ _ _
+    (slice_get_read nodes (length nodes) c.loop-i.i x refl c.loop-i-test.true c.index-nodes-i.is) c.loop-i.invariant
+    c.in_ok-push_node.ensures

@@ -9,4 +9,6 @@ pub loop-i-preserved : goal.loop-i-preserved
 loop-i-preserved c =
     let parts = c.args.parts.now in
     let x = c.index-parts-i.result in
-    line_more (λ p (y : PartLines). part_line p y) parts c.loop-i.i x _ _ _ (slice_get_read parts (length parts) c.loop-i.i x refl c.loop-i-test.true c.index-parts-i.is) c.loop-i.invariant c.in_ok-push_part.ensures
+    line_more (λ p (y : PartLines). part_line p y) parts c.loop-i.i x _ _ _
+    (slice_get_read parts (length parts) c.loop-i.i x refl c.loop-i-test.true c.index-parts-i.is) c.loop-i.invariant
+    c.in_ok-push_part.ensures

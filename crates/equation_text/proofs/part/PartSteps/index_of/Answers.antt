@@ -7,5 +7,7 @@ use Rattle.equation_text.proofs.part.PartSteps.index_of.Goals as goal
 
 pub returns : goal.returns
 returns c =
-    let leads = subst (λ (s : List PartStep). Leads (NextTarget s c.args.vector.now) c.self.inside.start (Index c.follow.result)) c.deref.ensures.value c.follow.ensures in
+    let leads = subst
+    (λ (s : List PartStep). Leads (NextTarget s c.args.vector.now) c.self.inside.start (Index c.follow.result))
+    c.deref.ensures.value c.follow.ensures in
     subst (λ (x : PartLines). LeadsToIndex x c.args.vector.now c.follow.result) c.self.view_is leads
