@@ -24,4 +24,5 @@ pub mod RisingLemmas
 pub mod SameLemmas
 pub mod MoveLemmas
 pub mod OneViewLemmas
+pub mod SelectionLemmas
 pub mod MappedLemmas

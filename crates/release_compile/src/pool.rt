@@ -260,8 +260,6 @@ impl Pool {
     {
         let x = &self.values[key.first];
         let y = &self.values[key.second];
-        let nodes = &self.keeps[key.keep];
-        let _ = nodes;
         let row = composed_row(alloc, self.view, x, y, selection)?;
         if let Some(place) = find_row(&self.index, &row) {
             return Ok(place);

@@ -3,7 +3,8 @@ use Rattle.contraction.specs.Answers.{Answers}
 use Rattle.contraction.specs.Inside.{answers_of}
 use Rattle.contraction.specs.Composing.{IsGapOfBoth}
 use Rattle.contraction.specs.Selecting.{IsLayout}
-use Rattle.contraction.proofs.OneViewLemmas.{laid_on, layout_fits, kept_few, first_gap_fits, second_gap_fits, gap_on, gap_lists}
+use Rattle.contraction.proofs.OneViewLemmas.{gap_lists}
+use Rattle.contraction.proofs.SelectionLemmas.{laid_on, layout_fits, kept_few, first_gap_fits, second_gap_fits, gap_on}
 use Rattle.contraction.proofs.value.Contraction.compose_gap_on.Goals as goal
 
 pub row-requires-clause-fits : goal.row-requires-clause-fits

@@ -4,7 +4,8 @@ use Rattle.contraction.specs.Inside.{answers_of}
 use Rattle.contraction.specs.Composing.{IsLoadOfBoth}
 use Rattle.contraction.specs.Merging.{LabelsFit}
 use Rattle.contraction.specs.Selecting.{IsLayout, LabelsSelected}
-use Rattle.contraction.proofs.OneViewLemmas.{laid_on, labels_seen, layout_fits, kept_few, first_labels_fit, second_labels_fit, first_load_fits, second_load_fits, load_on, load_lists}
+use Rattle.contraction.proofs.OneViewLemmas.{load_lists}
+use Rattle.contraction.proofs.SelectionLemmas.{laid_on, labels_seen, layout_fits, kept_few, first_labels_fit, second_labels_fit, first_load_fits, second_load_fits, load_on}
 use Rattle.contraction.proofs.value.Contraction.compose_load_on.Goals as goal
 
 pub row-requires-clause-fits : goal.row-requires-clause-fits

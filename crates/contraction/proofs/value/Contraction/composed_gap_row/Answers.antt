@@ -1,7 +1,7 @@
 use Rattle.std.proofs.Common.{◌≡◌, ◌∙◌, ◌++◌, List, ℕ, ap}
 use Rattle.contraction.specs.Rows.{words, row_bytes}
 use Rattle.contraction.specs.Selecting.{IsLayout}
-use Rattle.contraction.proofs.OneViewLemmas.{laid_on, layout_fits, first_gap_fits, second_gap_fits, gap_row_on}
+use Rattle.contraction.proofs.SelectionLemmas.{laid_on, layout_fits, first_gap_fits, second_gap_fits, gap_row_on}
 use Rattle.contraction.proofs.value.Contraction.composed_gap_row.Goals as goal
 
 pub row-requires-clause-fits : goal.row-requires-clause-fits

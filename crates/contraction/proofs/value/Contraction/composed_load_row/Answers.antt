@@ -2,7 +2,7 @@ use Rattle.std.proofs.Common.{◌≡◌, ◌∙◌, ◌++◌, List, ℕ, length,
 use Rattle.contraction.specs.Merging.{LabelsFit}
 use Rattle.contraction.specs.Rows.{words, bonded_bytes}
 use Rattle.contraction.specs.Selecting.{IsLayout, LabelsSelected}
-use Rattle.contraction.proofs.OneViewLemmas.{laid_on, labels_seen, layout_fits, first_labels_fit, second_labels_fit, first_load_fits, second_load_fits, load_row_on}
+use Rattle.contraction.proofs.SelectionLemmas.{laid_on, labels_seen, layout_fits, first_labels_fit, second_labels_fit, first_load_fits, second_load_fits, load_row_on}
 use Rattle.contraction.proofs.value.Contraction.composed_load_row.Goals as goal
 
 pub row-requires-clause-fits : goal.row-requires-clause-fits

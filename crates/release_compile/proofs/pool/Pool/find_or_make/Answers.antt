@@ -1,6 +1,6 @@
-use Rattle.std.proofs.Common.{◌≡◌, ◌⊎◌, ◌∙◌, ℕ, ◌↔◌, List, Some, slice_get, refl, sym, subst}
+use Rattle.std.proofs.Common.{◌≡◌, ◌⊎◌, ◌∙◌, ℕ, ◌↔◌, List, [], Some, get_or, slice_get, refl, sym, subst}
 use Rattle.std.specs.Prelude.{Contains}
-use Rattle.std.proofs.lemmas.Option.{slice_get_read}
+use Rattle.std.proofs.lemmas.Option.{slice_get_read, slice_get-get_or}
 use Rattle.contraction.specs.Answers.{Answers, Keeps}
 use Rattle.release_compile.specs.Seen.{ComposesIn}
 use Rattle.release_compile.specs.Pooling.{HasSame, Selects}
@@ -14,10 +14,10 @@ composed_row-requires-clause-first c =
     let s = c.args.selection.now in
     let x : Answers = c.index-x.result.now in
     let y : Answers = c.index-y.result.now in
-    let nodes : List ℕ = c.index-nodes.result.now in
+    let nodes : List ℕ = get_or p.keeps.items k.keep [] in
     let first : slice_get p.values.items k.first ≡ Some x = slice_get_read p.values.items _ k.first x refl c.requires.first c.index-x.ensures in
     let second : slice_get p.values.items k.second ≡ Some y = slice_get_read p.values.items _ k.second y refl c.requires.second c.index-y.ensures in
-    let asked : slice_get p.keeps.items k.keep ≡ Some nodes = slice_get_read p.keeps.items _ k.keep nodes refl c.requires.keep c.index-nodes.ensures in
+    let asked : slice_get p.keeps.items k.keep ≡ Some nodes = slice_get-get_or p.keeps.items k.keep [] c.requires.keep in
     let sel : Selects x y nodes s = c.requires.selection x y nodes first second asked in
     sel.first
 
@@ -28,10 +28,10 @@ composed_row-requires-clause-second c =
     let s = c.args.selection.now in
     let x : Answers = c.index-x.result.now in
     let y : Answers = c.index-y.result.now in
-    let nodes : List ℕ = c.index-nodes.result.now in
+    let nodes : List ℕ = get_or p.keeps.items k.keep [] in
     let first : slice_get p.values.items k.first ≡ Some x = slice_get_read p.values.items _ k.first x refl c.requires.first c.index-x.ensures in
     let second : slice_get p.values.items k.second ≡ Some y = slice_get_read p.values.items _ k.second y refl c.requires.second c.index-y.ensures in
-    let asked : slice_get p.keeps.items k.keep ≡ Some nodes = slice_get_read p.keeps.items _ k.keep nodes refl c.requires.keep c.index-nodes.ensures in
+    let asked : slice_get p.keeps.items k.keep ≡ Some nodes = slice_get-get_or p.keeps.items k.keep [] c.requires.keep in
     let sel : Selects x y nodes s = c.requires.selection x y nodes first second asked in
     sel.second
 
@@ -42,10 +42,10 @@ composed_row-requires-clause-nodes c =
     let s = c.args.selection.now in
     let x : Answers = c.index-x.result.now in
     let y : Answers = c.index-y.result.now in
-    let nodes : List ℕ = c.index-nodes.result.now in
+    let nodes : List ℕ = get_or p.keeps.items k.keep [] in
     let first : slice_get p.values.items k.first ≡ Some x = slice_get_read p.values.items _ k.first x refl c.requires.first c.index-x.ensures in
     let second : slice_get p.values.items k.second ≡ Some y = slice_get_read p.values.items _ k.second y refl c.requires.second c.index-y.ensures in
-    let asked : slice_get p.keeps.items k.keep ≡ Some nodes = slice_get_read p.keeps.items _ k.keep nodes refl c.requires.keep c.index-nodes.ensures in
+    let asked : slice_get p.keeps.items k.keep ≡ Some nodes = slice_get-get_or p.keeps.items k.keep [] c.requires.keep in
     let sel : Selects x y nodes s = c.requires.selection x y nodes first second asked in
     subst (λ l. (n : ℕ) → Contains l n → Keeps x.kept n ⊎ Keeps y.kept n) (sym sel.asked) (c.requires.nodes x y nodes first second asked)
 
@@ -56,10 +56,10 @@ composed-requires-clause-first c =
     let s = c.args.selection.now in
     let x : Answers = c.index-x.result.now in
     let y : Answers = c.index-y.result.now in
-    let nodes : List ℕ = c.index-nodes.result.now in
+    let nodes : List ℕ = get_or p.keeps.items k.keep [] in
     let first : slice_get p.values.items k.first ≡ Some x = slice_get_read p.values.items _ k.first x refl c.requires.first c.index-x.ensures in
     let second : slice_get p.values.items k.second ≡ Some y = slice_get_read p.values.items _ k.second y refl c.requires.second c.index-y.ensures in
-    let asked : slice_get p.keeps.items k.keep ≡ Some nodes = slice_get_read p.keeps.items _ k.keep nodes refl c.requires.keep c.index-nodes.ensures in
+    let asked : slice_get p.keeps.items k.keep ≡ Some nodes = slice_get-get_or p.keeps.items k.keep [] c.requires.keep in
     let sel : Selects x y nodes s = c.requires.selection x y nodes first second asked in
     sel.first
 
@@ -70,10 +70,10 @@ composed-requires-clause-second c =
     let s = c.args.selection.now in
     let x : Answers = c.index-x.result.now in
     let y : Answers = c.index-y.result.now in
-    let nodes : List ℕ = c.index-nodes.result.now in
+    let nodes : List ℕ = get_or p.keeps.items k.keep [] in
     let first : slice_get p.values.items k.first ≡ Some x = slice_get_read p.values.items _ k.first x refl c.requires.first c.index-x.ensures in
     let second : slice_get p.values.items k.second ≡ Some y = slice_get_read p.values.items _ k.second y refl c.requires.second c.index-y.ensures in
-    let asked : slice_get p.keeps.items k.keep ≡ Some nodes = slice_get_read p.keeps.items _ k.keep nodes refl c.requires.keep c.index-nodes.ensures in
+    let asked : slice_get p.keeps.items k.keep ≡ Some nodes = slice_get-get_or p.keeps.items k.keep [] c.requires.keep in
     let sel : Selects x y nodes s = c.requires.selection x y nodes first second asked in
     sel.second
 
@@ -84,10 +84,10 @@ composed-requires-clause-nodes c =
     let s = c.args.selection.now in
     let x : Answers = c.index-x.result.now in
     let y : Answers = c.index-y.result.now in
-    let nodes : List ℕ = c.index-nodes.result.now in
+    let nodes : List ℕ = get_or p.keeps.items k.keep [] in
     let first : slice_get p.values.items k.first ≡ Some x = slice_get_read p.values.items _ k.first x refl c.requires.first c.index-x.ensures in
     let second : slice_get p.values.items k.second ≡ Some y = slice_get_read p.values.items _ k.second y refl c.requires.second c.index-y.ensures in
-    let asked : slice_get p.keeps.items k.keep ≡ Some nodes = slice_get_read p.keeps.items _ k.keep nodes refl c.requires.keep c.index-nodes.ensures in
+    let asked : slice_get p.keeps.items k.keep ≡ Some nodes = slice_get-get_or p.keeps.items k.keep [] c.requires.keep in
     let sel : Selects x y nodes s = c.requires.selection x y nodes first second asked in
     subst (λ l. (n : ℕ) → Contains l n → Keeps x.kept n ⊎ Keeps y.kept n) (sym sel.asked) (c.requires.nodes x y nodes first second asked)
 
@@ -98,10 +98,10 @@ returns-in-Some-clause-made c =
     let s = c.args.selection.now in
     let x : Answers = c.index-x.result.now in
     let y : Answers = c.index-y.result.now in
-    let nodes : List ℕ = c.index-nodes.result.now in
+    let nodes : List ℕ = get_or p.keeps.items k.keep [] in
     let first : slice_get p.values.items k.first ≡ Some x = slice_get_read p.values.items _ k.first x refl c.requires.first c.index-x.ensures in
     let second : slice_get p.values.items k.second ≡ Some y = slice_get_read p.values.items _ k.second y refl c.requires.second c.index-y.ensures in
-    let asked : slice_get p.keeps.items k.keep ≡ Some nodes = slice_get_read p.keeps.items _ k.keep nodes refl c.requires.keep c.index-nodes.ensures in
+    let asked : slice_get p.keeps.items k.keep ≡ Some nodes = slice_get-get_or p.keeps.items k.keep [] c.requires.keep in
     let sel : Selects x y nodes s = c.requires.selection x y nodes first second asked in
     let b = c.in_ok-row.ensures in
     let h = c.in-Some.ensures p.view p.values.items c.requires.pool.index in
@@ -130,10 +130,10 @@ returns-clause-made c =
     let s = c.args.selection.now in
     let x : Answers = c.index-x.result.now in
     let y : Answers = c.index-y.result.now in
-    let nodes : List ℕ = c.index-nodes.result.now in
+    let nodes : List ℕ = get_or p.keeps.items k.keep [] in
     let first : slice_get p.values.items k.first ≡ Some x = slice_get_read p.values.items _ k.first x refl c.requires.first c.index-x.ensures in
     let second : slice_get p.values.items k.second ≡ Some y = slice_get_read p.values.items _ k.second y refl c.requires.second c.index-y.ensures in
-    let asked : slice_get p.keeps.items k.keep ≡ Some nodes = slice_get_read p.keeps.items _ k.keep nodes refl c.requires.keep c.index-nodes.ensures in
+    let asked : slice_get p.keeps.items k.keep ≡ Some nodes = slice_get-get_or p.keeps.items k.keep [] c.requires.keep in
     let sel : Selects x y nodes s = c.requires.selection x y nodes first second asked in
     let q = c.intern.new.self in
     let g = c.in_ok-place.ensures.grew in
