@@ -31,7 +31,8 @@ pub keeps_marked : (kept : List ℕ) (marks : List Bool) (a : ℕ) → MarkedAt 
 keeps_marked kept marks a s = record { place = s.place; at = s.at }
 
 -- Labels of one kind, for both sides.
-module _ (These Those : Item → Type 0) (d : Diagram) (kx ky : List ℕ) (meets : MeetsKept These Those d kx ky) (bonds_only : Bool) (v : List Bool) where
+module _ (These Those : Item → Type 0) (d : Diagram) (kx ky : List ℕ) (meets : MeetsKept These Those d kx ky)
+    (bonds_only : Bool) (v : List Bool) where
   abbrev pub Of : Bool → Item → Type 0
   Of true = These
   Of false = Those
@@ -72,7 +73,11 @@ module _ (These Those : Item → Type 0) (d : Diagram) (kx ky : List ℕ) (meets
   one_from false item h = inr h
 
   both_from_any : (a b : ℕ) → AnyOf R a b → Both a b
-  both_from_any a b h = record { item = h.holds.item; among = one_from h.set h.holds.item h.holds.among; between = h.holds.between }
+  both_from_any a b h = record {
+    item = h.holds.item;
+    among = one_from h.set h.holds.item h.holds.among;
+    between = h.holds.between;
+  }
 
   abbrev LabelsOf : Bool → List ℕ → List ℕ → Type 0
   LabelsOf i kept labels = (a b : ℕ) → Keeps kept a → Keeps kept b → SameAt kept labels a b ↔ Linked (R i) a b
@@ -82,8 +87,10 @@ module _ (These Those : Item → Type 0) (d : Diagram) (kx ky : List ℕ) (meets
     Q = SameInEither kx lx ky ly
 
     any_from_same : (a b : ℕ) → Q a b → Linked (AnyOf R) a b
-    any_from_same a b (inl s) = any_from_within R true a b ((sx a b (keeps_first kx lx a b s) (keeps_second kx lx a b s)).0 s)
-    any_from_same a b (inr s) = any_from_within R false a b ((sy a b (keeps_first ky ly a b s) (keeps_second ky ly a b s)).0 s)
+    any_from_same a b (inl s) =
+        any_from_within R true a b ((sx a b (keeps_first kx lx a b s) (keeps_second kx lx a b s)).0 s)
+    any_from_same a b (inr s) =
+        any_from_within R false a b ((sy a b (keeps_first ky ly a b s) (keeps_second ky ly a b s)).0 s)
 
     same_in : (i : Bool) (a b : ℕ) → K i a → K i b → Linked (R i) a b → Q a b
     same_in true a b ka kb l = inl ((sx a b ka kb).1 l)
@@ -103,10 +110,13 @@ module _ (These Those : Item → Type 0) (d : Diagram) (kx ky : List ℕ) (meets
     same_from_both a b ka kb l =
         let wa = which a ka in
         let wb = which b kb in
-        same_from_hops a b (hops_between Bool bool_same R T K both_meet wa.0 wb.0 a b wa.1 wb.1 (linked_weaker Both (AnyOf R) any_from_both a b l))
+        same_from_hops a b (hops_between Bool bool_same R T K both_meet wa.0 wb.0 a b wa.1 wb.1
+        (linked_weaker Both (AnyOf R) any_from_both a b l))
 
     -- Sources of one kind, for both sides.
-    module _ (S : Bool → ℕ → Type 0) (touches : (i : Bool) (n : ℕ) → S i n → T i n) (mx my : List Bool) (ex : (a : ℕ) → Keeps kx a → MarkedAt kx mx a ↔ ((m : ℕ) × Linked (R true) a m × S true m)) (ey : (a : ℕ) → Keeps ky a → MarkedAt ky my a ↔ ((m : ℕ) × Linked (R false) a m × S false m)) where
+    module _ (S : Bool → ℕ → Type 0) (touches : (i : Bool) (n : ℕ) → S i n → T i n) (mx my : List Bool)
+        (ex : (a : ℕ) → Keeps kx a → MarkedAt kx mx a ↔ ((m : ℕ) × Linked (R true) a m × S true m))
+        (ey : (a : ℕ) → Keeps ky a → MarkedAt ky my a ↔ ((m : ℕ) × Linked (R false) a m × S false m)) where
       abbrev Marked : ℕ → Type 0
       Marked m = MarkedAt kx mx m ⊎ MarkedAt ky my m
 
@@ -114,15 +124,19 @@ module _ (These Those : Item → Type 0) (d : Diagram) (kx ky : List ℕ) (meets
       marked_in true a m k l s = inl ((ex a k).1 (m, l, s))
       marked_in false a m k l s = inr ((ey a k).1 (m, l, s))
 
-      pub marked_from_source : (a : ℕ) → Keeps kx a ⊎ Keeps ky a → (i : Bool) (m : ℕ) → Linked Both a m → S i m → (n : ℕ) × Linked Q a n × Marked n
+      pub marked_from_source : (a : ℕ) → Keeps kx a ⊎ Keeps ky a → (i : Bool) (m : ℕ) → Linked Both a m → S i m →
+          (n : ℕ) × Linked Q a n × Marked n
       marked_from_source a ka i m l s =
           let wa = which a ka in
-          let r : Reaches R K i a m = reaches Bool bool_same R T K both_meet wa.0 i a m wa.1 (inl (touches i m s)) (linked_weaker Both (AnyOf R) any_from_both a m l) in
+          let r : Reaches R K i a m =
+          reaches Bool bool_same R T K both_meet wa.0 i a m wa.1 (inl (touches i m s))
+          (linked_weaker Both (AnyOf R) any_from_both a m l) in
           (r.last, same_from_hops a r.last r.hops, marked_in i r.last m r.kept r.within s)
 
       joined_on : (i : Bool) (a n m : ℕ) → Linked Q a n → Linked (R i) n m → Linked Both a m
       joined_on i a n m l k =
-          linked_trans Both a n m (both_from_same a n l) (linked_weaker (AnyOf R) Both both_from_any n m (any_from_within R i n m k))
+          linked_trans Both a n m (both_from_same a n l)
+          (linked_weaker (AnyOf R) Both both_from_any n m (any_from_within R i n m k))
 
       pub source_from_marked : (a n : ℕ) → Linked Q a n → Marked n → (i : Bool) × (m : ℕ) × Linked Both a m × S i m
       source_from_marked a n l (inl k) =

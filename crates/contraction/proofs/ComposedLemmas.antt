@@ -1,5 +1,6 @@
 -- The composition, from what its steps give.
-use Rattle.std.proofs.Common.{◌≡◌, ℕ, ◌<◌, Bool, true, List, length, slice_get, slice_index, Some, ◌∙◌, subst, inl, inr, arith}
+use Rattle.std.proofs.Common.{◌≡◌, ℕ, ◌<◌, Bool, true, List, length, slice_get, slice_index, Some, ◌∙◌, subst, inl, inr}
+use Rattle.std.proofs.Common.{arith}
 use Rattle.std.proofs.lemmas.Option.{slice_get_within}
 use Rattle.contraction.specs.Answers.{Answers, AreLabels, IsContraction}
 use Rattle.contraction.specs.Composing.{LabelsCompose, MarksCompose, Composes}
@@ -25,7 +26,8 @@ pub record Steps (x y : Answers) (p q : List ℕ) (c : Answers) : Type 0 where
 merged_at : (a a1 b b1 k p q : List ℕ) → a ≡ a1 → b ≡ b1 → IsMerged a b k p q → IsMerged a1 b1 k p q
 merged_at a a1 b b1 k p q ea eb h = subst (λ x. IsMerged x b1 k p q) ea (subst (λ x. IsMerged a x k p q) eb h)
 
-labels_at : (p p1 la la1 q q1 lb lb1 : List ℕ) (n n1 : ℕ) (labels : List ℕ) → p ≡ p1 → la ≡ la1 → q ≡ q1 → lb ≡ lb1 → n ≡ n1 → LabelsOfBoth p la q lb n labels → LabelsOfBoth p1 la1 q1 lb1 n1 labels
+labels_at : (p p1 la la1 q q1 lb lb1 : List ℕ) (n n1 : ℕ) (labels : List ℕ) → p ≡ p1 → la ≡ la1 → q ≡ q1 → lb ≡ lb1 →
+    n ≡ n1 → LabelsOfBoth p la q lb n labels → LabelsOfBoth p1 la1 q1 lb1 n1 labels
 labels_at p p1 la la1 q q1 lb lb1 n n1 labels ep ela eq elb en h =
     subst (λ x. LabelsOfBoth x la1 q1 lb1 n1 labels) ep
     (subst (λ x. LabelsOfBoth p x q1 lb1 n1 labels) ela
@@ -47,51 +49,80 @@ pub record Made (x y : Inside) (u : Union) (gap load : Row) (bonded a b p la q l
   pub counted : count ≡ length u.kept.items
   pub bonded_row : LabelsOfBoth p la q lb count bonded
 
-module _ (x y : Inside) (u : Union) (gap load : Row) (bonded a b p la q lb : List ℕ) (count : ℕ) (m : Made x y u gap load bonded a b p la q lb count) where
+module _ (x y : Inside) (u : Union) (gap load : Row) (bonded a b p la q lb : List ℕ) (count : ℕ)
+    (m : Made x y u gap load bonded a b p la q lb count) where
   pub union_merged : IsMerged x.kept.items y.kept.items u.kept.items u.first.items u.second.items
-  union_merged = merged_at a x.kept.items b y.kept.items u.kept.items u.first.items u.second.items m.first_kept m.second_kept m.merged
+  union_merged =
+      merged_at a x.kept.items b y.kept.items u.kept.items u.first.items u.second.items m.first_kept
+      m.second_kept m.merged
 
-  pub steps_made : Steps (answers_of x) (answers_of y) u.first.items u.second.items (answers_of (record { kept = u.kept; gap = gap; load = load; bonded = bonded }))
+  pub steps_made : Steps (answers_of x) (answers_of y) u.first.items u.second.items
+      (answers_of (record { kept = u.kept; gap = gap; load = load; bonded = bonded }))
   steps_made = record {
     merged = union_merged;
     coupled = m.gap_row.labels;
     joined = m.load_row.labels;
-    bonded = labels_at p u.first.items la x.bonded q u.second.items lb y.bonded count (length u.kept.items) bonded m.first_places m.first_labels m.second_places m.second_labels m.counted m.bonded_row;
+    bonded =
+        labels_at p u.first.items la x.bonded q u.second.items lb y.bonded count (length u.kept.items) bonded
+        m.first_places m.first_labels m.second_places m.second_labels m.counted m.bonded_row;
     energisable = m.gap_row.first;
     earthable = m.gap_row.second;
     fed = m.load_row.first;
     loaded = m.load_row.second;
   }
 
-class_more : (places labels : List ℕ) (m n : List Bool) (i k : ℕ) → ((j : ℕ) → slice_get m j ≡ Some true → slice_get n j ≡ Some true) → MarksClass places labels m i k → MarksClass places labels n i k
-class_more places labels m n i k more h = record { entry = h.entry; below = h.below; marked = more h.entry h.marked; stands = h.stands }
+class_more : (places labels : List ℕ) (m n : List Bool) (i k : ℕ) →
+    ((j : ℕ) → slice_get m j ≡ Some true → slice_get n j ≡ Some true) → MarksClass places labels m i k →
+    MarksClass places labels n i k
+class_more places labels m n i k more h = record {
+  entry = h.entry;
+  below = h.below;
+  marked = more h.entry h.marked;
+  stands = h.stands;
+}
 
 module _ (x y c : Answers) (p q : List ℕ) (wx : IsContraction x) (wy : IsContraction y) (s : Steps x y p q c) where
-  labels : (la lb labels : List ℕ) → AreLabels (length x.kept) la → AreLabels (length y.kept) lb → LabelsOfBoth p la q lb (length c.kept) labels → LabelsCompose x.kept la y.kept lb c.kept labels
-  labels la lb ls ha hb h = labels_compose x.kept y.kept c.kept p q s.merged wx.nodes.rises wy.nodes.rises la lb ha hb ls h
+  labels : (la lb labels : List ℕ) → AreLabels (length x.kept) la → AreLabels (length y.kept) lb →
+      LabelsOfBoth p la q lb (length c.kept) labels → LabelsCompose x.kept la y.kept lb c.kept labels
+  labels la lb ls ha hb h =
+      labels_compose x.kept y.kept c.kept p q s.merged wx.nodes.rises wy.nodes.rises la lb ha hb ls h
 
-  marks : (la lb ls : List ℕ) → AreLabels (length x.kept) la → AreLabels (length y.kept) lb → LabelsOfBoth p la q lb (length c.kept) ls → (ma mb ms : List Bool) → length ma ≡ length x.kept → length mb ≡ length y.kept → MarksOfBoth ls p ma q mb ms → MarksCompose x.kept la ma y.kept lb mb c.kept ms
+  marks : (la lb ls : List ℕ) → AreLabels (length x.kept) la → AreLabels (length y.kept) lb →
+      LabelsOfBoth p la q lb (length c.kept) ls → (ma mb ms : List Bool) → length ma ≡ length x.kept →
+      length mb ≡ length y.kept → MarksOfBoth ls p ma q mb ms → MarksCompose x.kept la ma y.kept lb mb c.kept ms
   marks la lb ls ha hb h ma mb ms fa fb k =
-      marks_compose x.kept y.kept c.kept p q s.merged wx.nodes.rises wy.nodes.rises la lb ha hb ls h ma mb ms (λ i i_in. k.told i (omega (arith, h.len))) fa fb
+      marks_compose x.kept y.kept c.kept p q s.merged wx.nodes.rises wy.nodes.rises la lb ha hb ls h ma mb ms
+      (λ i i_in. k.told i (omega (arith, h.len))) fa fb
 
   pub composed : Composes x y c
   composed = record {
-    kept = kept_compose x.kept y.kept c.kept p q s.merged wx.nodes.rises wy.nodes.rises x.coupled y.coupled wx.coupled wy.coupled;
+    kept =
+        kept_compose x.kept y.kept c.kept p q s.merged wx.nodes.rises wy.nodes.rises x.coupled y.coupled
+        wx.coupled wy.coupled;
     coupled = labels x.coupled y.coupled c.coupled wx.coupled wy.coupled s.coupled;
     joined = labels x.joined y.joined c.joined wx.joined wy.joined s.joined;
     bonded = labels x.bonded y.bonded c.bonded wx.bonded wy.bonded s.bonded;
-    energisable = marks x.coupled y.coupled c.coupled wx.coupled wy.coupled s.coupled x.energisable y.energisable c.energisable wx.energisable wy.energisable s.energisable;
-    earthable = marks x.coupled y.coupled c.coupled wx.coupled wy.coupled s.coupled x.earthable y.earthable c.earthable wx.earthable wy.earthable s.earthable;
+    energisable =
+        marks x.coupled y.coupled c.coupled wx.coupled wy.coupled s.coupled x.energisable y.energisable c.energisable
+        wx.energisable wy.energisable s.energisable;
+    earthable =
+        marks x.coupled y.coupled c.coupled wx.coupled wy.coupled s.coupled x.earthable y.earthable c.earthable
+        wx.earthable wy.earthable s.earthable;
     fed = marks x.joined y.joined c.joined wx.joined wy.joined s.joined x.fed y.fed c.fed wx.fed wy.fed s.fed;
-    loaded = marks x.joined y.joined c.joined wx.joined wy.joined s.joined x.loaded y.loaded c.loaded wx.loaded wy.loaded s.loaded;
+    loaded =
+        marks x.joined y.joined c.joined wx.joined wy.joined s.joined x.loaded y.loaded c.loaded wx.loaded
+        wy.loaded s.loaded;
   }
 
   pub composed_well : IsContraction c
   composed_well = record {
     nodes = merged_nodes x.kept y.kept c.kept p q wx.nodes wy.nodes s.merged;
-    coupled = AreLabels-from_keeps (EdgeOf p x.coupled (length p) q y.coupled (length q)) (length c.kept) c.coupled s.coupled;
-    joined = AreLabels-from_keeps (EdgeOf p x.joined (length p) q y.joined (length q)) (length c.kept) c.joined s.joined;
-    bonded = AreLabels-from_keeps (EdgeOf p x.bonded (length p) q y.bonded (length q)) (length c.kept) c.bonded s.bonded;
+    coupled =
+        AreLabels-from_keeps (EdgeOf p x.coupled (length p) q y.coupled (length q)) (length c.kept) c.coupled s.coupled;
+    joined =
+        AreLabels-from_keeps (EdgeOf p x.joined (length p) q y.joined (length q)) (length c.kept) c.joined s.joined;
+    bonded =
+        AreLabels-from_keeps (EdgeOf p x.bonded (length p) q y.bonded (length q)) (length c.kept) c.bonded s.bonded;
     energisable = s.energisable.len ∙ s.coupled.len;
     earthable = s.earthable.len ∙ s.coupled.len;
     fed = s.fed.len ∙ s.joined.len;

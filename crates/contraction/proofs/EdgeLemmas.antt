@@ -10,10 +10,12 @@ use Rattle.contraction.specs.Merging.{EdgeBelow, EdgeOf}
 edge_less : (p l : List ℕ) (i a b : ℕ) → EdgeBelow p l i a b → EdgeBelow p l (i + 1) a b
 edge_less p l i a b e = record { entry = e.entry; below = omega arith; ends = e.ends }
 
-edge_here : (p l : List ℕ) (i a b : ℕ) → AreEnds (slice_index p i) (slice_index p (slice_index l i)) a b → EdgeBelow p l (i + 1) a b
+edge_here : (p l : List ℕ) (i a b : ℕ) → AreEnds (slice_index p i) (slice_index p (slice_index l i)) a b →
+    EdgeBelow p l (i + 1) a b
 edge_here p l i a b e = record { entry = i; below = omega arith; ends = e }
 
-edge_cases : (p l : List ℕ) (i a b : ℕ) → EdgeBelow p l (i + 1) a b → EdgeBelow p l i a b ⊎ AreEnds (slice_index p i) (slice_index p (slice_index l i)) a b
+edge_cases : (p l : List ℕ) (i a b : ℕ) → EdgeBelow p l (i + 1) a b →
+    EdgeBelow p l i a b ⊎ AreEnds (slice_index p i) (slice_index p (slice_index l i)) a b
 edge_cases p l i a b e = elim (cases_lt e.entry i) [
   | inl less ↦ inl (record { entry = e.entry; below = less; ends = e.ends })
   | inr more ↦
@@ -22,7 +24,11 @@ edge_cases p l i a b e = elim (cases_lt e.entry i) [
 ]
 
 edge_back : (p l : List ℕ) (i a b : ℕ) → EdgeBelow p l i a b → EdgeBelow p l i b a
-edge_back p l i a b e = record { entry = e.entry; below = e.below; ends = ends_back (slice_index p e.entry) (slice_index p (slice_index l e.entry)) a b e.ends }
+edge_back p l i a b e = record {
+  entry = e.entry;
+  below = e.below;
+  ends = ends_back (slice_index p e.entry) (slice_index p (slice_index l e.entry)) a b e.ends;
+}
 
 no_edge : (p l : List ℕ) (a b : ℕ) → EdgeBelow p l 0 a b → ⊥
 no_edge p l a b e = omega (arith, e.below)
@@ -40,7 +46,8 @@ module _ (p l q m : List ℕ) where
   first_kept i j a b (inl e) = inl (edge_less p l i a b e)
   first_kept i j a b (inr e) = inr e
 
-  first_only : (i j a b : ℕ) → EdgeOf p l (i + 1) q m j a b → EdgeOf p l i q m j a b ⊎ AreEnds (slice_index p i) (slice_index p (slice_index l i)) a b
+  first_only : (i j a b : ℕ) → EdgeOf p l (i + 1) q m j a b →
+      EdgeOf p l i q m j a b ⊎ AreEnds (slice_index p i) (slice_index p (slice_index l i)) a b
   first_only i j a b (inl e) = elim (edge_cases p l i a b e) [ inl old ↦ inl (inl old) | inr new ↦ inr new ]
   first_only i j a b (inr e) = inl (inr e)
 
@@ -48,19 +55,26 @@ module _ (p l q m : List ℕ) where
   second_kept i j a b (inl e) = inl e
   second_kept i j a b (inr e) = inr (edge_less q m j a b e)
 
-  second_only : (i j a b : ℕ) → EdgeOf p l i q m (j + 1) a b → EdgeOf p l i q m j a b ⊎ AreEnds (slice_index q j) (slice_index q (slice_index m j)) a b
+  second_only : (i j a b : ℕ) → EdgeOf p l i q m (j + 1) a b →
+      EdgeOf p l i q m j a b ⊎ AreEnds (slice_index q j) (slice_index q (slice_index m j)) a b
   second_only i j a b (inl e) = inl (inl e)
   second_only i j a b (inr e) = elim (edge_cases q m j a b e) [ inl old ↦ inl (inr old) | inr new ↦ inr new ]
 
   -- one more entry of the first list
-  pub after_first : (i j n : ℕ) (labels : List ℕ) → slice_index p i < n → slice_index p (slice_index l i) < n → KeepsLabels (EdgeOf p l i q m j) n labels → KeepsLabels (EdgeOf p l (i + 1) q m j) n (merged labels (slice_index p i) (slice_index p (slice_index l i)))
+  pub after_first : (i j n : ℕ) (labels : List ℕ) → slice_index p i < n → slice_index p (slice_index l i) < n →
+      KeepsLabels (EdgeOf p l i q m j) n labels →
+      KeepsLabels (EdgeOf p l (i + 1) q m j) n (merged labels (slice_index p i) (slice_index p (slice_index l i)))
   after_first i j n labels a_in b_in h =
-      KeepsLabels-merged (EdgeOf p l i q m j) (EdgeOf p l (i + 1) q m j) n labels (slice_index p i) (slice_index p (slice_index l i))
+      KeepsLabels-merged (EdgeOf p l i q m j) (EdgeOf p l (i + 1) q m j) n labels (slice_index p i)
+      (slice_index p (slice_index l i))
       (record { kept = first_kept i j; added = λ a b e. inl (edge_here p l i a b e); only = first_only i j })
       (edges_back (i + 1) j) a_in b_in h
 
-  pub after_second : (i j n : ℕ) (labels : List ℕ) → slice_index q j < n → slice_index q (slice_index m j) < n → KeepsLabels (EdgeOf p l i q m j) n labels → KeepsLabels (EdgeOf p l i q m (j + 1)) n (merged labels (slice_index q j) (slice_index q (slice_index m j)))
+  pub after_second : (i j n : ℕ) (labels : List ℕ) → slice_index q j < n → slice_index q (slice_index m j) < n →
+      KeepsLabels (EdgeOf p l i q m j) n labels →
+      KeepsLabels (EdgeOf p l i q m (j + 1)) n (merged labels (slice_index q j) (slice_index q (slice_index m j)))
   after_second i j n labels a_in b_in h =
-      KeepsLabels-merged (EdgeOf p l i q m j) (EdgeOf p l i q m (j + 1)) n labels (slice_index q j) (slice_index q (slice_index m j))
+      KeepsLabels-merged (EdgeOf p l i q m j) (EdgeOf p l i q m (j + 1)) n labels (slice_index q j)
+      (slice_index q (slice_index m j))
       (record { kept = second_kept i j; added = λ a b e. inr (edge_here q m j a b e); only = second_only i j })
       (edges_back i (j + 1)) a_in b_in h

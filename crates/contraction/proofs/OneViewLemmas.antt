@@ -1,6 +1,7 @@
 -- Composing in one view alone: a whole value is made of one row, twice, and what is proved of whole values
 -- is read of that view.
-use Rattle.std.proofs.Common.{◌≡◌, ℕ, ◌⊎◌, ◌↔◌, ◌++◌, Bool, false, List, [], length, slice_get, replicate, sym, ◌∙◌, ap, subst}
+use Rattle.std.proofs.Common.{◌≡◌, ℕ, ◌⊎◌, ◌↔◌, ◌++◌, Bool, false, List, [], length, slice_get, replicate, sym, ◌∙◌, ap}
+use Rattle.std.proofs.Common.{subst}
 use Rattle.std.specs.Prelude.{Contains}
 use Rattle.station_graph.specs.Diagram.{Diagram}
 use Rattle.station_graph.specs.Connection.{Item}
@@ -12,7 +13,8 @@ use Rattle.contraction.specs.Answers.{Answers, Keeps, MarkedAt, IsContraction}
 use Rattle.contraction.specs.Inside.{answers_of}
 use Rattle.contraction.specs.Single.{AreApart}
 use Rattle.contraction.specs.Stands.{Among, MeetsKept, GapStandsFor, LoadStandsFor}
-use Rattle.contraction.specs.Composing.{Composes, ComposesGap, ComposesLoad, Restricts, IsGapOfBoth, IsLoadOfBoth, IsGapRowOfBoth, IsLoadRowOfBoth}
+use Rattle.contraction.specs.Composing.{Composes, ComposesGap, ComposesLoad, Restricts, IsGapOfBoth, IsLoadOfBoth}
+use Rattle.contraction.specs.Composing.{IsGapRowOfBoth, IsLoadRowOfBoth}
 use Rattle.contraction.specs.Rows.{gap_row, load_row}
 use Rattle.contraction.specs.Selecting.{IsLayout, RowSelected, LabelsSelected}
 use Rattle.contraction.proofs.ItemSets.{Either, gap_over, load_over, among_both}
@@ -76,7 +78,9 @@ pub record IsBare (count : ℕ) (row : Row) : Type 0 where
 pub bare_of : (count n : ℕ) (row : Row) → n ≡ count → IsBare n row → IsBare count row
 bare_of count n row e h = subst (λ k. IsBare k row) e h
 
-module _ (x y : Inside) (wx : IsContraction (answers_of x)) (wy : IsContraction (answers_of y)) (nodes : List ℕ) (s : Layout) (is : IsLayout x.kept.items y.kept.items nodes s) (inside : (n : ℕ) → Contains nodes n → Keeps x.kept.items n ⊎ Keeps y.kept.items n) where
+module _ (x y : Inside) (wx : IsContraction (answers_of x)) (wy : IsContraction (answers_of y)) (nodes : List ℕ)
+    (s : Layout) (is : IsLayout x.kept.items y.kept.items nodes s)
+    (inside : (n : ℕ) → Contains nodes n → Keeps x.kept.items n ⊎ Keeps y.kept.items n) where
   module _ (row : Row) (h : RowSelected s x.gap y.gap row) where
     abbrev gap_wide : Answers
     gap_wide = twice s.union.kept.items h.wide h.wide h.first.wide h.second.wide h.first.wide
@@ -84,7 +88,8 @@ module _ (x y : Inside) (wx : IsContraction (answers_of x)) (wy : IsContraction 
     abbrev gap_fewer : Answers
     gap_fewer = twice s.kept.items row.labels row.labels row.first.items row.second.items row.first.items
 
-    gap_steps : Steps (gap_twice (answers_of x)) (gap_twice (answers_of y)) s.union.first.items s.union.second.items gap_wide
+    gap_steps : Steps (gap_twice (answers_of x)) (gap_twice (answers_of y)) s.union.first.items
+        s.union.second.items gap_wide
     gap_steps = record {
       merged = is.merged;
       coupled = h.composes;
@@ -97,10 +102,14 @@ module _ (x y : Inside) (wx : IsContraction (answers_of x)) (wy : IsContraction 
     }
 
     gap_wide_well : IsContraction gap_wide
-    gap_wide_well = composed_well (gap_twice (answers_of x)) (gap_twice (answers_of y)) gap_wide s.union.first.items s.union.second.items (gap_twice_well (answers_of x) wx) (gap_twice_well (answers_of y) wy) gap_steps
+    gap_wide_well =
+        composed_well (gap_twice (answers_of x)) (gap_twice (answers_of y)) gap_wide s.union.first.items
+        s.union.second.items (gap_twice_well (answers_of x) wx) (gap_twice_well (answers_of y) wy) gap_steps
 
     gap_wide_composes : Composes (gap_twice (answers_of x)) (gap_twice (answers_of y)) gap_wide
-    gap_wide_composes = composed (gap_twice (answers_of x)) (gap_twice (answers_of y)) gap_wide s.union.first.items s.union.second.items (gap_twice_well (answers_of x) wx) (gap_twice_well (answers_of y) wy) gap_steps
+    gap_wide_composes =
+        composed (gap_twice (answers_of x)) (gap_twice (answers_of y)) gap_wide s.union.first.items s.union.second.items
+        (gap_twice_well (answers_of x) wx) (gap_twice_well (answers_of y) wy) gap_steps
 
     gap_restricts : RestrictSteps nodes gap_wide gap_fewer s.places.items
     gap_restricts = record {
@@ -120,15 +129,19 @@ module _ (x y : Inside) (wx : IsContraction (answers_of x)) (wy : IsContraction 
 
     gap_fewer_composes : ComposesGap (answers_of x) (answers_of y) gap_fewer
     gap_fewer_composes =
-        let fewer : Restricts gap_wide gap_fewer = restricted nodes gap_wide gap_fewer s.places.items gap_wide_well gap_restricts in
+        let fewer : Restricts gap_wide gap_fewer =
+        restricted nodes gap_wide gap_fewer s.places.items gap_wide_well gap_restricts in
         let g = gap_on_fewer (gap_twice (answers_of x)) (gap_twice (answers_of y)) gap_wide gap_fewer fewer
         (gap_half (gap_twice (answers_of x)) (gap_twice (answers_of y)) gap_wide gap_wide_composes) in
         record { kept = g.kept; coupled = g.coupled; energisable = g.energisable; earthable = g.earthable }
 
     gap_fewer_kept : (n : ℕ) → Keeps s.kept.items n ↔ Contains nodes n
-    gap_fewer_kept = restricted_kept nodes gap_wide gap_fewer s.places.items gap_wide_well gap_restricts (λ n has. (gap_wide_composes.kept n).1 (inside n has))
+    gap_fewer_kept =
+        restricted_kept nodes gap_wide gap_fewer s.places.items gap_wide_well gap_restricts
+        (λ n has. (gap_wide_composes.kept n).1 (inside n has))
 
-    pub gap_row_of_both : (bytes : List ℕ) → bytes ≡ gap_row gap_fewer → IsGapRowOfBoth nodes (answers_of x) (answers_of y) bytes
+    pub gap_row_of_both : (bytes : List ℕ) → bytes ≡ gap_row gap_fewer →
+        IsGapRowOfBoth nodes (answers_of x) (answers_of y) bytes
     gap_row_of_both bytes is_row = record {
       value = gap_fewer;
       contraction = gap_fewer_well;
@@ -137,7 +150,8 @@ module _ (x y : Inside) (wx : IsContraction (answers_of x)) (wy : IsContraction 
       row = is_row;
     }
 
-    module _ (other : Row) (bonded : List ℕ) (bare : IsBare (length s.kept.items) other) (apart : AreApart (length s.kept.items) bonded) where
+    module _ (other : Row) (bonded : List ℕ) (bare : IsBare (length s.kept.items) other)
+        (apart : AreApart (length s.kept.items) bonded) where
       abbrev gap_value : Answers
       gap_value = answers_of (record { kept = s.kept; gap = row; load = other; bonded = bonded })
 
@@ -168,8 +182,12 @@ module _ (x y : Inside) (wx : IsContraction (answers_of x)) (wy : IsContraction 
           record {
             joined = b.joined;
             bonded = b.bonded;
-            fed = λ a k. subst (λ (m : List Bool). MarkedAt s.kept.items m a ↔ FedBy (Among []) d v a) (sym bare.first) (b.fed a k);
-            loaded = λ a k. subst (λ (m : List Bool). MarkedAt s.kept.items m a ↔ (FedBy (Among []) d v a ⊎ TappedBy (Among []) d v a)) (sym bare.second) (b.loaded a k);
+            fed =
+                λ a k. subst (λ (m : List Bool). MarkedAt s.kept.items m a ↔ FedBy (Among []) d v a)
+                (sym bare.first) (b.fed a k);
+            loaded =
+                λ a k. subst (λ (m : List Bool). MarkedAt s.kept.items m a ↔
+                (FedBy (Among []) d v a ⊎ TappedBy (Among []) d v a)) (sym bare.second) (b.loaded a k);
           }
 
       pub gap_of_both : IsGapOfBoth nodes (answers_of x) (answers_of y) gap_value
@@ -180,14 +198,16 @@ module _ (x y : Inside) (wx : IsContraction (answers_of x)) (wy : IsContraction 
         bare = gap_value_bare;
       }
 
-  module _ (row : Row) (bonded : List ℕ) (h : RowSelected s x.load y.load row) (k : LabelsSelected s x.bonded y.bonded bonded) where
+  module _ (row : Row) (bonded : List ℕ) (h : RowSelected s x.load y.load row)
+      (k : LabelsSelected s x.bonded y.bonded bonded) where
     abbrev load_wide : Answers
     load_wide = twice s.union.kept.items h.wide k.wide h.first.wide h.second.wide h.second.wide
 
     abbrev load_fewer : Answers
     load_fewer = twice s.kept.items row.labels bonded row.first.items row.second.items row.second.items
 
-    load_steps : Steps (load_twice (answers_of x)) (load_twice (answers_of y)) s.union.first.items s.union.second.items load_wide
+    load_steps : Steps (load_twice (answers_of x)) (load_twice (answers_of y)) s.union.first.items
+        s.union.second.items load_wide
     load_steps = record {
       merged = is.merged;
       coupled = h.composes;
@@ -200,10 +220,14 @@ module _ (x y : Inside) (wx : IsContraction (answers_of x)) (wy : IsContraction 
     }
 
     load_wide_well : IsContraction load_wide
-    load_wide_well = composed_well (load_twice (answers_of x)) (load_twice (answers_of y)) load_wide s.union.first.items s.union.second.items (load_twice_well (answers_of x) wx) (load_twice_well (answers_of y) wy) load_steps
+    load_wide_well =
+        composed_well (load_twice (answers_of x)) (load_twice (answers_of y)) load_wide s.union.first.items
+        s.union.second.items (load_twice_well (answers_of x) wx) (load_twice_well (answers_of y) wy) load_steps
 
     load_wide_composes : Composes (load_twice (answers_of x)) (load_twice (answers_of y)) load_wide
-    load_wide_composes = composed (load_twice (answers_of x)) (load_twice (answers_of y)) load_wide s.union.first.items s.union.second.items (load_twice_well (answers_of x) wx) (load_twice_well (answers_of y) wy) load_steps
+    load_wide_composes =
+        composed (load_twice (answers_of x)) (load_twice (answers_of y)) load_wide s.union.first.items
+        s.union.second.items (load_twice_well (answers_of x) wx) (load_twice_well (answers_of y) wy) load_steps
 
     load_restricts : RestrictSteps nodes load_wide load_fewer s.places.items
     load_restricts = record {
@@ -223,15 +247,19 @@ module _ (x y : Inside) (wx : IsContraction (answers_of x)) (wy : IsContraction 
 
     load_fewer_composes : ComposesLoad (answers_of x) (answers_of y) load_fewer
     load_fewer_composes =
-        let fewer : Restricts load_wide load_fewer = restricted nodes load_wide load_fewer s.places.items load_wide_well load_restricts in
+        let fewer : Restricts load_wide load_fewer =
+        restricted nodes load_wide load_fewer s.places.items load_wide_well load_restricts in
         let g = load_on_fewer (load_twice (answers_of x)) (load_twice (answers_of y)) load_wide load_fewer fewer
         (load_half (load_twice (answers_of x)) (load_twice (answers_of y)) load_wide load_wide_composes) in
         record { kept = g.kept; joined = g.joined; bonded = g.bonded; fed = g.fed; loaded = g.loaded }
 
     load_fewer_kept : (n : ℕ) → Keeps s.kept.items n ↔ Contains nodes n
-    load_fewer_kept = restricted_kept nodes load_wide load_fewer s.places.items load_wide_well load_restricts (λ n has. (load_wide_composes.kept n).1 (inside n has))
+    load_fewer_kept =
+        restricted_kept nodes load_wide load_fewer s.places.items load_wide_well load_restricts
+        (λ n has. (load_wide_composes.kept n).1 (inside n has))
 
-    pub load_row_of_both : (bytes : List ℕ) → bytes ≡ load_row load_fewer → IsLoadRowOfBoth nodes (answers_of x) (answers_of y) bytes
+    pub load_row_of_both : (bytes : List ℕ) → bytes ≡ load_row load_fewer →
+        IsLoadRowOfBoth nodes (answers_of x) (answers_of y) bytes
     load_row_of_both bytes is_row = record {
       value = load_fewer;
       contraction = load_fewer_well;
@@ -247,7 +275,8 @@ module _ (x y : Inside) (wx : IsContraction (answers_of x)) (wy : IsContraction 
       load_value_well : IsContraction load_value
       load_value_well =
           let w : IsContraction load_fewer = load_fewer_well in
-          let b = bare_well s.kept.items other.labels other.labels other.labels bare.labels bare.labels bare.labels w.nodes in
+          let b = bare_well s.kept.items other.labels other.labels other.labels bare.labels bare.labels
+          bare.labels w.nodes in
           record {
             nodes = w.nodes;
             coupled = b.coupled;
@@ -267,11 +296,16 @@ module _ (x y : Inside) (wx : IsContraction (answers_of x)) (wy : IsContraction 
 
       load_value_bare : (d : Diagram) (v : List Bool) → GapStandsFor (Among []) d v load_value
       load_value_bare d v =
-          let b = (bare_stands s.kept.items other.labels other.labels other.labels bare.labels bare.labels bare.labels d v).gap in
+          let b = (bare_stands s.kept.items other.labels other.labels other.labels bare.labels bare.labels bare.labels
+          d v).gap in
           record {
             coupled = b.coupled;
-            energisable = λ a l. subst (λ (m : List Bool). MarkedAt s.kept.items m a ↔ EnergisableBy (Among []) d v a) (sym bare.first) (b.energisable a l);
-            earthable = λ a l. subst (λ (m : List Bool). MarkedAt s.kept.items m a ↔ EarthableBy (Among []) d v a) (sym bare.second) (b.earthable a l);
+            energisable =
+                λ a l. subst (λ (m : List Bool). MarkedAt s.kept.items m a ↔ EnergisableBy (Among []) d v a)
+                (sym bare.first) (b.energisable a l);
+            earthable =
+                λ a l. subst (λ (m : List Bool). MarkedAt s.kept.items m a ↔ EarthableBy (Among []) d v a)
+                (sym bare.second) (b.earthable a l);
           }
 
       pub load_of_both : IsLoadOfBoth nodes (answers_of x) (answers_of y) load_value
@@ -283,12 +317,18 @@ module _ (x y : Inside) (wx : IsContraction (answers_of x)) (wy : IsContraction 
       }
 
 -- ONE VIEW OF BOTH TOGETHER STANDS FOR BOTH LISTS OF ITEMS
-pub gap_lists : (x y z : Answers) → ComposesGap x y z → (items others : List Item) (d : Diagram) (v : List Bool) → MeetsKept (Among items) (Among others) d x.kept y.kept → GapStandsFor (Among items) d v x → GapStandsFor (Among others) d v y → GapStandsFor (Among (items ++ others)) d v z
+pub gap_lists : (x y z : Answers) → ComposesGap x y z → (items others : List Item) (d : Diagram) (v : List Bool) →
+    MeetsKept (Among items) (Among others) d x.kept y.kept → GapStandsFor (Among items) d v x →
+    GapStandsFor (Among others) d v y → GapStandsFor (Among (items ++ others)) d v z
 gap_lists x y z composes items others d v meets sx sy =
-    gap_over (Either (Among items) (Among others)) (Among (items ++ others)) d v z (λ item has. among_both items others item)
+    gap_over (Either (Among items) (Among others)) (Among (items ++ others)) d v z
+    (λ item has. among_both items others item)
     (gap_composes (Among items) (Among others) d v x y z meets composes sx sy)
 
-pub load_lists : (x y z : Answers) → ComposesLoad x y z → (items others : List Item) (d : Diagram) (v : List Bool) → MeetsKept (Among items) (Among others) d x.kept y.kept → LoadStandsFor (Among items) d v x → LoadStandsFor (Among others) d v y → LoadStandsFor (Among (items ++ others)) d v z
+pub load_lists : (x y z : Answers) → ComposesLoad x y z → (items others : List Item) (d : Diagram) (v : List Bool) →
+    MeetsKept (Among items) (Among others) d x.kept y.kept → LoadStandsFor (Among items) d v x →
+    LoadStandsFor (Among others) d v y → LoadStandsFor (Among (items ++ others)) d v z
 load_lists x y z composes items others d v meets sx sy =
-    load_over (Either (Among items) (Among others)) (Among (items ++ others)) d v z (λ item has. among_both items others item)
+    load_over (Either (Among items) (Among others)) (Among (items ++ others)) d v z
+    (λ item has. among_both items others item)
     (load_composes (Among items) (Among others) d v x y z meets composes sx sy)

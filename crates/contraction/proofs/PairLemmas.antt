@@ -1,5 +1,6 @@
 -- Values of one or two nodes.
-use Rattle.std.proofs.Common.{◌≡◌, ℕ, ◌<◌, ◌≤◌, ◌⊎◌, ◌↔◌, zero, suc, Bool, true, false, cond, List, [], ◌∷◌, min, max, slice_get, slice_index, Some, refl, sym, ◌∙◌, ap, subst, inl, inr, arith}
+use Rattle.std.proofs.Common.{◌≡◌, ℕ, ◌<◌, ◌≤◌, ◌⊎◌, ◌↔◌, zero, suc, Bool, true, false, cond, List, [], ◌∷◌, min, max}
+use Rattle.std.proofs.Common.{slice_get, slice_index, Some, refl, sym, ◌∙◌, ap, subst, inl, inr, arith}
 use Rattle.std.proofs.lemmas.Bool.{cases_lt}
 use Rattle.contraction.specs.Answers.{Answers, IsAt, Keeps, AreLabels, AreNodes, IsContraction}
 use Rattle.contraction.specs.Single.{NoneMarked, PairLabels, IsPair}
@@ -16,7 +17,10 @@ module _ (lo hi : ℕ) where
   pub two_keeps : (n : ℕ) → Keeps two n ↔ ((n ≡ lo) ⊎ (n ≡ hi))
   two_keeps n = (
     λ k. elim (which_place k.place n k.at) [ inl e ↦ inl (sym e.1) | inr e ↦ inr (sym e.1) ],
-    λ h. elim h [ inl e ↦ record { place = 0; at = ap Some (sym e) } | inr e ↦ record { place = 1; at = ap Some (sym e) } ],
+    λ h. elim h [
+      | inl e ↦ record { place = 0; at = ap Some (sym e) }
+      | inr e ↦ record { place = 1; at = ap Some (sym e) }
+    ],
   )
 
   all_zero : (k : ℕ) → slice_index (0 ∷ 0 ∷ []) k ≡ 0
@@ -27,21 +31,37 @@ module _ (lo hi : ℕ) where
   pub two_labels_same : (same : Bool) → PairLabels two (0 ∷ cond same 0 1 ∷ []) same
   two_labels_same true x y kx ky = (
     λ s. inr refl,
-    λ h. record { first = kx.place; second = ky.place; at_first = kx.at; at_second = ky.at; same = all_zero kx.place ∙ sym (all_zero ky.place) },
+    λ h. record {
+      first = kx.place;
+      second = ky.place;
+      at_first = kx.at;
+      at_second = ky.at;
+      same = all_zero kx.place ∙ sym (all_zero ky.place);
+    },
   )
   two_labels_same false x y kx ky = (
     λ s. elim (which_place s.first x s.at_first) [
       | inl e ↦ elim (which_place s.second y s.at_second) [
         | inl f ↦ inl (sym e.1 ∙ f.1)
-        | inr f ↦ absurd (let same = sym (ap (slice_index (0 ∷ 1 ∷ [])) e.0) ∙ s.same ∙ ap (slice_index (0 ∷ 1 ∷ [])) f.0 in omega (arith, same))
+        | inr f ↦
+            absurd (let same = sym (ap (slice_index (0 ∷ 1 ∷ [])) e.0) ∙ s.same ∙ ap (slice_index (0 ∷ 1 ∷ [])) f.0 in
+            omega (arith, same))
       ]
       | inr e ↦ elim (which_place s.second y s.at_second) [
-        | inl f ↦ absurd (let same = sym (ap (slice_index (0 ∷ 1 ∷ [])) e.0) ∙ s.same ∙ ap (slice_index (0 ∷ 1 ∷ [])) f.0 in omega (arith, same))
+        | inl f ↦
+            absurd (let same = sym (ap (slice_index (0 ∷ 1 ∷ [])) e.0) ∙ s.same ∙ ap (slice_index (0 ∷ 1 ∷ [])) f.0 in
+            omega (arith, same))
         | inr f ↦ inl (sym e.1 ∙ f.1)
       ]
     ],
     λ h. elim h [
-      | inl e ↦ record { first = kx.place; second = kx.place; at_first = kx.at; at_second = subst (IsAt two kx.place) e kx.at; same = refl }
+      | inl e ↦ record {
+        first = kx.place;
+        second = kx.place;
+        at_first = kx.at;
+        at_second = subst (IsAt two kx.place) e kx.at;
+        same = refl;
+      }
       | inr e ↦ absurd (cc)
     ],
   )
@@ -73,7 +93,9 @@ below_two true (suc zero) h = omega arith
 below_two false (suc zero) h = omega arith
 below_two same (suc (suc k)) h = absurd (omega arith)
 
-steady_two : (same : Bool) (k : ℕ) → k < 2 → slice_index (0 ∷ cond same 0 1 ∷ []) (slice_index (0 ∷ cond same 0 1 ∷ []) k) ≡ slice_index (0 ∷ cond same 0 1 ∷ []) k
+steady_two : (same : Bool) (k : ℕ) → k < 2 →
+    slice_index (0 ∷ cond same 0 1 ∷ []) (slice_index (0 ∷ cond same 0 1 ∷ []) k)
+    ≡ slice_index (0 ∷ cond same 0 1 ∷ []) k
 steady_two same zero h = refl
 steady_two true (suc zero) h = refl
 steady_two false (suc zero) h = refl
@@ -107,7 +129,8 @@ pair_answers lo hi coupled joined bonded = record {
 none_fed : (k : ℕ) → slice_get (false ∷ false ∷ []) k ≡ Some true → slice_get (false ∷ false ∷ []) k ≡ Some true
 none_fed k e = e
 
-pub pair_well : (lo hi : ℕ) (coupled joined bonded : Bool) → lo < hi → hi < 1024 → IsContraction (pair_answers lo hi coupled joined bonded)
+pub pair_well : (lo hi : ℕ) (coupled joined bonded : Bool) → lo < hi → hi < 1024 →
+    IsContraction (pair_answers lo hi coupled joined bonded)
 pair_well lo hi coupled joined bonded less small = record {
   nodes = two_nodes lo hi less small;
   coupled = two_are_labels coupled;
@@ -136,7 +159,8 @@ ends_of a b n = elim (cases_lt a b) [
       )
 ]
 
-pub pair_is : (a b : ℕ) (coupled joined bonded : Bool) → IsPair a b coupled joined bonded (pair_answers (min a b) (max a b) coupled joined bonded)
+pub pair_is : (a b : ℕ) (coupled joined bonded : Bool) →
+    IsPair a b coupled joined bonded (pair_answers (min a b) (max a b) coupled joined bonded)
 pair_is a b coupled joined bonded =
     let lo : ℕ = min a b in
     let hi : ℕ = max a b in

@@ -1,5 +1,6 @@
 -- The places at which named nodes stand, place by place.
-use Rattle.std.proofs.Common.{◌≡◌, ◌↔◌, ℕ, ◌+◌, Bool, true, false, List, [], ◌∷◌, ◌++◌, length, slice_index, slice_index_or, eqb, eq-eqb, refl, sym, ◌∙◌, subst, inl, inr, arith, Some, ap}
+use Rattle.std.proofs.Common.{◌≡◌, ◌↔◌, ℕ, ◌+◌, Bool, true, false, List, [], ◌∷◌, ◌++◌, length, slice_index}
+use Rattle.std.proofs.Common.{slice_index_or, eqb, eq-eqb, refl, sym, ◌∙◌, subst, inl, inr, arith, Some, ap}
 use Rattle.std.specs.Prelude.{Contains}
 use Rattle.std.specs.List.{IsAnyAnswer}
 use Rattle.std.proofs.lemmas.Bool.{eqb-true}
@@ -19,9 +20,11 @@ places_none nodes kept = record {
 }
 
 -- a list that is asked for a node has it or not
-pub has_answer : (xs : List ℕ) (n : ℕ) (b : Bool) → IsAnyAnswer (λ y c. eqb y n ≡ c) xs b → (b ≡ true → Contains xs n) × (b ≡ false → ¬ Contains xs n)
+pub has_answer : (xs : List ℕ) (n : ℕ) (b : Bool) → IsAnyAnswer (λ y c. eqb y n ≡ c) xs b →
+    (b ≡ true → Contains xs n) × (b ≡ false → ¬ Contains xs n)
 has_answer xs n true h = (λ e. (h.0, h.1, eqb-true (slice_index_or xs h.0 n) n (h.2 n)), λ e. cc)
-has_answer xs n false h = (λ e. cc, λ e c. let f = h c.0 n (omega arith) c.1 in let t = eq-eqb (slice_index_or xs c.0 n) n c.2 in cc)
+has_answer xs n false h =
+    (λ e. cc, λ e c. let f = h c.0 n (omega arith) c.1 in let t = eq-eqb (slice_index_or xs c.0 n) n c.2 in cc)
 
 -- a list keeps what it has
 pub keeps_from_has : (xs : List ℕ) (n : ℕ) → Contains xs n → Keeps xs n
@@ -43,7 +46,9 @@ module _ (nodes kept : List ℕ) (i : ℕ) (places : List ℕ) (h : PlacesBelow 
     named = h.named;
     found = λ p p_in c. elim (cases_lt p i) [
       | inl less ↦ h.found p less c
-      | inr more ↦ let at : p ≡ i = omega arith in absurd (not_named (subst (λ q. Contains nodes (slice_index kept q)) at c))
+      | inr more ↦
+          let at : p ≡ i = omega arith in
+          absurd (not_named (subst (λ q. Contains nodes (slice_index kept q)) at c))
     ];
   }
 
@@ -59,7 +64,9 @@ module _ (nodes kept : List ℕ) (i : ℕ) (places : List ℕ) (h : PlacesBelow 
         rises = rises_push places i h.rises h.below;
         named = λ k k_in. elim (cases_lt k (length places)) [
           | inl old ↦ subst (λ p. Contains nodes (slice_index kept p)) (sym (push_old places i k old)) (h.named k old)
-          | inr last ↦ let at : k ≡ length places = omega arith in subst (λ p. Contains nodes (slice_index kept p)) (sym (push_new places i k at)) is_named
+          | inr last ↦
+              let at : k ≡ length places = omega arith in
+              subst (λ p. Contains nodes (slice_index kept p)) (sym (push_new places i k at)) is_named
         ];
         found = λ p p_in c. elim (cases_lt p i) [
           | inl less ↦ let f = h.found p less c in (f.0, omega (arith, f.1), push_old places i f.0 f.1 ∙ f.2)

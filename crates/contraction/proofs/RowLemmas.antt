@@ -1,5 +1,6 @@
 -- Rows tell lists apart, and answers tell lists apart.
-use Rattle.std.proofs.Common.{◌≡◌, ℕ, ◌+◌, ◌*◌, ◌<◌, ◌/◌, ◌%◌, ◌↔◌, suc, Bool, true, false, List, [], ◌∷◌, ◌++◌, length, slice_get, slice_index, Some, refl, sym, ◌∙◌, ap, arith, append_assoc}
+use Rattle.std.proofs.Common.{◌≡◌, ℕ, ◌+◌, ◌*◌, ◌<◌, ◌/◌, ◌%◌, ◌↔◌, suc, Bool, true, false, List, [], ◌∷◌, ◌++◌, length}
+use Rattle.std.proofs.Common.{slice_get, slice_index, Some, refl, sym, ◌∙◌, ap, arith, append_assoc}
 use Rattle.std.proofs.lemmas.Option.{slice_get_within, slice_get-get_or}
 use Rattle.contraction.specs.Answers.{Answers, IsAt, Keeps, SameAt, MarkedAt, AreLabels, IsContraction}
 use Rattle.station_graph.specs.Nodes.{Rises}
@@ -57,11 +58,34 @@ length-append (x ∷ a) b = omega (arith, length-append a b)
 
 length-gap_bytes : (c : Answers) → IsContraction c → length (gap_bytes c) ≡ 4 * length c.kept
 length-gap_bytes c w =
-    omega (arith, length-append (words c.coupled ++ flags c.energisable) (flags c.earthable), length-append (words c.coupled) (flags c.energisable), length-words c.coupled, length-flags c.energisable, length-flags c.earthable, w.coupled.len, w.energisable, w.earthable)
+    omega (
+      arith,
+      length-append (words c.coupled ++ flags c.energisable) (flags c.earthable),
+      length-append (words c.coupled) (flags c.energisable),
+      length-words c.coupled,
+      length-flags c.energisable,
+      length-flags c.earthable,
+      w.coupled.len,
+      w.energisable,
+      w.earthable,
+    )
 
 length-load_bytes : (c : Answers) → IsContraction c → length (load_bytes c) ≡ 6 * length c.kept
 length-load_bytes c w =
-    omega (arith, length-append (words c.joined ++ words c.bonded ++ flags c.fed) (flags c.loaded), length-append (words c.joined ++ words c.bonded) (flags c.fed), length-append (words c.joined) (words c.bonded), length-words c.joined, length-words c.bonded, length-flags c.fed, length-flags c.loaded, w.joined.len, w.bonded.len, w.fed, w.loaded)
+    omega (
+      arith,
+      length-append (words c.joined ++ words c.bonded ++ flags c.fed) (flags c.loaded),
+      length-append (words c.joined ++ words c.bonded) (flags c.fed),
+      length-append (words c.joined) (words c.bonded),
+      length-words c.joined,
+      length-words c.bonded,
+      length-flags c.fed,
+      length-flags c.loaded,
+      w.joined.len,
+      w.bonded.len,
+      w.fed,
+      w.loaded,
+    )
 
 -- The rows of both views, list by list.
 pub record GapLists (x y : Answers) : Type 0 where
@@ -79,11 +103,21 @@ pub record LoadLists (x y : Answers) : Type 0 where
 module _ (x y : Answers) (wx : IsContraction x) (wy : IsContraction y) (same : length x.kept ≡ length y.kept) where
   gap_bytes_tell : gap_bytes x ≡ gap_bytes y → GapLists x y
   gap_bytes_tell e =
-      let words_same_long : length (words x.coupled) ≡ length (words y.coupled) = omega (arith, length-words x.coupled, length-words y.coupled, wx.coupled.len, wy.coupled.len) in
-      let flags_same_long : length (flags x.energisable) ≡ length (flags y.energisable) = omega (arith, length-flags x.energisable, length-flags y.energisable, wx.energisable, wy.energisable) in
-      let a = split (words x.coupled ++ flags x.energisable) (flags x.earthable) (words y.coupled ++ flags y.energisable) (flags y.earthable)
-      (omega (arith, length-append (words x.coupled) (flags x.energisable), length-append (words y.coupled) (flags y.energisable), words_same_long, flags_same_long)) e in
-      let b = split (words x.coupled) (flags x.energisable) (words y.coupled) (flags y.energisable) words_same_long a.0 in
+      let words_same_long : length (words x.coupled) ≡ length (words y.coupled) =
+      omega (arith, length-words x.coupled, length-words y.coupled, wx.coupled.len, wy.coupled.len) in
+      let flags_same_long : length (flags x.energisable) ≡ length (flags y.energisable) =
+      omega (arith, length-flags x.energisable, length-flags y.energisable, wx.energisable, wy.energisable) in
+      let a = split (words x.coupled ++ flags x.energisable) (flags x.earthable)
+      (words y.coupled ++ flags y.energisable) (flags y.earthable)
+      (omega (
+        arith,
+        length-append (words x.coupled) (flags x.energisable),
+        length-append (words y.coupled) (flags y.energisable),
+        words_same_long,
+        flags_same_long,
+      )) e in
+      let b = split (words x.coupled) (flags x.energisable) (words y.coupled) (flags y.energisable)
+      words_same_long a.0 in
       record {
         coupled = words_same x.coupled y.coupled b.0;
         energisable = flags_same x.energisable y.energisable b.1;
@@ -92,13 +126,31 @@ module _ (x y : Answers) (wx : IsContraction x) (wy : IsContraction y) (same : l
 
   load_bytes_tell : load_bytes x ≡ load_bytes y → LoadLists x y
   load_bytes_tell e =
-      let joined_long : length (words x.joined) ≡ length (words y.joined) = omega (arith, length-words x.joined, length-words y.joined, wx.joined.len, wy.joined.len) in
-      let bonded_long : length (words x.bonded) ≡ length (words y.bonded) = omega (arith, length-words x.bonded, length-words y.bonded, wx.bonded.len, wy.bonded.len) in
-      let fed_long : length (flags x.fed) ≡ length (flags y.fed) = omega (arith, length-flags x.fed, length-flags y.fed, wx.fed, wy.fed) in
-      let two_long : length (words x.joined ++ words x.bonded) ≡ length (words y.joined ++ words y.bonded) = omega (arith, length-append (words x.joined) (words x.bonded), length-append (words y.joined) (words y.bonded), joined_long, bonded_long) in
-      let three_long : length (words x.joined ++ words x.bonded ++ flags x.fed) ≡ length (words y.joined ++ words y.bonded ++ flags y.fed) = omega (arith, length-append (words x.joined ++ words x.bonded) (flags x.fed), length-append (words y.joined ++ words y.bonded) (flags y.fed), two_long, fed_long) in
-      let a = split (words x.joined ++ words x.bonded ++ flags x.fed) (flags x.loaded) (words y.joined ++ words y.bonded ++ flags y.fed) (flags y.loaded) three_long e in
-      let b = split (words x.joined ++ words x.bonded) (flags x.fed) (words y.joined ++ words y.bonded) (flags y.fed) two_long a.0 in
+      let joined_long : length (words x.joined) ≡ length (words y.joined) =
+      omega (arith, length-words x.joined, length-words y.joined, wx.joined.len, wy.joined.len) in
+      let bonded_long : length (words x.bonded) ≡ length (words y.bonded) =
+      omega (arith, length-words x.bonded, length-words y.bonded, wx.bonded.len, wy.bonded.len) in
+      let fed_long : length (flags x.fed) ≡ length (flags y.fed) =
+      omega (arith, length-flags x.fed, length-flags y.fed, wx.fed, wy.fed) in
+      let two_long : length (words x.joined ++ words x.bonded) ≡ length (words y.joined ++ words y.bonded) = omega (
+        arith,
+        length-append (words x.joined) (words x.bonded),
+        length-append (words y.joined) (words y.bonded),
+        joined_long,
+        bonded_long,
+      ) in
+      let three_long : length (words x.joined ++ words x.bonded ++ flags x.fed)
+      ≡ length (words y.joined ++ words y.bonded ++ flags y.fed) = omega (
+        arith,
+        length-append (words x.joined ++ words x.bonded) (flags x.fed),
+        length-append (words y.joined ++ words y.bonded) (flags y.fed),
+        two_long,
+        fed_long,
+      ) in
+      let a = split (words x.joined ++ words x.bonded ++ flags x.fed) (flags x.loaded)
+      (words y.joined ++ words y.bonded ++ flags y.fed) (flags y.loaded) three_long e in
+      let b = split (words x.joined ++ words x.bonded) (flags x.fed) (words y.joined ++ words y.bonded) (flags y.fed)
+      two_long a.0 in
       let c = split (words x.joined) (words x.bonded) (words y.joined) (words y.bonded) joined_long b.0 in
       record {
         joined = words_same x.joined y.joined c.0;
@@ -111,27 +163,64 @@ module _ (x y : Answers) (wx : IsContraction x) (wy : IsContraction y) (same : l
 module _ (x y : Answers) (wx : IsContraction x) (wy : IsContraction y) where
   pub gap_row_tells : gap_row x ≡ gap_row y → (x.kept ≡ y.kept) × GapLists x y
   gap_row_tells e =
-      let same : length x.kept ≡ length y.kept = omega (arith, ap length e, length-append (words x.kept) (gap_bytes x), length-append (words y.kept) (gap_bytes y), length-words x.kept, length-words y.kept, length-gap_bytes x wx, length-gap_bytes y wy) in
-      let a = split (words x.kept) (gap_bytes x) (words y.kept) (gap_bytes y) (omega (arith, length-words x.kept, length-words y.kept)) e in
+      let same : length x.kept ≡ length y.kept = omega (
+        arith,
+        ap length e,
+        length-append (words x.kept) (gap_bytes x),
+        length-append (words y.kept) (gap_bytes y),
+        length-words x.kept,
+        length-words y.kept,
+        length-gap_bytes x wx,
+        length-gap_bytes y wy,
+      ) in
+      let a = split (words x.kept) (gap_bytes x) (words y.kept) (gap_bytes y)
+      (omega (arith, length-words x.kept, length-words y.kept)) e in
       (words_same x.kept y.kept a.0, gap_bytes_tell x y wx wy same a.1)
 
   pub load_row_tells : load_row x ≡ load_row y → (x.kept ≡ y.kept) × LoadLists x y
   load_row_tells e =
-      let same : length x.kept ≡ length y.kept = omega (arith, ap length e, length-append (words x.kept) (load_bytes x), length-append (words y.kept) (load_bytes y), length-words x.kept, length-words y.kept, length-load_bytes x wx, length-load_bytes y wy) in
-      let a = split (words x.kept) (load_bytes x) (words y.kept) (load_bytes y) (omega (arith, length-words x.kept, length-words y.kept)) e in
+      let same : length x.kept ≡ length y.kept = omega (
+        arith,
+        ap length e,
+        length-append (words x.kept) (load_bytes x),
+        length-append (words y.kept) (load_bytes y),
+        length-words x.kept,
+        length-words y.kept,
+        length-load_bytes x wx,
+        length-load_bytes y wy,
+      ) in
+      let a = split (words x.kept) (load_bytes x) (words y.kept) (load_bytes y)
+      (omega (arith, length-words x.kept, length-words y.kept)) e in
       (words_same x.kept y.kept a.0, load_bytes_tell x y wx wy same a.1)
 
   pub whole_row_tells : whole_row x ≡ whole_row y → (x.kept ≡ y.kept) × GapLists x y × LoadLists x y
   whole_row_tells e =
       let lx = length-append (words x.kept) (gap_bytes x) in
       let ly = length-append (words y.kept) (gap_bytes y) in
-      let same : length x.kept ≡ length y.kept = omega (arith, ap length e, length-append (words x.kept ++ gap_bytes x) (load_bytes x), length-append (words y.kept ++ gap_bytes y) (load_bytes y), lx, ly, length-words x.kept, length-words y.kept, length-gap_bytes x wx, length-gap_bytes y wy, length-load_bytes x wx, length-load_bytes y wy) in
-      let a = split (words x.kept ++ gap_bytes x) (load_bytes x) (words y.kept ++ gap_bytes y) (load_bytes y) (omega (arith, lx, ly, length-words x.kept, length-words y.kept, length-gap_bytes x wx, length-gap_bytes y wy)) e in
-      let b = split (words x.kept) (gap_bytes x) (words y.kept) (gap_bytes y) (omega (arith, length-words x.kept, length-words y.kept)) a.0 in
+      let same : length x.kept ≡ length y.kept = omega (
+        arith,
+        ap length e,
+        length-append (words x.kept ++ gap_bytes x) (load_bytes x),
+        length-append (words y.kept ++ gap_bytes y) (load_bytes y),
+        lx,
+        ly,
+        length-words x.kept,
+        length-words y.kept,
+        length-gap_bytes x wx,
+        length-gap_bytes y wy,
+        length-load_bytes x wx,
+        length-load_bytes y wy,
+      ) in
+      let a = split (words x.kept ++ gap_bytes x) (load_bytes x) (words y.kept ++ gap_bytes y) (load_bytes y)
+      (omega (arith, lx, ly, length-words x.kept, length-words y.kept, length-gap_bytes x wx, length-gap_bytes y wy))
+      e in
+      let b = split (words x.kept) (gap_bytes x) (words y.kept) (gap_bytes y)
+      (omega (arith, length-words x.kept, length-words y.kept)) a.0 in
       (words_same x.kept y.kept b.0, gap_bytes_tell x y wx wy same b.1, load_bytes_tell x y wx wy same a.1)
 
 -- lists of one length with the same entries are equal
-same_entries : (xs ys : List ℕ) → length xs ≡ length ys → ((k : ℕ) → k < length xs → slice_index xs k ≡ slice_index ys k) → xs ≡ ys
+same_entries : (xs ys : List ℕ) → length xs ≡ length ys →
+    ((k : ℕ) → k < length xs → slice_index xs k ≡ slice_index ys k) → xs ≡ ys
 same_entries [] [] e h = refl
 same_entries [] (y ∷ ys) e h = absurd (omega (arith, e))
 same_entries (x ∷ xs) [] e h = absurd (omega (arith, e))
@@ -139,7 +228,8 @@ same_entries (x ∷ xs) (y ∷ ys) e h =
     let first : x ≡ y = h 0 (omega arith) in
     cc (first, same_entries xs ys (omega (arith, e)) (λ k k_in. h (suc k) (omega arith)))
 
-same_marks : (xs ys : List Bool) → length xs ≡ length ys → ((k : ℕ) → (slice_get xs k ≡ Some true) ↔ (slice_get ys k ≡ Some true)) → xs ≡ ys
+same_marks : (xs ys : List Bool) → length xs ≡ length ys →
+    ((k : ℕ) → (slice_get xs k ≡ Some true) ↔ (slice_get ys k ≡ Some true)) → xs ≡ ys
 same_marks [] [] e h = refl
 same_marks [] (y ∷ ys) e h = absurd (omega (arith, e))
 same_marks (x ∷ xs) [] e h = absurd (omega (arith, e))
@@ -147,10 +237,12 @@ same_marks (true ∷ xs) (y ∷ ys) e h =
     let first : true ≡ y = let at = (h 0).0 refl in cc in
     cc (first, same_marks xs ys (omega (arith, e)) (λ k. h (suc k)))
 same_marks (false ∷ xs) (true ∷ ys) e h = absurd (let at = (h 0).1 refl in cc)
-same_marks (false ∷ xs) (false ∷ ys) e h = ap (λ (l : List Bool). false ∷ l) (same_marks xs ys (omega (arith, e)) (λ k. h (suc k)))
+same_marks (false ∷ xs) (false ∷ ys) e h =
+    ap (λ (l : List Bool). false ∷ l) (same_marks xs ys (omega (arith, e)) (λ k. h (suc k)))
 
 -- labels that tell the same places apart are equal: a label is the first place of its class
-pub labels_equal : (n : ℕ) (l m : List ℕ) → AreLabels n l → AreLabels n m → ((i j : ℕ) → i < n → j < n → (slice_index l i ≡ slice_index l j) ↔ (slice_index m i ≡ slice_index m j)) → l ≡ m
+pub labels_equal : (n : ℕ) (l m : List ℕ) → AreLabels n l → AreLabels n m →
+    ((i j : ℕ) → i < n → j < n → (slice_index l i ≡ slice_index l j) ↔ (slice_index m i ≡ slice_index m j)) → l ≡ m
 labels_equal n l m hl hm same =
     same_entries l m (hl.len ∙ sym hm.len) (λ k k_in0.
     let k_in : k < n = omega (arith, hl.len) in
@@ -163,22 +255,34 @@ labels_equal n l m hl hm same =
     omega (arith, hm.below i i_in, hl.below j j_in))
 
 -- ANSWERS THAT ARE THE SAME ON THE SAME NODES ARE EQUAL ROW BY ROW
-pub labels_from_answers : (kept l m : List ℕ) → Rises kept → AreLabels (length kept) l → AreLabels (length kept) m → ((a b : ℕ) → Keeps kept a → Keeps kept b → SameAt kept l a b ↔ SameAt kept m a b) → l ≡ m
+pub labels_from_answers : (kept l m : List ℕ) → Rises kept → AreLabels (length kept) l → AreLabels (length kept) m →
+    ((a b : ℕ) → Keeps kept a → Keeps kept b → SameAt kept l a b ↔ SameAt kept m a b) → l ≡ m
 labels_from_answers kept l m rises hl hm same =
     let at : (k : ℕ) → k < length kept → IsAt kept k (slice_index kept k) = λ k k_in. slice_get-get_or kept k 0 k_in in
-    let one : (x y : List ℕ) → ((a b : ℕ) → Keeps kept a → Keeps kept b → SameAt kept x a b → SameAt kept y a b) → (i j : ℕ) → i < length kept → j < length kept → slice_index x i ≡ slice_index x j → slice_index y i ≡ slice_index y j =
+    let one : (x y : List ℕ) → ((a b : ℕ) → Keeps kept a → Keeps kept b → SameAt kept x a b → SameAt kept y a b) →
+    (i j : ℕ) → i < length kept → j < length kept → slice_index x i ≡ slice_index x j →
+    slice_index y i ≡ slice_index y j =
     λ x y into i j i_in j_in e.
     same_at_places kept y i j (slice_index kept i) (slice_index kept j) rises (at i i_in) (at j j_in)
-    (into (slice_index kept i) (slice_index kept j) (record { place = i; at = at i i_in }) (record { place = j; at = at j j_in }) (record { first = i; second = j; at_first = at i i_in; at_second = at j j_in; same = e })) in
-    labels_equal (length kept) l m hl hm (λ i j i_in j_in. (one l m (λ a b ka kb. (same a b ka kb).0) i j i_in j_in, one m l (λ a b ka kb. (same a b ka kb).1) i j i_in j_in))
+    (into (slice_index kept i) (slice_index kept j) (record { place = i; at = at i i_in })
+    (record { place = j; at = at j j_in })
+    (record { first = i; second = j; at_first = at i i_in; at_second = at j j_in; same = e })) in
+    labels_equal (length kept) l m hl hm (λ i j i_in j_in. (
+      one l m (λ a b ka kb. (same a b ka kb).0) i j i_in j_in,
+      one m l (λ a b ka kb. (same a b ka kb).1) i j i_in j_in,
+    ))
 
-pub marks_from_answers : (kept : List ℕ) (l m : List Bool) → Rises kept → length l ≡ length kept → length m ≡ length kept → ((a : ℕ) → Keeps kept a → MarkedAt kept l a ↔ MarkedAt kept m a) → l ≡ m
+pub marks_from_answers : (kept : List ℕ) (l m : List Bool) → Rises kept → length l ≡ length kept →
+    length m ≡ length kept → ((a : ℕ) → Keeps kept a → MarkedAt kept l a ↔ MarkedAt kept m a) → l ≡ m
 marks_from_answers kept l m rises hl hm same =
     let at : (k : ℕ) → k < length kept → IsAt kept k (slice_index kept k) = λ k k_in. slice_get-get_or kept k 0 k_in in
-    let one : (x y : List Bool) → length x ≡ length kept → ((a : ℕ) → Keeps kept a → MarkedAt kept x a → MarkedAt kept y a) → (k : ℕ) → slice_get x k ≡ Some true → slice_get y k ≡ Some true =
+    let one : (x y : List Bool) → length x ≡ length kept →
+    ((a : ℕ) → Keeps kept a → MarkedAt kept x a → MarkedAt kept y a) → (k : ℕ) → slice_get x k ≡ Some true →
+    slice_get y k ≡ Some true =
     λ x y len into k e.
     let k_in : k < length kept = omega (arith, slice_get_within x k true e) in
-    marked_at_place kept y k (slice_index kept k) rises (at k k_in) (into (slice_index kept k) (record { place = k; at = at k k_in }) (record { place = k; at = at k k_in; marked = e })) in
+    marked_at_place kept y k (slice_index kept k) rises (at k k_in) (into (slice_index kept k)
+    (record { place = k; at = at k k_in }) (record { place = k; at = at k k_in; marked = e })) in
     same_marks l m (hl ∙ sym hm) (λ k. (one l m hl (λ a ka. (same a ka).0) k, one m l hm (λ a ka. (same a ka).1) k))
 
 pub words_push : (xs : List ℕ) (x : ℕ) → words (xs ++ x ∷ []) ≡ words xs ++ (x / 256) ∷ (x % 256) ∷ []

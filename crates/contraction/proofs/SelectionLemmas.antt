@@ -14,51 +14,73 @@ use Rattle.contraction.specs.Renaming.{renamed}
 use Rattle.contraction.specs.Rows.{words, row_bytes, bonded_bytes}
 use Rattle.contraction.specs.Selecting.{Selected, IsLayout, LayoutFits, RowSelected, LabelsSelected}
 use Rattle.contraction.proofs.MergeLemmas.{merged_nodes, few_nodes, rises_short}
-use Rattle.contraction.proofs.OneViewLemmas.{IsBare, bare_of, gap_of_both, load_of_both, gap_row_of_both, load_row_of_both}
+use Rattle.contraction.proofs.OneViewLemmas.{IsBare, bare_of, gap_of_both, load_of_both, gap_row_of_both}
+use Rattle.contraction.proofs.OneViewLemmas.{load_row_of_both}
 
 -- what is seen of the values is theirs
-inside_seen : (x y sx sy : Answers) (nodes : List ℕ) → x ≡ sx → y ≡ sy → ((n : ℕ) → Contains nodes n → Keeps sx.kept n ⊎ Keeps sy.kept n) → (n : ℕ) → Contains nodes n → Keeps x.kept n ⊎ Keeps y.kept n
+inside_seen : (x y sx sy : Answers) (nodes : List ℕ) → x ≡ sx → y ≡ sy →
+    ((n : ℕ) → Contains nodes n → Keeps sx.kept n ⊎ Keeps sy.kept n) → (n : ℕ) → Contains nodes n →
+    Keeps x.kept n ⊎ Keeps y.kept n
 inside_seen x y sx sy nodes ex ey h n has =
-    subst (λ (z : Answers). Keeps x.kept n ⊎ Keeps z.kept n) (sym ey) (subst (λ (z : Answers). Keeps z.kept n ⊎ Keeps sy.kept n) (sym ex) (h n has))
+    subst (λ (z : Answers). Keeps x.kept n ⊎ Keeps z.kept n) (sym ey)
+    (subst (λ (z : Answers). Keeps z.kept n ⊎ Keeps sy.kept n) (sym ex) (h n has))
 
-gap_seen : (nodes : List ℕ) (x y sx sy z : Answers) → x ≡ sx → y ≡ sy → IsGapOfBoth nodes x y z → IsGapOfBoth nodes sx sy z
-gap_seen nodes x y sx sy z ex ey h = subst (λ l. IsGapOfBoth nodes l sy z) ex (subst (λ l. IsGapOfBoth nodes x l z) ey h)
+gap_seen : (nodes : List ℕ) (x y sx sy z : Answers) → x ≡ sx → y ≡ sy → IsGapOfBoth nodes x y z →
+    IsGapOfBoth nodes sx sy z
+gap_seen nodes x y sx sy z ex ey h =
+    subst (λ l. IsGapOfBoth nodes l sy z) ex (subst (λ l. IsGapOfBoth nodes x l z) ey h)
 
-load_seen : (nodes : List ℕ) (x y sx sy z : Answers) → x ≡ sx → y ≡ sy → IsLoadOfBoth nodes x y z → IsLoadOfBoth nodes sx sy z
-load_seen nodes x y sx sy z ex ey h = subst (λ l. IsLoadOfBoth nodes l sy z) ex (subst (λ l. IsLoadOfBoth nodes x l z) ey h)
+load_seen : (nodes : List ℕ) (x y sx sy z : Answers) → x ≡ sx → y ≡ sy → IsLoadOfBoth nodes x y z →
+    IsLoadOfBoth nodes sx sy z
+load_seen nodes x y sx sy z ex ey h =
+    subst (λ l. IsLoadOfBoth nodes l sy z) ex (subst (λ l. IsLoadOfBoth nodes x l z) ey h)
 
-pub labels_seen : (s : Layout) (a a1 b b1 labels : List ℕ) → a ≡ a1 → b ≡ b1 → LabelsSelected s a b labels → LabelsSelected s a1 b1 labels
-labels_seen s a a1 b b1 labels ea eb h = subst (λ l. LabelsSelected s l b1 labels) ea (subst (λ l. LabelsSelected s a l labels) eb h)
+pub labels_seen : (s : Layout) (a a1 b b1 labels : List ℕ) → a ≡ a1 → b ≡ b1 → LabelsSelected s a b labels →
+    LabelsSelected s a1 b1 labels
+labels_seen s a a1 b b1 labels ea eb h =
+    subst (λ l. LabelsSelected s l b1 labels) ea (subst (λ l. LabelsSelected s a l labels) eb h)
 
-gap_row_seen : (nodes bytes : List ℕ) (x y sx sy : Answers) → x ≡ sx → y ≡ sy → IsGapRowOfBoth nodes x y bytes → IsGapRowOfBoth nodes sx sy bytes
-gap_row_seen nodes bytes x y sx sy ex ey h = subst (λ l. IsGapRowOfBoth nodes l sy bytes) ex (subst (λ l. IsGapRowOfBoth nodes x l bytes) ey h)
+gap_row_seen : (nodes bytes : List ℕ) (x y sx sy : Answers) → x ≡ sx → y ≡ sy → IsGapRowOfBoth nodes x y bytes →
+    IsGapRowOfBoth nodes sx sy bytes
+gap_row_seen nodes bytes x y sx sy ex ey h =
+    subst (λ l. IsGapRowOfBoth nodes l sy bytes) ex (subst (λ l. IsGapRowOfBoth nodes x l bytes) ey h)
 
-load_row_seen : (nodes bytes : List ℕ) (x y sx sy : Answers) → x ≡ sx → y ≡ sy → IsLoadRowOfBoth nodes x y bytes → IsLoadRowOfBoth nodes sx sy bytes
-load_row_seen nodes bytes x y sx sy ex ey h = subst (λ l. IsLoadRowOfBoth nodes l sy bytes) ex (subst (λ l. IsLoadRowOfBoth nodes x l bytes) ey h)
+load_row_seen : (nodes bytes : List ℕ) (x y sx sy : Answers) → x ≡ sx → y ≡ sy → IsLoadRowOfBoth nodes x y bytes →
+    IsLoadRowOfBoth nodes sx sy bytes
+load_row_seen nodes bytes x y sx sy ex ey h =
+    subst (λ l. IsLoadRowOfBoth nodes l sy bytes) ex (subst (λ l. IsLoadRowOfBoth nodes x l bytes) ey h)
 
 -- the rows fit the selection
-module _ (x y : Inside) (wx : IsContraction (answers_of x)) (wy : IsContraction (answers_of y)) (nodes : List ℕ) (s : Layout) (is : IsLayout x.kept.items y.kept.items nodes s) where
+module _ (x y : Inside) (wx : IsContraction (answers_of x)) (wy : IsContraction (answers_of y)) (nodes : List ℕ)
+    (s : Layout) (is : IsLayout x.kept.items y.kept.items nodes s) where
   pub layout_few : length s.union.kept.items ≤ 1024
-  layout_few = few_nodes s.union.kept.items (merged_nodes x.kept.items y.kept.items s.union.kept.items s.union.first.items s.union.second.items wx.nodes wy.nodes is.merged)
+  layout_few =
+      few_nodes s.union.kept.items (merged_nodes x.kept.items y.kept.items s.union.kept.items s.union.first.items
+      s.union.second.items wx.nodes wy.nodes is.merged)
 
   pub layout_fits : LayoutFits s
   layout_fits = record {
     few = layout_few;
-    fewer = (let short : length s.places.items ≤ length s.union.kept.items = rises_short s.places.items (length s.union.kept.items) is.places.rises is.places.below in omega (arith, layout_few));
+    fewer =
+        (let short : length s.places.items ≤ length s.union.kept.items =
+        rises_short s.places.items (length s.union.kept.items) is.places.rises is.places.below in
+        omega (arith, layout_few));
     inside = is.places.below;
   }
 
   pub kept_few : length s.kept.items ≤ 1024
   kept_few = omega (arith, layout_fits.fewer, is.kept.len)
 
-  pub first_labels_fit : (l : List ℕ) → AreLabels (length x.kept.items) l → LabelsFit s.union.first.items (length s.union.kept.items) l
+  pub first_labels_fit : (l : List ℕ) → AreLabels (length x.kept.items) l →
+      LabelsFit s.union.first.items (length s.union.kept.items) l
   first_labels_fit l w = record {
     len = w.len ∙ sym is.merged.first_len;
     inside = λ k h. is.merged.first_inside k (omega (arith, is.merged.first_len));
     below = λ k h. w.below k (omega (arith, is.merged.first_len));
   }
 
-  pub second_labels_fit : (l : List ℕ) → AreLabels (length y.kept.items) l → LabelsFit s.union.second.items (length s.union.kept.items) l
+  pub second_labels_fit : (l : List ℕ) → AreLabels (length y.kept.items) l →
+      LabelsFit s.union.second.items (length s.union.kept.items) l
   second_labels_fit l w = record {
     len = w.len ∙ sym is.merged.second_len;
     inside = λ k h. is.merged.second_inside k (omega (arith, is.merged.second_len));
@@ -66,51 +88,86 @@ module _ (x y : Inside) (wx : IsContraction (answers_of x)) (wy : IsContraction 
   }
 
   pub first_gap_fits : RowFits s.union.first.items (length s.union.kept.items) x.gap
-  first_gap_fits = record { labels = first_labels_fit x.gap.labels wx.coupled; first = wx.energisable ∙ sym is.merged.first_len; second = wx.earthable ∙ sym is.merged.first_len }
+  first_gap_fits = record {
+    labels = first_labels_fit x.gap.labels wx.coupled;
+    first = wx.energisable ∙ sym is.merged.first_len;
+    second = wx.earthable ∙ sym is.merged.first_len;
+  }
 
   pub second_gap_fits : RowFits s.union.second.items (length s.union.kept.items) y.gap
-  second_gap_fits = record { labels = second_labels_fit y.gap.labels wy.coupled; first = wy.energisable ∙ sym is.merged.second_len; second = wy.earthable ∙ sym is.merged.second_len }
+  second_gap_fits = record {
+    labels = second_labels_fit y.gap.labels wy.coupled;
+    first = wy.energisable ∙ sym is.merged.second_len;
+    second = wy.earthable ∙ sym is.merged.second_len;
+  }
 
   pub first_load_fits : RowFits s.union.first.items (length s.union.kept.items) x.load
-  first_load_fits = record { labels = first_labels_fit x.load.labels wx.joined; first = wx.fed ∙ sym is.merged.first_len; second = wx.loaded ∙ sym is.merged.first_len }
+  first_load_fits = record {
+    labels = first_labels_fit x.load.labels wx.joined;
+    first = wx.fed ∙ sym is.merged.first_len;
+    second = wx.loaded ∙ sym is.merged.first_len;
+  }
 
   pub second_load_fits : RowFits s.union.second.items (length s.union.kept.items) y.load
-  second_load_fits = record { labels = second_labels_fit y.load.labels wy.joined; first = wy.fed ∙ sym is.merged.second_len; second = wy.loaded ∙ sym is.merged.second_len }
+  second_load_fits = record {
+    labels = second_labels_fit y.load.labels wy.joined;
+    first = wy.fed ∙ sym is.merged.second_len;
+    second = wy.loaded ∙ sym is.merged.second_len;
+  }
 
 -- ON A SELECTION OF THE NODES THAT BOTH VALUES KEEP
-module _ (x y : Inside) (t : Chosen) (sx sy : Answers) (s : Selected) (wx : IsContraction (answers_of x)) (wy : IsContraction (answers_of y)) (laid : IsLaid t) (ex : answers_of x ≡ sx) (ey : answers_of y ≡ sy) (et : selected_of t ≡ s) (ef : s.first ≡ sx.kept) (es : s.second ≡ sy.kept) where
+module _ (x y : Inside) (t : Chosen) (sx sy : Answers) (s : Selected) (wx : IsContraction (answers_of x))
+    (wy : IsContraction (answers_of y)) (laid : IsLaid t) (ex : answers_of x ≡ sx) (ey : answers_of y ≡ sy)
+    (et : selected_of t ≡ s) (ef : s.first ≡ sx.kept) (es : s.second ≡ sy.kept) where
   pub laid_on : IsLayout x.kept.items y.kept.items s.nodes t.layout
   laid_on =
-      let first : t.first.items ≡ x.kept.items = ap (λ (r : Selected). r.first) et ∙ ef ∙ sym (ap (λ (a : Answers). a.kept) ex) in
-      let second : t.second.items ≡ y.kept.items = ap (λ (r : Selected). r.second) et ∙ es ∙ sym (ap (λ (a : Answers). a.kept) ey) in
+      let first : t.first.items ≡ x.kept.items =
+      ap (λ (r : Selected). r.first) et ∙ ef ∙ sym (ap (λ (a : Answers). a.kept) ex) in
+      let second : t.second.items ≡ y.kept.items =
+      ap (λ (r : Selected). r.second) et ∙ es ∙ sym (ap (λ (a : Answers). a.kept) ey) in
       subst (λ l. IsLayout x.kept.items y.kept.items l t.layout) (ap (λ (r : Selected). r.nodes) et)
       (subst (λ l. IsLayout x.kept.items l t.nodes.items t.layout) second
       (subst (λ l. IsLayout l t.second.items t.nodes.items t.layout) first laid))
 
-  module _ (inside : (n : ℕ) → Contains s.nodes n → Keeps sx.kept n ⊎ Keeps sy.kept n) (row : Row) (bytes : List ℕ) where
-    pub gap_row_on : RowSelected t.layout x.gap y.gap row → bytes ≡ words t.layout.kept.items ++ row_bytes row → IsGapRowOfBoth s.nodes sx sy bytes
+  module _ (inside : (n : ℕ) → Contains s.nodes n → Keeps sx.kept n ⊎ Keeps sy.kept n) (row : Row)
+      (bytes : List ℕ) where
+    pub gap_row_on : RowSelected t.layout x.gap y.gap row → bytes ≡ words t.layout.kept.items ++ row_bytes row →
+        IsGapRowOfBoth s.nodes sx sy bytes
     gap_row_on h is =
         gap_row_seen s.nodes bytes (answers_of x) (answers_of y) sx sy ex ey
-        (gap_row_of_both x y wx wy s.nodes t.layout laid_on (inside_seen (answers_of x) (answers_of y) sx sy s.nodes ex ey inside) row h bytes is)
+        (gap_row_of_both x y wx wy s.nodes t.layout laid_on
+        (inside_seen (answers_of x) (answers_of y) sx sy s.nodes ex ey inside) row h bytes is)
 
-    pub load_row_on : (bonded : List ℕ) → RowSelected t.layout x.load y.load row → LabelsSelected t.layout x.bonded y.bonded bonded → bytes ≡ words t.layout.kept.items ++ bonded_bytes row bonded → IsLoadRowOfBoth s.nodes sx sy bytes
+    pub load_row_on : (bonded : List ℕ) → RowSelected t.layout x.load y.load row →
+        LabelsSelected t.layout x.bonded y.bonded bonded →
+        bytes ≡ words t.layout.kept.items ++ bonded_bytes row bonded → IsLoadRowOfBoth s.nodes sx sy bytes
     load_row_on bonded h k is =
         load_row_seen s.nodes bytes (answers_of x) (answers_of y) sx sy ex ey
-        (load_row_of_both x y wx wy s.nodes t.layout laid_on (inside_seen (answers_of x) (answers_of y) sx sy s.nodes ex ey inside) row bonded h k bytes is)
+        (load_row_of_both x y wx wy s.nodes t.layout laid_on
+        (inside_seen (answers_of x) (answers_of y) sx sy s.nodes ex ey inside) row bonded h k bytes is)
 
-  module _ (inside : (n : ℕ) → Contains s.nodes n → Keeps sx.kept n ⊎ Keeps sy.kept n) (kept : List ℕ) (is_kept : kept ≡ t.layout.kept.items) (count : ℕ) (is_count : count ≡ length t.layout.kept.items) (row other : Row) (bonded : List ℕ) (bare : IsBare count other) where
-    pub gap_on : RowSelected t.layout x.gap y.gap row → AreApart count bonded → IsGapOfBoth s.nodes sx sy (renamed kept (answers_of (record { kept = t.layout.kept; gap = row; load = other; bonded = bonded })))
+  module _ (inside : (n : ℕ) → Contains s.nodes n → Keeps sx.kept n ⊎ Keeps sy.kept n) (kept : List ℕ)
+      (is_kept : kept ≡ t.layout.kept.items) (count : ℕ) (is_count : count ≡ length t.layout.kept.items)
+      (row other : Row) (bonded : List ℕ) (bare : IsBare count other) where
+    pub gap_on : RowSelected t.layout x.gap y.gap row → AreApart count bonded →
+        IsGapOfBoth s.nodes sx sy
+        (renamed kept (answers_of (record { kept = t.layout.kept; gap = row; load = other; bonded = bonded })))
     gap_on h apart =
         let z : Answers = answers_of (record { kept = t.layout.kept; gap = row; load = other; bonded = bonded }) in
         subst (λ l. IsGapOfBoth s.nodes sx sy (renamed l z)) (sym is_kept)
         (gap_seen s.nodes (answers_of x) (answers_of y) sx sy z ex ey
-        (gap_of_both x y wx wy s.nodes t.layout laid_on (inside_seen (answers_of x) (answers_of y) sx sy s.nodes ex ey inside) row h other bonded
-        (bare_of (length t.layout.kept.items) count other is_count bare) (subst (λ n. AreApart n bonded) is_count apart)))
+        (gap_of_both x y wx wy s.nodes t.layout laid_on
+        (inside_seen (answers_of x) (answers_of y) sx sy s.nodes ex ey inside) row h other bonded
+        (bare_of (length t.layout.kept.items) count other is_count bare)
+        (subst (λ n. AreApart n bonded) is_count apart)))
 
-    pub load_on : RowSelected t.layout x.load y.load row → LabelsSelected t.layout x.bonded y.bonded bonded → IsLoadOfBoth s.nodes sx sy (renamed kept (answers_of (record { kept = t.layout.kept; gap = other; load = row; bonded = bonded })))
+    pub load_on : RowSelected t.layout x.load y.load row → LabelsSelected t.layout x.bonded y.bonded bonded →
+        IsLoadOfBoth s.nodes sx sy
+        (renamed kept (answers_of (record { kept = t.layout.kept; gap = other; load = row; bonded = bonded })))
     load_on h k =
         let z : Answers = answers_of (record { kept = t.layout.kept; gap = other; load = row; bonded = bonded }) in
         subst (λ l. IsLoadOfBoth s.nodes sx sy (renamed l z)) (sym is_kept)
         (load_seen s.nodes (answers_of x) (answers_of y) sx sy z ex ey
-        (load_of_both x y wx wy s.nodes t.layout laid_on (inside_seen (answers_of x) (answers_of y) sx sy s.nodes ex ey inside) row bonded h k other
+        (load_of_both x y wx wy s.nodes t.layout laid_on
+        (inside_seen (answers_of x) (answers_of y) sx sy s.nodes ex ey inside) row bonded h k other
         (bare_of (length t.layout.kept.items) count other is_count bare)))

@@ -1,5 +1,6 @@
 -- What the marks of a value say of the supply of a node.
-use Rattle.std.proofs.Common.{◌≡◌, ◌≢◌, ℕ, ◌⊎◌, ◌↔◌, Bool, true, false, List, slice_get, Option, Some, None, refl, inl, inr}
+use Rattle.std.proofs.Common.{◌≡◌, ◌≢◌, ℕ, ◌⊎◌, ◌↔◌, Bool, true, false, List, slice_get, Option, Some, None, refl, inl}
+use Rattle.std.proofs.Common.{inr}
 use Rattle.station_graph.specs.Diagram.{Diagram}
 use Rattle.station_graph.specs.Connection.{Item}
 use Rattle.station_graph.specs.Nodes.{Rises}
@@ -14,7 +15,8 @@ is_true_or_not (Some true) = inl refl
 is_true_or_not (Some false) = inr (λ e. cc)
 
 -- a kept node is marked or not
-pub marked_or_not : (kept : List ℕ) (marks : List Bool) (n : ℕ) → Rises kept → Keeps kept n → MarkedAt kept marks n ⊎ ¬ MarkedAt kept marks n
+pub marked_or_not : (kept : List ℕ) (marks : List Bool) (n : ℕ) → Rises kept → Keeps kept n →
+    MarkedAt kept marks n ⊎ ¬ MarkedAt kept marks n
 marked_or_not kept marks n rises k = elim (is_true_or_not (slice_get marks k.place)) [
   | inl e ↦ inl (record { place = k.place; at = k.at; marked = e })
   | inr ne ↦ inr (λ m. ne (marked_at_place kept marks k.place n rises k.at m))
@@ -25,19 +27,22 @@ pub fed_is_loaded : (c : Answers) (n : ℕ) → IsContraction c → SaysFed c n 
 fed_is_loaded c n w m = record { place = m.place; at = m.at; marked = w.fed_loaded m.place m.marked }
 
 -- the marks tell the supply
-pub supply_from_marks : (x y : Answers) (a b : ℕ) → SaysFed x a ↔ SaysFed y b → SaysLoaded x a ↔ SaysLoaded y b → (s : Supply) → SaysSupply x a s → SaysSupply y b s
+pub supply_from_marks : (x y : Answers) (a b : ℕ) → SaysFed x a ↔ SaysFed y b → SaysLoaded x a ↔ SaysLoaded y b →
+    (s : Supply) → SaysSupply x a s → SaysSupply y b s
 supply_from_marks x y a b f l bare h = (λ m. h.0 (f.1 m), λ m. h.1 (l.1 m))
 supply_from_marks x y a b f l tapped h = (λ m. h.0 (f.1 m), l.0 h.1)
 supply_from_marks x y a b f l fed h = f.0 h
 
 -- and the supply tells the marks
-pub loaded_from_supply : (x y : Answers) (n : ℕ) → IsContraction x → IsContraction y → Keeps x.kept n → ((s : Supply) → SaysSupply x n s → SaysSupply y n s) → SaysLoaded x n → SaysLoaded y n
+pub loaded_from_supply : (x y : Answers) (n : ℕ) → IsContraction x → IsContraction y → Keeps x.kept n →
+    ((s : Supply) → SaysSupply x n s → SaysSupply y n s) → SaysLoaded x n → SaysLoaded y n
 loaded_from_supply x y n wx wy k told m = elim (marked_or_not x.kept x.fed n wx.nodes.rises k) [
   | inl f ↦ fed_is_loaded y n wy (told fed f)
   | inr none ↦ (told tapped (none, m)).1
 ]
 
-module _ (These : Item → Type 0) (d : Diagram) (v : List Bool) (c : Answers) (h : LoadStandsFor These d v c) (a : ℕ) (k : Keeps c.kept a) where
+module _ (These : Item → Type 0) (d : Diagram) (v : List Bool) (c : Answers) (h : LoadStandsFor These d v c) (a : ℕ)
+    (k : Keeps c.kept a) where
   pub supply_stands : (s : Supply) → SaysSupply c a s → SupplyBy These d v a s
   supply_stands bare s = (λ f. s.0 ((h.fed a k).1 f), λ t. s.1 ((h.loaded a k).1 (inr t)))
   supply_stands tapped s = (

@@ -2,7 +2,8 @@
 use Rattle.std.specs.Prelude.{◌≡◌, ℕ, ◌⊎◌, ◌↔◌, Bool, List, [], Contains}
 use Rattle.station_graph.specs.Diagram.{Diagram}
 use Rattle.station_graph.specs.Connection.{Linked}
-use Rattle.contraction.specs.Answers.{Answers, Keeps, SameAt, MarkedAt, SaysCoupled, SaysJoined, SaysBonded, SaysEnergisable, SaysEarthable, SaysFed, SaysLoaded, IsContraction}
+use Rattle.contraction.specs.Answers.{Answers, Keeps, SameAt, MarkedAt, SaysCoupled, SaysJoined, SaysBonded}
+use Rattle.contraction.specs.Answers.{SaysEnergisable, SaysEarthable, SaysFed, SaysLoaded, IsContraction}
 use Rattle.contraction.specs.Rows.{gap_row, load_row}
 use Rattle.contraction.specs.Stands.{Among, GapStandsFor, LoadStandsFor}
 
@@ -14,12 +15,15 @@ SameInEither kept labels other_kept other_labels a b = SameAt kept labels a b �
 -- neighbours have one label in one of the values.
 abbrev pub LabelsCompose : List ℕ → List ℕ → List ℕ → List ℕ → List ℕ → List ℕ → Type 0
 LabelsCompose kept1 labels1 kept2 labels2 kept labels =
-    (a b : ℕ) → Keeps kept a → Keeps kept b → SameAt kept labels a b ↔ Linked (SameInEither kept1 labels1 kept2 labels2) a b
+    (a b : ℕ) → Keeps kept a → Keeps kept b → SameAt kept labels a b ↔
+    Linked (SameInEither kept1 labels1 kept2 labels2) a b
 
 -- A node is marked exactly where such a list leads to a node that one of the values marks.
 abbrev pub MarksCompose : List ℕ → List ℕ → List Bool → List ℕ → List ℕ → List Bool → List ℕ → List Bool → Type 0
 MarksCompose kept1 labels1 marks1 kept2 labels2 marks2 kept marks =
-    (a : ℕ) → Keeps kept a → MarkedAt kept marks a ↔ ((m : ℕ) × Linked (SameInEither kept1 labels1 kept2 labels2) a m × (MarkedAt kept1 marks1 m ⊎ MarkedAt kept2 marks2 m))
+    (a : ℕ) → Keeps kept a → MarkedAt kept marks a ↔
+    ((m : ℕ) × Linked (SameInEither kept1 labels1 kept2 labels2) a m
+    × (MarkedAt kept1 marks1 m ⊎ MarkedAt kept2 marks2 m))
 
 -- The third value is the first two together: it keeps what either keeps, and its classes are closed up
 -- over both.

@@ -50,7 +50,9 @@ pub record EndsLoad (c : Answers) (x : Switch) : Type 0 where
 
 -- The first rule that the ends tell by the gap view, or none.
 abbrev pub EndsGap : Answers → Switch → Direction → Option Rule → Type 0
-EndsGap c x direction None = (¬ EndsEarthing c x direction) × (¬ (EndsClosing c x direction ⊎ EndsFeeding c x direction))
+EndsGap c x direction None =
+    (¬ EndsEarthing c x direction) × (¬ (EndsClosing c x direction ⊎ EndsFeeding c x direction))
 EndsGap c x direction (Some R1) = EndsEarthing c x direction
-EndsGap c x direction (Some R2) = (¬ EndsEarthing c x direction) × (EndsClosing c x direction ⊎ EndsFeeding c x direction)
+EndsGap c x direction (Some R2) =
+    (¬ EndsEarthing c x direction) × (EndsClosing c x direction ⊎ EndsFeeding c x direction)
 EndsGap c x direction (Some R3) = ⊥

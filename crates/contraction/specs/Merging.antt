@@ -1,5 +1,6 @@
 -- Two rising lists as one, the labels of both together, and their marks.
-use Rattle.std.specs.Prelude.{◌≡◌, ◌≢◌, ℕ, ◌<◌, ◌≤◌, ◌⊎◌, ◌↔◌, Bool, true, List, [], ◌∷◌, ◌++◌, length, slice_get, slice_index, Option, Some, MatchOption}
+use Rattle.std.specs.Prelude.{◌≡◌, ◌≢◌, ℕ, ◌<◌, ◌≤◌, ◌⊎◌, ◌↔◌, Bool, true, List, [], ◌∷◌, ◌++◌, length, slice_get}
+use Rattle.std.specs.Prelude.{slice_index, Option, Some, MatchOption}
 use Rattle.station_graph.specs.Connection.{AreEnds}
 use Rattle.station_graph.specs.Nodes.{Rises}
 use Rattle.station_graph.proofs.ClassesLemmas.{KeepsLabels}
@@ -19,19 +20,22 @@ LeastNext a b i j answer = MatchOption answer ((length a ≤ i) × (length b ≤
 -- Where the node is the next one of the list, its place is noted.
 abbrev pub Advances : List ℕ → ℕ → ℕ → List ℕ → List ℕ → Type 0
 Advances nodes node place old new =
-    ((slice_get nodes (length old) ≡ Some node) × (new ≡ old ++ place ∷ [])) ⊎ ((slice_get nodes (length old) ≢ Some node) × (new ≡ old))
+    ((slice_get nodes (length old) ≡ Some node) × (new ≡ old ++ place ∷ []))
+    ⊎ ((slice_get nodes (length old) ≢ Some node) × (new ≡ old))
 
 -- The first entries of the list stand at these places of the merged list.
 pub record Follows (nodes kept places : List ℕ) : Type 0 where
   pub within : length places ≤ length nodes
   pub inside : (k : ℕ) → k < length places → slice_index places k < length kept
   pub stands : (k : ℕ) → k < length places → slice_index kept (slice_index places k) ≡ slice_index nodes k
-  pub ahead : (k : ℕ) → k < length kept → length places < length nodes → slice_index kept k < slice_index nodes (length places)
+  pub ahead : (k : ℕ) → k < length kept → length places < length nodes →
+      slice_index kept k < slice_index nodes (length places)
 
 -- Each entry comes from one of the lists.
 abbrev pub ComesFrom : List ℕ → List ℕ → ℕ → Type 0
 ComesFrom first second k =
-    ((p : ℕ) × (p < length first) × (slice_index first p ≡ k)) ⊎ ((p : ℕ) × (p < length second) × (slice_index second p ≡ k))
+    ((p : ℕ) × (p < length first) × (slice_index first p ≡ k))
+    ⊎ ((p : ℕ) × (p < length second) × (slice_index second p ≡ k))
 
 -- The merged list of two rising lists, with the place of each of their nodes in it.
 pub record Merging (a b kept first second : List ℕ) : Type 0 where
@@ -78,7 +82,8 @@ MarkedInEither labels first first_marks i second second_marks j class =
 -- A class is noted where it was, or where a marked entry among the first i stands in it.
 pub record Noted (labels places : List ℕ) (marks : List Bool) (i : ℕ) (old new : List Bool) : Type 0 where
   pub len : length new ≡ length old
-  pub noted : (c : ℕ) → c < length old → (slice_get new c ≡ Some true) ↔ ((slice_get old c ≡ Some true) ⊎ MarksClass places labels marks i c)
+  pub noted : (c : ℕ) → c < length old → (slice_get new c ≡ Some true) ↔
+      ((slice_get old c ≡ Some true) ⊎ MarksClass places labels marks i c)
 
 -- The labels of both rows together, over so many places.
 abbrev pub LabelsOfBoth : List ℕ → List ℕ → List ℕ → List ℕ → ℕ → List ℕ → Type 0
@@ -86,14 +91,18 @@ LabelsOfBoth first first_labels second second_labels count labels =
     KeepsLabels (EdgeOf first first_labels (length first) second second_labels (length second)) count labels
 
 -- A class is marked where a marked entry of either row stands in it.
-pub record AreMarkedClasses (labels first : List ℕ) (first_marks : List Bool) (second : List ℕ) (second_marks classes : List Bool) : Type 0 where
+pub record AreMarkedClasses (labels first : List ℕ) (first_marks : List Bool) (second : List ℕ)
+    (second_marks classes : List Bool) : Type 0 where
   pub len : length classes ≡ length labels
-  pub told : (c : ℕ) → c < length labels → (slice_get classes c ≡ Some true) ↔ MarkedInEither labels first first_marks (length first) second second_marks (length second) c
+  pub told : (c : ℕ) → c < length labels → (slice_get classes c ≡ Some true) ↔
+      MarkedInEither labels first first_marks (length first) second second_marks (length second) c
 
 -- A place is marked where a marked entry of either row stands in its class.
-pub record MarksOfBoth (labels first : List ℕ) (first_marks : List Bool) (second : List ℕ) (second_marks marks : List Bool) : Type 0 where
+pub record MarksOfBoth (labels first : List ℕ) (first_marks : List Bool) (second : List ℕ)
+    (second_marks marks : List Bool) : Type 0 where
   pub len : length marks ≡ length labels
-  pub told : (k : ℕ) → k < length labels → (slice_get marks k ≡ Some true) ↔ MarkedInEither labels first first_marks (length first) second second_marks (length second) (slice_index labels k)
+  pub told : (k : ℕ) → k < length labels → (slice_get marks k ≡ Some true) ↔
+      MarkedInEither labels first first_marks (length first) second second_marks (length second) (slice_index labels k)
 
 -- The entries of a row of labels stand at these places, which are so many, and each label is at most
 -- its place.

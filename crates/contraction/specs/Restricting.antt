@@ -9,7 +9,8 @@ use Rattle.contraction.specs.Answers.{AreLabels}
 -- Two entries of the row are equal exactly where those of the other row at their places are.
 pub record LabelsRestrict (labels places row : List ℕ) : Type 0 where
   pub are_labels : AreLabels (length places) row
-  pub same : (i j : ℕ) → i < length places → j < length places → (slice_index row i ≡ slice_index row j) ↔ (slice_index labels (slice_index places i) ≡ slice_index labels (slice_index places j))
+  pub same : (i j : ℕ) → i < length places → j < length places → (slice_index row i ≡ slice_index row j) ↔
+      (slice_index labels (slice_index places i) ≡ slice_index labels (slice_index places j))
 
 -- Entry k of the row is that of the other row at the place k.
 pub record Picks {X : Type 0} (all : List X) (places : List ℕ) (row : List X) : Type 0 where
@@ -17,7 +18,8 @@ pub record Picks {X : Type 0} (all : List X) (places : List ℕ) (row : List X) 
   pub told : (k : ℕ) → k < length places → slice_get row k ≡ slice_get all (slice_index places k)
 
 -- The marks are those of two rows together at these places of their merged list.
-pub record MarksAt (labels places first : List ℕ) (first_marks : List Bool) (second : List ℕ) (second_marks row : List Bool) : Type 0 where
+pub record MarksAt (labels places first : List ℕ) (first_marks : List Bool) (second : List ℕ)
+    (second_marks row : List Bool) : Type 0 where
   pub wide : List Bool
   pub composes : MarksOfBoth labels first first_marks second second_marks wide
   pub restricts : Picks wide places row
@@ -41,7 +43,8 @@ pub record PlacesBelow (nodes kept : List ℕ) (i : ℕ) (places : List ℕ) : T
   pub below : (k : ℕ) → k < length places → slice_index places k < i
   pub rises : Rises places
   pub named : (k : ℕ) → k < length places → Contains nodes (slice_index kept (slice_index places k))
-  pub found : (p : ℕ) → p < i → Contains nodes (slice_index kept p) → (k : ℕ) × (k < length places) × (slice_index places k ≡ p)
+  pub found : (p : ℕ) → p < i → Contains nodes (slice_index kept p) →
+      (k : ℕ) × (k < length places) × (slice_index places k ≡ p)
 
 -- The places of these nodes in the kept list.
 abbrev pub PlacesOf : List ℕ → List ℕ → List ℕ → Type 0
@@ -51,4 +54,5 @@ PlacesOf nodes kept places = PlacesBelow nodes kept (length kept) places
 pub record FirstAt (labels places : List ℕ) (j first : ℕ) : Type 0 where
   pub most : first ≤ j
   pub label : slice_index labels (slice_index places first) ≡ slice_index labels (slice_index places j)
-  pub least : (k : ℕ) → k < first → slice_index labels (slice_index places k) ≢ slice_index labels (slice_index places j)
+  pub least : (k : ℕ) → k < first →
+      slice_index labels (slice_index places k) ≢ slice_index labels (slice_index places j)

@@ -13,7 +13,8 @@ NoneMarked kept marks = (n : ℕ) → MarkedAt kept marks n → ⊥
 
 -- Two nodes have one label where they are the same, or where the bit says so.
 abbrev pub PairLabels : List ℕ → List ℕ → Bool → Type 0
-PairLabels kept labels same = (x y : ℕ) → Keeps kept x → Keeps kept y → SameAt kept labels x y ↔ ((x ≡ y) ⊎ (same ≡ true))
+PairLabels kept labels same =
+    (x y : ℕ) → Keeps kept x → Keeps kept y → SameAt kept labels x y ↔ ((x ≡ y) ⊎ (same ≡ true))
 
 -- The value keeps two nodes, marks none, and labels them by three bits.
 pub record IsPair (a b : ℕ) (coupled joined bonded : Bool) (c : Answers) : Type 0 where

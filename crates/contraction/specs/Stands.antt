@@ -4,7 +4,8 @@ use Rattle.station_graph.specs.Diagram.{Diagram}
 use Rattle.station_graph.specs.Connection.{Item, a_switch, a_link, a_tap}
 use Rattle.station_graph.specs.Sharing.{TouchedBy}
 use Rattle.station_graph.specs.Views.{CoupledBy, JoinedBy, BondedBy, EnergisableBy, EarthableBy, FedBy, TappedBy}
-use Rattle.contraction.specs.Answers.{Answers, Keeps, SaysCoupled, SaysJoined, SaysBonded, SaysEnergisable, SaysEarthable, SaysFed, SaysLoaded}
+use Rattle.contraction.specs.Answers.{Answers, Keeps, SaysCoupled, SaysJoined, SaysBonded, SaysEnergisable}
+use Rattle.contraction.specs.Answers.{SaysEarthable, SaysFed, SaysLoaded}
 
 -- The items of a list.
 abbrev pub Among : List Item → Item → Type 0

@@ -1,7 +1,8 @@
 //! The rows of a contraction, which tell contractions apart.
 ghost use Rattle.std.specs.Prelude.{◌≡◌, ◌↔◌, ◌++◌, ℕ, length, List, IfOk};
 ghost use Rattle.contraction.specs.Answers.{Answers, IsContraction, SameGap, SameLoad};
-ghost use Rattle.contraction.specs.Rows.{words, flag, flags, row_bytes, bonded_bytes, gap_bytes, load_bytes, gap_row, load_row, whole_row};
+ghost use Rattle.contraction.specs.Rows.{words, flag, flags, row_bytes, bonded_bytes, gap_bytes, load_bytes, gap_row};
+ghost use Rattle.contraction.specs.Rows.{load_row, whole_row};
 
 use crate::row::Row;
 use crate::value::Contraction;

@@ -6,7 +6,8 @@ ghost use Rattle.station_graph.specs.Connection.{a_switch};
 ghost use Rattle.station_graph.specs.CentralRules.{Breaks, GapBreaks, LoadBreaks, Moves};
 ghost use Rattle.contraction.specs.Answers.{Keeps};
 ghost use Rattle.contraction.specs.Stands.{AllBut, GapStandsFor, LoadStandsFor, StandsFor};
-ghost use Rattle.contraction.specs.Ends.{EndsKept, Meets, CarriesLoad, EndsEarthing, EndsFeeding, EndsClosing, EndsLoad, EndsGap};
+ghost use Rattle.contraction.specs.Ends.{EndsKept, Meets, CarriesLoad, EndsEarthing, EndsFeeding, EndsClosing};
+ghost use Rattle.contraction.specs.Ends.{EndsLoad, EndsGap};
 
 use crate::value::Contraction;
 use ilk_base::{Direction, Kind, NodeId, Op, Rule, SwitchId};

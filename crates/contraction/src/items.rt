@@ -1,5 +1,6 @@
 //! The contractions of no item, and of one.
-ghost use Rattle.std.specs.Prelude.{◌≡◌, ◌≢◌, ℕ, ◌<◌, ◌↔◌, min, max, Bool, true, Some, List, [], ◌∷◌, length, slice_get, IfOk, IsTrue};
+ghost use Rattle.std.specs.Prelude.{◌≡◌, ◌≢◌, ℕ, ◌<◌, ◌↔◌, min, max, Bool, true, Some, List, [], ◌∷◌, length};
+ghost use Rattle.std.specs.Prelude.{slice_get, IfOk, IsTrue};
 ghost use Rattle.station_graph.specs.Diagram.{Diagram};
 ghost use Rattle.station_graph.specs.Connection.{a_switch, a_link, a_tap, unless_breaker};
 ghost use Rattle.station_graph.specs.Sharing.{Touches};

@@ -1,5 +1,6 @@
 //! Rows of marks.
-ghost use Rattle.std.specs.Prelude.{◌≡◌, ℕ, ◌<◌, ◌≤◌, ◌↔◌, length, slice_get, slice_index, Some, true, false, IfOk, replicate};
+ghost use Rattle.std.specs.Prelude.{◌≡◌, ℕ, ◌<◌, ◌≤◌, ◌↔◌, length, slice_get, slice_index, Some, true, false, IfOk};
+ghost use Rattle.std.specs.Prelude.{replicate};
 ghost use Rattle.contraction.specs.Merging.{Noted, MarkedInEither, AreMarkedClasses, MarksOfBoth};
 ghost use Rattle.contraction.specs.Restricting.{MarksAt};
 
@@ -38,7 +39,8 @@ fn note_both(
     requires second_in { (k : ℕ) → k < length second.now → slice_index second.now k < length labels.now }
     requires below { (k : ℕ) → k < length labels.now → slice_index labels.now k ≤ k }
     ensures { (c : ℕ) → c < length labels.now → (slice_get classes.new c ≡ Some true)
-        ↔ MarkedInEither labels.now first.now first_marks.now (length first.now) second.now second_marks.now (length second.now) c }
+        ↔ MarkedInEither labels.now first.now first_marks.now (length first.now) second.now second_marks.now
+        (length second.now) c }
 {
     note(classes, labels, first, first_marks);
     note(classes, labels, second, second_marks);

@@ -1,5 +1,6 @@
 //! Kept nodes in classes, with marks: one view of a contraction.
-ghost use Rattle.std.specs.Prelude.{◌≡◌, ℕ, ◌<◌, ◌≤◌, Bool, false, replicate, [], ◌∷◌, if◌then◌else◌, length, slice_index, IfOk};
+ghost use Rattle.std.specs.Prelude.{◌≡◌, ℕ, ◌<◌, ◌≤◌, Bool, false, replicate, [], ◌∷◌, if◌then◌else◌, length};
+ghost use Rattle.std.specs.Prelude.{slice_index, IfOk};
 ghost use Rattle.contraction.specs.Merging.{LabelsFit, RowFits, RowOfBoth};
 ghost use Rattle.contraction.specs.Restricting.{RowRestricts, RowOfBothAt};
 ghost use Rattle.contraction.specs.Single.{AreApart};

@@ -57,7 +57,8 @@ impl Selection {
 
     /// Whether it is that of these lists. Time: their nodes. Takes no memory.
     pub fn is_of(&self, first: &[u16], second: &[u16], nodes: &NodeList) -> bool
-        ensures { IsTrue result ↔ ((self.now.first ≡ first.now) × (self.now.second ≡ second.now) × (self.now.nodes ≡ nodes.now)) }
+        ensures { IsTrue result ↔
+            ((self.now.first ≡ first.now) × (self.now.second ≡ second.now) × (self.now.nodes ≡ nodes.now)) }
     {
         let firsts = same_numbers(&self.first, first);
         let seconds = same_numbers(&self.second, second);

@@ -3,7 +3,8 @@ ghost use Rattle.std.specs.Prelude.{◌≡◌, ◌↔◌, ℕ, Bool, List, IsTru
 ghost use Rattle.station_graph.specs.Diagram.{Diagram};
 ghost use Rattle.station_graph.specs.Connection.{Item};
 ghost use Rattle.station_graph.specs.Views.{SupplyBy};
-ghost use Rattle.contraction.specs.Answers.{IsContraction, Keeps, SaysCoupled, SaysJoined, SaysBonded, SaysEnergisable, SaysEarthable, SaysFed, SaysLoaded, SaysSupply, supply_of};
+ghost use Rattle.contraction.specs.Answers.{IsContraction, Keeps, SaysCoupled, SaysJoined, SaysBonded, SaysEnergisable};
+ghost use Rattle.contraction.specs.Answers.{SaysEarthable, SaysFed, SaysLoaded, SaysSupply, supply_of};
 ghost use Rattle.contraction.specs.Stands.{Among, LoadStandsFor};
 
 use crate::places::{is_marked, same_label};

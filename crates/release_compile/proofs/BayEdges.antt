@@ -1,5 +1,6 @@
 -- The edges of a bay's graphs, as they are spent graph by graph.
-use Rattle.std.proofs.Common.{◌≡◌, ℕ, ◌+◌, ◌-◌, ◌<◌, ◌≤◌, ◌⊎◌, suc, [], ◌∷◌, ◌++◌, refl, sym, ◌∙◌, subst, inl, inr, arith}
+use Rattle.std.proofs.Common.{◌≡◌, ℕ, ◌+◌, ◌-◌, ◌<◌, ◌≤◌, ◌⊎◌, suc, [], ◌∷◌, ◌++◌, refl, sym, ◌∙◌, subst, inl, inr}
+use Rattle.std.proofs.Common.{arith}
 use Rattle.std.proofs.lemmas.List.{length_push}
 use Rattle.std.proofs.lemmas.List.Sums.{sum_by_push}
 use Rattle.station_graph.specs.Diagram.{Diagram, part_count, AreSwitchesOf}
@@ -14,22 +15,31 @@ use Rattle.release_compile.specs.Graphs.{other_of}
 use Rattle.release_compile.specs.Counted.{AreAtLeast, OuterHas, InnerHas, SwitchesHave, ViewHas, BayHas, Spends, Passes}
 use Rattle.release_compile.specs.Judging.{PartHasEdges, KeepEdges, IsFirstWide}
 use Rattle.release_compile.proofs.VerdictLemmas.{other_in}
-use Rattle.release_compile.proofs.EdgesLemmas.{alphabet_counts, switches_at_least, outer_at_least, view_at_least, switches_more, switches_all, switches_zero, outer_none}
+use Rattle.release_compile.proofs.EdgesLemmas.{alphabet_counts, switches_at_least, outer_at_least, view_at_least}
+use Rattle.release_compile.proofs.EdgesLemmas.{switches_more, switches_all, switches_zero, outer_none}
 
 -- ---- the switches of a bay, one by one
 
 module _ (view : View) (d : Diagram) (b first count : ℕ) where
-  pub switches_spend : (i limit rest left : ℕ) → i < count → Spends (SwitchesHave view d b first count i) d limit rest → Spends (InnerHas view d b (first + i) first (count - 1) (count - 1)) d rest left → Spends (SwitchesHave view d b first count (i + 1)) d limit left
+  pub switches_spend : (i limit rest left : ℕ) → i < count → Spends (SwitchesHave view d b first count i) d limit rest →
+      Spends (InnerHas view d b (first + i) first (count - 1) (count - 1)) d rest left →
+      Spends (SwitchesHave view d b first count (i + 1)) d limit left
   switches_spend i limit rest left lt h new = record {
     edges = h.edges + new.edges;
-    has = switches_more view d b (AreSoMany d) first count i h.edges new.edges h.has (record { others = count - 1; one_more = omega (arith, lt); inner = new.has });
+    has =
+        switches_more view d b (AreSoMany d) first count i h.edges new.edges h.has
+        (record { others = count - 1; one_more = omega (arith, lt); inner = new.has });
     all = omega (arith, h.all, new.all);
   }
 
-  pub switches_pass : (i limit rest : ℕ) → i < count → Spends (SwitchesHave view d b first count i) d limit rest → Passes (InnerHas view d b (first + i) first (count - 1) (count - 1)) d rest → Passes (SwitchesHave view d b first count count) d limit
+  pub switches_pass : (i limit rest : ℕ) → i < count → Spends (SwitchesHave view d b first count i) d limit rest →
+      Passes (InnerHas view d b (first + i) first (count - 1) (count - 1)) d rest →
+      Passes (SwitchesHave view d b first count count) d limit
   switches_pass i limit rest lt h new =
       let e : suc (count - 1) ≡ count = omega (arith, lt) in
-      let here = switches_more view d b (AreAtLeast d) first count i h.edges new.edges (switches_at_least view d b first count i h.edges h.has) (record { others = count - 1; one_more = e; inner = new.has }) in
+      let here = switches_more view d b (AreAtLeast d) first count i h.edges new.edges
+      (switches_at_least view d b first count i h.edges h.has)
+      (record { others = count - 1; one_more = e; inner = new.has }) in
       let full : (i + 1) + (count - (i + 1)) ≡ count = omega (arith, lt) in
       let all = switches_all view d b first count (count - (i + 1)) (i + 1) (h.edges + new.edges) (count - 1) e here in
       record {
@@ -41,30 +51,59 @@ module _ (view : View) (d : Diagram) (b first count : ℕ) where
   -- ---- one view
 
   module _ (others : ℕ) (one_more : suc others ≡ part_count d) where
-    pub view_spends : (limit rest left : ℕ) → Spends (OuterHas view d b others) d limit rest → Spends (SwitchesHave view d b first count count) d rest left → Spends (ViewHas view d b first count) d limit left
+    pub view_spends : (limit rest left : ℕ) → Spends (OuterHas view d b others) d limit rest →
+        Spends (SwitchesHave view d b first count count) d rest left →
+        Spends (ViewHas view d b first count) d limit left
     view_spends limit rest left o s = record {
       edges = o.edges + s.edges;
-      has = record { others = others; one_more = one_more; outer_edges = o.edges; inner_edges = s.edges; outer = o.has; inner = s.has; all = refl };
+      has = record {
+        others = others;
+        one_more = one_more;
+        outer_edges = o.edges;
+        inner_edges = s.edges;
+        outer = o.has;
+        inner = s.has;
+        all = refl;
+      };
       all = omega (arith, o.all, s.all);
     }
 
-    pub outer_view_passes : (limit : ℕ) → Passes (OuterHas view d b others) d limit → Passes (ViewHas view d b first count) d limit
+    pub outer_view_passes : (limit : ℕ) → Passes (OuterHas view d b others) d limit →
+        Passes (ViewHas view d b first count) d limit
     outer_view_passes limit o = record {
       edges = o.edges + 0;
-      has = record { others = others; one_more = one_more; outer_edges = o.edges; inner_edges = 0; outer = o.has; inner = switches_zero view d b first count; all = refl };
+      has = record {
+        others = others;
+        one_more = one_more;
+        outer_edges = o.edges;
+        inner_edges = 0;
+        outer = o.has;
+        inner = switches_zero view d b first count;
+        all = refl;
+      };
       past = omega (arith, o.past);
     }
 
-    pub inner_view_passes : (limit rest : ℕ) → Spends (OuterHas view d b others) d limit rest → Passes (SwitchesHave view d b first count count) d rest → Passes (ViewHas view d b first count) d limit
+    pub inner_view_passes : (limit rest : ℕ) → Spends (OuterHas view d b others) d limit rest →
+        Passes (SwitchesHave view d b first count count) d rest → Passes (ViewHas view d b first count) d limit
     inner_view_passes limit rest o s = record {
       edges = o.edges + s.edges;
-      has = record { others = others; one_more = one_more; outer_edges = o.edges; inner_edges = s.edges; outer = outer_at_least view d b others o.edges o.has; inner = s.has; all = refl };
+      has = record {
+        others = others;
+        one_more = one_more;
+        outer_edges = o.edges;
+        inner_edges = s.edges;
+        outer = outer_at_least view d b others o.edges o.has;
+        inner = s.has;
+        all = refl;
+      };
       past = omega (arith, o.all, s.past);
     }
 
 -- ---- both views
 
-module _ (d : Diagram) (a : Alphabets) (alphabets : AreAlphabets d a) (b first count : ℕ) (b_in : b < part_count d) (switches : AreSwitchesOf d b first count) where
+module _ (d : Diagram) (a : Alphabets) (alphabets : AreAlphabets d a) (b first count : ℕ) (b_in : b < part_count d)
+    (switches : AreSwitchesOf d b first count) where
   view_zero : (view : View) → ViewHas view d b first count (AreAtLeast d) 0
   view_zero view =
       let e : suc (part_count d - 1) ≡ part_count d = omega (arith, b_in) in
@@ -73,29 +112,63 @@ module _ (d : Diagram) (a : Alphabets) (alphabets : AreAlphabets d a) (b first c
         one_more = e;
         outer_edges = 0;
         inner_edges = 0;
-        outer = outer_none view d b (part_count d - 1) (λ j lt. (_, alphabet_counts d a (other_of 0 b j) (alphabets.each (other_of 0 b j) (omega (arith, (other_in 0 b (part_count d - 1) j lt).1, e)))));
+        outer =
+            outer_none view d b (part_count d - 1) (λ j lt. (
+              _,
+              alphabet_counts d a (other_of 0 b j)
+                  (alphabets.each (other_of 0 b j) (omega (arith, (other_in 0 b (part_count d - 1) j lt).1, e))),
+            ));
         inner = switches_zero view d b first count;
         all = refl;
       }
 
-  pub bay_spends : (limit rest left : ℕ) → Spends (ViewHas Gap d b first count) d limit rest → Spends (ViewHas Load d b first count) d rest left → Spends (BayHas d b) d limit left
+  pub bay_spends : (limit rest left : ℕ) → Spends (ViewHas Gap d b first count) d limit rest →
+      Spends (ViewHas Load d b first count) d rest left → Spends (BayHas d b) d limit left
   bay_spends limit rest left g l = record {
     edges = g.edges + l.edges;
-    has = record { first = first; count = count; switches = switches; gap_edges = g.edges; load_edges = l.edges; gap = g.has; load = l.has; all = refl };
+    has = record {
+      first = first;
+      count = count;
+      switches = switches;
+      gap_edges = g.edges;
+      load_edges = l.edges;
+      gap = g.has;
+      load = l.has;
+      all = refl;
+    };
     all = omega (arith, g.all, l.all);
   }
 
   pub gap_passes : (limit : ℕ) → Passes (ViewHas Gap d b first count) d limit → Passes (BayHas d b) d limit
   gap_passes limit g = record {
     edges = g.edges + 0;
-    has = record { first = first; count = count; switches = switches; gap_edges = g.edges; load_edges = 0; gap = g.has; load = view_zero Load; all = refl };
+    has = record {
+      first = first;
+      count = count;
+      switches = switches;
+      gap_edges = g.edges;
+      load_edges = 0;
+      gap = g.has;
+      load = view_zero Load;
+      all = refl;
+    };
     past = omega (arith, g.past);
   }
 
-  pub load_passes : (limit rest : ℕ) → Spends (ViewHas Gap d b first count) d limit rest → Passes (ViewHas Load d b first count) d rest → Passes (BayHas d b) d limit
+  pub load_passes : (limit rest : ℕ) → Spends (ViewHas Gap d b first count) d limit rest →
+      Passes (ViewHas Load d b first count) d rest → Passes (BayHas d b) d limit
   load_passes limit rest g l = record {
     edges = g.edges + l.edges;
-    has = record { first = first; count = count; switches = switches; gap_edges = g.edges; load_edges = l.edges; gap = view_at_least Gap d b first count g.edges g.has; load = l.has; all = refl };
+    has = record {
+      first = first;
+      count = count;
+      switches = switches;
+      gap_edges = g.edges;
+      load_edges = l.edges;
+      gap = view_at_least Gap d b first count g.edges g.has;
+      load = l.has;
+      all = refl;
+    };
     past = omega (arith, g.all, l.past);
   }
 
@@ -104,13 +177,16 @@ module _ (d : Diagram) (a : Alphabets) (alphabets : AreAlphabets d a) (b first c
 pub keep_none : (d : Diagram) → KeepEdges d 0 0
 keep_none d = record { each = []; len = refl; counted = λ part size at. cc; all = refl; few = omega arith }
 
-pub keep_more : (d : Diagram) (n edges size : ℕ) → KeepEdges d n edges → PartHasEdges d n size → size ≤ 8000000 → edges + size ≤ 80000000 → KeepEdges d (n + 1) (edges + size)
+pub keep_more : (d : Diagram) (n edges size : ℕ) → KeepEdges d n edges → PartHasEdges d n size → size ≤ 8000000 →
+    edges + size ≤ 80000000 → KeepEdges d (n + 1) (edges + size)
 keep_more d n edges size h new few all = record {
   each = h.each ++ size ∷ [];
   len = omega (arith, length_push h.each size, h.len);
   counted = λ part k at. elim (slice_get-push h.each size k part at) [
     | inl before ↦ h.counted part k before
-    | inr here ↦ subst (λ z. PartHasEdges d part z × (z ≤ 8000000)) here.1 (subst (λ z. PartHasEdges d z size) (sym (here.0 ∙ h.len)) new, few)
+    | inr here ↦
+        subst (λ z. PartHasEdges d part z × (z ≤ 8000000)) here.1
+        (subst (λ z. PartHasEdges d z size) (sym (here.0 ∙ h.len)) new, few)
   ];
   all = omega (arith, sum_by_push (λ (x : ℕ). x) h.each size, h.all);
   few = all;
@@ -118,20 +194,23 @@ keep_more d n edges size h new few all = record {
 
 -- ---- which parts are bays
 
-pub bay_of_count : (d : Diagram) (b first count : ℕ) → AreSwitchesOf d b first count → b < part_count d → 0 < count → IsBay d b
+pub bay_of_count : (d : Diagram) (b first count : ℕ) → AreSwitchesOf d b first count → b < part_count d → 0 < count →
+    IsBay d b
 bay_of_count d b first count are lt some = (lt, omega (arith, some, are.counted))
 
 pub no_bay_of_count : (d : Diagram) (b first count : ℕ) → AreSwitchesOf d b first count → count ≡ 0 → IsBay d b → ⊥
 no_bay_of_count d b first count are none bay = omega (arith, bay.1, are.counted, none)
 
 -- the bay at which the edges that are left are too few is the first that is too wide
-pub first_wide : (d : Diagram) (b spent left : ℕ) → IsBay d b → KeepEdges d b spent → (left ≡ 8000000) ⊎ (left + spent ≡ 80000000) → Passes (BayHas d b) d left → IsFirstWide d b
+pub first_wide : (d : Diagram) (b spent left : ℕ) → IsBay d b → KeepEdges d b spent →
+    (left ≡ 8000000) ⊎ (left + spent ≡ 80000000) → Passes (BayHas d b) d left → IsFirstWide d b
 first_wide d b spent left bay before either past = record {
   bay = bay;
   spent = spent;
   before = before;
   past = elim either [
     | inl one ↦ inl (subst (λ n. Passes (BayHas d b) d n) one past)
-    | inr all ↦ inr (let e : left ≡ 80000000 - spent = omega (arith, all) in subst (λ n. Passes (BayHas d b) d n) e past)
+    | inr all ↦
+        inr (let e : left ≡ 80000000 - spent = omega (arith, all) in subst (λ n. Passes (BayHas d b) d n) e past)
   ];
 }

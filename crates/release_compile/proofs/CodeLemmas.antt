@@ -1,5 +1,6 @@
 -- What a value of all items but a switch says of it.
-use Rattle.std.proofs.Common.{◌≡◌, ℕ, ◌+◌, ◌<◌, ◌↔◌, Bool, List, [], ◌∷◌, ◌++◌, length, get_or, slice_get, Option, Some, IsTrue, refl, sym, ap, ◌∙◌, subst, arith, inl, inr}
+use Rattle.std.proofs.Common.{◌≡◌, ℕ, ◌+◌, ◌<◌, ◌↔◌, Bool, List, [], ◌∷◌, ◌++◌, length, get_or, slice_get, Option, Some}
+use Rattle.std.proofs.Common.{IsTrue, refl, sym, ap, ◌∙◌, subst, arith, inl, inr}
 use Rattle.std.proofs.Math.Path.{ap₂}
 use Rattle.std.proofs.lemmas.Bool.{cases_lt}
 use Rattle.std.proofs.lemmas.List.{length_push, get_or_push, get_or_append_left}
@@ -25,10 +26,14 @@ labels_some Gap = omega arith
 labels_some Load = omega arith
 
 op_same : (o op : Op) → o.switch.0 ≡ op.switch.0 → o.direction ≡ op.direction → o ≡ op
-op_same o op e f = (let mk : ℕ → Direction → Op = λ n d. record { switch = record { 0 = n }; direction = d } in ap₂ mk e f)
+op_same o op e f =
+    (let mk : ℕ → Direction → Op = λ n d. record { switch = record { 0 = n }; direction = d } in ap₂ mk e f)
 
 -- a rule that the label names
-pub gap_says : (d : Diagram) (op : Op) (x : Answers) (answer : Option Rule) (code : ℕ) → op.direction ≡ ToOn → ((v : List Bool) → IsVector d v → GapStandsFor (AllBut (a_switch op.switch.0)) d v x → GapBreaks d v op answer) → ((v : List Bool) (o : Op) → GapBreaks d v o answer → GapBreaks d v o (gap_rule code)) → CodeSays Gap d op.switch.0 x code
+pub gap_says : (d : Diagram) (op : Op) (x : Answers) (answer : Option Rule) (code : ℕ) → op.direction ≡ ToOn →
+    ((v : List Bool) → IsVector d v → GapStandsFor (AllBut (a_switch op.switch.0)) d v x → GapBreaks d v op answer) →
+    ((v : List Bool) (o : Op) → GapBreaks d v o answer → GapBreaks d v o (gap_rule code)) →
+    CodeSays Gap d op.switch.0 x code
 gap_says d op x answer code closes breaks named v whole s o same to_on =
     let e : op ≡ o = sym (op_same o op same (to_on ∙ sym closes)) in
     named v o (subst (λ p. GapBreaks d v p answer) e (breaks v whole s))
@@ -36,7 +41,8 @@ gap_says d op x answer code closes breaks named v whole s o same to_on =
 -- moving is the same either way
 load_same : (d : Diagram) (v : List Bool) (o op : Op) → o.switch.0 ≡ op.switch.0 → Applies R3 d v op → Applies R3 d v o
 load_same d v o op e h =
-    let turned = subst (λ n. Applies R3 d v (record { switch = record { 0 = n }; direction = op.direction })) (sym e) h in
+    let turned = subst (λ n. Applies R3 d v (record { switch = record { 0 = n }; direction = op.direction }))
+    (sym e) h in
     record {
       switch = turned.switch;
       second = turned.second;
@@ -46,7 +52,9 @@ load_same d v o op e h =
       load = turned.load;
     }
 
-pub load_says : (d : Diagram) (op : Op) (x : Answers) (answer : Bool) (code : ℕ) → ((v : List Bool) → IsVector d v → LoadStandsFor (AllBut (a_switch op.switch.0)) d v x → IsTrue answer ↔ Applies R3 d v op) → (code ≡ 1) ↔ IsTrue answer → CodeSays Load d op.switch.0 x code
+pub load_says : (d : Diagram) (op : Op) (x : Answers) (answer : Bool) (code : ℕ) →
+    ((v : List Bool) → IsVector d v → LoadStandsFor (AllBut (a_switch op.switch.0)) d v x → IsTrue answer ↔
+    Applies R3 d v op) → (code ≡ 1) ↔ IsTrue answer → CodeSays Load d op.switch.0 x code
 load_says d op x answer code applies is v whole s o same =
     let a = applies v whole s in
     (λ h. load_same d v o op same (a.0 (is.0 h)), λ h. is.1 (a.1 (load_same d v op o (sym same) h)))
@@ -54,15 +62,22 @@ load_says d op x answer code applies is v whole s o same =
 -- ---- one by one
 
 -- The first n of the values have their labels.
-pub record CodesBelow (view : View) (d : Diagram) (m : ℕ) (values : List Answers) (codes : List ℕ) (n : ℕ) : Type 0 where
+pub record CodesBelow (view : View) (d : Diagram) (m : ℕ) (values : List Answers) (codes : List ℕ)
+    (n : ℕ) : Type 0 where
   pub len : length codes ≡ n
   pub each : (t : ℕ) (x : Answers) → t < n → slice_get values t ≡ Some x → CodeSays view d m x (get_or codes t 0)
   pub small : (t : ℕ) → t < n → get_or codes t 0 < labels_of view
 
 pub codes_none : (view : View) (d : Diagram) (m : ℕ) (values : List Answers) → CodesBelow view d m values [] 0
-codes_none view d m values = record { len = refl; each = λ t x lt at. absurd (omega (arith, lt)); small = λ t lt. absurd (omega (arith, lt)) }
+codes_none view d m values = record {
+  len = refl;
+  each = λ t x lt at. absurd (omega (arith, lt));
+  small = λ t lt. absurd (omega (arith, lt));
+}
 
-pub codes_more : (view : View) (d : Diagram) (m : ℕ) (values : List Answers) (codes : List ℕ) (n code : ℕ) (y : Answers) → CodesBelow view d m values codes n → slice_get values n ≡ Some y → CodeSays view d m y code → code < labels_of view → CodesBelow view d m values (codes ++ code ∷ []) (n + 1)
+pub codes_more : (view : View) (d : Diagram) (m : ℕ) (values : List Answers) (codes : List ℕ) (n code : ℕ)
+    (y : Answers) → CodesBelow view d m values codes n → slice_get values n ≡ Some y → CodeSays view d m y code →
+    code < labels_of view → CodesBelow view d m values (codes ++ code ∷ []) (n + 1)
 codes_more view d m values codes n code y h at_n says small = record {
   len = omega (arith, length_push codes code, h.len);
   each = λ t x lt at. elim (cases_lt t n) [
@@ -84,7 +99,8 @@ codes_more view d m values codes n code y h at_n says small = record {
     here : (t : ℕ) → n ≡ t → get_or (codes ++ code ∷ []) t 0 ≡ code
     here t e = get_or_push codes code 0 t (h.len ∙ e)
 
-pub codes_all : (view : View) (d : Diagram) (m : ℕ) (values : List Answers) (codes : List ℕ) (n : ℕ) → CodesBelow view d m values codes n → length values ≡ n → AreCodes view d m values codes
+pub codes_all : (view : View) (d : Diagram) (m : ℕ) (values : List Answers) (codes : List ℕ) (n : ℕ) →
+    CodesBelow view d m values codes n → length values ≡ n → AreCodes view d m values codes
 codes_all view d m values codes n h len = record {
   len = h.len ∙ sym len;
   each = λ t x at. h.each t x (omega (arith, slice_get_within values t x at, len)) at;

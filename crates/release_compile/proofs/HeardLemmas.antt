@@ -1,5 +1,6 @@
 -- The graphs of one view of a switch, ready for sets and words.
-use Rattle.std.proofs.Common.{◌≡◌, ℕ, ◌+◌, ◌-◌, ◌<◌, ◌≤◌, ◌⊎◌, zero, suc, Bool, List, [], ◌∷◌, length, map, get_or, slice_get, Some, refl, sym, ap, ◌∙◌, subst, inl, inr, arith}
+use Rattle.std.proofs.Common.{◌≡◌, ℕ, ◌+◌, ◌-◌, ◌<◌, ◌≤◌, ◌⊎◌, zero, suc, Bool, List, [], ◌∷◌, length, map, get_or}
+use Rattle.std.proofs.Common.{slice_get, Some, refl, sym, ap, ◌∙◌, subst, inl, inr, arith}
 use Rattle.std.proofs.lemmas.Bool.{cases_lt}
 use Rattle.std.proofs.lemmas.Option.{slice_get-get_or}
 use Rattle.ilk_base.specs.declared.words.Dbpos.{Dbpos}
@@ -19,36 +20,48 @@ use Rattle.release_compile.specs.Built.{ViewOf, AreInner, AreViewGraphs}
 use Rattle.release_compile.proofs.VerdictLemmas.{set_in, sets_at}
 
 -- the inner graph of a switch of the bay
-pub record HasInner (view : View) (a : Lettered) (b m first others : ℕ) (names : List Answers) (h : Layered) : Type 0 where
+pub record HasInner (view : View) (a : Lettered) (b m first others : ℕ) (names : List Answers)
+    (h : Layered) : Type 0 where
   pub graph : IsInner view a b m first others names h
   pub labels : h.labels ≡ labels_of view
 
-pub inner_of : (view : View) (a : Lettered) (b m first others : ℕ) (names : List Answers) (graphs : List Layered) (h : Layered) → AreInner view a b first (suc others) names graphs (suc others) → first ≤ m → slice_get graphs (m - first) ≡ Some h → HasInner view a b m first others names h
+pub inner_of : (view : View) (a : Lettered) (b m first others : ℕ) (names : List Answers) (graphs : List Layered)
+    (h : Layered) → AreInner view a b first (suc others) names graphs (suc others) → first ≤ m →
+    slice_get graphs (m - first) ≡ Some h → HasInner view a b m first others names h
 inner_of view a b m first others names graphs h are low at =
     let x = are.each (m - first) h at in
     let same : x.others ≡ others = omega (arith, x.one_more) in
     let here : first + (m - first) ≡ m = omega (arith, low) in
     record {
-      graph = subst (λ n. IsInner view a b m first n names h) same (subst (λ k. IsInner view a b k first x.others names h) here x.graph);
+      graph =
+          subst (λ n. IsInner view a b m first n names h) same
+          (subst (λ k. IsInner view a b k first x.others names h) here x.graph);
       labels = x.labels;
     }
 
 -- the inner graph that stands at the place of the switch
-pub inner_at : (view : View) (a : Lettered) (b m first others : ℕ) → IsOwn a.diagram b m first others → (g : ViewOf) (gs : AreViewGraphs view a b first (suc others) g) (i : ℕ) (h : Layered) → i ≡ m - first → h ≡ get_or g.inner i h → HasInner view a b m first others gs.names h
+pub inner_at : (view : View) (a : Lettered) (b m first others : ℕ) → IsOwn a.diagram b m first others →
+    (g : ViewOf) (gs : AreViewGraphs view a b first (suc others) g) (i : ℕ) (h : Layered) → i ≡ m - first →
+    h ≡ get_or g.inner i h → HasInner view a b m first others gs.names h
 inner_at view a b m first others own g gs i h place is =
     let lt : i < length g.inner = omega (arith, place, own.from, own.below, gs.inner.len) in
-    let at : slice_get g.inner (m - first) ≡ Some h = ap (slice_get g.inner) (sym place) ∙ (slice_get-get_or g.inner i h lt ∙ ap Some (sym is)) in
+    let at : slice_get g.inner (m - first) ≡ Some h =
+    ap (slice_get g.inner) (sym place) ∙ (slice_get-get_or g.inner i h lt ∙ ap Some (sym is)) in
     inner_of view a b m first others gs.names g.inner h gs.inner own.from at
 
 -- both in a row
-pub in_a_row : (view : View) (a : Lettered) (b m first others : ℕ) (names : List Answers) (g h : Layered) → IsOuter view a b g names → IsInner view a b m first others names h → AreInARow g h
+pub in_a_row : (view : View) (a : Lettered) (b m first others : ℕ) (names : List Answers) (g h : Layered) →
+    IsOuter view a b g names → IsInner view a b m first others names h → AreInARow g h
 in_a_row view a b m first others names g h o i = record {
   some = omega (arith, i.count);
   labels = i.outer ∙ o.labels;
 }
 
 -- a side of these graphs
-pub side_is : (view : View) (a : Lettered) (b m first others : ℕ) (words : List Dbpos) (sets : List (List Bool)) (s : Side) (names : List Answers) (g h : Layered) → IsOuter view a b g names → IsInner view a b m first others names h → s.outer.now ≡ g → s.inner.now ≡ h → IsReady s sets → OwnAllowed first m others words s.inner_sets → IsSide view a b m first others words sets s
+pub side_is : (view : View) (a : Lettered) (b m first others : ℕ) (words : List Dbpos) (sets : List (List Bool))
+    (s : Side) (names : List Answers) (g h : Layered) → IsOuter view a b g names →
+    IsInner view a b m first others names h → s.outer.now ≡ g → s.inner.now ≡ h → IsReady s sets →
+    OwnAllowed first m others words s.inner_sets → IsSide view a b m first others words sets s
 side_is view a b m first others words sets s names g h o i same_g same_h ready own = record {
   names = names;
   outer_is = subst (λ x. IsOuter view a b x names) (sym same_g) o;
@@ -58,7 +71,9 @@ side_is view a b m first others words sets s names g h o i same_g same_h ready o
 }
 
 -- choices behind the first are two
-pub two_choices : (view : View) (a : Lettered) (b m first others : ℕ) (names : List Answers) (h : Layered) (sets : List (List Bool)) → IsInner view a b m first others names h → AreSetsOf h.layers sets → (i c : ℕ) → IsSet (set_at sets (suc i)) c → c < 2
+pub two_choices : (view : View) (a : Lettered) (b m first others : ℕ) (names : List Answers) (h : Layered)
+    (sets : List (List Bool)) → IsInner view a b m first others names h → AreSetsOf h.layers sets → (i c : ℕ) →
+    IsSet (set_at sets (suc i)) c → c < 2
 two_choices view a b m first others names h sets inner fits i c is =
     let within = set_in (set_at sets (suc i)) c is in
     let len = sets_at h.layers sets (suc i) fits in
@@ -80,7 +95,9 @@ two_choices view a b m first others names h sets inner fits i c is =
     ]
 
 -- layers with the same choices
-choices_equal : (ls ms : List Layer) → length ls ≡ length ms → ((j : ℕ) → j < length ls → (layer_at ls j).choices ≡ (layer_at ms j).choices) → map (λ (l : Layer). l.choices) ls ≡ map (λ (l : Layer). l.choices) ms
+choices_equal : (ls ms : List Layer) → length ls ≡ length ms →
+    ((j : ℕ) → j < length ls → (layer_at ls j).choices ≡ (layer_at ms j).choices) →
+    map (λ (l : Layer). l.choices) ls ≡ map (λ (l : Layer). l.choices) ms
 choices_equal [] [] e same = refl
 choices_equal [] (m ∷ ms) e same = absurd (omega (arith, e))
 choices_equal (l ∷ ls) [] e same = absurd (omega (arith, e))
@@ -90,12 +107,17 @@ choices_equal (l ∷ ls) (m ∷ ms) e same =
     ap (λ (k : ℕ). k ∷ map (λ (x : Layer). x.choices) ls) head ∙ ap (λ (ks : List ℕ). m.choices ∷ ks) rest
 
 -- the sets of one outer graph are those of the other
-pub other_sets : (v w : View) (a : Lettered) (b : ℕ) (names others' : List Answers) (g h : Layered) (sets : List (List Bool)) → IsOuter v a b g names → IsOuter w a b h others' → AreSetsOf g.layers sets → AreSetsOf h.layers sets
+pub other_sets : (v w : View) (a : Lettered) (b : ℕ) (names others' : List Answers) (g h : Layered)
+    (sets : List (List Bool)) → IsOuter v a b g names → IsOuter w a b h others' → AreSetsOf g.layers sets →
+    AreSetsOf h.layers sets
 other_sets v w a b names others' g h sets og oh are =
-    are ∙ choices_equal g.layers h.layers (omega (arith, og.count, oh.count)) (λ j lt. og.choices j lt ∙ sym (oh.choices j (omega (arith, lt, og.count, oh.count))))
+    are
+    ∙ choices_equal g.layers h.layers (omega (arith, og.count, oh.count))
+    (λ j lt. og.choices j lt ∙ sym (oh.choices j (omega (arith, lt, og.count, oh.count))))
 
 -- a layer in which something is allowed
-pub set_layer : (ls : List Layer) (sets : List (List Bool)) → AreSetsOf ls sets → (j c : ℕ) → IsSet (set_at sets j) c → j < length ls
+pub set_layer : (ls : List Layer) (sets : List (List Bool)) → AreSetsOf ls sets → (j c : ℕ) → IsSet (set_at sets j) c →
+    j < length ls
 set_layer ls sets are j c is =
     let within = set_in (set_at sets j) c is in
     let len = sets_at ls sets j are in
@@ -111,7 +133,9 @@ set_layer ls sets are j c is =
     none (l ∷ ks) (suc i) le = none ks i (omega (arith, le))
 
 -- an allowed index is one of the part's
-pub allowed_index : (view : View) (a : Lettered) (b : ℕ) (names : List Answers) (g : Layered) (sets : List (List Bool)) → IsOuter view a b g names → AreSetsOf g.layers sets → (j c : ℕ) → IsSet (set_at sets j) c → c < index_count a (other_of 0 b j)
+pub allowed_index : (view : View) (a : Lettered) (b : ℕ) (names : List Answers) (g : Layered)
+    (sets : List (List Bool)) → IsOuter view a b g names → AreSetsOf g.layers sets → (j c : ℕ) →
+    IsSet (set_at sets j) c → c < index_count a (other_of 0 b j)
 allowed_index view a b names g sets o are j c is =
     let within = set_in (set_at sets j) c is in
     let len = sets_at g.layers sets j are in
@@ -119,10 +143,16 @@ allowed_index view a b names g sets o are j c is =
     omega (arith, within, len, o.choices j lt)
 
 -- a switch of the bay is one of its numbers
-pub own_number : (d : Diagram) (b first count m : ℕ) → AreSwitchesOf d b first count → OfPart d b (a_switch m) → (first ≤ m) × (m < first + count)
+pub own_number : (d : Diagram) (b first count m : ℕ) → AreSwitchesOf d b first count → OfPart d b (a_switch m) →
+    (first ≤ m) × (m < first + count)
 own_number d b first count m are of_b = (are.those m of_b.0 of_b.1).0 of_b.2
 
-pub own_is : (d : Diagram) (b first count others m : ℕ) → AreSwitchesOf d b first count → OfPart d b (a_switch m) → suc others ≡ count → IsOwn d b m first others
+pub own_is : (d : Diagram) (b first count others m : ℕ) → AreSwitchesOf d b first count → OfPart d b (a_switch m) →
+    suc others ≡ count → IsOwn d b m first others
 own_is d b first count others m are of_b one_more =
     let range = own_number d b first count m are of_b in
-    record { those = subst (λ n. AreSwitchesOf d b first n) (sym one_more) are; from = range.0; below = omega (arith, range.1, one_more) }
+    record {
+      those = subst (λ n. AreSwitchesOf d b first n) (sym one_more) are;
+      from = range.0;
+      below = omega (arith, range.1, one_more);
+    }

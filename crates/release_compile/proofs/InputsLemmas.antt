@@ -1,5 +1,6 @@
 -- What the layers take in stays so where a pool grows, and comes one by one.
-use Rattle.std.proofs.Common.{◌≡◌, ℕ, ◌+◌, ◌<◌, ◌↔◌, zero, suc, Bool, true, false, eqb, List, [], ◌∷◌, ◌++◌, length, slice_get, Some, refl, sym, ap, ◌∙◌, subst, inl, inr, arith}
+use Rattle.std.proofs.Common.{◌≡◌, ℕ, ◌+◌, ◌<◌, ◌↔◌, zero, suc, Bool, true, false, eqb, List, [], ◌∷◌, ◌++◌, length}
+use Rattle.std.proofs.Common.{slice_get, Some, refl, sym, ap, ◌∙◌, subst, inl, inr, arith}
 use Rattle.std.specs.Prelude.{Contains}
 use borrow.Author.Tests.{eqb-true}
 use Rattle.std.proofs.lemmas.Bool.{eq-eqb}
@@ -24,7 +25,8 @@ use Rattle.release_compile.specs.Layering.{values_at, no_answers}
 use Rattle.release_compile.specs.Folding.{AreViews}
 use Rattle.release_compile.specs.Graphs.{other_of, OfOthers}
 use Rattle.release_compile.specs.Listing.{own_links, listed}
-use Rattle.release_compile.specs.Inputs.{HasNodes, AreKeeps, HasCopyAt, AreCopies, AreLetters, AreOtherRows, AreRows, HasNothing, HasLinks, HasSwitch, HasPair, AreInnerRows, AreNames}
+use Rattle.release_compile.specs.Inputs.{HasNodes, AreKeeps, HasCopyAt, AreCopies, AreLetters, AreOtherRows, AreRows}
+use Rattle.release_compile.specs.Inputs.{HasNothing, HasLinks, HasSwitch, HasPair, AreInnerRows, AreNames}
 use Rattle.release_compile.proofs.LayerLemmas.{get_front, get_last}
 use Rattle.release_compile.proofs.OuterLemmas.{among_from, among_to}
 use Rattle.release_compile.proofs.OuterFits.{seen_over, seen_of, seen_same, kept_of_same}
@@ -38,13 +40,16 @@ module _ (p q : Pool) (g : Grows p q) where
   pub nodes_stay : (Kind : ℕ → Type 0) (k : ℕ) → HasNodes Kind p k → HasNodes Kind q k
   nodes_stay Kind k h = record { nodes = h.nodes; listed = g.keeps k h.nodes h.listed; exact = h.exact }
 
-  pub keeps_stay : (Needed : ℕ → ℕ → Type 0) (keeps : List ℕ) (n : ℕ) → AreKeeps Needed p keeps n → AreKeeps Needed q keeps n
+  pub keeps_stay : (Needed : ℕ → ℕ → Type 0) (keeps : List ℕ) (n : ℕ) → AreKeeps Needed p keeps n →
+      AreKeeps Needed q keeps n
   keeps_stay Needed keeps n h = record { len = h.len; each = λ j k at. nodes_stay (Needed j) k (h.each j k at) }
 
-  seen_stays : (These : Item → Type 0) (d : Diagram) (v : List Bool) (x : Answers) → SeenFor p.view These d v x → SeenFor q.view These d v x
+  seen_stays : (These : Item → Type 0) (d : Diagram) (v : List Bool) (x : Answers) → SeenFor p.view These d v x →
+      SeenFor q.view These d v x
   seen_stays These d v x s = subst (λ w. SeenFor w These d v x) (sym g.view) s
 
-  seen_was : (These : Item → Type 0) (d : Diagram) (v : List Bool) (x : Answers) → SeenFor q.view These d v x → SeenFor p.view These d v x
+  seen_was : (These : Item → Type 0) (d : Diagram) (v : List Bool) (x : Answers) → SeenFor q.view These d v x →
+      SeenFor p.view These d v x
   seen_was These d v x s = subst (λ w. SeenFor w These d v x) g.view s
 
   pub copy_stays : (x : Answers) (t : ℕ) → HasCopy p x t → HasCopy q x t
@@ -62,33 +67,69 @@ module _ (p q : Pool) (g : Grows p q) where
   copies_stay values ids h = record { len = h.len; each = λ c x at. copy_at_stays ids c x (h.each c x at) }
 
   pub rows_stay : (a : Lettered) (b : ℕ) (rows : List (List ℕ)) (n : ℕ) → AreRows a b p rows n → AreRows a b q rows n
-  rows_stay a b rows n h = record { len = h.len; each = λ j ids at. copies_stay (letters_in a (other_of 0 b j)) ids (h.each j ids at) }
+  rows_stay a b rows n h = record {
+    len = h.len;
+    each = λ j ids at. copies_stay (letters_in a (other_of 0 b j)) ids (h.each j ids at);
+  }
 
   pub letters_stay : (a : Lettered) (rows : List (List ℕ)) (n : ℕ) → AreLetters a p rows n → AreLetters a q rows n
-  letters_stay a rows n h = record { len = h.len; each = λ part ids at. copies_stay (letters_in a part) ids (h.each part ids at) }
+  letters_stay a rows n h = record {
+    len = h.len;
+    each = λ part ids at. copies_stay (letters_in a part) ids (h.each part ids at);
+  }
 
   pub nothing_stays : (id : ℕ) → HasNothing p id → HasNothing q id
-  nothing_stays id h = record { value = h.value; listed = g.values id h.value h.listed; bare = h.bare; stands = λ d v. seen_stays (Among []) d v h.value (h.stands d v) }
+  nothing_stays id h = record {
+    value = h.value;
+    listed = g.values id h.value h.listed;
+    bare = h.bare;
+    stands = λ d v. seen_stays (Among []) d v h.value (h.stands d v);
+  }
 
   pub links_stay : (d : Diagram) (b : ℕ) (Kind : ℕ → Type 0) (id : ℕ) → HasLinks p d b Kind id → HasLinks q d b Kind id
-  links_stay d b Kind id h = record { value = h.value; listed = g.values id h.value h.listed; kept = h.kept; stands = λ v. seen_stays (Among (own_links d b)) d v h.value (h.stands v) }
+  links_stay d b Kind id h = record {
+    value = h.value;
+    listed = g.values id h.value h.listed;
+    kept = h.kept;
+    stands = λ v. seen_stays (Among (own_links d b)) d v h.value (h.stands v);
+  }
 
-  pub switch_stays : (d : Diagram) (i : ℕ) (closed : Bool) (id : ℕ) → HasSwitch p d i closed id → HasSwitch q d i closed id
-  switch_stays d i closed id h = record { value = h.value; listed = g.values id h.value h.listed; kept = h.kept; stands = λ v at. seen_stays (Among (a_switch i ∷ [])) d v h.value (h.stands v at) }
+  pub switch_stays : (d : Diagram) (i : ℕ) (closed : Bool) (id : ℕ) → HasSwitch p d i closed id →
+      HasSwitch q d i closed id
+  switch_stays d i closed id h = record {
+    value = h.value;
+    listed = g.values id h.value h.listed;
+    kept = h.kept;
+    stands = λ v at. seen_stays (Among (a_switch i ∷ [])) d v h.value (h.stands v at);
+  }
 
   pub pair_stays : (d : Diagram) (i : ℕ) (ids : List ℕ) → HasPair p d i ids → HasPair q d i ids
-  pair_stays d i ids h = record { off = h.off; on = h.on; two = h.two; off_has = switch_stays d i false h.off h.off_has; on_has = switch_stays d i true h.on h.on_has }
+  pair_stays d i ids h = record {
+    off = h.off;
+    on = h.on;
+    two = h.two;
+    off_has = switch_stays d i false h.off h.off_has;
+    on_has = switch_stays d i true h.on h.on_has;
+  }
 
-  pub inner_rows_stay : (d : Diagram) (m first : ℕ) (names : List ℕ) (rows : List (List ℕ)) (n : ℕ) → AreInnerRows d m first p names rows n → AreInnerRows d m first q names rows n
-  inner_rows_stay d m first names rows n h = record { len = h.len; first_row = h.first_row; pairs = λ i ids at. pair_stays d (other_of first m i) ids (h.pairs i ids at) }
+  pub inner_rows_stay : (d : Diagram) (m first : ℕ) (names : List ℕ) (rows : List (List ℕ)) (n : ℕ) →
+      AreInnerRows d m first p names rows n → AreInnerRows d m first q names rows n
+  inner_rows_stay d m first names rows n h = record {
+    len = h.len;
+    first_row = h.first_row;
+    pairs = λ i ids at. pair_stays d (other_of first m i) ids (h.pairs i ids at);
+  }
 
   pub names_stay : (d : Diagram) (b : ℕ) (names : List ℕ) → AreNames p d b names → AreNames q d b names
   names_stay d b names h = record {
     some = h.some;
     within = λ t i at. value_in p q i no_answers g (h.within t i at);
-    kept = λ t x at. h.kept t x (ap (λ l. slice_get l t) (sym (values_more p.values.items q.values.items names g.values h.within)) ∙ at);
+    kept =
+        λ t x at. h.kept t x
+        (ap (λ l. slice_get l t) (sym (values_more p.values.items q.values.items names g.values h.within)) ∙ at);
     views = subst (λ w. AreViews w (OfOthers d b) d (values_at q.values.items names)) (sym g.view)
-        (subst (λ xs. AreViews p.view (OfOthers d b) d xs) (sym (values_more p.values.items q.values.items names g.values h.within)) h.views);
+        (subst (λ xs. AreViews p.view (OfOthers d b) d xs)
+        (sym (values_more p.values.items q.values.items names g.values h.within)) h.views);
   }
 
 -- ---- one by one
@@ -100,12 +141,15 @@ keeps_none Needed p = record { len = refl; each = λ j k at. absurd (no_entry j 
     no_entry zero k at = cc
     no_entry (suc j) k at = cc
 
-pub keeps_more : (Needed : ℕ → ℕ → Type 0) (p q : Pool) (keeps : List ℕ) (n id : ℕ) → Grows p q → AreKeeps Needed p keeps n → HasNodes (Needed n) q id → AreKeeps Needed q (keeps ++ id ∷ []) (n + 1)
+pub keeps_more : (Needed : ℕ → ℕ → Type 0) (p q : Pool) (keeps : List ℕ) (n id : ℕ) → Grows p q →
+    AreKeeps Needed p keeps n → HasNodes (Needed n) q id → AreKeeps Needed q (keeps ++ id ∷ []) (n + 1)
 keeps_more Needed p q keeps n id g h new = record {
   len = omega (arith, length_push keeps id, h.len);
   each = λ j k at. elim (slice_get-push keeps id k j at) [
     | inl before ↦ nodes_stay p q g (Needed j) k (h.each j k before)
-    | inr here ↦ (let e : n ≡ j = sym (here.0 ∙ h.len) in subst (λ i. HasNodes (Needed j) q i) here.1 (subst (λ i. HasNodes (Needed i) q id) e new))
+    | inr here ↦
+        (let e : n ≡ j = sym (here.0 ∙ h.len) in
+        subst (λ i. HasNodes (Needed j) q i) here.1 (subst (λ i. HasNodes (Needed i) q id) e new))
   ];
 }
 
@@ -117,7 +161,9 @@ pub record CopiesBelow (p : Pool) (values : List Answers) (ids : List ℕ) (n : 
 pub copies_none : (p : Pool) (values : List Answers) → CopiesBelow p values [] 0
 copies_none p values = record { len = refl; each = λ c x lt at. absurd (omega (arith, lt)) }
 
-pub copies_more : (p q : Pool) (values : List Answers) (ids : List ℕ) (n id : ℕ) (y : Answers) → Grows p q → CopiesBelow p values ids n → slice_get values n ≡ Some y → HasCopy q y id → CopiesBelow q values (ids ++ id ∷ []) (n + 1)
+pub copies_more : (p q : Pool) (values : List Answers) (ids : List ℕ) (n id : ℕ) (y : Answers) → Grows p q →
+    CopiesBelow p values ids n → slice_get values n ≡ Some y → HasCopy q y id →
+    CopiesBelow q values (ids ++ id ∷ []) (n + 1)
 copies_more p q values ids n id y g h at_n copy = record {
   len = omega (arith, length_push ids id, h.len);
   each = λ c x lt at. by c x lt at;
@@ -125,15 +171,25 @@ copies_more p q values ids n id y g h at_n copy = record {
   where
     by : (c : ℕ) (x : Answers) → c < n + 1 → slice_get values c ≡ Some x → HasCopyAt q (ids ++ id ∷ []) c x
     by c x lt at = elim (cases_lt c n) [
-      | inl less ↦ (let w = h.each c x less at in record { id = w.id; at = get_front ids (id ∷ []) c w.id w.at; copy = copy_stays p q g x w.id w.copy })
+      | inl less ↦
+          (let w = h.each c x less at in
+          record { id = w.id; at = get_front ids (id ∷ []) c w.id w.at; copy = copy_stays p q g x w.id w.copy })
       | inr more ↦
           let e : n ≡ c = omega (arith, lt, more) in
           let same : y ≡ x = same_Some y x (sym at_n ∙ (ap (slice_get values) e ∙ at)) in
-          record { id = id; at = ap (slice_get (ids ++ id ∷ [])) (sym e ∙ sym h.len) ∙ get_last ids id; copy = subst (λ z. HasCopy q z id) same copy }
+          record {
+            id = id;
+            at = ap (slice_get (ids ++ id ∷ [])) (sym e ∙ sym h.len) ∙ get_last ids id;
+            copy = subst (λ z. HasCopy q z id) same copy;
+          }
     ]
 
-pub copies_all : (p : Pool) (values : List Answers) (ids : List ℕ) (n : ℕ) → CopiesBelow p values ids n → length values ≡ n → AreCopies p values ids
-copies_all p values ids n h len = record { len = h.len ∙ sym len; each = λ c x at. h.each c x (omega (arith, slice_get_within values c x at, len)) at }
+pub copies_all : (p : Pool) (values : List Answers) (ids : List ℕ) (n : ℕ) → CopiesBelow p values ids n →
+    length values ≡ n → AreCopies p values ids
+copies_all p values ids n h len = record {
+  len = h.len ∙ sym len;
+  each = λ c x at. h.each c x (omega (arith, slice_get_within values c x at, len)) at;
+}
 
 pub rows_none : (a : Lettered) (b : ℕ) (p : Pool) → AreRows a b p [] 0
 rows_none a b p = record { len = refl; each = λ j ids at. absurd (no_row j ids at) }
@@ -142,12 +198,16 @@ rows_none a b p = record { len = refl; each = λ j ids at. absurd (no_row j ids 
     no_row zero ids at = cc
     no_row (suc j) ids at = cc
 
-pub rows_more : (a : Lettered) (b : ℕ) (p q : Pool) (rows : List (List ℕ)) (n : ℕ) (row : List ℕ) → Grows p q → AreRows a b p rows n → AreCopies q (letters_in a (other_of 0 b n)) row → AreRows a b q (rows ++ row ∷ []) (n + 1)
+pub rows_more : (a : Lettered) (b : ℕ) (p q : Pool) (rows : List (List ℕ)) (n : ℕ) (row : List ℕ) → Grows p q →
+    AreRows a b p rows n → AreCopies q (letters_in a (other_of 0 b n)) row → AreRows a b q (rows ++ row ∷ []) (n + 1)
 rows_more a b p q rows n row g h new = record {
   len = omega (arith, length_push rows row, h.len);
   each = λ j ids at. elim (slice_get-push rows row ids j at) [
     | inl before ↦ copies_stay p q g (letters_in a (other_of 0 b j)) ids (h.each j ids before)
-    | inr here ↦ (let e : n ≡ j = sym (here.0 ∙ h.len) in subst (λ i. AreCopies q (letters_in a (other_of 0 b j)) i) here.1 (subst (λ i. AreCopies q (letters_in a (other_of 0 b i)) row) e new))
+    | inr here ↦
+        (let e : n ≡ j = sym (here.0 ∙ h.len) in
+        subst (λ i. AreCopies q (letters_in a (other_of 0 b j)) i) here.1
+        (subst (λ i. AreCopies q (letters_in a (other_of 0 b i)) row) e new))
   ];
 }
 
@@ -158,12 +218,15 @@ letters_none a p = record { len = refl; each = λ part ids at. absurd (no_row pa
     no_row zero ids at = cc
     no_row (suc j) ids at = cc
 
-pub letters_more : (a : Lettered) (p q : Pool) (rows : List (List ℕ)) (n : ℕ) (row : List ℕ) → Grows p q → AreLetters a p rows n → AreCopies q (letters_in a n) row → AreLetters a q (rows ++ row ∷ []) (n + 1)
+pub letters_more : (a : Lettered) (p q : Pool) (rows : List (List ℕ)) (n : ℕ) (row : List ℕ) → Grows p q →
+    AreLetters a p rows n → AreCopies q (letters_in a n) row → AreLetters a q (rows ++ row ∷ []) (n + 1)
 letters_more a p q rows n row g h new = record {
   len = omega (arith, length_push rows row, h.len);
   each = λ j ids at. elim (slice_get-push rows row ids j at) [
     | inl before ↦ copies_stay p q g (letters_in a j) ids (h.each j ids before)
-    | inr here ↦ (let e : n ≡ j = sym (here.0 ∙ h.len) in subst (λ i. AreCopies q (letters_in a j) i) here.1 (subst (λ i. AreCopies q (letters_in a i) row) e new))
+    | inr here ↦
+        (let e : n ≡ j = sym (here.0 ∙ h.len) in
+        subst (λ i. AreCopies q (letters_in a j) i) here.1 (subst (λ i. AreCopies q (letters_in a i) row) e new))
   ];
 }
 
@@ -174,60 +237,90 @@ other_none this all = record { len = refl; each = λ i ids at. absurd (no_row i 
     no_row zero ids at = cc
     no_row (suc j) ids at = cc
 
-pub other_more : (this : ℕ) (all rows : List (List ℕ)) (n : ℕ) (row : List ℕ) → AreOtherRows this all rows n → slice_get all (other_of 0 this n) ≡ Some row → AreOtherRows this all (rows ++ row ∷ []) (n + 1)
+pub other_more : (this : ℕ) (all rows : List (List ℕ)) (n : ℕ) (row : List ℕ) → AreOtherRows this all rows n →
+    slice_get all (other_of 0 this n) ≡ Some row → AreOtherRows this all (rows ++ row ∷ []) (n + 1)
 other_more this all rows n row h new = record {
   len = omega (arith, length_push rows row, h.len);
   each = λ j ids at. elim (slice_get-push rows row ids j at) [
     | inl before ↦ h.each j ids before
-    | inr here ↦ (let e : n ≡ j = sym (here.0 ∙ h.len) in ap (λ k. slice_get all (other_of 0 this k)) (sym e) ∙ (new ∙ ap Some here.1))
+    | inr here ↦
+        (let e : n ≡ j = sym (here.0 ∙ h.len) in
+        ap (λ k. slice_get all (other_of 0 this k)) (sym e) ∙ (new ∙ ap Some here.1))
   ];
 }
 
 -- the letters of all parts but one
-pub rows_of_letters : (a : Lettered) (b : ℕ) (p : Pool) (all rows : List (List ℕ)) (m n : ℕ) → AreLetters a p all m → AreOtherRows b all rows n → AreRows a b p rows n
-rows_of_letters a b p all rows m n letters others = record { len = others.len; each = λ j ids at. letters.each (other_of 0 b j) ids (others.each j ids at) }
+pub rows_of_letters : (a : Lettered) (b : ℕ) (p : Pool) (all rows : List (List ℕ)) (m n : ℕ) → AreLetters a p all m →
+    AreOtherRows b all rows n → AreRows a b p rows n
+rows_of_letters a b p all rows m n letters others = record {
+  len = others.len;
+  each = λ j ids at. letters.each (other_of 0 b j) ids (others.each j ids at);
+}
 
-pub inner_rows_first : (d : Diagram) (m first : ℕ) (p : Pool) (names : List ℕ) → AreInnerRows d m first p names (names ∷ []) 0
-inner_rows_first d m first p names = record { len = refl; first_row = refl; pairs = λ i ids at. absurd (no_row i ids at) }
+pub inner_rows_first : (d : Diagram) (m first : ℕ) (p : Pool) (names : List ℕ) →
+    AreInnerRows d m first p names (names ∷ []) 0
+inner_rows_first d m first p names = record {
+  len = refl;
+  first_row = refl;
+  pairs = λ i ids at. absurd (no_row i ids at);
+}
   where
     no_row : (i : ℕ) (ids : List ℕ) → slice_get (names ∷ []) (suc i) ≡ Some ids → ⊥
     no_row zero ids at = cc
     no_row (suc i) ids at = cc
 
-pub inner_rows_more : (d : Diagram) (m first : ℕ) (p q : Pool) (names : List ℕ) (rows : List (List ℕ)) (n : ℕ) (row : List ℕ) → Grows p q → AreInnerRows d m first p names rows n → HasPair q d (other_of first m n) row → AreInnerRows d m first q names (rows ++ row ∷ []) (n + 1)
+pub inner_rows_more : (d : Diagram) (m first : ℕ) (p q : Pool) (names : List ℕ) (rows : List (List ℕ)) (n : ℕ)
+    (row : List ℕ) → Grows p q → AreInnerRows d m first p names rows n → HasPair q d (other_of first m n) row →
+    AreInnerRows d m first q names (rows ++ row ∷ []) (n + 1)
 inner_rows_more d m first p q names rows n row g h new = record {
   len = omega (arith, length_push rows row, h.len);
   first_row = get_front rows (row ∷ []) 0 names h.first_row;
   pairs = λ i ids at. elim (slice_get-push rows row ids (suc i) at) [
     | inl before ↦ pair_stays p q g d (other_of first m i) ids (h.pairs i ids before)
-    | inr here ↦ (let e : n ≡ i = omega (arith, here.0, h.len) in subst (λ r. HasPair q d (other_of first m i) r) here.1 (subst (λ k. HasPair q d (other_of first m k) row) e new))
+    | inr here ↦
+        (let e : n ≡ i = omega (arith, here.0, h.len) in
+        subst (λ r. HasPair q d (other_of first m i) r) here.1
+        (subst (λ k. HasPair q d (other_of first m k) row) e new))
   ];
 }
 
 -- ---- what is interned
 
-pub copy_of : (q : Pool) (x value : Answers) (id : ℕ) → HasSame q value id → ((n : ℕ) → Keeps value.kept n ↔ Keeps x.kept n) → ((view : View) (items : List Item) (d : Diagram) (v : List Bool) → SeenFor view (Among items) d v x → SeenFor view (Among items) d v value) → HasCopy q x id
+pub copy_of : (q : Pool) (x value : Answers) (id : ℕ) → HasSame q value id →
+    ((n : ℕ) → Keeps value.kept n ↔ Keeps x.kept n) →
+    ((view : View) (items : List Item) (d : Diagram) (v : List Bool) → SeenFor view (Among items) d v x →
+    SeenFor view (Among items) d v value) → HasCopy q x id
 copy_of q x value id h kept stands = record {
   value = h.same;
   listed = h.listed;
   kept = λ n. subst (λ ks. Keeps ks n ↔ Keeps x.kept n) (kept_of_same q.view value h.same h.is_same) (kept n);
-  stands = λ items d v s. seen_same q.view (Among items) d v value h.same h.well h.well_same h.is_same (stands q.view items d v s);
+  stands =
+      λ items d v s. seen_same q.view (Among items) d v value h.same h.well h.well_same h.is_same
+      (stands q.view items d v s);
 }
 
-pub nothing_of : (q : Pool) (value : Answers) (id : ℕ) → HasSame q value id → value.kept ≡ [] → ((d : Diagram) (v : List Bool) → StandsFor (Among []) d v value) → HasNothing q id
+pub nothing_of : (q : Pool) (value : Answers) (id : ℕ) → HasSame q value id → value.kept ≡ [] →
+    ((d : Diagram) (v : List Bool) → StandsFor (Among []) d v value) → HasNothing q id
 nothing_of q value id h bare stands = record {
   value = h.same;
   listed = h.listed;
   bare = sym (kept_of_same q.view value h.same h.is_same) ∙ bare;
-  stands = λ d v. seen_same q.view (Among []) d v value h.same h.well h.well_same h.is_same (seen_of q.view (Among []) d v value (stands d v));
+  stands =
+      λ d v. seen_same q.view (Among []) d v value h.same h.well h.well_same h.is_same
+      (seen_of q.view (Among []) d v value (stands d v));
 }
 
-pub switch_of : (q : Pool) (d : Diagram) (i : ℕ) (closed : Bool) (value : Answers) (id : ℕ) → HasSame q value id → ((n : ℕ) → Keeps value.kept n ↔ Touches d (a_switch i) n) → ((v : List Bool) → slice_get v i ≡ Some closed → StandsFor (Among (a_switch i ∷ [])) d v value) → HasSwitch q d i closed id
+pub switch_of : (q : Pool) (d : Diagram) (i : ℕ) (closed : Bool) (value : Answers) (id : ℕ) → HasSame q value id →
+    ((n : ℕ) → Keeps value.kept n ↔ Touches d (a_switch i) n) →
+    ((v : List Bool) → slice_get v i ≡ Some closed → StandsFor (Among (a_switch i ∷ [])) d v value) →
+    HasSwitch q d i closed id
 switch_of q d i closed value id h kept stands = record {
   value = h.same;
   listed = h.listed;
   kept = λ n. subst (λ ks. Keeps ks n ↔ Touches d (a_switch i) n) (kept_of_same q.view value h.same h.is_same) (kept n);
-  stands = λ v at. seen_same q.view (Among (a_switch i ∷ [])) d v value h.same h.well h.well_same h.is_same (seen_of q.view (Among (a_switch i ∷ [])) d v value (stands v at));
+  stands =
+      λ v at. seen_same q.view (Among (a_switch i ∷ [])) d v value h.same h.well h.well_same h.is_same
+      (seen_of q.view (Among (a_switch i ∷ [])) d v value (stands v at));
 }
 
 sum_zero : (i : ℕ) → 0 + i ≡ i
@@ -237,9 +330,15 @@ sum_zero i = omega arith
 pub base_listed : (d : Diagram) (b : ℕ) (it : Item) → IsBase d b it → Among (own_links d b) it
 base_listed d b (a_switch i) h = absurd h
 base_listed d b (a_link i) (x, at, of_b) =
-    among_first (listed a_link (λ (y : Link). eqb y.part.0 b) 0 d.links) (listed a_tap (λ (y : Tap). eqb y.part.0 b) 0 d.taps) (a_link i) (subst (λ n. Among (listed a_link (λ (y : Link). eqb y.part.0 b) 0 d.links) (a_link n)) (sum_zero i) (among_to a_link (λ (y : Link). eqb y.part.0 b) 0 d.links i x at (eq-eqb x.part.0 b of_b)))
+    among_first (listed a_link (λ (y : Link). eqb y.part.0 b) 0 d.links)
+    (listed a_tap (λ (y : Tap). eqb y.part.0 b) 0 d.taps) (a_link i) (subst
+    (λ n. Among (listed a_link (λ (y : Link). eqb y.part.0 b) 0 d.links) (a_link n)) (sum_zero i)
+    (among_to a_link (λ (y : Link). eqb y.part.0 b) 0 d.links i x at (eq-eqb x.part.0 b of_b)))
 base_listed d b (a_tap i) (x, at, of_b) =
-    among_second (listed a_link (λ (y : Link). eqb y.part.0 b) 0 d.links) (listed a_tap (λ (y : Tap). eqb y.part.0 b) 0 d.taps) (a_tap i) (subst (λ n. Among (listed a_tap (λ (y : Tap). eqb y.part.0 b) 0 d.taps) (a_tap n)) (sum_zero i) (among_to a_tap (λ (y : Tap). eqb y.part.0 b) 0 d.taps i x at (eq-eqb x.part.0 b of_b)))
+    among_second (listed a_link (λ (y : Link). eqb y.part.0 b) 0 d.links)
+    (listed a_tap (λ (y : Tap). eqb y.part.0 b) 0 d.taps) (a_tap i) (subst
+    (λ n. Among (listed a_tap (λ (y : Tap). eqb y.part.0 b) 0 d.taps) (a_tap n)) (sum_zero i)
+    (among_to a_tap (λ (y : Tap). eqb y.part.0 b) 0 d.taps i x at (eq-eqb x.part.0 b of_b)))
 
 pub listed_base : (d : Diagram) (b : ℕ) (it : Item) → Among (own_links d b) it → IsBase d b it
 listed_base d b it h = elim ((among_both _ _ it).1 h) [
@@ -253,11 +352,14 @@ listed_base d b it h = elim ((among_both _ _ it).1 h) [
       subst (λ i. IsBase d b i) is (r.1, r.2, eqb-true r.1.part.0 b r.3)
 ]
 
-pub links_of : (q : Pool) (d : Diagram) (b : ℕ) (nodes : List ℕ) (value : Answers) (id : ℕ) → HasSame q value id → ((n : ℕ) → Keeps value.kept n ↔ Contains nodes n) → ((v : List Bool) → StandsFor (IsBase d b) d v value) → HasLinks q d b (Contains nodes) id
+pub links_of : (q : Pool) (d : Diagram) (b : ℕ) (nodes : List ℕ) (value : Answers) (id : ℕ) → HasSame q value id →
+    ((n : ℕ) → Keeps value.kept n ↔ Contains nodes n) → ((v : List Bool) → StandsFor (IsBase d b) d v value) →
+    HasLinks q d b (Contains nodes) id
 links_of q d b nodes value id h kept stands = record {
   value = h.same;
   listed = h.listed;
   kept = λ n. subst (λ ks. Keeps ks n ↔ Contains nodes n) (kept_of_same q.view value h.same h.is_same) (kept n);
   stands = λ v. seen_same q.view (Among (own_links d b)) d v value h.same h.well h.well_same h.is_same
-      (seen_over q.view (IsBase d b) (Among (own_links d b)) d v value (λ it is. (base_listed d b it, listed_base d b it)) (seen_of q.view (IsBase d b) d v value (stands v)));
+      (seen_over q.view (IsBase d b) (Among (own_links d b)) d v value
+      (λ it is. (base_listed d b it, listed_base d b it)) (seen_of q.view (IsBase d b) d v value (stands v)));
 }

@@ -1,5 +1,6 @@
 -- The edges of a layer, one by one.
-use Rattle.std.proofs.Common.{◌≡◌, ◌≢◌, ℕ, ◌+◌, ◌*◌, ◌/◌, ◌%◌, ◌<◌, ◌≤◌, ◌⊎◌, Bool, true, false, cond, List, [], ◌∷◌, ◌++◌, length, get_or, slice_get, Some, refl, sym, ap, ◌∙◌, subst, inl, inr, arith, nat_eq}
+use Rattle.std.proofs.Common.{◌≡◌, ◌≢◌, ℕ, ◌+◌, ◌*◌, ◌/◌, ◌%◌, ◌<◌, ◌≤◌, ◌⊎◌, Bool, true, false, cond, List, [], ◌∷◌}
+use Rattle.std.proofs.Common.{◌++◌, length, get_or, slice_get, Some, refl, sym, ap, ◌∙◌, subst, inl, inr, arith, nat_eq}
 use Rattle.std.specs.List.{list_any}
 use Rattle.std.proofs.lemmas.Bool.{false≢true, cases_eq}
 use Rattle.std.proofs.lemmas.Bool.Decides.{Decides-eqb}
@@ -23,7 +24,8 @@ use Rattle.release_compile.proofs.LayerLemmas.{get_front}
 
 none_there : (ids : List ℕ) (id : ℕ) → list_any (nat_eq id) ids ≡ false → (k t : ℕ) → slice_get ids k ≡ Some t → id ≢ t
 none_there ids id none k t at e =
-    let passes : nat_eq id (get_or ids k t) ≡ true = (Decides-eqb id (get_or ids k t)).1 (e ∙ sym (get_or_from_slice_get ids k t t at)) in
+    let passes : nat_eq id (get_or ids k t) ≡ true =
+    (Decides-eqb id (get_or ids k t)).1 (e ∙ sym (get_or_from_slice_get ids k t t at)) in
     false≢true (sym none ∙ list_any_at (nat_eq id) ids k t (slice_get_within ids k t at) passes)
 
 module _ (old : List ℕ) (id place : ℕ) where
@@ -36,7 +38,8 @@ module _ (old : List ℕ) (id place : ℕ) where
     grown = omega (arith, ap length e);
   }
 
-  module _ (new : List ℕ) (e : new ≡ old ++ id ∷ []) (at : slice_get new place ≡ Some id) (none : list_any (nat_eq id) old ≡ false) where
+  module _ (new : List ℕ) (e : new ≡ old ++ id ∷ []) (at : slice_get new place ≡ Some id)
+      (none : list_any (nat_eq id) old ≡ false) where
     at_end : place ≡ length old
     at_end = elim (slice_get-push old id id place (ap (λ l. slice_get l place) (sym e) ∙ at)) [
       | inl before ↦ absurd (none_there old id none place id before refl)
@@ -67,7 +70,8 @@ module _ (old : List ℕ) (id place : ℕ) where
       grown = omega (arith, ap length e, length_push old id);
     }
 
-pub placed : (old new : List ℕ) (id place : ℕ) → new ≡ insert_key nat_eq old id → (k : ℕ) × (slice_get new place ≡ Some k) × (nat_eq id k ≡ true) → IsPlaced old new id place
+pub placed : (old new : List ℕ) (id place : ℕ) → new ≡ insert_key nat_eq old id →
+    (k : ℕ) × (slice_get new place ≡ Some k) × (nat_eq id k ≡ true) → IsPlaced old new id place
 placed old new id place keys (k, at, same) = by_case (list_any (nat_eq id) old) refl
   where
     at_id : slice_get new place ≡ Some id
@@ -120,47 +124,68 @@ grew_more p q r a b = record {
 }
 
 pub value_in : (p q : Pool) (i : ℕ) (d : Answers) → Grows p q → i < length p.values.items → i < length q.values.items
-value_in p q i d g lt = slice_get_within q.values.items i (get_or p.values.items i d) (g.values i (get_or p.values.items i d) (slice_get-get_or p.values.items i d lt))
+value_in p q i d g lt =
+    slice_get_within q.values.items i (get_or p.values.items i d)
+    (g.values i (get_or p.values.items i d) (slice_get-get_or p.values.items i d lt))
 
 pub grew_in : (p q : Pool) (i : ℕ) (d : Answers) → GrewTo p q → i < length p.values.items → i < length q.values.items
 grew_in p q i d g lt = value_in p q i d (grows p q g) lt
 
 -- lists of nodes that were there are there
 pub list_in : (p q : Pool) (k : ℕ) → Grows p q → k < length p.keeps.items → k < length q.keeps.items
-list_in p q k g lt = slice_get_within q.keeps.items k (get_or p.keeps.items k []) (g.keeps k (get_or p.keeps.items k []) (slice_get-get_or p.keeps.items k [] lt))
+list_in p q k g lt =
+    slice_get_within q.keeps.items k (get_or p.keeps.items k [])
+    (g.keeps k (get_or p.keeps.items k []) (slice_get-get_or p.keeps.items k [] lt))
 
 pub keep_in : (p q : Pool) (k : ℕ) → GrewTo p q → k < length p.keeps.items → k < length q.keeps.items
 keep_in p q k g lt = list_in p q k (grows p q g) lt
 
-pub list_was : (p q : Pool) (k : ℕ) (nodes : List ℕ) → Grows p q → k < length p.keeps.items → slice_get q.keeps.items k ≡ Some nodes → slice_get p.keeps.items k ≡ Some nodes
+pub list_was : (p q : Pool) (k : ℕ) (nodes : List ℕ) → Grows p q → k < length p.keeps.items →
+    slice_get q.keeps.items k ≡ Some nodes → slice_get p.keeps.items k ≡ Some nodes
 list_was p q k nodes g lt at =
     let was = slice_get-get_or p.keeps.items k [] lt in
     was ∙ (sym (g.keeps k (get_or p.keeps.items k []) was) ∙ at)
 
-pub keep_was : (p q : Pool) (k : ℕ) (nodes : List ℕ) → GrewTo p q → k < length p.keeps.items → slice_get q.keeps.items k ≡ Some nodes → slice_get p.keeps.items k ≡ Some nodes
+pub keep_was : (p q : Pool) (k : ℕ) (nodes : List ℕ) → GrewTo p q → k < length p.keeps.items →
+    slice_get q.keeps.items k ≡ Some nodes → slice_get p.keeps.items k ≡ Some nodes
 keep_was p q k nodes g lt at = list_was p q k nodes (grows p q g) lt at
 
-made_more : (view : View) (x y : Answers) (keep : List ℕ) (values values' : List Answers) (t : ℕ) → Extends values values' → IsMade view x y keep values t → IsMade view x y keep values' t
-made_more view x y keep values values' t more m = record { value = m.value; listed = more t m.value m.listed; composes = m.composes; kept = m.kept }
+made_more : (view : View) (x y : Answers) (keep : List ℕ) (values values' : List Answers) (t : ℕ) →
+    Extends values values' → IsMade view x y keep values t → IsMade view x y keep values' t
+made_more view x y keep values values' t more m = record {
+  value = m.value;
+  listed = more t m.value m.listed;
+  composes = m.composes;
+  kept = m.kept;
+}
 
 -- ---- edges
 
-pub edges_none : (view : View) (values : List Answers) (keep states letters next edges : List ℕ) → next ≡ [] → edges ≡ [] → AreEdges view values keep states letters next edges 0
+pub edges_none : (view : View) (values : List Answers) (keep states letters next edges : List ℕ) → next ≡ [] →
+    edges ≡ [] → AreEdges view values keep states letters next edges 0
 edges_none view values keep states letters next edges e f = record {
   len = ap length f;
   made = λ p i j lt. absurd (omega (arith, lt));
-  none_twice = λ a b id at_a. absurd (let h : slice_get {X = ℕ} [] a ≡ Some id = ap (λ l. slice_get l a) (sym e) ∙ at_a in cc);
+  none_twice =
+      λ a b id at_a. absurd (let h : slice_get {X = ℕ} [] a ≡ Some id = ap (λ l. slice_get l a) (sym e) ∙ at_a in cc);
   hit = λ b id at. absurd (let h : slice_get {X = ℕ} [] b ≡ Some id = ap (λ l. slice_get l b) (sym e) ∙ at in cc);
 }
 
-module _ (view : View) (values values' : List Answers) (keep states letters next next' edges edges' : List ℕ) (n i j id to : ℕ) (more : Extends values values') (old : AreEdges view values keep states letters next edges n) (pl : IsPlaced next next' id to) (here : LeadsToMade view values' keep next' i j to) (at_i : slice_get states (n / length letters) ≡ Some i) (at_j : slice_get letters (n % length letters) ≡ Some j) (e : edges' ≡ edges ++ to ∷ []) where
+module _ (view : View) (values values' : List Answers) (keep states letters next next' edges edges' : List ℕ)
+    (n i j id to : ℕ) (more : Extends values values') (old : AreEdges view values keep states letters next edges n)
+    (pl : IsPlaced next next' id to) (here : LeadsToMade view values' keep next' i j to)
+    (at_i : slice_get states (n / length letters) ≡ Some i) (at_j : slice_get letters (n % length letters) ≡ Some j)
+    (e : edges' ≡ edges ++ to ∷ []) where
   edge_before : (p : ℕ) → p < n → get_or edges' p 0 ≡ get_or edges p 0
   edge_before p lt = ap (λ l. get_or l p 0) e ∙ get_or_append_left edges (to ∷ []) 0 p (omega (arith, old.len))
 
   edge_here : get_or edges' n 0 ≡ to
-  edge_here = ap (λ l. get_or l n 0) e ∙ (ap (λ k. get_or (edges ++ to ∷ []) k 0) (sym old.len) ∙ get_or-append_seam edges to [] 0)
+  edge_here =
+      ap (λ l. get_or l n 0) e
+      ∙ (ap (λ k. get_or (edges ++ to ∷ []) k 0) (sym old.len) ∙ get_or-append_seam edges to [] 0)
 
-  lead_more : (a b place : ℕ) → LeadsToMade view values keep next a b place → LeadsToMade view values' keep next' a b place
+  lead_more : (a b place : ℕ) → LeadsToMade view values keep next a b place →
+      LeadsToMade view values' keep next' a b place
   lead_more a b place l = record {
     id = l.id;
     at = pl.stays place l.id l.at;
@@ -171,15 +196,19 @@ module _ (view : View) (values values' : List Answers) (keep states letters next
     made = made_more view l.x l.y keep values values' l.id more l.made;
   }
 
-  made_at : (p a b : ℕ) → p < n + 1 → slice_get states (p / length letters) ≡ Some a → slice_get letters (p % length letters) ≡ Some b → (p ≡ n) ⊎ (p ≢ n) → LeadsToMade view values' keep next' a b (get_or edges' p 0)
+  made_at : (p a b : ℕ) → p < n + 1 → slice_get states (p / length letters) ≡ Some a →
+      slice_get letters (p % length letters) ≡ Some b → (p ≡ n) ⊎ (p ≢ n) →
+      LeadsToMade view values' keep next' a b (get_or edges' p 0)
   made_at p a b lt at_a at_b (inl is) =
       let ea : i ≡ a = same_Some i a (sym at_i ∙ (ap (λ q. slice_get states (q / length letters)) (sym is) ∙ at_a)) in
       let eb : j ≡ b = same_Some j b (sym at_j ∙ (ap (λ q. slice_get letters (q % length letters)) (sym is) ∙ at_b)) in
       let ep : to ≡ get_or edges' p 0 = sym edge_here ∙ ap (λ q. get_or edges' q 0) (sym is) in
-      subst (λ q. LeadsToMade view values' keep next' a b q) ep (subst (λ q. LeadsToMade view values' keep next' a q to) eb (subst (λ q. LeadsToMade view values' keep next' q j to) ea here))
+      subst (λ q. LeadsToMade view values' keep next' a b q) ep (subst (λ q. LeadsToMade view values' keep next' a q to)
+      eb (subst (λ q. LeadsToMade view values' keep next' q j to) ea here))
   made_at p a b lt at_a at_b (inr ne) =
       let less : p < n = omega (arith, lt, ne) in
-      subst (λ q. LeadsToMade view values' keep next' a b q) (sym (edge_before p less)) (lead_more a b (get_or edges p 0) (old.made p a b less at_a at_b))
+      subst (λ q. LeadsToMade view values' keep next' a b q) (sym (edge_before p less))
+      (lead_more a b (get_or edges p 0) (old.made p a b less at_a at_b))
 
   pub edges_more : AreEdges view values' keep states letters next' edges' (n + 1)
   edges_more = record {
@@ -187,13 +216,16 @@ module _ (view : View) (values values' : List Answers) (keep states letters next
     made = λ p a b lt at_a at_b. made_at p a b lt at_a at_b (cases_eq p n);
     none_twice = pl.none_twice old.none_twice;
     hit = λ b t at. elim (pl.only b t at) [
-      | inl before ↦ (let h = old.hit b t before in (h.0, h.1, h.2, omega (arith, h.3), h.4, h.5, edge_before h.0 h.3 ∙ h.6))
+      | inl before ↦
+          (let h = old.hit b t before in (h.0, h.1, h.2, omega (arith, h.3), h.4, h.5, edge_before h.0 h.3 ∙ h.6))
       | inr new ↦ (n, i, j, omega arith, at_i, at_j, edge_here ∙ sym new.0)
     ];
   }
 
 -- what was made as the key says is where the edge leads
-pub lead_here : (view : View) (values : List Answers) (keeps : List (List ℕ)) (keep next' next : List ℕ) (i j k id to : ℕ) → WasMade view values keeps (record { first = i; second = j; keep = k }) id → slice_get keeps k ≡ Some keep → IsPlaced next next' id to → LeadsToMade view values keep next' i j to
+pub lead_here : (view : View) (values : List Answers) (keeps : List (List ℕ)) (keep next' next : List ℕ)
+    (i j k id to : ℕ) → WasMade view values keeps (record { first = i; second = j; keep = k }) id →
+    slice_get keeps k ≡ Some keep → IsPlaced next next' id to → LeadsToMade view values keep next' i j to
 lead_here view values keeps keep next' next i j k id to w at pl = record {
   id = id;
   at = pl.at;
@@ -218,7 +250,8 @@ state_in p n w lt = elim (cases_lt (p / w) n) [
       absurd (omega (arith, lt, le, div-mul-le_self p w))
 ]
 
-pub either_more : (p q : Pool) (i j k : ℕ) (d : Answers) → GrewTo p q → i < length p.values.items → j < length p.values.items → k < length p.keeps.items → EitherKeeps p i j k → EitherKeeps q i j k
+pub either_more : (p q : Pool) (i j k : ℕ) (d : Answers) → GrewTo p q → i < length p.values.items →
+    j < length p.values.items → k < length p.keeps.items → EitherKeeps p i j k → EitherKeeps q i j k
 either_more p q i j k d g i_in j_in k_in either x y nodes at_x at_y at_n =
     let x0 : Answers = get_or p.values.items i d in
     let y0 : Answers = get_or p.values.items j d in

@@ -1,5 +1,6 @@
 -- The values that are reached from the distinct views of some items by those of others are distinct views of both.
-use Rattle.std.proofs.Common.{◌≡◌, ℕ, ◌*◌, ◌+◌, ◌/◌, ◌%◌, ◌<◌, List, ◌++◌, Bool, length, get_or, slice_get, Some, sym, ap, ◌∙◌, subst, arith}
+use Rattle.std.proofs.Common.{◌≡◌, ℕ, ◌*◌, ◌+◌, ◌/◌, ◌%◌, ◌<◌, List, ◌++◌, Bool, length, get_or, slice_get, Some, sym}
+use Rattle.std.proofs.Common.{ap, ◌∙◌, subst, arith}
 use Rattle.std.proofs.lemmas.Option.{slice_get-get_or, same_Some}
 use Rattle.station_graph.specs.Diagram.{Diagram}
 use Rattle.station_graph.specs.Connection.{Item}
@@ -16,7 +17,8 @@ use Rattle.release_compile.proofs.StepLemmas.{carried_at}
 use Rattle.release_compile.proofs.MappedViews.{carries_of}
 
 -- what a step leads to is reached
-pub step_reaches : (view : View) (keep : List ℕ) (states letters next : List Answers) (edges : List ℕ) → IsStep view keep states letters next edges → 0 < length letters → AreReached view keep states letters next
+pub step_reaches : (view : View) (keep : List ℕ) (states letters next : List Answers) (edges : List ℕ) →
+    IsStep view keep states letters next edges → 0 < length letters → AreReached view keep states letters next
 step_reaches view keep states letters next edges s some = record {
   kept = s.kept;
   rising = s.rising;
@@ -38,25 +40,45 @@ step_reaches view keep states letters next edges s some = record {
         y = get_or letters (p % w) no_answers;
         first = at_x;
         second = at_y;
-        composes = subst (λ z. ComposesIn view (get_or states (p / w) no_answers) (get_or letters (p % w) no_answers) z) same c.composes;
+        composes =
+            subst (λ z. ComposesIn view (get_or states (p / w) no_answers) (get_or letters (p % w) no_answers) z)
+            same c.composes;
       };
 }
 
-module _ (view : View) (d : Diagram) (before new : List Item) (keep : List ℕ) (states letters next : List Answers) (meets : (k c : ℕ) (x y : Answers) → slice_get states k ≡ Some x → slice_get letters c ≡ Some y → MeetsKept (Among before) (Among new) d x.kept y.kept) where
+module _ (view : View) (d : Diagram) (before new : List Item) (keep : List ℕ) (states letters next : List Answers)
+    (meets : (k c : ℕ) (x y : Answers) → slice_get states k ≡ Some x → slice_get letters c ≡ Some y →
+    MeetsKept (Among before) (Among new) d x.kept y.kept) where
   -- where a state and a letter can always be had together, what is reached is made by some vector
-  pub made_more : AreReached view keep states letters next → ((c : ℕ) (x y : Answers) (v : List Bool) → slice_get letters c ≡ Some y → IsVector d v → SeenFor view (Among before) d v x → CanBoth view d (Among before) (Among new) x y) → AreMade view (Among before) d states → AreMade view (Among (before ++ new)) d next
+  pub made_more : AreReached view keep states letters next →
+      ((c : ℕ) (x y : Answers) (v : List Bool) → slice_get letters c ≡ Some y → IsVector d v →
+      SeenFor view (Among before) d v x → CanBoth view d (Among before) (Among new) x y) →
+      AreMade view (Among before) d states → AreMade view (Among (before ++ new)) d next
   made_more reached give made t r at =
       let c = reached.carried t r at in
       let m = made c.state c.x c.first in
-      let g = give c.letter c.x c.y m.0 c.second m.1 m.2 in
-      (g.vector, g.whole, carries_of view c.x c.y r c.composes before new d g.vector (meets c.state c.letter c.x c.y c.first c.second) g.first g.second)
+      let g = give c.letter c.x c.y m.0 c.second m.1 m.2 in (
+        g.vector,
+        g.whole,
+        carries_of view c.x c.y r c.composes before new d g.vector (meets c.state c.letter c.x c.y c.first c.second)
+            g.first g.second,
+      )
 
   -- each vector has one of them
-  pub cover_more : (edges : List ℕ) → IsStep view keep states letters next edges → ((v : List Bool) → IsVector d v → (t : ℕ) × StandsIn view (Among before) d v states t) → ((v : List Bool) → IsVector d v → (c : ℕ) × StandsIn view (Among new) d v letters c) → (v : List Bool) → IsVector d v → (t : ℕ) × StandsIn view (Among (before ++ new)) d v next t
+  pub cover_more : (edges : List ℕ) → IsStep view keep states letters next edges →
+      ((v : List Bool) → IsVector d v → (t : ℕ) × StandsIn view (Among before) d v states t) →
+      ((v : List Bool) → IsVector d v → (c : ℕ) × StandsIn view (Among new) d v letters c) → (v : List Bool) →
+      IsVector d v → (t : ℕ) × StandsIn view (Among (before ++ new)) d v next t
   cover_more edges s old here v whole =
       let (k, a) = old v whole in
       let (c, b) = here v whole in
       let r = carried_at view keep states letters next edges s k c a.value b.value a.listed b.listed in (
         get_or edges (k * length letters + c) 0,
-        record { value = r.value; listed = r.listed; stands = carries_of view a.value b.value r.value r.composes before new d v (meets k c a.value b.value a.listed b.listed) a.stands b.stands },
+        record {
+          value = r.value;
+          listed = r.listed;
+          stands =
+              carries_of view a.value b.value r.value r.composes before new d v
+              (meets k c a.value b.value a.listed b.listed) a.stands b.stands;
+        },
       )

@@ -3,7 +3,8 @@ use Rattle.std.proofs.Common.{ℕ}
 use Rattle.contraction.specs.Answers.{Answers, IsContraction}
 use Rattle.contraction.specs.Renaming.{KeepsOrder, mapped}
 use Rattle.contraction.proofs.OneViewLemmas.{gap_lists, load_lists}
-use Rattle.contraction.proofs.MappedLemmas.{gap_as, load_as, gap_map, load_map, same_gap_map, same_gap_back, same_load_map, same_load_back}
+use Rattle.contraction.proofs.MappedLemmas.{gap_as, load_as, gap_map, load_map, same_gap_map, same_gap_back}
+use Rattle.contraction.proofs.MappedLemmas.{same_load_map, same_load_back}
 use Rattle.release_compile.specs.declared.view.View.{View}
 use Rattle.release_compile.specs.declared.view.View.TheVariants.{Gap, Load}
 use Rattle.release_compile.specs.Seen.{SameSeen, ComposesIn, Carries}
@@ -14,12 +15,14 @@ carries_of Gap x y r h = gap_lists x y r h
 carries_of Load x y r h = load_lists x y r h
 
 -- a value that is the same may stand in place of another
-pub composes_same : (view : View) (x y value r : Answers) → IsContraction value → IsContraction r → SameSeen view value r → ComposesIn view x y value → ComposesIn view x y r
+pub composes_same : (view : View) (x y value r : Answers) → IsContraction value → IsContraction r →
+    SameSeen view value r → ComposesIn view x y value → ComposesIn view x y r
 composes_same Gap x y value r w1 w2 same h = gap_as x y value r same h
 composes_same Load x y value r w1 w2 same h = load_as x y value r w1 w2 same h
 
 module _ (f : ℕ → ℕ) (order : KeepsOrder f) where
-  pub composes_map : (view : View) (x y r : Answers) → ComposesIn view x y r → ComposesIn view (mapped f x) (mapped f y) (mapped f r)
+  pub composes_map : (view : View) (x y r : Answers) → ComposesIn view x y r →
+      ComposesIn view (mapped f x) (mapped f y) (mapped f r)
   composes_map Gap x y r h = gap_map f order x y r h
   composes_map Load x y r h = load_map f order x y r h
 

@@ -11,9 +11,15 @@ use Rattle.release_compile.specs.declared.view.View.TheVariants.{Gap, Load}
 use Rattle.release_compile.specs.Seen.{SeenFor}
 use Rattle.release_compile.specs.Lettered.{Lettered, PartHas}
 
-pub index_moves : (a : Lettered) (p i : ℕ) (v w : List Bool) → SamePositions (OfPart a.diagram p) v w → PartHas a p i v → PartHas a p i w
-index_moves a p i v w same h = record { letter = h.letter; listed = h.listed; stands = stands_moves (OfPart a.diagram p) a.diagram v w same h.letter h.stands }
+pub index_moves : (a : Lettered) (p i : ℕ) (v w : List Bool) → SamePositions (OfPart a.diagram p) v w →
+    PartHas a p i v → PartHas a p i w
+index_moves a p i v w same h = record {
+  letter = h.letter;
+  listed = h.listed;
+  stands = stands_moves (OfPart a.diagram p) a.diagram v w same h.letter h.stands;
+}
 
-pub seen_moves : (view : View) (These : Item → Type 0) (d : Diagram) (v w : List Bool) → SamePositions These v w → (c : Answers) → SeenFor view These d v c → SeenFor view These d w c
+pub seen_moves : (view : View) (These : Item → Type 0) (d : Diagram) (v w : List Bool) → SamePositions These v w →
+    (c : Answers) → SeenFor view These d v c → SeenFor view These d w c
 seen_moves Gap These d v w same c s = gap_moves These d v w same c s
 seen_moves Load These d v w same c s = load_moves These d v w same c s

@@ -1,5 +1,6 @@
 -- Lists of the nodes of a kind, found one after another.
-use Rattle.std.proofs.Common.{◌≡◌, ℕ, ◌+◌, ◌<◌, ◌⊎◌, ◌↔◌, suc, Bool, true, List, [], ◌∷◌, ◌++◌, length, get_or, slice_get, slice_index, Contains, Some, refl, sym, ap, ◌∙◌, subst, inl, inr, arith}
+use Rattle.std.proofs.Common.{◌≡◌, ℕ, ◌+◌, ◌<◌, ◌⊎◌, ◌↔◌, suc, Bool, true, List, [], ◌∷◌, ◌++◌, length, get_or}
+use Rattle.std.proofs.Common.{slice_get, slice_index, Contains, Some, refl, sym, ap, ◌∙◌, subst, inl, inr, arith}
 use Rattle.std.proofs.lemmas.Bool.{cases_lt}
 use Rattle.std.proofs.lemmas.Option.{slice_get-get_or}
 use Rattle.std.proofs.lemmas.List.{length_push, get_or_append_left, get_or_push}
@@ -22,16 +23,19 @@ use Rattle.release_compile.proofs.OuterFits.{before_to, part_in, place_of_part}
 -- what is touched is a node of the station
 pub touched_node : (d : Diagram) → IsStation d → (item : Item) (n : ℕ) → Touches d item n → n < node_count d
 touched_node d s (a_switch i) n (x, at, inl e) = subst (λ k. k < node_count d) e (s.items.switches_fit i x at).first_in
-touched_node d s (a_switch i) n (x, at, inr (m, has, e)) = subst (λ k. k < node_count d) e (second_fits d x m (s.items.switches_fit i x at) has).1
+touched_node d s (a_switch i) n (x, at, inr (m, has, e)) =
+    subst (λ k. k < node_count d) e (second_fits d x m (s.items.switches_fit i x at) has).1
 touched_node d s (a_link i) n (x, at, inl e) = subst (λ k. k < node_count d) e (s.items.links_fit i x at).first_in
 touched_node d s (a_link i) n (x, at, inr e) = subst (λ k. k < node_count d) e (s.items.links_fit i x at).second_in
 touched_node d s (a_tap i) n (x, at, e) = subst (λ k. k < node_count d) e (s.items.taps_fit i x at).node_in
 
-pub inner_node : (d : Diagram) → IsStation d → (m first others j n : ℕ) → IsNeededInner d m first others j n → n < node_count d
+pub inner_node : (d : Diagram) → IsStation d → (m first others j n : ℕ) → IsNeededInner d m first others j n →
+    n < node_count d
 inner_node d s m first others j n (inl t) = touched_node d s (a_switch m) n t
 inner_node d s m first others j n (inr (i, le, lt, t)) = touched_node d s (a_switch (other_of first m i)) n t
 
-pub start_node : (d : Diagram) → IsStation d → (b m first others n : ℕ) → IsShared d b n ⊎ IsNeededInner d m first others 0 n → n < node_count d
+pub start_node : (d : Diagram) → IsStation d → (b m first others n : ℕ) →
+    IsShared d b n ⊎ IsNeededInner d m first others 0 n → n < node_count d
 start_node d s b m first others n (inl h) = touched_node d s h.here.item n h.here.touches
 start_node d s b m first others n (inr h) = inner_node d s m first others 0 n h
 
@@ -51,7 +55,8 @@ nodes_none Kind = record {
   exact = λ n. (λ h. absurd (omega (arith, h.1)), λ h. absurd (omega (arith, h.1)));
 }
 
-pub nodes_skip : (Kind : ℕ → Type 0) (node : ℕ) (nodes : List ℕ) → NodesBelow Kind node nodes → ¬ Kind node → NodesBelow Kind (node + 1) nodes
+pub nodes_skip : (Kind : ℕ → Type 0) (node : ℕ) (nodes : List ℕ) → NodesBelow Kind node nodes → ¬ Kind node →
+    NodesBelow Kind (node + 1) nodes
 nodes_skip Kind node nodes h not = record {
   rises = h.rises;
   below = λ k in_k. omega (arith, h.below k in_k);
@@ -64,7 +69,8 @@ nodes_skip Kind node nodes h not = record {
   );
 }
 
-rises_push : (nodes : List ℕ) (x : ℕ) → Rises nodes → ((k : ℕ) → k < length nodes → slice_index nodes k < x) → Rises (nodes ++ x ∷ [])
+rises_push : (nodes : List ℕ) (x : ℕ) → Rises nodes → ((k : ℕ) → k < length nodes → slice_index nodes k < x) →
+    Rises (nodes ++ x ∷ [])
 rises_push nodes x rises below j k lt in_k =
     let len = length_push nodes x in
     elim (cases_lt k (length nodes)) [
@@ -75,11 +81,13 @@ rises_push nodes x rises below j k lt in_k =
       | inr more ↦
           let here : k ≡ length nodes = omega arith in
           let at_j = get_or_append_left nodes (x ∷ []) 0 j (omega arith) in
-          let at_k : slice_index (nodes ++ x ∷ []) k ≡ x = subst (λ i. slice_index (nodes ++ x ∷ []) i ≡ x) (sym here) (get_or_push nodes x 0 (length nodes) refl) in
+          let at_k : slice_index (nodes ++ x ∷ []) k ≡ x =
+          subst (λ i. slice_index (nodes ++ x ∷ []) i ≡ x) (sym here) (get_or_push nodes x 0 (length nodes) refl) in
           omega (arith, below j (omega arith))
     ]
 
-below_push : (nodes : List ℕ) (x limit : ℕ) → ((k : ℕ) → k < length nodes → slice_index nodes k < x) → x < limit → (k : ℕ) → k < length (nodes ++ x ∷ []) → slice_index (nodes ++ x ∷ []) k < limit
+below_push : (nodes : List ℕ) (x limit : ℕ) → ((k : ℕ) → k < length nodes → slice_index nodes k < x) → x < limit →
+    (k : ℕ) → k < length (nodes ++ x ∷ []) → slice_index (nodes ++ x ∷ []) k < limit
 below_push nodes x limit below lt k in_k =
     let len = length_push nodes x in
     elim (cases_lt k (length nodes)) [
@@ -88,11 +96,13 @@ below_push nodes x limit below lt k in_k =
           omega (arith, below k less)
       | inr more ↦
           let here : k ≡ length nodes = omega arith in
-          let at_k : slice_index (nodes ++ x ∷ []) k ≡ x = subst (λ i. slice_index (nodes ++ x ∷ []) i ≡ x) (sym here) (get_or_push nodes x 0 (length nodes) refl) in
+          let at_k : slice_index (nodes ++ x ∷ []) k ≡ x =
+          subst (λ i. slice_index (nodes ++ x ∷ []) i ≡ x) (sym here) (get_or_push nodes x 0 (length nodes) refl) in
           omega arith
     ]
 
-pub nodes_push : (Kind : ℕ → Type 0) (node : ℕ) (nodes more : List ℕ) → NodesBelow Kind node nodes → Kind node → more ≡ nodes ++ node ∷ [] → NodesBelow Kind (node + 1) more
+pub nodes_push : (Kind : ℕ → Type 0) (node : ℕ) (nodes more : List ℕ) → NodesBelow Kind node nodes → Kind node →
+    more ≡ nodes ++ node ∷ [] → NodesBelow Kind (node + 1) more
 nodes_push Kind node nodes more h here e = subst (λ l. NodesBelow Kind (node + 1) l) (sym e) (record {
   rises = rises_push nodes node h.rises h.below;
   below = below_push nodes node (node + 1) h.below (omega arith);
@@ -103,15 +113,19 @@ nodes_push Kind node nodes more h here e = subst (λ l. NodesBelow Kind (node + 
     ],
     λ w. elim (cases_lt n node) [
       | inl less ↦ Contains-append_left nodes (node ∷ []) n ((h.exact n).1 (w.0, less))
-      | inr more' ↦ subst (λ k. Contains (nodes ++ node ∷ []) k) (let e' : node ≡ n = omega (arith, w.1) in e') (Contains-push nodes node)
+      | inr more' ↦
+          subst (λ k. Contains (nodes ++ node ∷ []) k) (let e' : node ≡ n = omega (arith, w.1) in e')
+          (Contains-push nodes node)
     ],
   );
 })
 
-pub nodes_exact : (Kind : ℕ → Type 0) (limit : ℕ) (nodes : List ℕ) → NodesBelow Kind limit nodes → ((n : ℕ) → Kind n → n < limit) → (n : ℕ) → Contains nodes n ↔ Kind n
+pub nodes_exact : (Kind : ℕ → Type 0) (limit : ℕ) (nodes : List ℕ) → NodesBelow Kind limit nodes →
+    ((n : ℕ) → Kind n → n < limit) → (n : ℕ) → Contains nodes n ↔ Kind n
 nodes_exact Kind limit nodes h within n = (λ e. ((h.exact n).0 e).0, λ k. (h.exact n).1 (k, within n k))
 
-pub are_nodes : (Kind : ℕ → Type 0) (d : Diagram) (nodes : List ℕ) → IsStation d → NodesBelow Kind (node_count d) nodes → AreNodes nodes
+pub are_nodes : (Kind : ℕ → Type 0) (d : Diagram) (nodes : List ℕ) → IsStation d →
+    NodesBelow Kind (node_count d) nodes → AreNodes nodes
 are_nodes Kind d nodes s h = record {
   rises = h.rises;
   small = λ k in_k. (let few = s.items.nodes_few in omega (arith, h.below k in_k));
@@ -126,7 +140,8 @@ of_touched : (d : Diagram) (p n : ℕ) → TouchedBy (OfPart d p) d n → Touche
 of_touched d p n t = record { item = t.item; among = has_part d p t.item t.among; touches = t.touches }
 
 -- one of the first parts and the bay or a later part share the node
-pub needed_by_shares : (d : Diagram) (shared : List (List ℕ)) (b j n : ℕ) → AreShared d shared → SharesFrom shared b 0 j n → IsShared d b n ⊎ ((to : ℕ) × SharesFrom shared b j to n) → IsNeededOuter d b j n
+pub needed_by_shares : (d : Diagram) (shared : List (List ℕ)) (b j n : ℕ) → AreShared d shared →
+    SharesFrom shared b 0 j n → IsShared d b n ⊎ ((to : ℕ) × SharesFrom shared b j to n) → IsNeededOuter d b j n
 needed_by_shares d shared b j n are first rest = record {
   before = record {
     item = here.here.item;
@@ -137,7 +152,11 @@ needed_by_shares d shared b j n are first rest = record {
     | inl own ↦ inl own.here
     | inr later ↦
         let s = later.1 in
-        inr (s.place, s.after, of_touched d (other_of 0 b s.place) n ((are.each (other_of 0 b s.place) s.nodes s.listed n).0 s.has).here)
+        inr (
+          s.place,
+          s.after,
+          of_touched d (other_of 0 b s.place) n ((are.each (other_of 0 b s.place) s.nodes s.listed n).0 s.has).here,
+        )
   ];
 }
   where
@@ -145,10 +164,12 @@ needed_by_shares d shared b j n are first rest = record {
     here = (are.each (other_of 0 b first.place) first.nodes first.listed n).0 first.has
 
 -- a node that two parts touch is shared by each
-two_parts : (d : Diagram) (p q n : ℕ) → ((e : p ≡ q) → ⊥) → TouchedBy (OfPart d p) d n → TouchedBy (OfPart d q) d n → IsShared d p n
+two_parts : (d : Diagram) (p q n : ℕ) → ((e : p ≡ q) → ⊥) → TouchedBy (OfPart d p) d n → TouchedBy (OfPart d q) d n →
+    IsShared d p n
 two_parts d p q n ne t u = record { here = t; other = q; apart = λ e. ne (sym e); there = u }
 
-module _ (d : Diagram) (shared : List (List ℕ)) (b others j n : ℕ) (station : IsStation d) (are : AreShared d shared) (count : suc others ≡ part_count d) (b_in : b < part_count d) (need : IsNeededOuter d b j n) where
+module _ (d : Diagram) (shared : List (List ℕ)) (b others j n : ℕ) (station : IsStation d) (are : AreShared d shared)
+    (count : suc others ≡ part_count d) (b_in : b < part_count d) (need : IsNeededOuter d b j n) where
   first_part : (i : ℕ) × (i < j) × OfPart d (other_of 0 b i) need.before.item
   first_part = before_has d b j need.before.item need.before.among
 
@@ -167,7 +188,10 @@ module _ (d : Diagram) (shared : List (List ℕ)) (b others j n : ℕ) (station 
       let p_in = part_in d (other_of 0 b first_part.0) need.before.item station first_part.2 in
       let is : IsShared d (other_of 0 b first_part.0) n = elim need.after [
         | inl own ↦ two_parts d (other_of 0 b first_part.0) b n (other_not b first_part.0) first_touched own
-        | inr later ↦ two_parts d (other_of 0 b first_part.0) (other_of 0 b later.0) n (others_apart b first_part.0 later.0 (omega (arith, first_part.1, later.1))) first_touched (touched_of d (other_of 0 b later.0) n later.2)
+        | inr later ↦
+            two_parts d (other_of 0 b first_part.0) (other_of 0 b later.0) n
+            (others_apart b first_part.0 later.0 (omega (arith, first_part.1, later.1))) first_touched
+            (touched_of d (other_of 0 b later.0) n later.2)
       ] in
       record {
         place = first_part.0;
@@ -181,12 +205,15 @@ module _ (d : Diagram) (shared : List (List ℕ)) (b others j n : ℕ) (station 
   -- and the bay or a later part does
   pub rest_shares : IsShared d b n ⊎ SharesFrom shared b j others n
   rest_shares = elim need.after [
-    | inl own ↦ inl (two_parts d b (other_of 0 b first_part.0) n (λ e. other_not b first_part.0 (sym e)) own first_touched)
+    | inl own ↦
+        inl (two_parts d b (other_of 0 b first_part.0) n (λ e. other_not b first_part.0 (sym e)) own first_touched)
     | inr later ↦
         let t = touched_of d (other_of 0 b later.0) n later.2 in
         let p_in = part_in d (other_of 0 b later.0) t.item station t.among in
-        let r = place_of_part b (other_of 0 b later.0) others (omega (arith, b_in, count)) (other_not b later.0) (omega (arith, p_in, count)) in
-        let is = two_parts d (other_of 0 b later.0) (other_of 0 b first_part.0) n (λ e. others_apart b first_part.0 later.0 (omega (arith, first_part.1, later.1)) (sym e)) t first_touched in
+        let r = place_of_part b (other_of 0 b later.0) others (omega (arith, b_in, count)) (other_not b later.0)
+        (omega (arith, p_in, count)) in
+        let is = two_parts d (other_of 0 b later.0) (other_of 0 b first_part.0) n
+        (λ e. others_apart b first_part.0 later.0 (omega (arith, first_part.1, later.1)) (sym e)) t first_touched in
         inr (record {
           place = later.0;
           nodes = (listed_at (other_of 0 b later.0) p_in).0;
@@ -198,14 +225,19 @@ module _ (d : Diagram) (shared : List (List ℕ)) (b others j n : ℕ) (station 
   ]
     where
       other_below : (b' i k : ℕ) → other_of 0 b' i < suc k → b' < suc k → i < k
-      other_below b' i k lt b_lt = elim (other_cases 0 b' i) [ inl x ↦ omega (arith, x.0, x.1, b_lt) | inr x ↦ omega (arith, x.0, x.1, lt) ]
+      other_below b' i k lt b_lt = elim (other_cases 0 b' i) [
+        | inl x ↦ omega (arith, x.0, x.1, b_lt)
+        | inr x ↦ omega (arith, x.0, x.1, lt)
+      ]
 
 -- ---- marks of the nodes that stand in a list, one by one
 
 pub met_none : (shared : List (List ℕ)) → AreMet shared [] 0
 met_none shared = record { len = refl; marked = λ part n nodes at has lt. absurd (omega (arith, lt)) }
 
-pub met_more : (shared : List (List ℕ)) (marks : List Bool) (node : ℕ) (sign : Bool) → AreMet shared marks node → ((part : ℕ) (nodes : List ℕ) → slice_get shared part ≡ Some nodes → Contains nodes node → sign ≡ true) → AreMet shared (marks ++ sign ∷ []) (node + 1)
+pub met_more : (shared : List (List ℕ)) (marks : List Bool) (node : ℕ) (sign : Bool) → AreMet shared marks node →
+    ((part : ℕ) (nodes : List ℕ) → slice_get shared part ≡ Some nodes → Contains nodes node → sign ≡ true) →
+    AreMet shared (marks ++ sign ∷ []) (node + 1)
 met_more shared marks node sign h here = record {
   len = omega (arith, length_push marks sign, h.len);
   marked = λ part n nodes at has lt. elim (cases_lt n node) [

@@ -1,5 +1,6 @@
 -- What an outer graph that was noted is for a bay that takes in the same.
-use Rattle.std.proofs.Common.{◌≡◌, ℕ, ◌<◌, ◌≤◌, ◌∙◌, suc, List, [], length, map, get_or, slice_get, Some, refl, sym, ap, subst, arith}
+use Rattle.std.proofs.Common.{◌≡◌, ℕ, ◌<◌, ◌≤◌, ◌∙◌, suc, List, [], length, map, get_or, slice_get, Some, refl, sym, ap}
+use Rattle.std.proofs.Common.{subst, arith}
 use Rattle.std.proofs.lemmas.Option.{slice_get-get_or}
 use Rattle.std.proofs.lemmas.List.{length-map}
 use Rattle.station_graph.specs.Diagram.{part_count, IsStation}
@@ -28,17 +29,23 @@ use Rattle.release_compile.proofs.OuterFits.{outer_fits, outer_named}
 use Rattle.release_compile.proofs.OuterEdges.{outer_spends}
 use Rattle.release_compile.proofs.OuterGraphs.{outer_linked, outer_same, outer_small, names_of}
 
-module _ (a : Lettered) (b others budget : ℕ) (p q : Pool) (i : Intake) (o : Copied) (station : IsStation a.diagram) (count : suc others ≡ part_count a.diagram) (b_in : b < part_count a.diagram) (ready : IsOuterReady a b p i.start (rows_of i) i.keeps.items) (g : GrewTo p q) (t : IsTaken q i budget o) where
+module _ (a : Lettered) (b others budget : ℕ) (p q : Pool) (i : Intake) (o : Copied) (station : IsStation a.diagram)
+    (count : suc others ≡ part_count a.diagram) (b_in : b < part_count a.diagram)
+    (ready : IsOuterReady a b p i.start (rows_of i) i.keeps.items) (g : GrewTo p q) (t : IsTaken q i budget o) where
   laid : AreLaid q i.start (rows_of i) i.keeps.items o.names.items t.note.edges t.right.layers
-  laid = laid_same q t.note.intake i t.note.names.items o.names.items t.note.edges t.right.layers t.same (sym t.names) t.right.laid
+  laid =
+      laid_same q t.note.intake i t.note.names.items o.names.items t.note.edges t.right.layers t.same
+      (sym t.names) t.right.laid
 
   linked : AreLinked p i.start (rows_of i) i.keeps.items
   linked = outer_linked a b p i.start (rows_of i) i.keeps.items ready
 
   fits : PlanFits (outer_plan a b) (pool_on (λ n. n) q) i.start (rows_of i) i.keeps.items
   fits =
-      fits_self q i.start (rows_of i) i.keeps.items (linked_stays p q (grows p q g) i.start (rows_of i) i.keeps.items linked) (outer_plan a b)
-      (fits_stays p q (grows p q g) i.start (rows_of i) i.keeps.items linked (outer_plan a b) (outer_fits a b p i.start (rows_of i) i.keeps.items ready))
+      fits_self q i.start (rows_of i) i.keeps.items
+      (linked_stays p q (grows p q g) i.start (rows_of i) i.keeps.items linked) (outer_plan a b)
+      (fits_stays p q (grows p q g) i.start (rows_of i) i.keeps.items linked (outer_plan a b)
+      (outer_fits a b p i.start (rows_of i) i.keeps.items ready))
 
   rows_count : length (rows_of i) ≡ others
   rows_count = omega (arith, ready.count, count)
@@ -46,10 +53,16 @@ module _ (a : Lettered) (b others budget : ℕ) (p q : Pool) (i : Intake) (o : C
   names_count : length (values_at q.values.items o.names.items) ≡ length o.names.items
   names_count = length-map o.names.items (λ k. get_or q.values.items k no_answers)
 
-  exact : IsExact p.view a.diagram (PartChosen a b) (items_of (outer_plan a b)) (IsNeededOuter a.diagram b) others t.right.layers (values_at q.values.items o.names.items)
+  exact : IsExact p.view a.diagram (PartChosen a b) (items_of (outer_plan a b)) (IsNeededOuter a.diagram b) others
+      t.right.layers (values_at q.values.items o.names.items)
   exact =
-      subst (λ w. IsExact w a.diagram (PartChosen a b) (items_of (outer_plan a b)) (IsNeededOuter a.diagram b) others t.right.layers (values_at q.values.items o.names.items)) g.view
-      (subst (λ n. IsExact q.view a.diagram (PartChosen a b) (items_of (outer_plan a b)) (IsNeededOuter a.diagram b) n t.right.layers (values_at q.values.items o.names.items)) rows_count (subst (λ xs. IsExact q.view a.diagram (PartChosen a b) (items_of (outer_plan a b)) (IsNeededOuter a.diagram b) (length (rows_of i)) t.right.layers xs) (values_at_self q.values.items o.names.items) (laid.exact (λ n. n) (outer_plan a b) order_self fits)))
+      subst (λ w. IsExact w a.diagram (PartChosen a b) (items_of (outer_plan a b)) (IsNeededOuter a.diagram b) others
+      t.right.layers (values_at q.values.items o.names.items)) g.view
+      (subst (λ n. IsExact q.view a.diagram (PartChosen a b) (items_of (outer_plan a b)) (IsNeededOuter a.diagram b) n
+      t.right.layers (values_at q.values.items o.names.items)) rows_count (subst
+      (λ xs. IsExact q.view a.diagram (PartChosen a b) (items_of (outer_plan a b)) (IsNeededOuter a.diagram b)
+      (length (rows_of i)) t.right.layers xs) (values_at_self q.values.items o.names.items)
+      (laid.exact (λ n. n) (outer_plan a b) order_self fits)))
 
   indices : (j : ℕ) → j < others → (layer_at t.right.layers j).choices ≡ index_count a (other_of 0 b j)
   indices j lt =
@@ -60,11 +73,13 @@ module _ (a : Lettered) (b others budget : ℕ) (p q : Pool) (i : Intake) (o : C
   choices : map (λ (l : Layer). l.choices) o.graph.layers ≡ map (λ (l : Layer). l.choices) t.right.layers
   choices = ap (λ (h : Layered). map (λ (l : Layer). l.choices) h.layers) t.graph ∙ t.right.same_choices
 
-  pub taken_outer : AreLayers o.graph.labels o.graph.layers → IsOuter p.view a b o.graph (values_at q.values.items o.names.items)
+  pub taken_outer : AreLayers o.graph.labels o.graph.layers →
+      IsOuter p.view a b o.graph (values_at q.values.items o.names.items)
   taken_outer layered =
       let names : List Answers = values_at q.values.items o.names.items in
       outer_same p.view a b names (record { labels = length names; layers = t.right.layers }) o.graph
-      (outer_named a b others station count b_in p.view t.right.layers names exact (λ j lt. indices j (omega (arith, lt, exact.count))))
+      (outer_named a b others station count b_in p.view t.right.layers names exact
+      (λ j lt. indices j (omega (arith, lt, exact.count))))
       (ap (λ (h : Layered). h.labels) t.graph ∙ (t.right.labels ∙ (ap length (sym t.names) ∙ sym names_count)))
       choices
       (λ cs h. ap (λ (k : Layered). label_of k cs) t.graph ∙ t.right.label cs h)
@@ -72,8 +87,10 @@ module _ (a : Lettered) (b others budget : ℕ) (p q : Pool) (i : Intake) (o : C
 
   pub taken_small : OuterIsSmall p.view a.diagram b o.graph
   taken_small =
-      outer_small p.view a b others t.right.layers (values_at q.values.items o.names.items) (record { labels = 0; layers = t.right.layers }) o.graph exact refl choices
-      (λ j. subst (λ (h : Layered). length (layer_at h.layers j).rows ≤ length (layer_at t.right.layers j).rows) (sym t.graph) (t.right.sizes j))
+      outer_small p.view a b others t.right.layers (values_at q.values.items o.names.items)
+      (record { labels = 0; layers = t.right.layers }) o.graph exact refl choices
+      (λ j. subst (λ (h : Layered). length (layer_at h.layers j).rows ≤ length (layer_at t.right.layers j).rows)
+      (sym t.graph) (t.right.sizes j))
 
   pub taken_names : AreNames q a.diagram b o.names.items
   taken_names =
@@ -86,7 +103,9 @@ module _ (a : Lettered) (b others budget : ℕ) (p q : Pool) (i : Intake) (o : C
       subst (λ n. Spends (OuterHas p.view a.diagram b n) a.diagram budget o.left) rows_count
       (outer_spends p.view a b p i.start (rows_of i) i.keeps.items ready budget o.left (record {
         edges = t.note.edges;
-        has = subst (λ w. PlanHas w (outer_plan a b) (rows_of i) (length (rows_of i)) (AreSoMany a.diagram) t.note.edges) g.view (laid.has (λ n. n) (outer_plan a b) order_self fits);
+        has =
+            subst (λ w. PlanHas w (outer_plan a b) (rows_of i) (length (rows_of i)) (AreSoMany a.diagram) t.note.edges)
+            g.view (laid.has (λ n. n) (outer_plan a b) order_self fits);
         all = t.all;
       }))
 

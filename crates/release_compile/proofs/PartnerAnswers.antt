@@ -1,5 +1,7 @@
--- What the labels of the inner graphs say decides the answers for the operations of a bay, and other labels give other answers.
-use Rattle.std.proofs.Common.{◌≡◌, ◌≢◌, ℕ, ◌<◌, ◌⊎◌, ◌↔◌, zero, suc, Bool, List, Option, Some, None, refl, sym, ◌∙◌, subst, inl, inr, arith}
+-- What the labels of the inner graphs say decides the answers for the operations of a bay, and other labels
+-- give other answers.
+use Rattle.std.proofs.Common.{◌≡◌, ◌≢◌, ℕ, ◌<◌, ◌⊎◌, ◌↔◌, zero, suc, Bool, List, Option, Some, None, refl, sym, ◌∙◌}
+use Rattle.std.proofs.Common.{subst, inl, inr, arith}
 use Rattle.std.proofs.lemmas.Bool.{cases_eq}
 use Rattle.ilk_base.specs.declared.words.Direction.{Direction}
 use Rattle.ilk_base.specs.declared.words.Direction.TheVariants.{ToOff, ToOn}
@@ -14,8 +16,8 @@ use Rattle.station_graph.specs.CentralRules.{Applies, Breaks, GapBreaks}
 use Rattle.release_compile.specs.declared.view.View.TheVariants.{Gap, Load}
 use Rattle.release_compile.specs.Graphs.{Says, gap_rule}
 
--- Bay b is a partner of bay c, shown by two vectors that differ in switches of b alone and an operation of a switch of c
--- that has an answer in one of them and not in the other.
+-- Bay b is a partner of bay c, shown by two vectors that differ in switches of b alone and an operation of a
+-- switch of c that has an answer in one of them and not in the other.
 pub record Shown (d : Diagram) (b c : ℕ) : Type 0 where
   pub one : List Bool
   pub other : List Bool
@@ -36,7 +38,8 @@ opening_free d v op opens = (
 )
 
 -- the first two rules give the same in both, and so does the third: the answers are the same
-breaks_along : (d : Diagram) (v w : List Bool) (op : Op) (r : Option Rule) → GapBreaks d v op r → GapBreaks d w op r → Applies R3 d v op ↔ Applies R3 d w op → (answer : Option Rule) → Breaks d v op answer → Breaks d w op answer
+breaks_along : (d : Diagram) (v w : List Bool) (op : Op) (r : Option Rule) → GapBreaks d v op r → GapBreaks d w op r →
+    Applies R3 d v op ↔ Applies R3 d w op → (answer : Option Rule) → Breaks d v op answer → Breaks d w op answer
 breaks_along d v w op None gv gw load None b = (gw.0, gw.1, λ h. b.2 (load.1 h))
 breaks_along d v w op None gv gw load (Some R1) b = absurd (gv.0 b)
 breaks_along d v w op None gv gw load (Some R2) b = absurd (gv.1 b.1)
@@ -51,11 +54,16 @@ breaks_along d v w op (Some R2) gv gw load (Some R2) b = gw
 breaks_along d v w op (Some R2) gv gw load (Some R3) b = absurd (b.1 gv.1)
 breaks_along d v w op (Some R3) gv gw load answer b = absurd gv
 
-pub same_breaks : (d : Diagram) (v w : List Bool) (op : Op) (r : Option Rule) → GapBreaks d v op r → GapBreaks d w op r → Applies R3 d v op ↔ Applies R3 d w op → (answer : Option Rule) → Breaks d v op answer ↔ Breaks d w op answer
-same_breaks d v w op r gv gw load answer = (breaks_along d v w op r gv gw load answer, breaks_along d w v op r gw gv (load.1, load.0) answer)
+pub same_breaks : (d : Diagram) (v w : List Bool) (op : Op) (r : Option Rule) → GapBreaks d v op r →
+    GapBreaks d w op r → Applies R3 d v op ↔ Applies R3 d w op → (answer : Option Rule) → Breaks d v op answer ↔
+    Breaks d w op answer
+same_breaks d v w op r gv gw load answer =
+    (breaks_along d v w op r gv gw load answer, breaks_along d w v op r gw gv (load.1, load.0) answer)
 
 -- ONE LABEL OF EACH VIEW: the answers for the switch are the same
-pub says_same : (d : Diagram) (m : ℕ) (v w : List Bool) (gap load : ℕ) → Says Gap d m v gap → Says Gap d m w gap → Says Load d m v load → Says Load d m w load → (op : Op) → op.switch.0 ≡ m → (answer : Option Rule) → Breaks d v op answer ↔ Breaks d w op answer
+pub says_same : (d : Diagram) (m : ℕ) (v w : List Bool) (gap load : ℕ) → Says Gap d m v gap → Says Gap d m w gap →
+    Says Load d m v load → Says Load d m w load → (op : Op) → op.switch.0 ≡ m → (answer : Option Rule) →
+    Breaks d v op answer ↔ Breaks d w op answer
 says_same d m v w gap load gap_v gap_w load_v load_w op moves answer = by op.direction refl where
   third : Applies R3 d v op ↔ Applies R3 d w op
   third = (λ h. (load_w op moves).0 ((load_v op moves).1 h), λ h. (load_v op moves).0 ((load_w op moves).1 h))
@@ -83,7 +91,8 @@ gap_gives d v op R2 g = g
 gap_gives d v op R3 g = absurd g
 
 -- and no other rule of them
-gap_refuses : (d : Diagram) (v : List Bool) (op : Op) (r : Rule) (other : Option Rule) → r ≢ R3 → other ≢ Some r → GapBreaks d v op other → ¬ Breaks d v op (Some r)
+gap_refuses : (d : Diagram) (v : List Bool) (op : Op) (r : Rule) (other : Option Rule) → r ≢ R3 → other ≢ Some r →
+    GapBreaks d v op other → ¬ Breaks d v op (Some r)
 gap_refuses d v op R1 None third ne g b = g.0 b
 gap_refuses d v op R2 None third ne g b = g.1 b.1
 gap_refuses d v op R3 other third ne g b = third refl
@@ -95,7 +104,9 @@ gap_refuses d v op R2 (Some R2) third ne g b = ne refl
 gap_refuses d v op R2 (Some R3) third ne g b = g
 
 -- two labels of an inner gap graph say two things
-pub rules_apart : (x y : ℕ) → x < 3 → y < 3 → x ≢ y → ((r : Rule) × (gap_rule x ≡ Some r) × (r ≢ R3) × (gap_rule y ≢ Some r)) ⊎ ((r : Rule) × (gap_rule y ≡ Some r) × (r ≢ R3) × (gap_rule x ≢ Some r))
+pub rules_apart : (x y : ℕ) → x < 3 → y < 3 → x ≢ y →
+    ((r : Rule) × (gap_rule x ≡ Some r) × (r ≢ R3) × (gap_rule y ≢ Some r))
+    ⊎ ((r : Rule) × (gap_rule y ≡ Some r) × (r ≢ R3) × (gap_rule x ≢ Some r))
 rules_apart zero zero in_x in_y ne = absurd (ne refl)
 rules_apart zero (suc zero) in_x in_y ne = inr (R1, refl, λ e. cc, λ e. cc)
 rules_apart zero (suc (suc zero)) in_x in_y ne = inr (R2, refl, λ e. cc, λ e. cc)
@@ -108,8 +119,10 @@ rules_apart (suc (suc zero)) (suc (suc zero)) in_x in_y ne = absurd (ne refl)
 rules_apart x (suc (suc (suc y))) in_x in_y ne = absurd (omega (arith, in_y))
 rules_apart (suc (suc (suc x))) y in_x in_y ne = absurd (omega (arith, in_x))
 
-module _ (d : Diagram) (b c m : ℕ) (own : OfPart d c (a_switch m)) (v w : List Bool) (whole_v : IsVector d v) (whole_w : IsVector d w) (differ : DifferInPart d b v w) where
-  gap_one_way : (x y : ℕ) → Says Gap d m v x → Says Gap d m w y → (r : Rule) × (gap_rule x ≡ Some r) × (r ≢ R3) × (gap_rule y ≢ Some r) → Shown d b c
+module _ (d : Diagram) (b c m : ℕ) (own : OfPart d c (a_switch m)) (v w : List Bool) (whole_v : IsVector d v)
+    (whole_w : IsVector d w) (differ : DifferInPart d b v w) where
+  gap_one_way : (x y : ℕ) → Says Gap d m v x → Says Gap d m w y →
+      (r : Rule) × (gap_rule x ≡ Some r) × (r ≢ R3) × (gap_rule y ≢ Some r) → Shown d b c
   gap_one_way x y says_v says_w t = record {
     one = v;
     other = w;
@@ -137,14 +150,18 @@ module _ (d : Diagram) (b c m : ℕ) (own : OfPart d c (a_switch m)) (v w : List
     not_given = λ h. not_one ((says_w (opening m) refl).1 h.2);
   }
 
-pub gap_shows : (d : Diagram) (b c m : ℕ) (v w : List Bool) (x y : ℕ) → OfPart d c (a_switch m) → IsVector d v → IsVector d w → DifferInPart d b v w → Says Gap d m v x → Says Gap d m w y → x < 3 → y < 3 → x ≢ y → Shown d b c
+pub gap_shows : (d : Diagram) (b c m : ℕ) (v w : List Bool) (x y : ℕ) → OfPart d c (a_switch m) → IsVector d v →
+    IsVector d w → DifferInPart d b v w → Says Gap d m v x → Says Gap d m w y → x < 3 → y < 3 → x ≢ y → Shown d b c
 gap_shows d b c m v w x y own whole_v whole_w differ says_v says_w in_x in_y ne = elim (rules_apart x y in_x in_y ne) [
   | inl t ↦ gap_one_way d b c m own v w whole_v whole_w differ x y says_v says_w t
   | inr t ↦ gap_one_way d b c m own w v whole_w whole_v (shown_back d b v w differ) y x says_w says_v t
 ]
 
-pub load_shows : (d : Diagram) (b c m : ℕ) (v w : List Bool) (x y : ℕ) → OfPart d c (a_switch m) → IsVector d v → IsVector d w → DifferInPart d b v w → Says Load d m v x → Says Load d m w y → x < 2 → y < 2 → x ≢ y → Shown d b c
+pub load_shows : (d : Diagram) (b c m : ℕ) (v w : List Bool) (x y : ℕ) → OfPart d c (a_switch m) → IsVector d v →
+    IsVector d w → DifferInPart d b v w → Says Load d m v x → Says Load d m w y → x < 2 → y < 2 → x ≢ y → Shown d b c
 load_shows d b c m v w x y own whole_v whole_w differ says_v says_w in_x in_y ne = elim (cases_eq x 1) [
   | inl e ↦ load_one_way d b c m own v w whole_v whole_w differ x y says_v says_w e (λ q. ne (e ∙ sym q))
-  | inr not_one ↦ load_one_way d b c m own w v whole_w whole_v (shown_back d b v w differ) y x says_w says_v (omega (arith, in_x, in_y, ne, not_one)) not_one
+  | inr not_one ↦
+      load_one_way d b c m own w v whole_w whole_v (shown_back d b v w differ) y x says_w says_v
+      (omega (arith, in_x, in_y, ne, not_one)) not_one
 ]

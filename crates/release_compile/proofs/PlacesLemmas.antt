@@ -1,5 +1,6 @@
 -- Values by places of a list of nodes.
-use Rattle.std.proofs.Common.{◌≡◌, ℕ, ◌+◌, ◌-◌, ◌<◌, ◌≤◌, ◌↔◌, suc, Bool, List, [], ◌∷◌, ◌++◌, map, take, length, get_or, slice_get, slice_index, Some, sym, ap, ◌∙◌, subst, inl, inr, arith}
+use Rattle.std.proofs.Common.{◌≡◌, ℕ, ◌+◌, ◌-◌, ◌<◌, ◌≤◌, ◌↔◌, suc, Bool, List, [], ◌∷◌, ◌++◌, map, take, length}
+use Rattle.std.proofs.Common.{get_or, slice_get, slice_index, Some, sym, ap, ◌∙◌, subst, inl, inr, arith}
 use Rattle.std.specs.Prelude.{Contains}
 use Rattle.std.proofs.lemmas.List.{length-map, map-append, take_more, get_or_past}
 use Rattle.std.proofs.lemmas.Option.{slice_get_within, slice_get-get_or, get_or_from_slice_get, same_Some}
@@ -40,7 +41,8 @@ node_at list place n at = get_or_from_slice_get list place n (NODES + place) at
 
 module _ (list : List ℕ) (nodes : AreNodes list) where
   node_small : (place n : ℕ) → slice_get list place ≡ Some n → n < NODES
-  node_small place n at = omega (arith, nodes.small place (slice_get_within list place n at), get_or_from_slice_get list place n 0 at)
+  node_small place n at =
+      omega (arith, nodes.small place (slice_get_within list place n at), get_or_from_slice_get list place n 0 at)
 
   node_past : (place : ℕ) → length list ≤ place → node_of list place ≡ NODES + place
   node_past place out = get_or_past list place (NODES + place) out
@@ -51,11 +53,21 @@ module _ (list : List ℕ) (nodes : AreNodes list) where
     | inl b_in ↦
         let at_a = slice_get-get_or list a 0 (omega (arith, less, b_in)) in
         let at_b = slice_get-get_or list b 0 b_in in
-        omega (arith, node_at list a (slice_index list a) at_a, node_at list b (slice_index list b) at_b, nodes.rises a b less b_in)
+        omega (
+          arith,
+          node_at list a (slice_index list a) at_a,
+          node_at list b (slice_index list b) at_b,
+          nodes.rises a b less b_in,
+        )
     | inr b_out ↦ elim (cases_lt a (length list)) [
       | inl a_in ↦
           let at_a = slice_get-get_or list a 0 a_in in
-          omega (arith, node_at list a (slice_index list a) at_a, node_small a (slice_index list a) at_a, node_past b (omega (arith, b_out)))
+          omega (
+            arith,
+            node_at list a (slice_index list a) at_a,
+            node_small a (slice_index list a) at_a,
+            node_past b (omega (arith, b_out)),
+          )
       | inr a_out ↦ omega (arith, node_past a (omega (arith, a_out)), node_past b (omega (arith, b_out)), less)
     ]
   ]
@@ -70,30 +82,48 @@ module _ (list : List ℕ) (nodes : AreNodes list) where
   ]
 
   -- places of nodes are nodes, and so are nodes at places
-  pub places_are_nodes : (places nodes' : List ℕ) → map (node_of list) places ≡ nodes' → Rises nodes' → ((n : ℕ) → Keeps nodes' n → Contains list n) → AreNodes places
+  pub places_are_nodes : (places nodes' : List ℕ) → map (node_of list) places ≡ nodes' → Rises nodes' →
+      ((n : ℕ) → Keeps nodes' n → Contains list n) → AreNodes places
   places_are_nodes places nodes' is rises has = record {
     rises = λ j k less k_in.
         let up = subst (λ l. Rises l) (sym is) rises in
         let count = length-map places (node_of list) in
         let at_j = slice_get-get_or places j 0 (omega (arith, less, k_in)) in
         let at_k = slice_get-get_or places k 0 k_in in
-        let one = get_or_from_slice_get (map (node_of list) places) j (node_of list (slice_index places j)) 0 (at_mapped (node_of list) places j (slice_index places j) at_j) in
-        let two = get_or_from_slice_get (map (node_of list) places) k (node_of list (slice_index places k)) 0 (at_mapped (node_of list) places k (slice_index places k) at_k) in
+        let one = get_or_from_slice_get (map (node_of list) places) j (node_of list (slice_index places j)) 0
+        (at_mapped (node_of list) places j (slice_index places j) at_j) in
+        let two = get_or_from_slice_get (map (node_of list) places) k (node_of list (slice_index places k)) 0
+        (at_mapped (node_of list) places k (slice_index places k) at_k) in
         let later = up j k less (omega (arith, k_in, count)) in
         elim (cases_lt (slice_index places j) (slice_index places k)) [
           | inl lt ↦ lt
           | inr ge ↦ elim (cases_eq (slice_index places j) (slice_index places k)) [
             | inl e ↦ absurd (omega (arith, later, one, two, ap (node_of list) e))
-            | inr ne ↦ absurd (omega (arith, later, one, two, places_rise (slice_index places k) (slice_index places j) (omega (arith, ge, ne))))
+            | inr ne ↦
+                absurd (omega (
+                  arith,
+                  later,
+                  one,
+                  two,
+                  places_rise (slice_index places k) (slice_index places j) (omega (arith, ge, ne)),
+                ))
           ]
         ];
     small = λ k k_in.
         let at = slice_get-get_or places k 0 k_in in
-        let kept : Keeps nodes' (node_of list (slice_index places k)) = record { place = k; at = ap (λ l. slice_get l k) (sym is) ∙ at_mapped (node_of list) places k (slice_index places k) at } in
-        omega (arith, place_inside (slice_index places k) (has (node_of list (slice_index places k)) kept), few_nodes list nodes);
+        let kept : Keeps nodes' (node_of list (slice_index places k)) = record {
+          place = k;
+          at = ap (λ l. slice_get l k) (sym is) ∙ at_mapped (node_of list) places k (slice_index places k) at;
+        } in
+        omega (
+          arith,
+          place_inside (slice_index places k) (has (node_of list (slice_index places k)) kept),
+          few_nodes list nodes,
+        );
   }
 
-  pub nodes_are_nodes : (places : List ℕ) → AreNodes places → ((p : ℕ) → Keeps places p → p < length list) → AreNodes (map (node_of list) places)
+  pub nodes_are_nodes : (places : List ℕ) → AreNodes places → ((p : ℕ) → Keeps places p → p < length list) →
+      AreNodes (map (node_of list) places)
   nodes_are_nodes places are inside = record {
     rises = rises_map (node_of list) places_rise places are.rises;
     small = λ k k_in.
@@ -101,12 +131,20 @@ module _ (list : List ℕ) (nodes : AreNodes list) where
         let at = slice_get-get_or places k 0 (omega (arith, k_in, count)) in
         let p_in = inside (slice_index places k) (record { place = k; at = at }) in
         let at_p = slice_get-get_or list (slice_index places k) 0 p_in in
-        let here = get_or_from_slice_get (map (node_of list) places) k (node_of list (slice_index places k)) 0 (at_mapped (node_of list) places k (slice_index places k) at) in
-        omega (arith, here, node_at list (slice_index places k) (slice_index list (slice_index places k)) at_p, node_small (slice_index places k) (slice_index list (slice_index places k)) at_p);
+        let here = get_or_from_slice_get (map (node_of list) places) k (node_of list (slice_index places k)) 0
+        (at_mapped (node_of list) places k (slice_index places k) at) in
+        omega (
+          arith,
+          here,
+          node_at list (slice_index places k) (slice_index list (slice_index places k)) at_p,
+          node_small (slice_index places k) (slice_index list (slice_index places k)) at_p,
+        );
   }
 
 -- one place more
-pub places_more : (list places nodes : List ℕ) (k place n : ℕ) → map (node_of list) places ≡ take k nodes → slice_get list place ≡ Some n → slice_get nodes k ≡ Some n → map (node_of list) (places ++ place ∷ []) ≡ take (k + 1) nodes
+pub places_more : (list places nodes : List ℕ) (k place n : ℕ) → map (node_of list) places ≡ take k nodes →
+    slice_get list place ≡ Some n → slice_get nodes k ≡ Some n →
+    map (node_of list) (places ++ place ∷ []) ≡ take (k + 1) nodes
 places_more list places nodes k place n is at at_k =
     map-append (node_of list) places (place ∷ [])
     ∙ (ap (λ xs. xs ++ node_of list place ∷ []) is
@@ -114,18 +152,24 @@ places_more list places nodes k place n is at at_k =
     ∙ sym (take_more nodes k 0 (slice_get_within nodes k n at_k))))
 
 -- and one node more
-pub nodes_more : (list places nodes : List ℕ) (k p n : ℕ) → nodes ≡ map (node_of list) (take k places) → slice_get places k ≡ Some p → p < length list → n ≡ slice_index list p → nodes ++ n ∷ [] ≡ map (node_of list) (take (k + 1) places)
+pub nodes_more : (list places nodes : List ℕ) (k p n : ℕ) → nodes ≡ map (node_of list) (take k places) →
+    slice_get places k ≡ Some p → p < length list → n ≡ slice_index list p →
+    nodes ++ n ∷ [] ≡ map (node_of list) (take (k + 1) places)
 nodes_more list places nodes k p n is at p_in here =
     ap (λ xs. xs ++ n ∷ []) is
-    ∙ (ap (λ m. map (node_of list) (take k places) ++ m ∷ []) (here ∙ (sym (node_at list p (slice_index list p) (slice_get-get_or list p 0 p_in)) ∙ ap (node_of list) (sym (get_or_from_slice_get places k p 0 at))))
+    ∙ (ap (λ m. map (node_of list) (take k places) ++ m ∷ []) (here
+    ∙ (sym (node_at list p (slice_index list p) (slice_get-get_or list p 0 p_in))
+    ∙ ap (node_of list) (sym (get_or_from_slice_get places k p 0 at))))
     ∙ (sym (map-append (node_of list) (take k places) (slice_index places k ∷ []))
     ∙ ap (map (node_of list)) (sym (take_more places k 0 (slice_get_within places k p at)))))
 
 -- ---- what is interned by places
 
-pub same_on : (f : ℕ → ℕ) (q : Pool) (moved value : Answers) (id : ℕ) → KeepsOrder f → mapped f moved ≡ value → IsContraction value → HasSame q moved id → HasSame (pool_on f q) value id
+pub same_on : (f : ℕ → ℕ) (q : Pool) (moved value : Answers) (id : ℕ) → KeepsOrder f → mapped f moved ≡ value →
+    IsContraction value → HasSame q moved id → HasSame (pool_on f q) value id
 same_on f q moved value id order is well h =
-    let kept : map f h.same.kept ≡ value.kept = ap (map f) (sym (kept_of_same q.view moved h.same h.is_same)) ∙ ap (λ (z : Answers). z.kept) is in
+    let kept : map f h.same.kept ≡ value.kept =
+    ap (map f) (sym (kept_of_same q.view moved h.same h.is_same)) ∙ ap (λ (z : Answers). z.kept) is in
     record {
       same = mapped f h.same;
       listed = at_mapped (mapped f) q.values.items id h.same h.listed;
@@ -137,11 +181,16 @@ same_on f q moved value id order is well h =
 -- ---- names
 
 -- a node of which the names speak is shared
-pub named_shared : (a : Lettered) (b n : ℕ) → IsStation a.diagram → b < part_count a.diagram → IsNeededOuter a.diagram b (part_count a.diagram - 1) n → IsShared a.diagram b n
+pub named_shared : (a : Lettered) (b n : ℕ) → IsStation a.diagram → b < part_count a.diagram →
+    IsNeededOuter a.diagram b (part_count a.diagram - 1) n → IsShared a.diagram b n
 named_shared a b n station b_in need =
     let d = a.diagram in
     let first = before_has d b (part_count d - 1) need.before.item need.before.among in
-    let there : TouchedBy (OfPart d (other_of 0 b first.0)) d n = record { item = need.before.item; among = first.2; touches = need.before.touches } in
+    let there : TouchedBy (OfPart d (other_of 0 b first.0)) d n = record {
+      item = need.before.item;
+      among = first.2;
+      touches = need.before.touches;
+    } in
     record {
       here = elim need.after [
         | inl own ↦ own
@@ -158,11 +207,14 @@ named_shared a b n station b_in need =
       there = there;
     }
 
-module _ (a : Lettered) (b : ℕ) (station : IsStation a.diagram) (b_in : b < part_count a.diagram) (q : Pool) (values : List Answers) (ids : List ℕ) (copies : AreCopies q values ids) where
+module _ (a : Lettered) (b : ℕ) (station : IsStation a.diagram) (b_in : b < part_count a.diagram) (q : Pool)
+    (values : List Answers) (ids : List ℕ) (copies : AreCopies q values ids) where
   count_is : suc (part_count a.diagram - 1) ≡ part_count a.diagram
   count_is = omega (arith, b_in)
 
-  copy_stands : (v : List Bool) (c : ℕ) (x : Answers) → slice_get values c ≡ Some x → SeenFor q.view (OfOthers a.diagram b) a.diagram v x → StandsIn q.view (OfOthers a.diagram b) a.diagram v (values_at q.values.items ids) c
+  copy_stands : (v : List Bool) (c : ℕ) (x : Answers) → slice_get values c ≡ Some x →
+      SeenFor q.view (OfOthers a.diagram b) a.diagram v x →
+      StandsIn q.view (OfOthers a.diagram b) a.diagram v (values_at q.values.items ids) c
   copy_stands v c x at seen =
       let h = copies.each c x at in
       let others = parts_before a.diagram b (part_count a.diagram - 1) in
@@ -171,14 +223,17 @@ module _ (a : Lettered) (b : ℕ) (station : IsStation a.diagram) (b_in : b < pa
         value = h.copy.value;
         listed = number_at q.values.items ids c h.id h.copy.value h.at h.copy.listed;
         stands = seen_over q.view (Among others) (OfOthers a.diagram b) a.diagram v h.copy.value all
-            (h.copy.stands others a.diagram v (seen_over q.view (OfOthers a.diagram b) (Among others) a.diagram v x (λ it is. (let s = all it is in (s.1, s.0))) seen));
+            (h.copy.stands others a.diagram v (seen_over q.view (OfOthers a.diagram b) (Among others) a.diagram v x
+            (λ it is. (let s = all it is in (s.1, s.0))) seen));
       }
 
-  pub copies_stand : (v : List Bool) (c : ℕ) → StandsIn q.view (OfOthers a.diagram b) a.diagram v values c → StandsIn q.view (OfOthers a.diagram b) a.diagram v (values_at q.values.items ids) c
+  pub copies_stand : (v : List Bool) (c : ℕ) → StandsIn q.view (OfOthers a.diagram b) a.diagram v values c →
+      StandsIn q.view (OfOthers a.diagram b) a.diagram v (values_at q.values.items ids) c
   copies_stand v c s = copy_stands v c s.value s.listed s.stands
 
   -- what a place of the copies has
-  original : (c : ℕ) (y : Answers) → slice_get (values_at q.values.items ids) c ≡ Some y → (x : Answers) × (slice_get values c ≡ Some x) × (h : HasCopyAt q ids c x) × (h.copy.value ≡ y)
+  original : (c : ℕ) (y : Answers) → slice_get (values_at q.values.items ids) c ≡ Some y →
+      (x : Answers) × (slice_get values c ≡ Some x) × (h : HasCopyAt q ids c x) × (h.copy.value ≡ y)
   original c y at =
       let i = at_number q.values.items ids c y at in
       let c_in : c < length values = omega (arith, slice_get_within ids c i.0 i.1, copies.len) in
@@ -188,15 +243,24 @@ module _ (a : Lettered) (b : ℕ) (station : IsStation a.diagram) (b_in : b < pa
       let listed = number_at q.values.items ids c h.id h.copy.value h.at h.copy.listed in
       (x, at_x, h, same_Some h.copy.value y (sym listed ∙ at))
 
-  pub names_copied : (p : Pool) (names : List ℕ) → q.view ≡ p.view → values ≡ values_at p.values.items names → AreNames p a.diagram b names → AreNames q a.diagram b ids
+  pub names_copied : (p : Pool) (names : List ℕ) → q.view ≡ p.view → values ≡ values_at p.values.items names →
+      AreNames p a.diagram b names → AreNames q a.diagram b ids
   names_copied p names view is named =
-      let at_p : (t : ℕ) (x : Answers) → slice_get values t ≡ Some x → slice_get (values_at p.values.items names) t ≡ Some x = λ t x at. ap (λ xs. slice_get xs t) (sym is) ∙ at in
+      let at_p : (t : ℕ) (x : Answers) → slice_get values t ≡ Some x →
+      slice_get (values_at p.values.items names) t ≡ Some x = λ t x at. ap (λ xs. slice_get xs t) (sym is) ∙ at in
       record {
-        some = omega (arith, named.some, copies.len, ap length is, length-map names (λ i. get_or p.values.items i no_answers));
+        some = omega (
+          arith,
+          named.some,
+          copies.len,
+          ap length is,
+          length-map names (λ i. get_or p.values.items i no_answers),
+        );
         within = λ t i at.
             let t_in : t < length values = omega (arith, slice_get_within ids t i at, copies.len) in
             let h = copies.each t (get_or values t no_answers) (slice_get-get_or values t no_answers t_in) in
-            subst (λ k. k < length q.values.items) (same_Some h.id i (sym h.at ∙ at)) (slice_get_within q.values.items h.id h.copy.value h.copy.listed);
+            subst (λ k. k < length q.values.items) (same_Some h.id i (sym h.at ∙ at))
+            (slice_get_within q.values.items h.id h.copy.value h.copy.listed);
         kept = λ t y at n.
             let (x, at_x, h, e) = original t y at in
             let one = subst (λ (z : Answers). Keeps z.kept n ↔ Keeps x.kept n) e (h.copy.kept n) in
@@ -206,16 +270,25 @@ module _ (a : Lettered) (b : ℕ) (station : IsStation a.diagram) (b_in : b < pa
           made = λ t y at.
               let (x, at_x, h, e) = original t y at in
               let (v, whole, seen) = named.views.made t x (at_p t x at_x) in
-              let s = copy_stands v t x at_x (subst (λ w. SeenFor w (OfOthers a.diagram b) a.diagram v x) (sym view) seen) in
-              (v, whole, subst (λ z. SeenFor q.view (OfOthers a.diagram b) a.diagram v z) (same_Some s.value y (sym s.listed ∙ at)) s.stands);
+              let s = copy_stands v t x at_x
+              (subst (λ w. SeenFor w (OfOthers a.diagram b) a.diagram v x) (sym view) seen) in (
+                v,
+                whole,
+                subst (λ z. SeenFor q.view (OfOthers a.diagram b) a.diagram v z)
+                    (same_Some s.value y (sym s.listed ∙ at)) s.stands,
+              );
           cover = λ v whole.
-              let (t, s) = named.views.cover v whole in
-              (t, copy_stands v t s.value (ap (λ xs. slice_get xs t) is ∙ s.listed) (subst (λ w. SeenFor w (OfOthers a.diagram b) a.diagram v s.value) (sym view) s.stands));
+              let (t, s) = named.views.cover v whole in (
+                t,
+                copy_stands v t s.value (ap (λ xs. slice_get xs t) is ∙ s.listed)
+                    (subst (λ w. SeenFor w (OfOthers a.diagram b) a.diagram v s.value) (sym view) s.stands),
+              );
         };
       }
 
   -- a graph of the copies is one of the values
-  pub inner_for : (m first others : ℕ) (g : Layered) → IsInner q.view a b m first others (values_at q.values.items ids) g → IsInner q.view a b m first others values g
+  pub inner_for : (m first others : ℕ) (g : Layered) →
+      IsInner q.view a b m first others (values_at q.values.items ids) g → IsInner q.view a b m first others values g
   inner_for m first others g h = record {
     fits = h.fits;
     count = h.count;
@@ -226,6 +299,7 @@ module _ (a : Lettered) (b : ℕ) (station : IsStation a.diagram) (b_in : b < pa
 
 -- ---- the nodes of an inner graph's layers
 
-pub needed_later : (d : Diagram) (m first others j n : ℕ) → IsNeededInner d m first others j n → IsNeededInner d m first others 0 n
+pub needed_later : (d : Diagram) (m first others j n : ℕ) → IsNeededInner d m first others j n →
+    IsNeededInner d m first others 0 n
 needed_later d m first others j n (inl t) = inl t
 needed_later d m first others j n (inr (i, le, lt, t)) = inr (i, omega arith, lt, t)

@@ -1,5 +1,6 @@
 -- Values of one view in a pool.
-use Rattle.std.proofs.Common.{◌≡◌, ℕ, ◌↔◌, Bool, true, false, cond, List, [], ◌∷◌, ◌++◌, length, slice_get, Result, Ok, Err, Some, None, refl, sym, ap, ◌∙◌, subst, inl, inr}
+use Rattle.std.proofs.Common.{◌≡◌, ℕ, ◌↔◌, Bool, true, false, cond, List, [], ◌∷◌, ◌++◌, length, slice_get, Result, Ok}
+use Rattle.std.proofs.Common.{Err, Some, None, refl, sym, ap, ◌∙◌, subst, inl, inr}
 use Rattle.std.specs.Prelude.{IfOk}
 use Rattle.station_graph.specs.Diagram.{Diagram}
 use Rattle.station_graph.specs.Connection.{Item}
@@ -33,19 +34,24 @@ if_ok (Ok x) P Q on h = on x h
 if_ok (Err e) P Q on h = tt
 
 -- a value more in the index
-pub index_more : {S : Type 0} (view : View) (values : List Answers) (x : Answers) (old new : HashMap (List ℕ) ℕ S) (row : List ℕ) → IsRowIndex view values old → row ≡ seen_row view x → Updates bytes_eq old new row (Some (length values)) → IsRowIndex view (values ++ x ∷ []) new
+pub index_more : {S : Type 0} (view : View) (values : List Answers) (x : Answers) (old new : HashMap (List ℕ) ℕ S)
+    (row : List ℕ) → IsRowIndex view values old → row ≡ seen_row view x →
+    Updates bytes_eq old new row (Some (length values)) → IsRowIndex view (values ++ x ∷ []) new
 index_more view values x old new row index is updates = record {
   found = λ q i e. found q i (bytes_eq row q) refl (sym (updates.0 q) ∙ e);
   missing = λ q e i y at same. missing q (bytes_eq row q) refl (sym (updates.0 q) ∙ e) i y at same;
 }
   where
-    found : (q : List ℕ) (i : ℕ) (b : Bool) → bytes_eq row q ≡ b → cond b (Some (length values)) (get bytes_eq old q) ≡ Some i → (y : Answers) × (slice_get (values ++ x ∷ []) i ≡ Some y) × (q ≡ seen_row view y)
+    found : (q : List ℕ) (i : ℕ) (b : Bool) → bytes_eq row q ≡ b →
+        cond b (Some (length values)) (get bytes_eq old q) ≡ Some i →
+        (y : Answers) × (slice_get (values ++ x ∷ []) i ≡ Some y) × (q ≡ seen_row view y)
     found q i true same e =
         let at : length values ≡ i = cc in
         (x, ap (slice_get (values ++ x ∷ [])) (sym at) ∙ get_last values x, sym ((bytes_eq-Decides row q).0 same) ∙ is)
     found q i false same e = let h = index.found q i e in (h.0, get_front values (x ∷ []) i h.0 h.1, h.2)
 
-    missing : (q : List ℕ) (b : Bool) → bytes_eq row q ≡ b → cond b (Some (length values)) (get bytes_eq old q) ≡ None → (i : ℕ) (y : Answers) → slice_get (values ++ x ∷ []) i ≡ Some y → q ≡ seen_row view y → ⊥
+    missing : (q : List ℕ) (b : Bool) → bytes_eq row q ≡ b → cond b (Some (length values)) (get bytes_eq old q) ≡ None →
+        (i : ℕ) (y : Answers) → slice_get (values ++ x ∷ []) i ≡ Some y → q ≡ seen_row view y → ⊥
     missing q true same e i y at is_y = cc
     missing q false same e i y at is_y = elim (slice_get-push values x y i at) [
       | inl before ↦ index.missing q e i y before is_y
@@ -64,7 +70,8 @@ and_three false true false e = cc
 and_three false false true e = cc
 and_three false false false e = cc
 
-was_made_so : (view : View) (values : List Answers) (keeps : List (List ℕ)) (k q : Made) (t : ℕ) → same_made k q ≡ true → WasMade view values keeps k t → WasMade view values keeps q t
+was_made_so : (view : View) (values : List Answers) (keeps : List (List ℕ)) (k q : Made) (t : ℕ) →
+    same_made k q ≡ true → WasMade view values keeps k t → WasMade view values keeps q t
 was_made_so view values keeps k q t same w =
     let e = and_three (nat_eq k.first q.first) (nat_eq k.second q.second) (nat_eq k.keep q.keep) same in
     let e1 : k.first ≡ q.first = (Decides-eqb k.first q.first).0 e.0 in
@@ -81,26 +88,49 @@ was_made_so view values keeps k q t same w =
     }
 
 -- a note more
-pub notes_more : {S : Type 0} (view : View) (values : List Answers) (keeps : List (List ℕ)) (old new : HashMap Made ℕ S) (key : Made) (place : ℕ) → NotesAreRight view values keeps old → WasMade view values keeps key place → Updates same_made old new key (Some place) → NotesAreRight view values keeps new
-notes_more view values keeps old new key place right made updates k t e = by_key (same_made key k) refl (sym (updates.0 k) ∙ e)
+pub notes_more : {S : Type 0} (view : View) (values : List Answers) (keeps : List (List ℕ)) (old new : HashMap Made ℕ S)
+    (key : Made) (place : ℕ) → NotesAreRight view values keeps old → WasMade view values keeps key place →
+    Updates same_made old new key (Some place) → NotesAreRight view values keeps new
+notes_more view values keeps old new key place right made updates k t e =
+    by_key (same_made key k) refl (sym (updates.0 k) ∙ e)
   where
-    by_key : (b : Bool) → same_made key k ≡ b → cond b (Some place) (get same_made old k) ≡ Some t → WasMade view values keeps k t
-    by_key true same is = let at : place ≡ t = cc in subst (λ u. WasMade view values keeps k u) at (was_made_so view values keeps key k place same made)
+    by_key : (b : Bool) → same_made key k ≡ b → cond b (Some place) (get same_made old k) ≡ Some t →
+        WasMade view values keeps k t
+    by_key true same is =
+        let at : place ≡ t = cc in
+        subst (λ u. WasMade view values keeps k u) at (was_made_so view values keeps key k place same made)
     by_key false same is = right k t is
 
 -- and where lists of nodes come
-pub notes_keep : {S : Type 0} (view : View) (values : List Answers) (keeps keeps' : List (List ℕ)) (m : HashMap Made ℕ S) → Extends keeps keeps' → NotesAreRight view values keeps m → NotesAreRight view values keeps' m
+pub notes_keep : {S : Type 0} (view : View) (values : List Answers) (keeps keeps' : List (List ℕ))
+    (m : HashMap Made ℕ S) → Extends keeps keeps' → NotesAreRight view values keeps m →
+    NotesAreRight view values keeps' m
 notes_keep view values keeps keeps' m more right k t e =
     let w = right k t e in
-    record { x = w.x; y = w.y; keep = w.keep; first = w.first; second = w.second; nodes = more k.keep w.keep w.nodes; made = w.made }
+    record {
+      x = w.x;
+      y = w.y;
+      keep = w.keep;
+      first = w.first;
+      second = w.second;
+      nodes = more k.keep w.keep w.nodes;
+      made = w.made;
+    }
 
 -- a view of a value that keep_only gives
-pub kept_view : (view : View) (x value : Answers) → ((items : List Item) (d : Diagram) (v : List Bool) → GapStandsFor (Among items) d v x → GapStandsFor (Among items) d v value) → ((items : List Item) (d : Diagram) (v : List Bool) → LoadStandsFor (Among items) d v x → LoadStandsFor (Among items) d v value) → (items : List Item) (d : Diagram) (v : List Bool) → SeenFor view (Among items) d v x → SeenFor view (Among items) d v value
+pub kept_view : (view : View) (x value : Answers) →
+    ((items : List Item) (d : Diagram) (v : List Bool) → GapStandsFor (Among items) d v x →
+    GapStandsFor (Among items) d v value) →
+    ((items : List Item) (d : Diagram) (v : List Bool) → LoadStandsFor (Among items) d v x →
+    LoadStandsFor (Among items) d v value) → (items : List Item) (d : Diagram) (v : List Bool) →
+    SeenFor view (Among items) d v x → SeenFor view (Among items) d v value
 kept_view Gap x value gap load items d v s = gap items d v s
 kept_view Load x value gap load items d v s = load items d v s
 
 -- notes stay right where values come
-pub notes_stay : {S : Type 0} (view : View) (values values' : List Answers) (keeps : List (List ℕ)) (m : HashMap Made ℕ S) → Extends values values' → NotesAreRight view values keeps m → NotesAreRight view values' keeps m
+pub notes_stay : {S : Type 0} (view : View) (values values' : List Answers) (keeps : List (List ℕ))
+    (m : HashMap Made ℕ S) → Extends values values' → NotesAreRight view values keeps m →
+    NotesAreRight view values' keeps m
 notes_stay view values values' keeps m more right k t e =
     let w = right k t e in
     record {
@@ -110,7 +140,12 @@ notes_stay view values values' keeps m more right k t e =
       first = more k.first w.x w.first;
       second = more k.second w.y w.second;
       nodes = w.nodes;
-      made = record { value = w.made.value; listed = more t w.made.value w.made.listed; composes = w.made.composes; kept = w.made.kept };
+      made = record {
+        value = w.made.value;
+        listed = more t w.made.value w.made.listed;
+        composes = w.made.composes;
+        kept = w.made.kept;
+      };
     }
 
 -- ---- a new value
@@ -121,13 +156,19 @@ same_back Load x y wx wy h = (load_rows y x wy wx).0 (sym ((load_rows x y wx wy)
 
 module _ (view : View) (values : List Answers) (x : Answers) (well : AreWell values) (well_x : IsContraction x) where
   pub well_more : AreWell (values ++ x ∷ [])
-  well_more t r at = elim (slice_get-push values x r t at) [ inl before ↦ well t r before | inr here ↦ subst IsContraction here.1 well_x ]
+  well_more t r at = elim (slice_get-push values x r t at) [
+    | inl before ↦ well t r before
+    | inr here ↦ subst IsContraction here.1 well_x
+  ]
 
-  pub apart_more : AreApart view values → ((i : ℕ) (y : Answers) → slice_get values i ≡ Some y → SameSeen view x y → ⊥) → AreApart view (values ++ x ∷ [])
+  pub apart_more : AreApart view values →
+      ((i : ℕ) (y : Answers) → slice_get values i ≡ Some y → SameSeen view x y → ⊥) → AreApart view (values ++ x ∷ [])
   apart_more apart new t u y z at_t at_u same = elim (slice_get-push values x y t at_t) [
     | inl t_before ↦ elim (slice_get-push values x z u at_u) [
       | inl u_before ↦ apart t u y z t_before u_before same
-      | inr u_here ↦ absurd (new t y t_before (same_back view y x (well t y t_before) well_x (subst (λ w. SameSeen view y w) (sym u_here.1) same)))
+      | inr u_here ↦
+          absurd (new t y t_before
+          (same_back view y x (well t y t_before) well_x (subst (λ w. SameSeen view y w) (sym u_here.1) same)))
     ]
     | inr t_here ↦ elim (slice_get-push values x z u at_u) [
       | inl u_before ↦ absurd (new u z u_before (subst (λ w. SameSeen view w z) (sym t_here.1) same))
@@ -141,7 +182,9 @@ kept_same : (view : View) (x y : Answers) → SameSeen view x y → x.kept ≡ y
 kept_same Gap x y h = h.kept
 kept_same Load x y h = h.kept
 
-pub made_same : (p : Pool) (x y value : Answers) (keep : List ℕ) (t : ℕ) → HasSame p value t → ComposesIn p.view x y value → ((n : ℕ) → Keeps value.kept n ↔ Contains keep n) → IsMade p.view x y keep p.values.items t
+pub made_same : (p : Pool) (x y value : Answers) (keep : List ℕ) (t : ℕ) → HasSame p value t →
+    ComposesIn p.view x y value → ((n : ℕ) → Keeps value.kept n ↔ Contains keep n) →
+    IsMade p.view x y keep p.values.items t
 made_same p x y value keep t h composes kept = record {
   value = h.same;
   listed = h.listed;
@@ -150,23 +193,30 @@ made_same p x y value keep t h composes kept = record {
 }
 
 -- values with one row have one view
-pub rows_tell : (view : View) (x y : Answers) → IsContraction x → IsContraction y → seen_row view x ≡ seen_row view y → SameSeen view x y
+pub rows_tell : (view : View) (x y : Answers) → IsContraction x → IsContraction y → seen_row view x ≡ seen_row view y →
+    SameSeen view x y
 rows_tell Gap x y wx wy same = (gap_rows x y wx wy).0 same
 rows_tell Load x y wx wy same = (load_rows x y wx wy).0 same
 
 -- ---- nothing yet
 
-pub index_none : {S : Type 0} (view : View) (values : List Answers) (m : HashMap (List ℕ) ℕ S) → values ≡ [] → m.entries ≡ [] → IsRowIndex view values m
+pub index_none : {S : Type 0} (view : View) (values : List Answers) (m : HashMap (List ℕ) ℕ S) → values ≡ [] →
+    m.entries ≡ [] → IsRowIndex view values m
 index_none view values m ev em = record {
   found = λ row i e. absurd (let h = rw em at e in cc);
-  missing = λ row e i x at same. absurd (let h : slice_get {X = Answers} [] i ≡ Some x = ap (λ vs. slice_get vs i) (sym ev) ∙ at in cc);
+  missing =
+      λ row e i x at same. absurd
+      (let h : slice_get {X = Answers} [] i ≡ Some x = ap (λ vs. slice_get vs i) (sym ev) ∙ at in cc);
 }
 
-pub notes_none : {S : Type 0} (view : View) (values : List Answers) (keeps : List (List ℕ)) (m : HashMap Made ℕ S) → m.entries ≡ [] → NotesAreRight view values keeps m
+pub notes_none : {S : Type 0} (view : View) (values : List Answers) (keeps : List (List ℕ)) (m : HashMap Made ℕ S) →
+    m.entries ≡ [] → NotesAreRight view values keeps m
 notes_none view values keeps m em k t e = absurd (let h = rw em at e in cc)
 
 pub apart_none : (view : View) (values : List Answers) → values ≡ [] → AreApart view values
-apart_none view values ev t u x y at_t at_u same = absurd (let h : slice_get {X = Answers} [] t ≡ Some x = ap (λ vs. slice_get vs t) (sym ev) ∙ at_t in cc)
+apart_none view values ev t u x y at_t at_u same =
+    absurd (let h : slice_get {X = Answers} [] t ≡ Some x = ap (λ vs. slice_get vs t) (sym ev) ∙ at_t in cc)
 
 pub well_none : (values : List Answers) → values ≡ [] → AreWell values
-well_none values ev t r at = absurd (let h : slice_get {X = Answers} [] t ≡ Some r = ap (λ vs. slice_get vs t) (sym ev) ∙ at in cc)
+well_none values ev t r at =
+    absurd (let h : slice_get {X = Answers} [] t ≡ Some r = ap (λ vs. slice_get vs t) (sym ev) ∙ at in cc)

@@ -12,23 +12,29 @@ use Rattle.release_compile.specs.Reaches.{IsReachOf, AreReaches, AreVerdictsOf, 
 pub reaches_none : (j : Judging) (words : List Dbpos) → AreReaches j words [] 0
 reaches_none j words = record { len = refl; each = λ b r at. cc }
 
-pub reaches_more : (j : Judging) (words : List Dbpos) (list : List (Option Reached)) (n : ℕ) (r : Option Reached) → AreReaches j words list n → IsReachOf j words n r → AreReaches j words (list ++ r ∷ []) (n + 1)
+pub reaches_more : (j : Judging) (words : List Dbpos) (list : List (Option Reached)) (n : ℕ) (r : Option Reached) →
+    AreReaches j words list n → IsReachOf j words n r → AreReaches j words (list ++ r ∷ []) (n + 1)
 reaches_more j words list n r are new = record {
   len = omega (arith, length_push list r, are.len);
   each = λ b s at. elim (slice_get-push list r s b at) [
     | inl before ↦ are.each b s before
-    | inr here ↦ (let e : n ≡ b = sym (here.0 ∙ are.len) in subst (λ x. IsReachOf j words b x) here.1 (subst (λ k. IsReachOf j words k r) e new))
+    | inr here ↦
+        (let e : n ≡ b = sym (here.0 ∙ are.len) in
+        subst (λ x. IsReachOf j words b x) here.1 (subst (λ k. IsReachOf j words k r) e new))
   ];
 }
 
 pub verdicts_none : (d : Diagram) (words : List Dbpos) → AreVerdicts d words [] 0
 verdicts_none d words = record { len = refl; each = λ i s at. cc }
 
-pub verdicts_more : (d : Diagram) (words : List Dbpos) (list : List SwitchVerdicts) (n : ℕ) (v : SwitchVerdicts) → AreVerdicts d words list n → AreVerdictsOf d words n v → AreVerdicts d words (list ++ v ∷ []) (n + 1)
+pub verdicts_more : (d : Diagram) (words : List Dbpos) (list : List SwitchVerdicts) (n : ℕ) (v : SwitchVerdicts) →
+    AreVerdicts d words list n → AreVerdictsOf d words n v → AreVerdicts d words (list ++ v ∷ []) (n + 1)
 verdicts_more d words list n v are new = record {
   len = omega (arith, length_push list v, are.len);
   each = λ i s at. elim (slice_get-push list v s i at) [
     | inl before ↦ are.each i s before
-    | inr here ↦ (let e : n ≡ i = sym (here.0 ∙ are.len) in subst (λ x. AreVerdictsOf d words i x) here.1 (subst (λ k. AreVerdictsOf d words k v) e new))
+    | inr here ↦
+        (let e : n ≡ i = sym (here.0 ∙ are.len) in
+        subst (λ x. AreVerdictsOf d words i x) here.1 (subst (λ k. AreVerdictsOf d words k v) e new))
   ];
 }

@@ -14,11 +14,13 @@ element : {X : Type 0} (xs : List X) (i : ℕ) → i < length xs → (x : X) × 
 element xs i h = elim ((slice_get_cases xs i).1) [ inl w ↦ (w.0, w.2) | inr w ↦ absurd (omega (arith, w.0)) ]
 
 -- the edge of a state and a choice
-module _ (view : View) (keep : List ℕ) (states letters next : List Answers) (edges : List ℕ) (s : IsStep view keep states letters next edges) where
+module _ (view : View) (keep : List ℕ) (states letters next : List Answers) (edges : List ℕ)
+    (s : IsStep view keep states letters next edges) where
   edge_in : (k c : ℕ) → k < length states → c < length letters → k * length letters + c < length edges
   edge_in k c k_in c_in = omega (arith, s.len, row_end (length letters) (length states) k c k_in c_in)
 
-  pub carried_at : (k c : ℕ) (x y : Answers) → slice_get states k ≡ Some x → slice_get letters c ≡ Some y → Carried view x y next (get_or edges (k * length letters + c) 0)
+  pub carried_at : (k c : ℕ) (x y : Answers) → slice_get states k ≡ Some x → slice_get letters c ≡ Some y →
+      Carried view x y next (get_or edges (k * length letters + c) 0)
   carried_at k c x y at_k at_c =
       let k_in = slice_get_within states k x at_k in
       let c_in = slice_get_within letters c y at_c in
@@ -26,11 +28,14 @@ module _ (view : View) (keep : List ℕ) (states letters next : List Answers) (e
       (ap (slice_get states) (div-mul-add k (length letters) c c_in) ∙ at_k)
       (ap (slice_get letters) (mod-mul-add k (length letters) c c_in) ∙ at_c)
 
-  pub layer_fits : 0 < length states → 0 < length letters → LayerFits (length next) (layer_with (length letters) (length states) edges)
+  pub layer_fits : 0 < length states → 0 < length letters →
+      LayerFits (length next) (layer_with (length letters) (length states) edges)
   layer_fits some_state some_letter = record {
     choices = some_letter;
     nodes = omega (arith, length-rows_of (length letters) (length states) edges);
-    rows = λ k k_in. length-row (length letters) (length states) edges k (omega (arith, k_in, length-rows_of (length letters) (length states) edges)) (omega (arith, s.len));
+    rows =
+        λ k k_in. length-row (length letters) (length states) edges k
+        (omega (arith, k_in, length-rows_of (length letters) (length states) edges)) (omega (arith, s.len));
     edges = λ k c k_in c_in.
         let k_st : k < length states = omega (arith, k_in, length-rows_of (length letters) (length states) edges) in
         let x = element states k k_st in

@@ -1,5 +1,7 @@
 -- THE VERDICT: what the four graphs say of a vector, and so of all vectors that are allowed.
-use Rattle.std.proofs.Common.{◌≡◌, ◌≢◌, ℕ, ◌+◌, ◌-◌, ◌<◌, ◌≤◌, ◌⊎◌, zero, suc, Bool, true, false, eqb, ltb, List, [], ◌∷◌, length, drop, get_or, slice_get, Some, None, refl, sym, ap, ◌∙◌, subst, inl, inr, arith}
+use Rattle.std.proofs.Common.{◌≡◌, ◌≢◌, ℕ, ◌+◌, ◌-◌, ◌<◌, ◌≤◌, ◌⊎◌, zero, suc, Bool, true, false, eqb, ltb, List, []}
+use Rattle.std.proofs.Common.{◌∷◌, length, drop, get_or, slice_get, Some, None, refl, sym, ap, ◌∙◌, subst, inl, inr}
+use Rattle.std.proofs.Common.{arith}
 use Rattle.std.specs.Prelude.{if◌then◌else◌}
 use borrow.Author.Tests.{ltb-true, lt-ltb}
 use Rattle.std.proofs.lemmas.Bool.{cases_lt, cases_eq, false≢true, ne_eqb}
@@ -25,19 +27,23 @@ use Rattle.release_compile.specs.declared.view.View.TheVariants.{Gap, Load}
 use Rattle.release_compile.specs.declared.search.Side.{Side}
 use Rattle.release_compile.specs.Folding.{AreChosen}
 use Rattle.release_compile.specs.Chaining.{LeadThrough, NoneLeadsTo, IsChainOf, GapFree, IsFound}
-use Rattle.release_compile.specs.Graphs.{other_of, PartChosen, SwitchChosen, gap_rule, Says, Within, IsOwn, IsSide, GivesChoices}
+use Rattle.release_compile.specs.Graphs.{other_of, PartChosen, SwitchChosen, gap_rule, Says, Within, IsOwn, IsSide}
+use Rattle.release_compile.specs.Graphs.{GivesChoices}
 
 -- ---- lists of allowed choices
 
 -- one allowed choice for each set, as a list
-pick : (P : ℕ → ℕ → Type 0) (sets : List (List Bool)) → ((j : ℕ) → j < length sets → (c : ℕ) × P j c × IsSet (set_at sets j) c) → (cs : List ℕ) × (length cs ≡ length sets) × ((i c : ℕ) → slice_get cs i ≡ Some c → P i c) × AreAllowed sets cs
+pick : (P : ℕ → ℕ → Type 0) (sets : List (List Bool)) →
+    ((j : ℕ) → j < length sets → (c : ℕ) × P j c × IsSet (set_at sets j) c) →
+    (cs : List ℕ) × (length cs ≡ length sets) × ((i c : ℕ) → slice_get cs i ≡ Some c → P i c) × AreAllowed sets cs
 pick P [] h = ([], refl, λ i c e. absurd (cc), tt)
 pick P (s ∷ ss) h =
     let x = h 0 (omega arith) in
     let r = pick (λ j. P (suc j)) ss (λ j lt. h (suc j) (omega arith)) in
     (x.0 ∷ r.0, ap suc r.1, entries x.0 r.0 x.1 r.2, (x.2, r.3))
   where
-    entries : (y : ℕ) (cs : List ℕ) → P 0 y → ((i c : ℕ) → slice_get cs i ≡ Some c → P (suc i) c) → (i c : ℕ) → slice_get (y ∷ cs) i ≡ Some c → P i c
+    entries : (y : ℕ) (cs : List ℕ) → P 0 y → ((i c : ℕ) → slice_get cs i ≡ Some c → P (suc i) c) → (i c : ℕ) →
+        slice_get (y ∷ cs) i ≡ Some c → P i c
     entries y cs p q zero c e = subst (λ z. P 0 z) (same_Some y c e) p
     entries y cs p q (suc i) c e = q i c e
 
@@ -60,18 +66,25 @@ length_after n (s ∷ ss) e = omega (arith, e)
 
 -- ---- the other switches of the bay
 
-pub other_cases : (first m i : ℕ) → ((first + i < m) × (other_of first m i ≡ first + i)) ⊎ ((m ≤ first + i) × (other_of first m i ≡ suc (first + i)))
+pub other_cases : (first m i : ℕ) →
+    ((first + i < m) × (other_of first m i ≡ first + i)) ⊎ ((m ≤ first + i) × (other_of first m i ≡ suc (first + i)))
 other_cases first m i = by (ltb (first + i) m) refl
   where
-    by : (t : Bool) → ltb (first + i) m ≡ t → ((first + i < m) × (other_of first m i ≡ first + i)) ⊎ ((m ≤ first + i) × (other_of first m i ≡ suc (first + i)))
+    by : (t : Bool) → ltb (first + i) m ≡ t →
+        ((first + i < m) × (other_of first m i ≡ first + i))
+        ⊎ ((m ≤ first + i) × (other_of first m i ≡ suc (first + i)))
     by true e = inl (ltb-true (first + i) m e, ap (λ t. if t then first + i else suc (first + i)) e)
     by false e = inr (
-      elim (cases_lt (first + i) m) [ inl less ↦ absurd (false≢true (sym e ∙ lt-ltb (first + i) m less)) | inr more ↦ more ],
+      elim (cases_lt (first + i) m) [
+        | inl less ↦ absurd (false≢true (sym e ∙ lt-ltb (first + i) m less))
+        | inr more ↦ more
+      ],
       ap (λ t. if t then first + i else suc (first + i)) e,
     )
 
 -- it is one of the bay's
-pub other_in : (first m others i : ℕ) → i < others → (first ≤ other_of first m i) × (other_of first m i < first + suc others)
+pub other_in : (first m others i : ℕ) → i < others →
+    (first ≤ other_of first m i) × (other_of first m i < first + suc others)
 other_in first m others i lt = elim (other_cases first m i) [
   | inl below ↦ (omega (arith, below.1), omega (arith, below.1, lt))
   | inr above ↦ (omega (arith, above.1), omega (arith, above.1, lt))
@@ -97,16 +110,20 @@ element xs i h = elim ((slice_get_cases xs i).1) [ inl w ↦ (w.0, w.2) | inr w 
 
 -- ---- one view
 
-module _ (view : View) (a : Lettered) (b m first others : ℕ) (words : List Dbpos) (sets : List (List Bool)) (s : Side) (is_own : IsOwn a.diagram b m first others) (side : IsSide view a b m first others words sets s) where
+module _ (view : View) (a : Lettered) (b m first others : ℕ) (words : List Dbpos) (sets : List (List Bool)) (s : Side)
+    (is_own : IsOwn a.diagram b m first others) (side : IsSide view a b m first others words sets s) where
   sets_count : suc (length sets) ≡ part_count a.diagram
   sets_count = omega (arith, length_sets s.outer.now.layers sets side.ready.fits, side.outer_is.count)
 
   own_count : length (drop 1 s.inner_sets) ≡ others
-  own_count = length_after others s.inner_sets (length_sets s.inner.now.layers s.inner_sets side.ready.inner_fits ∙ side.inner_is.count)
+  own_count =
+      length_after others s.inner_sets
+      (length_sets s.inner.now.layers s.inner_sets side.ready.inner_fits ∙ side.inner_is.count)
 
   module _ (v : List Bool) (within : Within a b words sets v) where
     -- the position of an other switch, as an allowed choice
-    own_choice : (i : ℕ) → i < length (drop 1 s.inner_sets) → (c : ℕ) × SwitchChosen first m i c v × IsSet (set_at (drop 1 s.inner_sets) i) c
+    own_choice : (i : ℕ) → i < length (drop 1 s.inner_sets) →
+        (c : ℕ) × SwitchChosen first m i c v × IsSet (set_at (drop 1 s.inner_sets) i) c
     own_choice i lt =
         let i_in : i < others = omega (arith, lt, own_count) in
         let o = other_of first m i in
@@ -117,31 +134,49 @@ module _ (view : View) (a : Lettered) (b m first others : ℕ) (words : List Dbp
         let at_v : slice_get v o ≡ Some closed = slice_get-get_or v o false o_in in
         let x = element a.diagram.switches o in_d in
         let of_b : OfPart a.diagram b (a_switch o) = (x.0, x.1, (is_own.those.those o x.0 x.1).1 range) in
-        let agrees : (word : Dbpos) → slice_get words o ≡ Some word → Agrees word (eqb (code closed) 1) = λ word at_w. subst (λ t. Agrees word t) (sym (code_back closed)) (within.own o word closed of_b at_w at_v) in
-        (code closed, record { small = code_small closed; stands = at_v ∙ ap Some (sym (code_back closed)) }, subst (λ t. IsSet t (code closed)) (sym (set_after s.inner_sets i)) ((side.own i (code closed) i_in (code_small closed)).1 agrees))
+        let agrees : (word : Dbpos) → slice_get words o ≡ Some word → Agrees word (eqb (code closed) 1) =
+        λ word at_w. subst (λ t. Agrees word t) (sym (code_back closed)) (within.own o word closed of_b at_w at_v) in (
+          code closed,
+          record { small = code_small closed; stands = at_v ∙ ap Some (sym (code_back closed)) },
+          subst (λ t. IsSet t (code closed)) (sym (set_after s.inner_sets i))
+              ((side.own i (code closed) i_in (code_small closed)).1 agrees),
+        )
 
-    outer_choices : (cs : List ℕ) × (length cs ≡ length sets) × ((i c : ℕ) → slice_get cs i ≡ Some c → PartChosen a b i c v) × AreAllowed sets cs
+    outer_choices : (cs : List ℕ) × (length cs ≡ length sets)
+        × ((i c : ℕ) → slice_get cs i ≡ Some c → PartChosen a b i c v) × AreAllowed sets cs
     outer_choices = pick (λ j c. PartChosen a b j c v) sets (λ j lt. within.others j (omega (arith, lt, sets_count)))
 
-    own_choices : (ds : List ℕ) × (length ds ≡ length (drop 1 s.inner_sets)) × ((i c : ℕ) → slice_get ds i ≡ Some c → SwitchChosen first m i c v) × AreAllowed (drop 1 s.inner_sets) ds
+    own_choices : (ds : List ℕ) × (length ds ≡ length (drop 1 s.inner_sets))
+        × ((i c : ℕ) → slice_get ds i ≡ Some c → SwitchChosen first m i c v) × AreAllowed (drop 1 s.inner_sets) ds
     own_choices = pick (λ i c. SwitchChosen first m i c v) (drop 1 s.inner_sets) own_choice
 
     -- allowed choices lead to a label that says what holds in the vector
-    pub says_within : (label : ℕ) × (cs ds : List ℕ) × LeadThrough s.outer.now s.inner.now sets s.inner_sets label cs ds × Says view a.diagram m v label
+    pub says_within : (label : ℕ) × (cs ds : List ℕ) × LeadThrough s.outer.now s.inner.now sets s.inner_sets label cs ds
+        × Says view a.diagram m v label
     says_within =
         let o = outer_choices in
         let w = own_choices in
-        let named = side.outer_is.named v o.0 within.whole (o.1 ∙ length_sets s.outer.now.layers sets side.ready.fits) o.2 in
-        let says = side.inner_is.says v (label_of s.outer.now o.0) w.0 within.whole named (w.1 ∙ own_count) w.2 in
-        (label_of s.inner.now (label_of s.outer.now o.0 ∷ w.0), o.0, w.0, record { outer_allows = o.3; inner_allows = w.3; led = refl }, says)
+        let named = side.outer_is.named v o.0 within.whole (o.1 ∙ length_sets s.outer.now.layers sets side.ready.fits)
+        o.2 in
+        let says = side.inner_is.says v (label_of s.outer.now o.0) w.0 within.whole named (w.1 ∙ own_count) w.2 in (
+          label_of s.inner.now (label_of s.outer.now o.0 ∷ w.0),
+          o.0,
+          w.0,
+          record { outer_allows = o.3; inner_allows = w.3; led = refl },
+          says,
+        )
 
   -- a label that is led to says what holds in each vector that gives these choices
-  pub says_chain : (goal : ℕ) (cs all : List ℕ) → IsChainOf s sets goal cs all → (v : List Bool) → IsVector a.diagram v → AreChosen (PartChosen a b) v cs → AreChosen (SwitchChosen first m) v (drop 1 all) → Says view a.diagram m v goal
+  pub says_chain : (goal : ℕ) (cs all : List ℕ) → IsChainOf s sets goal cs all → (v : List Bool) →
+      IsVector a.diagram v → AreChosen (PartChosen a b) v cs → AreChosen (SwitchChosen first m) v (drop 1 all) →
+      Says view a.diagram m v goal
   says_chain goal cs all c v whole chosen own =
       let len = allowed_length sets cs c.leads.outer_allows ∙ length_sets s.outer.now.layers sets side.ready.fits in
       let named = side.outer_is.named v cs whole len chosen in
       let rest : drop 1 all ≡ c.rest = ap (drop 1) c.split in
-      let says = side.inner_is.says v (label_of s.outer.now cs) c.rest whole named (allowed_length (drop 1 s.inner_sets) c.rest c.leads.inner_allows ∙ own_count) (subst (λ ds. AreChosen (SwitchChosen first m) v ds) rest own) in
+      let says = side.inner_is.says v (label_of s.outer.now cs) c.rest whole named
+      (allowed_length (drop 1 s.inner_sets) c.rest c.leads.inner_allows ∙ own_count)
+      (subst (λ ds. AreChosen (SwitchChosen first m) v ds) rest own) in
       subst (λ l. Says view a.diagram m v l) c.leads.led says
 
 -- ---- both views
@@ -156,7 +191,9 @@ opening_free d v op opens = (
   λ h. elim h [ inl k ↦ absurd (let e = k.closes in cc) | inr k ↦ absurd (let e = k.closes in cc) ],
 )
 
-module _ (a : Lettered) (b m first others : ℕ) (words : List Dbpos) (sets : List (List Bool)) (gap load : Side) (is_own : IsOwn a.diagram b m first others) (gap_side : IsSide Gap a b m first others words sets gap) (load_side : IsSide Load a b m first others words sets load) (op : Op) (moves : op.switch.0 ≡ m) where
+module _ (a : Lettered) (b m first others : ℕ) (words : List Dbpos) (sets : List (List Bool)) (gap load : Side)
+    (is_own : IsOwn a.diagram b m first others) (gap_side : IsSide Gap a b m first others words sets gap)
+    (load_side : IsSide Load a b m first others words sets load) (op : Op) (moves : op.switch.0 ≡ m) where
   gap_free : GapFree op.direction gap sets → (v : List Bool) → Within a b words sets v → GapBreaks a.diagram v op None
   gap_free free v within = by op.direction refl where
     by : (direction : Direction) → op.direction ≡ direction → GapBreaks a.diagram v op None
@@ -166,25 +203,39 @@ module _ (a : Lettered) (b m first others : ℕ) (words : List Dbpos) (sets : Li
         let w = says_within Gap a b m first others words sets gap is_own gap_side v within in
         let label = w.0 in
         let leads = w.3 in
-        let not_one : label ≢ 1 = λ is. none.0 w.1 w.2 (subst (λ l. LeadThrough gap.outer.now gap.inner.now sets gap.inner_sets l w.1 w.2) is leads) in
-        let not_two : label ≢ 2 = λ is. none.1 w.1 w.2 (subst (λ l. LeadThrough gap.outer.now gap.inner.now sets gap.inner_sets l w.1 w.2) is leads) in
+        let not_one : label ≢ 1 =
+        λ is. none.0 w.1 w.2
+        (subst (λ l. LeadThrough gap.outer.now gap.inner.now sets gap.inner_sets l w.1 w.2) is leads) in
+        let not_two : label ≢ 2 =
+        λ is. none.1 w.1 w.2
+        (subst (λ l. LeadThrough gap.outer.now gap.inner.now sets gap.inner_sets l w.1 w.2) is leads) in
         subst (λ r. GapBreaks a.diagram v op r) (gap_none label not_one not_two) (w.4 op moves e)
 
   -- RELEASED: no rule is broken in any allowed vector
-  pub released : GapFree op.direction gap sets → NoneLeadsTo load sets 1 → (v : List Bool) → Within a b words sets v → Breaks a.diagram v op None
+  pub released : GapFree op.direction gap sets → NoneLeadsTo load sets 1 → (v : List Bool) → Within a b words sets v →
+      Breaks a.diagram v op None
   released free none v within =
       let g = gap_free free v within in
       let w = says_within Load a b m first others words sets load is_own load_side v within in
-      let not_one : w.0 ≢ 1 = λ is. none w.1 w.2 (subst (λ l. LeadThrough load.outer.now load.inner.now sets load.inner_sets l w.1 w.2) is w.3) in
+      let not_one : w.0 ≢ 1 =
+      λ is. none w.1 w.2
+      (subst (λ l. LeadThrough load.outer.now load.inner.now sets load.inner_sets l w.1 w.2) is w.3) in
       (g.0, g.1, λ h. not_one ((w.4 op moves).1 h))
 
   -- DENIED: the rule is what is broken in each allowed vector that gives the choices that were found
-  pub denied : (rule : Rule) (cs all : List ℕ) → IsFound op.direction gap load sets rule cs all → (v : List Bool) → Within a b words sets v → AreChosen (PartChosen a b) v cs → AreChosen (SwitchChosen first m) v (drop 1 all) → Breaks a.diagram v op (Some rule)
-  denied R1 cs all found v within chosen own = says_chain Gap a b m first others words sets gap is_own gap_side 1 cs all found.1 v within.whole chosen own op moves found.0
-  denied R2 cs all found v within chosen own = says_chain Gap a b m first others words sets gap is_own gap_side 2 cs all found.1 v within.whole chosen own op moves found.0
+  pub denied : (rule : Rule) (cs all : List ℕ) → IsFound op.direction gap load sets rule cs all → (v : List Bool) →
+      Within a b words sets v → AreChosen (PartChosen a b) v cs → AreChosen (SwitchChosen first m) v (drop 1 all) →
+      Breaks a.diagram v op (Some rule)
+  denied R1 cs all found v within chosen own =
+      says_chain Gap a b m first others words sets gap is_own gap_side 1 cs all found.1 v within.whole chosen own
+      op moves found.0
+  denied R2 cs all found v within chosen own =
+      says_chain Gap a b m first others words sets gap is_own gap_side 2 cs all found.1 v within.whole chosen own
+      op moves found.0
   denied R3 cs all found v within chosen own =
       let g = gap_free found.0 v within in
-      let says = says_chain Load a b m first others words sets load is_own load_side 1 cs all found.1 v within.whole chosen own op moves in
+      let says = says_chain Load a b m first others words sets load is_own load_side 1 cs all found.1 v within.whole
+      chosen own op moves in
       (g.0, g.1, says.0 refl)
 
 -- ---- a vector that gives allowed choices is allowed
@@ -194,7 +245,8 @@ set_in [] c h = absurd (false≢true h)
 set_in (x ∷ s) zero h = omega arith
 set_in (x ∷ s) (suc c) h = omega (arith, set_in s c h)
 
-pub sets_at : (ls : List Layer) (sets : List (List Bool)) (i : ℕ) → AreSetsOf ls sets → length (set_at sets i) ≡ (layer_at ls i).choices
+pub sets_at : (ls : List Layer) (sets : List (List Bool)) (i : ℕ) → AreSetsOf ls sets →
+    length (set_at sets i) ≡ (layer_at ls i).choices
 sets_at [] [] i e = refl
 sets_at [] (s ∷ ss) i e = absurd (cc)
 sets_at (l ∷ ls) [] i e = absurd (cc)
@@ -202,7 +254,8 @@ sets_at (l ∷ ls) (s ∷ ss) zero e = cc
 sets_at (l ∷ ls) (s ∷ ss) (suc i) e = sets_at ls ss i (cc)
 
 -- an allowed choice of a list
-pub allowed_at : (sets : List (List Bool)) (cs : List ℕ) (i c : ℕ) → AreAllowed sets cs → slice_get cs i ≡ Some c → IsSet (set_at sets i) c
+pub allowed_at : (sets : List (List Bool)) (cs : List ℕ) (i c : ℕ) → AreAllowed sets cs → slice_get cs i ≡ Some c →
+    IsSet (set_at sets i) c
 allowed_at [] [] i c a at = absurd (let h : slice_get {X = ℕ} [] i ≡ Some c = at in cc)
 allowed_at [] (x ∷ xs) i c a at = absurd a
 allowed_at (s ∷ ss) [] i c a at = absurd a
@@ -210,15 +263,32 @@ allowed_at (s ∷ ss) (x ∷ xs) zero c a at = subst (λ y. IsSet s y) (same_Som
 allowed_at (s ∷ ss) (x ∷ xs) (suc i) c a at = allowed_at ss xs i c a.1 at
 
 -- each switch of the bay is the moved one or one of the others
-pub own_place : (first m others i : ℕ) → first ≤ m → m < first + suc others → first ≤ i → i < first + suc others → i ≢ m → (k : ℕ) × (k < others) × (other_of first m k ≡ i)
+pub own_place : (first m others i : ℕ) → first ≤ m → m < first + suc others → first ≤ i → i < first + suc others →
+    i ≢ m → (k : ℕ) × (k < others) × (other_of first m k ≡ i)
 own_place first m others i from below at_least at_most ne = elim (cases_lt i m) [
-  | inl less ↦ (i - first, omega (arith, at_least, less, below), elim (other_cases first m (i - first)) [ inl x ↦ x.1 ∙ omega (arith, at_least) | inr x ↦ absurd (omega (arith, x.0, at_least, less)) ])
-  | inr more ↦ (i - suc first, omega (arith, from, more, ne, at_most), elim (other_cases first m (i - suc first)) [ inl x ↦ absurd (omega (arith, x.0, from, more, ne)) | inr x ↦ x.1 ∙ omega (arith, from, more, ne) ])
+  | inl less ↦ (
+    i - first,
+    omega (arith, at_least, less, below),
+    elim (other_cases first m (i - first)) [
+      | inl x ↦ x.1 ∙ omega (arith, at_least)
+      | inr x ↦ absurd (omega (arith, x.0, at_least, less))
+    ],
+  )
+  | inr more ↦ (
+    i - suc first,
+    omega (arith, from, more, ne, at_most),
+    elim (other_cases first m (i - suc first)) [
+      | inl x ↦ absurd (omega (arith, x.0, from, more, ne))
+      | inr x ↦ x.1 ∙ omega (arith, from, more, ne)
+    ],
+  )
 ]
 
-module _ (view : View) (a : Lettered) (b m first others : ℕ) (words : List Dbpos) (sets : List (List Bool)) (s : Side) (is_own : IsOwn a.diagram b m first others) (side : IsSide view a b m first others words sets s) where
+module _ (view : View) (a : Lettered) (b m first others : ℕ) (words : List Dbpos) (sets : List (List Bool)) (s : Side)
+    (is_own : IsOwn a.diagram b m first others) (side : IsSide view a b m first others words sets s) where
   -- A VECTOR THAT GIVES CHOICES THAT WERE FOUND IS ALLOWED
-  pub within_of : (goal : ℕ) (cs all : List ℕ) (v : List Bool) → IsChainOf s sets goal cs all → GivesChoices a b m first words cs (drop 1 all) v → Within a b words sets v
+  pub within_of : (goal : ℕ) (cs all : List ℕ) (v : List Bool) → IsChainOf s sets goal cs all →
+      GivesChoices a b m first words cs (drop 1 all) v → Within a b words sets v
   within_of goal cs all v c g = record {
     whole = g.whole;
     own = λ i word closed of_b at_w at_v.
@@ -227,26 +297,39 @@ module _ (view : View) (a : Lettered) (b m first others : ℕ) (words : List Dbp
           | inl e ↦ g.moved word closed (ap (slice_get words) (sym e) ∙ at_w) (ap (slice_get v) (sym e) ∙ at_v)
           | inr ne ↦
               let k = own_place first m others i is_own.from is_own.below range.0 range.1 ne in
-              let own_len = allowed_length (drop 1 s.inner_sets) c.rest c.leads.inner_allows ∙ own_count view a b m first others words sets s is_own side in
+              let own_len = allowed_length (drop 1 s.inner_sets) c.rest c.leads.inner_allows
+              ∙ own_count view a b m first others words sets s is_own side in
               let choice : ℕ = get_or c.rest k.0 0 in
-              let at_c : slice_get c.rest k.0 ≡ Some choice = slice_get-get_or c.rest k.0 0 (omega (arith, k.1, own_len)) in
-              let allowed : IsSet (set_at s.inner_sets (suc k.0)) choice = subst (λ t. IsSet t choice) (set_after s.inner_sets k.0) (allowed_at (drop 1 s.inner_sets) c.rest k.0 choice c.leads.inner_allows at_c) in
+              let at_c : slice_get c.rest k.0 ≡ Some choice =
+              slice_get-get_or c.rest k.0 0 (omega (arith, k.1, own_len)) in
+              let allowed : IsSet (set_at s.inner_sets (suc k.0)) choice =
+              subst (λ t. IsSet t choice) (set_after s.inner_sets k.0)
+              (allowed_at (drop 1 s.inner_sets) c.rest k.0 choice c.leads.inner_allows at_c) in
               let rest : drop 1 all ≡ c.rest = ap (drop 1) c.split in
-              let chosen : slice_get v (other_of first m k.0) ≡ Some (eqb choice 1) = (g.own k.0 choice (ap (λ ds. slice_get ds k.0) rest ∙ at_c)).stands in
-              let is : eqb choice 1 ≡ closed = same_Some (eqb choice 1) closed (sym chosen ∙ (ap (slice_get v) k.2 ∙ at_v)) in
+              let chosen : slice_get v (other_of first m k.0) ≡ Some (eqb choice 1) =
+              (g.own k.0 choice (ap (λ ds. slice_get ds k.0) rest ∙ at_c)).stands in
+              let is : eqb choice 1 ≡ closed =
+              same_Some (eqb choice 1) closed (sym chosen ∙ (ap (slice_get v) k.2 ∙ at_v)) in
               subst (λ t. Agrees word t) is (own_agrees k.0 choice word k.1 allowed (ap (slice_get words) k.2 ∙ at_w))
         ];
     others = λ j lt.
         let len = allowed_length sets cs c.leads.outer_allows in
-        let j_in : j < length cs = omega (arith, lt, len, sets_count view a b m first others words sets s is_own side) in
+        let j_in : j < length cs =
+        omega (arith, lt, len, sets_count view a b m first others words sets s is_own side) in
         let choice : ℕ = get_or cs j 0 in
         let at_c : slice_get cs j ≡ Some choice = slice_get-get_or cs j 0 j_in in
         (choice, g.parts j choice at_c, allowed_at sets cs j choice c.leads.outer_allows at_c);
   }
     where
-      own_agrees : (k choice : ℕ) (word : Dbpos) → k < others → IsSet (set_at s.inner_sets (suc k)) choice → slice_get words (other_of first m k) ≡ Some word → Agrees word (eqb choice 1)
+      own_agrees : (k choice : ℕ) (word : Dbpos) → k < others → IsSet (set_at s.inner_sets (suc k)) choice →
+          slice_get words (other_of first m k) ≡ Some word → Agrees word (eqb choice 1)
       own_agrees k choice word lt allowed at =
           (side.own k choice lt (choice_small k choice lt allowed)).0 allowed word at
         where
           choice_small : (i c : ℕ) → i < others → IsSet (set_at s.inner_sets (suc i)) c → c < 2
-          choice_small i c i_in h = omega (arith, set_in (set_at s.inner_sets (suc i)) c h, sets_at s.inner.now.layers s.inner_sets (suc i) side.ready.inner_fits, side.inner_is.choices i i_in)
+          choice_small i c i_in h = omega (
+            arith,
+            set_in (set_at s.inner_sets (suc i)) c h,
+            sets_at s.inner.now.layers s.inner_sets (suc i) side.ready.inner_fits,
+            side.inner_is.choices i i_in,
+          )

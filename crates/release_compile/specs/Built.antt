@@ -1,5 +1,6 @@
 -- The graphs of a bay, and of a station.
-use Rattle.std.specs.Prelude.{◌≡◌, ℕ, suc, ◌+◌, ◌<◌, Bool, false, List, length, slice_get, slice_index_or, Option, Some, None, MatchBool}
+use Rattle.std.specs.Prelude.{◌≡◌, ℕ, suc, ◌+◌, ◌<◌, Bool, false, List, length, slice_get, slice_index_or, Option, Some}
+use Rattle.std.specs.Prelude.{None, MatchBool}
 use Rattle.station_graph.specs.Diagram.{Diagram, part_count, AreSwitchesOf}
 use Rattle.station_graph.specs.Alike.{Irrelevant, Partner}
 use Rattle.contraction.specs.Answers.{Answers}
@@ -26,7 +27,8 @@ pub record BayOf : Type 0 where
   pub told : List Bool
 
 -- The inner graph of the i-th of so many switches of the bay.
-pub record IsInnerAt (view : View) (a : Lettered) (b first count : ℕ) (names : List Answers) (i : ℕ) (g : Layered) : Type 0 where
+pub record IsInnerAt (view : View) (a : Lettered) (b first count : ℕ) (names : List Answers) (i : ℕ)
+    (g : Layered) : Type 0 where
   pub others : ℕ
   pub one_more : suc others ≡ count
   pub graph : IsInner view a b (first + i) first others names g
@@ -35,7 +37,8 @@ pub record IsInnerAt (view : View) (a : Lettered) (b first count : ℕ) (names :
   pub small : InnerIsSmall view a.diagram b (first + i) first others g
 
 -- The first n of the bay's switches have their inner graphs.
-pub record AreInner (view : View) (a : Lettered) (b first count : ℕ) (names : List Answers) (graphs : List Layered) (n : ℕ) : Type 0 where
+pub record AreInner (view : View) (a : Lettered) (b first count : ℕ) (names : List Answers) (graphs : List Layered)
+    (n : ℕ) : Type 0 where
   pub len : length graphs ≡ n
   pub each : (i : ℕ) (g : Layered) → slice_get graphs i ≡ Some g → IsInnerAt view a b first count names i g
 
@@ -51,7 +54,8 @@ pub record AreViewGraphs (view : View) (a : Lettered) (b first count : ℕ) (g :
 -- For each other part, in document order, whether it is a partner of the bay.
 pub record AreTold (d : Diagram) (b : ℕ) (told : List Bool) : Type 0 where
   pub count : suc (length told) ≡ part_count d
-  pub each : (j : ℕ) → j < length told → MatchBool (slice_index_or told j false) (Partner d (other_of 0 b j) b) (Irrelevant d (other_of 0 b j) b)
+  pub each : (j : ℕ) → j < length told →
+      MatchBool (slice_index_or told j false) (Partner d (other_of 0 b j) b) (Irrelevant d (other_of 0 b j) b)
 
 -- The graphs of a bay in both views, and its partners.
 pub record AreBayGraphs (a : Lettered) (b : ℕ) (g : BayOf) : Type 0 where

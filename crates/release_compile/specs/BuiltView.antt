@@ -10,7 +10,13 @@ view_of g = record { outer = g.outer; inner = g.inner.items }
 
 -- The graphs of a bay, as a contract sees them.
 abbrev pub seen_bay : BayGraphs → BayOf
-seen_bay g = record { first = g.first; count = g.count; gap = view_of g.gap; load = view_of g.load; told = g.told.items }
+seen_bay g = record {
+  first = g.first;
+  count = g.count;
+  gap = view_of g.gap;
+  load = view_of g.load;
+  told = g.told.items;
+}
 
 -- Those of a part, if it is a bay.
 abbrev pub seen_part : Option BayGraphs → Option BayOf

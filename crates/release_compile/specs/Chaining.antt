@@ -19,13 +19,15 @@ abbrev pub FirstAllows : List (List Bool) → List Bool → Type 0
 FirstAllows sets marks = (label : ℕ) → IsSet (set_at sets 0) label ↔ IsSet marks label
 
 -- These choices are allowed, and lead through both graphs to the label.
-pub record LeadThrough (outer inner : Layered) (sets inner_sets : List (List Bool)) (goal : ℕ) (cs ds : List ℕ) : Type 0 where
+pub record LeadThrough (outer inner : Layered) (sets inner_sets : List (List Bool)) (goal : ℕ)
+    (cs ds : List ℕ) : Type 0 where
   pub outer_allows : AreAllowed sets cs
   pub inner_allows : AreAllowed (drop 1 inner_sets) ds
   pub led : label_of inner (label_of outer cs ∷ ds) ≡ goal
 
 -- Such choices, where the list for the second graph begins with the label of the first.
-pub record IsChain (outer inner : Layered) (sets inner_sets : List (List Bool)) (goal : ℕ) (cs all : List ℕ) : Type 0 where
+pub record IsChain (outer inner : Layered) (sets inner_sets : List (List Bool)) (goal : ℕ)
+    (cs all : List ℕ) : Type 0 where
   pub rest : List ℕ
   pub split : all ≡ label_of outer cs ∷ rest
   pub leads : LeadThrough outer inner sets inner_sets goal cs rest

@@ -19,7 +19,8 @@ labels_of Load = 2
 
 -- Wherever the value answers for all items but the switch m, the label says what holds of m.
 abbrev pub CodeSays : View → Diagram → ℕ → Answers → ℕ → Type 0
-CodeSays view d m x code = (v : List Bool) → IsVector d v → SeenFor view (AllBut (a_switch m)) d v x → Says view d m v code
+CodeSays view d m x code =
+    (v : List Bool) → IsVector d v → SeenFor view (AllBut (a_switch m)) d v x → Says view d m v code
 
 -- The value keeps the ends of the switch m.
 abbrev pub KeepsEnds : Diagram → ℕ → Answers → Type 0

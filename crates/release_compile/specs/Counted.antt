@@ -1,5 +1,6 @@
 -- How many edges the graphs of a bay have, by the distinct views between their layers.
-use Rattle.std.specs.Prelude.{◌≡◌, ℕ, zero, suc, ◌+◌, ◌-◌, ◌*◌, ◌<◌, ◌≤◌, Bool, List, ◌∷◌, [], ◌++◌, length, slice_get, Some, sum, sum_by}
+use Rattle.std.specs.Prelude.{◌≡◌, ℕ, zero, suc, ◌+◌, ◌-◌, ◌*◌, ◌<◌, ◌≤◌, Bool, List, ◌∷◌, [], ◌++◌, length, slice_get}
+use Rattle.std.specs.Prelude.{Some, sum, sum_by}
 use Rattle.station_graph.specs.Diagram.{Diagram, part_count, AreSwitchesOf}
 use Rattle.station_graph.specs.Connection.{Item, a_switch}
 use Rattle.station_graph.specs.Alike.{Alike}
@@ -19,7 +20,8 @@ pub record AreAtLeast (d : Diagram) (Same : List Bool → List Bool → Type 0) 
   pub distinct : AreDistinct d Same list
   pub count : length list ≡ n
 
--- In v and w the first j other parts have this view in common, on the nodes that they and the bay or a later part touch.
+-- In v and w the first j other parts have this view in common, on the nodes that they and the bay or a later
+-- part touch.
 abbrev pub SameOuter : View → Diagram → ℕ → ℕ → List Bool → List Bool → Type 0
 SameOuter view d b j v w = SameView view (IsNeededOuter d b j) (Among (parts_before d b j)) d v w
 
@@ -30,7 +32,8 @@ before_switch d b m first (suc i) = before_switch d b m first i ++ a_switch (oth
 
 -- In v and w these have this view in common, on the nodes that m and the bay's later switches touch.
 abbrev pub SameInner : View → Diagram → ℕ → ℕ → ℕ → ℕ → ℕ → List Bool → List Bool → Type 0
-SameInner view d b m first others i v w = SameView view (IsNeededInner d m first others i) (Among (before_switch d b m first i)) d v w
+SameInner view d b m first others i v w =
+    SameView view (IsNeededInner d m first others i) (Among (before_switch d b m first i)) d v w
 
 -- How many distinct views there are before a layer, and how many choices each has in it.
 pub record Size : Type 0 where
@@ -43,8 +46,10 @@ edges_in s = s.views * s.choices
 
 -- Below, `Many Same n` says that there are n vectors that are not the same: exactly so many, or at least.
 
--- Before each of the first n other parts there are so many distinct views, each with an edge for each index of the part.
-pub record OuterHas (view : View) (d : Diagram) (b n : ℕ) (Many : (List Bool → List Bool → Type 0) → ℕ → Type 0) (edges : ℕ) : Type 0 where
+-- Before each of the first n other parts there are so many distinct views, each with an edge for each index of
+-- the part.
+pub record OuterHas (view : View) (d : Diagram) (b n : ℕ) (Many : (List Bool → List Bool → Type 0) → ℕ → Type 0)
+    (edges : ℕ) : Type 0 where
   pub sizes : List Size
   pub len : length sizes ≡ n
   pub views : (j : ℕ) (s : Size) → slice_get sizes j ≡ Some s → Many (SameOuter view d b j) s.views
@@ -52,27 +57,31 @@ pub record OuterHas (view : View) (d : Diagram) (b n : ℕ) (Many : (List Bool �
   pub all : sum_by edges_in sizes ≡ edges
 
 -- Before each of the first n switches other than m there are so many distinct views, each with two edges.
-pub record InnerHas (view : View) (d : Diagram) (b m first others n : ℕ) (Many : (List Bool → List Bool → Type 0) → ℕ → Type 0) (edges : ℕ) : Type 0 where
+pub record InnerHas (view : View) (d : Diagram) (b m first others n : ℕ)
+    (Many : (List Bool → List Bool → Type 0) → ℕ → Type 0) (edges : ℕ) : Type 0 where
   pub sizes : List ℕ
   pub len : length sizes ≡ n
   pub views : (i size : ℕ) → slice_get sizes i ≡ Some size → Many (SameInner view d b m first others i) size
   pub all : 2 * sum sizes ≡ edges
 
 -- So many edges has the graph of this switch.
-pub record SwitchHas (view : View) (d : Diagram) (b m first count : ℕ) (Many : (List Bool → List Bool → Type 0) → ℕ → Type 0) (edges : ℕ) : Type 0 where
+pub record SwitchHas (view : View) (d : Diagram) (b m first count : ℕ)
+    (Many : (List Bool → List Bool → Type 0) → ℕ → Type 0) (edges : ℕ) : Type 0 where
   pub others : ℕ
   pub one_more : suc others ≡ count
   pub inner : InnerHas view d b m first others others Many edges
 
 -- So many edges have the graphs of the first n of the bay's switches together.
-pub record SwitchesHave (view : View) (d : Diagram) (b first count n : ℕ) (Many : (List Bool → List Bool → Type 0) → ℕ → Type 0) (edges : ℕ) : Type 0 where
+pub record SwitchesHave (view : View) (d : Diagram) (b first count n : ℕ)
+    (Many : (List Bool → List Bool → Type 0) → ℕ → Type 0) (edges : ℕ) : Type 0 where
   pub each : List ℕ
   pub len : length each ≡ n
   pub graphs : (i size : ℕ) → slice_get each i ≡ Some size → SwitchHas view d b (first + i) first count Many size
   pub all : sum each ≡ edges
 
 -- So many edges have the graphs of one view of the bay.
-pub record ViewHas (view : View) (d : Diagram) (b first count : ℕ) (Many : (List Bool → List Bool → Type 0) → ℕ → Type 0) (edges : ℕ) : Type 0 where
+pub record ViewHas (view : View) (d : Diagram) (b first count : ℕ)
+    (Many : (List Bool → List Bool → Type 0) → ℕ → Type 0) (edges : ℕ) : Type 0 where
   pub others : ℕ
   pub one_more : suc others ≡ part_count d
   pub outer_edges : ℕ
@@ -82,7 +91,8 @@ pub record ViewHas (view : View) (d : Diagram) (b first count : ℕ) (Many : (Li
   pub all : outer_edges + inner_edges ≡ edges
 
 -- So many edges have the graphs of the bay.
-pub record BayHas (d : Diagram) (b : ℕ) (Many : (List Bool → List Bool → Type 0) → ℕ → Type 0) (edges : ℕ) : Type 0 where
+pub record BayHas (d : Diagram) (b : ℕ) (Many : (List Bool → List Bool → Type 0) → ℕ → Type 0)
+    (edges : ℕ) : Type 0 where
   pub first : ℕ
   pub count : ℕ
   pub switches : AreSwitchesOf d b first count
@@ -93,13 +103,15 @@ pub record BayHas (d : Diagram) (b : ℕ) (Many : (List Bool → List Bool → T
   pub all : gap_edges + load_edges ≡ edges
 
 -- There are exactly so many edges, and with what is left these are the limit.
-pub record Spends (Has : ((List Bool → List Bool → Type 0) → ℕ → Type 0) → ℕ → Type 0) (d : Diagram) (limit left : ℕ) : Type 0 where
+pub record Spends (Has : ((List Bool → List Bool → Type 0) → ℕ → Type 0) → ℕ → Type 0) (d : Diagram)
+    (limit left : ℕ) : Type 0 where
   pub edges : ℕ
   pub has : Has (AreSoMany d) edges
   pub all : edges + left ≡ limit
 
 -- There are more edges than the limit: already so many distinct views are at hand that these have more.
-pub record Passes (Has : ((List Bool → List Bool → Type 0) → ℕ → Type 0) → ℕ → Type 0) (d : Diagram) (limit : ℕ) : Type 0 where
+pub record Passes (Has : ((List Bool → List Bool → Type 0) → ℕ → Type 0) → ℕ → Type 0) (d : Diagram)
+    (limit : ℕ) : Type 0 where
   pub edges : ℕ
   pub has : Has (AreAtLeast d) edges
   pub past : limit < edges
@@ -116,4 +128,5 @@ OuterIsSmall view d b g = (j : ℕ) → j < length g.layers → IsSmall d (SameO
 
 -- No layer of an inner graph of switch m behind the first has more nodes than there are distinct views before it.
 abbrev pub InnerIsSmall : View → Diagram → ℕ → ℕ → ℕ → ℕ → Layered → Type 0
-InnerIsSmall view d b m first others g = (i : ℕ) → i < others → IsSmall d (SameInner view d b m first others i) (layer_at g.layers (suc i))
+InnerIsSmall view d b m first others g =
+    (i : ℕ) → i < others → IsSmall d (SameInner view d b m first others i) (layer_at g.layers (suc i))

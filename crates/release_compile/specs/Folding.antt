@@ -1,5 +1,6 @@
 -- A graph whose nodes are values, layer by layer: each layer takes more items in.
-use Rattle.std.specs.Prelude.{◌≡◌, ℕ, ◌*◌, ◌/◌, ◌%◌, ◌<◌, ◌≤◌, ◌↔◌, Bool, List, length, slice_get, slice_index, Some, Contains}
+use Rattle.std.specs.Prelude.{◌≡◌, ℕ, ◌*◌, ◌/◌, ◌%◌, ◌<◌, ◌≤◌, ◌↔◌, Bool, List, length, slice_get, slice_index, Some}
+use Rattle.std.specs.Prelude.{Contains}
 use Rattle.station_graph.specs.Diagram.{Diagram}
 use Rattle.station_graph.specs.Connection.{Item}
 use Rattle.station_graph.specs.Alike.{IsVector}
@@ -31,12 +32,14 @@ AreRising values = (t : ℕ) (r : Answers) → slice_get values t ≡ Some r →
 
 -- No two values are the same in this view.
 abbrev pub AreApart : View → List Answers → Type 0
-AreApart view values = (t u : ℕ) (x y : Answers) → slice_get values t ≡ Some x → slice_get values u ≡ Some y → SameSeen view x y → t ≡ u
+AreApart view values =
+    (t u : ℕ) (x y : Answers) → slice_get values t ≡ Some x → slice_get values u ≡ Some y → SameSeen view x y → t ≡ u
 
 -- From the states of a layer, by the letters of its choices, to those of the next. The edges stand state by state.
 pub record IsStep (view : View) (keep : List ℕ) (states letters next : List Answers) (edges : List ℕ) : Type 0 where
   pub len : length edges ≡ length states * length letters
-  pub carried : (p : ℕ) (x y : Answers) → p < length edges → slice_get states (p / length letters) ≡ Some x → slice_get letters (p % length letters) ≡ Some y → Carried view x y next (slice_index edges p)
+  pub carried : (p : ℕ) (x y : Answers) → p < length edges → slice_get states (p / length letters) ≡ Some x →
+      slice_get letters (p % length letters) ≡ Some y → Carried view x y next (slice_index edges p)
   pub kept : AllKeep next keep
   pub rising : AreRising next
   pub apart : AreApart view next
@@ -67,7 +70,8 @@ pub record ReachesMore (view : View) (keep : List ℕ) (states letters : List An
   pub few : length next ≤ length states * length letters
 
 -- The value of this number answers for these items in v.
-pub record StandsIn (view : View) (These : Item → Type 0) (d : Diagram) (v : List Bool) (values : List Answers) (t : ℕ) : Type 0 where
+pub record StandsIn (view : View) (These : Item → Type 0) (d : Diagram) (v : List Bool) (values : List Answers)
+    (t : ℕ) : Type 0 where
   pub value : Answers
   pub listed : slice_get values t ≡ Some value
   pub stands : SeenFor view These d v value
@@ -78,7 +82,8 @@ AreChosen Chosen v cs = (i c : ℕ) → slice_get cs i ≡ Some c → Chosen i c
 
 -- Each value answers for these items in some vector.
 abbrev pub AreMade : View → (Item → Type 0) → Diagram → List Answers → Type 0
-AreMade view These d values = (t : ℕ) (r : Answers) → slice_get values t ≡ Some r → (v : List Bool) × IsVector d v × SeenFor view These d v r
+AreMade view These d values =
+    (t : ℕ) (r : Answers) → slice_get values t ≡ Some r → (v : List Bool) × IsVector d v × SeenFor view These d v r
 
 -- The values are the distinct views of these items: each is that of some vector, and each vector has one.
 pub record AreViews (view : View) (These : Item → Type 0) (d : Diagram) (values : List Answers) : Type 0 where
@@ -86,14 +91,19 @@ pub record AreViews (view : View) (These : Item → Type 0) (d : Diagram) (value
   pub cover : (v : List Bool) → IsVector d v → (t : ℕ) × StandsIn view These d v values t
 
 -- The layers are exact: for every vector, the choices that it gives lead to a state that answers for the items so far.
--- The states are the distinct views of these items, and each layer has a node for each distinct view of those before it.
--- `Chosen i c v`: v gives choice c in layer i. `items j`: the items before layer j. `Needed j n`: node n is kept before layer j.
-pub record IsExact (view : View) (d : Diagram) (Chosen : ℕ → ℕ → List Bool → Type 0) (items : ℕ → List Item) (Needed : ℕ → ℕ → Type 0) (j : ℕ) (ls : List Layer) (states : List Answers) : Type 0 where
+-- The states are the distinct views of these items, and each layer has a node for each distinct view of those
+-- before it.
+-- `Chosen i c v`: v gives choice c in layer i. `items j`: the items before layer j. `Needed j n`: node n is
+-- kept before layer j.
+pub record IsExact (view : View) (d : Diagram) (Chosen : ℕ → ℕ → List Bool → Type 0) (items : ℕ → List Item)
+    (Needed : ℕ → ℕ → Type 0) (j : ℕ) (ls : List Layer) (states : List Answers) : Type 0 where
   pub count : length ls ≡ j
   pub fits : AreLayers (length states) ls
   pub kept : (t : ℕ) (r : Answers) → slice_get states t ≡ Some r → (n : ℕ) → Keeps r.kept n ↔ Needed j n
   pub rising : AreRising states
   pub apart : AreApart view states
-  pub stands : (v : List Bool) (cs : List ℕ) → IsVector d v → length cs ≡ j → AreChosen Chosen v cs → StandsIn view (Among (items j)) d v states (leads ls 0 cs)
+  pub stands : (v : List Bool) (cs : List ℕ) → IsVector d v → length cs ≡ j → AreChosen Chosen v cs →
+      StandsIn view (Among (items j)) d v states (leads ls 0 cs)
   pub views : AreViews view (Among (items j)) d states
-  pub counted : (i : ℕ) (l : Layer) → slice_get ls i ≡ Some l → AreSoMany d (SameView view (Needed i) (Among (items i)) d) (length l.rows)
+  pub counted : (i : ℕ) (l : Layer) → slice_get ls i ≡ Some l →
+      AreSoMany d (SameView view (Needed i) (Among (items i)) d) (length l.rows)

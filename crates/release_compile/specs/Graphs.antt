@@ -1,5 +1,6 @@
 -- What the labels of the graphs of a bay name.
-use Rattle.std.specs.Prelude.{◌≡◌, ◌≢◌, ℕ, suc, ◌+◌, ◌<◌, ◌≤◌, ◌==◌, ◌↔◌, nat_lt, if◌then◌else◌, Bool, List, ◌∷◌, length, slice_get, Option, Some, None}
+use Rattle.std.specs.Prelude.{◌≡◌, ◌≢◌, ℕ, suc, ◌+◌, ◌<◌, ◌≤◌, ◌==◌, ◌↔◌, nat_lt, if◌then◌else◌, Bool, List, ◌∷◌}
+use Rattle.std.specs.Prelude.{length, slice_get, Option, Some, None}
 use Rattle.ilk_base.specs.declared.words.Dbpos.{Dbpos}
 use Rattle.ilk_base.specs.declared.words.Direction.TheVariants.{ToOn}
 use Rattle.ilk_base.specs.declared.words.Op.{Op}
@@ -47,7 +48,8 @@ pub record IsOuter (view : View) (a : Lettered) (b : ℕ) (g : Layered) (names :
   pub count : suc (length g.layers) ≡ part_count a.diagram
   pub choices : (j : ℕ) → j < length g.layers → (layer_at g.layers j).choices ≡ index_count a (other_of 0 b j)
   pub labels : length names ≡ g.labels
-  pub named : (v : List Bool) (cs : List ℕ) → IsVector a.diagram v → length cs ≡ length g.layers → AreChosen (PartChosen a b) v cs → StandsIn view (OfOthers a.diagram b) a.diagram v names (label_of g cs)
+  pub named : (v : List Bool) (cs : List ℕ) → IsVector a.diagram v → length cs ≡ length g.layers →
+      AreChosen (PartChosen a b) v cs → StandsIn view (OfOthers a.diagram b) a.diagram v names (label_of g cs)
 
 -- The rule that a label of an inner gap graph says.
 abbrev pub gap_rule : ℕ → Option Rule
@@ -61,12 +63,15 @@ Says Load d m v label = (op : Op) → op.switch.0 ≡ m → (label ≡ 1) ↔ Ap
 
 -- An inner graph of switch m: first a layer whose choices are the labels of the outer graph, then one for each other
 -- switch of the bay, which are `others` many.
-pub record IsInner (view : View) (a : Lettered) (b m first others : ℕ) (names : List Answers) (g : Layered) : Type 0 where
+pub record IsInner (view : View) (a : Lettered) (b m first others : ℕ) (names : List Answers)
+    (g : Layered) : Type 0 where
   pub fits : AreLayers g.labels g.layers
   pub count : length g.layers ≡ suc others
   pub outer : (layer_at g.layers 0).choices ≡ length names
   pub choices : (i : ℕ) → i < others → (layer_at g.layers (suc i)).choices ≡ 2
-  pub says : (v : List Bool) (name : ℕ) (ds : List ℕ) → IsVector a.diagram v → StandsIn view (OfOthers a.diagram b) a.diagram v names name → length ds ≡ others → AreChosen (SwitchChosen first m) v ds → Says view a.diagram m v (label_of g (name ∷ ds))
+  pub says : (v : List Bool) (name : ℕ) (ds : List ℕ) → IsVector a.diagram v →
+      StandsIn view (OfOthers a.diagram b) a.diagram v names name → length ds ≡ others →
+      AreChosen (SwitchChosen first m) v ds → Says view a.diagram m v (label_of g (name ∷ ds))
 
 -- The vectors that are allowed: the bay's switches agree with its words, and each other part has an allowed index.
 pub record Within (a : Lettered) (b : ℕ) (words : List Dbpos) (sets : List (List Bool)) (v : List Bool) : Type 0 where
@@ -76,7 +81,9 @@ pub record Within (a : Lettered) (b : ℕ) (words : List Dbpos) (sets : List (Li
 
 -- The sets of an inner graph behind the first allow the positions that agree with the words.
 abbrev pub OwnAllowed : ℕ → ℕ → ℕ → List Dbpos → List (List Bool) → Type 0
-OwnAllowed first m others words sets = (i c : ℕ) → i < others → c < 2 → IsSet (set_at sets (suc i)) c ↔ ((word : Dbpos) → slice_get words (other_of first m i) ≡ Some word → Agrees word (c == 1))
+OwnAllowed first m others words sets =
+    (i c : ℕ) → i < others → c < 2 → IsSet (set_at sets (suc i)) c ↔
+    ((word : Dbpos) → slice_get words (other_of first m i) ≡ Some word → Agrees word (c == 1))
 
 -- The bay has the switch m and so many others.
 pub record IsOwn (d : Diagram) (b m first others : ℕ) : Type 0 where
@@ -85,7 +92,8 @@ pub record IsOwn (d : Diagram) (b m first others : ℕ) : Type 0 where
   pub below : m < first + suc others
 
 -- The graphs of one view of switch m, ready for these sets of the other parts and these words of the bay.
-pub record IsSide (view : View) (a : Lettered) (b m first others : ℕ) (words : List Dbpos) (sets : List (List Bool)) (s : Side) : Type 0 where
+pub record IsSide (view : View) (a : Lettered) (b m first others : ℕ) (words : List Dbpos) (sets : List (List Bool))
+    (s : Side) : Type 0 where
   pub names : List Answers
   pub outer_is : IsOuter view a b s.outer.now names
   pub inner_is : IsInner view a b m first others names s.inner.now
@@ -93,8 +101,10 @@ pub record IsSide (view : View) (a : Lettered) (b m first others : ℕ) (words :
   pub own : OwnAllowed first m others words s.inner_sets
 
 -- The vector gives the choices, and stands at each switch of the bay as its words allow.
-pub record GivesChoices (a : Lettered) (b m first : ℕ) (words : List Dbpos) (cs ds : List ℕ) (v : List Bool) : Type 0 where
+pub record GivesChoices (a : Lettered) (b m first : ℕ) (words : List Dbpos) (cs ds : List ℕ)
+    (v : List Bool) : Type 0 where
   pub whole : IsVector a.diagram v
   pub parts : AreChosen (PartChosen a b) v cs
   pub own : AreChosen (SwitchChosen first m) v ds
-  pub moved : (word : Dbpos) (closed : Bool) → slice_get words m ≡ Some word → slice_get v m ≡ Some closed → Agrees word closed
+  pub moved : (word : Dbpos) (closed : Bool) → slice_get words m ≡ Some word → slice_get v m ≡ Some closed →
+      Agrees word closed

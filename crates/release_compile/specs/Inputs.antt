@@ -1,5 +1,6 @@
 -- What the layers of a graph take in, by the numbers of a pool.
-use Rattle.std.specs.Prelude.{◌≡◌, ℕ, suc, ◌<◌, ◌↔◌, ◌-◌, Bool, true, false, List, [], ◌∷◌, length, slice_get, Some, Contains}
+use Rattle.std.specs.Prelude.{◌≡◌, ℕ, suc, ◌<◌, ◌↔◌, ◌-◌, Bool, true, false, List, [], ◌∷◌, length, slice_get, Some}
+use Rattle.std.specs.Prelude.{Contains}
 use Rattle.station_graph.specs.Diagram.{Diagram, part_count}
 use Rattle.station_graph.specs.Connection.{a_switch}
 use Rattle.station_graph.specs.Sharing.{Touches}
@@ -71,7 +72,8 @@ pub record HasSwitch (p : Pool) (d : Diagram) (switch : ℕ) (closed : Bool) (id
   pub value : Answers
   pub listed : slice_get p.values.items id ≡ Some value
   pub kept : (n : ℕ) → Keeps value.kept n ↔ Touches d (a_switch switch) n
-  pub stands : (v : List Bool) → slice_get v switch ≡ Some closed → SeenFor p.view (Among (a_switch switch ∷ [])) d v value
+  pub stands : (v : List Bool) → slice_get v switch ≡ Some closed →
+      SeenFor p.view (Among (a_switch switch ∷ [])) d v value
 
 -- The two numbers are those of the switch's values, open and closed.
 pub record HasPair (p : Pool) (d : Diagram) (switch : ℕ) (ids : List ℕ) : Type 0 where
@@ -82,7 +84,8 @@ pub record HasPair (p : Pool) (d : Diagram) (switch : ℕ) (ids : List ℕ) : Ty
   pub on_has : HasSwitch p d switch true on
 
 -- The first row has the names of the outer graph's labels, and the next n rows the values of the bay's other switches.
-pub record AreInnerRows (d : Diagram) (m first : ℕ) (p : Pool) (names : List ℕ) (rows : List (List ℕ)) (n : ℕ) : Type 0 where
+pub record AreInnerRows (d : Diagram) (m first : ℕ) (p : Pool) (names : List ℕ) (rows : List (List ℕ))
+    (n : ℕ) : Type 0 where
   pub len : length rows ≡ suc n
   pub first_row : slice_get rows 0 ≡ Some names
   pub pairs : (i : ℕ) (ids : List ℕ) → slice_get rows (suc i) ≡ Some ids → HasPair p d (other_of first m i) ids
@@ -92,5 +95,6 @@ pub record AreInnerRows (d : Diagram) (m first : ℕ) (p : Pool) (names : List �
 pub record AreNames (p : Pool) (d : Diagram) (b : ℕ) (names : List ℕ) : Type 0 where
   pub some : 0 < length names
   pub within : (t i : ℕ) → slice_get names t ≡ Some i → i < length p.values.items
-  pub kept : (t : ℕ) (x : Answers) → slice_get (values_at p.values.items names) t ≡ Some x → (n : ℕ) → Keeps x.kept n ↔ IsNeededOuter d b (part_count d - 1) n
+  pub kept : (t : ℕ) (x : Answers) → slice_get (values_at p.values.items names) t ≡ Some x → (n : ℕ) → Keeps x.kept n ↔
+      IsNeededOuter d b (part_count d - 1) n
   pub views : AreViews p.view (OfOthers d b) d (values_at p.values.items names)

@@ -1,5 +1,6 @@
 -- How a graph judge is seen, and why a station has none.
-use Rattle.std.specs.Prelude.{◌≡◌, ℕ, ◌<◌, ◌≤◌, ◌-◌, ◌⊎◌, List, [], length, slice_get, slice_index_or, sum, Option, Some, None, ⊤}
+use Rattle.std.specs.Prelude.{◌≡◌, ℕ, ◌<◌, ◌≤◌, ◌-◌, ◌⊎◌, List, [], length, slice_get, slice_index_or, sum, Option}
+use Rattle.std.specs.Prelude.{Some, None, ⊤}
 use Rattle.station_graph.specs.Diagram.{Diagram, part_count}
 use Rattle.decision_graphs.specs.Label.{Layered}
 use Rattle.bay_contract.specs.PartAlphabets.{Alphabets}
@@ -33,7 +34,13 @@ no_graph = record { labels = 0; layers = [] }
 
 -- The graphs of a part that is no bay.
 abbrev pub no_bay : BayOf
-no_bay = record { first = 0; count = 0; gap = record { outer = no_graph; inner = [] }; load = record { outer = no_graph; inner = [] }; told = [] }
+no_bay = record {
+  first = 0;
+  count = 0;
+  gap = record { outer = no_graph; inner = [] };
+  load = record { outer = no_graph; inner = [] };
+  told = [];
+}
 
 -- The graphs of a part, or those of no bay.
 abbrev pub or_no_bay : Option (Option BayOf) → BayOf

@@ -9,15 +9,29 @@ use Rattle.release_compile.specs.Lettered.{Lettered}
 use Rattle.release_compile.specs.Summaries.{SummaryAllows, by_indices}
 
 -- What an index set allows depends on the positions of its own bay alone.
-pub allows_moves : (a : Lettered) (b : ℕ) (s : List ℕ) (v w : List Bool) → SamePositions (OfPart a.diagram b) v w → SummaryAllows a b s v → SummaryAllows a b s w
+pub allows_moves : (a : Lettered) (b : ℕ) (s : List ℕ) (v w : List Bool) → SamePositions (OfPart a.diagram b) v w →
+    SummaryAllows a b s v → SummaryAllows a b s w
 allows_moves a b s v w same (inr empty) = inr empty
-allows_moves a b s v w same (inl allows) = inl (record { index = allows.index; has = record { letter = allows.has.letter; listed = allows.has.listed; stands = stands_moves (OfPart a.diagram b) a.diagram v w same allows.has.letter allows.has.stands }; bit = allows.bit })
+allows_moves a b s v w same (inl allows) =
+    inl (record {
+      index = allows.index;
+      has = record {
+        letter = allows.has.letter;
+        listed = allows.has.listed;
+        stands = stands_moves (OfPart a.diagram b) a.diagram v w same allows.has.letter allows.has.stands;
+      };
+      bit = allows.bit;
+    })
 
 -- The meaning by index sets keeps the laws of a meaning.
 pub by_indices_lawful : (a : Lettered) → Laws (by_indices a)
 by_indices_lawful a = record {
   local = λ b s v w whole_v whole_w same allows. allows_moves a b s v w same allows;
   irrelevant = λ b to ne silent. silent;
-  empty_fits = λ b to s ne silent. (λ told. elim told [ inl set ↦ absurd (set.0 silent) | inr none ↦ none.1 ], λ empty. inr (silent, empty));
+  empty_fits =
+      λ b to s ne silent. (
+        λ told. elim told [ inl set ↦ absurd (set.0 silent) | inr none ↦ none.1 ],
+        λ empty. inr (silent, empty),
+      );
   empty_allows = λ b to v ne silent whole. inr refl;
 }

@@ -1,5 +1,6 @@
 -- A layer by the numbers of values in a pool.
-use Rattle.std.specs.Prelude.{◌≡◌, ℕ, suc, ◌⊎◌, ◌/◌, ◌%◌, ◌<◌, ◌≤◌, List, [], length, map, slice_get, slice_index, slice_index_or, Some}
+use Rattle.std.specs.Prelude.{◌≡◌, ℕ, suc, ◌⊎◌, ◌/◌, ◌%◌, ◌<◌, ◌≤◌, List, [], length, map, slice_get, slice_index}
+use Rattle.std.specs.Prelude.{slice_index_or, Some}
 use Rattle.contraction.specs.Answers.{Answers}
 use Rattle.release_compile.specs.declared.view.View.{View}
 use Rattle.release_compile.specs.Pooling.{Extends, IsMade}
@@ -28,15 +29,28 @@ pub record LeadsToMade (view : View) (values : List Answers) (keep next : List �
 
 -- The first n edges, state by state, lead to the values that were made of a state and a letter; the next layer has
 -- the numbers of these alone, each once.
-pub record AreEdges (view : View) (values : List Answers) (keep states letters next edges : List ℕ) (n : ℕ) : Type 0 where
+pub record AreEdges (view : View) (values : List Answers) (keep states letters next edges : List ℕ)
+    (n : ℕ) : Type 0 where
   pub len : length edges ≡ n
-  pub made : (p i j : ℕ) → p < n → slice_get states (p / length letters) ≡ Some i → slice_get letters (p % length letters) ≡ Some j → LeadsToMade view values keep next i j (slice_index edges p)
+  pub made : (p i j : ℕ) → p < n → slice_get states (p / length letters) ≡ Some i →
+      slice_get letters (p % length letters) ≡ Some j → LeadsToMade view values keep next i j (slice_index edges p)
   pub none_twice : NoneTwice next
-  pub hit : (b id : ℕ) → slice_get next b ≡ Some id → (p i j : ℕ) × (p < n) × (slice_get states (p / length letters) ≡ Some i) × (slice_get letters (p % length letters) ≡ Some j) × (slice_index edges p ≡ b)
+  pub hit : (b id : ℕ) → slice_get next b ≡ Some id →
+      (p i j : ℕ) × (p < n) × (slice_get states (p / length letters) ≡ Some i)
+      × (slice_get letters (p % length letters) ≡ Some j) × (slice_index edges p ≡ b)
 
 -- The contraction of no items that keeps no node.
 abbrev pub no_answers : Answers
-no_answers = record { kept = []; coupled = []; joined = []; bonded = []; energisable = []; earthable = []; fed = []; loaded = [] }
+no_answers = record {
+  kept = [];
+  coupled = [];
+  joined = [];
+  bonded = [];
+  energisable = [];
+  earthable = [];
+  fed = [];
+  loaded = [];
+}
 
 -- The values of these numbers.
 abbrev pub values_at : List Answers → List ℕ → List Answers

@@ -10,11 +10,13 @@ use Rattle.release_compile.specs.Graphs.{other_of}
 -- The items of a list that pass, by their numbers from one on.
 abbrev pub listed : {X : Type 0} → (ℕ → Item) → (X → Bool) → ℕ → List X → List Item
 listed item passes i [] = []
-listed item passes i (x ∷ xs) = if passes x then item i ∷ listed item passes (suc i) xs else listed item passes (suc i) xs
+listed item passes i (x ∷ xs) =
+    if passes x then item i ∷ listed item passes (suc i) xs else listed item passes (suc i) xs
 
 -- The links and taps of a part.
 abbrev pub own_links : Diagram → ℕ → List Item
-own_links d p = listed a_link (λ (x : Link). x.part.0 == p) 0 d.links ++ listed a_tap (λ (x : Tap). x.part.0 == p) 0 d.taps
+own_links d p =
+    listed a_link (λ (x : Link). x.part.0 == p) 0 d.links ++ listed a_tap (λ (x : Tap). x.part.0 == p) 0 d.taps
 
 -- The items of a part: its switches and its links.
 abbrev pub part_items : Diagram → ℕ → List Item

@@ -1,5 +1,6 @@
 -- The nodes that are kept before each layer of a graph.
-use Rattle.std.specs.Prelude.{◌≡◌, ℕ, zero, suc, ◌<◌, ◌≤◌, ◌⊎◌, ◌↔◌, Bool, true, List, length, slice_get, Some, Contains}
+use Rattle.std.specs.Prelude.{◌≡◌, ℕ, zero, suc, ◌<◌, ◌≤◌, ◌⊎◌, ◌↔◌, Bool, true, List, length, slice_get, Some}
+use Rattle.std.specs.Prelude.{Contains}
 use Rattle.station_graph.specs.Diagram.{Diagram, part_count}
 use Rattle.station_graph.specs.Connection.{a_switch}
 use Rattle.station_graph.specs.Sharing.{OfPart, Touches, TouchedBy, IsShared}
@@ -10,12 +11,14 @@ use Rattle.release_compile.specs.Listing.{part_items, parts_before}
 -- For each part the list of the nodes that it shares.
 pub record AreShared (d : Diagram) (shared : List (List ℕ)) : Type 0 where
   pub count : length shared ≡ part_count d
-  pub each : (part : ℕ) (nodes : List ℕ) → slice_get shared part ≡ Some nodes → (n : ℕ) → Contains nodes n ↔ IsShared d part n
+  pub each : (part : ℕ) (nodes : List ℕ) → slice_get shared part ≡ Some nodes → (n : ℕ) → Contains nodes n ↔
+      IsShared d part n
 
 -- There is a mark for each of so many nodes, and each node that stands in one of the lists is marked.
 pub record AreMet (shared : List (List ℕ)) (marks : List Bool) (count : ℕ) : Type 0 where
   pub len : length marks ≡ count
-  pub marked : (part n : ℕ) (nodes : List ℕ) → slice_get shared part ≡ Some nodes → Contains nodes n → n < count → slice_get marks n ≡ Some true
+  pub marked : (part n : ℕ) (nodes : List ℕ) → slice_get shared part ≡ Some nodes → Contains nodes n → n < count →
+      slice_get marks n ≡ Some true
 
 -- One of the other parts between two places has the node in its list.
 pub record SharesFrom (shared : List (List ℕ)) (b from to n : ℕ) : Type 0 where

@@ -12,7 +12,8 @@ use Rattle.release_compile.specs.Layering.{values_at}
 use Rattle.release_compile.specs.Lettered.{Lettered}
 use Rattle.release_compile.specs.Inputs.{AreCopies}
 use Rattle.release_compile.specs.Places.{node_of, pool_on}
-use Rattle.release_compile.specs.Plans.{Plan, PlanFits, PlanHas, AreLinked, IsInnerReady, diagram_of, ChosenBy, items_of, NeededBy}
+use Rattle.release_compile.specs.Plans.{Plan, PlanFits, PlanHas, AreLinked, IsInnerReady, diagram_of, ChosenBy}
+use Rattle.release_compile.specs.Plans.{items_of, NeededBy}
 
 -- The letters of the layers, as numbers.
 abbrev pub rows_of : Intake → List (List ℕ)
@@ -26,9 +27,13 @@ pub record SameIntake (i j : Intake) : Type 0 where
 
 -- For every plan that takes this in, whatever nodes in the same order stand in place of those that the values keep, the
 -- layers are exact, have so many edges, and lead to the values of these names.
-pub record AreLaid (p : Pool) (start : ℕ) (letters : List (List ℕ)) (keeps names : List ℕ) (edges : ℕ) (layers : List Layer) : Type 0 where
-  pub exact : (f : ℕ → ℕ) (plan : Plan) → KeepsOrder f → PlanFits plan (pool_on f p) start letters keeps → IsExact p.view (diagram_of plan) (ChosenBy plan) (items_of plan) (NeededBy plan) (length letters) layers (values_at (map (mapped f) p.values.items) names)
-  pub has : (f : ℕ → ℕ) (plan : Plan) → KeepsOrder f → PlanFits plan (pool_on f p) start letters keeps → PlanHas p.view plan letters (length letters) (AreSoMany (diagram_of plan)) edges
+pub record AreLaid (p : Pool) (start : ℕ) (letters : List (List ℕ)) (keeps names : List ℕ) (edges : ℕ)
+    (layers : List Layer) : Type 0 where
+  pub exact : (f : ℕ → ℕ) (plan : Plan) → KeepsOrder f → PlanFits plan (pool_on f p) start letters keeps →
+      IsExact p.view (diagram_of plan) (ChosenBy plan) (items_of plan) (NeededBy plan) (length letters) layers
+      (values_at (map (mapped f) p.values.items) names)
+  pub has : (f : ℕ → ℕ) (plan : Plan) → KeepsOrder f → PlanFits plan (pool_on f p) start letters keeps →
+      PlanHas p.view plan letters (length letters) (AreSoMany (diagram_of plan)) edges
   pub choices : map (λ (l : Layer). l.choices) layers ≡ map length letters
 
 -- The graph is that of such layers, reduced, and its labels are named.
@@ -44,7 +49,8 @@ pub record IsNoted (p : Pool) (n : Noted) : Type 0 where
   pub sizes : (j : ℕ) → length (layer_at n.graph.layers j).rows ≤ length (layer_at layers j).rows
 
 -- By places of the list, what is taken in is that of the inner graph of a switch, and the names are copies of these.
-pub record IsInPlaces (a : Lettered) (b m first others : ℕ) (list : List ℕ) (old p : Pool) (names : List ℕ) (i : Intake) : Type 0 where
+pub record IsInPlaces (a : Lettered) (b m first others : ℕ) (list : List ℕ) (old p : Pool) (names : List ℕ)
+    (i : Intake) : Type 0 where
   pub labels : List ℕ
   pub ready : IsInnerReady a b m first others (pool_on (node_of list) p) i.start labels (rows_of i) i.keeps.items
   pub copies : AreCopies (pool_on (node_of list) p) (values_at old.values.items names) labels

@@ -1,6 +1,7 @@
--- Which labels of an outer graph the inner graphs tell apart, the outer graph with the others made one, and of which layers
--- of it the inner graphs tell.
-use Rattle.std.specs.Prelude.{◌≡◌, ◌≢◌, ℕ, ◌<◌, ◌≤◌, List, ◌∷◌, length, drop, map, slice_get, slice_index, slice_index_or, Some}
+-- Which labels of an outer graph the inner graphs tell apart, the outer graph with the others made one, and of
+-- which layers of it the inner graphs tell.
+use Rattle.std.specs.Prelude.{◌≡◌, ◌≢◌, ℕ, ◌<◌, ◌≤◌, List, ◌∷◌, length, drop, map, slice_get, slice_index}
+use Rattle.std.specs.Prelude.{slice_index_or, Some}
 use Rattle.decision_graphs.specs.Label.{Layer, Layered, layer_at, step, label_of, AreChoices, AreLayers, AreReduced}
 
 -- Where the first choice of an inner graph leads: to a node of its second layer, or to a label where it has no other.
@@ -40,7 +41,8 @@ pub record AreNames (inners : List Layered) (labels : ℕ) (names : List ℕ) : 
 -- The graph with each label replaced by its name.
 pub record IsRenamed (outer : Layered) (names : List ℕ) (copy : Layered) : Type 0 where
   pub choices : map (λ (l : Layer). l.choices) copy.layers ≡ map (λ (l : Layer). l.choices) outer.layers
-  pub label : 0 < length outer.layers → (cs : List ℕ) → AreChoices outer.layers cs → label_of copy cs ≡ slice_index names (label_of outer cs)
+  pub label : 0 < length outer.layers → (cs : List ℕ) → AreChoices outer.layers cs →
+      label_of copy cs ≡ slice_index names (label_of outer cs)
 
 -- The graphs tell of a layer of the outer graph: two lists of choices of it agree in every layer but this one, and some
 -- inner graph leads the labels to which they lead, with the same other choices, to different labels.

@@ -12,8 +12,23 @@ node_of nodes place = slice_index_or nodes place (NODES + place)
 
 -- The Vec with each element mapped.
 abbrev pub with_mapped : {X Z : Type 0} → (X → X) → Vec X Z → Vec X Z
-with_mapped g v = record { ptr = v.ptr; len = v.len; cap = v.cap; alloc = v.alloc; items = map g v.items; ok = (v.ok.0 ∙ sym (length-map v.items g), v.ok.1); small = v.small }
+with_mapped g v = record {
+  ptr = v.ptr;
+  len = v.len;
+  cap = v.cap;
+  alloc = v.alloc;
+  items = map g v.items;
+  ok = (v.ok.0 ∙ sym (length-map v.items g), v.ok.1);
+  small = v.small;
+}
 
 -- The pool as it is where other nodes stand in place of those that its values keep.
 abbrev pub pool_on : (ℕ → ℕ) → Pool → Pool
-pool_on f p = record { view = p.view; values = with_mapped (mapped f) p.values; index = p.index; keeps = with_mapped (map f) p.keeps; notes = p.notes; selection = p.selection }
+pool_on f p = record {
+  view = p.view;
+  values = with_mapped (mapped f) p.values;
+  index = p.index;
+  keeps = with_mapped (map f) p.keeps;
+  notes = p.notes;
+  selection = p.selection;
+}

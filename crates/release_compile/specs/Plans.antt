@@ -1,5 +1,6 @@
 -- What the layers of a graph are made of.
-use Rattle.std.specs.Prelude.{◌≡◌, ℕ, zero, suc, ◌-◌, ◌<◌, ◌≤◌, ◌⊎◌, ◌↔◌, Bool, List, [], ◌∷◌, ◌++◌, length, map, slice_get, Some, Contains, sum_by}
+use Rattle.std.specs.Prelude.{◌≡◌, ℕ, zero, suc, ◌-◌, ◌<◌, ◌≤◌, ◌⊎◌, ◌↔◌, Bool, List, [], ◌∷◌, ◌++◌, length, map}
+use Rattle.std.specs.Prelude.{slice_get, Some, Contains, sum_by}
 use Rattle.station_graph.specs.Diagram.{Diagram, IsStation, part_count}
 use Rattle.station_graph.specs.Connection.{Item, a_switch}
 use Rattle.station_graph.specs.Alike.{IsVector}
@@ -71,11 +72,13 @@ pub record CanBoth (view : View) (d : Diagram) (These Those : Item → Type 0) (
   pub second : SeenFor view Those d vector y
 
 -- Before each of the first n layers of the plan there are so many distinct views, each with an edge for each letter.
-pub record PlanHas (view : View) (plan : Plan) (letters : List (List ℕ)) (n : ℕ) (Many : (List Bool → List Bool → Type 0) → ℕ → Type 0) (edges : ℕ) : Type 0 where
+pub record PlanHas (view : View) (plan : Plan) (letters : List (List ℕ)) (n : ℕ)
+    (Many : (List Bool → List Bool → Type 0) → ℕ → Type 0) (edges : ℕ) : Type 0 where
   pub sizes : List Size
   pub len : length sizes ≡ n
   pub views : (j : ℕ) (s : Size) → slice_get sizes j ≡ Some s → Many (SameBefore view plan j) s.views
-  pub choices : (j : ℕ) (s : Size) (ids : List ℕ) → slice_get sizes j ≡ Some s → slice_get letters j ≡ Some ids → s.choices ≡ length ids
+  pub choices : (j : ℕ) (s : Size) (ids : List ℕ) → slice_get sizes j ≡ Some s → slice_get letters j ≡ Some ids →
+      s.choices ≡ length ids
   pub all : sum_by edges_in sizes ≡ edges
 
 -- Already the first layers of the plan have more edges than the limit.
@@ -90,26 +93,42 @@ pub record AreLinked (p : Pool) (start : ℕ) (letters : List (List ℕ)) (keeps
   pub start_in : start < length p.values.items
   pub count : length keeps ≡ suc (length letters)
   pub keeps_in : (j k : ℕ) → slice_get keeps j ≡ Some k → k < length p.keeps.items
-  pub letters_in : (j c i : ℕ) (ids : List ℕ) → slice_get letters j ≡ Some ids → slice_get ids c ≡ Some i → i < length p.values.items
+  pub letters_in : (j c i : ℕ) (ids : List ℕ) → slice_get letters j ≡ Some ids → slice_get ids c ≡ Some i →
+      i < length p.values.items
   pub some : (j : ℕ) (ids : List ℕ) → slice_get letters j ≡ Some ids → 0 < length ids
-  pub start_kept : (x : Answers) (k : ℕ) (nodes : List ℕ) → slice_get p.values.items start ≡ Some x → slice_get keeps 0 ≡ Some k → slice_get p.keeps.items k ≡ Some nodes → (n : ℕ) → Keeps x.kept n ↔ Contains nodes n
-  pub chain : (j k h c i : ℕ) (ids nodes after : List ℕ) (y : Answers) → slice_get letters j ≡ Some ids → slice_get keeps j ≡ Some k → slice_get keeps (suc j) ≡ Some h → slice_get p.keeps.items k ≡ Some nodes → slice_get p.keeps.items h ≡ Some after → slice_get ids c ≡ Some i → slice_get p.values.items i ≡ Some y → (n : ℕ) → Contains after n → Contains nodes n ⊎ Keeps y.kept n
+  pub start_kept : (x : Answers) (k : ℕ) (nodes : List ℕ) → slice_get p.values.items start ≡ Some x →
+      slice_get keeps 0 ≡ Some k → slice_get p.keeps.items k ≡ Some nodes → (n : ℕ) → Keeps x.kept n ↔ Contains nodes n
+  pub chain : (j k h c i : ℕ) (ids nodes after : List ℕ) (y : Answers) → slice_get letters j ≡ Some ids →
+      slice_get keeps j ≡ Some k → slice_get keeps (suc j) ≡ Some h → slice_get p.keeps.items k ≡ Some nodes →
+      slice_get p.keeps.items h ≡ Some after → slice_get ids c ≡ Some i → slice_get p.values.items i ≡ Some y →
+      (n : ℕ) → Contains after n → Contains nodes n ⊎ Keeps y.kept n
 
 -- They are those of the plan.
 pub record PlanFits (plan : Plan) (p : Pool) (start : ℕ) (letters : List (List ℕ)) (keeps : List ℕ) : Type 0 where
-  pub start_stands : (x : Answers) (v : List Bool) → slice_get p.values.items start ≡ Some x → IsVector (diagram_of plan) v → SeenFor p.view (Among (base_of plan)) (diagram_of plan) v x
-  pub needed : (j k : ℕ) (nodes : List ℕ) → slice_get keeps j ≡ Some k → slice_get p.keeps.items k ≡ Some nodes → (n : ℕ) → Contains nodes n ↔ NeededBy plan j n
-  pub letter : (j c : ℕ) (ids : List ℕ) (v : List Bool) → slice_get letters j ≡ Some ids → IsVector (diagram_of plan) v → ChosenBy plan j c v → StandsIn p.view (Among (new_of plan j)) (diagram_of plan) v (values_at p.values.items ids) c
-  pub meets : (j c : ℕ) (ids : List ℕ) (x y : Answers) → slice_get letters j ≡ Some ids → ((n : ℕ) → Keeps x.kept n ↔ NeededBy plan j n) → slice_get (values_at p.values.items ids) c ≡ Some y → MeetsKept (Among (items_of plan j)) (Among (new_of plan j)) (diagram_of plan) x.kept y.kept
-  pub given : (j c : ℕ) (ids : List ℕ) (x y : Answers) (v : List Bool) → slice_get letters j ≡ Some ids → slice_get (values_at p.values.items ids) c ≡ Some y → IsVector (diagram_of plan) v → SeenFor p.view (Among (items_of plan j)) (diagram_of plan) v x → CanBoth p.view (diagram_of plan) (Among (items_of plan j)) (Among (new_of plan j)) x y
-  pub cover : (j : ℕ) (ids : List ℕ) (v : List Bool) → slice_get letters j ≡ Some ids → IsVector (diagram_of plan) v → (c : ℕ) × StandsIn p.view (Among (new_of plan j)) (diagram_of plan) v (values_at p.values.items ids) c
+  pub start_stands : (x : Answers) (v : List Bool) → slice_get p.values.items start ≡ Some x →
+      IsVector (diagram_of plan) v → SeenFor p.view (Among (base_of plan)) (diagram_of plan) v x
+  pub needed : (j k : ℕ) (nodes : List ℕ) → slice_get keeps j ≡ Some k → slice_get p.keeps.items k ≡ Some nodes →
+      (n : ℕ) → Contains nodes n ↔ NeededBy plan j n
+  pub letter : (j c : ℕ) (ids : List ℕ) (v : List Bool) → slice_get letters j ≡ Some ids →
+      IsVector (diagram_of plan) v → ChosenBy plan j c v →
+      StandsIn p.view (Among (new_of plan j)) (diagram_of plan) v (values_at p.values.items ids) c
+  pub meets : (j c : ℕ) (ids : List ℕ) (x y : Answers) → slice_get letters j ≡ Some ids →
+      ((n : ℕ) → Keeps x.kept n ↔ NeededBy plan j n) → slice_get (values_at p.values.items ids) c ≡ Some y →
+      MeetsKept (Among (items_of plan j)) (Among (new_of plan j)) (diagram_of plan) x.kept y.kept
+  pub given : (j c : ℕ) (ids : List ℕ) (x y : Answers) (v : List Bool) → slice_get letters j ≡ Some ids →
+      slice_get (values_at p.values.items ids) c ≡ Some y → IsVector (diagram_of plan) v →
+      SeenFor p.view (Among (items_of plan j)) (diagram_of plan) v x →
+      CanBoth p.view (diagram_of plan) (Among (items_of plan j)) (Among (new_of plan j)) x y
+  pub cover : (j : ℕ) (ids : List ℕ) (v : List Bool) → slice_get letters j ≡ Some ids → IsVector (diagram_of plan) v →
+      (c : ℕ) × StandsIn p.view (Among (new_of plan j)) (diagram_of plan) v (values_at p.values.items ids) c
 
 -- The layers of a graph that are finished.
 abbrev pub layers_of : List FinishedLayer → List Layer
 layers_of drafts = map finished drafts
 
 -- The letters of each layer are those of the other part's alphabet, and the nodes are those that are needed.
-pub record IsOuterReady (a : Lettered) (b : ℕ) (p : Pool) (start : ℕ) (letters : List (List ℕ)) (keeps : List ℕ) : Type 0 where
+pub record IsOuterReady (a : Lettered) (b : ℕ) (p : Pool) (start : ℕ) (letters : List (List ℕ))
+    (keeps : List ℕ) : Type 0 where
   pub lettered : AreLettered a
   pub pool : IsPool p
   pub count : suc (length letters) ≡ part_count a.diagram
@@ -120,7 +139,8 @@ pub record IsOuterReady (a : Lettered) (b : ℕ) (p : Pool) (start : ℕ) (lette
 
 -- The letters are the outer graph's names, and then for each other switch of the bay its two positions; the start
 -- answers for the bay's links and taps, and the nodes are those that are needed.
-pub record IsInnerReady (a : Lettered) (b m first others : ℕ) (p : Pool) (start : ℕ) (names : List ℕ) (letters : List (List ℕ)) (keeps : List ℕ) : Type 0 where
+pub record IsInnerReady (a : Lettered) (b m first others : ℕ) (p : Pool) (start : ℕ) (names : List ℕ)
+    (letters : List (List ℕ)) (keeps : List ℕ) : Type 0 where
   pub station : IsStation a.diagram
   pub bay_in : b < part_count a.diagram
   pub own : IsOwn a.diagram b m first others

@@ -19,8 +19,10 @@ number_in m row = get bytes_eq m row
 
 -- The index has the number of each value by its row, and no other number.
 pub record IsRowIndex {S : Type 0} (view : View) (values : List Answers) (m : HashMap (List ℕ) ℕ S) : Type 0 where
-  pub found : (row : List ℕ) (i : ℕ) → number_in m row ≡ Some i → (x : Answers) × (slice_get values i ≡ Some x) × (row ≡ seen_row view x)
-  pub missing : (row : List ℕ) → number_in m row ≡ None → (i : ℕ) (x : Answers) → slice_get values i ≡ Some x → row ≡ seen_row view x → ⊥
+  pub found : (row : List ℕ) (i : ℕ) → number_in m row ≡ Some i →
+      (x : Answers) × (slice_get values i ≡ Some x) × (row ≡ seen_row view x)
+  pub missing : (row : List ℕ) → number_in m row ≡ None → (i : ℕ) (x : Answers) → slice_get values i ≡ Some x →
+      row ≡ seen_row view x → ⊥
 
 -- The second list begins with the first.
 abbrev pub Extends : {X : Type 0} → List X → List X → Type 0
@@ -78,11 +80,15 @@ pub record HasCopy (p : Pool) (x : Answers) (t : ℕ) : Type 0 where
   pub value : Answers
   pub listed : slice_get p.values.items t ≡ Some value
   pub kept : (n : ℕ) → Keeps value.kept n ↔ Keeps x.kept n
-  pub stands : (items : List Item) (d : Diagram) (v : List Bool) → SeenFor p.view (Among items) d v x → SeenFor p.view (Among items) d v value
+  pub stands : (items : List Item) (d : Diagram) (v : List Bool) → SeenFor p.view (Among items) d v x →
+      SeenFor p.view (Among items) d v value
 
 -- Each of the nodes of this number is kept by one of the two values.
 abbrev pub EitherKeeps : Pool → ℕ → ℕ → ℕ → Type 0
-EitherKeeps p first second keep = (x y : Answers) (nodes : List ℕ) → slice_get p.values.items first ≡ Some x → slice_get p.values.items second ≡ Some y → slice_get p.keeps.items keep ≡ Some nodes → (n : ℕ) → Contains nodes n → Keeps x.kept n ⊎ Keeps y.kept n
+EitherKeeps p first second keep =
+    (x y : Answers) (nodes : List ℕ) → slice_get p.values.items first ≡ Some x →
+    slice_get p.values.items second ≡ Some y → slice_get p.keeps.items keep ≡ Some nodes → (n : ℕ) → Contains nodes n →
+    Keeps x.kept n ⊎ Keeps y.kept n
 
 -- The selection is that of these of the nodes that two values keep.
 pub record Selects (x y : Answers) (nodes : List ℕ) (s : Selected) : Type 0 where
@@ -92,7 +98,9 @@ pub record Selects (x y : Answers) (nodes : List ℕ) (s : Selected) : Type 0 wh
 
 -- So for the two values and the nodes of these numbers.
 abbrev pub SelectsFor : Pool → Made → Selected → Type 0
-SelectsFor p k s = (x y : Answers) (nodes : List ℕ) → slice_get p.values.items k.first ≡ Some x → slice_get p.values.items k.second ≡ Some y → slice_get p.keeps.items k.keep ≡ Some nodes → Selects x y nodes s
+SelectsFor p k s =
+    (x y : Answers) (nodes : List ℕ) → slice_get p.values.items k.first ≡ Some x →
+    slice_get p.values.items k.second ≡ Some y → slice_get p.keeps.items k.keep ≡ Some nodes → Selects x y nodes s
 
 -- The bytes are the row of a value on exactly these nodes that is two values together in this view.
 pub record IsRowOfBoth (view : View) (nodes : List ℕ) (x y : Answers) (bytes : List ℕ) : Type 0 where

@@ -13,7 +13,8 @@ use Rattle.release_compile.specs.Summaries.{ArePossibleSets}
 
 -- What the outer graphs of a part reach by the words; a part without switches has none.
 abbrev pub IsReachOf : Judging → List Dbpos → ℕ → Option Reached → Type 0
-IsReachOf j words b (Some r) = ArePossibleSets (ground j) b words r.sets × HasReached (bay_at j b).gap.outer (bay_at j b).load.outer r
+IsReachOf j words b (Some r) =
+    ArePossibleSets (ground j) b words r.sets × HasReached (bay_at j b).gap.outer (bay_at j b).load.outer r
 IsReachOf j words b None = ¬ IsBay j.diagram b
 
 -- Those of the first n parts.

@@ -1,5 +1,6 @@
 -- The summary of an index set.
-use Rattle.std.specs.Prelude.{◌≡◌, ℕ, ◌+◌, ◌-◌, ◌*◌, ◌/◌, ◌%◌, ◌^◌, ◌<◌, ◌==◌, ◌⊎◌, ◌↔◌, suc, Bool, true, List, [], length, slice_get, slice_index, Option, Some, None}
+use Rattle.std.specs.Prelude.{◌≡◌, ℕ, ◌+◌, ◌-◌, ◌*◌, ◌/◌, ◌%◌, ◌^◌, ◌<◌, ◌==◌, ◌⊎◌, ◌↔◌, suc, Bool, true, List, []}
+use Rattle.std.specs.Prelude.{length, slice_get, slice_index, Option, Some, None}
 use Rattle.ilk_base.specs.declared.words.Dbpos.{Dbpos}
 use Rattle.station_graph.specs.Diagram.{part_count}
 use Rattle.station_graph.specs.Alike.{Irrelevant, Partner}
@@ -59,8 +60,12 @@ HeardAllows None c = Unit {0}
 
 -- The sets allow, of each other part, the indices that what was heard of it allows.
 abbrev pub AreHeardSets : Lettered → ℕ → List (Option (List ℕ)) → List (List Bool) → Type 0
-AreHeardSets a bay heard sets = (j c : ℕ) → suc j < part_count a.diagram → IsSet (set_at sets j) c ↔ ((c < index_count a (other_of 0 bay j)) × HeardAllows (slice_get heard (other_of 0 bay j)) c)
+AreHeardSets a bay heard sets =
+    (j c : ℕ) → suc j < part_count a.diagram → IsSet (set_at sets j) c ↔
+    ((c < index_count a (other_of 0 bay j)) × HeardAllows (slice_get heard (other_of 0 bay j)) c)
 
 -- The sets allow, of each other part, the indices of positions that agree with the words.
 abbrev pub ArePossibleSets : Lettered → ℕ → List Dbpos → List (List Bool) → Type 0
-ArePossibleSets a bay words sets = (j c : ℕ) → suc j < part_count a.diagram → IsSet (set_at sets j) c ↔ CanHave a.diagram a.alphabets (other_of 0 bay j) words c
+ArePossibleSets a bay words sets =
+    (j c : ℕ) → suc j < part_count a.diagram → IsSet (set_at sets j) c ↔
+    CanHave a.diagram a.alphabets (other_of 0 bay j) words c

@@ -1,5 +1,6 @@
 -- Of which layers the graphs of a bay tell, as a list.
-use Rattle.std.specs.Prelude.{◌≡◌, ◌⊎◌, ◌↔◌, ◌<◌, ℕ, Bool, true, false, List, length, slice_get, slice_index_or, Option, Some, None}
+use Rattle.std.specs.Prelude.{◌≡◌, ◌⊎◌, ◌↔◌, ◌<◌, ℕ, Bool, true, false, List, length, slice_get, slice_index_or, Option}
+use Rattle.std.specs.Prelude.{Some, None}
 use Rattle.release_compile.specs.declared.bay.BayGraphs.{BayGraphs}
 use Rattle.release_compile.specs.Built.{ViewOf}
 use Rattle.release_compile.specs.BuiltView.{view_of}
@@ -8,7 +9,8 @@ use Rattle.release_compile.specs.PartnerLabels.{TellsOf}
 -- For each layer of the outer graphs whether the graphs of one of the two views tell of it.
 pub record IsToldBy (gap load : ViewOf) (told : List Bool) : Type 0 where
   pub count : length told ≡ length gap.outer.layers
-  pub tells : (j : ℕ) → j < length gap.outer.layers → (slice_index_or told j false ≡ true) ↔ (TellsOf gap.outer gap.inner j ⊎ TellsOf load.outer load.inner j)
+  pub tells : (j : ℕ) → j < length gap.outer.layers → (slice_index_or told j false ≡ true) ↔
+      (TellsOf gap.outer gap.inner j ⊎ TellsOf load.outer load.inner j)
 
 -- The graphs of a part, if it has some, have this list.
 abbrev pub HasTold : Option BayGraphs → Type 0

@@ -93,9 +93,13 @@ fn inner_graphs(
     requires left { left ≤ 8000000 }
     ensures grew { OnOk result (GrewTo pool.old pool.new) }
     ensures notes { OnOk result (AreRight pool.new notes.new.items) }
-    ensures inner { IfOk result (λ r. (a : Alphabets) → AreInner pool.old.view (lettered station.now a) bay.0 first count (values_at pool.old.values.items names.now) r.graphs.items count) }
-    ensures wide { IfErr result (λ e. e ≡ Wide → Passes (SwitchesHave pool.old.view station.now bay.0 first count count) station.now left) }
-    ensures spent { IfOk result (λ r. Spends (SwitchesHave pool.old.view station.now bay.0 first count count) station.now left r.left) }
+    ensures inner { IfOk result (λ r. (a : Alphabets) →
+        AreInner pool.old.view (lettered station.now a) bay.0 first count (values_at pool.old.values.items names.now)
+        r.graphs.items count) }
+    ensures wide { IfErr result (λ e. e ≡ Wide →
+        Passes (SwitchesHave pool.old.view station.now bay.0 first count count) station.now left) }
+    ensures spent { IfOk result (λ r. Spends (SwitchesHave pool.old.view station.now bay.0 first count count)
+        station.now left r.left) }
     ensures left { IfOk result (λ r. r.left ≤ left) }
 {
     let _count = station.switch_count();
@@ -133,7 +137,8 @@ fn view_graphs(
     requires switches { AreSwitchesOf station.now bay.0 first count }
     requires left { left ≤ 8000000 }
     ensures stock { OnOk result (IsStock (lettered station.now parts.now) view stock.new) }
-    ensures graphs { IfOk result (λ r. AreViewGraphs view (lettered station.now parts.now) bay.0 first count (view_of r.graphs)) }
+    ensures graphs { IfOk result (λ r. AreViewGraphs view (lettered station.now parts.now) bay.0 first count
+        (view_of r.graphs)) }
     ensures wide { IfErr result (λ e. e ≡ Wide → Passes (ViewHas view station.now bay.0 first count) station.now left) }
     ensures spent { IfOk result (λ r. Spends (ViewHas view station.now bay.0 first count) station.now left r.left) }
     ensures left { IfOk result (λ r. r.left ≤ left) }

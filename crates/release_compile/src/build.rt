@@ -1,5 +1,6 @@
 //! The graphs of a station.
-ghost use Rattle.std.specs.Prelude.{◌≡◌, ◌+◌, ◌-◌, ◌<◌, ◌≤◌, ◌⊎◌, ◌++◌, ◌∷◌, [], ℕ, length, map, slice_get, Some, IfOk, IfErr, OnOk};
+ghost use Rattle.std.specs.Prelude.{◌≡◌, ◌+◌, ◌-◌, ◌<◌, ◌≤◌, ◌⊎◌, ◌++◌, ◌∷◌, [], ℕ, length, map, slice_get, Some, IfOk};
+ghost use Rattle.std.specs.Prelude.{IfErr, OnOk};
 ghost use Rattle.station_graph.specs.Diagram.{part_count};
 ghost use Rattle.station_graph.specs.Connection.{a_switch};
 ghost use Rattle.station_graph.specs.Sharing.{OfPart};
@@ -16,7 +17,8 @@ ghost use Rattle.release_compile.specs.declared.view.View.TheVariants.{Gap, Load
 ghost use Rattle.release_compile.specs.Counted.{BayHas, Passes};
 ghost use Rattle.release_compile.specs.Built.{AreBays, AreGraphsOf, AreBayGraphs};
 ghost use Rattle.release_compile.specs.BuiltView.{seen_bay, seen_part};
-ghost use Rattle.release_compile.specs.Judging.{ground, bay_at, inner_at, AllFit, PartHasEdges, KeepEdges, KeepsLimits, IsBuildRefusal, IsTooWide};
+ghost use Rattle.release_compile.specs.Judging.{ground, bay_at, inner_at, AllFit, PartHasEdges, KeepEdges, KeepsLimits};
+ghost use Rattle.release_compile.specs.Judging.{IsBuildRefusal, IsTooWide};
 
 use crate::bay::{BayGraphs, bay_graphs};
 use crate::layer::Trouble;
@@ -72,7 +74,8 @@ fn part_graphs(
     ensures load { OnOk result (IsStock (lettered station.now parts.now) Load load.new) }
     ensures told { IfOk result (λ r. HasTold r.graphs) }
     ensures graphs { IfOk result (λ r. AreGraphsOf (lettered station.now parts.now) bay.0 (seen_part r.graphs)) }
-    ensures wide { IfErr result (λ e. e ≡ IsWide → IsBay station.now bay.0 × Passes (BayHas station.now bay.0) station.now left) }
+    ensures wide { IfErr result (λ e. e ≡ IsWide →
+        IsBay station.now bay.0 × Passes (BayHas station.now bay.0) station.now left) }
     ensures spent { IfOk result (λ r. PartHasEdges station.now bay.0 (left - r.left)) }
     ensures left { IfOk result (λ r. r.left ≤ left) }
 {
@@ -104,7 +107,8 @@ fn all_bays(
 ) -> Result<Vec<Option<BayGraphs>>, BuildRefusal>
     requires lettered { AreAlphabets station.now parts.now }
     requires shared { AreShared station.now shared.now }
-    ensures bays { IfOk result (λ v. AreBays (lettered station.now parts.now) (map seen_part v.items) (part_count station.now)) }
+    ensures bays { IfOk result (λ v. AreBays (lettered station.now parts.now) (map seen_part v.items)
+        (part_count station.now)) }
     ensures fits { IfOk result (λ _. (edges : ℕ) × KeepEdges station.now (part_count station.now) edges) }
     ensures refusal { IfErr result (IsTooWide station.now) }
 {
@@ -266,8 +270,11 @@ impl<'a> GraphJudge<'a> {
     /// It is reduced. Time: the logarithm of the switches.
     pub fn inner_gap(&self, id: SwitchId) -> &Graph
         requires { id.0 < length self.now.diagram.switches }
-        ensures value { result.now ≡ inner_at (bay_at self.now (bay_of self.now.diagram id.0)) (bay_at self.now (bay_of self.now.diagram id.0)).gap id.0 }
-        ensures graphs { AreBayGraphs (ground self.now) (bay_of self.now.diagram id.0) (bay_at self.now (bay_of self.now.diagram id.0)) }
+        ensures value { result.now
+            ≡ inner_at (bay_at self.now (bay_of self.now.diagram id.0))
+            (bay_at self.now (bay_of self.now.diagram id.0)).gap id.0 }
+        ensures graphs { AreBayGraphs (ground self.now) (bay_of self.now.diagram id.0)
+            (bay_at self.now (bay_of self.now.diagram id.0)) }
     {
         let bay = switch_bay(self.station, id);
         let graphs = self.bay(bay);
@@ -279,8 +286,11 @@ impl<'a> GraphJudge<'a> {
     /// load graph, then as in the inner gap graph. A label is 1 where moving the switch breaks R3, else 0.
     pub fn inner_load(&self, id: SwitchId) -> &Graph
         requires { id.0 < length self.now.diagram.switches }
-        ensures value { result.now ≡ inner_at (bay_at self.now (bay_of self.now.diagram id.0)) (bay_at self.now (bay_of self.now.diagram id.0)).load id.0 }
-        ensures graphs { AreBayGraphs (ground self.now) (bay_of self.now.diagram id.0) (bay_at self.now (bay_of self.now.diagram id.0)) }
+        ensures value { result.now
+            ≡ inner_at (bay_at self.now (bay_of self.now.diagram id.0))
+            (bay_at self.now (bay_of self.now.diagram id.0)).load id.0 }
+        ensures graphs { AreBayGraphs (ground self.now) (bay_of self.now.diagram id.0)
+            (bay_at self.now (bay_of self.now.diagram id.0)) }
     {
         let bay = switch_bay(self.station, id);
         let graphs = self.bay(bay);

@@ -86,9 +86,13 @@ pub(crate) fn codes(
     requires switch { id.0 < length station.now.switches }
     requires nodes { AreNodes list.now }
     requires within { (t i : ℕ) → slice_get states.now t ≡ Some i → i < length pool.now.values.items }
-    requires places { (t p : ℕ) (x : Answers) → slice_get (values_at pool.now.values.items states.now) t ≡ Some x → Keeps x.kept p → p < length list.now }
-    requires ends { (t : ℕ) (x : Answers) → slice_get (values_at (map (mapped (node_of list.now)) pool.now.values.items) states.now) t ≡ Some x → KeepsEnds station.now id.0 x }
-    ensures { IfOk result (λ v. AreCodes pool.now.view station.now id.0 (values_at (map (mapped (node_of list.now)) pool.now.values.items) states.now) v.items) }
+    requires places { (t p : ℕ) (x : Answers) → slice_get (values_at pool.now.values.items states.now) t ≡ Some x →
+        Keeps x.kept p → p < length list.now }
+    requires ends { (t : ℕ) (x : Answers) →
+        slice_get (values_at (map (mapped (node_of list.now)) pool.now.values.items) states.now) t ≡ Some x →
+        KeepsEnds station.now id.0 x }
+    ensures { IfOk result (λ v. AreCodes pool.now.view station.now id.0
+        (values_at (map (mapped (node_of list.now)) pool.now.values.items) states.now) v.items) }
 {
     let mut codes = Vec::new(alloc);
     let count = states.len();

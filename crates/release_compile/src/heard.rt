@@ -66,7 +66,8 @@ pub(crate) fn judge_heard(
     requires own { AreWords station.now own.now }
     requires heard { length heard.now ≡ part_count station.now }
     requires fits { HeardFit (by_indices (lettered station.now parts.now)) bay.0 heard.now }
-    ensures { IfOk result (Decides station.now (CannotExclude (by_indices (lettered station.now parts.now)) bay.0 own.now heard.now) op) }
+    ensures { IfOk result (Decides station.now
+        (CannotExclude (by_indices (lettered station.now parts.now)) bay.0 own.now heard.now) op) }
 {
     let _count = station.part_count();
     let reached = reach_heard(alloc, station, parts, graphs, bay, heard)?;

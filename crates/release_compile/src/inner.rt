@@ -54,7 +54,8 @@ fn inner_intake(
     requires list { (n : ℕ) → Contains list.now n ↔ InnerNeeds station.now bay.0 moved first others 0 n }
     requires names { AreNames pool.old station.now bay.0 names.now }
     ensures grew { OnOk result (GrewTo pool.old pool.new) }
-    ensures ready { IfOk result (λ i. (a : Alphabets) → IsInPlaces (lettered station.now a) bay.0 moved first others list.now pool.old pool.new names.now i) }
+    ensures ready { IfOk result (λ i. (a : Alphabets) →
+        IsInPlaces (lettered station.now a) bay.0 moved first others list.now pool.old pool.new names.now i) }
 {
     let _count = station.switch_count();
     let labels = names_in_places(alloc, pool, list, names)?;
@@ -92,10 +93,14 @@ pub(crate) fn inner_graph(
     requires left { left ≤ 8000000 }
     ensures grew { OnOk result (GrewTo pool.old pool.new) }
     ensures notes { OnOk result (AreRight pool.new notes.new.items) }
-    ensures wide { IfErr result (λ e. e ≡ Wide → Passes (InnerHas pool.old.view station.now bay.0 moved first others others) station.now left) }
-    ensures spent { IfOk result (λ r. Spends (InnerHas pool.old.view station.now bay.0 moved first others others) station.now left r.left) }
+    ensures wide { IfErr result (λ e. e ≡ Wide →
+        Passes (InnerHas pool.old.view station.now bay.0 moved first others others) station.now left) }
+    ensures spent { IfOk result (λ r. Spends (InnerHas pool.old.view station.now bay.0 moved first others others)
+        station.now left r.left) }
     ensures small { IfOk result (λ r. InnerIsSmall pool.old.view station.now bay.0 moved first others r.graph) }
-    ensures inner { IfOk result (λ r. (a : Alphabets) → IsInner pool.old.view (lettered station.now a) bay.0 moved first others (values_at pool.old.values.items names.now) r.graph) }
+    ensures inner { IfOk result (λ r. (a : Alphabets) →
+        IsInner pool.old.view (lettered station.now a) bay.0 moved first others
+        (values_at pool.old.values.items names.now) r.graph) }
     ensures labels { IfOk result (λ r. r.graph.labels ≡ labels_of pool.old.view) }
     ensures reduced { IfOk result (λ r. AreReduced r.graph.layers) }
     ensures left { IfOk result (λ r. r.left ≤ left) }

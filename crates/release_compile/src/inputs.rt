@@ -1,5 +1,6 @@
 //! What the layers of a graph take in: values and lists of nodes, by their numbers in a pool.
-ghost use Rattle.std.specs.Prelude.{◌≡◌, ℕ, suc, ◌+◌, ◌<◌, ◌≤◌, ◌↔◌, length, map, slice_get, Some, OnOk, IfOk, Contains, true, false};
+ghost use Rattle.std.specs.Prelude.{◌≡◌, ℕ, suc, ◌+◌, ◌<◌, ◌≤◌, ◌↔◌, length, map, slice_get, Some, OnOk, IfOk};
+ghost use Rattle.std.specs.Prelude.{Contains, true, false};
 ghost use Rattle.station_graph.specs.Diagram.{part_count};
 ghost use Rattle.station_graph.specs.Connection.{a_switch};
 ghost use Rattle.station_graph.specs.Sharing.{Touches};
@@ -10,7 +11,8 @@ ghost use Rattle.release_compile.specs.Pooling.{IsPool, GrewTo};
 ghost use Rattle.release_compile.specs.Places.{node_of, pool_on};
 ghost use Rattle.release_compile.specs.Graphs.{other_of};
 ghost use Rattle.release_compile.specs.Needing.{AreShared, IsNeededOuter, InnerNeeds};
-ghost use Rattle.release_compile.specs.Inputs.{AreKeeps, AreCopies, AreLetters, AreOtherRows, HasNothing, HasLinks, HasSwitch, HasPair, AreInnerRows};
+ghost use Rattle.release_compile.specs.Inputs.{AreKeeps, AreCopies, AreLetters, AreOtherRows, HasNothing, HasLinks};
+ghost use Rattle.release_compile.specs.Inputs.{HasSwitch, HasPair, AreInnerRows};
 
 use crate::needed::{inner_nodes, met_nodes, outer_nodes};
 use crate::places::{intern_in_places, places_of};
@@ -58,7 +60,8 @@ fn copies(
     nodes: &NodeList,
 ) -> Result<Vec<usize>, Memory>
     requires pool { IsPool pool.old }
-    requires nodes { (c : ℕ) (x : Answers) → slice_get values.now c ≡ Some x → (n : ℕ) → Keeps x.kept n ↔ Contains nodes.now n }
+    requires nodes { (c : ℕ) (x : Answers) → slice_get values.now c ≡ Some x → (n : ℕ) → Keeps x.kept n ↔
+        Contains nodes.now n }
     ensures grew { OnOk result (GrewTo pool.old pool.new) }
     ensures copies { IfOk result (λ v. AreCopies pool.new values.now v.items) }
 {
@@ -84,7 +87,8 @@ pub(crate) fn letter_rows(
     requires lettered { AreAlphabets station.now parts.now }
     requires shared { AreShared station.now shared.now }
     ensures grew { OnOk result (GrewTo pool.old pool.new) }
-    ensures rows { IfOk result (λ v. AreLetters (lettered station.now parts.now) pool.new (map (λ r. r.items) v.items) (part_count station.now)) }
+    ensures rows { IfOk result (λ v. AreLetters (lettered station.now parts.now) pool.new (map (λ r. r.items) v.items)
+        (part_count station.now)) }
 {
     let mut rows = Vec::new(alloc);
     for part in 0..station.part_count() {
@@ -146,7 +150,8 @@ pub(crate) fn inner_keeps(
     requires nodes { AreNodes list.now }
     requires start { (n : ℕ) → Contains list.now n ↔ InnerNeeds station.now bay.0 moved first others 0 n }
     ensures grew { OnOk result (GrewTo pool.old pool.new) }
-    ensures keeps { IfOk result (λ v. AreKeeps (InnerNeeds station.now bay.0 moved first others) (pool_on (node_of list.now) pool.new) v.items (suc (suc others))) }
+    ensures keeps { IfOk result (λ v. AreKeeps (InnerNeeds station.now bay.0 moved first others)
+        (pool_on (node_of list.now) pool.new) v.items (suc (suc others))) }
 {
     let _count = station.switch_count();
     let mut keeps = Vec::new(alloc);
@@ -240,9 +245,11 @@ pub(crate) fn inner_rows(
     requires pool { IsPool pool.old }
     requires nodes { AreNodes list.now }
     requires those { first + others < length station.now.switches }
-    requires has { (i n : ℕ) → i < others → Touches station.now (a_switch (other_of first moved i)) n → Contains list.now n }
+    requires has { (i n : ℕ) → i < others → Touches station.now (a_switch (other_of first moved i)) n →
+        Contains list.now n }
     ensures grew { OnOk result (GrewTo pool.old pool.new) }
-    ensures rows { IfOk result (λ v. AreInnerRows station.now moved first (pool_on (node_of list.now) pool.new) names.items (map (λ r. r.items) v.items) others) }
+    ensures rows { IfOk result (λ v. AreInnerRows station.now moved first (pool_on (node_of list.now) pool.new)
+        names.items (map (λ r. r.items) v.items) others) }
 {
     let _count = station.switch_count();
     let mut rows = Vec::new(alloc);

@@ -1,5 +1,6 @@
 //! One layer of a graph: from the values of its nodes to those of the next.
-ghost use Rattle.std.specs.Prelude.{◌≡◌, [], ◌∷◌, ℕ, suc, ◌+◌, ◌*◌, ◌<◌, ◌≤◌, length, map, slice_get, sum_by, List, Some, IfOk, IfErr, OnOk, IsTrue, IsFalse};
+ghost use Rattle.std.specs.Prelude.{◌≡◌, [], ◌∷◌, ℕ, suc, ◌+◌, ◌*◌, ◌<◌, ◌≤◌, length, map, slice_get, sum_by, List};
+ghost use Rattle.std.specs.Prelude.{Some, IfOk, IfErr, OnOk, IsTrue, IsFalse};
 ghost use Rattle.decision_graphs.specs.Finished.{AreFinished};
 ghost use Rattle.contraction.specs.Renaming.{KeepsOrder, mapped};
 ghost use Rattle.release_compile.specs.Pooling.{IsPool, GrewTo, EitherKeeps};
@@ -8,7 +9,8 @@ ghost use Rattle.release_compile.specs.Layering.{IsPlaced, AreEdges, values_at};
 ghost use Rattle.release_compile.specs.Counted.{Spends};
 ghost use Rattle.release_compile.specs.Folding.{IsExact, ReachesMore};
 ghost use Rattle.release_compile.specs.declared.layer.Trouble.TheVariants.{Wide};
-ghost use Rattle.release_compile.specs.Plans.{Plan, PlanFits, PlanHas, PlanPasses, AreLinked, diagram_of, ChosenBy, items_of, NeededBy, layers_of};
+ghost use Rattle.release_compile.specs.Plans.{Plan, PlanFits, PlanHas, PlanPasses, AreLinked, diagram_of, ChosenBy};
+ghost use Rattle.release_compile.specs.Plans.{items_of, NeededBy, layers_of};
 
 use crate::pool::Pool;
 use decision_graphs::FinishedLayer;
@@ -103,13 +105,16 @@ pub(crate) fn next_layer(
     requires some { 0 < length letters.now }
     requires few { length states.now * length letters.now ≤ 80000000 }
     requires keep { keep < length pool.old.keeps.items }
-    requires nodes { (k c i j : ℕ) → slice_get states.now k ≡ Some i → slice_get letters.now c ≡ Some j → EitherKeeps pool.old i j keep }
+    requires nodes { (k c i j : ℕ) → slice_get states.now k ≡ Some i → slice_get letters.now c ≡ Some j →
+        EitherKeeps pool.old i j keep }
     ensures grew { OnOk result (GrewTo pool.old pool.new) }
     ensures few { IfOk result (λ s. length s.next.items ≤ length states.now * length letters.now) }
     ensures edges { IfOk result (λ s. (nodes : List ℕ) → slice_get pool.old.keeps.items keep ≡ Some nodes
-        → AreEdges pool.new.view pool.new.values.items nodes states.now letters.now s.next.items s.edges.items (length states.now * length letters.now)) }
+        → AreEdges pool.new.view pool.new.values.items nodes states.now letters.now s.next.items s.edges.items
+        (length states.now * length letters.now)) }
     ensures wide { IfErr result (λ e. e ≡ Wide → (nodes : List ℕ) → slice_get pool.old.keeps.items keep ≡ Some nodes
-        → ReachesMore pool.old.view nodes (values_at pool.old.values.items states.now) (values_at pool.old.values.items letters.now) most) }
+        → ReachesMore pool.old.view nodes (values_at pool.old.values.items states.now)
+        (values_at pool.old.values.items letters.now) most) }
 {
     let mut next = IndexSet::new(alloc);
     let mut edges = Vec::new(alloc);
@@ -149,7 +154,8 @@ fn too_many(nodes: usize, choices: usize, most: usize) -> bool
 // How many nodes may have the choices of this layer where so many edges are left: so many that one more has too many
 // edges, and any number where there is no such layer.
 fn most_nodes(letters: &[Vec<usize>], j: usize, left: usize) -> usize
-    ensures many { (n : ℕ) (ids : List ℕ) → slice_get (map (λ v. v.items) letters.now) j ≡ Some ids → 0 < length ids → result < n → left < n * length ids }
+    ensures many { (n : ℕ) (ids : List ℕ) → slice_get (map (λ v. v.items) letters.now) j ≡ Some ids → 0 < length ids →
+        result < n → left < n * length ids }
     ensures last { length letters.now ≤ j → result ≡ 18446744073709551615 }
 {
     if j >= letters.len() {
@@ -177,17 +183,24 @@ pub(crate) fn fold_layers(
     requires linked { AreLinked pool.old start (map (λ v. v.items) letters.now) keeps.now }
     requires budget { budget ≤ 80000000 }
     ensures grew { OnOk result (GrewTo pool.old pool.new) }
-    ensures wide { IfErr result (λ e. e ≡ Wide → (f : ℕ → ℕ) (plan : Plan) → KeepsOrder f → PlanFits plan (pool_on f pool.old) start (map (λ v. v.items) letters.now) keeps.now
+    ensures wide { IfErr result (λ e. e ≡ Wide → (f : ℕ → ℕ) (plan : Plan) → KeepsOrder f →
+        PlanFits plan (pool_on f pool.old) start (map (λ v. v.items) letters.now) keeps.now
         → PlanPasses pool.old.view plan (map (λ v. v.items) letters.now) budget) }
-    ensures spent { IfOk result (λ r. (f : ℕ → ℕ) (plan : Plan) → KeepsOrder f → PlanFits plan (pool_on f pool.old) start (map (λ v. v.items) letters.now) keeps.now
-        → Spends (PlanHas pool.old.view plan (map (λ v. v.items) letters.now) (length letters.now)) (diagram_of plan) budget r.left) }
-    ensures exact { IfOk result (λ r. (f : ℕ → ℕ) (plan : Plan) → KeepsOrder f → PlanFits plan (pool_on f pool.old) start (map (λ v. v.items) letters.now) keeps.now
-        → IsExact pool.old.view (diagram_of plan) (ChosenBy plan) (items_of plan) (NeededBy plan) (length letters.now) (layers_of r.layers.items) (values_at (map (mapped f) pool.new.values.items) r.states.items)) }
+    ensures spent { IfOk result (λ r. (f : ℕ → ℕ) (plan : Plan) → KeepsOrder f →
+        PlanFits plan (pool_on f pool.old) start (map (λ v. v.items) letters.now) keeps.now
+        → Spends (PlanHas pool.old.view plan (map (λ v. v.items) letters.now) (length letters.now)) (diagram_of plan)
+        budget r.left) }
+    ensures exact { IfOk result (λ r. (f : ℕ → ℕ) (plan : Plan) → KeepsOrder f →
+        PlanFits plan (pool_on f pool.old) start (map (λ v. v.items) letters.now) keeps.now
+        → IsExact pool.old.view (diagram_of plan) (ChosenBy plan) (items_of plan) (NeededBy plan) (length letters.now)
+        (layers_of r.layers.items) (values_at (map (mapped f) pool.new.values.items) r.states.items)) }
     ensures finished { IfOk result (λ r. AreFinished (length r.states.items) r.layers.items) }
-    ensures choices { IfOk result (λ r. map (λ (l : FinishedLayer). l.choices) r.layers.items ≡ map length (map (λ v. v.items) letters.now)) }
+    ensures choices { IfOk result (λ r. map (λ (l : FinishedLayer). l.choices) r.layers.items
+        ≡ map length (map (λ v. v.items) letters.now)) }
     ensures few { IfOk result (λ r. sum_by (λ (l : FinishedLayer). l.nodes) r.layers.items + r.left ≤ budget) }
     ensures states_few { IfOk result (λ r. length r.states.items ≤ suc budget) }
-    ensures states_in { IfOk result (λ r. (t i : ℕ) → slice_get r.states.items t ≡ Some i → i < length pool.new.values.items) }
+    ensures states_in { IfOk result (λ r. (t i : ℕ) → slice_get r.states.items t ≡ Some i →
+        i < length pool.new.values.items) }
 {
     let mut layers = Vec::new(alloc);
     let mut states = list_of(alloc, start)?;

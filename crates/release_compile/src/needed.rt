@@ -1,11 +1,13 @@
 //! The nodes that are kept before each layer of a graph.
-ghost use Rattle.std.specs.Prelude.{◌≡◌, ℕ, ◌+◌, ◌<◌, ◌≤◌, ◌⊎◌, ◌↔◌, List, suc, length, slice_get, Some, true, IfOk, IsTrue, Contains};
+ghost use Rattle.std.specs.Prelude.{◌≡◌, ℕ, ◌+◌, ◌<◌, ◌≤◌, ◌⊎◌, ◌↔◌, List, suc, length, slice_get, Some, true, IfOk};
+ghost use Rattle.std.specs.Prelude.{IsTrue, Contains};
 ghost use Rattle.station_graph.specs.Diagram.{part_count, node_count};
 ghost use Rattle.station_graph.specs.Connection.{a_switch};
 ghost use Rattle.station_graph.specs.Sharing.{AtSwitch, Touches, IsShared};
 ghost use Rattle.contraction.specs.Answers.{AreNodes};
 ghost use Rattle.release_compile.specs.Graphs.{other_of, IsOwn};
-ghost use Rattle.release_compile.specs.Needing.{AreShared, AreMet, SharesFrom, IsNeededOuter, TouchesOther, IsNeededInner};
+ghost use Rattle.release_compile.specs.Needing.{AreShared, AreMet, SharesFrom, IsNeededOuter, TouchesOther};
+ghost use Rattle.release_compile.specs.Needing.{IsNeededInner};
 
 use crate::placing::other_number;
 use ilk_base::{BayId, Memory, NodeId, SwitchId};
@@ -116,7 +118,8 @@ pub(crate) fn start_nodes(
     requires moved { moved < length station.now.switches }
     requires those { first + others < length station.now.switches }
     requires shared { (n : ℕ) → Contains shared.now n ↔ IsShared station.now bay.0 n }
-    ensures exact { IfOk result (λ l. (n : ℕ) → Contains l n ↔ (IsShared station.now bay.0 n ⊎ IsNeededInner station.now moved first others 0 n)) }
+    ensures exact { IfOk result (λ l. (n : ℕ) → Contains l n ↔
+        (IsShared station.now bay.0 n ⊎ IsNeededInner station.now moved first others 0 n)) }
     ensures nodes { IfOk result AreNodes }
 {
     let mut nodes = NodeList::new(alloc);
@@ -209,7 +212,8 @@ pub(crate) fn outer_nodes(
 
 // Whether one of the parts shares the node.
 fn some_shares(shared: &[NodeList], node: u16) -> bool
-    ensures { (part : ℕ) (nodes : List ℕ) → slice_get shared.now part ≡ Some nodes → Contains nodes node → IsTrue result }
+    ensures { (part : ℕ) (nodes : List ℕ) → slice_get shared.now part ≡ Some nodes → Contains nodes node →
+        IsTrue result }
 {
     for part in 0..shared.len() {
         if shared[part].numbers().contains(&node) {

@@ -1,5 +1,6 @@
 //! Graphs that were made before, so that bays that look the same share them.
-ghost use Rattle.std.specs.Prelude.{◌≡◌, ℕ, suc, ◌+◌, ◌<◌, ◌≤◌, length, map, slice_get, Some, IfOk, IfErr, IfSome, OnOk, IsTrue};
+ghost use Rattle.std.specs.Prelude.{◌≡◌, ℕ, suc, ◌+◌, ◌<◌, ◌≤◌, length, map, slice_get, Some, IfOk, IfErr, IfSome};
+ghost use Rattle.std.specs.Prelude.{OnOk, IsTrue};
 ghost use Rattle.contraction.specs.Renaming.{KeepsOrder};
 ghost use Rattle.release_compile.specs.Pooling.{IsPool, GrewTo};
 ghost use Rattle.release_compile.specs.Places.{pool_on};
@@ -92,7 +93,8 @@ fn note(alloc: Global, pool: &mut Pool, intake: Intake, budget: usize) -> Result
     ensures few { IfOk result (λ n. length n.names.items ≤ suc budget) }
     ensures intake { IfOk result (λ n. n.intake ≡ intake) }
     ensures within { IfOk result (λ n. n.edges ≤ budget) }
-    ensures wide { IfErr result (λ e. e ≡ Wide → (f : ℕ → ℕ) (plan : Plan) → KeepsOrder f → PlanFits plan (pool_on f pool.old) intake.start (rows_of intake) intake.keeps.items
+    ensures wide { IfErr result (λ e. e ≡ Wide → (f : ℕ → ℕ) (plan : Plan) → KeepsOrder f →
+        PlanFits plan (pool_on f pool.old) intake.start (rows_of intake) intake.keeps.items
         → PlanPasses pool.old.view plan (rows_of intake) budget) }
 {
     let drafts = fold_layers(
@@ -129,8 +131,10 @@ fn renew(
     requires few { length (rows_of intake) ≤ 65535 }
     requires budget { budget ≤ 8000000 }
     ensures grew { OnOk result (GrewTo pool.old pool.new) }
-    ensures noted { OnOk result ((n : Note) × (last.new ≡ Some n) × IsNoted pool.new n × (length n.names.items ≤ 8000001) × SameIntake n.intake intake) }
-    ensures wide { IfErr result (λ e. e ≡ Wide → (f : ℕ → ℕ) (plan : Plan) → KeepsOrder f → PlanFits plan (pool_on f pool.old) intake.start (rows_of intake) intake.keeps.items
+    ensures noted { OnOk result ((n : Note) × (last.new ≡ Some n) × IsNoted pool.new n
+        × (length n.names.items ≤ 8000001) × SameIntake n.intake intake) }
+    ensures wide { IfErr result (λ e. e ≡ Wide → (f : ℕ → ℕ) (plan : Plan) → KeepsOrder f →
+        PlanFits plan (pool_on f pool.old) intake.start (rows_of intake) intake.keeps.items
         → PlanPasses pool.old.view plan (rows_of intake) budget) }
 {
     if is_noted(last, &intake) {
@@ -189,7 +193,8 @@ pub(crate) fn taken(
     ensures last { OnOk result (IsRight pool.new last.new) }
     ensures taken { IfOk result (IsTaken pool.new intake budget) }
     ensures few { IfOk result (λ o. length o.names.items ≤ 8000001) }
-    ensures wide { IfErr result (λ e. e ≡ Wide → (f : ℕ → ℕ) (plan : Plan) → KeepsOrder f → PlanFits plan (pool_on f pool.old) intake.start (rows_of intake) intake.keeps.items
+    ensures wide { IfErr result (λ e. e ≡ Wide → (f : ℕ → ℕ) (plan : Plan) → KeepsOrder f →
+        PlanFits plan (pool_on f pool.old) intake.start (rows_of intake) intake.keeps.items
         → PlanPasses pool.old.view plan (rows_of intake) budget) }
 {
     renew(alloc, pool, last, intake, budget)?;
@@ -224,8 +229,10 @@ fn noted_at(
     requires budget { budget ≤ 16000001 }
     ensures grew { OnOk result (GrewTo pool.old pool.new) }
     ensures notes { OnOk result (AreRight pool.new notes.new.items) }
-    ensures noted { IfOk result (λ k. (n : Note) × (slice_get notes.new.items k ≡ Some n) × SameIntake n.intake intake) }
-    ensures wide { IfErr result (λ e. e ≡ Wide → (f : ℕ → ℕ) (plan : Plan) → KeepsOrder f → PlanFits plan (pool_on f pool.old) intake.start (rows_of intake) intake.keeps.items
+    ensures noted { IfOk result (λ k. (n : Note) × (slice_get notes.new.items k ≡ Some n)
+        × SameIntake n.intake intake) }
+    ensures wide { IfErr result (λ e. e ≡ Wide → (f : ℕ → ℕ) (plan : Plan) → KeepsOrder f →
+        PlanFits plan (pool_on f pool.old) intake.start (rows_of intake) intake.keeps.items
         → PlanPasses pool.old.view plan (rows_of intake) budget) }
 {
     let held = notes.as_slice();
@@ -255,7 +262,8 @@ pub(crate) fn taken_again(
     ensures grew { OnOk result (GrewTo pool.old pool.new) }
     ensures notes { OnOk result (AreRight pool.new notes.new.items) }
     ensures taken { IfOk result (IsTaken pool.new intake budget) }
-    ensures wide { IfErr result (λ e. e ≡ Wide → (f : ℕ → ℕ) (plan : Plan) → KeepsOrder f → PlanFits plan (pool_on f pool.old) intake.start (rows_of intake) intake.keeps.items
+    ensures wide { IfErr result (λ e. e ≡ Wide → (f : ℕ → ℕ) (plan : Plan) → KeepsOrder f →
+        PlanFits plan (pool_on f pool.old) intake.start (rows_of intake) intake.keeps.items
         → PlanPasses pool.old.view plan (rows_of intake) budget) }
 {
     let place = noted_at(alloc, pool, notes, intake, budget)?;

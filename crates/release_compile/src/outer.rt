@@ -36,12 +36,14 @@ fn outer_intake(
 ) -> Result<Intake, Memory>
     requires pool { IsPool pool.old }
     requires lettered { AreAlphabets station.now parts.now }
-    requires letters { AreLetters (lettered station.now parts.now) pool.old (map (λ v. v.items) letters.now) (part_count station.now) }
+    requires letters { AreLetters (lettered station.now parts.now) pool.old (map (λ v. v.items) letters.now)
+        (part_count station.now) }
     requires shared { AreShared station.now shared.now }
     requires count { suc others ≡ part_count station.now }
     requires bay { bay.0 < part_count station.now }
     ensures grew { OnOk result (GrewTo pool.old pool.new) }
-    ensures ready { IfOk result (λ i. IsOuterReady (lettered station.now parts.now) bay.0 pool.new i.start (rows_of i) i.keeps.items) }
+    ensures ready { IfOk result (λ i. IsOuterReady (lettered station.now parts.now) bay.0 pool.new i.start (rows_of i)
+        i.keeps.items) }
     ensures count { IfOk result (λ i. length (rows_of i) ≡ others) }
 {
     let _count = station.part_count();
@@ -71,7 +73,8 @@ pub(crate) fn outer_graph(
 ) -> Result<Copied, Trouble>
     requires pool { IsPool pool.old }
     requires lettered { AreAlphabets station.now parts.now }
-    requires letters { AreLetters (lettered station.now parts.now) pool.old (map (λ v. v.items) letters.now) (part_count station.now) }
+    requires letters { AreLetters (lettered station.now parts.now) pool.old (map (λ v. v.items) letters.now)
+        (part_count station.now) }
     requires last { IsRight pool.old last.old }
     requires shared { AreShared station.now shared.now }
     requires count { suc others ≡ part_count station.now }
@@ -79,10 +82,13 @@ pub(crate) fn outer_graph(
     requires left { left ≤ 8000000 }
     ensures grew { OnOk result (GrewTo pool.old pool.new) }
     ensures last { OnOk result (IsRight pool.new last.new) }
-    ensures wide { IfErr result (λ e. e ≡ Wide → Passes (OuterHas pool.old.view station.now bay.0 others) station.now left) }
-    ensures spent { IfOk result (λ o. Spends (OuterHas pool.old.view station.now bay.0 others) station.now left o.left) }
+    ensures wide { IfErr result (λ e. e ≡ Wide →
+        Passes (OuterHas pool.old.view station.now bay.0 others) station.now left) }
+    ensures spent { IfOk result (λ o. Spends (OuterHas pool.old.view station.now bay.0 others) station.now
+        left o.left) }
     ensures small { IfOk result (λ o. OuterIsSmall pool.old.view station.now bay.0 o.graph) }
-    ensures outer { IfOk result (λ o. IsOuter pool.old.view (lettered station.now parts.now) bay.0 o.graph (values_at pool.new.values.items o.names.items)) }
+    ensures outer { IfOk result (λ o. IsOuter pool.old.view (lettered station.now parts.now) bay.0 o.graph
+        (values_at pool.new.values.items o.names.items)) }
     ensures reduced { IfOk result (λ o. AreReduced o.graph.layers) }
     ensures names { IfOk result (λ o. AreNames pool.new station.now bay.0 o.names.items) }
     ensures names_few { IfOk result (λ o. length o.names.items ≤ 8000001) }

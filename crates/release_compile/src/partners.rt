@@ -1,7 +1,8 @@
 //! The partners of a bay, by its graphs. Another bay is a partner where some answer for an operation of the bay changes
 //! with the other bay's switches. Labels of an outer graph that no inner graph tells apart are made one; the parts on
 //! which one of the two graphs then depends are the partners.
-ghost use Rattle.std.specs.Prelude.{◌≡◌, ◌≢◌, ◌⊎◌, ℕ, ◌<◌, ◌≤◌, ◌↔◌, length, slice_index_or, slice_get, Some, true, false, IfOk, IfSome, IsTrue, IsFalse};
+ghost use Rattle.std.specs.Prelude.{◌≡◌, ◌≢◌, ◌⊎◌, ℕ, ◌<◌, ◌≤◌, ◌↔◌, length, slice_index_or, slice_get, Some, true};
+ghost use Rattle.std.specs.Prelude.{false, IfOk, IfSome, IsTrue, IsFalse};
 ghost use Rattle.station_graph.specs.Alike.{Partner, Irrelevant};
 ghost use Rattle.central_rules.specs.Meaning.{IsBay};
 ghost use Rattle.release_compile.specs.Graphs.{other_of};
@@ -97,7 +98,8 @@ fn before_like<'b>(
     gap: &ViewGraphs,
     load: &ViewGraphs,
 ) -> Option<&'b BayGraphs>
-    ensures { IfSome result (λ g. (b : ℕ) × (slice_get bays.now b ≡ Some (Some g.now)) × AreThese g.now (view_of gap.now) (view_of load.now)) }
+    ensures { IfSome result (λ g. (b : ℕ) × (slice_get bays.now b ≡ Some (Some g.now))
+        × AreThese g.now (view_of gap.now) (view_of load.now)) }
 {
     if bays.is_empty() {
         return None;

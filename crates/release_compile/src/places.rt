@@ -110,9 +110,11 @@ fn copy_in_places(
     requires pool { IsPool pool.old }
     requires nodes { AreNodes list.now }
     requires within { id < length pool.old.values.items }
-    requires has { (x : Answers) → slice_get pool.old.values.items id ≡ Some x → (n : ℕ) → Keeps x.kept n → Contains list.now n }
+    requires has { (x : Answers) → slice_get pool.old.values.items id ≡ Some x → (n : ℕ) → Keeps x.kept n →
+        Contains list.now n }
     ensures grew { OnOk result (GrewTo pool.old pool.new) }
-    ensures copy { IfOk result (λ t. (x : Answers) → slice_get pool.old.values.items id ≡ Some x → HasCopy (pool_on (node_of list.now) pool.new) x t) }
+    ensures copy { IfOk result (λ t. (x : Answers) → slice_get pool.old.values.items id ≡ Some x →
+        HasCopy (pool_on (node_of list.now) pool.new) x t) }
 {
     let value = &pool.values[id];
     let moved = in_places(alloc, list, value)?;
@@ -130,9 +132,11 @@ pub(crate) fn names_in_places(
     requires pool { IsPool pool.old }
     requires nodes { AreNodes list.now }
     requires within { (t i : ℕ) → slice_get names.now t ≡ Some i → i < length pool.old.values.items }
-    requires has { (t : ℕ) (x : Answers) → slice_get (values_at pool.old.values.items names.now) t ≡ Some x → (n : ℕ) → Keeps x.kept n → Contains list.now n }
+    requires has { (t : ℕ) (x : Answers) → slice_get (values_at pool.old.values.items names.now) t ≡ Some x → (n : ℕ) →
+        Keeps x.kept n → Contains list.now n }
     ensures grew { OnOk result (GrewTo pool.old pool.new) }
-    ensures copies { IfOk result (λ v. AreCopies (pool_on (node_of list.now) pool.new) (values_at pool.old.values.items names.now) v.items) }
+    ensures copies { IfOk result (λ v. AreCopies (pool_on (node_of list.now) pool.new)
+        (values_at pool.old.values.items names.now) v.items) }
 {
     let mut ids = Vec::new(alloc);
     for t in 0..names.len() {

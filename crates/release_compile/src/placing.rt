@@ -89,7 +89,8 @@ pub(crate) fn place_own(
     requires small { (i c : ℕ) → slice_get (drop 1 choices.now) i ≡ Some c → c < 2 }
     ensures count { length vector.new ≡ length vector.old }
     ensures chosen { AreChosen (SwitchChosen first moved) vector.new (drop 1 choices.now) }
-    ensures stay { (i : ℕ) → (i < first) ⊎ ((first + others < i) ⊎ (i ≡ moved)) → slice_get vector.new i ≡ slice_get vector.old i }
+    ensures stay { (i : ℕ) → (i < first) ⊎ ((first + others < i) ⊎ (i ≡ moved)) →
+        slice_get vector.new i ≡ slice_get vector.old i }
 {
     for i in 0..others {
         let closed = choices.choice(i + 1) == 1;

@@ -1,10 +1,12 @@
 //! Values of one view, each kept once.
-ghost use Rattle.std.specs.Prelude.{◌≡◌, ℕ, ◌<◌, ◌⊎◌, ◌↔◌, ◌++◌, List, [], ◌∷◌, length, slice_get, Some, IfOk, IfSome, OnOk, MatchOption, Contains};
+ghost use Rattle.std.specs.Prelude.{◌≡◌, ℕ, ◌<◌, ◌⊎◌, ◌↔◌, ◌++◌, List, [], ◌∷◌, length, slice_get, Some, IfOk, IfSome};
+ghost use Rattle.std.specs.Prelude.{OnOk, MatchOption, Contains};
 ghost use Rattle.contraction.specs.Answers.{Answers, Keeps};
 ghost use Rattle.release_compile.specs.declared.pool.Made.{Made as Key};
 ghost use Rattle.release_compile.specs.declared.view.View.{View as Seen};
 ghost use Rattle.release_compile.specs.Seen.{ComposesIn, seen_row};
-ghost use Rattle.release_compile.specs.Pooling.{IsRowIndex, NotesAreRight, WasMade, IsMade, IsPool, GrewTo, HasSame, HasCopy, EitherKeeps, Selects, SelectsFor, IsRowOfBoth};
+ghost use Rattle.release_compile.specs.Pooling.{IsRowIndex, NotesAreRight, WasMade, IsMade, IsPool, GrewTo, HasSame};
+ghost use Rattle.release_compile.specs.Pooling.{HasCopy, EitherKeeps, Selects, SelectsFor, IsRowOfBoth};
 
 use crate::view::{View, row_in};
 use contraction::{Contraction, Selection};
@@ -21,8 +23,8 @@ pub(crate) struct Made {
     pub(crate) keep: usize,
 }
 
-// Values of one view, each once. Compositions are noted, so that none is made twice. The selection of the last one is at
-// hand for the next, which is mostly of values on the same nodes.
+// Values of one view, each once. Compositions are noted, so that none is made twice. The selection of the last
+// one is at hand for the next, which is mostly of values on the same nodes.
 #[derive(Drop)]
 pub(crate) struct Pool {
     pub(crate) view: View,
@@ -228,7 +230,8 @@ impl Pool {
         requires keep { keep < length self.old.keeps.items }
         requires nodes { EitherKeeps self.old first second keep }
         ensures grew { OnOk result (GrewTo self.old self.new) }
-        ensures made { IfOk result (λ t. WasMade self.new.view self.new.values.items self.new.keeps.items (record { first = first; second = second; keep = keep }) t) }
+        ensures made { IfOk result (λ t. WasMade self.new.view self.new.values.items self.new.keeps.items
+            (record { first = first; second = second; keep = keep }) t) }
     {
         let key = Made {
             first,

@@ -1,5 +1,6 @@
 //! Sets of allowed choices for the graphs of a bay.
-ghost use Rattle.std.specs.Prelude.{◌≡◌, ◌≢◌, ◌+◌, ◌*◌, ◌<◌, ◌≤◌, ◌==◌, ◌⊎◌, ◌↔◌, ℕ, suc, List, [], Bool, true, length, slice_get, Some, IfOk, IsTrue};
+ghost use Rattle.std.specs.Prelude.{◌≡◌, ◌≢◌, ◌+◌, ◌*◌, ◌<◌, ◌≤◌, ◌==◌, ◌⊎◌, ◌↔◌, ℕ, suc, List, [], Bool, true, length};
+ghost use Rattle.std.specs.Prelude.{slice_get, Some, IfOk, IsTrue};
 ghost use Rattle.station_graph.specs.Diagram.{part_count};
 ghost use Rattle.double_points.specs.Words.{Agrees};
 ghost use Rattle.bay_contract.specs.PartAlphabets.{size_of};
@@ -30,7 +31,8 @@ fn allow_if(sets: &mut ChoiceSets, layer: u16, choice: u32, yes: bool)
     ensures count { length sets.new ≡ length sets.old }
     ensures lens { (j : ℕ) → length (set_at sets.new j) ≡ length (set_at sets.old j) }
     ensures sets { (ls : List Layer) → AreSetsOf ls sets.old → AreSetsOf ls sets.new }
-    ensures here { (c : ℕ) → IsSet (set_at sets.new layer) c ↔ (IsSet (set_at sets.old layer) c ⊎ ((yes ≡ true) × (c ≡ choice))) }
+    ensures here { (c : ℕ) → IsSet (set_at sets.new layer) c ↔
+        (IsSet (set_at sets.old layer) c ⊎ ((yes ≡ true) × (c ≡ choice))) }
     ensures others { (j : ℕ) → j ≢ layer → set_at sets.new j ≡ set_at sets.old j }
 {
     if !yes {
@@ -81,7 +83,8 @@ fn heard_marks(alloc: Global, size: u8, part: BayId, heard: &HeardList) -> Resul
     requires part { part.0 < length heard.now }
     requires fits { (s : List ℕ) → slice_get heard.now part.0 ≡ Some (Some s) → (size ≤ 8 * length s) ⊎ (s ≡ []) }
     ensures len { IfOk result (λ v. length v.items ≡ size) }
-    ensures each { IfOk result (λ v. (c : ℕ) → IsSet v.items c ↔ ((c < size) × HeardAllows (slice_get heard.now part.0) c)) }
+    ensures each { IfOk result (λ v. (c : ℕ) → IsSet v.items c ↔
+        ((c < size) × HeardAllows (slice_get heard.now part.0) c)) }
 {
     let mut marks = Vec::new(alloc);
     for index in 0..size {
@@ -105,9 +108,11 @@ pub(crate) fn heard_sets(
     requires count { suc others ≡ part_count station.now }
     requires bay { bay.0 < part_count station.now }
     requires layers { length outer.now.layers ≡ others }
-    requires choices { (j : ℕ) → j < others → (layer_at outer.now.layers j).choices ≡ size_of parts.now (other_of 0 bay.0 j) }
+    requires choices { (j : ℕ) → j < others →
+        (layer_at outer.now.layers j).choices ≡ size_of parts.now (other_of 0 bay.0 j) }
     requires heard { length heard.now ≡ part_count station.now }
-    requires fit { (part : ℕ) (s : List ℕ) → part ≢ bay.0 → slice_get heard.now part ≡ Some (Some s) → (size_of parts.now part ≤ 8 * length s) ⊎ (s ≡ []) }
+    requires fit { (part : ℕ) (s : List ℕ) → part ≢ bay.0 → slice_get heard.now part ≡ Some (Some s) →
+        (size_of parts.now part ≤ 8 * length s) ⊎ (s ≡ []) }
     ensures sets { IfOk result (AreSetsOf outer.now.layers) }
     ensures heard { IfOk result (AreHeardSets (lettered station.now parts.now) bay.0 heard.now) }
 {
@@ -149,7 +154,8 @@ pub(crate) fn possible_sets(
     requires count { suc others ≡ part_count station.now }
     requires bay { bay.0 < part_count station.now }
     requires layers { length outer.now.layers ≡ others }
-    requires choices { (j : ℕ) → j < others → (layer_at outer.now.layers j).choices ≡ size_of parts.now (other_of 0 bay.0 j) }
+    requires choices { (j : ℕ) → j < others →
+        (layer_at outer.now.layers j).choices ≡ size_of parts.now (other_of 0 bay.0 j) }
     requires all { AreAllWords (lettered station.now parts.now) all.now }
     ensures sets { IfOk result (AreSetsOf outer.now.layers) }
     ensures possible { IfOk result (ArePossibleSets (lettered station.now parts.now) bay.0 all.now.words.now) }
@@ -190,7 +196,8 @@ fn allow_positions(inner: &mut ChoiceSets, layer: u16, word: Dbpos)
     ensures count { length inner.new ≡ length inner.old }
     ensures lens { (j : ℕ) → length (set_at inner.new j) ≡ length (set_at inner.old j) }
     ensures sets { (ls : List Layer) → AreSetsOf ls inner.old → AreSetsOf ls inner.new }
-    ensures here { (c : ℕ) → c < 2 → IsSet (set_at inner.new layer) c ↔ (IsSet (set_at inner.old layer) c ⊎ Agrees word (c == 1)) }
+    ensures here { (c : ℕ) → c < 2 → IsSet (set_at inner.new layer) c ↔
+        (IsSet (set_at inner.old layer) c ⊎ Agrees word (c == 1)) }
     ensures others { (j : ℕ) → j ≢ layer → set_at inner.new j ≡ set_at inner.old j }
 {
     let off = agrees(word, false);

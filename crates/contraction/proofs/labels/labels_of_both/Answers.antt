@@ -11,7 +11,8 @@ firsts-init c =
     let q = c.args.second.now in
     let m = c.args.second_labels.now in
     let len : length c.in_ok-classes.classes ≡ c.args.count = c.in_ok-classes.ensures.count in
-    KeepsLabels-alone (EdgeOf p l 0 q m 0) c.args.count c.in_ok-classes.classes len (λ k k_in. c.in_ok-classes.ensures.alone k (omega arith)) (no_edges p l q m)
+    KeepsLabels-alone (EdgeOf p l 0 q m 0) c.args.count c.in_ok-classes.classes len
+    (λ k k_in. c.in_ok-classes.ensures.alone k (omega arith)) (no_edges p l q m)
 
 pub firsts-preserved : goal.firsts-preserved
 firsts-preserved c =
@@ -34,7 +35,8 @@ seconds-preserved c =
     let j_in : j < length q = omega arith in
     let below = fits.below j j_in in
     rw c.merge-in-seconds.ensures
-    (after_second c.args.first.now c.args.first_labels.now q m (length c.args.first.now) j c.args.count c.seconds.classes
+    (after_second c.args.first.now c.args.first_labels.now q m (length c.args.first.now) j c.args.count
+    c.seconds.classes
     (fits.inside j j_in) (fits.inside (slice_index m j) (omega arith)) c.seconds.invariant)
 
 pub seconds-init : goal.seconds-init
@@ -42,7 +44,8 @@ seconds-init c =
     let p = c.args.first.now in
     let l = c.args.first_labels.now in
     let at_end : c.firsts.i ≡ length p = omega arith in
-    subst (λ i. KeepsLabels (EdgeOf p l i c.args.second.now c.args.second_labels.now 0) c.args.count c.firsts.classes) at_end c.firsts.invariant
+    subst (λ i. KeepsLabels (EdgeOf p l i c.args.second.now c.args.second_labels.now 0) c.args.count c.firsts.classes)
+    at_end c.firsts.invariant
 
 pub returns : goal.returns
 returns c =
@@ -51,4 +54,5 @@ returns c =
     let q = c.args.second.now in
     let m = c.args.second_labels.now in
     let at_end : c.seconds.j ≡ length q = omega arith in
-    rw c.into_labels.ensures (subst (λ j. KeepsLabels (EdgeOf p l (length p) q m j) c.args.count c.seconds.classes) at_end c.seconds.invariant)
+    rw c.into_labels.ensures (subst (λ j. KeepsLabels (EdgeOf p l (length p) q m j) c.args.count c.seconds.classes)
+    at_end c.seconds.invariant)

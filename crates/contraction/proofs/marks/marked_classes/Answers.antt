@@ -6,7 +6,8 @@ pub returns : goal.returns
 returns c =
     let labels = c.args.labels.now in
     let cl : List Bool = c.note_both.new.classes in
-    let len : length cl ≡ c.in_ok-classes.classes.len = omega (arith, c.note_both.auto.classes, c.deref_mut.ensures.len) in
+    let len : length cl ≡ c.in_ok-classes.classes.len =
+    omega (arith, c.note_both.auto.classes, c.deref_mut.ensures.len) in
     let same = with_items_is c.in_ok-classes.classes cl len in
     record {
       len = ap length same ∙ omega (arith, len, c.in_ok-classes.ensures.len);

@@ -26,6 +26,7 @@ returns c =
             let p : ℕ = slice_index places k in
             let p_in = c.requires.places k k_in in
             let below = c.requires.below p p_in in
-            h k k_in ∙ ap (λ (l : List Bool). slice_get l (slice_index labels p)) c.deref.ensures.value ∙ sym (wide.2 p p_in (omega (arith, marked.len)));
+            h k k_in ∙ ap (λ (l : List Bool). slice_get l (slice_index labels p)) c.deref.ensures.value
+            ∙ sym (wide.2 p p_in (omega (arith, marked.len)));
       };
     }) c.spread_at.ensures.len c.spread_at.ensures.marks

@@ -12,7 +12,8 @@ returns c =
       told = λ k k_in.
           let class : ℕ = slice_index labels k in
           let below = c.requires.below k k_in in
-          let is : slice_get marks.items k ≡ slice_get cl class = h k k_in ∙ ap (λ (l : List Bool). slice_get l class) c.deref.ensures.value in
+          let is : slice_get marks.items k ≡ slice_get cl class =
+          h k k_in ∙ ap (λ (l : List Bool). slice_get l class) c.deref.ensures.value in
           let noted = marked.told class (omega arith) in
           (λ e. noted.0 (sym is ∙ e), λ m. is ∙ noted.1 m);
     }) c.spread.ensures.len c.spread.ensures.marks

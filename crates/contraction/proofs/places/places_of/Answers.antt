@@ -13,9 +13,12 @@ loop-place-preserved c =
     let told = has_answer nodes (slice_index kept i) c.contains.result c.contains.ensures.cases in
     elim c.if-contains.branch [
       | then-contains+in_ok-push w ↦
-          let new : c.if-contains.places.items ≡ old ++ i ∷ [] = ap (λ p. p.items) w.places-is ∙ w.in_ok-push.ensures.items in
-          subst (PlacesBelow nodes kept (i + 1)) (sym new) (places_pushed nodes kept i old c.loop-place.invariant (told.0 w.if-contains.true))
+          let new : c.if-contains.places.items ≡ old ++ i ∷ [] =
+          ap (λ p. p.items) w.places-is ∙ w.in_ok-push.ensures.items in
+          subst (PlacesBelow nodes kept (i + 1)) (sym new)
+          (places_pushed nodes kept i old c.loop-place.invariant (told.0 w.if-contains.true))
       | else-contains w ↦
           let same : c.if-contains.places.items ≡ old = ap (λ p. p.items) w.places-is in
-          subst (PlacesBelow nodes kept (i + 1)) (sym same) (places_passed nodes kept i old c.loop-place.invariant (told.1 w.if-contains.false))
+          subst (PlacesBelow nodes kept (i + 1)) (sym same)
+          (places_passed nodes kept i old c.loop-place.invariant (told.1 w.if-contains.false))
     ]

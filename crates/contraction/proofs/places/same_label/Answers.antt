@@ -9,6 +9,13 @@ returns c =
     let labels = c.args.labels.now in
     let i = c.place_of.result in
     let j = c.place_of-2.result in (
-      λ e. record { first = i; second = j; at_first = c.place_of.ensures; at_second = c.place_of-2.ensures; same = eqb-true (slice_index labels i) (slice_index labels j) e },
-      λ s. eq-eqb (slice_index labels i) (slice_index labels j) (same_at_places kept labels i j c.args.a c.args.b c.requires.rises c.place_of.ensures c.place_of-2.ensures s),
+      λ e. record {
+        first = i;
+        second = j;
+        at_first = c.place_of.ensures;
+        at_second = c.place_of-2.ensures;
+        same = eqb-true (slice_index labels i) (slice_index labels j) e;
+      },
+      λ s. eq-eqb (slice_index labels i) (slice_index labels j)
+          (same_at_places kept labels i j c.args.a c.args.b c.requires.rises c.place_of.ensures c.place_of-2.ensures s),
     )

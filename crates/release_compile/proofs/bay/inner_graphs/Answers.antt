@@ -22,15 +22,28 @@ loop-i-init c = record {
   grew = grew_same c.args.pool.now c.requires.pool;
   notes = c.requires.notes;
   left = omega arith;
-  spends = record { edges = 0; has = switches_none c.args.pool.now.view c.args.station.now c.args.bay.0 (AreSoMany c.args.station.now) c.args.first c.args.count; all = omega arith };
-  inner = λ a. subst (λ (gs : List Layered). AreInner c.args.pool.now.view (lettered c.args.station.now a) c.args.bay.0 c.args.first c.args.count (values_at c.args.pool.now.values.items c.args.names.now) gs 0) (sym c.new-graphs.ensures.items) (inner_none c.args.pool.now.view (lettered c.args.station.now a) c.args.bay.0 c.args.first c.args.count (values_at c.args.pool.now.values.items c.args.names.now));
+  spends = record {
+    edges = 0;
+    has =
+        switches_none c.args.pool.now.view c.args.station.now c.args.bay.0 (AreSoMany c.args.station.now)
+        c.args.first c.args.count;
+    all = omega arith;
+  };
+  inner =
+      λ a. subst (λ (gs : List Layered). AreInner c.args.pool.now.view (lettered c.args.station.now a) c.args.bay.0
+      c.args.first c.args.count (values_at c.args.pool.now.values.items c.args.names.now) gs 0)
+      (sym c.new-graphs.ensures.items) (inner_none c.args.pool.now.view (lettered c.args.station.now a) c.args.bay.0
+      c.args.first c.args.count (values_at c.args.pool.now.values.items c.args.names.now));
 }
 
 pub inner_graph-requires-clause-own : goal.inner_graph-requires-clause-own
-inner_graph-requires-clause-own c = own_of c.args.station.now c.args.bay.0 c.args.first c.args.count c.loop-i.i c.requires.switches c.loop-i-test.true
+inner_graph-requires-clause-own c =
+    own_of c.args.station.now c.args.bay.0 c.args.first c.args.count c.loop-i.i c.requires.switches c.loop-i-test.true
 
 pub inner_graph-requires-clause-names : goal.inner_graph-requires-clause-names
-inner_graph-requires-clause-names c = names_stay c.args.pool.now c.loop-i.pool (grows c.args.pool.now c.loop-i.pool c.loop-i.invariant.grew) c.args.station.now c.args.bay.0 c.args.names.now c.requires.names
+inner_graph-requires-clause-names c =
+    names_stay c.args.pool.now c.loop-i.pool (grows c.args.pool.now c.loop-i.pool c.loop-i.invariant.grew)
+    c.args.station.now c.args.bay.0 c.args.names.now c.requires.names
 
 pub loop-i-preserved : goal.loop-i-preserved
 loop-i-preserved c =
@@ -41,38 +54,54 @@ loop-i-preserved c =
     let i = c.loop-i.i in
     let made : Layered = c.in_ok-made.made.graph in
     let old : List Answers = values_at p0.values.items c.args.names.now in
-    let same = values_more p0.values.items p.values.items c.args.names.now c.loop-i.invariant.grew.values c.requires.names.within in
+    let same = values_more p0.values.items p.values.items c.args.names.now c.loop-i.invariant.grew.values
+    c.requires.names.within in
     record {
       grew = grew_more p0 p q c.loop-i.invariant.grew g;
       notes = c.in_ok-made.ensures.notes;
       left = omega (arith, c.in_ok-made.ensures.left, c.loop-i.invariant.left);
-      spends = switches_spend p0.view c.args.station.now c.args.bay.0 c.args.first c.args.count i c.args.left c.loop-i.rest c.in_ok-made.made.left c.loop-i-test.true c.loop-i.invariant.spends
-          (subst (λ w. Spends (InnerHas w c.args.station.now c.args.bay.0 (c.args.first + i) c.args.first (c.args.count - 1) (c.args.count - 1)) c.args.station.now c.loop-i.rest c.in_ok-made.made.left) c.loop-i.invariant.grew.view c.in_ok-made.ensures.spent);
+      spends =
+          switches_spend p0.view c.args.station.now c.args.bay.0 c.args.first c.args.count i c.args.left c.loop-i.rest
+          c.in_ok-made.made.left c.loop-i-test.true c.loop-i.invariant.spends
+          (subst
+          (λ w. Spends (InnerHas w c.args.station.now c.args.bay.0 (c.args.first + i) c.args.first (c.args.count - 1)
+          (c.args.count - 1)) c.args.station.now c.loop-i.rest c.in_ok-made.made.left) c.loop-i.invariant.grew.view
+          c.in_ok-made.ensures.spent);
       inner = λ a.
-          let here : IsInner p0.view (lettered c.args.station.now a) c.args.bay.0 (c.args.first + i) c.args.first (c.args.count - 1) old made =
-          subst (λ w. IsInner w (lettered c.args.station.now a) c.args.bay.0 (c.args.first + i) c.args.first (c.args.count - 1) old made) c.loop-i.invariant.grew.view
-          (subst (λ xs. IsInner p.view (lettered c.args.station.now a) c.args.bay.0 (c.args.first + i) c.args.first (c.args.count - 1) xs made) same (c.in_ok-made.ensures.inner a)) in
-          let new : IsInnerAt p0.view (lettered c.args.station.now a) c.args.bay.0 c.args.first c.args.count old i made = record {
+          let here : IsInner p0.view (lettered c.args.station.now a) c.args.bay.0 (c.args.first + i) c.args.first
+          (c.args.count - 1) old made =
+          subst (λ w. IsInner w (lettered c.args.station.now a) c.args.bay.0 (c.args.first + i) c.args.first
+          (c.args.count - 1) old made) c.loop-i.invariant.grew.view
+          (subst (λ xs. IsInner p.view (lettered c.args.station.now a) c.args.bay.0 (c.args.first + i) c.args.first
+          (c.args.count - 1) xs made) same (c.in_ok-made.ensures.inner a)) in
+          let new : IsInnerAt p0.view (lettered c.args.station.now a) c.args.bay.0 c.args.first c.args.count old i
+          made = record {
             others = c.args.count - 1;
             one_more = omega (arith, c.loop-i-test.true);
             graph = here;
             labels = c.in_ok-made.ensures.labels ∙ ap labels_of c.loop-i.invariant.grew.view;
             reduced = c.in_ok-made.ensures.reduced;
-            small = subst (λ w. InnerIsSmall w c.args.station.now c.args.bay.0 (c.args.first + i) c.args.first (c.args.count - 1) made) c.loop-i.invariant.grew.view c.in_ok-made.ensures.small;
+            small =
+                subst (λ w. InnerIsSmall w c.args.station.now c.args.bay.0 (c.args.first + i) c.args.first
+                (c.args.count - 1) made) c.loop-i.invariant.grew.view c.in_ok-made.ensures.small;
           } in
-          subst (λ (gs : List Layered). AreInner p0.view (lettered c.args.station.now a) c.args.bay.0 c.args.first c.args.count old gs (i + 1)) (sym c.in_ok-push.ensures.items)
-          (inner_more p0.view (lettered c.args.station.now a) c.args.bay.0 c.args.first c.args.count old c.loop-i.graphs.items i made (c.loop-i.invariant.inner a) new);
+          subst (λ (gs : List Layered). AreInner p0.view (lettered c.args.station.now a) c.args.bay.0 c.args.first
+          c.args.count old gs (i + 1)) (sym c.in_ok-push.ensures.items)
+          (inner_more p0.view (lettered c.args.station.now a) c.args.bay.0 c.args.first c.args.count old
+          c.loop-i.graphs.items i made (c.loop-i.invariant.inner a) new);
     }
 
 pub returns-clause-inner : goal.returns-clause-inner
 returns-clause-inner c a =
     let done : c.loop-i.i ≡ c.args.count = omega (arith, c.loop-i.auto.i-end, c.loop-i-test.false) in
-    subst (λ n. AreInner c.args.pool.now.view (lettered c.args.station.now a) c.args.bay.0 c.args.first c.args.count (values_at c.args.pool.now.values.items c.args.names.now) c.loop-i.graphs.items n) done (c.loop-i.invariant.inner a)
+    subst (λ n. AreInner c.args.pool.now.view (lettered c.args.station.now a) c.args.bay.0 c.args.first c.args.count
+    (values_at c.args.pool.now.values.items c.args.names.now) c.loop-i.graphs.items n) done (c.loop-i.invariant.inner a)
 
 pub returns-clause-spent : goal.returns-clause-spent
 returns-clause-spent c =
     let done : c.loop-i.i ≡ c.args.count = omega (arith, c.loop-i.auto.i-end, c.loop-i-test.false) in
-    subst (λ n. Spends (SwitchesHave c.args.pool.now.view c.args.station.now c.args.bay.0 c.args.first c.args.count n) c.args.station.now c.args.left c.loop-i.rest) done c.loop-i.invariant.spends
+    subst (λ n. Spends (SwitchesHave c.args.pool.now.view c.args.station.now c.args.bay.0 c.args.first c.args.count n)
+    c.args.station.now c.args.left c.loop-i.rest) done c.loop-i.invariant.spends
 
 pub returns-in_err-made-clause-wide : goal.returns-in_err-made-clause-wide
 returns-in_err-made-clause-wide c = passed_on _ _ c.from_residual.result c.from_residual.ensures.1 (λ trouble same is.
@@ -81,5 +110,7 @@ returns-in_err-made-clause-wide c = passed_on _ _ c.from_residual.result c.from_
     let first = c.args.first in
     let count = c.args.count in
     let i = c.loop-i.i in
-    switches_pass c.args.pool.now.view d b first count i c.args.left c.loop-i.rest c.loop-i-test.true c.loop-i.invariant.spends
-    (subst (λ w. Passes (InnerHas w d b (first + i) first (count - 1) (count - 1)) d c.loop-i.rest) c.loop-i.invariant.grew.view (c.in_err-made.ensures.wide (sym same ∙ is))))
+    switches_pass c.args.pool.now.view d b first count i c.args.left c.loop-i.rest c.loop-i-test.true
+    c.loop-i.invariant.spends
+    (subst (λ w. Passes (InnerHas w d b (first + i) first (count - 1) (count - 1)) d c.loop-i.rest)
+    c.loop-i.invariant.grew.view (c.in_err-made.ensures.wide (sym same ∙ is))))

@@ -14,5 +14,7 @@ invariant-loop-i l = record {
   notes : AreRight l.pool l.notes.items;
   left : l.rest ≤ l.left;
   spends : Spends (SwitchesHave l.fn.pool.view l.station l.bay.0 l.first l.count l.i) l.station l.left l.rest;
-  inner : (a : Alphabets) → AreInner l.fn.pool.view (lettered l.station a) l.bay.0 l.first l.count (values_at l.fn.pool.values.items l.names) l.graphs.items l.i;
+  inner : (a : Alphabets) →
+      AreInner l.fn.pool.view (lettered l.station a) l.bay.0 l.first l.count (values_at l.fn.pool.values.items l.names)
+      l.graphs.items l.i;
 }

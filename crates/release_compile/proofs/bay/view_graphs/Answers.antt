@@ -1,4 +1,5 @@
-use Rattle.std.proofs.Common.{◌≡◌, ◌∙◌, ◌-◌, suc, ℕ, List, Vec, Global, map, refl, sym, ap, subst, slice_get, Some, arith}
+use Rattle.std.proofs.Common.{◌≡◌, ◌∙◌, ◌-◌, suc, ℕ, List, Vec, Global, map, refl, sym, ap, subst, slice_get, Some}
+use Rattle.std.proofs.Common.{arith}
 use Rattle.std.proofs.lemmas.Option.{slice_get_read}
 use Rattle.contraction.specs.Answers.{Answers}
 use Rattle.release_compile.specs.declared.pool.Pool.{Pool}
@@ -19,7 +20,10 @@ pub inner_graphs-requires-clause-shared : goal.inner_graphs-requires-clause-shar
 inner_graphs-requires-clause-shared c n =
     let b = c.args.bay.0 in
     let row : List ℕ = c.index-shared-place.result in
-    let here : slice_get c.args.shared.now b ≡ Some row = ap (slice_get c.args.shared.now) (sym c.from-place.ensures) ∙ slice_get_read c.args.shared.now _ c.from-place.result row refl (omega (arith, c.from-place.ensures, c.requires.bay, c.requires.shared.count)) c.index-shared-place.is in
+    let here : slice_get c.args.shared.now b ≡ Some row =
+    ap (slice_get c.args.shared.now) (sym c.from-place.ensures)
+    ∙ slice_get_read c.args.shared.now _ c.from-place.result row refl
+    (omega (arith, c.from-place.ensures, c.requires.bay, c.requires.shared.count)) c.index-shared-place.is in
     c.requires.shared.each b row here n
 
 pub inner_graphs-requires-clause-notes : goal.inner_graphs-requires-clause-notes
@@ -42,7 +46,10 @@ returns-clause-stock c =
     record {
       pool = g2.is_pool;
       of_view = g2.view ∙ (g1.view ∙ c.requires.stock.of_view);
-      letters = letters_stay p0 p2 (grows p0 p2 (grew_more p0 p1 p2 g1 g2)) a (map (λ (v : Vec ℕ Global). v.items) c.args.stock.now.letters.items) (part_count c.args.station.now) c.requires.stock.letters;
+      letters =
+          letters_stay p0 p2 (grows p0 p2 (grew_more p0 p1 p2 g1 g2)) a
+          (map (λ (v : Vec ℕ Global). v.items) c.args.stock.now.letters.items) (part_count c.args.station.now)
+          c.requires.stock.letters;
       last = right_stays p1 p2 (grows p1 p2 g2) c.outer_graph.new.last c.in_ok-outer.ensures.last;
       inner = c.in_ok-inners.ensures.notes;
     }
@@ -63,7 +70,9 @@ returns-clause-graphs c =
       outer = subst (λ w. IsOuter w a b c.in_ok-outer.outer.graph names) view0 c.in_ok-outer.ensures.outer;
       outer_reduced = c.in_ok-outer.ensures.reduced;
       outer_small = subst (λ w. OuterIsSmall w d b c.in_ok-outer.outer.graph) view0 c.in_ok-outer.ensures.small;
-      inner = subst (λ w. AreInner w a b first count names c.in_ok-inners.inners.graphs.items count) (c.in_ok-outer.ensures.grew.view ∙ view0) inner;
+      inner =
+          subst (λ w. AreInner w a b first count names c.in_ok-inners.inners.graphs.items count)
+          (c.in_ok-outer.ensures.grew.view ∙ view0) inner;
     }
 
 pub returns-clause-spent : goal.returns-clause-spent
@@ -75,9 +84,13 @@ returns-clause-spent c =
     let view0 = c.requires.stock.of_view in
     let others : ℕ = c.part_count-others.result - 1 in
     let e : suc others ≡ part_count d = omega (arith, c.requires.bay, c.part_count-others.ensures.count) in
-    let outer = subst (λ w. Spends (OuterHas w d b others) d c.args.left c.in_ok-outer.outer.left) view0 c.in_ok-outer.ensures.spent in
-    let inner = subst (λ w. Spends (SwitchesHave w d b first count count) d c.in_ok-outer.outer.left c.in_ok-inners.inners.left) (c.in_ok-outer.ensures.grew.view ∙ view0) c.in_ok-inners.ensures.spent in
-    view_spends c.args.view d b first count others e c.args.left c.in_ok-outer.outer.left c.in_ok-inners.inners.left outer inner
+    let outer = subst (λ w. Spends (OuterHas w d b others) d c.args.left c.in_ok-outer.outer.left) view0
+    c.in_ok-outer.ensures.spent in
+    let inner = subst
+    (λ w. Spends (SwitchesHave w d b first count count) d c.in_ok-outer.outer.left c.in_ok-inners.inners.left)
+    (c.in_ok-outer.ensures.grew.view ∙ view0) c.in_ok-inners.ensures.spent in
+    view_spends c.args.view d b first count others e c.args.left c.in_ok-outer.outer.left
+    c.in_ok-inners.inners.left outer inner
 
 pub returns-in_err-outer-clause-wide : goal.returns-in_err-outer-clause-wide
 returns-in_err-outer-clause-wide c = passed_on _ _ c.from_residual.result c.from_residual.ensures.1 (λ trouble same is.
@@ -85,10 +98,13 @@ returns-in_err-outer-clause-wide c = passed_on _ _ c.from_residual.result c.from
     let b = c.args.bay.0 in
     let others : ℕ = c.part_count-others.result - 1 in
     let e : suc others ≡ part_count d = omega (arith, c.requires.bay, c.part_count-others.ensures.count) in
-    outer_view_passes c.args.view d b c.args.first c.args.count others e c.args.left (subst (λ w. Passes (OuterHas w d b others) d c.args.left) c.requires.stock.of_view (c.in_err-outer.ensures.wide (sym same ∙ is))))
+    outer_view_passes c.args.view d b c.args.first c.args.count others e c.args.left (subst
+    (λ w. Passes (OuterHas w d b others) d c.args.left) c.requires.stock.of_view
+    (c.in_err-outer.ensures.wide (sym same ∙ is))))
 
 pub returns-in_err-inners-clause-wide : goal.returns-in_err-inners-clause-wide
-returns-in_err-inners-clause-wide c = passed_on _ _ c.from_residual-in_err-inners.result c.from_residual-in_err-inners.ensures.1 (λ trouble same is.
+returns-in_err-inners-clause-wide c =
+    passed_on _ _ c.from_residual-in_err-inners.result c.from_residual-in_err-inners.ensures.1 (λ trouble same is.
     let d = c.args.station.now in
     let b = c.args.bay.0 in
     let first = c.args.first in
@@ -96,6 +112,8 @@ returns-in_err-inners-clause-wide c = passed_on _ _ c.from_residual-in_err-inner
     let view0 = c.requires.stock.of_view in
     let others : ℕ = c.part_count-others.result - 1 in
     let e : suc others ≡ part_count d = omega (arith, c.requires.bay, c.part_count-others.ensures.count) in
-    let outer = subst (λ w. Spends (OuterHas w d b others) d c.args.left c.in_ok-outer.outer.left) view0 c.in_ok-outer.ensures.spent in
-    let inner = subst (λ w. Passes (SwitchesHave w d b first count count) d c.in_ok-outer.outer.left) (c.in_ok-outer.ensures.grew.view ∙ view0) (c.in_err-inners.ensures.wide (sym same ∙ is)) in
+    let outer = subst (λ w. Spends (OuterHas w d b others) d c.args.left c.in_ok-outer.outer.left) view0
+    c.in_ok-outer.ensures.spent in
+    let inner = subst (λ w. Passes (SwitchesHave w d b first count count) d c.in_ok-outer.outer.left)
+    (c.in_ok-outer.ensures.grew.view ∙ view0) (c.in_err-inners.ensures.wide (sym same ∙ is)) in
     inner_view_passes c.args.view d b first count others e c.args.left c.in_ok-outer.outer.left outer inner)

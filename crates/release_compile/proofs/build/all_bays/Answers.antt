@@ -29,17 +29,26 @@ loop-part-preserved c =
     let a : Lettered = lettered c.args.station.now c.args.parts.now in
     let g : Option BayOf = seen_part c.in-Ok.made.graphs in
     let bays : List (Option BayOf) = map seen_part c.loop-part.bays.items in
-    let items : map seen_part c.keep.new.bays.items ≡ bays ++ g ∷ [] = ap (map seen_part) c.in_ok-keep-in-Ok.ensures ∙ map-append seen_part c.loop-part.bays.items _ in
+    let items : map seen_part c.keep.new.bays.items ≡ bays ++ g ∷ [] =
+    ap (map seen_part) c.in_ok-keep-in-Ok.ensures ∙ map-append seen_part c.loop-part.bays.items _ in
     record {
-      told = subst (λ bs. HaveTold bs) (sym c.in_ok-keep-in-Ok.ensures) (told_more c.loop-part.bays.items c.in-Ok.made.graphs c.loop-part.invariant.told c.in-Ok.ensures.told);
+      told =
+          subst (λ bs. HaveTold bs) (sym c.in_ok-keep-in-Ok.ensures)
+          (told_more c.loop-part.bays.items c.in-Ok.made.graphs c.loop-part.invariant.told c.in-Ok.ensures.told);
       gap = c.in-Ok.ensures.gap;
       load = c.in-Ok.ensures.load;
       spent = omega (arith, c.allowed-left.ensures.all, c.loop-part.invariant.spent);
-      edges = keep_more c.args.station.now c.loop-part.part c.loop-part.spent (c.allowed-left.result - c.in-Ok.made.left) c.loop-part.invariant.edges c.in-Ok.ensures.spent (omega (arith, c.allowed-left.ensures.bay)) (omega (arith, c.allowed-left.ensures.all));
-      bays = subst (λ (bs : List (Option BayOf)). AreBays a bs (c.loop-part.part + 1)) (sym items) (bays_more a bays c.loop-part.part g c.loop-part.invariant.bays c.in-Ok.ensures.graphs);
+      edges =
+          keep_more c.args.station.now c.loop-part.part c.loop-part.spent (c.allowed-left.result - c.in-Ok.made.left)
+          c.loop-part.invariant.edges c.in-Ok.ensures.spent (omega (arith, c.allowed-left.ensures.bay))
+          (omega (arith, c.allowed-left.ensures.all));
+      bays =
+          subst (λ (bs : List (Option BayOf)). AreBays a bs (c.loop-part.part + 1)) (sym items)
+          (bays_more a bays c.loop-part.part g c.loop-part.invariant.bays c.in-Ok.ensures.graphs);
     }
 
 pub returns-in-Err-Wide-clause-refusal : goal.returns-in-Err-Wide-clause-refusal
 returns-in-Err-Wide-clause-refusal c =
     let wide = c.in-Err-Wide.ensures.wide c.in-Err-Wide.field-0-is in
-    first_wide c.args.station.now c.loop-part.part c.loop-part.spent c.allowed-left.result wide.0 c.loop-part.invariant.edges c.allowed-left.ensures.either wide.1
+    first_wide c.args.station.now c.loop-part.part c.loop-part.spent c.allowed-left.result wide.0
+    c.loop-part.invariant.edges c.allowed-left.ensures.either wide.1

@@ -16,7 +16,8 @@ decide-requires-clause-held c j k is =
     let h = c.requires.sides in
     let lt = set_layer s.gap.outer.now.layers c.args.sets.now h.gap.ready.fits j k is in
     let part_in = (other_in 0 s.place.bay.0 s.place.parts j (omega (arith, lt, h.gap.outer_is.count, h.parts))).1 in
-    holds_of a c.args.all.now (other_of 0 s.place.bay.0 j) k c.requires.all (omega (arith, part_in, h.parts)) ((c.requires.possible j k (omega (arith, lt, h.gap.outer_is.count))).0 is)
+    holds_of a c.args.all.now (other_of 0 s.place.bay.0 j) k c.requires.all (omega (arith, part_in, h.parts))
+    ((c.requires.possible j k (omega (arith, lt, h.gap.outer_is.count))).0 is)
 
 pub returns : goal.returns
 returns c =
@@ -27,8 +28,13 @@ returns c =
     let words = c.args.all.now.words.now in
     let sets : List (List Bool) = c.args.sets.now in
     let r = c.in_ok-verdict.verdict in
-    let are : AreLettered a = record { station = c.part_count-count.ensures.station; alphabets = c.requires.lettered } in
+    let are : AreLettered a = record {
+      station = c.part_count-count.ensures.station;
+      alphabets = c.requires.lettered;
+    } in
     decides_over d (WithinAll (Some c.args.all) a s.place.bay.0 words sets s.place.parts) (IsReading words)
-    (within_reading a are s.place.bay.0 s.place.parts h.parts h.bay c.args.all c.requires.all.words sets c.requires.possible)
-    (reading_within a are s.place.bay.0 s.place.parts h.parts h.bay c.args.all c.requires.all.words sets c.requires.possible)
+    (within_reading a are s.place.bay.0 s.place.parts h.parts h.bay c.args.all c.requires.all.words sets
+    c.requires.possible)
+    (reading_within a are s.place.bay.0 s.place.parts h.parts h.bay c.args.all c.requires.all.words sets
+    c.requires.possible)
     c.args.op r c.in_ok-verdict.ensures

@@ -8,10 +8,12 @@ pub possible_sets-requires-clause-layers : goal.possible_sets-requires-clause-la
 possible_sets-requires-clause-layers c = omega (arith, c.requires.graphs.gap.outer.count, c.requires.bay)
 
 pub possible_sets-requires-clause-choices : goal.possible_sets-requires-clause-choices
-possible_sets-requires-clause-choices c j lt = c.requires.graphs.gap.outer.choices j (omega (arith, lt, c.requires.graphs.gap.outer.count, c.requires.bay))
+possible_sets-requires-clause-choices c j lt =
+    c.requires.graphs.gap.outer.choices j (omega (arith, lt, c.requires.graphs.gap.outer.count, c.requires.bay))
 
 pub reach-requires-clause-load : goal.reach-requires-clause-load
 reach-requires-clause-load c =
     let g = c.requires.graphs.gap in
     let l = c.requires.graphs.load in
-    other_sets Gap Load (lettered c.args.station.now c.args.parts.now) c.args.bay.0 g.names l.names c.args.graphs.now.gap.outer c.args.graphs.now.load.outer c.in_ok-sets.sets g.outer l.outer c.in_ok-sets.ensures.sets
+    other_sets Gap Load (lettered c.args.station.now c.args.parts.now) c.args.bay.0 g.names l.names
+    c.args.graphs.now.gap.outer c.args.graphs.now.load.outer c.in_ok-sets.sets g.outer l.outer c.in_ok-sets.ensures.sets

@@ -6,4 +6,6 @@ use Rattle.release_compile.proofs.CodeLemmas.{CodesBelow}
 use Rattle.release_compile.proofs.codes.codes.Given as goal
 
 abbrev pub invariant-loop-t : goal.invariant-loop-t
-invariant-loop-t l = CodesBelow l.pool.view l.station l.id.0 (values_at (map (mapped (node_of l.list)) l.pool.values.items) l.states) l.codes.items l.t
+invariant-loop-t l =
+    CodesBelow l.pool.view l.station l.id.0 (values_at (map (mapped (node_of l.list)) l.pool.values.items) l.states)
+    l.codes.items l.t

@@ -8,13 +8,18 @@ pub heard_sets-requires-clause-layers : goal.heard_sets-requires-clause-layers
 heard_sets-requires-clause-layers c = omega (arith, c.requires.graphs.gap.outer.count, c.requires.bay)
 
 pub heard_sets-requires-clause-choices : goal.heard_sets-requires-clause-choices
-heard_sets-requires-clause-choices c j lt = c.requires.graphs.gap.outer.choices j (omega (arith, lt, c.requires.graphs.gap.outer.count, c.requires.bay))
+heard_sets-requires-clause-choices c j lt =
+    c.requires.graphs.gap.outer.choices j (omega (arith, lt, c.requires.graphs.gap.outer.count, c.requires.bay))
 
 pub heard_sets-requires-clause-fit : goal.heard_sets-requires-clause-fit
-heard_sets-requires-clause-fit c part s ne at = elim (c.requires.fits part s ne at) [ inl set ↦ inl (omega (arith, set.1.count)) | inr none ↦ inr none.1 ]
+heard_sets-requires-clause-fit c part s ne at = elim (c.requires.fits part s ne at) [
+  | inl set ↦ inl (omega (arith, set.1.count))
+  | inr none ↦ inr none.1
+]
 
 pub reach-requires-clause-load : goal.reach-requires-clause-load
 reach-requires-clause-load c =
     let g = c.requires.graphs.gap in
     let l = c.requires.graphs.load in
-    other_sets Gap Load (lettered c.args.station.now c.args.parts.now) c.args.bay.0 g.names l.names c.args.graphs.now.gap.outer c.args.graphs.now.load.outer c.in_ok-sets.sets g.outer l.outer c.in_ok-sets.ensures.sets
+    other_sets Gap Load (lettered c.args.station.now c.args.parts.now) c.args.bay.0 g.names l.names
+    c.args.graphs.now.gap.outer c.args.graphs.now.load.outer c.in_ok-sets.sets g.outer l.outer c.in_ok-sets.ensures.sets

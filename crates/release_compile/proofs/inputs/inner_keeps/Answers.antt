@@ -16,7 +16,8 @@ pub places_of-requires-clause-few : goal.places_of-requires-clause-few
 places_of-requires-clause-few c = few_nodes c.args.list.now c.requires.nodes
 
 pub places_of-requires-clause-has : goal.places_of-requires-clause-has
-places_of-requires-clause-has c n kept = has_from_keeps c.args.list.now n (subst (λ xs. Keeps xs n) c.numbers-all.ensures kept)
+places_of-requires-clause-has c n kept =
+    has_from_keeps c.args.list.now n (subst (λ xs. Keeps xs n) c.numbers-all.ensures kept)
 
 pub places_of-requires-in-loop-from-clause-few : goal.places_of-requires-in-loop-from-clause-few
 places_of-requires-in-loop-from-clause-few c = few_nodes c.args.list.now c.requires.nodes
@@ -24,8 +25,10 @@ places_of-requires-in-loop-from-clause-few c = few_nodes c.args.list.now c.requi
 pub places_of-requires-in-loop-from-clause-has : goal.places_of-requires-in-loop-from-clause-has
 places_of-requires-in-loop-from-clause-has c n kept =
     let d = c.args.station.now in
-    let here : Contains c.in_ok-nodes.nodes n = has_from_keeps c.in_ok-nodes.nodes n (subst (λ xs. Keeps xs n) c.numbers.ensures kept) in
-    (c.requires.start n).1 (inr (needed_later d c.args.moved c.args.first c.args.others c.loop-from.from n ((c.in_ok-nodes.ensures n).0 here)))
+    let here : Contains c.in_ok-nodes.nodes n =
+    has_from_keeps c.in_ok-nodes.nodes n (subst (λ xs. Keeps xs n) c.numbers.ensures kept) in
+    (c.requires.start n).1
+    (inr (needed_later d c.args.moved c.args.first c.args.others c.loop-from.from n ((c.in_ok-nodes.ensures n).0 here)))
 
 pub loop-from-init : goal.loop-from-init
 loop-from-init c =
@@ -36,11 +39,16 @@ loop-from-init c =
     let g = c.in_ok-id.ensures.grew in
     record {
       grew = g;
-      keeps = subst (λ (ks : List ℕ). AreKeeps N (pool_on f q) ks (0 + 1)) (sym (c.in_ok-push.ensures.items ∙ ap (λ xs. xs ++ c.in_ok-id.id ∷ []) c.new-keeps.ensures.items))
-          (keeps_more N (pool_on f p) (pool_on f q) [] 0 c.in_ok-id.id (grows_on f p q (grows p q g)) (keeps_none N (pool_on f p)) (record {
+      keeps =
+          subst (λ (ks : List ℕ). AreKeeps N (pool_on f q) ks (0 + 1))
+          (sym (c.in_ok-push.ensures.items ∙ ap (λ xs. xs ++ c.in_ok-id.id ∷ []) c.new-keeps.ensures.items))
+          (keeps_more N (pool_on f p) (pool_on f q) [] 0 c.in_ok-id.id (grows_on f p q (grows p q g))
+          (keeps_none N (pool_on f p)) (record {
             nodes = map f c.in_ok-places.places;
             listed = at_mapped (map f) q.keeps.items c.in_ok-id.id c.in_ok-places.places c.in_ok-id.ensures.kept;
-            exact = λ n. subst (λ xs. Contains xs n ↔ N 0 n) (sym (c.in_ok-places.ensures ∙ c.numbers-all.ensures)) (c.requires.start n);
+            exact =
+                λ n. subst (λ xs. Contains xs n ↔ N 0 n) (sym (c.in_ok-places.ensures ∙ c.numbers-all.ensures))
+                (c.requires.start n);
           }));
     }
 
@@ -55,16 +63,21 @@ loop-from-preserved c =
     let new : HasNodes (N (n + 1)) (pool_on f q) c.in_ok-id-2.id = record {
       nodes = map f c.in_ok-places-2.places;
       listed = at_mapped (map f) q.keeps.items c.in_ok-id-2.id c.in_ok-places-2.places c.in_ok-id-2.ensures.kept;
-      exact = λ m. subst (λ xs. Contains xs m ↔ N (n + 1) m) (sym (c.in_ok-places-2.ensures ∙ c.numbers.ensures)) (subst (λ k. Contains c.in_ok-nodes.nodes m ↔ N k m) (sym (add-one n)) (c.in_ok-nodes.ensures m));
+      exact =
+          λ m. subst (λ xs. Contains xs m ↔ N (n + 1) m) (sym (c.in_ok-places-2.ensures ∙ c.numbers.ensures))
+          (subst (λ k. Contains c.in_ok-nodes.nodes m ↔ N k m) (sym (add-one n)) (c.in_ok-nodes.ensures m));
     } in
     record {
       grew = grew_more c.args.pool.now p q c.loop-from.invariant.grew g;
       keeps = subst (λ (ks : List ℕ). AreKeeps N (pool_on f q) ks (n + 1 + 1)) (sym c.in_ok-push-2.ensures.items)
-          (keeps_more N (pool_on f p) (pool_on f q) c.loop-from.keeps.items (n + 1) c.in_ok-id-2.id (grows_on f p q (grows p q g)) c.loop-from.invariant.keeps new);
+          (keeps_more N (pool_on f p) (pool_on f q) c.loop-from.keeps.items (n + 1) c.in_ok-id-2.id
+          (grows_on f p q (grows p q g)) c.loop-from.invariant.keeps new);
     }
 
 pub returns-clause-keeps : goal.returns-clause-keeps
 returns-clause-keeps c =
     let N : ℕ → ℕ → Type 0 = InnerNeeds c.args.station.now c.args.bay.0 c.args.moved c.args.first c.args.others in
-    let done : c.loop-from.from + 1 ≡ suc (suc c.args.others) = omega (arith, c.loop-from.auto.from-end, c.loop-from-test.false) in
-    subst (λ n. AreKeeps N (pool_on (node_of c.args.list.now) c.loop-from.pool) c.loop-from.keeps.items n) done c.loop-from.invariant.keeps
+    let done : c.loop-from.from + 1 ≡ suc (suc c.args.others) =
+    omega (arith, c.loop-from.auto.from-end, c.loop-from-test.false) in
+    subst (λ n. AreKeeps N (pool_on (node_of c.args.list.now) c.loop-from.pool) c.loop-from.keeps.items n) done
+    c.loop-from.invariant.keeps

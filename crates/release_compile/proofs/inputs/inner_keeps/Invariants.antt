@@ -8,5 +8,6 @@ use Rattle.release_compile.proofs.inputs.inner_keeps.Given as goal
 abbrev pub invariant-loop-from : goal.invariant-loop-from
 invariant-loop-from l = record {
   grew : GrewTo l.fn.pool l.pool;
-  keeps : AreKeeps (InnerNeeds l.station l.fn.bay.0 l.moved l.first l.others) (pool_on (node_of l.list) l.pool) l.keeps.items (l.from + 1);
+  keeps : AreKeeps (InnerNeeds l.station l.fn.bay.0 l.moved l.first l.others) (pool_on (node_of l.list) l.pool)
+      l.keeps.items (l.from + 1);
 }

@@ -20,9 +20,17 @@ invariant-layers l = record {
   some : 0 < length l.states.items;
   few : length l.states.items ≤ suc l.budget;
   nodes : sum_by (λ (l : FinishedLayer). l.nodes) l.layers.items + l.left ≤ l.budget;
-  spends : (f : ℕ → ℕ) (plan : Plan) → KeepsOrder f → PlanFits plan (pool_on f l.fn.pool) l.start (map (λ v. v.items) l.letters) l.keeps → Spends (PlanHas l.fn.pool.view plan (map (λ v. v.items) l.letters) l.j) (diagram_of plan) l.budget l.left;
-  choices : map (λ (l : FinishedLayer). l.choices) l.layers.items ≡ map length (take l.j (map (λ v. v.items) l.letters));
+  spends : (f : ℕ → ℕ) (plan : Plan) → KeepsOrder f →
+      PlanFits plan (pool_on f l.fn.pool) l.start (map (λ v. v.items) l.letters) l.keeps →
+      Spends (PlanHas l.fn.pool.view plan (map (λ v. v.items) l.letters) l.j) (diagram_of plan) l.budget l.left;
+  choices : map (λ (l : FinishedLayer). l.choices) l.layers.items
+      ≡ map length (take l.j (map (λ v. v.items) l.letters));
   finished : AreFinished (length l.states.items) l.layers.items;
-  kept : (t i m : ℕ) (x : Answers) (nodes : List ℕ) → slice_get l.states.items t ≡ Some i → slice_get l.pool.values.items i ≡ Some x → slice_get l.keeps l.j ≡ Some m → slice_get l.fn.pool.keeps.items m ≡ Some nodes → (n : ℕ) → Keeps x.kept n ↔ Contains nodes n;
-  exact : (f : ℕ → ℕ) (plan : Plan) → KeepsOrder f → PlanFits plan (pool_on f l.fn.pool) l.start (map (λ v. v.items) l.letters) l.keeps → IsExact l.fn.pool.view (diagram_of plan) (ChosenBy plan) (items_of plan) (NeededBy plan) l.j (layers_of l.layers.items) (values_at (map (mapped f) l.pool.values.items) l.states.items);
+  kept : (t i m : ℕ) (x : Answers) (nodes : List ℕ) → slice_get l.states.items t ≡ Some i →
+      slice_get l.pool.values.items i ≡ Some x → slice_get l.keeps l.j ≡ Some m →
+      slice_get l.fn.pool.keeps.items m ≡ Some nodes → (n : ℕ) → Keeps x.kept n ↔ Contains nodes n;
+  exact : (f : ℕ → ℕ) (plan : Plan) → KeepsOrder f →
+      PlanFits plan (pool_on f l.fn.pool) l.start (map (λ v. v.items) l.letters) l.keeps →
+      IsExact l.fn.pool.view (diagram_of plan) (ChosenBy plan) (items_of plan) (NeededBy plan) l.j
+      (layers_of l.layers.items) (values_at (map (mapped f) l.pool.values.items) l.states.items);
 }

@@ -7,5 +7,6 @@ abbrev pub invariant-pairs : goal.invariant-pairs
 invariant-pairs l = record {
   grew : GrewTo l.fn.pool l.pool;
   few : length l.next.keys ≤ l.p;
-  edges : (nodes : List ℕ) → slice_get l.fn.pool.keeps.items l.keep ≡ Some nodes → AreEdges l.pool.view l.pool.values.items nodes l.states l.letters l.next.keys l.edges.items l.p;
+  edges : (nodes : List ℕ) → slice_get l.fn.pool.keeps.items l.keep ≡ Some nodes →
+      AreEdges l.pool.view l.pool.values.items nodes l.states l.letters l.next.keys l.edges.items l.p;
 }

@@ -6,5 +6,6 @@ use Rattle.release_compile.proofs.needed.all_shared.Given as goal
 abbrev pub invariant-loop-part : goal.invariant-loop-part
 invariant-loop-part l = record {
   count : length l.lists.items ≡ l.part;
-  each : (p : ℕ) (nodes : List ℕ) → slice_get l.lists.items p ≡ Some nodes → (n : ℕ) → Contains nodes n ↔ IsShared l.station p n;
+  each : (p : ℕ) (nodes : List ℕ) → slice_get l.lists.items p ≡ Some nodes → (n : ℕ) → Contains nodes n ↔
+      IsShared l.station p n;
 }

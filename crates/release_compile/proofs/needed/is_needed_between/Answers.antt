@@ -12,7 +12,8 @@ pub returns-then-not-other_shares : goal.returns-then-not-other_shares
 returns-then-not-other_shares c = (
   λ h. absurd (false≢true h),
   λ need.
-      let first = first_shares c.args.station.now c.args.shared.now c.args.bay.0 c.args.others c.args.place c.args.node c.part_count-count.ensures.station c.requires.shared c.requires.count c.requires.bay need in
+      let first = first_shares c.args.station.now c.args.shared.now c.args.bay.0 c.args.others c.args.place c.args.node
+      c.part_count-count.ensures.station c.requires.shared c.requires.count c.requires.bay need in
       let is = c.other_shares.ensures.1 first in
       absurd (cc (is, c.if-not-other_shares.true)),
 )
@@ -21,8 +22,10 @@ pub returns-then-not-is_met : goal.returns-then-not-is_met
 returns-then-not-is_met c = (
   λ h. absurd (false≢true h),
   λ need.
-      let first = first_shares c.args.station.now c.args.shared.now c.args.bay.0 c.args.others c.args.place c.args.node c.part_count-count.ensures.station c.requires.shared c.requires.count c.requires.bay need in
-      let is = c.is_met.ensures.1 (c.requires.met.marked (other_of 0 c.args.bay.0 first.place) c.args.node first.nodes first.listed first.has c.requires.node) in
+      let first = first_shares c.args.station.now c.args.shared.now c.args.bay.0 c.args.others c.args.place c.args.node
+      c.part_count-count.ensures.station c.requires.shared c.requires.count c.requires.bay need in
+      let is = c.is_met.ensures.1 (c.requires.met.marked (other_of 0 c.args.bay.0 first.place) c.args.node first.nodes
+      first.listed first.has c.requires.node) in
       absurd (cc (is, c.if-not-is_met.true)),
 )
 
@@ -34,10 +37,17 @@ returns-then-contains c =
     let row : List ℕ = c.index-shared-from.result in
     let first_true : c.other_shares.result ≡ true = cc (c.if-not-other_shares.false) in
     let first = c.other_shares.ensures.0 first_true in
-    let here : slice_get shared b ≡ Some row = ap (slice_get shared) (sym c.from.ensures) ∙ slice_get_read shared _ c.from.result row refl (omega (arith, c.from.ensures, c.requires.bay, c.requires.shared.count)) c.index-shared-from.is in
-    let has = (has_answer c.numbers.result.now c.args.node c.contains.result c.contains.ensures.cases).0 c.if-contains.true in
-    let own : IsShared d b c.args.node = (c.requires.shared.each b row here c.args.node).0 (subst (λ l. Contains l c.args.node) c.numbers.ensures has) in
-    (λ h. needed_by_shares d shared b c.args.place c.args.node c.requires.shared first (inl own), λ need. c.if-contains.true)
+    let here : slice_get shared b ≡ Some row =
+    ap (slice_get shared) (sym c.from.ensures)
+    ∙ slice_get_read shared _ c.from.result row refl
+    (omega (arith, c.from.ensures, c.requires.bay, c.requires.shared.count)) c.index-shared-from.is in
+    let has = (has_answer c.numbers.result.now c.args.node c.contains.result c.contains.ensures.cases).0
+    c.if-contains.true in
+    let own : IsShared d b c.args.node =
+    (c.requires.shared.each b row here c.args.node).0 (subst (λ l. Contains l c.args.node) c.numbers.ensures has) in (
+      λ h. needed_by_shares d shared b c.args.place c.args.node c.requires.shared first (inl own),
+      λ need. c.if-contains.true,
+    )
 
 pub returns-else-contains : goal.returns-else-contains
 returns-else-contains c =
@@ -47,11 +57,21 @@ returns-else-contains c =
     let row : List ℕ = c.index-shared-from.result in
     let first_true : c.other_shares.result ≡ true = cc (c.if-not-other_shares.false) in
     let first = c.other_shares.ensures.0 first_true in
-    let here : slice_get shared b ≡ Some row = ap (slice_get shared) (sym c.from.ensures) ∙ slice_get_read shared _ c.from.result row refl (omega (arith, c.from.ensures, c.requires.bay, c.requires.shared.count)) c.index-shared-from.is in
-    let none = (has_answer c.numbers.result.now c.args.node c.contains.result c.contains.ensures.cases).1 c.if-contains.false in (
-      λ h. needed_by_shares d shared b c.args.place c.args.node c.requires.shared first (inr (c.args.others, c.other_shares-else-contains.ensures.0 h)),
-      λ need. elim (rest_shares d shared b c.args.others c.args.place c.args.node c.part_count-count.ensures.station c.requires.shared c.requires.count c.requires.bay need) [
-        | inl own ↦ absurd (none (subst (λ l. Contains l c.args.node) (sym c.numbers.ensures) ((c.requires.shared.each b row here c.args.node).1 own)))
-        | inr later ↦ c.other_shares-else-contains.ensures.1 later
-      ],
+    let here : slice_get shared b ≡ Some row =
+    ap (slice_get shared) (sym c.from.ensures)
+    ∙ slice_get_read shared _ c.from.result row refl
+    (omega (arith, c.from.ensures, c.requires.bay, c.requires.shared.count)) c.index-shared-from.is in
+    let none = (has_answer c.numbers.result.now c.args.node c.contains.result c.contains.ensures.cases).1
+    c.if-contains.false in (
+      λ h. needed_by_shares d shared b c.args.place c.args.node c.requires.shared first
+          (inr (c.args.others, c.other_shares-else-contains.ensures.0 h)),
+      λ need.
+          elim (rest_shares d shared b c.args.others c.args.place c.args.node c.part_count-count.ensures.station
+          c.requires.shared c.requires.count c.requires.bay need) [
+            | inl own ↦
+                absurd
+                (none (subst (λ l. Contains l c.args.node) (sym c.numbers.ensures)
+                ((c.requires.shared.each b row here c.args.node).1 own)))
+            | inr later ↦ c.other_shares-else-contains.ensures.1 later
+          ],
     )

@@ -8,7 +8,9 @@ returns-else-contains c =
     let none = (has_answer c.numbers.result.now c.args.node c.contains.result c.contains.ensures.cases).1 in (
       λ e. inr (c.is_needed.ensures.0 e),
       λ k. elim k [
-        | inl shared ↦ absurd (none c.if-contains.false (subst (λ l. Contains l c.args.node) (sym c.numbers.ensures) ((c.requires.shared c.args.node).1 shared)))
+        | inl shared ↦
+            absurd (none c.if-contains.false
+            (subst (λ l. Contains l c.args.node) (sym c.numbers.ensures) ((c.requires.shared c.args.node).1 shared)))
         | inr need ↦ c.is_needed.ensures.1 need
       ],
     )

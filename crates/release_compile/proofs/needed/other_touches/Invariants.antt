@@ -6,4 +6,5 @@ use Rattle.release_compile.proofs.needed.other_touches.Given as goal
 
 -- none of the switches so far touches the node
 abbrev pub invariant-loop-i : goal.invariant-loop-i
-invariant-loop-i l = (k : ℕ) → l.from ≤ k → k < l.i → Touches l.station (a_switch (other_of l.first l.moved k)) l.node → ⊥
+invariant-loop-i l =
+    (k : ℕ) → l.from ≤ k → k < l.i → Touches l.station (a_switch (other_of l.first l.moved k)) l.node → ⊥

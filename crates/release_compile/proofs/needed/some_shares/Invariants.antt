@@ -3,4 +3,5 @@ use Rattle.release_compile.proofs.needed.some_shares.Given as goal
 
 -- none of the parts so far has the node
 abbrev pub invariant-loop-part : goal.invariant-loop-part
-invariant-loop-part l = (k : ℕ) (nodes : List ℕ) → k < l.part → slice_get l.shared k ≡ Some nodes → Contains nodes l.node → ⊥
+invariant-loop-part l =
+    (k : ℕ) (nodes : List ℕ) → k < l.part → slice_get l.shared k ≡ Some nodes → Contains nodes l.node → ⊥

@@ -5,4 +5,5 @@ use Rattle.release_compile.proofs.NodesLemmas.{NodesBelow}
 use Rattle.release_compile.proofs.needed.start_nodes.Given as goal
 
 abbrev pub invariant-loop-node : goal.invariant-loop-node
-invariant-loop-node l = NodesBelow (λ n. IsShared l.station l.bay.0 n ⊎ IsNeededInner l.station l.moved l.first l.others 0 n) l.node l.nodes
+invariant-loop-node l =
+    NodesBelow (λ n. IsShared l.station l.bay.0 n ⊎ IsNeededInner l.station l.moved l.first l.others 0 n) l.node l.nodes

@@ -9,5 +9,10 @@ returns-then-same_intake c =
     let holds : IsTrue true = search rules in
     let h : IsTrue c.same_intake.result = subst IsTrue (sym c.if-same_intake.true) holds in
     let held : Noted = c.index-notes-place.result in
-    let at : slice_get c.args.notes.now c.loop-place.place ≡ Some held = slice_get_read c.args.notes.now _ c.loop-place.place held refl c.loop-place-test.true c.index-notes-place.is in
-    (held, at, subst (λ (k : Noted). SameIntake k.intake c.args.intake.now) (get_or_from_slice_get c.args.notes.now c.loop-place.place held held at) (c.same_intake.ensures h))
+    let at : slice_get c.args.notes.now c.loop-place.place ≡ Some held =
+    slice_get_read c.args.notes.now _ c.loop-place.place held refl c.loop-place-test.true c.index-notes-place.is in (
+      held,
+      at,
+      subst (λ (k : Noted). SameIntake k.intake c.args.intake.now)
+          (get_or_from_slice_get c.args.notes.now c.loop-place.place held held at) (c.same_intake.ensures h),
+    )

@@ -16,7 +16,8 @@ fold_layers-requires-clause-linked c = rw (c.deref.ensures.value, c.deref-2.ensu
 
 pub from_layers-requires-clause-finished : goal.from_layers-requires-clause-finished
 from_layers-requires-clause-finished c =
-    rw c.deref-3.ensures.value (subst (λ (xs : List ℕ). AreFinished (length xs) c.in_ok-drafts.drafts.layers.items) (sym c.as_slice-states.ensures.value) c.in_ok-drafts.ensures.finished)
+    rw c.deref-3.ensures.value (subst (λ (xs : List ℕ). AreFinished (length xs) c.in_ok-drafts.drafts.layers.items)
+    (sym c.as_slice-states.ensures.value) c.in_ok-drafts.ensures.finished)
 
 pub returns-clause-noted : goal.returns-clause-noted
 returns-clause-noted c =
@@ -31,17 +32,27 @@ returns-clause-noted c =
     let exact = rw (c.deref.ensures.value, c.deref-2.ensures.value) at c.in_ok-drafts.ensures.exact in
     let choices = rw c.deref.ensures.value at c.in_ok-drafts.ensures.choices in
     let build : ℕ → List FinishedLayer → Layered = λ n xs. record { labels = n; layers = layers_of xs } in
-    let is : c.in_ok-whole.whole ≡ build (length names) ds = c.in_ok-whole.ensures ∙ (ap (build (length c.as_slice-states.result.now)) c.deref-3.ensures.value ∙ ap (λ n. build n ds) (ap length c.as_slice-states.ensures.value)) in
+    let is : c.in_ok-whole.whole ≡ build (length names) ds =
+    c.in_ok-whole.ensures
+    ∙ (ap (build (length c.as_slice-states.result.now)) c.deref-3.ensures.value
+    ∙ ap (λ n. build n ds) (ap length c.as_slice-states.ensures.value)) in
     record {
       layers = layers_of ds;
       linked = linked_stays p q (grows p q g) i.start rows i.keeps.items c.requires.linked;
-      laid = folded_laid p q (grows p q g) i.start rows i.keeps.items c.requires.linked (length i.letters.items) c.args.budget c.in_ok-drafts.drafts.left names ds (sym (length-map i.letters.items (λ (v : Vec ℕ Global). v.items))) spent exact choices;
+      laid =
+          folded_laid p q (grows p q g) i.start rows i.keeps.items c.requires.linked (length i.letters.items)
+          c.args.budget c.in_ok-drafts.drafts.left names ds
+          (sym (length-map i.letters.items (λ (v : Vec ℕ Global). v.items))) spent exact choices;
       within = c.in_ok-drafts.ensures.states_in;
       labels = c.in_ok-graph.ensures.labels ∙ ap (λ (h : Layered). h.labels) is;
       same_choices = c.in_ok-graph.ensures.choices ∙ ap (λ (h : Layered). map (λ (l : Layer). l.choices) h.layers) is;
-      label = λ cs h. c.in_ok-graph.ensures.label cs (subst (λ (k : Layered). AreChoices k.layers cs) (sym is) h) ∙ ap (λ (k : Layered). label_of k cs) is;
+      label =
+          λ cs h. c.in_ok-graph.ensures.label cs (subst (λ (k : Layered). AreChoices k.layers cs) (sym is) h)
+          ∙ ap (λ (k : Layered). label_of k cs) is;
       reduced = c.in_ok-graph.ensures.reduced;
-      sizes = λ j. subst (λ (k : Layered). length (layer_at c.in_ok-graph.graph.layers j).rows ≤ length (layer_at k.layers j).rows) is (c.in_ok-graph.ensures.sizes j);
+      sizes =
+          λ j. subst (λ (k : Layered). length (layer_at c.in_ok-graph.graph.layers j).rows
+          ≤ length (layer_at k.layers j).rows) is (c.in_ok-graph.ensures.sizes j);
     }
 
 pub returns-in_err-drafts-clause-wide : goal.returns-in_err-drafts-clause-wide

@@ -13,7 +13,8 @@ returns-clause-notes c =
     let q = c.note.new.pool in
     let old : List Noted = c.args.notes.now.items in
     subst (AreRight q) (sym c.in_ok-push.ensures.items)
-    (all_right_more q old c.in_ok-noted.noted (all_right_stay p q (grows p q c.in_ok-noted.ensures.grew) old c.requires.notes) c.in_ok-noted.ensures.noted)
+    (all_right_more q old c.in_ok-noted.noted
+    (all_right_stay p q (grows p q c.in_ok-noted.ensures.grew) old c.requires.notes) c.in_ok-noted.ensures.noted)
 
 pub returns-clause-noted : goal.returns-clause-noted
 returns-clause-noted c =
@@ -21,8 +22,13 @@ returns-clause-noted c =
     let n : Noted = c.in_ok-noted.noted in
     let e = c.in_ok-noted.ensures.intake in (
       n,
-      ap (λ (xs : List Noted). slice_get xs (length c.as_slice-held.result.now)) c.in_ok-push.ensures.items ∙ (ap (slice_get (old ++ n ∷ [])) (ap length c.as_slice-held.ensures.value) ∙ get_last old n),
-      record { start = ap (λ (i : Intake). i.start) e; letters = ap rows_of e; keeps = ap (λ (i : Intake). i.keeps.items) e },
+      ap (λ (xs : List Noted). slice_get xs (length c.as_slice-held.result.now)) c.in_ok-push.ensures.items
+          ∙ (ap (slice_get (old ++ n ∷ [])) (ap length c.as_slice-held.ensures.value) ∙ get_last old n),
+      record {
+        start = ap (λ (i : Intake). i.start) e;
+        letters = ap rows_of e;
+        keeps = ap (λ (i : Intake). i.keeps.items) e;
+      },
     )
 
 pub returns-in-Some-clause-noted : goal.returns-in-Some-clause-noted

@@ -18,5 +18,9 @@ returns-clause-noted c =
       refl,
       c.in_ok-noted.ensures.noted,
       omega (arith, c.in_ok-noted.ensures.few, c.requires.budget),
-      record { start = ap (λ (i : Intake). i.start) e; letters = ap rows_of e; keeps = ap (λ (i : Intake). i.keeps.items) e },
+      record {
+        start = ap (λ (i : Intake). i.start) e;
+        letters = ap rows_of e;
+        keeps = ap (λ (i : Intake). i.keeps.items) e;
+      },
     )

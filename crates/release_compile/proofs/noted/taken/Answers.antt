@@ -8,7 +8,9 @@ use Rattle.release_compile.proofs.ErrorLemmas.{passed_on}
 use Rattle.release_compile.proofs.noted.taken.Goals as goal
 
 pub returns-clause-last : goal.returns-clause-last
-returns-clause-last c = (let (n, at, right, few, same) = c.in_ok-renew.ensures.noted in subst (λ o. IsRight c.renew.new.pool o) (sym at) (right, few))
+returns-clause-last c =
+    (let (n, at, right, few, same) = c.in_ok-renew.ensures.noted in
+    subst (λ o. IsRight c.renew.new.pool o) (sym at) (right, few))
 
 pub returns-clause-taken : goal.returns-clause-taken
 returns-clause-taken c =
@@ -26,10 +28,15 @@ pub copy_last-requires : goal.copy_last-requires
 copy_last-requires c = (let (n, at, right, few, same) = c.in_ok-renew.ensures.noted in (n, at))
 
 pub returns-in_err-outer-clause-wide : goal.returns-in_err-outer-clause-wide
-returns-in_err-outer-clause-wide c = passed_on _ _ c.from_residual-in_err-outer.result c.from_residual-in_err-outer.ensures.1 (λ trouble same is f plan order fits.
+returns-in_err-outer-clause-wide c =
+    passed_on _ _ c.from_residual-in_err-outer.result c.from_residual-in_err-outer.ensures.1
+    (λ trouble same is f plan order fits.
     let p : Pool = c.args.pool.now in
     let q : Pool = c.renew.new.pool in
     let i : Intake = c.args.intake in
     let (n, at, right, few, as_is) = c.in_ok-renew.ensures.noted in
     let past = c.in_err-outer.ensures.wide (sym same ∙ is) n at in
-    laid_passes p q i.start (rows_of i) i.keeps.items n.names.items n.edges c.args.budget right.layers (grows p q c.in_ok-renew.ensures.grew) c.requires.linked (laid_same q n.intake i n.names.items n.names.items n.edges right.layers as_is refl right.laid) past f plan order fits)
+    laid_passes p q i.start (rows_of i) i.keeps.items n.names.items n.edges c.args.budget right.layers
+    (grows p q c.in_ok-renew.ensures.grew) c.requires.linked
+    (laid_same q n.intake i n.names.items n.names.items n.edges right.layers as_is refl right.laid) past f plan
+    order fits)

@@ -15,7 +15,10 @@ returns-clause-taken c =
     let place = c.in_ok-place.place in
     let notes = c.noted_at.new.notes.items in
     let held : Noted = c.index-held-place.result in
-    let here : slice_get notes place ≡ Some held = ap (λ (xs : List Noted). slice_get xs place) (sym c.as_slice-held.ensures.value) ∙ slice_get_read c.as_slice-held.result.now _ place held refl (subst (λ (xs : List Noted). place < length xs) (sym c.as_slice-held.ensures.value) (slice_get_within notes place n at)) c.index-held-place.is in
+    let here : slice_get notes place ≡ Some held =
+    ap (λ (xs : List Noted). slice_get xs place) (sym c.as_slice-held.ensures.value)
+    ∙ slice_get_read c.as_slice-held.result.now _ place held refl (subst (λ (xs : List Noted). place < length xs)
+    (sym c.as_slice-held.ensures.value) (slice_get_within notes place n at)) c.index-held-place.is in
     let is : n ≡ held = same_Some n held (sym at ∙ here) in
     record {
       note = held;
@@ -27,7 +30,9 @@ returns-clause-taken c =
     }
 
 pub returns-in_err-copy-clause-wide : goal.returns-in_err-copy-clause-wide
-returns-in_err-copy-clause-wide c = passed_on _ _ c.from_residual-in_err-copy.result c.from_residual-in_err-copy.ensures.1 (λ trouble same is f plan order fits.
+returns-in_err-copy-clause-wide c =
+    passed_on _ _ c.from_residual-in_err-copy.result c.from_residual-in_err-copy.ensures.1
+    (λ trouble same is f plan order fits.
     let p : Pool = c.args.pool.now in
     let q : Pool = c.noted_at.new.pool in
     let i : Intake = c.args.intake in
@@ -35,8 +40,14 @@ returns-in_err-copy-clause-wide c = passed_on _ _ c.from_residual-in_err-copy.re
     let place = c.in_ok-place.place in
     let notes = c.noted_at.new.notes.items in
     let held : Noted = c.index-held-place.result in
-    let here : slice_get notes place ≡ Some held = ap (λ (xs : List Noted). slice_get xs place) (sym c.as_slice-held.ensures.value) ∙ slice_get_read c.as_slice-held.result.now _ place held refl (subst (λ (xs : List Noted). place < length xs) (sym c.as_slice-held.ensures.value) (slice_get_within notes place n at)) c.index-held-place.is in
+    let here : slice_get notes place ≡ Some held =
+    ap (λ (xs : List Noted). slice_get xs place) (sym c.as_slice-held.ensures.value)
+    ∙ slice_get_read c.as_slice-held.result.now _ place held refl (subst (λ (xs : List Noted). place < length xs)
+    (sym c.as_slice-held.ensures.value) (slice_get_within notes place n at)) c.index-held-place.is in
     let one : n ≡ held = same_Some n held (sym at ∙ here) in
     let right : IsNoted q held = c.in_ok-place.ensures.notes place held here in
     let past = c.in_err-copy.ensures.wide (sym same ∙ is) in
-    laid_passes p q i.start (rows_of i) i.keeps.items held.names.items held.edges c.args.budget right.layers (grows p q c.in_ok-place.ensures.grew) c.requires.linked (laid_same q held.intake i held.names.items held.names.items held.edges right.layers (subst (λ (k : Noted). SameIntake k.intake i) one as_is) refl right.laid) past f plan order fits)
+    laid_passes p q i.start (rows_of i) i.keeps.items held.names.items held.edges c.args.budget right.layers
+    (grows p q c.in_ok-place.ensures.grew) c.requires.linked (laid_same q held.intake i held.names.items
+    held.names.items held.edges right.layers (subst (λ (k : Noted). SameIntake k.intake i) one as_is) refl right.laid)
+    past f plan order fits)

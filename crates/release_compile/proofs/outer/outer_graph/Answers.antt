@@ -12,61 +12,92 @@ use Rattle.release_compile.proofs.NotingLemmas.{right_stays, fits_self}
 use Rattle.release_compile.proofs.OuterFits.{outer_fits}
 use Rattle.release_compile.proofs.OuterEdges.{outer_passes}
 use Rattle.release_compile.proofs.OuterGraphs.{outer_linked}
-use Rattle.release_compile.proofs.OuterTaken.{taken_outer, taken_small, taken_names, taken_spends, taken_left, taken_reduced}
+use Rattle.release_compile.proofs.OuterTaken.{taken_outer, taken_small, taken_names, taken_spends, taken_left}
+use Rattle.release_compile.proofs.OuterTaken.{taken_reduced}
 use Rattle.release_compile.proofs.ErrorLemmas.{passed_on}
 use Rattle.release_compile.proofs.outer.outer_graph.Goals as goal
 
 pub taken-requires-clause-last : goal.taken-requires-clause-last
-taken-requires-clause-last c = right_stays c.args.pool.now c.outer_intake.new.pool (grows c.args.pool.now c.outer_intake.new.pool c.in_ok-intake.ensures.grew) c.args.last.now c.requires.last
+taken-requires-clause-last c =
+    right_stays c.args.pool.now c.outer_intake.new.pool
+    (grows c.args.pool.now c.outer_intake.new.pool c.in_ok-intake.ensures.grew) c.args.last.now c.requires.last
 
 pub taken-requires-clause-linked : goal.taken-requires-clause-linked
 taken-requires-clause-linked c =
     let i : Intake = c.in_ok-intake.intake in
-    outer_linked (lettered c.args.station.now c.args.parts.now) c.args.bay.0 c.outer_intake.new.pool i.start (rows_of i) i.keeps.items c.in_ok-intake.ensures.ready
+    outer_linked (lettered c.args.station.now c.args.parts.now) c.args.bay.0 c.outer_intake.new.pool i.start (rows_of i)
+    i.keeps.items c.in_ok-intake.ensures.ready
 
 pub returns-clause-grew : goal.returns-clause-grew
-returns-clause-grew c = grew_more c.args.pool.now c.outer_intake.new.pool c.taken.new.pool c.in_ok-intake.ensures.grew c.in_ok-outer.ensures.grew
+returns-clause-grew c =
+    grew_more c.args.pool.now c.outer_intake.new.pool c.taken.new.pool c.in_ok-intake.ensures.grew
+    c.in_ok-outer.ensures.grew
 
 pub returns-clause-outer : goal.returns-clause-outer
 returns-clause-outer c =
     let a : Lettered = lettered c.args.station.now c.args.parts.now in
     let q = c.taken.new.pool in
-    subst (λ w. IsOuter w a c.args.bay.0 c.in_ok-outer.outer.graph (values_at q.values.items c.in_ok-outer.outer.names.items)) c.in_ok-intake.ensures.grew.view
-    (taken_outer a c.args.bay.0 c.args.others c.args.left c.outer_intake.new.pool q c.in_ok-intake.intake c.in_ok-outer.outer c.part_count-count.ensures.station c.requires.count c.requires.bay c.in_ok-intake.ensures.ready c.in_ok-outer.ensures.grew c.in_ok-outer.ensures.taken c.labels-labels.ensures.layered)
+    subst (λ w. IsOuter w a c.args.bay.0 c.in_ok-outer.outer.graph
+    (values_at q.values.items c.in_ok-outer.outer.names.items)) c.in_ok-intake.ensures.grew.view
+    (taken_outer a c.args.bay.0 c.args.others c.args.left c.outer_intake.new.pool q c.in_ok-intake.intake
+    c.in_ok-outer.outer c.part_count-count.ensures.station c.requires.count c.requires.bay c.in_ok-intake.ensures.ready
+    c.in_ok-outer.ensures.grew c.in_ok-outer.ensures.taken c.labels-labels.ensures.layered)
 
 pub returns-clause-small : goal.returns-clause-small
 returns-clause-small c =
     let a : Lettered = lettered c.args.station.now c.args.parts.now in
-    subst (λ w. OuterIsSmall w c.args.station.now c.args.bay.0 c.in_ok-outer.outer.graph) c.in_ok-intake.ensures.grew.view
-    (taken_small a c.args.bay.0 c.args.others c.args.left c.outer_intake.new.pool c.taken.new.pool c.in_ok-intake.intake c.in_ok-outer.outer c.part_count-count.ensures.station c.requires.count c.requires.bay c.in_ok-intake.ensures.ready c.in_ok-outer.ensures.grew c.in_ok-outer.ensures.taken)
+    subst (λ w. OuterIsSmall w c.args.station.now c.args.bay.0 c.in_ok-outer.outer.graph)
+    c.in_ok-intake.ensures.grew.view
+    (taken_small a c.args.bay.0 c.args.others c.args.left c.outer_intake.new.pool c.taken.new.pool c.in_ok-intake.intake
+    c.in_ok-outer.outer c.part_count-count.ensures.station c.requires.count c.requires.bay c.in_ok-intake.ensures.ready
+    c.in_ok-outer.ensures.grew c.in_ok-outer.ensures.taken)
 
 pub returns-clause-names : goal.returns-clause-names
 returns-clause-names c =
-    taken_names (lettered c.args.station.now c.args.parts.now) c.args.bay.0 c.args.others c.args.left c.outer_intake.new.pool c.taken.new.pool c.in_ok-intake.intake c.in_ok-outer.outer c.part_count-count.ensures.station c.requires.count c.requires.bay c.in_ok-intake.ensures.ready c.in_ok-outer.ensures.grew c.in_ok-outer.ensures.taken
+    taken_names (lettered c.args.station.now c.args.parts.now) c.args.bay.0 c.args.others c.args.left
+    c.outer_intake.new.pool c.taken.new.pool c.in_ok-intake.intake c.in_ok-outer.outer
+    c.part_count-count.ensures.station c.requires.count c.requires.bay c.in_ok-intake.ensures.ready
+    c.in_ok-outer.ensures.grew c.in_ok-outer.ensures.taken
 
 pub returns-clause-spent : goal.returns-clause-spent
 returns-clause-spent c =
-    subst (λ w. Spends (OuterHas w c.args.station.now c.args.bay.0 c.args.others) c.args.station.now c.args.left c.in_ok-outer.outer.left) c.in_ok-intake.ensures.grew.view
-    (taken_spends (lettered c.args.station.now c.args.parts.now) c.args.bay.0 c.args.others c.args.left c.outer_intake.new.pool c.taken.new.pool c.in_ok-intake.intake c.in_ok-outer.outer c.part_count-count.ensures.station c.requires.count c.requires.bay c.in_ok-intake.ensures.ready c.in_ok-outer.ensures.grew c.in_ok-outer.ensures.taken)
+    subst (λ w. Spends (OuterHas w c.args.station.now c.args.bay.0 c.args.others) c.args.station.now c.args.left
+    c.in_ok-outer.outer.left) c.in_ok-intake.ensures.grew.view
+    (taken_spends (lettered c.args.station.now c.args.parts.now) c.args.bay.0 c.args.others c.args.left
+    c.outer_intake.new.pool c.taken.new.pool c.in_ok-intake.intake c.in_ok-outer.outer
+    c.part_count-count.ensures.station c.requires.count c.requires.bay c.in_ok-intake.ensures.ready
+    c.in_ok-outer.ensures.grew c.in_ok-outer.ensures.taken)
 
 pub returns-clause-names_few : goal.returns-clause-names_few
 returns-clause-names_few c = c.in_ok-outer.ensures.few
 
 pub returns-clause-left : goal.returns-clause-left
 returns-clause-left c =
-    taken_left (lettered c.args.station.now c.args.parts.now) c.args.bay.0 c.args.others c.args.left c.outer_intake.new.pool c.taken.new.pool c.in_ok-intake.intake c.in_ok-outer.outer c.part_count-count.ensures.station c.requires.count c.requires.bay c.in_ok-intake.ensures.ready c.in_ok-outer.ensures.grew c.in_ok-outer.ensures.taken
+    taken_left (lettered c.args.station.now c.args.parts.now) c.args.bay.0 c.args.others c.args.left
+    c.outer_intake.new.pool c.taken.new.pool c.in_ok-intake.intake c.in_ok-outer.outer
+    c.part_count-count.ensures.station c.requires.count c.requires.bay c.in_ok-intake.ensures.ready
+    c.in_ok-outer.ensures.grew c.in_ok-outer.ensures.taken
 
 pub returns-clause-reduced : goal.returns-clause-reduced
 returns-clause-reduced c =
-    taken_reduced (lettered c.args.station.now c.args.parts.now) c.args.bay.0 c.args.others c.args.left c.outer_intake.new.pool c.taken.new.pool c.in_ok-intake.intake c.in_ok-outer.outer c.part_count-count.ensures.station c.requires.count c.requires.bay c.in_ok-intake.ensures.ready c.in_ok-outer.ensures.grew c.in_ok-outer.ensures.taken
+    taken_reduced (lettered c.args.station.now c.args.parts.now) c.args.bay.0 c.args.others c.args.left
+    c.outer_intake.new.pool c.taken.new.pool c.in_ok-intake.intake c.in_ok-outer.outer
+    c.part_count-count.ensures.station c.requires.count c.requires.bay c.in_ok-intake.ensures.ready
+    c.in_ok-outer.ensures.grew c.in_ok-outer.ensures.taken
 
 pub returns-in_err-outer-clause-wide : goal.returns-in_err-outer-clause-wide
-returns-in_err-outer-clause-wide c = passed_on _ _ c.from_residual-in_err-outer.result c.from_residual-in_err-outer.ensures.1 (λ trouble same is.
+returns-in_err-outer-clause-wide c =
+    passed_on _ _ c.from_residual-in_err-outer.result c.from_residual-in_err-outer.ensures.1 (λ trouble same is.
     let a : Lettered = lettered c.args.station.now c.args.parts.now in
     let b = c.args.bay.0 in
     let p = c.outer_intake.new.pool in
     let i : Intake = c.in_ok-intake.intake in
     let ready = c.in_ok-intake.ensures.ready in
-    let passes = outer_passes p.view a b p i.start (rows_of i) i.keeps.items ready c.args.left (c.in_err-outer.ensures.wide (sym same ∙ is) (λ n. n) (outer_plan a b) order_self (fits_self p i.start (rows_of i) i.keeps.items (outer_linked a b p i.start (rows_of i) i.keeps.items ready) (outer_plan a b) (outer_fits a b p i.start (rows_of i) i.keeps.items ready))) in
-    subst (λ w. Passes (OuterHas w c.args.station.now b c.args.others) c.args.station.now c.args.left) c.in_ok-intake.ensures.grew.view
-    (subst (λ n. Passes (OuterHas p.view c.args.station.now b n) c.args.station.now c.args.left) c.in_ok-intake.ensures.count passes))
+    let passes = outer_passes p.view a b p i.start (rows_of i) i.keeps.items ready c.args.left
+    (c.in_err-outer.ensures.wide (sym same ∙ is) (λ n. n) (outer_plan a b) order_self (fits_self p i.start (rows_of i)
+    i.keeps.items (outer_linked a b p i.start (rows_of i) i.keeps.items ready) (outer_plan a b)
+    (outer_fits a b p i.start (rows_of i) i.keeps.items ready))) in
+    subst (λ w. Passes (OuterHas w c.args.station.now b c.args.others) c.args.station.now c.args.left)
+    c.in_ok-intake.ensures.grew.view
+    (subst (λ n. Passes (OuterHas p.view c.args.station.now b n) c.args.station.now c.args.left)
+    c.in_ok-intake.ensures.count passes))

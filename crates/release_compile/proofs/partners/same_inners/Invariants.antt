@@ -3,4 +3,5 @@ use Rattle.decision_graphs.specs.Label.{Layered}
 use Rattle.release_compile.proofs.partners.same_inners.Given as goal
 
 abbrev pub invariant-loop-place : goal.invariant-loop-place
-invariant-loop-place l = (k : ℕ) (v w : Layered) → k < l.place → slice_get l.fn.one k ≡ Some v → slice_get l.fn.other k ≡ Some w → v ≡ w
+invariant-loop-place l =
+    (k : ℕ) (v w : Layered) → k < l.place → slice_get l.fn.one k ≡ Some v → slice_get l.fn.other k ≡ Some w → v ≡ w

@@ -4,4 +4,8 @@ use Rattle.release_compile.specs.PartnerLabels.{AreInnersOf}
 use Rattle.release_compile.proofs.partners.view_tells.Goals as goal
 
 pub tells_of-requires : goal.tells_of-requires
-tells_of-requires c = record { inners = subst (λ (gs : List Layered). AreInnersOf c.args.graphs.now.outer.labels gs) (sym c.deref.ensures.value) c.requires }
+tells_of-requires c = record {
+  inners =
+      subst (λ (gs : List Layered). AreInnersOf c.args.graphs.now.outer.labels gs)
+      (sym c.deref.ensures.value) c.requires;
+}

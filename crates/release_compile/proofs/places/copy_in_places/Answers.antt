@@ -20,6 +20,7 @@ returns-clause-copy c x at =
     let q = c.intern.new.self in
     let y : Answers = c.index-value.result.now in
     let here = slice_get_read p.values.items _ c.args.id y refl c.requires.within c.index-value.ensures in
-    let has = same_on (node_of list) q c.in_ok-moved.moved y c.in_ok-place.place (places_rise list c.requires.nodes) c.in_ok-moved.ensures.mapped c.in_places.ensures.answers c.in_ok-place.ensures.same in
+    let has = same_on (node_of list) q c.in_ok-moved.moved y c.in_ok-place.place (places_rise list c.requires.nodes)
+    c.in_ok-moved.ensures.mapped c.in_places.ensures.answers c.in_ok-place.ensures.same in
     subst (λ z. HasCopy (pool_on (node_of list) q) z c.in_ok-place.place) (same_Some y x (sym here ∙ at))
     (copy_of (pool_on (node_of list) q) y y c.in_ok-place.place has (λ n. (λ k. k, λ k. k)) (λ view items d v s. s))

@@ -16,13 +16,19 @@ places_of-requires-clause-has c n kept = c.requires.has n (subst (λ xs. Keeps x
 pub renamed-requires-clause-nodes : goal.renamed-requires-clause-nodes
 renamed-requires-clause-nodes c =
     let list = c.args.list.now in
-    places_are_nodes list c.requires.nodes c.in_ok-places.places c.args.value.now.kept (c.in_ok-places.ensures ∙ c.nodes-nodes.ensures.nodes) c.nodes-nodes.ensures.answers.nodes.rises c.requires.has
+    places_are_nodes list c.requires.nodes c.in_ok-places.places c.args.value.now.kept
+    (c.in_ok-places.ensures ∙ c.nodes-nodes.ensures.nodes) c.nodes-nodes.ensures.answers.nodes.rises c.requires.has
 
 pub renamed-requires-clause-count : goal.renamed-requires-clause-count
-renamed-requires-clause-count c = omega (arith, length-map c.in_ok-places.places (node_of c.args.list.now), ap length (c.in_ok-places.ensures ∙ c.nodes-nodes.ensures.nodes))
+renamed-requires-clause-count c = omega (
+  arith,
+  length-map c.in_ok-places.places (node_of c.args.list.now),
+  ap length (c.in_ok-places.ensures ∙ c.nodes-nodes.ensures.nodes),
+)
 
 pub returns-clause-mapped : goal.returns-clause-mapped
 returns-clause-mapped c =
     let f : ℕ → ℕ = node_of c.args.list.now in
     let x : Answers = c.args.value.now in
-    ap (λ (z : Answers). renamed (map f z.kept) z) c.in_ok-moved.ensures.renamed ∙ ap (λ (ks : List ℕ). renamed ks x) (c.in_ok-places.ensures ∙ c.nodes-nodes.ensures.nodes)
+    ap (λ (z : Answers). renamed (map f z.kept) z) c.in_ok-moved.ensures.renamed
+    ∙ ap (λ (ks : List ℕ). renamed ks x) (c.in_ok-places.ensures ∙ c.nodes-nodes.ensures.nodes)

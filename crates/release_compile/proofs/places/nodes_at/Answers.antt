@@ -24,7 +24,9 @@ loop-k-preserved c =
     let p : ℕ = get_or places k 0 in
     let at : slice_get places k ≡ Some p = slice_get-get_or places k 0 c.loop-k-test.true in
     let here : c.get.result.0 ≡ get_or list p 0 = c.get.ensures ∙ ap (λ i. get_or list i 0) c.from-place.ensures in
-    c.in_ok-push.ensures.ok ∙ nodes_more list places c.loop-k.nodes k p c.get.result.0 c.loop-k.invariant at (c.requires p (record { place = k; at = at })) here
+    c.in_ok-push.ensures.ok
+    ∙ nodes_more list places c.loop-k.nodes k p c.get.result.0 c.loop-k.invariant at
+    (c.requires p (record { place = k; at = at })) here
 
 pub returns : goal.returns
 returns c =

@@ -13,19 +13,23 @@ pub renamed-requires-clause-nodes : goal.renamed-requires-clause-nodes
 renamed-requires-clause-nodes c =
     let list = c.args.list.now in
     let x : Answers = c.args.value.now in
-    let is : c.in_ok-nodes.nodes ≡ map (node_of list) x.kept = c.in_ok-nodes.ensures ∙ ap (map (node_of list)) c.nodes-places.ensures.nodes in
-    subst AreNodes (sym is) (nodes_are_nodes list c.requires.nodes x.kept c.nodes-places.ensures.answers.nodes c.requires.within)
+    let is : c.in_ok-nodes.nodes ≡ map (node_of list) x.kept =
+    c.in_ok-nodes.ensures ∙ ap (map (node_of list)) c.nodes-places.ensures.nodes in
+    subst AreNodes (sym is)
+    (nodes_are_nodes list c.requires.nodes x.kept c.nodes-places.ensures.answers.nodes c.requires.within)
 
 pub renamed-requires-clause-count : goal.renamed-requires-clause-count
 renamed-requires-clause-count c =
     let list = c.args.list.now in
     let x : Answers = c.args.value.now in
-    let is : c.in_ok-nodes.nodes ≡ map (node_of list) x.kept = c.in_ok-nodes.ensures ∙ ap (map (node_of list)) c.nodes-places.ensures.nodes in
+    let is : c.in_ok-nodes.nodes ≡ map (node_of list) x.kept =
+    c.in_ok-nodes.ensures ∙ ap (map (node_of list)) c.nodes-places.ensures.nodes in
     omega (arith, ap length is, length-map x.kept (node_of list))
 
 pub returns : goal.returns
 returns c =
     let list = c.args.list.now in
     let x : Answers = c.args.value.now in
-    let is : c.in_ok-nodes.nodes ≡ map (node_of list) x.kept = c.in_ok-nodes.ensures ∙ ap (map (node_of list)) c.nodes-places.ensures.nodes in
+    let is : c.in_ok-nodes.nodes ≡ map (node_of list) x.kept =
+    c.in_ok-nodes.ensures ∙ ap (map (node_of list)) c.nodes-places.ensures.nodes in
     c.in_ok-actual.ensures.renamed ∙ ap (λ (ks : List ℕ). renamed ks x) is

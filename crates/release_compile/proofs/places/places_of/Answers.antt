@@ -25,8 +25,10 @@ loop-k-preserved c =
     let k = c.loop-k.k in
     let n : ℕ = get_or nodes k 0 in
     let at : slice_get nodes k ≡ Some n = slice_get-get_or nodes k 0 c.loop-k-test.true in
-    let found : slice_get list c.place_in-place.result ≡ Some n = ap (λ xs. slice_get xs c.place_in-place.result) (sym c.numbers-all.ensures) ∙ c.place_in-place.ensures in
-    ap (map (node_of list)) c.in_ok-push.ensures.ok ∙ places_more list c.loop-k.places nodes k c.place_in-place.result n c.loop-k.invariant found at
+    let found : slice_get list c.place_in-place.result ≡ Some n =
+    ap (λ xs. slice_get xs c.place_in-place.result) (sym c.numbers-all.ensures) ∙ c.place_in-place.ensures in
+    ap (map (node_of list)) c.in_ok-push.ensures.ok
+    ∙ places_more list c.loop-k.places nodes k c.place_in-place.result n c.loop-k.invariant found at
 
 pub returns : goal.returns
 returns c =

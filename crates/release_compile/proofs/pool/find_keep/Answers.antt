@@ -6,4 +6,5 @@ use Rattle.release_compile.proofs.pool.find_keep.Goals as goal
 pub returns-then-eq : goal.returns-then-eq
 returns-then-eq c =
     let x : List ℕ = c.index-keeps-place.result in
-    slice_get_read c.args.keeps.now _ c.loop-place.place x refl c.loop-place-test.true c.index-keeps-place.is ∙ ap Some ((bytes_eq-Decides x c.args.nodes.now).0 (sym c.eq.ensures ∙ c.if-eq.true))
+    slice_get_read c.args.keeps.now _ c.loop-place.place x refl c.loop-place-test.true c.index-keeps-place.is
+    ∙ ap Some ((bytes_eq-Decides x c.args.nodes.now).0 (sym c.eq.ensures ∙ c.if-eq.true))

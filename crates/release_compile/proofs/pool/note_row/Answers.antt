@@ -6,4 +6,5 @@ use Rattle.release_compile.proofs.pool.note_row.Goals as goal
 
 pub returns : goal.returns
 returns c view values x index at is =
-    index_more view values x c.args.index.now c.insert.new.self c.args.row index is (subst (λ n. Updates bytes_eq c.args.index.now c.insert.new.self c.args.row (Some n)) at c.in_ok-insert.ensures.updates)
+    index_more view values x c.args.index.now c.insert.new.self c.args.row index is (subst
+    (λ n. Updates bytes_eq c.args.index.now c.insert.new.self c.args.row (Some n)) at c.in_ok-insert.ensures.updates)

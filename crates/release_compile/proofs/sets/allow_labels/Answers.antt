@@ -17,7 +17,13 @@ pub allow_if-requires-clause-layer : goal.allow_if-requires-clause-layer
 allow_if-requires-clause-layer c = omega (arith, c.requires.some, c.loop-label.invariant.count)
 
 pub allow_if-requires-clause-choice : goal.allow_if-requires-clause-choice
-allow_if-requires-clause-choice c = omega (arith, c.requires.first, c.loop-label.invariant.lens 0, c.loop-label-test.true, c.labels-count.ensures.count)
+allow_if-requires-clause-choice c = omega (
+  arith,
+  c.requires.first,
+  c.loop-label.invariant.lens 0,
+  c.loop-label-test.true,
+  c.labels-count.ensures.count,
+)
 
 pub loop-label-preserved : goal.loop-label-preserved
 loop-label-preserved c =
@@ -28,7 +34,10 @@ loop-label-preserved c =
       count = e.count ∙ c.loop-label.invariant.count;
       lens = λ j. e.lens j ∙ c.loop-label.invariant.lens j;
       sets = λ ls are. e.sets ls (c.loop-label.invariant.sets ls are);
-      here = marked_more (IsSet (set_at c.args.inner.now 0)) (IsSet (set_at new 0)) (IsSet (set_at q 0)) c.args.marks.now.labels c.loop-label.label c.marked-yes.result c.marked-yes.ensures c.loop-label.invariant.here e.here;
+      here =
+          marked_more (IsSet (set_at c.args.inner.now 0)) (IsSet (set_at new 0)) (IsSet (set_at q 0))
+          c.args.marks.now.labels c.loop-label.label c.marked-yes.result c.marked-yes.ensures
+          c.loop-label.invariant.here e.here;
       others = λ j ne. e.others j ne ∙ c.loop-label.invariant.others j ne;
     }
 
@@ -38,6 +47,17 @@ returns-clause-here c k =
       λ w. elim (h.0 w) [ inl old ↦ inl old | inr m ↦ inr m.1 ],
       λ w. elim w [
         | inl old ↦ h.1 (inl old)
-        | inr m ↦ h.1 (inr (omega (arith, set_in c.args.marks.now.labels k m, c.requires.marks, c.labels-count.ensures.count, c.loop-label.auto.label-end, c.loop-label-test.false), m))
+        | inr m ↦
+            h.1 (inr (
+              omega (
+                arith,
+                set_in c.args.marks.now.labels k m,
+                c.requires.marks,
+                c.labels-count.ensures.count,
+                c.loop-label.auto.label-end,
+                c.loop-label-test.false,
+              ),
+              m,
+            ))
       ],
     )

@@ -9,6 +9,7 @@ invariant-loop-label l = record {
   count : length l.inner ≡ length l.fn.inner;
   lens : (j : ℕ) → length (set_at l.inner j) ≡ length (set_at l.fn.inner j);
   sets : (ls : List Layer) → AreSetsOf ls l.fn.inner → AreSetsOf ls l.inner;
-  here : (c : ℕ) → IsSet (set_at l.inner 0) c ↔ (IsSet (set_at l.fn.inner 0) c ⊎ ((c < l.label) × IsSet l.marks.labels c));
+  here : (c : ℕ) → IsSet (set_at l.inner 0) c ↔
+      (IsSet (set_at l.fn.inner 0) c ⊎ ((c < l.label) × IsSet l.marks.labels c));
   others : (j : ℕ) → j ≢ 0 → set_at l.inner j ≡ set_at l.fn.inner j;
 }

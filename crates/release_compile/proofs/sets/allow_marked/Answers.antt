@@ -17,7 +17,8 @@ pub allow_if-requires-clause-layer : goal.allow_if-requires-clause-layer
 allow_if-requires-clause-layer c = omega (arith, c.requires.layer, c.loop-choice.invariant.count)
 
 pub allow_if-requires-clause-choice : goal.allow_if-requires-clause-choice
-allow_if-requires-clause-choice c = omega (arith, c.requires.marks, c.loop-choice.invariant.lens c.args.layer, c.loop-choice-test.true)
+allow_if-requires-clause-choice c =
+    omega (arith, c.requires.marks, c.loop-choice.invariant.lens c.args.layer, c.loop-choice-test.true)
 
 pub loop-choice-preserved : goal.loop-choice-preserved
 loop-choice-preserved c =
@@ -30,7 +31,9 @@ loop-choice-preserved c =
       count = e.count ∙ c.loop-choice.invariant.count;
       lens = λ j. e.lens j ∙ c.loop-choice.invariant.lens j;
       sets = λ ls are. e.sets ls (c.loop-choice.invariant.sets ls are);
-      here = marked_more (IsSet (set_at c.args.sets.now c.args.layer)) (IsSet (set_at new c.args.layer)) (IsSet (set_at q c.args.layer)) marks k (get_or marks k false) refl c.loop-choice.invariant.here e.here;
+      here =
+          marked_more (IsSet (set_at c.args.sets.now c.args.layer)) (IsSet (set_at new c.args.layer))
+          (IsSet (set_at q c.args.layer)) marks k (get_or marks k false) refl c.loop-choice.invariant.here e.here;
       others = λ j ne. e.others j ne ∙ c.loop-choice.invariant.others j ne;
     }
 
@@ -40,6 +43,10 @@ returns-clause-here c k =
       λ w. elim (h.0 w) [ inl old ↦ inl old | inr m ↦ inr m.1 ],
       λ w. elim w [
         | inl old ↦ h.1 (inl old)
-        | inr m ↦ h.1 (inr (omega (arith, set_in c.args.marks.now k m, c.loop-choice.auto.choice-end, c.loop-choice-test.false), m))
+        | inr m ↦
+            h.1 (inr (
+              omega (arith, set_in c.args.marks.now k m, c.loop-choice.auto.choice-end, c.loop-choice-test.false),
+              m,
+            ))
       ],
     )

@@ -9,6 +9,7 @@ invariant-loop-choice l = record {
   count : length l.sets ≡ length l.fn.sets;
   lens : (j : ℕ) → length (set_at l.sets j) ≡ length (set_at l.fn.sets j);
   sets : (ls : List Layer) → AreSetsOf ls l.fn.sets → AreSetsOf ls l.sets;
-  here : (c : ℕ) → IsSet (set_at l.sets l.layer) c ↔ (IsSet (set_at l.fn.sets l.layer) c ⊎ ((c < l.choice) × IsSet l.marks c));
+  here : (c : ℕ) → IsSet (set_at l.sets l.layer) c ↔
+      (IsSet (set_at l.fn.sets l.layer) c ⊎ ((c < l.choice) × IsSet l.marks c));
   others : (j : ℕ) → j ≢ l.layer → set_at l.sets j ≡ set_at l.fn.sets j;
 }

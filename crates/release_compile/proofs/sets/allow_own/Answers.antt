@@ -1,4 +1,5 @@
-use Rattle.std.proofs.Common.{◌≡◌, ◌≢◌, ◌+◌, suc, Some, slice_get, length, eqb, refl, sym, ap, ◌∙◌, subst, inl, inr, arith, add-one}
+use Rattle.std.proofs.Common.{◌≡◌, ◌≢◌, ◌+◌, suc, Some, slice_get, length, eqb, refl, sym, ap, ◌∙◌, subst, inl, inr}
+use Rattle.std.proofs.Common.{arith, add-one}
 use Rattle.std.specs.Prelude.{◌↔◌}
 use Rattle.std.proofs.lemmas.Bool.{cases_lt}
 use Rattle.ilk_base.specs.declared.words.Dbpos.{Dbpos}
@@ -20,7 +21,12 @@ loop-i-init c = record {
 }
 
 pub word-word-requires : goal.word-word-requires
-word-word-requires c = omega (arith, c.other_number.ensures, (other_in c.args.first c.args.moved c.args.others c.loop-i.i c.loop-i-test.true).1, c.requires.words)
+word-word-requires c = omega (
+  arith,
+  c.other_number.ensures,
+  (other_in c.args.first c.args.moved c.args.others c.loop-i.i c.loop-i-test.true).1,
+  c.requires.words,
+)
 
 pub allow_positions-requires-clause-layer : goal.allow_positions-requires-clause-layer
 allow_positions-requires-clause-layer c = omega (arith, c.requires.count, c.loop-i.invariant.count, c.loop-i-test.true)
@@ -39,7 +45,8 @@ loop-i-preserved c =
     let first = c.args.first in
     let moved = c.args.moved in
     let word : Dbpos = c.word-word.result in
-    let at : slice_get c.args.own.now (other_of first moved i) ≡ Some word = ap (slice_get c.args.own.now) (sym c.other_number.ensures) ∙ c.word-word.ensures in
+    let at : slice_get c.args.own.now (other_of first moved i) ≡ Some word =
+    ap (slice_get c.args.own.now) (sym c.other_number.ensures) ∙ c.word-word.ensures in
     let next : i + 1 ≡ suc i = add-one i in
     record {
       count = e.count ∙ c.loop-i.invariant.count;
@@ -48,18 +55,26 @@ loop-i-preserved c =
       done = λ k x lt small. elim (cases_lt k i) [
         | inl less ↦
             let ne : suc k ≢ i + 1 = λ h. omega (arith, less, h) in
-            subst (λ s. IsSet s x ↔ ((w : Dbpos) → slice_get c.args.own.now (other_of first moved k) ≡ Some w → Agrees w (eqb x 1))) (sym (e.others (suc k) ne)) (c.loop-i.invariant.done k x less small)
+            subst (λ s. IsSet s x ↔
+            ((w : Dbpos) → slice_get c.args.own.now (other_of first moved k) ≡ Some w → Agrees w (eqb x 1)))
+            (sym (e.others (suc k) ne)) (c.loop-i.invariant.done k x less small)
         | inr more ↦
             let is : i ≡ k = omega (arith, lt, more) in
             let here = e.here x small in
-            let bare : IsSet (set_at q (i + 1)) x → ⊥ = λ h. c.requires.bare i x (subst (λ s. IsSet s x) (ap (set_at q) next ∙ c.loop-i.invariant.rest i (omega arith)) h) in
-            subst (λ n. IsSet (set_at new (suc n)) x ↔ ((w : Dbpos) → slice_get c.args.own.now (other_of first moved n) ≡ Some w → Agrees w (eqb x 1))) is
-            (subst (λ n. IsSet (set_at new n) x ↔ ((w : Dbpos) → slice_get c.args.own.now (other_of first moved i) ≡ Some w → Agrees w (eqb x 1))) next
-            (own_done (IsSet (set_at q (i + 1)) x) (IsSet (set_at new (i + 1)) x) c.args.own.now (other_of first moved i) word (eqb x 1) at bare here))
+            let bare : IsSet (set_at q (i + 1)) x → ⊥ =
+            λ h. c.requires.bare i x
+            (subst (λ s. IsSet s x) (ap (set_at q) next ∙ c.loop-i.invariant.rest i (omega arith)) h) in
+            subst (λ n. IsSet (set_at new (suc n)) x ↔
+            ((w : Dbpos) → slice_get c.args.own.now (other_of first moved n) ≡ Some w → Agrees w (eqb x 1))) is
+            (subst (λ n. IsSet (set_at new n) x ↔
+            ((w : Dbpos) → slice_get c.args.own.now (other_of first moved i) ≡ Some w → Agrees w (eqb x 1))) next
+            (own_done (IsSet (set_at q (i + 1)) x) (IsSet (set_at new (i + 1)) x) c.args.own.now
+            (other_of first moved i) word (eqb x 1) at bare here))
       ];
       rest = λ k le. e.others (suc k) (λ h. omega (arith, le, h)) ∙ c.loop-i.invariant.rest k (omega (arith, le));
       first = e.others 0 (λ h. omega (arith, h)) ∙ c.loop-i.invariant.first;
     }
 
 pub returns-clause-own : goal.returns-clause-own
-returns-clause-own c k x lt small = c.loop-i.invariant.done k x (omega (arith, lt, c.loop-i.auto.i-end, c.loop-i-test.false)) small
+returns-clause-own c k x lt small =
+    c.loop-i.invariant.done k x (omega (arith, lt, c.loop-i.auto.i-end, c.loop-i-test.false)) small

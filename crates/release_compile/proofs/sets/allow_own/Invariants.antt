@@ -12,7 +12,8 @@ invariant-loop-i l = record {
   count : length l.inner ≡ length l.fn.inner;
   lens : (j : ℕ) → length (set_at l.inner j) ≡ length (set_at l.fn.inner j);
   sets : (ls : List Layer) → AreSetsOf ls l.fn.inner → AreSetsOf ls l.inner;
-  done : (k c : ℕ) → k < l.i → c < 2 → IsSet (set_at l.inner (suc k)) c ↔ ((word : Dbpos) → slice_get l.own (other_of l.first l.moved k) ≡ Some word → Agrees word (eqb c 1));
+  done : (k c : ℕ) → k < l.i → c < 2 → IsSet (set_at l.inner (suc k)) c ↔
+      ((word : Dbpos) → slice_get l.own (other_of l.first l.moved k) ≡ Some word → Agrees word (eqb c 1));
   rest : (k : ℕ) → l.i ≤ k → set_at l.inner (suc k) ≡ set_at l.fn.inner (suc k);
   first : set_at l.inner 0 ≡ set_at l.fn.inner 0;
 }

@@ -9,5 +9,6 @@ use Rattle.release_compile.proofs.sets.heard_sets.Given as goal
 abbrev pub invariant-loop-j : goal.invariant-loop-j
 invariant-loop-j l = record {
   sets : AreSetsOf l.outer.layers l.sets;
-  filled : FilledBelow (λ j c. (c < index_count (lettered l.station l.parts) (other_of 0 l.bay.0 j)) × HeardAllows (slice_get l.heard (other_of 0 l.bay.0 j)) c) l.sets l.j;
+  filled : FilledBelow (λ j c. (c < index_count (lettered l.station l.parts) (other_of 0 l.bay.0 j))
+      × HeardAllows (slice_get l.heard (other_of 0 l.bay.0 j)) c) l.sets l.j;
 }

@@ -11,20 +11,25 @@ side-requires-clause-row c =
     let a : Lettered = lettered c.args.station.now c.args.parts.now in
     let gs = c.requires.graphs in
     let h : Layered = c.index-inner.result.now in
-    let x = inner_at c.args.view a p.bay.0 c.args.switch.0 p.first p.others c.requires.own (view_of c.args.graphs.now) gs c.from-index.result h c.from-index.ensures c.index-inner.ensures in
+    let x = inner_at c.args.view a p.bay.0 c.args.switch.0 p.first p.others c.requires.own (view_of c.args.graphs.now)
+    gs c.from-index.result h c.from-index.ensures c.index-inner.ensures in
     in_a_row c.args.view a p.bay.0 c.args.switch.0 p.first p.others gs.names c.args.graphs.now.outer h gs.outer x.graph
 
 pub side-requires-clause-count : goal.side-requires-clause-count
 side-requires-clause-count c =
     let p = c.args.place in
     let a : Lettered = lettered c.args.station.now c.args.parts.now in
-    (inner_at c.args.view a p.bay.0 c.args.switch.0 p.first p.others c.requires.own (view_of c.args.graphs.now) c.requires.graphs c.from-index.result c.index-inner.result.now c.from-index.ensures c.index-inner.ensures).graph.count
+    (inner_at c.args.view a p.bay.0 c.args.switch.0 p.first p.others c.requires.own (view_of c.args.graphs.now)
+    c.requires.graphs c.from-index.result c.index-inner.result.now c.from-index.ensures
+    c.index-inner.ensures).graph.count
 
 pub side-requires-clause-two : goal.side-requires-clause-two
 side-requires-clause-two c =
     let p = c.args.place in
     let a : Lettered = lettered c.args.station.now c.args.parts.now in
-    (inner_at c.args.view a p.bay.0 c.args.switch.0 p.first p.others c.requires.own (view_of c.args.graphs.now) c.requires.graphs c.from-index.result c.index-inner.result.now c.from-index.ensures c.index-inner.ensures).graph.choices
+    (inner_at c.args.view a p.bay.0 c.args.switch.0 p.first p.others c.requires.own (view_of c.args.graphs.now)
+    c.requires.graphs c.from-index.result c.index-inner.result.now c.from-index.ensures
+    c.index-inner.ensures).graph.choices
 
 pub returns-clause-side : goal.returns-clause-side
 returns-clause-side c =
@@ -32,13 +37,16 @@ returns-clause-side c =
     let a : Lettered = lettered c.args.station.now c.args.parts.now in
     let gs = c.requires.graphs in
     let h : Layered = c.index-inner.result.now in
-    let x = inner_at c.args.view a p.bay.0 c.args.switch.0 p.first p.others c.requires.own (view_of c.args.graphs.now) gs c.from-index.result h c.from-index.ensures c.index-inner.ensures in
+    let x = inner_at c.args.view a p.bay.0 c.args.switch.0 p.first p.others c.requires.own (view_of c.args.graphs.now)
+    gs c.from-index.result h c.from-index.ensures c.index-inner.ensures in
     let e = c.in_ok-made.ensures in
-    side_is c.args.view a p.bay.0 c.args.switch.0 p.first p.others c.args.own.now c.args.sets.now c.in_ok-made.made gs.names c.args.graphs.now.outer h gs.outer x.graph e.outer e.inner e.ready e.own
+    side_is c.args.view a p.bay.0 c.args.switch.0 p.first p.others c.args.own.now c.args.sets.now c.in_ok-made.made
+    gs.names c.args.graphs.now.outer h gs.outer x.graph e.outer e.inner e.ready e.own
 
 pub returns-clause-labels : goal.returns-clause-labels
 returns-clause-labels c =
     let p = c.args.place in
     let a : Lettered = lettered c.args.station.now c.args.parts.now in
-    let x = inner_at c.args.view a p.bay.0 c.args.switch.0 p.first p.others c.requires.own (view_of c.args.graphs.now) c.requires.graphs c.from-index.result c.index-inner.result.now c.from-index.ensures c.index-inner.ensures in
+    let x = inner_at c.args.view a p.bay.0 c.args.switch.0 p.first p.others c.requires.own (view_of c.args.graphs.now)
+    c.requires.graphs c.from-index.result c.index-inner.result.now c.from-index.ensures c.index-inner.ensures in
     ap (λ (g : Layered). g.labels) c.in_ok-made.ensures.inner ∙ x.labels

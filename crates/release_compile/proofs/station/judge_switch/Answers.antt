@@ -17,20 +17,35 @@ judge_both-requires-clause-sets c =
     let b = c.switch_bay-bay.result.0 in
     let reaches : List (Option Reached) = c.args.reaches.now in
     let station = c.station-station.ensures.value in
-    let lt : c.from.result < length reaches = omega (arith, c.from.ensures, c.switch_bay-bay.ensures.bay.0, ap part_count station, c.requires.reaches.len) in
-    let at : slice_get reaches b ≡ Some c.index-reaches-from.result = ap (slice_get reaches) (sym c.from.ensures) ∙ slice_get_read reaches _ c.from.result c.index-reaches-from.result refl lt c.index-reaches-from.is in
-    let has : IsReachOf j c.args.all.now.words.now b (Some c.in-Some.reached) = c.requires.reaches.each b (Some c.in-Some.reached) (at ∙ ap Some c.in-Some.is) in
-    subst (λ (d : Diagram). ArePossibleSets (lettered d c.parts-parts.result.now) b c.args.all.now.words.now c.in-Some.reached.sets) (sym station)
-    (subst (λ (a : Alphabets). ArePossibleSets (lettered j.diagram a) b c.args.all.now.words.now c.in-Some.reached.sets) (sym c.parts-parts.ensures.value) has.0)
+    let lt : c.from.result < length reaches =
+    omega (arith, c.from.ensures, c.switch_bay-bay.ensures.bay.0, ap part_count station, c.requires.reaches.len) in
+    let at : slice_get reaches b ≡ Some c.index-reaches-from.result =
+    ap (slice_get reaches) (sym c.from.ensures)
+    ∙ slice_get_read reaches _ c.from.result c.index-reaches-from.result refl lt c.index-reaches-from.is in
+    let has : IsReachOf j c.args.all.now.words.now b (Some c.in-Some.reached) =
+    c.requires.reaches.each b (Some c.in-Some.reached) (at ∙ ap Some c.in-Some.is) in
+    subst (λ (d : Diagram). ArePossibleSets (lettered d c.parts-parts.result.now) b c.args.all.now.words.now
+    c.in-Some.reached.sets) (sym station)
+    (subst (λ (a : Alphabets). ArePossibleSets (lettered j.diagram a) b c.args.all.now.words.now c.in-Some.reached.sets)
+    (sym c.parts-parts.ensures.value) has.0)
 
 pub judge_both-requires-clause-reached : goal.judge_both-requires-clause-reached
 judge_both-requires-clause-reached c =
     let j = c.args.judge.now in
     let b = c.switch_bay-bay.result.0 in
     let reaches : List (Option Reached) = c.args.reaches.now in
-    let lt : c.from.result < length reaches = omega (arith, c.from.ensures, c.switch_bay-bay.ensures.bay.0, ap part_count c.station-station.ensures.value, c.requires.reaches.len) in
-    let at : slice_get reaches b ≡ Some c.index-reaches-from.result = ap (slice_get reaches) (sym c.from.ensures) ∙ slice_get_read reaches _ c.from.result c.index-reaches-from.result refl lt c.index-reaches-from.is in
-    let has : IsReachOf j c.args.all.now.words.now b (Some c.in-Some.reached) = c.requires.reaches.each b (Some c.in-Some.reached) (at ∙ ap Some c.in-Some.is) in
+    let lt : c.from.result < length reaches = omega (
+      arith,
+      c.from.ensures,
+      c.switch_bay-bay.ensures.bay.0,
+      ap part_count c.station-station.ensures.value,
+      c.requires.reaches.len,
+    ) in
+    let at : slice_get reaches b ≡ Some c.index-reaches-from.result =
+    ap (slice_get reaches) (sym c.from.ensures)
+    ∙ slice_get_read reaches _ c.from.result c.index-reaches-from.result refl lt c.index-reaches-from.is in
+    let has : IsReachOf j c.args.all.now.words.now b (Some c.in-Some.reached) =
+    c.requires.reaches.each b (Some c.in-Some.reached) (at ∙ ap Some c.in-Some.is) in
     subst (λ (g : BayOf). HasReached g.gap.outer g.load.outer c.in-Some.reached) (sym c.bay-graphs.ensures.value) has.1
 
 pub unreachable-requires : goal.unreachable-requires
@@ -39,7 +54,11 @@ unreachable-requires c =
     let b = c.switch_bay-bay.result.0 in
     let reaches : List (Option Reached) = c.args.reaches.now in
     let station = c.station-station.ensures.value in
-    let lt : c.from.result < length reaches = omega (arith, c.from.ensures, c.switch_bay-bay.ensures.bay.0, ap part_count station, c.requires.reaches.len) in
-    let at : slice_get reaches b ≡ Some c.index-reaches-from.result = ap (slice_get reaches) (sym c.from.ensures) ∙ slice_get_read reaches _ c.from.result c.index-reaches-from.result refl lt c.index-reaches-from.is in
-    let none : IsReachOf j c.args.all.now.words.now b None = c.requires.reaches.each b None (at ∙ ap Some c.in-None.is) in
+    let lt : c.from.result < length reaches =
+    omega (arith, c.from.ensures, c.switch_bay-bay.ensures.bay.0, ap part_count station, c.requires.reaches.len) in
+    let at : slice_get reaches b ≡ Some c.index-reaches-from.result =
+    ap (slice_get reaches) (sym c.from.ensures)
+    ∙ slice_get_read reaches _ c.from.result c.index-reaches-from.result refl lt c.index-reaches-from.is in
+    let none : IsReachOf j c.args.all.now.words.now b None =
+    c.requires.reaches.each b None (at ∙ ap Some c.in-None.is) in
     none (subst (λ (d : Diagram). IsBay d b) station c.switch_bay-bay.ensures.bay)

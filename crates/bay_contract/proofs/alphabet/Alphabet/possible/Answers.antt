@@ -9,8 +9,10 @@ returns-clause-exact c =
     let shaped : IsShaped c.args.self.now = subst (λ (y : PartAlphabet). IsShaped y) c.self.view_is c.self.invariant in
     let steps : c.len.result ≡ length c.args.self.now.forks = omega
     (arith, c.len.ensures, c.self.inside.forks.ok.0, ap (λ (y : PartAlphabet). length y.forks) c.self.view_is) in
-    let behind : c.in_ok-set.set ≡ drop (length c.args.self.now.forks) c.in_ok-paths.paths.items = c.in_ok-set.ensures ∙ (ap
-    (λ (l : List (Option ℕ)). drop c.len.result l) c.deref.ensures.value ∙ ap (λ n. drop n c.in_ok-paths.paths.items) steps) in
+    let behind : c.in_ok-set.set ≡ drop (length c.args.self.now.forks) c.in_ok-paths.paths.items =
+    c.in_ok-set.ensures ∙ (ap
+    (λ (l : List (Option ℕ)). drop c.len.result l) c.deref.ensures.value
+    ∙ ap (λ n. drop n c.in_ok-paths.paths.items) steps) in
     held_exactly c.args.self.now c.args.readings.now shaped c.requires c.in_ok-paths.paths.items c.in_ok-paths.ensures
     c.in_ok-set.set behind
 
@@ -19,7 +21,9 @@ returns-clause-placed c =
     let shaped : IsShaped c.args.self.now = subst (λ (y : PartAlphabet). IsShaped y) c.self.view_is c.self.invariant in
     let steps : c.len.result ≡ length c.args.self.now.forks = omega
     (arith, c.len.ensures, c.self.inside.forks.ok.0, ap (λ (y : PartAlphabet). length y.forks) c.self.view_is) in
-    let behind : c.in_ok-set.set ≡ drop (length c.args.self.now.forks) c.in_ok-paths.paths.items = c.in_ok-set.ensures ∙ (ap
-    (λ (l : List (Option ℕ)). drop c.len.result l) c.deref.ensures.value ∙ ap (λ n. drop n c.in_ok-paths.paths.items) steps) in
+    let behind : c.in_ok-set.set ≡ drop (length c.args.self.now.forks) c.in_ok-paths.paths.items =
+    c.in_ok-set.ensures ∙ (ap
+    (λ (l : List (Option ℕ)). drop c.len.result l) c.deref.ensures.value
+    ∙ ap (λ n. drop n c.in_ok-paths.paths.items) steps) in
     placed_way c.args.self.now c.args.readings.now shaped c.requires c.in_ok-paths.paths.items c.in_ok-paths.ensures
     c.in_ok-set.set behind

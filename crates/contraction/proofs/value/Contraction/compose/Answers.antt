@@ -12,17 +12,24 @@ use Rattle.contraction.proofs.value.Contraction.compose.Goals as goal
 pub of_both-requires-clause-few : goal.of_both-requires-clause-few
 of_both-requires-clause-few c =
     let u = c.in_ok-union.union in
-    merged_few c.deref.result.now c.self.inside.kept.items c.deref-2.result.now c.other.inside.kept.items u.kept.items u.first.items u.second.items c.deref.ensures.value c.deref-2.ensures.value c.self.invariant.nodes c.other.invariant.nodes c.in_ok-union.ensures
+    merged_few c.deref.result.now c.self.inside.kept.items c.deref-2.result.now c.other.inside.kept.items u.kept.items
+    u.first.items u.second.items c.deref.ensures.value c.deref-2.ensures.value c.self.invariant.nodes
+    c.other.invariant.nodes c.in_ok-union.ensures
 
 pub of_both-requires-2-clause-few : goal.of_both-requires-2-clause-few
 of_both-requires-2-clause-few c =
     let u = c.in_ok-union.union in
-    merged_few c.deref.result.now c.self.inside.kept.items c.deref-2.result.now c.other.inside.kept.items u.kept.items u.first.items u.second.items c.deref.ensures.value c.deref-2.ensures.value c.self.invariant.nodes c.other.invariant.nodes c.in_ok-union.ensures
+    merged_few c.deref.result.now c.self.inside.kept.items c.deref-2.result.now c.other.inside.kept.items u.kept.items
+    u.first.items u.second.items c.deref.ensures.value c.deref-2.ensures.value c.self.invariant.nodes
+    c.other.invariant.nodes c.in_ok-union.ensures
 
 pub overflow_cast-len : goal.overflow_cast-len
 overflow_cast-len c =
     let u = c.in_ok-union.union in
-    let few : length u.kept.items ≤ 1024 = merged_few c.deref.result.now c.self.inside.kept.items c.deref-2.result.now c.other.inside.kept.items u.kept.items u.first.items u.second.items c.deref.ensures.value c.deref-2.ensures.value c.self.invariant.nodes c.other.invariant.nodes c.in_ok-union.ensures in
+    let few : length u.kept.items ≤ 1024 =
+    merged_few c.deref.result.now c.self.inside.kept.items c.deref-2.result.now c.other.inside.kept.items u.kept.items
+    u.first.items u.second.items c.deref.ensures.value c.deref-2.ensures.value c.self.invariant.nodes
+    c.other.invariant.nodes c.in_ok-union.ensures in
     omega (arith, c.len.ensures)
 
 pub invariant_of-result : goal.invariant_of-result
@@ -34,7 +41,8 @@ invariant_of-result c =
     let load = c.in_ok-load.load in
     let bonded : List ℕ = c.in_ok-bonded.bonded in
     let z : Answers = answers_of (record { kept = u.kept; gap = gap; load = load; bonded = bonded }) in
-    let made : Made x y u gap load bonded c.deref.result.now c.deref-2.result.now c.deref-3.result.now c.numbers.result.now c.deref-4.result.now c.numbers-2.result.now c.len.result = record {
+    let made : Made x y u gap load bonded c.deref.result.now c.deref-2.result.now c.deref-3.result.now
+    c.numbers.result.now c.deref-4.result.now c.numbers-2.result.now c.len.result = record {
       first_kept = c.deref.ensures.value;
       second_kept = c.deref-2.ensures.value;
       merged = c.in_ok-union.ensures;
@@ -47,7 +55,8 @@ invariant_of-result c =
       counted = omega arith;
       bonded_row = c.in_ok-bonded.ensures;
     } in
-    let steps = steps_made x y u gap load bonded c.deref.result.now c.deref-2.result.now c.deref-3.result.now c.numbers.result.now c.deref-4.result.now c.numbers-2.result.now c.len.result made in
+    let steps = steps_made x y u gap load bonded c.deref.result.now c.deref-2.result.now c.deref-3.result.now
+    c.numbers.result.now c.deref-4.result.now c.numbers-2.result.now c.len.result made in
     composed_well (answers_of x) (answers_of y) z u.first.items u.second.items c.self.invariant c.other.invariant steps
 
 pub returns-clause-contraction : goal.returns-clause-contraction
@@ -59,7 +68,8 @@ returns-clause-contraction c =
     let load = c.in_ok-load.load in
     let bonded : List ℕ = c.in_ok-bonded.bonded in
     let z : Answers = answers_of (record { kept = u.kept; gap = gap; load = load; bonded = bonded }) in
-    let made : Made x y u gap load bonded c.deref.result.now c.deref-2.result.now c.deref-3.result.now c.numbers.result.now c.deref-4.result.now c.numbers-2.result.now c.len.result = record {
+    let made : Made x y u gap load bonded c.deref.result.now c.deref-2.result.now c.deref-3.result.now
+    c.numbers.result.now c.deref-4.result.now c.numbers-2.result.now c.len.result = record {
       first_kept = c.deref.ensures.value;
       second_kept = c.deref-2.ensures.value;
       merged = c.in_ok-union.ensures;
@@ -72,7 +82,8 @@ returns-clause-contraction c =
       counted = omega arith;
       bonded_row = c.in_ok-bonded.ensures;
     } in
-    let steps = steps_made x y u gap load bonded c.deref.result.now c.deref-2.result.now c.deref-3.result.now c.numbers.result.now c.deref-4.result.now c.numbers-2.result.now c.len.result made in
+    let steps = steps_made x y u gap load bonded c.deref.result.now c.deref-2.result.now c.deref-3.result.now
+    c.numbers.result.now c.deref-4.result.now c.numbers-2.result.now c.len.result made in
     composed_well (answers_of x) (answers_of y) z u.first.items u.second.items c.self.invariant c.other.invariant steps
 
 pub returns-clause-composes : goal.returns-clause-composes
@@ -84,7 +95,8 @@ returns-clause-composes c =
     let load = c.in_ok-load.load in
     let bonded : List ℕ = c.in_ok-bonded.bonded in
     let z : Answers = answers_of (record { kept = u.kept; gap = gap; load = load; bonded = bonded }) in
-    let made : Made x y u gap load bonded c.deref.result.now c.deref-2.result.now c.deref-3.result.now c.numbers.result.now c.deref-4.result.now c.numbers-2.result.now c.len.result = record {
+    let made : Made x y u gap load bonded c.deref.result.now c.deref-2.result.now c.deref-3.result.now
+    c.numbers.result.now c.deref-4.result.now c.numbers-2.result.now c.len.result = record {
       first_kept = c.deref.ensures.value;
       second_kept = c.deref-2.ensures.value;
       merged = c.in_ok-union.ensures;
@@ -97,7 +109,8 @@ returns-clause-composes c =
       counted = omega arith;
       bonded_row = c.in_ok-bonded.ensures;
     } in
-    let steps = steps_made x y u gap load bonded c.deref.result.now c.deref-2.result.now c.deref-3.result.now c.numbers.result.now c.deref-4.result.now c.numbers-2.result.now c.len.result made in
+    let steps = steps_made x y u gap load bonded c.deref.result.now c.deref-2.result.now c.deref-3.result.now
+    c.numbers.result.now c.deref-4.result.now c.numbers-2.result.now c.len.result made in
     let composes : Composes c.args.self.now c.args.other.now z =
     subst (λ s. Composes s c.args.other.now z) c.self.view_is
     (subst (λ s. Composes (answers_of x) s z) c.other.view_is
@@ -113,7 +126,8 @@ returns-clause-gap c =
     let load = c.in_ok-load.load in
     let bonded : List ℕ = c.in_ok-bonded.bonded in
     let z : Answers = answers_of (record { kept = u.kept; gap = gap; load = load; bonded = bonded }) in
-    let made : Made x y u gap load bonded c.deref.result.now c.deref-2.result.now c.deref-3.result.now c.numbers.result.now c.deref-4.result.now c.numbers-2.result.now c.len.result = record {
+    let made : Made x y u gap load bonded c.deref.result.now c.deref-2.result.now c.deref-3.result.now
+    c.numbers.result.now c.deref-4.result.now c.numbers-2.result.now c.len.result = record {
       first_kept = c.deref.ensures.value;
       second_kept = c.deref-2.ensures.value;
       merged = c.in_ok-union.ensures;
@@ -126,12 +140,14 @@ returns-clause-gap c =
       counted = omega arith;
       bonded_row = c.in_ok-bonded.ensures;
     } in
-    let steps = steps_made x y u gap load bonded c.deref.result.now c.deref-2.result.now c.deref-3.result.now c.numbers.result.now c.deref-4.result.now c.numbers-2.result.now c.len.result made in
+    let steps = steps_made x y u gap load bonded c.deref.result.now c.deref-2.result.now c.deref-3.result.now
+    c.numbers.result.now c.deref-4.result.now c.numbers-2.result.now c.len.result made in
     let composes : Composes c.args.self.now c.args.other.now z =
     subst (λ s. Composes s c.args.other.now z) c.self.view_is
     (subst (λ s. Composes (answers_of x) s z) c.other.view_is
     (composed (answers_of x) (answers_of y) z u.first.items u.second.items c.self.invariant c.other.invariant steps)) in
-    λ items others d v meets sx sy. gap_over (Either (Among items) (Among others)) (Among (items ++ others)) d v z (λ item has. among_both items others item)
+    λ items others d v meets sx sy. gap_over (Either (Among items) (Among others)) (Among (items ++ others)) d v z
+    (λ item has. among_both items others item)
     (composes_gap (Among items) (Among others) d v c.args.self.now c.args.other.now z meets composes sx sy)
 
 pub returns-clause-load : goal.returns-clause-load
@@ -143,7 +159,8 @@ returns-clause-load c =
     let load = c.in_ok-load.load in
     let bonded : List ℕ = c.in_ok-bonded.bonded in
     let z : Answers = answers_of (record { kept = u.kept; gap = gap; load = load; bonded = bonded }) in
-    let made : Made x y u gap load bonded c.deref.result.now c.deref-2.result.now c.deref-3.result.now c.numbers.result.now c.deref-4.result.now c.numbers-2.result.now c.len.result = record {
+    let made : Made x y u gap load bonded c.deref.result.now c.deref-2.result.now c.deref-3.result.now
+    c.numbers.result.now c.deref-4.result.now c.numbers-2.result.now c.len.result = record {
       first_kept = c.deref.ensures.value;
       second_kept = c.deref-2.ensures.value;
       merged = c.in_ok-union.ensures;
@@ -156,10 +173,12 @@ returns-clause-load c =
       counted = omega arith;
       bonded_row = c.in_ok-bonded.ensures;
     } in
-    let steps = steps_made x y u gap load bonded c.deref.result.now c.deref-2.result.now c.deref-3.result.now c.numbers.result.now c.deref-4.result.now c.numbers-2.result.now c.len.result made in
+    let steps = steps_made x y u gap load bonded c.deref.result.now c.deref-2.result.now c.deref-3.result.now
+    c.numbers.result.now c.deref-4.result.now c.numbers-2.result.now c.len.result made in
     let composes : Composes c.args.self.now c.args.other.now z =
     subst (λ s. Composes s c.args.other.now z) c.self.view_is
     (subst (λ s. Composes (answers_of x) s z) c.other.view_is
     (composed (answers_of x) (answers_of y) z u.first.items u.second.items c.self.invariant c.other.invariant steps)) in
-    λ items others d v meets sx sy. load_over (Either (Among items) (Among others)) (Among (items ++ others)) d v z (λ item has. among_both items others item)
+    λ items others d v meets sx sy. load_over (Either (Among items) (Among others)) (Among (items ++ others)) d v z
+    (λ item has. among_both items others item)
     (composes_load (Among items) (Among others) d v c.args.self.now c.args.other.now z meets composes sx sy)

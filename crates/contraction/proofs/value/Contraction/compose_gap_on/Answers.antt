@@ -12,7 +12,9 @@ row-requires-clause-fits c =
     let x = c.self.inside in
     let y = c.other.inside in
     let t = c.selection.inside in
-    let laid : IsLayout x.kept.items y.kept.items c.args.selection.now.nodes t.layout = laid_on x y t c.args.self.now c.args.other.now c.args.selection.now c.self.invariant c.other.invariant c.selection.invariant c.self.view_is c.other.view_is c.selection.view_is c.requires.first c.requires.second in
+    let laid : IsLayout x.kept.items y.kept.items c.args.selection.now.nodes t.layout =
+    laid_on x y t c.args.self.now c.args.other.now c.args.selection.now c.self.invariant c.other.invariant
+    c.selection.invariant c.self.view_is c.other.view_is c.selection.view_is c.requires.first c.requires.second in
     layout_fits x y c.self.invariant c.other.invariant c.args.selection.now.nodes t.layout laid
 
 pub row-requires-clause-first : goal.row-requires-clause-first
@@ -20,7 +22,9 @@ row-requires-clause-first c =
     let x = c.self.inside in
     let y = c.other.inside in
     let t = c.selection.inside in
-    let laid : IsLayout x.kept.items y.kept.items c.args.selection.now.nodes t.layout = laid_on x y t c.args.self.now c.args.other.now c.args.selection.now c.self.invariant c.other.invariant c.selection.invariant c.self.view_is c.other.view_is c.selection.view_is c.requires.first c.requires.second in
+    let laid : IsLayout x.kept.items y.kept.items c.args.selection.now.nodes t.layout =
+    laid_on x y t c.args.self.now c.args.other.now c.args.selection.now c.self.invariant c.other.invariant
+    c.selection.invariant c.self.view_is c.other.view_is c.selection.view_is c.requires.first c.requires.second in
     first_gap_fits x y c.self.invariant c.other.invariant c.args.selection.now.nodes t.layout laid
 
 pub row-requires-clause-second : goal.row-requires-clause-second
@@ -28,7 +32,9 @@ row-requires-clause-second c =
     let x = c.self.inside in
     let y = c.other.inside in
     let t = c.selection.inside in
-    let laid : IsLayout x.kept.items y.kept.items c.args.selection.now.nodes t.layout = laid_on x y t c.args.self.now c.args.other.now c.args.selection.now c.self.invariant c.other.invariant c.selection.invariant c.self.view_is c.other.view_is c.selection.view_is c.requires.first c.requires.second in
+    let laid : IsLayout x.kept.items y.kept.items c.args.selection.now.nodes t.layout =
+    laid_on x y t c.args.self.now c.args.other.now c.args.selection.now c.self.invariant c.other.invariant
+    c.selection.invariant c.self.view_is c.other.view_is c.selection.view_is c.requires.first c.requires.second in
     second_gap_fits x y c.self.invariant c.other.invariant c.args.selection.now.nodes t.layout laid
 
 pub overflow_cast-count : goal.overflow_cast-count
@@ -36,8 +42,14 @@ overflow_cast-count c =
     let x = c.self.inside in
     let y = c.other.inside in
     let t = c.selection.inside in
-    let laid : IsLayout x.kept.items y.kept.items c.args.selection.now.nodes t.layout = laid_on x y t c.args.self.now c.args.other.now c.args.selection.now c.self.invariant c.other.invariant c.selection.invariant c.self.view_is c.other.view_is c.selection.view_is c.requires.first c.requires.second in
-    omega (arith, c.len-count.ensures, kept_few x y c.self.invariant c.other.invariant c.args.selection.now.nodes t.layout laid)
+    let laid : IsLayout x.kept.items y.kept.items c.args.selection.now.nodes t.layout =
+    laid_on x y t c.args.self.now c.args.other.now c.args.selection.now c.self.invariant c.other.invariant
+    c.selection.invariant c.self.view_is c.other.view_is c.selection.view_is c.requires.first c.requires.second in
+    omega (
+      arith,
+      c.len-count.ensures,
+      kept_few x y c.self.invariant c.other.invariant c.args.selection.now.nodes t.layout laid,
+    )
 
 pub invariant_of-result : goal.invariant_of-result
 invariant_of-result c =
@@ -46,8 +58,21 @@ invariant_of-result c =
     let t = c.selection.inside in
     let s = c.args.selection.now in
     let kept : List ℕ = c.in_ok-from_slice.field-0.items in
-    let z : Answers = answers_of (record { kept = c.in_ok-from_slice.field-0; gap = c.in_ok-gap.gap; load = c.in_ok-bare.field-0; bonded = c.in_ok-apart.field-0 }) in
-    let both : IsGapOfBoth s.nodes c.args.self.now c.args.other.now z = gap_on x y t c.args.self.now c.args.other.now c.args.selection.now c.self.invariant c.other.invariant c.selection.invariant c.self.view_is c.other.view_is c.selection.view_is c.requires.first c.requires.second c.requires.nodes kept (c.in_ok-from_slice.ensures.items ∙ c.deref.ensures.value) c.len-count.result (omega (arith, c.len-count.ensures)) c.in_ok-gap.gap c.in_ok-bare.field-0 c.in_ok-apart.field-0 (record { labels = c.in_ok-bare.ensures.labels; first = c.in_ok-bare.ensures.first; second = c.in_ok-bare.ensures.second }) c.in_ok-gap.ensures c.in_ok-apart.ensures in
+    let z : Answers = answers_of (record {
+      kept = c.in_ok-from_slice.field-0;
+      gap = c.in_ok-gap.gap;
+      load = c.in_ok-bare.field-0;
+      bonded = c.in_ok-apart.field-0;
+    }) in
+    let both : IsGapOfBoth s.nodes c.args.self.now c.args.other.now z =
+    gap_on x y t c.args.self.now c.args.other.now c.args.selection.now c.self.invariant c.other.invariant
+    c.selection.invariant c.self.view_is c.other.view_is c.selection.view_is c.requires.first c.requires.second
+    c.requires.nodes kept (c.in_ok-from_slice.ensures.items ∙ c.deref.ensures.value) c.len-count.result
+    (omega (arith, c.len-count.ensures)) c.in_ok-gap.gap c.in_ok-bare.field-0 c.in_ok-apart.field-0 (record {
+      labels = c.in_ok-bare.ensures.labels;
+      first = c.in_ok-bare.ensures.first;
+      second = c.in_ok-bare.ensures.second;
+    }) c.in_ok-gap.ensures c.in_ok-apart.ensures in
     both.contraction
 
 pub returns-clause-both : goal.returns-clause-both
@@ -57,8 +82,21 @@ returns-clause-both c =
     let t = c.selection.inside in
     let s = c.args.selection.now in
     let kept : List ℕ = c.in_ok-from_slice.field-0.items in
-    let z : Answers = answers_of (record { kept = c.in_ok-from_slice.field-0; gap = c.in_ok-gap.gap; load = c.in_ok-bare.field-0; bonded = c.in_ok-apart.field-0 }) in
-    let both : IsGapOfBoth s.nodes c.args.self.now c.args.other.now z = gap_on x y t c.args.self.now c.args.other.now c.args.selection.now c.self.invariant c.other.invariant c.selection.invariant c.self.view_is c.other.view_is c.selection.view_is c.requires.first c.requires.second c.requires.nodes kept (c.in_ok-from_slice.ensures.items ∙ c.deref.ensures.value) c.len-count.result (omega (arith, c.len-count.ensures)) c.in_ok-gap.gap c.in_ok-bare.field-0 c.in_ok-apart.field-0 (record { labels = c.in_ok-bare.ensures.labels; first = c.in_ok-bare.ensures.first; second = c.in_ok-bare.ensures.second }) c.in_ok-gap.ensures c.in_ok-apart.ensures in
+    let z : Answers = answers_of (record {
+      kept = c.in_ok-from_slice.field-0;
+      gap = c.in_ok-gap.gap;
+      load = c.in_ok-bare.field-0;
+      bonded = c.in_ok-apart.field-0;
+    }) in
+    let both : IsGapOfBoth s.nodes c.args.self.now c.args.other.now z =
+    gap_on x y t c.args.self.now c.args.other.now c.args.selection.now c.self.invariant c.other.invariant
+    c.selection.invariant c.self.view_is c.other.view_is c.selection.view_is c.requires.first c.requires.second
+    c.requires.nodes kept (c.in_ok-from_slice.ensures.items ∙ c.deref.ensures.value) c.len-count.result
+    (omega (arith, c.len-count.ensures)) c.in_ok-gap.gap c.in_ok-bare.field-0 c.in_ok-apart.field-0 (record {
+      labels = c.in_ok-bare.ensures.labels;
+      first = c.in_ok-bare.ensures.first;
+      second = c.in_ok-bare.ensures.second;
+    }) c.in_ok-gap.ensures c.in_ok-apart.ensures in
     both
 
 pub returns-clause-gap : goal.returns-clause-gap
@@ -68,6 +106,19 @@ returns-clause-gap c =
     let t = c.selection.inside in
     let s = c.args.selection.now in
     let kept : List ℕ = c.in_ok-from_slice.field-0.items in
-    let z : Answers = answers_of (record { kept = c.in_ok-from_slice.field-0; gap = c.in_ok-gap.gap; load = c.in_ok-bare.field-0; bonded = c.in_ok-apart.field-0 }) in
-    let both : IsGapOfBoth s.nodes c.args.self.now c.args.other.now z = gap_on x y t c.args.self.now c.args.other.now c.args.selection.now c.self.invariant c.other.invariant c.selection.invariant c.self.view_is c.other.view_is c.selection.view_is c.requires.first c.requires.second c.requires.nodes kept (c.in_ok-from_slice.ensures.items ∙ c.deref.ensures.value) c.len-count.result (omega (arith, c.len-count.ensures)) c.in_ok-gap.gap c.in_ok-bare.field-0 c.in_ok-apart.field-0 (record { labels = c.in_ok-bare.ensures.labels; first = c.in_ok-bare.ensures.first; second = c.in_ok-bare.ensures.second }) c.in_ok-gap.ensures c.in_ok-apart.ensures in
+    let z : Answers = answers_of (record {
+      kept = c.in_ok-from_slice.field-0;
+      gap = c.in_ok-gap.gap;
+      load = c.in_ok-bare.field-0;
+      bonded = c.in_ok-apart.field-0;
+    }) in
+    let both : IsGapOfBoth s.nodes c.args.self.now c.args.other.now z =
+    gap_on x y t c.args.self.now c.args.other.now c.args.selection.now c.self.invariant c.other.invariant
+    c.selection.invariant c.self.view_is c.other.view_is c.selection.view_is c.requires.first c.requires.second
+    c.requires.nodes kept (c.in_ok-from_slice.ensures.items ∙ c.deref.ensures.value) c.len-count.result
+    (omega (arith, c.len-count.ensures)) c.in_ok-gap.gap c.in_ok-bare.field-0 c.in_ok-apart.field-0 (record {
+      labels = c.in_ok-bare.ensures.labels;
+      first = c.in_ok-bare.ensures.first;
+      second = c.in_ok-bare.ensures.second;
+    }) c.in_ok-gap.ensures c.in_ok-apart.ensures in
     gap_lists c.args.self.now c.args.other.now z both.composes

@@ -11,4 +11,5 @@ of-requires-clause-second c = subst AreNodes (sym c.nodes-2.ensures.nodes) c.nod
 
 pub compose_load_on-requires-clause-nodes : goal.compose_load_on-requires-clause-nodes
 compose_load_on-requires-clause-nodes c =
-    subst (λ l. (n : ℕ) → Contains l n → Keeps c.args.self.now.kept n ⊎ Keeps c.args.other.now.kept n) (sym c.in_ok-selection.ensures.nodes) c.requires
+    subst (λ l. (n : ℕ) → Contains l n → Keeps c.args.self.now.kept n ⊎ Keeps c.args.other.now.kept n)
+    (sym c.in_ok-selection.ensures.nodes) c.requires

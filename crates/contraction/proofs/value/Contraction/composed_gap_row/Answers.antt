@@ -9,7 +9,9 @@ row-requires-clause-fits c =
     let x = c.self.inside in
     let y = c.other.inside in
     let t = c.selection.inside in
-    let laid : IsLayout x.kept.items y.kept.items c.args.selection.now.nodes t.layout = laid_on x y t c.args.self.now c.args.other.now c.args.selection.now c.self.invariant c.other.invariant c.selection.invariant c.self.view_is c.other.view_is c.selection.view_is c.requires.first c.requires.second in
+    let laid : IsLayout x.kept.items y.kept.items c.args.selection.now.nodes t.layout =
+    laid_on x y t c.args.self.now c.args.other.now c.args.selection.now c.self.invariant c.other.invariant
+    c.selection.invariant c.self.view_is c.other.view_is c.selection.view_is c.requires.first c.requires.second in
     layout_fits x y c.self.invariant c.other.invariant c.args.selection.now.nodes t.layout laid
 
 pub row-requires-clause-first : goal.row-requires-clause-first
@@ -17,7 +19,9 @@ row-requires-clause-first c =
     let x = c.self.inside in
     let y = c.other.inside in
     let t = c.selection.inside in
-    let laid : IsLayout x.kept.items y.kept.items c.args.selection.now.nodes t.layout = laid_on x y t c.args.self.now c.args.other.now c.args.selection.now c.self.invariant c.other.invariant c.selection.invariant c.self.view_is c.other.view_is c.selection.view_is c.requires.first c.requires.second in
+    let laid : IsLayout x.kept.items y.kept.items c.args.selection.now.nodes t.layout =
+    laid_on x y t c.args.self.now c.args.other.now c.args.selection.now c.self.invariant c.other.invariant
+    c.selection.invariant c.self.view_is c.other.view_is c.selection.view_is c.requires.first c.requires.second in
     first_gap_fits x y c.self.invariant c.other.invariant c.args.selection.now.nodes t.layout laid
 
 pub row-requires-clause-second : goal.row-requires-clause-second
@@ -25,7 +29,9 @@ row-requires-clause-second c =
     let x = c.self.inside in
     let y = c.other.inside in
     let t = c.selection.inside in
-    let laid : IsLayout x.kept.items y.kept.items c.args.selection.now.nodes t.layout = laid_on x y t c.args.self.now c.args.other.now c.args.selection.now c.self.invariant c.other.invariant c.selection.invariant c.self.view_is c.other.view_is c.selection.view_is c.requires.first c.requires.second in
+    let laid : IsLayout x.kept.items y.kept.items c.args.selection.now.nodes t.layout =
+    laid_on x y t c.args.self.now c.args.other.now c.args.selection.now c.self.invariant c.other.invariant
+    c.selection.invariant c.self.view_is c.other.view_is c.selection.view_is c.requires.first c.requires.second in
     second_gap_fits x y c.self.invariant c.other.invariant c.args.selection.now.nodes t.layout laid
 
 pub returns : goal.returns
@@ -34,5 +40,7 @@ returns c =
     let y = c.other.inside in
     let t = c.selection.inside in
     let from : c.in_ok-text.text ≡ words t.layout.kept.items = c.in_ok-text.ensures ∙ ap words c.deref.ensures.value in
-    gap_row_on x y t c.args.self.now c.args.other.now c.args.selection.now c.self.invariant c.other.invariant c.selection.invariant c.self.view_is c.other.view_is c.selection.view_is c.requires.first c.requires.second c.requires.nodes c.in_ok-row.row c.push_to.new.text c.in_ok-row.ensures
+    gap_row_on x y t c.args.self.now c.args.other.now c.args.selection.now c.self.invariant c.other.invariant
+    c.selection.invariant c.self.view_is c.other.view_is c.selection.view_is c.requires.first c.requires.second
+    c.requires.nodes c.in_ok-row.row c.push_to.new.text c.in_ok-row.ensures
     (c.in_ok-push_to.ensures ∙ ap (λ (b : List ℕ). b ++ row_bytes c.in_ok-row.row) from)

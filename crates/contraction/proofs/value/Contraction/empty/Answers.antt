@@ -20,8 +20,24 @@ invariant_of-result c =
     let ha : AreApart (length kept) g.labels = subst (λ k. AreApart k g.labels) n c.in_ok-bare.ensures.labels in
     let hb : AreApart (length kept) l.labels = subst (λ k. AreApart k l.labels) n c.in_ok-bare-2.ensures.labels in
     let hc : AreApart (length kept) b = subst (λ k. AreApart k b) n c.in_ok-apart.ensures in
-    let z : Answers = record { kept = c.in_ok-from_slice.field-0.items; coupled = g.labels; joined = l.labels; bonded = b; energisable = g.first.items; earthable = g.second.items; fed = l.first.items; loaded = l.second.items } in
-    let is : bare_answers kept g.labels l.labels b ≡ z = cc (same, n, c.in_ok-bare.ensures.first, c.in_ok-bare.ensures.second, c.in_ok-bare-2.ensures.first, c.in_ok-bare-2.ensures.second) in
+    let z : Answers = record {
+      kept = c.in_ok-from_slice.field-0.items;
+      coupled = g.labels;
+      joined = l.labels;
+      bonded = b;
+      energisable = g.first.items;
+      earthable = g.second.items;
+      fed = l.first.items;
+      loaded = l.second.items;
+    } in
+    let is : bare_answers kept g.labels l.labels b ≡ z = cc (
+      same,
+      n,
+      c.in_ok-bare.ensures.first,
+      c.in_ok-bare.ensures.second,
+      c.in_ok-bare-2.ensures.first,
+      c.in_ok-bare-2.ensures.second,
+    ) in
     subst IsContraction is (bare_well kept g.labels l.labels b ha hb hc c.requires)
 
 pub returns-clause-contraction : goal.returns-clause-contraction
@@ -35,8 +51,24 @@ returns-clause-contraction c =
     let ha : AreApart (length kept) g.labels = subst (λ k. AreApart k g.labels) n c.in_ok-bare.ensures.labels in
     let hb : AreApart (length kept) l.labels = subst (λ k. AreApart k l.labels) n c.in_ok-bare-2.ensures.labels in
     let hc : AreApart (length kept) b = subst (λ k. AreApart k b) n c.in_ok-apart.ensures in
-    let z : Answers = record { kept = c.in_ok-from_slice.field-0.items; coupled = g.labels; joined = l.labels; bonded = b; energisable = g.first.items; earthable = g.second.items; fed = l.first.items; loaded = l.second.items } in
-    let is : bare_answers kept g.labels l.labels b ≡ z = cc (same, n, c.in_ok-bare.ensures.first, c.in_ok-bare.ensures.second, c.in_ok-bare-2.ensures.first, c.in_ok-bare-2.ensures.second) in
+    let z : Answers = record {
+      kept = c.in_ok-from_slice.field-0.items;
+      coupled = g.labels;
+      joined = l.labels;
+      bonded = b;
+      energisable = g.first.items;
+      earthable = g.second.items;
+      fed = l.first.items;
+      loaded = l.second.items;
+    } in
+    let is : bare_answers kept g.labels l.labels b ≡ z = cc (
+      same,
+      n,
+      c.in_ok-bare.ensures.first,
+      c.in_ok-bare.ensures.second,
+      c.in_ok-bare-2.ensures.first,
+      c.in_ok-bare-2.ensures.second,
+    ) in
     subst IsContraction is (bare_well kept g.labels l.labels b ha hb hc c.requires)
 
 pub returns-clause-stands : goal.returns-clause-stands
@@ -50,6 +82,22 @@ returns-clause-stands c =
     let ha : AreApart (length kept) g.labels = subst (λ k. AreApart k g.labels) n c.in_ok-bare.ensures.labels in
     let hb : AreApart (length kept) l.labels = subst (λ k. AreApart k l.labels) n c.in_ok-bare-2.ensures.labels in
     let hc : AreApart (length kept) b = subst (λ k. AreApart k b) n c.in_ok-apart.ensures in
-    let z : Answers = record { kept = c.in_ok-from_slice.field-0.items; coupled = g.labels; joined = l.labels; bonded = b; energisable = g.first.items; earthable = g.second.items; fed = l.first.items; loaded = l.second.items } in
-    let is : bare_answers kept g.labels l.labels b ≡ z = cc (same, n, c.in_ok-bare.ensures.first, c.in_ok-bare.ensures.second, c.in_ok-bare-2.ensures.first, c.in_ok-bare-2.ensures.second) in
+    let z : Answers = record {
+      kept = c.in_ok-from_slice.field-0.items;
+      coupled = g.labels;
+      joined = l.labels;
+      bonded = b;
+      energisable = g.first.items;
+      earthable = g.second.items;
+      fed = l.first.items;
+      loaded = l.second.items;
+    } in
+    let is : bare_answers kept g.labels l.labels b ≡ z = cc (
+      same,
+      n,
+      c.in_ok-bare.ensures.first,
+      c.in_ok-bare.ensures.second,
+      c.in_ok-bare-2.ensures.first,
+      c.in_ok-bare-2.ensures.second,
+    ) in
     λ diagram v. subst (StandsFor (Among []) diagram v) is (bare_stands kept g.labels l.labels b ha hb hc diagram v)

@@ -8,4 +8,5 @@ pub returns : goal.returns
 returns c =
     let x = c.switch.result in
     let moves = c.switch.ensures.value in
-    λ v fits stands. gap_tells c.args.station.now c.switch.ensures.station v fits c.args.op x moves c.args.self.now (c.requires.ends x moves) stands c.ends_gap.result c.ends_gap.ensures
+    λ v fits stands. gap_tells c.args.station.now c.switch.ensures.station v fits c.args.op x moves c.args.self.now
+    (c.requires.ends x moves) stands c.ends_gap.result c.ends_gap.ensures

@@ -5,21 +5,33 @@ use Rattle.contraction.specs.Composing.{Restricts}
 use Rattle.contraction.specs.Inside.{answers_of}
 use Rattle.contraction.proofs.MergeLemmas.{few_nodes}
 use Rattle.contraction.proofs.KeepLemmas.{restricts_gap, restricts_load}
-use Rattle.contraction.proofs.RestrictLemmas.{Kept, RestrictSteps, steps_kept, few_places, restricted, restricted_kept, restricted_well}
+use Rattle.contraction.proofs.RestrictLemmas.{Kept, RestrictSteps, steps_kept, few_places, restricted, restricted_kept}
+use Rattle.contraction.proofs.RestrictLemmas.{restricted_well}
 use Rattle.contraction.proofs.RisingLemmas.{kept_is}
 use Rattle.contraction.proofs.value.Contraction.keep_only.Goals as goal
 
 pub places_of-requires : goal.places_of-requires
-places_of-requires c = record { few = omega (arith, few_nodes c.self.inside.kept.items c.self.invariant.nodes, ap length c.deref.ensures.value) }
+places_of-requires c = record {
+  few = omega (arith, few_nodes c.self.inside.kept.items c.self.invariant.nodes, ap length c.deref.ensures.value);
+}
 
 pub at-requires-clause-few : goal.at-requires-clause-few
-at-requires-clause-few c = few_places c.args.nodes.now c.numbers.result.now c.self.inside.kept.items c.deref.result.now c.in_ok-places.places.items c.deref-4.result.now c.deref-4.ensures.value c.deref.ensures.value c.self.invariant.nodes c.in_ok-places.ensures
+at-requires-clause-few c =
+    few_places c.args.nodes.now c.numbers.result.now c.self.inside.kept.items c.deref.result.now
+    c.in_ok-places.places.items c.deref-4.result.now c.deref-4.ensures.value c.deref.ensures.value
+    c.self.invariant.nodes c.in_ok-places.ensures
 
 pub at-requires-2-clause-few : goal.at-requires-2-clause-few
-at-requires-2-clause-few c = few_places c.args.nodes.now c.numbers.result.now c.self.inside.kept.items c.deref.result.now c.in_ok-places.places.items c.deref-5.result.now c.deref-5.ensures.value c.deref.ensures.value c.self.invariant.nodes c.in_ok-places.ensures
+at-requires-2-clause-few c =
+    few_places c.args.nodes.now c.numbers.result.now c.self.inside.kept.items c.deref.result.now
+    c.in_ok-places.places.items c.deref-5.result.now c.deref-5.ensures.value c.deref.ensures.value
+    c.self.invariant.nodes c.in_ok-places.ensures
 
 pub labels_at-requires-clause-few : goal.labels_at-requires-clause-few
-labels_at-requires-clause-few c = few_places c.args.nodes.now c.numbers.result.now c.self.inside.kept.items c.deref.result.now c.in_ok-places.places.items c.deref-6.result.now c.deref-6.ensures.value c.deref.ensures.value c.self.invariant.nodes c.in_ok-places.ensures
+labels_at-requires-clause-few c =
+    few_places c.args.nodes.now c.numbers.result.now c.self.inside.kept.items c.deref.result.now
+    c.in_ok-places.places.items c.deref-6.result.now c.deref-6.ensures.value c.deref.ensures.value
+    c.self.invariant.nodes c.in_ok-places.ensures
 
 pub invariant_of-result : goal.invariant_of-result
 invariant_of-result c =
@@ -29,8 +41,19 @@ invariant_of-result c =
     let gap = c.in_ok-at.field-0 in
     let load = c.in_ok-at-2.field-0 in
     let bonded : List ℕ = c.in_ok-labels_at.field-0 in
-    let z : Answers = record { kept = kept; coupled = gap.labels; joined = load.labels; bonded = bonded; energisable = gap.first.items; earthable = gap.second.items; fed = load.first.items; loaded = load.second.items } in
-    let made : Kept c.args.nodes.now x places kept gap load bonded c.numbers.result.now c.deref.result.now c.deref-2.result.now c.deref-3.result.now c.deref-4.result.now c.deref-5.result.now c.numbers-2.result.now c.deref-6.result.now = record {
+    let z : Answers = record {
+      kept = kept;
+      coupled = gap.labels;
+      joined = load.labels;
+      bonded = bonded;
+      energisable = gap.first.items;
+      earthable = gap.second.items;
+      fed = load.first.items;
+      loaded = load.second.items;
+    } in
+    let made : Kept c.args.nodes.now x places kept gap load bonded c.numbers.result.now c.deref.result.now
+    c.deref-2.result.now c.deref-3.result.now c.deref-4.result.now c.deref-5.result.now c.numbers-2.result.now
+    c.deref-6.result.now = record {
       names = c.numbers.ensures;
       kept_seen = c.deref.ensures.value;
       places_of = c.in_ok-places.ensures;
@@ -45,7 +68,10 @@ invariant_of-result c =
       places4 = c.deref-6.ensures.value;
       bonded_row = c.in_ok-labels_at.ensures;
     } in
-    let steps : RestrictSteps c.args.nodes.now (answers_of x) z places = steps_kept c.args.nodes.now x places kept gap load bonded c.numbers.result.now c.deref.result.now c.deref-2.result.now c.deref-3.result.now c.deref-4.result.now c.deref-5.result.now c.numbers-2.result.now c.deref-6.result.now made in
+    let steps : RestrictSteps c.args.nodes.now (answers_of x) z places =
+    steps_kept c.args.nodes.now x places kept gap load bonded c.numbers.result.now c.deref.result.now
+    c.deref-2.result.now c.deref-3.result.now c.deref-4.result.now c.deref-5.result.now c.numbers-2.result.now
+    c.deref-6.result.now made in
     restricted_well c.args.nodes.now (answers_of x) z places c.self.invariant steps
 
 pub returns-clause-contraction : goal.returns-clause-contraction
@@ -56,8 +82,19 @@ returns-clause-contraction c =
     let gap = c.in_ok-at.field-0 in
     let load = c.in_ok-at-2.field-0 in
     let bonded : List ℕ = c.in_ok-labels_at.field-0 in
-    let z : Answers = record { kept = kept; coupled = gap.labels; joined = load.labels; bonded = bonded; energisable = gap.first.items; earthable = gap.second.items; fed = load.first.items; loaded = load.second.items } in
-    let made : Kept c.args.nodes.now x places kept gap load bonded c.numbers.result.now c.deref.result.now c.deref-2.result.now c.deref-3.result.now c.deref-4.result.now c.deref-5.result.now c.numbers-2.result.now c.deref-6.result.now = record {
+    let z : Answers = record {
+      kept = kept;
+      coupled = gap.labels;
+      joined = load.labels;
+      bonded = bonded;
+      energisable = gap.first.items;
+      earthable = gap.second.items;
+      fed = load.first.items;
+      loaded = load.second.items;
+    } in
+    let made : Kept c.args.nodes.now x places kept gap load bonded c.numbers.result.now c.deref.result.now
+    c.deref-2.result.now c.deref-3.result.now c.deref-4.result.now c.deref-5.result.now c.numbers-2.result.now
+    c.deref-6.result.now = record {
       names = c.numbers.ensures;
       kept_seen = c.deref.ensures.value;
       places_of = c.in_ok-places.ensures;
@@ -72,7 +109,10 @@ returns-clause-contraction c =
       places4 = c.deref-6.ensures.value;
       bonded_row = c.in_ok-labels_at.ensures;
     } in
-    let steps : RestrictSteps c.args.nodes.now (answers_of x) z places = steps_kept c.args.nodes.now x places kept gap load bonded c.numbers.result.now c.deref.result.now c.deref-2.result.now c.deref-3.result.now c.deref-4.result.now c.deref-5.result.now c.numbers-2.result.now c.deref-6.result.now made in
+    let steps : RestrictSteps c.args.nodes.now (answers_of x) z places =
+    steps_kept c.args.nodes.now x places kept gap load bonded c.numbers.result.now c.deref.result.now
+    c.deref-2.result.now c.deref-3.result.now c.deref-4.result.now c.deref-5.result.now c.numbers-2.result.now
+    c.deref-6.result.now made in
     restricted_well c.args.nodes.now (answers_of x) z places c.self.invariant steps
 
 pub returns-clause-kept : goal.returns-clause-kept
@@ -83,8 +123,19 @@ returns-clause-kept c =
     let gap = c.in_ok-at.field-0 in
     let load = c.in_ok-at-2.field-0 in
     let bonded : List ℕ = c.in_ok-labels_at.field-0 in
-    let z : Answers = record { kept = kept; coupled = gap.labels; joined = load.labels; bonded = bonded; energisable = gap.first.items; earthable = gap.second.items; fed = load.first.items; loaded = load.second.items } in
-    let made : Kept c.args.nodes.now x places kept gap load bonded c.numbers.result.now c.deref.result.now c.deref-2.result.now c.deref-3.result.now c.deref-4.result.now c.deref-5.result.now c.numbers-2.result.now c.deref-6.result.now = record {
+    let z : Answers = record {
+      kept = kept;
+      coupled = gap.labels;
+      joined = load.labels;
+      bonded = bonded;
+      energisable = gap.first.items;
+      earthable = gap.second.items;
+      fed = load.first.items;
+      loaded = load.second.items;
+    } in
+    let made : Kept c.args.nodes.now x places kept gap load bonded c.numbers.result.now c.deref.result.now
+    c.deref-2.result.now c.deref-3.result.now c.deref-4.result.now c.deref-5.result.now c.numbers-2.result.now
+    c.deref-6.result.now = record {
       names = c.numbers.ensures;
       kept_seen = c.deref.ensures.value;
       places_of = c.in_ok-places.ensures;
@@ -99,7 +150,10 @@ returns-clause-kept c =
       places4 = c.deref-6.ensures.value;
       bonded_row = c.in_ok-labels_at.ensures;
     } in
-    let steps : RestrictSteps c.args.nodes.now (answers_of x) z places = steps_kept c.args.nodes.now x places kept gap load bonded c.numbers.result.now c.deref.result.now c.deref-2.result.now c.deref-3.result.now c.deref-4.result.now c.deref-5.result.now c.numbers-2.result.now c.deref-6.result.now made in
+    let steps : RestrictSteps c.args.nodes.now (answers_of x) z places =
+    steps_kept c.args.nodes.now x places kept gap load bonded c.numbers.result.now c.deref.result.now
+    c.deref-2.result.now c.deref-3.result.now c.deref-4.result.now c.deref-5.result.now c.numbers-2.result.now
+    c.deref-6.result.now made in
     restricted_kept c.args.nodes.now (answers_of x) z places c.self.invariant steps
     (λ n has. subst (λ (s : Answers). Keeps s.kept n) (sym c.self.view_is) (c.requires n has))
 
@@ -111,8 +165,19 @@ returns-clause-list c =
     let gap = c.in_ok-at.field-0 in
     let load = c.in_ok-at-2.field-0 in
     let bonded : List ℕ = c.in_ok-labels_at.field-0 in
-    let z : Answers = record { kept = kept; coupled = gap.labels; joined = load.labels; bonded = bonded; energisable = gap.first.items; earthable = gap.second.items; fed = load.first.items; loaded = load.second.items } in
-    let made : Kept c.args.nodes.now x places kept gap load bonded c.numbers.result.now c.deref.result.now c.deref-2.result.now c.deref-3.result.now c.deref-4.result.now c.deref-5.result.now c.numbers-2.result.now c.deref-6.result.now = record {
+    let z : Answers = record {
+      kept = kept;
+      coupled = gap.labels;
+      joined = load.labels;
+      bonded = bonded;
+      energisable = gap.first.items;
+      earthable = gap.second.items;
+      fed = load.first.items;
+      loaded = load.second.items;
+    } in
+    let made : Kept c.args.nodes.now x places kept gap load bonded c.numbers.result.now c.deref.result.now
+    c.deref-2.result.now c.deref-3.result.now c.deref-4.result.now c.deref-5.result.now c.numbers-2.result.now
+    c.deref-6.result.now = record {
       names = c.numbers.ensures;
       kept_seen = c.deref.ensures.value;
       places_of = c.in_ok-places.ensures;
@@ -127,7 +192,10 @@ returns-clause-list c =
       places4 = c.deref-6.ensures.value;
       bonded_row = c.in_ok-labels_at.ensures;
     } in
-    let steps : RestrictSteps c.args.nodes.now (answers_of x) z places = steps_kept c.args.nodes.now x places kept gap load bonded c.numbers.result.now c.deref.result.now c.deref-2.result.now c.deref-3.result.now c.deref-4.result.now c.deref-5.result.now c.numbers-2.result.now c.deref-6.result.now made in
+    let steps : RestrictSteps c.args.nodes.now (answers_of x) z places =
+    steps_kept c.args.nodes.now x places kept gap load bonded c.numbers.result.now c.deref.result.now
+    c.deref-2.result.now c.deref-3.result.now c.deref-4.result.now c.deref-5.result.now c.numbers-2.result.now
+    c.deref-6.result.now made in
     kept_is c.args.nodes.now z
     (restricted_well c.args.nodes.now (answers_of x) z places c.self.invariant steps)
     (restricted_kept c.args.nodes.now (answers_of x) z places c.self.invariant steps
@@ -141,8 +209,19 @@ returns-clause-restricts c =
     let gap = c.in_ok-at.field-0 in
     let load = c.in_ok-at-2.field-0 in
     let bonded : List ℕ = c.in_ok-labels_at.field-0 in
-    let z : Answers = record { kept = kept; coupled = gap.labels; joined = load.labels; bonded = bonded; energisable = gap.first.items; earthable = gap.second.items; fed = load.first.items; loaded = load.second.items } in
-    let made : Kept c.args.nodes.now x places kept gap load bonded c.numbers.result.now c.deref.result.now c.deref-2.result.now c.deref-3.result.now c.deref-4.result.now c.deref-5.result.now c.numbers-2.result.now c.deref-6.result.now = record {
+    let z : Answers = record {
+      kept = kept;
+      coupled = gap.labels;
+      joined = load.labels;
+      bonded = bonded;
+      energisable = gap.first.items;
+      earthable = gap.second.items;
+      fed = load.first.items;
+      loaded = load.second.items;
+    } in
+    let made : Kept c.args.nodes.now x places kept gap load bonded c.numbers.result.now c.deref.result.now
+    c.deref-2.result.now c.deref-3.result.now c.deref-4.result.now c.deref-5.result.now c.numbers-2.result.now
+    c.deref-6.result.now = record {
       names = c.numbers.ensures;
       kept_seen = c.deref.ensures.value;
       places_of = c.in_ok-places.ensures;
@@ -157,8 +236,13 @@ returns-clause-restricts c =
       places4 = c.deref-6.ensures.value;
       bonded_row = c.in_ok-labels_at.ensures;
     } in
-    let steps : RestrictSteps c.args.nodes.now (answers_of x) z places = steps_kept c.args.nodes.now x places kept gap load bonded c.numbers.result.now c.deref.result.now c.deref-2.result.now c.deref-3.result.now c.deref-4.result.now c.deref-5.result.now c.numbers-2.result.now c.deref-6.result.now made in
-    let restricts : Restricts c.args.self.now z = subst (λ (s : Answers). Restricts s z) c.self.view_is (restricted c.args.nodes.now (answers_of x) z places c.self.invariant steps) in
+    let steps : RestrictSteps c.args.nodes.now (answers_of x) z places =
+    steps_kept c.args.nodes.now x places kept gap load bonded c.numbers.result.now c.deref.result.now
+    c.deref-2.result.now c.deref-3.result.now c.deref-4.result.now c.deref-5.result.now c.numbers-2.result.now
+    c.deref-6.result.now made in
+    let restricts : Restricts c.args.self.now z =
+    subst (λ (s : Answers). Restricts s z) c.self.view_is
+    (restricted c.args.nodes.now (answers_of x) z places c.self.invariant steps) in
     restricts
 
 pub returns-clause-gap : goal.returns-clause-gap
@@ -169,8 +253,19 @@ returns-clause-gap c =
     let gap = c.in_ok-at.field-0 in
     let load = c.in_ok-at-2.field-0 in
     let bonded : List ℕ = c.in_ok-labels_at.field-0 in
-    let z : Answers = record { kept = kept; coupled = gap.labels; joined = load.labels; bonded = bonded; energisable = gap.first.items; earthable = gap.second.items; fed = load.first.items; loaded = load.second.items } in
-    let made : Kept c.args.nodes.now x places kept gap load bonded c.numbers.result.now c.deref.result.now c.deref-2.result.now c.deref-3.result.now c.deref-4.result.now c.deref-5.result.now c.numbers-2.result.now c.deref-6.result.now = record {
+    let z : Answers = record {
+      kept = kept;
+      coupled = gap.labels;
+      joined = load.labels;
+      bonded = bonded;
+      energisable = gap.first.items;
+      earthable = gap.second.items;
+      fed = load.first.items;
+      loaded = load.second.items;
+    } in
+    let made : Kept c.args.nodes.now x places kept gap load bonded c.numbers.result.now c.deref.result.now
+    c.deref-2.result.now c.deref-3.result.now c.deref-4.result.now c.deref-5.result.now c.numbers-2.result.now
+    c.deref-6.result.now = record {
       names = c.numbers.ensures;
       kept_seen = c.deref.ensures.value;
       places_of = c.in_ok-places.ensures;
@@ -185,8 +280,13 @@ returns-clause-gap c =
       places4 = c.deref-6.ensures.value;
       bonded_row = c.in_ok-labels_at.ensures;
     } in
-    let steps : RestrictSteps c.args.nodes.now (answers_of x) z places = steps_kept c.args.nodes.now x places kept gap load bonded c.numbers.result.now c.deref.result.now c.deref-2.result.now c.deref-3.result.now c.deref-4.result.now c.deref-5.result.now c.numbers-2.result.now c.deref-6.result.now made in
-    let restricts : Restricts c.args.self.now z = subst (λ (s : Answers). Restricts s z) c.self.view_is (restricted c.args.nodes.now (answers_of x) z places c.self.invariant steps) in
+    let steps : RestrictSteps c.args.nodes.now (answers_of x) z places =
+    steps_kept c.args.nodes.now x places kept gap load bonded c.numbers.result.now c.deref.result.now
+    c.deref-2.result.now c.deref-3.result.now c.deref-4.result.now c.deref-5.result.now c.numbers-2.result.now
+    c.deref-6.result.now made in
+    let restricts : Restricts c.args.self.now z =
+    subst (λ (s : Answers). Restricts s z) c.self.view_is
+    (restricted c.args.nodes.now (answers_of x) z places c.self.invariant steps) in
     λ items d v s. restricts_gap (Among items) d v c.args.self.now z restricts s
 
 pub returns-clause-load : goal.returns-clause-load
@@ -197,8 +297,19 @@ returns-clause-load c =
     let gap = c.in_ok-at.field-0 in
     let load = c.in_ok-at-2.field-0 in
     let bonded : List ℕ = c.in_ok-labels_at.field-0 in
-    let z : Answers = record { kept = kept; coupled = gap.labels; joined = load.labels; bonded = bonded; energisable = gap.first.items; earthable = gap.second.items; fed = load.first.items; loaded = load.second.items } in
-    let made : Kept c.args.nodes.now x places kept gap load bonded c.numbers.result.now c.deref.result.now c.deref-2.result.now c.deref-3.result.now c.deref-4.result.now c.deref-5.result.now c.numbers-2.result.now c.deref-6.result.now = record {
+    let z : Answers = record {
+      kept = kept;
+      coupled = gap.labels;
+      joined = load.labels;
+      bonded = bonded;
+      energisable = gap.first.items;
+      earthable = gap.second.items;
+      fed = load.first.items;
+      loaded = load.second.items;
+    } in
+    let made : Kept c.args.nodes.now x places kept gap load bonded c.numbers.result.now c.deref.result.now
+    c.deref-2.result.now c.deref-3.result.now c.deref-4.result.now c.deref-5.result.now c.numbers-2.result.now
+    c.deref-6.result.now = record {
       names = c.numbers.ensures;
       kept_seen = c.deref.ensures.value;
       places_of = c.in_ok-places.ensures;
@@ -213,6 +324,11 @@ returns-clause-load c =
       places4 = c.deref-6.ensures.value;
       bonded_row = c.in_ok-labels_at.ensures;
     } in
-    let steps : RestrictSteps c.args.nodes.now (answers_of x) z places = steps_kept c.args.nodes.now x places kept gap load bonded c.numbers.result.now c.deref.result.now c.deref-2.result.now c.deref-3.result.now c.deref-4.result.now c.deref-5.result.now c.numbers-2.result.now c.deref-6.result.now made in
-    let restricts : Restricts c.args.self.now z = subst (λ (s : Answers). Restricts s z) c.self.view_is (restricted c.args.nodes.now (answers_of x) z places c.self.invariant steps) in
+    let steps : RestrictSteps c.args.nodes.now (answers_of x) z places =
+    steps_kept c.args.nodes.now x places kept gap load bonded c.numbers.result.now c.deref.result.now
+    c.deref-2.result.now c.deref-3.result.now c.deref-4.result.now c.deref-5.result.now c.numbers-2.result.now
+    c.deref-6.result.now made in
+    let restricts : Restricts c.args.self.now z =
+    subst (λ (s : Answers). Restricts s z) c.self.view_is
+    (restricted c.args.nodes.now (answers_of x) z places c.self.invariant steps) in
     λ items d v s. restricts_load (Among items) d v c.args.self.now z restricts s

@@ -11,7 +11,8 @@ use Rattle.contraction.proofs.value.Contraction.of_switch.Goals as goal
 pub returns-in-Some-clause-kept : goal.returns-in-Some-clause-kept
 returns-in-Some-clause-kept c =
     IfOk-weaker c.pair.result _ _
-    (λ z is n. switch_nodes c.args.station.now c.args.id.0 c.switch-switch.result c.in-Some.second z.kept c.switch-switch.ensures.value c.in-Some.is is.kept n)
+    (λ z is n. switch_nodes c.args.station.now c.args.id.0 c.switch-switch.result c.in-Some.second z.kept
+    c.switch-switch.ensures.value c.in-Some.is is.kept n)
     c.pair.ensures.pair
 
 pub returns-in-Some-clause-stands : goal.returns-in-Some-clause-stands
@@ -21,8 +22,10 @@ returns-in-Some-clause-stands c =
     let x = c.switch-switch.result in
     let n = c.in-Some.second in
     IfOk-weaker c.pair.result _ _
-    (λ z is v at. stands_over (Only (a_switch i)) (Among (a_switch i ∷ [])) d v z (λ item has. among_one (a_switch i) item)
-    (switch_pair_stands d v i x c.args.closed c.switch-switch.ensures.value at n z c.in-Some.is (second_fits d x n c.switch-switch.ensures.fits c.in-Some.is).0
+    (λ z is v at. stands_over (Only (a_switch i)) (Among (a_switch i ∷ [])) d v z
+    (λ item has. among_one (a_switch i) item)
+    (switch_pair_stands d v i x c.args.closed c.switch-switch.ensures.value at n z c.in-Some.is
+    (second_fits d x n c.switch-switch.ensures.fits c.in-Some.is).0
     (subst (λ b. IsPair x.first.0 n.0 b c.args.closed c.args.closed z) c.couples-coupled.ensures is)))
     c.pair.ensures.pair
 
@@ -32,6 +35,8 @@ returns-in-None-clause-stands c =
     let i = c.args.id.0 in
     let x = c.switch-switch.result in
     IfOk-weaker c.single.result _ _
-    (λ z is v at. stands_over (Only (a_switch i)) (Among (a_switch i ∷ [])) d v z (λ item has. among_one (a_switch i) item)
-    (switch_single_stands d v i x c.args.closed c.switch-switch.ensures.value at c.acts_as-feeds.result c.acts_as-earths.result z c.in-None.is c.acts_as-feeds.ensures c.acts_as-earths.ensures is))
+    (λ z is v at. stands_over (Only (a_switch i)) (Among (a_switch i ∷ [])) d v z
+    (λ item has. among_one (a_switch i) item)
+    (switch_single_stands d v i x c.args.closed c.switch-switch.ensures.value at c.acts_as-feeds.result
+    c.acts_as-earths.result z c.in-None.is c.acts_as-feeds.ensures c.acts_as-earths.ensures is))
     c.single.ensures.single

@@ -8,5 +8,6 @@ pub returns : goal.returns
 returns c =
     let j = c.args.self.now in
     let partner : Partner j.diagram c.args.bay.0 c.args.to.0 = c.is_partner.ensures.partner c.if-not-is_partner.false in
-    let set = c.is_index_set.ensures (ground j) c.args.bay.0 (sym (c.size-size.ensures.size ∙ ap (λ (a : Alphabets). size_of a c.args.bay.0) c.parts.ensures.value)) in
+    let set = c.is_index_set.ensures (ground j) c.args.bay.0
+    (sym (c.size-size.ensures.size ∙ ap (λ (a : Alphabets). size_of a c.args.bay.0) c.parts.ensures.value)) in
     (λ fits. inl (partner, set.0 fits), λ told. elim told [ inl p ↦ set.1 p.1 | inr none ↦ absurd (partner none.0) ])

@@ -12,7 +12,10 @@ judge_heard-requires-clause-fits c b s ne at =
     let j = c.args.self.now in
     let i = c.args.op.switch.0 in
     let same = c.station-station.ensures.value in
-    let is : bay_of j.diagram i ≡ c.switch_bay-bay.result.0 = ap (λ (d : Diagram). bay_of d i) (sym same) ∙ sym c.switch_bay-bay.ensures.value in
+    let is : bay_of j.diagram i ≡ c.switch_bay-bay.result.0 =
+    ap (λ (d : Diagram). bay_of d i) (sym same) ∙ sym c.switch_bay-bay.ensures.value in
     let to = c.switch_bay-bay.result.0 in
-    let fits : IsTold (ground j) b to s = subst (λ k. IsTold (ground j) b k s) is (c.requires.fits b s (λ e. ne (e ∙ is)) at) in
-    subst (λ (d : Diagram). IsTold (lettered d c.parts.result.now) b to s) (sym same) (subst (λ (x : Alphabets). IsTold (lettered j.diagram x) b to s) (sym c.parts.ensures.value) fits)
+    let fits : IsTold (ground j) b to s =
+    subst (λ k. IsTold (ground j) b k s) is (c.requires.fits b s (λ e. ne (e ∙ is)) at) in
+    subst (λ (d : Diagram). IsTold (lettered d c.parts.result.now) b to s) (sym same)
+    (subst (λ (x : Alphabets). IsTold (lettered j.diagram x) b to s) (sym c.parts.ensures.value) fits)

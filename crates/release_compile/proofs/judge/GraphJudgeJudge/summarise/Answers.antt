@@ -13,4 +13,6 @@ returns c =
     let e = c.parts.ensures.value in
     let are = subst (λ (a : Alphabets). AreAlphabets j.diagram a) (sym e) c.parts.ensures.alphabets in
     let partner : Partner j.diagram c.args.bay.0 c.args.to.0 = c.is_partner.ensures.partner c.if-not-is_partner.false in
-    subst (λ (a : Alphabets). Summarises (by_indices (lettered j.diagram a)) c.args.bay.0 c.args.to.0 c.args.readings.now c.in_ok-summary.summary) e (c.in_ok-summary.ensures j.diagram c.args.to.0 c.diagram_is_station.ensures are partner)
+    subst (λ (a : Alphabets). Summarises (by_indices (lettered j.diagram a)) c.args.bay.0 c.args.to.0
+    c.args.readings.now c.in_ok-summary.summary) e
+    (c.in_ok-summary.ensures j.diagram c.args.to.0 c.diagram_is_station.ensures are partner)

@@ -15,9 +15,12 @@ composed_row-requires-clause-first c =
     let x : Answers = c.index-x.result.now in
     let y : Answers = c.index-y.result.now in
     let nodes : List ℕ = get_or p.keeps.items k.keep [] in
-    let first : slice_get p.values.items k.first ≡ Some x = slice_get_read p.values.items _ k.first x refl c.requires.first c.index-x.ensures in
-    let second : slice_get p.values.items k.second ≡ Some y = slice_get_read p.values.items _ k.second y refl c.requires.second c.index-y.ensures in
-    let asked : slice_get p.keeps.items k.keep ≡ Some nodes = slice_get-get_or p.keeps.items k.keep [] c.requires.keep in
+    let first : slice_get p.values.items k.first ≡ Some x =
+    slice_get_read p.values.items _ k.first x refl c.requires.first c.index-x.ensures in
+    let second : slice_get p.values.items k.second ≡ Some y =
+    slice_get_read p.values.items _ k.second y refl c.requires.second c.index-y.ensures in
+    let asked : slice_get p.keeps.items k.keep ≡ Some nodes =
+    slice_get-get_or p.keeps.items k.keep [] c.requires.keep in
     let sel : Selects x y nodes s = c.requires.selection x y nodes first second asked in
     sel.first
 
@@ -29,9 +32,12 @@ composed_row-requires-clause-second c =
     let x : Answers = c.index-x.result.now in
     let y : Answers = c.index-y.result.now in
     let nodes : List ℕ = get_or p.keeps.items k.keep [] in
-    let first : slice_get p.values.items k.first ≡ Some x = slice_get_read p.values.items _ k.first x refl c.requires.first c.index-x.ensures in
-    let second : slice_get p.values.items k.second ≡ Some y = slice_get_read p.values.items _ k.second y refl c.requires.second c.index-y.ensures in
-    let asked : slice_get p.keeps.items k.keep ≡ Some nodes = slice_get-get_or p.keeps.items k.keep [] c.requires.keep in
+    let first : slice_get p.values.items k.first ≡ Some x =
+    slice_get_read p.values.items _ k.first x refl c.requires.first c.index-x.ensures in
+    let second : slice_get p.values.items k.second ≡ Some y =
+    slice_get_read p.values.items _ k.second y refl c.requires.second c.index-y.ensures in
+    let asked : slice_get p.keeps.items k.keep ≡ Some nodes =
+    slice_get-get_or p.keeps.items k.keep [] c.requires.keep in
     let sel : Selects x y nodes s = c.requires.selection x y nodes first second asked in
     sel.second
 
@@ -43,11 +49,15 @@ composed_row-requires-clause-nodes c =
     let x : Answers = c.index-x.result.now in
     let y : Answers = c.index-y.result.now in
     let nodes : List ℕ = get_or p.keeps.items k.keep [] in
-    let first : slice_get p.values.items k.first ≡ Some x = slice_get_read p.values.items _ k.first x refl c.requires.first c.index-x.ensures in
-    let second : slice_get p.values.items k.second ≡ Some y = slice_get_read p.values.items _ k.second y refl c.requires.second c.index-y.ensures in
-    let asked : slice_get p.keeps.items k.keep ≡ Some nodes = slice_get-get_or p.keeps.items k.keep [] c.requires.keep in
+    let first : slice_get p.values.items k.first ≡ Some x =
+    slice_get_read p.values.items _ k.first x refl c.requires.first c.index-x.ensures in
+    let second : slice_get p.values.items k.second ≡ Some y =
+    slice_get_read p.values.items _ k.second y refl c.requires.second c.index-y.ensures in
+    let asked : slice_get p.keeps.items k.keep ≡ Some nodes =
+    slice_get-get_or p.keeps.items k.keep [] c.requires.keep in
     let sel : Selects x y nodes s = c.requires.selection x y nodes first second asked in
-    subst (λ l. (n : ℕ) → Contains l n → Keeps x.kept n ⊎ Keeps y.kept n) (sym sel.asked) (c.requires.nodes x y nodes first second asked)
+    subst (λ l. (n : ℕ) → Contains l n → Keeps x.kept n ⊎ Keeps y.kept n) (sym sel.asked)
+    (c.requires.nodes x y nodes first second asked)
 
 pub composed-requires-clause-first : goal.composed-requires-clause-first
 composed-requires-clause-first c =
@@ -57,9 +67,12 @@ composed-requires-clause-first c =
     let x : Answers = c.index-x.result.now in
     let y : Answers = c.index-y.result.now in
     let nodes : List ℕ = get_or p.keeps.items k.keep [] in
-    let first : slice_get p.values.items k.first ≡ Some x = slice_get_read p.values.items _ k.first x refl c.requires.first c.index-x.ensures in
-    let second : slice_get p.values.items k.second ≡ Some y = slice_get_read p.values.items _ k.second y refl c.requires.second c.index-y.ensures in
-    let asked : slice_get p.keeps.items k.keep ≡ Some nodes = slice_get-get_or p.keeps.items k.keep [] c.requires.keep in
+    let first : slice_get p.values.items k.first ≡ Some x =
+    slice_get_read p.values.items _ k.first x refl c.requires.first c.index-x.ensures in
+    let second : slice_get p.values.items k.second ≡ Some y =
+    slice_get_read p.values.items _ k.second y refl c.requires.second c.index-y.ensures in
+    let asked : slice_get p.keeps.items k.keep ≡ Some nodes =
+    slice_get-get_or p.keeps.items k.keep [] c.requires.keep in
     let sel : Selects x y nodes s = c.requires.selection x y nodes first second asked in
     sel.first
 
@@ -71,9 +84,12 @@ composed-requires-clause-second c =
     let x : Answers = c.index-x.result.now in
     let y : Answers = c.index-y.result.now in
     let nodes : List ℕ = get_or p.keeps.items k.keep [] in
-    let first : slice_get p.values.items k.first ≡ Some x = slice_get_read p.values.items _ k.first x refl c.requires.first c.index-x.ensures in
-    let second : slice_get p.values.items k.second ≡ Some y = slice_get_read p.values.items _ k.second y refl c.requires.second c.index-y.ensures in
-    let asked : slice_get p.keeps.items k.keep ≡ Some nodes = slice_get-get_or p.keeps.items k.keep [] c.requires.keep in
+    let first : slice_get p.values.items k.first ≡ Some x =
+    slice_get_read p.values.items _ k.first x refl c.requires.first c.index-x.ensures in
+    let second : slice_get p.values.items k.second ≡ Some y =
+    slice_get_read p.values.items _ k.second y refl c.requires.second c.index-y.ensures in
+    let asked : slice_get p.keeps.items k.keep ≡ Some nodes =
+    slice_get-get_or p.keeps.items k.keep [] c.requires.keep in
     let sel : Selects x y nodes s = c.requires.selection x y nodes first second asked in
     sel.second
 
@@ -85,11 +101,15 @@ composed-requires-clause-nodes c =
     let x : Answers = c.index-x.result.now in
     let y : Answers = c.index-y.result.now in
     let nodes : List ℕ = get_or p.keeps.items k.keep [] in
-    let first : slice_get p.values.items k.first ≡ Some x = slice_get_read p.values.items _ k.first x refl c.requires.first c.index-x.ensures in
-    let second : slice_get p.values.items k.second ≡ Some y = slice_get_read p.values.items _ k.second y refl c.requires.second c.index-y.ensures in
-    let asked : slice_get p.keeps.items k.keep ≡ Some nodes = slice_get-get_or p.keeps.items k.keep [] c.requires.keep in
+    let first : slice_get p.values.items k.first ≡ Some x =
+    slice_get_read p.values.items _ k.first x refl c.requires.first c.index-x.ensures in
+    let second : slice_get p.values.items k.second ≡ Some y =
+    slice_get_read p.values.items _ k.second y refl c.requires.second c.index-y.ensures in
+    let asked : slice_get p.keeps.items k.keep ≡ Some nodes =
+    slice_get-get_or p.keeps.items k.keep [] c.requires.keep in
     let sel : Selects x y nodes s = c.requires.selection x y nodes first second asked in
-    subst (λ l. (n : ℕ) → Contains l n → Keeps x.kept n ⊎ Keeps y.kept n) (sym sel.asked) (c.requires.nodes x y nodes first second asked)
+    subst (λ l. (n : ℕ) → Contains l n → Keeps x.kept n ⊎ Keeps y.kept n) (sym sel.asked)
+    (c.requires.nodes x y nodes first second asked)
 
 pub returns-in-Some-clause-made : goal.returns-in-Some-clause-made
 returns-in-Some-clause-made c =
@@ -99,9 +119,12 @@ returns-in-Some-clause-made c =
     let x : Answers = c.index-x.result.now in
     let y : Answers = c.index-y.result.now in
     let nodes : List ℕ = get_or p.keeps.items k.keep [] in
-    let first : slice_get p.values.items k.first ≡ Some x = slice_get_read p.values.items _ k.first x refl c.requires.first c.index-x.ensures in
-    let second : slice_get p.values.items k.second ≡ Some y = slice_get_read p.values.items _ k.second y refl c.requires.second c.index-y.ensures in
-    let asked : slice_get p.keeps.items k.keep ≡ Some nodes = slice_get-get_or p.keeps.items k.keep [] c.requires.keep in
+    let first : slice_get p.values.items k.first ≡ Some x =
+    slice_get_read p.values.items _ k.first x refl c.requires.first c.index-x.ensures in
+    let second : slice_get p.values.items k.second ≡ Some y =
+    slice_get_read p.values.items _ k.second y refl c.requires.second c.index-y.ensures in
+    let asked : slice_get p.keeps.items k.keep ≡ Some nodes =
+    slice_get-get_or p.keeps.items k.keep [] c.requires.keep in
     let sel : Selects x y nodes s = c.requires.selection x y nodes first second asked in
     let b = c.in_ok-row.ensures in
     let h = c.in-Some.ensures p.view p.values.items c.requires.pool.index in
@@ -120,7 +143,9 @@ returns-in-Some-clause-made c =
       first = first;
       second = second;
       nodes = asked;
-      made = made_same p x y b.value nodes c.in-Some.place same b.composes (subst (λ l. (n : ℕ) → Keeps b.value.kept n ↔ Contains l n) sel.asked b.kept);
+      made =
+          made_same p x y b.value nodes c.in-Some.place same b.composes
+          (subst (λ l. (n : ℕ) → Keeps b.value.kept n ↔ Contains l n) sel.asked b.kept);
     }
 
 pub returns-clause-made : goal.returns-clause-made
@@ -131,9 +156,12 @@ returns-clause-made c =
     let x : Answers = c.index-x.result.now in
     let y : Answers = c.index-y.result.now in
     let nodes : List ℕ = get_or p.keeps.items k.keep [] in
-    let first : slice_get p.values.items k.first ≡ Some x = slice_get_read p.values.items _ k.first x refl c.requires.first c.index-x.ensures in
-    let second : slice_get p.values.items k.second ≡ Some y = slice_get_read p.values.items _ k.second y refl c.requires.second c.index-y.ensures in
-    let asked : slice_get p.keeps.items k.keep ≡ Some nodes = slice_get-get_or p.keeps.items k.keep [] c.requires.keep in
+    let first : slice_get p.values.items k.first ≡ Some x =
+    slice_get_read p.values.items _ k.first x refl c.requires.first c.index-x.ensures in
+    let second : slice_get p.values.items k.second ≡ Some y =
+    slice_get_read p.values.items _ k.second y refl c.requires.second c.index-y.ensures in
+    let asked : slice_get p.keeps.items k.keep ≡ Some nodes =
+    slice_get-get_or p.keeps.items k.keep [] c.requires.keep in
     let sel : Selects x y nodes s = c.requires.selection x y nodes first second asked in
     let q = c.intern.new.self in
     let g = c.in_ok-place.ensures.grew in
@@ -145,5 +173,8 @@ returns-clause-made c =
       first = g.values k.first x first;
       second = g.values k.second y second;
       nodes = g.keeps k.keep nodes asked;
-      made = made_same q x y value nodes c.in_ok-place.place c.in_ok-place.ensures.same (subst (λ w. ComposesIn w x y value) (sym g.view) c.in_ok-value.ensures.composes) (subst (λ l. (n : ℕ) → Keeps value.kept n ↔ Contains l n) sel.asked c.in_ok-value.ensures.kept);
+      made =
+          made_same q x y value nodes c.in_ok-place.place c.in_ok-place.ensures.same
+          (subst (λ w. ComposesIn w x y value) (sym g.view) c.in_ok-value.ensures.composes)
+          (subst (λ l. (n : ℕ) → Keeps value.kept n ↔ Contains l n) sel.asked c.in_ok-value.ensures.kept);
     }

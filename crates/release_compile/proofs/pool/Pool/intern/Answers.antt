@@ -28,10 +28,17 @@ returns-in_ok-push-in-None-clause-grew c =
     let none = c.in-None.ensures p.view p.values.items c.requires.index in
     record {
       is_pool = record {
-        index = subst (λ vs. IsRowIndex p.view vs c.note_row.new.index) (sym items) (c.in_ok-note_row-in-None.ensures p.view p.values.items x c.requires.index (ap length c.as_slice-held.ensures.value) c.in_ok-row.ensures.row);
-        apart = subst (λ vs. AreApart p.view vs) (sym items) (apart_more p.view p.values.items x c.requires.well well_x c.requires.apart (λ i y at same. none i y at ((c.in_ok-row.ensures.tells y (c.requires.well i y at)).1 same)));
+        index =
+            subst (λ vs. IsRowIndex p.view vs c.note_row.new.index) (sym items) (c.in_ok-note_row-in-None.ensures p.view
+            p.values.items x c.requires.index (ap length c.as_slice-held.ensures.value) c.in_ok-row.ensures.row);
+        apart =
+            subst (λ vs. AreApart p.view vs) (sym items) (apart_more p.view p.values.items x c.requires.well well_x
+            c.requires.apart
+            (λ i y at same. none i y at ((c.in_ok-row.ensures.tells y (c.requires.well i y at)).1 same)));
         well = subst (λ vs. AreWell vs) (sym items) (well_more p.view p.values.items x c.requires.well well_x);
-        notes = subst (λ vs. NotesAreRight p.view vs p.keeps.items p.notes) (sym items) (notes_stay p.view p.values.items (p.values.items ++ x ∷ []) p.keeps.items p.notes more c.requires.notes);
+        notes =
+            subst (λ vs. NotesAreRight p.view vs p.keeps.items p.notes) (sym items)
+            (notes_stay p.view p.values.items (p.values.items ++ x ∷ []) p.keeps.items p.notes more c.requires.notes);
       };
       view = refl;
       keeps = λ k ns at. at;
@@ -44,7 +51,10 @@ returns-in_ok-push-in-None-clause-same c =
     let x : Answers = c.args.value in
     record {
       same = x;
-      listed = ap (λ vs. slice_get vs (length c.as_slice-held.result.now)) c.in_ok-push-in-None.ensures.items ∙ ap (slice_get (p.values.items ++ x ∷ [])) (ap length c.as_slice-held.ensures.value) ∙ get_last p.values.items x;
+      listed =
+          ap (λ vs. slice_get vs (length c.as_slice-held.result.now)) c.in_ok-push-in-None.ensures.items
+          ∙ ap (slice_get (p.values.items ++ x ∷ [])) (ap length c.as_slice-held.ensures.value)
+          ∙ get_last p.values.items x;
       is_same = (c.in_ok-row.ensures.tells x c.row_in.ensures.answers).0 c.in_ok-row.ensures.row;
       well = c.row_in.ensures.answers;
       well_same = c.row_in.ensures.answers;

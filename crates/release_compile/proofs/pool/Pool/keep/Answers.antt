@@ -8,13 +8,16 @@ pub returns-clause-grew : goal.returns-clause-grew
 returns-clause-grew c =
     let p = c.args.self.now in
     let items : c.push.new.self.items ≡ p.keeps.items ++ c.args.nodes ∷ [] = c.in_ok-push.ensures.items in
-    let more : Extends p.keeps.items (p.keeps.items ++ c.args.nodes ∷ []) = λ k ns at. get_front p.keeps.items (c.args.nodes ∷ []) k ns at in
+    let more : Extends p.keeps.items (p.keeps.items ++ c.args.nodes ∷ []) =
+    λ k ns at. get_front p.keeps.items (c.args.nodes ∷ []) k ns at in
     record {
       is_pool = record {
         index = c.requires.index;
         apart = c.requires.apart;
         well = c.requires.well;
-        notes = subst (λ ks. NotesAreRight p.view p.values.items ks p.notes) (sym items) (notes_keep p.view p.values.items p.keeps.items (p.keeps.items ++ c.args.nodes ∷ []) p.notes more c.requires.notes);
+        notes =
+            subst (λ ks. NotesAreRight p.view p.values.items ks p.notes) (sym items) (notes_keep p.view p.values.items
+            p.keeps.items (p.keeps.items ++ c.args.nodes ∷ []) p.notes more c.requires.notes);
       };
       view = refl;
       keeps = subst (λ ks. Extends p.keeps.items ks) (sym items) more;
@@ -24,4 +27,6 @@ returns-clause-grew c =
 pub returns-clause-kept : goal.returns-clause-kept
 returns-clause-kept c =
     let p = c.args.self.now in
-    ap (λ ks. slice_get ks (length c.as_slice-held.result.now)) c.in_ok-push.ensures.items ∙ (ap (slice_get (p.keeps.items ++ c.args.nodes ∷ [])) (ap length c.as_slice-held.ensures.value) ∙ get_last p.keeps.items c.args.nodes)
+    ap (λ ks. slice_get ks (length c.as_slice-held.result.now)) c.in_ok-push.ensures.items
+    ∙ (ap (slice_get (p.keeps.items ++ c.args.nodes ∷ [])) (ap length c.as_slice-held.ensures.value)
+    ∙ get_last p.keeps.items c.args.nodes)
