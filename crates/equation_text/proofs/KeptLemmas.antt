@@ -1,15 +1,19 @@
 -- What is kept of the lines that define something.
 use Rattle.std.proofs.Common.{◌≡◌, ◌≢◌, ◌∙◌, ◌⊎◌, ℕ, Bool, true, false, List, [], ◌∷◌, ◌++◌, refl, sym, ap, subst}
 use Rattle.std.proofs.Common.{inl, inr}
-use Rattle.std.specs.Prelude.{◌↔◌, ◌&&◌, IsTrue, nat_eq}
-use Rattle.std.specs.HashSet.{contains, Updates, IsEmpty}
+use Rattle.std.specs.Prelude.{◌↔◌, IsTrue}
+use Rattle.std.specs.declared.cmp.Ordering.{Ordering}
+use Rattle.std.specs.declared.cmp.Ordering.TheVariants.{Less, Equal, Greater}
+use Rattle.std.specs.Ordering.{nat_cmp, is_eq}
+use Rattle.std.specs.BTreeSet.{contains, Updates, IsEmpty}
+use Rattle.std.specs.BTreeMap.{is_at}
 use Rattle.std.specs.List.{list_any}
-use Rattle.std.proofs.lemmas.Bool.Decides.{Decides-eqb}
+use Rattle.std.proofs.lemmas.Map.Lookups.{exact_pairs, exact_unsigned}
 use Rattle.equation_text.specs.declared.entries.Step.{Step}
 use Rattle.equation_text.specs.declared.entries.Entries.{Entries}
 use Rattle.equation_text.specs.Words.{Lacks}
 use Rattle.equation_text.specs.Faults.{Entry, step_of, node_of, head_of, HasLine, IsDefined}
-use Rattle.equation_text.specs.Entries.{same_step, has_entry, IsSmall, Defines, DefinesNone, AddsLine, AreDefined}
+use Rattle.equation_text.specs.Entries.{step_order, has_entry, IsSmall, Defines, DefinesNone, AddsLine, AreDefined}
 use Rattle.equation_text.proofs.WordLemmas.{true_false}
 use Rattle.equation_text.proofs.LineLemmas.{line_here, line_later, line_split, last_here, last_only}
 use Rattle.equation_text.proofs.EntryLemmas.{head_lacks, head_once}
@@ -50,53 +54,51 @@ adds_line line old new entry by there others x small = (to, from)
       | inr stays ↦ stays ∙ had
     ]
 
-both_true : (p q : Bool) → (p && q) ≡ true → (p ≡ true) × (q ≡ true)
-both_true true true e = (refl, refl)
-both_true true false e = cc
-both_true false true e = cc
-both_true false false e = cc
+equal_by : (o : Ordering) → is_eq o ≡ true → o ≡ Equal
+equal_by Less e = cc
+equal_by Equal e = refl
+equal_by Greater e = cc
 
-same_entry : (s : Step) (p m : ℕ) → same_step s (record { part = p; number = m }) ≡ true
+same_entry : (s : Step) (p m : ℕ) → is_at (step_order s) (record { part = p; number = m }) ≡ true
     → step_of p m ≡ step_of s.part s.number
 same_entry s p m e =
-    let both = both_true (nat_eq s.part p) (nat_eq s.number m) e in
-    let part : s.part ≡ p = (Decides-eqb s.part p).0 both.0 in
-    let number : s.number ≡ m = (Decides-eqb s.number m).0 both.1 in
-    sym (ap (λ z. step_of z s.number) part ∙ ap (λ z. step_of p z) number)
+    let order = equal_by (step_order s (record { part = p; number = m })) e in
+    let same = exact_pairs nat_cmp nat_cmp exact_unsigned exact_unsigned (s.part, s.number) (p, m) order in
+    sym (ap (λ (t : ℕ × ℕ). step_of t.0 t.1) same)
 
 pub adds_step : (line : List ℕ) (old new : Entries) (s : Step) → Defines line (step_of s.part s.number)
-    → Updates same_step old.steps new.steps s true → new.nodes ≡ old.nodes
+    → Updates step_order old.steps new.steps s true → new.nodes ≡ old.nodes
     → AddsLine line (has_entry old) (has_entry new)
 adds_step line old new s by up nodes = adds_line line (has_entry old) (has_entry new) (step_of s.part s.number) by up.1
     others
   where
     others : (x : Entry) → (x ≡ step_of s.part s.number) ⊎ (has_entry new x ≡ has_entry old x)
-    others (node_of n) = inr (ap (λ k. contains nat_eq k n) nodes)
-    others (step_of p m) = told (same_step s (record { part = p; number = m })) refl
+    others (node_of n) = inr (ap (λ k. contains nat_cmp k n) nodes)
+    others (step_of p m) = told (is_at (step_order s) (record { part = p; number = m })) refl
       where
-        told : (b : Bool) → same_step s (record { part = p; number = m }) ≡ b
+        told : (b : Bool) → is_at (step_order s) (record { part = p; number = m }) ≡ b
             → (step_of p m ≡ step_of s.part s.number) ⊎ (has_entry new (step_of p m) ≡ has_entry old (step_of p m))
         told true e = inl (same_entry s p m e)
         told false e = inr (up.2 (record { part = p; number = m }) e)
 
 pub adds_node : (line : List ℕ) (old new : Entries) (n : ℕ) → Defines line (node_of n)
-    → Updates nat_eq old.nodes new.nodes n true → new.steps ≡ old.steps
+    → Updates nat_cmp old.nodes new.nodes n true → new.steps ≡ old.steps
     → AddsLine line (has_entry old) (has_entry new)
 adds_node line old new n by up steps = adds_line line (has_entry old) (has_entry new) (node_of n) by up.1 others
   where
     others : (x : Entry) → (x ≡ node_of n) ⊎ (has_entry new x ≡ has_entry old x)
-    others (step_of p m) = inr (ap (λ k. contains same_step k (record { part = p; number = m })) steps)
-    others (node_of k) = told (nat_eq n k) refl
+    others (step_of p m) = inr (ap (λ k. contains step_order k (record { part = p; number = m })) steps)
+    others (node_of k) = told (is_at (nat_cmp n) k) refl
       where
-        told : (b : Bool) → nat_eq n k ≡ b → (node_of k ≡ node_of n) ⊎ (has_entry new (node_of k) ≡ has_entry old
+        told : (b : Bool) → is_at (nat_cmp n) k ≡ b → (node_of k ≡ node_of n) ⊎ (has_entry new (node_of k) ≡ has_entry old
             (node_of k))
-        told true e = inl (ap (λ z. node_of z) (sym ((Decides-eqb n k).0 e)))
+        told true e = inl (ap (λ z. node_of z) (sym (exact_unsigned n k (equal_by (nat_cmp n k) e))))
         told false e = inr (up.2 k e)
 
 none_kept : (entries : Entries) (x : Entry) → IsEmpty entries.steps → IsEmpty entries.nodes
     → has_entry entries x ≡ false
-none_kept entries (step_of p m) steps nodes = ap (list_any (same_step (record { part = p; number = m }))) steps
-none_kept entries (node_of n) steps nodes = ap (list_any (nat_eq n)) nodes
+none_kept entries (step_of p m) steps nodes = ap (list_any (is_at (step_order (record { part = p; number = m })))) steps
+none_kept entries (node_of n) steps nodes = ap (list_any (is_at (nat_cmp n))) nodes
 
 -- what was kept of a text so far
 abbrev pub KeptSoFar : List ℕ → List ℕ → (Entry → Bool) → Type 0

@@ -1,7 +1,8 @@
 -- What lines define, and whether what lines name is there.
-use Rattle.std.specs.Prelude.{◌≡◌, ◌≢◌, ◌<◌, ◌≤◌, ◌^◌, ◌↔◌, ◌++◌, ◌⊎◌, ◌&&◌, ℕ, Bool, false, List, IsTrue, codes}
-use Rattle.std.specs.Prelude.{nat_eq}
-use Rattle.std.specs.HashSet.{contains}
+use Rattle.std.specs.Prelude.{◌≡◌, ◌≢◌, ◌<◌, ◌≤◌, ◌^◌, ◌↔◌, ◌++◌, ◌⊎◌, ℕ, Bool, false, List, IsTrue, codes}
+use Rattle.std.specs.declared.cmp.Ordering.{Ordering}
+use Rattle.std.specs.Ordering.{nat_cmp, ordering_then}
+use Rattle.std.specs.BTreeSet.{contains}
 use Rattle.station_graph.specs.Diagram.{Diagram}
 use Rattle.text_lines.specs.Decimals.{IsDecimal}
 use Rattle.equation_text.specs.declared.entries.Step.{Step}
@@ -11,14 +12,14 @@ use Rattle.equation_text.specs.declared.entries.Entries.{Entries}
 use Rattle.equation_text.specs.Faults.{Entry, step_of, node_of, head_of, IsDefined, IsNextWord, HasNumber, Leads}
 use Rattle.equation_text.specs.Faults.{LeadsIn, feeds, Names, NamesUndefined, IsLine, HasUndefined}
 
--- The two steps are the same.
-abbrev pub same_step : Step → Step → Bool
-same_step a b = nat_eq a.part b.part && nat_eq a.number b.number
+-- Steps go by their parts, and then by their numbers.
+abbrev pub step_order : Step → Step → Ordering
+step_order a b = ordering_then (nat_cmp a.part b.part) (nat_cmp a.number b.number)
 
 -- The entry is there.
 abbrev pub has_entry : Entries → Entry → Bool
-has_entry entries (step_of p m) = contains same_step entries.steps (record { part = p; number = m })
-has_entry entries (node_of n) = contains nat_eq entries.nodes n
+has_entry entries (step_of p m) = contains step_order entries.steps (record { part = p; number = m })
+has_entry entries (node_of n) = contains nat_cmp entries.nodes n
 
 -- The entry of the kind with this number.
 abbrev pub entry_in : Kind → ℕ → Entry

@@ -6,11 +6,11 @@ ghost use Rattle.equation_text.specs.Entries.{has_entry, entry_in, IsSmall, Defi
 use crate::words::{behind, cut_line, cut_word};
 use ilk_base::Memory;
 use std::alloc::Global;
-use std::collections::HashSet;
+use std::collections::BTreeSet;
 use text_lines::decimal_number;
 
 // A step of a part.
-#[derive(Clone, Copy, PartialEq, Eq, Hash)]
+#[derive(Clone, Copy, PartialEq, Eq, PartialOrd, Ord)]
 pub(crate) struct Step {
     pub(crate) part: u32,
     pub(crate) number: u32,
@@ -26,8 +26,8 @@ pub(crate) enum Kind {
 // The steps and the nodes that lines define.
 #[derive(Drop)]
 pub(crate) struct Entries {
-    pub(crate) steps: HashSet<Step>,
-    pub(crate) nodes: HashSet<u32>,
+    pub(crate) steps: BTreeSet<Step>,
+    pub(crate) nodes: BTreeSet<u32>,
 }
 
 impl Entries {
@@ -104,8 +104,8 @@ pub(crate) fn entries_of(alloc: Global, text: &[u8]) -> Result<Entries, Memory>
     ensures { IfOk result (λ e. AreDefined text.now (has_entry e)) }
 {
     let mut entries = Entries {
-        steps: HashSet::new(alloc),
-        nodes: HashSet::new(alloc),
+        steps: BTreeSet::new(alloc),
+        nodes: BTreeSet::new(alloc),
     };
     let mut left = text;
     while let Some((line, rest)) = cut_line(left) {
