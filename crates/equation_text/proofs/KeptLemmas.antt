@@ -1,5 +1,5 @@
 -- What is kept of the lines that define something.
-use Rattle.std.proofs.Common.{◌≡◌, ◌≢◌, ◌∙◌, ◌⊎◌, ℕ, Bool, true, false, List, [], ◌∷◌, ◌++◌, refl, sym, ap, subst}
+use Rattle.std.proofs.Common.{◌≡◌, ◌≢◌, ◌∙◌, ◌⊎◌, ℕ, Bool, true, false, List, ◌∷◌, ◌++◌, refl, sym, ap, subst}
 use Rattle.std.proofs.Common.{inl, inr}
 use Rattle.std.specs.Prelude.{◌↔◌, IsTrue}
 use Rattle.std.specs.declared.cmp.Ordering.{Ordering}
@@ -90,9 +90,8 @@ adds_node line old new n by up steps = adds_line line (has_entry old) (has_entry
     others (step_of p m) = inr (ap (λ k. contains step_order k (record { part = p; number = m })) steps)
     others (node_of k) = told (is_at (nat_cmp n) k) refl
       where
-        told : (b : Bool) → is_at (nat_cmp n) k ≡ b →
-            (node_of k ≡ node_of n) ⊎ (has_entry new (node_of k) ≡ has_entry old
-            (node_of k))
+        told : (b : Bool) → is_at (nat_cmp n) k ≡ b
+            → (node_of k ≡ node_of n) ⊎ (has_entry new (node_of k) ≡ has_entry old (node_of k))
         told true e = inl (ap (λ z. node_of z) (sym (exact_unsigned n k (equal_by (nat_cmp n k) e))))
         told false e = inr (up.2 k e)
 

@@ -1,17 +1,15 @@
 -- The lines before the first that names what no line defines.
-use Rattle.std.proofs.Common.{◌≡◌, ◌≢◌, ◌∙◌, ◌⊎◌, ℕ, ◌+◌, ◌<◌, ◌≤◌, ◌^◌, suc, zero, Bool, true, false, List}
-use Rattle.std.proofs.Common.{[], ◌∷◌, ◌++◌}
-use Rattle.std.proofs.Common.{length, refl, sym, ap, subst, inl, inr, arith, append_assoc}
-use Rattle.std.specs.Prelude.{IsTrue, ◌↔◌, ◌==◌, count_by}
-use Rattle.std.proofs.lemmas.List.{append_cancel_left, length-append}
-use Rattle.std.proofs.lemmas.List.Sums.{sum_by-append, count_by-le-length}
+use Rattle.std.proofs.Common.{◌≡◌, ◌≢◌, ◌∙◌, ◌⊎◌, ℕ, ◌+◌, Bool, List, [], ◌∷◌, ◌++◌}
+use Rattle.std.proofs.Common.{refl, sym, ap, subst, inl, inr, arith, append_assoc}
+use Rattle.std.specs.Prelude.{◌==◌}
+use Rattle.std.proofs.lemmas.List.{append_cancel_left}
+use Rattle.std.proofs.lemmas.List.Sums.{sum_by-append}
 use Rattle.std.proofs.Common.{cond, append-nil}
 use Rattle.std.proofs.lemmas.Grind.{common_steps}
 use Rattle.std.proofs.lemmas.Bool.Decides.{nat_tests}
-use Rattle.text_lines.specs.Decimals.{IsDecimal}
 use Rattle.equation_text.specs.Words.{Lacks}
-use Rattle.equation_text.specs.Faults.{Entry, step_of, node_of, feeds, IsWhole, IsLine, LeadsIn, HasNumber, Names}
-use Rattle.equation_text.specs.Faults.{NamesUndefined, IsDefined}
+use Rattle.equation_text.specs.Faults.{Entry, step_of, node_of, feeds, IsWhole, IsLine, Names}
+use Rattle.equation_text.specs.Faults.{NamesUndefined}
 use Rattle.equation_text.specs.Entries.{IsSmall, AreDefined, AllKept, OneLost, IsFirstUndefined, NoneUndefined}
 use Rattle.equation_text.proofs.WordLemmas.{true_false, not_cut, cut_once}
 use Rattle.equation_text.proofs.WholeText.{whole_line, whole_more}
@@ -19,9 +17,6 @@ use Rattle.equation_text.proofs.LineLemmas.{first_or_later}
 
 pub feeds_more : (a b : List ℕ) → feeds (a ++ b) ≡ feeds a + feeds b
 feeds_more a b = sum_by-append (λ (byte : ℕ). cond (byte == 10) 1 0) a b
-
-pub feeds_few : (text : List ℕ) → feeds text ≤ length text
-feeds_few text = count_by-le-length (λ (byte : ℕ). byte == 10) text
 
 lacks_count : (line : List ℕ) → Lacks 10 line → feeds line ≡ 0
 lacks_count [] lacks = refl
@@ -38,9 +33,6 @@ feeds_line before line lacks =
     omega (arith, one, two, last, lacks_count line lacks)
 
 -- what a line names has small numbers
-leads_small : (head line words : List ℕ) (p k : ℕ) → LeadsIn head p k line words → p < 2 ^ 32
-leads_small head line words p k leads = leads.number.small
-
 pub names_small : (line : List ℕ) (x : Entry) → Names line x → IsSmall x
 names_small line (step_of p m) named = (
   elim named.1 [
@@ -174,13 +166,3 @@ module _ (text left : List ℕ) (count : ℕ) (so_far : PassedSoFar text left co
       let later = so_far.later b l stands names in
       not_cut 10 left (later.0 ++ l) stands.rest lacks (in_left b l later.0 stands later.1
       ∙ sym (append_assoc later.0 l (10 ∷ stands.rest)))
-
-  pub passed_few : count ≤ length text
-  passed_few = omega (
-    arith,
-    so_far.count_is,
-    feeds_few so_far.before,
-    ap length so_far.is,
-    length-append so_far.before
-        left,
-  )

@@ -1,12 +1,12 @@
 -- The numbers among words, each after a blank.
 use Rattle.std.proofs.Common.{◌≡◌, ◌≢◌, ◌∙◌, ◌⊎◌, ℕ, Bool, List, [], ◌∷◌, ◌++◌, refl, sym}
 use Rattle.std.proofs.Common.{ap, subst, inl, inr, arith, append_assoc}
-use Rattle.std.specs.Prelude.{decimal, codes, IsTrue}
+use Rattle.std.specs.Prelude.{codes, IsTrue}
 use Rattle.std.proofs.lemmas.Fmt.{decimal_injective}
 use Rattle.std.proofs.lemmas.List.{append_cancel_left}
 use Rattle.text_lines.specs.Decimals.{IsDecimal}
 use Rattle.equation_text.specs.Words.{Lacks, EndsWord}
-use Rattle.equation_text.specs.Faults.{Entry, step_of, node_of, IsNextWord, Behind, HasNumber, Leads, LeadsIn, Names}
+use Rattle.equation_text.specs.Faults.{Entry, step_of, node_of, IsNextWord, Behind, HasNumber, Leads, LeadsIn}
 use Rattle.equation_text.specs.declared.entries.Kind.{Kind}
 use Rattle.equation_text.specs.declared.entries.Kind.TheVariants.{StepsOf, Nodes}
 use Rattle.equation_text.specs.Entries.{entry_in, InPart, NumberIsLost, NumbersKept, NumberLost, StepsKept, StepLost}

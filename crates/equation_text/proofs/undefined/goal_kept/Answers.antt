@@ -1,4 +1,3 @@
-use Rattle.std.proofs.Common.{◌≡◌, ◌∙◌, List, ℕ, refl, sym, subst}
 use Rattle.std.specs.Prelude.{codes}
 use Rattle.equation_text.specs.Entries.{has_entry}
 use Rattle.equation_text.proofs.NumberLemmas.{no_head, none_behind, behind_once, nodes_kept_by, node_lost_by}

@@ -1,4 +1,4 @@
-use Rattle.std.proofs.Common.{◌≡◌, ◌∙◌, sym, subst}
+use Rattle.std.proofs.Common.{◌∙◌, sym, subst}
 use Rattle.std.specs.Prelude.{IsTrue}
 use Rattle.equation_text.specs.Entries.{has_entry, entry_in}
 use Rattle.equation_text.proofs.NumberLemmas.{decimal_once}

@@ -1,6 +1,5 @@
-use Rattle.std.proofs.Common.{arith}
 use Rattle.equation_text.specs.Entries.{has_entry}
-use Rattle.equation_text.proofs.LinesBefore.{passed_first, passed_next, passed_found, passed_all, passed_few}
+use Rattle.equation_text.proofs.LinesBefore.{passed_first, passed_next, passed_found, passed_all}
 use Rattle.equation_text.proofs.LinesBefore.{names_it, names_none}
 use Rattle.equation_text.proofs.undefined.lines_before.Goals as goal
 

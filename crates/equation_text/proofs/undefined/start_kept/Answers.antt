@@ -1,4 +1,4 @@
-use Rattle.std.proofs.Common.{◌≡◌, ◌∙◌, List, ℕ, refl, sym, subst}
+use Rattle.std.proofs.Common.{refl}
 use Rattle.std.specs.Prelude.{codes}
 use Rattle.equation_text.specs.Entries.{has_entry}
 use Rattle.equation_text.proofs.NumberLemmas.{no_part, steps_kept_by, step_lost_by}

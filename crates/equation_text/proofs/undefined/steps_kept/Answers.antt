@@ -1,4 +1,3 @@
-use Rattle.std.proofs.Common.{◌≡◌, ◌∙◌, List, ℕ, refl, sym, subst}
 use Rattle.std.specs.Prelude.{codes}
 use Rattle.equation_text.specs.Entries.{has_entry}
 use Rattle.equation_text.proofs.NumberLemmas.{no_part, no_words, behind_once, steps_kept_by, step_lost_by}
