@@ -1,6 +1,6 @@
 -- The lines of groups, and the places at which they stand in a text.
-use Rattle.std.proofs.Common.{◌≡◌, ◌≢◌, ◌∙◌, ◌⊎◌, ℕ, ◌+◌, zero, suc, List, [], ◌∷◌, ◌++◌, length, refl, sym, ap, subst}
-use Rattle.std.proofs.Common.{inl, inr, arith, Some, append_assoc, append-nil}
+use Rattle.std.proofs.Common.{◌≡◌, ◌∙◌, ◌⊎◌, ℕ, ◌+◌, zero, suc, List, [], ◌∷◌, ◌++◌, refl, sym, ap, subst}
+use Rattle.std.proofs.Common.{inl, inr, arith, Some, append_assoc}
 use Rattle.std.specs.Prelude.{slice_get, codes}
 use Rattle.equation_text.specs.EquationText.{text_of}
 use Rattle.equation_text.specs.Words.{Lacks}

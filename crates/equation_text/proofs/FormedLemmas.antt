@@ -1,32 +1,26 @@
 -- A text of the form is read as its lines, group by group.
-use Rattle.std.proofs.Common.{◌≡◌, ◌≢◌, ◌∙◌, ℕ, ◌+◌, ◌<◌, ◌≤◌, zero, suc, List, [], ◌∷◌, ◌++◌, length, map, refl}
+use Rattle.std.proofs.Common.{◌≡◌, ◌≢◌, ◌∙◌, ℕ, ◌+◌, ◌<◌, ◌≤◌, List, [], ◌∷◌, ◌++◌, length, map}
 use Rattle.std.proofs.Common.{sym, ap, subst, inl, inr, arith, Some}
 use Rattle.std.specs.Prelude.{codes, slice_get}
 use Rattle.std.proofs.lemmas.Bool.{cases_lt}
-use Rattle.std.proofs.lemmas.List.{append_cancel_left, length-map, length-append}
+use Rattle.std.proofs.lemmas.List.{append_cancel_left, length-map}
 use Rattle.std.proofs.lemmas.Option.{slice_get_within}
 use Rattle.station_graph.specs.Diagram.{Diagram, IsStation, part_count}
 use Rattle.bay_contract.specs.declared.fork.PartStep.{PartStep}
 use Rattle.bay_contract.specs.declared.fork.Target.{Target}
-use Rattle.bay_contract.specs.declared.fork.Target.TheVariants.{Step, Index}
-use Rattle.equation_text.specs.declared.goal.Goal.{Goal}
-use Rattle.equation_text.specs.declared.goal.Goal.TheVariants.{Node, Answer}
 use Rattle.equation_text.specs.declared.goal.SwitchGoals.{SwitchGoals}
 use Rattle.equation_text.specs.declared.goal.TheConstants.{NUMBERS}
-use Rattle.equation_text.specs.EquationLines.{PartLines, NodeLine, part_node, switch_node, EquationLines, index_count}
-use Rattle.equation_text.specs.EquationForm.{IsTarget, IsLaterTarget, IsGoal, IsLaterGoal}
-use Rattle.equation_text.specs.EquationForm.{NodeLineFits, AreEquations}
-use Rattle.equation_text.specs.EquationText.{step_line, node_line, lines_of, text_of}
-use Rattle.equation_text.specs.Beginnings.{MayBeNode}
-use Rattle.equation_text.specs.Reading.{front_text, start_lines, step_lines, all_step_lines, op_lines, node_lines}
+use Rattle.equation_text.specs.EquationLines.{PartLines, NodeLine, EquationLines, index_count}
+use Rattle.equation_text.specs.EquationForm.{IsTarget}
+use Rattle.equation_text.specs.EquationText.{node_line, lines_of, text_of}
+use Rattle.equation_text.specs.Reading.{front_text, start_lines, all_step_lines, op_lines, node_lines}
 use Rattle.equation_text.specs.Reading.{MayBeStarts, MayBeSteps, MayBeOps, MayBeNodes, NoStep, AreAllSteps}
-use Rattle.equation_text.specs.ReadText.{MayBeParts}
-use Rattle.equation_text.proofs.TurnLemmas.{mapped, unmapped}
-use Rattle.equation_text.proofs.GroupLemmas.{text_one, lines_from, once, next}
+use Rattle.equation_text.proofs.TurnLemmas.{unmapped}
+use Rattle.equation_text.proofs.GroupLemmas.{text_one, once, next}
 use Rattle.equation_text.proofs.OnceLemmas.{any_target}
 use Rattle.equation_text.proofs.ReadLemmas.{start_of, StartFits, start_one, ops_of, OpFits, op_one}
 use Rattle.equation_text.proofs.ReadLemmas.{node_of, whole_groups}
-use Rattle.equation_text.proofs.StepsLemmas.{StepIs, part_steps, parts_once}
+use Rattle.equation_text.proofs.StepsLemmas.{StepIs, parts_once}
 use Rattle.equation_text.proofs.ReadLoops.{starts_fit, ops_fit, NodeIs, nodes_one, nodes_fit}
 use Rattle.equation_text.specs.Faults.{AreFormed}
 

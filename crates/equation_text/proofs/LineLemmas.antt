@@ -1,10 +1,9 @@
 -- The lines of a text, one by one.
-use Rattle.std.proofs.Common.{◌≡◌, ◌≢◌, ◌∙◌, ◌⊎◌, ℕ, ◌+◌, suc, List, [], ◌∷◌, ◌++◌, length, refl, sym, ap, subst}
-use Rattle.std.proofs.Common.{inl, inr, arith, append_assoc}
-use Rattle.std.specs.Prelude.{codes}
+use Rattle.std.proofs.Common.{◌≡◌, ◌∙◌, ◌⊎◌, ℕ, List, [], ◌∷◌, ◌++◌, refl, sym, ap, subst}
+use Rattle.std.proofs.Common.{inl, inr, append_assoc}
 use Rattle.equation_text.specs.Words.{Lacks}
-use Rattle.equation_text.specs.Faults.{IsWhole, HasLine, IsLine}
-use Rattle.equation_text.proofs.WordLemmas.{not_cut, cut_once}
+use Rattle.equation_text.specs.Faults.{IsWhole, HasLine}
+use Rattle.equation_text.proofs.WordLemmas.{not_cut}
 use Rattle.equation_text.proofs.WholeText.{whole_line, whole_more}
 
 -- a line that begins as a text without LF does

@@ -11,9 +11,7 @@ use Rattle.bay_contract.specs.declared.fork.Target.TheVariants.{Step}
 use Rattle.equation_text.specs.declared.goal.Goal.{Goal}
 use Rattle.equation_text.specs.declared.goal.Goal.TheVariants.{Node}
 use Rattle.equation_text.specs.declared.goal.SwitchGoals.{SwitchGoals}
-use Rattle.equation_text.specs.declared.goal.TheConstants.{NUMBERS}
 use Rattle.equation_text.specs.EquationLines.{PartLines, part_node, switch_node, goal_towards}
-use Rattle.equation_text.specs.EquationForm.{IsTarget, IsGoal}
 use Rattle.equation_text.specs.EquationText.{then_word, then_number, target_text, goal_text, part_line, step_line}
 use Rattle.equation_text.specs.EquationText.{op_line, node_line}
 use Rattle.equation_text.specs.Words.{Lacks}

@@ -1,5 +1,5 @@
 -- Where the reading of a group stops, the next line cannot stand.
-use Rattle.std.proofs.Common.{◌≡◌, ◌≢◌, ◌∙◌, ◌⊎◌, ℕ, ◌+◌, ◌<◌, ◌≤◌, List, [], ◌∷◌, ◌++◌, length, map, refl, sym}
+use Rattle.std.proofs.Common.{◌≡◌, ◌≢◌, ◌∙◌, ℕ, ◌+◌, ◌<◌, ◌≤◌, List, [], ◌∷◌, ◌++◌, length, map, refl, sym}
 use Rattle.std.proofs.Common.{ap, subst, inl, inr, arith, append_assoc, append-nil, None}
 use Rattle.std.specs.Prelude.{codes}
 use Rattle.std.proofs.lemmas.List.{append_cancel_left, length-map, length_push}
@@ -12,7 +12,7 @@ use Rattle.equation_text.specs.declared.goal.TheConstants.{NUMBERS}
 use Rattle.equation_text.specs.EquationLines.{PartLines, NodeLine, EquationLines, index_count}
 use Rattle.equation_text.specs.EquationText.{part_line, step_line, op_line, node_line, lines_of, text_of}
 use Rattle.equation_text.specs.Reading.{front_text, start_lines, all_step_lines, op_lines, node_lines}
-use Rattle.equation_text.specs.Reading.{MayBeStarts, MayBeOps, MayBeNodes, NoStep, AreAllSteps}
+use Rattle.equation_text.specs.Reading.{MayBeStarts, MayBeOps, MayBeNodes, AreAllSteps}
 use Rattle.equation_text.specs.ReadText.{MayBeParts}
 use Rattle.equation_text.specs.Faults.{IsWhole, AreFormed, Begins}
 use Rattle.equation_text.specs.Stops.{StopsIn, StopsAtStart, StopsBetween, NoOp, StopsAtOps, StopsAtNode, StopsWrong}

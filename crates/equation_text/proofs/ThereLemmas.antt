@@ -1,7 +1,7 @@
 -- Where no line names what none defines, each number is that of a step or node that is there.
 use Rattle.std.proofs.Common.{◌≡◌, ◌≢◌, ◌∙◌, ◌⊎◌, ℕ, ◌+◌, ◌<◌, ◌≤◌, ◌^◌, zero, suc, List, [], ◌∷◌, ◌++◌, length, map}
 use Rattle.std.proofs.Common.{refl}
-use Rattle.std.proofs.Common.{sym, ap, subst, inl, inr, arith, Some, append_assoc}
+use Rattle.std.proofs.Common.{sym, ap, subst, inl, inr, arith, Some}
 use Rattle.std.specs.Prelude.{codes, decimal, slice_get}
 use Rattle.std.proofs.lemmas.Bool.{cases_lt}
 use Rattle.std.proofs.lemmas.List.{append_cancel_left, length-map}
@@ -20,10 +20,10 @@ use Rattle.equation_text.specs.EquationForm.{IsTarget, IsLaterGoal, IsGoal, goal
 use Rattle.equation_text.specs.EquationText.{part_line, step_line, op_line, node_line, lines_of, text_of}
 use Rattle.equation_text.specs.Words.{Lacks}
 use Rattle.equation_text.specs.Beginnings.{MayBeNode, test_text, goals_text}
-use Rattle.equation_text.specs.Reading.{front_text, start_lines, step_lines, all_step_lines, op_lines, node_lines}
+use Rattle.equation_text.specs.Reading.{front_text, start_lines, all_step_lines, op_lines, node_lines}
 use Rattle.equation_text.specs.Defined.{AreThere}
-use Rattle.equation_text.specs.Faults.{Entry, step_of, node_of, head_of, IsWhole, HasLine, IsDefined, IsLine, Names}
-use Rattle.equation_text.specs.Faults.{AreFormed, HasUndefined, feeds}
+use Rattle.equation_text.specs.Faults.{Entry, step_of, node_of, head_of, IsDefined, Names}
+use Rattle.equation_text.specs.Faults.{AreFormed, feeds}
 use Rattle.equation_text.specs.Entries.{IsSmall, NoneWithout}
 use Rattle.equation_text.proofs.TurnLemmas.{mapped}
 use Rattle.equation_text.proofs.WordLemmas.{lacks_by}
@@ -33,12 +33,11 @@ use Rattle.equation_text.proofs.StepFits.{may_lacks}
 use Rattle.equation_text.proofs.ReadLemmas.{start_of, ops_of, node_of as lines_of_node}
 use Rattle.equation_text.proofs.ReadLoops.{part_of, writable}
 use Rattle.equation_text.proofs.StepsLemmas.{part_steps}
-use Rattle.equation_text.proofs.GroupLemmas.{lines_from}
 use Rattle.equation_text.proofs.FormedLemmas.{groups, starts, at_starts, at_steps, at_ops, at_end, starts_may}
 use Rattle.equation_text.proofs.WholeText.{whole_line, whole_text}
 use Rattle.equation_text.proofs.EntryLemmas.{step_head, node_head, head_lacks, first_number}
 use Rattle.equation_text.proofs.LineLemmas.{last_only, line_split}
-use Rattle.equation_text.proofs.AmongLemmas.{Among, EntryOf, entry_of, only_one, among_or_later, Stands, stands_after}
+use Rattle.equation_text.proofs.AmongLemmas.{Among, entry_of, only_one, among_or_later, Stands, stands_after}
 use Rattle.equation_text.proofs.AmongLemmas.{stands_before, stands_line, stands_first, stands_in}
 use Rattle.equation_text.proofs.NamedLemmas.{start_names, off_names, on_names, goal_names, part_node_names}
 use Rattle.equation_text.proofs.NamedLemmas.{switch_node_names}

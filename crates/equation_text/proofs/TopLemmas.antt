@@ -1,12 +1,9 @@
 -- A text of the form is read as its lines.
-use Rattle.std.proofs.Common.{◌≡◌, ◌≢◌, ◌∙◌, ℕ, ◌+◌, ◌<◌, ◌≤◌, zero, suc, List, [], ◌∷◌, ◌++◌, length, map, refl}
-use Rattle.std.proofs.Common.{sym, ap, subst, inl, inr, arith, Some}
+use Rattle.std.proofs.Common.{◌≡◌, ◌∙◌, ℕ, ◌+◌, ◌≤◌, zero, suc, List, [], ◌∷◌, ◌++◌, length, map, refl}
+use Rattle.std.proofs.Common.{sym, ap, subst, arith, Some}
 use Rattle.std.specs.Prelude.{codes, slice_get}
-use Rattle.std.proofs.lemmas.Bool.{cases_lt}
-use Rattle.std.proofs.lemmas.List.{append_cancel_left, length-map, length-append}
-use Rattle.std.proofs.lemmas.Option.{slice_get_within}
+use Rattle.std.proofs.lemmas.List.{length-map, length-append}
 use Rattle.station_graph.specs.Diagram.{Diagram, IsStation, part_count}
-use Rattle.bay_contract.specs.declared.fork.PartStep.{PartStep}
 use Rattle.bay_contract.specs.declared.fork.Target.{Target}
 use Rattle.bay_contract.specs.declared.fork.Target.TheVariants.{Step, Index}
 use Rattle.equation_text.specs.declared.goal.Goal.{Goal}
@@ -19,15 +16,12 @@ use Rattle.equation_text.specs.EquationForm.{NodeLineFits, AreEquations}
 use Rattle.equation_text.specs.EquationText.{step_line, node_line, lines_of, text_of}
 use Rattle.equation_text.specs.Beginnings.{MayBeNode}
 use Rattle.equation_text.specs.Reading.{front_text, start_lines, step_lines, all_step_lines, op_lines, node_lines}
-use Rattle.equation_text.specs.Reading.{MayBeStarts, MayBeOps, MayBeNodes, NoStep, AreAllSteps}
+use Rattle.equation_text.specs.Reading.{MayBeStarts, MayBeOps, MayBeNodes, AreAllSteps}
 use Rattle.equation_text.specs.ReadText.{MayBeParts}
-use Rattle.equation_text.proofs.TurnLemmas.{mapped, unmapped}
-use Rattle.equation_text.proofs.GroupLemmas.{text_one, lines_from, once, next}
-use Rattle.equation_text.proofs.OnceLemmas.{any_target}
-use Rattle.equation_text.proofs.ReadLemmas.{start_of, StartFits, start_one, ops_of, OpFits, op_one}
-use Rattle.equation_text.proofs.ReadLemmas.{node_of, whole_groups}
-use Rattle.equation_text.proofs.StepsLemmas.{StepIs, part_steps, parts_once}
-use Rattle.equation_text.proofs.ReadLoops.{starts_fit, ops_fit, NodeIs, nodes_one, nodes_fit}
+use Rattle.equation_text.proofs.TurnLemmas.{mapped}
+use Rattle.equation_text.proofs.GroupLemmas.{lines_from}
+use Rattle.equation_text.proofs.ReadLemmas.{whole_groups}
+use Rattle.equation_text.proofs.StepsLemmas.{part_steps}
 use Rattle.equation_text.specs.Faults.{AreFormed}
 
 -- a text has no fewer bytes than lines

@@ -1,8 +1,7 @@
 -- Whole lines, and texts that begin with the same lines.
-use Rattle.std.proofs.Common.{◌≡◌, ◌∙◌, ◌⊎◌, ℕ, ◌+◌, zero, suc, List, [], ◌∷◌, ◌++◌, length, refl, sym}
-use Rattle.std.proofs.Common.{ap, subst, arith, inl, inr, append-nil, append_assoc}
+use Rattle.std.proofs.Common.{◌≡◌, ◌∙◌, ℕ, List, [], ◌∷◌, ◌++◌, refl, sym}
+use Rattle.std.proofs.Common.{ap, subst, inl, inr, append-nil, append_assoc}
 use Rattle.std.specs.Prelude.{codes}
-use Rattle.std.proofs.lemmas.List.{append_cancel_left}
 use Rattle.station_graph.specs.Diagram.{Diagram}
 use Rattle.equation_text.specs.EquationLines.{EquationLines}
 use Rattle.equation_text.specs.EquationText.{switch_line, numbered, lines_of, text_of}

@@ -1,5 +1,4 @@
-use Rattle.std.proofs.Common.{◌≡◌, ◌∙◌, List, ℕ, [], map, length, sym, ap, subst}
-use Rattle.station_graph.specs.Diagram.{part_count}
+use Rattle.std.proofs.Common.{◌≡◌, ◌∙◌, List, ℕ, map, length, ap, subst}
 use Rattle.bay_contract.specs.declared.fork.Target.{Target}
 use Rattle.equation_text.specs.EquationLines.{PartLines, index_count}
 use Rattle.equation_text.specs.Reading.{MayBeStarts, MayBeOps, MayBeNodes, AreAllSteps}

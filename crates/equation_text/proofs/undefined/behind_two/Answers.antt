@@ -1,5 +1,5 @@
-use Rattle.std.proofs.Common.{◌≡◌, ◌∙◌, ◌++◌, ◌∷◌, List, ℕ, refl, sym}
-use Rattle.equation_text.specs.Faults.{Behind, IsNextWord}
+use Rattle.std.proofs.Common.{◌∙◌, ◌++◌, refl}
+use Rattle.equation_text.specs.Faults.{Behind}
 use Rattle.equation_text.proofs.NumberLemmas.{next_once}
 use Rattle.equation_text.proofs.undefined.behind_two.Goals as goal
 

@@ -1,4 +1,4 @@
-use Rattle.std.proofs.Common.{◌≡◌, ◌∙◌, ◌++◌, ◌∷◌, List, ℕ, sym, subst}
+use Rattle.std.proofs.Common.{◌∙◌, ◌++◌, List, ℕ, sym, subst}
 use Rattle.std.proofs.lemmas.List.{append_cancel_left}
 use Rattle.text_lines.specs.Decimals.{IsDecimal}
 use Rattle.equation_text.specs.Faults.{IsNextWord}

@@ -1,4 +1,4 @@
-use Rattle.std.proofs.Common.{◌≡◌, ◌∙◌, ◌++◌, ◌∷◌, List, ℕ, ap}
+use Rattle.std.proofs.Common.{◌∙◌, ◌∷◌, List, ℕ, ap}
 use Rattle.equation_text.proofs.undefined.next_word.Goals as goal
 
 pub returns-in_default-clause-none : goal.returns-in_default-clause-none
