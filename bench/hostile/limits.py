@@ -100,6 +100,7 @@ def cases():
     yield "check: an alphabet of 128", ["check", "a", "b"], {"a": earthing(7), "b": ""}, b"", 0
     yield "check: an alphabet of 256", ["check", "a", "b"], {"a": earthing(8), "b": ""}, b"", 5
     yield "check: a bay of 4,200,000 edges", ["check", "a", "b"], {"a": paired((5, 6, 5)), "b": ""}, b"", None
+    yield "check: eight bays in pairs, the widest seen to be taken", ["check", "a", "b"], {"a": paired((5, 5, 5, 2)), "b": ""}, b"", 0
     yield "check: a bay past 8,000,000 edges", ["check", "a", "b"], {"a": paired((7, 7, 7)), "b": ""}, b"", 5
     for name, text, status in (
         ("8 MiB of blank lines", filled("", "\n", ""), 0),

@@ -14,8 +14,8 @@ malloc. For N = 1, 2, 3 .. up to the last allocation of a run:
 The whole text is what a run with ample memory writes; that of `check` is worked by hand below. The station is a busbar
 with two feeders of a disconnector and an infeed each, both on. `stored` begins with a file that stands for a record
 (`stored-anew`: with none), and the file that a run leaves must stand for the record after some number of the lines, as
-`node` tells it, no fewer than those of whose text a byte was written. Where memory for the name of a new file is refused,
-that file is not made, which is status 4. Four runs are made at a time.
+`node` tells it, no fewer than those of whose text a byte was written. Four runs
+are made at a time.
 """
 import collections
 import multiprocessing
@@ -34,7 +34,6 @@ sys.path.insert(0, str(TOP / "examples"))
 from stored_stops import RECORD, SIZE, SLOT, looked_at, record_of
 
 LINE = b"interlock: out of memory\n"
-UNMADE = (4, b"", b"interlock: write fault\n")
 PROGRAM = TOP / "crates/interlock/out/interlock"
 SECONDS, PART = 60, 50
 SWITCHES = {f"S/V1/{name}/{switch}": "on" for name in ("Q1", "Q2") for switch in ("QB1", "E1")}
@@ -172,8 +171,8 @@ def begin(name, library):
 
 
 def how(sweep, n, ended, left):
-    """How a run with a refused allocation ended: for want of memory, with a file that could not be made, or well, as with
-    ample memory. The file of a stored session must stand for a record that its text allows."""
+    """How a run with a refused allocation ended: for want of memory, or well, as with ample memory. The file of a stored
+    session must stand for a record that its text allows."""
     where = f"{sweep.name}, allocation {n}"
     if sweep.told:
         try:
@@ -182,8 +181,6 @@ def how(sweep, n, ended, left):
             raise Wrong(str(end)) from None
     if ended[:3] == sweep.whole[:3]:
         return "well"
-    if sweep.name == "stored-anew" and ended[:3] == UNMADE and left is None:
-        return "unmade"
     if ended.status != 8 or ended.err != LINE or not sweep.whole.out.startswith(ended.out):
         raise Wrong(f"{where}: status {ended.status}\n{ended.out}\n{ended.err}")
     return "wanting"
@@ -212,9 +209,8 @@ def swept(pool, name, library):
     sweep = pool.apply(begin, (name, library))
     parts = [(sweep, range(first, min(first + PART, sweep.count + 1))) for first in range(1, sweep.count + 1, PART)]
     ends = sum(pool.starmap(part, parts, chunksize=1), collections.Counter())
-    unmade = f"; for {ends['unmade']} the file is not made, status 4" if ends["unmade"] else ""
     print(f"{name:14} {sweep.count:6} allocations: refused from each on, status 8, its line and a front of the text; each", end="")
-    print(f" alone, the same for {ends['wanting']}, and for {ends['well']} the library asks again{unmade}", flush=True)
+    print(f" alone, the same for {ends['wanting']}, and for {ends['well']} the library asks again", flush=True)
 
 
 def main(names):
