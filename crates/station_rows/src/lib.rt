@@ -17,5 +17,3 @@ mod limits;
 mod readers;
 #[cfg(test)]
 mod renamed;
-#[cfg(test)]
-mod selected;
