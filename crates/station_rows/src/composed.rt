@@ -145,15 +145,6 @@ pub(crate) fn contraction_of(
     with_taps(alloc, station, items, links)
 }
 
-// The nodes of these numbers.
-pub(crate) fn nodes_of(alloc: Global, numbers: &[u16]) -> Result<NodeList, Memory> {
-    let mut list = NodeList::with_capacity(alloc, numbers.len())?;
-    for number in numbers {
-        list.push(NodeId(*number))?;
-    }
-    Ok(list)
-}
-
 // The contraction of the same items on these nodes.
 fn on_nodes(
     rt: &impl Abort,
@@ -161,7 +152,10 @@ fn on_nodes(
     value: &Contraction,
     nodes: &[u16],
 ) -> Result<Contraction, Memory> {
-    let list = nodes_of(alloc, nodes)?;
+    let mut list = NodeList::new(alloc);
+    for node in nodes {
+        list.push(NodeId(*node))?;
+    }
     assert!(rt; value.keeps_all(&list));
     value.keep_only(alloc, &list)
 }
