@@ -15,5 +15,3 @@ mod ends;
 mod limits;
 #[cfg(test)]
 mod readers;
-#[cfg(test)]
-mod renamed;
