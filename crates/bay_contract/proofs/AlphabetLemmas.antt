@@ -14,7 +14,7 @@ use Rattle.contraction.specs.Stands.{StandsFor}
 use Rattle.contraction.proofs.ItemSets.{stands_over}
 use Rattle.bay_contract.specs.declared.fork.Fork.{Fork}
 use Rattle.bay_contract.specs.Layers.{OfLayer, IsBase, IsKept, digit, rank, bits}
-use Rattle.bay_contract.specs.Diagrams.{Goes, LeadsTo}
+use Rattle.bay_contract.specs.Diagrams.{ForkGoes, ForksLeadTo}
 use Rattle.bay_contract.specs.Sorting.{KeepsAt}
 use Rattle.bay_contract.specs.Building.{IsLayer, AreExamples, IsBuilt}
 use Rattle.std.proofs.lemmas.Bool.{cases_lt, cases_eq}
@@ -48,15 +48,15 @@ layer_zero d part first count c are is kept stands =
         index = 0;
         value = c;
         listed = refl;
-        leads = linked_self (Goes [] v) 0;
+        leads = linked_self (ForkGoes [] v) 0;
         stands = subst (λ n. StandsFor (OfLayer d part n) d v c) e (stands_over (IsBase d part)
             (OfLayer d part first) d v c (base_over d part first count are) (stands v));
         least = omega arith;
       };
       ranks_count = refl;
       rises = λ j k lt in_k. absurd (omega arith);
-      ranked = λ i lt v vec r. (let here : 0 ≡ i = omega arith in subst (λ n. LeadsTo [] v n) here (linked_self
-          (Goes [] v) 0));
+      ranked = λ i lt v vec r. (let here : 0 ≡ i = omega arith in subst (λ n. ForksLeadTo [] v n) here (linked_self
+          (ForkGoes [] v) 0));
       rank_in = λ i lt. let here : i ≡ 0 = omega arith in let zero_at : slice_index (0 ∷ []) i ≡ 0 = ap (slice_index
           (0 ∷ [])) here in (
             replicate (length d.switches) false,
@@ -81,14 +81,14 @@ pub alphabet_from_layer : (d : Diagram) (part first count : ℕ) (values : List 
     → length values ≤ 255 → IsBuilt d part first count values examples forks
 alphabet_from_layer d part first count values ranks examples forks are h ex ex_len some few =
     let in_ranks : (i : ℕ) → i < length values → i < length ranks = λ i lt. omega (arith, h.ranks_count) in
-    let index_in : (v : List Bool) → IsVector d v → (i : ℕ) → LeadsTo forks v i → i < length values = λ v vec i l.
+    let index_in : (v : List Bool) → IsVector d v → (i : ℕ) → ForksLeadTo forks v i → i < length values = λ v vec i l.
     let s = h.stops v vec in
     let e = leads_one forks v i s.index l s.leads in
     omega (arith, slice_get_within values s.index s.value s.listed) in
     let to_rank : (i : ℕ) (v : List Bool) → i < length values → IsVector d v
     → bits first count v ≡ slice_index examples i → rank first count v ≡ slice_index ranks i = λ i v lt vec b.
     (ex i v (in_ranks i lt) vec).1 b in
-    let standing : (v : List Bool) (i : ℕ) (c : Answers) → IsVector d v → LeadsTo forks v i
+    let standing : (v : List Bool) (i : ℕ) (c : Answers) → IsVector d v → ForksLeadTo forks v i
     → slice_get values i ≡ Some c → StandsFor (OfPart d part) d v c = λ v i c vec l at.
     let s = h.stops v vec in
     let e : s.index ≡ i = leads_one forks v s.index i s.leads l in

@@ -8,7 +8,7 @@ use Rattle.station_graph.specs.Alike.{IsVector, Alike, SamePositions, DifferInPa
 use Rattle.contraction.specs.Answers.{Answers, Keeps, SameGap, SameLoad}
 use Rattle.contraction.specs.Stands.{StandsFor}
 use Rattle.contraction.proofs.ViewLemmas.{gap_told, load_told}
-use Rattle.bay_contract.specs.Diagrams.{LeadsTo}
+use Rattle.bay_contract.specs.Diagrams.{ForksLeadTo}
 use Rattle.bay_contract.specs.Counting.{AreStepSizes}
 use Rattle.bay_contract.specs.Building.{IsBuiltFor}
 use Rattle.bay_contract.specs.PartAlphabets.{Alphabets, part_at, letters_of, size_of, forks_of, first_switch_of}
@@ -105,16 +105,16 @@ module _ (d : Diagram) (a : Alphabets) (part : ℕ) (b : IsBuiltFor d part (part
     apart = b.built.apart;
   }
 
-  index_led : (v : List Bool) (i : ℕ) → IsVector d v → i < size_of a part → LeadsTo (forks_of a part) v i
+  index_led : (v : List Bool) (i : ℕ) → IsVector d v → i < size_of a part → ForksLeadTo (forks_of a part) v i
       → HasIndex d a part i v
   index_led v i vec lt l =
       let (c, at) = some_at (letters_of a part) i lt in
       record { letter = c; listed = at; stands = b.built.stands v i c vec l at }
 
-  leads_exactly : (v : List Bool) (i : ℕ) → IsVector d v → HasIndex d a part i v ↔ LeadsTo (forks_of a part) v i
+  leads_exactly : (v : List Bool) (i : ℕ) → IsVector d v → HasIndex d a part i v ↔ ForksLeadTo (forks_of a part) v i
   leads_exactly v i vec =
       let (k, lt, l) = b.built.leads v vec in (
-        λ h. subst (λ n. LeadsTo (forks_of a part) v n) (one_index d a part are_letters v k i
+        λ h. subst (λ n. ForksLeadTo (forks_of a part) v n) (one_index d a part are_letters v k i
             (index_led v k vec lt l) h) l,
         λ g. index_led v i vec (subst (λ n. n < size_of a part) (b.built.one v k i l g) lt) g,
       )

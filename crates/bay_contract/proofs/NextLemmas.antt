@@ -19,7 +19,7 @@ use Rattle.contraction.specs.Stands.{StandsFor}
 use Rattle.contraction.proofs.MarkLemmas.{slice_get-set_same}
 use Rattle.bay_contract.specs.declared.fork.Fork.{Fork}
 use Rattle.bay_contract.specs.Layers.{OfLayer, digit, rank}
-use Rattle.bay_contract.specs.Diagrams.{branch, Goes, LeadsTo, ForkFits, ForksFit, AreStaged}
+use Rattle.bay_contract.specs.Diagrams.{branch, ForkGoes, ForksLeadTo, ForkFits, ForksFit, AreStaged}
 use Rattle.bay_contract.specs.Sorting.{AllKeepAt, IsSorted}
 use Rattle.bay_contract.specs.Building.{Stops, IsLayer, Forked, Ranked}
 use Rattle.bay_contract.proofs.RankLemmas.{digit_small, digit_of, rank_set, rank_below}
@@ -72,19 +72,20 @@ module _ (d : Diagram) (part first j : ℕ) (own : OfPart d part (a_switch (firs
   branch_to i true = refl
   branch_to i false = ap (λ n. length more + slice_index targets n) (omega arith)
 
-  step_leads : (v : List Bool) (i : ℕ) → i < length values → LeadsTo forks v i → (b : Bool)
-      → slice_get v (first + j) ≡ Some b → LeadsTo more v (slice_index targets (2 * i + digit (Some b)))
+  step_leads : (v : List Bool) (i : ℕ) → i < length values → ForksLeadTo forks v i → (b : Bool)
+      → slice_get v (first + j) ≡ Some b → ForksLeadTo more v (slice_index targets (2 * i + digit (Some b)))
   step_leads v i lt leads b at =
       let there = goes_more forks more f.kept v 0 (length forks + i) leads in
-      let step : Goes more v (length forks + i) (length more + slice_index targets (2 * i + digit (Some b))) = record {
+      let step : ForkGoes more v (length forks + i)
+          (length more + slice_index targets (2 * i + digit (Some b))) = record {
         fork = fork_at (first + j) (length more) targets i;
         closed = b;
         listed = f.added i lt;
         position = at;
         to = branch_to i b;
       } in
-      linked_trans (Goes more v) 0 (length forks + i) (length more + slice_index targets (2 * i + digit
-      (Some b))) there (linked_one (Goes more v) (length forks + i) (length more + slice_index targets
+      linked_trans (ForkGoes more v) 0 (length forks + i) (length more + slice_index targets (2 * i + digit
+      (Some b))) there (linked_one (ForkGoes more v) (length forks + i) (length more + slice_index targets
       (2 * i + digit (Some b))) step)
 
   half_place : (i p : ℕ) → p < 2 → (2 * i + p) / 2 ≡ i
@@ -166,7 +167,7 @@ module _ (d : Diagram) (part first j : ℕ) (own : OfPart d part (a_switch (firs
       ]
 
   next_ranked : (i : ℕ) → i < length news → (v : List Bool) → IsVector d v → rank first
-      (j + 1) v ≡ slice_index newranks i → LeadsTo more v i
+      (j + 1) v ≡ slice_index newranks i → ForksLeadTo more v i
   next_ranked i lt v vec e =
       let (b, at) = position_at v vec in
       let o = slice_index origins i in
@@ -179,7 +180,7 @@ module _ (d : Diagram) (part first j : ℕ) (own : OfPart d part (a_switch (firs
       let before = h.ranked (slice_index origins i / 2) (origin_half i lt) v vec r_is in
       let now = step_leads v (slice_index origins i / 2) (origin_half i lt) before b at in
       let place : 2 * (slice_index origins i / 2) + digit (Some b) ≡ slice_index origins i = omega arith in
-      subst (λ n. LeadsTo more v n) (ap (slice_index targets) place ∙ s.origin_leads i lt) now
+      subst (λ n. ForksLeadTo more v n) (ap (slice_index targets) place ∙ s.origin_leads i lt) now
 
   next_rank_in : (i : ℕ) → i < length news → (v : List Bool) × IsVector d v × (rank first
       (j + 1) v ≡ slice_index newranks i)

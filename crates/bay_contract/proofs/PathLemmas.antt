@@ -14,10 +14,10 @@ use Rattle.contraction.proofs.MarkLemmas.{slice_get-set_same}
 use Rattle.double_points.specs.Words.{Agrees}
 use Rattle.bay_contract.specs.declared.fork.Fork.{Fork}
 use Rattle.bay_contract.specs.Layers.{digit, bits}
-use Rattle.bay_contract.specs.Diagrams.{branch, Goes, ForkFits}
+use Rattle.bay_contract.specs.Diagrams.{branch, ForkGoes, ForkFits}
 use Rattle.bay_contract.specs.PartAlphabets.{PartAlphabet}
 use Rattle.bay_contract.specs.Shapes.{IsShaped}
-use Rattle.bay_contract.specs.Paths.{BeginsSo, LeadsHere, MayGo, IsNoted, HasPath, NotesOne, NotesBoth, PathsTo}
+use Rattle.bay_contract.specs.Paths.{BeginsSo, LeadsHere, MayGo, LeadsBack, HasPath, NotesOne, NotesBoth, PathsTo}
 use Rattle.bay_contract.proofs.RankLemmas.{digit_small}
 use Rattle.bay_contract.proofs.NextLemmas.{some_at}
 use Rattle.bay_contract.proofs.AlphabetLemmas.{bits_below, bits_below_more, split, pow_more}
@@ -26,17 +26,19 @@ use Rattle.bay_contract.proofs.PutLemmas.{bits_more}
 pub notes_one : (at position : ℕ) (old : List (Option ℕ)) → at < length old → NotesOne true at position old
     (slice_set old at (Some position))
 notes_one at position old lt =
-    let here : IsNoted (slice_set old at (Some position)) at position = slice_get-set_same old at (Some position) lt in
+    let here : LeadsBack (slice_set old at (Some position)) at position =
+        slice_get-set_same old at (Some position) lt in
     record {
       len = length-set old at (Some position);
       kept = λ t h. elim (cases_eq t at) [
-        | inl e ↦ (position, subst (λ n. IsNoted (slice_set old at (Some position)) n position) (sym e) here)
+        | inl e ↦ (position, subst (λ n. LeadsBack (slice_set old at (Some position)) n position) (sym e) here)
         | inr ne ↦ (h.0, slice_get-set_other old at t (Some position) ne ∙ h.1)
       ];
       added = λ e. (position, here);
       none_else = λ t p h. elim (cases_eq t at) [
         | inl e ↦
-            let there : IsNoted (slice_set old at (Some position)) t position = subst (λ n. IsNoted (slice_set old at
+            let there : LeadsBack (slice_set old at (Some position)) t position =
+                subst (λ n. LeadsBack (slice_set old at
             (Some position)) n position) (sym e) here in
             inr (refl, sym e, cc (there, h))
         | inr ne ↦ inl (sym (slice_get-set_other old at t (Some position) ne) ∙ h)
@@ -128,7 +130,7 @@ module _ (x : PartAlphabet) (words : List Dbpos) (shaped : IsShaped x) (i : ℕ)
             (Some closed)) wide;
         leads = λ v h.
             let b = begins_before l.tested p closed v place l.small h in
-            linked_trans (Goes x.forks v) 0 i t (l.leads v b.0) (linked_one (Goes x.forks v) i t (record {
+            linked_trans (ForkGoes x.forks v) 0 i t (l.leads v b.0) (linked_one (ForkGoes x.forks v) i t (record {
               fork = f;
               closed = closed;
               listed = listed;
@@ -147,7 +149,7 @@ module _ (x : PartAlphabet) (words : List Dbpos) (shaped : IsShaped x) (i : ℕ)
             ];
       })
 
-  pub pass_on : (p bit : ℕ) (paths more : List (Option ℕ)) → IsNoted paths i p → bit ≡ 2 ^ (f.switch.0 - x.first)
+  pub pass_on : (p bit : ℕ) (paths more : List (Option ℕ)) → LeadsBack paths i p → bit ≡ 2 ^ (f.switch.0 - x.first)
       → NotesBoth f words p bit paths more → PathsTo x words i paths → PathsTo x words (i + 1) more
   pass_on p bit paths more here is both h = record {
     len = both.len ∙ h.len;
@@ -199,7 +201,7 @@ room_for x words i p f shaped listed l =
     (inside.0, omega arith, omega (arith, l.small))
 
 pub paths_start : (x : PartAlphabet) (words : List Dbpos) (paths : List (Option ℕ)) → IsShaped x
-    → length paths ≡ length x.forks + length x.letters → ((t p : ℕ) → IsNoted paths t p → ⊥)
+    → length paths ≡ length x.forks + length x.letters → ((t p : ℕ) → LeadsBack paths t p → ⊥)
     → PathsTo x words 0 (slice_set paths 0 (Some 0))
 paths_start x words paths shaped len none =
     let one = notes_one 0 0 paths (omega (arith, shaped.some)) in
@@ -215,7 +217,7 @@ paths_start x words paths shaped len none =
             index = λ past. sym (shaped.staged.none (omega arith));
           };
           small = omega arith;
-          leads = λ v h. linked_self (Goes x.forks v) 0;
+          leads = λ v h. linked_self (ForkGoes x.forks v) 0;
           agrees = λ v h k word b lt. absurd (omega arith);
         }))
       ];
@@ -223,10 +225,10 @@ paths_start x words paths shaped len none =
     }
 
 -- a number without a position
-pub push_none : (paths more : List (Option ℕ)) → more ≡ paths ++ None ∷ [] → ((t p : ℕ) → IsNoted paths t p → ⊥)
-    → (t p : ℕ) → IsNoted more t p → ⊥
+pub push_none : (paths more : List (Option ℕ)) → more ≡ paths ++ None ∷ [] → ((t p : ℕ) → LeadsBack paths t p → ⊥)
+    → (t p : ℕ) → LeadsBack more t p → ⊥
 push_none paths more e none t p m = elim (slice_get-push paths None (Some p) t (subst (λ (l : List
-    (Option ℕ)). IsNoted l t p) e m)) [
+    (Option ℕ)). LeadsBack l t p) e m)) [
       | inl old ↦ none t p old
       | inr new ↦ cc (new.1)
     ]

@@ -3,17 +3,18 @@ use Rattle.std.proofs.Common.{ℕ, Option, None, Some, List, MatchOption, IfSome
 use Rattle.ilk_base.specs.declared.words.Dbpos.{Dbpos}
 use Rattle.station_graph.specs.Diagram.{Diagram}
 use Rattle.bay_contract.specs.PartAlphabets.{Alphabets}
-use Rattle.bay_contract.specs.Alphabets.{CanHave, IsAgreeing, IsPlaced, InSet, IsPossible}
+use Rattle.bay_contract.specs.Alphabets.{CanHave, IsAgreeing, KeepsPosition, InSet, IsPossible}
 
 -- it is a position, where all that are kept are
 pub kept_position : (Position : ℕ → Type 0) (set : List (Option ℕ)) (i : ℕ) (o : Option ℕ)
-    → ((k p : ℕ) → IsPlaced set k p → Position p) → MatchOption o (¬ InSet set i) (IsPlaced set i) → IfSome o Position
+    → ((k p : ℕ) → KeepsPosition set k p → Position p) → MatchOption o (¬ InSet set i) (KeepsPosition set i)
+        → IfSome o Position
 kept_position Position set i None are none = tt
 kept_position Position set i (Some p) are at = are i p at
 
 -- it agrees with the words
 pub kept_agreeing : (d : Diagram) (a : Alphabets) (part : ℕ) (words : List Dbpos) (set : List (Option ℕ)) (i : ℕ)
-    (o : Option ℕ) → IsPossible d a part words set → MatchOption o (¬ InSet set i) (IsPlaced set i)
+    (o : Option ℕ) → IsPossible d a part words set → MatchOption o (¬ InSet set i) (KeepsPosition set i)
     → MatchOption o (¬ CanHave d a part words i) (IsAgreeing d a part words i)
 kept_agreeing d a part words set i None is none = λ c. none ((is.exact i).1 c)
 kept_agreeing d a part words set i (Some p) is at = is.placed i p at

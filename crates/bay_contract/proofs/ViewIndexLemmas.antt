@@ -12,7 +12,7 @@ use Rattle.contraction.specs.Stands.{StandsFor}
 use Rattle.contraction.proofs.ViewLemmas.{gap_told, load_told}
 use Rattle.bay_contract.specs.declared.fork.Fork.{Fork}
 use Rattle.bay_contract.specs.Layers.{OfLayer, IsKept, SameLayer}
-use Rattle.bay_contract.specs.Diagrams.{LeadsTo}
+use Rattle.bay_contract.specs.Diagrams.{ForksLeadTo}
 use Rattle.bay_contract.specs.Sorting.{KeepsAt}
 use Rattle.bay_contract.specs.Counting.{AreSoMany}
 use Rattle.bay_contract.specs.Building.{IsLayer}
@@ -44,7 +44,8 @@ views_told d part bound v w x y kx ky sx sy same =
 module _ (d : Diagram) (part first j : ℕ) (values : List Answers) (ranks : List ℕ) (forks : List Fork)
     (h : IsLayer d part first j values ranks forks) where
   -- one index, one view
-  pub same_index : (v w : List Bool) (i : ℕ) → IsVector d v → IsVector d w → LeadsTo forks v i → LeadsTo forks w i
+  pub same_index : (v w : List Bool) (i : ℕ) → IsVector d v → IsVector d w → ForksLeadTo forks v i
+      → ForksLeadTo forks w i
       → SameLayer d part (first + j) v w
   same_index v w i vec_v vec_w lv lw =
       let sv = h.stops v vec_v in
@@ -66,7 +67,8 @@ module _ (d : Diagram) (part first j : ℕ) (values : List Answers) (ranks : Lis
       }
 
   -- one view, one index
-  pub same_view : (v w : List Bool) (i k : ℕ) → IsVector d v → IsVector d w → LeadsTo forks v i → LeadsTo forks w k
+  pub same_view : (v w : List Bool) (i k : ℕ) → IsVector d v → IsVector d w → ForksLeadTo forks v i
+      → ForksLeadTo forks w k
       → SameLayer d part (first + j) v w → i ≡ k
   same_view v w i k vec_v vec_w lv lw same =
       let sv = h.stops v vec_v in
@@ -112,7 +114,7 @@ list_of {X = X} P (suc n) each =
 pub layer_counts : (d : Diagram) (part first j : ℕ) (values : List Answers) (ranks : List ℕ) (forks : List Fork)
     → IsLayer d part first j values ranks forks → AreSoMany d (SameLayer d part (first + j)) (length values)
 layer_counts d part first j values ranks forks h =
-    let (list, len, holds, some) = list_of (λ i v. IsVector d v × LeadsTo forks v i) (length values) (λ i lt. let
+    let (list, len, holds, some) = list_of (λ i v. IsVector d v × ForksLeadTo forks v i) (length values) (λ i lt. let
     (v, vec, r) = h.rank_in i lt in (v, (vec, h.ranked i lt v vec r))) in
     record {
       list = list;

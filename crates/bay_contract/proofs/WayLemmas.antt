@@ -8,11 +8,11 @@ use Rattle.station_graph.specs.Sharing.{OfPart}
 use Rattle.station_graph.specs.Alike.{IsVector}
 use Rattle.station_graph.specs.Diagram.{Diagram}
 use Rattle.double_points.specs.Words.{BayAgrees}
-use Rattle.bay_contract.specs.Diagrams.{Goes}
+use Rattle.bay_contract.specs.Diagrams.{ForkGoes}
 use Rattle.bay_contract.specs.PartAlphabets.{PartAlphabet, Alphabets, part_at, first_switch_of, count_of, StandsAt}
 use Rattle.bay_contract.specs.Shapes.{IsShaped}
-use Rattle.bay_contract.specs.Paths.{BeginsSo, TestedAgree, MayGo, IsNoted, HasPath, PathsTo, MayLead, IsWay}
-use Rattle.bay_contract.specs.Alphabets.{CanHave, IsAgreeing, IsAlphabet, IsPlaced, InSet}
+use Rattle.bay_contract.specs.Paths.{BeginsSo, TestedAgree, MayGo, LeadsBack, HasPath, PathsTo, MayLead, IsWay}
+use Rattle.bay_contract.specs.Alphabets.{CanHave, IsAgreeing, IsAlphabet, KeepsPosition, InSet}
 use Rattle.bay_contract.proofs.NextLemmas.{some_at}
 use Rattle.bay_contract.proofs.PutLemmas.{bits_some}
 
@@ -26,7 +26,7 @@ get_behind (suc n) (x ∷ xs) i =
 module _ (x : PartAlphabet) (words : List Dbpos) (shaped : IsShaped x) (all : length words ≡ x.switches) (paths : List
     (Option ℕ)) (h : PathsTo x words (length x.forks) paths) where
   -- a noted position is a way
-  noted_way : (i p : ℕ) → IsNoted paths (length x.forks + i) p → IsWay x words i p
+  noted_way : (i p : ℕ) → LeadsBack paths (length x.forks + i) p → IsWay x words i p
   noted_way i p n =
       let l = h.sound (length x.forks + i) p n in
       let e : l.tested ≡ x.count = l.before.index (omega arith) in
@@ -39,7 +39,7 @@ module _ (x : PartAlphabet) (words : List Dbpos) (shaped : IsShaped x) (all : le
       }
 
   may_go : (v : List Bool) → length v ≡ x.switches → TestedAgree x words x.count v → (a b : ℕ)
-      → (g : Goes x.forks v a b) → MayGo words g.fork b g.closed
+      → (g : ForkGoes x.forks v a b) → MayGo words g.fork b g.closed
   may_go v whole agree a b g =
       let inside = shaped.staged.inside a g.fork g.listed in
       let (word, told) = some_at words g.fork.switch.0 (omega (arith, shaped.within, inside.1)) in
@@ -53,7 +53,7 @@ module _ (x : PartAlphabet) (words : List Dbpos) (shaped : IsShaped x) (all : le
       }
 
   chain_noted : (v : List Bool) → length v ≡ x.switches → TestedAgree x words x.count v
-      → (a : ℕ) (ns : List ℕ) (b : ℕ) → HasPath paths a → Chain (Goes x.forks v) a ns b → HasPath paths b
+      → (a : ℕ) (ns : List ℕ) (b : ℕ) → HasPath paths a → Chain (ForkGoes x.forks v) a ns b → HasPath paths b
   chain_noted v whole agree a [] b m c = subst (λ n. HasPath paths n) c m
   chain_noted v whole agree a (n ∷ ns) b m c =
       let g = c.0 in
@@ -76,7 +76,7 @@ module _ (x : PartAlphabet) (words : List Dbpos) (shaped : IsShaped x) (all : le
     place_of : (i : ℕ) → slice_get set i ≡ slice_get paths (length x.forks + i)
     place_of i = ap (λ l. slice_get l i) behind ∙ get_behind (length x.forks) paths i
 
-    pub placed_way : (i p : ℕ) → IsPlaced set i p → IsWay x words i p
+    pub placed_way : (i p : ℕ) → KeepsPosition set i p → IsWay x words i p
     placed_way i p at = noted_way i p (sym (place_of i) ∙ at)
 
     pub held_exactly : (i : ℕ) → InSet set i ↔ MayLead x words i

@@ -8,7 +8,7 @@ use Rattle.station_graph.specs.Sharing.{OfPart, IsShared}
 use Rattle.station_graph.specs.Alike.{IsVector}
 use Rattle.contraction.specs.Answers.{Answers, IsContraction, Keeps, SameGap, SameLoad}
 use Rattle.contraction.specs.Stands.{StandsFor}
-use Rattle.bay_contract.specs.Diagrams.{LeadsTo}
+use Rattle.bay_contract.specs.Diagrams.{ForksLeadTo}
 use Rattle.bay_contract.specs.Counting.{AreStepSizes}
 use Rattle.bay_contract.specs.PartAlphabets.{Alphabets, letters_of, size_of, example_of, forks_of, first_switch_of}
 use Rattle.bay_contract.specs.PartAlphabets.{count_of, IsPosition, StandsAt, rank_of}
@@ -47,7 +47,7 @@ pub record IsAlphabet (d : Diagram) (a : Alphabets) (part : ℕ) : Type 0 where
       → StandsAt a part (example_of a part i) v → StandsAt a part (example_of a part k) w
       → rank_of a part v < rank_of a part w
   pub given : (i : ℕ) → i < size_of a part → (v : List Bool) × IsVector d v × StandsAt a part (example_of a part i) v
-  pub leads : (v : List Bool) (i : ℕ) → IsVector d v → HasIndex d a part i v ↔ LeadsTo (forks_of a part) v i
+  pub leads : (v : List Bool) (i : ℕ) → IsVector d v → HasIndex d a part i v ↔ ForksLeadTo (forks_of a part) v i
   pub steps : AreStepSizes d part (length (forks_of a part))
 
 -- Each part of the station has its alphabet.
@@ -70,12 +70,12 @@ pub record IsAgreeing (d : Diagram) (a : Alphabets) (part : ℕ) (words : List D
   pub has : (v : List Bool) → IsVector d v → StandsAt a part n v → HasIndex d a part index v
 
 -- The set keeps this position for the index.
-abbrev pub IsPlaced : List (Option ℕ) → ℕ → ℕ → Type 0
-IsPlaced set index n = slice_get set index ≡ Some (Some n)
+abbrev pub KeepsPosition : List (Option ℕ) → ℕ → ℕ → Type 0
+KeepsPosition set index n = slice_get set index ≡ Some (Some n)
 
 -- The index is in the set: a position is kept for it.
 abbrev pub InSet : List (Option ℕ) → ℕ → Type 0
-InSet set index = (n : ℕ) × IsPlaced set index n
+InSet set index = (n : ℕ) × KeepsPosition set index n
 
 -- The set has a place for each index of the part. In it are exactly those that the part can have by the
 -- words, each with a position that agrees with them.
@@ -83,4 +83,4 @@ pub record IsPossible (d : Diagram) (a : Alphabets) (part : ℕ) (words : List D
     (set : List (Option ℕ)) : Type 0 where
   pub count : length set ≡ size_of a part
   pub exact : (i : ℕ) → InSet set i ↔ CanHave d a part words i
-  pub placed : (i n : ℕ) → IsPlaced set i n → IsAgreeing d a part words i n
+  pub placed : (i n : ℕ) → KeepsPosition set i n → IsAgreeing d a part words i n

@@ -9,7 +9,7 @@ use Rattle.contraction.specs.Answers.{Answers, IsContraction, Keeps}
 use Rattle.contraction.specs.Stands.{StandsFor}
 use Rattle.bay_contract.specs.declared.fork.Fork.{Fork}
 use Rattle.bay_contract.specs.Layers.{OfLayer, rank, bits}
-use Rattle.bay_contract.specs.Diagrams.{LeadsTo, ForksFit, AreStaged}
+use Rattle.bay_contract.specs.Diagrams.{ForksLeadTo, ForksFit, AreStaged}
 use Rattle.bay_contract.specs.PartAlphabets.{PartAlphabet}
 use Rattle.bay_contract.specs.Sorting.{AreApart, AllKeepAt}
 
@@ -19,7 +19,7 @@ pub record Stops (d : Diagram) (part first j : ℕ) (values : List Answers) (ran
   pub index : ℕ
   pub value : Answers
   pub listed : slice_get values index ≡ Some value
-  pub leads : LeadsTo forks v index
+  pub leads : ForksLeadTo forks v index
   pub stands : StandsFor (OfLayer d part (first + j)) d v value
   pub least : slice_index ranks index ≤ rank first j v
 
@@ -32,7 +32,7 @@ pub record IsLayer (d : Diagram) (part first j : ℕ) (values : List Answers) (r
   pub ranks_count : length ranks ≡ length values
   pub rises : Rises ranks
   pub ranked : (i : ℕ) → i < length values → (v : List Bool) → IsVector d v → rank first j v ≡ slice_index ranks i
-      → LeadsTo forks v i
+      → ForksLeadTo forks v i
   pub rank_in : (i : ℕ) → i < length values → (v : List Bool) × IsVector d v × (rank first j v ≡ slice_index ranks i)
   pub fit : ForksFit (length d.switches) (length values) forks
   pub staged : AreStaged first j forks
@@ -70,16 +70,17 @@ pub record IsBuilt (d : Diagram) (part first count : ℕ) (values : List Answers
   pub contractions : (i : ℕ) (c : Answers) → slice_get values i ≡ Some c → IsContraction c
   pub apart : AreApart values
   pub kept : (i : ℕ) (c : Answers) → slice_get values i ≡ Some c → (n : ℕ) → Keeps c.kept n ↔ IsShared d part n
-  pub leads : (v : List Bool) → IsVector d v → (i : ℕ) × (i < length values) × LeadsTo forks v i
-  pub one : (v : List Bool) (i k : ℕ) → LeadsTo forks v i → LeadsTo forks v k → i ≡ k
-  pub stands : (v : List Bool) (i : ℕ) (c : Answers) → IsVector d v → LeadsTo forks v i → slice_get values i ≡ Some c
+  pub leads : (v : List Bool) → IsVector d v → (i : ℕ) × (i < length values) × ForksLeadTo forks v i
+  pub one : (v : List Bool) (i k : ℕ) → ForksLeadTo forks v i → ForksLeadTo forks v k → i ≡ k
+  pub stands : (v : List Bool) (i : ℕ) (c : Answers) → IsVector d v → ForksLeadTo forks v i
+      → slice_get values i ≡ Some c
       → StandsFor (OfPart d part) d v c
   pub examples_count : length examples ≡ length values
   pub example_some : (i : ℕ) → i < length values → (v : List Bool) × IsVector d v
       × (bits first count v ≡ slice_index examples i)
   pub example : (i : ℕ) (v : List Bool) → i < length values → IsVector d v
-      → bits first count v ≡ slice_index examples i → LeadsTo forks v i
-  pub least : (i : ℕ) (v w : List Bool) → IsVector d v → IsVector d w → LeadsTo forks v i
+      → bits first count v ≡ slice_index examples i → ForksLeadTo forks v i
+  pub least : (i : ℕ) (v w : List Bool) → IsVector d v → IsVector d w → ForksLeadTo forks v i
       → bits first count w ≡ slice_index examples i → rank first count w ≤ rank first count v
   pub ordered : (i k : ℕ) (v w : List Bool) → i < k → k < length values → IsVector d v → IsVector d w
       → bits first count v ≡ slice_index examples i → bits first count w ≡ slice_index examples k

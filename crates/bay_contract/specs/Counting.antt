@@ -11,7 +11,7 @@ pub record AreDistinct (d : Diagram) (Same : List Bool → List Bool → Type 0)
   pub apart : (i k : ℕ) (v w : List Bool) → slice_get list i ≡ Some v → slice_get list k ≡ Some w → Same v w → i ≡ k
 
 -- An entry of the list is the same as the vector.
-pub record HasSame (Same : List Bool → List Bool → Type 0) (list : List (List Bool)) (v : List Bool) : Type 0 where
+pub record HasEntry (Same : List Bool → List Bool → Type 0) (list : List (List Bool)) (v : List Bool) : Type 0 where
   pub place : ℕ
   pub entry : List Bool
   pub listed : slice_get list place ≡ Some entry
@@ -22,7 +22,7 @@ pub record HasSame (Same : List Bool → List Bool → Type 0) (list : List (Lis
 pub record AreSoMany (d : Diagram) (Same : List Bool → List Bool → Type 0) (n : ℕ) : Type 0 where
   pub list : List (List Bool)
   pub distinct : AreDistinct d Same list
-  pub all : (v : List Bool) → IsVector d v → HasSame Same list v
+  pub all : (v : List Bool) → IsVector d v → HasEntry Same list v
   pub count : length list ≡ n
 
 -- There are more distinct ones than the limit.

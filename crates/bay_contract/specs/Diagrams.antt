@@ -10,7 +10,7 @@ branch f true = f.on
 branch f false = f.off
 
 -- In v the step a leads to b.
-pub record Goes (forks : List Fork) (v : List Bool) (a b : ℕ) : Type 0 where
+pub record ForkGoes (forks : List Fork) (v : List Bool) (a b : ℕ) : Type 0 where
   pub fork : Fork
   pub closed : Bool
   pub listed : slice_get forks a ≡ Some fork
@@ -18,8 +18,8 @@ pub record Goes (forks : List Fork) (v : List Bool) (a b : ℕ) : Type 0 where
   pub to : branch fork closed ≡ b
 
 -- In v the steps lead from the first of them to this index.
-abbrev pub LeadsTo : List Fork → List Bool → ℕ → Type 0
-LeadsTo forks v index = Linked (Goes forks v) 0 (length forks + index)
+abbrev pub ForksLeadTo : List Fork → List Bool → ℕ → Type 0
+ForksLeadTo forks v index = Linked (ForkGoes forks v) 0 (length forks + index)
 
 -- Each step tests one of so many switches, and leads to later steps or to one of so many indices.
 pub record ForkFits (switches steps size at : ℕ) (f : Fork) : Type 0 where

@@ -6,7 +6,7 @@ use Rattle.station_graph.specs.Connection.{Linked}
 use Rattle.double_points.specs.Words.{Agrees}
 use Rattle.bay_contract.specs.declared.fork.Fork.{Fork}
 use Rattle.bay_contract.specs.Layers.{digit, bits}
-use Rattle.bay_contract.specs.Diagrams.{branch, Goes, LeadsTo}
+use Rattle.bay_contract.specs.Diagrams.{branch, ForkGoes, ForksLeadTo}
 use Rattle.bay_contract.specs.PartAlphabets.{PartAlphabet}
 
 -- At this number so many switches of the part are tested: at a step those before its own, at an index
@@ -32,7 +32,7 @@ pub record LeadsHere (x : PartAlphabet) (words : List Dbpos) (number position : 
   pub tested : ℕ
   pub before : AreTested x number tested
   pub small : position < 2 ^ tested
-  pub leads : (v : List Bool) → BeginsSo x tested position v → Linked (Goes x.forks v) 0 number
+  pub leads : (v : List Bool) → BeginsSo x tested position v → Linked (ForkGoes x.forks v) 0 number
   pub agrees : (v : List Bool) → BeginsSo x tested position v → TestedAgree x words tested v
 
 -- The step leads to b in a position that agrees with the word of its switch.
@@ -43,26 +43,26 @@ pub record MayGo (words : List Dbpos) (fork : Fork) (b : ℕ) (closed : Bool) : 
   pub to : branch fork closed ≡ b
 
 -- At this step a position that leads there is noted.
-abbrev pub IsNoted : List (Option ℕ) → ℕ → ℕ → Type 0
-IsNoted paths number position = slice_get paths number ≡ Some (Some position)
+abbrev pub LeadsBack : List (Option ℕ) → ℕ → ℕ → Type 0
+LeadsBack paths number position = slice_get paths number ≡ Some (Some position)
 
 -- At this step some position is noted.
 abbrev pub HasPath : List (Option ℕ) → ℕ → Type 0
-HasPath paths number = (position : ℕ) × IsNoted paths number position
+HasPath paths number = (position : ℕ) × LeadsBack paths number position
 
 -- A position was noted at this number where the answer is yes.
 pub record NotesOne (answer : Bool) (at position : ℕ) (old new : List (Option ℕ)) : Type 0 where
   pub len : length new ≡ length old
   pub kept : (t : ℕ) → HasPath old t → HasPath new t
   pub added : answer ≡ true → HasPath new at
-  pub none_else : (t p : ℕ) → IsNoted new t p → IsNoted old t p ⊎ ((answer ≡ true) × (at ≡ t) × (position ≡ p))
+  pub none_else : (t p : ℕ) → LeadsBack new t p → LeadsBack old t p ⊎ ((answer ≡ true) × (at ≡ t) × (position ≡ p))
 
 -- A position was noted where the step may lead, with one bit more where its switch is closed.
 pub record NotesBoth (fork : Fork) (words : List Dbpos) (position bit : ℕ) (old new : List (Option ℕ)) : Type 0 where
   pub len : length new ≡ length old
   pub kept : (t : ℕ) → HasPath old t → HasPath new t
   pub added : (t : ℕ) (closed : Bool) → MayGo words fork t closed → HasPath new t
-  pub none_else : (t p : ℕ) → IsNoted new t p → IsNoted old t p ⊎ ((closed : Bool) × MayGo words fork t closed
+  pub none_else : (t p : ℕ) → LeadsBack new t p → LeadsBack old t p ⊎ ((closed : Bool) × MayGo words fork t closed
       × (p ≡ position + digit (Some closed) * bit))
 
 -- What is known before a step: each position that is noted leads there and agrees, and from the steps
@@ -70,7 +70,7 @@ pub record NotesBoth (fork : Fork) (words : List Dbpos) (position bit : ℕ) (ol
 pub record PathsTo (x : PartAlphabet) (words : List Dbpos) (at : ℕ) (paths : List (Option ℕ)) : Type 0 where
   pub len : length paths ≡ length x.forks + length x.letters
   pub start : HasPath paths 0
-  pub sound : (t p : ℕ) → IsNoted paths t p → LeadsHere x words t p
+  pub sound : (t p : ℕ) → LeadsBack paths t p → LeadsHere x words t p
   pub done : (a b : ℕ) (f : Fork) (closed : Bool) → a < at → HasPath paths a → slice_get x.forks a ≡ Some f
       → MayGo words f b closed → HasPath paths b
 
@@ -79,10 +79,10 @@ pub record MayLead (x : PartAlphabet) (words : List Dbpos) (index : ℕ) : Type 
   pub vector : List Bool
   pub whole : length vector ≡ x.switches
   pub agrees : TestedAgree x words x.count vector
-  pub leads : LeadsTo x.forks vector index
+  pub leads : ForksLeadTo x.forks vector index
 
 -- Each vector at the position agrees with the words, and is led to this index.
 pub record IsWay (x : PartAlphabet) (words : List Dbpos) (index position : ℕ) : Type 0 where
   pub small : position < 2 ^ x.count
   pub agrees : (v : List Bool) → BeginsSo x x.count position v → TestedAgree x words x.count v
-  pub leads : (v : List Bool) → BeginsSo x x.count position v → LeadsTo x.forks v index
+  pub leads : (v : List Bool) → BeginsSo x x.count position v → ForksLeadTo x.forks v index

@@ -1,8 +1,8 @@
 //! Which indices are possible where words tell of the positions.
 ghost use Rattle.std.specs.Prelude.{◌≡◌, ℕ, ◌+◌, ◌^◌, ◌<◌, ◌≤◌, ◌↔◌, drop, length};
 ghost use Rattle.std.specs.Prelude.{slice_get, IfOk, IsTrue, MatchOption};
-ghost use Rattle.bay_contract.specs.Paths.{NotesOne, NotesBoth, PathsTo, IsNoted, MayLead, IsWay};
-ghost use Rattle.bay_contract.specs.Alphabets.{IsPlaced, InSet};
+ghost use Rattle.bay_contract.specs.Paths.{NotesOne, NotesBoth, PathsTo, LeadsBack, MayLead, IsWay};
+ghost use Rattle.bay_contract.specs.Alphabets.{KeepsPosition, InSet};
 
 use crate::alphabet::Alphabet;
 use crate::fork::Fork;
@@ -30,7 +30,7 @@ impl IndexSet {
     /// The position of the index, as bits: bit i is 1 where switch i of the part is closed; none exactly
     /// where the index is not in the set. At once; takes no memory.
     pub fn position(&self, index: u8) -> Option<u32>
-        ensures { MatchOption result (¬ InSet self.now index) (IsPlaced self.now index) }
+        ensures { MatchOption result (¬ InSet self.now index) (KeepsPosition self.now index) }
     {
         let place = index as usize;
         if place < self.positions.len() {
@@ -76,7 +76,7 @@ fn note_fork(fork: Fork, readings: &Readings, position: u32, bit: u32, paths: &m
 // So many numbers without a position.
 fn unnoted(alloc: Global, count: usize) -> Result<Vec<Option<u32>>, Memory>
     ensures count { IfOk result (λ m. length m.items ≡ count) }
-    ensures bare { IfOk result (λ m. (t p : ℕ) → IsNoted m.items t p → ⊥) }
+    ensures bare { IfOk result (λ m. (t p : ℕ) → LeadsBack m.items t p → ⊥) }
 {
     let mut paths = Vec::new(alloc);
     'numbers: while paths.len() < count {
@@ -133,7 +133,7 @@ impl Alphabet {
         requires { length readings.now ≡ self.now.switches }
         ensures count { IfOk result (λ s. length s ≡ length self.now.letters) }
         ensures exact { IfOk result (λ s. (i : ℕ) → InSet s i ↔ MayLead self.now readings.now i) }
-        ensures placed { IfOk result (λ s. (i p : ℕ) → IsPlaced s i p → IsWay self.now readings.now i p) }
+        ensures placed { IfOk result (λ s. (i p : ℕ) → KeepsPosition s i p → IsWay self.now readings.now i p) }
     {
         let paths = self.paths(alloc, readings)?;
         let set = noted(alloc, &paths, self.forks.len())?;

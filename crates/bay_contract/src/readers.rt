@@ -7,11 +7,11 @@ ghost use Rattle.station_graph.specs.Sharing.{OfPart};
 ghost use Rattle.station_graph.specs.Alike.{IsVector, Alike, DifferInPart};
 ghost use Rattle.contraction.specs.Stands.{StandsFor};
 ghost use Rattle.bay_contract.specs.Counting.{AreStepSizes};
-ghost use Rattle.bay_contract.specs.Diagrams.{LeadsTo};
+ghost use Rattle.bay_contract.specs.Diagrams.{ForksLeadTo};
 ghost use Rattle.bay_contract.specs.Targets.{number_of, IsTargetOf, IsStepAt};
 ghost use Rattle.bay_contract.specs.PartAlphabets.{letters_of, size_of, example_of, forks_of, IsPosition, StandsAt};
 ghost use Rattle.bay_contract.specs.Alphabets.{AreAlphabets, IsLetter, HasIndex, IsExample, CanHave, IsAgreeing};
-ghost use Rattle.bay_contract.specs.Alphabets.{IsPlaced, IsPossible};
+ghost use Rattle.bay_contract.specs.Alphabets.{KeepsPosition, IsPossible};
 
 use crate::fork::{PartStep, Target};
 use crate::parts::Parts;
@@ -71,7 +71,7 @@ impl Parts {
         requires part { part.0 < length self.now.parts }
         requires vector { length vector.now ≡ self.now.switches }
         ensures within { result < size_of self.now part.0 }
-        ensures leads { LeadsTo (forks_of self.now part.0) vector.now result }
+        ensures leads { ForksLeadTo (forks_of self.now part.0) vector.now result }
         ensures has { (d : Diagram) → AreAlphabets d self.now → HasIndex d self.now part.0 result vector.now }
         ensures alike { (d : Diagram) (w : List Bool) (k : ℕ) → AreAlphabets d self.now → IsVector d w
             → HasIndex d self.now part.0 k w → Alike d part.0 vector.now w ↔ (result ≡ k) }
@@ -110,7 +110,7 @@ impl Parts {
         ensures first { number_of (length (forks_of self.now part.0)) result ≡ 0 }
         ensures target { IsTargetOf (length (forks_of self.now part.0)) result }
         ensures leads { (d : Diagram) (v : List Bool) (i : ℕ) → AreAlphabets d self.now → IsVector d v
-            → HasIndex d self.now part.0 i v ↔ LeadsTo (forks_of self.now part.0) v i }
+            → HasIndex d self.now part.0 i v ↔ ForksLeadTo (forks_of self.now part.0) v i }
     {
         self.part(part).start()
     }
@@ -139,7 +139,7 @@ impl Parts {
         requires part { part.0 < length self.now.parts }
         requires readings { length readings.now ≡ self.now.switches }
         ensures count { IfOk result (λ s. length s ≡ size_of self.now part.0) }
-        ensures positions { IfOk result (λ s. (i p : ℕ) → IsPlaced s i p → IsPosition self.now part.0 p) }
+        ensures positions { IfOk result (λ s. (i p : ℕ) → KeepsPosition s i p → IsPosition self.now part.0 p) }
         ensures possible { IfOk result (λ s. (d : Diagram) → AreAlphabets d self.now
             → IsPossible d self.now part.0 readings.now s) }
     {

@@ -2,7 +2,7 @@
 ghost use Rattle.std.specs.Prelude.{◌≡◌, ℕ, ◌+◌, ◌^◌, ◌<◌, ◌≤◌, ◌⊎◌, Some, length, slice_get, slice_index};
 ghost use Rattle.station_graph.specs.Connection.{Linked};
 ghost use Rattle.bay_contract.specs.Layers.{bits};
-ghost use Rattle.bay_contract.specs.Diagrams.{Goes, ForksFit, LeadsTo};
+ghost use Rattle.bay_contract.specs.Diagrams.{ForkGoes, ForksFit, ForksLeadTo};
 ghost use Rattle.bay_contract.specs.Targets.{number_of, IsTargetOf, IsStepAt};
 
 use crate::alphabet::Alphabet;
@@ -16,7 +16,7 @@ fn walk(forks: &[Fork], size: usize, vector: &Vector) -> usize
     requires fit { ForksFit (length vector.now) size forks.now }
     requires some { 0 < size }
     requires few { size ≤ 255 }
-    ensures linked { Linked (Goes forks.now vector.now) 0 result }
+    ensures linked { Linked (ForkGoes forks.now vector.now) 0 result }
     ensures past { length forks.now ≤ result }
     ensures within { result < length forks.now + size }
 {
@@ -90,7 +90,7 @@ impl Alphabet {
     // The index to which the steps lead in the vector. Time: the switches of the part.
     pub(crate) fn index_of(&self, vector: &Vector) -> u8
         requires { length vector.now ≡ self.now.switches }
-        ensures leads { LeadsTo self.now.forks vector.now result }
+        ensures leads { ForksLeadTo self.now.forks vector.now result }
         ensures within { result < length self.now.letters }
     {
         let index = walk(&self.forks, self.letters.len(), vector) - self.forks.len();

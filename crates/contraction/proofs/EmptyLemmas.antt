@@ -7,7 +7,7 @@ use Rattle.station_graph.specs.Connection.{TouchingBy, Linked, LeadsTo, with_bre
 use Rattle.station_graph.proofs.LinkedLemmas.{linked_self}
 use Rattle.contraction.specs.Answers.{Answers, IsAt, Keeps, SameAt, MarkedAt, AreLabels, AreNodes, IsContraction}
 use Rattle.contraction.specs.Stands.{StandsFor, Among}
-use Rattle.contraction.specs.Single.{AreApart}
+use Rattle.contraction.specs.Single.{AreAlone}
 
 no_true : (n k : ℕ) → slice_get (replicate n false) k ≡ Some true → ⊥
 no_true zero k e = cc
@@ -18,7 +18,7 @@ pub length-replicate_false : (n : ℕ) → length (replicate n false) ≡ n
 length-replicate_false zero = refl
 length-replicate_false (suc n) = ap suc (length-replicate_false n)
 
-apart_labels : (n : ℕ) (l : List ℕ) → AreApart n l → AreLabels n l
+apart_labels : (n : ℕ) (l : List ℕ) → AreAlone n l → AreLabels n l
 apart_labels n l h = record {
   len = h.len;
   below = λ k k_in. omega (arith, h.alone k k_in);
@@ -37,8 +37,8 @@ bare_answers kept a b c = record {
   loaded = replicate (length kept) false;
 }
 
-module _ (kept a b c : List ℕ) (ha : AreApart (length kept) a) (hb : AreApart (length kept) b)
-    (hc : AreApart (length kept) c) where
+module _ (kept a b c : List ℕ) (ha : AreAlone (length kept) a) (hb : AreAlone (length kept) b)
+    (hc : AreAlone (length kept) c) where
   pub bare_well : AreNodes kept → IsContraction (bare_answers kept a b c)
   bare_well nodes = record {
     nodes = nodes;
@@ -58,7 +58,7 @@ module _ (kept a b c : List ℕ) (ha : AreApart (length kept) a) (hb : AreApart 
     stays_lead bonds_only u x y [] e = e
     stays_lead bonds_only u x y (z ∷ xs) l = absurd (l.0.among)
 
-    labels_none : (labels : List ℕ) → AreApart (length kept) labels → (bonds_only : Bool) (u : List Bool) (x y : ℕ) →
+    labels_none : (labels : List ℕ) → AreAlone (length kept) labels → (bonds_only : Bool) (u : List Bool) (x y : ℕ) →
         Keeps kept x → Keeps kept y → SameAt kept labels x y ↔ Linked (TouchingBy (Among []) bonds_only d u) x y
     labels_none labels h bonds_only u x y kx ky = (
       λ s.

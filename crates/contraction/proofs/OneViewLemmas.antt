@@ -11,7 +11,7 @@ use Rattle.contraction.specs.declared.layout.Layout.{Layout}
 use Rattle.contraction.specs.declared.value.Contraction.TheInside.{Inside}
 use Rattle.contraction.specs.Answers.{Answers, Keeps, MarkedAt, IsContraction}
 use Rattle.contraction.specs.Inside.{answers_of}
-use Rattle.contraction.specs.Single.{AreApart}
+use Rattle.contraction.specs.Single.{AreAlone}
 use Rattle.contraction.specs.Stands.{Among, MeetsKept, GapStandsFor, LoadStandsFor}
 use Rattle.contraction.specs.Composing.{Composes, ComposesGap, ComposesLoad, Restricts, IsGapOfBoth, IsLoadOfBoth}
 use Rattle.contraction.specs.Composing.{IsGapRowOfBoth, IsLoadRowOfBoth}
@@ -71,7 +71,7 @@ load_twice_well x w = record {
 
 -- A row of no item.
 pub record IsBare (count : ℕ) (row : Row) : Type 0 where
-  pub labels : AreApart count row.labels
+  pub labels : AreAlone count row.labels
   pub first : row.first.items ≡ replicate count false
   pub second : row.second.items ≡ replicate count false
 
@@ -151,7 +151,7 @@ module _ (x y : Inside) (wx : IsContraction (answers_of x)) (wy : IsContraction 
     }
 
     module _ (other : Row) (bonded : List ℕ) (bare : IsBare (length s.kept.items) other)
-        (apart : AreApart (length s.kept.items) bonded) where
+        (apart : AreAlone (length s.kept.items) bonded) where
       abbrev gap_value : Answers
       gap_value = answers_of (record { kept = s.kept; gap = row; load = other; bonded = bonded })
 

@@ -7,7 +7,7 @@ use Rattle.contraction.specs.declared.value.Contraction.TheInside.{Inside}
 use Rattle.contraction.specs.declared.selection.Selection.TheInside.{Inside as Chosen}
 use Rattle.contraction.specs.Answers.{Answers, Keeps, AreLabels, IsContraction}
 use Rattle.contraction.specs.Inside.{answers_of, selected_of, IsLaid}
-use Rattle.contraction.specs.Single.{AreApart}
+use Rattle.contraction.specs.Single.{AreAlone}
 use Rattle.contraction.specs.Merging.{LabelsFit, RowFits}
 use Rattle.contraction.specs.Composing.{IsGapOfBoth, IsLoadOfBoth, IsGapRowOfBoth, IsLoadRowOfBoth}
 use Rattle.contraction.specs.Renaming.{renamed}
@@ -149,7 +149,7 @@ module _ (x y : Inside) (t : Chosen) (sx sy : Answers) (s : Selected) (wx : IsCo
   module _ (inside : (n : ℕ) → Contains s.nodes n → Keeps sx.kept n ⊎ Keeps sy.kept n) (kept : List ℕ)
       (is_kept : kept ≡ t.layout.kept.items) (count : ℕ) (is_count : count ≡ length t.layout.kept.items)
       (row other : Row) (bonded : List ℕ) (bare : IsBare count other) where
-    pub gap_on : RowSelected t.layout x.gap y.gap row → AreApart count bonded →
+    pub gap_on : RowSelected t.layout x.gap y.gap row → AreAlone count bonded →
         IsGapOfBoth s.nodes sx sy
         (renamed kept (answers_of (record { kept = t.layout.kept; gap = row; load = other; bonded = bonded })))
     gap_on h apart =
@@ -159,7 +159,7 @@ module _ (x y : Inside) (t : Chosen) (sx sy : Answers) (s : Selected) (wx : IsCo
         (gap_of_both x y wx wy s.nodes t.layout laid_on
         (inside_seen (answers_of x) (answers_of y) sx sy s.nodes ex ey inside) row h other bonded
         (bare_of (length t.layout.kept.items) count other is_count bare)
-        (subst (λ n. AreApart n bonded) is_count apart)))
+        (subst (λ n. AreAlone n bonded) is_count apart)))
 
     pub load_on : RowSelected t.layout x.load y.load row → LabelsSelected t.layout x.bonded y.bonded bonded →
         IsLoadOfBoth s.nodes sx sy

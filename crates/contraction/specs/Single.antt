@@ -39,6 +39,6 @@ pub record IsSingle (a : ℕ) (energisable earthable fed loaded : Bool) (c : Ans
   pub bonded_is : c.bonded ≡ 0 ∷ []
 
 -- Each place is in a class of its own.
-pub record AreApart (count : ℕ) (labels : List ℕ) : Type 0 where
+pub record AreAlone (count : ℕ) (labels : List ℕ) : Type 0 where
   pub len : length labels ≡ count
   pub alone : (k : ℕ) → k < count → slice_index labels k ≡ k

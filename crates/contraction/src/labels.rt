@@ -2,7 +2,7 @@
 ghost use Rattle.std.specs.Prelude.{◌≡◌, ◌≢◌, ℕ, ◌<◌, ◌≤◌, [], ◌∷◌, if◌then◌else◌, length, slice_index, IfOk};
 ghost use Rattle.contraction.specs.Merging.{LabelsFit, LabelsOfBoth};
 ghost use Rattle.contraction.specs.Restricting.{LabelsRestrict};
-ghost use Rattle.contraction.specs.Single.{AreApart};
+ghost use Rattle.contraction.specs.Single.{AreAlone};
 
 use ilk_base::{Memory, NodeId};
 use station_graph::{Classes, NodeList};
@@ -10,7 +10,7 @@ use std::alloc::Global;
 
 // Each of so many places in a class of its own.
 pub(crate) fn apart(alloc: Global, count: u16) -> Result<NodeList, Memory>
-    ensures { IfOk result (AreApart count) }
+    ensures { IfOk result (AreAlone count) }
 {
     Ok(Classes::alone(alloc, count)?.into_labels())
 }

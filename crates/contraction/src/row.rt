@@ -3,7 +3,7 @@ ghost use Rattle.std.specs.Prelude.{◌≡◌, ℕ, ◌<◌, ◌≤◌, Bool, fa
 ghost use Rattle.std.specs.Prelude.{slice_index, IfOk};
 ghost use Rattle.contraction.specs.Merging.{LabelsFit, RowFits, RowOfBoth};
 ghost use Rattle.contraction.specs.Restricting.{RowRestricts, RowOfBothAt};
-ghost use Rattle.contraction.specs.Single.{AreApart};
+ghost use Rattle.contraction.specs.Single.{AreAlone};
 
 use crate::labels::{apart, labels_at, labels_of_both, one_label, two_labels};
 use crate::marks::{marks_at, marks_of_both};
@@ -25,7 +25,7 @@ pub(crate) struct Row {
 impl Row {
     // Each of so many places alone and without a mark.
     pub(crate) fn bare(alloc: Global, count: u16) -> Result<Row, Memory>
-        ensures labels { IfOk result (λ row. AreApart count row.labels) }
+        ensures labels { IfOk result (λ row. AreAlone count row.labels) }
         ensures first { IfOk result (λ row. row.first.items ≡ replicate count false) }
         ensures second { IfOk result (λ row. row.second.items ≡ replicate count false) }
     {

@@ -4,7 +4,7 @@ use Rattle.std.specs.Prelude.{map}
 use Rattle.std.specs.List.{AllZip}
 use Rattle.station_graph.specs.Diagram.{Diagram}
 use Rattle.equation_audit.specs.declared.condition.Condition.{Condition}
-use Rattle.equation_audit.specs.BlockLines.{Statement, Says, Say, body}
+use Rattle.equation_audit.specs.BlockLines.{Statement, LineSays, Say, body}
 
 -- what stands before the last alternative
 heads : List (List Condition) → List Statement
@@ -71,8 +71,8 @@ AllZip-append R (x ∷ xs) us (y ∷ ys) vs first second = (first.0, AllZip-appe
 
 pub Say-append : (d : Diagram) (xs us : List (ℕ × List ℕ)) (ys vs : List Statement) → Say d xs ys → Say d us vs →
     Say d (xs ++ us) (ys ++ vs)
-Say-append d xs us ys vs first second = AllZip-append (λ line s. Says d line.1 s) xs us ys vs first second
+Say-append d xs us ys vs first second = AllZip-append (λ line s. LineSays d line.1 s) xs us ys vs first second
 
 pub Say-push : (d : Diagram) (xs : List (ℕ × List ℕ)) (line : ℕ × List ℕ) (ys : List Statement) (s : Statement) →
-    Say d xs ys → Says d line.1 s → Say d (xs ++ line ∷ []) (ys ++ s ∷ [])
+    Say d xs ys → LineSays d line.1 s → Say d (xs ++ line ∷ []) (ys ++ s ∷ [])
 Say-push d xs line ys s say says = Say-append d xs (line ∷ []) ys (s ∷ []) say (says, tt)

@@ -13,7 +13,7 @@ use Rattle.operation_lines.specs.declared.operation.LineFault.{LineFault}
 use Rattle.operation_lines.specs.declared.operation.LineFault.TheVariants.{Form, Unknown}
 use Rattle.equation_audit.specs.declared.condition.Condition.{Condition}
 use Rattle.equation_audit.specs.Equations.{Equation, HasFewOwn, IsBroad, is_own, is_among}
-use Rattle.equation_audit.specs.BlockLines.{Statement, Begins, Never, Or, When, End, Says, Say, body, front, whole}
+use Rattle.equation_audit.specs.BlockLines.{Statement, Begins, Never, Or, When, End, LineSays, Say, body, front, whole}
 use Rattle.equation_audit.specs.BlockLines.{HasBlock, OneEach, AllFew, AreBlocks, HasHeadFault, IsOutOfPlace}
 use Rattle.equation_audit.specs.BlockLines.{NamesUnknown, HasBodyFault, HasFaultAfter, begun_lines, IsBlocksFault}
 use Rattle.equation_audit.proofs.OneStatement.{one_operation, one_condition, one_statement, is_condition}
@@ -44,7 +44,7 @@ no_head_fault d differ read e more line number each names (inr (op, other, has, 
 
 -- the line that goes on a body may stand there
 in_place : (d : Diagram) (alts before : List (List Condition)) (s : Statement) (x ts : List Statement) (line : List ℕ) →
-    body alts ++ End ∷ x ≡ body before ++ s ∷ ts → Says d line s → IsOutOfPlace before line → ⊥
+    body alts ++ End ∷ x ≡ body before ++ s ∷ ts → LineSays d line s → IsOutOfPlace before line → ⊥
 in_place d alts before (Begins op) x ts line same says out =
     elim (says_next alts before (Begins op) _ (goes_on alts before (Begins op) x ts refl same)) [
       | inl first ↦ let e = first.1 in absurd (cc)
@@ -69,10 +69,10 @@ in_place d alts before (When c) x ts line same says out =
 in_place d alts before End x ts line same says out = out.no_end says
 
 -- its switch is known
-known : (d : Diagram) (line : List ℕ) (s : Statement) → Says d line s → NamesUnknown d line → ⊥
+known : (d : Diagram) (line : List ℕ) (s : Statement) → LineSays d line s → NamesUnknown d line → ⊥
 known d line s says unknown =
     let is = is_condition d line s says (second_of_condition unknown.closed unknown.path line unknown.written) in
-    let names = subst (Says d line) is.1 says in
+    let names = subst (LineSays d line) is.1 says in
     unknown.unknown (subst (λ (p : List ℕ). Contains d.switch_paths p) (one_condition is.0.closed unknown.closed
     names.path unknown.path line names.written unknown.written).1
     (Contains-from_slice_get d.switch_paths is.0.switch.0 names.path names.named))
@@ -109,7 +109,7 @@ not_broad alts before c zs same few broad =
 no_body_fault : (d : Diagram) → Differ d.switch_paths → (alts before : List (List Condition)) (s : Statement)
     (x ts : List Statement) (line : List ℕ) (number : ℕ) → HasFewOwn alts →
     body alts ++ End ∷ x ≡ body before ++ s ∷ ts →
-    Says d line s → HasBodyFault d before line number → ⊥
+    LineSays d line s → HasBodyFault d before line number → ⊥
 no_body_fault d differ alts before s x ts line number few same says (inl (out, is)) =
     in_place d alts before s x ts line same says out
 no_body_fault d differ alts before s x ts line number few same says (inr (inl (some, unknown, is))) =
@@ -124,16 +124,16 @@ head_of a b xs ys e = cc
 
 head_case : (d : Diagram) → Differ d.switch_paths → (es read : List Equation) (s : Statement) (ts : List Statement)
     (line : List ℕ) (number : ℕ) → OneEach es → (more : List Equation) → es ≡ read ++ more →
-    flat_map whole more ≡ s ∷ ts → Says d line s → HasHeadFault d read line number → ⊥
+    flat_map whole more ≡ s ∷ ts → LineSays d line s → HasHeadFault d read line number → ⊥
 head_case d differ es read s ts line number each [] those same says fault = absurd (cc)
 head_case d differ es read s ts line number each (e ∷ more) those same says fault =
     let first = head_of (Begins e.op) s _ ts (sym (whole-append e (flat_map whole more)) ∙ same) in
     no_head_fault d differ read e more line number (subst OneEach those each)
-    (subst (Says d line) (sym first) says) fault
+    (subst (LineSays d line) (sym first) says) fault
 
 body_case : (d : Diagram) → Differ d.switch_paths → (es read : List Equation) (begun : Equation) (s : Statement)
     (ts : List Statement) (line : List ℕ) (number : ℕ) → AllFew es → (more : List Equation) → es ≡ read ++ more →
-    flat_map whole more ≡ front begun ++ s ∷ ts → Says d line s → HasBodyFault d begun.alternatives line number → ⊥
+    flat_map whole more ≡ front begun ++ s ∷ ts → LineSays d line s → HasBodyFault d begun.alternatives line number → ⊥
 body_case d differ es read begun s ts line number few [] those same says fault = absurd (cc)
 body_case d differ es read begun s ts line number few (e ∷ more) those same says fault =
     let parts = same_begin e.op begun.op _ _ (sym (whole-append e (flat_map whole more)) ∙ same) in

@@ -8,7 +8,8 @@ use Rattle.ilk_base.specs.declared.words.Op.{Op}
 use Rattle.station_graph.specs.Diagram.{Diagram, Differ}
 use Rattle.equation_audit.specs.declared.condition.Condition.{Condition}
 use Rattle.equation_audit.specs.Equations.{Equation, HasFewOwn, is_named, is_own}
-use Rattle.equation_audit.specs.BlockLines.{Statement, Begins, Never, Or, When, End, Says, Say, body, whole, HasBlock}
+use Rattle.equation_audit.specs.BlockLines.{Statement, Begins, Never, Or, When, End, LineSays, Say, body, whole}
+use Rattle.equation_audit.specs.BlockLines.{HasBlock}
 use Rattle.equation_audit.specs.BlockLines.{OneEach, AllFew}
 use Rattle.equation_audit.proofs.OwnLemmas.{or_false}
 use Rattle.equation_audit.proofs.OneStatement.{one_statement}
@@ -195,7 +196,7 @@ pub record SaidNext (d : Diagram) (line : List ℕ) (before all : List Statement
   pub statement : Statement
   pub rest : List Statement
   pub those : all ≡ before ++ statement ∷ rest
-  pub says : Says d line statement
+  pub says : LineSays d line statement
 
 pub said_split : (d : Diagram) → Differ d.switch_paths → (ls : List (ℕ × List ℕ)) (ss : List Statement) → Say d ls ss →
     (line : ℕ × List ℕ) (rest : List (ℕ × List ℕ)) (all : List Statement) → Say d (ls ++ line ∷ rest) all →

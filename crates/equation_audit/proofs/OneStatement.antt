@@ -6,7 +6,7 @@ use Rattle.ilk_base.specs.declared.words.Direction.TheVariants.{ToOff, ToOn}
 use Rattle.station_graph.specs.Diagram.{Diagram, Differ}
 use Rattle.operation_lines.specs.OperationLines.{IsOperationLine}
 use Rattle.equation_audit.specs.declared.condition.Condition.{Condition}
-use Rattle.equation_audit.specs.BlockLines.{Statement, Begins, Never, Or, When, End, IsConditionLine, Says}
+use Rattle.equation_audit.specs.BlockLines.{Statement, Begins, Never, Or, When, End, IsConditionLine, LineSays}
 
 -- a line `open PATH` or `close PATH` is of one direction and of one path
 pub one_operation : (a b : Direction) (p q line : List ℕ) → IsOperationLine a p line → IsOperationLine b q line →
@@ -48,7 +48,7 @@ pub second_of_condition : (a : Bool) (p line : List ℕ) → IsConditionLine a p
 second_of_condition false p line x = ap (λ (l : List ℕ). slice_index l 1) x.is
 second_of_condition true p line x = ap (λ (l : List ℕ). slice_index l 1) x.is
 
-second_of : (d : Diagram) (line : List ℕ) (s : Statement) → Says d line s → slice_index line 1 ≡ second_byte s
+second_of : (d : Diagram) (line : List ℕ) (s : Statement) → LineSays d line s → slice_index line 1 ≡ second_byte s
 second_of d line (Begins op) says = second_of_operation op.direction says.path line says.written
 second_of d line Never says = ap (λ (l : List ℕ). slice_index l 1) says
 second_of d line Or says = ap (λ (l : List ℕ). slice_index l 1) says
@@ -59,11 +59,12 @@ no_way : (w : Direction) (n : ℕ) → way_byte w ≡ n → n ≢ 112 → n ≢ 
 no_way ToOff n is first second = first (sym is)
 no_way ToOn n is first second = second (sym is)
 
-both : (d : Diagram) (line : List ℕ) (s t : Statement) → Says d line s → Says d line t → second_byte s ≡ second_byte t
+both : (d : Diagram) (line : List ℕ) (s t : Statement) → LineSays d line s → LineSays d line t → second_byte s
+    ≡ second_byte t
 both d line s t x y = sym (second_of d line s x) ∙ second_of d line t y
 
 -- what is said by a line in which `h` comes second is a condition
-pub is_condition : (d : Diagram) (line : List ℕ) (s : Statement) → Says d line s → slice_index line 1 ≡ 104 →
+pub is_condition : (d : Diagram) (line : List ℕ) (s : Statement) → LineSays d line s → slice_index line 1 ≡ 104 →
     (c : Condition) × (s ≡ When c)
 is_condition d line (Begins op) says at = absurd (no_way op.direction 104 (sym (second_of d line (Begins op) says) ∙ at)
     (λ e. omega (arith, e)) (λ e. omega (arith, e)))
@@ -73,8 +74,8 @@ is_condition d line (When c) says at = (c, refl)
 is_condition d line End says at = absurd (let e = sym (second_of d line End says) ∙ at in omega (arith, e))
 
 -- where paths differ, a line says one thing
-pub one_statement : (d : Diagram) → Differ d.switch_paths → (line : List ℕ) (s t : Statement) → Says d line s →
-    Says d line t → s ≡ t
+pub one_statement : (d : Diagram) → Differ d.switch_paths → (line : List ℕ) (s t : Statement) → LineSays d line s →
+    LineSays d line t → s ≡ t
 one_statement d differ line (Begins a) (Begins b) x y =
     let same = one_operation a.direction b.direction x.path y.path line x.written y.written in
     let switch = differ a.switch.0 b.switch.0 y.path (x.named ∙ ap Some same.1) y.named in

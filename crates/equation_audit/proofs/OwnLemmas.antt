@@ -6,7 +6,7 @@ use Rattle.std.proofs.lemmas.List.Folds.{list_any-append}
 use Rattle.ilk_base.specs.declared.words.SwitchId.{SwitchId}
 use Rattle.equation_audit.specs.declared.condition.Condition.{Condition}
 use Rattle.equation_audit.specs.Equations.{is_named, is_own, is_among, AllDiffer, AreOwn, OwnBelow}
-use Rattle.equation_audit.specs.Positions.{AllBelow}
+use Rattle.equation_audit.specs.Positions.{AllAmong}
 
 pub or_assoc : (a b c : Bool) → ((a || b) || c) ≡ (a || (b || c))
 or_assoc true b c = refl
@@ -113,5 +113,5 @@ own_at_place (cs ∷ alts) (suc k) d i lt named = later (is_named cs i) (is_own 
 
 -- the own switches, as they are listed, are among those of the station
 pub own_below : (n : ℕ) (alts : List (List Condition)) (own : List SwitchId) → AreOwn alts own → OwnBelow n alts →
-    AllBelow n own
+    AllAmong n own
 own_below n alts own are below = λ i among. below i (sym (are.each i) ∙ among)

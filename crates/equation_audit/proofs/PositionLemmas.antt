@@ -11,7 +11,7 @@ use Rattle.std.specs.List.{list_all}
 use Rattle.ilk_base.specs.declared.words.SwitchId.{SwitchId}
 use Rattle.equation_audit.specs.declared.condition.Condition.{Condition}
 use Rattle.equation_audit.specs.Equations.{holds, is_released, is_named, is_own, is_among, AllDiffer}
-use Rattle.equation_audit.specs.Positions.{placed, AllBelow}
+use Rattle.equation_audit.specs.Positions.{placed, AllAmong}
 use Rattle.equation_audit.proofs.PlaceLemmas.{set_same, set_other, not_equal}
 
 true_or : (a b : Bool) → a ≡ true → (a || b) ≡ true
@@ -97,7 +97,7 @@ one_more v id own w within whole once rest =
         )
 
 -- each position has a number
-pub number_of : (v : List Bool) (own : List SwitchId) (w : List Bool) → AllDiffer own → AllBelow (length v) own →
+pub number_of : (v : List Bool) (own : List SwitchId) (w : List Bool) → AllDiffer own → AllAmong (length v) own →
     length w ≡ length v → Number v own w
 number_of v [] w differ below whole = record { number = 0; below = omega arith; same = λ i among. absurd (cc) }
 number_of v (id ∷ own) w differ below whole =

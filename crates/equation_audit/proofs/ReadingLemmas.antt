@@ -18,7 +18,7 @@ use Rattle.central_rules.specs.declared.verdict.Verdict.TheVariants.{Release, De
 use Rattle.equation_audit.specs.Equations.{is_among}
 use Rattle.equation_audit.proofs.PlaceLemmas.{set_same, set_other, not_equal, take-next}
 use Rattle.equation_audit.proofs.OwnLemmas.{is_among-push}
-use Rattle.equation_audit.specs.Positions.{word_at, own_word, AreOwnWords, SharesPosition, AllBelow}
+use Rattle.equation_audit.specs.Positions.{word_at, own_word, AreOwnWords, SharesPosition, AllAmong}
 
 agrees_same : (b c : Bool) → Agrees (word_at b) c → c ≡ b
 agrees_same true c agrees = agrees
@@ -37,7 +37,7 @@ own_word-other own u i none = ap (λ t. if t then word_at (get_or u i false) els
 
 -- a reading has the position
 pub reading_shares : (d : Diagram) (own : List SwitchId) (u : List Bool) (words : List Dbpos) (v : List Bool) →
-    AreWords d words → AreOwnWords own u words → IsVector d u → AllBelow (length d.switches) own → IsReading words v →
+    AreWords d words → AreOwnWords own u words → IsVector d u → AllAmong (length d.switches) own → IsReading words v →
     SharesPosition d (is_among own) u v
 reading_shares d own u words v all are whole below reading = record {
   whole = reading.whole ∙ all;
@@ -83,7 +83,7 @@ decides_same d P Q op (Denied rule v) to back decides = (to v decides.0, decides
 -- the answer of the judge for the words of a position
 pub asked : {E : Type 0} (r : Result Verdict E) (d m : Diagram) (own : List SwitchId) (u : List Bool)
     (words : List Dbpos) (op : Op) → m ≡ d → AreWords d words → AreOwnWords own u words → IsVector d u →
-    AllBelow (length d.switches) own
+    AllAmong (length d.switches) own
     → IfOk r (Decides m (IsReading words) op) → IfOk r (Decides d (SharesPosition d (is_among own) u) op)
 asked (Ok verdict) d m own u words op of all are whole below decides =
     decides_same d (IsReading words) (SharesPosition d (is_among own) u) op verdict

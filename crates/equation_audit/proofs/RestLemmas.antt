@@ -10,7 +10,7 @@ use Rattle.station_graph.specs.Diagram.{Diagram}
 use Rattle.operation_lines.specs.OperationLines.{NamesOperation}
 use Rattle.equation_audit.specs.declared.condition.Condition.{Condition}
 use Rattle.equation_audit.specs.Equations.{Equation, HasFewOwn}
-use Rattle.equation_audit.specs.BlockLines.{Statement, Says, Say, body, front, whole, HasBlock, OneEach, AllFew}
+use Rattle.equation_audit.specs.BlockLines.{Statement, LineSays, Say, body, front, whole, HasBlock, OneEach, AllFew}
 use Rattle.equation_audit.specs.BlockLines.{HasHeadFault, HasBodyFault, IsOutOfPlace, BodyFaultAfter, IsEndPassed}
 use Rattle.equation_audit.specs.BlockLines.{IsRest, IsRestFault, IsFirstFault}
 use Rattle.text_lines.specs.Lines.{filled_lines}
@@ -30,7 +30,7 @@ pub nothing_said : (d : Diagram) (all : List (ℕ × List ℕ)) → HasSaid d al
 nothing_said d all = record { before = []; those = refl; say = tt }
 
 pub said_next : (d : Diagram) (all left : List (ℕ × List ℕ)) (line : ℕ × List ℕ) (rest : List (ℕ × List ℕ))
-    (ss more : List Statement) (s : Statement) → left ≡ line ∷ rest → more ≡ ss ++ s ∷ [] → Says d line.1 s →
+    (ss more : List Statement) (s : Statement) → left ≡ line ∷ rest → more ≡ ss ++ s ∷ [] → LineSays d line.1 s →
     HasSaid d all left ss → HasSaid d all rest more
 said_next d all left line rest ss more s first next says said = record {
   before = said.before ++ line ∷ [];

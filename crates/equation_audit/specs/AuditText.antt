@@ -32,13 +32,13 @@ loose_part d op (Some l) =
     codes "loose " ++ rule_name l.rule ++ codes " " ++ operation d op ++ closed_lines d op.switch.0 l.vector
 
 -- The line `with on PATH` or `with off PATH` of a switch.
-abbrev pub position_line : Option Bool → List ℕ → List ℕ
-position_line (Some closed) path = codes "with " ++ position_name closed ++ codes " " ++ path ++ codes "\n"
-position_line None path = []
+abbrev pub setting_line : Option Bool → List ℕ → List ℕ
+setting_line (Some closed) path = codes "with " ++ position_name closed ++ codes " " ++ path ++ codes "\n"
+setting_line None path = []
 
 -- The same of switch i, where it is one of the own.
 abbrev pub own_at : Diagram → List SwitchId → List Bool → ℕ → List ℕ
-own_at d own u i = if is_among own i then position_line (slice_get u i) (switch_path d i) else []
+own_at d own u i = if is_among own i then setting_line (slice_get u i) (switch_path d i) else []
 
 -- The same of each switch, in document order.
 abbrev pub own_lines : Diagram → List SwitchId → List Bool → List ℕ

@@ -34,16 +34,16 @@ pub record NamesCondition (d : Diagram) (line : List ℕ) (c : Condition) : Type
   pub named : slice_get d.switch_paths c.switch.0 ≡ Some path
 
 -- The line says this.
-abbrev pub Says : Diagram → List ℕ → Statement → Type 0
-Says d line (Begins op) = NamesOperation d line op
-Says d line Never = line ≡ codes "never"
-Says d line Or = line ≡ codes "or"
-Says d line (When c) = NamesCondition d line c
-Says d line End = line ≡ codes "end"
+abbrev pub LineSays : Diagram → List ℕ → Statement → Type 0
+LineSays d line (Begins op) = NamesOperation d line op
+LineSays d line Never = line ≡ codes "never"
+LineSays d line Or = line ≡ codes "or"
+LineSays d line (When c) = NamesCondition d line c
+LineSays d line End = line ≡ codes "end"
 
 -- The lines say these, one each.
 abbrev pub Say : Diagram → List (ℕ × List ℕ) → List Statement → Type 0
-Say d numbered statements = AllZip (λ line s. Says d line.1 s) numbered statements
+Say d numbered statements = AllZip (λ line s. LineSays d line.1 s) numbered statements
 
 -- What a body says: `never`, or the conditions of each alternative, with `or` between each two.
 abbrev pub body : List (List Condition) → List Statement
@@ -188,5 +188,5 @@ pub record IsRestFault (d : Diagram) (left : List (ℕ × List ℕ)) (count : �
 -- The line goes on a body that says the old, so that it says the new.
 pub record GoesOn (d : Diagram) (line : List ℕ) (old new : List (List Condition)) : Type 0 where
   pub statement : Statement
-  pub says : Says d line statement
+  pub says : LineSays d line statement
   pub more : body new ≡ body old ++ statement ∷ []

@@ -33,5 +33,5 @@ pub record SharesPosition (d : Diagram) (test : ℕ → Bool) (u v : List Bool) 
   pub same : (i : ℕ) → test i ≡ true → slice_get v i ≡ slice_get u i
 
 -- Each of these switches is among the first so many.
-abbrev pub AllBelow : ℕ → List SwitchId → Type 0
-AllBelow count ids = (i : ℕ) → is_among ids i ≡ true → i < count
+abbrev pub AllAmong : ℕ → List SwitchId → Type 0
+AllAmong count ids = (i : ℕ) → is_among ids i ≡ true → i < count

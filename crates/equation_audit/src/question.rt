@@ -7,7 +7,7 @@ ghost use Rattle.station_graph.specs.CentralRules.{IsOperation};
 ghost use Rattle.central_rules.specs.Readings.{Decides};
 ghost use Rattle.equation_audit.specs.declared.block.TheConstants.{MOST_OWN};
 ghost use Rattle.equation_audit.specs.Equations.{is_among, holds, is_released, is_named, is_own, OwnBelow, IsOfStation};
-ghost use Rattle.equation_audit.specs.Positions.{placed, word_at, AreOwnWords, SharesPosition, AllBelow};
+ghost use Rattle.equation_audit.specs.Positions.{placed, word_at, AreOwnWords, SharesPosition, AllAmong};
 
 use crate::block::{Alternative, Block, MOST_OWN};
 use crate::condition::Condition;
@@ -33,7 +33,7 @@ pub(crate) fn position(
     own: &[SwitchId],
     number: u32,
 ) -> Result<Vector, Memory>
-    requires { AllBelow (length station.now.switches) own.now }
+    requires { AllAmong (length station.now.switches) own.now }
     ensures placed { IfOk result (λ v. v ≡ placed (replicate (length station.now.switches) false) own.now number) }
     ensures whole { IfOk result (λ v. IsVector station.now v) }
 {
@@ -97,7 +97,7 @@ fn own_words(
     own: &[SwitchId],
     vector: &Vector,
 ) -> Result<Readings, Memory>
-    requires own { AllBelow (length station.now.switches) own.now }
+    requires own { AllAmong (length station.now.switches) own.now }
     requires vector { IsVector station.now vector.now }
     ensures all { IfOk result (AreWords station.now) }
     ensures own { IfOk result (AreOwnWords own.now vector.now) }
@@ -120,7 +120,7 @@ fn ask_of<J: Judge>(
 ) -> Result<Verdict, Memory>
     requires same { (J.meaning judge.now).diagram ≡ station.now }
     requires op { IsOperation station.now op }
-    requires own { AllBelow (length station.now.switches) own.now }
+    requires own { AllAmong (length station.now.switches) own.now }
     requires vector { IsVector station.now vector.now }
     ensures { IfOk result (Decides station.now (SharesPosition station.now (is_among own.now) vector.now) op) }
 {

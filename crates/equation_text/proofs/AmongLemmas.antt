@@ -4,7 +4,7 @@ use Rattle.std.proofs.Common.{inl, inr, arith, Some, append_assoc}
 use Rattle.std.specs.Prelude.{slice_get, codes}
 use Rattle.equation_text.specs.EquationText.{text_of}
 use Rattle.equation_text.specs.Words.{Lacks}
-use Rattle.equation_text.specs.Faults.{IsWhole, HasLine, IsLine}
+use Rattle.equation_text.specs.Faults.{EndsInLf, HasLine, IsLine}
 use Rattle.equation_text.proofs.TextLemmas.{text_of-append}
 use Rattle.equation_text.proofs.GroupLemmas.{lines_from, text_cons}
 use Rattle.equation_text.proofs.WholeText.{whole_more, whole_text}
@@ -79,11 +79,11 @@ among_or_later (k ∷ ls) tail head lacks plain has = elim (line_split k (text_o
 
 pub record Stands (text l : List ℕ) : Type 0 where
   pub before : List ℕ
-  pub whole : IsWhole before
+  pub whole : EndsInLf before
   pub rest : List ℕ
   pub is : text ≡ before ++ (l ++ 10 ∷ rest)
 
-pub stands_after : (before text l : List ℕ) → IsWhole before → Stands text l → Stands (before ++ text) l
+pub stands_after : (before text l : List ℕ) → EndsInLf before → Stands text l → Stands (before ++ text) l
 stands_after before text l whole s = record {
   before = before ++ s.before;
   whole = whole_more before s.before whole s.whole;

@@ -12,12 +12,12 @@ use Rattle.station_graph.specs.Diagram.{Diagram}
 use Rattle.station_graph.specs.CentralRules.{Applies, Breaks, GapBreaks}
 use Rattle.release_compile.specs.declared.view.View.{View}
 use Rattle.release_compile.specs.declared.view.View.TheVariants.{Gap, Load}
-use Rattle.release_compile.specs.Graphs.{gap_rule, Says}
+use Rattle.release_compile.specs.Graphs.{gap_rule, LabelSays}
 use Rattle.equation_text.specs.declared.goal.Goal.{Goal}
 use Rattle.equation_text.specs.declared.goal.Goal.TheVariants.{Answer}
 use Rattle.equation_text.specs.EquationLines.{PartLines, NodeLine, goal_towards}
 use Rattle.equation_text.specs.EquationMeaning.{Leads, NextGoal}
-use Rattle.equation_text.specs.Growing.{Extends}
+use Rattle.release_compile.specs.Pooling.{Extends}
 use Rattle.equation_text.specs.Compiling.{ViewLeads, SwitchIsExact}
 use Rattle.equation_text.proofs.LeadsLemmas.{leads_all}
 use Rattle.equation_text.proofs.GrowingLemmas.{end_stays}
@@ -43,7 +43,7 @@ module _ (d : Diagram) (parts : List PartLines) (nodes : List NodeLine) (v : Lis
   Leading a = Leads (NextGoal parts nodes v) opening (Answer a)
 
   load_says : (label : ℕ) (end : Goal) → slice_get (Answer None ∷ Answer (Some R3) ∷ []) label ≡ Some end →
-      Leads (NextGoal parts nodes v) opening end → Says Load d m v label → (op : Op) → op.switch.0 ≡ m →
+      Leads (NextGoal parts nodes v) opening end → LabelSays Load d m v label → (op : Op) → op.switch.0 ≡ m →
       LoadSays d v op Leading
   load_says zero end at leads says op here =
       free (λ h. let e : 0 ≡ 1 = (says op here).1 h in absurd (omega (arith, e)))

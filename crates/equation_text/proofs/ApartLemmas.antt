@@ -16,7 +16,8 @@ use Rattle.equation_text.specs.declared.goal.Goal.TheVariants.{Answer}
 use Rattle.equation_text.specs.declared.goal.SwitchGoals.{SwitchGoals}
 use Rattle.equation_text.specs.EquationLines.{NodeLine}
 use Rattle.equation_text.specs.EquationForm.{SwitchGoalsFit, goals_of}
-use Rattle.equation_text.specs.Growing.{Extends, IsRow}
+use Rattle.equation_text.specs.Growing.{LeadToGoals}
+use Rattle.release_compile.specs.Pooling.{Extends}
 use Rattle.equation_text.specs.Apart.{IsFrom, AreFrom, AllFrom, BothFrom, StandApart}
 use Rattle.equation_text.specs.Compiling.{switch_nodes}
 use Rattle.equation_text.proofs.GrowingLemmas.{get_push, within_extends}
@@ -28,7 +29,7 @@ longer xs ys ext = elim (cases_lt (length ys) (length xs)) [
 ]
 
 -- goals of a row are goals behind the layer
-pub row_from : (lo : ℕ) (g : Layered) (j k : ℕ) (next row : List Goal) → IsRow g j k next row → AreFrom lo next →
+pub row_from : (lo : ℕ) (g : Layered) (j k : ℕ) (next row : List Goal) → LeadToGoals g j k next row → AreFrom lo next →
     AreFrom lo row
 row_from lo g j k next row is are = λ i x at. are (step (layer_at g.layers j) k i) x (is.each i x at)
 

@@ -11,7 +11,7 @@ use Rattle.decision_graphs.specs.Label.{Layered, layer_at, label_of}
 use Rattle.release_compile.specs.declared.view.View.{View}
 use Rattle.release_compile.specs.Lettered.{Lettered, AreLettered}
 use Rattle.release_compile.specs.Chaining.{AreInARow}
-use Rattle.release_compile.specs.Graphs.{other_of, PartChosen, SwitchChosen, Says, IsOuter, IsInner, IsOwn}
+use Rattle.release_compile.specs.Graphs.{other_of, PartChosen, SwitchChosen, LabelSays, IsOuter, IsInner, IsOwn}
 use Rattle.release_compile.proofs.VerdictLemmas.{other_in}
 use Rattle.equation_text.specs.declared.subject.Subjects.{Subjects}
 use Rattle.equation_text.specs.declared.subject.Subjects.TheVariants.{OtherParts, OtherSwitches}
@@ -75,7 +75,7 @@ pub record Chosen (view : View) (d : Diagram) (parts : List PartLines) (v : List
   pub inner_count : suc (length inner) ≡ length h.layers
   pub outer_chosen : AreChosenFrom parts v others g 0 outer
   pub inner_chosen : AreChosenFrom parts v own h 1 inner
-  pub says : Says view d m v (label_of h (label_of g outer ∷ inner))
+  pub says : LabelSays view d m v (label_of h (label_of g outer ∷ inner))
 
 module _ (view : View) (a : Lettered) (are : AreLettered a) (b m first others : ℕ)
     (is_own : IsOwn a.diagram b m first others) (b_in : b < part_count a.diagram) (names : List Answers) (g h : Layered)

@@ -20,7 +20,8 @@ use Rattle.equation_text.specs.declared.goal.SwitchGoals.{SwitchGoals}
 use Rattle.equation_text.specs.EquationLines.{PartLines, NodeLine, EquationLines, goal_towards}
 use Rattle.equation_text.specs.EquationMeaning.{Leads, NextGoal, Means}
 use Rattle.equation_text.specs.EquationForm.{SwitchGoalsFit, AreWhole, AreEquations, goals_of}
-use Rattle.equation_text.specs.Growing.{Extends, AreGoals, AllGrew, turned_goals, IsTurned}
+use Rattle.equation_text.specs.Growing.{AreGoals, AllGrew, turned_goals, IsTurned}
+use Rattle.release_compile.specs.Pooling.{Extends}
 use Rattle.equation_text.specs.Compiling.{AreExact, IsPartStep, AreStepsOf, ArePartsOf, AreExactParts, SwitchIsExact}
 use Rattle.equation_text.specs.Compiling.{AreGoalsOf, HaveFewSteps}
 use Rattle.equation_text.specs.NodeCount.{HaveFewNodes}

@@ -26,7 +26,8 @@ use Rattle.release_compile.specs.Seen.{SameView}
 use Rattle.release_compile.specs.Listing.{parts_before}
 use Rattle.release_compile.specs.Needing.{IsNeededOuter, IsNeededInner}
 use Rattle.release_compile.specs.Graphs.{other_of}
-use Rattle.release_compile.specs.Counted.{Size, edges_in, before_switch, IsSmall, SwitchHas, ViewHas as ViewIsCounted}
+use Rattle.release_compile.specs.Counted.{Size, edges_in, before_switch, HasFewNodes, SwitchHas}
+use Rattle.release_compile.specs.Counted.{ViewHas as ViewIsCounted}
 use Rattle.release_compile.specs.Built.{ViewOf, BayOf, AreViewGraphs}
 use Rattle.release_compile.specs.Judging.{no_graph, inner_at as graph_of}
 use Rattle.equation_text.specs.Compiling.{inner_total, view_nodes}
@@ -43,7 +44,7 @@ view_on Load Kept These d u v w h k = SameLoadView-trans Kept These d u v w h k
 
 -- a layer has no more nodes than there are distinct views
 small_layer : (view : View) (Kept : ℕ → Type 0) (These : Item → Type 0) (d : Diagram) (l : Layer) (n : ℕ) →
-    IsSmall d (λ v w. SameView view Kept These d v w) l → AreSoMany d (λ v w. SameView view Kept These d v w) n →
+    HasFewNodes d (λ v w. SameView view Kept These d v w) l → AreSoMany d (λ v w. SameView view Kept These d v w) n →
     length l.rows ≤ n
 small_layer view Kept These d l n small many =
     let le = not_longer d (λ v w. SameView view Kept These d v w) (view_back view Kept These d)

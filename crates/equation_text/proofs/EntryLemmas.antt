@@ -6,7 +6,7 @@ use Rattle.std.proofs.lemmas.Fmt.{decimal_injective}
 use Rattle.std.proofs.lemmas.List.{append_cancel_left}
 use Rattle.equation_text.specs.Words.{Lacks}
 use Rattle.equation_text.specs.Faults.{Entry, step_of, node_of, head_of}
-use Rattle.equation_text.specs.Entries.{IsSmall}
+use Rattle.equation_text.specs.Entries.{IsEntry32}
 use Rattle.equation_text.proofs.WordLemmas.{lacks_all, lacks_by, lacks_decimal, cut_once}
 
 pub step_head : (p m : ℕ) (rest : List ℕ) → head_of (step_of p m) ++ rest ≡ codes "step " ++ (decimal p ++ 32 ∷
@@ -29,7 +29,7 @@ blank_lacks : (n : ℕ) → n < 2 ^ 32 → Lacks 10 (decimal n ++ codes " ")
 blank_lacks n small = lacks_all 10 (decimal n) (codes " ") (lacks_decimal 10 n (omega arith) (omega (arith, small)))
     (lacks_by 10 (codes " ") refl)
 
-pub head_lacks : (x : Entry) → IsSmall x → Lacks 10 (head_of x)
+pub head_lacks : (x : Entry) → IsEntry32 x → Lacks 10 (head_of x)
 head_lacks (step_of p m) small = lacks_all 10 (codes "step ") _ (lacks_by 10 (codes "step ") refl) (number_lacks p
     (decimal m ++ codes " ") small.0 (blank_lacks m small.1))
 head_lacks (node_of n) small = lacks_all 10 (codes "node ") _ (lacks_by 10 (codes "node ") refl) (blank_lacks n small)
@@ -45,7 +45,7 @@ abbrev first_byte : List ℕ → ℕ
 first_byte [] = 0
 first_byte (b ∷ bs) = b
 
-step_once : (p m q k : ℕ) (r s : List ℕ) → IsSmall (step_of p m) → IsSmall (step_of q k)
+step_once : (p m q k : ℕ) (r s : List ℕ) → IsEntry32 (step_of p m) → IsEntry32 (step_of q k)
     → codes "step " ++ (decimal p ++ 32 ∷ (decimal m ++ 32 ∷ r)) ≡ codes "step " ++ (decimal q ++ 32 ∷
     (decimal k ++ 32 ∷ s)) → step_of p m ≡ step_of q k
 step_once p m q k r s small other same =
@@ -62,7 +62,7 @@ node_once n k r s small other same =
     ap (λ z. node_of z) (first_number n k r s small other words).0
 
 -- a line defines one entry at most
-pub head_once : (x y : Entry) (r s : List ℕ) → IsSmall x → IsSmall y → head_of x ++ r ≡ head_of y ++ s → x ≡ y
+pub head_once : (x y : Entry) (r s : List ℕ) → IsEntry32 x → IsEntry32 y → head_of x ++ r ≡ head_of y ++ s → x ≡ y
 head_once (step_of p m) (step_of q k) r s small other same = step_once p m q k r s small other
     (sym (step_head p m r) ∙ same ∙ step_head q k s)
 head_once (step_of p m) (node_of n) r s small other same = absurd (let e : 115 ≡ 110 = ap first_byte same in omega

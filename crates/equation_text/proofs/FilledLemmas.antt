@@ -9,13 +9,13 @@ use Rattle.bay_contract.specs.declared.fork.Target.TheVariants.{Index}
 use Rattle.equation_text.specs.declared.goal.Goal.TheVariants.{Answer}
 use Rattle.equation_text.specs.declared.goal.SwitchGoals.{SwitchGoals}
 use Rattle.equation_text.specs.declared.goal.TheConstants.{NUMBERS}
-use Rattle.equation_text.specs.EquationLines.{PartLines, EquationLines, index_count}
+use Rattle.equation_text.specs.EquationLines.{PartLines, EquationLines, goal_count}
 use Rattle.equation_text.specs.EquationForm.{IsTarget, SwitchGoalsFit}
 use Rattle.equation_text.specs.EquationText.{text_of}
 use Rattle.equation_text.specs.Reading.{front_text, start_lines, all_step_lines, op_lines, node_lines}
 use Rattle.equation_text.specs.Reading.{MayBeStarts, MayBeSteps, MayBeOps, MayBeNodes}
 use Rattle.equation_text.specs.ReadText.{MayBeParts}
-use Rattle.equation_text.specs.Faults.{AreFormed, Begins}
+use Rattle.equation_text.specs.Faults.{AreFormed, BeginsText}
 use Rattle.equation_text.proofs.TextLemmas.{text_of-append}
 use Rattle.equation_text.proofs.TurnLemmas.{unmapped}
 use Rattle.equation_text.proofs.GroupLemmas.{lines_from}
@@ -93,7 +93,7 @@ pub nest_four : (f a b c e r : List ℕ) → (f ++ (a ++ (b ++ (c ++ e)))) ++ r 
 nest_four f a b c e r = append_assoc f (a ++ (b ++ (c ++ e))) r ∙ ap (λ (z : List ℕ). f ++ z) (nest_three a b c e r)
 
 module _ (d : Diagram) where
-  pub begins_prefix : (before more : List ℕ) → Begins d (before ++ more) → Begins d before
+  pub begins_prefix : (before more : List ℕ) → BeginsText d (before ++ more) → BeginsText d before
   begins_prefix before more b = record {
     lines = b.lines;
     formed = b.formed;
@@ -141,7 +141,7 @@ module _ (d : Diagram) where
 
   -- the lines of some starts
   pub begins_starts : (ts : List Target) → length ts ≤ part_count d → MayBeStarts (length ts) ts
-      → Begins d (front_text d ++ text_of (start_lines ts))
+      → BeginsText d (front_text d ++ text_of (start_lines ts))
   begins_starts ts few may =
       let parts = map part_of (filled_starts ts) in
       let e : EquationLines = record { parts = parts; ops = filled_ops []; nodes = [] } in
@@ -154,7 +154,7 @@ module _ (d : Diagram) where
         formed = record {
           parts = parts_filled ts few may;
           ops = ops_filled [] (omega arith) no_ops;
-          nodes = no_nodes (map index_count parts);
+          nodes = no_nodes (map goal_count parts);
         };
         rest = more ++ behind;
         is = whole_groups d e
@@ -172,7 +172,7 @@ module _ (d : Diagram) where
   -- the lines of all parts and of some operations
   pub begins_ops : (parts : List PartLines) (ops : List SwitchGoals) → MayBeParts d parts
       → length ops ≤ length d.switches → MayBeOps (length ops) ops
-      → Begins d (front_text d ++ (starts parts ++ (text_of (all_step_lines parts) ++ text_of (op_lines ops))))
+      → BeginsText d (front_text d ++ (starts parts ++ (text_of (all_step_lines parts) ++ text_of (op_lines ops))))
   begins_ops parts ops parts_may few may =
       let e : EquationLines = record { parts = parts; ops = filled_ops ops; nodes = [] } in
       let first = text_of (op_lines ops) in
@@ -183,7 +183,7 @@ module _ (d : Diagram) where
         formed = record {
           parts = parts_may;
           ops = ops_filled ops few may;
-          nodes = no_nodes (map index_count parts);
+          nodes = no_nodes (map goal_count parts);
         };
         rest = more ++ end;
         is = whole_groups d e
@@ -195,7 +195,7 @@ module _ (d : Diagram) where
       }
 
   -- all lines
-  pub begins_all : (e : EquationLines) → AreFormed d e → Begins d (front_text d ++ (starts e.parts ++ (text_of
+  pub begins_all : (e : EquationLines) → AreFormed d e → BeginsText d (front_text d ++ (starts e.parts ++ (text_of
       (all_step_lines e.parts) ++ (text_of (op_lines e.ops) ++ (text_of (node_lines e.nodes) ++ codes "end\n")))))
   begins_all e formed = record {
     lines = e;
@@ -205,7 +205,7 @@ module _ (d : Diagram) where
         (text_of (op_lines e.ops) ++ (text_of (node_lines e.nodes) ++ codes "end\n"))))));
   }
 
-  pub begins_nodes : (e : EquationLines) → AreFormed d e → Begins d (front_text d ++ (starts e.parts ++ (text_of
+  pub begins_nodes : (e : EquationLines) → AreFormed d e → BeginsText d (front_text d ++ (starts e.parts ++ (text_of
       (all_step_lines e.parts) ++ (text_of (op_lines e.ops) ++ text_of (node_lines e.nodes)))))
   begins_nodes e formed = record {
     lines = e;
@@ -216,8 +216,8 @@ module _ (d : Diagram) where
   }
 
   -- some of the lines before those of the parts
-  pub begins_front : (before more : List ℕ) → front_text d ≡ before ++ more → Begins d before
+  pub begins_front : (before more : List ℕ) → front_text d ≡ before ++ more → BeginsText d before
   begins_front before more is =
       let b = begins_starts [] (omega arith) (record { count = refl; each = λ p t at. absurd (cc at) }) in
-      begins_prefix before more (subst (λ (z : List ℕ). Begins d z) is (begins_prefix (front_text d) (text_of
+      begins_prefix before more (subst (λ (z : List ℕ). BeginsText d z) is (begins_prefix (front_text d) (text_of
       (start_lines [])) b))

@@ -10,7 +10,7 @@ use Rattle.equation_text.specs.EquationLines.{EquationLines}
 use Rattle.equation_text.specs.EquationText.{lines_of, text_of}
 use Rattle.equation_text.specs.Words.{Lacks}
 use Rattle.equation_text.specs.Reading.{front_text}
-use Rattle.equation_text.specs.Faults.{feeds, IsWhole, AreFormed, Begins, IsWrongAt, IsWrong, HasUndefined}
+use Rattle.equation_text.specs.Faults.{feeds, EndsInLf, AreFormed, BeginsText, IsWrongAt, IsWrong, HasUndefined}
 use Rattle.equation_text.specs.Faults.{IsFirstFault}
 use Rattle.equation_text.specs.Faults.{HasFault, IsLine, NamesUndefined}
 use Rattle.equation_text.specs.Entries.{IsFirstUndefined, NoneUndefined, IsFirstWithout, NoneWithout}
@@ -54,8 +54,8 @@ first_line (b ∷ c) rest = elim (cases_eq b 10) [
 
 module _ (d : Diagram) (text : List ℕ) where
   -- no line of whole lines with which a text of the form begins is one that cannot stand where it does
-  none_before : (before left m after : List ℕ) → IsWrongAt d before left → Begins d (before ++ m) →
-      IsWhole (before ++ m)
+  none_before : (before left m after : List ℕ) → IsWrongAt d before left → BeginsText d (before ++ m) →
+      EndsInLf (before ++ m)
       → left ≡ m ++ after → m ≡ []
   none_before before left m after wrong begins whole is = elim (rest_whole before m whole) [
     | inl none ↦ none
@@ -72,7 +72,7 @@ module _ (d : Diagram) (text : List ℕ) where
           (lines ∙ sym (append_assoc found.line (10 ∷ []) found.more)) ∙ sym (append_assoc before
           (found.line ++ 10 ∷ []) found.more) in
           wrong.none found.line (found.more ++ after) found.lacks here (begins_prefix d (before ++
-          (found.line ++ 10 ∷ [])) found.more (subst (λ (z : List ℕ). Begins d z) all begins))
+          (found.line ++ 10 ∷ [])) found.more (subst (λ (z : List ℕ). BeginsText d z) all begins))
 
   module _ (left : List ℕ) (stop : StopsWrong d text left) where
     no_earlier : (j : ℕ) → IsWrong d text j → suc (feeds stop.before) ≤ j
@@ -81,8 +81,9 @@ module _ (d : Diagram) (text : List ℕ) where
       | inr found ↦
           let behind = append_cancel_left other.before other.left (found.0 ++ left) (sym other.is ∙ stop.is ∙ ap (λ
           (z : List ℕ). z ++ left) found.1 ∙ append_assoc other.before found.0 left) in
-          let none = none_before other.before other.left found.0 left other.wrong (subst (λ (z : List ℕ). Begins d z)
-          found.1 stop.wrong.begins) (subst (λ (z : List ℕ). IsWhole z) found.1 stop.wrong.whole) behind in
+          let none = none_before other.before other.left found.0 left other.wrong
+              (subst (λ (z : List ℕ). BeginsText d z)
+          found.1 stop.wrong.begins) (subst (λ (z : List ℕ). EndsInLf z) found.1 stop.wrong.whole) behind in
           let same : stop.before ≡ other.before = found.1 ∙ ap (λ (z : List ℕ). other.before ++ z) none ∙ append-nil
           other.before in
           omega (arith, other.number, ap feeds same)
@@ -122,13 +123,14 @@ module _ (d : Diagram) (text : List ℕ) where
   pub no_wrong : (e : EquationLines) → AreFormed d e → text ≡ text_of (lines_of d e) → (j : ℕ) → IsWrong d text j → ⊥
   no_wrong e formed is j other =
       let all : text_of (lines_of d e) ≡ other.before ++ other.left = sym is ∙ other.is in
-      let begins : Begins d (other.before ++ other.left) = record {
+      let begins : BeginsText d (other.before ++ other.left) = record {
         lines = e;
         formed = formed;
         rest = [];
         is = all ∙ sym (append-nil (other.before ++ other.left));
       } in
-      let none = none_before other.before other.left other.left [] other.wrong begins (subst (λ (z : List ℕ). IsWhole z)
+      let none = none_before other.before other.left other.left [] other.wrong begins
+          (subst (λ (z : List ℕ). EndsInLf z)
       all (whole_text (lines_of d e))) (sym (append-nil other.left)) in
       other.wrong.not_all none e formed (sym (all ∙ ap (λ (z : List ℕ). other.before ++ z) none ∙ append-nil
       other.before))

@@ -16,8 +16,8 @@ use Rattle.equation_text.specs.declared.goal.Goal.{Goal}
 use Rattle.equation_text.specs.declared.goal.Goal.TheVariants.{Node, Answer}
 use Rattle.equation_text.specs.declared.goal.SwitchGoals.{SwitchGoals}
 use Rattle.equation_text.specs.EquationLines.{PartLines, NodeLine, goal_towards, part_node, switch_node, index_in}
-use Rattle.equation_text.specs.EquationLines.{past_greatest, index_count}
-use Rattle.equation_text.specs.EquationMeaning.{Passes, Leads, step_target, StepLeads, NextTarget, LeadsToIndex}
+use Rattle.equation_text.specs.EquationLines.{past_greatest, goal_count}
+use Rattle.equation_text.specs.EquationMeaning.{PassesThrough, Leads, step_target, StepLeads, NextTarget, LeadsToIndex}
 use Rattle.equation_text.specs.EquationMeaning.{goal_at, LineLeads, NextGoal, Means}
 use Rattle.equation_text.specs.EquationForm.{IsTarget, IsLaterTarget, IsGoal, IsLaterGoal, HasGoals, NodeLineFits}
 use Rattle.equation_text.specs.EquationForm.{NodesFit, SwitchGoalsFit}
@@ -75,8 +75,8 @@ written_step (x ∷ steps) (suc m) s i closed at to =
     past_among (index_in x.off ++ index_in x.on) _ i (written_step steps m s i closed at to)
 
 index_passed : (x : PartLines) (v : List Bool) (t : Target) (after : List Target) (i : ℕ) →
-    (t ≡ x.start) ⊎ ((m : ℕ) × StepLeads x.steps v m t) → Passes (NextTarget x.steps v) t after (Index i) →
-    i < index_count x
+    (t ≡ x.start) ⊎ ((m : ℕ) × StepLeads x.steps v m t) → PassesThrough (NextTarget x.steps v) t after (Index i) →
+    i < goal_count x
 index_passed x v t [] i (inl same) end = among_past (index_in x.start) _ i (written_target x.start i (sym same ∙ end))
 index_passed x v t [] i (inr s) end =
     past_among (index_in x.start) _ i (written_step x.steps s.0 s.1.step i s.1.closed s.1.listed (s.1.to ∙ end))
@@ -84,7 +84,7 @@ index_passed x v (Step m) (u ∷ after) i from ps = index_passed x v u after i (
 index_passed x v (Index k) (u ∷ after) i from ps = absurd ps.0
 
 -- an index to which the steps lead is one that the lines write
-pub index_written : (x : PartLines) (v : List Bool) (i : ℕ) → LeadsToIndex x v i → i < index_count x
+pub index_written : (x : PartLines) (v : List Bool) (i : ℕ) → LeadsToIndex x v i → i < goal_count x
 index_written x v i l = index_passed x v x.start l.after i (inl refl) l.passes
 
 -- no target follows an index, no goal an answer, and one at most follows a step or a node
@@ -104,7 +104,7 @@ pub by_index : (parts : List PartLines) (part : ℕ) (goals : List Goal) (x : Pa
 by_index parts part goals x v i has at leads =
     let same = same_Some has.lines x (sym has.listed ∙ at) in
     let written = index_written x v i leads in
-    omega (arith, written, has.count, ap index_count same)
+    omega (arith, written, has.count, ap goal_count same)
 
 -- the goal to which a line leads stands behind it
 pub line_later : (switches : ℕ) (parts : List PartLines) (nodes n : ℕ) (x : NodeLine) (v : List Bool) (g : Goal) →

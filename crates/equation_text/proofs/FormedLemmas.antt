@@ -10,7 +10,7 @@ use Rattle.bay_contract.specs.declared.fork.PartStep.{PartStep}
 use Rattle.bay_contract.specs.declared.fork.Target.{Target}
 use Rattle.equation_text.specs.declared.goal.SwitchGoals.{SwitchGoals}
 use Rattle.equation_text.specs.declared.goal.TheConstants.{NUMBERS}
-use Rattle.equation_text.specs.EquationLines.{PartLines, NodeLine, EquationLines, index_count}
+use Rattle.equation_text.specs.EquationLines.{PartLines, NodeLine, EquationLines, goal_count}
 use Rattle.equation_text.specs.EquationForm.{IsTarget}
 use Rattle.equation_text.specs.EquationText.{node_line, lines_of, text_of}
 use Rattle.equation_text.specs.Reading.{front_text, start_lines, all_step_lines, op_lines, node_lines}
@@ -127,7 +127,7 @@ module _ (d : Diagram) (station : IsStation d) (e : EquationLines) (formed : Are
       (length d.switches) e.ops few formed.ops) (may.count ∙ sym formed.ops.count) (sym at ∙ here)
 
   pub left_none : (nodes : List NodeLine) (left rest : List ℕ) → left ≡ at_end → MayBeNodes (length d.switches)
-      (map index_count e.parts) nodes → left ≡ text_of (node_lines nodes) ++ (codes "end\n" ++ rest)
+      (map goal_count e.parts) nodes → left ≡ text_of (node_lines nodes) ++ (codes "end\n" ++ rest)
       → (nodes ≡ e.nodes) × (rest ≡ [])
   left_none nodes left rest here may at =
       elim (cases_lt (length nodes) (length e.nodes)) [
@@ -135,33 +135,33 @@ module _ (d : Diagram) (station : IsStation d) (e : EquationLines) (formed : Are
         | inr past ↦ elim (cases_lt (length e.nodes) (length nodes)) [
           | inl less ↦ absurd (shorter e.nodes nodes [] rest fit_more fit_nodes less (sym here ∙ at))
           | inr equal ↦
-              let same = once node_of (NodeIs (length d.switches) (map index_count e.parts)) (nodes_one
-              (length d.switches) (map index_count e.parts)) 0 nodes e.nodes (codes "end\n" ++ rest)
+              let same = once node_of (NodeIs (length d.switches) (map goal_count e.parts)) (nodes_one
+              (length d.switches) (map goal_count e.parts)) 0 nodes e.nodes (codes "end\n" ++ rest)
               (codes "end\n" ++ []) fit_nodes fit_more (omega (arith, past, equal)) (sym at ∙ here) in
               (same.0, append_cancel_left (codes "end\n") rest [] same.1)
         ]
       ]
     where
-      few_counts : length (map index_count e.parts) ≤ 256
-      few_counts = omega (arith, length-map e.parts index_count, formed.parts.count, station.items.parts_few)
+      few_counts : length (map goal_count e.parts) ≤ 256
+      few_counts = omega (arith, length-map e.parts goal_count, formed.parts.count, station.items.parts_few)
 
       fit_nodes : (i : ℕ) (x : NodeLine) → slice_get nodes i ≡ Some x → NodeIs (length d.switches)
-          (map index_count e.parts) (0 + i) x
-      fit_nodes = nodes_fit (length d.switches) (map index_count e.parts) nodes few_switches few_counts may.few may.each
+          (map goal_count e.parts) (0 + i) x
+      fit_nodes = nodes_fit (length d.switches) (map goal_count e.parts) nodes few_switches few_counts may.few may.each
 
       fit_more : (i : ℕ) (x : NodeLine) → slice_get e.nodes i ≡ Some x → NodeIs (length d.switches)
-          (map index_count e.parts) (0 + i) x
+          (map goal_count e.parts) (0 + i) x
       fit_more = nodes_fit (length d.switches)
-          (map index_count e.parts) e.nodes few_switches few_counts formed.nodes.few formed.nodes.each
+          (map goal_count e.parts) e.nodes few_switches few_counts formed.nodes.few formed.nodes.each
 
       shorter : (xs ys : List NodeLine) (r s : List ℕ) → ((i : ℕ) (x : NodeLine) → slice_get xs i ≡ Some x
-          → NodeIs (length d.switches) (map index_count e.parts) (0 + i) x) → ((i : ℕ) (x : NodeLine)
-          → slice_get ys i ≡ Some x → NodeIs (length d.switches) (map index_count e.parts) (0 + i) x)
+          → NodeIs (length d.switches) (map goal_count e.parts) (0 + i) x) → ((i : ℕ) (x : NodeLine)
+          → slice_get ys i ≡ Some x → NodeIs (length d.switches) (map goal_count e.parts) (0 + i) x)
           → length xs < length ys → text_of (node_lines xs) ++ (codes "end\n" ++ r) ≡ text_of (node_lines ys) ++
           (codes "end\n" ++ s) → ⊥
       shorter xs ys r s fit_x fit_y less same =
-          let f = next node_of (NodeIs (length d.switches) (map index_count e.parts)) (nodes_one (length d.switches)
-          (map index_count e.parts)) 0 xs ys (codes "end\n" ++ r) (codes "end\n" ++ s) fit_x fit_y less same in
+          let f = next node_of (NodeIs (length d.switches) (map goal_count e.parts)) (nodes_one (length d.switches)
+          (map goal_count e.parts)) 0 xs ys (codes "end\n" ++ r) (codes "end\n" ++ s) fit_x fit_y less same in
           let byte : 101 ≡ 110 = ap first_byte (f.is ∙ text_one (node_line (0 + length xs) f.entry) f.rest) in
           omega (arith, byte)
 

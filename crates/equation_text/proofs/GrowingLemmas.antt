@@ -14,7 +14,8 @@ use Rattle.equation_text.specs.EquationLines.{PartLines, NodeLine, part_node, sw
 use Rattle.equation_text.specs.EquationMeaning.{LineLeads, NextGoal}
 use Rattle.equation_text.specs.EquationForm.{IsGoal}
 use Rattle.equation_text.specs.Subjects.{subject_at, IsIndexBy, IsPositionOf, IsChosen, HasIndices, AreChosenFrom}
-use Rattle.equation_text.specs.Growing.{Extends, AreGoals, GrewFrom, AllGrew, IsRow, LayerLeads, LeadsToEnd, AllLead}
+use Rattle.equation_text.specs.Growing.{AreGoals, GrewFrom, AllGrew, LeadToGoals, LayerLeads, LeadsToEnd, AllLead}
+use Rattle.release_compile.specs.Pooling.{Extends}
 use Rattle.equation_text.proofs.LeadsLemmas.{leads_here, leads_on, leads_all, leads_stay}
 use Rattle.equation_text.proofs.GraphFacts.{drop_layer, leads_none}
 
@@ -241,7 +242,7 @@ switch_grew switches n parts switch goals off on first second lt are = record { 
 pub leads_through : (parts : List PartLines) (nodes more : List NodeLine) (others own : Subjects) (g h : Layered)
     (v : List Bool) (entries goals middle ends : List Goal) (goal : Goal) (cs ds : List ℕ)
     → Extends nodes more → AllLead more others g 0 goals entries → AllLead nodes own h 1 middle ends →
-    IsRow h 0 0 middle entries → 0 < length h.layers → slice_get goals 0 ≡ Some goal
+    LeadToGoals h 0 0 middle entries → 0 < length h.layers → slice_get goals 0 ≡ Some goal
     → length cs ≡ length g.layers → AreChosenFrom parts v others g 0 cs → suc (length ds) ≡ length h.layers →
     AreChosenFrom parts v own h 1 ds
     → LeadsToEnd parts more v goal ends (label_of h (label_of g cs ∷ ds))
@@ -262,7 +263,7 @@ leads_through parts nodes more others own g h v entries goals middle ends goal c
 
 -- a row of goals is among those behind the layer
 pub row_goals_fit : (old now : List NodeLine) (g : Layered) (j k : ℕ) (next row : List Goal) → Extends old now →
-    IsRow g j k next row → AreGoals (length old) next → AreGoals (length now) row
+    LeadToGoals g j k next row → AreGoals (length old) next → AreGoals (length now) row
 row_goals_fit old now g j k next row ext is are =
     λ i x at. goal_stays old now x ext (are (step (layer_at g.layers j) k i) x (is.each i x at))
 

@@ -13,14 +13,14 @@ use Rattle.equation_text.specs.declared.entries.Step.{Step}
 use Rattle.equation_text.specs.declared.entries.Entries.{Entries}
 use Rattle.equation_text.specs.Words.{Lacks}
 use Rattle.equation_text.specs.Faults.{Entry, step_of, node_of, head_of, HasLine, IsDefined}
-use Rattle.equation_text.specs.Entries.{step_order, has_entry, IsSmall, Defines, DefinesNone, AddsLine, AreDefined}
+use Rattle.equation_text.specs.Entries.{step_order, has_entry, IsEntry32, Defines, DefinesNone, AddsLine, AreDefined}
 use Rattle.equation_text.proofs.WordLemmas.{true_false}
 use Rattle.equation_text.proofs.LineLemmas.{line_here, line_later, line_split, last_here, last_only}
 use Rattle.equation_text.proofs.EntryLemmas.{head_lacks, head_once}
 
 -- a line that defines no step and no node defines nothing
-pub no_entry : (line : List ℕ) → ((p m : ℕ) (rest : List ℕ) → IsSmall (step_of p m) → line ≢ head_of
-    (step_of p m) ++ rest) → ((n : ℕ) (rest : List ℕ) → IsSmall (node_of n) → line ≢ head_of (node_of n) ++ rest)
+pub no_entry : (line : List ℕ) → ((p m : ℕ) (rest : List ℕ) → IsEntry32 (step_of p m) → line ≢ head_of
+    (step_of p m) ++ rest) → ((n : ℕ) (rest : List ℕ) → IsEntry32 (node_of n) → line ≢ head_of (node_of n) ++ rest)
     → DefinesNone line
 no_entry line steps nodes (step_of p m) rest small is = steps p m rest small is
 no_entry line steps nodes (node_of n) rest small is = nodes n rest small is
@@ -102,7 +102,7 @@ none_kept entries (node_of n) steps nodes = ap (list_any (is_at (nat_cmp n))) no
 
 -- what was kept of a text so far
 abbrev pub KeptSoFar : List ℕ → List ℕ → (Entry → Bool) → Type 0
-KeptSoFar text left has = (x : Entry) → IsSmall x → IsDefined text x ↔ (IsTrue (has x) ⊎ IsDefined left x)
+KeptSoFar text left has = (x : Entry) → IsEntry32 x → IsDefined text x ↔ (IsTrue (has x) ⊎ IsDefined left x)
 
 pub kept_at_first : (text : List ℕ) (entries : Entries) → IsEmpty entries.steps → IsEmpty entries.nodes
     → KeptSoFar text text (has_entry entries)

@@ -2,7 +2,7 @@
 use Rattle.std.proofs.Common.{◌≡◌, ◌∙◌, ◌⊎◌, ℕ, List, [], ◌∷◌, ◌++◌, refl, sym, ap, subst}
 use Rattle.std.proofs.Common.{inl, inr, append_assoc}
 use Rattle.equation_text.specs.Words.{Lacks}
-use Rattle.equation_text.specs.Faults.{IsWhole, HasLine}
+use Rattle.equation_text.specs.Faults.{EndsInLf, HasLine}
 use Rattle.equation_text.proofs.WordLemmas.{not_cut}
 use Rattle.equation_text.proofs.WholeText.{whole_line, whole_more}
 
@@ -53,7 +53,7 @@ line_here l tail head more is = record {
   is = ap (λ (z : List ℕ). z ++ 10 ∷ tail) is ∙ append_assoc head more (10 ∷ tail);
 }
 
-pub line_after : (before tail head : List ℕ) → IsWhole before → HasLine tail head → HasLine (before ++ tail) head
+pub line_after : (before tail head : List ℕ) → EndsInLf before → HasLine tail head → HasLine (before ++ tail) head
 line_after before tail head whole has = record {
   before = before ++ has.before;
   whole = whole_more before has.before whole has.whole;
@@ -65,7 +65,7 @@ pub line_later : (l tail head : List ℕ) → HasLine tail head → HasLine (l +
 line_later l tail head has = subst (λ (z : List ℕ). HasLine z head) (append_assoc l (10 ∷ []) tail) (line_after
     (l ++ 10 ∷ []) tail head (whole_line l) has)
 
-split_by : (l tail head before rest : List ℕ) → Lacks 10 l → Lacks 10 head → IsWhole before
+split_by : (l tail head before rest : List ℕ) → Lacks 10 l → Lacks 10 head → EndsInLf before
     → l ++ 10 ∷ tail ≡ before ++ (head ++ rest) → ((more : List ℕ) × (l ≡ head ++ more)) ⊎ HasLine tail head
 split_by l tail head before rest lacks plain (inl none) same = inl (peel head rest l tail plain (same ∙ ap (λ
     (z : List ℕ). z ++ (head ++ rest)) none))
@@ -88,7 +88,7 @@ line_split l tail head lacks plain has = split_by l tail head has.before has.res
 pub last_here : (left head rest : List ℕ) → left ≡ head ++ rest → HasLine left head
 last_here left head rest is = record { before = []; whole = inl refl; rest = rest; is = is }
 
-last_by : (left head before rest : List ℕ) → Lacks 10 left → IsWhole before → left ≡ before ++ (head ++ rest)
+last_by : (left head before rest : List ℕ) → Lacks 10 left → EndsInLf before → left ≡ before ++ (head ++ rest)
     → left ≡ head ++ rest
 last_by left head before rest lacks (inl none) is = is ∙ ap (λ (z : List ℕ). z ++ (head ++ rest)) none
 last_by left head before rest lacks (inr some) is = absurd (not_cut 10 left some.0 (head ++ rest) lacks (is ∙ ap (λ

@@ -8,9 +8,9 @@ use Rattle.std.proofs.Common.{cond, append-nil}
 use Rattle.std.proofs.lemmas.Grind.{common_steps}
 use Rattle.std.proofs.lemmas.Bool.Decides.{nat_tests}
 use Rattle.equation_text.specs.Words.{Lacks}
-use Rattle.equation_text.specs.Faults.{Entry, step_of, node_of, feeds, IsWhole, IsLine, Names}
+use Rattle.equation_text.specs.Faults.{Entry, step_of, node_of, feeds, EndsInLf, IsLine, Names}
 use Rattle.equation_text.specs.Faults.{NamesUndefined}
-use Rattle.equation_text.specs.Entries.{IsSmall, AreDefined, AllKept, OneLost, IsFirstUndefined, NoneUndefined}
+use Rattle.equation_text.specs.Entries.{IsEntry32, AreDefined, AllKept, OneLost, IsFirstUndefined, NoneUndefined}
 use Rattle.equation_text.proofs.WordLemmas.{true_false, not_cut, cut_once}
 use Rattle.equation_text.proofs.WholeText.{whole_line, whole_more}
 use Rattle.equation_text.proofs.LineLemmas.{first_or_later}
@@ -33,7 +33,7 @@ feeds_line before line lacks =
     omega (arith, one, two, last, lacks_count line lacks)
 
 -- what a line names has small numbers
-pub names_small : (line : List ℕ) (x : Entry) → Names line x → IsSmall x
+pub names_small : (line : List ℕ) (x : Entry) → Names line x → IsEntry32 x
 names_small line (step_of p m) named = (
   elim named.1 [
     | inl leads ↦ leads.number.small
@@ -58,7 +58,7 @@ module _ (text : List ℕ) (has : Entry → Bool) (defined : AreDefined text has
 -- the first lines of the text were passed, and each line that names what no line defines stands behind them
 pub record PassedSoFar (text left : List ℕ) (count : ℕ) : Type 0 where
   pub before : List ℕ
-  pub whole : IsWhole before
+  pub whole : EndsInLf before
   pub is : text ≡ before ++ left
   pub count_is : count ≡ feeds before
   pub later : (b l : List ℕ) → IsLine text b l → NamesUndefined text l → (more : List ℕ) × (b ≡ before ++ more)
@@ -85,7 +85,7 @@ rest_by : (x : ℕ) (a b c : List ℕ) → x ∷ (a ++ b) ≡ c ++ 10 ∷ [] →
 rest_by x a b [] is more = let e : a ++ b ≡ [] = cc is in inl (nil_right a b e)
 rest_by x a b (y ∷ c) is more = let e : a ++ b ≡ c ++ 10 ∷ [] = cc is in more c e
 
-pub rest_whole : (a b : List ℕ) → IsWhole (a ++ b) → EndsWhole b
+pub rest_whole : (a b : List ℕ) → EndsInLf (a ++ b) → EndsWhole b
 rest_whole [] b (inl none) = inl none
 rest_whole [] b (inr some) = inr some
 rest_whole (x ∷ a) b (inl none) = absurd (cc none)
@@ -109,7 +109,7 @@ module _ (text left : List ℕ) (count : ℕ) (so_far : PassedSoFar text left co
     count_is = omega (arith, so_far.count_is, feeds_line so_far.before line lacks);
     later = λ b l stands names.
         let old = so_far.later b l stands names in
-        elim (rest_whole so_far.before old.0 (subst (λ (z : List ℕ). IsWhole z) old.1 stands.whole)) [
+        elim (rest_whole so_far.before old.0 (subst (λ (z : List ℕ). EndsInLf z) old.1 stands.whole)) [
           | inl none ↦ absurd (here b l stands names old.0 old.1 none)
           | inr some ↦ there b l stands names old.0 old.1 some.0 some.1
         ];

@@ -6,7 +6,7 @@ use Rattle.std.proofs.lemmas.Fmt.{decimal_injective}
 use Rattle.std.proofs.lemmas.List.{append_cancel_left}
 use Rattle.text_lines.specs.Decimals.{IsDecimal}
 use Rattle.equation_text.specs.Words.{Lacks, EndsWord}
-use Rattle.equation_text.specs.Faults.{Entry, step_of, node_of, IsNextWord, Behind, HasNumber, Leads, LeadsIn}
+use Rattle.equation_text.specs.Faults.{Entry, step_of, node_of, IsNextWord, Behind, HasNumber, HasHead, LeadsIn}
 use Rattle.equation_text.specs.declared.entries.Kind.{Kind}
 use Rattle.equation_text.specs.declared.entries.Kind.TheVariants.{StepsOf, Nodes}
 use Rattle.equation_text.specs.Entries.{entry_in, InPart, NumberIsLost, NumbersKept, NumberLost, StepsKept, StepLost}
@@ -217,7 +217,7 @@ pub no_head : (has : Entry → Bool) (head line : List ℕ) (k : ℕ) → ((rest
 no_head has head line k none n words leads named = absurd (none leads.rest leads.is)
 
 module _ (has : Entry → Bool) (head line rest : List ℕ) (k : ℕ) (is : line ≡ head ++ rest) where
-  same_rest : (words : List ℕ) (leads : Leads head k line words) → Behind k rest words
+  same_rest : (words : List ℕ) (leads : HasHead head k line words) → Behind k rest words
   same_rest words leads = subst (λ (z : List ℕ). Behind k z words) (append_cancel_left head leads.rest rest
       (sym leads.is ∙ is)) leads.behind
 

@@ -12,11 +12,11 @@ use Rattle.bay_contract.specs.declared.fork.Fork.{Fork}
 use Rattle.bay_contract.specs.declared.fork.Target.{Target}
 use Rattle.bay_contract.specs.declared.fork.Target.TheVariants.{Step, Index}
 use Rattle.bay_contract.specs.declared.fork.PartStep.{PartStep}
-use Rattle.bay_contract.specs.Diagrams.{Goes, branch}
+use Rattle.bay_contract.specs.Diagrams.{ForkGoes, branch}
 use Rattle.bay_contract.specs.PartAlphabets.{Alphabets, forks_of, size_of}
 use Rattle.bay_contract.specs.Alphabets.{IsAlphabet, HasIndex}
 use Rattle.bay_contract.specs.Targets.{number_of, IsTargetOf}
-use Rattle.equation_text.specs.EquationLines.{PartLines, index_in, past_greatest, index_count}
+use Rattle.equation_text.specs.EquationLines.{PartLines, index_in, past_greatest, goal_count}
 use Rattle.equation_text.specs.EquationMeaning.{Leads, step_target, StepLeads, NextTarget, LeadsToIndex}
 use Rattle.equation_text.specs.EquationForm.{IsTarget, IsLaterTarget, PartLinesFit}
 use Rattle.equation_text.specs.Compiling.{IsPartStep, AreStepsOf, IsExactPart}
@@ -46,7 +46,7 @@ module _ (d : Diagram) (a : Alphabets) (part : ℕ) (al : IsAlphabet d a part) (
     pub proper : IsTargetOf (length (forks_of a part)) target
     pub number : number_of (length (forks_of a part)) target ≡ c
 
-  stepped : (v : List Bool) (n c : ℕ) → n < length (forks_of a part) → Goes (forks_of a part) v n c → Stepped v n c
+  stepped : (v : List Bool) (n c : ℕ) → n < length (forks_of a part) → ForkGoes (forks_of a part) v n c → Stepped v n c
   stepped v n c lt goes =
       let s = element x.steps n (omega (arith, lt, are.count)) in
       let is = are.each n s.0 s.1 in
@@ -76,7 +76,8 @@ module _ (d : Diagram) (a : Alphabets) (part : ℕ) (al : IsAlphabet d a part) (
       number_is s is true = is.step.step.on
 
   along : (v : List Bool) (t : Target) (after : List ℕ) (i : ℕ) → IsTargetOf (length (forks_of a part)) t →
-      Walks (Goes (forks_of a part) v) (number_of (length (forks_of a part)) t) after (length (forks_of a part) + i) →
+      Walks (ForkGoes (forks_of a part) v) (number_of (length (forks_of a part)) t) after
+          (length (forks_of a part) + i) →
       Leads (NextTarget x.steps v) t (Index i)
   along v (Step n) [] i proper same = absurd (omega (arith, proper, same))
   along v (Index k) [] i proper same =
@@ -85,7 +86,7 @@ module _ (d : Diagram) (a : Alphabets) (part : ℕ) (al : IsAlphabet d a part) (
   along v (Step n) (c ∷ after) i proper ways =
       let s = stepped v n c proper ways.0 in
       leads_on (NextTarget x.steps v) (Step n) s.target (Index i) s.leads (along v s.target after i s.proper
-      (subst (λ k. Walks (Goes (forks_of a part) v) k after (length (forks_of a part) + i)) (sym s.number) ways.1))
+      (subst (λ k. Walks (ForkGoes (forks_of a part) v) k after (length (forks_of a part) + i)) (sym s.number) ways.1))
   along v (Index k) (c ∷ after) i proper ways =
       absurd (omega (
         arith,
@@ -96,7 +97,7 @@ module _ (d : Diagram) (a : Alphabets) (part : ℕ) (al : IsAlphabet d a part) (
   leads_index v i whole has =
       let l = (al.leads v i whole).0 has in
       along v x.start l.after i are.target (subst
-      (λ k. Walks (Goes (forks_of a part) v) k l.after (length (forks_of a part) + i)) (sym are.first) l.leads)
+      (λ k. Walks (ForkGoes (forks_of a part) v) k l.after (length (forks_of a part) + i)) (sym are.first) l.leads)
 
   small_target : (t : Target) → number_of (length (forks_of a part)) t < length (forks_of a part) + size_of a part →
       past_greatest (index_in t) ≤ size_of a part
@@ -111,7 +112,7 @@ module _ (d : Diagram) (a : Alphabets) (part : ℕ) (al : IsAlphabet d a part) (
     omega (arith, is.step.step.on, is.step.fits.on_within),
   )
 
-  no_more : index_count x ≤ size_of a part
+  no_more : goal_count x ≤ size_of a part
   no_more =
       past_both (index_in x.start) (flat_map (λ (s : PartStep). index_in s.off ++ index_in s.on) x.steps)
       (size_of a part)
@@ -124,7 +125,7 @@ module _ (d : Diagram) (a : Alphabets) (part : ℕ) (al : IsAlphabet d a part) (
   last_index : size_of a part - 1 < size_of a part
   last_index = omega (arith, al.some)
 
-  as_many : size_of a part ≤ index_count x
+  as_many : size_of a part ≤ goal_count x
   as_many =
       let v = al.given (size_of a part - 1) last_index in
       let has = (al.examples (size_of a part - 1) last_index).has v.0 v.1 v.2 in

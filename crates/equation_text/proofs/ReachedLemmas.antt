@@ -19,11 +19,12 @@ use Rattle.equation_text.specs.declared.goal.Goal.{Goal}
 use Rattle.equation_text.specs.declared.goal.Goal.TheVariants.{Node, Answer}
 use Rattle.equation_text.specs.declared.goal.SwitchGoals.{SwitchGoals}
 use Rattle.equation_text.specs.EquationLines.{PartLines, NodeLine, goal_towards}
-use Rattle.equation_text.specs.EquationMeaning.{Passes, Leads}
+use Rattle.equation_text.specs.EquationMeaning.{PassesThrough, Leads}
 use Rattle.equation_text.specs.EquationForm.{IsGoal, goals_of}
 use Rattle.equation_text.specs.Growing.{AllGrew, turned_goal, turned_goals, IsTurned}
 use Rattle.equation_text.specs.Apart.{IsFrom, StandApart}
-use Rattle.equation_text.specs.NodeCount.{WritesGoal, IsNodeOf, NoneTwice, AreAtMost}
+use Rattle.equation_text.specs.NodeCount.{WritesGoal, IsNodeOf, AreAtMost}
+use Rattle.release_compile.specs.Layering.{NoneTwice}
 use Rattle.equation_text.specs.Compiling.{view_nodes, switch_nodes}
 use Rattle.equation_text.proofs.GrowingLemmas.{goal_below}
 use Rattle.equation_text.proofs.TurnLemmas.{unmapped, goals_turned, towards_turned}
@@ -127,7 +128,8 @@ module _ (j : Judging) (ops : List SwitchGoals) (nodes turned : List NodeLine) (
       ((grew (length nodes - suc k) x.0 x.1).goals w.place old.0 old.1) in
       subst (λ (z : Goal). Inside m z) old.2 (inside_turned m old.0 lt from below)
 
-  inside_all : (m : ℕ) (g h : Goal) (after : List Goal) → m < n → Inside m g → Passes (WritesGoal turned) g after h →
+  inside_all : (m : ℕ) (g h : Goal) (after : List Goal) → m < n → Inside m g
+      → PassesThrough (WritesGoal turned) g after h →
       Inside m h
   inside_all m g h [] lt inside same = subst (λ (z : Goal). Inside m z) same inside
   inside_all m g h (c ∷ after) lt inside ps = inside_all m c h after lt (inside_next m g c lt inside ps.0) ps.1

@@ -9,12 +9,12 @@ use Rattle.bay_contract.specs.declared.fork.Target.{Target}
 use Rattle.equation_text.specs.declared.goal.Goal.TheVariants.{Answer}
 use Rattle.equation_text.specs.declared.goal.SwitchGoals.{SwitchGoals}
 use Rattle.equation_text.specs.declared.goal.TheConstants.{NUMBERS}
-use Rattle.equation_text.specs.EquationLines.{PartLines, NodeLine, EquationLines, index_count}
+use Rattle.equation_text.specs.EquationLines.{PartLines, NodeLine, EquationLines, goal_count}
 use Rattle.equation_text.specs.EquationText.{part_line, step_line, op_line, node_line, lines_of, text_of}
 use Rattle.equation_text.specs.Reading.{front_text, start_lines, all_step_lines, op_lines, node_lines}
 use Rattle.equation_text.specs.Reading.{MayBeStarts, MayBeOps, MayBeNodes, AreAllSteps}
 use Rattle.equation_text.specs.ReadText.{MayBeParts}
-use Rattle.equation_text.specs.Faults.{IsWhole, AreFormed, Begins}
+use Rattle.equation_text.specs.Faults.{EndsInLf, AreFormed, BeginsText}
 use Rattle.equation_text.specs.Stops.{StopsIn, StopsAtStart, StopsBetween, NoOp, StopsAtOps, StopsAtNode, StopsWrong}
 use Rattle.equation_text.proofs.WordLemmas.{cut_once, lacks_by}
 use Rattle.equation_text.proofs.OnceLemmas.{part_lacks, op_lacks, node_lacks}
@@ -96,10 +96,10 @@ module _ (d : Diagram) (station : IsStation d) where
     abbrev second : List ℕ
     second = text_of (all_step_lines parts)
 
-    whole_first : IsWhole first
+    whole_first : EndsInLf first
     whole_first = whole_text (start_lines ts)
 
-    whole_second : IsWhole second
+    whole_second : EndsInLf second
     whole_second = whole_text (all_step_lines parts)
 
     all_steps : (new : List ℕ) → Alike new l3 → AreAllSteps d ts (second ++ new) new parts
@@ -135,9 +135,10 @@ module _ (d : Diagram) (station : IsStation d) where
         (steps.text ∙ ap (λ (z : List ℕ). second ++ z) e3))
 
     -- the texts of the lemmas on beginnings are written by the starts of the parts
-    at_first : (behind : List ℕ) → Begins d (front_text d ++ (text_of (start_lines (map (λ (x : PartLines). x.start)
-        parts)) ++ behind)) → Begins d (front_text d ++ (first ++ behind))
-    at_first behind b = subst (λ (us : List Target). Begins d (front_text d ++ (text_of (start_lines us) ++ behind)))
+    at_first : (behind : List ℕ) → BeginsText d (front_text d ++ (text_of (start_lines (map (λ (x : PartLines). x.start)
+        parts)) ++ behind)) → BeginsText d (front_text d ++ (first ++ behind))
+    at_first behind b = subst
+        (λ (us : List Target). BeginsText d (front_text d ++ (text_of (start_lines us) ++ behind)))
         steps.starts_are b
 
     may_parts : MayBeParts d parts
@@ -225,7 +226,7 @@ module _ (d : Diagram) (station : IsStation d) where
             refl (append_assoc (op_line ToOff number between.goals) (10 ∷ []) last) in
             sym (grown ∙ append-nil (text_of (op_lines more_ops)))
 
-        begins_two : Begins d before_two
+        begins_two : BeginsText d before_two
         begins_two =
             let last : List ℕ = op_line ToOn number filled ++ 10 ∷ [] in
             let may = ops_push number (length more_ops) stop.ops more_ops filled count_more refl (record {
@@ -234,9 +235,9 @@ module _ (d : Diagram) (station : IsStation d) where
             }) stop.may in
             let b = at_first (second ++ text_of (op_lines more_ops)) (begins_ops d parts more_ops may_parts
             (omega (arith, stop.few, count_more)) may) in
-            begins_prefix d before_two last (subst (λ (z : List ℕ). Begins d z) (sym (nest_four (front_text d) first
+            begins_prefix d before_two last (subst (λ (z : List ℕ). BeginsText d z) (sym (nest_four (front_text d) first
             second third line last))
-            (subst (λ (z : List ℕ). Begins d (front_text d ++ (first ++ (second ++ z)))) ops_are
+            (subst (λ (z : List ℕ). BeginsText d (front_text d ++ (first ++ (second ++ z)))) ops_are
             b))
 
         wrong_closing : StopsWrong d text left
@@ -265,7 +266,7 @@ module _ (d : Diagram) (station : IsStation d) where
       abbrev lines_with : List NodeLine → EquationLines
       lines_with nodes = record { parts = parts; ops = ops; nodes = nodes }
 
-      formed_with : (nodes : List NodeLine) → MayBeNodes (length d.switches) (map index_count parts) nodes
+      formed_with : (nodes : List NodeLine) → MayBeNodes (length d.switches) (map goal_count parts) nodes
           → AreFormed d (lines_with nodes)
       formed_with nodes may = record { parts = may_parts; ops = may3; nodes = may }
 
@@ -288,10 +289,10 @@ module _ (d : Diagram) (station : IsStation d) where
           (sym g.is) in
           record { parts_are = g.parts_are; is = nodes.1 }
 
-      counts_small : length (map index_count parts) ≤ 256
-      counts_small = omega (arith, length-map parts index_count, may_parts.count, station.items.parts_few)
+      counts_small : length (map goal_count parts) ≤ 256
+      counts_small = omega (arith, length-map parts goal_count, may_parts.count, station.items.parts_few)
 
-      module _ (left : List ℕ) (stop : StopsAtNode (length d.switches) (map index_count parts) l4 left) where
+      module _ (left : List ℕ) (stop : StopsAtNode (length d.switches) (map goal_count parts) l4 left) where
         abbrev fifth : List ℕ
         fifth = text_of (node_lines stop.nodes)
 
@@ -303,15 +304,15 @@ module _ (d : Diagram) (station : IsStation d) where
             let whole = text_of (lines_of d e) in
             let g = ends e formed (fifth ++ more) (fifth ++ left) (same ∙ nest_four (front_text d) first second fourth
             fifth more) (alike_more fifth more left alike) stop.passed in
-            let may = subst (λ (ps : List PartLines). MayBeNodes (length d.switches) (map index_count ps) e.nodes)
+            let may = subst (λ (ps : List PartLines). MayBeNodes (length d.switches) (map goal_count ps) e.nodes)
             (sym g.parts_are) formed.nodes in
-            elim (after_nodes (length d.switches) (map index_count parts) stop.nodes e.nodes
+            elim (after_nodes (length d.switches) (map goal_count parts) stop.nodes e.nodes
             (at_end d station e formed whole refl) more [] (few_switches d station e formed whole refl) counts_small
             stop.may.few stop.may.each may (sym g.is) refl) [
               | inl next ↦
                   let found = alike.line (node_line (length stop.nodes) next.node) next.rest (node_lacks
                   (length stop.nodes) next.node next.number (writable (length d.switches) (length stop.nodes)
-                  (map index_count parts) next.node (few_switches d station e formed whole refl) counts_small next.may))
+                  (map goal_count parts) next.node (few_switches d station e formed whole refl) counts_small next.may))
                   next.is in
                   stop.none next.node found.0 next.may found.1
               | inr end ↦
@@ -330,7 +331,7 @@ module _ (d : Diagram) (station : IsStation d) where
               (formed_with stop.nodes stop.may))) no_node;
         }
 
-      module _ (nodes : List NodeLine) (may4 : MayBeNodes (length d.switches) (map index_count parts) nodes)
+      module _ (nodes : List NodeLine) (may4 : MayBeNodes (length d.switches) (map goal_count parts) nodes)
           (left : List ℕ) (e4 : l4 ≡ text_of (node_lines nodes) ++ (codes "end\n" ++ left)) (some : left ≢ []) where
         abbrev sixth : List ℕ
         sixth = text_of (node_lines nodes) ++ codes "end\n"
@@ -344,7 +345,7 @@ module _ (d : Diagram) (station : IsStation d) where
             let g = ends e formed (sixth ++ more) (sixth ++ left) (same ∙ nest_four (front_text d) first second fourth
             sixth more) (alike_more sixth more left alike) (e4 ∙ sym (append_assoc (text_of (node_lines nodes))
             (codes "end\n") left)) in
-            let may = subst (λ (ps : List PartLines). MayBeNodes (length d.switches) (map index_count ps) nodes)
+            let may = subst (λ (ps : List PartLines). MayBeNodes (length d.switches) (map goal_count ps) nodes)
             g.parts_are may4 in
             let none = left_none d station e formed whole refl nodes (at_end d station e formed whole refl) more
             refl may

@@ -15,7 +15,7 @@ use Rattle.equation_text.specs.declared.goal.Goal.{Goal}
 use Rattle.equation_text.specs.declared.goal.Goal.TheVariants.{Node, Answer}
 use Rattle.equation_text.specs.declared.goal.SwitchGoals.{SwitchGoals}
 use Rattle.equation_text.specs.declared.goal.TheConstants.{NUMBERS}
-use Rattle.equation_text.specs.EquationLines.{PartLines, NodeLine, part_node, switch_node, EquationLines, index_count}
+use Rattle.equation_text.specs.EquationLines.{PartLines, NodeLine, part_node, switch_node, EquationLines, goal_count}
 use Rattle.equation_text.specs.EquationForm.{IsTarget, IsLaterGoal, IsGoal, goals_of}
 use Rattle.equation_text.specs.EquationText.{part_line, step_line, op_line, node_line, lines_of, text_of}
 use Rattle.equation_text.specs.Words.{Lacks}
@@ -24,7 +24,7 @@ use Rattle.equation_text.specs.Reading.{front_text, start_lines, all_step_lines,
 use Rattle.equation_text.specs.Defined.{AreThere}
 use Rattle.equation_text.specs.Faults.{Entry, step_of, node_of, head_of, IsDefined, Names}
 use Rattle.equation_text.specs.Faults.{AreFormed, feeds}
-use Rattle.equation_text.specs.Entries.{IsSmall, NoneWithout}
+use Rattle.equation_text.specs.Entries.{IsEntry32, NoneWithout}
 use Rattle.equation_text.proofs.TurnLemmas.{mapped}
 use Rattle.equation_text.proofs.WordLemmas.{lacks_by}
 use Rattle.equation_text.proofs.OnceLemmas.{any_target, part_lacks, op_lacks, node_lacks}
@@ -112,8 +112,8 @@ module _ (d : Diagram) (station : IsStation d) (e : EquationLines) (formed : Are
   few_switches : length d.switches ≤ 65536
   few_switches = omega (arith, station.items.switches_few)
 
-  few_counts : length (map index_count e.parts) ≤ 256
-  few_counts = omega (arith, length-map e.parts index_count, formed.parts.count, few_parts)
+  few_counts : length (map goal_count e.parts) ≤ 256
+  few_counts = omega (arith, length-map e.parts goal_count, formed.parts.count, few_parts)
 
   part_small : (p : ℕ) (x : PartLines) → slice_get e.parts p ≡ Some x → p < 256
   part_small p x at = omega (arith, slice_get_within e.parts p x at, formed.parts.count, few_parts)
@@ -137,9 +137,9 @@ module _ (d : Diagram) (station : IsStation d) (e : EquationLines) (formed : Are
   -- a line without LF that defines nothing that is not there
   record IsPlain (l : List ℕ) : Type 0 where
     pub lacks : Lacks 10 l
-    pub told : (x : Entry) (more : List ℕ) → IsSmall x → l ≡ head_of x ++ more → IsThere x
+    pub told : (x : Entry) (more : List ℕ) → IsEntry32 x → l ≡ head_of x ++ more → IsThere x
 
-  past : (ls : List (List ℕ)) (tail : List ℕ) (x : Entry) → ((l : List ℕ) → Among l ls → IsPlain l) → IsSmall x
+  past : (ls : List (List ℕ)) (tail : List ℕ) (x : Entry) → ((l : List ℕ) → Among l ls → IsPlain l) → IsEntry32 x
       → IsDefined (text_of ls ++ tail) x → IsThere x ⊎ IsDefined tail x
   past ls tail x plain small has =
       elim (among_or_later ls tail (head_of x) (λ l a. (plain l a).lacks) (head_lacks x small)
@@ -170,7 +170,7 @@ module _ (d : Diagram) (station : IsStation d) (e : EquationLines) (formed : Are
       })
 
   step_told : (p m : ℕ) (y : PartLines) (s : PartStep) (x : Entry) (more : List ℕ) → slice_get e.parts p ≡ Some y
-      → slice_get y.steps m ≡ Some s → IsSmall x → step_line p m s ≡ head_of x ++ more → IsThere x
+      → slice_get y.steps m ≡ Some s → IsEntry32 x → step_line p m s ≡ head_of x ++ more → IsThere x
   step_told p m y s (step_of q k) more at at_step small begins =
       let words = append_cancel_left (codes "step ") (decimal p ++ 32 ∷ (decimal m ++ 32 ∷ test_text s))
       (decimal q ++ 32 ∷ (decimal k ++ 32 ∷ more)) (sym (step_parts p m s) ∙ begins ∙ step_head q k more) in
@@ -229,7 +229,7 @@ module _ (d : Diagram) (station : IsStation d) (e : EquationLines) (formed : Are
           })
       by s g (suc (suc i)) small opening closing at = absurd (cc at)
 
-  node_told : (k : ℕ) (y : NodeLine) (x : Entry) (more : List ℕ) → slice_get e.nodes k ≡ Some y → IsSmall x
+  node_told : (k : ℕ) (y : NodeLine) (x : Entry) (more : List ℕ) → slice_get e.nodes k ≡ Some y → IsEntry32 x
       → node_line k y ≡ head_of x ++ more → IsThere x
   node_told k y (step_of p m) more at small begins =
       let b : 110 ≡ 115 = ap first_byte (sym (node_begins k y).1 ∙ begins) in
@@ -250,11 +250,11 @@ module _ (d : Diagram) (station : IsStation d) (e : EquationLines) (formed : Are
       subst IsPlain line (record {
         lacks =
             node_lacks f.place f.entry (omega (arith, node_small f.place f.entry f.at)) (writable (length d.switches)
-            f.place (map index_count e.parts) f.entry few_switches few_counts (formed.nodes.each f.place f.entry f.at));
+            f.place (map goal_count e.parts) f.entry few_switches few_counts (formed.nodes.each f.place f.entry f.at));
         told = λ x more small begins. node_told f.place f.entry x more f.at small begins;
       })
 
-  end_defines : (x : Entry) → IsSmall x → IsDefined (codes "end\n") x → ⊥
+  end_defines : (x : Entry) → IsEntry32 x → IsDefined (codes "end\n") x → ⊥
   end_defines x small has = elim (line_split (codes "end") [] (head_of x) (lacks_by 10
       (codes "end") refl) (head_lacks x small) has) [
         | inl begins ↦ other_byte x (codes "end") begins.0 (λ b. omega (arith, b)) (λ b. omega (arith, b)) begins.1
@@ -263,7 +263,7 @@ module _ (d : Diagram) (station : IsStation d) (e : EquationLines) (formed : Are
             other_byte x [] begins.0 (λ b. omega (arith, b)) (λ b. omega (arith, b)) begins.1
       ]
 
-  there_of : (x : Entry) → IsSmall x → IsDefined body x → IsThere x
+  there_of : (x : Entry) → IsEntry32 x → IsDefined body x → IsThere x
   there_of x small has = elim (past (start_lines targets) body_steps x plain_start small has) [
     | inl there ↦ there
     | inr behind ↦ elim (past (all_step_lines e.parts) body_ops x plain_step small behind) [
@@ -413,15 +413,15 @@ module _ (d : Diagram) (station : IsStation d) (e : EquationLines) (formed : Are
         node_there n (op_line ToOn s x) small (op_lacks ToOn s x (omega (arith, number)) fits) (closing_stands s x at)
         (goal_names ToOn s n x named (omega (arith, number)) small))
 
-    names_goal : (k i n : ℕ) (y : NodeLine) → MayBeNode (length d.switches) (map index_count e.parts) k y
+    names_goal : (k i n : ℕ) (y : NodeLine) → MayBeNode (length d.switches) (map goal_count e.parts) k y
         → slice_get (goals_of y) i ≡ Some (Node n) → k < 2 ^ 32 → n < 2 ^ 32 → Names (node_line k y) (node_of n)
     names_goal k i n (part_node part goals) may at small_k small_n =
-        let within = slice_get_within (map index_count e.parts) part (length goals) may.0 in
+        let within = slice_get_within (map goal_count e.parts) part (length goals) may.0 in
         part_node_names k part i n goals at small_k (omega (arith, within, few_counts)) small_n
     names_goal k i n (switch_node switch off on) may at small_k small_n =
         switch_node_names k switch i n off on at small_k (omega (arith, may.0, few_switches)) small_n
 
-    may_goal : (k i : ℕ) (y : NodeLine) (g : Goal) → MayBeNode (length d.switches) (map index_count e.parts) k y
+    may_goal : (k i : ℕ) (y : NodeLine) (g : Goal) → MayBeNode (length d.switches) (map goal_count e.parts) k y
         → slice_get (goals_of y) i ≡ Some g → IsGoal NUMBERS g
     may_goal k i (part_node part goals) g may at = later_goal k g (may.1 i g at)
     may_goal k zero (switch_node switch off on) g may at =
@@ -440,7 +440,7 @@ module _ (d : Diagram) (station : IsStation d) (e : EquationLines) (formed : Are
         goal_there (length e.nodes) g (λ n named.
         let small = small_goal g n (may_goal k i y g may at_goal) named in
         node_there n (node_line k y) small (node_lacks k y (omega (arith, number)) (writable (length d.switches) k
-        (map index_count e.parts) y few_switches few_counts may)) (node_stands k y at) (names_goal k i n y may
+        (map goal_count e.parts) y few_switches few_counts may)) (node_stands k y at) (names_goal k i n y may
         (at_goal ∙ ap Some named) number small))
 
     pub all_there : AreThere e.parts e.ops e.nodes

@@ -10,7 +10,7 @@ use Rattle.equation_text.specs.declared.goal.Goal.{Goal}
 use Rattle.equation_text.specs.declared.goal.Goal.TheVariants.{Node, Answer}
 use Rattle.equation_text.specs.declared.goal.SwitchGoals.{SwitchGoals}
 use Rattle.equation_text.specs.declared.goal.TheConstants.{NUMBERS}
-use Rattle.equation_text.specs.EquationLines.{PartLines, NodeLine, part_node, switch_node, EquationLines, index_count}
+use Rattle.equation_text.specs.EquationLines.{PartLines, NodeLine, part_node, switch_node, EquationLines, goal_count}
 use Rattle.equation_text.specs.EquationForm.{IsTarget, IsLaterTarget, IsGoal, IsLaterGoal}
 use Rattle.equation_text.specs.EquationForm.{NodeLineFits, AreEquations}
 use Rattle.equation_text.specs.EquationText.{step_line, node_line, lines_of, text_of}
@@ -67,9 +67,9 @@ few_later_goal n m (Node k) few is = (is.0, omega (arith, few, is.1))
 few_later_goal n m (Answer a) few is = tt
 
 node_may : (switches n m : ℕ) (parts : List PartLines) (x : NodeLine) → n ≤ NUMBERS
-    → NodeLineFits switches parts n m x → MayBeNode switches (map index_count parts) m x
+    → NodeLineFits switches parts n m x → MayBeNode switches (map goal_count parts) m x
 node_may switches n m parts (part_node part goals) few fits = (
-  mapped index_count parts part fits.by.lines fits.by.listed ∙ ap Some
+  mapped goal_count parts part fits.by.lines fits.by.listed ∙ ap Some
       (sym fits.by.count),
   λ i g at. few_later_goal n m g few (fits.goals i g at),
 )
@@ -160,10 +160,10 @@ module _ (d : Diagram) (station : IsStation d) (e : EquationLines) (are : AreEqu
     };
   }
 
-  nodes_may : MayBeNodes (length d.switches) (map index_count e.parts) e.nodes
+  nodes_may : MayBeNodes (length d.switches) (map goal_count e.parts) e.nodes
   nodes_may = record {
     few = few_nodes;
-    each = λ n x at. subst (λ k. MayBeNode k (map index_count e.parts) n x) are.ops (node_may (length e.ops)
+    each = λ n x at. subst (λ k. MayBeNode k (map goal_count e.parts) n x) are.ops (node_may (length e.ops)
         (length e.nodes) n e.parts x few_nodes (are.whole.nodes n x at));
   }
 

@@ -9,7 +9,7 @@ use Rattle.equation_text.specs.declared.goal.Goal.{Goal}
 use Rattle.equation_text.specs.declared.goal.Goal.TheVariants.{Node, Answer}
 use Rattle.equation_text.specs.declared.goal.SwitchGoals.{SwitchGoals}
 use Rattle.equation_text.specs.declared.goal.TheConstants.{NUMBERS}
-use Rattle.equation_text.specs.EquationLines.{PartLines, NodeLine, part_node, switch_node, EquationLines, index_count}
+use Rattle.equation_text.specs.EquationLines.{PartLines, NodeLine, part_node, switch_node, EquationLines, goal_count}
 use Rattle.equation_text.specs.EquationForm.{IsTarget, IsLaterTarget, IsGoal, IsLaterGoal, NodeLineFits, goals_of}
 use Rattle.equation_text.specs.EquationForm.{AreWhole, AreEquations}
 use Rattle.equation_text.specs.Beginnings.{MayBeNode}
@@ -50,9 +50,9 @@ there_of e whole = record {
 }
 
 node_fits : (switches n m : ℕ) (parts : List PartLines) (x : NodeLine) → MayBeNode switches
-    (map index_count parts) m x → GoalsThere n (goals_of x) → NodeLineFits switches parts n m x
+    (map goal_count parts) m x → GoalsThere n (goals_of x) → NodeLineFits switches parts n m x
 node_fits switches n m parts (part_node part goals) may there =
-    let x = unmapped index_count parts part (length goals) may.0 in
+    let x = unmapped goal_count parts part (length goals) may.0 in
     record {
       by = record { lines = x.0; listed = x.1; count = sym x.2 };
       goals = λ i g at. goal_later n m g

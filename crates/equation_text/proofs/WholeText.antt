@@ -7,16 +7,16 @@ use Rattle.equation_text.specs.EquationLines.{EquationLines}
 use Rattle.equation_text.specs.EquationText.{switch_line, numbered, lines_of, text_of}
 use Rattle.equation_text.specs.Reading.{front_text}
 use Rattle.equation_text.specs.Words.{Lacks}
-use Rattle.equation_text.specs.Faults.{IsWhole, AreFormed, Begins, IsWrongAt}
+use Rattle.equation_text.specs.Faults.{EndsInLf, AreFormed, BeginsText, IsWrongAt}
 use Rattle.equation_text.proofs.WordLemmas.{cut_once, not_cut}
 
 -- ---- whole lines
 
-pub whole_line : (l : List ℕ) → IsWhole (l ++ 10 ∷ [])
+pub whole_line : (l : List ℕ) → EndsInLf (l ++ 10 ∷ [])
 whole_line l = inr (l, refl)
 
-pub whole_more : (a b : List ℕ) → IsWhole a → IsWhole b → IsWhole (a ++ b)
-whole_more a b whole (inl none) = subst (λ (z : List ℕ). IsWhole z) (sym (append-nil a) ∙ ap (λ (z : List ℕ). a ++ z)
+pub whole_more : (a b : List ℕ) → EndsInLf a → EndsInLf b → EndsInLf (a ++ b)
+whole_more a b whole (inl none) = subst (λ (z : List ℕ). EndsInLf z) (sym (append-nil a) ∙ ap (λ (z : List ℕ). a ++ z)
     (sym none)) whole
 whole_more a b whole (inr some) = inr (
   a ++ some.0,
@@ -24,37 +24,38 @@ whole_more a b whole (inr some) = inr (
       (10 ∷ [])),
 )
 
-pub whole_text : (ls : List (List ℕ)) → IsWhole (text_of ls)
+pub whole_text : (ls : List (List ℕ)) → EndsInLf (text_of ls)
 whole_text [] = inl refl
 whole_text (l ∷ ls) = whole_more (l ++ codes "\n") (text_of ls) (whole_line l) (whole_text ls)
 
-pub front_whole : (d : Diagram) → IsWhole (front_text d)
+pub front_whole : (d : Diagram) → EndsInLf (front_text d)
 front_whole d = whole_text (codes "equations" ∷ numbered (λ s path. switch_line s path ∷ []) d.switch_paths)
 
-pub whole_four : (a b c e : List ℕ) → IsWhole a → IsWhole b → IsWhole c → IsWhole e → IsWhole (a ++ (b ++ (c ++ e)))
+pub whole_four : (a b c e : List ℕ) → EndsInLf a → EndsInLf b → EndsInLf c → EndsInLf e
+    → EndsInLf (a ++ (b ++ (c ++ e)))
 whole_four a b c e p q r s = whole_more a (b ++ (c ++ e)) p (whole_more b (c ++ e) q (whole_more c e r s))
 
-pub whole_five : (a b c e f : List ℕ) → IsWhole a → IsWhole b → IsWhole c → IsWhole e → IsWhole f
-    → IsWhole (a ++ (b ++ (c ++ (e ++ f))))
+pub whole_five : (a b c e f : List ℕ) → EndsInLf a → EndsInLf b → EndsInLf c → EndsInLf e → EndsInLf f
+    → EndsInLf (a ++ (b ++ (c ++ (e ++ f))))
 whole_five a b c e f p q r s t = whole_more a (b ++ (c ++ (e ++ f))) p (whole_four b c e f q r s t)
 
 no_line : (l rest : List ℕ) → l ++ 10 ∷ rest ≡ [] → ⊥
 no_line [] rest is = cc is
 no_line (b ∷ l) rest is = cc is
 
-whole_behind : (l more b : List ℕ) → l ++ 10 ∷ more ≡ b ++ 10 ∷ [] → IsWhole more
+whole_behind : (l more b : List ℕ) → l ++ 10 ∷ more ≡ b ++ 10 ∷ [] → EndsInLf more
 whole_behind [] more [] is = let e : more ≡ [] = cc is in inl e
 whole_behind [] more (c ∷ b) is = let e : more ≡ b ++ 10 ∷ [] = cc is in inr (b, e)
 whole_behind (x ∷ l) more [] is = let e : l ++ 10 ∷ more ≡ [] = cc is in absurd (no_line l more e)
 whole_behind (x ∷ l) more (c ∷ b) is = let e : l ++ 10 ∷ more ≡ b ++ 10 ∷ [] = cc is in whole_behind l more b e
 
 -- what follows a line of whole lines is whole lines
-pub whole_rest : (text l more : List ℕ) → IsWhole text → text ≡ l ++ 10 ∷ more → IsWhole more
+pub whole_rest : (text l more : List ℕ) → EndsInLf text → text ≡ l ++ 10 ∷ more → EndsInLf more
 whole_rest text l more (inl none) is = absurd (no_line l more (sym is ∙ none))
 whole_rest text l more (inr some) is = whole_behind l more some.0 (sym is ∙ some.1)
 
 -- whole lines without LF are none
-pub whole_none : (text : List ℕ) → IsWhole text → Lacks 10 text → text ≡ []
+pub whole_none : (text : List ℕ) → EndsInLf text → Lacks 10 text → text ≡ []
 whole_none text (inl none) lacks = none
 whole_none text (inr some) lacks = absurd (not_cut 10 text some.0 [] lacks some.1)
 
@@ -95,7 +96,7 @@ module _ (d : Diagram) (before left : List ℕ) where
   NothingFits = (e : EquationLines) → AreFormed d e → (more : List ℕ) → text_of (lines_of d e) ≡ before ++ more
       → Alike more left → ⊥
 
-  pub wrong_at : IsWhole before → Begins d before → NothingFits → IsWrongAt d before left
+  pub wrong_at : EndsInLf before → BeginsText d before → NothingFits → IsWrongAt d before left
   wrong_at whole begins nothing = record {
     whole = whole;
     begins = begins;

@@ -14,7 +14,7 @@ use Rattle.bay_contract.specs.Targets.{number_of, IsTargetOf, IsStepAt}
 use Rattle.station_graph.specs.Connection.{a_switch}
 use Rattle.station_graph.specs.Sharing.{OfPart}
 use Rattle.release_compile.specs.declared.view.View.{View}
-use Rattle.release_compile.specs.Graphs.{Says}
+use Rattle.release_compile.specs.Graphs.{LabelSays}
 use Rattle.release_compile.specs.Built.{ViewOf, BayOf}
 use Rattle.release_compile.specs.Judging.{Judging, bay_at, inner_at as graph_of}
 use Rattle.central_rules.specs.Meaning.{bay_of}
@@ -23,7 +23,7 @@ use Rattle.decision_graphs.specs.Reaching.{node_total}
 use Rattle.equation_text.specs.declared.goal.Goal.{Goal}
 use Rattle.equation_text.specs.declared.goal.Goal.TheVariants.{Answer}
 use Rattle.equation_text.specs.declared.goal.SwitchGoals.{SwitchGoals}
-use Rattle.equation_text.specs.EquationLines.{PartLines, NodeLine, EquationLines, index_count, goal_towards}
+use Rattle.equation_text.specs.EquationLines.{PartLines, NodeLine, EquationLines, goal_count, goal_towards}
 use Rattle.equation_text.specs.EquationMeaning.{LeadsToIndex, Leads, NextGoal, Means}
 use Rattle.equation_text.specs.EquationForm.{OpsFit}
 use Rattle.equation_text.specs.Growing.{AllGrew, LeadsToEnd}
@@ -56,7 +56,7 @@ pub record ArePartsOf (a : Alphabets) (n : ℕ) (parts : List PartLines) : Type 
 -- The lines of a part are exact: they lead to its index in each vector, and have as many indices as it has.
 pub record IsExactPart (d : Diagram) (a : Alphabets) (part : ℕ) (x : PartLines) : Type 0 where
   pub leads : (v : List Bool) (i : ℕ) → IsVector d v → HasIndex d a part i v → LeadsToIndex x v i
-  pub count : index_count x ≡ size_of a part
+  pub count : goal_count x ≡ size_of a part
 
 -- The lines of all parts are.
 pub record AreExactParts (d : Diagram) (a : Alphabets) (parts : List PartLines) : Type 0 where
@@ -90,7 +90,7 @@ switch_nodes j m =
 pub record ViewLeads (view : View) (d : Diagram) (parts : List PartLines) (nodes : List NodeLine) (v : List Bool)
     (m : ℕ) (goal : Goal) (ends : List Goal) : Type 0 where
   pub label : ℕ
-  pub says : Says view d m v label
+  pub says : LabelSays view d m v label
   pub leads : LeadsToEnd parts nodes v goal ends label
 
 -- In v the goals of the switch lead to the answers of the rules.

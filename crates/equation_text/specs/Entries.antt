@@ -9,7 +9,7 @@ use Rattle.equation_text.specs.declared.entries.Step.{Step}
 use Rattle.equation_text.specs.declared.entries.Kind.{Kind}
 use Rattle.equation_text.specs.declared.entries.Kind.TheVariants.{StepsOf, Nodes}
 use Rattle.equation_text.specs.declared.entries.Entries.{Entries}
-use Rattle.equation_text.specs.Faults.{Entry, step_of, node_of, head_of, IsDefined, IsNextWord, HasNumber, Leads}
+use Rattle.equation_text.specs.Faults.{Entry, step_of, node_of, head_of, IsDefined, IsNextWord, HasNumber, HasHead}
 use Rattle.equation_text.specs.Faults.{LeadsIn, feeds, Names, NamesUndefined, IsLine, HasUndefined}
 
 -- Steps go by their parts, and then by their numbers.
@@ -27,28 +27,28 @@ entry_in (StepsOf p) m = step_of p m
 entry_in Nodes n = node_of n
 
 -- Its numbers have 32 bits.
-abbrev pub IsSmall : Entry → Type 0
-IsSmall (step_of p m) = (p < 2 ^ 32) × (m < 2 ^ 32)
-IsSmall (node_of n) = n < 2 ^ 32
+abbrev pub IsEntry32 : Entry → Type 0
+IsEntry32 (step_of p m) = (p < 2 ^ 32) × (m < 2 ^ 32)
+IsEntry32 (node_of n) = n < 2 ^ 32
 
 -- The line defines the entry, whose numbers have 32 bits.
 pub record Defines (line : List ℕ) (entry : Entry) : Type 0 where
-  pub small : IsSmall entry
+  pub small : IsEntry32 entry
   pub rest : List ℕ
   pub is : line ≡ head_of entry ++ rest
 
 -- The line defines no entry.
 abbrev pub DefinesNone : List ℕ → Type 0
-DefinesNone line = (x : Entry) (rest : List ℕ) → IsSmall x → line ≢ head_of x ++ rest
+DefinesNone line = (x : Entry) (rest : List ℕ) → IsEntry32 x → line ≢ head_of x ++ rest
 
 -- What is there now was there before, or the line defines it.
 abbrev pub AddsLine : List ℕ → (Entry → Bool) → (Entry → Bool) → Type 0
-AddsLine line old new = (x : Entry) → IsSmall x
+AddsLine line old new = (x : Entry) → IsEntry32 x
     → IsTrue (new x) ↔ (((rest : List ℕ) × (line ≡ head_of x ++ rest)) ⊎ IsTrue (old x))
 
 -- An entry is there exactly where a line of the text defines it.
 abbrev pub AreDefined : List ℕ → (Entry → Bool) → Type 0
-AreDefined text has = (x : Entry) → IsSmall x → IsTrue (has x) ↔ IsDefined text x
+AreDefined text has = (x : Entry) → IsEntry32 x → IsTrue (has x) ↔ IsDefined text x
 
 -- The entry of the number that the word is is not there.
 abbrev pub NumberIsLost : (Entry → Bool) → Kind → List ℕ → Type 0
@@ -86,14 +86,14 @@ pub record StepLost (has : Entry → Bool) (head : List ℕ) (skipped : ℕ) (li
 
 -- Each node that such a line names is there.
 abbrev pub NodesKept : (Entry → Bool) → List ℕ → ℕ → List ℕ → Type 0
-NodesKept has head skipped line = (n : ℕ) (words : List ℕ) → Leads head skipped line words → HasNumber words n
+NodesKept has head skipped line = (n : ℕ) (words : List ℕ) → HasHead head skipped line words → HasNumber words n
     → IsTrue (has (node_of n))
 
 -- One is not.
 pub record NodeLost (has : Entry → Bool) (head : List ℕ) (skipped : ℕ) (line : List ℕ) : Type 0 where
   pub number : ℕ
   pub words : List ℕ
-  pub leads : Leads head skipped line words
+  pub leads : HasHead head skipped line words
   pub named : HasNumber words number
   pub lost : has (node_of number) ≡ false
 

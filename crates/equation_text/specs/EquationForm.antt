@@ -10,7 +10,7 @@ use Rattle.equation_text.specs.declared.goal.Goal.{Goal}
 use Rattle.equation_text.specs.declared.goal.Goal.TheVariants.{Node, Answer}
 use Rattle.equation_text.specs.declared.goal.SwitchGoals.{SwitchGoals}
 use Rattle.equation_text.specs.declared.goal.TheConstants.{GREATEST_INDEX}
-use Rattle.equation_text.specs.EquationLines.{PartLines, NodeLine, part_node, switch_node, EquationLines, index_count}
+use Rattle.equation_text.specs.EquationLines.{PartLines, NodeLine, part_node, switch_node, EquationLines, goal_count}
 
 -- The target is one of so many steps, or an index.
 abbrev pub IsTarget : ℕ → Target → Type 0
@@ -55,7 +55,7 @@ AreLaterGoals nodes n goals = (i : ℕ) (g : Goal) → slice_get goals i ≡ Som
 pub record HasGoals (parts : List PartLines) (part : ℕ) (goals : List Goal) : Type 0 where
   pub lines : PartLines
   pub listed : slice_get parts part ≡ Some lines
-  pub count : length goals ≡ index_count lines
+  pub count : length goals ≡ goal_count lines
 
 -- A node leads on by a part with a goal for each index, or by one of so many switches.
 abbrev pub LeadsBy : ℕ → List PartLines → NodeLine → Type 0

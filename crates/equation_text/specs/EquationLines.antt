@@ -47,5 +47,5 @@ past_greatest [] = 0
 past_greatest (i ∷ is) = max (suc i) (past_greatest is)
 
 -- How many goals a node of the part has.
-abbrev pub index_count : PartLines → ℕ
-index_count x = past_greatest (indices_in x)
+abbrev pub goal_count : PartLines → ℕ
+goal_count x = past_greatest (indices_in x)

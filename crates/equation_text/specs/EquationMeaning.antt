@@ -12,14 +12,14 @@ use Rattle.equation_text.specs.EquationLines.{PartLines, NodeLine, part_node, sw
 
 -- The list begins at a and ends at b, and each of its entries is followed by the next. It is written as a
 -- and what comes after it.
-abbrev pub Passes : {X : Type 0} → (X → X → Type 0) → X → List X → X → Type 0
-Passes Next a [] b = a ≡ b
-Passes Next a (c ∷ rest) b = Next a c × Passes Next c rest b
+abbrev pub PassesThrough : {X : Type 0} → (X → X → Type 0) → X → List X → X → Type 0
+PassesThrough Next a [] b = a ≡ b
+PassesThrough Next a (c ∷ rest) b = Next a c × PassesThrough Next c rest b
 
 -- There is such a list.
 pub record Leads {X : Type 0} (Next : X → X → Type 0) (a b : X) : Type 0 where
   pub after : List X
-  pub passes : Passes Next a after b
+  pub passes : PassesThrough Next a after b
 
 -- Where a step leads by the position of its switch.
 abbrev pub step_target : PartStep → Bool → Target

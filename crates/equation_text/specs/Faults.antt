@@ -4,7 +4,7 @@ use Rattle.std.specs.Prelude.{◌≡◌, ◌≤◌, ◌==◌, ◌++◌, ◌⊎�
 use Rattle.std.specs.Prelude.{count_by}
 use Rattle.station_graph.specs.Diagram.{Diagram}
 use Rattle.text_lines.specs.Decimals.{IsDecimal}
-use Rattle.equation_text.specs.EquationLines.{EquationLines, index_count}
+use Rattle.equation_text.specs.EquationLines.{EquationLines, goal_count}
 use Rattle.equation_text.specs.EquationText.{lines_of, text_of}
 use Rattle.equation_text.specs.Words.{Lacks, EndsWord}
 use Rattle.equation_text.specs.Reading.{front_text, MayBeOps, MayBeNodes}
@@ -15,17 +15,17 @@ abbrev pub feeds : List ℕ → ℕ
 feeds text = count_by (λ byte. byte == 10) text
 
 -- The text is empty or ends with LF.
-abbrev pub IsWhole : List ℕ → Type 0
-IsWhole text = (text ≡ []) ⊎ ((before : List ℕ) × (text ≡ before ++ 10 ∷ []))
+abbrev pub EndsInLf : List ℕ → Type 0
+EndsInLf text = (text ≡ []) ⊎ ((before : List ℕ) × (text ≡ before ++ 10 ∷ []))
 
 -- The lines are of the form, but for numbers that no line defines.
 pub record AreFormed (d : Diagram) (e : EquationLines) : Type 0 where
   pub parts : MayBeParts d e.parts
   pub ops : MayBeOps (length d.switches) e.ops
-  pub nodes : MayBeNodes (length d.switches) (map index_count e.parts) e.nodes
+  pub nodes : MayBeNodes (length d.switches) (map goal_count e.parts) e.nodes
 
 -- A text of such lines begins so.
-pub record Begins (d : Diagram) (before : List ℕ) : Type 0 where
+pub record BeginsText (d : Diagram) (before : List ℕ) : Type 0 where
   pub lines : EquationLines
   pub formed : AreFormed d lines
   pub rest : List ℕ
@@ -34,9 +34,10 @@ pub record Begins (d : Diagram) (before : List ℕ) : Type 0 where
 -- A text of such lines can begin with the lines before this place, and not with the line at it as well; no whole
 -- text of such lines ends at it.
 pub record IsWrongAt (d : Diagram) (before left : List ℕ) : Type 0 where
-  pub whole : IsWhole before
-  pub begins : Begins d before
-  pub none : (line rest : List ℕ) → Lacks 10 line → left ≡ line ++ 10 ∷ rest → ¬ Begins d (before ++ (line ++ 10 ∷ []))
+  pub whole : EndsInLf before
+  pub begins : BeginsText d before
+  pub none : (line rest : List ℕ) → Lacks 10 line → left ≡ line ++ 10 ∷ rest
+      → ¬ BeginsText d (before ++ (line ++ 10 ∷ []))
   pub not_all : left ≡ [] → (e : EquationLines) → AreFormed d e → ¬ (before ≡ text_of (lines_of d e))
 
 -- What a line defines: step m of a part, or a node.
@@ -52,7 +53,7 @@ head_of (node_of n) = codes "node " ++ (decimal n ++ codes " ")
 -- A line of the text begins with the words.
 pub record HasLine (text head : List ℕ) : Type 0 where
   pub before : List ℕ
-  pub whole : IsWhole before
+  pub whole : EndsInLf before
   pub rest : List ℕ
   pub is : text ≡ before ++ (head ++ rest)
 
@@ -82,7 +83,7 @@ pub record HasNumber (text : List ℕ) (n : ℕ) : Type 0 where
   pub number : IsDecimal word n
 
 -- The line begins with this word, and behind so many more these words stand.
-pub record Leads (head : List ℕ) (skipped : ℕ) (line words : List ℕ) : Type 0 where
+pub record HasHead (head : List ℕ) (skipped : ℕ) (line words : List ℕ) : Type 0 where
   pub rest : List ℕ
   pub is : line ≡ head ++ rest
   pub behind : Behind skipped rest words
@@ -102,7 +103,7 @@ pub record LeadsIn (head : List ℕ) (p skipped : ℕ) (line words : List ℕ) :
 abbrev pub Names : List ℕ → Entry → Type 0
 Names line (step_of p m) = (words : List ℕ)
     × (LeadsIn (codes "part") p 0 line words ⊎ LeadsIn (codes "step") p 2 line words) × HasNumber words m
-Names line (node_of n) = (words : List ℕ) × (Leads (codes "op") 2 line words ⊎ Leads (codes "node") 3 line words)
+Names line (node_of n) = (words : List ℕ) × (HasHead (codes "op") 2 line words ⊎ HasHead (codes "node") 3 line words)
     × HasNumber words n
 
 -- The line names an entry that no line of the text defines.
@@ -113,7 +114,7 @@ pub record NamesUndefined (text line : List ℕ) : Type 0 where
 
 -- The text has this line behind whole lines.
 pub record IsLine (text before line : List ℕ) : Type 0 where
-  pub whole : IsWhole before
+  pub whole : EndsInLf before
   pub lacks : Lacks 10 line
   pub rest : List ℕ
   pub is : text ≡ before ++ (line ++ 10 ∷ rest)

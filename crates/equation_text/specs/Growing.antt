@@ -11,10 +11,6 @@ use Rattle.equation_text.specs.EquationMeaning.{Leads, NextGoal}
 use Rattle.equation_text.specs.EquationForm.{IsGoal, LeadsBy, goals_of}
 use Rattle.equation_text.specs.Subjects.{subject_at, IsChosen, HasChoices, AreChosenFrom}
 
--- The second list begins with the first.
-abbrev pub Extends : {X : Type 0} → List X → List X → Type 0
-Extends {X} old new = (i : ℕ) (x : X) → slice_get old i ≡ Some x → slice_get new i ≡ Some x
-
 -- All goals are answers or among the first n nodes.
 abbrev pub AreGoals : ℕ → List Goal → Type 0
 AreGoals n goals = (i : ℕ) (g : Goal) → slice_get goals i ≡ Some g → IsGoal n g
@@ -35,7 +31,7 @@ LayersHaveChoices switches parts subjects g from =
     HasChoices switches parts (subject_at subjects j) (layer_at g.layers j).choices
 
 -- The edges of node k of layer j lead to these goals, where `next` has a goal for each place behind the layer.
-pub record IsRow (g : Layered) (j k : ℕ) (next goals : List Goal) : Type 0 where
+pub record LeadToGoals (g : Layered) (j k : ℕ) (next goals : List Goal) : Type 0 where
   pub count : length goals ≡ (layer_at g.layers j).choices
   pub each : (c : ℕ) (goal : Goal) → slice_get goals c ≡ Some goal →
       slice_get next (step (layer_at g.layers j) k c) ≡ Some goal

@@ -11,13 +11,13 @@ abbrev pub part_lines_of : PartInside → PartLines
 part_lines_of p = record { start = p.start; steps = p.steps.items }
 
 -- The line of what a node looks at.
-abbrev pub line_of : Lead → NodeLine
-line_of (Part part goals) = part_node part.0 goals.items
-line_of (Switch switch off on) = switch_node switch.0 off on
+abbrev pub lead_line : Lead → NodeLine
+lead_line (Part part goals) = part_node part.0 goals.items
+lead_line (Switch switch off on) = switch_node switch.0 off on
 
 -- The line of a node.
 abbrev pub node_line_of : NodeInside → NodeLine
-node_line_of n = line_of n.lead
+node_line_of n = lead_line n.lead
 
 -- All lines, as a contract sees them.
 abbrev pub equation_lines_of : EquationsInside → EquationLines

@@ -5,6 +5,7 @@ use Rattle.station_graph.specs.declared.items.Switch.{Switch}
 use Rattle.station_graph.specs.Diagram.{Diagram}
 use Rattle.bay_contract.specs.Counting.{AreSoMany}
 use Rattle.release_compile.specs.Counted.{BayHas}
+use Rattle.release_compile.specs.Layering.{NoneTwice}
 use Rattle.equation_text.specs.declared.goal.Goal.{Goal}
 use Rattle.equation_text.specs.declared.goal.Goal.TheVariants.{Node, Answer}
 use Rattle.equation_text.specs.declared.goal.SwitchGoals.{SwitchGoals}
@@ -34,10 +35,6 @@ pub record IsNodeOf (d : Diagram) (e : EquationLines) (b n : ℕ) : Type 0 where
   pub listed : slice_get e.ops number ≡ Some goals
   pub direction : Direction
   pub reached : Leads (WritesGoal e.nodes) (goal_towards goals direction) (Node n)
-
--- No number stands in the list twice.
-abbrev pub NoneTwice : List ℕ → Type 0
-NoneTwice ns = (i k n : ℕ) → slice_get ns i ≡ Some n → slice_get ns k ≡ Some n → i ≡ k
 
 -- At most so many numbers have the property.
 abbrev pub AreAtMost : ℕ → (ℕ → Type 0) → Type 0

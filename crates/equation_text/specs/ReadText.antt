@@ -6,7 +6,7 @@ use Rattle.equation_text.specs.declared.goal.SwitchGoals.{SwitchGoals}
 use Rattle.equation_text.specs.declared.goal.TheConstants.{NUMBERS}
 use Rattle.equation_text.specs.declared.read.EquationsFault.{EquationsFault}
 use Rattle.equation_text.specs.declared.read.EquationsFault.TheVariants.{Memory, Refused}
-use Rattle.equation_text.specs.EquationLines.{PartLines, NodeLine, EquationLines, index_count}
+use Rattle.equation_text.specs.EquationLines.{PartLines, NodeLine, EquationLines, goal_count}
 use Rattle.equation_text.specs.EquationForm.{IsTarget}
 use Rattle.equation_text.specs.EquationText.{IsTextOf, lines_of, text_of}
 use Rattle.equation_text.specs.Reading.{MayBeSteps, MayBeOps, MayBeNodes}
@@ -28,6 +28,6 @@ pub record AreLines (d : Diagram) (text : List ℕ) (parts : List PartLines) (op
     (nodes : List NodeLine) : Type 0 where
   pub parts_may : MayBeParts d parts
   pub ops_may : MayBeOps (length d.switches) ops
-  pub nodes_may : MayBeNodes (length d.switches) (map index_count parts) nodes
+  pub nodes_may : MayBeNodes (length d.switches) (map goal_count parts) nodes
   pub is : text ≡ text_of (lines_of d (record { parts = parts; ops = ops; nodes = nodes }))
   pub once : (e : EquationLines) → IsTextOf d text e → e ≡ record { parts = parts; ops = ops; nodes = nodes }

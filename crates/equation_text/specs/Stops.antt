@@ -12,12 +12,12 @@ use Rattle.equation_text.specs.EquationText.{part_line, op_line, node_line, text
 use Rattle.equation_text.specs.Beginnings.{MayBeNode}
 use Rattle.equation_text.specs.Words.{Lacks}
 use Rattle.equation_text.specs.Reading.{start_lines, op_lines, node_lines, MayBeStarts, MayBeOps, MayBeNodes}
-use Rattle.equation_text.specs.Faults.{IsWhole, IsWrongAt}
+use Rattle.equation_text.specs.Faults.{EndsInLf, IsWrongAt}
 
 -- The old text begins with whole lines of these, and the next of them does not follow.
 pub record StopsIn (lines old new : List ℕ) : Type 0 where
   pub before : List ℕ
-  pub whole : IsWhole before
+  pub whole : EndsInLf before
   pub line : List ℕ
   pub lacks : Lacks 10 line
   pub more : List ℕ

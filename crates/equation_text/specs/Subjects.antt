@@ -6,7 +6,7 @@ use Rattle.equation_text.specs.declared.subject.Subject.{Subject}
 use Rattle.equation_text.specs.declared.subject.Subject.TheVariants.{Part, Switch}
 use Rattle.equation_text.specs.declared.subject.Subjects.{Subjects}
 use Rattle.equation_text.specs.declared.subject.Subjects.TheVariants.{OtherParts, OtherSwitches}
-use Rattle.equation_text.specs.EquationLines.{PartLines, index_count}
+use Rattle.equation_text.specs.EquationLines.{PartLines, goal_count}
 use Rattle.equation_text.specs.EquationMeaning.{LeadsToIndex}
 
 -- What layer j looks at. The first layer of an inner graph looks at the label of the outer graph, and so at
@@ -47,7 +47,7 @@ AreChosenFrom parts v subjects g j (c ∷ cs) =
 pub record HasIndices (parts : List PartLines) (part n : ℕ) : Type 0 where
   pub lines : PartLines
   pub listed : slice_get parts part ≡ Some lines
-  pub count : index_count lines ≡ n
+  pub count : goal_count lines ≡ n
 
 -- The subject has so many choices: the indices of a part, or the two positions of one of so many switches.
 abbrev pub HasChoices : ℕ → List PartLines → Subject → ℕ → Type 0

@@ -1,7 +1,7 @@
 //! Whether each number that lines name is defined.
 ghost use Rattle.std.specs.Prelude.{◌≡◌, ◌↔◌, length, map, max, IfOk, IsTrue};
 ghost use Rattle.equation_text.specs.declared.goal.TheConstants.{NUMBERS};
-ghost use Rattle.equation_text.specs.EquationLines.{index_in, past_greatest, index_count as count_of};
+ghost use Rattle.equation_text.specs.EquationLines.{index_in, past_greatest, goal_count as count_of};
 ghost use Rattle.equation_text.specs.EquationForm.{IsTarget, IsGoal, OpsFit, goals_of};
 ghost use Rattle.equation_text.specs.Defined.{StepsThere, PartsThere, GoalsThere, NodesThere, StepsMay, PartsMay};
 

@@ -1,7 +1,7 @@
 //! What the lines of a text define: the steps of parts and the nodes whose lines begin there.
 ghost use Rattle.std.specs.Prelude.{◌≡◌, ◌≢◌, ◌++◌, List, ℕ, IfOk, IfSome, IfNone};
 ghost use Rattle.equation_text.specs.Faults.{step_of, node_of, head_of};
-ghost use Rattle.equation_text.specs.Entries.{has_entry, entry_in, IsSmall, Defines, AddsLine, AreDefined};
+ghost use Rattle.equation_text.specs.Entries.{has_entry, entry_in, IsEntry32, Defines, AddsLine, AreDefined};
 
 use crate::words::{behind, cut_line, cut_word};
 use ilk_base::Memory;
@@ -45,7 +45,7 @@ impl Entries {
 // The step whose line begins so.
 fn step_begun(line: &[u8]) -> Option<Step>
     ensures some { IfSome result (λ s. Defines line.now (step_of s.part s.number)) }
-    ensures none { IfNone result ((p m : ℕ) (rest : List ℕ) → IsSmall (step_of p m)
+    ensures none { IfNone result ((p m : ℕ) (rest : List ℕ) → IsEntry32 (step_of p m)
         → line.now ≢ head_of (step_of p m) ++ rest) }
 {
     let Some(words) = behind(line, b"step ") else {
@@ -69,7 +69,7 @@ fn step_begun(line: &[u8]) -> Option<Step>
 // The node whose line begins so.
 fn node_begun(line: &[u8]) -> Option<u32>
     ensures some { IfSome result (λ n. Defines line.now (node_of n)) }
-    ensures none { IfNone result ((n : ℕ) (rest : List ℕ) → IsSmall (node_of n)
+    ensures none { IfNone result ((n : ℕ) (rest : List ℕ) → IsEntry32 (node_of n)
         → line.now ≢ head_of (node_of n) ++ rest) }
 {
     let Some(words) = behind(line, b"node ") else {

@@ -1,7 +1,7 @@
 //! The lines of a text before those of the parts.
 ghost use Rattle.std.specs.Prelude.{◌≡◌, ◌≢◌, ◌++◌, ◌∷◌, List, ℕ, IfOk, IfSome, IfNone, IsTrue, IsFalse};
 ghost use Rattle.equation_text.specs.Reading.{front_text};
-ghost use Rattle.equation_text.specs.Faults.{IsWhole};
+ghost use Rattle.equation_text.specs.Faults.{EndsInLf};
 ghost use Rattle.equation_text.specs.Stops.{StopsIn};
 
 use crate::reading::Left;
@@ -37,7 +37,7 @@ fn behind_line<'a>(text: &'a [u8], line: &[u8]) -> Option<&'a [u8]>
 
 // Passes these lines, up to the first that does not follow.
 fn pass_lines(left: &mut Left<'_>, lines: &[u8]) -> bool
-    requires { IsWhole lines.now }
+    requires { EndsInLf lines.now }
     ensures passed { IsTrue result → left.old.text.now ≡ lines.now ++ left.new.text.now }
     ensures stops { IsFalse result → StopsIn lines.now left.old.text.now left.new.text.now }
 {

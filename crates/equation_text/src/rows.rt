@@ -7,7 +7,8 @@ ghost use Rattle.equation_text.specs.EquationLines.{PartLines};
 ghost use Rattle.equation_text.specs.EquationMeaning.{LineLeads, NextGoal};
 ghost use Rattle.equation_text.specs.EquationForm.{IsGoal, goals_of};
 ghost use Rattle.equation_text.specs.Subjects.{IsRowFor, IsChosen, HasChoices};
-ghost use Rattle.equation_text.specs.Growing.{Extends, AreGoals, GrewFrom, AllGrew, IsRow};
+ghost use Rattle.equation_text.specs.Growing.{AreGoals, GrewFrom, AllGrew, LeadToGoals};
+ghost use Rattle.release_compile.specs.Pooling.{Extends};
 ghost use Rattle.equation_text.specs.Apart.{IsFrom, AreFrom, AllFrom};
 
 use crate::goal::Goal;
@@ -47,7 +48,7 @@ pub(crate) fn row_goals(
     requires layer { layer < length graph.now.layers }
     requires node { node < length (layer_at graph.now.layers layer).rows }
     requires next { length next.now ≡ size_at graph.now.labels graph.now.layers (suc layer) }
-    ensures { IfOk result (λ v. IsRow graph.now layer node next.now v.items) }
+    ensures { IfOk result (λ v. LeadToGoals graph.now layer node next.now v.items) }
 {
     let mut goals = Vec::new(alloc);
     for choice in 0..graph.choices(layer) {

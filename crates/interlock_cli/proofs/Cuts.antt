@@ -23,7 +23,7 @@ use Rattle.interlock_cli.specs.declared.end.End.TheVariants as e
 use Rattle.trip_replay.specs.TripLogs.{IsTripLog, IsTripLogFault}
 use Rattle.trip_replay.specs.declared.log.TripLogEvent.{TripLogEvent}
 use Rattle.interlock_cli.specs.Formats.{Format, Drawing, Positions, CertainPositions, OrderOf, LogOf, TripLogOf}
-use Rattle.interlock_cli.specs.Formats.{BlocksOf, SwitchOf, BayOf, Value, Accepts, Refuses, PassesLimit}
+use Rattle.interlock_cli.specs.Formats.{BlocksOf, SwitchOf, BayOf, Value, AcceptsAs, Refuses, PassesLimit}
 use Rattle.interlock_cli.specs.Judging.{JudgeFails}
 use Rattle.interlock_cli.specs.Form.{File, Given, Fails}
 
@@ -53,7 +53,8 @@ cut_fault n b v paths r e h (inr short) =
 
 -- the bytes that a file may have, and one more, tell of a content what it is
 pub record Cuts (f : Format) : Type 0 where
-  pub accepts : (b v : List ℕ) (value : Value f) → v ≡ take (FILE_BYTES + 1) b → Accepts f v value → Accepts f b value
+  pub accepts : (b v : List ℕ) (value : Value f) → v ≡ take (FILE_BYTES + 1) b → AcceptsAs f v value
+      → AcceptsAs f b value
   pub refuses : (b v : List ℕ) (end : End) → v ≡ take (FILE_BYTES + 1) b → Refuses f v end → Refuses f b end
 
 cut_order : (d : Diagram) (n : ℕ) (b v : List ℕ) (steps : List Op) → n ≡ FILE_BYTES + 1 → v ≡ take n b →
@@ -215,7 +216,7 @@ no_fault (BayOf d) v r = r
 
 module _ (f : Format) (cuts : Cuts f) where
   whole : (known : Option (List ℕ)) (v : List ℕ) (value : Value f) → IfSome known (λ b. v ≡ take (FILE_BYTES + 1) b) →
-      Accepts f v value → (content : List ℕ) × IfSome known (λ h. h ≡ content) × Accepts f content value
+      AcceptsAs f v value → (content : List ℕ) × IfSome known (λ h. h ≡ content) × AcceptsAs f content value
   whole None v value h a = (v, tt, a)
   whole (Some b) v value h a = (b, refl, cuts.accepts b v value h a)
 
@@ -225,7 +226,7 @@ module _ (f : Format) (cuts : Cuts f) where
   whole_refused (Some b) v end h a = (b, refl, cuts.refuses b v end h a)
 
   pub given : (held : List ℕ → Option (List ℕ)) (name v : List ℕ) (r : Result (Value f) End) →
-      IfSome (held name) (λ b. v ≡ take (FILE_BYTES + 1) b) → IfOk r (Accepts f v) → IfOk r (Given held (File name) f)
+      IfSome (held name) (λ b. v ≡ take (FILE_BYTES + 1) b) → IfOk r (AcceptsAs f v) → IfOk r (Given held (File name) f)
   given held name v (Ok value) h a = whole (held name) v value h a
   given held name v (Err end) h a = tt
 

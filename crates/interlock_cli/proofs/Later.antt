@@ -5,7 +5,7 @@ use Rattle.std.specs.Io.KnownBytes.{Keeps}
 use Rattle.ilk_base.specs.Outside.{Rose}
 use Rattle.interlock_cli.specs.Formats.{Format, Value}
 use Rattle.interlock_cli.specs.Judging.{JudgeFails, Onward}
-use Rattle.interlock_cli.specs.Form.{Form, Origin, File, Word, IsContent, Given, ReadRose, Fails, Gives, Stops}
+use Rattle.interlock_cli.specs.Form.{Form, Origin, File, Word, IsContent, Given, ReadRose, Fails, Gives, FormStops}
 use Rattle.interlock_cli.specs.declared.end.Output.{Output}
 use Rattle.interlock_cli.specs.declared.end.End.{End}
 use Rattle.interlock_cli.specs.declared.end.End.TheVariants as e
@@ -70,7 +70,7 @@ at_held held form (Ok o) gives = gives held
 at_held held form (Err end) gives = tt
 
 pub stops_at : (held : List ℕ → Option (List ℕ)) (before after : List ℕ → ℕ) (form : Form) (r : Result Output End)
-    → IfErr r (λ end. (h : List ℕ → Option (List ℕ)) (b a : List ℕ → ℕ) → Stops form h b a end) →
-    IfErr r (Stops form held before after)
+    → IfErr r (λ end. (h : List ℕ → Option (List ℕ)) (b a : List ℕ → ℕ) → FormStops form h b a end) →
+    IfErr r (FormStops form held before after)
 stops_at held before after form (Ok o) stops = tt
 stops_at held before after form (Err end) stops = stops held before after

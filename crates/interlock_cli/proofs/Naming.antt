@@ -7,7 +7,8 @@ use Rattle.std.specs.Str.{bytes_eq}
 use Rattle.std.proofs.lemmas.Bool.{cases_Bool}
 use Rattle.std.proofs.lemmas.Slice.Eq.{bytes_eq-Decides}
 use Rattle.command_words.specs.Rows.{is_plain, is_row, row_of, written}
-use Rattle.interlock_cli.specs.Commands.{Command, one_word, two_words, three_words, four_words, named, command_of}
+use Rattle.interlock_cli.specs.Commands.{Command, one_word, two_words, three_words, four_words, named_command}
+use Rattle.interlock_cli.specs.Commands.{command_of}
 use Rattle.interlock_cli.specs.Commands.{check_of, explain_of, state_of, order_of, replay_of, audit_of, node_of}
 use Rattle.interlock_cli.specs.Commands.{make_of, trips_of, plan_of, compile_of, work_of}
 
@@ -59,7 +60,7 @@ module _ (name : Text) (rest : List Text) (none : is_row (name ∷ rest) ≡ fal
   ]
 
   -- one line for each command, in their order
-  rows : named (name ∷ rest) ≡ None
+  rows : named_command (name ∷ rest) ≡ None
   rows =
       row (codes "check") 2 check_of _ refl (two _)
       (row (codes "explain") 4 explain_of _ refl (four _)
@@ -75,7 +76,7 @@ module _ (name : Text) (rest : List Text) (none : is_row (name ∷ rest) ≡ fal
       (row (codes "work") 1 work_of _ refl (one _)
       refl)))))))))))
 
-unnamed : (words : List Text) → is_row words ≡ false → named words ≡ None
+unnamed : (words : List Text) → is_row words ≡ false → named_command words ≡ None
 unnamed [] none = refl
 unnamed (name ∷ rest) none = rows name rest none
 
@@ -84,7 +85,7 @@ pub unwritten : (words : List Text) → None ≡ written words → command_of wo
 unwritten words none = elim (cases_Bool (list_all is_plain words)) [
   | inr fails ↦ rw fails refl
   | inl plain ↦
-      let e : command_of words ≡ named words = rw plain refl in
+      let e : command_of words ≡ named_command words = rw plain refl in
       elim (cases_Bool (is_row words)) [
         | inr fails ↦ e ∙ unnamed words fails
         | inl holds ↦
@@ -94,13 +95,13 @@ unwritten words none = elim (cases_Bool (list_all is_plain words)) [
 ]
 
 -- words of the written form name what the row names that is read of them
-pub of_written : (words row : List Text) → Some row ≡ written words → command_of words ≡ named row
+pub of_written : (words row : List Text) → Some row ≡ written words → command_of words ≡ named_command row
 of_written words row are = elim (cases_Bool (list_all is_plain words)) [
   | inr fails ↦
       let none : written words ≡ None = rw fails refl in
       cc (are, none)
   | inl plain ↦
-      let e : command_of words ≡ named words = rw plain refl in
+      let e : command_of words ≡ named_command words = rw plain refl in
       elim (cases_Bool (is_row words)) [
         | inr fails ↦
             let none : written words ≡ None = rw (plain, fails) refl in
@@ -108,6 +109,6 @@ of_written words row are = elim (cases_Bool (list_all is_plain words)) [
         | inl holds ↦
             let some : written words ≡ Some words = rw (plain, holds) refl in
             let same : row ≡ words = cc (are, some) in
-            e ∙ ap named (sym same)
+            e ∙ ap named_command (sym same)
       ]
 ]

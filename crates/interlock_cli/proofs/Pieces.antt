@@ -4,11 +4,11 @@ use Rattle.std.specs.Prelude.{codes}
 use Rattle.std.specs.Fmt.{decimal}
 use Rattle.std.proofs.lemmas.List.{append-nil, append_assoc}
 use Rattle.interlock_cli.specs.Lines.{fault_line, labelled}
-use Rattle.interlock_cli.specs.Pieces.{label_of, digits_of}
+use Rattle.interlock_cli.specs.Pieces.{label_where, digits_of}
 
 -- the two pieces of a number
 joined : (label : List ℕ) (n : Option ℕ) (rest : List ℕ) →
-    label_of label n ++ (digits_of n ++ rest) ≡ labelled label n ++ rest
+    label_where label n ++ (digits_of n ++ rest) ≡ labelled label n ++ rest
 joined label None rest = refl
 joined label (Some n) rest = sym (append_assoc label (decimal n) rest)
 
@@ -19,19 +19,20 @@ nested h d a w m l = simp (append-nil, append_assoc) refl
 pub record ArePieces (n : ℕ) (at what many : Option ℕ) (head digits a1 a2 w1 w2 m1 m2 last : List ℕ) : Type 0 where
   pub head_is : head ≡ codes "interlock: station refused "
   pub digits_is : digits ≡ decimal n
-  pub at_label : a1 ≡ label_of (codes " at ") at
+  pub at_label : a1 ≡ label_where (codes " at ") at
   pub at_digits : a2 ≡ digits_of at
-  pub what_label : w1 ≡ label_of (codes " limit ") what
+  pub what_label : w1 ≡ label_where (codes " limit ") what
   pub what_digits : w2 ≡ digits_of what
-  pub many_label : m1 ≡ label_of (codes " count ") many
+  pub many_label : m1 ≡ label_where (codes " count ") many
   pub many_digits : m2 ≡ digits_of many
   pub last_is : last ≡ codes "\n"
 
 whole : (h d l a w m : List ℕ) (at what many : Option ℕ) →
     h
     ++ (d
-    ++ (label_of a at
-    ++ (digits_of at ++ (label_of w what ++ (digits_of what ++ (label_of m many ++ (digits_of many ++ (l ++ []))))))))
+    ++ (label_where a at
+    ++ (digits_of at ++ (label_where w what
+        ++ (digits_of what ++ (label_where m many ++ (digits_of many ++ (l ++ []))))))))
     ≡ h ++ d ++ labelled a at ++ labelled w what ++ labelled m many ++ l
 whole h d l a w m at what many =
     rw (

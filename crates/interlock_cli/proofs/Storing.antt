@@ -9,12 +9,12 @@ use Rattle.stored_session.specs.declared.end.StoredEnd.{StoredEnd}
 use Rattle.stored_session.specs.declared.end.StoredEnd.TheVariants as s
 use Rattle.stored_session.proofs.Whole.{goes_through}
 use Rattle.interlock_cli.specs.Formats.{Drawing, BayOf}
-use Rattle.interlock_cli.specs.Form.{File, Word, Stops}
+use Rattle.interlock_cli.specs.Form.{File, Word, FormStops}
 use Rattle.interlock_cli.specs.Commands.{Command, Node, form_of}
 use Rattle.interlock_cli.specs.Ends.{Call, Ends, WroteLine}
 use Rattle.interlock_cli.specs.Lines.{line_of, status_of}
 use Rattle.interlock_cli.specs.StoredWords.{StoredWords}
-use Rattle.interlock_cli.specs.StoredEnding.{end_of, Stores, EndsStored, AnswersWords, IsAnsweredStored, IsCalm}
+use Rattle.interlock_cli.specs.StoredEnding.{stored_end, Stores, EndsStored, AnswersWords, IsAnsweredStored, IsCalm}
 use Rattle.interlock_cli.specs.StoredEnding.{CompletesStored}
 use Rattle.interlock_cli.specs.StoredEnding.{SaysAsRun}
 use Rattle.interlock_cli.specs.declared.end.Outcome.TheVariants.{Done}
@@ -27,7 +27,7 @@ use Rattle.interlock_cli.proofs.Through.{completes, fails_memory, found_told}
 
 module _ {D : Type 0} (v : View D) (w : StoredWords) (c : Call) (old : D) where
   -- the station or the bay is not accepted
-  pub stops_before : (end : End) → Stops (form_of (Node w.station w.bay)) c.held c.reads_before c.reads_after end
+  pub stops_before : (end : End) → FormStops (form_of (Node w.station w.bay)) c.held c.reads_before c.reads_after end
       → c.after ≡ c.before → EndsStored v w c old old end
   stops_before end stops same = inl (record {
     stops = stops;
@@ -51,7 +51,7 @@ module _ {D : Type 0} (v : View D) (w : StoredWords) (c : Call) (old : D) where
   }
 
   module _ (new : D) (answered : IsAnsweredStored v w c old) (calm : IsCalm v w c old new) where
-    stops_memory : (end : End) → Stops (form_of (Node w.station w.bay)) c.held c.reads_before c.reads_after end
+    stops_memory : (end : End) → FormStops (form_of (Node w.station w.bay)) c.held c.reads_before c.reads_after end
         → end ≡ e.Memory
     stops_memory end (inl fails) =
         let (d, accepts) = answered.drawing in
@@ -83,9 +83,9 @@ module _ {D : Type 0} (v : View D) (w : StoredWords) (c : Call) (old : D) where
       inr (is ∙ ap status_of (stops_memory new answered calm end before.stops))
   completes_stored new status end is (inr stores) = λ answered calm. ⊎_elim
       (λ (done : stores.session ≡ s.Done).
-      let written : end ≡ e.Written Done = stores.end_is ∙ ap end_of done in
+      let written : end ≡ e.Written Done = stores.end_is ∙ ap stored_end done in
       inl (subst (λ (x : End). Stores v w c old new x) written stores, is ∙ ap status_of written))
-      (λ (memory : stores.session ≡ s.Memory). inr (is ∙ ap status_of (stores.end_is ∙ ap end_of memory)))
+      (λ (memory : stores.session ≡ s.Memory). inr (is ∙ ap status_of (stores.end_is ∙ ap stored_end memory)))
       (session_through new answered calm end stores)
 
 memory_used : t.Memory ≡ t.Usage → ⊥

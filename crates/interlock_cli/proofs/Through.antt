@@ -10,8 +10,8 @@ use Rattle.ssd_read.specs.StandsFor.{Stands}
 use Rattle.ssd_read.proofs.Once.{one_station}
 use Rattle.double_points.specs.Positions.{IsAccepted, IsRefusedWith}
 use Rattle.interlock_cli.specs.Formats.{Format, Drawing, Positions, CertainPositions, OrderOf, LogOf, TripLogOf}
-use Rattle.interlock_cli.specs.Formats.{BlocksOf, SwitchOf, BayOf, Value, Accepts, Refuses, PassesLimit}
-use Rattle.interlock_cli.specs.Form.{Form, Write, Take, Serve, Origin, File, Word, IsContent, Given, Fails, Stops}
+use Rattle.interlock_cli.specs.Formats.{BlocksOf, SwitchOf, BayOf, Value, AcceptsAs, Refuses, PassesLimit}
+use Rattle.interlock_cli.specs.Form.{Form, Write, Take, Serve, Origin, File, Word, IsContent, Given, Fails, FormStops}
 use Rattle.interlock_cli.specs.Form.{ReadRose}
 use Rattle.interlock_cli.specs.Commands.{Command, form_of}
 use Rattle.ilk_base.specs.Outside.{Rose}
@@ -23,10 +23,10 @@ use Rattle.release_compile.proofs.MostLemmas.{limits_kept}
 use Rattle.node_session.specs.declared.end.SessionEnd.{SessionEnd}
 use Rattle.node_session.specs.declared.end.SessionEnd.TheVariants as se
 use Rattle.node_session.proofs.Whole.{goes_through}
-use Rattle.interlock_cli.specs.Serving.{end_of, ServesBay}
+use Rattle.interlock_cli.specs.Serving.{session_end, ServesBay}
 use Rattle.interlock_cli.specs.Lines.{status_of}
 use Rattle.interlock_cli.specs.Ends.{Call, FormEnds, Serves, Ends}
-use Rattle.interlock_cli.specs.Complete.{IsTold, IsAnswered, ReadsCalm, Completes}
+use Rattle.interlock_cli.specs.Complete.{OriginTells, IsAnswered, ReadsCalm, Completes}
 use Rattle.switching_orders.specs.Certain.{IsUnsure}
 use Rattle.equation_audit.proofs.OneOutcome.{blocks_not_refused}
 use Rattle.log_replay.proofs.OneOutcome.{log_not_refused}
@@ -66,7 +66,7 @@ wide_some : (bay : BayId) → Wide bay ≡ Memory → ⊥
 wide_some bay is = cc is
 
 -- no content is accepted and refused
-pub one_verdict : (f : Format) (content : List ℕ) (a : Value f) (end : End) → Accepts f content a →
+pub one_verdict : (f : Format) (content : List ℕ) (a : Value f) (end : End) → AcceptsAs f content a →
     Refuses f content end → ⊥
 one_verdict Drawing content a (e.Station refusal) p r = not_refused content a refusal p.0 r
 one_verdict Drawing content a (e.Many part step) p r =
@@ -86,14 +86,14 @@ one_verdict (SwitchOf d) content a (e.Input refusal) p r = r.0 p.0
 one_verdict (BayOf d) content b (e.Input refusal) p r = r.0 b p
 one_verdict f content a end p r = r
 
-same_content : (held : List ℕ → Option (List ℕ)) (origin : Origin) (a b : List ℕ) → IsTold held origin a →
+same_content : (held : List ℕ → Option (List ℕ)) (origin : Origin) (a b : List ℕ) → OriginTells held origin a →
     IsContent held origin b → b ≡ a
 same_content held (File name) a b told is = let h = rw told at is in sym h
 same_content held (Word word) a b told is = sym is ∙ told
 
 module _ (held : List ℕ → Option (List ℕ)) (before after : List ℕ → ℕ) where
   pub fails_memory : (origin : Origin) (f : Format) (content : List ℕ) (value : Value f) (end : End) →
-      IsTold held origin content → Accepts f content value → (¬ ReadRose before after origin) →
+      OriginTells held origin content → AcceptsAs f content value → (¬ ReadRose before after origin) →
       Fails held before after origin f end → end ≡ e.Memory
   fails_memory origin f content value e.Memory told accepts calm fails = refl
   fails_memory origin f content value e.ReadFault told accepts calm fails = absurd (calm fails)
@@ -103,14 +103,15 @@ module _ (held : List ℕ → Option (List ℕ)) (before after : List ℕ → �
 
 module _ (c : Call) where
   -- what is found of the first that is named is what is told of it
-  pub found_told : (origin : Origin) (f : Format) (content : List ℕ) (value : Value f) → IsTold c.held origin content →
-      Given c.held origin f value → Accepts f content value
+  pub found_told : (origin : Origin) (f : Format) (content : List ℕ) (value : Value f)
+      → OriginTells c.held origin content →
+      Given c.held origin f value → AcceptsAs f content value
   found_told origin f content value told (other, is, accepted) =
       let same = same_content c.held origin content other told is in
-      subst (λ (x : List ℕ). Accepts f x value) same accepted
+      subst (λ (x : List ℕ). AcceptsAs f x value) same accepted
 
   stops_memory : (form : Form) (end : End) → IsAnswered form c.held c.before.input → ReadsCalm form c →
-      Stops form c.held c.reads_before c.reads_after end → end ≡ e.Memory
+      FormStops form c.held c.reads_before c.reads_after end → end ≡ e.Memory
   stops_memory (Write writes) end answered calm stops = stops
   stops_memory (Serve d b) end answered calm stops = absurd stops
   stops_memory (Take origin f next) end (content, told, (value, accepts), more) calm (inl fails) =
@@ -127,9 +128,9 @@ module _ (c : Call) where
       elim (goes_through (judges serves.judging) d b c.before c.after s content serves.ends told input calm out) [
         | inl done ↦ inl (
           (se.Done, refl, subst (λ (x : SessionEnd). ServesBay d b c.before c.after x) done serves),
-          is ∙ ap end_of done,
+          is ∙ ap session_end done,
         )
-        | inr memory ↦ inr (is ∙ ap end_of memory)
+        | inr memory ↦ inr (is ∙ ap session_end memory)
       ]
   serves_through (Take origin f next) end (content, told, acceptable, more) calm out (found, given, serves) =
       elim (serves_through (next found) end (more found (found_told origin f content found told given))
@@ -162,7 +163,7 @@ outcome_usage Done is = cc is
 outcome_usage Differs is = cc is
 outcome_usage (Premise number line) is = cc is
 
-not_usage : (s : SessionEnd) → e.Usage ≡ end_of s → ⊥
+not_usage : (s : SessionEnd) → e.Usage ≡ session_end s → ⊥
 not_usage se.Done is = cc is
 not_usage (se.Refused line) is = cc is
 not_usage se.Long is = cc is

@@ -131,9 +131,9 @@ abbrev pub work_of : List (List ℕ) → Option Command
 work_of = one_word (λ number. option_map (λ n. Work n) (feeders_of number))
 
 -- what the words name, the command's name first
-abbrev pub named : List (List ℕ) → Option Command
-named [] = None
-named (name ∷ rest) =
+abbrev pub named_command : List (List ℕ) → Option Command
+named_command [] = None
+named_command (name ∷ rest) =
     if bytes_eq name (codes "check") then check_of rest
     else if bytes_eq name (codes "explain") then explain_of rest
     else if bytes_eq name (codes "state") then state_of rest
@@ -150,23 +150,23 @@ named (name ∷ rest) =
 
 -- what the words name, where no word is empty or begins with `-`
 abbrev pub command_of : List (List ℕ) → Option Command
-command_of words = if list_all is_plain words then named words else None
+command_of words = if list_all is_plain words then named_command words else None
 
 -- a text with which the call ends Done
-abbrev pub IsDone : (List ℕ → Type 0) → Outcome → List ℕ → Type 0
-IsDone IsText outcome text = (outcome ≡ Done) × IsText text
+abbrev pub IsDoneWith : (List ℕ → Type 0) → Outcome → List ℕ → Type 0
+IsDoneWith IsText outcome text = (outcome ≡ Done) × IsText text
 
 -- what each command is given, in the order in which it is judged, and what it writes
 abbrev pub form_of : Command → Form
 form_of (Check station positions) =
     Take (File station) Drawing
-    (λ d. Take (File positions) (Positions d) (λ words. Write (IsDone (IsCheckText d words))))
+    (λ d. Take (File positions) (Positions d) (λ words. Write (IsDoneWith (IsCheckText d words))))
 form_of (Explain station positions direction switch) =
     Take (File station) Drawing (λ d. Take (File positions) (Positions d) (λ words.
-    Take (Word switch) (SwitchOf d) (λ path. Write (IsDone (IsExplainText d words direction path)))))
+    Take (Word switch) (SwitchOf d) (λ path. Write (IsDoneWith (IsExplainText d words direction path)))))
 form_of (State station positions) =
     Take (File station) Drawing
-    (λ d. Take (File positions) (Positions d) (λ words. Write (IsDone (IsStateText d words))))
+    (λ d. Take (File positions) (Positions d) (λ words. Write (IsDoneWith (IsStateText d words))))
 form_of (Order station positions order) =
     Take (File station) Drawing (λ d. Take (File positions) (CertainPositions d) (λ start.
     Take (File order) (OrderOf d) (λ steps. Write (OrderWrites d start steps))))
@@ -177,12 +177,12 @@ form_of (Audit station equations) =
 form_of (Node station bay) =
     Take (File station) Drawing (λ d. Take (Word bay) (BayOf d) (λ b. Serve d b))
 form_of (Compile station) =
-    Take (File station) Drawing (λ d. Write (IsDone (IsCompileText d)))
+    Take (File station) Drawing (λ d. Write (IsDoneWith (IsCompileText d)))
 form_of (Trips station log) =
     Take (File station) Drawing (λ d. Take (File log) (TripLogOf d) (λ events. Write (TripsWrites d events)))
 form_of (Plan station) =
-    Take (File station) Drawing (λ d. Write (IsDone (IsPlanText d)))
-form_of (Make number text) = Write (IsDone (λ written. written ≡ made_text text number))
+    Take (File station) Drawing (λ d. Write (IsDoneWith (IsPlanText d)))
+form_of (Make number text) = Write (IsDoneWith (λ written. written ≡ made_text text number))
 form_of (Work number) =
     Take (Word (station_text number)) Drawing (λ d. Take (Word (positions_text number)) (Positions d) (λ words.
     Take (Word (events_text number)) (LogOf d) (λ events. Write (WorkWrites d words events))))

@@ -2,8 +2,8 @@
 use Rattle.std.specs.Prelude.{◌≡◌, ◌⊎◌, ⊤, ℕ, List, Option, Some, None}
 use Rattle.ilk_base.specs.Outside.{Rose}
 use Rattle.node_session.specs.SessionEnds.{IsInput}
-use Rattle.interlock_cli.specs.Formats.{Format, Value, Accepts}
-use Rattle.interlock_cli.specs.Form.{Form, Write, Take, Serve, Origin, File, Word, ReadRose, Says}
+use Rattle.interlock_cli.specs.Formats.{Format, Value, AcceptsAs}
+use Rattle.interlock_cli.specs.Form.{Form, Write, Take, Serve, Origin, File, Word, ReadRose, FormSays}
 use Rattle.interlock_cli.specs.Commands.{Command, form_of}
 use Rattle.interlock_cli.specs.Ends.{Call, Serves}
 use Rattle.interlock_cli.specs.Lines.{outcome_status}
@@ -14,13 +14,13 @@ use Rattle.interlock_cli.specs.declared.status.Status.{Status}
 use Rattle.interlock_cli.specs.declared.status.Status.TheVariants.{Memory}
 
 -- the content of the origin is told, and is this
-abbrev pub IsTold : (List ℕ → Option (List ℕ)) → Origin → List ℕ → Type 0
-IsTold held (File name) content = held name ≡ Some content
-IsTold held (Word word) content = word ≡ content
+abbrev pub OriginTells : (List ℕ → Option (List ℕ)) → Origin → List ℕ → Type 0
+OriginTells held (File name) content = held name ≡ Some content
+OriginTells held (Word word) content = word ≡ content
 
 -- the content is accepted as something
 abbrev pub IsAcceptable : Format → List ℕ → Type 0
-IsAcceptable f content = (value : Value f) × Accepts f content value
+IsAcceptable f content = (value : Value f) × AcceptsAs f content value
 
 -- all that the form names is told and accepted: this content, and the rest by what it is accepted as; where the
 -- input is served, it is told too, and of lines that are not refused
@@ -28,8 +28,8 @@ abbrev pub IsAnswered : Form → (List ℕ → Option (List ℕ)) → Option (Li
 IsAnswered (Write writes) held input = ⊤
 IsAnswered (Serve d b) held input = (content : List ℕ) × (input ≡ Some content) × IsInput d b content
 IsAnswered (Take origin f next) held input =
-    (content : List ℕ) × IsTold held origin content × IsAcceptable f content
-    × ((value : Value f) → Accepts f content value → IsAnswered (next value) held input)
+    (content : List ℕ) × OriginTells held origin content × IsAcceptable f content
+    × ((value : Value f) → AcceptsAs f content value → IsAnswered (next value) held input)
 
 -- no count rose of what the form reads
 abbrev pub ReadsCalm : Form → Call → Type 0
@@ -41,7 +41,7 @@ ReadsCalm (Take origin f next) c =
 -- the call goes through: it ends as its text says, or has served the whole input; or it wants memory
 abbrev pub GoesThrough : Form → Call → Status → Type 0
 GoesThrough form c status =
-    ((outcome : Outcome) × (text : List ℕ) × Says form c.held outcome text × (status ≡ outcome_status outcome))
+    ((outcome : Outcome) × (text : List ℕ) × FormSays form c.held outcome text × (status ≡ outcome_status outcome))
     ⊎ (Serves form c (Written Done) × (status ≡ outcome_status Done)) ⊎ (status ≡ Memory)
 
 -- where all is told, accepted and calm, the call goes through

@@ -5,8 +5,8 @@ use Rattle.ilk_base.specs.Outside.{Rose, AppendsFront}
 use Rattle.node_session.specs.SessionEnds.{Streams}
 use Rattle.node_session.specs.declared.end.SessionEnd.{SessionEnd}
 use Rattle.interlock_cli.specs.Formats.{Value}
-use Rattle.interlock_cli.specs.Form.{Form, Write, Take, Serve, Given, Says, Stops, AsksInput}
-use Rattle.interlock_cli.specs.Serving.{end_of, ServesBay}
+use Rattle.interlock_cli.specs.Form.{Form, Write, Take, Serve, Given, FormSays, FormStops, AsksInput}
+use Rattle.interlock_cli.specs.Serving.{session_end, ServesBay}
 use Rattle.interlock_cli.specs.Commands.{Command, form_of}
 use Rattle.interlock_cli.specs.Lines.{line_of, status_of}
 use Rattle.interlock_cli.specs.declared.end.Outcome.{Outcome}
@@ -30,12 +30,12 @@ pub record Call : Type 0 where
 -- that is not all
 abbrev pub FormEnds : Form → Call → End → Type 0
 FormEnds form c (e.Written outcome) =
-    (text : List ℕ) × Says form c.held outcome text × Appends c.before.out c.after.out text
+    (text : List ℕ) × FormSays form c.held outcome text × Appends c.before.out c.after.out text
 FormEnds form c e.WriteFault =
-    Rose c.before.writes c.after.writes × (outcome : Outcome) × (text : List ℕ) × Says form c.held outcome text
+    Rose c.before.writes c.after.writes × (outcome : Outcome) × (text : List ℕ) × FormSays form c.held outcome text
     × AppendsFront c.before.out c.after.out text
 FormEnds form c e.Usage = ⊥
-FormEnds form c end = Stops form c.held c.reads_before c.reads_after end × Appends c.before.out c.after.out []
+FormEnds form c end = FormStops form c.held c.reads_before c.reads_after end × Appends c.before.out c.after.out []
 
 -- nothing is asked of the input
 pub record Unasked (c : Call) : Type 0 where
@@ -45,23 +45,23 @@ pub record Unasked (c : Call) : Type 0 where
 -- all that the form names is accepted, and the input is served so
 abbrev pub Serves : Form → Call → End → Type 0
 Serves (Write writes) c end = ⊥
-Serves (Serve d b) c end = (s : SessionEnd) × (end ≡ end_of s) × ServesBay d b c.before c.after s
+Serves (Serve d b) c end = (s : SessionEnd) × (end ≡ session_end s) × ServesBay d b c.before c.after s
 Serves (Take origin f next) c end = (value : Value f) × Given c.held origin f value × Serves (next value) c end
 
 -- the words name a command that asks for the input
-abbrev pub Asks : Option Command → Type 0
-Asks None = ⊥
-Asks (Some command) = AsksInput (form_of command)
+abbrev pub CommandAsks : Option Command → Type 0
+CommandAsks None = ⊥
+CommandAsks (Some command) = AsksInput (form_of command)
 
 -- the words are not read as a command: they name none, or for memory
-abbrev pub Unread : Option Command → End → Type 0
-Unread command e.Usage = command ≡ None
-Unread command e.Memory = ⊤
-Unread command _ = ⊥
+abbrev pub WordsUnread : Option Command → End → Type 0
+WordsUnread command e.Usage = command ≡ None
+WordsUnread command e.Memory = ⊤
+WordsUnread command _ = ⊥
 
 -- words that name no command are Usage, and no others, or want memory
 abbrev pub Ends : Option Command → Call → End → Type 0
-Ends None c end = Unread None end × Appends c.before.out c.after.out []
+Ends None c end = WordsUnread None end × Appends c.before.out c.after.out []
 Ends (Some command) c end = (FormEnds (form_of command) c end × Unasked c) ⊎ Serves (form_of command) c end
 
 -- what is to be written was written, or a front of it where the count rose

@@ -3,7 +3,7 @@
 use Rattle.std.specs.Prelude.{◌≡◌, ◌⊎◌, ⊤, ℕ, List, Option, IfSome}
 use Rattle.ilk_base.specs.Outside.{Rose}
 use Rattle.station_graph.specs.Diagram.{Diagram}
-use Rattle.interlock_cli.specs.Formats.{Format, Value, Accepts, Refuses}
+use Rattle.interlock_cli.specs.Formats.{Format, Value, AcceptsAs, Refuses}
 use Rattle.interlock_cli.specs.declared.end.Outcome.{Outcome}
 use Rattle.interlock_cli.specs.declared.end.Output.{Output}
 use Rattle.interlock_cli.specs.declared.end.End.{End}
@@ -31,7 +31,7 @@ IsContent held (Word word) content = word ≡ content
 
 -- a content of the origin is accepted, as this
 abbrev pub Given : (List ℕ → Option (List ℕ)) → Origin → (f : Format) → Value f → Type 0
-Given held origin f value = (content : List ℕ) × IsContent held origin content × Accepts f content value
+Given held origin f value = (content : List ℕ) × IsContent held origin content × AcceptsAs f content value
 
 -- a content of the origin is refused, and the call ends so
 abbrev pub Refused : (List ℕ → Option (List ℕ)) → Origin → Format → End → Type 0
@@ -49,23 +49,23 @@ Fails held before after origin f e.ReadFault = ReadRose before after origin
 Fails held before after origin f end = Refused held origin f end
 
 -- all that the form names is accepted, and it then writes this text and ends so
-abbrev pub Says : Form → (List ℕ → Option (List ℕ)) → Outcome → List ℕ → Type 0
-Says (Write writes) held outcome text = writes outcome text
-Says (Serve d b) held outcome text = ⊥
-Says (Take origin f next) held outcome text =
-    (value : Value f) × Given held origin f value × Says (next value) held outcome text
+abbrev pub FormSays : Form → (List ℕ → Option (List ℕ)) → Outcome → List ℕ → Type 0
+FormSays (Write writes) held outcome text = writes outcome text
+FormSays (Serve d b) held outcome text = ⊥
+FormSays (Take origin f next) held outcome text =
+    (value : Value f) × Given held origin f value × FormSays (next value) held outcome text
 
 -- the same, of what a call has to write
 abbrev pub Gives : Form → (List ℕ → Option (List ℕ)) → Output → Type 0
-Gives form held output = Says form held output.outcome output.text
+Gives form held output = FormSays form held output.outcome output.text
 
 -- the form ends before it writes or serves: at the first content that is not accepted, or for memory
-abbrev pub Stops : Form → (List ℕ → Option (List ℕ)) → (List ℕ → ℕ) → (List ℕ → ℕ) → End → Type 0
-Stops (Write writes) held before after end = end ≡ e.Memory
-Stops (Serve d b) held before after end = ⊥
-Stops (Take origin f next) held before after end =
+abbrev pub FormStops : Form → (List ℕ → Option (List ℕ)) → (List ℕ → ℕ) → (List ℕ → ℕ) → End → Type 0
+FormStops (Write writes) held before after end = end ≡ e.Memory
+FormStops (Serve d b) held before after end = ⊥
+FormStops (Take origin f next) held before after end =
     Fails held before after origin f end
-    ⊎ ((value : Value f) × Given held origin f value × Stops (next value) held before after end)
+    ⊎ ((value : Value f) × Given held origin f value × FormStops (next value) held before after end)
 
 -- the form asks for the input
 abbrev pub AsksInput : Form → Type 0

@@ -11,7 +11,7 @@ use Rattle.release_compile.specs.Judging.{KeepsLimits, IsBuildRefusal}
 use Rattle.release_compile.specs.declared.refusal.BuildRefusal.{BuildRefusal}
 use Rattle.release_compile.specs.declared.refusal.BuildRefusal.TheVariants.{Many, Wide}
 use Rattle.double_points.specs.Positions.{IsAccepted, IsRefusedWith}
-use Rattle.switching_orders.specs.Certain.{AreWordsOf, IsUnsure}
+use Rattle.switching_orders.specs.Certain.{SayPositions, IsUnsure}
 use Rattle.switching_orders.specs.OrderLines.{IsOrder, IsOrderFault}
 use Rattle.equation_audit.specs.Equations.{Equation}
 use Rattle.equation_audit.specs.BlockLines.{AreBlocks, IsBlocksFault}
@@ -62,17 +62,17 @@ NamesBay d path b = (slice_get d.part_paths b ≡ Some path) × IsBay d b
 
 -- the content is accepted, as this; a drawing is accepted whose station keeps the limits of its graphs, and
 -- blocks name the switches of a station, of which no two have one path
-abbrev pub Accepts : (f : Format) → List ℕ → Value f → Type 0
-Accepts Drawing content d = Stands content (Ok d) × KeepsLimits d
-Accepts (Positions d) content words = IsAccepted d.switch_paths content words
-Accepts (CertainPositions d) content v =
-    (words : List Dbpos) × IsAccepted d.switch_paths content words × AreWordsOf v words
-Accepts (OrderOf d) content steps = IsOrder d content steps
-Accepts (LogOf d) content events = IsStation d × IsLog d content events
-Accepts (TripLogOf d) content events = IsStation d × IsTripLog d content events
-Accepts (BlocksOf d) content es = Differ d.switch_paths × AreBlocks d content es
-Accepts (SwitchOf d) content path = Contains d.switch_paths content × (path ≡ content)
-Accepts (BayOf d) content b = NamesBay d content b
+abbrev pub AcceptsAs : (f : Format) → List ℕ → Value f → Type 0
+AcceptsAs Drawing content d = Stands content (Ok d) × KeepsLimits d
+AcceptsAs (Positions d) content words = IsAccepted d.switch_paths content words
+AcceptsAs (CertainPositions d) content v =
+    (words : List Dbpos) × IsAccepted d.switch_paths content words × SayPositions v words
+AcceptsAs (OrderOf d) content steps = IsOrder d content steps
+AcceptsAs (LogOf d) content events = IsStation d × IsLog d content events
+AcceptsAs (TripLogOf d) content events = IsStation d × IsTripLog d content events
+AcceptsAs (BlocksOf d) content es = Differ d.switch_paths × AreBlocks d content es
+AcceptsAs (SwitchOf d) content path = Contains d.switch_paths content × (path ≡ content)
+AcceptsAs (BayOf d) content b = NamesBay d content b
 
 -- the positions are accepted, and a word of them leaves a position open: 14, in no line
 abbrev pub IsUnsureRefusal : Diagram → List ℕ → InputRefusal → Type 0

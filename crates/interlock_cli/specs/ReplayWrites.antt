@@ -14,9 +14,9 @@ use Rattle.interlock_cli.specs.declared.end.Outcome.{Outcome}
 use Rattle.interlock_cli.specs.declared.end.Outcome.TheVariants.{Done, Premise}
 
 -- how a replay ends: at the line of a broken premise, or at the end of its log
-abbrev pub ended : Option (ℕ × Which) → Outcome
-ended None = Done
-ended (Some broken) = Premise (number broken.1) broken.0
+abbrev pub replay_outcome : Option (ℕ × Which) → Outcome
+replay_outcome None = Done
+replay_outcome (Some broken) = Premise (number broken.1) broken.0
 
 -- The report is that of one run of the log, by the graph judge of the station. The headline: over the lines of
 -- the log, with what is shown at each, every decision is exact, and every movement obeys the rules on the true
@@ -32,4 +32,4 @@ pub record Replays (d : Diagram) (log : List LogEvent) (r : Replayed) : Type 0 w
 -- the text of the report; where a premise is broken, the call ends so
 abbrev pub ReplayWrites : Diagram → List LogEvent → Outcome → List ℕ → Type 0
 ReplayWrites d log outcome text =
-    (r : Replayed) × Replays d log r × (outcome ≡ ended r.broken) × (text ≡ report_text d r)
+    (r : Replayed) × Replays d log r × (outcome ≡ replay_outcome r.broken) × (text ≡ report_text d r)

@@ -5,16 +5,16 @@ use Rattle.interlock_cli.specs.declared.words.Command.TheVariants.{Check, Explai
 use Rattle.interlock_cli.specs.declared.words.Command.TheVariants.{Compile, Trips, Plan, Make, Work}
 
 -- a command, as the definitions name it
-abbrev pub seen : Command → c.Command
-seen (Check station positions) = c.Check station.now positions.now
-seen (Explain station positions direction switch) = c.Explain station.now positions.now direction switch.now
-seen (State station positions) = c.State station.now positions.now
-seen (Order station positions order) = c.Order station.now positions.now order.now
-seen (Replay station log) = c.Replay station.now log.now
-seen (Audit station equations) = c.Audit station.now equations.now
-seen (Node station bay) = c.Node station.now bay.now
-seen (Compile station) = c.Compile station.now
-seen (Trips station log) = c.Trips station.now log.now
-seen (Plan station) = c.Plan station.now
-seen (Make feeders text) = c.Make feeders.number text
-seen (Work feeders) = c.Work feeders.number
+abbrev pub seen_command : Command → c.Command
+seen_command (Check station positions) = c.Check station.now positions.now
+seen_command (Explain station positions direction switch) = c.Explain station.now positions.now direction switch.now
+seen_command (State station positions) = c.State station.now positions.now
+seen_command (Order station positions order) = c.Order station.now positions.now order.now
+seen_command (Replay station log) = c.Replay station.now log.now
+seen_command (Audit station equations) = c.Audit station.now equations.now
+seen_command (Node station bay) = c.Node station.now bay.now
+seen_command (Compile station) = c.Compile station.now
+seen_command (Trips station log) = c.Trips station.now log.now
+seen_command (Plan station) = c.Plan station.now
+seen_command (Make feeders text) = c.Make feeders.number text
+seen_command (Work feeders) = c.Work feeders.number

@@ -12,13 +12,13 @@ use Rattle.interlock_cli.specs.declared.end.End.{End}
 use Rattle.interlock_cli.specs.declared.end.End.TheVariants as e
 
 -- the end of a call whose session ends so; a line that is refused is 10
-abbrev pub end_of : SessionEnd → End
-end_of s.Done = e.Written Done
-end_of (s.Refused line) = e.Input (record { number = 10; line = line })
-end_of s.Long = e.Long
-end_of s.ReadFault = e.ReadFault
-end_of s.WriteFault = e.WriteFault
-end_of s.Memory = e.Memory
+abbrev pub session_end : SessionEnd → End
+session_end s.Done = e.Written Done
+session_end (s.Refused line) = e.Input (record { number = 10; line = line })
+session_end s.Long = e.Long
+session_end s.ReadFault = e.ReadFault
+session_end s.WriteFault = e.WriteFault
+session_end s.Memory = e.Memory
 
 -- the session of the bay ends so, for the judge by the graphs over the station's alphabets
 pub record ServesBay (d : Diagram) (b : ℕ) (before after : Streams) (end : SessionEnd) : Type 0 where

@@ -13,8 +13,8 @@ use Rattle.stored_session.specs.Opening.{IsUnfit}
 use Rattle.stored_session.specs.Ends.{StoredEnds, IsStoredInput}
 use Rattle.stored_session.specs.declared.end.StoredEnd.{StoredEnd}
 use Rattle.stored_session.specs.declared.end.StoredEnd.TheVariants as s
-use Rattle.interlock_cli.specs.Formats.{Drawing, BayOf, Accepts}
-use Rattle.interlock_cli.specs.Form.{File, Word, Given, Stops}
+use Rattle.interlock_cli.specs.Formats.{Drawing, BayOf, AcceptsAs}
+use Rattle.interlock_cli.specs.Form.{File, Word, Given, FormStops}
 use Rattle.interlock_cli.specs.Commands.{Command, Node, form_of}
 use Rattle.interlock_cli.specs.Complete.{IsAcceptable, Completes}
 use Rattle.interlock_cli.specs.Ends.{Call, Unasked, WroteLine, AnswersCall}
@@ -28,14 +28,14 @@ use Rattle.interlock_cli.specs.declared.status.Status.TheVariants as t
 
 -- The end of a call whose stored session ends so. A line that is refused is 10; a record from which the bay cannot go
 -- on is 12, in no line.
-abbrev pub end_of : StoredEnd → End
-end_of s.Done = e.Written Done
-end_of s.Unfit = e.Input (record { number = 12; line = 0 })
-end_of (s.Refused line) = e.Input (record { number = 10; line = line })
-end_of s.Long = e.Long
-end_of s.ReadFault = e.ReadFault
-end_of s.WriteFault = e.WriteFault
-end_of s.Memory = e.Memory
+abbrev pub stored_end : StoredEnd → End
+stored_end s.Done = e.Written Done
+stored_end s.Unfit = e.Input (record { number = 12; line = 0 })
+stored_end (s.Refused line) = e.Input (record { number = 10; line = line })
+stored_end s.Long = e.Long
+stored_end s.ReadFault = e.ReadFault
+stored_end s.WriteFault = e.WriteFault
+stored_end s.Memory = e.Memory
 
 -- The session of the bay ends so, for the judge by the graphs over the station's alphabets.
 pub record StoresBay {D : Type 0} (v : View D) (d : Diagram) (b : ℕ) (before after : Streams)
@@ -52,13 +52,13 @@ pub record Stores {D : Type 0} (v : View D) (w : StoredWords) (c : Call) (old ne
   pub bay : ℕ
   pub named : Given c.held (Word w.bay) (BayOf diagram) bay
   pub session : StoredEnd
-  pub end_is : end ≡ end_of session
+  pub end_is : end ≡ stored_end session
   pub stores : StoresBay v diagram bay c.before c.after old new session
 
 -- STATION or BAY is not accepted, for the causes that `node` has; nothing was written, nor asked of the input or of
 -- the device.
 pub record StopsBefore {D : Type 0} (w : StoredWords) (c : Call) (old new : D) (end : End) : Type 0 where
-  pub stops : Stops (form_of (Node w.station w.bay)) c.held c.reads_before c.reads_after end
+  pub stops : FormStops (form_of (Node w.station w.bay)) c.held c.reads_before c.reads_after end
   pub unwritten : Appends c.before.out c.after.out []
   pub unasked : Unasked c
   pub untouched : new ≡ old
@@ -88,8 +88,8 @@ pub record IsAnsweredStored {D : Type 0} (v : View D) (w : StoredWords) (c : Cal
   pub input_told : c.before.input ≡ Some input
   pub image : List ℕ
   pub image_told : v.content old ≡ Some image
-  pub bay : (d : Diagram) → Accepts Drawing content d → IsAcceptable (BayOf d) w.bay
-  pub goes_on : (d : Diagram) (b : ℕ) → Accepts Drawing content d → Accepts (BayOf d) w.bay b
+  pub bay : (d : Diagram) → AcceptsAs Drawing content d → IsAcceptable (BayOf d) w.bay
+  pub goes_on : (d : Diagram) (b : ℕ) → AcceptsAs Drawing content d → AcceptsAs (BayOf d) w.bay b
       → GoesOnFrom input image d b
 
 -- No count of faults rose.

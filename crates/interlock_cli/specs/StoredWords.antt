@@ -21,5 +21,5 @@ abbrev pub stored_of : List (List ℕ) → Option StoredWords
 stored_of words = if list_all is_plain words then stored_named words else None
 
 -- what a contract sees of the words
-abbrev pub seen : Words → StoredWords
-seen words = record { station = words.station.now; bay = words.bay.now }
+abbrev pub seen_words : Words → StoredWords
+seen_words words = record { station = words.station.now; bay = words.bay.now }

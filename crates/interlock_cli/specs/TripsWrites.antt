@@ -9,7 +9,7 @@ use Rattle.trip_core.specs.TripRuns.{TripHeadline}
 use Rattle.trip_replay.specs.TripLogLines.{trip_start_of, trip_lines_of}
 use Rattle.trip_replay.specs.TripReplays.{IsTripReplay}
 use Rattle.trip_replay.specs.declared.log.TripLogEvent.{TripLogEvent}
-use Rattle.interlock_cli.specs.ReplayWrites.{ended}
+use Rattle.interlock_cli.specs.ReplayWrites.{replay_outcome}
 use Rattle.interlock_cli.specs.declared.end.Outcome.{Outcome}
 
 -- The report is that of one run of the log, by the graph judge of the station. Over the lines of the log, with what
@@ -26,4 +26,4 @@ pub record ReplaysTrips (d : Diagram) (log : List TripLogEvent) (r : Replayed) :
 -- the text of the report; where a premise is broken, the call ends so
 abbrev pub TripsWrites : Diagram → List TripLogEvent → Outcome → List ℕ → Type 0
 TripsWrites d log outcome text =
-    (r : Replayed) × ReplaysTrips d log r × (outcome ≡ ended r.broken) × (text ≡ report_text d r)
+    (r : Replayed) × ReplaysTrips d log r × (outcome ≡ replay_outcome r.broken) × (text ≡ report_text d r)

@@ -2,7 +2,7 @@
 ghost use Rattle.std.specs.Prelude.{◌≡◌, IfOk, IfErr};
 ghost use Rattle.equation_audit.specs.Equations.{AreOfStation};
 ghost use Rattle.interlock_cli.specs.Commands.{Audit, form_of};
-ghost use Rattle.interlock_cli.specs.Form.{Gives, Stops};
+ghost use Rattle.interlock_cli.specs.Form.{Gives, FormStops};
 ghost use Rattle.interlock_cli.specs.AuditWrites.{AuditWrites};
 
 use crate::end::{End, Output};
@@ -42,7 +42,7 @@ pub(crate) fn audit<F: Shelf>(
     shelf: &mut F,
 ) -> Result<Output, End>
     ensures ok { IfOk result (Gives (form_of (Audit station.now equations.now)) (F.held shelf.old)) }
-    ensures err { IfErr result (Stops (form_of (Audit station.now equations.now)) (F.held shelf.old)
+    ensures err { IfErr result (FormStops (form_of (Audit station.now equations.now)) (F.held shelf.old)
         (F.faults shelf.old) (F.faults shelf.new)) }
 {
     let station = match load_drawing(alloc, station, shelf) {

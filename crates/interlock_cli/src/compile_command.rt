@@ -1,7 +1,7 @@
 //! The command `compile`.
 ghost use Rattle.std.specs.Prelude.{IfOk, IfErr};
 ghost use Rattle.interlock_cli.specs.Commands.{Compile, form_of};
-ghost use Rattle.interlock_cli.specs.Form.{Gives, Stops};
+ghost use Rattle.interlock_cli.specs.Form.{Gives, FormStops};
 
 use crate::end::{End, Outcome, Output};
 use crate::loading::{build_judge, load_drawing};
@@ -13,7 +13,7 @@ use std::alloc::Global;
 #[tactic(auto, using(crate::proofs::Later::fails_later, crate::proofs::Drawings::drawn_given, crate::proofs::Drawings::drawn_fails))]
 pub(crate) fn compile<F: Shelf>(alloc: Global, station: &str, shelf: &mut F) -> Result<Output, End>
     ensures ok { IfOk result (Gives (form_of (Compile station.now)) (F.held shelf.old)) }
-    ensures err { IfErr result (Stops (form_of (Compile station.now)) (F.held shelf.old) (F.faults shelf.old)
+    ensures err { IfErr result (FormStops (form_of (Compile station.now)) (F.held shelf.old) (F.faults shelf.old)
         (F.faults shelf.new)) }
 {
     let station = match load_drawing(alloc, station, shelf) {

@@ -1,7 +1,7 @@
 //! The command `explain`.
 ghost use Rattle.std.specs.Prelude.{IfOk, IfErr};
 ghost use Rattle.interlock_cli.specs.Commands.{Explain, form_of};
-ghost use Rattle.interlock_cli.specs.Form.{Gives, Stops};
+ghost use Rattle.interlock_cli.specs.Form.{Gives, FormStops};
 
 use crate::end::{End, Outcome, Output};
 use crate::explain::explain_text;
@@ -21,7 +21,7 @@ pub(crate) fn explain<F: Shelf>(
 ) -> Result<Output, End>
     ensures ok { IfOk result (Gives (form_of (Explain station.now positions.now direction path.now))
         (F.held shelf.old)) }
-    ensures err { IfErr result (Stops (form_of (Explain station.now positions.now direction path.now))
+    ensures err { IfErr result (FormStops (form_of (Explain station.now positions.now direction path.now))
         (F.held shelf.old) (F.faults shelf.old) (F.faults shelf.new)) }
 {
     let station = match load_drawing(alloc, station, shelf) {

@@ -10,7 +10,7 @@ ghost use Rattle.switching_orders.specs.OrderRuling.{AreOperations};
 ghost use Rattle.equation_audit.specs.Equations.{AreOfStation};
 ghost use Rattle.double_points.specs.Words.{AreWords};
 ghost use Rattle.central_rules.specs.Meaning.{IsBay};
-ghost use Rattle.interlock_cli.specs.Formats.{Accepts, Drawing, Positions, CertainPositions, OrderOf, BlocksOf};
+ghost use Rattle.interlock_cli.specs.Formats.{AcceptsAs, Drawing, Positions, CertainPositions, OrderOf, BlocksOf};
 ghost use Rattle.interlock_cli.specs.Formats.{SwitchOf, BayOf};
 ghost use Rattle.interlock_cli.specs.Form.{Given, Fails, File};
 ghost use Rattle.interlock_cli.specs.Judging.{Drawn, BuildFails, ReadFails, JudgeFails, Onward};
@@ -59,7 +59,7 @@ pub(crate) fn judge_positions(
     station: &Station,
     bytes: &[u8],
 ) -> Result<Readings, End>
-    ensures ok { IfOk result (Accepts (Positions station.now) bytes.now) }
+    ensures ok { IfOk result (AcceptsAs (Positions station.now) bytes.now) }
     ensures count { IfOk result (AreWords station.now) }
     ensures err { IfErr result (JudgeFails (Positions station.now) bytes.now) }
 {
@@ -72,7 +72,7 @@ pub(crate) fn judge_positions(
 
 // The positions of the bytes of a file of positions, of which no word leaves one open.
 fn judge_start(alloc: Global, station: &Station, bytes: &[u8]) -> Result<Vector, End>
-    ensures ok { IfOk result (Accepts (CertainPositions station.now) bytes.now) }
+    ensures ok { IfOk result (AcceptsAs (CertainPositions station.now) bytes.now) }
     ensures vector { IfOk result (IsVector station.now) }
     ensures err { IfErr result (JudgeFails (CertainPositions station.now) bytes.now) }
 {
@@ -93,7 +93,7 @@ fn judge_start(alloc: Global, station: &Station, bytes: &[u8]) -> Result<Vector,
 
 // The order of the bytes of a file.
 fn judge_steps(alloc: Global, station: &Station, bytes: &[u8]) -> Result<Order, End>
-    ensures ok { IfOk result (Accepts (OrderOf station.now) bytes.now) }
+    ensures ok { IfOk result (AcceptsAs (OrderOf station.now) bytes.now) }
     ensures operations { IfOk result (AreOperations station.now) }
     ensures err { IfErr result (JudgeFails (OrderOf station.now) bytes.now) }
 {
@@ -106,7 +106,7 @@ fn judge_steps(alloc: Global, station: &Station, bytes: &[u8]) -> Result<Order, 
 
 // The blocks of the bytes of a file.
 fn judge_blocks(alloc: Global, station: &Station, bytes: &[u8]) -> Result<Blocks, End>
-    ensures ok { IfOk result (Accepts (BlocksOf station.now) bytes.now) }
+    ensures ok { IfOk result (AcceptsAs (BlocksOf station.now) bytes.now) }
     ensures of_station { IfOk result (AreOfStation station.now) }
     ensures err { IfErr result (JudgeFails (BlocksOf station.now) bytes.now) }
 {
@@ -264,7 +264,7 @@ pub(crate) fn load_blocks<F: Shelf>(
 pub(crate) fn named_switch(station: &Station, path: &str) -> Result<SwitchId, End>
     ensures ok { IfOk result (λ id. slice_get station.now.switch_paths id.0 ≡ Some path.now) }
     ensures within { IfOk result (λ id. id.0 < length station.now.switches) }
-    ensures accepts { IfOk result (λ id. Accepts (SwitchOf station.now) path.now path.now) }
+    ensures accepts { IfOk result (λ id. AcceptsAs (SwitchOf station.now) path.now path.now) }
     ensures err { IfErr result (JudgeFails (SwitchOf station.now) path.now) }
 {
     match station.find_switch(path) {
@@ -278,7 +278,7 @@ pub(crate) fn named_switch(station: &Station, path: &str) -> Result<SwitchId, En
 
 // The bay of a path that the words name.
 pub(crate) fn named_bay(station: &Station, path: &str) -> Result<BayId, End>
-    ensures accepts { IfOk result (λ b. Accepts (BayOf station.now) path.now b.0) }
+    ensures accepts { IfOk result (λ b. AcceptsAs (BayOf station.now) path.now b.0) }
     ensures bay { IfOk result (λ b. IsBay station.now b.0) }
     ensures err { IfErr result (JudgeFails (BayOf station.now) path.now) }
 {

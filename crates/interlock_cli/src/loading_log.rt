@@ -2,7 +2,7 @@
 ghost use Rattle.std.specs.Prelude.{◌≡◌, All, IfOk, IfErr};
 ghost use Rattle.log_replay.specs.Records.{MayBeTold};
 ghost use Rattle.trip_replay.specs.TripRecords.{TripMayBeTold};
-ghost use Rattle.interlock_cli.specs.Formats.{Accepts, LogOf, TripLogOf};
+ghost use Rattle.interlock_cli.specs.Formats.{AcceptsAs, LogOf, TripLogOf};
 ghost use Rattle.interlock_cli.specs.Form.{Given, Fails, File};
 ghost use Rattle.interlock_cli.specs.Judging.{JudgeFails, Onward};
 
@@ -16,7 +16,7 @@ use trip_replay::{TripLog, TripLogFault, read_trip_log};
 
 // The log of the bytes of a file.
 pub(crate) fn judge_log(alloc: Global, station: &Station, bytes: &[u8]) -> Result<Log, End>
-    ensures ok { IfOk result (Accepts (LogOf station.now) bytes.now) }
+    ensures ok { IfOk result (AcceptsAs (LogOf station.now) bytes.now) }
     ensures told { IfOk result (All (MayBeTold station.now)) }
     ensures err { IfErr result (JudgeFails (LogOf station.now) bytes.now) }
 {
@@ -31,7 +31,7 @@ pub(crate) fn judge_log(alloc: Global, station: &Station, bytes: &[u8]) -> Resul
 
 // The log with trips of the bytes of a file.
 fn judge_trip_log(alloc: Global, station: &Station, bytes: &[u8]) -> Result<TripLog, End>
-    ensures ok { IfOk result (Accepts (TripLogOf station.now) bytes.now) }
+    ensures ok { IfOk result (AcceptsAs (TripLogOf station.now) bytes.now) }
     ensures told { IfOk result (All (TripMayBeTold station.now)) }
     ensures err { IfErr result (JudgeFails (TripLogOf station.now) bytes.now) }
 {

@@ -1,9 +1,9 @@
 //! The command `node`.
 ghost use Rattle.std.specs.Prelude.{◌≡◌, IfOk, IfErr, OnErr};
 ghost use Rattle.interlock_cli.specs.Commands.{Node, form_of};
-ghost use Rattle.interlock_cli.specs.Form.{Stops};
+ghost use Rattle.interlock_cli.specs.Form.{FormStops};
 ghost use Rattle.interlock_cli.specs.Ends.{Call, Serves};
-ghost use Rattle.interlock_cli.specs.Serving.{end_of};
+ghost use Rattle.interlock_cli.specs.Serving.{session_end};
 
 use crate::end::{End, Outcome};
 use crate::loading::{build_judge, load_drawing, named_bay};
@@ -13,7 +13,7 @@ use std::alloc::Global;
 
 // The end of a call whose session ends so.
 fn end_of(end: SessionEnd) -> End
-    ensures { result ≡ end_of end }
+    ensures { result ≡ session_end end }
 {
     match end {
         SessionEnd::Done => End::Written(Outcome::Done),
@@ -53,7 +53,7 @@ pub(crate) fn node<F: Shelf, I: Source, O: Sink>(
             writes = O.faults out.new;
           };
         }) }
-    ensures err { IfErr result (Stops (form_of (Node station.now bay.now)) (F.held shelf.old) (F.faults shelf.old)
+    ensures err { IfErr result (FormStops (form_of (Node station.now bay.now)) (F.held shelf.old) (F.faults shelf.old)
         (F.faults shelf.new)) }
     ensures unasked { OnErr result (input.new ≡ input.old) }
     ensures unwritten { OnErr result (out.new ≡ out.old) }

@@ -1,8 +1,8 @@
 //! The command `order`.
 ghost use Rattle.std.specs.Prelude.{◌≡◌, IfOk, IfErr};
 ghost use Rattle.interlock_cli.specs.Commands.{Order, form_of};
-ghost use Rattle.interlock_cli.specs.Form.{Gives, Stops};
-ghost use Rattle.interlock_cli.specs.OrderWrites.{outcome_of};
+ghost use Rattle.interlock_cli.specs.Form.{Gives, FormStops};
+ghost use Rattle.interlock_cli.specs.OrderWrites.{done_or_differs};
 
 use crate::end::{End, Outcome, Output};
 use crate::loading::{load_order, load_start, load_station};
@@ -12,7 +12,7 @@ use switching_orders::order_text;
 
 // How a call ends that has found a difference from the rules, or none.
 pub(crate) fn outcome_of(differs: bool) -> Outcome
-    ensures { result ≡ outcome_of differs }
+    ensures { result ≡ done_or_differs differs }
 {
     match differs {
         false => Outcome::Done,
@@ -30,7 +30,7 @@ pub(crate) fn order<F: Shelf>(
     shelf: &mut F,
 ) -> Result<Output, End>
     ensures ok { IfOk result (Gives (form_of (Order station.now positions.now steps.now)) (F.held shelf.old)) }
-    ensures err { IfErr result (Stops (form_of (Order station.now positions.now steps.now)) (F.held shelf.old)
+    ensures err { IfErr result (FormStops (form_of (Order station.now positions.now steps.now)) (F.held shelf.old)
         (F.faults shelf.old) (F.faults shelf.new)) }
 {
     let station = match load_station(alloc, station, shelf) {

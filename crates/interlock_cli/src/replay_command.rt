@@ -3,8 +3,8 @@ ghost use Rattle.std.specs.Prelude.{◌≡◌, All, IfOk, IfErr};
 ghost use Rattle.bay_contract.specs.Alphabets.{AreAlphabets};
 ghost use Rattle.log_replay.specs.Records.{MayBeTold};
 ghost use Rattle.interlock_cli.specs.Commands.{Replay, form_of};
-ghost use Rattle.interlock_cli.specs.Form.{Gives, Stops};
-ghost use Rattle.interlock_cli.specs.ReplayWrites.{ended, ReplayWrites};
+ghost use Rattle.interlock_cli.specs.Form.{Gives, FormStops};
+ghost use Rattle.interlock_cli.specs.ReplayWrites.{replay_outcome, ReplayWrites};
 
 use crate::end::{End, Outcome, Output};
 use crate::loading::{build_judge, load_drawing};
@@ -18,7 +18,7 @@ use std::alloc::Global;
 
 // How a replay ends.
 pub(crate) fn ended(premise: Option<(u32, Which)>) -> Outcome
-    ensures { result ≡ ended premise }
+    ensures { result ≡ replay_outcome premise }
 {
     match premise {
         Some((line, which)) => Outcome::Premise {
@@ -58,7 +58,7 @@ pub(crate) fn replay<F: Shelf>(
     shelf: &mut F,
 ) -> Result<Output, End>
     ensures ok { IfOk result (Gives (form_of (Replay station.now log.now)) (F.held shelf.old)) }
-    ensures err { IfErr result (Stops (form_of (Replay station.now log.now)) (F.held shelf.old) (F.faults shelf.old)
+    ensures err { IfErr result (FormStops (form_of (Replay station.now log.now)) (F.held shelf.old) (F.faults shelf.old)
         (F.faults shelf.new)) }
 {
     let station = match load_drawing(alloc, station, shelf) {

@@ -1,7 +1,7 @@
 //! The command `state`.
 ghost use Rattle.std.specs.Prelude.{IfOk, IfErr};
 ghost use Rattle.interlock_cli.specs.Commands.{State, form_of};
-ghost use Rattle.interlock_cli.specs.Form.{Gives, Stops};
+ghost use Rattle.interlock_cli.specs.Form.{Gives, FormStops};
 
 use crate::end::{End, Outcome, Output};
 use crate::loading::{load_readings, load_station};
@@ -18,7 +18,7 @@ pub(crate) fn state<F: Shelf>(
     shelf: &mut F,
 ) -> Result<Output, End>
     ensures ok { IfOk result (Gives (form_of (State station.now positions.now)) (F.held shelf.old)) }
-    ensures err { IfErr result (Stops (form_of (State station.now positions.now)) (F.held shelf.old)
+    ensures err { IfErr result (FormStops (form_of (State station.now positions.now)) (F.held shelf.old)
         (F.faults shelf.old) (F.faults shelf.new)) }
 {
     let station = match load_station(alloc, station, shelf) {

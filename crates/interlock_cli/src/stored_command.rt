@@ -3,7 +3,7 @@ ghost use Rattle.std.specs.Prelude.{◌≡◌};
 ghost use Rattle.stored_session.specs.View.{view, streams};
 ghost use Rattle.interlock_cli.specs.Ends.{Call};
 ghost use Rattle.interlock_cli.specs.StoredWords.{StoredWords};
-ghost use Rattle.interlock_cli.specs.StoredEnding.{end_of, EndsStored};
+ghost use Rattle.interlock_cli.specs.StoredEnding.{stored_end, EndsStored};
 
 use crate::end::{End, Outcome};
 use crate::loading::{build_judge, load_drawing, named_bay};
@@ -14,7 +14,7 @@ use stored_session::{StoredEnd, serve_stored};
 
 // The end of a call whose stored session ends so.
 fn end_of(end: StoredEnd) -> End
-    ensures { result ≡ end_of end }
+    ensures { result ≡ stored_end end }
 {
     match end {
         StoredEnd::Done => End::Written(Outcome::Done),

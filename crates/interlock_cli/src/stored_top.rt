@@ -2,9 +2,9 @@
 ghost use Rattle.std.specs.Prelude.{◌≡◌, map, string_bytes, None, IfSome};
 ghost use Rattle.stored_session.specs.View.{view, streams};
 ghost use Rattle.interlock_cli.specs.Commands.{command_of};
-ghost use Rattle.interlock_cli.specs.Ends.{Asks, Call, WroteLine};
+ghost use Rattle.interlock_cli.specs.Ends.{CommandAsks, Call, WroteLine};
 ghost use Rattle.interlock_cli.specs.Lines.{line_of};
-ghost use Rattle.interlock_cli.specs.StoredWords.{seen, stored_of};
+ghost use Rattle.interlock_cli.specs.StoredWords.{seen_words, stored_of};
 ghost use Rattle.interlock_cli.specs.StoredEnding.{AnswersWords, CompletesStored, SaysAsRun};
 
 use crate::end::{End, make_status};
@@ -29,7 +29,7 @@ fn answer_stored<F: Shelf, I: Source, O: Sink, E: Sink, D: Device>(
 ) -> Status
     ensures answers { AnswersWords
         (view D.content D.moment D.left_between D.left_since D.read_faults D.write_faults D.calls)
-        result (seen words.entry)
+        result (seen_words words.entry)
         record {
           held = F.held shelf.old;
           reads_before = F.faults shelf.old;
@@ -40,7 +40,7 @@ fn answer_stored<F: Shelf, I: Source, O: Sink, E: Sink, D: Device>(
         device.old device.new (E.took err.old) (E.took err.new) (E.faults err.old) (E.faults err.new) }
     ensures complete { CompletesStored
         (view D.content D.moment D.left_between D.left_since D.read_faults D.write_faults D.calls)
-        result (seen words.entry)
+        result (seen_words words.entry)
         record {
           held = F.held shelf.old;
           reads_before = F.faults shelf.old;
@@ -99,7 +99,8 @@ pub fn run_stored<F: Shelf, I: Source, O: Sink, E: Sink, D: Device>(
     ensures untouched { stored_of (map string_bytes words.now) ≡ None → device.new ≡ device.old }
     ensures unread { stored_of (map string_bytes words.now) ≡ None → command_of (map string_bytes words.now) ≡ None
         → shelf.new ≡ shelf.old }
-    ensures input { stored_of (map string_bytes words.now) ≡ None → ¬ Asks (command_of (map string_bytes words.now))
+    ensures input { stored_of (map string_bytes words.now) ≡ None
+        → ¬ CommandAsks (command_of (map string_bytes words.now))
         → input.new ≡ input.old }
     ensures stored { IfSome (stored_of (map string_bytes words.now)) (λ w. AnswersWords
         (view D.content D.moment D.left_between D.left_since D.read_faults D.write_faults D.calls) result w

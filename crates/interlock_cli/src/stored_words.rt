@@ -1,7 +1,7 @@
 //! The words of a stored session.
 ghost use Rattle.std.specs.Prelude.{◌≡◌, ◌∷◌, codes, map, option_map, string_bytes, IfOk};
 ghost use Rattle.std.specs.Str.{bytes_eq};
-ghost use Rattle.interlock_cli.specs.StoredWords.{stored_named, stored_of, seen};
+ghost use Rattle.interlock_cli.specs.StoredWords.{stored_named, stored_of, seen_words};
 
 use command_words::read_words;
 use ilk_base::Memory;
@@ -26,7 +26,7 @@ fn is_stored(name: &str) -> bool
 
 // What the words `stored STATION BAY FILE` name, of a name and the words after it.
 fn stored_named<'a>(name: &str, rest: &[&'a str]) -> Option<StoredWords<'a>>
-    ensures { stored_named (name.now ∷ map (λ w. w.now) rest.now) ≡ option_map seen result }
+    ensures { stored_named (name.now ∷ map (λ w. w.now) rest.now) ≡ option_map seen_words result }
 {
     let &[station, bay, _] = rest else {
         return None;
@@ -43,7 +43,7 @@ pub(crate) fn read_stored<'a>(
     alloc: Global,
     words: &'a [String],
 ) -> Result<Option<StoredWords<'a>>, Memory>
-    ensures { IfOk result (λ named. stored_of (map string_bytes words.entry.now) ≡ option_map seen named) }
+    ensures { IfOk result (λ named. stored_of (map string_bytes words.entry.now) ≡ option_map seen_words named) }
 {
     let row = match read_words(alloc, words) {
         Ok(row) => row,

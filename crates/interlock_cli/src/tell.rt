@@ -6,7 +6,7 @@ ghost use Rattle.ilk_base.specs.Outside.{Rose, AppendsFront};
 ghost use Rattle.station_graph.specs.Limits.{limit_number};
 ghost use Rattle.ssd_read.specs.Shown.{limit};
 ghost use Rattle.interlock_cli.specs.Lines.{fault_line, line_of, outcome_line, station_line};
-ghost use Rattle.interlock_cli.specs.Pieces.{label_of, digits_of};
+ghost use Rattle.interlock_cli.specs.Pieces.{label_where, digits_of};
 
 use crate::end::{End, Outcome};
 use ilk_base::{Failed, Sink, write_all, write_pieces};
@@ -15,7 +15,7 @@ use ssd_read::SsdRefusal;
 
 // The label of a number that is there.
 fn label_of(label: &[u8], number: Option<u32>) -> &[u8]
-    ensures { result.now ≡ label_of label.now number }
+    ensures { result.now ≡ label_where label.now number }
 {
     match number {
         Some(_) => label,

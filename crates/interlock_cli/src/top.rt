@@ -1,9 +1,9 @@
 //! The top call.
 ghost use Rattle.std.specs.Prelude.{◌≡◌, ◌⊎◌, map, string_bytes, None, IfOk, IfErr};
 ghost use Rattle.interlock_cli.specs.Commands.{command_of, form_of};
-ghost use Rattle.interlock_cli.specs.Seen.{seen};
-ghost use Rattle.interlock_cli.specs.Form.{AsksInput, Gives, Stops};
-ghost use Rattle.interlock_cli.specs.Ends.{AnswersCall, Asks, Ends, Wrote};
+ghost use Rattle.interlock_cli.specs.Seen.{seen_command};
+ghost use Rattle.interlock_cli.specs.Form.{AsksInput, Gives, FormStops};
+ghost use Rattle.interlock_cli.specs.Ends.{AnswersCall, CommandAsks, Ends, Wrote};
 ghost use Rattle.interlock_cli.specs.Complete.{Completes};
 
 use crate::audit_command::audit;
@@ -27,9 +27,9 @@ use std::alloc::Global;
 
 // What a command that does not serve the input has to write, or how it ends before it writes.
 fn output_of<F: Shelf>(alloc: Global, command: &Command, shelf: &mut F) -> Result<Output, End>
-    requires { ¬ AsksInput (form_of (seen command.now)) }
-    ensures ok { IfOk result (Gives (form_of (seen command.now)) (F.held shelf.old)) }
-    ensures err { IfErr result (Stops (form_of (seen command.now)) (F.held shelf.old) (F.faults shelf.old)
+    requires { ¬ AsksInput (form_of (seen_command command.now)) }
+    ensures ok { IfOk result (Gives (form_of (seen_command command.now)) (F.held shelf.old)) }
+    ensures err { IfErr result (FormStops (form_of (seen_command command.now)) (F.held shelf.old) (F.faults shelf.old)
         (F.faults shelf.new)) }
 {
     match *command {
@@ -95,7 +95,7 @@ fn call<F: Shelf, I: Source, O: Sink>(
         }
         result }
     ensures unread { command_of (map string_bytes words.now) ≡ None → shelf.new ≡ shelf.old }
-    ensures input { ¬ Asks (command_of (map string_bytes words.now)) → input.new ≡ input.old }
+    ensures input { ¬ CommandAsks (command_of (map string_bytes words.now)) → input.new ≡ input.old }
 {
     let command = match read_command(alloc, words) {
         Ok(command) => command,
@@ -183,7 +183,7 @@ pub fn run<F: Shelf, I: Source, O: Sink, E: Sink>(
             writes = O.faults out.new;
           };
         } }
-    ensures input { ¬ Asks (command_of (map string_bytes words.now)) → input.new ≡ input.old }
+    ensures input { ¬ CommandAsks (command_of (map string_bytes words.now)) → input.new ≡ input.old }
 {
     let end = call(alloc, words, shelf, input, out);
     let _ = tell(err, &end);

@@ -3,7 +3,7 @@ ghost use Rattle.std.specs.Prelude.{◌≡◌, All, IfOk, IfErr};
 ghost use Rattle.bay_contract.specs.Alphabets.{AreAlphabets};
 ghost use Rattle.trip_replay.specs.TripRecords.{TripMayBeTold};
 ghost use Rattle.interlock_cli.specs.Commands.{Trips, form_of};
-ghost use Rattle.interlock_cli.specs.Form.{Gives, Stops};
+ghost use Rattle.interlock_cli.specs.Form.{Gives, FormStops};
 ghost use Rattle.interlock_cli.specs.TripsWrites.{TripsWrites};
 
 use crate::end::{End, Output};
@@ -45,7 +45,7 @@ pub(crate) fn trips<F: Shelf>(
     shelf: &mut F,
 ) -> Result<Output, End>
     ensures ok { IfOk result (Gives (form_of (Trips station.now log.now)) (F.held shelf.old)) }
-    ensures err { IfErr result (Stops (form_of (Trips station.now log.now)) (F.held shelf.old) (F.faults shelf.old)
+    ensures err { IfErr result (FormStops (form_of (Trips station.now log.now)) (F.held shelf.old) (F.faults shelf.old)
         (F.faults shelf.new)) }
 {
     let station = match load_drawing(alloc, station, shelf) {

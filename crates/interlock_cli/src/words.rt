@@ -1,10 +1,10 @@
 //! What the words name.
 ghost use Rattle.std.specs.Prelude.{◌≡◌, ◌∷◌, map, option_map, string_bytes, Some, IfOk, IfErr};
 ghost use Rattle.interlock_cli.specs.Commands.{replay_of, audit_of, check_of, command_of, direction_of, explain_of};
-ghost use Rattle.interlock_cli.specs.Commands.{make_of, named, node_of};
+ghost use Rattle.interlock_cli.specs.Commands.{make_of, named_command, node_of};
 ghost use Rattle.interlock_cli.specs.Commands.{plan_of, trips_of, compile_of, order_of, state_of, work_of};
-ghost use Rattle.interlock_cli.specs.Ends.{Unread};
-ghost use Rattle.interlock_cli.specs.Seen.{seen};
+ghost use Rattle.interlock_cli.specs.Ends.{WordsUnread};
+ghost use Rattle.interlock_cli.specs.Seen.{seen_command};
 
 use crate::end::End;
 use command_words::read_words;
@@ -78,7 +78,7 @@ fn direction_of(word: &str) -> Option<Direction>
 
 // `check STATION POSITIONS`.
 fn check_words<'a>(rest: &[&'a str]) -> Option<Command<'a>>
-    ensures { check_of (map (λ w. w.now) rest.now) ≡ option_map seen result }
+    ensures { check_of (map (λ w. w.now) rest.now) ≡ option_map seen_command result }
 {
     let &[station, positions] = rest else {
         return None;
@@ -88,7 +88,7 @@ fn check_words<'a>(rest: &[&'a str]) -> Option<Command<'a>>
 
 // `explain STATION POSITIONS open SWITCH`, or `close`.
 fn explain_words<'a>(rest: &[&'a str]) -> Option<Command<'a>>
-    ensures { explain_of (map (λ w. w.now) rest.now) ≡ option_map seen result }
+    ensures { explain_of (map (λ w. w.now) rest.now) ≡ option_map seen_command result }
 {
     let &[station, positions, direction, switch] = rest else {
         return None;
@@ -106,7 +106,7 @@ fn explain_words<'a>(rest: &[&'a str]) -> Option<Command<'a>>
 
 // `state STATION POSITIONS`.
 fn state_words<'a>(rest: &[&'a str]) -> Option<Command<'a>>
-    ensures { state_of (map (λ w. w.now) rest.now) ≡ option_map seen result }
+    ensures { state_of (map (λ w. w.now) rest.now) ≡ option_map seen_command result }
 {
     let &[station, positions] = rest else {
         return None;
@@ -116,7 +116,7 @@ fn state_words<'a>(rest: &[&'a str]) -> Option<Command<'a>>
 
 // `order STATION POSITIONS ORDER`.
 fn order_words<'a>(rest: &[&'a str]) -> Option<Command<'a>>
-    ensures { order_of (map (λ w. w.now) rest.now) ≡ option_map seen result }
+    ensures { order_of (map (λ w. w.now) rest.now) ≡ option_map seen_command result }
 {
     let &[station, positions, order] = rest else {
         return None;
@@ -130,7 +130,7 @@ fn order_words<'a>(rest: &[&'a str]) -> Option<Command<'a>>
 
 // `audit STATION EQUATIONS`.
 fn audit_words<'a>(rest: &[&'a str]) -> Option<Command<'a>>
-    ensures { audit_of (map (λ w. w.now) rest.now) ≡ option_map seen result }
+    ensures { audit_of (map (λ w. w.now) rest.now) ≡ option_map seen_command result }
 {
     let &[station, equations] = rest else {
         return None;
@@ -140,7 +140,7 @@ fn audit_words<'a>(rest: &[&'a str]) -> Option<Command<'a>>
 
 // `replay STATION LOG`.
 fn replay_words<'a>(rest: &[&'a str]) -> Option<Command<'a>>
-    ensures { replay_of (map (λ w. w.now) rest.now) ≡ option_map seen result }
+    ensures { replay_of (map (λ w. w.now) rest.now) ≡ option_map seen_command result }
 {
     let &[station, log] = rest else {
         return None;
@@ -150,7 +150,7 @@ fn replay_words<'a>(rest: &[&'a str]) -> Option<Command<'a>>
 
 // `node STATION BAY`.
 fn node_words<'a>(rest: &[&'a str]) -> Option<Command<'a>>
-    ensures { node_of (map (λ w. w.now) rest.now) ≡ option_map seen result }
+    ensures { node_of (map (λ w. w.now) rest.now) ≡ option_map seen_command result }
 {
     let &[station, bay] = rest else {
         return None;
@@ -160,7 +160,7 @@ fn node_words<'a>(rest: &[&'a str]) -> Option<Command<'a>>
 
 // `compile STATION`.
 fn compile_words<'a>(rest: &[&'a str]) -> Option<Command<'a>>
-    ensures { compile_of (map (λ w. w.now) rest.now) ≡ option_map seen result }
+    ensures { compile_of (map (λ w. w.now) rest.now) ≡ option_map seen_command result }
 {
     let &[station] = rest else {
         return None;
@@ -170,7 +170,7 @@ fn compile_words<'a>(rest: &[&'a str]) -> Option<Command<'a>>
 
 // `trips STATION LOG`.
 fn trips_words<'a>(rest: &[&'a str]) -> Option<Command<'a>>
-    ensures { trips_of (map (λ w. w.now) rest.now) ≡ option_map seen result }
+    ensures { trips_of (map (λ w. w.now) rest.now) ≡ option_map seen_command result }
 {
     let &[station, log] = rest else {
         return None;
@@ -180,7 +180,7 @@ fn trips_words<'a>(rest: &[&'a str]) -> Option<Command<'a>>
 
 // `plan STATION`.
 fn plan_words<'a>(rest: &[&'a str]) -> Option<Command<'a>>
-    ensures { plan_of (map (λ w. w.now) rest.now) ≡ option_map seen result }
+    ensures { plan_of (map (λ w. w.now) rest.now) ≡ option_map seen_command result }
 {
     let &[station] = rest else {
         return None;
@@ -190,7 +190,7 @@ fn plan_words<'a>(rest: &[&'a str]) -> Option<Command<'a>>
 
 // `make NUMBER station`, or `positions`, or `log`.
 fn make_words<'a>(rest: &[&'a str]) -> Option<Command<'a>>
-    ensures { make_of (map (λ w. w.now) rest.now) ≡ option_map seen result }
+    ensures { make_of (map (λ w. w.now) rest.now) ≡ option_map seen_command result }
 {
     let &[number, text] = rest else {
         return None;
@@ -206,7 +206,7 @@ fn make_words<'a>(rest: &[&'a str]) -> Option<Command<'a>>
 
 // `work NUMBER`.
 fn work_words<'a>(rest: &[&'a str]) -> Option<Command<'a>>
-    ensures { work_of (map (λ w. w.now) rest.now) ≡ option_map seen result }
+    ensures { work_of (map (λ w. w.now) rest.now) ≡ option_map seen_command result }
 {
     let &[number] = rest else {
         return None;
@@ -219,7 +219,7 @@ fn work_words<'a>(rest: &[&'a str]) -> Option<Command<'a>>
 
 // The command of a name and the words after it.
 fn named<'a>(name: &str, rest: &[&'a str]) -> Option<Command<'a>>
-    ensures { named (name.now ∷ map (λ w. w.now) rest.now) ≡ option_map seen result }
+    ensures { named_command (name.now ∷ map (λ w. w.now) rest.now) ≡ option_map seen_command result }
 {
     match name {
         "check" => check_words(rest),
@@ -240,8 +240,8 @@ fn named<'a>(name: &str, rest: &[&'a str]) -> Option<Command<'a>>
 
 // The command that the words name.
 pub(crate) fn read_command<'a>(alloc: Global, words: &'a [String]) -> Result<Command<'a>, End>
-    ensures ok { IfOk result (λ command. command_of (map string_bytes words.entry.now) ≡ Some (seen command)) }
-    ensures err { IfErr result (Unread (command_of (map string_bytes words.entry.now))) }
+    ensures ok { IfOk result (λ command. command_of (map string_bytes words.entry.now) ≡ Some (seen_command command)) }
+    ensures err { IfErr result (WordsUnread (command_of (map string_bytes words.entry.now))) }
 {
     let row = match read_words(alloc, words) {
         Ok(row) => row,

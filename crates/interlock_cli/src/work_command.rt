@@ -4,7 +4,7 @@ ghost use Rattle.bay_contract.specs.Alphabets.{AreAlphabets};
 ghost use Rattle.double_points.specs.Words.{AreWords};
 ghost use Rattle.log_replay.specs.Records.{MayBeTold};
 ghost use Rattle.interlock_cli.specs.Commands.{Work, form_of};
-ghost use Rattle.interlock_cli.specs.Form.{Gives, Stops};
+ghost use Rattle.interlock_cli.specs.Form.{Gives, FormStops};
 ghost use Rattle.interlock_cli.specs.WorkWrites.{WorkWrites};
 
 use crate::end::{End, Output};
@@ -46,7 +46,7 @@ fn work_output(
 pub(crate) fn work(alloc: Global, feeders: Feeders) -> Result<Output, End>
     ensures ok { IfOk result (λ o. (held : List ℕ → Option (List ℕ)) → Gives (form_of (Work feeders.number)) held o) }
     ensures err { IfErr result (λ end. (held : List ℕ → Option (List ℕ)) (before after : List ℕ → ℕ) →
-        Stops (form_of (Work feeders.number)) held before after end) }
+        FormStops (form_of (Work feeders.number)) held before after end) }
 {
     let made = match make(alloc, feeders.number) {
         Ok(made) => made,

@@ -24,7 +24,7 @@ use Rattle.reservation_core.proofs.Keeping.{got_there}
 use Rattle.reservation_core.proofs.Ways.{Way, way}
 use Rattle.reservation_core.specs.Lines.{MessageKind, Line, of_bay, message, kind_of}
 use Rattle.reservation_core.specs.History.{Sending, sending, round_shown, last_round}
-use Rattle.reservation_core.specs.Hearing.{words_at, answers, told, delivered, heard_after, heard}
+use Rattle.reservation_core.specs.Hearing.{words_at, answers, words_told, delivered, heard_after, heard}
 use Rattle.reservation_core.specs.Runs.{Run}
 use Rattle.reservation_core.specs.Headline.{IsUnderWay, HearNothing, AtEach}
 use Rattle.log_replay.proofs.Basic.{IsAnswer, answer_tells, in_or_past}
@@ -133,7 +133,8 @@ record TellsIt (d : Diagram) (b c : ℕ) (r : Option ℕ) (message_is : Option S
   answer : IsAnswer sending.message b c r
   tells : words_at d sending.lines ≡ words
 
-told_answer : (d : Diagram) (b c : ℕ) (r : Option ℕ) (x : Option Sending) (ws : List Dbpos) → told d x b c r ≡ Some ws →
+told_answer : (d : Diagram) (b c : ℕ) (r : Option ℕ) (x : Option Sending) (ws : List Dbpos) → words_told d x b c r
+    ≡ Some ws →
     TellsIt d b c r x ws
 told_answer d b c r None ws is = absurd (cc is)
 told_answer d b c r (Some s) ws is = elim (cases_Bool (answers s.message b c r)) [
@@ -155,7 +156,7 @@ heard_step : (m : Meaning) (start : List Bool) (before : List Line) (l : Line) (
     AnswerTo m old b c (last_round before c) words) → heard m.diagram (l ∷ before) c b ≡ Some words →
     (round_shown (of_bay l.shown c) ≡ None) × AnswerTo m old b c (last_round before c) words
 heard_step m start before l old b c words links earlier is =
-    let p = heard_cases (of_bay l.shown c) (told m.diagram (delivered l.event before) b c (last_round before c))
+    let p = heard_cases (of_bay l.shown c) (words_told m.diagram (delivered l.event before) b c (last_round before c))
     (heard m.diagram before c b) words is in (
       p.0,
       elim p.1 [

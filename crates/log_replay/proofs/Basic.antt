@@ -14,7 +14,7 @@ use Rattle.bay_protocol.specs.declared.values.Outcome.TheVariants.{Quiet}
 use Rattle.bay_protocol.specs.Sends.{to_each}
 use Rattle.reservation_core.specs.Lines.{MessageKind, Message, Shown, of_bay, message, messages}
 use Rattle.reservation_core.specs.History.{with_number, Sending}
-use Rattle.reservation_core.specs.Hearing.{listed, is_answer, is_round, answers, told}
+use Rattle.reservation_core.specs.Hearing.{listed, is_answer, is_round, answers, words_told}
 
 -- ---- numbers
 
@@ -153,6 +153,6 @@ pub answer_is : (x : Message) (b c : ℕ) (r : Option ℕ) → IsAnswer x b c r 
 answer_is x b c r is = rw (is.kind, is.from, is.to, is.round, eqb_same b, eqb_same c, eqb_same x.round) refl
 
 pub told_nothing : (d : Diagram) (s : Sending) (b c : ℕ) (r : Option ℕ) → ¬ IsAnswer s.message b c r →
-    told d (Some s) b c r ≡ None
+    words_told d (Some s) b c r ≡ None
 told_nothing d s b c r never = elim (cases_Bool (answers s.message b c r))
     [ inl p ↦ absurd (never (answer_tells s.message b c r p)) | inr p ↦ rw p refl ]

@@ -26,7 +26,8 @@ use Rattle.reservation_core.specs.declared.values.WorldEvent.TheVariants.{Restar
 use Rattle.reservation_core.proofs.Truths.{switch_of}
 use Rattle.reservation_core.specs.Lines.{MessageKind, Line, Shown, of_bay, message, kind_of, shown}
 use Rattle.reservation_core.specs.History.{or_else, Opened, collecting, last_round, sending}
-use Rattle.reservation_core.specs.Hearing.{told, delivered, heard_after, heard, AreAllHeard, IsVerdictOn, Decides}
+use Rattle.reservation_core.specs.Hearing.{words_told, delivered, heard_after, heard, AreAllHeard, IsVerdictOn}
+use Rattle.reservation_core.specs.Hearing.{DecidesRound}
 use Rattle.reservation_core.specs.Hearing.{known_at}
 use Rattle.reservation_core.specs.Headline.{Verdict}
 use Rattle.log_replay.proofs.Basic.{in_or_past, IsAnswer}
@@ -54,18 +55,20 @@ collecting_same : (before : List Line) (c : ℕ) (o p : Opened) → collecting b
     collecting before c ≡ Some p → o ≡ p
 collecting_same before c o p x y = let e : Some o ≡ Some p = sym x ∙ y in cc e
 
-pub decides_once : (d : Diagram) (before : List Line) (l : Line) (c : ℕ) (o p : Opened) → Decides d before l c o →
-    Decides d before l c p → o ≡ p
-decides_once d before l c o p (Decides.at_tick x e) (Decides.at_tick y f) = collecting_same before c o p x y
-decides_once d before l c o p (Decides.at_tick x e) (Decides.all_heard n y f all) = collecting_same before c o p x y
-decides_once d before l c o p (Decides.at_tick x e) (Decides.alone f at none h) = absurd (cc (e, f))
-decides_once d before l c o p (Decides.all_heard n x e all) (Decides.at_tick y f) = collecting_same before c o p x y
-decides_once d before l c o p (Decides.all_heard n x e all) (Decides.all_heard k y f every) =
+pub decides_once : (d : Diagram) (before : List Line) (l : Line) (c : ℕ) (o p : Opened) → DecidesRound d before l c o →
+    DecidesRound d before l c p → o ≡ p
+decides_once d before l c o p (DecidesRound.at_tick x e) (DecidesRound.at_tick y f) = collecting_same before c o p x y
+decides_once d before l c o p (DecidesRound.at_tick x e) (DecidesRound.all_heard n y f all) =
     collecting_same before c o p x y
-decides_once d before l c o p (Decides.all_heard n x e all) (Decides.alone f at none h) = absurd (cc (e, f))
-decides_once d before l c o p (Decides.alone e at none h) (Decides.at_tick y f) = absurd (cc (e, f))
-decides_once d before l c o p (Decides.alone e at none h) (Decides.all_heard k y f every) = absurd (cc (e, f))
-decides_once d before l c o p (Decides.alone e at none h) (Decides.alone f there nobody g) =
+decides_once d before l c o p (DecidesRound.at_tick x e) (DecidesRound.alone f at none h) = absurd (cc (e, f))
+decides_once d before l c o p (DecidesRound.all_heard n x e all) (DecidesRound.at_tick y f) =
+    collecting_same before c o p x y
+decides_once d before l c o p (DecidesRound.all_heard n x e all) (DecidesRound.all_heard k y f every) =
+    collecting_same before c o p x y
+decides_once d before l c o p (DecidesRound.all_heard n x e all) (DecidesRound.alone f at none h) = absurd (cc (e, f))
+decides_once d before l c o p (DecidesRound.alone e at none h) (DecidesRound.at_tick y f) = absurd (cc (e, f))
+decides_once d before l c o p (DecidesRound.alone e at none h) (DecidesRound.all_heard k y f every) = absurd (cc (e, f))
+decides_once d before l c o p (DecidesRound.alone e at none h) (DecidesRound.alone f there nobody g) =
     decided_same (of_bay l.shown c) o p h g
 
 verdict_decided : (d : Diagram) (k : Known) (o : Opened) (outcome : Outcome) → Verdict d k o outcome →
@@ -89,21 +92,21 @@ not_decided o un p d = d
 
 -- what comes of a line for a bay
 pub data BayDecides (m : Meaning) (before : List Line) (l : Line) (c : ℕ) : Type 0 where
-  decides : (o : Opened) → Decides m.diagram before l c o → Verdict m.diagram (known_at m.diagram before l c) o
+  decides : (o : Opened) → DecidesRound m.diagram before l c o → Verdict m.diagram (known_at m.diagram before l c) o
       (of_bay l.shown c) → BayDecides m before l c
-  rests : ((o : Opened) → ¬ Decides m.diagram before l c o) → ((o : Opened) → ¬ IsVerdictOn (of_bay l.shown c) o) →
+  rests : ((o : Opened) → ¬ DecidesRound m.diagram before l c o) → ((o : Opened) → ¬ IsVerdictOn (of_bay l.shown c) o) →
       BayDecides m before l c
 
 pub shows_it : (m : Meaning) (before : List Line) (l : Line) (c : ℕ) (o : Opened) → BayDecides m before l c →
-    Decides m.diagram before l c o → Verdict m.diagram (known_at m.diagram before l c) o (of_bay l.shown c)
+    DecidesRound m.diagram before l c o → Verdict m.diagram (known_at m.diagram before l c) o (of_bay l.shown c)
 shows_it m before l c o (BayDecides.decides p d v) is =
     subst (λ (x : Opened). Verdict m.diagram (known_at m.diagram before l c) x (of_bay l.shown c))
     (decides_once m.diagram before l c p o d is) v
 shows_it m before l c o (BayDecides.rests never nothing) is = absurd (never o is)
 
 pub decides_it : (m : Meaning) (before : List Line) (l : Line) (c : ℕ) (o : Opened) → BayDecides m before l c →
-    IsVerdictOn (of_bay l.shown c) o → Decides m.diagram before l c o
-decides_it m before l c o (BayDecides.decides p d v) is = subst (λ (x : Opened). Decides m.diagram before l c x)
+    IsVerdictOn (of_bay l.shown c) o → DecidesRound m.diagram before l c o
+decides_it m before l c o (BayDecides.decides p d v) is = subst (λ (x : Opened). DecidesRound m.diagram before l c x)
     (decided_same (of_bay l.shown c) p o (verdict_decided m.diagram (known_at m.diagram before l c) p
     (of_bay l.shown c) v) is) d
 decides_it m before l c o (BayDecides.rests never nothing) is = absurd (nothing o is)
@@ -118,11 +121,12 @@ none_collecting before c (Some g) o is has = λ e. absurd (cc e)
 rests_of : (m : Meaning) (before : List Line) (l : Line) (c : ℕ) (x : Option Collection) →
     opened x ≡ collecting before c → ((o : Opened) → ¬ IsVerdictOn (of_bay l.shown c) o) →
     (l.event ≡ Tick (record { 0 = c }) → x ≡ None) → ((n : ℕ) → l.event ≡ Deliver n → (x ≢ None) →
-    ¬ AreAllHeard m.diagram (l ∷ before) c) → (o : Opened) → ¬ Decides m.diagram before l c o
-rests_of m before l c x is nothing tick deliver o (Decides.at_tick has e) = none_collecting before c x o is has (tick e)
-rests_of m before l c x is nothing tick deliver o (Decides.all_heard n has e all) =
+    ¬ AreAllHeard m.diagram (l ∷ before) c) → (o : Opened) → ¬ DecidesRound m.diagram before l c o
+rests_of m before l c x is nothing tick deliver o (DecidesRound.at_tick has e) =
+    none_collecting before c x o is has (tick e)
+rests_of m before l c x is nothing tick deliver o (DecidesRound.all_heard n has e all) =
     deliver n e (none_collecting before c x o is has) all
-rests_of m before l c x is nothing tick deliver o (Decides.alone e at none d) = nothing o d
+rests_of m before l c x is nothing tick deliver o (DecidesRound.alone e at none d) = nothing o d
 
 bay_rests : (m : Meaning) (before : List Line) (l : Line) (c : ℕ) (x : Option Collection) →
     opened x ≡ collecting before c → ((o : Opened) → ¬ IsVerdictOn (of_bay l.shown c) o) →
@@ -136,7 +140,8 @@ heard_before : (m : Meaning) (before : List Line) (l : Line) (c : ℕ) → Plain
     TellsNothing m.diagram before l.event c → AreAllHeard m.diagram (l ∷ before) c →
     Every m.diagram c (heard m.diagram before c)
 heard_before m before l c plain tells all b other none =
-    all b other (heard_plain (of_bay l.shown c) (told m.diagram (delivered l.event before) b c (last_round before c))
+    all b other (heard_plain (of_bay l.shown c)
+        (words_told m.diagram (delivered l.event before) b c (last_round before c))
     (heard m.diagram before c b) plain
     ∙ ap (λ (t : Option (List Dbpos)). or_else t (heard m.diagram before c b))
     (tells b (another_yes m.diagram c b other)) ∙ none)
@@ -208,7 +213,7 @@ alone_bay m before s b old op turn station laws k known own shows (OpenStep.alon
       long = length-replicate (part_count m.diagram) None;
       heard = λ x. nothing_heard m x b (heard_now m.diagram before l b x) station nobody_else;
     }) shows deciding in
-    BayDecides.decides (opened_of g) (Decides.alone refl own nobody_else
+    BayDecides.decides (opened_of g) (DecidesRound.alone refl own nobody_else
     (verdict_decided m.diagram (known_at m.diagram before l b) (opened_of g) (of_bay s b) v)) v
 
 pub command_bay : (m : Meaning) (before : List Line) (s : Shown) (b : ℕ) (old : State) (op : Op) (turn : Turn) →
@@ -236,7 +241,7 @@ pub tick_bay : (m : Meaning) (before : List Line) (s : Shown) (b : ℕ) (old : S
 tick_bay m before s b old turn station laws k shows (TickStep.decides g has deciding) =
     let l : Line = record { event = Tick (record { 0 = b }); shown = s } in
     let good = k.sound.collecting g has in
-    BayDecides.decides (opened_of g) (Decides.at_tick (sym k.is.collecting ∙ ap opened has) refl)
+    BayDecides.decides (opened_of g) (DecidesRound.at_tick (sym k.is.collecting ∙ ap opened has) refl)
     (judged m before l b old g turn station laws (record {
       name = k.name;
       known = own_known m old g k.sound has;
@@ -330,7 +335,7 @@ answer_bay m before s n b old f summary turn station laws k brought to part othe
     hears_it m before n b old g f summary k brought has to part other_b some body round in
     delivery_rests m before s n b old turn _ Quiet [] k shows end tt (λ collects_one every.
     not_every m b (hears g f.from.0 summary).heard (heard_now m.diagram before l b) all_b are
-    (λ x is none. every x is (ap (λ (y : Outcome). heard_after y (told m.diagram (sending before n) x b
+    (λ x is none. every x is (ap (λ (y : Outcome). heard_after y (words_told m.diagram (sending before n) x b
     (last_round before b)) (heard m.diagram before b x)) (shows ∙ ap shown end.says) ∙ none)))
 answer_bay m before s n b old f summary turn station laws k brought to part other body shows
     (AnswerStep.heard_last g has round fits all deciding) =
@@ -354,9 +359,9 @@ answer_bay m before s n b old f summary turn station laws k brought to part othe
     }) shows deciding in
     let plain : Plain (of_bay s b) = verdict_plain m.diagram (known_at m.diagram before l b) (opened_of g)
     (of_bay s b) v in
-    BayDecides.decides (opened_of g) (Decides.all_heard n (sym k.is.collecting ∙ ap opened has) refl
+    BayDecides.decides (opened_of g) (DecidesRound.all_heard n (sym k.is.collecting ∙ ap opened has) refl
     (λ x is none. every m b (hears g f.from.0 summary).heard (heard_now m.diagram before l b) all_b are x is
-    (sym (heard_plain (of_bay s b) (told m.diagram (sending before n) x b (last_round before b))
+    (sym (heard_plain (of_bay s b) (words_told m.diagram (sending before n) x b (last_round before b))
     (heard m.diagram before b x) plain) ∙ none))) v
 answer_bay m before s n b old f summary turn station laws k brought to part other body shows
     (AnswerStep.unfit g has round fits end) =

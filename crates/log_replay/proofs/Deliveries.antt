@@ -15,7 +15,7 @@ use Rattle.bay_protocol.specs.Step.{Turn, StepEnds, ReserveStep, AnswerStep, Bus
 use Rattle.bay_protocol.proofs.Others.{another_yes, another_no}
 use Rattle.reservation_core.specs.Lines.{MessageKind, Line, message, kind_of}
 use Rattle.reservation_core.specs.History.{or_else, sending, last_round}
-use Rattle.reservation_core.specs.Hearing.{words_at, told, heard}
+use Rattle.reservation_core.specs.Hearing.{words_at, words_told, heard}
 use Rattle.reservation_core.specs.declared.values.WorldEvent.TheVariants.{Deliver}
 use Rattle.log_replay.proofs.Basic.{one_frame, IsAnswer, answer_is, told_nothing}
 use Rattle.log_replay.proofs.Linked.{opened, HeardIs, stays, tells_nothing}
@@ -138,7 +138,7 @@ pub hears_it : (m : Meaning) (before : List Line) (n b : ℕ) (s : State) (g : C
     (summary : List ℕ) → Before m before b s → Brought m before n f → s.collecting ≡ Some g → f.to.0 ≡ b →
     IsBay m.diagram f.from.0 → IsOther m.diagram b f.from.0 → others m.diagram b ≢ [] → f.body ≡ Answer summary →
     g.round ≡ f.round → (x : ℕ) → HeardIs m x b (get_or (set g.heard f.from.0 (Some summary)) x None)
-    (cond (is_another m.diagram b x) (or_else (told m.diagram (sending before n) x b (last_round before b))
+    (cond (is_another m.diagram b x) (or_else (words_told m.diagram (sending before n) x b (last_round before b))
     (heard m.diagram before b x)) None)
 hears_it m before n b s g f summary k brought has to part other some body round x =
     let opened_last : last_round before b ≡ Some f.round = last_opened m before b s g k has some
@@ -146,12 +146,12 @@ hears_it m before n b s g f summary k brought has to part other some body round 
     let long : f.from.0 < length g.heard = omega (arith, part.0, (k.sound.collecting g has).places) in
     elim (eqb_tells f.from.0 x) [
       | inl p ↦
-          let yes_it : told m.diagram (sending before n) f.from.0 b (last_round before b) ≡ Some
+          let yes_it : words_told m.diagram (sending before n) f.from.0 b (last_round before b) ≡ Some
           (words_at m.diagram brought.at) =
           rw brought.found (rw (answer_is (message n f) f.from.0 b (last_round before b)
           (record { kind = ap kind_of body; from = refl; to = to; round = opened_last })) refl) in
           subst (λ (y : ℕ). HeardIs m y b (get_or (set g.heard f.from.0 (Some summary)) y None)
-          (cond (is_another m.diagram b y) (or_else (told m.diagram (sending before n) y b (last_round before b))
+          (cond (is_another m.diagram b y) (or_else (words_told m.diagram (sending before n) y b (last_round before b))
           (heard m.diagram before b y)) None)) p.1
           (rw (
             get_or-set_same g.heard f.from.0 (Some summary) None long,
@@ -160,7 +160,7 @@ hears_it m before n b s g f summary k brought has to part other some body round 
           ) (subst (λ (y : ℕ). Summarises m f.from.0 y (words_at m.diagram brought.at) summary) to
           (brought.words summary body)))
       | inr p ↦
-          let none_it : told m.diagram (sending before n) x b (last_round before b) ≡ None =
+          let none_it : words_told m.diagram (sending before n) x b (last_round before b) ≡ None =
           rw brought.found (told_nothing m.diagram (record { message = message n f; lines = brought.at }) x b
           (last_round before b) (λ a. p.1 a.from)) in
           rw (get_or-set_other g.heard f.from.0 x (Some summary) None (λ same. p.1 (sym same)), none_it)
@@ -186,7 +186,7 @@ answer_turn m before n b s f summary turn k brought to part other body (AnswerSt
         heard = λ h x got.
             let e : hears g f.from.0 summary ≡ h = cc got in
             subst (λ (y : Collection). HeardIs m x b (get_or y.heard x None) (cond (is_another m.diagram b x)
-            (or_else (told m.diagram (sending before n) x b (last_round before b))
+            (or_else (words_told m.diagram (sending before n) x b (last_round before b))
             (heard m.diagram before b x)) None)) e
             (hears_it m before n b s g f summary k brought has to part other_b some body round x);
         missing = λ h got.

@@ -31,7 +31,7 @@ use Rattle.reservation_core.proofs.Keeping.{got_there}
 use Rattle.reservation_core.proofs.Plain.{keeps_facts}
 use Rattle.reservation_core.proofs.Starting.{starts}
 use Rattle.reservation_core.specs.Lines.{Line, Shown, message}
-use Rattle.reservation_core.specs.History.{end_of, last_granted, moved, true_after, driven, drive_runs}
+use Rattle.reservation_core.specs.History.{end_after, last_granted, moved, true_after, driven, drive_runs}
 use Rattle.reservation_core.specs.Runs.{ShowsNothing, Shows, Run}
 use Rattle.log_replay.proofs.Basic.{of_quiet}
 use Rattle.log_replay.proofs.Linked.{NodeIs, NodeAfter, Harmless, TellsNothing, node_is, stays, tells_nothing}
@@ -210,10 +210,10 @@ module _ (m : Meaning) (before : List Line) (old new : Scene) (s : Shown) (outco
 
 ends_there : (d : Diagram) (before : List Line) (i j : ℕ) (op : Op) (was : Position) →
     last_granted d before i ≡ Some op → cond (i == j) (end_position op.direction) was ≡ cond (i == j)
-    (end_of (last_granted d before j)) was
+    (end_after (last_granted d before j)) was
 ends_there d before i j op was last = elim (eqb_tells i j) [
-  | inl p ↦ rw p.0 (subst (λ (x : ℕ). end_position op.direction ≡ end_of (last_granted d before x)) p.1
-      (ap end_of (sym last)))
+  | inl p ↦ rw p.0 (subst (λ (x : ℕ). end_position op.direction ≡ end_after (last_granted d before x)) p.1
+      (ap end_after (sym last)))
   | inr p ↦ rw p.0 refl
 ]
 

@@ -22,7 +22,7 @@ use Rattle.log_replay.proofs.Basic.{eqb_differ, IsAnswer, told_nothing}
 use Rattle.reservation_core.specs.History.{or_else, granted_for, last_granted, open_after, open_of, takes_word, sensed}
 use Rattle.reservation_core.specs.History.{reading_at, Sending, sending, Opened, collecting_after, forgotten}
 use Rattle.reservation_core.specs.History.{collecting, round_shown, last_round}
-use Rattle.reservation_core.specs.Hearing.{told, delivered, heard_after, heard, heard_of}
+use Rattle.reservation_core.specs.Hearing.{words_told, delivered, heard_after, heard, heard_of}
 
 abbrev pub opened : Option Collection → Option Opened
 opened None = None
@@ -61,7 +61,8 @@ pub record NodeAfter (m : Meaning) (before : List Line) (c : ℕ) (x : Option Co
       or_else (round_shown o) (last_round before c) ≡ Some q
   pub heard : (g : Collection) (b : ℕ) → x ≡ Some g →
       HeardIs m b c (get_or g.heard b None) (cond (is_another m.diagram c b)
-      (heard_after o (told m.diagram (delivered e before) b c (last_round before c)) (heard m.diagram before c b)) None)
+      (heard_after o (words_told m.diagram (delivered e before) b c (last_round before c))
+          (heard m.diagram before c b)) None)
   pub missing : (g : Collection) → x ≡ Some g → ¬ AllHeard m.diagram c g.heard
 
 pub node_is : (m : Meaning) (l : Line) (before : List Line) (c : ℕ) (x : Option Collection) (y : Option Grant)
@@ -124,13 +125,13 @@ not_forgotten d (Cut j) c was harmless = refl
 -- the event tells bay c nothing of others that counts in its round
 abbrev pub TellsNothing : Diagram → List Line → WorldEvent → ℕ → Type 0
 TellsNothing d before e c = (b : ℕ) → is_another d c b ≡ true →
-    told d (delivered e before) b c (last_round before c) ≡ None
+    words_told d (delivered e before) b c (last_round before c) ≡ None
 
 nothing_heard : (m : Meaning) (before : List Line) (e : WorldEvent) (c b : ℕ) (s : Option (List ℕ)) →
     TellsNothing m.diagram before e c →
     HeardIs m b c s (cond (is_another m.diagram c b) (heard m.diagram before c b) None) →
     HeardIs m b c s (cond (is_another m.diagram c b)
-    (or_else (told m.diagram (delivered e before) b c (last_round before c)) (heard m.diagram before c b)) None)
+    (or_else (words_told m.diagram (delivered e before) b c (last_round before c)) (heard m.diagram before c b)) None)
 nothing_heard m before e c b s tells is = elim (cases_Bool (is_another m.diagram c b)) [
   | inl p ↦ rw (p, tells b p) (rw p at is)
   | inr p ↦ rw p (rw p at is)

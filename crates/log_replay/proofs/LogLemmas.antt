@@ -8,7 +8,7 @@ use Rattle.std.proofs.lemmas.List.{length-append, take-append-le}
 use Rattle.station_graph.specs.Diagram.{Diagram}
 use Rattle.reservation_core.specs.declared.values.LogEvent.{LogEvent}
 use Rattle.log_replay.specs.declared.log.TheConstants.{MOST_RECORDS}
-use Rattle.log_replay.specs.Records.{Says, MayBeTold}
+use Rattle.log_replay.specs.Records.{RecordSays, MayBeTold}
 use Rattle.log_replay.proofs.ReportLemmas.{all_more}
 use Rattle.log_replay.specs.Log.{MayFollow, AreInOrder, IsText, Tell}
 
@@ -84,7 +84,7 @@ tell_nothing d rows = record {
 
 pub tell_more : (d : Diagram) (all : List (List (List ℕ))) (events more : List LogEvent) (row : List (List ℕ))
     (e : LogEvent) (rest : List (List (List ℕ))) → more ≡ events ++ e ∷ [] → drop (length events) all ≡ row ∷ rest
-    → Tell d (take (length events) all) events → Says d row e → IsText row → MayFollow events e
+    → Tell d (take (length events) all) events → RecordSays d row e → IsText row → MayFollow events e
     → length events < MOST_RECORDS
     → Tell d (take (length more) all) more × (rest ≡ drop (length more) all)
 tell_more d all events more row e rest pushed left tell says text follows few =
@@ -92,7 +92,7 @@ tell_more d all events more row e rest pushed left tell says text follows few =
     let count : length more ≡ length events + 1 = ap length pushed ∙ length-append events (e ∷ []) in
     let taken : take (length more) all ≡ take (length events) all ++ row ∷ [] = ap (λ m. take m all) count ∙ n.taken in
     let it : Tell d (take (length events) all ++ row ∷ []) (events ++ e ∷ []) = record {
-      each = AllZip-push (Says d) (take (length events) all) events row e tell.each says;
+      each = AllZip-push (RecordSays d) (take (length events) all) events row e tell.each says;
       texts = all_more IsText (take (length events) all) row tell.texts text;
       order = order_more events e tell.order follows;
       few = omega (arith, few, length-append events (e ∷ []));
@@ -103,7 +103,7 @@ tell_more d all events more row e rest pushed left tell says text follows few =
     )
 
 -- what records say may be told
-pub told_each : (d : Diagram) (rows : List (List (List ℕ))) (events : List LogEvent) → AllZip (Says d) rows events
+pub told_each : (d : Diagram) (rows : List (List (List ℕ))) (events : List LogEvent) → AllZip (RecordSays d) rows events
     → All (MayBeTold d) events
 told_each d [] [] each k x lt = absurd (omega (arith, lt))
 told_each d [] (e ∷ events) each k x lt = absurd each

@@ -14,7 +14,7 @@ use Rattle.log_replay.specs.declared.kinds.RecordKind.{RecordKind}
 use Rattle.log_replay.specs.declared.kinds.RecordKind.TheVariants.{At, Command, Sense, Begin, End, Deliver, Tick}
 use Rattle.log_replay.specs.declared.kinds.RecordKind.TheVariants.{Withdraw, Restart, Part, Cut}
 use Rattle.log_replay.specs.declared.log.TheConstants.{MOST_RECORDS}
-use Rattle.log_replay.specs.Records.{Says, MayBeTold, event_row, is_step, is_told_of, has_step, tell_of}
+use Rattle.log_replay.specs.Records.{RecordSays, MayBeTold, event_row, is_step, is_told_of, has_step, tell_of}
 use Rattle.log_replay.specs.RecordFaults.{kind_name, field, HasForm, IsLate, IsKnown, IsWord, IsAgain, AreNumbers}
 use Rattle.log_replay.specs.RecordFaults.{KindFault, RecordFault}
 use Rattle.log_replay.specs.Log.{IsText, MayFollow, IsLog, IsLogFault}
@@ -74,7 +74,8 @@ marked Cut = refl
 one_kind : (j k : RecordKind) → kind_name j ≡ kind_name k → j ≡ k
 one_kind j k is = sym (marked j) ∙ ap (λ (text : List ℕ). of_mark (mark text)) is ∙ marked k
 
-pub of_row : (d : Diagram) (row : List (List ℕ)) (e : LogEvent) → Says d row e → field row 0 ≡ kind_name (kind_of e)
+pub of_row : (d : Diagram) (row : List (List ℕ)) (e : LogEvent) → RecordSays d row e → field row 0
+    ≡ kind_name (kind_of e)
 of_row d row e says = ap (λ (r : List (List ℕ)). field r 0) says.written ∙ first_field d e
 
 -- ---- what a record says has no fault
@@ -193,7 +194,8 @@ no_kind_fault d before e number station texts told follows (KindFault.no_number 
     none (are_numbers d e told)
 
 pub no_fault : (d : Diagram) (before : List LogEvent) (row : List (List ℕ)) (e : LogEvent) (number : ℕ) → IsStation d →
-    Says d row e → IsText row → MayFollow before e → length before < MOST_RECORDS → RecordFault d before row number → ⊥
+    RecordSays d row e → IsText row → MayFollow before e → length before < MOST_RECORDS
+        → RecordFault d before row number → ⊥
 no_fault d before row e number station says texts follows few (RecordFault.too_many many is) = omega (arith, few, many)
 no_fault d before row e number station says texts follows few (RecordFault.no_kind room none is) =
     none (kind_of e) (of_row d row e says)
@@ -223,15 +225,16 @@ step_is (Step (event.End i)) = refl
 step_is (Step (event.Part n bytes)) = refl
 step_is (Step (event.Cut i)) = refl
 
-kinds_same : (d : Diagram) (row : List (List ℕ)) (x y : LogEvent) → Says d row x → Says d row y → kind_of x ≡ kind_of y
+kinds_same : (d : Diagram) (row : List (List ℕ)) (x y : LogEvent) → RecordSays d row x → RecordSays d row y → kind_of x
+    ≡ kind_of y
 kinds_same d row x y a b = one_kind (kind_of x) (kind_of y) (sym (of_row d row x a) ∙ of_row d row y b)
 
-pub steps_same : (d : Diagram) (row : List (List ℕ)) (x y : LogEvent) → Says d row x → Says d row y →
+pub steps_same : (d : Diagram) (row : List (List ℕ)) (x y : LogEvent) → RecordSays d row x → RecordSays d row y →
     is_step x ≡ is_step y
 steps_same d row x y a b = step_is x ∙ ap step_kind (kinds_same d row x y a b) ∙ sym (step_is y)
 
-pub told_same : (d : Diagram) (s : ℕ) → IsStation d → (row : List (List ℕ)) (x y : LogEvent) → Says d row x →
-    Says d row y →
+pub told_same : (d : Diagram) (s : ℕ) → IsStation d → (row : List (List ℕ)) (x y : LogEvent) → RecordSays d row x →
+    RecordSays d row y →
     is_told_of s x ≡ is_told_of s y
 told_same d s station row (TellsAt i closed) (TellsAt j shut) a b =
     let path : switch_path d i.0 ≡ switch_path d j.0 = ap (λ (r : List (List ℕ)). field r 1) (sym a.written
@@ -243,9 +246,9 @@ told_same d s station row (Step e) (TellsAt j shut) a b = let is = steps_same d 
     absurd (cc is)
 told_same d s station row (Step e) (Step f) a b = refl
 
-any_same : (d : Diagram) (test : LogEvent → Bool) → ((row : List (List ℕ)) (x y : LogEvent) → Says d row x →
-    Says d row y → test x ≡ test y) → (rows : List (List (List ℕ))) (events before : List LogEvent)
-    → AllZip (Says d) rows events → AllZip (Says d) (take (length before) rows) before →
+any_same : (d : Diagram) (test : LogEvent → Bool) → ((row : List (List ℕ)) (x y : LogEvent) → RecordSays d row x →
+    RecordSays d row y → test x ≡ test y) → (rows : List (List (List ℕ))) (events before : List LogEvent)
+    → AllZip (RecordSays d) rows events → AllZip (RecordSays d) (take (length before) rows) before →
     list_any test before ≡ list_any test (take (length before) events)
 any_same d test same rows events [] a b = refl
 any_same d test same [] events (y ∷ before) a b = absurd b
@@ -256,12 +259,12 @@ any_same d test same (row ∷ rows) (x ∷ events) (y ∷ before) a b =
     rw (first, rest) refl
 
 said_at : (d : Diagram) (rows : List (List (List ℕ))) (events : List LogEvent) (k : ℕ) (row : List (List ℕ)) →
-    AllZip (Says d) rows events → slice_get rows k ≡ Some row → (e : LogEvent) × (slice_get events k ≡ Some e)
-    × Says d row e
+    AllZip (RecordSays d) rows events → slice_get rows k ≡ Some row → (e : LogEvent) × (slice_get events k ≡ Some e)
+    × RecordSays d row e
 said_at d [] events k row a at = absurd (cc at)
 said_at d (r ∷ rows) [] k row a at = absurd a
 said_at d (r ∷ rows) (x ∷ events) zero row a at = let same : r ≡ row = cc at in
-    (x, refl, subst (λ (y : List (List ℕ)). Says d y x) same a.0)
+    (x, refl, subst (λ (y : List (List ℕ)). RecordSays d y x) same a.0)
 said_at d (r ∷ rows) (x ∷ events) (suc k) row a at = said_at d rows events k row a.1 at
 
 pub follows_too : (before events : List LogEvent) (e : LogEvent) → has_step before ≡ has_step events →

@@ -9,8 +9,9 @@ use Rattle.log_replay.specs.declared.kinds.RecordKind.{RecordKind}
 use Rattle.log_replay.specs.declared.kinds.RecordKind.TheVariants.{At, Command, Sense, Begin, End, Deliver, Tick}
 use Rattle.log_replay.specs.declared.kinds.RecordKind.TheVariants.{Withdraw, Restart, Part, Cut}
 use Rattle.log_replay.specs.declared.log.TheConstants.{MOST_RECORDS}
-use Rattle.log_replay.specs.Records.{Says, event_row, is_again}
-use Rattle.log_replay.specs.RecordFaults.{kind_name, row_of, IsOfKind, IsKnown, IsWord, IsAgain, KindFault, RecordFault}
+use Rattle.log_replay.specs.Records.{RecordSays, event_row, is_again}
+use Rattle.log_replay.specs.RecordFaults.{kind_name, record_row, IsOfKind, IsKnown, IsWord, IsAgain, KindFault}
+use Rattle.log_replay.specs.RecordFaults.{RecordFault}
 
 -- what is told again is told by a record `at`
 pub again_is_at : (k : RecordKind) → kind_name k ≡ kind_name At → k ≡ At
@@ -42,14 +43,15 @@ there paths i lt = (i, lt, same paths i lt)
     same (x ∷ xs) (suc k) low = same xs k (omega (arith, low))
 
 pub told_again : (d : Diagram) (before : List LogEvent) (k : RecordKind) (first second : List ℕ) (e : LogEvent) →
-    IsStation d → Says d (row_of k first second) e → is_again before e ≡ true → ToldAgain d before k first second
+    IsStation d → RecordSays d (record_row k first second) e → is_again before e ≡ true
+        → ToldAgain d before k first second
 told_again d before k first second (TellsStep e) station says again = cc again
 told_again d before k first second (TellsAt i closed) station says again =
     let named : kind_name k ≡ kind_name At = ap (λ (row : List (List ℕ)). get_or row 0 []) says.written in
     let path : first ≡ switch_path d i.0 = ap (λ (row : List (List ℕ)). get_or row 1 []) says.written in
     let at : k ≡ At = again_is_at k named in
-    let written : row_of At first second ≡ event_row d (TellsAt i closed) =
-    subst (λ (x : RecordKind). row_of x first second ≡ event_row d (TellsAt i closed)) at says.written in
+    let written : record_row At first second ≡ event_row d (TellsAt i closed) =
+    subst (λ (x : RecordKind). record_row x first second ≡ event_row d (TellsAt i closed)) at says.written in
     let it : ToldAgain d before At first second = record {
       is_at = refl;
       known = subst (Contains d.switch_paths) (sym path)

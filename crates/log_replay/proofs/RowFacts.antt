@@ -16,7 +16,7 @@ use Rattle.bay_protocol.specs.declared.values.Outcome.TheVariants.{Denied, BusyB
 use Rattle.reservation_core.specs.Lines.{MessageKind, Message, Shown}
 use Rattle.reservation_core.specs.ReportLines.{message_name, line_prefix}
 use Rattle.reservation_core.specs.declared.values.Which.{Which}
-use Rattle.log_replay.specs.Telling.{PathsAreLines, IsNumber, AreNumbers, IsNumbered, IsShowable}
+use Rattle.log_replay.specs.Telling.{PathsAreLines, Is32Bits, Are32Bits, IsNumbered, IsShowable}
 use Rattle.log_replay.proofs.TextRows.{Each, each_append, free, free_append, free_of, NoDigit, decimal_free, cut}
 use Rattle.log_replay.proofs.TextRows.{cut_at, IsRow}
 use Rattle.log_replay.proofs.ReportRows.{op_says, with_row, with_rows, says, outcome_rows, message_says, message_row}
@@ -30,10 +30,10 @@ no_blank k few is = omega (arith, few, is)
 pub no_end : NoDigit 10
 no_end k few is = omega (arith, few, is)
 
-pub wide : (n : ℕ) → IsNumber n → n < 2 ^ 64
+pub wide : (n : ℕ) → Is32Bits n → n < 2 ^ 64
 wide n less = omega (arith, less)
 
-number_row : (n : ℕ) → IsNumber n → IsRow (decimal n)
+number_row : (n : ℕ) → Is32Bits n → IsRow (decimal n)
 number_row n less = decimal_free 10 n no_end (wide n less)
 
 -- ---- no line feed
@@ -41,7 +41,7 @@ number_row n less = decimal_free 10 n no_end (wide n less)
 path_row : (d : Diagram) (i : ℕ) → PathsAreLines d → IsRow (switch_path d i)
 path_row d i paths = free_of 10 (switch_path d i) (paths i)
 
-two_row : (n : ℕ) (t : List ℕ) → IsNumber n → IsRow t → IsRow (decimal n ++ t)
+two_row : (n : ℕ) (t : List ℕ) → Is32Bits n → IsRow t → IsRow (decimal n ++ t)
 two_row n t less row = free_append 10 (decimal n) t (number_row n less) row
 
 -- a row is its line's number, a bay, and what follows
@@ -51,7 +51,7 @@ prefix_is i b t =
     ∙ append_assoc (decimal i ++ codes " ") (decimal b) (32 ∷ t)
     ∙ append_assoc (decimal i) (codes " ") (decimal b ++ 32 ∷ t)
 
-whole_row : (i b : ℕ) (t : List ℕ) → IsNumber i → IsNumber b → IsRow t → IsRow (line_prefix i b ++ t)
+whole_row : (i b : ℕ) (t : List ℕ) → Is32Bits i → Is32Bits b → IsRow t → IsRow (line_prefix i b ++ t)
 whole_row i b t few less row = ap (free 10) (prefix_is i b t) ∙ two_row i (32 ∷ (decimal b ++ 32 ∷ t)) few
     (two_row b (32 ∷ t) less row)
 
@@ -74,7 +74,7 @@ kind_row MessageKind.over t row = row
 op_row : (d : Diagram) (x : Direction) (i : ℕ) → PathsAreLines d → IsRow (op_says d x i)
 op_row d x i paths = direction_row x (codes " " ++ switch_path d i) (path_row d i paths)
 
-says_row : (d : Diagram) (o : Outcome) → PathsAreLines d → AreNumbers o → IsRow (says d o)
+says_row : (d : Diagram) (o : Outcome) → PathsAreLines d → Are32Bits o → IsRow (says d o)
 says_row d (Collecting r) paths n = number_row r n
 says_row d (Granted r op) paths n = two_row r (codes " " ++ op_says d op.direction op.switch.0) n
     (op_row d op.direction op.switch.0 paths)
@@ -148,7 +148,7 @@ messages_each P Q i [] has all = tt
 messages_each P Q i (x ∷ xs) has all =
     (has x (all 0 x (omega arith)), messages_each P Q i xs has (λ k d less. all (suc k) d (omega (arith, less))))
 
-shown_row : (d : Diagram) (i : ℕ) (s : Shown) → PathsAreLines d → IsNumber i → IsShowable d s →
+shown_row : (d : Diagram) (i : ℕ) (s : Shown) → PathsAreLines d → Is32Bits i → IsShowable d s →
     Each IsRow (shown_rows d i s)
 shown_row d i s paths few is =
     let p = line_prefix i s.bay in
@@ -167,12 +167,12 @@ all_row d k (s ∷ out) paths few all =
     (shown_row d k s paths (omega (arith, few)) (all 0 s (omega arith)))
     (all_row d (k + 1) out paths (omega (arith, few)) (λ j x less. all (suc j) x (omega (arith, less))))
 
-pub last_row : (broken : Option (ℕ × Which)) (count : ℕ) → IsNumber count → Each IsRow (last_rows broken count)
+pub last_row : (broken : Option (ℕ × Which)) (count : ℕ) → Is32Bits count → Each IsRow (last_rows broken count)
 last_row None count few = (number_row count few, tt)
 last_row (Some broken) count few = tt
 
 -- ---- what a row begins with
 
-pub prefix_cut : (i b : ℕ) (t : List ℕ) → IsNumber i → cut 32 (line_prefix i b ++ t) ≡ (decimal i, decimal b ++ 32 ∷ t)
+pub prefix_cut : (i b : ℕ) (t : List ℕ) → Is32Bits i → cut 32 (line_prefix i b ++ t) ≡ (decimal i, decimal b ++ 32 ∷ t)
 prefix_cut i b t few = ap (cut 32) (prefix_is i b t) ∙ cut_at 32 (decimal i) (decimal b ++ 32 ∷ t)
     (decimal_free 32 i no_blank (wide i few))

@@ -21,7 +21,7 @@ use Rattle.bay_protocol.specs.declared.values.Outcome.TheVariants.{Denied, BusyB
 use Rattle.reservation_core.specs.Hearing.{listed}
 use Rattle.reservation_core.specs.Lines.{shown}
 use Rattle.reservation_core.specs.ReportLines.{line_prefix}
-use Rattle.log_replay.specs.Telling.{IsNumber}
+use Rattle.log_replay.specs.Telling.{Is32Bits}
 use Rattle.log_replay.proofs.TextRows.{Each, decimal_free, cut, cut_at}
 use Rattle.log_replay.proofs.ReportRows.{op_says, with_row, with_rows}
 use Rattle.log_replay.proofs.RowFacts.{no_blank, wide, with_each, prefix_cut}
@@ -37,17 +37,17 @@ behind t = (cut 32 t).1
 abbrev pub number_in : List ℕ → ℕ
 number_in t = digits_value 10 t
 
-pub number_is : (n : ℕ) → IsNumber n → number_in (decimal n) ≡ n
+pub number_is : (n : ℕ) → Is32Bits n → number_in (decimal n) ≡ n
 number_is n few = (decimal_is_IsNumeral n (wide n few)).1
 
 -- a number before a blank
-number_cut : (n : ℕ) (t : List ℕ) → IsNumber n → cut 32 (decimal n ++ 32 ∷ t) ≡ (decimal n, t)
+number_cut : (n : ℕ) (t : List ℕ) → Is32Bits n → cut 32 (decimal n ++ 32 ∷ t) ≡ (decimal n, t)
 number_cut n t few = cut_at 32 (decimal n) t (decimal_free 32 n no_blank (wide n few))
 
-pub number_first : (n : ℕ) (t : List ℕ) → IsNumber n → number_in (first (decimal n ++ 32 ∷ t)) ≡ n
+pub number_first : (n : ℕ) (t : List ℕ) → Is32Bits n → number_in (first (decimal n ++ 32 ∷ t)) ≡ n
 number_first n t few = ap (λ (p : List ℕ × List ℕ). number_in p.0) (number_cut n t few) ∙ number_is n few
 
-pub number_behind : (n : ℕ) (t : List ℕ) → IsNumber n → behind (decimal n ++ 32 ∷ t) ≡ t
+pub number_behind : (n : ℕ) (t : List ℕ) → Is32Bits n → behind (decimal n ++ 32 ∷ t) ≡ t
 number_behind n t few = ap (λ (p : List ℕ × List ℕ). p.1) (number_cut n t few)
 
 -- what a row says behind its prefix
@@ -57,14 +57,14 @@ said r = behind (behind r)
 abbrev pub bay_in : List ℕ → ℕ
 bay_in r = number_in (first (behind r))
 
-pub first_of_row : (i b : ℕ) (t : List ℕ) → IsNumber i → first (line_prefix i b ++ t) ≡ decimal i
+pub first_of_row : (i b : ℕ) (t : List ℕ) → Is32Bits i → first (line_prefix i b ++ t) ≡ decimal i
 first_of_row i b t few = ap (λ (p : List ℕ × List ℕ). p.0) (prefix_cut i b t few)
 
-pub said_of_row : (i b : ℕ) (t : List ℕ) → IsNumber i → IsNumber b → said (line_prefix i b ++ t) ≡ t
+pub said_of_row : (i b : ℕ) (t : List ℕ) → Is32Bits i → Is32Bits b → said (line_prefix i b ++ t) ≡ t
 said_of_row i b t few less = ap (λ (p : List ℕ × List ℕ). behind p.1) (prefix_cut i b t few)
     ∙ ap (λ (p : List ℕ × List ℕ). p.1) (number_cut b t less)
 
-pub bay_of_row : (i b : ℕ) (t : List ℕ) → IsNumber i → IsNumber b → bay_in (line_prefix i b ++ t) ≡ b
+pub bay_of_row : (i b : ℕ) (t : List ℕ) → Is32Bits i → Is32Bits b → bay_in (line_prefix i b ++ t) ≡ b
 bay_of_row i b t few less = ap (λ (p : List ℕ × List ℕ). number_in (first p.1)) (prefix_cut i b t few)
     ∙ ap (λ (p : List ℕ × List ℕ). number_in p.0) (number_cut b t less) ∙ number_is b less
 
@@ -180,12 +180,12 @@ with_any q p d v moved i (suc n) less differ closed is = elim (eqb_tells i n) [
       | inr f ↦ rw (f.0, closed, is) refl
     ]
 
-names_row : (d : Diagram) (k b i j : ℕ) → IsNumber k → IsNumber b →
+names_row : (d : Diagram) (k b i j : ℕ) → Is32Bits k → Is32Bits b →
     names d i (line_prefix k b ++ (codes "with " ++ switch_path d j)) ≡ bytes_eq (switch_path d j) (switch_path d i)
 names_row d k b i j few less = ap (λ (t : List ℕ). bytes_eq (behind t) (switch_path d i))
     (said_of_row k b (codes "with " ++ switch_path d j) few less)
 
-pub reading_at : (d : Diagram) → IsStation d → (k b : ℕ) (v : List Bool) (moved i : ℕ) → IsNumber k → IsNumber b →
+pub reading_at : (d : Diagram) → IsStation d → (k b : ℕ) (v : List Bool) (moved i : ℕ) → Is32Bits k → Is32Bits b →
     slice_index_or v moved false ≡ false → i < length d.switches →
     any_row (names d i) (with_rows (line_prefix k b) d v moved (length d.switches)) ≡ slice_index_or v i false
 reading_at d station k b v moved i few less unmoved within = elim (cases_Bool (slice_index_or v i false)) [
@@ -258,7 +258,7 @@ read_outcome d w t v =
     else if bytes_eq w (codes "withdrawn") then Withdrawn (number_in t)
     else Stopped (number_in t)
 
-pub granted_read : (d : Diagram) → IsStation d → (r : ℕ) (op : Op) → IsNumber r → op.switch.0 < length d.switches →
+pub granted_read : (d : Diagram) → IsStation d → (r : ℕ) (op : Op) → Is32Bits r → op.switch.0 < length d.switches →
     Granted (number_in (first (decimal r ++ 32 ∷ op_says d op.direction op.switch.0)))
     (read_op d (behind (decimal r ++ 32 ∷ op_says d op.direction op.switch.0))) ≡ Granted r op
 granted_read d station r op few fits = rw (
@@ -269,7 +269,7 @@ granted_read d station r op few fits = rw (
 ) refl
 
 pub denied_read : (d : Diagram) → IsStation d → (r : ℕ) (op : Op) (rule : Rule) (v : List Bool) (t : List ℕ) →
-    t ≡ decimal r ++ 32 ∷ (rule_name rule ++ 32 ∷ op_says d op.direction op.switch.0) → IsNumber r →
+    t ≡ decimal r ++ 32 ∷ (rule_name rule ++ 32 ∷ op_says d op.direction op.switch.0) → Is32Bits r →
     op.switch.0 < length d.switches → Denied (number_in (first t)) (read_op d (behind (behind t)))
     (read_rule (first (behind t))) v ≡ Denied r op rule v
 denied_read d station r op rule v t is few fits =

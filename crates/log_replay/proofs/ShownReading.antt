@@ -12,7 +12,7 @@ use Rattle.bay_protocol.specs.declared.values.Outcome.TheVariants.{Denied, BusyB
 use Rattle.ilk_base.specs.declared.words.BayId.{BayId}
 use Rattle.reservation_core.specs.Lines.{MessageKind, Message, Shown, shown}
 use Rattle.reservation_core.specs.ReportLines.{message_name, line_prefix}
-use Rattle.log_replay.specs.Telling.{IsNumber, AreNumbers, IsNumbered, IsShowable, ShowSame}
+use Rattle.log_replay.specs.Telling.{Is32Bits, Are32Bits, IsNumbered, IsShowable, ShowSame}
 use Rattle.log_replay.proofs.TextRows.{Each, kept, kept_append, all_kept, none_kept}
 use Rattle.log_replay.proofs.ReportRows.{with_rows, says, outcome_rows, message_says, message_row, message_rows}
 use Rattle.log_replay.proofs.ReportRows.{shown_rows}
@@ -23,8 +23,8 @@ use Rattle.log_replay.proofs.RowReading.{read_vector, reading_of, unmoved_off, r
 
 -- ---- outcomes
 
-held_read : (b : BayId) (q : ℕ) (t : List ℕ) → t ≡ decimal b.0 ++ 32 ∷ (codes "round " ++ decimal q) → IsNumber b.0 →
-    IsNumber q → HeldBy (record { 0 = number_in (first t) }) (number_in (behind (behind t))) ≡ HeldBy b q
+held_read : (b : BayId) (q : ℕ) (t : List ℕ) → t ≡ decimal b.0 ++ 32 ∷ (codes "round " ++ decimal q) → Is32Bits b.0 →
+    Is32Bits q → HeldBy (record { 0 = number_in (first t) }) (number_in (behind (behind t))) ≡ HeldBy b q
 held_read b q t is first_few few =
     let bay : number_in (first t) ≡ b.0 = ap (λ (x : List ℕ). number_in (first x)) is
     ∙ number_first b.0 (codes "round " ++ decimal q) first_few in
@@ -36,7 +36,7 @@ held_read b q t is first_few few =
 busy_read : (r : ℕ) (b h : BayId) (q : ℕ) (t : List ℕ) →
     t ≡ decimal r ++ 32 ∷ (codes "from "
     ++ (decimal b.0 ++ 32 ∷ (codes "holder " ++ (decimal h.0 ++ 32 ∷ (codes "round " ++ decimal q)))))
-    → IsNumber r → IsNumber b.0 → IsNumber h.0 → IsNumber q
+    → Is32Bits r → Is32Bits b.0 → Is32Bits h.0 → Is32Bits q
     → BusyBy (number_in (first t)) (record { 0 = number_in (first (behind (behind t))) })
     (record { 0 = number_in (first (behind (behind (behind (behind t))))) })
     (number_in (behind (behind (behind (behind (behind (behind t))))))) ≡ BusyBy r b h q
@@ -63,7 +63,7 @@ abbrev Speaks : Outcome → Type 0
 Speaks Quiet = ⊥
 Speaks o = ⊤
 
-outcome_is : (d : Diagram) → IsStation d → (o : Outcome) → Speaks o → OutcomeFits d o → AreNumbers o →
+outcome_is : (d : Diagram) → IsStation d → (o : Outcome) → Speaks o → OutcomeFits d o → Are32Bits o →
     read_outcome d (first (says d o)) (behind (says d o)) (reading_of o) ≡ o
 outcome_is d station (Collecting r) some fits n = ap (λ (k : ℕ). Collecting k) (number_is r n)
 outcome_is d station (Granted r op) some fits n = granted_read d station r op n fits
@@ -91,8 +91,8 @@ read_rows d (r ∷ rs) = (bay_in r, read_outcome d (first (said r)) (behind (sai
 abbrev pub told_of : ℕ × Outcome → ℕ → Outcome
 told_of p b = if p.0 == b then p.1 else Quiet
 
-row_is : (d : Diagram) → IsStation d → (i c : ℕ) (o : Outcome) (rs : List (List ℕ)) → IsNumber i → IsNumber c →
-    Speaks o → OutcomeFits d o → AreNumbers o
+row_is : (d : Diagram) → IsStation d → (i c : ℕ) (o : Outcome) (rs : List (List ℕ)) → Is32Bits i → Is32Bits c →
+    Speaks o → OutcomeFits d o → Are32Bits o
     → ((v : List Bool) → read_outcome d (first (says d o)) (behind (says d o)) v ≡ read_outcome d (first (says d o))
     (behind (says d o)) (reading_of o)) ⊎ (read_vector d rs ≡ reading_of o)
     → read_rows d ((line_prefix i c ++ says d o) ∷ rs) ≡ (c, o)
@@ -122,8 +122,8 @@ quiet_is b c = elim (cases_Bool (c == b)) [
 ]
 
 -- what the rows of an outcome tell is the outcome, and its bay, if something is shown
-outcome_read : (d : Diagram) → IsStation d → (i c : ℕ) (o : Outcome) → IsNumber i → IsNumber c → OutcomeFits d o →
-    AreNumbers o → shown o ≡ o → (b : ℕ) →
+outcome_read : (d : Diagram) → IsStation d → (i c : ℕ) (o : Outcome) → Is32Bits i → Is32Bits c → OutcomeFits d o →
+    Are32Bits o → shown o ≡ o → (b : ℕ) →
     told_of (read_rows d (outcome_rows (line_prefix i c) d o)) b ≡ told_of (c, o) b
 outcome_read d station i c (Collecting r) few less fits n un b = ap (λ (p : ℕ × Outcome). told_of p b)
     (row_is d station i c (Collecting r) [] few less tt fits n (inl (λ v. refl)))
@@ -207,14 +207,14 @@ sent_read x n t is =
     let e3 : number_in (behind (behind (behind t))) ≡ x.round = ap number_in b3 ∙ number_is x.round n.round in
     λ j. record { number = e0 j; kind = e1 j; from = x.from; to = e2 j; round = e3 j }
 
-message_read : (i : ℕ) (x : Message) → IsNumber i → IsNumbered x → read_message (message_row i x) ≡ x
+message_read : (i : ℕ) (x : Message) → Is32Bits i → IsNumbered x → read_message (message_row i x) ≡ x
 message_read i x few n =
     ap (λ (t : List ℕ). read_sent (bay_in (message_row i x)) (behind t))
     (said_of_row i x.from (message_says x) few n.from)
     ∙ ap (λ (k : ℕ). read_sent k (behind (message_says x))) (bay_of_row i x.from (message_says x) few n.from)
     ∙ sent_read x n (behind (message_says x)) refl
 
-messages_read : (i : ℕ) (xs : List Message) → IsNumber i → All IsNumbered xs → map read_message (message_rows i xs) ≡ xs
+messages_read : (i : ℕ) (xs : List Message) → Is32Bits i → All IsNumbered xs → map read_message (message_rows i xs) ≡ xs
 messages_read i [] few all = refl
 messages_read i (x ∷ xs) few all =
     ap (λ (y : Message). y ∷ map read_message (message_rows i xs)) (message_read i x few (all 0 x (omega arith)))
@@ -246,14 +246,14 @@ says_other d Quiet = refl
 abbrev Test : (List ℕ → Bool) → Bool → List ℕ → Type 0
 Test p is r = p r ≡ is
 
-outcomes_other : (d : Diagram) (i c : ℕ) (o : Outcome) → IsNumber i → IsNumber c →
+outcomes_other : (d : Diagram) (i c : ℕ) (o : Outcome) → Is32Bits i → Is32Bits c →
     Each (Test is_sent false) (outcome_rows (line_prefix i c) d o)
 outcomes_other d i c o few less = outcome_each (Test is_sent false) (line_prefix i c) d o
     (ap (λ (t : List ℕ). bytes_eq (first t) (codes "send")) (said_of_row i c (says d o) few less) ∙ says_other d o)
     (λ j. ap (λ (t : List ℕ). bytes_eq (first t) (codes "send"))
     (said_of_row i c (codes "with " ++ switch_path d j) few less))
 
-messages_sent : (i : ℕ) (xs : List Message) → IsNumber i → All IsNumbered xs →
+messages_sent : (i : ℕ) (xs : List Message) → Is32Bits i → All IsNumbered xs →
     Each (Test is_sent true) (message_rows i xs)
 messages_sent i xs few all = messages_each (Test is_sent true) IsNumbered i xs
     (λ x n. ap (λ (t : List ℕ). bytes_eq (first t) (codes "send")) (said_of_row i x.from (message_says x) few n.from))
@@ -273,7 +273,7 @@ tell d rs = record {
       map read_message (kept is_sent rs);
 }
 
-pub shown_read : (d : Diagram) → IsStation d → (i : ℕ) (s : Shown) → IsNumber i → IsShowable d s →
+pub shown_read : (d : Diagram) → IsStation d → (i : ℕ) (s : Shown) → Is32Bits i → IsShowable d s →
     ShowSame s (tell d (shown_rows d i s))
 shown_read d station i s few is =
     let outs = outcome_rows (line_prefix i s.bay) d s.outcome in

@@ -29,7 +29,7 @@ use Rattle.reservation_core.specs.declared.values.WorldEvent.TheVariants.{Restar
 use Rattle.reservation_core.proofs.Moves.{idle_collecting}
 use Rattle.reservation_core.specs.Lines.{Line, Shown, of_bay, shown}
 use Rattle.reservation_core.specs.History.{Opened, collecting_after, forgotten, collecting}
-use Rattle.reservation_core.specs.Hearing.{IsVerdictOn, Decides}
+use Rattle.reservation_core.specs.Hearing.{IsVerdictOn, DecidesRound}
 use Rattle.reservation_core.specs.Runs.{Leads, Run}
 use Rattle.reservation_core.specs.Headline.{Verdict, StopsCollecting, StopsWell, IsBusy, IsWithdrawal}
 use Rattle.log_replay.proofs.Basic.{eqb_same, of_own, of_other, of_quiet}
@@ -205,12 +205,14 @@ collection_of (Some g) before c o is has =
 -- while a round is collected, no bay decides but that round
 same_round : (m : Meaning) (start : List Bool) (before : List Line) (l : Line) (old : Scene) (c : ℕ) (o p : Opened) →
     IsStation m.diagram → Laws m → Run m start before old → collecting before c ≡ Some o →
-    Decides m.diagram before l c p → p ≡ o
-same_round m start before l old c o p station laws run has (Decides.at_tick is e) = let x : Some p ≡ Some o = sym is
+    DecidesRound m.diagram before l c p → p ≡ o
+same_round m start before l old c o p station laws run has (DecidesRound.at_tick is e) =
+    let x : Some p ≡ Some o = sym is
     ∙ has in cc x
-same_round m start before l old c o p station laws run has (Decides.all_heard n is e all) = let x : Some p ≡ Some o =
+same_round m start before l old c o p station laws run has (DecidesRound.all_heard n is e all) =
+    let x : Some p ≡ Some o =
     sym is ∙ has in cc x
-same_round m start before l old c o p station laws run has (Decides.alone e at none d) =
+same_round m start before l old c o p station laws run has (DecidesRound.alone e at none d) =
     let links = (run_is m start before old station laws run).links in
     let g = collection_of (node m.diagram old c).collecting before c o (links.nodes c).collecting has in
     absurd (missing_some m.diagram c g.0.heard ((links.nodes c).missing g.0 g.1) none)
@@ -227,7 +229,7 @@ else_case m start before l old w c o station laws run leads has =
       | inr same ↦ elim (after_outcome (of_bay l.shown c) l.event g.0 o g.2 ok) [
         | inl d ↦
             let it = (decides_well m start l before w station laws (old, run, leads)).no_other c d.0 d.1 in
-            inl (StopsCollecting.decided (subst (λ (x : Opened). Decides m.diagram before l c x)
+            inl (StopsCollecting.decided (subst (λ (x : Opened). DecidesRound m.diagram before l c x)
             (same_round m start before l old c o d.0 station laws run has it) it))
         | inr rest ↦ elim rest [
           | inl busy ↦ inl (StopsCollecting.busy busy)

@@ -13,7 +13,7 @@ use Rattle.reservation_core.specs.Runs.{nothing_shown}
 use Rattle.reservation_core.specs.ReportLines.{bay_lines, line_prefix}
 use Rattle.reservation_core.specs.declared.values.Which.{Which}
 use Rattle.log_replay.specs.Replay.{Replayed, report_text}
-use Rattle.log_replay.specs.Telling.{PathsAreLines, IsNumber, IsNumbered, IsShowable, ShowSame, shown_after, TellSame}
+use Rattle.log_replay.specs.Telling.{PathsAreLines, Is32Bits, IsNumbered, IsShowable, ShowSame, shown_after, TellSame}
 use Rattle.log_replay.proofs.TextRows.{Each, each_append, free, NoDigit, decimal_free, closed, rows_of, rows_closed}
 use Rattle.log_replay.proofs.TextRows.{IsRow, kept, kept_append, all_kept, none_kept}
 use Rattle.log_replay.proofs.ReportRows.{says, outcome_rows, message_rows, message_says, shown_rows, all_rows}
@@ -28,7 +28,7 @@ use Rattle.log_replay.proofs.ShownReading.{tell, shown_read}
 abbrev BeginsWith : List ℕ → List ℕ → Type 0
 BeginsWith w r = first r ≡ w
 
-shown_begins : (d : Diagram) (i : ℕ) (s : Shown) → IsNumber i → IsShowable d s →
+shown_begins : (d : Diagram) (i : ℕ) (s : Shown) → Is32Bits i → IsShowable d s →
     Each (BeginsWith (decimal i)) (shown_rows d i s)
 shown_begins d i s few is =
     let p = line_prefix i s.bay in
@@ -63,13 +63,13 @@ words_dropped w v rs differ each = none_kept (begins w) rs (none_begin rs each)
     )
 
 -- another number is another word
-others_differ : (i j : ℕ) → IsNumber i → IsNumber j → i ≢ j → decimal i ≢ decimal j
+others_differ : (i j : ℕ) → Is32Bits i → Is32Bits j → i ≢ j → decimal i ≢ decimal j
 others_differ i j few less differ same = differ (decimal_injective i j (wide i few) (wide j less) same)
 
 no_letter : NoDigit 100
 no_letter k few is = omega (arith, few, is)
 
-done_differs : (i : ℕ) → IsNumber i → decimal i ≢ codes "done"
+done_differs : (i : ℕ) → Is32Bits i → decimal i ≢ codes "done"
 done_differs i few same = let is : free 100 (codes "done") ≡ true = sym (ap (free 100) same)
     ∙ decimal_free 100 i no_letter (wide i few) in absurd (cc is)
 
@@ -87,7 +87,7 @@ rest_dropped d i k (s ∷ out) less few all =
     (λ j x within. all (suc j) x (omega (arith, within)))
 
 -- the rows of a line among those of all lines
-line_kept : (d : Diagram) (i k : ℕ) (out : List Shown) → IsNumber (k + i) → k + length out < 2 ^ 32 →
+line_kept : (d : Diagram) (i k : ℕ) (out : List Shown) → Is32Bits (k + i) → k + length out < 2 ^ 32 →
     All (IsShowable d) out →
     kept (begins (decimal (k + i))) (all_rows d k out) ≡ shown_rows d (k + i) (shown_after out i)
 line_kept d zero k [] number few all = refl
@@ -115,7 +115,7 @@ line_kept d (suc i) k (s ∷ out) number few all =
 
 -- ---- the last row
 
-last_dropped : (i : ℕ) (broken : Option (ℕ × Which)) (count : ℕ) → IsNumber i →
+last_dropped : (i : ℕ) (broken : Option (ℕ × Which)) (count : ℕ) → Is32Bits i →
     kept (begins (decimal i)) (last_rows broken count) ≡ []
 last_dropped i None count few = words_dropped (decimal i) (codes "done") (last_rows None count)
     (done_differs i few) (refl, tt)
@@ -140,7 +140,7 @@ abbrev count_in : List (List ℕ) → ℕ
 count_in [] = 0
 count_in (r ∷ rs) = number_in (behind r)
 
-ended_same : (b c : Option (ℕ × Which)) (m n : ℕ) → IsNumber m → IsNumber n → last_rows b m ≡ last_rows c n → b ≡ None →
+ended_same : (b c : Option (ℕ × Which)) (m n : ℕ) → Is32Bits m → Is32Bits n → last_rows b m ≡ last_rows c n → b ≡ None →
     (c ≡ None) × (n ≡ m)
 ended_same None None m n few less same is = (refl, sym (number_is n less) ∙ sym (ap count_in same) ∙ number_is m few)
 ended_same None (Some c) m n few less same is = absurd (cc same)
@@ -167,12 +167,12 @@ report_ends d r few all =
     ∙ last_kept r.broken r.count
 
 rows_are : (d : Diagram) (r : Replayed) → PathsAreLines d → length r.out < 2 ^ 31 → All (IsShowable d) r.out →
-    IsNumber r.count → rows_of (closed (report_rows d r)) ≡ report_rows d r
+    Is32Bits r.count → rows_of (closed (report_rows d r)) ≡ report_rows d r
 rows_are d r paths few all number = rows_closed (report_rows d r) (each_append IsRow (all_rows d 1 r.out)
     (last_rows r.broken r.count) (all_row d 1 r.out paths (omega (arith, few)) all) (last_row r.broken r.count number))
 
 same_rows : (d : Diagram) (r t : Replayed) → PathsAreLines d → length r.out < 2 ^ 31 → length t.out < 2 ^ 31 →
-    All (IsShowable d) r.out → All (IsShowable d) t.out → IsNumber r.count → IsNumber t.count →
+    All (IsShowable d) r.out → All (IsShowable d) t.out → Is32Bits r.count → Is32Bits t.count →
     report_text d r ≡ report_text d t → report_rows d r ≡ report_rows d t
 same_rows d r t paths few less all each one other same =
     let texts : closed (report_rows d r) ≡ closed (report_rows d t) = append_cancel_left (bay_lines d)
@@ -215,7 +215,7 @@ line_told d station r i few within all =
     (shown_read d station (1 + i) (shown_after r.out i) (omega (arith, within)) (showable_after d r.out i all))
 
 pub tells_all : (d : Diagram) → IsStation d → (r t : Replayed) → PathsAreLines d → length r.out < 2 ^ 31 →
-    length t.out < 2 ^ 31 → All (IsShowable d) r.out → All (IsShowable d) t.out → IsNumber r.count → IsNumber t.count →
+    length t.out < 2 ^ 31 → All (IsShowable d) r.out → All (IsShowable d) t.out → Is32Bits r.count → Is32Bits t.count →
     report_text d r ≡ report_text d t → TellSame r t
 tells_all d station r t paths few less all each one other same =
     let rows = same_rows d r t paths few less all each one other same in

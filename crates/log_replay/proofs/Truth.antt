@@ -32,7 +32,7 @@ use Rattle.reservation_core.proofs.Plain.{true_word_agrees, stood, answers}
 use Rattle.reservation_core.proofs.Truths.{of_part, bay_agrees}
 use Rattle.reservation_core.specs.Lines.{Line, of_bay, shown}
 use Rattle.reservation_core.specs.History.{Opened, collecting, reading_at}
-use Rattle.reservation_core.specs.Hearing.{words_at, heard, heard_of, heard_by, known_at, IsVerdictOn, Decides}
+use Rattle.reservation_core.specs.Hearing.{words_at, heard, heard_of, heard_by, known_at, IsVerdictOn, DecidesRound}
 use Rattle.reservation_core.specs.Runs.{Run, Leads}
 use Rattle.reservation_core.specs.Headline.{Verdict, MayBeTrue, TrueVerdict, TruthDecides}
 use Rattle.log_replay.proofs.Basic.{of_own, get_listed}
@@ -93,12 +93,13 @@ collects_it m before old c o rounds said has =
     }
 
 pub idle_at : (m : Meaning) (before : List Line) (l : Line) (old new : Scene) (c : ℕ) (o : Opened) → RoundFacts m old
-    → Spoken m before old → Leads m old l new → Decides m.diagram before l c o → (node m.diagram old c).granted ≡ None
-idle_at m before l old new c o rounds said leads (Decides.at_tick has e) =
+    → Spoken m before old → Leads m old l new → DecidesRound m.diagram before l c o
+        → (node m.diagram old c).granted ≡ None
+idle_at m before l old new c o rounds said leads (DecidesRound.at_tick has e) =
     (collects_it m before old c o rounds said has).idle
-idle_at m before l old new c o rounds said leads (Decides.all_heard n has e all) =
+idle_at m before l old new c o rounds said leads (DecidesRound.all_heard n has e all) =
     (collects_it m before old c o rounds said has).idle
-idle_at m before l old new c o rounds said leads (Decides.alone e at none d) =
+idle_at m before l old new c o rounds said leads (DecidesRound.alone e at none d) =
     let b = bay_of m.diagram o.op.switch.0 in
     let t : NodeSteps m old b _ new leads.outcome = subst (λ
     (x : WorldEvent). Happens m old x new leads.outcome) e leads.happens in
@@ -110,13 +111,14 @@ idle_at m before l old new c o rounds said leads (Decides.alone e at none d) =
 -- ---- and does not change the true positions
 
 truth_at : (m : Meaning) (before : List Line) (l : Line) (old new : Scene) (c : ℕ) (o : Opened) → Leads m old l new
-    → Decides m.diagram before l c o → new.truth ≡ old.truth
-truth_at m before l old new c o leads (Decides.at_tick has e) =
+    → DecidesRound m.diagram before l c o → new.truth ≡ old.truth
+truth_at m before l old new c o leads (DecidesRound.at_tick has e) =
     let t : NodeSteps m old c _ new leads.outcome = subst (λ
     (x : WorldEvent). Happens m old x new leads.outcome) e leads.happens in ap (λ (w : Scene). w.truth) t.world
-truth_at m before l old new c o leads (Decides.all_heard n has e all) = deliver_truth m old new n leads.outcome (subst
+truth_at m before l old new c o leads (DecidesRound.all_heard n has e all) =
+    deliver_truth m old new n leads.outcome (subst
     (λ (x : WorldEvent). Happens m old x new leads.outcome) e leads.happens)
-truth_at m before l old new c o leads (Decides.alone e at none d) =
+truth_at m before l old new c o leads (DecidesRound.alone e at none d) =
     let t : NodeSteps m old (bay_of m.diagram o.op.switch.0) _ new leads.outcome = subst (λ
     (x : WorldEvent). Happens m old x new leads.outcome) e leads.happens in ap (λ (w : Scene). w.truth) t.world
 
@@ -124,21 +126,22 @@ truth_at m before l old new c o leads (Decides.alone e at none d) =
 
 -- of whom something is heard, the round is collected
 round_at : (m : Meaning) (start : List Bool) (before : List Line) (l : Line) (old : Scene) (c b : ℕ) (o : Opened)
-    → RunIs m start before old → Decides m.diagram before l c o → IsOther m.diagram c b
+    → RunIs m start before old → DecidesRound m.diagram before l c o → IsOther m.diagram c b
     → (q : ℕ) × (under_way (node m.diagram old c) ≡ Some q)
-round_at m start before l old c b o is (Decides.at_tick has e) other = let p =
+round_at m start before l old c b o is (DecidesRound.at_tick has e) other = let p =
     collects_it m before old c o is.facts.rounds is.links.said has in (
       p.round.round,
       ap (λ
           (x : Option Collection). under_way_of x (node m.diagram old c).granted) p.has,
     )
-round_at m start before l old c b o is (Decides.all_heard n has e all) other = let p =
+round_at m start before l old c b o is (DecidesRound.all_heard n has e all) other = let p =
     collects_it m before old c o is.facts.rounds is.links.said has in (
       p.round.round,
       ap (λ
           (x : Option Collection). under_way_of x (node m.diagram old c).granted) p.has,
     )
-round_at m start before l old c b o is (Decides.alone e at none d) other = absurd (other_of m.diagram c b other none)
+round_at m start before l old c b o is (DecidesRound.alone e at none d) other =
+    absurd (other_of m.diagram c b other none)
 
 -- what is heard is heard of another bay
 record HeardOf (d : Diagram) (lines : List Line) (c b : ℕ) (words : List Dbpos) : Type 0 where
@@ -161,7 +164,7 @@ heard_of_is d lines c b words station got =
 
 heard_reads : (m : Meaning) (start : List Bool) (before : List Line) (l : Line) (old : Scene) (c b : ℕ) (o : Opened)
     (words : List Dbpos) (v : List Bool) → IsStation m.diagram → Laws m → Run m start before old
-    → Decides m.diagram before l c o → IsVector m.diagram v → Resolves old.truth v
+    → DecidesRound m.diagram before l c o → IsVector m.diagram v → Resolves old.truth v
     → HeardOf m.diagram (l ∷ before) c b words → Irrelevant m.diagram b c ⊎ StandsAlike m.diagram b words v
 heard_reads m start before l old c b o words v station laws run decides whole resolves said =
     let is = run_is m start before old station laws run in
@@ -204,7 +207,7 @@ own_reads m start before old c v is none whole resolves = bay_agrees m c (words_
 
 truth_reads : (m : Meaning) (start : List Bool) (before : List Line) (l : Line) (old new : Scene) (c : ℕ) (o : Opened)
     (v : List Bool) → IsStation m.diagram → Laws m → Run m start before old → Leads m old l new
-    → Linked m start (l ∷ before) new → Decides m.diagram before l c o → MayBeTrue m.diagram start (l ∷ before) v
+    → Linked m start (l ∷ before) new → DecidesRound m.diagram before l c o → MayBeTrue m.diagram start (l ∷ before) v
     → IsReadingOf m.diagram (known_at m.diagram before l c) v
 truth_reads m start before l old new c o v station laws run leads links decides may =
     let is = run_is m start before old station laws run in
@@ -230,19 +233,20 @@ true_verdict d k T o outcome station full own reads (Verdict.denies rule v is re
     (Some rule)).0 breaks)
 
 op_at : (m : Meaning) (start : List Bool) (before : List Line) (l : Line) (old new : Scene) (c : ℕ) (o : Opened)
-    → RunIs m start before old → Leads m old l new → Decides m.diagram before l c o → IsSwitchOf m c o.op.switch.0
-op_at m start before l old new c o is leads (Decides.at_tick has e) = let p =
+    → RunIs m start before old → Leads m old l new → DecidesRound m.diagram before l c o → IsSwitchOf m c o.op.switch.0
+op_at m start before l old new c o is leads (DecidesRound.at_tick has e) = let p =
     collects_it m before old c o is.facts.rounds is.links.said has in (p.known, p.own)
-op_at m start before l old new c o is leads (Decides.all_heard n has e all) = let p =
+op_at m start before l old new c o is leads (DecidesRound.all_heard n has e all) = let p =
     collects_it m before old c o is.facts.rounds is.links.said has in (p.known, p.own)
-op_at m start before l old new c o is leads (Decides.alone e at none d) = (subst (InRange m.diagram) e leads.range, at)
+op_at m start before l old new c o is leads (DecidesRound.alone e at none d) =
+    (subst (InRange m.diagram) e leads.range, at)
 
 pub truth_decides : (m : Meaning) (start : List Bool) (before : List Line) (l : Line) (w : Scene)
     → IsStation m.diagram → Laws m → Run m start (l ∷ before) w → TruthDecides m.diagram start before l
 truth_decides m start before l w station laws run =
     let is = run_is m start before run.0 station laws run.1 in
     let now = run_is m start (l ∷ before) w station laws run in
-    let reads : (c : ℕ) (o : Opened) → Decides m.diagram before l c o → (v : List Bool)
+    let reads : (c : ℕ) (o : Opened) → DecidesRound m.diagram before l c o → (v : List Bool)
     → MayBeTrue m.diagram start (l ∷ before) v → IsReadingOf m.diagram (known_at m.diagram before l c) v =
     λ c o d v may. truth_reads m start before l run.0 w c o v station laws run.1 run.2 now.links d may in
     record {

@@ -19,7 +19,8 @@ use Rattle.bay_protocol.specs.Step.{Turn, Deciding}
 use Rattle.reservation_core.proofs.Truths.{of_part}
 use Rattle.reservation_core.specs.Lines.{Line, of_bay, shown}
 use Rattle.reservation_core.specs.History.{or_else, reading_at, Opened, last_round}
-use Rattle.reservation_core.specs.Hearing.{words_at, told, delivered, heard_after, heard, heard_of, heard_by, listed}
+use Rattle.reservation_core.specs.Hearing.{words_at, words_told, delivered, heard_after, heard, heard_of, heard_by}
+use Rattle.reservation_core.specs.Hearing.{listed}
 use Rattle.reservation_core.specs.Hearing.{known_at}
 use Rattle.reservation_core.specs.Headline.{Verdict}
 use Rattle.log_replay.proofs.Basic.{get_listed, length_listed}
@@ -29,7 +30,8 @@ use Rattle.log_replay.proofs.Others.{AreHeard, got_some, some_got}
 
 -- what is heard where no round is opened
 abbrev pub heard_now : Diagram → List Line → Line → ℕ → ℕ → Option (List Dbpos)
-heard_now d before l c b = or_else (told d (delivered l.event before) b c (last_round before c)) (heard d before c b)
+heard_now d before l c b =
+    or_else (words_told d (delivered l.event before) b c (last_round before c)) (heard d before c b)
 
 abbrev pub Plain : Outcome → Type 0
 Plain (Collecting r) = ⊥
@@ -105,7 +107,7 @@ are_heard : (m : Meaning) (before : List Line) (l : Line) (b : ℕ) (hs : List (
     Plain (of_bay l.shown b) → AreHeard m b hs (heard_now m.diagram before l b) → (x : ℕ) →
     HeardIs m x b (get_or hs x None) (heard_of m.diagram (l ∷ before) b x)
 are_heard m before l b hs plain are x =
-    rw (heard_plain (of_bay l.shown b) (told m.diagram (delivered l.event before) x b (last_round before b))
+    rw (heard_plain (of_bay l.shown b) (words_told m.diagram (delivered l.event before) x b (last_round before b))
     (heard m.diagram before b x) plain) (are x)
 
 own_words : (m : Meaning) (before : List Line) (b : ℕ) (words : List Dbpos) → ((i : ℕ) → i < length m.diagram.switches →

@@ -7,7 +7,7 @@ use Rattle.station_graph.specs.Diagram.{Diagram}
 use Rattle.double_points.specs.Rows.{rows_of}
 use Rattle.reservation_core.specs.declared.values.LogEvent.{LogEvent}
 use Rattle.reservation_core.specs.declared.values.LogEvent.TheVariants.{At, Step}
-use Rattle.log_replay.specs.Records.{Says, has_step, tell_of}
+use Rattle.log_replay.specs.Records.{RecordSays, has_step, tell_of}
 use Rattle.log_replay.specs.RecordFaults.{RecordFault}
 use Rattle.log_replay.specs.declared.log.LogFault.{LogFault}
 use Rattle.log_replay.specs.declared.log.LogFault.TheVariants.{Memory, Refused}
@@ -29,7 +29,7 @@ IsText row = All (λ text. is_utf8 text ≡ true) row
 
 -- The records say these events, each one, in an order that may be.
 pub record Tell (d : Diagram) (rows : List (List (List ℕ))) (events : List LogEvent) : Type 0 where
-  pub each : AllZip (Says d) rows events
+  pub each : AllZip (RecordSays d) rows events
   pub texts : All IsText rows
   pub order : AreInOrder events
   pub few : length events ≤ MOST_RECORDS

@@ -43,8 +43,8 @@ field_count Part = 3
 field_count Cut = 2
 
 -- A record of the kind with these fields, of which the second is left out where it has but one.
-abbrev pub row_of : RecordKind → List ℕ → List ℕ → List (List ℕ)
-row_of k first second = kind_name k ∷ first ∷ (if field_count k == 3 then second ∷ [] else [])
+abbrev pub record_row : RecordKind → List ℕ → List ℕ → List (List ℕ)
+record_row k first second = kind_name k ∷ first ∷ (if field_count k == 3 then second ∷ [] else [])
 
 -- The field of a record at a place; empty where there is none.
 abbrev pub field : List (List ℕ) → ℕ → List ℕ

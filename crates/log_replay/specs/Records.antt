@@ -12,10 +12,6 @@ use Rattle.reservation_core.specs.declared.values.WorldEvent.TheVariants.{Comman
 use Rattle.reservation_core.specs.declared.values.WorldEvent.TheVariants.{Restart, Begin, End, Part, Cut}
 use Rattle.log_replay.specs.declared.numbers.TheConstants.{LAST_MESSAGE, MOST_CUT_BYTES}
 
--- A record, as the list of its fields.
-abbrev pub Row : Type 0
-Row = List (List ℕ)
-
 -- The path of a part.
 abbrev pub part_path : Diagram → ℕ → List ℕ
 part_path d b = slice_index_or d.part_paths b []
@@ -61,7 +57,7 @@ MayBeTold d (At i closed) = i.0 < length d.switches
 MayBeTold d (Step e) = InRange d e × NumbersFit e
 
 -- The record says this event of the station.
-pub record Says (d : Diagram) (row : List (List ℕ)) (e : LogEvent) : Type 0 where
+pub record RecordSays (d : Diagram) (row : List (List ℕ)) (e : LogEvent) : Type 0 where
   pub written : row ≡ event_row d e
   pub told : MayBeTold d e
 

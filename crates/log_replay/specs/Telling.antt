@@ -14,37 +14,37 @@ abbrev pub PathsAreLines : Diagram → Type 0
 PathsAreLines d = (i : ℕ) → ¬ Contains (switch_path d i) 10
 
 -- A number of 32 bits, as rounds, messages and bays have.
-abbrev pub IsNumber : ℕ → Type 0
-IsNumber n = n < 2 ^ 32
+abbrev pub Is32Bits : ℕ → Type 0
+Is32Bits n = n < 2 ^ 32
 
 -- The numbers of an outcome are such.
-abbrev pub AreNumbers : Outcome → Type 0
-AreNumbers (Collecting r) = IsNumber r
-AreNumbers (Granted r op) = IsNumber r
-AreNumbers (Denied r op rule v) = IsNumber r
-AreNumbers (BusyBy r bay holder q) = IsNumber r × IsNumber bay.0 × IsNumber holder.0 × IsNumber q
-AreNumbers (HeldBy bay q) = IsNumber bay.0 × IsNumber q
-AreNumbers (UnderWay r) = IsNumber r
-AreNumbers There = ⊤
-AreNumbers Spent = ⊤
-AreNumbers (Finished r) = IsNumber r
-AreNumbers (Withdrawn r) = IsNumber r
-AreNumbers (Stopped r) = IsNumber r
-AreNumbers Quiet = ⊤
+abbrev pub Are32Bits : Outcome → Type 0
+Are32Bits (Collecting r) = Is32Bits r
+Are32Bits (Granted r op) = Is32Bits r
+Are32Bits (Denied r op rule v) = Is32Bits r
+Are32Bits (BusyBy r bay holder q) = Is32Bits r × Is32Bits bay.0 × Is32Bits holder.0 × Is32Bits q
+Are32Bits (HeldBy bay q) = Is32Bits bay.0 × Is32Bits q
+Are32Bits (UnderWay r) = Is32Bits r
+Are32Bits There = ⊤
+Are32Bits Spent = ⊤
+Are32Bits (Finished r) = Is32Bits r
+Are32Bits (Withdrawn r) = Is32Bits r
+Are32Bits (Stopped r) = Is32Bits r
+Are32Bits Quiet = ⊤
 
 -- The numbers of a message are such.
 pub record IsNumbered (x : Message) : Type 0 where
-  pub number : IsNumber x.number
-  pub from : IsNumber x.from
-  pub to : IsNumber x.to
-  pub round : IsNumber x.round
+  pub number : Is32Bits x.number
+  pub from : Is32Bits x.from
+  pub to : Is32Bits x.to
+  pub round : Is32Bits x.round
 
 -- What is shown is of the station, without the moved switch of a denial, and its numbers are of 32 bits.
 pub record IsShowable (d : Diagram) (s : Shown) : Type 0 where
   pub fits : OutcomeFits d s.outcome
   pub unmoved : shown s.outcome ≡ s.outcome
-  pub bay : IsNumber s.bay
-  pub numbers : AreNumbers s.outcome
+  pub bay : Is32Bits s.bay
+  pub numbers : Are32Bits s.outcome
   pub messages : All IsNumbered s.messages
 
 -- The same is shown: for each bay the same outcome, and the same messages.

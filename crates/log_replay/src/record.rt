@@ -1,8 +1,8 @@
 //! One record of a log.
 ghost use Rattle.std.specs.Prelude.{◌≡◌, ◌<◌, ◌↔◌, length, IfOk, IfErr, IsTrue};
 ghost use Rattle.csv.specs.Records.{fields_of};
-ghost use Rattle.log_replay.specs.Records.{Says, has_step, is_told_of, tell_of, is_again};
-ghost use Rattle.log_replay.specs.RecordFaults.{row_of, FieldFault, KindFault, RecordFault, IsOfKind, IsLate};
+ghost use Rattle.log_replay.specs.Records.{RecordSays, has_step, is_told_of, tell_of, is_again};
+ghost use Rattle.log_replay.specs.RecordFaults.{record_row, FieldFault, KindFault, RecordFault, IsOfKind, IsLate};
 ghost use Rattle.log_replay.specs.declared.log.TheConstants.{MOST_RECORDS};
 ghost use Rattle.log_replay.specs.Log.{IsText, MayFollow};
 ghost use Rattle.log_replay.specs.declared.kinds.RecordKind.TheVariants as kind;
@@ -19,7 +19,7 @@ use station_graph::Station;
 
 // What a record `at` says, or the number of its fault.
 fn first_position(station: &Station, path: &str, word: &str) -> Result<LogEvent, u8>
-    ensures ok { IfOk result (Says station.now (row_of kind.At path.now word.now)) }
+    ensures ok { IfOk result (RecordSays station.now (record_row kind.At path.now word.now)) }
     ensures err { IfErr result (FieldFault station.now kind.At path.now word.now) }
 {
     let switch = switch_at(station, path)?;
@@ -29,7 +29,7 @@ fn first_position(station: &Station, path: &str, word: &str) -> Result<LogEvent,
 
 // What a record `command` says, or the number of its fault.
 fn command(station: &Station, path: &str, word: &str) -> Result<LogEvent, u8>
-    ensures ok { IfOk result (Says station.now (row_of kind.Command path.now word.now)) }
+    ensures ok { IfOk result (RecordSays station.now (record_row kind.Command path.now word.now)) }
     ensures err { IfErr result (FieldFault station.now kind.Command path.now word.now) }
 {
     let switch = switch_at(station, path)?;
@@ -39,7 +39,7 @@ fn command(station: &Station, path: &str, word: &str) -> Result<LogEvent, u8>
 
 // What a record `sense` says, or the number of its fault.
 fn sense(station: &Station, path: &str, word: &str) -> Result<LogEvent, u8>
-    ensures ok { IfOk result (Says station.now (row_of kind.Sense path.now word.now)) }
+    ensures ok { IfOk result (RecordSays station.now (record_row kind.Sense path.now word.now)) }
     ensures err { IfErr result (FieldFault station.now kind.Sense path.now word.now) }
 {
     let switch = switch_at(station, path)?;
@@ -49,7 +49,7 @@ fn sense(station: &Station, path: &str, word: &str) -> Result<LogEvent, u8>
 
 // What a record `part` says, or the number of its fault.
 fn part(station: &Station, number: &str, count: &str) -> Result<LogEvent, u8>
-    ensures ok { IfOk result (Says station.now (row_of kind.Part number.now count.now)) }
+    ensures ok { IfOk result (RecordSays station.now (record_row kind.Part number.now count.now)) }
     ensures err { IfErr result (FieldFault station.now kind.Part number.now count.now) }
 {
     let message = message_at(number)?;
@@ -59,7 +59,7 @@ fn part(station: &Station, number: &str, count: &str) -> Result<LogEvent, u8>
 
 // What a record `deliver` says, or the number of its fault.
 fn deliver(station: &Station, number: &str, rest: &str) -> Result<LogEvent, u8>
-    ensures ok { IfOk result (Says station.now (row_of kind.Deliver number.now rest.now)) }
+    ensures ok { IfOk result (RecordSays station.now (record_row kind.Deliver number.now rest.now)) }
     ensures err { IfErr result (FieldFault station.now kind.Deliver number.now rest.now) }
 {
     let message = message_at(number)?;
@@ -68,7 +68,7 @@ fn deliver(station: &Station, number: &str, rest: &str) -> Result<LogEvent, u8>
 
 // What a record `begin` says, or the number of its fault.
 fn begin(station: &Station, path: &str, rest: &str) -> Result<LogEvent, u8>
-    ensures ok { IfOk result (Says station.now (row_of kind.Begin path.now rest.now)) }
+    ensures ok { IfOk result (RecordSays station.now (record_row kind.Begin path.now rest.now)) }
     ensures err { IfErr result (FieldFault station.now kind.Begin path.now rest.now) }
 {
     let switch = switch_at(station, path)?;
@@ -77,7 +77,7 @@ fn begin(station: &Station, path: &str, rest: &str) -> Result<LogEvent, u8>
 
 // What a record `end` says, or the number of its fault.
 fn end(station: &Station, path: &str, rest: &str) -> Result<LogEvent, u8>
-    ensures ok { IfOk result (Says station.now (row_of kind.End path.now rest.now)) }
+    ensures ok { IfOk result (RecordSays station.now (record_row kind.End path.now rest.now)) }
     ensures err { IfErr result (FieldFault station.now kind.End path.now rest.now) }
 {
     let switch = switch_at(station, path)?;
@@ -86,7 +86,7 @@ fn end(station: &Station, path: &str, rest: &str) -> Result<LogEvent, u8>
 
 // What a record `cut` says, or the number of its fault.
 fn cut(station: &Station, path: &str, rest: &str) -> Result<LogEvent, u8>
-    ensures ok { IfOk result (Says station.now (row_of kind.Cut path.now rest.now)) }
+    ensures ok { IfOk result (RecordSays station.now (record_row kind.Cut path.now rest.now)) }
     ensures err { IfErr result (FieldFault station.now kind.Cut path.now rest.now) }
 {
     let switch = switch_at(station, path)?;
@@ -95,7 +95,7 @@ fn cut(station: &Station, path: &str, rest: &str) -> Result<LogEvent, u8>
 
 // What a record `tick` says, or the number of its fault.
 fn tick(station: &Station, path: &str, rest: &str) -> Result<LogEvent, u8>
-    ensures ok { IfOk result (Says station.now (row_of kind.Tick path.now rest.now)) }
+    ensures ok { IfOk result (RecordSays station.now (record_row kind.Tick path.now rest.now)) }
     ensures err { IfErr result (FieldFault station.now kind.Tick path.now rest.now) }
 {
     let bay = bay_at(station, path)?;
@@ -104,7 +104,7 @@ fn tick(station: &Station, path: &str, rest: &str) -> Result<LogEvent, u8>
 
 // What a record `withdraw` says, or the number of its fault.
 fn withdraw(station: &Station, path: &str, rest: &str) -> Result<LogEvent, u8>
-    ensures ok { IfOk result (Says station.now (row_of kind.Withdraw path.now rest.now)) }
+    ensures ok { IfOk result (RecordSays station.now (record_row kind.Withdraw path.now rest.now)) }
     ensures err { IfErr result (FieldFault station.now kind.Withdraw path.now rest.now) }
 {
     let bay = bay_at(station, path)?;
@@ -113,7 +113,7 @@ fn withdraw(station: &Station, path: &str, rest: &str) -> Result<LogEvent, u8>
 
 // What a record `restart` says, or the number of its fault.
 fn restart(station: &Station, path: &str, rest: &str) -> Result<LogEvent, u8>
-    ensures ok { IfOk result (Says station.now (row_of kind.Restart path.now rest.now)) }
+    ensures ok { IfOk result (RecordSays station.now (record_row kind.Restart path.now rest.now)) }
     ensures err { IfErr result (FieldFault station.now kind.Restart path.now rest.now) }
 {
     let bay = bay_at(station, path)?;
@@ -123,7 +123,7 @@ fn restart(station: &Station, path: &str, rest: &str) -> Result<LogEvent, u8>
 // What a record of the kind says by its fields after the first, or the number of their fault. The last of
 // them is empty where the kind has but one.
 fn event_of(station: &Station, kind: RecordKind, first: &str, second: &str) -> Result<LogEvent, u8>
-    ensures ok { IfOk result (Says station.now (row_of kind first.now second.now)) }
+    ensures ok { IfOk result (RecordSays station.now (record_row kind first.now second.now)) }
     ensures err { IfErr result (FieldFault station.now kind first.now second.now) }
 {
     match kind {
@@ -193,7 +193,7 @@ fn read_of_kind(
     row: &ByteRecord,
 ) -> Result<LogEvent, u8>
     requires { IsOfKind (fields_of row.now) kind }
-    ensures ok { IfOk result (Says station.now (fields_of row.now)) }
+    ensures ok { IfOk result (RecordSays station.now (fields_of row.now)) }
     ensures text { IfOk result (λ _. IsText (fields_of row.now)) }
     ensures follows { IfOk result (MayFollow before.now) }
     ensures err { IfErr result (KindFault station.now before.now kind (fields_of row.now)) }
@@ -218,7 +218,7 @@ fn read_of_kind(
 /// something has happened; 2 its path is unknown; 3 its word is none; 4 it is an `at` of a switch that was
 /// told of; 8 its numbers are none. Time: the record; for an `at` also the events. Takes no memory.
 pub fn read_record(station: &Station, before: &[LogEvent], row: &ByteRecord) -> Result<LogEvent, u8>
-    ensures ok { IfOk result (Says station.now (fields_of row.now)) }
+    ensures ok { IfOk result (RecordSays station.now (fields_of row.now)) }
     ensures text { IfOk result (λ _. IsText (fields_of row.now)) }
     ensures follows { IfOk result (MayFollow before.now) }
     ensures few { IfOk result (λ _. length before.now < MOST_RECORDS) }

@@ -12,7 +12,8 @@ use Rattle.node_store.specs.declared.slots.Slot.{Slot}
 use Rattle.node_store.specs.declared.slots.Slot.TheVariants.{First, Second}
 use Rattle.node_store.specs.declared.store.Newest.{Newest}
 use Rattle.node_store.specs.declared.store.NextSlot.{NextSlot}
-use Rattle.node_store.specs.Image.{slot, gate, sequence, record_bytes, IsOpen, IsRowOf, HasRecord, IsNewest, NoneOpen}
+use Rattle.node_store.specs.Image.{slot, gate, sequence, record_bytes, IsOpen, IsRecordRow, HasRecord, IsNewest}
+use Rattle.node_store.specs.Image.{NoneOpen}
 use Rattle.node_store.specs.Image.{IsImageOf, IsRefusedSlot}
 use Rattle.node_store.specs.Slots.{number}
 use Rattle.node_store.specs.Store.{MatchesNewest, MayClose, HoldsIfOpen, HoldsBeside, MayTake}
@@ -72,7 +73,7 @@ stands_beside image c n kept lt other beside shut = ⊎_elim
     stands_there c n kept lt (
       ap gate other ∙ b.0,
       (λ (o : IsOpen c n). absurd (shut o)),
-      subst (λ (s : List ℕ). IsRowOf (record_bytes s) kept) (sym other) b.1,
+      subst (λ (s : List ℕ). IsRecordRow (record_bytes s) kept) (sym other) b.1,
     ))
     (λ (b : ¬ (IsOpen image (1 - n)) × (kept ≡ nothing_kept)).
     stands_none c n kept lt shut (λ (o : IsOpen c (1 - n)). b.0 (sym (ap gate other) ∙ o)) b.1)
@@ -101,7 +102,7 @@ close_keeps image c n kept lt beside loses may = elim (cases_eq (gate (slot c n)
         ap gate may.other ∙ b.0,
         (λ (o : IsOpen c n). still_loses _ _ _ _ _ (same_sequence (slot c n) (slot image n) was.1)
             (ap sequence may.other) lost),
-        subst (λ (s : List ℕ). IsRowOf (record_bytes s) kept) (sym may.other) b.1,
+        subst (λ (s : List ℕ). IsRecordRow (record_bytes s) kept) (sym may.other) b.1,
       ))
       (λ (b : ¬ (IsOpen image (1 - n)) × (kept ≡ nothing_kept)). absurd (b.0 newest.is_open))
       beside
@@ -207,13 +208,14 @@ pub none_refused : (image : List ℕ) → NoneOpen image → (n : ℕ) → ¬ (I
 none_refused image none n refused = none_newest image n none refused.0
 
 -- the bytes of a slot are the row of its record
-pub row_in : (image bytes : List ℕ) (n : ℕ) (kept : Kept) → slot image n ≡ bytes → IsRowOf (record_bytes bytes) kept →
+pub row_in : (image bytes : List ℕ) (n : ℕ) (kept : Kept) → slot image n ≡ bytes
+    → IsRecordRow (record_bytes bytes) kept →
     HasRecord image n kept
-row_in image bytes n kept is row = subst (λ (s : List ℕ). IsRowOf (record_bytes s) kept) (sym is) row
+row_in image bytes n kept is row = subst (λ (s : List ℕ). IsRecordRow (record_bytes s) kept) (sym is) row
 
 pub no_row_in : (image bytes : List ℕ) (n : ℕ) → slot image n ≡ bytes →
-    ((kept : Kept) → ¬ (IsRowOf (record_bytes bytes) kept)) → (kept : Kept) → ¬ (HasRecord image n kept)
-no_row_in image bytes n is none kept has = none kept (subst (λ (s : List ℕ). IsRowOf (record_bytes s) kept) is has)
+    ((kept : Kept) → ¬ (IsRecordRow (record_bytes bytes) kept)) → (kept : Kept) → ¬ (HasRecord image n kept)
+no_row_in image bytes n is none kept has = none kept (subst (λ (s : List ℕ). IsRecordRow (record_bytes s) kept) is has)
 
 pub some_stands : (image : List ℕ) (n : Newest) (kept : Kept) → MatchesNewest image n →
     HasRecord image (number n.slot) kept → IsImageOf image kept
@@ -246,7 +248,7 @@ great_refused image n matches more =
     (matches.newest, inr (subst (λ (k : ℕ). LAST_SEQUENCE < k) (sym matches.sequence_is) more))
 
 -- bytes are the row of one record
-same_kept : (bytes : List ℕ) (a b : Kept) → IsRowOf bytes a → IsRowOf bytes b → a ≡ b
+same_kept : (bytes : List ℕ) (a b : Kept) → IsRecordRow bytes a → IsRecordRow bytes b → a ≡ b
 same_kept bytes a b x y = sym (kept_back a x.in_row) ∙ ap kept_at (sym x.row ∙ y.row) ∙ kept_back b y.in_row
 
 -- an image stands for one record

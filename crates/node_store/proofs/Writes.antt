@@ -8,7 +8,7 @@ use Rattle.std.proofs.lemmas.List.{drop_at}
 use Rattle.std.proofs.lemmas.Nat.{from_be_bytes-to_be_bytes_8}
 use Rattle.bay_protocol.specs.declared.values.Kept.{Kept}
 use Rattle.node_store.specs.Device.{IsChangedWithin, IsWritten}
-use Rattle.node_store.specs.Image.{slot, gate, sequence, record_bytes, IsOpen, IsRowOf}
+use Rattle.node_store.specs.Image.{slot, gate, sequence, record_bytes, IsOpen, IsRecordRow}
 use Rattle.node_store.specs.Store.{MayClose, HoldsIfOpen}
 use Rattle.node_store.proofs.Lists.{same_part}
 
@@ -115,7 +115,7 @@ stays_closed n number at piece bytes kept image c lt place is size shut changed 
 
 -- the whole record stands behind the gate
 pub filled : (n number at : ℕ) (piece bytes : List ℕ) (kept : Kept) (image mid c : List ℕ) → n < 2 → number < 2 ^ 64 →
-    at ≡ 32 * n → piece ≡ to_be_bytes w64 number ++ bytes → length bytes ≡ 18 → IsRowOf bytes kept
+    at ≡ 32 * n → piece ≡ to_be_bytes w64 number ++ bytes → length bytes ≡ 18 → IsRecordRow bytes kept
     → IsWritten (at + 1) piece image mid → IsChangedWithin at 1 mid c → HoldsIfOpen n number kept image c
 filled n number at piece bytes kept image mid c lt fits place is size again was_written was_changed =
     let written : IsWritten (32 * n + 1) (to_be_bytes w64 number ++ bytes) image mid =
@@ -129,7 +129,7 @@ filled n number at piece bytes kept image mid c lt fits place is size again was_
       if_open = λ now. (
         same_sequence (slot c n) (slot mid n) (rest_stays n mid c changed)
             ∙ wrote_sequence n number bytes image mid fits size written,
-        subst (λ (b : List ℕ). IsRowOf b kept) (sym
+        subst (λ (b : List ℕ). IsRecordRow b kept) (sym
             (same_record (slot c n) (slot mid n) (rest_stays n mid c changed)
             ∙ wrote_record n number bytes image mid fits size written)) again,
       );

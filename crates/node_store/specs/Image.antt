@@ -27,13 +27,13 @@ abbrev pub IsOpen : List ℕ → ℕ → Type 0
 IsOpen image n = gate (slot image n) ≡ 1
 
 -- The bytes are the row of this record.
-pub record IsRowOf (bytes : List ℕ) (kept : Kept) : Type 0 where
+pub record IsRecordRow (bytes : List ℕ) (kept : Kept) : Type 0 where
   pub in_row : InRow kept
   pub row : bytes ≡ kept_row kept
 
 -- The slot holds this record.
 abbrev pub HasRecord : List ℕ → ℕ → Kept → Type 0
-HasRecord image n kept = IsRowOf (record_bytes (slot image n)) kept
+HasRecord image n kept = IsRecordRow (record_bytes (slot image n)) kept
 
 -- The open slot with the greater sequence, slot 0 in a tie.
 pub record IsNewest (image : List ℕ) (n : ℕ) : Type 0 where

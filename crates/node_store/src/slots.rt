@@ -3,7 +3,7 @@ ghost use Rattle.std.specs.Prelude.{◌≡◌, ◌*◌, ◌-◌, ◌++◌, None,
 ghost use Rattle.std.specs.Int.{w64, to_be_bytes};
 ghost use Rattle.bay_protocol.specs.declared.values.Kept.{Kept as Record};
 ghost use Rattle.bay_protocol.specs.KeptRow.{kept_row, InRow};
-ghost use Rattle.node_store.specs.Image.{sequence, record_bytes, IsRowOf};
+ghost use Rattle.node_store.specs.Image.{sequence, record_bytes, IsRecordRow};
 ghost use Rattle.node_store.specs.Slots.{number};
 
 use bay_node::Kept;
@@ -69,8 +69,8 @@ pub(crate) fn sequence_in(bytes: &[u8; 32]) -> u64
 
 // The record that stands in a slot; none where there is none.
 pub(crate) fn kept_in(bytes: &[u8; 32]) -> Option<Kept>
-    ensures some { IfSome result (λ kept. IsRowOf (record_bytes bytes.now) kept) }
-    ensures none { result ≡ None → (kept : Record) → ¬ (IsRowOf (record_bytes bytes.now) kept) }
+    ensures some { IfSome result (λ kept. IsRecordRow (record_bytes bytes.now) kept) }
+    ensures none { result ≡ None → (kept : Record) → ¬ (IsRecordRow (record_bytes bytes.now) kept) }
 {
     let mut row = [0; 18];
     row.copy_from_slice(&bytes[9..27]);

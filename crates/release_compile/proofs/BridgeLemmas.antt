@@ -7,7 +7,7 @@ use Rattle.std.proofs.lemmas.Option.{slice_get-map, get_or_from_slice_get, same_
 use Rattle.contraction.specs.Answers.{Answers, Keeps}
 use Rattle.release_compile.specs.declared.view.View.{View}
 use Rattle.release_compile.specs.Seen.{ComposesIn}
-use Rattle.release_compile.specs.Folding.{Carried, AreApart, AreRising, IsStep, AreReached}
+use Rattle.release_compile.specs.Folding.{Carried, AreApartIn, AreRising, IsStep, AreReached}
 use Rattle.release_compile.specs.Layering.{LeadsToMade, AreEdges, no_answers, values_at}
 
 pub from_map : {X Y : Type 0} (f : X → Y) (o : Option X) (y : Y) → option_map f o ≡ Some y →
@@ -30,7 +30,7 @@ number_at values ids k i x at listed =
     ∙ ap Some (get_or_from_slice_get values i x no_answers listed))
 
 module _ (view : View) (values : List Answers) (keep states letters next edges : List ℕ) (n : ℕ)
-    (h : AreEdges view values keep states letters next edges n) (apart : AreApart view values)
+    (h : AreEdges view values keep states letters next edges n) (apart : AreApartIn view values)
     (rising : AreRising values) where
   states_len : length (values_at values states) ≡ length states
   states_len = length-map states (λ i. get_or values i no_answers)

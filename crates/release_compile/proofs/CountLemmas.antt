@@ -14,7 +14,7 @@ use Rattle.bay_contract.proofs.ViewIndexLemmas.{list_of}
 use Rattle.release_compile.specs.declared.view.View.{View}
 use Rattle.release_compile.specs.declared.view.View.TheVariants.{Gap, Load}
 use Rattle.release_compile.specs.Seen.{SeenFor, SameSeen, SameView}
-use Rattle.release_compile.specs.Folding.{StandsIn, AreRising, AreApart, AreMade}
+use Rattle.release_compile.specs.Folding.{StandsIn, AreRising, AreApartIn, EachAnswers}
 use Rattle.release_compile.specs.Counted.{AreAtLeast}
 
 -- values that answer in vectors with one view are the same
@@ -45,7 +45,7 @@ pub record AnswersIn (view : View) (These : Item → Type 0) (d : Diagram) (valu
 
 module _ (view : View) (These : Item → Type 0) (d : Diagram) (Kept : ℕ → Type 0) (values : List Answers)
     (kept : (t : ℕ) (r : Answers) → slice_get values t ≡ Some r → (n : ℕ) → Keeps r.kept n ↔ Kept n)
-    (rising : AreRising values) (apart : AreApart view values) (made : AreMade view These d values) where
+    (rising : AreRising values) (apart : AreApartIn view values) (made : EachAnswers view These d values) where
   answers_some : (t : ℕ) → t < length values → (v : List Bool) × AnswersIn view These d values t v
   answers_some t lt =
       let (r, at) = some_at values t lt in

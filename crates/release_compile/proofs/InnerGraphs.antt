@@ -22,7 +22,7 @@ use Rattle.bay_contract.specs.Counting.{AreSoMany}
 use Rattle.release_compile.specs.Seen.{SameView}
 use Rattle.release_compile.specs.Counted.{InnerIsSmall}
 use Rattle.release_compile.specs.Folding.{StandsIn, AreChosen, IsExact}
-use Rattle.release_compile.specs.Graphs.{other_of, OfOthers, SwitchChosen, IsOwn, IsInner, Says}
+use Rattle.release_compile.specs.Graphs.{other_of, OfOthers, SwitchChosen, IsOwn, IsInner, LabelSays}
 use Rattle.release_compile.specs.Listing.{own_links, parts_before}
 use Rattle.release_compile.specs.Needing.{IsNeededInner, InnerNeeds}
 use Rattle.release_compile.specs.Coding.{AreCodes, KeepsEnds}
@@ -234,7 +234,7 @@ module _ (view : View) (a : Lettered) (b m first others : ℕ) (names : List Ans
 
     says : (v : List Bool) (name : ℕ) (ds : List ℕ) → IsVector a.diagram v →
         StandsIn view (OfOthers a.diagram b) a.diagram v names name → length ds ≡ others →
-        AreChosen (SwitchChosen first m) v ds → Says view a.diagram m v (label_of h (name ∷ ds))
+        AreChosen (SwitchChosen first m) v ds → LabelSays view a.diagram m v (label_of h (name ∷ ds))
     says v name ds whole s count own' =
         let cs : List ℕ = name ∷ ds in
         let chosen = chosen_all v name ds s own' in
@@ -243,7 +243,7 @@ module _ (view : View) (a : Lettered) (b m first others : ℕ) (names : List Ans
         let stands = exact.stands v (name ∷ ds) whole cs_len chosen in
         let over = seen_over view (Among (items_of plan (suc others))) (AllBut (a_switch m)) a.diagram v stands.value
         all_but stands.stands in
-        subst (λ l. Says view a.diagram m v l) (sym (label (name ∷ ds) all))
+        subst (λ l. LabelSays view a.diagram m v l) (sym (label (name ∷ ds) all))
         (are.each (label_of g (name ∷ ds)) stands.value stands.listed v whole over)
 
     pub inner_says : IsInner view a b m first others names h

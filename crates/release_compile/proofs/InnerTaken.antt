@@ -15,7 +15,7 @@ use Rattle.release_compile.specs.Folding.{IsExact}
 use Rattle.release_compile.specs.Counted.{InnerHas, Spends, Passes}
 use Rattle.release_compile.specs.Plans.{Plan, inner_plan, ChosenBy, items_of, NeededBy, PlanHas, PlanPasses, PlanFits}
 use Rattle.release_compile.specs.Plans.{AreLinked, IsInnerReady}
-use Rattle.release_compile.specs.Noting.{rows_of, AreLaid, IsTaken}
+use Rattle.release_compile.specs.Noting.{letter_rows, AreLaid, IsTaken}
 use Rattle.release_compile.proofs.LayeringLemmas.{Grows}
 use Rattle.release_compile.proofs.MappedPools.{grows_on, linked_off}
 use Rattle.release_compile.proofs.NotingLemmas.{laid_same, fits_stays}
@@ -26,33 +26,34 @@ use Rattle.release_compile.proofs.InnerEdges.{inner_spends, inner_passes}
 
 module _ (a : Lettered) (b m first others : ℕ) (f : ℕ → ℕ) (order : KeepsOrder f) (p : Pool) (i : Intake)
     (names : List ℕ)
-    (ready : IsInnerReady a b m first others (pool_on f p) i.start names (rows_of i) i.keeps.items) where
+    (ready : IsInnerReady a b m first others (pool_on f p) i.start names (letter_rows i) i.keeps.items) where
   abbrev pub plan_on : Plan
   plan_on = inner_plan p.view a b m first others (values_at (map (mapped f) p.values.items) names)
 
-  pub taken_linked : AreLinked p i.start (rows_of i) i.keeps.items
+  pub taken_linked : AreLinked p i.start (letter_rows i) i.keeps.items
   taken_linked =
-      linked_off f order p i.start (rows_of i) i.keeps.items
-      (inner_linked a b m first others (pool_on f p) i.start names (rows_of i) i.keeps.items ready)
+      linked_off f order p i.start (letter_rows i) i.keeps.items
+      (inner_linked a b m first others (pool_on f p) i.start names (letter_rows i) i.keeps.items ready)
 
-  pub fits_on : PlanFits plan_on (pool_on f p) i.start (rows_of i) i.keeps.items
-  fits_on = inner_fits a b m first others (pool_on f p) i.start names (rows_of i) i.keeps.items ready
+  pub fits_on : PlanFits plan_on (pool_on f p) i.start (letter_rows i) i.keeps.items
+  fits_on = inner_fits a b m first others (pool_on f p) i.start names (letter_rows i) i.keeps.items ready
 
-  pub taken_passes : (limit : ℕ) → PlanPasses p.view plan_on (rows_of i) (limit + length names) →
+  pub taken_passes : (limit : ℕ) → PlanPasses p.view plan_on (letter_rows i) (limit + length names) →
       Passes (InnerHas p.view a.diagram b m first others others) a.diagram limit
   taken_passes limit h =
-      inner_passes a b m first others (pool_on f p) i.start names (rows_of i) i.keeps.items ready limit h
+      inner_passes a b m first others (pool_on f p) i.start names (letter_rows i) i.keeps.items ready limit h
 
   module _ (q : Pool) (budget : ℕ) (o : Copied) (g : Grows p q) (t : IsTaken q i budget o) where
-    laid : AreLaid q i.start (rows_of i) i.keeps.items o.names.items t.note.edges t.right.layers
+    laid : AreLaid q i.start (letter_rows i) i.keeps.items o.names.items t.note.edges t.right.layers
     laid =
         laid_same q t.note.intake i t.note.names.items o.names.items t.note.edges t.right.layers t.same
         (sym t.names) t.right.laid
 
-    fits : PlanFits plan_on (pool_on f q) i.start (rows_of i) i.keeps.items
+    fits : PlanFits plan_on (pool_on f q) i.start (letter_rows i) i.keeps.items
     fits =
-        fits_stays (pool_on f p) (pool_on f q) (grows_on f p q g) i.start (rows_of i) i.keeps.items
-        (inner_linked a b m first others (pool_on f p) i.start names (rows_of i) i.keeps.items ready) plan_on fits_on
+        fits_stays (pool_on f p) (pool_on f q) (grows_on f p q g) i.start (letter_rows i) i.keeps.items
+        (inner_linked a b m first others (pool_on f p) i.start names (letter_rows i) i.keeps.items ready)
+            plan_on fits_on
 
     pub taken_exact : IsExact p.view a.diagram (ChosenBy plan_on) (items_of plan_on) (NeededBy plan_on) (suc others)
         t.right.layers (values_at (map (mapped f) q.values.items) o.names.items)
@@ -65,24 +66,26 @@ module _ (a : Lettered) (b m first others : ℕ) (f : ℕ → ℕ) (order : Keep
     pub taken_spends : (limit : ℕ) → budget ≡ limit + length names →
         Spends (InnerHas p.view a.diagram b m first others others) a.diagram limit o.left
     taken_spends limit is =
-        inner_spends a b m first others (pool_on f p) i.start names (rows_of i) i.keeps.items ready limit
+        inner_spends a b m first others (pool_on f p) i.start names (letter_rows i) i.keeps.items ready limit
         o.left (record {
           edges = t.note.edges;
-          has = subst (λ n. PlanHas p.view plan_on (rows_of i) n (AreSoMany a.diagram) t.note.edges) ready.rows.len
-              (subst (λ w. PlanHas w plan_on (rows_of i) (length (rows_of i)) (AreSoMany a.diagram) t.note.edges) g.view
+          has = subst (λ n. PlanHas p.view plan_on (letter_rows i) n (AreSoMany a.diagram) t.note.edges) ready.rows.len
+              (subst (λ w. PlanHas w plan_on (letter_rows i) (length (letter_rows i)) (AreSoMany a.diagram)
+                  t.note.edges) g.view
               (laid.has f plan_on order fits));
           all = t.all ∙ is;
         })
 
     pub taken_first : (layer_at t.right.layers 0).choices ≡ length names
-    taken_first = plain_choices t.right.layers (rows_of i) 0 names laid.choices ready.rows.first_row
+    taken_first = plain_choices t.right.layers (letter_rows i) 0 names laid.choices ready.rows.first_row
 
     pub taken_two : (k : ℕ) → k < others → (layer_at t.right.layers (suc k)).choices ≡ 2
     taken_two k lt =
-        let row : List ℕ = get_or (rows_of i) (suc k) [] in
-        let at : slice_get (rows_of i) (suc k) ≡ Some row =
-        slice_get-get_or (rows_of i) (suc k) [] (omega (arith, lt, ready.rows.len)) in
-        plain_choices t.right.layers (rows_of i) (suc k) row laid.choices at ∙ ap length (ready.rows.pairs k row at).two
+        let row : List ℕ = get_or (letter_rows i) (suc k) [] in
+        let at : slice_get (letter_rows i) (suc k) ≡ Some row =
+        slice_get-get_or (letter_rows i) (suc k) [] (omega (arith, lt, ready.rows.len)) in
+        plain_choices t.right.layers (letter_rows i) (suc k) row laid.choices at
+            ∙ ap length (ready.rows.pairs k row at).two
 
     pub taken_choices : map (λ (l : Layer). l.choices) o.graph.layers ≡ map (λ (l : Layer). l.choices) t.right.layers
     taken_choices = ap (λ (h : Layered). map (λ (l : Layer). l.choices) h.layers) t.graph ∙ t.right.same_choices

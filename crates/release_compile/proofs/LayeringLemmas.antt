@@ -15,8 +15,8 @@ use Rattle.station_graph.proofs.PathLemmas.{slice_get-push}
 use Rattle.contraction.specs.Answers.{Answers}
 use Rattle.release_compile.specs.declared.view.View.{View}
 use Rattle.release_compile.specs.declared.pool.Pool.{Pool}
-use Rattle.release_compile.specs.Pooling.{Extends, IsMade, WasMade, IsPool, GrewTo, EitherKeeps}
-use Rattle.release_compile.specs.Folding.{AreApart, AreRising}
+use Rattle.release_compile.specs.Pooling.{Extends, IsMadeOf, WasMade, IsPool, GrewTo, EitherKeeps}
+use Rattle.release_compile.specs.Folding.{AreApartIn, AreRising}
 use Rattle.release_compile.specs.Layering.{NoneTwice, IsPlaced, LeadsToMade, AreEdges}
 use Rattle.release_compile.proofs.LayerLemmas.{get_front}
 
@@ -90,7 +90,7 @@ at_least n w some = omega (arith, mul-le-mul_left n (let h : 1 ≤ w = omega (ar
 
 -- No two values are the same, and the nodes that each keeps rise.
 pub record AreSound (p : Pool) : Type 0 where
-  pub apart : AreApart p.view p.values.items
+  pub apart : AreApartIn p.view p.values.items
   pub rising : AreRising p.values.items
 
 -- All values and lists of nodes of the one are those of the other.
@@ -151,7 +151,7 @@ pub keep_was : (p q : Pool) (k : ℕ) (nodes : List ℕ) → GrewTo p q → k < 
 keep_was p q k nodes g lt at = list_was p q k nodes (grows p q g) lt at
 
 made_more : (view : View) (x y : Answers) (keep : List ℕ) (values values' : List Answers) (t : ℕ) →
-    Extends values values' → IsMade view x y keep values t → IsMade view x y keep values' t
+    Extends values values' → IsMadeOf view x y keep values t → IsMadeOf view x y keep values' t
 made_more view x y keep values values' t more m = record {
   value = m.value;
   listed = more t m.value m.listed;
@@ -233,7 +233,7 @@ lead_here view values keeps keep next' next i j k id to w at pl = record {
   y = w.y;
   first = w.first;
   second = w.second;
-  made = subst (λ l. IsMade view w.x w.y l values id) (same_Some w.keep keep (sym w.nodes ∙ at)) w.made;
+  made = subst (λ l. IsMadeOf view w.x w.y l values id) (same_Some w.keep keep (sym w.nodes ∙ at)) w.made;
 }
 
 -- ---- places of edges

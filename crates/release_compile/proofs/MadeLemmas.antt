@@ -9,7 +9,7 @@ use Rattle.contraction.specs.Answers.{Answers}
 use Rattle.contraction.specs.Stands.{Among, MeetsKept}
 use Rattle.release_compile.specs.declared.view.View.{View}
 use Rattle.release_compile.specs.Seen.{SeenFor, ComposesIn}
-use Rattle.release_compile.specs.Folding.{StandsIn, IsStep, AreReached, AreMade}
+use Rattle.release_compile.specs.Folding.{StandsIn, IsStep, AreReached, EachAnswers}
 use Rattle.release_compile.specs.Plans.{CanBoth}
 use Rattle.release_compile.specs.Layering.{no_answers}
 use Rattle.release_compile.proofs.LayeringLemmas.{state_in}
@@ -53,7 +53,7 @@ module _ (view : View) (d : Diagram) (before new : List Item) (keep : List ℕ) 
   pub made_more : AreReached view keep states letters next →
       ((c : ℕ) (x y : Answers) (v : List Bool) → slice_get letters c ≡ Some y → IsVector d v →
       SeenFor view (Among before) d v x → CanBoth view d (Among before) (Among new) x y) →
-      AreMade view (Among before) d states → AreMade view (Among (before ++ new)) d next
+      EachAnswers view (Among before) d states → EachAnswers view (Among (before ++ new)) d next
   made_more reached give made t r at =
       let c = reached.carried t r at in
       let m = made c.state c.x c.first in

@@ -12,7 +12,7 @@ use Rattle.contraction.proofs.MappedLemmas.{map_self}
 use Rattle.contraction.proofs.PlaceLemmas.{keeps_from_has, has_from_keeps}
 use Rattle.release_compile.specs.declared.view.View.{View}
 use Rattle.release_compile.specs.declared.pool.Pool.{Pool}
-use Rattle.release_compile.specs.Pooling.{Extends, IsMade}
+use Rattle.release_compile.specs.Pooling.{Extends, IsMadeOf}
 use Rattle.release_compile.specs.Seen.{SameSeen}
 use Rattle.release_compile.specs.Places.{pool_on}
 use Rattle.release_compile.specs.Folding.{IsCarriedOn, AreReached, ReachesMore}
@@ -163,7 +163,7 @@ module _ (f : ℕ → ℕ) (order : KeepsOrder f) where
   -- ---- edges
 
   made_on : (view : View) (x y : Answers) (keep : List ℕ) (values : List Answers) (t : ℕ) →
-      IsMade view x y keep values t → IsMade view (mapped f x) (mapped f y) (map f keep) (map (mapped f) values) t
+      IsMadeOf view x y keep values t → IsMadeOf view (mapped f x) (mapped f y) (map f keep) (map (mapped f) values) t
   made_on view x y keep values t m = record {
     value = mapped f m.value;
     listed = at_mapped (mapped f) values t m.value m.listed;

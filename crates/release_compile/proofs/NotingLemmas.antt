@@ -18,9 +18,9 @@ use Rattle.release_compile.specs.Places.{pool_on}
 use Rattle.release_compile.specs.Layering.{values_at, no_answers}
 use Rattle.release_compile.specs.Folding.{StandsIn, IsExact}
 use Rattle.release_compile.specs.Counted.{Spends}
-use Rattle.release_compile.specs.Plans.{Plan, PlanFits, PlanHas, PlanPasses, AreLinked, CanBoth, diagram_of, ChosenBy}
-use Rattle.release_compile.specs.Plans.{base_of, new_of, items_of, NeededBy, layers_of}
-use Rattle.release_compile.specs.Noting.{rows_of, SameIntake, AreLaid, IsNoted, IsRight, AreRight}
+use Rattle.release_compile.specs.Plans.{Plan, PlanFits, PlanHas, PlanPasses, AreLinked, CanBoth, plan_diagram, ChosenBy}
+use Rattle.release_compile.specs.Plans.{items_before, new_of, items_of, NeededBy, layers_of}
+use Rattle.release_compile.specs.Noting.{letter_rows, SameIntake, AreLaid, IsNoted, IsRight, AreRight}
 use Rattle.release_compile.proofs.LayeringLemmas.{Grows, value_in, list_in, list_was}
 use Rattle.release_compile.proofs.MappedPools.{grows_on, linked_on, grows_self}
 use Rattle.release_compile.proofs.PlanLemmas.{values_more}
@@ -61,24 +61,24 @@ module _ (p q : Pool) (g : Grows p q) (start : ℕ) (letters : List (List ℕ)) 
   pub fits_was : (plan : Plan) → PlanFits plan q start letters keeps → PlanFits plan p start letters keeps
   fits_was plan fits = record {
     start_stands =
-        λ x v at whole. subst (λ w. SeenFor w (Among (base_of plan)) (diagram_of plan) v x) g.view
+        λ x v at whole. subst (λ w. SeenFor w (Among (items_before plan)) (plan_diagram plan) v x) g.view
         (fits.start_stands x v (g.values start x at) whole);
     needed = λ j k nodes at_k at_nodes n. fits.needed j k nodes at_k (g.keeps k nodes at_nodes) n;
     letter = λ j c ids v at whole chosen.
-        subst (λ w. StandsIn w (Among (new_of plan j)) (diagram_of plan) v (values_at p.values.items ids) c) g.view
-        (subst (λ xs. StandsIn q.view (Among (new_of plan j)) (diagram_of plan) v xs c) (row_same j ids at)
+        subst (λ w. StandsIn w (Among (new_of plan j)) (plan_diagram plan) v (values_at p.values.items ids) c) g.view
+        (subst (λ xs. StandsIn q.view (Among (new_of plan j)) (plan_diagram plan) v xs c) (row_same j ids at)
         (fits.letter j c ids v at whole chosen));
     meets =
         λ j c ids x y at kept at_y. fits.meets j c ids x y at kept
         (ap (λ xs. slice_get xs c) (row_same j ids at) ∙ at_y);
     given = λ j c ids x y v at at_y whole seen.
-        subst (λ w. CanBoth w (diagram_of plan) (Among (items_of plan j)) (Among (new_of plan j)) x y) g.view
+        subst (λ w. CanBoth w (plan_diagram plan) (Among (items_of plan j)) (Among (new_of plan j)) x y) g.view
         (fits.given j c ids x y v at (ap (λ xs. slice_get xs c) (row_same j ids at) ∙ at_y) whole
-        (subst (λ w. SeenFor w (Among (items_of plan j)) (diagram_of plan) v x) (sym g.view) seen));
+        (subst (λ w. SeenFor w (Among (items_of plan j)) (plan_diagram plan) v x) (sym g.view) seen));
     cover = λ j ids v at whole. (let (c, s) = fits.cover j ids v at whole in (
       c,
-      subst (λ w. StandsIn w (Among (new_of plan j)) (diagram_of plan) v (values_at p.values.items ids) c) g.view
-          (subst (λ xs. StandsIn q.view (Among (new_of plan j)) (diagram_of plan) v xs c) (row_same j ids at) s),
+      subst (λ w. StandsIn w (Among (new_of plan j)) (plan_diagram plan) v (values_at p.values.items ids) c) g.view
+          (subst (λ xs. StandsIn q.view (Among (new_of plan j)) (plan_diagram plan) v xs c) (row_same j ids at) s),
     ));
   }
 
@@ -86,27 +86,29 @@ module _ (p q : Pool) (g : Grows p q) (start : ℕ) (letters : List (List ℕ)) 
   pub fits_stays : (plan : Plan) → PlanFits plan p start letters keeps → PlanFits plan q start letters keeps
   fits_stays plan fits = record {
     start_stands =
-        λ x v at whole. subst (λ w. SeenFor w (Among (base_of plan)) (diagram_of plan) v x) (sym g.view)
+        λ x v at whole. subst (λ w. SeenFor w (Among (items_before plan)) (plan_diagram plan) v x) (sym g.view)
         (fits.start_stands x v (value_was p q start x g linked.start_in at) whole);
     needed =
         λ j k nodes at_k at_nodes n. fits.needed j k nodes at_k
         (list_was p q k nodes g (linked.keeps_in j k at_k) at_nodes) n;
     letter = λ j c ids v at whole chosen.
-        subst (λ w. StandsIn w (Among (new_of plan j)) (diagram_of plan) v (values_at q.values.items ids) c)
+        subst (λ w. StandsIn w (Among (new_of plan j)) (plan_diagram plan) v (values_at q.values.items ids) c)
         (sym g.view)
-        (subst (λ xs. StandsIn p.view (Among (new_of plan j)) (diagram_of plan) v xs c) (sym (row_same j ids at))
+        (subst (λ xs. StandsIn p.view (Among (new_of plan j)) (plan_diagram plan) v xs c) (sym (row_same j ids at))
         (fits.letter j c ids v at whole chosen));
     meets =
         λ j c ids x y at kept at_y. fits.meets j c ids x y at kept
         (ap (λ xs. slice_get xs c) (sym (row_same j ids at)) ∙ at_y);
     given = λ j c ids x y v at at_y whole seen.
-        subst (λ w. CanBoth w (diagram_of plan) (Among (items_of plan j)) (Among (new_of plan j)) x y) (sym g.view)
+        subst (λ w. CanBoth w (plan_diagram plan) (Among (items_of plan j)) (Among (new_of plan j)) x y) (sym g.view)
         (fits.given j c ids x y v at (ap (λ xs. slice_get xs c) (sym (row_same j ids at)) ∙ at_y) whole
-        (subst (λ w. SeenFor w (Among (items_of plan j)) (diagram_of plan) v x) g.view seen));
+        (subst (λ w. SeenFor w (Among (items_of plan j)) (plan_diagram plan) v x) g.view seen));
     cover = λ j ids v at whole. (let (c, s) = fits.cover j ids v at whole in (
       c,
-      subst (λ w. StandsIn w (Among (new_of plan j)) (diagram_of plan) v (values_at q.values.items ids) c) (sym g.view)
-          (subst (λ xs. StandsIn p.view (Among (new_of plan j)) (diagram_of plan) v xs c) (sym (row_same j ids at)) s),
+      subst (λ w. StandsIn w (Among (new_of plan j)) (plan_diagram plan) v (values_at q.values.items ids) c)
+          (sym g.view)
+          (subst (λ xs. StandsIn p.view (Among (new_of plan j)) (plan_diagram plan) v xs c)
+              (sym (row_same j ids at)) s),
     ));
   }
 
@@ -127,14 +129,14 @@ laid_stays p q g start letters keeps names edges layers linked within laid = rec
       (linked_on f p start letters keeps linked) plan fits in
       let same = values_more (map (mapped f) p.values.items) (map (mapped f) q.values.items) names
       (grows_on f p q g).values (λ t i at. omega (arith, within t i at, length-map p.values.items (mapped f))) in
-      subst (λ w. IsExact w (diagram_of plan) (ChosenBy plan) (items_of plan) (NeededBy plan) (length letters) layers
+      subst (λ w. IsExact w (plan_diagram plan) (ChosenBy plan) (items_of plan) (NeededBy plan) (length letters) layers
       (values_at (map (mapped f) q.values.items) names)) (sym g.view)
-      (subst (λ xs. IsExact p.view (diagram_of plan) (ChosenBy plan) (items_of plan) (NeededBy plan) (length letters)
+      (subst (λ xs. IsExact p.view (plan_diagram plan) (ChosenBy plan) (items_of plan) (NeededBy plan) (length letters)
       layers xs) (sym same) (laid.exact f plan order was));
   has = λ f plan order fits.
       let was = fits_was (pool_on f p) (pool_on f q) (grows_on f p q g) start letters keeps
       (linked_on f p start letters keeps linked) plan fits in
-      subst (λ w. PlanHas w plan letters (length letters) (AreSoMany (diagram_of plan)) edges) (sym g.view)
+      subst (λ w. PlanHas w plan letters (length letters) (AreSoMany (plan_diagram plan)) edges) (sym g.view)
       (laid.has f plan order was);
   choices = laid.choices;
 }
@@ -143,9 +145,10 @@ laid_stays p q g start letters keeps names edges layers linked within laid = rec
 pub noted_stays : (p q : Pool) → Grows p q → (n : Noted) → IsNoted p n → IsNoted q n
 noted_stays p q g n h = record {
   layers = h.layers;
-  linked = linked_stays p q g n.intake.start (rows_of n.intake) n.intake.keeps.items h.linked;
+  linked = linked_stays p q g n.intake.start (letter_rows n.intake) n.intake.keeps.items h.linked;
   laid =
-      laid_stays p q g n.intake.start (rows_of n.intake) n.intake.keeps.items n.names.items n.edges h.layers h.linked
+      laid_stays p q g n.intake.start (letter_rows n.intake) n.intake.keeps.items n.names.items n.edges
+          h.layers h.linked
       h.within h.laid;
   within = λ t i at. value_in p q i no_answers g (h.within t i at);
   labels = h.labels;
@@ -171,13 +174,13 @@ all_right_more p notes n h new k m at = elim (slice_get-push notes n m k at) [
 
 -- the same is laid for what is the same
 pub laid_same : (p : Pool) (i j : Intake) (names names' : List ℕ) (edges : ℕ) (layers : List Layer) → SameIntake i j →
-    names ≡ names' → AreLaid p i.start (rows_of i) i.keeps.items names edges layers →
-    AreLaid p j.start (rows_of j) j.keeps.items names' edges layers
+    names ≡ names' → AreLaid p i.start (letter_rows i) i.keeps.items names edges layers →
+    AreLaid p j.start (letter_rows j) j.keeps.items names' edges layers
 laid_same p i j names names' edges layers same e laid =
-    subst (λ s. AreLaid p s (rows_of j) j.keeps.items names' edges layers) same.start
+    subst (λ s. AreLaid p s (letter_rows j) j.keeps.items names' edges layers) same.start
     (subst (λ r. AreLaid p i.start r j.keeps.items names' edges layers) same.letters
-    (subst (λ k. AreLaid p i.start (rows_of i) k names' edges layers) same.keeps
-    (subst (λ xs. AreLaid p i.start (rows_of i) i.keeps.items xs edges layers) e laid)))
+    (subst (λ k. AreLaid p i.start (letter_rows i) k names' edges layers) same.keeps
+    (subst (λ xs. AreLaid p i.start (letter_rows i) i.keeps.items xs edges layers) e laid)))
 
 -- layers that were folded are laid
 module _ (p q : Pool) (g : Grows p q) (start : ℕ) (letters : List (List ℕ)) (keeps : List ℕ)
@@ -189,9 +192,9 @@ module _ (p q : Pool) (g : Grows p q) (start : ℕ) (letters : List (List ℕ)) 
   finished_choices (x ∷ xs) = ap (λ ys. x.choices ∷ ys) (finished_choices xs)
 
   pub folded_laid : ((f : ℕ → ℕ) (plan : Plan) → KeepsOrder f → PlanFits plan (pool_on f p) start letters keeps →
-      Spends (PlanHas p.view plan letters n) (diagram_of plan) budget left)
+      Spends (PlanHas p.view plan letters n) (plan_diagram plan) budget left)
       → ((f : ℕ → ℕ) (plan : Plan) → KeepsOrder f → PlanFits plan (pool_on f p) start letters keeps →
-      IsExact p.view (diagram_of plan) (ChosenBy plan) (items_of plan) (NeededBy plan) n (layers_of ds)
+      IsExact p.view (plan_diagram plan) (ChosenBy plan) (items_of plan) (NeededBy plan) n (layers_of ds)
       (values_at (map (mapped f) q.values.items) names))
       → map (λ (l : FinishedLayer). l.choices) ds ≡ map length letters
       → AreLaid q start letters keeps names (budget - left) (layers_of ds)
@@ -199,18 +202,19 @@ module _ (p q : Pool) (g : Grows p q) (start : ℕ) (letters : List (List ℕ)) 
     exact = λ f plan order fits.
         let was = fits_was (pool_on f p) (pool_on f q) (grows_on f p q g) start letters keeps
         (linked_on f p start letters keeps linked) plan fits in
-        subst (λ w. IsExact w (diagram_of plan) (ChosenBy plan) (items_of plan) (NeededBy plan) (length letters)
+        subst (λ w. IsExact w (plan_diagram plan) (ChosenBy plan) (items_of plan) (NeededBy plan) (length letters)
         (layers_of ds) (values_at (map (mapped f) q.values.items) names)) (sym g.view)
-        (subst (λ k. IsExact p.view (diagram_of plan) (ChosenBy plan) (items_of plan) (NeededBy plan) k (layers_of ds)
+        (subst (λ k. IsExact p.view (plan_diagram plan) (ChosenBy plan) (items_of plan) (NeededBy plan) k (layers_of ds)
         (values_at (map (mapped f) q.values.items) names)) count (exact f plan order was));
     has = λ f plan order fits.
         let was = fits_was (pool_on f p) (pool_on f q) (grows_on f p q g) start letters keeps
         (linked_on f p start letters keeps linked) plan fits in
         let s = spent f plan order was in
         let e : s.edges ≡ budget - left = omega (arith, s.all) in
-        subst (λ w. PlanHas w plan letters (length letters) (AreSoMany (diagram_of plan)) (budget - left)) (sym g.view)
-        (subst (λ k. PlanHas p.view plan letters k (AreSoMany (diagram_of plan)) (budget - left)) count
-        (subst (λ k. PlanHas p.view plan letters n (AreSoMany (diagram_of plan)) k) e s.has));
+        subst (λ w. PlanHas w plan letters (length letters) (AreSoMany (plan_diagram plan)) (budget - left))
+            (sym g.view)
+        (subst (λ k. PlanHas p.view plan letters k (AreSoMany (plan_diagram plan)) (budget - left)) count
+        (subst (λ k. PlanHas p.view plan letters n (AreSoMany (plan_diagram plan)) k) e s.has));
     choices = finished_choices ds ∙ choices;
   }
 
@@ -229,7 +233,7 @@ laid_passes p q start letters keeps names edges budget layers g linked laid past
         edges = edges;
         has =
             plan_at_least p.view plan letters (length letters) edges (subst
-            (λ w. PlanHas w plan letters (length letters) (AreSoMany (diagram_of plan)) edges) g.view
+            (λ w. PlanHas w plan letters (length letters) (AreSoMany (plan_diagram plan)) edges) g.view
             (laid.has f plan order on));
         past = past;
       };

@@ -20,7 +20,7 @@ use Rattle.release_compile.specs.Inputs.{AreNames}
 use Rattle.release_compile.specs.Counted.{OuterHas, Spends, OuterIsSmall}
 use Rattle.release_compile.specs.Places.{pool_on}
 use Rattle.release_compile.specs.Plans.{outer_plan, items_of, PlanHas, PlanFits, AreLinked, IsOuterReady}
-use Rattle.release_compile.specs.Noting.{rows_of, AreLaid, IsTaken}
+use Rattle.release_compile.specs.Noting.{letter_rows, AreLaid, IsTaken}
 use Rattle.release_compile.proofs.LayeringLemmas.{grows}
 use Rattle.release_compile.proofs.MappedPools.{values_at_self, order_self}
 use Rattle.release_compile.proofs.NotingLemmas.{laid_same, fits_stays, linked_stays, fits_self}
@@ -31,23 +31,23 @@ use Rattle.release_compile.proofs.OuterGraphs.{outer_linked, outer_same, outer_s
 
 module _ (a : Lettered) (b others budget : ℕ) (p q : Pool) (i : Intake) (o : Copied) (station : IsStation a.diagram)
     (count : suc others ≡ part_count a.diagram) (b_in : b < part_count a.diagram)
-    (ready : IsOuterReady a b p i.start (rows_of i) i.keeps.items) (g : GrewTo p q) (t : IsTaken q i budget o) where
-  laid : AreLaid q i.start (rows_of i) i.keeps.items o.names.items t.note.edges t.right.layers
+    (ready : IsOuterReady a b p i.start (letter_rows i) i.keeps.items) (g : GrewTo p q) (t : IsTaken q i budget o) where
+  laid : AreLaid q i.start (letter_rows i) i.keeps.items o.names.items t.note.edges t.right.layers
   laid =
       laid_same q t.note.intake i t.note.names.items o.names.items t.note.edges t.right.layers t.same
       (sym t.names) t.right.laid
 
-  linked : AreLinked p i.start (rows_of i) i.keeps.items
-  linked = outer_linked a b p i.start (rows_of i) i.keeps.items ready
+  linked : AreLinked p i.start (letter_rows i) i.keeps.items
+  linked = outer_linked a b p i.start (letter_rows i) i.keeps.items ready
 
-  fits : PlanFits (outer_plan a b) (pool_on (λ n. n) q) i.start (rows_of i) i.keeps.items
+  fits : PlanFits (outer_plan a b) (pool_on (λ n. n) q) i.start (letter_rows i) i.keeps.items
   fits =
-      fits_self q i.start (rows_of i) i.keeps.items
-      (linked_stays p q (grows p q g) i.start (rows_of i) i.keeps.items linked) (outer_plan a b)
-      (fits_stays p q (grows p q g) i.start (rows_of i) i.keeps.items linked (outer_plan a b)
-      (outer_fits a b p i.start (rows_of i) i.keeps.items ready))
+      fits_self q i.start (letter_rows i) i.keeps.items
+      (linked_stays p q (grows p q g) i.start (letter_rows i) i.keeps.items linked) (outer_plan a b)
+      (fits_stays p q (grows p q g) i.start (letter_rows i) i.keeps.items linked (outer_plan a b)
+      (outer_fits a b p i.start (letter_rows i) i.keeps.items ready))
 
-  rows_count : length (rows_of i) ≡ others
+  rows_count : length (letter_rows i) ≡ others
   rows_count = omega (arith, ready.count, count)
 
   names_count : length (values_at q.values.items o.names.items) ≡ length o.names.items
@@ -61,14 +61,15 @@ module _ (a : Lettered) (b others budget : ℕ) (p q : Pool) (i : Intake) (o : C
       (subst (λ n. IsExact q.view a.diagram (PartChosen a b) (items_of (outer_plan a b)) (IsNeededOuter a.diagram b) n
       t.right.layers (values_at q.values.items o.names.items)) rows_count (subst
       (λ xs. IsExact q.view a.diagram (PartChosen a b) (items_of (outer_plan a b)) (IsNeededOuter a.diagram b)
-      (length (rows_of i)) t.right.layers xs) (values_at_self q.values.items o.names.items)
+      (length (letter_rows i)) t.right.layers xs) (values_at_self q.values.items o.names.items)
       (laid.exact (λ n. n) (outer_plan a b) order_self fits)))
 
   indices : (j : ℕ) → j < others → (layer_at t.right.layers j).choices ≡ index_count a (other_of 0 b j)
   indices j lt =
-      let row : List ℕ = get_or (rows_of i) j [] in
-      let at : slice_get (rows_of i) j ≡ Some row = slice_get-get_or (rows_of i) j [] (omega (arith, lt, rows_count)) in
-      plain_choices t.right.layers (rows_of i) j row laid.choices at ∙ (ready.rows.each j row at).len
+      let row : List ℕ = get_or (letter_rows i) j [] in
+      let at : slice_get (letter_rows i) j ≡ Some row =
+          slice_get-get_or (letter_rows i) j [] (omega (arith, lt, rows_count)) in
+      plain_choices t.right.layers (letter_rows i) j row laid.choices at ∙ (ready.rows.each j row at).len
 
   choices : map (λ (l : Layer). l.choices) o.graph.layers ≡ map (λ (l : Layer). l.choices) t.right.layers
   choices = ap (λ (h : Layered). map (λ (l : Layer). l.choices) h.layers) t.graph ∙ t.right.same_choices
@@ -101,10 +102,11 @@ module _ (a : Lettered) (b others budget : ℕ) (p q : Pool) (i : Intake) (o : C
   pub taken_spends : Spends (OuterHas p.view a.diagram b others) a.diagram budget o.left
   taken_spends =
       subst (λ n. Spends (OuterHas p.view a.diagram b n) a.diagram budget o.left) rows_count
-      (outer_spends p.view a b p i.start (rows_of i) i.keeps.items ready budget o.left (record {
+      (outer_spends p.view a b p i.start (letter_rows i) i.keeps.items ready budget o.left (record {
         edges = t.note.edges;
         has =
-            subst (λ w. PlanHas w (outer_plan a b) (rows_of i) (length (rows_of i)) (AreSoMany a.diagram) t.note.edges)
+            subst (λ w. PlanHas w (outer_plan a b) (letter_rows i) (length (letter_rows i)) (AreSoMany a.diagram)
+                t.note.edges)
             g.view (laid.has (λ n. n) (outer_plan a b) order_self fits);
         all = t.all;
       }))

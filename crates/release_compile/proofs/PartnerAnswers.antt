@@ -14,7 +14,7 @@ use Rattle.station_graph.specs.Sharing.{OfPart}
 use Rattle.station_graph.specs.Alike.{IsVector, DifferInPart}
 use Rattle.station_graph.specs.CentralRules.{Applies, Breaks, GapBreaks}
 use Rattle.release_compile.specs.declared.view.View.TheVariants.{Gap, Load}
-use Rattle.release_compile.specs.Graphs.{Says, gap_rule}
+use Rattle.release_compile.specs.Graphs.{LabelSays, gap_rule}
 
 -- Bay b is a partner of bay c, shown by two vectors that differ in switches of b alone and an operation of a
 -- switch of c that has an answer in one of them and not in the other.
@@ -61,8 +61,9 @@ same_breaks d v w op r gv gw load answer =
     (breaks_along d v w op r gv gw load answer, breaks_along d w v op r gw gv (load.1, load.0) answer)
 
 -- ONE LABEL OF EACH VIEW: the answers for the switch are the same
-pub says_same : (d : Diagram) (m : ℕ) (v w : List Bool) (gap load : ℕ) → Says Gap d m v gap → Says Gap d m w gap →
-    Says Load d m v load → Says Load d m w load → (op : Op) → op.switch.0 ≡ m → (answer : Option Rule) →
+pub says_same : (d : Diagram) (m : ℕ) (v w : List Bool) (gap load : ℕ) → LabelSays Gap d m v gap
+    → LabelSays Gap d m w gap →
+    LabelSays Load d m v load → LabelSays Load d m w load → (op : Op) → op.switch.0 ≡ m → (answer : Option Rule) →
     Breaks d v op answer ↔ Breaks d w op answer
 says_same d m v w gap load gap_v gap_w load_v load_w op moves answer = by op.direction refl where
   third : Applies R3 d v op ↔ Applies R3 d w op
@@ -121,7 +122,7 @@ rules_apart (suc (suc (suc x))) y in_x in_y ne = absurd (omega (arith, in_x))
 
 module _ (d : Diagram) (b c m : ℕ) (own : OfPart d c (a_switch m)) (v w : List Bool) (whole_v : IsVector d v)
     (whole_w : IsVector d w) (differ : DifferInPart d b v w) where
-  gap_one_way : (x y : ℕ) → Says Gap d m v x → Says Gap d m w y →
+  gap_one_way : (x y : ℕ) → LabelSays Gap d m v x → LabelSays Gap d m w y →
       (r : Rule) × (gap_rule x ≡ Some r) × (r ≢ R3) × (gap_rule y ≢ Some r) → Shown d b c
   gap_one_way x y says_v says_w t = record {
     one = v;
@@ -136,7 +137,7 @@ module _ (d : Diagram) (b c m : ℕ) (own : OfPart d c (a_switch m)) (v w : List
     not_given = gap_refuses d w (closing m) t.0 (gap_rule y) t.2 t.3 (says_w (closing m) refl refl);
   }
 
-  load_one_way : (x y : ℕ) → Says Load d m v x → Says Load d m w y → x ≡ 1 → y ≢ 1 → Shown d b c
+  load_one_way : (x y : ℕ) → LabelSays Load d m v x → LabelSays Load d m w y → x ≡ 1 → y ≢ 1 → Shown d b c
   load_one_way x y says_v says_w one not_one = record {
     one = v;
     other = w;
@@ -151,14 +152,16 @@ module _ (d : Diagram) (b c m : ℕ) (own : OfPart d c (a_switch m)) (v w : List
   }
 
 pub gap_shows : (d : Diagram) (b c m : ℕ) (v w : List Bool) (x y : ℕ) → OfPart d c (a_switch m) → IsVector d v →
-    IsVector d w → DifferInPart d b v w → Says Gap d m v x → Says Gap d m w y → x < 3 → y < 3 → x ≢ y → Shown d b c
+    IsVector d w → DifferInPart d b v w → LabelSays Gap d m v x → LabelSays Gap d m w y → x < 3 → y < 3 → x ≢ y
+        → Shown d b c
 gap_shows d b c m v w x y own whole_v whole_w differ says_v says_w in_x in_y ne = elim (rules_apart x y in_x in_y ne) [
   | inl t ↦ gap_one_way d b c m own v w whole_v whole_w differ x y says_v says_w t
   | inr t ↦ gap_one_way d b c m own w v whole_w whole_v (shown_back d b v w differ) y x says_w says_v t
 ]
 
 pub load_shows : (d : Diagram) (b c m : ℕ) (v w : List Bool) (x y : ℕ) → OfPart d c (a_switch m) → IsVector d v →
-    IsVector d w → DifferInPart d b v w → Says Load d m v x → Says Load d m w y → x < 2 → y < 2 → x ≢ y → Shown d b c
+    IsVector d w → DifferInPart d b v w → LabelSays Load d m v x → LabelSays Load d m w y → x < 2 → y < 2 → x ≢ y
+        → Shown d b c
 load_shows d b c m v w x y own whole_v whole_w differ says_v says_w in_x in_y ne = elim (cases_eq x 1) [
   | inl e ↦ load_one_way d b c m own v w whole_v whole_w differ x y says_v says_w e (λ q. ne (e ∙ sym q))
   | inr not_one ↦

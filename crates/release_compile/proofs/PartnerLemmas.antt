@@ -10,7 +10,7 @@ use Rattle.decision_graphs.specs.Label.{Layered, label_of}
 use Rattle.release_compile.specs.declared.view.View.{View}
 use Rattle.release_compile.specs.declared.view.View.TheVariants.{Gap, Load}
 use Rattle.release_compile.specs.Lettered.{Lettered, AreLettered}
-use Rattle.release_compile.specs.Graphs.{other_of, PartChosen, Says}
+use Rattle.release_compile.specs.Graphs.{other_of, PartChosen, LabelSays}
 use Rattle.release_compile.specs.Coding.{labels_of}
 use Rattle.release_compile.specs.Built.{ViewOf, AreViewGraphs, AreTold}
 use Rattle.release_compile.specs.PartnerLabels.{IsInnerOf, AreInnersOf, TellsOf}
@@ -28,9 +28,9 @@ partner_shown d b c s irrelevant =
 module _ (d : Diagram) (c first count : ℕ) (those : AreSwitchesOf d c first count)
     (GapChosen LoadChosen : ℕ → ℕ → List Bool → Type 0)
     (gap : Layered) (gap_inners : List Layered)
-    (gap_view : IsView d c first count 3 GapChosen (Says Gap d) gap gap_inners)
+    (gap_view : IsView d c first count 3 GapChosen (LabelSays Gap d) gap gap_inners)
     (load : Layered) (load_inners : List Layered)
-    (load_view : IsView d c first count 2 LoadChosen (Says Load d) load load_inners)
+    (load_view : IsView d c first count 2 LoadChosen (LabelSays Load d) load load_inners)
     (j : ℕ) (in_gap : j < length gap.layers) (in_load : j < length load.layers) where
   own_place : (place : ℕ) → place < count → OfPart d c (a_switch (first + place))
   own_place place lt =
@@ -40,13 +40,13 @@ module _ (d : Diagram) (c first count : ℕ) (those : AreSwitchesOf d c first co
   -- TOLD: two vectors show it
   pub gap_told : TellsOf gap gap_inners j → Shown d (other_of 0 c j) c
   gap_told dep =
-      let t = told d c first count 3 GapChosen (Says Gap d) gap gap_inners gap_view those j in_gap dep in
+      let t = told d c first count 3 GapChosen (LabelSays Gap d) gap gap_inners gap_view those j in_gap dep in
       gap_shows d (other_of 0 c j) c (first + t.place) t.one t.other t.left t.right (own_place t.place t.place_in)
       t.one_whole t.other_whole t.differ t.left_says t.right_says t.left_in t.right_in t.apart
 
   pub load_told : TellsOf load load_inners j → Shown d (other_of 0 c j) c
   load_told dep =
-      let t = told d c first count 2 LoadChosen (Says Load d) load load_inners load_view those j in_load dep in
+      let t = told d c first count 2 LoadChosen (LabelSays Load d) load load_inners load_view those j in_load dep in
       load_shows d (other_of 0 c j) c (first + t.place) t.one t.other t.left t.right (own_place t.place t.place_in)
       t.one_whole t.other_whole t.differ t.left_says t.right_says t.left_in t.right_in t.apart
 
@@ -59,9 +59,10 @@ module _ (d : Diagram) (c first count : ℕ) (those : AreSwitchesOf d c first co
       let place_in : place < count = omega (arith, range.0, range.1) in
       let g = element gap_inners place (omega (arith, place_in, gap_view.judged.inner_count)) in
       let h = element load_inners place (omega (arith, place_in, load_view.judged.inner_count)) in
-      let one = silent d c first count 3 GapChosen (Says Gap d) gap gap_inners gap_view those j in_gap no_gap v w
+      let one = silent d c first count 3 GapChosen (LabelSays Gap d) gap gap_inners gap_view those j in_gap no_gap v w
       whole_v whole_w differ place g.0 g.1 in
-      let two = silent d c first count 2 LoadChosen (Says Load d) load load_inners load_view those j in_load no_load v w
+      let two = silent d c first count 2 LoadChosen (LabelSays Load d) load load_inners load_view those j in_load
+          no_load v w
       whole_v whole_w differ place h.0 h.1 in
       says_same d (first + place) v w one.0 two.0 one.1 one.2 two.1 two.2 op moves answer
 
@@ -91,7 +92,7 @@ module _ (view : View) (a : Lettered) (c first count : ℕ) (g : ViewOf)
   pub inners_of : AreInnersOf g.outer.labels g.inner
   inners_of i x at = inner_of i x at
 
-  judged : IsJudged a.diagram first count (labels_of view) (PartChosen a c) (Says view a.diagram) g.outer g.inner
+  judged : IsJudged a.diagram first count (labels_of view) (PartChosen a c) (LabelSays view a.diagram) g.outer g.inner
   judged = record {
     fits = graphs.outer.fits;
     inner_count = graphs.inner.len;
@@ -108,7 +109,7 @@ module _ (view : View) (a : Lettered) (c first count : ℕ) (g : ViewOf)
   }
 
   pub view_is : AreLettered a →
-      IsView a.diagram c first count (labels_of view) (PartChosen a c) (Says view a.diagram) g.outer g.inner
+      IsView a.diagram c first count (labels_of view) (PartChosen a c) (LabelSays view a.diagram) g.outer g.inner
   view_is are = record {
     judged = judged;
     placing = parts_placing a c g.outer.layers are graphs.outer.count graphs.outer.choices;

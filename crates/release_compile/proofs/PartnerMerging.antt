@@ -6,7 +6,8 @@ use Rattle.std.proofs.lemmas.Option.{none-some, same_Some}
 use Rattle.decision_graphs.specs.Label.{Layer, Layered, layer_at, step, leads, label_of, AreChoices, AreLayers}
 use Rattle.decision_graphs.specs.Label.{AreReduced, DependsOn}
 use Rattle.decision_graphs.proofs.ReducedLemmas.{differ}
-use Rattle.release_compile.specs.PartnerLabels.{entry, IsInnerOf, AreInnersOf, TellsNot, AreOne, AreNames, IsRenamed}
+use Rattle.release_compile.specs.PartnerLabels.{entry, IsInnerOf, AreInnersOf, TellsNot, AreOne, AreLeastLabels}
+use Rattle.release_compile.specs.PartnerLabels.{IsRenamed}
 use Rattle.release_compile.specs.PartnerLabels.{TellsOf}
 use Rattle.release_compile.proofs.PartnerChoices.{choices_same, label_below}
 
@@ -88,7 +89,7 @@ pub one_trans : (inners : List Layered) (x y z : ℕ) → AreOne inners x y → 
 one_trans inners x y z one two i g at ds fit = one i g at ds fit ∙ two i g at ds fit
 
 -- TWO LABELS HAVE ONE NAME exactly where no inner graph tells them apart
-module _ (inners : List Layered) (labels : ℕ) (names : List ℕ) (are : AreNames inners labels names) (x y : ℕ)
+module _ (inners : List Layered) (labels : ℕ) (names : List ℕ) (are : AreLeastLabels inners labels names) (x y : ℕ)
     (in_x : x < labels) (in_y : y < labels) where
   names_same : AreOne inners x y → get_or names x 0 ≡ get_or names y 0
   names_same one =
@@ -116,7 +117,7 @@ module _ (inners : List Layered) (labels : ℕ) (names : List ℕ) (are : AreNam
 
 -- THE COPY DEPENDS ON A LAYER exactly where the inner graphs tell of it
 module _ (outer : Layered) (inners : List Layered) (fits : AreLayers outer.labels outer.layers)
-    (are : AreInnersOf outer.labels inners) (names : List ℕ) (are_names : AreNames inners outer.labels names)
+    (are : AreInnersOf outer.labels inners) (names : List ℕ) (are_names : AreLeastLabels inners outer.labels names)
     (copy : Layered) (renamed : IsRenamed outer names copy) (j : ℕ) (j_in : j < length outer.layers) where
   some : 0 < length outer.layers
   some = omega (arith, j_in)

@@ -11,7 +11,7 @@ use Rattle.std.proofs.lemmas.Slice.Eq.{slice_eq-Decides}
 use Rattle.std.proofs.lemmas.List.{map-append, take_more}
 use Rattle.decision_graphs.specs.Label.{Layered, Layer, layer_at, AreLayers, IsNode, HasEdge, place_after, first_at}
 use Rattle.release_compile.specs.PartnerLabels.{entry, IsInnerOf, AreInnersOf, TellsNot, AreOne, IsLeastOf}
-use Rattle.release_compile.specs.PartnerNames.{entries, named, IsFirstOf, IsIndexOf}
+use Rattle.release_compile.specs.PartnerNames.{entries, label_named, IsFirstOf, IsIndexOf}
 use Rattle.release_compile.proofs.PartnerMerging.{tells_not}
 
 -- ---- rows
@@ -66,14 +66,14 @@ index_empty rows m e = record {
 
 -- a row that is known
 pub index_skip : {S : Type 0} (rows : ℕ → List ℕ) (n y : ℕ) (m : HashMap (Vec ℕ Global) ℕ S) (row : Vec ℕ Global) →
-    IsIndexOf rows n m → rows n ≡ row.items → named m row ≡ Some y → IsIndexOf rows (n + 1) m
+    IsIndexOf rows n m → rows n ≡ row.items → label_named m row ≡ Some y → IsIndexOf rows (n + 1) m
 index_skip rows n y m row index here is = record {
   found = λ q z at. (let h = index.found q z at in (omega (arith, h.0), h.1));
   missing = λ q none z lt same. elim (cases_eq z n) [
     | inr ne ↦ index.missing q none z (omega (arith, lt, ne)) same
     | inl e ↦
         let items : q.items ≡ row.items = sym same ∙ (ap rows e ∙ here) in
-        let at : named m q ≡ named m row =
+        let at : label_named m q ≡ label_named m row =
         ap (λ xs. get (λ (k h : Vec ℕ Global). pointwise nat_eq xs h.items) m q) items in
         none-some y (sym none ∙ (at ∙ is))
   ];
@@ -81,14 +81,14 @@ index_skip rows n y m row index here is = record {
 
 -- a new row
 pub index_more : {S : Type 0} (rows : ℕ → List ℕ) (n : ℕ) (old new : HashMap (Vec ℕ Global) ℕ S) (row : Vec ℕ Global) →
-    IsIndexOf rows n old → rows n ≡ row.items → named old row ≡ None → Updates same_row old new row (Some n) →
+    IsIndexOf rows n old → rows n ≡ row.items → label_named old row ≡ None → Updates same_row old new row (Some n) →
     IsIndexOf rows (n + 1) new
 index_more rows n old new row index here none updates = record {
   found = λ q y is. found q y (same_row row q) refl (sym (updates.0 q) ∙ is);
   missing = λ q is z lt. missing q (same_row row q) refl (sym (updates.0 q) ∙ is) z lt;
 }
   where
-    found : (q : Vec ℕ Global) (y : ℕ) (b : Bool) → same_row row q ≡ b → cond b (Some n) (named old q) ≡ Some y →
+    found : (q : Vec ℕ Global) (y : ℕ) (b : Bool) → same_row row q ≡ b → cond b (Some n) (label_named old q) ≡ Some y →
         (y < n + 1) × IsFirstOf rows q.items y
     found q y true same is =
         let e : n ≡ y = cc in
@@ -101,7 +101,8 @@ index_more rows n old new row index here none updates = record {
         )
     found q y false same is = (let h = index.found q y is in (omega (arith, h.0), h.1))
 
-    missing : (q : Vec ℕ Global) (b : Bool) → same_row row q ≡ b → cond b (Some n) (named old q) ≡ None → (z : ℕ) →
+    missing : (q : Vec ℕ Global) (b : Bool) → same_row row q ≡ b → cond b (Some n) (label_named old q) ≡ None
+        → (z : ℕ) →
         z < n + 1 → rows z ≢ q.items
     missing q true same is z lt at = cc
     missing q false same is z lt at = elim (cases_eq z n) [

@@ -16,7 +16,7 @@ use Rattle.release_compile.specs.Counted.{Size, edges_in, AreAtLeast, Spends}
 use Rattle.release_compile.specs.Pooling.{GrewTo}
 use Rattle.release_compile.specs.Folding.{IsExact, ReachesMore}
 use Rattle.release_compile.specs.Layering.{AreEdges, values_at}
-use Rattle.release_compile.specs.Plans.{Plan, PlanFits, AreLinked, PlanHas, PlanPasses, SameBefore, diagram_of}
+use Rattle.release_compile.specs.Plans.{Plan, PlanFits, AreLinked, PlanHas, PlanPasses, SameBefore, plan_diagram}
 use Rattle.release_compile.specs.Plans.{ChosenBy, items_of, new_of, NeededBy}
 use Rattle.release_compile.proofs.BridgeLemmas.{reached_by_edges}
 use Rattle.release_compile.proofs.CountLemmas.{at_least_of, views_so_many, views_at_least}
@@ -53,30 +53,30 @@ module _ (Many : (List Bool → List Bool → Type 0) → ℕ → Type 0) (view 
       }
 
 pub plan_at_least : (view : View) (plan : Plan) (letters : List (List ℕ)) (n edges : ℕ) →
-    PlanHas view plan letters n (AreSoMany (diagram_of plan)) edges →
-    PlanHas view plan letters n (AreAtLeast (diagram_of plan)) edges
+    PlanHas view plan letters n (AreSoMany (plan_diagram plan)) edges →
+    PlanHas view plan letters n (AreAtLeast (plan_diagram plan)) edges
 plan_at_least view plan letters n edges h = record {
   sizes = h.sizes;
   len = h.len;
-  views = λ j s at. at_least_of (diagram_of plan) (SameBefore view plan j) s.views (h.views j s at);
+  views = λ j s at. at_least_of (plan_diagram plan) (SameBefore view plan j) s.views (h.views j s at);
   choices = h.choices;
   all = h.all;
 }
 
 module _ (view : View) (plan : Plan) (letters : List (List ℕ)) (j limit left count : ℕ) (ids : List ℕ)
-    (h : Spends (PlanHas view plan letters j) (diagram_of plan) limit left)
+    (h : Spends (PlanHas view plan letters j) (plan_diagram plan) limit left)
     (at_j : slice_get letters j ≡ Some ids) where
   -- one layer more is spent
-  pub plan_spends : AreSoMany (diagram_of plan) (SameBefore view plan j) count → count * length ids ≤ left →
-      Spends (PlanHas view plan letters (j + 1)) (diagram_of plan) limit (left - count * length ids)
+  pub plan_spends : AreSoMany (plan_diagram plan) (SameBefore view plan j) count → count * length ids ≤ left →
+      Spends (PlanHas view plan letters (j + 1)) (plan_diagram plan) limit (left - count * length ids)
   plan_spends many few = record {
     edges = h.edges + count * length ids;
-    has = plan_more (AreSoMany (diagram_of plan)) view plan letters j h.edges count ids h.has at_j many;
+    has = plan_more (AreSoMany (plan_diagram plan)) view plan letters j h.edges count ids h.has at_j many;
     all = omega (arith, h.all, few);
   }
 
   -- one layer more is too much
-  pub plan_passes : AreAtLeast (diagram_of plan) (SameBefore view plan j) count → left < count * length ids →
+  pub plan_passes : AreAtLeast (plan_diagram plan) (SameBefore view plan j) count → left < count * length ids →
       PlanPasses view plan letters limit
   plan_passes many past = record {
     layers = j + 1;
@@ -84,7 +84,7 @@ module _ (view : View) (plan : Plan) (letters : List (List ℕ)) (j limit left c
     first = record {
       edges = h.edges + count * length ids;
       has =
-          plan_more (AreAtLeast (diagram_of plan)) view plan letters j h.edges count ids
+          plan_more (AreAtLeast (plan_diagram plan)) view plan letters j h.edges count ids
           (plan_at_least view plan letters j h.edges h.has) at_j many;
       past = omega (arith, h.all, past);
     };
@@ -92,8 +92,8 @@ module _ (view : View) (plan : Plan) (letters : List (List ℕ)) (j limit left c
 
 -- at least so many views before the next layer are too many for its choices
 pub passes_next : (view : View) (plan : Plan) (letters : List (List ℕ)) (j limit left count most : ℕ) →
-    Spends (PlanHas view plan letters (j + 1)) (diagram_of plan) limit left →
-    AreAtLeast (diagram_of plan) (SameBefore view plan (j + 1)) count →
+    Spends (PlanHas view plan letters (j + 1)) (plan_diagram plan) limit left →
+    AreAtLeast (plan_diagram plan) (SameBefore view plan (j + 1)) count →
     ((ids : List ℕ) → slice_get letters (j + 1) ≡ Some ids → 0 < length ids → left < count * length ids) →
     ((i : ℕ) (ids : List ℕ) → slice_get letters i ≡ Some ids → 0 < length ids) → (length letters ≤ j + 1 → ⊥) →
     PlanPasses view plan letters limit
@@ -107,10 +107,10 @@ passes_next view plan letters j limit left count most spent many past some not_l
 
 -- the states are as many as the distinct views
 pub states_count : (view : View) (plan : Plan) (j : ℕ) (ls : List Layer) (states : List Answers) →
-    IsExact view (diagram_of plan) (ChosenBy plan) (items_of plan) (NeededBy plan) j ls states →
-    AreSoMany (diagram_of plan) (SameBefore view plan j) (length states)
+    IsExact view (plan_diagram plan) (ChosenBy plan) (items_of plan) (NeededBy plan) j ls states →
+    AreSoMany (plan_diagram plan) (SameBefore view plan j) (length states)
 states_count view plan j ls states e =
-    views_so_many view (Among (items_of plan j)) (diagram_of plan) (NeededBy plan j) states e.kept e.rising e.apart
+    views_so_many view (Among (items_of plan j)) (plan_diagram plan) (NeededBy plan j) states e.kept e.rising e.apart
     e.views.made e.views.cover
 
 -- edges that lead to more values than a limit
@@ -150,18 +150,18 @@ more_reached p q g nodes states letters next edges n most states_in letters_in e
 module _ (p q : Pool) (start : ℕ) (letters : List (List ℕ)) (keeps : List ℕ) (linked : AreLinked p start letters keeps)
     (g : Grows p q) (j k : ℕ) (ids nodes states : List ℕ) (at_j : slice_get letters j ≡ Some ids)
     (at_k : slice_get keeps (suc j) ≡ Some k) (at_nodes : slice_get p.keeps.items k ≡ Some nodes) (plan : Plan)
-    (fits : PlanFits plan p start letters keeps) (ls : List Layer) (exact : IsExact p.view (diagram_of plan)
+    (fits : PlanFits plan p start letters keeps) (ls : List Layer) (exact : IsExact p.view (plan_diagram plan)
     (ChosenBy plan) (items_of plan) (NeededBy plan) j ls (values_at q.values.items states)) where
   pub reached_at_least : (most : ℕ) →
       ReachesMore q.view nodes (values_at q.values.items states) (values_at q.values.items ids) most →
       (count : ℕ) × (most < count) × (count ≤ length states * length ids)
-      × AreAtLeast (diagram_of plan) (SameBefore p.view plan (suc j)) count
+      × AreAtLeast (plan_diagram plan) (SameBefore p.view plan (suc j)) count
   reached_at_least most more =
       let letters_same = values_more p.values.items q.values.items ids g.values
       (λ c i at. linked.letters_in j c i ids at_j at) in
       let here = subst (λ w. ReachesMore w nodes (values_at q.values.items states) (values_at p.values.items ids) most)
       g.view (subst (λ xs. ReachesMore q.view nodes (values_at q.values.items states) xs most) letters_same more) in
-      let made = made_more p.view (diagram_of plan) (items_of plan j) (new_of plan j) nodes
+      let made = made_more p.view (plan_diagram plan) (items_of plan j) (new_of plan j) nodes
       (values_at q.values.items states) (values_at p.values.items ids) here.next
       (λ t c x y at_x at_y. fits.meets j c ids x y at_j (exact.kept t x at_x) at_y)
       here.reached
@@ -180,7 +180,7 @@ module _ (p q : Pool) (start : ℕ) (letters : List (List ℕ)) (keeps : List �
           ap (λ n. n * length (values_at p.values.items ids)) (len q states),
           ap (λ n. length states * n) (len p ids),
         ),
-        views_at_least p.view (Among (items_of plan (suc j))) (diagram_of plan) (NeededBy plan (suc j)) here.next kept
+        views_at_least p.view (Among (items_of plan (suc j))) (plan_diagram plan) (NeededBy plan (suc j)) here.next kept
             here.reached.rising here.reached.apart made,
       )
     where

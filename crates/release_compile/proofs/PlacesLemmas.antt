@@ -20,7 +20,7 @@ use Rattle.release_compile.specs.declared.pool.Pool.{Pool}
 use Rattle.release_compile.specs.Lettered.{Lettered}
 use Rattle.release_compile.specs.Seen.{SeenFor, SameSeen}
 use Rattle.release_compile.specs.Pooling.{HasSame}
-use Rattle.release_compile.specs.Places.{node_of, pool_on}
+use Rattle.release_compile.specs.Places.{node_listed, pool_on}
 use Rattle.release_compile.specs.Layering.{values_at, no_answers}
 use Rattle.release_compile.specs.Folding.{StandsIn}
 use Rattle.release_compile.specs.Graphs.{other_of, OfOthers, IsInner}
@@ -36,7 +36,7 @@ use Rattle.release_compile.proofs.VerdictLemmas.{other_cases}
 
 -- ---- places and nodes
 
-pub node_at : (list : List ℕ) (place n : ℕ) → slice_get list place ≡ Some n → node_of list place ≡ n
+pub node_at : (list : List ℕ) (place n : ℕ) → slice_get list place ≡ Some n → node_listed list place ≡ n
 node_at list place n at = get_or_from_slice_get list place n (NODES + place) at
 
 module _ (list : List ℕ) (nodes : AreNodes list) where
@@ -44,11 +44,11 @@ module _ (list : List ℕ) (nodes : AreNodes list) where
   node_small place n at =
       omega (arith, nodes.small place (slice_get_within list place n at), get_or_from_slice_get list place n 0 at)
 
-  node_past : (place : ℕ) → length list ≤ place → node_of list place ≡ NODES + place
+  node_past : (place : ℕ) → length list ≤ place → node_listed list place ≡ NODES + place
   node_past place out = get_or_past list place (NODES + place) out
 
   -- a later place has a later node
-  pub places_rise : KeepsOrder (node_of list)
+  pub places_rise : KeepsOrder (node_listed list)
   places_rise a b less = elim (cases_lt b (length list)) [
     | inl b_in ↦
         let at_a = slice_get-get_or list a 0 (omega (arith, less, b_in)) in
@@ -73,32 +73,32 @@ module _ (list : List ℕ) (nodes : AreNodes list) where
   ]
 
   -- a place whose node is in the list is one of its places
-  pub place_inside : (place : ℕ) → Contains list (node_of list place) → place < length list
+  pub place_inside : (place : ℕ) → Contains list (node_listed list place) → place < length list
   place_inside place has = elim (cases_lt place (length list)) [
     | inl inside ↦ inside
     | inr out ↦
-        let k = keeps_from_has list (node_of list place) has in
-        absurd (omega (arith, node_small k.place (node_of list place) k.at, node_past place (omega (arith, out))))
+        let k = keeps_from_has list (node_listed list place) has in
+        absurd (omega (arith, node_small k.place (node_listed list place) k.at, node_past place (omega (arith, out))))
   ]
 
   -- places of nodes are nodes, and so are nodes at places
-  pub places_are_nodes : (places nodes' : List ℕ) → map (node_of list) places ≡ nodes' → Rises nodes' →
+  pub places_are_nodes : (places nodes' : List ℕ) → map (node_listed list) places ≡ nodes' → Rises nodes' →
       ((n : ℕ) → Keeps nodes' n → Contains list n) → AreNodes places
   places_are_nodes places nodes' is rises has = record {
     rises = λ j k less k_in.
         let up = subst (λ l. Rises l) (sym is) rises in
-        let count = length-map places (node_of list) in
+        let count = length-map places (node_listed list) in
         let at_j = slice_get-get_or places j 0 (omega (arith, less, k_in)) in
         let at_k = slice_get-get_or places k 0 k_in in
-        let one = get_or_from_slice_get (map (node_of list) places) j (node_of list (slice_index places j)) 0
-        (at_mapped (node_of list) places j (slice_index places j) at_j) in
-        let two = get_or_from_slice_get (map (node_of list) places) k (node_of list (slice_index places k)) 0
-        (at_mapped (node_of list) places k (slice_index places k) at_k) in
+        let one = get_or_from_slice_get (map (node_listed list) places) j (node_listed list (slice_index places j)) 0
+        (at_mapped (node_listed list) places j (slice_index places j) at_j) in
+        let two = get_or_from_slice_get (map (node_listed list) places) k (node_listed list (slice_index places k)) 0
+        (at_mapped (node_listed list) places k (slice_index places k) at_k) in
         let later = up j k less (omega (arith, k_in, count)) in
         elim (cases_lt (slice_index places j) (slice_index places k)) [
           | inl lt ↦ lt
           | inr ge ↦ elim (cases_eq (slice_index places j) (slice_index places k)) [
-            | inl e ↦ absurd (omega (arith, later, one, two, ap (node_of list) e))
+            | inl e ↦ absurd (omega (arith, later, one, two, ap (node_listed list) e))
             | inr ne ↦
                 absurd (omega (
                   arith,
@@ -111,28 +111,28 @@ module _ (list : List ℕ) (nodes : AreNodes list) where
         ];
     small = λ k k_in.
         let at = slice_get-get_or places k 0 k_in in
-        let kept : Keeps nodes' (node_of list (slice_index places k)) = record {
+        let kept : Keeps nodes' (node_listed list (slice_index places k)) = record {
           place = k;
-          at = ap (λ l. slice_get l k) (sym is) ∙ at_mapped (node_of list) places k (slice_index places k) at;
+          at = ap (λ l. slice_get l k) (sym is) ∙ at_mapped (node_listed list) places k (slice_index places k) at;
         } in
         omega (
           arith,
-          place_inside (slice_index places k) (has (node_of list (slice_index places k)) kept),
+          place_inside (slice_index places k) (has (node_listed list (slice_index places k)) kept),
           few_nodes list nodes,
         );
   }
 
   pub nodes_are_nodes : (places : List ℕ) → AreNodes places → ((p : ℕ) → Keeps places p → p < length list) →
-      AreNodes (map (node_of list) places)
+      AreNodes (map (node_listed list) places)
   nodes_are_nodes places are inside = record {
-    rises = rises_map (node_of list) places_rise places are.rises;
+    rises = rises_map (node_listed list) places_rise places are.rises;
     small = λ k k_in.
-        let count = length-map places (node_of list) in
+        let count = length-map places (node_listed list) in
         let at = slice_get-get_or places k 0 (omega (arith, k_in, count)) in
         let p_in = inside (slice_index places k) (record { place = k; at = at }) in
         let at_p = slice_get-get_or list (slice_index places k) 0 p_in in
-        let here = get_or_from_slice_get (map (node_of list) places) k (node_of list (slice_index places k)) 0
-        (at_mapped (node_of list) places k (slice_index places k) at) in
+        let here = get_or_from_slice_get (map (node_listed list) places) k (node_listed list (slice_index places k)) 0
+        (at_mapped (node_listed list) places k (slice_index places k) at) in
         omega (
           arith,
           here,
@@ -142,26 +142,26 @@ module _ (list : List ℕ) (nodes : AreNodes list) where
   }
 
 -- one place more
-pub places_more : (list places nodes : List ℕ) (k place n : ℕ) → map (node_of list) places ≡ take k nodes →
+pub places_more : (list places nodes : List ℕ) (k place n : ℕ) → map (node_listed list) places ≡ take k nodes →
     slice_get list place ≡ Some n → slice_get nodes k ≡ Some n →
-    map (node_of list) (places ++ place ∷ []) ≡ take (k + 1) nodes
+    map (node_listed list) (places ++ place ∷ []) ≡ take (k + 1) nodes
 places_more list places nodes k place n is at at_k =
-    map-append (node_of list) places (place ∷ [])
-    ∙ (ap (λ xs. xs ++ node_of list place ∷ []) is
+    map-append (node_listed list) places (place ∷ [])
+    ∙ (ap (λ xs. xs ++ node_listed list place ∷ []) is
     ∙ (ap (λ m. take k nodes ++ m ∷ []) (node_at list place n at ∙ sym (get_or_from_slice_get nodes k n 0 at_k))
     ∙ sym (take_more nodes k 0 (slice_get_within nodes k n at_k))))
 
 -- and one node more
-pub nodes_more : (list places nodes : List ℕ) (k p n : ℕ) → nodes ≡ map (node_of list) (take k places) →
+pub nodes_more : (list places nodes : List ℕ) (k p n : ℕ) → nodes ≡ map (node_listed list) (take k places) →
     slice_get places k ≡ Some p → p < length list → n ≡ slice_index list p →
-    nodes ++ n ∷ [] ≡ map (node_of list) (take (k + 1) places)
+    nodes ++ n ∷ [] ≡ map (node_listed list) (take (k + 1) places)
 nodes_more list places nodes k p n is at p_in here =
     ap (λ xs. xs ++ n ∷ []) is
-    ∙ (ap (λ m. map (node_of list) (take k places) ++ m ∷ []) (here
+    ∙ (ap (λ m. map (node_listed list) (take k places) ++ m ∷ []) (here
     ∙ (sym (node_at list p (slice_index list p) (slice_get-get_or list p 0 p_in))
-    ∙ ap (node_of list) (sym (get_or_from_slice_get places k p 0 at))))
-    ∙ (sym (map-append (node_of list) (take k places) (slice_index places k ∷ []))
-    ∙ ap (map (node_of list)) (sym (take_more places k 0 (slice_get_within places k p at)))))
+    ∙ ap (node_listed list) (sym (get_or_from_slice_get places k p 0 at))))
+    ∙ (sym (map-append (node_listed list) (take k places) (slice_index places k ∷ []))
+    ∙ ap (map (node_listed list)) (sym (take_more places k 0 (slice_get_within places k p at)))))
 
 -- ---- what is interned by places
 

@@ -14,7 +14,8 @@ use Rattle.release_compile.specs.Folding.{StandsIn, IsStep, IsExact}
 use Rattle.decision_graphs.specs.Finished.{layer_with}
 use Rattle.release_compile.specs.Pooling.{Extends, GrewTo, EitherKeeps}
 use Rattle.release_compile.specs.Layering.{AreEdges, no_answers, values_at}
-use Rattle.release_compile.specs.Plans.{Plan, PlanFits, AreLinked, diagram_of, ChosenBy, items_of, new_of, base_of}
+use Rattle.release_compile.specs.Plans.{Plan, PlanFits, AreLinked, plan_diagram, ChosenBy, items_of, new_of}
+use Rattle.release_compile.specs.Plans.{items_before}
 use Rattle.release_compile.specs.Plans.{NeededBy}
 use Rattle.release_compile.proofs.LayeringLemmas.{AreSound, Grows, state_in, keep_was}
 use Rattle.release_compile.proofs.BridgeLemmas.{step_of_edges, next_listed}
@@ -35,7 +36,7 @@ values_more old new (i ∷ is) more within =
 
 pub start_exact : (plan : Plan) (p : Pool) (start : ℕ) (letters : List (List ℕ)) (keeps : List ℕ) → AreSound p →
     AreLinked p start letters keeps → PlanFits plan p start letters keeps →
-    IsExact p.view (diagram_of plan) (ChosenBy plan) (items_of plan) (NeededBy plan) 0 []
+    IsExact p.view (plan_diagram plan) (ChosenBy plan) (items_of plan) (NeededBy plan) 0 []
     (values_at p.values.items (start ∷ []))
 start_exact plan p start letters keeps holds linked fits = record {
   count = refl;
@@ -55,8 +56,8 @@ start_exact plan p start letters keeps holds linked fits = record {
   stands = λ v cs whole len chosen. at_start v whole (leads [] 0 cs) refl;
   views = record {
     made =
-        λ t r at. (let open_all = replicate (length (diagram_of plan).switches) false in
-        let whole = length-replicate (length (diagram_of plan).switches) false in
+        λ t r at. (let open_all = replicate (length (plan_diagram plan).switches) false in
+        let whole = length-replicate (length (plan_diagram plan).switches) false in
         (open_all, whole, fits.start_stands r open_all (value_is t r at) whole));
     cover = λ v whole. (0, at_start v whole 0 refl);
   };
@@ -75,8 +76,8 @@ start_exact plan p start letters keeps holds linked fits = record {
     value_is zero r at = at_x ∙ at
     value_is (suc t) r at = cc
 
-    at_start : (v : List Bool) → IsVector (diagram_of plan) v → (t : ℕ) → 0 ≡ t →
-        StandsIn p.view (Among (base_of plan)) (diagram_of plan) v (values_at p.values.items (start ∷ [])) t
+    at_start : (v : List Bool) → IsVector (plan_diagram plan) v → (t : ℕ) → 0 ≡ t →
+        StandsIn p.view (Among (items_before plan)) (plan_diagram plan) v (values_at p.values.items (start ∷ [])) t
     at_start v whole t e = record {
       value = get_or p.values.items start no_answers;
       listed = ap (slice_get (values_at p.values.items (start ∷ []))) (sym e);
@@ -112,21 +113,23 @@ module _ (p q r : Pool) (start : ℕ) (letters : List (List ℕ)) (keeps : List 
   some_letter = linked.some j ids at_j
 
   pub layer_exact : (plan : Plan) (ls : List Layer) → PlanFits plan p start letters keeps →
-      IsExact p.view (diagram_of plan) (ChosenBy plan) (items_of plan) (NeededBy plan) j ls
+      IsExact p.view (plan_diagram plan) (ChosenBy plan) (items_of plan) (NeededBy plan) j ls
       (values_at q.values.items states)
-      → IsExact p.view (diagram_of plan) (ChosenBy plan) (items_of plan) (NeededBy plan) (suc j)
+      → IsExact p.view (plan_diagram plan) (ChosenBy plan) (items_of plan) (NeededBy plan) (suc j)
       (ls ++ layer_with (length ids) (length states) edges ∷ []) (values_at r.values.items next)
   layer_exact plan ls fits old =
-      let here = subst (λ xs. IsExact p.view (diagram_of plan) (ChosenBy plan) (items_of plan) (NeededBy plan) j ls xs)
+      let here = subst (λ xs. IsExact p.view (plan_diagram plan) (ChosenBy plan) (items_of plan)
+          (NeededBy plan) j ls xs)
       (sym states_more) old in
       let states_len = length-map states (λ i. get_or r.values.items i no_answers) in
       let letters_len = length-map ids (λ i. get_or r.values.items i no_answers) in
-      let done = fold_step p.view (diagram_of plan) (ChosenBy plan) (items_of plan) (NeededBy plan) j (new_of plan j) ls
+      let done = fold_step p.view (plan_diagram plan) (ChosenBy plan) (items_of plan) (NeededBy plan) j
+          (new_of plan j) ls
       nodes (values_at r.values.items states) (values_at r.values.items ids) (values_at r.values.items next) edges
       here step
       (omega (arith, some, states_len)) (omega (arith, some_letter, letters_len)) refl
       (fits.needed (suc j) k nodes at_k at_nodes)
-      (λ c v whole chosen. subst (λ xs. StandsIn p.view (Among (new_of plan j)) (diagram_of plan) v xs c)
+      (λ c v whole chosen. subst (λ xs. StandsIn p.view (Among (new_of plan j)) (plan_diagram plan) v xs c)
       (sym letters_more) (fits.letter j c ids v at_j whole chosen))
       (λ t c x y at_x at_y. fits.meets j c ids x y at_j (here.kept t x at_x)
       (ap (λ xs. slice_get xs c) (sym letters_more) ∙ at_y))
@@ -134,10 +137,10 @@ module _ (p q r : Pool) (start : ℕ) (letters : List (List ℕ)) (keeps : List 
       whole seen)
       (λ v whole.
       let (c, s) = fits.cover j ids v at_j whole in
-      (c, subst (λ xs. StandsIn p.view (Among (new_of plan j)) (diagram_of plan) v xs c) (sym letters_more) s)) in
-      subst (λ n. IsExact p.view (diagram_of plan) (ChosenBy plan) (items_of plan) (NeededBy plan) (suc j)
+      (c, subst (λ xs. StandsIn p.view (Among (new_of plan j)) (plan_diagram plan) v xs c) (sym letters_more) s)) in
+      subst (λ n. IsExact p.view (plan_diagram plan) (ChosenBy plan) (items_of plan) (NeededBy plan) (suc j)
       (ls ++ layer_with n (length states) edges ∷ []) (values_at r.values.items next)) letters_len
-      (subst (λ n. IsExact p.view (diagram_of plan) (ChosenBy plan) (items_of plan) (NeededBy plan) (suc j)
+      (subst (λ n. IsExact p.view (plan_diagram plan) (ChosenBy plan) (items_of plan) (NeededBy plan) (suc j)
       (ls ++ layer_with (length (values_at r.values.items ids)) n edges ∷ []) (values_at r.values.items next))
       states_len done)
 

@@ -14,7 +14,7 @@ use Rattle.std.proofs.lemmas.Bool.{false≢true}
 use Rattle.std.proofs.lemmas.Slice.Eq.{bytes_eq-Decides}
 use Rattle.station_graph.proofs.PathLemmas.{slice_get-push}
 use Rattle.release_compile.specs.Seen.{SeenFor, SameSeen, ComposesIn, seen_row}
-use Rattle.release_compile.specs.Folding.{AreApart}
+use Rattle.release_compile.specs.Folding.{AreApartIn}
 use Rattle.std.specs.Prelude.{nat_eq, ◌&&◌}
 use Rattle.std.proofs.lemmas.Bool.Decides.{Decides-eqb}
 use Rattle.contraction.specs.Answers.{IsContraction}
@@ -24,7 +24,7 @@ use Rattle.release_compile.specs.Folding.{AreWell}
 use Rattle.std.specs.Prelude.{Contains}
 use Rattle.contraction.specs.Answers.{Keeps}
 use Rattle.release_compile.specs.declared.pool.Pool.{Pool}
-use Rattle.release_compile.specs.Pooling.{HasSame, IsRowIndex, Extends, IsMade, WasMade, same_made, NotesAreRight}
+use Rattle.release_compile.specs.Pooling.{HasSame, IsRowIndex, Extends, IsMadeOf, WasMade, same_made, NotesAreRight}
 use Rattle.release_compile.proofs.LayerLemmas.{get_front, get_last}
 use Rattle.release_compile.proofs.MappedViews.{composes_same}
 
@@ -161,8 +161,8 @@ module _ (view : View) (values : List Answers) (x : Answers) (well : AreWell val
     | inr here ↦ subst IsContraction here.1 well_x
   ]
 
-  pub apart_more : AreApart view values →
-      ((i : ℕ) (y : Answers) → slice_get values i ≡ Some y → SameSeen view x y → ⊥) → AreApart view (values ++ x ∷ [])
+  pub apart_more : AreApartIn view values →
+      ((i : ℕ) (y : Answers) → slice_get values i ≡ Some y → SameSeen view x y → ⊥) → AreApartIn view (values ++ x ∷ [])
   apart_more apart new t u y z at_t at_u same = elim (slice_get-push values x y t at_t) [
     | inl t_before ↦ elim (slice_get-push values x z u at_u) [
       | inl u_before ↦ apart t u y z t_before u_before same
@@ -184,7 +184,7 @@ kept_same Load x y h = h.kept
 
 pub made_same : (p : Pool) (x y value : Answers) (keep : List ℕ) (t : ℕ) → HasSame p value t →
     ComposesIn p.view x y value → ((n : ℕ) → Keeps value.kept n ↔ Contains keep n) →
-    IsMade p.view x y keep p.values.items t
+    IsMadeOf p.view x y keep p.values.items t
 made_same p x y value keep t h composes kept = record {
   value = h.same;
   listed = h.listed;
@@ -213,7 +213,7 @@ pub notes_none : {S : Type 0} (view : View) (values : List Answers) (keeps : Lis
     m.entries ≡ [] → NotesAreRight view values keeps m
 notes_none view values keeps m em k t e = absurd (let h = rw em at e in cc)
 
-pub apart_none : (view : View) (values : List Answers) → values ≡ [] → AreApart view values
+pub apart_none : (view : View) (values : List Answers) → values ≡ [] → AreApartIn view values
 apart_none view values ev t u x y at_t at_u same =
     absurd (let h : slice_get {X = Answers} [] t ≡ Some x = ap (λ vs. slice_get vs t) (sym ev) ∙ at_t in cc)
 

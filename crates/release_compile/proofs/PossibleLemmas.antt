@@ -9,7 +9,7 @@ use Rattle.station_graph.proofs.PathLemmas.{slice_get-push}
 use Rattle.bay_contract.specs.Alphabets.{CanHave, IsPossible}
 use Rattle.release_compile.specs.declared.all_words.AllWords.{AllWords}
 use Rattle.release_compile.specs.Lettered.{Lettered}
-use Rattle.release_compile.specs.Possible.{ArePossible, AreAllWords, Holds}
+use Rattle.release_compile.specs.Possible.{ArePossible, AreAllWords, SetHolds}
 
 -- part by part
 pub possible_none : (a : Lettered) (words : List Dbpos) → ArePossible a words [] 0
@@ -39,7 +39,7 @@ set_of_part a words sets n part are lt = elim ((slice_get_cases sets part).1) [
 
 -- it holds what the part can have
 pub holds_of : (a : Lettered) (w : AllWords) (part index : ℕ) → AreAllWords a w → part < part_count a.diagram
-    → CanHave a.diagram a.alphabets part w.words.now index → Holds w.possible.items part index
+    → CanHave a.diagram a.alphabets part w.words.now index → SetHolds w.possible.items part index
 holds_of a w part index all part_in can =
     let s = set_of_part a w.words.now w.possible.items (part_count a.diagram) part all.possible part_in in
     (s.0, s.1, ((all.possible.each part s.0 s.1).exact index).1 can)

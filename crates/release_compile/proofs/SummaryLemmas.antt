@@ -18,7 +18,7 @@ use Rattle.central_rules.specs.Meaning.{Summarises}
 use Rattle.bay_contract.specs.Alphabets.{CanHave, InSet}
 use Rattle.release_compile.specs.Lettered.{Lettered, AreLettered, index_count, PartHas}
 use Rattle.release_compile.specs.Summaries.{byte_count, IsIndexSet, SetAllows, by_indices}
-use Rattle.release_compile.specs.Rows.{IsRowOf}
+use Rattle.release_compile.specs.Rows.{IsSetRow}
 
 -- ---- a position that agrees with words
 
@@ -69,7 +69,7 @@ same_index a b i v w lettered b_in hv hw =
 -- ---- the summary
 
 module _ (a : Lettered) (b to : ℕ) (words : List Dbpos) (set : List (Option ℕ)) (s : List ℕ) (lettered : AreLettered a)
-    (b_in : b < part_count a.diagram) (all : AreWords a.diagram words) (row : IsRowOf set s)
+    (b_in : b < part_count a.diagram) (all : AreWords a.diagram words) (row : IsSetRow set s)
     (len : length set ≡ index_count a b) (exact : (i : ℕ) → InSet set i ↔ CanHave a.diagram a.alphabets b words i)
     (partner : Partner a.diagram b to) where
   in_row : (i : ℕ) → i < index_count a b → i < 8 * length s

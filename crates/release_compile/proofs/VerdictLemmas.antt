@@ -27,7 +27,7 @@ use Rattle.release_compile.specs.declared.view.View.TheVariants.{Gap, Load}
 use Rattle.release_compile.specs.declared.search.Side.{Side}
 use Rattle.release_compile.specs.Folding.{AreChosen}
 use Rattle.release_compile.specs.Chaining.{LeadThrough, NoneLeadsTo, IsChainOf, GapFree, IsFound}
-use Rattle.release_compile.specs.Graphs.{other_of, PartChosen, SwitchChosen, gap_rule, Says, Within, IsOwn, IsSide}
+use Rattle.release_compile.specs.Graphs.{other_of, PartChosen, SwitchChosen, gap_rule, LabelSays, Within, IsOwn, IsSide}
 use Rattle.release_compile.specs.Graphs.{GivesChoices}
 
 -- ---- lists of allowed choices
@@ -152,7 +152,7 @@ module _ (view : View) (a : Lettered) (b m first others : ℕ) (words : List Dbp
 
     -- allowed choices lead to a label that says what holds in the vector
     pub says_within : (label : ℕ) × (cs ds : List ℕ) × LeadThrough s.outer.now s.inner.now sets s.inner_sets label cs ds
-        × Says view a.diagram m v label
+        × LabelSays view a.diagram m v label
     says_within =
         let o = outer_choices in
         let w = own_choices in
@@ -169,7 +169,7 @@ module _ (view : View) (a : Lettered) (b m first others : ℕ) (words : List Dbp
   -- a label that is led to says what holds in each vector that gives these choices
   pub says_chain : (goal : ℕ) (cs all : List ℕ) → IsChainOf s sets goal cs all → (v : List Bool) →
       IsVector a.diagram v → AreChosen (PartChosen a b) v cs → AreChosen (SwitchChosen first m) v (drop 1 all) →
-      Says view a.diagram m v goal
+      LabelSays view a.diagram m v goal
   says_chain goal cs all c v whole chosen own =
       let len = allowed_length sets cs c.leads.outer_allows ∙ length_sets s.outer.now.layers sets side.ready.fits in
       let named = side.outer_is.named v cs whole len chosen in
@@ -177,7 +177,7 @@ module _ (view : View) (a : Lettered) (b m first others : ℕ) (words : List Dbp
       let says = side.inner_is.says v (label_of s.outer.now cs) c.rest whole named
       (allowed_length (drop 1 s.inner_sets) c.rest c.leads.inner_allows ∙ own_count)
       (subst (λ ds. AreChosen (SwitchChosen first m) v ds) rest own) in
-      subst (λ l. Says view a.diagram m v l) c.leads.led says
+      subst (λ l. LabelSays view a.diagram m v l) c.leads.led says
 
 -- ---- both views
 

@@ -10,7 +10,7 @@ use Rattle.contraction.specs.Ends.{EndsKept}
 use Rattle.release_compile.specs.declared.view.View.{View}
 use Rattle.release_compile.specs.declared.view.View.TheVariants.{Gap, Load}
 use Rattle.release_compile.specs.Seen.{SeenFor}
-use Rattle.release_compile.specs.Graphs.{Says}
+use Rattle.release_compile.specs.Graphs.{LabelSays}
 
 -- How many labels an inner graph has.
 abbrev pub labels_of : View → ℕ
@@ -20,7 +20,7 @@ labels_of Load = 2
 -- Wherever the value answers for all items but the switch m, the label says what holds of m.
 abbrev pub CodeSays : View → Diagram → ℕ → Answers → ℕ → Type 0
 CodeSays view d m x code =
-    (v : List Bool) → IsVector d v → SeenFor view (AllBut (a_switch m)) d v x → Says view d m v code
+    (v : List Bool) → IsVector d v → SeenFor view (AllBut (a_switch m)) d v x → LabelSays view d m v code
 
 -- The value keeps the ends of the switch m.
 abbrev pub KeepsEnds : Diagram → ℕ → Answers → Type 0

@@ -117,16 +117,16 @@ pub record Passes (Has : ((List Bool → List Bool → Type 0) → ℕ → Type 
   pub past : limit < edges
 
 -- A layer has no more nodes than there are distinct vectors.
-pub record IsSmall (d : Diagram) (Same : List Bool → List Bool → Type 0) (l : Layer) : Type 0 where
+pub record HasFewNodes (d : Diagram) (Same : List Bool → List Bool → Type 0) (l : Layer) : Type 0 where
   pub count : ℕ
   pub counted : AreSoMany d Same count
   pub few : length l.rows ≤ count
 
 -- No layer of an outer graph has more nodes than there are distinct views before it.
 abbrev pub OuterIsSmall : View → Diagram → ℕ → Layered → Type 0
-OuterIsSmall view d b g = (j : ℕ) → j < length g.layers → IsSmall d (SameOuter view d b j) (layer_at g.layers j)
+OuterIsSmall view d b g = (j : ℕ) → j < length g.layers → HasFewNodes d (SameOuter view d b j) (layer_at g.layers j)
 
 -- No layer of an inner graph of switch m behind the first has more nodes than there are distinct views before it.
 abbrev pub InnerIsSmall : View → Diagram → ℕ → ℕ → ℕ → ℕ → Layered → Type 0
 InnerIsSmall view d b m first others g =
-    (i : ℕ) → i < others → IsSmall d (SameInner view d b m first others i) (layer_at g.layers (suc i))
+    (i : ℕ) → i < others → HasFewNodes d (SameInner view d b m first others i) (layer_at g.layers (suc i))

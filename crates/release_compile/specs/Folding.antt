@@ -31,8 +31,8 @@ abbrev pub AreRising : List Answers → Type 0
 AreRising values = (t : ℕ) (r : Answers) → slice_get values t ≡ Some r → Rises r.kept
 
 -- No two values are the same in this view.
-abbrev pub AreApart : View → List Answers → Type 0
-AreApart view values =
+abbrev pub AreApartIn : View → List Answers → Type 0
+AreApartIn view values =
     (t u : ℕ) (x y : Answers) → slice_get values t ≡ Some x → slice_get values u ≡ Some y → SameSeen view x y → t ≡ u
 
 -- From the states of a layer, by the letters of its choices, to those of the next. The edges stand state by state.
@@ -42,7 +42,7 @@ pub record IsStep (view : View) (keep : List ℕ) (states letters next : List An
       slice_get letters (p % length letters) ≡ Some y → Carried view x y next (slice_index edges p)
   pub kept : AllKeep next keep
   pub rising : AreRising next
-  pub apart : AreApart view next
+  pub apart : AreApartIn view next
   pub hit : (t : ℕ) (r : Answers) → slice_get next t ≡ Some r → (p : ℕ) × (p < length edges) × (slice_index edges p ≡ t)
 
 -- The value is a state of these and a letter of these together.
@@ -59,7 +59,7 @@ pub record IsCarriedOn (view : View) (states letters : List Answers) (r : Answer
 pub record AreReached (view : View) (keep : List ℕ) (states letters next : List Answers) : Type 0 where
   pub kept : AllKeep next keep
   pub rising : AreRising next
-  pub apart : AreApart view next
+  pub apart : AreApartIn view next
   pub carried : (t : ℕ) (r : Answers) → slice_get next t ≡ Some r → IsCarriedOn view states letters r
 
 -- More values than the limit are reached, though no more than pairs of a state and a letter.
@@ -81,13 +81,13 @@ abbrev pub AreChosen : (ℕ → ℕ → List Bool → Type 0) → List Bool → 
 AreChosen Chosen v cs = (i c : ℕ) → slice_get cs i ≡ Some c → Chosen i c v
 
 -- Each value answers for these items in some vector.
-abbrev pub AreMade : View → (Item → Type 0) → Diagram → List Answers → Type 0
-AreMade view These d values =
+abbrev pub EachAnswers : View → (Item → Type 0) → Diagram → List Answers → Type 0
+EachAnswers view These d values =
     (t : ℕ) (r : Answers) → slice_get values t ≡ Some r → (v : List Bool) × IsVector d v × SeenFor view These d v r
 
 -- The values are the distinct views of these items: each is that of some vector, and each vector has one.
 pub record AreViews (view : View) (These : Item → Type 0) (d : Diagram) (values : List Answers) : Type 0 where
-  pub made : AreMade view These d values
+  pub made : EachAnswers view These d values
   pub cover : (v : List Bool) → IsVector d v → (t : ℕ) × StandsIn view These d v values t
 
 -- The layers are exact: for every vector, the choices that it gives lead to a state that answers for the items so far.
@@ -101,7 +101,7 @@ pub record IsExact (view : View) (d : Diagram) (Chosen : ℕ → ℕ → List Bo
   pub fits : AreLayers (length states) ls
   pub kept : (t : ℕ) (r : Answers) → slice_get states t ≡ Some r → (n : ℕ) → Keeps r.kept n ↔ Needed j n
   pub rising : AreRising states
-  pub apart : AreApart view states
+  pub apart : AreApartIn view states
   pub stands : (v : List Bool) (cs : List ℕ) → IsVector d v → length cs ≡ j → AreChosen Chosen v cs →
       StandsIn view (Among (items j)) d v states (leads ls 0 cs)
   pub views : AreViews view (Among (items j)) d states

@@ -57,9 +57,9 @@ gap_rule label = if label == 1 then Some R1 else if label == 2 then Some R2 else
 
 -- What a label of an inner graph says of switch m: of the gap graph the rule that the first two rules give for closing
 -- it, of the load graph whether the third applies.
-abbrev pub Says : View → Diagram → ℕ → List Bool → ℕ → Type 0
-Says Gap d m v label = (op : Op) → op.switch.0 ≡ m → op.direction ≡ ToOn → GapBreaks d v op (gap_rule label)
-Says Load d m v label = (op : Op) → op.switch.0 ≡ m → (label ≡ 1) ↔ Applies R3 d v op
+abbrev pub LabelSays : View → Diagram → ℕ → List Bool → ℕ → Type 0
+LabelSays Gap d m v label = (op : Op) → op.switch.0 ≡ m → op.direction ≡ ToOn → GapBreaks d v op (gap_rule label)
+LabelSays Load d m v label = (op : Op) → op.switch.0 ≡ m → (label ≡ 1) ↔ Applies R3 d v op
 
 -- An inner graph of switch m: first a layer whose choices are the labels of the outer graph, then one for each other
 -- switch of the bay, which are `others` many.
@@ -71,7 +71,7 @@ pub record IsInner (view : View) (a : Lettered) (b m first others : ℕ) (names 
   pub choices : (i : ℕ) → i < others → (layer_at g.layers (suc i)).choices ≡ 2
   pub says : (v : List Bool) (name : ℕ) (ds : List ℕ) → IsVector a.diagram v →
       StandsIn view (OfOthers a.diagram b) a.diagram v names name → length ds ≡ others →
-      AreChosen (SwitchChosen first m) v ds → Says view a.diagram m v (label_of g (name ∷ ds))
+      AreChosen (SwitchChosen first m) v ds → LabelSays view a.diagram m v (label_of g (name ∷ ds))
 
 -- The vectors that are allowed: the bay's switches agree with its words, and each other part has an allowed index.
 pub record Within (a : Lettered) (b : ℕ) (words : List Dbpos) (sets : List (List Bool)) (v : List Bool) : Type 0 where

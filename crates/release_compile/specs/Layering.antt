@@ -3,7 +3,7 @@ use Rattle.std.specs.Prelude.{◌≡◌, ℕ, suc, ◌⊎◌, ◌/◌, ◌%◌, 
 use Rattle.std.specs.Prelude.{slice_index_or, Some}
 use Rattle.contraction.specs.Answers.{Answers}
 use Rattle.release_compile.specs.declared.view.View.{View}
-use Rattle.release_compile.specs.Pooling.{Extends, IsMade}
+use Rattle.release_compile.specs.Pooling.{Extends, IsMadeOf}
 
 -- No number stands twice.
 abbrev pub NoneTwice : List ℕ → Type 0
@@ -25,7 +25,7 @@ pub record LeadsToMade (view : View) (values : List Answers) (keep next : List �
   pub y : Answers
   pub first : slice_get values i ≡ Some x
   pub second : slice_get values j ≡ Some y
-  pub made : IsMade view x y keep values id
+  pub made : IsMadeOf view x y keep values id
 
 -- The first n edges, state by state, lead to the values that were made of a state and a letter; the next layer has
 -- the numbers of these alone, each once.

@@ -11,18 +11,18 @@ use Rattle.release_compile.specs.Folding.{IsExact}
 use Rattle.release_compile.specs.Layering.{values_at}
 use Rattle.release_compile.specs.Lettered.{Lettered}
 use Rattle.release_compile.specs.Inputs.{AreCopies}
-use Rattle.release_compile.specs.Places.{node_of, pool_on}
-use Rattle.release_compile.specs.Plans.{Plan, PlanFits, PlanHas, AreLinked, IsInnerReady, diagram_of, ChosenBy}
+use Rattle.release_compile.specs.Places.{node_listed, pool_on}
+use Rattle.release_compile.specs.Plans.{Plan, PlanFits, PlanHas, AreLinked, IsInnerReady, plan_diagram, ChosenBy}
 use Rattle.release_compile.specs.Plans.{items_of, NeededBy}
 
 -- The letters of the layers, as numbers.
-abbrev pub rows_of : Intake → List (List ℕ)
-rows_of i = map (λ v. v.items) i.letters.items
+abbrev pub letter_rows : Intake → List (List ℕ)
+letter_rows i = map (λ v. v.items) i.letters.items
 
 -- Layers take in the same start, letters and nodes.
 pub record SameIntake (i j : Intake) : Type 0 where
   pub start : i.start ≡ j.start
-  pub letters : rows_of i ≡ rows_of j
+  pub letters : letter_rows i ≡ letter_rows j
   pub keeps : i.keeps.items ≡ j.keeps.items
 
 -- For every plan that takes this in, whatever nodes in the same order stand in place of those that the values keep, the
@@ -30,17 +30,17 @@ pub record SameIntake (i j : Intake) : Type 0 where
 pub record AreLaid (p : Pool) (start : ℕ) (letters : List (List ℕ)) (keeps names : List ℕ) (edges : ℕ)
     (layers : List Layer) : Type 0 where
   pub exact : (f : ℕ → ℕ) (plan : Plan) → KeepsOrder f → PlanFits plan (pool_on f p) start letters keeps →
-      IsExact p.view (diagram_of plan) (ChosenBy plan) (items_of plan) (NeededBy plan) (length letters) layers
+      IsExact p.view (plan_diagram plan) (ChosenBy plan) (items_of plan) (NeededBy plan) (length letters) layers
       (values_at (map (mapped f) p.values.items) names)
   pub has : (f : ℕ → ℕ) (plan : Plan) → KeepsOrder f → PlanFits plan (pool_on f p) start letters keeps →
-      PlanHas p.view plan letters (length letters) (AreSoMany (diagram_of plan)) edges
+      PlanHas p.view plan letters (length letters) (AreSoMany (plan_diagram plan)) edges
   pub choices : map (λ (l : Layer). l.choices) layers ≡ map length letters
 
 -- The graph is that of such layers, reduced, and its labels are named.
 pub record IsNoted (p : Pool) (n : Noted) : Type 0 where
   pub layers : List Layer
-  pub linked : AreLinked p n.intake.start (rows_of n.intake) n.intake.keeps.items
-  pub laid : AreLaid p n.intake.start (rows_of n.intake) n.intake.keeps.items n.names.items n.edges layers
+  pub linked : AreLinked p n.intake.start (letter_rows n.intake) n.intake.keeps.items
+  pub laid : AreLaid p n.intake.start (letter_rows n.intake) n.intake.keeps.items n.names.items n.edges layers
   pub within : (t i : ℕ) → slice_get n.names.items t ≡ Some i → i < length p.values.items
   pub labels : n.graph.labels ≡ length n.names.items
   pub same_choices : map (λ (l : Layer). l.choices) n.graph.layers ≡ map (λ (l : Layer). l.choices) layers
@@ -52,8 +52,9 @@ pub record IsNoted (p : Pool) (n : Noted) : Type 0 where
 pub record IsInPlaces (a : Lettered) (b m first others : ℕ) (list : List ℕ) (old p : Pool) (names : List ℕ)
     (i : Intake) : Type 0 where
   pub labels : List ℕ
-  pub ready : IsInnerReady a b m first others (pool_on (node_of list) p) i.start labels (rows_of i) i.keeps.items
-  pub copies : AreCopies (pool_on (node_of list) p) (values_at old.values.items names) labels
+  pub ready : IsInnerReady a b m first others (pool_on (node_listed list) p) i.start labels (letter_rows i)
+      i.keeps.items
+  pub copies : AreCopies (pool_on (node_listed list) p) (values_at old.values.items names) labels
 
 -- What is noted, if there is a note, is so, and its labels are few.
 abbrev pub IsRight : Pool → Option Noted → Type 0

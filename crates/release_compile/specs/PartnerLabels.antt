@@ -34,7 +34,7 @@ pub record IsLeastOf (inners : List Layered) (x name : ℕ) : Type 0 where
   pub least : (y : ℕ) → y < name → ¬ AreOne inners y x
 
 -- For each label the least that is one with it.
-pub record AreNames (inners : List Layered) (labels : ℕ) (names : List ℕ) : Type 0 where
+pub record AreLeastLabels (inners : List Layered) (labels : ℕ) (names : List ℕ) : Type 0 where
   pub count : length names ≡ labels
   pub each : (x : ℕ) → x < labels → IsLeastOf inners x (slice_index names x)
 

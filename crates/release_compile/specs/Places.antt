@@ -7,8 +7,8 @@ use Rattle.contraction.specs.Renaming.{mapped}
 use Rattle.release_compile.specs.declared.pool.Pool.{Pool}
 
 -- The node at a place of the list; past its end a number that no node has.
-abbrev pub node_of : List ℕ → ℕ → ℕ
-node_of nodes place = slice_index_or nodes place (NODES + place)
+abbrev pub node_listed : List ℕ → ℕ → ℕ
+node_listed nodes place = slice_index_or nodes place (NODES + place)
 
 -- The Vec with each element mapped.
 abbrev pub with_mapped : {X Z : Type 0} → (X → X) → Vec X Z → Vec X Z

@@ -29,9 +29,9 @@ pub data Plan : Type 0 where
   inner_plan : View → Lettered → ℕ → ℕ → ℕ → ℕ → List Answers → Plan
 
 -- The station of a plan.
-abbrev pub diagram_of : Plan → Diagram
-diagram_of (outer_plan a b) = a.diagram
-diagram_of (inner_plan view a b m first others names) = a.diagram
+abbrev pub plan_diagram : Plan → Diagram
+plan_diagram (outer_plan a b) = a.diagram
+plan_diagram (inner_plan view a b m first others names) = a.diagram
 
 -- The vector gives choice c in layer j.
 abbrev pub ChosenBy : Plan → ℕ → ℕ → List Bool → Type 0
@@ -40,9 +40,9 @@ ChosenBy (inner_plan view a b m first others names) zero c v = StandsIn view (Of
 ChosenBy (inner_plan view a b m first others names) (suc j) c v = SwitchChosen first m j c v
 
 -- The items before the first layer, and those that layer j takes in.
-abbrev pub base_of : Plan → List Item
-base_of (outer_plan a b) = []
-base_of (inner_plan view a b m first others names) = own_links a.diagram b
+abbrev pub items_before : Plan → List Item
+items_before (outer_plan a b) = []
+items_before (inner_plan view a b m first others names) = own_links a.diagram b
 
 -- The items that layer j adds.
 abbrev pub new_of : Plan → ℕ → List Item
@@ -52,7 +52,7 @@ new_of (inner_plan view a b m first others names) (suc j) = a_switch (other_of f
 
 -- The items before layer j.
 abbrev pub items_of : Plan → ℕ → List Item
-items_of plan zero = base_of plan
+items_of plan zero = items_before plan
 items_of plan (suc j) = items_of plan j ++ new_of plan j
 
 -- The node is kept before layer j.
@@ -62,7 +62,7 @@ NeededBy (inner_plan view a b m first others names) j n = InnerNeeds a.diagram b
 
 -- In v and w the items before layer j have this view in common, on the nodes that are kept before it.
 abbrev pub SameBefore : View → Plan → ℕ → List Bool → List Bool → Type 0
-SameBefore view plan j v w = SameView view (NeededBy plan j) (Among (items_of plan j)) (diagram_of plan) v w
+SameBefore view plan j v w = SameView view (NeededBy plan j) (Among (items_of plan j)) (plan_diagram plan) v w
 
 -- There is a vector in which one value answers for these items still, and another for those.
 pub record CanBoth (view : View) (d : Diagram) (These Those : Item → Type 0) (x y : Answers) : Type 0 where
@@ -85,7 +85,7 @@ pub record PlanHas (view : View) (plan : Plan) (letters : List (List ℕ)) (n : 
 pub record PlanPasses (view : View) (plan : Plan) (letters : List (List ℕ)) (limit : ℕ) : Type 0 where
   pub layers : ℕ
   pub within : layers ≤ length letters
-  pub first : Passes (PlanHas view plan letters layers) (diagram_of plan) limit
+  pub first : Passes (PlanHas view plan letters layers) (plan_diagram plan) limit
 
 -- The start, the letters of each layer and the nodes kept before and after each are numbers of the pool, and each node
 -- that is kept after a layer was kept before it or by each of its letters.
@@ -106,21 +106,21 @@ pub record AreLinked (p : Pool) (start : ℕ) (letters : List (List ℕ)) (keeps
 -- They are those of the plan.
 pub record PlanFits (plan : Plan) (p : Pool) (start : ℕ) (letters : List (List ℕ)) (keeps : List ℕ) : Type 0 where
   pub start_stands : (x : Answers) (v : List Bool) → slice_get p.values.items start ≡ Some x →
-      IsVector (diagram_of plan) v → SeenFor p.view (Among (base_of plan)) (diagram_of plan) v x
+      IsVector (plan_diagram plan) v → SeenFor p.view (Among (items_before plan)) (plan_diagram plan) v x
   pub needed : (j k : ℕ) (nodes : List ℕ) → slice_get keeps j ≡ Some k → slice_get p.keeps.items k ≡ Some nodes →
       (n : ℕ) → Contains nodes n ↔ NeededBy plan j n
   pub letter : (j c : ℕ) (ids : List ℕ) (v : List Bool) → slice_get letters j ≡ Some ids →
-      IsVector (diagram_of plan) v → ChosenBy plan j c v →
-      StandsIn p.view (Among (new_of plan j)) (diagram_of plan) v (values_at p.values.items ids) c
+      IsVector (plan_diagram plan) v → ChosenBy plan j c v →
+      StandsIn p.view (Among (new_of plan j)) (plan_diagram plan) v (values_at p.values.items ids) c
   pub meets : (j c : ℕ) (ids : List ℕ) (x y : Answers) → slice_get letters j ≡ Some ids →
       ((n : ℕ) → Keeps x.kept n ↔ NeededBy plan j n) → slice_get (values_at p.values.items ids) c ≡ Some y →
-      MeetsKept (Among (items_of plan j)) (Among (new_of plan j)) (diagram_of plan) x.kept y.kept
+      MeetsKept (Among (items_of plan j)) (Among (new_of plan j)) (plan_diagram plan) x.kept y.kept
   pub given : (j c : ℕ) (ids : List ℕ) (x y : Answers) (v : List Bool) → slice_get letters j ≡ Some ids →
-      slice_get (values_at p.values.items ids) c ≡ Some y → IsVector (diagram_of plan) v →
-      SeenFor p.view (Among (items_of plan j)) (diagram_of plan) v x →
-      CanBoth p.view (diagram_of plan) (Among (items_of plan j)) (Among (new_of plan j)) x y
-  pub cover : (j : ℕ) (ids : List ℕ) (v : List Bool) → slice_get letters j ≡ Some ids → IsVector (diagram_of plan) v →
-      (c : ℕ) × StandsIn p.view (Among (new_of plan j)) (diagram_of plan) v (values_at p.values.items ids) c
+      slice_get (values_at p.values.items ids) c ≡ Some y → IsVector (plan_diagram plan) v →
+      SeenFor p.view (Among (items_of plan j)) (plan_diagram plan) v x →
+      CanBoth p.view (plan_diagram plan) (Among (items_of plan j)) (Among (new_of plan j)) x y
+  pub cover : (j : ℕ) (ids : List ℕ) (v : List Bool) → slice_get letters j ≡ Some ids → IsVector (plan_diagram plan) v →
+      (c : ℕ) × StandsIn p.view (Among (new_of plan j)) (plan_diagram plan) v (values_at p.values.items ids) c
 
 -- The layers of a graph that are finished.
 abbrev pub layers_of : List FinishedLayer → List Layer

@@ -11,7 +11,7 @@ use Rattle.release_compile.specs.declared.view.View.{View}
 use Rattle.release_compile.specs.declared.pool.Made.{Made}
 use Rattle.release_compile.specs.declared.pool.Pool.{Pool}
 use Rattle.release_compile.specs.Seen.{SeenFor, SameSeen, ComposesIn, seen_row}
-use Rattle.release_compile.specs.Folding.{AreApart, AreWell}
+use Rattle.release_compile.specs.Folding.{AreApartIn, AreWell}
 
 -- The number that the index has for a row.
 abbrev pub number_in : {S : Type 0} → HashMap (List ℕ) ℕ S → List ℕ → Option ℕ
@@ -29,7 +29,7 @@ abbrev pub Extends : {X : Type 0} → List X → List X → Type 0
 Extends {X} old new = (i : ℕ) (x : X) → slice_get old i ≡ Some x → slice_get new i ≡ Some x
 
 -- The value of this number was made of two others on these nodes.
-pub record IsMade (view : View) (x y : Answers) (keep : List ℕ) (values : List Answers) (t : ℕ) : Type 0 where
+pub record IsMadeOf (view : View) (x y : Answers) (keep : List ℕ) (values : List Answers) (t : ℕ) : Type 0 where
   pub value : Answers
   pub listed : slice_get values t ≡ Some value
   pub composes : ComposesIn view x y value
@@ -43,7 +43,7 @@ pub record WasMade (view : View) (values : List Answers) (keeps : List (List ℕ
   pub first : slice_get values k.first ≡ Some x
   pub second : slice_get values k.second ≡ Some y
   pub nodes : slice_get keeps k.keep ≡ Some keep
-  pub made : IsMade view x y keep values t
+  pub made : IsMadeOf view x y keep values t
 
 -- Both are made of the same two values and keep the same nodes.
 abbrev pub same_made : Made → Made → Bool
@@ -56,7 +56,7 @@ NotesAreRight view values keeps m = (k : Made) (t : ℕ) → get same_made m k �
 -- The pool has each value once, and its notes are right.
 pub record IsPool (p : Pool) : Type 0 where
   pub index : IsRowIndex p.view p.values.items p.index
-  pub apart : AreApart p.view p.values.items
+  pub apart : AreApartIn p.view p.values.items
   pub well : AreWell p.values.items
   pub notes : NotesAreRight p.view p.values.items p.keeps.items p.notes
 

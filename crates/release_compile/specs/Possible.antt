@@ -19,5 +19,5 @@ pub record AreAllWords (a : Lettered) (w : AllWords) : Type 0 where
   pub possible : ArePossible a w.words.now w.possible.items (part_count a.diagram)
 
 -- The set of the part holds the index.
-abbrev pub Holds : List (List (Option ℕ)) → ℕ → ℕ → Type 0
-Holds sets part index = (set : List (Option ℕ)) × (slice_get sets part ≡ Some set) × InSet set index
+abbrev pub SetHolds : List (List (Option ℕ)) → ℕ → ℕ → Type 0
+SetHolds sets part index = (set : List (Option ℕ)) × (slice_get sets part ≡ Some set) × InSet set index

@@ -13,6 +13,6 @@ IsByteOf set first byte = (k : ℕ) → k < 8 → ((byte / 2 ^ (7 - k)) % 2 ≡ 
 
 -- The row of an index set: as few bytes as hold a bit for each index of the part, index 0 in the highest bit of the
 -- first byte, each bit 1 exactly where its index is in the set. So spare bits are 0.
-pub record IsRowOf (set : List (Option ℕ)) (row : List ℕ) : Type 0 where
+pub record IsSetRow (set : List (Option ℕ)) (row : List ℕ) : Type 0 where
   pub count : length row ≡ byte_count (length set)
   pub bits : (i : ℕ) → i < 8 * length row → (has_bit row i ≡ true) ↔ InSet set i

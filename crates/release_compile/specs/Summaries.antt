@@ -32,8 +32,8 @@ pub record SetAllows (a : Lettered) (b : ℕ) (s : List ℕ) (v : List Bool) : T
   pub bit : has_bit s index ≡ true
 
 -- A partner tells an index set, and every other bay the empty summary.
-abbrev pub IsTold : Lettered → ℕ → ℕ → List ℕ → Type 0
-IsTold a b to s = (Partner a.diagram b to × IsIndexSet a b s) ⊎ (Irrelevant a.diagram b to × (s ≡ []))
+abbrev pub BayTells : Lettered → ℕ → ℕ → List ℕ → Type 0
+BayTells a b to s = (Partner a.diagram b to × IsIndexSet a b s) ⊎ (Irrelevant a.diagram b to × (s ≡ []))
 
 -- The empty summary allows each vector.
 abbrev pub SummaryAllows : Lettered → ℕ → List ℕ → List Bool → Type 0
@@ -44,7 +44,7 @@ abbrev pub by_indices : Lettered → Meaning
 by_indices a = record {
   diagram = a.diagram;
   Silent = λ b to. Irrelevant a.diagram b to;
-  Fits = λ b to s. IsTold a b to s;
+  Fits = λ b to s. BayTells a b to s;
   Allows = λ b s v. SummaryAllows a b s v;
 }
 

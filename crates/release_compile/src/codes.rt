@@ -2,7 +2,7 @@
 ghost use Rattle.std.specs.Prelude.{◌≡◌, ◌<◌, ℕ, length, map, slice_get, Some, IfOk};
 ghost use Rattle.contraction.specs.Answers.{Answers, Keeps, AreNodes};
 ghost use Rattle.contraction.specs.Renaming.{mapped};
-ghost use Rattle.release_compile.specs.Places.{node_of};
+ghost use Rattle.release_compile.specs.Places.{node_listed};
 ghost use Rattle.release_compile.specs.Layering.{values_at};
 ghost use Rattle.release_compile.specs.Coding.{labels_of, CodeSays, KeepsEnds, AreCodes};
 ghost use Rattle.release_compile.specs.declared.view.View.TheVariants.{Gap as GapView, Load as LoadView};
@@ -89,10 +89,10 @@ pub(crate) fn codes(
     requires places { (t p : ℕ) (x : Answers) → slice_get (values_at pool.now.values.items states.now) t ≡ Some x →
         Keeps x.kept p → p < length list.now }
     requires ends { (t : ℕ) (x : Answers) →
-        slice_get (values_at (map (mapped (node_of list.now)) pool.now.values.items) states.now) t ≡ Some x →
+        slice_get (values_at (map (mapped (node_listed list.now)) pool.now.values.items) states.now) t ≡ Some x →
         KeepsEnds station.now id.0 x }
     ensures { IfOk result (λ v. AreCodes pool.now.view station.now id.0
-        (values_at (map (mapped (node_of list.now)) pool.now.values.items) states.now) v.items) }
+        (values_at (map (mapped (node_listed list.now)) pool.now.values.items) states.now) v.items) }
 {
     let mut codes = Vec::new(alloc);
     let count = states.len();

@@ -7,7 +7,7 @@ ghost use Rattle.bay_contract.specs.Alphabets.{AreAlphabets};
 ghost use Rattle.decision_graphs.specs.Reaching.{IsSet, set_at};
 ghost use Rattle.release_compile.specs.Lettered.{lettered};
 ghost use Rattle.release_compile.specs.Graphs.{other_of, IsOwn, GivesChoices};
-ghost use Rattle.release_compile.specs.Possible.{AreAllWords, Holds};
+ghost use Rattle.release_compile.specs.Possible.{AreAllWords, SetHolds};
 ghost use Rattle.release_compile.specs.Deciding.{OthersAgree, WithinAll};
 ghost use Rattle.release_compile.specs.Sides.{AreSides};
 
@@ -45,7 +45,7 @@ fn vector_of(
         → c < size_of parts.now (other_of 0 place.bay.0 j) }
     requires known { IfSome known (λ w. AreAllWords (lettered station.now parts.now) w.now) }
     requires held { IfSome known (λ w. (j c : ℕ) → slice_get choices.now.outer j ≡ Some c
-        → Holds w.now.possible.items (other_of 0 place.bay.0 j) c) }
+        → SetHolds w.now.possible.items (other_of 0 place.bay.0 j) c) }
     requires inner { length choices.now.inner ≡ suc place.others }
     requires small { (i c : ℕ) → slice_get (drop 1 choices.now.inner) i ≡ Some c → c < 2 }
     ensures gives { IfOk result (GivesChoices (lettered station.now parts.now) place.bay.0 op.switch.0 place.first
@@ -93,7 +93,7 @@ pub(crate) fn decide(
     requires sides { AreSides (lettered station.now parts.now) op.switch.0 own.now sets.now sides.now }
     requires known { IfSome known (λ w. AreAllWords (lettered station.now parts.now) w.now) }
     requires held { IfSome known (λ w. (j c : ℕ) → IsSet (set_at sets.now j) c
-        → Holds w.now.possible.items (other_of 0 sides.now.place.bay.0 j) c) }
+        → SetHolds w.now.possible.items (other_of 0 sides.now.place.bay.0 j) c) }
     ensures { IfOk result (Decides station.now (WithinAll known.entry (lettered station.now parts.now)
         sides.now.place.bay.0 own.now sets.now sides.now.place.parts) op) }
 {

@@ -8,7 +8,7 @@ ghost use Rattle.contraction.specs.Answers.{Answers, Keeps, AreNodes};
 ghost use Rattle.bay_contract.specs.Alphabets.{AreAlphabets};
 ghost use Rattle.release_compile.specs.Lettered.{lettered};
 ghost use Rattle.release_compile.specs.Pooling.{IsPool, GrewTo};
-ghost use Rattle.release_compile.specs.Places.{node_of, pool_on};
+ghost use Rattle.release_compile.specs.Places.{node_listed, pool_on};
 ghost use Rattle.release_compile.specs.Graphs.{other_of};
 ghost use Rattle.release_compile.specs.Needing.{AreShared, IsNeededOuter, InnerNeeds};
 ghost use Rattle.release_compile.specs.Inputs.{AreKeeps, AreCopies, AreLetters, AreOtherRows, HasNothing, HasLinks};
@@ -151,7 +151,7 @@ pub(crate) fn inner_keeps(
     requires start { (n : ℕ) → Contains list.now n ↔ InnerNeeds station.now bay.0 moved first others 0 n }
     ensures grew { OnOk result (GrewTo pool.old pool.new) }
     ensures keeps { IfOk result (λ v. AreKeeps (InnerNeeds station.now bay.0 moved first others)
-        (pool_on (node_of list.now) pool.new) v.items (suc (suc others))) }
+        (pool_on (node_listed list.now) pool.new) v.items (suc (suc others))) }
 {
     let _count = station.switch_count();
     let mut keeps = Vec::new(alloc);
@@ -180,7 +180,8 @@ pub(crate) fn links(
     requires pool { IsPool pool.old }
     requires nodes { AreNodes list.now }
     ensures grew { OnOk result (GrewTo pool.old pool.new) }
-    ensures links { IfOk result (HasLinks (pool_on (node_of list.now) pool.new) station.now bay.0 (Contains list.now)) }
+    ensures links { IfOk result
+        (HasLinks (pool_on (node_listed list.now) pool.new) station.now bay.0 (Contains list.now)) }
 {
     let value = base(alloc, station, bay, list)?;
     let id = intern_in_places(alloc, pool, list, &value)?;
@@ -201,7 +202,7 @@ fn switch_id(
     requires switch { id.0 < length station.now.switches }
     requires has { (n : ℕ) → Touches station.now (a_switch id.0) n → Contains list.now n }
     ensures grew { OnOk result (GrewTo pool.old pool.new) }
-    ensures has { IfOk result (HasSwitch (pool_on (node_of list.now) pool.new) station.now id.0 closed) }
+    ensures has { IfOk result (HasSwitch (pool_on (node_listed list.now) pool.new) station.now id.0 closed) }
 {
     let value = Contraction::of_switch(alloc, station, id, closed)?;
     let place = intern_in_places(alloc, pool, list, &value)?;
@@ -221,7 +222,7 @@ fn switch_pair(
     requires switch { id.0 < length station.now.switches }
     requires has { (n : ℕ) → Touches station.now (a_switch id.0) n → Contains list.now n }
     ensures grew { OnOk result (GrewTo pool.old pool.new) }
-    ensures pair { IfOk result (λ v. HasPair (pool_on (node_of list.now) pool.new) station.now id.0 v.items) }
+    ensures pair { IfOk result (λ v. HasPair (pool_on (node_listed list.now) pool.new) station.now id.0 v.items) }
 {
     let off = switch_id(alloc, pool, station, list, id, false)?;
     let on = switch_id(alloc, pool, station, list, id, true)?;
@@ -248,7 +249,7 @@ pub(crate) fn inner_rows(
     requires has { (i n : ℕ) → i < others → Touches station.now (a_switch (other_of first moved i)) n →
         Contains list.now n }
     ensures grew { OnOk result (GrewTo pool.old pool.new) }
-    ensures rows { IfOk result (λ v. AreInnerRows station.now moved first (pool_on (node_of list.now) pool.new)
+    ensures rows { IfOk result (λ v. AreInnerRows station.now moved first (pool_on (node_listed list.now) pool.new)
         names.items (map (λ r. r.items) v.items) others) }
 {
     let _count = station.switch_count();

@@ -1,7 +1,7 @@
 //! Labels that no inner graph tells apart.
 ghost use Rattle.std.specs.Prelude.{◌≡◌, ℕ, ◌+◌, ◌<◌, List, length, MatchOption, None, Some, IfOk};
-ghost use Rattle.release_compile.specs.PartnerLabels.{AreInnersOf, AreNames};
-ghost use Rattle.release_compile.specs.PartnerNames.{entries, named, IsFirstOf, IsIndexOf};
+ghost use Rattle.release_compile.specs.PartnerLabels.{AreInnersOf, AreLeastLabels};
+ghost use Rattle.release_compile.specs.PartnerNames.{entries, label_named, IsFirstOf, IsIndexOf};
 
 use decision_graphs::Graph;
 use ilk_base::Memory;
@@ -23,7 +23,7 @@ fn entries_of(alloc: Global, inners: &[Graph], labels: u32, label: u32) -> Resul
 
 // The label that the index names for a row.
 fn find_name(index: &HashMap<Vec<u32>, u32>, row: &Vec<u32>) -> Option<u32>
-    ensures { MatchOption result (named index.now row.now ≡ None) (λ y. named index.now row.now ≡ Some y) }
+    ensures { MatchOption result (label_named index.now row.now ≡ None) (λ y. label_named index.now row.now ≡ Some y) }
 {
     match index.get(row) {
         Some(name) => Some(*name),
@@ -50,7 +50,7 @@ fn name_of(index: &mut HashMap<Vec<u32>, u32>, row: Vec<u32>, label: u32) -> Res
 // each label and inner graph and 100 for each label while it runs.
 pub(crate) fn names_of(alloc: Global, inners: &[Graph], labels: u32) -> Result<Vec<u32>, Memory>
     requires { AreInnersOf labels inners.now }
-    ensures { IfOk result (λ v. AreNames inners.now labels v.items) }
+    ensures { IfOk result (λ v. AreLeastLabels inners.now labels v.items) }
 {
     let mut names = Vec::new(alloc);
     let mut index = HashMap::new(alloc);

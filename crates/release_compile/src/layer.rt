@@ -9,7 +9,7 @@ ghost use Rattle.release_compile.specs.Layering.{IsPlaced, AreEdges, values_at};
 ghost use Rattle.release_compile.specs.Counted.{Spends};
 ghost use Rattle.release_compile.specs.Folding.{IsExact, ReachesMore};
 ghost use Rattle.release_compile.specs.declared.layer.Trouble.TheVariants.{Wide};
-ghost use Rattle.release_compile.specs.Plans.{Plan, PlanFits, PlanHas, PlanPasses, AreLinked, diagram_of, ChosenBy};
+ghost use Rattle.release_compile.specs.Plans.{Plan, PlanFits, PlanHas, PlanPasses, AreLinked, plan_diagram, ChosenBy};
 ghost use Rattle.release_compile.specs.Plans.{items_of, NeededBy, layers_of};
 
 use crate::pool::Pool;
@@ -188,11 +188,11 @@ pub(crate) fn fold_layers(
         → PlanPasses pool.old.view plan (map (λ v. v.items) letters.now) budget) }
     ensures spent { IfOk result (λ r. (f : ℕ → ℕ) (plan : Plan) → KeepsOrder f →
         PlanFits plan (pool_on f pool.old) start (map (λ v. v.items) letters.now) keeps.now
-        → Spends (PlanHas pool.old.view plan (map (λ v. v.items) letters.now) (length letters.now)) (diagram_of plan)
+        → Spends (PlanHas pool.old.view plan (map (λ v. v.items) letters.now) (length letters.now)) (plan_diagram plan)
         budget r.left) }
     ensures exact { IfOk result (λ r. (f : ℕ → ℕ) (plan : Plan) → KeepsOrder f →
         PlanFits plan (pool_on f pool.old) start (map (λ v. v.items) letters.now) keeps.now
-        → IsExact pool.old.view (diagram_of plan) (ChosenBy plan) (items_of plan) (NeededBy plan) (length letters.now)
+        → IsExact pool.old.view (plan_diagram plan) (ChosenBy plan) (items_of plan) (NeededBy plan) (length letters.now)
         (layers_of r.layers.items) (values_at (map (mapped f) pool.new.values.items) r.states.items)) }
     ensures finished { IfOk result (λ r. AreFinished (length r.states.items) r.layers.items) }
     ensures choices { IfOk result (λ r. map (λ (l : FinishedLayer). l.choices) r.layers.items

@@ -5,7 +5,7 @@ ghost use Rattle.contraction.specs.Renaming.{KeepsOrder};
 ghost use Rattle.release_compile.specs.Pooling.{IsPool, GrewTo};
 ghost use Rattle.release_compile.specs.Places.{pool_on};
 ghost use Rattle.release_compile.specs.Plans.{Plan, PlanFits, PlanPasses, AreLinked};
-ghost use Rattle.release_compile.specs.Noting.{rows_of, SameIntake, IsNoted, IsRight, AreRight, IsTaken};
+ghost use Rattle.release_compile.specs.Noting.{letter_rows, SameIntake, IsNoted, IsRight, AreRight, IsTaken};
 ghost use Rattle.release_compile.specs.declared.noted.Noted.{Noted as Note};
 ghost use Rattle.release_compile.specs.declared.layer.Trouble.TheVariants.{Wide};
 
@@ -85,8 +85,8 @@ fn is_noted(last: &Option<Noted>, intake: &Intake) -> bool
 // The graph of layers that take this in. It is too wide where they have more than so many edges.
 fn note(alloc: Global, pool: &mut Pool, intake: Intake, budget: usize) -> Result<Noted, Trouble>
     requires pool { IsPool pool.old }
-    requires linked { AreLinked pool.old intake.start (rows_of intake) intake.keeps.items }
-    requires few { length (rows_of intake) ≤ 65535 }
+    requires linked { AreLinked pool.old intake.start (letter_rows intake) intake.keeps.items }
+    requires few { length (letter_rows intake) ≤ 65535 }
     requires budget { budget ≤ 16000001 }
     ensures grew { OnOk result (GrewTo pool.old pool.new) }
     ensures noted { IfOk result (IsNoted pool.new) }
@@ -94,8 +94,8 @@ fn note(alloc: Global, pool: &mut Pool, intake: Intake, budget: usize) -> Result
     ensures intake { IfOk result (λ n. n.intake ≡ intake) }
     ensures within { IfOk result (λ n. n.edges ≤ budget) }
     ensures wide { IfErr result (λ e. e ≡ Wide → (f : ℕ → ℕ) (plan : Plan) → KeepsOrder f →
-        PlanFits plan (pool_on f pool.old) intake.start (rows_of intake) intake.keeps.items
-        → PlanPasses pool.old.view plan (rows_of intake) budget) }
+        PlanFits plan (pool_on f pool.old) intake.start (letter_rows intake) intake.keeps.items
+        → PlanPasses pool.old.view plan (letter_rows intake) budget) }
 {
     let drafts = fold_layers(
         alloc,
@@ -127,15 +127,15 @@ fn renew(
 ) -> Result<(), Trouble>
     requires pool { IsPool pool.old }
     requires last { IsRight pool.old last.old }
-    requires linked { AreLinked pool.old intake.start (rows_of intake) intake.keeps.items }
-    requires few { length (rows_of intake) ≤ 65535 }
+    requires linked { AreLinked pool.old intake.start (letter_rows intake) intake.keeps.items }
+    requires few { length (letter_rows intake) ≤ 65535 }
     requires budget { budget ≤ 8000000 }
     ensures grew { OnOk result (GrewTo pool.old pool.new) }
     ensures noted { OnOk result ((n : Note) × (last.new ≡ Some n) × IsNoted pool.new n
         × (length n.names.items ≤ 8000001) × SameIntake n.intake intake) }
     ensures wide { IfErr result (λ e. e ≡ Wide → (f : ℕ → ℕ) (plan : Plan) → KeepsOrder f →
-        PlanFits plan (pool_on f pool.old) intake.start (rows_of intake) intake.keeps.items
-        → PlanPasses pool.old.view plan (rows_of intake) budget) }
+        PlanFits plan (pool_on f pool.old) intake.start (letter_rows intake) intake.keeps.items
+        → PlanPasses pool.old.view plan (letter_rows intake) budget) }
 {
     if is_noted(last, &intake) {
         return Ok(());
@@ -186,16 +186,16 @@ pub(crate) fn taken(
 ) -> Result<Copied, Trouble>
     requires pool { IsPool pool.old }
     requires last { IsRight pool.old last.old }
-    requires linked { AreLinked pool.old intake.start (rows_of intake) intake.keeps.items }
-    requires few { length (rows_of intake) ≤ 65535 }
+    requires linked { AreLinked pool.old intake.start (letter_rows intake) intake.keeps.items }
+    requires few { length (letter_rows intake) ≤ 65535 }
     requires budget { budget ≤ 8000000 }
     ensures grew { OnOk result (GrewTo pool.old pool.new) }
     ensures last { OnOk result (IsRight pool.new last.new) }
     ensures taken { IfOk result (IsTaken pool.new intake budget) }
     ensures few { IfOk result (λ o. length o.names.items ≤ 8000001) }
     ensures wide { IfErr result (λ e. e ≡ Wide → (f : ℕ → ℕ) (plan : Plan) → KeepsOrder f →
-        PlanFits plan (pool_on f pool.old) intake.start (rows_of intake) intake.keeps.items
-        → PlanPasses pool.old.view plan (rows_of intake) budget) }
+        PlanFits plan (pool_on f pool.old) intake.start (letter_rows intake) intake.keeps.items
+        → PlanPasses pool.old.view plan (letter_rows intake) budget) }
 {
     renew(alloc, pool, last, intake, budget)?;
     let outer = copy_last(alloc, last, budget)?;
@@ -224,16 +224,16 @@ fn noted_at(
 ) -> Result<usize, Trouble>
     requires pool { IsPool pool.old }
     requires notes { AreRight pool.old notes.old.items }
-    requires linked { AreLinked pool.old intake.start (rows_of intake) intake.keeps.items }
-    requires few { length (rows_of intake) ≤ 65535 }
+    requires linked { AreLinked pool.old intake.start (letter_rows intake) intake.keeps.items }
+    requires few { length (letter_rows intake) ≤ 65535 }
     requires budget { budget ≤ 16000001 }
     ensures grew { OnOk result (GrewTo pool.old pool.new) }
     ensures notes { OnOk result (AreRight pool.new notes.new.items) }
     ensures noted { IfOk result (λ k. (n : Note) × (slice_get notes.new.items k ≡ Some n)
         × SameIntake n.intake intake) }
     ensures wide { IfErr result (λ e. e ≡ Wide → (f : ℕ → ℕ) (plan : Plan) → KeepsOrder f →
-        PlanFits plan (pool_on f pool.old) intake.start (rows_of intake) intake.keeps.items
-        → PlanPasses pool.old.view plan (rows_of intake) budget) }
+        PlanFits plan (pool_on f pool.old) intake.start (letter_rows intake) intake.keeps.items
+        → PlanPasses pool.old.view plan (letter_rows intake) budget) }
 {
     let held = notes.as_slice();
     if let Some(place) = find_noted(held, &intake) {
@@ -256,15 +256,15 @@ pub(crate) fn taken_again(
 ) -> Result<Copied, Trouble>
     requires pool { IsPool pool.old }
     requires notes { AreRight pool.old notes.old.items }
-    requires linked { AreLinked pool.old intake.start (rows_of intake) intake.keeps.items }
-    requires few { length (rows_of intake) ≤ 65535 }
+    requires linked { AreLinked pool.old intake.start (letter_rows intake) intake.keeps.items }
+    requires few { length (letter_rows intake) ≤ 65535 }
     requires budget { budget ≤ 16000001 }
     ensures grew { OnOk result (GrewTo pool.old pool.new) }
     ensures notes { OnOk result (AreRight pool.new notes.new.items) }
     ensures taken { IfOk result (IsTaken pool.new intake budget) }
     ensures wide { IfErr result (λ e. e ≡ Wide → (f : ℕ → ℕ) (plan : Plan) → KeepsOrder f →
-        PlanFits plan (pool_on f pool.old) intake.start (rows_of intake) intake.keeps.items
-        → PlanPasses pool.old.view plan (rows_of intake) budget) }
+        PlanFits plan (pool_on f pool.old) intake.start (letter_rows intake) intake.keeps.items
+        → PlanPasses pool.old.view plan (letter_rows intake) budget) }
 {
     let place = noted_at(alloc, pool, notes, intake, budget)?;
     let held = notes.as_slice();

@@ -10,7 +10,7 @@ ghost use Rattle.release_compile.specs.Graphs.{IsOuter};
 ghost use Rattle.release_compile.specs.Needing.{AreShared};
 ghost use Rattle.release_compile.specs.Inputs.{AreNames, AreLetters};
 ghost use Rattle.release_compile.specs.Plans.{IsOuterReady};
-ghost use Rattle.release_compile.specs.Noting.{rows_of, IsRight};
+ghost use Rattle.release_compile.specs.Noting.{letter_rows, IsRight};
 ghost use Rattle.release_compile.specs.Counted.{OuterHas, Spends, Passes, OuterIsSmall};
 ghost use Rattle.release_compile.specs.declared.layer.Trouble.TheVariants.{Wide};
 
@@ -42,9 +42,10 @@ fn outer_intake(
     requires count { suc others ≡ part_count station.now }
     requires bay { bay.0 < part_count station.now }
     ensures grew { OnOk result (GrewTo pool.old pool.new) }
-    ensures ready { IfOk result (λ i. IsOuterReady (lettered station.now parts.now) bay.0 pool.new i.start (rows_of i)
+    ensures ready { IfOk result
+        (λ i. IsOuterReady (lettered station.now parts.now) bay.0 pool.new i.start (letter_rows i)
         i.keeps.items) }
-    ensures count { IfOk result (λ i. length (rows_of i) ≡ others) }
+    ensures count { IfOk result (λ i. length (letter_rows i) ≡ others) }
 {
     let _count = station.part_count();
     let _ = parts;

@@ -3,7 +3,7 @@ ghost use Rattle.std.specs.Prelude.{◌≡◌, ℕ, ◌<◌, ◌≤◌, length, 
 ghost use Rattle.contraction.specs.Answers.{Answers, Keeps, AreNodes, IsContraction};
 ghost use Rattle.contraction.specs.Renaming.{mapped};
 ghost use Rattle.release_compile.specs.Pooling.{IsPool, GrewTo, HasSame, HasCopy};
-ghost use Rattle.release_compile.specs.Places.{node_of, pool_on};
+ghost use Rattle.release_compile.specs.Places.{node_listed, pool_on};
 ghost use Rattle.release_compile.specs.Inputs.{AreCopies};
 ghost use Rattle.release_compile.specs.Layering.{values_at};
 
@@ -29,7 +29,7 @@ fn place_in(list: &[u16], node: u16) -> usize
 pub(crate) fn places_of(alloc: Global, list: &NodeList, nodes: &[u16]) -> Result<NodeList, Memory>
     requires few { length list.now ≤ 1024 }
     requires has { (n : ℕ) → Keeps nodes.now n → Contains list.now n }
-    ensures { IfOk result (λ places. map (node_of list.now) places ≡ nodes.now) }
+    ensures { IfOk result (λ places. map (node_listed list.now) places ≡ nodes.now) }
 {
     let all = list.numbers();
     let mut places = NodeList::new(alloc);
@@ -43,7 +43,7 @@ pub(crate) fn places_of(alloc: Global, list: &NodeList, nodes: &[u16]) -> Result
 // The nodes at these places of the list.
 fn nodes_at(alloc: Global, list: &NodeList, places: &[u16]) -> Result<NodeList, Memory>
     requires { (p : ℕ) → Keeps places.now p → p < length list.now }
-    ensures { IfOk result (λ nodes. nodes ≡ map (node_of list.now) places.now) }
+    ensures { IfOk result (λ nodes. nodes ≡ map (node_listed list.now) places.now) }
 {
     let mut nodes = NodeList::new(alloc);
     for k in 0..places.len() {
@@ -57,7 +57,7 @@ fn nodes_at(alloc: Global, list: &NodeList, places: &[u16]) -> Result<NodeList, 
 fn in_places(alloc: Global, list: &NodeList, value: &Contraction) -> Result<Contraction, Memory>
     requires nodes { AreNodes list.now }
     requires has { (n : ℕ) → Keeps value.now.kept n → Contains list.now n }
-    ensures mapped { IfOk result (λ c. mapped (node_of list.now) c ≡ value.now) }
+    ensures mapped { IfOk result (λ c. mapped (node_listed list.now) c ≡ value.now) }
     ensures answers { IsContraction value.now }
 {
     let nodes = value.nodes();
@@ -74,7 +74,7 @@ pub(crate) fn on_nodes(
 ) -> Result<Contraction, Memory>
     requires nodes { AreNodes list.now }
     requires within { (p : ℕ) → Keeps value.now.kept p → p < length list.now }
-    ensures { IfOk result (λ c. c ≡ mapped (node_of list.now) value.now) }
+    ensures { IfOk result (λ c. c ≡ mapped (node_listed list.now) value.now) }
 {
     let places = value.nodes();
     let nodes = nodes_at(alloc, list, places)?;
@@ -93,7 +93,7 @@ pub(crate) fn intern_in_places(
     requires nodes { AreNodes list.now }
     requires has { (n : ℕ) → Keeps value.now.kept n → Contains list.now n }
     ensures grew { OnOk result (GrewTo pool.old pool.new) }
-    ensures same { IfOk result (HasSame (pool_on (node_of list.now) pool.new) value.now) }
+    ensures same { IfOk result (HasSame (pool_on (node_listed list.now) pool.new) value.now) }
 {
     let moved = in_places(alloc, list, value)?;
     let id = pool.intern(alloc, moved)?;
@@ -114,7 +114,7 @@ fn copy_in_places(
         Contains list.now n }
     ensures grew { OnOk result (GrewTo pool.old pool.new) }
     ensures copy { IfOk result (λ t. (x : Answers) → slice_get pool.old.values.items id ≡ Some x →
-        HasCopy (pool_on (node_of list.now) pool.new) x t) }
+        HasCopy (pool_on (node_listed list.now) pool.new) x t) }
 {
     let value = &pool.values[id];
     let moved = in_places(alloc, list, value)?;
@@ -135,7 +135,7 @@ pub(crate) fn names_in_places(
     requires has { (t : ℕ) (x : Answers) → slice_get (values_at pool.old.values.items names.now) t ≡ Some x → (n : ℕ) →
         Keeps x.kept n → Contains list.now n }
     ensures grew { OnOk result (GrewTo pool.old pool.new) }
-    ensures copies { IfOk result (λ v. AreCopies (pool_on (node_of list.now) pool.new)
+    ensures copies { IfOk result (λ v. AreCopies (pool_on (node_listed list.now) pool.new)
         (values_at pool.old.values.items names.now) v.items) }
 {
     let mut ids = Vec::new(alloc);

@@ -6,7 +6,7 @@ ghost use Rattle.bay_contract.specs.Alphabets.{AreAlphabets};
 ghost use Rattle.release_compile.specs.Lettered.{lettered};
 ghost use Rattle.release_compile.specs.Folding.{AreChosen};
 ghost use Rattle.release_compile.specs.Graphs.{other_of, PartChosen, SwitchChosen};
-ghost use Rattle.release_compile.specs.Possible.{AreAllWords, Holds};
+ghost use Rattle.release_compile.specs.Possible.{AreAllWords, SetHolds};
 ghost use Rattle.release_compile.specs.Deciding.{IsPlaceFor, OthersAgree};
 
 use crate::all_words::AllWords;
@@ -31,7 +31,7 @@ pub(crate) fn other_number(first: u16, this: u16, i: u16) -> u16
 fn place_for(parts: &Parts, part: BayId, known: Option<&AllWords>, index: u8) -> u32
     requires part { part.0 < length parts.now.parts }
     requires index { index < size_of parts.now part.0 }
-    requires held { IfSome known (λ w. Holds w.now.possible.items part.0 index) }
+    requires held { IfSome known (λ w. SetHolds w.now.possible.items part.0 index) }
     ensures { (d : Diagram) → AreAlphabets d parts.now
         → IfSome known.entry (λ w. AreAllWords (lettered d parts.now) w.now)
         → IsPlaceFor known.entry d parts.now part.0 index result }
@@ -61,7 +61,7 @@ pub(crate) fn place_others(
     requires indices { (j c : ℕ) → slice_get choices.now j ≡ Some c → c < size_of parts.now (other_of 0 bay.0 j) }
     requires known { IfSome known (λ w. AreAllWords (lettered station.now parts.now) w.now) }
     requires held { IfSome known (λ w. (j c : ℕ) → slice_get choices.now j ≡ Some c
-        → Holds w.now.possible.items (other_of 0 bay.0 j) c) }
+        → SetHolds w.now.possible.items (other_of 0 bay.0 j) c) }
     ensures count { length vector.new ≡ length vector.old }
     ensures chosen { AreChosen (PartChosen (lettered station.now parts.now) bay.0) vector.new choices.now }
     ensures agree { IfSome known.entry (λ w. OthersAgree station.now bay.0 w.now.words.now others vector.new) }

@@ -5,7 +5,7 @@ ghost use Rattle.contraction.specs.Answers.{Answers, Keeps};
 ghost use Rattle.release_compile.specs.declared.pool.Made.{Made as Key};
 ghost use Rattle.release_compile.specs.declared.view.View.{View as Seen};
 ghost use Rattle.release_compile.specs.Seen.{ComposesIn, seen_row};
-ghost use Rattle.release_compile.specs.Pooling.{IsRowIndex, NotesAreRight, WasMade, IsMade, IsPool, GrewTo, HasSame};
+ghost use Rattle.release_compile.specs.Pooling.{IsRowIndex, NotesAreRight, WasMade, IsMadeOf, IsPool, GrewTo, HasSame};
 ghost use Rattle.release_compile.specs.Pooling.{HasCopy, EitherKeeps, Selects, SelectsFor, IsRowOfBoth};
 
 use crate::view::{View, row_in};

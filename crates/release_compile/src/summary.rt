@@ -6,7 +6,7 @@ ghost use Rattle.central_rules.specs.Meaning.{Summarises};
 ghost use Rattle.bay_contract.specs.Alphabets.{AreAlphabets, InSet};
 ghost use Rattle.release_compile.specs.Lettered.{Lettered, lettered, index_count};
 ghost use Rattle.release_compile.specs.Summaries.{has_bit, byte_count, IsIndexSet, by_indices};
-ghost use Rattle.release_compile.specs.Rows.{IsBitOf, IsByteOf, IsRowOf};
+ghost use Rattle.release_compile.specs.Rows.{IsBitOf, IsByteOf, IsSetRow};
 
 use bay_contract::{IndexSet, Parts};
 use double_points::Readings;
@@ -49,7 +49,7 @@ fn byte_of(set: &IndexSet, first: u8) -> u8
 // many indices, and spare bits 0.
 pub(crate) fn row_of(size: u8, set: &IndexSet) -> Summary
     requires { length set.now ≡ size }
-    ensures { IsRowOf set.now result }
+    ensures { IsSetRow set.now result }
 {
     let count = bytes_for(size);
     let mut row = [0; 32];

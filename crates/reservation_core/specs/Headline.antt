@@ -16,7 +16,7 @@ use Rattle.reservation_core.specs.Scene.{Stands}
 use Rattle.reservation_core.specs.declared.values.WorldEvent.TheVariants.{Restart}
 use Rattle.reservation_core.specs.Lines.{Message, Line, of_bay, shown}
 use Rattle.reservation_core.specs.History.{open_of, true_after, Opened, collecting}
-use Rattle.reservation_core.specs.Hearing.{IsVerdictOn, Decides, known_at, heard_of}
+use Rattle.reservation_core.specs.Hearing.{IsVerdictOn, DecidesRound, known_at, heard_of}
 
 -- ---- the first half: decisions
 
@@ -29,8 +29,9 @@ pub data Verdict (d : Diagram) (k : Known) (o : Opened) (outcome : Outcome) : Ty
 
 -- At a line that decides a round its verdict is shown, by what is known there; and at no other line.
 pub record DecidesWell (d : Diagram) (before : List Line) (l : Line) : Type 0 where
-  pub shows : (c : ℕ) (o : Opened) → Decides d before l c o → Verdict d (known_at d before l c) o (of_bay l.shown c)
-  pub no_other : (c : ℕ) (o : Opened) → IsVerdictOn (of_bay l.shown c) o → Decides d before l c o
+  pub shows : (c : ℕ) (o : Opened) → DecidesRound d before l c o
+      → Verdict d (known_at d before l c) o (of_bay l.shown c)
+  pub no_other : (c : ℕ) (o : Opened) → IsVerdictOn (of_bay l.shown c) o → DecidesRound d before l c o
 
 -- ---- the second half: granted operations on the true positions
 
@@ -80,9 +81,10 @@ pub data TrueVerdict (d : Diagram) (T : List Bool → Type 0) (o : Opened) (outc
 -- At a line that decides, the true positions are a reading of what is known; and where all others are heard and
 -- all words known are off or on, they alone decide.
 pub record TruthDecides (d : Diagram) (start : List Bool) (before : List Line) (l : Line) : Type 0 where
-  pub reading : (c : ℕ) (o : Opened) → Decides d before l c o → (v : List Bool) → MayBeTrue d start (l ∷ before) v →
+  pub reading : (c : ℕ) (o : Opened) → DecidesRound d before l c o → (v : List Bool)
+      → MayBeTrue d start (l ∷ before) v →
       IsReadingOf d (known_at d before l c) v
-  pub full : (c : ℕ) (o : Opened) → Decides d before l c o → IsFull d (known_at d before l c) →
+  pub full : (c : ℕ) (o : Opened) → DecidesRound d before l c o → IsFull d (known_at d before l c) →
       TrueVerdict d (MayBeTrue d start (l ∷ before)) o (of_bay l.shown c)
 
 -- ---- rounds and messages
@@ -99,7 +101,7 @@ IsWithdrawal outcome round = ⊥
 
 -- Why a round that was being collected is collected no longer.
 pub data StopsCollecting (d : Diagram) (before : List Line) (l : Line) (c : ℕ) (o : Opened) : Type 0 where
-  decided : Decides d before l c o → StopsCollecting d before l c o
+  decided : DecidesRound d before l c o → StopsCollecting d before l c o
   busy : IsBusy (of_bay l.shown c) o.round → StopsCollecting d before l c o
   withdrawn : IsWithdrawal (of_bay l.shown c) o.round → StopsCollecting d before l c o
   restarted : l.event ≡ Restart (record { 0 = c }) → StopsCollecting d before l c o

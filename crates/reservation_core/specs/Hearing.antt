@@ -37,9 +37,9 @@ abbrev pub answers : Message → ℕ → ℕ → Option ℕ → Bool
 answers x b c r = is_answer x.kind && (x.from == b && (x.to == c && is_round x.round r))
 
 -- What such a message tells: the words of b at the line at which it was sent.
-abbrev pub told : Diagram → Option Sending → ℕ → ℕ → Option ℕ → Option (List Dbpos)
-told d (Some s) b c r = if answers s.message b c r then Some (words_at d s.lines) else None
-told d None b c r = None
+abbrev pub words_told : Diagram → Option Sending → ℕ → ℕ → Option ℕ → Option (List Dbpos)
+words_told d (Some s) b c r = if answers s.message b c r then Some (words_at d s.lines) else None
+words_told d None b c r = None
 
 -- The message that an event delivers.
 abbrev pub delivered : WorldEvent → List Line → Option Sending
@@ -55,7 +55,8 @@ heard_after outcome new was = or_else new was
 abbrev pub heard : Diagram → List Line → ℕ → ℕ → Option (List Dbpos)
 heard d [] c b = None
 heard d (l ∷ before) c b =
-    heard_after (of_bay l.shown c) (told d (delivered l.event before) b c (last_round before c)) (heard d before c b)
+    heard_after (of_bay l.shown c) (words_told d (delivered l.event before) b c (last_round before c))
+        (heard d before c b)
 
 -- The same of other bays than c alone.
 abbrev pub heard_of : Diagram → List Line → ℕ → ℕ → Option (List Dbpos)
@@ -77,12 +78,12 @@ IsVerdictOn outcome o = ⊥
 
 -- The line decides a round of bay c: the round was being collected, and the line is a tick in c, or a delivery
 -- after which all others are heard; or it is the command that opens the round, and there are no others.
-pub data Decides (d : Diagram) (before : List Line) (l : Line) (c : ℕ) (o : Opened) : Type 0 where
-  at_tick : collecting before c ≡ Some o → l.event ≡ Tick (record { 0 = c }) → Decides d before l c o
+pub data DecidesRound (d : Diagram) (before : List Line) (l : Line) (c : ℕ) (o : Opened) : Type 0 where
+  at_tick : collecting before c ≡ Some o → l.event ≡ Tick (record { 0 = c }) → DecidesRound d before l c o
   all_heard : (n : ℕ) → collecting before c ≡ Some o → l.event ≡ Deliver n → AreAllHeard d (l ∷ before) c →
-      Decides d before l c o
+      DecidesRound d before l c o
   alone : l.event ≡ Command o.op → bay_of d o.op.switch.0 ≡ c → others d c ≡ [] → IsVerdictOn (of_bay l.shown c) o →
-      Decides d before l c o
+      DecidesRound d before l c o
 
 -- What bay c knows at a line that decides: its own words before the line, and what it has heard at the line.
 abbrev pub known_at : Diagram → List Line → Line → ℕ → Known

@@ -57,14 +57,14 @@ open_of (l ∷ before) b = open_after (of_bay l.shown b) (open_of before b)
 -- ---- true positions and drives
 
 -- The end to which an operation moves its switch.
-abbrev pub end_of : Option Op → Position
-end_of (Some op) = end_position op.direction
-end_of None = Between
+abbrev pub end_after : Option Op → Position
+end_after (Some op) = end_position op.direction
+end_after None = Between
 
 -- What an event makes of the true position of switch s, for which op was last granted.
 abbrev pub moved : WorldEvent → ℕ → Option Op → Position → Position
 moved (Begin i) s op was = if i.0 == s then Between else was
-moved (End i) s op was = if i.0 == s then end_of op else was
+moved (End i) s op was = if i.0 == s then end_after op else was
 moved event s op was = was
 
 -- Where a switch truly stands: where it stood at first; then between from each begin of it; then, at each end,

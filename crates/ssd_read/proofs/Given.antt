@@ -12,13 +12,13 @@ use Rattle.ssd_text.specs.Nesting.{Entry}
 use Rattle.ssd_read.specs.declared.ends.Use.{Use}
 use Rattle.ssd_read.specs.declared.ends.Use.TheVariants as uses
 use Rattle.ssd_read.specs.declared.role.Role.TheVariants.{ConductingEquipment, PowerTransformer}
-use Rattle.ssd_read.specs.Elements.{Element, element_at, same_role, name_of}
+use Rattle.ssd_read.specs.Elements.{Element, element_at, same_role, element_name}
 use Rattle.ssd_read.specs.Ends.{ends_of, nodes_at, use_of}
 use Rattle.ssd_read.specs.Steps.{Step, a_part, a_node, a_switch, a_link, a_tap, built, naming_step, part_of, tap_step}
 use Rattle.ssd_read.specs.Steps.{tap_steps, link_step, links_after, links_along, lone_tap, is_tapless, is_bond}
 use Rattle.ssd_read.specs.Steps.{use_steps, transformer_steps, winding_ends_of, item_steps_at}
 use Rattle.station_graph.specs.Diagram.{empty}
-use Rattle.ssd_read.specs.Lists.{part_path, node_path, switch_in, tap_in}
+use Rattle.ssd_read.specs.Lists.{part_path, added_node, switch_in, tap_in}
 use Rattle.ssd_read.proofs.Laid.{switches_built, taps_built, no_switches_named}
 
 -- ---- what holds of the steps of a list holds of them all
@@ -63,7 +63,7 @@ no_parts (a_switch name x ∷ ss) h = no_parts ss h
 no_parts (a_link x ∷ ss) h = no_parts ss h
 no_parts (a_tap x ∷ ss) h = no_parts ss h
 
-pub no_nodes : (ss : List Step) → IsItems ss → filter_map node_path ss ≡ []
+pub no_nodes : (ss : List Step) → IsItems ss → filter_map added_node ss ≡ []
 no_nodes [] h = refl
 no_nodes (a_part path ∷ ss) h = absurd h
 no_nodes (a_node path ∷ ss) h = absurd h
@@ -214,7 +214,7 @@ plain_all Q (a_link x ∷ ss) h = plain_all Q ss h
 plain_all Q (a_tap x ∷ ss) h = plain_all Q ss h
 
 use_all : (Q : List ℕ → Switch → Type 0) (u : Use) (e : Entry) (part : ℕ) (ns : List ℕ) →
-    ((x : Switch) → x.bay.0 ≡ part → Q (name_of e) x) → AllSwitches Q (use_steps u e part ns)
+    ((x : Switch) → x.bay.0 ≡ part → Q (element_name e) x) → AllSwitches Q (use_steps u e part ns)
 use_all Q uses.Breaker e part [] h = tt
 use_all Q uses.Breaker e part (a ∷ []) h = tt
 use_all Q uses.Breaker e part (a ∷ b ∷ ns) h = (h _ refl, tt)
@@ -228,14 +228,14 @@ use_all Q uses.Other e part ns h = plain_all Q (links_along (is_bond e) part ns 
 
 pub item_all : (Q : List ℕ → Switch → Type 0) (all : List Element) (i : ℕ) →
     (same_role (element_at all i).role ConductingEquipment ≡ true → (x : Switch) →
-    x.bay.0 ≡ part_of all i (element_at all i) → Q (name_of (element_at all i).entry) x) →
+    x.bay.0 ≡ part_of all i (element_at all i) → Q (element_name (element_at all i).entry) x) →
     AllSwitches Q (item_steps_at all i)
 item_all Q all i h = each_item (AllSwitches Q) all i tt (plain_all Q) (λ t u ns. use_all Q u (element_at all i).entry
     (part_of all i (element_at all i)) ns (h t))
 
 pub all_before : (Q : List ℕ → Switch → Type 0) (all : List Element) (i : ℕ) →
     ((k : ℕ) → k < i → same_role (element_at all k).role ConductingEquipment ≡ true → (x : Switch) →
-    x.bay.0 ≡ part_of all k (element_at all k) → Q (name_of (element_at all k).entry) x)
+    x.bay.0 ≡ part_of all k (element_at all k) → Q (element_name (element_at all k).entry) x)
     → AllSwitches Q (flat_map (item_steps_at all) (take i (range_with_len 0 (length all))))
 all_before Q all i h = flat_first (AllSwitches Q) tt (switches_both Q) (item_steps_at all) 0 (length all) i
     (λ k l. item_all Q all k (h k (omega arith)))

@@ -8,7 +8,7 @@ use Rattle.station_graph.specs.Diagram.{Diagram, empty}
 use Rattle.station_graph.specs.declared.items.Switch.{Switch}
 use Rattle.ssd_text.specs.Nesting.{Entry, IsInOrder}
 use Rattle.ssd_read.specs.declared.refusal.SsdRefusal.{SsdRefusal}
-use Rattle.ssd_read.specs.Elements.{Element, element_at, elements_of, name_of}
+use Rattle.ssd_read.specs.Elements.{Element, element_at, elements_of, element_name}
 use Rattle.ssd_read.specs.Names.{is_node, root_fault}
 use Rattle.ssd_read.specs.Steps.{Step, a_part, a_node, a_switch, a_link, a_tap, built, is_part, naming_step}
 use Rattle.ssd_read.specs.Steps.{item_steps_at, steps_of}
@@ -76,7 +76,7 @@ item_paths tree k o h =
     let parts : List (List ℕ) = map (λ (x : Element). x.path) (filter is_part all) in
     one_path parts (element_at all k).path (item_steps_at all k)
     (item_all (λ name x. get_or parts x.bay.0 [] ++ 47 ∷ name ≡ (element_at all k).path) all k
-    (λ t x e. ap (λ (n : ℕ). get_or parts n [] ++ 47 ∷ name_of (element_at all k).entry) e
+    (λ t x e. ap (λ (n : ℕ). get_or parts n [] ++ 47 ∷ element_name (element_at all k).entry) e
     ∙ own_path tree k o h (is_equipment (element_at all k).role t)))
 
 all_paths : (tree : List Entry) (d : Diagram) → IsInOrder tree → built empty (steps_of (elements_of tree)) ≡ Ok d →

@@ -11,7 +11,7 @@ use Rattle.ssd_read.specs.Elements.{Element, same_role}
 use Rattle.ssd_read.specs.Names.{is_node}
 use Rattle.ssd_read.specs.Steps.{Step, a_part, a_node, a_switch, a_link, a_tap, built, added, limit_at, is_part}
 use Rattle.ssd_read.specs.Steps.{naming_step}
-use Rattle.ssd_read.specs.Lists.{part_path, node_path, switch_in, link_in, tap_in, switch_path_in}
+use Rattle.ssd_read.specs.Lists.{part_path, added_node, switch_in, link_in, tap_in, switch_path_in}
 use Rattle.ssd_read.proofs.Taken.{append_none}
 use Rattle.ssd_read.proofs.Stepped.{then_case}
 
@@ -31,16 +31,16 @@ part_paths_built d e [] h = let same : d ≡ e = cc in sym (ap (λ (x : Diagram)
 part_paths_built d e (s ∷ ss) h = let both = then_case ss (limit_at d s) (built (added d s) ss) e h in
     part_paths_built (added d s) e ss both.1 ∙ part_paths_added d s ss
 
-node_paths_added : (d : Diagram) (s : Step) (ss : List Step) → (added d s).node_paths ++ filter_map node_path ss
-    ≡ d.node_paths ++ filter_map node_path (s ∷ ss)
+node_paths_added : (d : Diagram) (s : Step) (ss : List Step) → (added d s).node_paths ++ filter_map added_node ss
+    ≡ d.node_paths ++ filter_map added_node (s ∷ ss)
 node_paths_added d (a_part path) ss = refl
-node_paths_added d (a_node path) ss = append_assoc d.node_paths (path ∷ []) (filter_map node_path ss)
+node_paths_added d (a_node path) ss = append_assoc d.node_paths (path ∷ []) (filter_map added_node ss)
 node_paths_added d (a_switch name x) ss = refl
 node_paths_added d (a_link x) ss = refl
 node_paths_added d (a_tap x) ss = refl
 
 pub node_paths_built : (d e : Diagram) (ss : List Step) → built d ss ≡ Ok e →
-    e.node_paths ≡ d.node_paths ++ filter_map node_path ss
+    e.node_paths ≡ d.node_paths ++ filter_map added_node ss
 unfolding built
 node_paths_built d e [] h = let same : d ≡ e = cc in sym (ap (λ (x : Diagram). x.node_paths) same)
     ∙ sym (append_none d.node_paths)
@@ -150,8 +150,8 @@ parts_named (x ∷ xs) = part_step (is_part x) (is_node x) x (filter is_part xs)
     (parts_named xs)
 
 node_step : (b c : Bool) (x : Element) (xs : List Element) (ss : List Step) → (b ≡ true → c ≡ false) →
-    filter_map node_path ss ≡ map (λ (x : Element). x.path) xs
-    → filter_map node_path (cond b (a_part x.path ∷ []) (cond c (a_node x.path ∷ []) []) ++ ss)
+    filter_map added_node ss ≡ map (λ (x : Element). x.path) xs
+    → filter_map added_node (cond b (a_part x.path ∷ []) (cond c (a_node x.path ∷ []) []) ++ ss)
     ≡ map (λ (x : Element). x.path) (cond c (x ∷ xs) xs)
 node_step true true x xs ss n h = absurd (both (n refl))
   where
@@ -161,7 +161,7 @@ node_step true false x xs ss n h = h
 node_step false true x xs ss n h = ap (λ l. x.path ∷ l) h
 node_step false false x xs ss n h = h
 
-pub nodes_named : (xs : List Element) → filter_map node_path (flat_map naming_step xs) ≡ map (λ (x : Element). x.path)
+pub nodes_named : (xs : List Element) → filter_map added_node (flat_map naming_step xs) ≡ map (λ (x : Element). x.path)
     (filter is_node xs)
 nodes_named [] = refl
 nodes_named (x ∷ xs) = node_step (is_part x) (is_node x) x (filter is_node xs) (flat_map naming_step xs)

@@ -13,7 +13,7 @@ use Rattle.ssd_read.specs.declared.role.Role.TheVariants.{Root, Substation, Volt
 use Rattle.ssd_read.specs.declared.role.Role.TheVariants.{ConductingEquipment, PowerTransformer, TransformerWinding}
 use Rattle.ssd_read.specs.declared.role.Role.TheVariants.{Terminal, Skipped}
 use Rattle.ssd_read.specs.declared.ends.TerminalPlace.TheVariants.{Earth, Node, Missing}
-use Rattle.ssd_read.specs.Elements.{Element, element_at, nowhere, front_of_tree, elements_of, same_role, name_of}
+use Rattle.ssd_read.specs.Elements.{Element, element_at, nowhere, front_of_tree, elements_of, same_role, element_name}
 use Rattle.ssd_read.specs.Elements.{path_in}
 use Rattle.ssd_text.specs.Nesting.{entry_at}
 use Rattle.ssd_text.specs.Nesting.{IsInOrder}
@@ -69,14 +69,14 @@ pub record InBay (all : List Element) (i p : ℕ) : Type 0 where
   pub parent : (element_at all i).entry.parent ≡ Some p
   pub bay : (element_at all p).role ≡ Bay
   pub part : part_of all i (element_at all i) ≡ part_number all p
-  pub path : (element_at all i).path ≡ (element_at all p).path ++ 47 ∷ name_of (element_at all i).entry
+  pub path : (element_at all i).path ≡ (element_at all p).path ++ 47 ∷ element_name (element_at all i).entry
 
 equipment_part : (all : List Element) (i p : ℕ) (x : Element) → x.role ≡ ConductingEquipment → x.entry.parent ≡ Some p →
     part_of all i x ≡ part_number all p
 equipment_part all i p x r e = rw (r, e) refl
 
 equipment_path : (outer : List ℕ) (r : Role) (e : Entry) → r ≡ ConductingEquipment →
-    path_in outer r e ≡ outer ++ 47 ∷ name_of e
+    path_in outer r e ≡ outer ++ 47 ∷ element_name e
 equipment_path outer r e h = rw h refl
 
 in_bay_of : (tree : List Entry) (i : ℕ) (o : Option ℕ) → IsInOrder tree → i < length tree →

@@ -23,14 +23,14 @@ use Rattle.ssd_read.specs.declared.role.Role.TheVariants.{Root, Substation, Volt
 use Rattle.ssd_read.specs.declared.role.Role.TheVariants.{ConductingEquipment, PowerTransformer, TransformerWinding}
 use Rattle.ssd_read.specs.declared.role.Role.TheVariants.{Terminal, Skipped}
 use Rattle.ssd_read.specs.Drawn.{IsDrawn}
-use Rattle.ssd_read.specs.Elements.{Element, element_at, elements_of, nowhere, same_role, name_of, counted_as}
+use Rattle.ssd_read.specs.Elements.{Element, element_at, elements_of, nowhere, same_role, element_name, counted_as}
 use Rattle.ssd_read.specs.Names.{FaultAfter, first_fault, name_fault, is_nameless, is_taken, is_node, keys_of}
 use Rattle.ssd_read.specs.Names.{same_path, same_key, counted_path}
 use Rattle.ssd_read.specs.Ends.{ends_of, nodes_at, use_of, missing_fault, use_fault, fault_of_ends, end_fault}
 use Rattle.ssd_read.specs.Ends.{are_apart, breaker_fault, disconnector_fault, unless}
 use Rattle.ssd_read.specs.Steps.{Step, a_part, a_node, a_switch, a_link, a_tap, built, added, limit_at, limit_fault}
 use Rattle.ssd_read.specs.Steps.{is_part, naming_step, part_number, part_of, item_steps_at, steps_before}
-use Rattle.ssd_read.specs.Lists.{part_path, node_path, switch_in, switch_path_in}
+use Rattle.ssd_read.specs.Lists.{part_path, added_node, switch_in, switch_path_in}
 use Rattle.ssd_read.proofs.Taken.{append_none}
 use Rattle.ssd_read.proofs.Stepped.{then_case}
 use Rattle.ssd_read.proofs.Faults.{first_at, end_is}
@@ -61,9 +61,9 @@ pub laid_nodes : (all : List Element) (is : List ℕ) (d : Diagram) →
     d.node_paths ≡ map (λ (x : Element). x.path) (filter is_node all)
 laid_nodes all is d h =
     node_paths_built empty d (flat_map naming_step all ++ flat_map (item_steps_at all) is) h
-    ∙ (filter_map-append node_path (flat_map naming_step all) (flat_map (item_steps_at all) is)
-    ∙ (no_more (filter_map node_path (flat_map naming_step all))
-    (filter_map node_path (flat_map (item_steps_at all) is)) (no_nodes (flat_map (item_steps_at all) is)
+    ∙ (filter_map-append added_node (flat_map naming_step all) (flat_map (item_steps_at all) is)
+    ∙ (no_more (filter_map added_node (flat_map naming_step all))
+    (filter_map added_node (flat_map (item_steps_at all) is)) (no_nodes (flat_map (item_steps_at all) is)
     (all_items all is)) ∙ nodes_named all))
 
 pub paths_len : (xs : List Element) → length (map (λ (x : Element). x.path) xs) ≡ length xs
@@ -321,7 +321,7 @@ bay_part x h = rw h refl
 pub own_path : (tree : List Entry) (i : ℕ) → IsInOrder tree → i < length tree → (element_at (elements_of tree) i).role
     ≡ ConductingEquipment
     → get_or (map (λ (x : Element). x.path) (filter is_part (elements_of tree))) (part_of (elements_of tree) i
-    (element_at (elements_of tree) i)) [] ++ 47 ∷ name_of (element_at (elements_of tree) i).entry
+    (element_at (elements_of tree) i)) [] ++ 47 ∷ element_name (element_at (elements_of tree) i).entry
     ≡ (element_at (elements_of tree) i).path
 own_path tree i o h r =
     let all : List Element = elements_of tree in
@@ -331,8 +331,8 @@ own_path tree i o h r =
     let inside : b.0 < length all = omega (arith, drawn_len tree) in
     let outer : get_or (map (λ (x : Element). x.path) (filter is_part all)) (part_number all b.0) []
     ≡ (element_at all b.0).path = path_at all b.0 inside (bay_part (element_at all b.0) x.bay) in
-    ap (λ (n : ℕ). get_or (map (λ (x : Element). x.path) (filter is_part all)) n [] ++ 47 ∷ name_of
-    (element_at all i).entry) x.part ∙ (ap (λ (l : List ℕ). l ++ 47 ∷ name_of (element_at all i).entry) outer
+    ap (λ (n : ℕ). get_or (map (λ (x : Element). x.path) (filter is_part all)) n [] ++ 47 ∷ element_name
+    (element_at all i).entry) x.part ∙ (ap (λ (l : List ℕ). l ++ 47 ∷ element_name (element_at all i).entry) outer
     ∙ sym x.path)
 
 any_at : (p : Element → Bool) (xs : List Element) (k : ℕ) → list_any p xs ≡ false → k < length xs →
@@ -369,15 +369,15 @@ new_tree : (tree : List Entry) (i : ℕ) (d : Diagram) → IsInOrder tree → i 
     first_fault name_fault [] (elements_of tree) ≡ None → (element_at (elements_of tree) i).role ≡ ConductingEquipment →
     built empty (steps_before (elements_of tree) i) ≡ Ok d
     → Contains d.switch_paths (path_in_part d (part_of (elements_of tree) i (element_at (elements_of tree) i))
-    (name_of (element_at (elements_of tree) i).entry)) → ⊥
+    (element_name (element_at (elements_of tree) i).entry)) → ⊥
 new_tree tree i d o h n r b =
     let all : List Element = elements_of tree in
     let x : Element = element_at all i in
     let is : List ℕ = take i (range_with_len 0 (length all)) in
     let items : List Step = flat_map (item_steps_at all) is in
     let parts : List (List ℕ) = map (λ (x : Element). x.path) (filter is_part all) in
-    let own : path_in_part d (part_of all i x) (name_of x.entry) ≡ x.path =
-    ap (λ (ps : List (List ℕ)). get_or ps (part_of all i x) [] ++ 47 ∷ name_of x.entry) (laid_parts all is d b)
+    let own : path_in_part d (part_of all i x) (element_name x.entry) ≡ x.path =
+    ap (λ (ps : List (List ℕ)). get_or ps (part_of all i x) [] ++ 47 ∷ element_name x.entry) (laid_parts all is d b)
     ∙ own_path tree i o h r in
     let inside : i < length all = omega (arith, drawn_len tree) in
     let given : AllSwitches (λ name y. bytes_eq x.path (get_or parts y.bay.0 [] ++ 47 ∷ name) ≡ false) items =
@@ -385,7 +385,7 @@ new_tree tree i d o h n r b =
     (λ k l t y e.
     let rk : (element_at all k).role ≡ ConductingEquipment = is_equipment (element_at all k).role t in
     let other : bytes_eq x.path (element_at all k).path ≡ false = other_path all i k n inside l r rk in
-    ap (λ (m : ℕ). bytes_eq x.path (get_or parts m [] ++ 47 ∷ name_of (element_at all k).entry)) e
+    ap (λ (m : ℕ). bytes_eq x.path (get_or parts m [] ++ 47 ∷ element_name (element_at all k).entry)) e
     ∙ (ap (bytes_eq x.path) (own_path tree k o (omega arith) rk) ∙ other)) in
     let none : list_any (bytes_eq x.path) d.switch_paths ≡ false = ap (list_any (bytes_eq x.path))
     (laid_paths all is d b) ∙ others_only parts x.path items given in
@@ -408,12 +408,13 @@ follows all i d g =
 pub new_switch : (all : List Element) (i : ℕ) (d : Diagram) → IsDrawn all → i < length all →
     first_fault name_fault [] all ≡ None → (element_at all i).role ≡ ConductingEquipment →
     built empty (steps_before all i) ≡ Ok d
-    → Contains d.switch_paths (path_in_part d (part_of all i (element_at all i)) (name_of (element_at all i).entry)) → ⊥
+    → Contains d.switch_paths
+        (path_in_part d (part_of all i (element_at all i)) (element_name (element_at all i).entry)) → ⊥
 new_switch all i d g =
     over_trees (λ all. i < length all → first_fault name_fault [] all ≡ None →
     (element_at all i).role ≡ ConductingEquipment → built empty (steps_before all i) ≡ Ok d →
     Contains d.switch_paths (path_in_part d (part_of all i (element_at all i))
-    (name_of (element_at all i).entry)) → ⊥)
+    (element_name (element_at all i).entry)) → ⊥)
     (λ tree o h n r b. new_tree tree i d o (omega (arith, drawn_len tree)) n r b) all g
 
 pub equipment_part_in : (all : List Element) (i : ℕ) (d : Diagram) → IsDrawn all → i < length all →

@@ -8,13 +8,13 @@ use Rattle.ssd_read.specs.declared.role.Role.TheVariants.{ConductingEquipment}
 use Rattle.ssd_read.specs.declared.types.EquipmentType.{EquipmentType}
 use Rattle.ssd_read.specs.declared.drawing.DrawnElement.{DrawnElement}
 use Rattle.ssd_read.specs.declared.ends.TerminalNames.{TerminalNames}
-use Rattle.ssd_read.specs.Elements.{attribute, counted_as, elements_of}
+use Rattle.ssd_read.specs.Elements.{attribute_value, counted_as, elements_of}
 use Rattle.ssd_read.specs.Types.{type_of}
 use Rattle.ssd_read.specs.Seen.{placed_all}
 
 -- Of an element that is counted by its name, this is its name, if it has one.
 abbrev pub IsNameOf : Role → Entry → Option (List ℕ) → Type 0
-IsNameOf role e name = is_some (counted_as role) ≡ true → name ≡ attribute e (codes "name")
+IsNameOf role e name = is_some (counted_as role) ≡ true → name ≡ attribute_value e (codes "name")
 
 -- Of equipment, this is its type, if it says one.
 abbrev pub IsTypeOf : Role → Entry → Option EquipmentType → Type 0
@@ -37,5 +37,5 @@ pub record ArePlaces (tree : List Entry) (ps : List DrawnElement) : Type 0 where
 
 -- These are the names by which a terminal says its node.
 pub record AreNamesOf (e : Entry) (names : TerminalNames) : Type 0 where
-  pub key : option_map string_bytes names.key ≡ attribute e (codes "connectivityNode")
-  pub node : option_map string_bytes names.node ≡ attribute e (codes "cNodeName")
+  pub key : option_map string_bytes names.key ≡ attribute_value e (codes "connectivityNode")
+  pub node : option_map string_bytes names.node ≡ attribute_value e (codes "cNodeName")

@@ -26,8 +26,8 @@ same_role Skipped Skipped = true
 same_role _ _ = false
 
 -- The decoded value of the attribute of this name.
-abbrev pub attribute : Entry → List ℕ → Option (List ℕ)
-attribute e word = option_map (λ a. value_of a.1) (find (λ a. bytes_eq a.0 word) e.attributes)
+abbrev pub attribute_value : Entry → List ℕ → Option (List ℕ)
+attribute_value e word = option_map (λ a. value_of a.1) (find (λ a. bytes_eq a.0 word) e.attributes)
 
 -- What stands in front of the names of read elements: all up to and with the first colon of the root's
 -- name, or nothing.
@@ -71,7 +71,7 @@ pub record Element : Type 0 where
 
 -- An attribute's value is the text.
 abbrev pub says : Entry → List ℕ → List ℕ → Bool
-says e word text = option_map_or (bytes_eq text) (attribute e word) false
+says e word text = option_map_or (bytes_eq text) (attribute_value e word) false
 
 -- A node named `grounded` is no node.
 abbrev pub unless_grounded : Entry → Role → Role
@@ -94,13 +94,13 @@ counted_as ConductingEquipment = Some ConductingEquipment
 counted_as _ = None
 
 -- The element's name; nothing where it has none.
-abbrev pub name_of : Entry → List ℕ
-name_of e = unwrap_or (attribute e (codes "name")) []
+abbrev pub element_name : Entry → List ℕ
+element_name e = unwrap_or (attribute_value e (codes "name")) []
 
 -- The path of a named element, after that of the element in which it stands.
 abbrev pub path_in : List ℕ → Role → Entry → List ℕ
-path_in outer Substation e = name_of e
-path_in outer role e = if is_some (counted_as role) then outer ++ 47 ∷ name_of e else []
+path_in outer Substation e = element_name e
+path_in outer role e = if is_some (counted_as role) then outer ++ 47 ∷ element_name e else []
 
 -- The next element after those before it.
 abbrev pub element_after : List ℕ → List Element → Entry → Element

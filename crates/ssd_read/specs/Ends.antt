@@ -12,7 +12,7 @@ use Rattle.ssd_read.specs.declared.ends.Use.{Use}
 use Rattle.ssd_read.specs.declared.ends.Use.TheVariants as uses
 use Rattle.ssd_read.specs.declared.refusal.SsdRefusal.{SsdRefusal}
 use Rattle.ssd_read.specs.declared.refusal.SsdRefusal.TheVariants.{NodeMissing, Terminals, Grounded, Loop}
-use Rattle.ssd_read.specs.Elements.{Element, attribute, same_role}
+use Rattle.ssd_read.specs.Elements.{Element, attribute_value, same_role}
 use Rattle.ssd_read.specs.Types.{type_of, use_of_type}
 use Rattle.ssd_read.specs.Names.{FaultAfter, keys_of}
 
@@ -23,8 +23,8 @@ after_slash (b ∷ bs) = if list_any (λ c. c == 47) (b ∷ bs) then after_slash
 
 -- A terminal's last name: its `cNodeName` where there is one, else what follows the last slash of its key.
 abbrev pub last_name : Entry → Option (List ℕ)
-last_name e = option_or (attribute e (codes "cNodeName"))
-    (option_map after_slash (attribute e (codes "connectivityNode")))
+last_name e = option_or (attribute_value e (codes "cNodeName"))
+    (option_map after_slash (attribute_value e (codes "connectivityNode")))
 
 -- A terminal is grounded exactly where that is `grounded`.
 abbrev pub is_grounded : Entry → Bool
@@ -37,12 +37,13 @@ with_slash _ _ = None
 
 -- A terminal's four names joined, if all are there.
 abbrev pub joined_names : Entry → Option (List ℕ)
-joined_names e = with_slash (with_slash (with_slash (attribute e (codes "substationName"))
-    (attribute e (codes "voltageLevelName"))) (attribute e (codes "bayName"))) (attribute e (codes "cNodeName"))
+joined_names e = with_slash (with_slash (with_slash (attribute_value e (codes "substationName"))
+    (attribute_value e (codes "voltageLevelName"))) (attribute_value e (codes "bayName")))
+        (attribute_value e (codes "cNodeName"))
 
 -- The key of the node on which a terminal stands: what it says, or its four names joined.
 abbrev pub wanted_key : Entry → Option (List ℕ)
-wanted_key e = option_or (attribute e (codes "connectivityNode")) (joined_names e)
+wanted_key e = option_or (attribute_value e (codes "connectivityNode")) (joined_names e)
 
 -- The number of the node with this key.
 abbrev pub node_with_key : List Element → List ℕ → Option ℕ

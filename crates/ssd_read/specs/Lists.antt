@@ -11,9 +11,9 @@ part_path (a_part path) = Some path
 part_path _ = None
 
 -- The path of the node that a step adds.
-abbrev pub node_path : Step → Option (List ℕ)
-node_path (a_node path) = Some path
-node_path _ = None
+abbrev pub added_node : Step → Option (List ℕ)
+added_node (a_node path) = Some path
+added_node _ = None
 
 -- The switch that a step adds.
 abbrev pub switch_in : Step → Option Switch

@@ -9,7 +9,7 @@ use Rattle.ssd_read.specs.declared.role.Role.{Role}
 use Rattle.ssd_read.specs.declared.role.Role.TheVariants.{ConnectivityNode, ConductingEquipment}
 use Rattle.ssd_read.specs.declared.refusal.SsdRefusal.{SsdRefusal}
 use Rattle.ssd_read.specs.declared.refusal.SsdRefusal.TheVariants.{Root, NoName, Twice}
-use Rattle.ssd_read.specs.Elements.{Element, attribute, counted_as, same_role, front_of, is_named}
+use Rattle.ssd_read.specs.Elements.{Element, attribute_value, counted_as, same_role, front_of, is_named}
 use Rattle.ssd_read.specs.Types.{type_of}
 
 -- A place's fault, by the elements before it. The first of a list is that of its first place with a fault.
@@ -31,7 +31,7 @@ is_good_name name = nat_lt 0 (length name) && list_all is_shown name
 
 -- The element has no name, or one that is empty or holds a slash.
 abbrev pub lacks_name : Entry → Bool
-lacks_name e = not (option_map_or is_good_name (attribute e (codes "name")) false)
+lacks_name e = not (option_map_or is_good_name (attribute_value e (codes "name")) false)
 
 -- An element that needs a name has none, or equipment has no type.
 abbrev pub is_nameless : Element → Bool
@@ -40,7 +40,7 @@ is_nameless x = is_some (counted_as x.role) && (lacks_name x.entry || (same_role
 
 -- The key of a node is its path name where there is one, else its path.
 abbrev pub key_of : Element → List ℕ
-key_of x = unwrap_or (attribute x.entry (codes "pathName")) x.path
+key_of x = unwrap_or (attribute_value x.entry (codes "pathName")) x.path
 
 -- The two pairs are the same.
 abbrev pub same_pair : Role × List ℕ → Role × List ℕ → Bool

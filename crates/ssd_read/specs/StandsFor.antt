@@ -58,6 +58,6 @@ abbrev pub TreeStandsFor : List Entry → Diagram → Type 0
 TreeStandsFor tree d = outcome_of tree ≡ Ok d
 
 -- What a call answers is the outcome, unless memory ran out.
-abbrev pub TellsOutcome : List ℕ → Result Diagram SsdRefusal → Type 0
-TellsOutcome text (Err Memory) = Unit {0}
-TellsOutcome text outcome = Stands text outcome
+abbrev pub TellsStation : List ℕ → Result Diagram SsdRefusal → Type 0
+TellsStation text (Err Memory) = Unit {0}
+TellsStation text outcome = Stands text outcome

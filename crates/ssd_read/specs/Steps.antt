@@ -16,7 +16,7 @@ use Rattle.ssd_read.specs.declared.role.Role.TheVariants.{Bay, ConnectivityNode,
 use Rattle.ssd_read.specs.declared.role.Role.TheVariants.{TransformerWinding, Terminal}
 use Rattle.ssd_read.specs.declared.refusal.SsdRefusal.{SsdRefusal}
 use Rattle.ssd_read.specs.declared.refusal.SsdRefusal.TheVariants.{Limit}
-use Rattle.ssd_read.specs.Elements.{Element, element_at, name_of, same_role}
+use Rattle.ssd_read.specs.Elements.{Element, element_at, element_name, same_role}
 use Rattle.ssd_read.specs.Types.{type_of, is_bond_type, is_tapless_type}
 use Rattle.ssd_read.specs.declared.ends.TerminalPlace.{TerminalPlace}
 use Rattle.ssd_read.specs.declared.ends.Use.{Use}
@@ -127,9 +127,9 @@ infeed_steps part name (a ∷ ns) = switch_step part name Infeed a None ∷ tap_
 
 -- What equipment gives, by its use, its part and the nodes of its ends that are not grounded.
 abbrev pub use_steps : Use → Entry → ℕ → List ℕ → List Step
-use_steps uses.Breaker e part ns = breaker_steps part (name_of e) ns
-use_steps uses.Disconnector e part ns = disconnector_steps part (name_of e) ns
-use_steps uses.Infeed e part ns = infeed_steps part (name_of e) ns
+use_steps uses.Breaker e part ns = breaker_steps part (element_name e) ns
+use_steps uses.Disconnector e part ns = disconnector_steps part (element_name e) ns
+use_steps uses.Infeed e part ns = infeed_steps part (element_name e) ns
 use_steps uses.Other e part ns = links_along (is_bond e) part ns ++ lone_tap e part ns
 
 -- ---- transformers

@@ -10,7 +10,7 @@ use Rattle.ssd_read.specs.declared.types.EquipmentType.TheVariants.{CircuitBreak
 use Rattle.ssd_read.specs.declared.types.EquipmentType.TheVariants.{Generator, CurrentTransformer, VoltageTransformer}
 use Rattle.ssd_read.specs.declared.types.EquipmentType.TheVariants.{SurgeArrester, PowerCable, PowerLine}
 use Rattle.ssd_read.specs.declared.types.EquipmentType.TheVariants.{GasInsulatedLine, Other}
-use Rattle.ssd_read.specs.Elements.{attribute}
+use Rattle.ssd_read.specs.Elements.{attribute_value}
 
 -- The type that a word names.
 abbrev pub type_named : List ℕ → EquipmentType
@@ -29,7 +29,7 @@ type_named word =
 
 -- The type of equipment, where it says one.
 abbrev pub type_of : Entry → Option EquipmentType
-type_of e = option_map type_named (attribute e (codes "type"))
+type_of e = option_map type_named (attribute_value e (codes "type"))
 
 -- What equipment of a type is to a station.
 abbrev pub use_of_type : Option EquipmentType → Use

@@ -1,7 +1,7 @@
 //! The attributes of an element, decoded.
 ghost use Rattle.std.specs.Prelude.{◌≡◌, ◌<◌, length, IfOk, Some, None, Option, [], string_bytes};
 ghost use Rattle.std.specs.Option.{option_map, unwrap_or};
-ghost use Rattle.ssd_read.specs.Elements.{attribute};
+ghost use Rattle.ssd_read.specs.Elements.{attribute_value};
 ghost use Rattle.ssd_read.specs.Decoded.{IsNameOf};
 ghost use Rattle.ssd_text.specs.Nesting.{entry_at};
 
@@ -28,7 +28,7 @@ pub(crate) fn attribute(
     word: &str,
 ) -> Result<Option<String>, Memory>
     requires { i < length tree.now }
-    ensures { IfOk result (λ v. option_map string_bytes v ≡ attribute (entry_at tree.now i) word.now) }
+    ensures { IfOk result (λ v. option_map string_bytes v ≡ attribute_value (entry_at tree.now i) word.now) }
 {
     match tree.attr(i, word) {
         None => Ok(None),

@@ -3,7 +3,7 @@ ghost use Rattle.std.specs.Prelude.{◌≡◌, ◌<◌, ◌≤◌, ◌==◌, Lis
 ghost use Rattle.std.specs.Prelude.{string_bytes, option_and_then, is_some, true, codes};
 ghost use Rattle.std.specs.Option.{option_map, unwrap_or};
 ghost use Rattle.ssd_read.specs.declared.role.Role.TheVariants.{ConductingEquipment};
-ghost use Rattle.ssd_read.specs.Elements.{Element, attribute, front_of, front_of_tree, role_in, name_of};
+ghost use Rattle.ssd_read.specs.Elements.{Element, attribute_value, front_of, front_of_tree, role_in, element_name};
 ghost use Rattle.ssd_read.specs.Elements.{counted_as, elements_of, element_at, unless_grounded, path_in, element_after};
 ghost use Rattle.ssd_read.specs.Types.{type_of};
 ghost use Rattle.ssd_read.specs.Decoded.{IsNameOf, IsDecoded, ArePlaces};
@@ -37,7 +37,7 @@ pub(crate) struct DrawnElement {
 
 // The path of an element of this name in one of this path.
 fn path_in(alloc: Global, role: Role, outer: &str, name: &str) -> Result<String, Memory>
-    ensures { (e : Entry) → (is_some (counted_as role) ≡ true → name.now ≡ name_of e)
+    ensures { (e : Entry) → (is_some (counted_as role) ≡ true → name.now ≡ element_name e)
         → IfOk result (λ s. string_bytes s ≡ path_in outer.now role e) }
 {
     match counted_as(role) {
@@ -220,7 +220,8 @@ impl<'a> Drawing<'a> {
         word: &str,
     ) -> Result<Option<String>, Memory>
         requires { i < length self.now }
-        ensures { IfOk result (λ v. option_map string_bytes v ≡ attribute (element_at self.now i).entry word.now) }
+        ensures { IfOk result (λ v. option_map string_bytes v
+            ≡ attribute_value (element_at self.now i).entry word.now) }
     {
         attribute(alloc, &self.tree, i, word)
     }
@@ -229,7 +230,7 @@ impl<'a> Drawing<'a> {
     pub(crate) fn name(&self, i: u32) -> Option<&str>
         requires within { i < length self.now }
         requires counted { is_some (counted_as (element_at self.now i).role) ≡ true }
-        ensures { option_map (λ s. s.now) result ≡ attribute (element_at self.now i).entry (codes "name") }
+        ensures { option_map (λ s. s.now) result ≡ attribute_value (element_at self.now i).entry (codes "name") }
     {
         text_of(&self.places[i as usize].name)
     }

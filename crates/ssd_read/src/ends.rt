@@ -5,7 +5,7 @@ ghost use Rattle.std.specs.Prelude.{Bool, true, codes, slice_set, slice_index_or
 ghost use Rattle.std.specs.Prelude.{if◌then◌else◌};
 ghost use Rattle.std.specs.Option.{option_map};
 ghost use Rattle.ssd_read.specs.declared.role.Role.TheVariants.{Terminal};
-ghost use Rattle.ssd_read.specs.Elements.{Element, element_at, same_role, attribute};
+ghost use Rattle.ssd_read.specs.Elements.{Element, element_at, same_role, attribute_value};
 ghost use Rattle.ssd_read.specs.Decoded.{AreNamesOf};
 ghost use Rattle.ssd_text.specs.Nesting.{Entry};
 ghost use Rattle.ssd_read.specs.Names.{keys_of};
@@ -113,7 +113,8 @@ fn joined_names(
     node: Option<String>,
 ) -> Result<Option<String>, Memory>
     requires within { i < length drawing.now }
-    requires node { option_map string_bytes node ≡ attribute (element_at drawing.now i).entry (codes "cNodeName") }
+    requires node { option_map string_bytes node
+        ≡ attribute_value (element_at drawing.now i).entry (codes "cNodeName") }
     ensures { IfOk result (λ o. option_map string_bytes o ≡ joined_names (element_at drawing.now i).entry) }
 {
     let substation = drawing.attribute(alloc, i, "substationName")?;

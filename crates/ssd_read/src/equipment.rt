@@ -3,7 +3,7 @@ ghost use Rattle.std.specs.Prelude.{◌≡◌, ℕ, ◌<◌, ◌++◌, [], lengt
 ghost use Rattle.std.specs.List.{flat_map};
 ghost use Rattle.station_graph.specs.Diagram.{node_count, part_count, empty};
 ghost use Rattle.ssd_read.specs.declared.role.Role.TheVariants.{ConductingEquipment};
-ghost use Rattle.ssd_read.specs.Elements.{element_at, name_of};
+ghost use Rattle.ssd_read.specs.Elements.{element_at, element_name};
 ghost use Rattle.ssd_read.specs.Drawn.{IsDrawn};
 ghost use Rattle.ssd_read.specs.Types.{type_of};
 ghost use Rattle.ssd_text.specs.Nesting.{Entry};
@@ -60,7 +60,7 @@ fn add_equipment(
     requires fault { fault_of_ends (element_at drawing.now i) ends.now ≡ None }
     requires part { part.0 < part_count builder.old }
     requires nodes { AreNodes builder.old (nodes_at ends.now) }
-    requires room { MayTakeSwitch builder.old part.0 (name_of (element_at drawing.now i).entry) }
+    requires room { MayTakeSwitch builder.old part.0 (element_name (element_at drawing.now i).entry) }
     ensures { Builds builder.old (use_steps (use_of (element_at drawing.now i).entry) (element_at drawing.now i).entry
         part.0 (nodes_at ends.now)) result builder.new }
 {

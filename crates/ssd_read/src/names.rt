@@ -5,7 +5,7 @@ ghost use Rattle.std.specs.Prelude.{IsTrue, codes};
 ghost use Rattle.std.specs.Option.{option_map};
 ghost use Rattle.ssd_text.specs.Nesting.{Entry};
 ghost use Rattle.std.specs.List.{list_any, list_all};
-ghost use Rattle.ssd_read.specs.Elements.{Element, element_at, attribute};
+ghost use Rattle.ssd_read.specs.Elements.{Element, element_at, attribute_value};
 ghost use Rattle.ssd_read.specs.Names.{is_shown, is_good_name, lacks_name, is_nameless, key_of, same_path, same_key};
 ghost use Rattle.ssd_read.specs.Names.{counted_paths, keys_of, name_fault, first_fault};
 ghost use Rattle.ssd_read.specs.Seen.{Finds};
@@ -32,7 +32,8 @@ fn has_shown(name: &[u8]) -> bool
 
 // Whether an element of this name has none that is good.
 fn lacks_name(name: Option<&str>) -> bool
-    ensures { (e : Entry) → option_map (λ s. s.now) name.entry ≡ attribute e (codes "name") → result ≡ lacks_name e }
+    ensures { (e : Entry) → option_map (λ s. s.now) name.entry ≡ attribute_value e (codes "name") → result
+        ≡ lacks_name e }
 {
     match name {
         Some(name) => !is_good_name(name.as_bytes()),

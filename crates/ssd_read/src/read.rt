@@ -3,7 +3,7 @@
 ghost use Rattle.std.specs.Prelude.{◌≡◌, length, List, ℕ, Result};
 ghost use Rattle.station_graph.specs.Diagram.{Diagram};
 ghost use Rattle.ssd_read.specs.declared.refusal.SsdRefusal.{SsdRefusal as Refusal};
-ghost use Rattle.ssd_read.specs.StandsFor.{TellsOutcome, TreeAnswers, ElementsAnswer, Stands};
+ghost use Rattle.ssd_read.specs.StandsFor.{TellsStation, TreeAnswers, ElementsAnswer, Stands};
 ghost use Rattle.ssd_read.specs.Names.{root_fault};
 
 use crate::attributes::entry;
@@ -30,7 +30,7 @@ use std::alloc::Global;
 /// which is the names from its substation downward. Paths of more than 64 MiB together are answered as
 /// `Memory`, so that names of megabytes over many elements take memory in the order of the file.
 pub fn read_ssd(alloc: Global, bytes: &[u8]) -> Result<Station, SsdRefusal>
-    ensures { TellsOutcome bytes.now result }
+    ensures { TellsStation bytes.now result }
 {
     if bytes.len() > FILE_BYTES {
         return Err(SsdRefusal::Limit {

@@ -15,7 +15,7 @@ use Rattle.node_store.specs.Device.{Told, RisesBy}
 use Rattle.node_store.proofs.Runs.{is_since}
 use Rattle.stored_session.specs.View.{View, KeepsTime}
 use Rattle.stored_session.specs.Kept.{LeavesNow}
-use Rattle.stored_session.specs.Stored.{AnswersStored, WritesFront, LineFails}
+use Rattle.stored_session.specs.Stored.{AnswersStored, WritesFront, StoredLineFails}
 use Rattle.stored_session.specs.Through.{HasNext, TakesNear}
 use Rattle.stored_session.specs.Progress.{IsEndAt}
 use Rattle.stored_session.specs.Ends.{WritesAll, EndsSo, BegunEnds}
@@ -173,7 +173,7 @@ module _ {D : Type 0} (v : View D) (time : KeepsTime v) (m : Meaning) (d : Diagr
       → (end ≡ l.OutFailed → Told (v.content device) (λ _. LeavesNow v.moment v.since new (kept_of next)))
       → ((end ≡ l.Memory) ⊎ (end ≡ l.Refused) → new ≡ device)
       → RisesBy 6 (v.calls device) (v.calls new) → now.reads ≤ after.reads → now.writes ≤ after.writes
-      → LineFails m d b state line next now.out after.out (Rose (v.writes device) (v.writes new))
+      → StoredLineFails m d b state line next now.out after.out (Rose (v.writes device) (v.writes new))
       (Rose now.writes after.writes) end
       → IsEndAt count end result → EndsNow after new result
   ends_line now after device new done store state line next count l.Memory result counted few at comes near in_it

@@ -15,7 +15,7 @@ use Rattle.node_session.specs.declared.reader.InputTrouble.TheVariants.{Memory, 
 use Rattle.node_session.specs.Reading.{HasNoFeed, is_long, Grows, BeginsLine, Fills, FillFails}
 use Rattle.node_session.proofs.Feeds.{lines-line, lines-no_end, long_line}
 use Rattle.node_session.proofs.Filling.{consumes_both}
-use Rattle.stored_session.specs.Through.{ReadsThrough, TakesNear, Begins, IsAll, HasNext, GoesOn}
+use Rattle.stored_session.specs.Through.{ReadsThrough, TakesNear, BeginsStored, IsAll, HasNext, GoesOn}
 
 rest_of : (a b : Option (List ℕ)) (taken : List ℕ) → Consumes a b taken → (rest : List ℕ) × IfSome a
     (λ known. known ≡ taken ++ rest)
@@ -61,7 +61,7 @@ module _ (before : Option (List ℕ)) (done : List (List ℕ)) where
     cut rest = ap lines (append_assoc at.taken held rest) ∙ at.ends (held ++ rest)
 
     -- the input begins with the lines that were read
-    pub begins : Begins before done
+    pub begins : BeginsStored before done
     begins =
         let (rest, told) = rest_of before now (at.taken ++ held) at.consumed in
         ((at.taken ++ held) ++ rest, lines (held ++ rest), record { told = told; cut = cut rest })
@@ -169,7 +169,7 @@ module _ (before : Option (List ℕ)) (done : List (List ℕ)) where
     },
   )
 
-  pub has_long : (line : List ℕ) → HasNext before done line → Begins before done
+  pub has_long : (line : List ℕ) → HasNext before done line → BeginsStored before done
   has_long line comes = (
     comes.0,
     line ∷ comes.1,

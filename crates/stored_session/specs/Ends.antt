@@ -18,7 +18,7 @@ use Rattle.stored_session.specs.View.{View, Leaves, Settled}
 use Rattle.stored_session.specs.Opening.{IsUnfit}
 use Rattle.stored_session.specs.Stored.{StoredSession}
 use Rattle.stored_session.specs.Along.{StandsAlong}
-use Rattle.stored_session.specs.Through.{Begins, IsAll, HasNext, TakesNear, ReadsTo}
+use Rattle.stored_session.specs.Through.{BeginsStored, IsAll, HasNext, TakesNear, ReadsTo}
 use Rattle.stored_session.specs.declared.end.StoredEnd.{StoredEnd}
 use Rattle.stored_session.specs.declared.end.StoredEnd.TheVariants.{Done, Unfit, Refused, Long}
 use Rattle.stored_session.specs.declared.end.StoredEnd.TheVariants.{ReadFault, WriteFault, Memory}
@@ -66,10 +66,10 @@ EndsSo m d b start before now stores lines text low Long =
 EndsSo m d b start before now stores lines text low ReadFault =
     Rose before.reads now.reads × ReadsTo before.input now.input lines × WritesAll before now lines text low
 EndsSo m d b start before now stores lines text low WriteFault =
-    Begins before.input lines × TakesNear before.input now.input lines
+    BeginsStored before.input lines × TakesNear before.input now.input lines
     × StopsWriting m d b start before now stores lines text low
 EndsSo m d b start before now stores lines text low Memory =
-    Begins before.input lines × WritesAll before now lines text low
+    BeginsStored before.input lines × WritesAll before now lines text low
 EndsSo m d b start before now stores lines text low Unfit = ⊥
 
 -- A session that has begun ends so. It took these lines, from the first state to the last, with these texts. Where

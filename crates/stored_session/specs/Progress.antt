@@ -34,7 +34,7 @@ pub record StandsAfter {D : Type 0} (v : View D) (m : Meaning) (d : Diagram) (b 
   pub writes_grow : before.writes ≤ now.writes
 
 -- Between two lines: so many are answered, and these bytes of the input are held that follow them.
-pub record Stands {D : Type 0} (v : View D) (m : Meaning) (d : Diagram) (b : ℕ) (start : State)
+pub record StoredStands {D : Type 0} (v : View D) (m : Meaning) (d : Diagram) (b : ℕ) (start : State)
     (before now : Streams) (old device : D) (held : List ℕ) (count : ℕ) (store : Store) (state : State) : Type 0 where
   pub done : List (List ℕ)
   pub counted : length done ≡ count
@@ -42,11 +42,12 @@ pub record Stands {D : Type 0} (v : View D) (m : Meaning) (d : Diagram) (b : ℕ
   pub after : StandsAfter v m d b start before now old device done store state
 
 -- How one more line goes: it is answered, or the session ends.
-abbrev pub Goes : {D : Type 0} → View D → Meaning → Diagram → ℕ → State → Streams → Streams → D → D → List ℕ → ℕ → State
+abbrev pub StoredGoes : {D : Type 0} → View D → Meaning → Diagram → ℕ → State → Streams → Streams → D → D → List ℕ
+    → ℕ → State
     → Result Store StoredEnd → Type 0
-Goes v m d b start before now old device held count state (Ok store) =
-    Stands v m d b start before now old device held (count + 1) store state
-Goes v m d b start before now old device held count state (Err end) =
+StoredGoes v m d b start before now old device held count state (Ok store) =
+    StoredStands v m d b start before now old device held (count + 1) store state
+StoredGoes v m d b start before now old device held count state (Err end) =
     BegunEnds v m d b 0 start before now old device end
 
 -- How a session ends at a line before which so many are answered.

@@ -59,10 +59,12 @@ pub record WritesFront (m : Meaning) (d : Diagram) (b : ℕ) (old : State)
 
 -- Why a line is not answered to its end, and what is written of it. Of `stores` and `writes`, the one is that the
 -- device's count of writes and syncs rose, the other that the count of `out` did.
-abbrev pub LineFails : Meaning → Diagram → ℕ → State → List ℕ → State → Option (List ℕ) → Option (List ℕ)
+abbrev pub StoredLineFails : Meaning → Diagram → ℕ → State → List ℕ → State → Option (List ℕ) → Option (List ℕ)
     → Type 0 → Type 0 → LineEnd → Type 0
-LineFails m d b old line new before after stores writes Memory = Appends before after []
-LineFails m d b old line new before after stores writes Refused = (¬ IsRequest d b false line) × Appends before after []
-LineFails m d b old line new before after stores writes StoreFailed =
+StoredLineFails m d b old line new before after stores writes Memory = Appends before after []
+StoredLineFails m d b old line new before after stores writes Refused =
+    (¬ IsRequest d b false line) × Appends before after []
+StoredLineFails m d b old line new before after stores writes StoreFailed =
     stores × ((text : List ℕ) × AnswersStored m d b old line text new) × Appends before after []
-LineFails m d b old line new before after stores writes OutFailed = writes × WritesFront m d b old line new before after
+StoredLineFails m d b old line new before after stores writes OutFailed =
+    writes × WritesFront m d b old line new before after

@@ -22,8 +22,8 @@ pub record HasLines (input : Option (List ℕ)) (content : List ℕ) (all : List
   pub cut : lines content ≡ all
 
 -- The input begins with these lines.
-abbrev pub Begins : Option (List ℕ) → List (List ℕ) → Type 0
-Begins input done = (content : List ℕ) × (more : List (List ℕ)) × HasLines input content (done ++ more)
+abbrev pub BeginsStored : Option (List ℕ) → List (List ℕ) → Type 0
+BeginsStored input done = (content : List ℕ) × (more : List (List ℕ)) × HasLines input content (done ++ more)
 
 -- The input is these lines, and all of it was taken.
 abbrev pub IsAll : Option (List ℕ) → Option (List ℕ) → List (List ℕ) → Type 0
@@ -45,7 +45,7 @@ pub record ReadsTo (before now : Option (List ℕ)) (done : List (List ℕ)) : T
 
 -- The next line of the input is this one.
 abbrev pub HasNext : Option (List ℕ) → List (List ℕ) → List ℕ → Type 0
-HasNext input done line = Begins input (done ++ line ∷ [])
+HasNext input done line = BeginsStored input (done ++ line ∷ [])
 
 -- What comes next, after these lines: a line with an end; the last one, without; one that is too long; nothing. A
 -- line that is too long is refused before its end is seen.
@@ -66,5 +66,5 @@ HasEnd End = ⊥
 abbrev pub GoesOn : Option (List ℕ) → Option (List ℕ) → List ℕ → List (List ℕ) → Type 0
     → Result NextLine InputTrouble → Type 0
 GoesOn input now held done rose (Ok next) = ComesNext input now held done next
-GoesOn input now held done rose (Err Memory) = Begins input done
+GoesOn input now held done rose (Err Memory) = BeginsStored input done
 GoesOn input now held done rose (Err Failed) = rose × ReadsTo input now done

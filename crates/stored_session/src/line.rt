@@ -13,7 +13,7 @@ ghost use Rattle.node_store.specs.Device.{Told, Becomes, RisesBy, IsSettled, Lea
 ghost use Rattle.node_store.specs.Image.{IsImageOf};
 ghost use Rattle.node_store.specs.Store.{MatchesStore, store_sequence};
 ghost use Rattle.stored_session.specs.Kept.{IsKept, LeavesNow};
-ghost use Rattle.stored_session.specs.Stored.{AsksTurn, WritesLine, LineFails};
+ghost use Rattle.stored_session.specs.Stored.{AsksTurn, WritesLine, StoredLineFails};
 
 use crate::putting::put_changed;
 use bay_node::{Kept, Node, NodeOutput};
@@ -111,7 +111,7 @@ pub fn take_line<J: Judge, D: Device, O: Sink>(
         IsKept D.moment D.left_since device.new s after (kept_of node.new))) }
     ensures answers { IfOk result (λ _. WritesLine (J.meaning judge.now) station.now bay.0 node.old line.now node.new
         (O.took out.old) (O.took out.new)) }
-    ensures fails { IfErr result (LineFails (J.meaning judge.now) station.now bay.0 node.old line.now node.new
+    ensures fails { IfErr result (StoredLineFails (J.meaning judge.now) station.now bay.0 node.old line.now node.new
         (O.took out.old) (O.took out.new)
         (Rose (D.write_faults device.old) (D.write_faults device.new)) (Rose (O.faults out.old) (O.faults out.new))) }
     // Where no step was made the device is as it was.

@@ -12,7 +12,7 @@ ghost use Rattle.node_store.specs.Store.{store_sequence};
 ghost use Rattle.stored_session.specs.View.{view, streams};
 ghost use Rattle.stored_session.specs.Kept.{IsKept};
 ghost use Rattle.stored_session.specs.Opening.{IsUnfit};
-ghost use Rattle.stored_session.specs.Progress.{Stands, Goes};
+ghost use Rattle.stored_session.specs.Progress.{StoredStands, StoredGoes};
 ghost use Rattle.stored_session.specs.Ends.{BegunEnds, StoredEnds, IsStoredInput};
 
 use crate::end::{StoredEnd, end_at};
@@ -52,11 +52,11 @@ fn answer_next<J: Judge, I: Source, O: Sink, D: Device>(
         IsKept D.moment D.left_since device.old store image (kept_of node.old)) }
     // Wherever the session stood, it goes on so.
     ensures goes { (start : State) (before : Streams) (from : D)
-        → Stands (view D.content D.moment D.left_between D.left_since D.read_faults D.write_faults D.calls)
+        → StoredStands (view D.content D.moment D.left_between D.left_since D.read_faults D.write_faults D.calls)
         (J.meaning judge.now) station.now bay.0 start before
         (streams (I.left input.old) (I.faults input.old) (O.took out.old) (O.faults out.old))
         from device.old reader.old count store node.old
-        → Goes (view D.content D.moment D.left_between D.left_since D.read_faults D.write_faults D.calls)
+        → StoredGoes (view D.content D.moment D.left_between D.left_since D.read_faults D.write_faults D.calls)
         (J.meaning judge.now) station.now bay.0 start before
         (streams (I.left input.new) (I.faults input.new) (O.took out.new) (O.faults out.new))
         from device.new reader.new count node.new result }

@@ -11,7 +11,7 @@ use Rattle.station_graph.specs.CentralRules.{carried_out, Breaks}
 use Rattle.switching_orders.specs.declared.ruling.Step.{Step}
 use Rattle.switching_orders.specs.declared.ruling.Step.TheVariants as step
 use Rattle.switching_orders.specs.declared.ruling.Ruling.{Ruling}
-use Rattle.switching_orders.specs.OrderRuling.{after_all, Rules, IsAccepted, StopsAt, IsRuling}
+use Rattle.switching_orders.specs.OrderRuling.{after_all, Rules, IsAcceptedFrom, StopsAt, IsRuling}
 use Rattle.switching_orders.proofs.Steps.{EachAfter, EachAfter-push, index-from_EachAfter, after_all-append, take-next}
 
 abbrev pub IsOk : Diagram → List Bool → Op → Type 0
@@ -86,8 +86,8 @@ all_of d v ops r rules none =
 
 -- nothing stops exactly an order that is accepted
 pub accepted : (d : Diagram) (v : List Bool) (ops : List Op) (r : Ruling) → IsRuling d v ops r → (r.stopped ≡ None)
-    ↔ IsAccepted d v ops
+    ↔ IsAcceptedFrom d v ops
 accepted d v ops r rules = (
-  (λ none. subst (IsAccepted d v) (all_of d v ops r rules none) rules.passed),
+  (λ none. subst (IsAcceptedFrom d v) (all_of d v ops r rules none) rules.passed),
   (λ ok. accepts d _ _ r.stopped rules.stopped (λ op at. ok r.passed op at)),
 )

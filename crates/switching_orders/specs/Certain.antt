@@ -10,8 +10,8 @@ word_at false = Off
 word_at true = On
 
 -- Each word says the position of its switch in the vector.
-abbrev pub AreWordsOf : List Bool → List Dbpos → Type 0
-AreWordsOf v words = words ≡ map word_at v
+abbrev pub SayPositions : List Bool → List Dbpos → Type 0
+SayPositions v words = words ≡ map word_at v
 
 -- A word is neither off nor on.
 pub record IsUnsure (words : List Dbpos) : Type 0 where

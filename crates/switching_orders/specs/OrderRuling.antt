@@ -23,8 +23,8 @@ Rules d v op (step.Denied rule) = (¬ IsIdle v op) × Breaks d v op (Some rule)
 Rules d v op step.Ok = (¬ IsIdle v op) × Breaks d v op None
 
 -- An order is accepted from a vector: each step is ok after those before it.
-abbrev pub IsAccepted : Diagram → List Bool → List Op → Type 0
-IsAccepted d v ops = (k : ℕ) (op : Op) → slice_get ops k ≡ Some op → Rules d (after_all v (take k ops)) op step.Ok
+abbrev pub IsAcceptedFrom : Diagram → List Bool → List Op → Type 0
+IsAcceptedFrom d v ops = (k : ℕ) (op : Op) → slice_get ops k ≡ Some op → Rules d (after_all v (take k ops)) op step.Ok
 
 -- What stops an order at its next step, if there is one: a ruling that is not ok.
 abbrev pub StopsAt : Diagram → List Bool → Option Op → Option Step → Type 0
@@ -36,7 +36,7 @@ StopsAt d v (Some op) (Some s) = Rules d v op s × (s ≢ step.Ok)
 -- The ruling on an order from a vector: so many steps are ok, and what stops the next, if one does.
 pub record IsRuling (d : Diagram) (v : List Bool) (ops : List Op) (r : Ruling) : Type 0 where
   pub within : r.passed ≤ length ops
-  pub passed : IsAccepted d v (take r.passed ops)
+  pub passed : IsAcceptedFrom d v (take r.passed ops)
   pub stopped : StopsAt d (after_all v (take r.passed ops)) (slice_get ops r.passed) r.stopped
 
 -- The operations move switches of a station with so many switches.

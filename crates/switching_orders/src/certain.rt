@@ -1,7 +1,7 @@
 //! Words that leave no position open.
 ghost use Rattle.std.specs.Prelude.{◌≡◌, true, length, IfOk, IfSome, IfNone};
 ghost use Rattle.central_rules.specs.Names.{is_uncertain};
-ghost use Rattle.switching_orders.specs.Certain.{word_at, AreWordsOf, IsUnsure};
+ghost use Rattle.switching_orders.specs.Certain.{word_at, SayPositions, IsUnsure};
 
 use double_points::Readings;
 use ilk_base::{Dbpos, Memory, SwitchId};
@@ -28,7 +28,7 @@ pub fn certain_positions(
     readings: &Readings,
 ) -> Result<Option<Vector>, Memory>
     requires { length readings.now ≡ length station.now.switches }
-    ensures some { IfOk result (λ o. IfSome o (λ v. AreWordsOf v readings.now)) }
+    ensures some { IfOk result (λ o. IfSome o (λ v. SayPositions v readings.now)) }
     ensures count { IfOk result (λ o. IfSome o (λ v. length v ≡ length station.now.switches)) }
     ensures none { IfOk result (λ o. IfNone o (IsUnsure readings.now)) }
 {

@@ -1,7 +1,7 @@
 //! The ruling on an order.
 ghost use Rattle.std.specs.Prelude.{◌≡◌, ◌<◌, ◌↔◌, length, Some, None, IfOk, IsTrue};
 ghost use Rattle.station_graph.specs.CentralRules.{IsOperation};
-ghost use Rattle.switching_orders.specs.OrderRuling.{Rules, IsIdle, IsAccepted, IsRuling, AreOperations};
+ghost use Rattle.switching_orders.specs.OrderRuling.{Rules, IsIdle, IsAcceptedFrom, IsRuling, AreOperations};
 
 use crate::order::{Order, wanted_end};
 use crate::ruling::{Ruling, Step};
@@ -55,7 +55,7 @@ pub fn judge_order(
     requires start { length start.now ≡ length station.now.switches }
     requires order { AreOperations station.now order.now }
     ensures ruling { IfOk result (IsRuling station.now start.now order.now) }
-    ensures accepted { IfOk result (λ r. (r.stopped ≡ None) ↔ IsAccepted station.now start.now order.now) }
+    ensures accepted { IfOk result (λ r. (r.stopped ≡ None) ↔ IsAcceptedFrom station.now start.now order.now) }
 {
     let mut vector = start.copy(alloc)?;
     for i in 0..order.len() {

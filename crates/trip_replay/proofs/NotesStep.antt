@@ -32,7 +32,7 @@ use Rattle.reservation_core.specs.RoundFacts.{RoundFacts}
 use Rattle.reservation_core.specs.Lines.{Line, Shown, kind_of, message, of_bay, shown}
 use Rattle.reservation_core.specs.History.{or_else, open_after, collecting_after, forgotten, Opened, reading_at}
 use Rattle.reservation_core.specs.History.{takes_word, last_round, open_of, collecting}
-use Rattle.reservation_core.specs.Hearing.{IsVerdictOn, Decides}
+use Rattle.reservation_core.specs.Hearing.{IsVerdictOn, DecidesRound}
 use Rattle.reservation_core.specs.Headline.{DecidesWell, EndsIt}
 use Rattle.reservation_core.specs.declared.values.WorldEvent.{WorldEvent}
 use Rattle.reservation_core.specs.declared.values.WorldEvent.TheVariants.{Command, Sense, Deliver, Tick, Withdraw}
@@ -432,9 +432,9 @@ module _ (m : Meaning) (start : List Bool) (before : List TripLine) (old new : T
       let idle : None ≡ collecting (plain before) b = ap opened (sym none) ∙ (was.said.nodes b).collecting in
       let o : Opened = record { round = g.round; op = g.op } in
       elim (decides.no_other b o (subst (λ (x : Outcome). IsVerdictOn x o) (sym grants) (refl, refl))) [
-        | Decides.at_tick has _ ↦ absurd (cc (idle, has))
-        | Decides.all_heard n has _ _ ↦ absurd (cc (idle, has))
-        | Decides.alone _ _ alone _ ↦ alone
+        | DecidesRound.at_tick has _ ↦ absurd (cc (idle, has))
+        | DecidesRound.all_heard n has _ _ ↦ absurd (cc (idle, has))
+        | DecidesRound.alone _ _ alone _ ↦ alone
       ]
 
   no_round : (g : Grant) → turn.new.granted ≡ Some g → turn.new.collecting ≡ None

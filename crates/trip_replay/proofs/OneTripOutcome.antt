@@ -15,7 +15,7 @@ use Rattle.reservation_core.specs.declared.values.WorldEvent.{WorldEvent}
 use Rattle.log_replay.specs.declared.kinds.RecordKind.{RecordKind}
 use Rattle.log_replay.specs.declared.kinds.RecordKind.TheVariants as kind
 use Rattle.log_replay.specs.declared.log.TheConstants.{MOST_RECORDS}
-use Rattle.log_replay.specs.Records.{Says, is_step, is_told_of, has_step, tell_of}
+use Rattle.log_replay.specs.Records.{RecordSays, is_step, is_told_of, has_step, tell_of}
 use Rattle.log_replay.specs.RecordFaults.{kind_name, field}
 use Rattle.log_replay.specs.Log.{IsText, MayFollow}
 use Rattle.log_replay.proofs.OneOutcome.{kind_of, of_row, steps_same, told_same, no_fault, follows_too}
@@ -53,20 +53,20 @@ never_named : (k : RecordKind) → kind_name k ≢ codes "trip"
 never_named k is = let differ : false ≡ true = sym (not_trip k) ∙ ap is_trip is in cc differ
 
 module _ (d : Diagram) (row : List (List ℕ)) where
-  says_at : (e : LogEvent) → Says d row e → ¬ IsTripRow row
+  says_at : (e : LogEvent) → RecordSays d row e → ¬ IsTripRow row
   says_at e says named = never_named (kind_of e) (sym (of_row d row e says) ∙ named)
 
-  plain_at : (i : SwitchId) (closed : Bool) → TripSays d row (At i closed) → Says d row (TellsAt i closed)
+  plain_at : (i : SwitchId) (closed : Bool) → TripSays d row (At i closed) → RecordSays d row (TellsAt i closed)
   plain_at i closed says = record { written = says.written; told = says.told }
 
-  plain_step : (e : WorldEvent) → TripSays d row (Step (Happening e)) → Says d row (TellsStep e)
+  plain_step : (e : WorldEvent) → TripSays d row (Step (Happening e)) → RecordSays d row (TellsStep e)
   plain_step e says = record { written = says.written; told = says.told }
 
   names_trip : (i : SwitchId) → TripSays d row (Step (Trip i)) → IsTripRow row
   names_trip i says = ap (λ (r : List (List ℕ)). field r 0) says.written
 
   -- two events that one record says are the same to a test that is the same for two events of a log without trips
-  test_same : (test : LogEvent → Bool) → ((x y : LogEvent) → Says d row x → Says d row y → test x ≡ test y)
+  test_same : (test : LogEvent → Bool) → ((x y : LogEvent) → RecordSays d row x → RecordSays d row y → test x ≡ test y)
       → ((x y : WorldEvent) → test (TellsStep x) ≡ test (TellsStep y)) → (x y : TripLogEvent) → TripSays d row x
       → TripSays d row y → test (as_log x) ≡ test (as_log y)
   test_same test same steps (At i closed) (At j shut) a b = same (TellsAt i closed) (TellsAt j shut)

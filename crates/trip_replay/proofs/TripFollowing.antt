@@ -13,7 +13,7 @@ use Rattle.reservation_core.specs.Scene.{Scene, true_at, runs, Stands, Resolves}
 use Rattle.reservation_core.specs.Facts.{IsSoundTruth}
 use Rattle.reservation_core.specs.Lines.{Line, Shown, of_bay}
 use Rattle.reservation_core.specs.History.{open_after, open_of, Opened}
-use Rattle.reservation_core.specs.Hearing.{IsVerdictOn, Decides}
+use Rattle.reservation_core.specs.Hearing.{IsVerdictOn, DecidesRound}
 use Rattle.reservation_core.specs.Runs.{ShowsNothing, Shows, Leads}
 use Rattle.reservation_core.specs.Headline.{DecidesWell, EndsIt, OpenSince}
 use Rattle.reservation_core.specs.declared.values.Position.{Position}

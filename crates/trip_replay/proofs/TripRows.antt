@@ -12,7 +12,7 @@ use Rattle.station_graph.specs.Diagram.{Diagram, IsStation, switch_path}
 use Rattle.reservation_core.specs.declared.values.LogEvent.{LogEvent}
 use Rattle.reservation_core.specs.declared.values.LogEvent.TheVariants.{At as TellsAt, Step as TellsStep}
 use Rattle.log_replay.specs.declared.log.TheConstants.{MOST_RECORDS}
-use Rattle.log_replay.specs.Records.{Says}
+use Rattle.log_replay.specs.Records.{RecordSays}
 use Rattle.log_replay.specs.RecordFaults.{field}
 use Rattle.log_replay.specs.Log.{MayFollow, AreInOrder, IsText}
 use Rattle.log_replay.proofs.FieldLemmas.{same_default}
@@ -28,7 +28,7 @@ use Rattle.trip_replay.specs.TripLogs.{TripTell}
 
 -- ---- one record
 
-pub says_trip : (d : Diagram) (row : List (List ℕ)) (e : LogEvent) → Says d row e → TripSays d row (as_trip e)
+pub says_trip : (d : Diagram) (row : List (List ℕ)) (e : LogEvent) → RecordSays d row e → TripSays d row (as_trip e)
 says_trip d row (TellsAt i closed) says = record { written = says.written; told = says.told }
 says_trip d row (TellsStep e) says = record { written = says.written; told = says.told }
 

@@ -6,7 +6,8 @@ use ilk_base::Kind;
 pub(crate) const EXPORTED: Drawn = Drawn {
     text: r#"<?xml version="1.0" encoding="UTF-8"?>
 <!-- exported by an engineering tool -->
-<SCL xmlns="http://www.iec.ch/61850/2003/SCL" xmlns:sxy="http://www.iec.ch/61850/2003/SCLcoordinates" xmlns:eng="urn:vendor:engineering" version="2007" revision="B" release="4">
+<SCL xmlns="http://www.iec.ch/61850/2003/SCL" xmlns:sxy="http://www.iec.ch/61850/2003/SCLcoordinates"
+    xmlns:eng="urn:vendor:engineering" version="2007" revision="B" release="4">
   <Private type="vendor:project"><eng:Project id="4711" editor="Jäger &amp; Söhne"/></Private>
   <Header id="Süd" version="3" revision="a" toolID="Editor 5.2">
     <Text>Single-line diagram of the substation Süd</Text>
@@ -19,11 +20,13 @@ pub(crate) const EXPORTED: Drawn = Drawn {
       <LNode iedName="None" ldInst="" lnClass="YPTR" lnInst="1"/>
       <TransformerWinding name="HV" type="PTW">
         <TapChanger name="TC" type="LTC"><LNode iedName="None" ldInst="" lnClass="ATCC" lnInst="1"/></TapChanger>
-        <Terminal name="T1_1" connectivityNode="Süd/110kV/Q02/K3" substationName="Süd" voltageLevelName="110kV" bayName="Q02" cNodeName="K3"/>
+        <Terminal name="T1_1" connectivityNode="Süd/110kV/Q02/K3" substationName="Süd" voltageLevelName="110kV"
+            bayName="Q02" cNodeName="K3"/>
         <NeutralPoint name="N" connectivityNode="Süd/110kV/Q02/grounded" cNodeName="grounded"/>
       </TransformerWinding>
       <TransformerWinding name="LV" type="PTW">
-        <Terminal name="T1_2" connectivityNode="Süd/20kV/K01/B" substationName="Süd" voltageLevelName="20kV" bayName="K01" cNodeName="B"/>
+        <Terminal name="T1_2" connectivityNode="Süd/20kV/K01/B" substationName="Süd" voltageLevelName="20kV"
+            bayName="K01" cNodeName="B"/>
       </TransformerWinding>
     </PowerTransformer>
     <VoltageLevel name="110kV" nomFreq="50" numPhases="3">
@@ -35,8 +38,10 @@ pub(crate) const EXPORTED: Drawn = Drawn {
         <LNode iedName="Q01A1" ldInst="CTRL" lnClass="CILO" lnInst="1" prefix="QB1"/>
         <ConductingEquipment name="QB1" type="DIS" sxy:x="4" sxy:y="8" sxy:dir="vertical">
           <LNode iedName="None" ldInst="" lnClass="XSWI" lnInst="1"/>
-          <Terminal name="T1" connectivityNode="Süd/110kV/W1/B" substationName="Süd" voltageLevelName="110kV" bayName="W1" cNodeName="B"/>
-          <Terminal name="T2" connectivityNode="Süd/110kV/Q01 Löwen/K1" substationName="Süd" voltageLevelName="110kV" bayName="Q01 Löwen" cNodeName="K1"/>
+          <Terminal name="T1" connectivityNode="Süd/110kV/W1/B" substationName="Süd" voltageLevelName="110kV"
+              bayName="W1" cNodeName="B"/>
+          <Terminal name="T2" connectivityNode="Süd/110kV/Q01 Löwen/K1" substationName="Süd" voltageLevelName="110kV"
+              bayName="Q01 Löwen" cNodeName="K1"/>
         </ConductingEquipment>
         <ConductingEquipment name="QA1" type="CBR" sxy:x="4" sxy:y="10">
           <Terminal name="T1" connectivityNode="Süd/110kV/Q01 Löwen/K1" cNodeName="K1"/>
@@ -123,7 +128,8 @@ pub(crate) const EXPORTED: Drawn = Drawn {
   </Substation>
   <Communication><SubNetwork name="Station bus" type="8-MMS"/></Communication>
   <IED name="Q01A1" manufacturer="Vendor" type="Bay controller">
-    <AccessPoint name="P1"><Server><Authentication none="true"/><LDevice inst="CTRL"><LN0 lnClass="LLN0" inst="" lnType="LLN0"/></LDevice></Server></AccessPoint>
+    <AccessPoint name="P1"><Server><Authentication none="true"/><LDevice inst="CTRL"><LN0 lnClass="LLN0" inst=""
+        lnType="LLN0"/></LDevice></Server></AccessPoint>
   </IED>
   <DataTypeTemplates>
     <LNodeType id="LLN0" lnClass="LLN0"><DO name="Mod" type="ENC"/></LNodeType>

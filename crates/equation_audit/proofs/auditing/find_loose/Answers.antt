@@ -2,7 +2,7 @@ use Rattle.std.proofs.Common.{◌∙◌, sym, ap, subst, ◌^◌, arith, List, b
 use Rattle.std.specs.Prelude.{replicate, false}
 use Rattle.ilk_base.specs.declared.words.SwitchId.{SwitchId}
 use Rattle.equation_audit.specs.Equations.{Equation, AreOwn, OwnBelow}
-use Rattle.equation_audit.specs.Positions.{placed, AllBelow}
+use Rattle.equation_audit.specs.Positions.{placed, AllAmong}
 use Rattle.equation_audit.specs.Findings.{NoneLooseBy}
 use Rattle.equation_audit.proofs.OwnLemmas.{own_below}
 use Rattle.equation_audit.proofs.FindingLemmas.{never_loose}
@@ -13,7 +13,7 @@ position-requires g c =
     let n = length c.args.station.now.switches in
     let below = subst (λ (e : Equation). OwnBelow (length c.args.station.now.switches) e.alternatives)
     (sym c.block.view_is) c.requires.block.own in
-    subst (AllBelow (length c.args.station.now.switches)) (sym c.deref-in-loop-number.ensures.value)
+    subst (AllAmong (length c.args.station.now.switches)) (sym c.deref-in-loop-number.ensures.value)
     (own_below (length c.args.station.now.switches) c.block.inside.alternatives.items c.block.inside.own.items
     c.block.invariant.are below)
 

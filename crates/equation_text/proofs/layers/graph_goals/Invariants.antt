@@ -3,7 +3,8 @@ use Rattle.decision_graphs.specs.Label.{size_at, first_at}
 use Rattle.decision_graphs.specs.Reaching.{node_total}
 use Rattle.equation_text.specs.EquationLines.{PartLines}
 use Rattle.equation_text.specs.Apart.{AreFrom, AllFrom}
-use Rattle.equation_text.specs.Growing.{Extends, AreGoals, AllGrew, LayersHaveChoices, AllLead}
+use Rattle.equation_text.specs.Growing.{AreGoals, AllGrew, LayersHaveChoices, AllLead}
+use Rattle.release_compile.specs.Pooling.{Extends}
 use Rattle.equation_text.proofs.layers.graph_goals.Given as goal
 
 abbrev pub invariant-loop-layer : goal.invariant-loop-layer

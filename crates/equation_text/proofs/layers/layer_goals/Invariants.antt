@@ -3,7 +3,8 @@ use Rattle.decision_graphs.specs.Label.{layer_at}
 use Rattle.equation_text.specs.EquationLines.{PartLines}
 use Rattle.equation_text.specs.Subjects.{HasChoices}
 use Rattle.equation_text.specs.Apart.{AreFrom, AllFrom}
-use Rattle.equation_text.specs.Growing.{Extends, AreGoals, AllGrew, LayerLeads}
+use Rattle.equation_text.specs.Growing.{AreGoals, AllGrew, LayerLeads}
+use Rattle.release_compile.specs.Pooling.{Extends}
 use Rattle.equation_text.proofs.layers.layer_goals.Given as goal
 
 abbrev pub invariant-loop-node : goal.invariant-loop-node

@@ -1,7 +1,7 @@
 use Rattle.std.proofs.Common.{◌<◌, List, length, refl, subst, arith}
 use Rattle.std.proofs.lemmas.Option.{slice_get_read}
 use Rattle.equation_text.specs.declared.goal.Goal.{Goal}
-use Rattle.equation_text.specs.Growing.{IsRow}
+use Rattle.equation_text.specs.Growing.{LeadToGoals}
 use Rattle.equation_text.proofs.GraphFacts.{size_some}
 use Rattle.equation_text.proofs.GrowingLemmas.{extends_same, row_goals_fit, leads_through}
 use Rattle.equation_text.proofs.ApartLemmas.{longer, row_from}
@@ -23,7 +23,7 @@ returns-clause-leads c = λ parts v cs ds count_cs chosen_cs count_ds chosen_ds.
       c.in_ok-goals.ensures.count,
       size_some c.args.outer.now.labels c.args.outer.now.layers c.labels-outer_fits.ensures.layered,
     ) in
-    let row = subst (λ (next : List Goal). IsRow c.args.inner.now 0 0 next c.in_ok-entries.entries.items)
+    let row = subst (λ (next : List Goal). LeadToGoals c.args.inner.now 0 0 next c.in_ok-entries.entries.items)
     c.deref.ensures.value c.in_ok-entries.ensures in
     leads_through parts c.graph_goals.new.nodes.items c.graph_goals-2.new.nodes.items c.args.others c.args.own
     c.args.outer.now c.args.inner.now v c.in_ok-entries.entries.items goals c.in_ok-inner_goals.inner_goals.items
@@ -41,7 +41,7 @@ returns-clause-apart c = λ lo le ends all.
       c.in_ok-goals.ensures.count,
       size_some c.args.outer.now.labels c.args.outer.now.layers c.labels-outer_fits.ensures.layered,
     ) in
-    let row = subst (λ (next : List Goal). IsRow c.args.inner.now 0 0 next c.in_ok-entries.entries.items)
+    let row = subst (λ (next : List Goal). LeadToGoals c.args.inner.now 0 0 next c.in_ok-entries.entries.items)
     c.deref.ensures.value c.in_ok-entries.ensures in
     let inner = c.in_ok-inner_goals.ensures.apart lo le ends all in
     let row_is = row_from lo c.args.inner.now 0 0 c.in_ok-inner_goals.inner_goals.items c.in_ok-entries.entries.items
@@ -64,7 +64,7 @@ returns-clause-grew c = λ switches parts has_others has_own fit grew.
       c.in_ok-goals.ensures.count,
       size_some c.args.outer.now.labels c.args.outer.now.layers c.labels-outer_fits.ensures.layered,
     ) in
-    let row = subst (λ (next : List Goal). IsRow c.args.inner.now 0 0 next c.in_ok-entries.entries.items)
+    let row = subst (λ (next : List Goal). LeadToGoals c.args.inner.now 0 0 next c.in_ok-entries.entries.items)
     c.deref.ensures.value c.in_ok-entries.ensures in
     let inner = c.in_ok-inner_goals.ensures.grew switches parts has_own fit grew in
     let row_fit = row_goals_fit now now c.args.inner.now 0 0 c.in_ok-inner_goals.inner_goals.items

@@ -1,6 +1,6 @@
 use Rattle.std.proofs.Common.{◌≡◌, ◌∙◌, List, ℕ, map, length, ap, subst}
 use Rattle.bay_contract.specs.declared.fork.Target.{Target}
-use Rattle.equation_text.specs.EquationLines.{PartLines, index_count}
+use Rattle.equation_text.specs.EquationLines.{PartLines, goal_count}
 use Rattle.equation_text.specs.Reading.{MayBeStarts, MayBeOps, MayBeNodes, AreAllSteps}
 use Rattle.equation_text.specs.Stops.{StopsAtStart, StopsAtOps, StopsAtNode}
 use Rattle.equation_text.proofs.WordLemmas.{none_told, some_told}
@@ -50,8 +50,8 @@ returns-in_default-nodes_read c =
     let told3 =
     some_told c.in_ok-ops_read.ops_read _ _ c.in-Some-ops_read.ops c.in-Some-ops_read.is c.in_ok-ops_read.ensures in
     let may3 = subst (λ n. MayBeOps n c.in-Some-ops_read.ops.items) c.switch_count.ensures.count told3.0 in
-    let counts : c.deref-3.result.now ≡ map index_count c.in_ok-parts.parts.items = c.deref-3.ensures.value
-    ∙ c.in_ok-counts.ensures ∙ ap (λ (ps : List PartLines). map index_count ps) c.deref-2.ensures.value in
+    let counts : c.deref-3.result.now ≡ map goal_count c.in_ok-parts.parts.items = c.deref-3.ensures.value
+    ∙ c.in_ok-counts.ensures ∙ ap (λ (ps : List PartLines). map goal_count ps) c.deref-2.ensures.value in
     let l4 = c.read_ops.new.left.text.now in
     let left = c.read_nodes.new.left.text.now in
     let stop = none_told c.in_ok-nodes_read.nodes_read _ _ c.in_default-nodes_read.is c.in_ok-nodes_read.ensures in
@@ -73,8 +73,8 @@ returns-then-not-is_empty c =
     let told3 =
     some_told c.in_ok-ops_read.ops_read _ _ c.in-Some-ops_read.ops c.in-Some-ops_read.is c.in_ok-ops_read.ensures in
     let may3 = subst (λ n. MayBeOps n c.in-Some-ops_read.ops.items) c.switch_count.ensures.count told3.0 in
-    let counts : c.deref-3.result.now ≡ map index_count c.in_ok-parts.parts.items = c.deref-3.ensures.value
-    ∙ c.in_ok-counts.ensures ∙ ap (λ (ps : List PartLines). map index_count ps) c.deref-2.ensures.value in
+    let counts : c.deref-3.result.now ≡ map goal_count c.in_ok-parts.parts.items = c.deref-3.ensures.value
+    ∙ c.in_ok-counts.ensures ∙ ap (λ (ps : List PartLines). map goal_count ps) c.deref-2.ensures.value in
     let told4 =
     some_told c.in_ok-nodes_read.nodes_read _ _ c.in-Some-nodes_read.nodes c.in-Some-nodes_read.is
     c.in_ok-nodes_read.ensures in
@@ -107,8 +107,8 @@ returns c =
     let nodes4 = subst
     (λ n. MayBeNodes n c.deref-3.result.now c.in-Some-nodes_read.nodes.items) c.switch_count-2.ensures.count
     told4.0 in
-    let counts : c.deref-3.result.now ≡ map index_count c.in_ok-parts.parts.items = c.deref-3.ensures.value
-    ∙ c.in_ok-counts.ensures ∙ ap (λ (ps : List PartLines). map index_count ps) c.deref-2.ensures.value in
+    let counts : c.deref-3.result.now ≡ map goal_count c.in_ok-parts.parts.items = c.deref-3.ensures.value
+    ∙ c.in_ok-counts.ensures ∙ ap (λ (ps : List PartLines). map goal_count ps) c.deref-2.ensures.value in
     record {
       parts_may =
           parts_may c.args.station.now c.in-Some.starts.items c.read_starts.new.left.text.now
@@ -136,8 +136,8 @@ returns c =
           let l4 = left_nodes c.args.station.now c.part_count-parts.ensures.station e f c.args.left.now.text.now h.is
           c.in-Some-ops_read.ops.items c.read_all_steps.new.left.text.now
           c.read_ops.new.left.text.now l3.1 may3 told3.1 in
-          let counts_e : c.deref-3.result.now ≡ map index_count e.parts = c.deref-3.ensures.value
-          ∙ c.in_ok-counts.ensures ∙ ap (λ (ps : List PartLines). map index_count ps) (c.deref-2.ensures.value
+          let counts_e : c.deref-3.result.now ≡ map goal_count e.parts = c.deref-3.ensures.value
+          ∙ c.in_ok-counts.ensures ∙ ap (λ (ps : List PartLines). map goal_count ps) (c.deref-2.ensures.value
           ∙ l3.0) in
           let may4 = subst (λ (cs : List ℕ). MayBeNodes
           (length c.args.station.now.switches) cs c.in-Some-nodes_read.nodes.items) counts_e nodes4 in

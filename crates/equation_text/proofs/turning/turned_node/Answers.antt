@@ -2,16 +2,16 @@ use Rattle.std.proofs.Common.{refl, sym, subst}
 use Rattle.equation_text.specs.declared.node.Lead.{Lead}
 use Rattle.equation_text.specs.EquationLines.{NodeLine}
 use Rattle.equation_text.specs.EquationForm.{goals_of}
-use Rattle.equation_text.specs.Inside.{line_of}
+use Rattle.equation_text.specs.Inside.{lead_line}
 use Rattle.equation_text.specs.Growing.{AreGoals}
 use Rattle.equation_text.proofs.turning.turned_node.Goals as goal
 
 pub turned-requires : goal.turned-requires
 turned-requires c =
     let fit = subst (λ (x : NodeLine). AreGoals c.args.total (goals_of x)) (sym c.node.view_is) c.requires in
-    subst (λ (l : Lead). AreGoals c.args.total (goals_of (line_of l))) c.in-Switch.is fit 0 c.in-Switch.off refl
+    subst (λ (l : Lead). AreGoals c.args.total (goals_of (lead_line l))) c.in-Switch.is fit 0 c.in-Switch.off refl
 
 pub turned-requires-in-Switch : goal.turned-requires-in-Switch
 turned-requires-in-Switch c =
     let fit = subst (λ (x : NodeLine). AreGoals c.args.total (goals_of x)) (sym c.node.view_is) c.requires in
-    subst (λ (l : Lead). AreGoals c.args.total (goals_of (line_of l))) c.in-Switch.is fit 1 c.in-Switch.on refl
+    subst (λ (l : Lead). AreGoals c.args.total (goals_of (lead_line l))) c.in-Switch.is fit 1 c.in-Switch.on refl

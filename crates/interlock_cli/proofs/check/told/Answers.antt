@@ -7,12 +7,12 @@ use Rattle.double_points.specs.Words.{AreWords}
 use Rattle.central_rules.specs.declared.verdict.Verdict.{Verdict}
 use Rattle.central_rules.specs.declared.verdict.Verdict.TheVariants.{Release, Denied}
 use Rattle.central_rules.specs.Readings.{Decides, IsReading}
-use Rattle.interlock_cli.specs.CheckText.{IsShown}
+use Rattle.interlock_cli.specs.CheckText.{ShowsVector}
 use Rattle.interlock_cli.proofs.check.told.Goals as goal
 
 -- a denial shows a vector
 shown_of : (d : Diagram) (words : List Dbpos) (op : Op) (verdict : Verdict) → AreWords d words →
-    Decides d (IsReading words) op verdict → IsShown d verdict
+    Decides d (IsReading words) op verdict → ShowsVector d verdict
 shown_of d words op Release are h = tt
 shown_of d words op (Denied rule v) are h = h.0.whole ∙ are
 

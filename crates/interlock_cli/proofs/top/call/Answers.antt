@@ -1,7 +1,7 @@
 use Rattle.std.proofs.Common.{◌≡◌, ◌∙◌, refl, sym, ap, subst, inl, map, string_bytes, Some}
 use Rattle.station_graph.specs.Diagram.{empty}
 use Rattle.interlock_cli.specs.Commands.{command_of, form_of, Node}
-use Rattle.interlock_cli.specs.Seen.{seen}
+use Rattle.interlock_cli.specs.Seen.{seen_command}
 use Rattle.interlock_cli.specs.Ends.{Call, Ends}
 use Rattle.interlock_cli.proofs.Stopping.{appends_nothing, keeps_same, stops_end, unread_ends, wrote_end}
 use Rattle.interlock_cli.proofs.top.call.Goals as goal
@@ -31,14 +31,16 @@ returns-in-Err-clause-ends g c =
 
 pub returns-in-Ok-node-clause-input : goal.returns-in-Ok-node-clause-input
 returns-in-Ok-node-clause-input g c = λ other.
-    let named : command_of (map string_bytes c.args.words.now) ≡ Some (seen c.in-Ok.command) = c.in-Ok.ensures.ok in
+    let named : command_of (map string_bytes c.args.words.now) ≡ Some (seen_command c.in-Ok.command) =
+        c.in-Ok.ensures.ok in
     absurd (other (rw (named, c.in-Node.is) (empty, (0, tt))))
 
 pub returns-in-Err-node-clause-ends : goal.returns-in-Err-node-clause-ends
 returns-in-Err-node-clause-ends g c =
-    let named : command_of (map string_bytes c.args.words.now) ≡ Some (seen c.in-Ok.command) = c.in-Ok.ensures.ok in
+    let named : command_of (map string_bytes c.args.words.now) ≡ Some (seen_command c.in-Ok.command) =
+        c.in-Ok.ensures.ok in
     let node : command_of (map string_bytes c.args.words.now) ≡ Some (Node c.in-Node.station.now c.in-Node.bay.now) =
-    named ∙ ap (λ k. Some (seen k)) c.in-Node.is in
+    named ∙ ap (λ k. Some (seen_command k)) c.in-Node.is in
     let x : Call = record {
       held = g.F.Shelf.held c.args.shelf.now;
       reads_before = g.F.Shelf.faults c.args.shelf.now;
@@ -69,7 +71,8 @@ returns-in-Err-node-clause-ends g c =
 
 pub returns-in-Ok-output_of : goal.returns-in-Ok-output_of
 returns-in-Ok-output_of g c =
-    let named : command_of (map string_bytes c.args.words.now) ≡ Some (seen c.in-Ok.command) = c.in-Ok.ensures.ok in
+    let named : command_of (map string_bytes c.args.words.now) ≡ Some (seen_command c.in-Ok.command) =
+        c.in-Ok.ensures.ok in
     let x : Call = record {
       held = g.F.Shelf.held c.args.shelf.now;
       reads_before = g.F.Shelf.faults c.args.shelf.now;
@@ -90,7 +93,7 @@ returns-in-Ok-output_of g c =
     record {
       ends = subst (λ k. Ends k x c.write_output.result) (sym named)
           (inl (
-            wrote_end (form_of (seen c.in-Ok.command)) x c.in-Ok-output_of.output c.write_output.result
+            wrote_end (form_of (seen_command c.in-Ok.command)) x c.in-Ok-output_of.output c.write_output.result
                 c.in-Ok-output_of.ensures.ok c.write_output.ensures,
             record { left = keeps_same (g.I.Source.left c.args.input.now); reads = refl },
           ));
@@ -100,7 +103,8 @@ returns-in-Ok-output_of g c =
 
 pub returns-in-Err-output_of : goal.returns-in-Err-output_of
 returns-in-Err-output_of g c =
-    let named : command_of (map string_bytes c.args.words.now) ≡ Some (seen c.in-Ok.command) = c.in-Ok.ensures.ok in
+    let named : command_of (map string_bytes c.args.words.now) ≡ Some (seen_command c.in-Ok.command) =
+        c.in-Ok.ensures.ok in
     let x : Call = record {
       held = g.F.Shelf.held c.args.shelf.now;
       reads_before = g.F.Shelf.faults c.args.shelf.now;
@@ -121,7 +125,7 @@ returns-in-Err-output_of g c =
     record {
       ends = subst (λ k. Ends k x c.in-Err-output_of.end) (sym named)
           (inl (
-            stops_end (form_of (seen c.in-Ok.command)) x c.in-Err-output_of.end
+            stops_end (form_of (seen_command c.in-Ok.command)) x c.in-Err-output_of.end
                 (appends_nothing (g.O.Sink.took c.args.out.now)) c.in-Err-output_of.ensures.err,
             record { left = keeps_same (g.I.Source.left c.args.input.now); reads = refl },
           ));

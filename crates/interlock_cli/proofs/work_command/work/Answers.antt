@@ -3,7 +3,7 @@ use Rattle.ssd_read.specs.StandsFor.{Stands}
 use Rattle.station_make.specs.DrawingText.{station_text}
 use Rattle.station_make.specs.EventsText.{events_text}
 use Rattle.station_make.specs.PositionsText.{positions_text}
-use Rattle.interlock_cli.specs.Formats.{Drawing, Positions, LogOf, Accepts}
+use Rattle.interlock_cli.specs.Formats.{Drawing, Positions, LogOf, AcceptsAs}
 use Rattle.interlock_cli.specs.Form.{Word}
 use Rattle.interlock_cli.proofs.Drawings.{drawn_fails}
 use Rattle.interlock_cli.proofs.Later.{word_fails}
@@ -46,7 +46,7 @@ returns-in-Err-judge_log-clause-err c = λ held before after.
     let positions = positions_text c.args.feeders.number in
     let stands : Stands text (Ok d) =
     rw (c.bytes.ensures, c.in-Ok.ensures.station) at c.in-Ok-judge_drawing.ensures.ok in
-    let accepted : Accepts (Positions d) positions words =
+    let accepted : AcceptsAs (Positions d) positions words =
     rw (c.bytes-2.ensures, c.in-Ok.ensures.positions) at c.in-Ok-judge_positions.ensures.ok in
     let refused = c.in-Err-judge_log in
     let refuses = rw (c.bytes-3.ensures, c.in-Ok.ensures.events) at refused.ensures.err in
@@ -70,9 +70,9 @@ returns-in-Ok-work_output-clause-ok c = λ held.
     let log = events_text c.args.feeders.number in
     let stands : Stands text (Ok d) =
     rw (c.bytes.ensures, c.in-Ok.ensures.station) at c.in-Ok-judge_drawing.ensures.ok in
-    let accepted : Accepts (Positions d) positions words =
+    let accepted : AcceptsAs (Positions d) positions words =
     rw (c.bytes-2.ensures, c.in-Ok.ensures.positions) at c.in-Ok-judge_positions.ensures.ok in
-    let logged : Accepts (LogOf d) log events =
+    let logged : AcceptsAs (LogOf d) log events =
     rw (c.bytes-3.ensures, c.in-Ok.ensures.events) at c.in-Ok-judge_log.ensures.ok in (
       d,
       (text, refl, (stands, c.in-Ok-build_judge.ensures.ok)),

@@ -1,5 +1,5 @@
 use Rattle.std.proofs.Common.{ap, ◌∙◌}
-use Rattle.interlock_cli.specs.ReplayWrites.{ended}
+use Rattle.interlock_cli.specs.ReplayWrites.{replay_outcome}
 use Rattle.interlock_cli.proofs.work_command.work_output.Goals as goal
 
 pub returns : goal.returns
@@ -14,6 +14,6 @@ returns c =
         count = report.ensures.count;
         headline = report.ensures.headline;
       },
-      c.ended.ensures ∙ ap ended c.premise.ensures,
+      c.ended.ensures ∙ ap replay_outcome c.premise.ensures,
       c.in_ok-text.ensures,
     )

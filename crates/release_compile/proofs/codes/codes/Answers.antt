@@ -3,7 +3,7 @@ use Rattle.std.proofs.lemmas.List.{length-map}
 use Rattle.std.proofs.lemmas.Option.{slice_get_read, slice_get-get_or}
 use Rattle.contraction.specs.Answers.{Answers}
 use Rattle.contraction.specs.Renaming.{mapped}
-use Rattle.release_compile.specs.Places.{node_of}
+use Rattle.release_compile.specs.Places.{node_listed}
 use Rattle.release_compile.specs.Layering.{values_at, no_answers}
 use Rattle.release_compile.proofs.BridgeLemmas.{number_at}
 use Rattle.release_compile.proofs.MappedPools.{at_mapped}
@@ -13,7 +13,7 @@ use Rattle.release_compile.proofs.codes.codes.Goals as goal
 pub loop-t-init : goal.loop-t-init
 loop-t-init c =
     let values : List Answers =
-    values_at (map (mapped (node_of c.args.list.now)) c.args.pool.now.values.items) c.args.states.now in
+    values_at (map (mapped (node_listed c.args.list.now)) c.args.pool.now.values.items) c.args.states.now in
     subst (λ (xs : List ℕ). CodesBelow c.args.pool.now.view c.args.station.now c.args.id.0 values xs 0)
     (sym c.new-codes.ensures.items) (codes_none c.args.pool.now.view c.args.station.now c.args.id.0 values)
 
@@ -31,7 +31,7 @@ on_nodes-requires-clause-within c p kept =
 
 pub code-label-requires-clause-ends : goal.code-label-requires-clause-ends
 code-label-requires-clause-ends c =
-    let f : ℕ → ℕ = node_of c.args.list.now in
+    let f : ℕ → ℕ = node_listed c.args.list.now in
     let values = c.args.pool.now.values.items in
     let states = c.args.states.now in
     let t = c.loop-t.t in
@@ -47,7 +47,7 @@ code-label-requires-clause-ends c =
 
 pub loop-t-preserved : goal.loop-t-preserved
 loop-t-preserved c =
-    let f : ℕ → ℕ = node_of c.args.list.now in
+    let f : ℕ → ℕ = node_listed c.args.list.now in
     let view = c.args.pool.now.view in
     let d = c.args.station.now in
     let m = c.args.id.0 in
@@ -70,7 +70,7 @@ loop-t-preserved c =
 
 pub returns : goal.returns
 returns c =
-    let values : List Answers = map (mapped (node_of c.args.list.now)) c.args.pool.now.values.items in
+    let values : List Answers = map (mapped (node_listed c.args.list.now)) c.args.pool.now.values.items in
     let states = c.args.states.now in
     codes_all c.args.pool.now.view c.args.station.now c.args.id.0 (values_at values states) c.loop-t.codes.items
     c.loop-t.t c.loop-t.invariant

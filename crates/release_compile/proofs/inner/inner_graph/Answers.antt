@@ -10,13 +10,13 @@ use Rattle.release_compile.specs.declared.pool.Pool.{Pool}
 use Rattle.release_compile.specs.declared.noted.Intake.{Intake}
 use Rattle.release_compile.specs.declared.noted.Copied.{Copied}
 use Rattle.release_compile.specs.Lettered.{Lettered, lettered}
-use Rattle.release_compile.specs.Places.{node_of, pool_on}
+use Rattle.release_compile.specs.Places.{node_listed, pool_on}
 use Rattle.release_compile.specs.Layering.{values_at, no_answers}
 use Rattle.release_compile.specs.Graphs.{IsInner}
 use Rattle.release_compile.specs.Coding.{AreCodes}
 use Rattle.release_compile.specs.Counted.{InnerHas, Spends, Passes, InnerIsSmall}
 use Rattle.release_compile.specs.Plans.{PlanPasses}
-use Rattle.release_compile.specs.Noting.{rows_of}
+use Rattle.release_compile.specs.Noting.{letter_rows}
 use Rattle.release_compile.proofs.LayeringLemmas.{grew_more, grows}
 use Rattle.release_compile.proofs.MappedPools.{at_mapped, values_on}
 use Rattle.release_compile.proofs.NotingLemmas.{all_right_stay}
@@ -47,7 +47,7 @@ taken_again-requires-clause-linked c =
     let first = c.args.first in
     let others = c.args.others in
     let list : List ℕ = c.in_ok-list.list in
-    let f : ℕ → ℕ = node_of list in
+    let f : ℕ → ℕ = node_listed list in
     let order = places_rise list c.in_ok-list.ensures.nodes in
     let p0 : Pool = c.args.pool.now in
     let p : Pool = c.inner_intake.new.pool in
@@ -82,7 +82,7 @@ codes-requires-clause-places c k place x at kept =
     let first = c.args.first in
     let others = c.args.others in
     let list : List ℕ = c.in_ok-list.list in
-    let f : ℕ → ℕ = node_of list in
+    let f : ℕ → ℕ = node_listed list in
     let order = places_rise list c.in_ok-list.ensures.nodes in
     let p0 : Pool = c.args.pool.now in
     let p : Pool = c.inner_intake.new.pool in
@@ -115,7 +115,7 @@ codes-requires-clause-ends c k x at =
     let first = c.args.first in
     let others = c.args.others in
     let list : List ℕ = c.in_ok-list.list in
-    let f : ℕ → ℕ = node_of list in
+    let f : ℕ → ℕ = node_listed list in
     let order = places_rise list c.in_ok-list.ensures.nodes in
     let p0 : Pool = c.args.pool.now in
     let p : Pool = c.inner_intake.new.pool in
@@ -136,7 +136,7 @@ codes-requires-clause-ends c k x at =
 pub rename-requires-clause-count : goal.rename-requires-clause-count
 rename-requires-clause-count c =
     let t = c.in_ok-whole.ensures.taken in
-    let values : List Answers = map (mapped (node_of c.in_ok-list.list)) c.taken_again.new.pool.values.items in
+    let values : List Answers = map (mapped (node_listed c.in_ok-list.list)) c.taken_again.new.pool.values.items in
     let labels : c.in_ok-whole.whole.graph.labels ≡ length c.in_ok-whole.whole.names.items =
     ap (λ (h : Layered). h.labels) t.graph ∙ (t.right.labels ∙ ap length (sym t.names)) in
     ap length c.deref.ensures.value
@@ -147,7 +147,7 @@ rename-requires-clause-count c =
 pub rename-requires-clause-within : goal.rename-requires-clause-within
 rename-requires-clause-within c =
     let t = c.in_ok-whole.ensures.taken in
-    let values : List Answers = map (mapped (node_of c.in_ok-list.list)) c.taken_again.new.pool.values.items in
+    let values : List Answers = map (mapped (node_listed c.in_ok-list.list)) c.taken_again.new.pool.values.items in
     let labels : c.in_ok-whole.whole.graph.labels ≡ length c.in_ok-whole.whole.names.items =
     ap (λ (h : Layered). h.labels) t.graph ∙ (t.right.labels ∙ ap length (sym t.names)) in
     let count : length c.in_ok-labels.labels.items ≡ c.in_ok-whole.whole.graph.labels =
@@ -174,7 +174,7 @@ returns-clause-inner c letters =
     let first = c.args.first in
     let others = c.args.others in
     let list : List ℕ = c.in_ok-list.list in
-    let f : ℕ → ℕ = node_of list in
+    let f : ℕ → ℕ = node_listed list in
     let order = places_rise list c.in_ok-list.ensures.nodes in
     let p0 : Pool = c.args.pool.now in
     let p : Pool = c.inner_intake.new.pool in
@@ -241,7 +241,7 @@ returns-clause-small c =
     let first = c.args.first in
     let others = c.args.others in
     let list : List ℕ = c.in_ok-list.list in
-    let f : ℕ → ℕ = node_of list in
+    let f : ℕ → ℕ = node_listed list in
     let order = places_rise list c.in_ok-list.ensures.nodes in
     let p0 : Pool = c.args.pool.now in
     let p : Pool = c.inner_intake.new.pool in
@@ -275,7 +275,7 @@ returns-clause-spent c =
     let first = c.args.first in
     let others = c.args.others in
     let list : List ℕ = c.in_ok-list.list in
-    let f : ℕ → ℕ = node_of list in
+    let f : ℕ → ℕ = node_listed list in
     let order = places_rise list c.in_ok-list.ensures.nodes in
     let p0 : Pool = c.args.pool.now in
     let p : Pool = c.inner_intake.new.pool in
@@ -304,7 +304,7 @@ returns-clause-left c =
     let first = c.args.first in
     let others = c.args.others in
     let list : List ℕ = c.in_ok-list.list in
-    let f : ℕ → ℕ = node_of list in
+    let f : ℕ → ℕ = node_listed list in
     let order = places_rise list c.in_ok-list.ensures.nodes in
     let p0 : Pool = c.args.pool.now in
     let p : Pool = c.inner_intake.new.pool in
@@ -334,7 +334,7 @@ returns-in_err-whole-clause-wide c =
     let first = c.args.first in
     let others = c.args.others in
     let list : List ℕ = c.in_ok-list.list in
-    let f : ℕ → ℕ = node_of list in
+    let f : ℕ → ℕ = node_listed list in
     let order = places_rise list c.in_ok-list.ensures.nodes in
     let p0 : Pool = c.args.pool.now in
     let p : Pool = c.inner_intake.new.pool in
@@ -348,4 +348,4 @@ returns-in_err-whole-clause-wide c =
     (fits_on a b m first others f order p i r.labels r.ready) in
     subst (λ v. Passes (InnerHas v d b m first others others) d c.args.left) c.in_ok-intake.ensures.grew.view
     (taken_passes a b m first others f order p i r.labels r.ready c.args.left
-    (subst (λ n. PlanPasses p.view plan (rows_of i) n) e past)))
+    (subst (λ n. PlanPasses p.view plan (letter_rows i) n) e past)))

@@ -3,7 +3,7 @@ use Rattle.contraction.specs.Answers.{Answers}
 use Rattle.bay_contract.specs.PartAlphabets.{Alphabets}
 use Rattle.release_compile.specs.declared.pool.Pool.{Pool}
 use Rattle.release_compile.specs.Lettered.{Lettered, lettered}
-use Rattle.release_compile.specs.Places.{node_of, pool_on}
+use Rattle.release_compile.specs.Places.{node_listed, pool_on}
 use Rattle.release_compile.specs.Layering.{values_at}
 use Rattle.release_compile.proofs.LayeringLemmas.{grew_more, grows}
 use Rattle.release_compile.proofs.MappedPools.{grows_on}
@@ -42,7 +42,7 @@ returns-clause-ready c letters =
     let a : Lettered = lettered d letters in
     let b = c.args.bay.0 in
     let list : List ℕ = c.args.list.now in
-    let f : ℕ → ℕ = node_of list in
+    let f : ℕ → ℕ = node_listed list in
     let p0 : Pool = c.args.pool.now in
     let p1 : Pool = c.names_in_places.new.pool in
     let p2 : Pool = c.links.new.pool in

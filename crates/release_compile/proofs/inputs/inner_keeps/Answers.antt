@@ -4,7 +4,7 @@ use Rattle.contraction.specs.Answers.{Keeps}
 use Rattle.contraction.proofs.MergeLemmas.{few_nodes}
 use Rattle.contraction.proofs.PlaceLemmas.{has_from_keeps}
 use Rattle.release_compile.specs.Needing.{InnerNeeds}
-use Rattle.release_compile.specs.Places.{node_of, pool_on}
+use Rattle.release_compile.specs.Places.{node_listed, pool_on}
 use Rattle.release_compile.specs.Inputs.{AreKeeps, HasNodes}
 use Rattle.release_compile.proofs.LayeringLemmas.{grew_more, grows}
 use Rattle.release_compile.proofs.MappedPools.{at_mapped, grows_on}
@@ -32,7 +32,7 @@ places_of-requires-in-loop-from-clause-has c n kept =
 
 pub loop-from-init : goal.loop-from-init
 loop-from-init c =
-    let f : ℕ → ℕ = node_of c.args.list.now in
+    let f : ℕ → ℕ = node_listed c.args.list.now in
     let N : ℕ → ℕ → Type 0 = InnerNeeds c.args.station.now c.args.bay.0 c.args.moved c.args.first c.args.others in
     let p = c.args.pool.now in
     let q = c.keep.new.self in
@@ -54,7 +54,7 @@ loop-from-init c =
 
 pub loop-from-preserved : goal.loop-from-preserved
 loop-from-preserved c =
-    let f : ℕ → ℕ = node_of c.args.list.now in
+    let f : ℕ → ℕ = node_listed c.args.list.now in
     let N : ℕ → ℕ → Type 0 = InnerNeeds c.args.station.now c.args.bay.0 c.args.moved c.args.first c.args.others in
     let p = c.loop-from.pool in
     let q = c.keep-in-loop-from.new.self in
@@ -79,5 +79,5 @@ returns-clause-keeps c =
     let N : ℕ → ℕ → Type 0 = InnerNeeds c.args.station.now c.args.bay.0 c.args.moved c.args.first c.args.others in
     let done : c.loop-from.from + 1 ≡ suc (suc c.args.others) =
     omega (arith, c.loop-from.auto.from-end, c.loop-from-test.false) in
-    subst (λ n. AreKeeps N (pool_on (node_of c.args.list.now) c.loop-from.pool) c.loop-from.keeps.items n) done
+    subst (λ n. AreKeeps N (pool_on (node_listed c.args.list.now) c.loop-from.pool) c.loop-from.keeps.items n) done
     c.loop-from.invariant.keeps

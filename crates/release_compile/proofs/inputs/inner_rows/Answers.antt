@@ -3,7 +3,7 @@ use Rattle.std.proofs.lemmas.List.{map-append}
 use Rattle.station_graph.specs.Connection.{a_switch}
 use Rattle.station_graph.specs.Sharing.{Touches}
 use Rattle.release_compile.specs.Graphs.{other_of}
-use Rattle.release_compile.specs.Places.{node_of, pool_on}
+use Rattle.release_compile.specs.Places.{node_listed, pool_on}
 use Rattle.release_compile.specs.Inputs.{AreInnerRows, HasPair}
 use Rattle.release_compile.proofs.VerdictLemmas.{other_in}
 use Rattle.release_compile.proofs.LayeringLemmas.{grew_same, grew_more, grows}
@@ -14,7 +14,7 @@ use Rattle.release_compile.proofs.inputs.inner_rows.Goals as goal
 pub loop-i-init : goal.loop-i-init
 loop-i-init c =
     let d = c.args.station.now in
-    let p = pool_on (node_of c.args.list.now) c.args.pool.now in
+    let p = pool_on (node_listed c.args.list.now) c.args.pool.now in
     let names : List ℕ = c.args.names.items in
     let rows : List (List ℕ) = map (λ (v : Vec ℕ Global). v.items) c.push.new.self.items in
     let is : rows ≡ names ∷ [] =
@@ -43,7 +43,7 @@ switch_pair-requires-clause-has c n t =
 pub loop-i-preserved : goal.loop-i-preserved
 loop-i-preserved c =
     let d = c.args.station.now in
-    let f : ℕ → ℕ = node_of c.args.list.now in
+    let f : ℕ → ℕ = node_listed c.args.list.now in
     let i = c.loop-i.i in
     let p = c.loop-i.pool in
     let q = c.switch_pair.new.pool in
@@ -68,5 +68,5 @@ pub returns-clause-rows : goal.returns-clause-rows
 returns-clause-rows c =
     let done : c.loop-i.i ≡ c.args.others = omega (arith, c.loop-i.auto.i-end, c.loop-i-test.false) in
     subst (λ n. AreInnerRows c.args.station.now c.args.moved c.args.first
-    (pool_on (node_of c.args.list.now) c.loop-i.pool) c.args.names.items
+    (pool_on (node_listed c.args.list.now) c.loop-i.pool) c.args.names.items
     (map (λ (v : Vec ℕ Global). v.items) c.loop-i.rows.items) n) done c.loop-i.invariant.rows

@@ -1,5 +1,5 @@
 use Rattle.contraction.specs.Answers.{Answers}
-use Rattle.release_compile.specs.Places.{node_of, pool_on}
+use Rattle.release_compile.specs.Places.{node_listed, pool_on}
 use Rattle.release_compile.proofs.InputsLemmas.{links_of}
 use Rattle.release_compile.proofs.inputs.links.Goals as goal
 
@@ -9,5 +9,5 @@ intern_in_places-requires-clause-has c n kept = (c.in_ok-value.ensures.kept n).0
 pub returns-clause-links : goal.returns-clause-links
 returns-clause-links c =
     let x : Answers = c.in_ok-value.value in
-    links_of (pool_on (node_of c.args.list.now) c.intern_in_places.new.pool) c.args.station.now c.args.bay.0
+    links_of (pool_on (node_listed c.args.list.now) c.intern_in_places.new.pool) c.args.station.now c.args.bay.0
     c.args.list.now x c.in_ok-id.id c.in_ok-id.ensures.same c.in_ok-value.ensures.kept c.in_ok-value.ensures.stands

@@ -1,5 +1,5 @@
 use Rattle.contraction.specs.Answers.{Answers}
-use Rattle.release_compile.specs.Places.{node_of, pool_on}
+use Rattle.release_compile.specs.Places.{node_listed, pool_on}
 use Rattle.release_compile.proofs.InputsLemmas.{switch_of}
 use Rattle.release_compile.proofs.inputs.switch_id.Goals as goal
 
@@ -9,6 +9,6 @@ intern_in_places-requires-clause-has c n kept = c.requires.has n ((c.in_ok-value
 pub returns-clause-has : goal.returns-clause-has
 returns-clause-has c =
     let x : Answers = c.in_ok-value.value in
-    switch_of (pool_on (node_of c.args.list.now) c.intern_in_places.new.pool) c.args.station.now c.args.id.0
+    switch_of (pool_on (node_listed c.args.list.now) c.intern_in_places.new.pool) c.args.station.now c.args.id.0
     c.args.closed x c.in_ok-place.place c.in_ok-place.ensures.same c.in_ok-value.ensures.kept
     c.in_ok-value.ensures.stands

@@ -1,6 +1,6 @@
 use Rattle.std.proofs.Common.{◌++◌, ◌∷◌, [], ap, ◌∙◌, false}
 use Rattle.release_compile.proofs.LayeringLemmas.{grew_more, grows}
-use Rattle.release_compile.specs.Places.{node_of, pool_on}
+use Rattle.release_compile.specs.Places.{node_listed, pool_on}
 use Rattle.release_compile.proofs.MappedPools.{grows_on}
 use Rattle.release_compile.proofs.InputsLemmas.{switch_stays}
 use Rattle.release_compile.proofs.inputs.switch_pair.Goals as goal
@@ -19,8 +19,8 @@ returns-clause-pair c = record {
       ∙ (ap (λ xs. xs ++ c.in_ok-on.on ∷ [])
       (c.in_ok-push.ensures.items ∙ ap (λ xs. xs ++ c.in_ok-off.off ∷ []) c.new-ids.ensures.items));
   off_has =
-      switch_stays (pool_on (node_of c.args.list.now) c.switch_id.new.pool)
-      (pool_on (node_of c.args.list.now) c.switch_id-2.new.pool) (grows_on (node_of c.args.list.now)
+      switch_stays (pool_on (node_listed c.args.list.now) c.switch_id.new.pool)
+      (pool_on (node_listed c.args.list.now) c.switch_id-2.new.pool) (grows_on (node_listed c.args.list.now)
       c.switch_id.new.pool c.switch_id-2.new.pool
       (grows c.switch_id.new.pool c.switch_id-2.new.pool c.in_ok-on.ensures.grew)) c.args.station.now c.args.id.0 false
       c.in_ok-off.off c.in_ok-off.ensures.has;

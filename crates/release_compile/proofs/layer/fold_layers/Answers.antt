@@ -16,7 +16,7 @@ use Rattle.release_compile.specs.Layering.{AreEdges, values_at, no_answers}
 use Rattle.release_compile.specs.Counted.{Spends, AreAtLeast}
 use Rattle.release_compile.specs.Folding.{IsExact, ReachesMore}
 use Rattle.decision_graphs.specs.Finished.{layer_with}
-use Rattle.release_compile.specs.Plans.{PlanHas, SameBefore, diagram_of, ChosenBy, items_of, NeededBy, layers_of}
+use Rattle.release_compile.specs.Plans.{PlanHas, SameBefore, plan_diagram, ChosenBy, items_of, NeededBy, layers_of}
 use Rattle.release_compile.proofs.LayeringLemmas.{grew_same, grew_more, grew_in, keep_in, at_least, grows, sound}
 use Rattle.release_compile.proofs.MappedPools.{at_mapped, grows_on, linked_on, sound_on, edges_on, reaches_on}
 use Rattle.release_compile.proofs.PlanLemmas.{start_exact, layer_exact, next_kept, next_in, next_some, edges_lead}
@@ -42,7 +42,7 @@ layers-init c =
       nodes = omega (arith, ap (sum_by (λ (l : FinishedLayer). l.nodes)) c.new-layers.ensures.items);
       spends = λ f plan order fits. record {
         edges = 0;
-        has = plan_none (AreSoMany (diagram_of plan)) p.view plan letters;
+        has = plan_none (AreSoMany (plan_diagram plan)) p.view plan letters;
         all = omega arith;
       };
       choices = ap (map (λ (l : FinishedLayer). l.choices)) c.new-layers.ensures.items;
@@ -53,9 +53,10 @@ layers-init c =
           λ t i m x nodes at_i at_x at_m at_nodes n. start_kept_at p c.args.start letters c.args.keeps.now
           c.requires.linked t i m x nodes (ap (λ xs. slice_get xs t) (sym is) ∙ at_i) at_x at_m at_nodes n;
       exact = λ f plan order fits.
-          subst (λ ds. IsExact p.view (diagram_of plan) (ChosenBy plan) (items_of plan) (NeededBy plan) 0 (layers_of ds)
+          subst (λ ds. IsExact p.view (plan_diagram plan) (ChosenBy plan) (items_of plan) (NeededBy plan) 0
+              (layers_of ds)
           (values_at (map (mapped f) p.values.items) c.in_ok-states.states.items)) (sym c.new-layers.ensures.items)
-          (subst (λ xs. IsExact p.view (diagram_of plan) (ChosenBy plan) (items_of plan) (NeededBy plan) 0 []
+          (subst (λ xs. IsExact p.view (plan_diagram plan) (ChosenBy plan) (items_of plan) (NeededBy plan) 0 []
           (values_at (map (mapped f) p.values.items) xs)) (sym is)
           (start_exact plan (pool_on f p) c.args.start letters c.args.keeps.now
           (sound_on f order p (sound p c.requires.pool))
@@ -220,7 +221,8 @@ layers-preserved c =
           let made : length values * length row ≡ length c.as_slice-held.result.now * length row =
           ap (λ n. n * length row)
           (length-map states (λ i. get_or (map (mapped f) q.values.items) i no_answers) ∙ sym count) in
-          subst (λ n. Spends (PlanHas p.view plan letters (j + 1)) (diagram_of plan) c.args.budget (c.layers.left - n))
+          subst (λ n. Spends (PlanHas p.view plan letters (j + 1)) (plan_diagram plan) c.args.budget
+              (c.layers.left - n))
           made
           (plan_spends p.view plan letters j c.args.budget c.layers.left (length values) row
           (c.layers.invariant.spends f plan order fits) at_j (states_count p.view plan j
@@ -257,12 +259,13 @@ layers-preserved c =
           (sound_on f order r holds) j k row (map f nodes) at_j at_k at_on states next edges
           (λ t i at. in_on i (c.layers.invariant.states_in t i at)) c.layers.invariant.some e_on plan
           (layers_of c.layers.layers.items) fits (c.layers.invariant.exact f plan order fits) in
-          let with_count = subst (λ n. IsExact p.view (diagram_of plan) (ChosenBy plan) (items_of plan) (NeededBy plan)
+          let with_count = subst (λ n. IsExact p.view (plan_diagram plan) (ChosenBy plan) (items_of plan)
+              (NeededBy plan)
           (suc j) (layers_of c.layers.layers.items ++ layer_with (length row) n edges ∷ [])
           (values_at (map (mapped f) r.values.items) next)) (sym count) done in
-          let with_drafts = subst (λ ls. IsExact p.view (diagram_of plan) (ChosenBy plan) (items_of plan)
+          let with_drafts = subst (λ ls. IsExact p.view (plan_diagram plan) (ChosenBy plan) (items_of plan)
           (NeededBy plan) (suc j) ls (values_at (map (mapped f) r.values.items) next)) (sym drafts) with_count in
-          subst (λ n. IsExact p.view (diagram_of plan) (ChosenBy plan) (items_of plan) (NeededBy plan) n
+          subst (λ n. IsExact p.view (plan_diagram plan) (ChosenBy plan) (items_of plan) (NeededBy plan) n
           (layers_of c.push.new.self.items) (values_at (map (mapped f) r.values.items) next))
           (sym (add-one j)) with_drafts;
     }
@@ -283,7 +286,7 @@ pub returns-clause-exact : goal.returns-clause-exact
 returns-clause-exact c f plan order fits =
     let p = c.args.pool.now in
     let done : c.layers.j ≡ length c.args.letters.now = omega (arith, c.layers.auto.j-end, c.layers-test.false) in
-    subst (λ n. IsExact p.view (diagram_of plan) (ChosenBy plan) (items_of plan) (NeededBy plan) n
+    subst (λ n. IsExact p.view (plan_diagram plan) (ChosenBy plan) (items_of plan) (NeededBy plan) n
     (layers_of c.layers.layers.items) (values_at (map (mapped f) c.layers.pool.values.items) c.layers.states.items))
     done (c.layers.invariant.exact f plan order fits)
 
@@ -292,7 +295,7 @@ returns-clause-spent c f plan order fits =
     let p = c.args.pool.now in
     let letters : List (List ℕ) = map (λ (v : Vec ℕ Global). v.items) c.args.letters.now in
     let done : c.layers.j ≡ length c.args.letters.now = omega (arith, c.layers.auto.j-end, c.layers-test.false) in
-    subst (λ n. Spends (PlanHas p.view plan letters n) (diagram_of plan) c.args.budget c.layers.left) done
+    subst (λ n. Spends (PlanHas p.view plan letters n) (plan_diagram plan) c.args.budget c.layers.left) done
     (c.layers.invariant.spends f plan order fits)
 
 pub returns-then-too_many-clause-wide : goal.returns-then-too_many-clause-wide
@@ -311,7 +314,7 @@ returns-then-too_many-clause-wide c e f plan order fits =
     let made : length values * length row ≡ length c.as_slice-held.result.now * length row =
     ap (λ n. n * length row) (length-map c.layers.states.items
     (λ i. get_or (map (mapped f) q.values.items) i no_answers) ∙ sym (ap length c.as_slice-held.ensures.value)) in
-    let many = at_least_of (diagram_of plan) (SameBefore p.view plan j) (length values) (states_count p.view plan j
+    let many = at_least_of (plan_diagram plan) (SameBefore p.view plan j) (length values) (states_count p.view plan j
     (layers_of c.layers.layers.items) values (c.layers.invariant.exact f plan order fits)) in
     plan_passes p.view plan letters j c.args.budget c.layers.left (length values) row
     (c.layers.invariant.spends f plan order fits) at_j many
@@ -367,7 +370,7 @@ returns-in_err-step-clause-wide c =
     states at_j at_k at_on plan fits (layers_of c.layers.layers.items) exact c.most_nodes-most.result more_on in
     passes_next p.view plan letters j c.args.budget (c.layers.left - length values * length row) reached.0
     c.most_nodes-most.result spent
-    (subst (λ n. AreAtLeast (diagram_of plan) (SameBefore p.view plan n) reached.0) (sym (add-one j)) reached.3)
+    (subst (λ n. AreAtLeast (plan_diagram plan) (SameBefore p.view plan n) reached.0) (sym (add-one j)) reached.3)
     (λ ids at some. subst (λ n. c.layers.left - n < reached.0 * length ids) (sym made)
     (c.most_nodes-most.ensures.many reached.0 ids at some reached.1))
     c.requires.linked.some

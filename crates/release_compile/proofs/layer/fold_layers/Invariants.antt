@@ -10,7 +10,7 @@ use Rattle.release_compile.specs.Places.{pool_on}
 use Rattle.release_compile.specs.Layering.{values_at}
 use Rattle.release_compile.specs.Counted.{Spends}
 use Rattle.release_compile.specs.Folding.{IsExact}
-use Rattle.release_compile.specs.Plans.{Plan, PlanFits, PlanHas, diagram_of, ChosenBy, items_of, NeededBy, layers_of}
+use Rattle.release_compile.specs.Plans.{Plan, PlanFits, PlanHas, plan_diagram, ChosenBy, items_of, NeededBy, layers_of}
 use Rattle.release_compile.proofs.layer.fold_layers.Given as goal
 
 abbrev pub invariant-layers : goal.invariant-layers
@@ -22,7 +22,7 @@ invariant-layers l = record {
   nodes : sum_by (λ (l : FinishedLayer). l.nodes) l.layers.items + l.left ≤ l.budget;
   spends : (f : ℕ → ℕ) (plan : Plan) → KeepsOrder f →
       PlanFits plan (pool_on f l.fn.pool) l.start (map (λ v. v.items) l.letters) l.keeps →
-      Spends (PlanHas l.fn.pool.view plan (map (λ v. v.items) l.letters) l.j) (diagram_of plan) l.budget l.left;
+      Spends (PlanHas l.fn.pool.view plan (map (λ v. v.items) l.letters) l.j) (plan_diagram plan) l.budget l.left;
   choices : map (λ (l : FinishedLayer). l.choices) l.layers.items
       ≡ map length (take l.j (map (λ v. v.items) l.letters));
   finished : AreFinished (length l.states.items) l.layers.items;
@@ -31,6 +31,6 @@ invariant-layers l = record {
       slice_get l.fn.pool.keeps.items m ≡ Some nodes → (n : ℕ) → Keeps x.kept n ↔ Contains nodes n;
   exact : (f : ℕ → ℕ) (plan : Plan) → KeepsOrder f →
       PlanFits plan (pool_on f l.fn.pool) l.start (map (λ v. v.items) l.letters) l.keeps →
-      IsExact l.fn.pool.view (diagram_of plan) (ChosenBy plan) (items_of plan) (NeededBy plan) l.j
+      IsExact l.fn.pool.view (plan_diagram plan) (ChosenBy plan) (items_of plan) (NeededBy plan) l.j
       (layers_of l.layers.items) (values_at (map (mapped f) l.pool.values.items) l.states.items);
 }

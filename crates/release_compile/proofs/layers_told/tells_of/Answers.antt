@@ -1,7 +1,7 @@
 use Rattle.std.proofs.Common.{◌≡◌, length, sym, ap, ◌∙◌, subst, arith}
 use Rattle.std.proofs.lemmas.List.{length-map}
 use Rattle.decision_graphs.specs.Label.{Layer}
-use Rattle.release_compile.specs.PartnerLabels.{AreInnersOf, AreNames, IsRenamed}
+use Rattle.release_compile.specs.PartnerLabels.{AreInnersOf, AreLeastLabels, IsRenamed}
 use Rattle.release_compile.proofs.PartnerMerging.{depends_exactly}
 use Rattle.release_compile.proofs.layers_told.tells_of.Goals as goal
 
@@ -10,8 +10,9 @@ names_of-requires c = subst (λ n. AreInnersOf n c.args.inners.now) (sym c.label
 
 pub returns-clause-exact : goal.returns-clause-exact
 returns-clause-exact c =
-    let named : AreNames c.args.inners.now c.args.outer.now.labels c.in_ok-names.names.items =
-    subst (λ n. AreNames c.args.inners.now n c.in_ok-names.names.items) c.labels.ensures.count c.in_ok-names.ensures in
+    let named : AreLeastLabels c.args.inners.now c.args.outer.now.labels c.in_ok-names.names.items =
+    subst (λ n. AreLeastLabels c.args.inners.now n c.in_ok-names.names.items) c.labels.ensures.count
+        c.in_ok-names.ensures in
     let renamed : IsRenamed c.args.outer.now c.in_ok-names.names.items c.in_ok-copy.copy =
     subst (λ xs. IsRenamed c.args.outer.now xs c.in_ok-copy.copy) c.deref.ensures.value c.in_ok-copy.ensures in
     λ j lt.

@@ -5,7 +5,7 @@ use Rattle.decision_graphs.specs.Finished.{AreFinished}
 use Rattle.decision_graphs.specs.Label.{Layer, Layered, layer_at, label_of, AreChoices}
 use Rattle.release_compile.specs.declared.pool.Pool.{Pool}
 use Rattle.release_compile.specs.Plans.{layers_of}
-use Rattle.release_compile.specs.Noting.{rows_of}
+use Rattle.release_compile.specs.Noting.{letter_rows}
 use Rattle.release_compile.proofs.LayeringLemmas.{grows}
 use Rattle.release_compile.proofs.NotingLemmas.{linked_stays, folded_laid}
 use Rattle.release_compile.proofs.ErrorLemmas.{passed_on}
@@ -25,7 +25,7 @@ returns-clause-noted c =
     let q : Pool = c.fold_layers.new.pool in
     let g = c.in_ok-drafts.ensures.grew in
     let i = c.args.intake in
-    let rows : List (List ℕ) = rows_of i in
+    let rows : List (List ℕ) = letter_rows i in
     let names : List ℕ = c.in_ok-drafts.drafts.states.items in
     let ds : List FinishedLayer = c.in_ok-drafts.drafts.layers.items in
     let spent = rw (c.deref.ensures.value, c.deref-2.ensures.value) at c.in_ok-drafts.ensures.spent in

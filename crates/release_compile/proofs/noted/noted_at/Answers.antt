@@ -1,7 +1,7 @@
 use Rattle.std.proofs.Common.{◌∙◌, ◌++◌, ◌∷◌, [], List, length, slice_get, sym, ap, subst}
 use Rattle.release_compile.specs.declared.noted.Intake.{Intake}
 use Rattle.release_compile.specs.declared.noted.Noted.{Noted}
-use Rattle.release_compile.specs.Noting.{rows_of, AreRight}
+use Rattle.release_compile.specs.Noting.{letter_rows, AreRight}
 use Rattle.release_compile.proofs.LayerLemmas.{get_last}
 use Rattle.release_compile.proofs.LayeringLemmas.{grows}
 use Rattle.release_compile.proofs.NotingLemmas.{all_right_stay, all_right_more}
@@ -26,7 +26,7 @@ returns-clause-noted c =
           ∙ (ap (slice_get (old ++ n ∷ [])) (ap length c.as_slice-held.ensures.value) ∙ get_last old n),
       record {
         start = ap (λ (i : Intake). i.start) e;
-        letters = ap rows_of e;
+        letters = ap letter_rows e;
         keeps = ap (λ (i : Intake). i.keeps.items) e;
       },
     )

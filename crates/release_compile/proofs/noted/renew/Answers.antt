@@ -1,6 +1,6 @@
 use Rattle.std.proofs.Common.{IsTrue, true, rules, refl, sym, ap, subst, arith}
 use Rattle.release_compile.specs.declared.noted.Intake.{Intake}
-use Rattle.release_compile.specs.Noting.{rows_of, IsRight}
+use Rattle.release_compile.specs.Noting.{letter_rows, IsRight}
 use Rattle.release_compile.proofs.noted.renew.Goals as goal
 
 pub returns-then-is_noted-clause-noted : goal.returns-then-is_noted-clause-noted
@@ -20,7 +20,7 @@ returns-clause-noted c =
       omega (arith, c.in_ok-noted.ensures.few, c.requires.budget),
       record {
         start = ap (λ (i : Intake). i.start) e;
-        letters = ap rows_of e;
+        letters = ap letter_rows e;
         keeps = ap (λ (i : Intake). i.keeps.items) e;
       },
     )

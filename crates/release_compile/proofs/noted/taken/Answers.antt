@@ -1,7 +1,7 @@
 use Rattle.std.proofs.Common.{◌∙◌, length, refl, sym, ap, subst, arith}
 use Rattle.release_compile.specs.declared.pool.Pool.{Pool}
 use Rattle.release_compile.specs.declared.noted.Intake.{Intake}
-use Rattle.release_compile.specs.Noting.{rows_of, IsRight}
+use Rattle.release_compile.specs.Noting.{letter_rows, IsRight}
 use Rattle.release_compile.proofs.LayeringLemmas.{grows}
 use Rattle.release_compile.proofs.NotingLemmas.{laid_same, laid_passes}
 use Rattle.release_compile.proofs.ErrorLemmas.{passed_on}
@@ -36,7 +36,7 @@ returns-in_err-outer-clause-wide c =
     let i : Intake = c.args.intake in
     let (n, at, right, few, as_is) = c.in_ok-renew.ensures.noted in
     let past = c.in_err-outer.ensures.wide (sym same ∙ is) n at in
-    laid_passes p q i.start (rows_of i) i.keeps.items n.names.items n.edges c.args.budget right.layers
+    laid_passes p q i.start (letter_rows i) i.keeps.items n.names.items n.edges c.args.budget right.layers
     (grows p q c.in_ok-renew.ensures.grew) c.requires.linked
     (laid_same q n.intake i n.names.items n.names.items n.edges right.layers as_is refl right.laid) past f plan
     order fits)

@@ -3,7 +3,7 @@ use Rattle.std.proofs.lemmas.Option.{slice_get_within, slice_get_read, same_Some
 use Rattle.release_compile.specs.declared.pool.Pool.{Pool}
 use Rattle.release_compile.specs.declared.noted.Intake.{Intake}
 use Rattle.release_compile.specs.declared.noted.Noted.{Noted}
-use Rattle.release_compile.specs.Noting.{rows_of, SameIntake, IsNoted}
+use Rattle.release_compile.specs.Noting.{letter_rows, SameIntake, IsNoted}
 use Rattle.release_compile.proofs.LayeringLemmas.{grows}
 use Rattle.release_compile.proofs.NotingLemmas.{laid_same, laid_passes}
 use Rattle.release_compile.proofs.ErrorLemmas.{passed_on}
@@ -47,7 +47,7 @@ returns-in_err-copy-clause-wide c =
     let one : n ≡ held = same_Some n held (sym at ∙ here) in
     let right : IsNoted q held = c.in_ok-place.ensures.notes place held here in
     let past = c.in_err-copy.ensures.wide (sym same ∙ is) in
-    laid_passes p q i.start (rows_of i) i.keeps.items held.names.items held.edges c.args.budget right.layers
+    laid_passes p q i.start (letter_rows i) i.keeps.items held.names.items held.edges c.args.budget right.layers
     (grows p q c.in_ok-place.ensures.grew) c.requires.linked (laid_same q held.intake i held.names.items
     held.names.items held.edges right.layers (subst (λ (k : Noted). SameIntake k.intake i) one as_is) refl right.laid)
     past f plan order fits)

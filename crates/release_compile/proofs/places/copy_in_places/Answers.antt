@@ -2,7 +2,7 @@ use Rattle.std.proofs.Common.{◌∙◌, refl, sym, subst}
 use Rattle.std.proofs.lemmas.Option.{slice_get_read, same_Some}
 use Rattle.contraction.specs.Answers.{Answers}
 use Rattle.release_compile.specs.Pooling.{HasCopy}
-use Rattle.release_compile.specs.Places.{node_of, pool_on}
+use Rattle.release_compile.specs.Places.{node_listed, pool_on}
 use Rattle.release_compile.proofs.InputsLemmas.{copy_of}
 use Rattle.release_compile.proofs.PlacesLemmas.{same_on, places_rise}
 use Rattle.release_compile.proofs.places.copy_in_places.Goals as goal
@@ -20,7 +20,7 @@ returns-clause-copy c x at =
     let q = c.intern.new.self in
     let y : Answers = c.index-value.result.now in
     let here = slice_get_read p.values.items _ c.args.id y refl c.requires.within c.index-value.ensures in
-    let has = same_on (node_of list) q c.in_ok-moved.moved y c.in_ok-place.place (places_rise list c.requires.nodes)
+    let has = same_on (node_listed list) q c.in_ok-moved.moved y c.in_ok-place.place (places_rise list c.requires.nodes)
     c.in_ok-moved.ensures.mapped c.in_places.ensures.answers c.in_ok-place.ensures.same in
-    subst (λ z. HasCopy (pool_on (node_of list) q) z c.in_ok-place.place) (same_Some y x (sym here ∙ at))
-    (copy_of (pool_on (node_of list) q) y y c.in_ok-place.place has (λ n. (λ k. k, λ k. k)) (λ view items d v s. s))
+    subst (λ z. HasCopy (pool_on (node_listed list) q) z c.in_ok-place.place) (same_Some y x (sym here ∙ at))
+    (copy_of (pool_on (node_listed list) q) y y c.in_ok-place.place has (λ n. (λ k. k, λ k. k)) (λ view items d v s. s))

@@ -3,7 +3,7 @@ use Rattle.std.proofs.lemmas.List.{length-map}
 use Rattle.contraction.specs.Answers.{Answers, Keeps}
 use Rattle.contraction.specs.Renaming.{renamed}
 use Rattle.contraction.proofs.MergeLemmas.{few_nodes}
-use Rattle.release_compile.specs.Places.{node_of}
+use Rattle.release_compile.specs.Places.{node_listed}
 use Rattle.release_compile.proofs.PlacesLemmas.{places_are_nodes}
 use Rattle.release_compile.proofs.places.in_places.Goals as goal
 
@@ -22,13 +22,13 @@ renamed-requires-clause-nodes c =
 pub renamed-requires-clause-count : goal.renamed-requires-clause-count
 renamed-requires-clause-count c = omega (
   arith,
-  length-map c.in_ok-places.places (node_of c.args.list.now),
+  length-map c.in_ok-places.places (node_listed c.args.list.now),
   ap length (c.in_ok-places.ensures ∙ c.nodes-nodes.ensures.nodes),
 )
 
 pub returns-clause-mapped : goal.returns-clause-mapped
 returns-clause-mapped c =
-    let f : ℕ → ℕ = node_of c.args.list.now in
+    let f : ℕ → ℕ = node_listed c.args.list.now in
     let x : Answers = c.args.value.now in
     ap (λ (z : Answers). renamed (map f z.kept) z) c.in_ok-moved.ensures.renamed
     ∙ ap (λ (ks : List ℕ). renamed ks x) (c.in_ok-places.ensures ∙ c.nodes-nodes.ensures.nodes)

@@ -2,7 +2,7 @@ use Rattle.std.proofs.Common.{◌≡◌, ◌+◌, ℕ, List, get_or, slice_get, 
 use Rattle.std.proofs.lemmas.List.{length-map}
 use Rattle.std.proofs.lemmas.Option.{slice_get-get_or}
 use Rattle.contraction.specs.Answers.{Answers}
-use Rattle.release_compile.specs.Places.{node_of, pool_on}
+use Rattle.release_compile.specs.Places.{node_listed, pool_on}
 use Rattle.release_compile.specs.Layering.{values_at, no_answers}
 use Rattle.release_compile.proofs.BridgeLemmas.{number_at}
 use Rattle.release_compile.proofs.LayeringLemmas.{grew_same, grew_more, grew_in, grows}
@@ -15,9 +15,10 @@ pub loop-t-init : goal.loop-t-init
 loop-t-init c = record {
   grew = grew_same c.args.pool.now c.requires.pool;
   copies =
-      subst (λ (ids : List ℕ). CopiesBelow (pool_on (node_of c.args.list.now) c.args.pool.now)
+      subst (λ (ids : List ℕ). CopiesBelow (pool_on (node_listed c.args.list.now) c.args.pool.now)
       (values_at c.args.pool.now.values.items c.args.names.now) ids 0) (sym c.new-ids.ensures.items) (copies_none
-      (pool_on (node_of c.args.list.now) c.args.pool.now) (values_at c.args.pool.now.values.items c.args.names.now));
+      (pool_on (node_listed c.args.list.now) c.args.pool.now)
+          (values_at c.args.pool.now.values.items c.args.names.now));
 }
 
 pub copy_in_places-requires-clause-within : goal.copy_in_places-requires-clause-within
@@ -39,7 +40,7 @@ copy_in_places-requires-clause-has c x at n kept =
 
 pub loop-t-preserved : goal.loop-t-preserved
 loop-t-preserved c =
-    let f : ℕ → ℕ = node_of c.args.list.now in
+    let f : ℕ → ℕ = node_listed c.args.list.now in
     let p = c.args.pool.now in
     let q = c.loop-t.pool in
     let r = c.copy_in_places.new.pool in
@@ -70,5 +71,5 @@ returns-clause-copies c =
       c.loop-t.auto.t-end,
       c.loop-t-test.false,
     ) in
-    copies_all (pool_on (node_of c.args.list.now) c.loop-t.pool) (values_at p.values.items c.args.names.now)
+    copies_all (pool_on (node_listed c.args.list.now) c.loop-t.pool) (values_at p.values.items c.args.names.now)
     c.loop-t.ids.items c.loop-t.t c.loop-t.invariant.copies done

@@ -1,5 +1,5 @@
 use Rattle.release_compile.specs.Pooling.{GrewTo}
-use Rattle.release_compile.specs.Places.{node_of, pool_on}
+use Rattle.release_compile.specs.Places.{node_listed, pool_on}
 use Rattle.release_compile.specs.Layering.{values_at}
 use Rattle.release_compile.proofs.InputsLemmas.{CopiesBelow}
 use Rattle.release_compile.proofs.places.names_in_places.Given as goal
@@ -7,5 +7,5 @@ use Rattle.release_compile.proofs.places.names_in_places.Given as goal
 abbrev pub invariant-loop-t : goal.invariant-loop-t
 invariant-loop-t l = record {
   grew : GrewTo l.fn.pool l.pool;
-  copies : CopiesBelow (pool_on (node_of l.list) l.pool) (values_at l.fn.pool.values.items l.names) l.ids.items l.t;
+  copies : CopiesBelow (pool_on (node_listed l.list) l.pool) (values_at l.fn.pool.values.items l.names) l.ids.items l.t;
 }

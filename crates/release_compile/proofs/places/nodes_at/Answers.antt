@@ -1,7 +1,7 @@
 use Rattle.std.proofs.Common.{◌≡◌, ◌≤◌, ℕ, length, map, get_or, slice_get, Some, ap, ◌∙◌, arith}
 use Rattle.std.proofs.lemmas.List.{take_all}
 use Rattle.std.proofs.lemmas.Option.{slice_get-get_or}
-use Rattle.release_compile.specs.Places.{node_of}
+use Rattle.release_compile.specs.Places.{node_listed}
 use Rattle.release_compile.proofs.PlacesLemmas.{nodes_more}
 use Rattle.release_compile.proofs.places.nodes_at.Goals as goal
 
@@ -32,4 +32,4 @@ pub returns : goal.returns
 returns c =
     let places = c.args.places.now in
     let done : length places ≤ c.loop-k.k = omega (arith, c.loop-k.auto.k-end, c.loop-k-test.false) in
-    c.loop-k.invariant ∙ ap (map (node_of c.args.list.now)) (take_all c.loop-k.k places done)
+    c.loop-k.invariant ∙ ap (map (node_listed c.args.list.now)) (take_all c.loop-k.k places done)

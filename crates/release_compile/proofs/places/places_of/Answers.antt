@@ -2,12 +2,12 @@ use Rattle.std.proofs.Common.{◌≡◌, ◌≤◌, ℕ, length, map, get_or, sl
 use Rattle.std.proofs.lemmas.List.{take_all}
 use Rattle.std.proofs.lemmas.Option.{slice_get-get_or}
 use Rattle.contraction.proofs.PlaceLemmas.{keeps_from_has}
-use Rattle.release_compile.specs.Places.{node_of}
+use Rattle.release_compile.specs.Places.{node_listed}
 use Rattle.release_compile.proofs.PlacesLemmas.{places_more}
 use Rattle.release_compile.proofs.places.places_of.Goals as goal
 
 pub loop-k-init : goal.loop-k-init
-loop-k-init c = ap (map (node_of c.args.list.now)) c.new-places.ensures
+loop-k-init c = ap (map (node_listed c.args.list.now)) c.new-places.ensures
 
 pub place_in-place-requires : goal.place_in-place-requires
 place_in-place-requires c =
@@ -27,7 +27,7 @@ loop-k-preserved c =
     let at : slice_get nodes k ≡ Some n = slice_get-get_or nodes k 0 c.loop-k-test.true in
     let found : slice_get list c.place_in-place.result ≡ Some n =
     ap (λ xs. slice_get xs c.place_in-place.result) (sym c.numbers-all.ensures) ∙ c.place_in-place.ensures in
-    ap (map (node_of list)) c.in_ok-push.ensures.ok
+    ap (map (node_listed list)) c.in_ok-push.ensures.ok
     ∙ places_more list c.loop-k.places nodes k c.place_in-place.result n c.loop-k.invariant found at
 
 pub returns : goal.returns

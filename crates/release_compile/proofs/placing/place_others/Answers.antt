@@ -5,7 +5,7 @@ use Rattle.station_graph.specs.Alike.{DifferInPart}
 use Rattle.bay_contract.specs.PartAlphabets.{Alphabets, size_of, StandsAt}
 use Rattle.release_compile.specs.Lettered.{lettered}
 use Rattle.release_compile.specs.Graphs.{other_of, PartChosen}
-use Rattle.release_compile.specs.Possible.{Holds}
+use Rattle.release_compile.specs.Possible.{SetHolds}
 use Rattle.release_compile.specs.Deciding.{IsPlaceFor}
 use Rattle.release_compile.proofs.VerdictLemmas.{other_in}
 use Rattle.release_compile.proofs.PlacingLemmas.{below_none, below_all, parts_more, none_agree, all_agree_more}
@@ -52,7 +52,8 @@ place_for-position-requires-clause-held c =
     let at : slice_get c.args.choices.now j ≡ Some c.choice-index.result =
     slice_get-get_or c.args.choices.now j 0 (omega (arith, c.requires.len, c.loop-j-test.true))
     ∙ ap Some (sym c.choice-index.ensures) in
-    IfSome_then c.args.known c.requires.held (λ w held. subst (λ p. Holds w.now.possible.items p c.choice-index.result)
+    IfSome_then c.args.known c.requires.held
+        (λ w held. subst (λ p. SetHolds w.now.possible.items p c.choice-index.result)
     (sym e) (held j c.choice-index.result at))
 
 pub overflow_cast-index : goal.overflow_cast-index

@@ -1,6 +1,6 @@
 use Rattle.std.proofs.Common.{◌<◌, ap, ◌∙◌, sym, subst, ℕ}
 use Rattle.station_graph.specs.Diagram.{part_count}
-use Rattle.ssd_read.specs.Elements.{element_at, name_of}
+use Rattle.ssd_read.specs.Elements.{element_at, element_name}
 use Rattle.ssd_read.specs.Seen.{MayTakeSwitch}
 use Rattle.ssd_read.specs.Steps.{built}
 use Rattle.ssd_read.proofs.Stepped.{built_none}
@@ -24,7 +24,7 @@ add_equipment-requires-clause-nodes c = own_below c.args.drawing.now c.args.i c.
 
 pub add_equipment-requires-clause-room : goal.add_equipment-requires-clause-room
 add_equipment-requires-clause-room c =
-    let name = name_of (element_at c.args.drawing.now c.args.i).entry in
+    let name = element_name (element_at c.args.drawing.now c.args.i).entry in
     subst (λ (n : ℕ). MayTakeSwitch c.args.builder.now n name) (sym c.requires.part) (record {
       order = follows c.args.drawing.now c.args.i c.args.builder.now c.requires.drawn c.requires.within
           (sym c.in-ConductingEquipment.ensures) c.requires.before;

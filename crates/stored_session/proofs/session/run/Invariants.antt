@@ -2,12 +2,12 @@ use Rattle.std.proofs.Common.{◌≡◌, ◌≤◌, ◌+◌, length}
 use Rattle.bay_protocol.specs.Fits.{IsNode, FitsHeard}
 use Rattle.node_session.specs.declared.reader.TheConstants.{CHUNK}
 use Rattle.node_store.specs.Store.{store_sequence}
-use Rattle.stored_session.specs.Progress.{Stands}
+use Rattle.stored_session.specs.Progress.{StoredStands}
 use Rattle.stored_session.proofs.session.run.Given as goal
 
 abbrev pub invariant-loop-count : goal.invariant-loop-count
 invariant-loop-count g l = record {
-  stands : Stands (record {
+  stands : StoredStands (record {
     content = g.D.Device.content;
     moment = g.D.Device.moment;
     between = g.D.Device.left_between;

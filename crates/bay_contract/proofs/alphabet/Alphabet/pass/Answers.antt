@@ -3,7 +3,7 @@ use Rattle.std.proofs.lemmas.Nat.{one_shl}
 use Rattle.std.proofs.lemmas.Option.{slice_get-get_or}
 use Rattle.bay_contract.specs.PartAlphabets.{PartAlphabet}
 use Rattle.bay_contract.specs.AlphabetInside.{seen_as}
-use Rattle.bay_contract.specs.Paths.{IsNoted, PathsTo}
+use Rattle.bay_contract.specs.Paths.{LeadsBack, PathsTo}
 use Rattle.bay_contract.proofs.PathLemmas.{pass_on, pass_over, room_for}
 use Rattle.bay_contract.proofs.alphabet.Alphabet.pass.Goals as goal
 
@@ -18,7 +18,7 @@ note_fork-requires-clause-room c =
     let listed : slice_get c.self.inside.forks.items c.args.i ≡ Some c.index-fork.result.now =
     slice_get-get_or c.self.inside.forks.items c.args.i c.index-fork.result.now place ∙ ap Some
     (sym c.index-fork.ensures) in
-    let noted : IsNoted c.args.paths.now c.args.i c.in-Some.position = slice_get-get_or c.args.paths.now c.args.i None
+    let noted : LeadsBack c.args.paths.now c.args.i c.in-Some.position = slice_get-get_or c.args.paths.now c.args.i None
     (omega (arith, c.requires.paths.len, c.requires.place)) ∙ ap Some c.in-Some.is in
     let paths : PathsTo (seen_as c.self.inside) c.args.readings.now c.args.i c.args.paths.now = subst (λ
     (y : PartAlphabet). PathsTo y c.args.readings.now c.args.i c.args.paths.now)
@@ -40,7 +40,7 @@ returns-in-Some c =
     let listed : slice_get c.self.inside.forks.items c.args.i ≡ Some c.index-fork.result.now =
     slice_get-get_or c.self.inside.forks.items c.args.i c.index-fork.result.now place ∙ ap Some
     (sym c.index-fork.ensures) in
-    let noted : IsNoted c.args.paths.now c.args.i c.in-Some.position = slice_get-get_or c.args.paths.now c.args.i None
+    let noted : LeadsBack c.args.paths.now c.args.i c.in-Some.position = slice_get-get_or c.args.paths.now c.args.i None
     (omega (arith, c.requires.paths.len, c.requires.place)) ∙ ap Some c.in-Some.is in
     let paths : PathsTo (seen_as c.self.inside) c.args.readings.now c.args.i c.args.paths.now = subst (λ
     (y : PartAlphabet). PathsTo y c.args.readings.now c.args.i c.args.paths.now)

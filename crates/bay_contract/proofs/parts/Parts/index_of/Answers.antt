@@ -1,5 +1,5 @@
 use Rattle.std.proofs.Common.{◌∙◌, subst}
-use Rattle.bay_contract.specs.Diagrams.{LeadsTo}
+use Rattle.bay_contract.specs.Diagrams.{ForksLeadTo}
 use Rattle.bay_contract.specs.PartAlphabets.{PartAlphabet, forks_of}
 use Rattle.bay_contract.proofs.IndexLemmas.{alphabet_at, letters_in, index_alike}
 use Rattle.bay_contract.proofs.parts.Parts.index_of.Goals as goal
@@ -7,8 +7,8 @@ use Rattle.bay_contract.proofs.parts.Parts.index_of.Goals as goal
 pub returns-clause-alike : goal.returns-clause-alike
 returns-clause-alike c = λ d w k al vec h.
     let is = alphabet_at d c.args.self.now c.args.part.0 c.requires.part al in
-    let leads : LeadsTo (forks_of c.args.self.now c.args.part.0) c.args.vector.now c.index_of.result = subst (λ
-    (y : PartAlphabet). LeadsTo y.forks c.args.vector.now c.index_of.result) c.part.ensures.value
+    let leads : ForksLeadTo (forks_of c.args.self.now c.args.part.0) c.args.vector.now c.index_of.result = subst (λ
+    (y : PartAlphabet). ForksLeadTo y.forks c.args.vector.now c.index_of.result) c.part.ensures.value
     c.index_of.ensures.leads in
     index_alike d c.args.self.now c.args.part.0
     (letters_in d c.args.self.now c.args.part.0 is) c.args.vector.now w c.index_of.result k

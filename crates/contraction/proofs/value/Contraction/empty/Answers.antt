@@ -1,7 +1,7 @@
 use Rattle.std.proofs.Common.{◌≡◌, ℕ, List, [], length, arith, subst}
 use Rattle.contraction.specs.Answers.{Answers, IsContraction}
 use Rattle.contraction.specs.Stands.{StandsFor, Among}
-use Rattle.contraction.specs.Single.{AreApart}
+use Rattle.contraction.specs.Single.{AreAlone}
 use Rattle.contraction.proofs.MergeLemmas.{few_nodes}
 use Rattle.contraction.proofs.EmptyLemmas.{bare_answers, bare_well, bare_stands}
 use Rattle.contraction.proofs.value.Contraction.empty.Goals as goal
@@ -17,9 +17,9 @@ invariant_of-result c =
     let l = c.in_ok-bare-2.field-0 in
     let b = c.in_ok-apart.field-0 in
     let same : kept ≡ c.in_ok-from_slice.field-0.items = cc (c.in_ok-from_slice.ensures.items, c.numbers.ensures) in
-    let ha : AreApart (length kept) g.labels = subst (λ k. AreApart k g.labels) n c.in_ok-bare.ensures.labels in
-    let hb : AreApart (length kept) l.labels = subst (λ k. AreApart k l.labels) n c.in_ok-bare-2.ensures.labels in
-    let hc : AreApart (length kept) b = subst (λ k. AreApart k b) n c.in_ok-apart.ensures in
+    let ha : AreAlone (length kept) g.labels = subst (λ k. AreAlone k g.labels) n c.in_ok-bare.ensures.labels in
+    let hb : AreAlone (length kept) l.labels = subst (λ k. AreAlone k l.labels) n c.in_ok-bare-2.ensures.labels in
+    let hc : AreAlone (length kept) b = subst (λ k. AreAlone k b) n c.in_ok-apart.ensures in
     let z : Answers = record {
       kept = c.in_ok-from_slice.field-0.items;
       coupled = g.labels;
@@ -48,9 +48,9 @@ returns-clause-contraction c =
     let l = c.in_ok-bare-2.field-0 in
     let b = c.in_ok-apart.field-0 in
     let same : kept ≡ c.in_ok-from_slice.field-0.items = cc (c.in_ok-from_slice.ensures.items, c.numbers.ensures) in
-    let ha : AreApart (length kept) g.labels = subst (λ k. AreApart k g.labels) n c.in_ok-bare.ensures.labels in
-    let hb : AreApart (length kept) l.labels = subst (λ k. AreApart k l.labels) n c.in_ok-bare-2.ensures.labels in
-    let hc : AreApart (length kept) b = subst (λ k. AreApart k b) n c.in_ok-apart.ensures in
+    let ha : AreAlone (length kept) g.labels = subst (λ k. AreAlone k g.labels) n c.in_ok-bare.ensures.labels in
+    let hb : AreAlone (length kept) l.labels = subst (λ k. AreAlone k l.labels) n c.in_ok-bare-2.ensures.labels in
+    let hc : AreAlone (length kept) b = subst (λ k. AreAlone k b) n c.in_ok-apart.ensures in
     let z : Answers = record {
       kept = c.in_ok-from_slice.field-0.items;
       coupled = g.labels;
@@ -79,9 +79,9 @@ returns-clause-stands c =
     let l = c.in_ok-bare-2.field-0 in
     let b = c.in_ok-apart.field-0 in
     let same : kept ≡ c.in_ok-from_slice.field-0.items = cc (c.in_ok-from_slice.ensures.items, c.numbers.ensures) in
-    let ha : AreApart (length kept) g.labels = subst (λ k. AreApart k g.labels) n c.in_ok-bare.ensures.labels in
-    let hb : AreApart (length kept) l.labels = subst (λ k. AreApart k l.labels) n c.in_ok-bare-2.ensures.labels in
-    let hc : AreApart (length kept) b = subst (λ k. AreApart k b) n c.in_ok-apart.ensures in
+    let ha : AreAlone (length kept) g.labels = subst (λ k. AreAlone k g.labels) n c.in_ok-bare.ensures.labels in
+    let hb : AreAlone (length kept) l.labels = subst (λ k. AreAlone k l.labels) n c.in_ok-bare-2.ensures.labels in
+    let hc : AreAlone (length kept) b = subst (λ k. AreAlone k b) n c.in_ok-apart.ensures in
     let z : Answers = record {
       kept = c.in_ok-from_slice.field-0.items;
       coupled = g.labels;

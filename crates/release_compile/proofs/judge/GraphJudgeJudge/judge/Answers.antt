@@ -4,7 +4,7 @@ use Rattle.central_rules.specs.Meaning.{bay_of}
 use Rattle.bay_contract.specs.PartAlphabets.{Alphabets}
 use Rattle.release_compile.specs.Lettered.{lettered}
 use Rattle.release_compile.specs.Judging.{ground}
-use Rattle.release_compile.specs.Summaries.{IsTold}
+use Rattle.release_compile.specs.Summaries.{BayTells}
 use Rattle.release_compile.proofs.judge.GraphJudgeJudge.judge.Goals as goal
 
 pub judge_heard-requires-clause-fits : goal.judge_heard-requires-clause-fits
@@ -15,7 +15,7 @@ judge_heard-requires-clause-fits c b s ne at =
     let is : bay_of j.diagram i ≡ c.switch_bay-bay.result.0 =
     ap (λ (d : Diagram). bay_of d i) (sym same) ∙ sym c.switch_bay-bay.ensures.value in
     let to = c.switch_bay-bay.result.0 in
-    let fits : IsTold (ground j) b to s =
-    subst (λ k. IsTold (ground j) b k s) is (c.requires.fits b s (λ e. ne (e ∙ is)) at) in
-    subst (λ (d : Diagram). IsTold (lettered d c.parts.result.now) b to s) (sym same)
-    (subst (λ (x : Alphabets). IsTold (lettered j.diagram x) b to s) (sym c.parts.ensures.value) fits)
+    let fits : BayTells (ground j) b to s =
+    subst (λ k. BayTells (ground j) b k s) is (c.requires.fits b s (λ e. ne (e ∙ is)) at) in
+    subst (λ (d : Diagram). BayTells (lettered d c.parts.result.now) b to s) (sym same)
+    (subst (λ (x : Alphabets). BayTells (lettered j.diagram x) b to s) (sym c.parts.ensures.value) fits)

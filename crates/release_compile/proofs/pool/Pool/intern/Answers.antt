@@ -1,6 +1,6 @@
 use Rattle.std.proofs.Common.{◌≡◌, [], ◌∷◌, ◌++◌, length, slice_get, refl, sym, ap, ◌∙◌, subst}
 use Rattle.contraction.specs.Answers.{Answers}
-use Rattle.release_compile.specs.Folding.{AreApart, AreWell}
+use Rattle.release_compile.specs.Folding.{AreApartIn, AreWell}
 use Rattle.release_compile.specs.Pooling.{IsRowIndex, NotesAreRight, Extends}
 use Rattle.release_compile.proofs.LayerLemmas.{get_front, get_last}
 use Rattle.release_compile.proofs.PoolLemmas.{notes_stay, well_more, apart_more}
@@ -32,7 +32,7 @@ returns-in_ok-push-in-None-clause-grew c =
             subst (λ vs. IsRowIndex p.view vs c.note_row.new.index) (sym items) (c.in_ok-note_row-in-None.ensures p.view
             p.values.items x c.requires.index (ap length c.as_slice-held.ensures.value) c.in_ok-row.ensures.row);
         apart =
-            subst (λ vs. AreApart p.view vs) (sym items) (apart_more p.view p.values.items x c.requires.well well_x
+            subst (λ vs. AreApartIn p.view vs) (sym items) (apart_more p.view p.values.items x c.requires.well well_x
             c.requires.apart
             (λ i y at same. none i y at ((c.in_ok-row.ensures.tells y (c.requires.well i y at)).1 same)));
         well = subst (λ vs. AreWell vs) (sym items) (well_more p.view p.values.items x c.requires.well well_x);
