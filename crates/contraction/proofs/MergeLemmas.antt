@@ -4,6 +4,7 @@ use Rattle.std.proofs.Common.{slice_index, Some, refl, sym, ◌∙◌, ap, subst
 use Rattle.std.proofs.lemmas.Bool.{cases_eq, cases_lt}
 use Rattle.std.proofs.lemmas.List.{length_push}
 use Rattle.std.proofs.lemmas.Option.{slice_get_within, slice_get-get_or, get_or_from_slice_get}
+use Rattle.station_graph.specs.declared.limits.TheConstants.{NODES}
 use Rattle.contraction.specs.Answers.{AreNodes}
 use Rattle.station_graph.specs.Nodes.{Rises}
 use Rattle.contraction.specs.Merging.{IsLeastNext, Advances, Follows, ComesFrom, Merging, IsMerged}
@@ -153,7 +154,7 @@ above_all a b kept p q x m least k k_in = elim least.one [
 
 -- so there are at most as many before it
 pub short_of_next : (a b kept p q : List ℕ) (x : ℕ) → AreNodes a → AreNodes b → Merging a b kept p q →
-    IsLeastNext a b (length p) (length q) x → length kept < 1024
+    IsLeastNext a b (length p) (length q) x → length kept < NODES
 short_of_next a b kept p q x nodes_a nodes_b m least =
     let short : length kept ≤ x = rises_short kept x m.rises (above_all a b kept p q x m least) in
     elim least.one [
@@ -191,12 +192,12 @@ merged_nodes a b kept p q nodes_a nodes_b m = record {
   ];
 }
 
-pub few_nodes : (kept : List ℕ) → AreNodes kept → length kept ≤ 1024
-few_nodes kept h = rises_short kept 1024 h.rises h.small
+pub few_nodes : (kept : List ℕ) → AreNodes kept → length kept ≤ NODES
+few_nodes kept h = rises_short kept NODES h.rises h.small
 
 -- and so they are few
 pub merged_few : (a a1 b b1 kept p q : List ℕ) → a ≡ a1 → b ≡ b1 → AreNodes a1 → AreNodes b1 → IsMerged a b kept p q →
-    length kept ≤ 1024
+    length kept ≤ NODES
 merged_few a a1 b b1 kept p q ea eb nodes_a nodes_b m =
     few_nodes kept (merged_nodes a b kept p q (subst AreNodes (sym ea) nodes_a) (subst AreNodes (sym eb) nodes_b) m)
 

@@ -2,6 +2,7 @@
 use Rattle.std.proofs.Common.{◌≡◌, ℕ, ◌<◌, ◌≤◌, ◌⊎◌, ◌↔◌, zero, suc, Bool, true, false, cond, List, [], ◌∷◌, min, max}
 use Rattle.std.proofs.Common.{slice_get, slice_index, Some, refl, sym, ◌∙◌, ap, subst, inl, inr, arith}
 use Rattle.std.proofs.lemmas.Bool.{cases_lt}
+use Rattle.station_graph.specs.declared.limits.TheConstants.{NODES}
 use Rattle.contraction.specs.Answers.{Answers, IsAt, Keeps, AreLabels, AreNodes, IsContraction}
 use Rattle.contraction.specs.Single.{NoneMarked, PairLabels, IsPair}
 
@@ -72,7 +73,7 @@ module _ (lo hi : ℕ) where
     | inr e ↦ let at = sym (ap (slice_get (false ∷ false ∷ [])) e.0) ∙ m.marked in cc
   ]
 
-  pub two_nodes : lo < hi → hi < 1024 → AreNodes two
+  pub two_nodes : lo < hi → hi < NODES → AreNodes two
   two_nodes less small = record { rises = rising; small = small_at } where
     rising : (j k : ℕ) → j < k → k < 2 → slice_index two j < slice_index two k
     rising zero zero h i = absurd (omega arith)
@@ -82,7 +83,7 @@ module _ (lo hi : ℕ) where
     rising (suc j) (suc zero) h i = absurd (omega arith)
     rising (suc j) (suc (suc k)) h i = absurd (omega arith)
 
-    small_at : (k : ℕ) → k < 2 → slice_index two k < 1024
+    small_at : (k : ℕ) → k < 2 → slice_index two k < NODES
     small_at zero h = omega arith
     small_at (suc zero) h = small
     small_at (suc (suc k)) h = absurd (omega arith)
@@ -129,7 +130,7 @@ pair_answers lo hi coupled joined bonded = record {
 none_fed : (k : ℕ) → slice_get (false ∷ false ∷ []) k ≡ Some true → slice_get (false ∷ false ∷ []) k ≡ Some true
 none_fed k e = e
 
-pub pair_well : (lo hi : ℕ) (coupled joined bonded : Bool) → lo < hi → hi < 1024 →
+pub pair_well : (lo hi : ℕ) (coupled joined bonded : Bool) → lo < hi → hi < NODES →
     IsContraction (pair_answers lo hi coupled joined bonded)
 pair_well lo hi coupled joined bonded less small = record {
   nodes = two_nodes lo hi less small;

@@ -4,6 +4,7 @@ use Rattle.std.proofs.Common.{ap, subst, inl, inr, arith}
 use Rattle.std.proofs.lemmas.Bool.{cases_eq, cases_lt}
 use Rattle.std.proofs.lemmas.Option.{slice_get_within, slice_get-get_or, get_or_from_slice_get}
 use Rattle.std.specs.Prelude.{Contains}
+use Rattle.station_graph.specs.declared.limits.TheConstants.{NODES}
 use Rattle.station_graph.specs.Nodes.{Rises}
 use Rattle.contraction.specs.Answers.{Answers, IsAt, Keeps, SameAt, MarkedAt, AreLabels, AreNodes, IsContraction}
 use Rattle.contraction.specs.Inside.{answers_of}
@@ -252,7 +253,7 @@ module _ (nodes : List ℕ) (x : Inside) (places kept : List ℕ) (gap load : Ro
 
 -- rising places in a list are no more than its entries
 pub few_places : (nodes named kept seen places p : List ℕ) → p ≡ places → seen ≡ kept → AreNodes kept →
-    PlacesOf named seen places → length p ≤ 1024
+    PlacesOf named seen places → length p ≤ NODES
 few_places nodes named kept seen places p ep ek w h =
     let short : length places ≤ length seen = rises_short places (length seen) h.rises h.below in
     omega (arith, few_nodes kept w, ap length ep, ap length ek)

@@ -1,6 +1,7 @@
 -- Two values on a selection of the nodes that they keep: what is proved of their fields holds of their answers.
 use Rattle.std.proofs.Common.{◌≡◌, ℕ, ◌⊎◌, ◌≤◌, ◌++◌, List, length, sym, ◌∙◌, ap, subst, arith}
 use Rattle.std.specs.Prelude.{Contains}
+use Rattle.station_graph.specs.declared.limits.TheConstants.{NODES}
 use Rattle.contraction.specs.declared.row.Row.{Row}
 use Rattle.contraction.specs.declared.layout.Layout.{Layout}
 use Rattle.contraction.specs.declared.value.Contraction.TheInside.{Inside}
@@ -53,7 +54,7 @@ load_row_seen nodes bytes x y sx sy ex ey h =
 -- the rows fit the selection
 module _ (x y : Inside) (wx : IsContraction (answers_of x)) (wy : IsContraction (answers_of y)) (nodes : List ℕ)
     (s : Layout) (is : IsLayout x.kept.items y.kept.items nodes s) where
-  pub layout_few : length s.union.kept.items ≤ 1024
+  pub layout_few : length s.union.kept.items ≤ NODES
   layout_few =
       few_nodes s.union.kept.items (merged_nodes x.kept.items y.kept.items s.union.kept.items s.union.first.items
       s.union.second.items wx.nodes wy.nodes is.merged)
@@ -68,7 +69,7 @@ module _ (x y : Inside) (wx : IsContraction (answers_of x)) (wy : IsContraction 
     inside = is.places.below;
   }
 
-  pub kept_few : length s.kept.items ≤ 1024
+  pub kept_few : length s.kept.items ≤ NODES
   kept_few = omega (arith, layout_fits.fewer, is.kept.len)
 
   pub first_labels_fit : (l : List ℕ) → AreLabels (length x.kept.items) l →

@@ -1,5 +1,6 @@
 -- Some of the nodes of a merged list, and what two rows together say of them.
 use Rattle.std.specs.Prelude.{ℕ, ◌<◌, ◌≤◌, List, length, slice_index}
+use Rattle.station_graph.specs.declared.limits.TheConstants.{NODES}
 use Rattle.contraction.specs.declared.row.Row.{Row}
 use Rattle.contraction.specs.declared.layout.Layout.{Layout}
 use Rattle.contraction.specs.Merging.{IsMerged, LabelsOfBoth}
@@ -19,8 +20,8 @@ pub record IsLayout (first second nodes : List ℕ) (s : Layout) : Type 0 where
 
 -- There are at most as many nodes as a station has, and the selected places are among them.
 pub record LayoutFits (s : Layout) : Type 0 where
-  pub few : length s.union.kept.items ≤ 1024
-  pub fewer : length s.places.items ≤ 1024
+  pub few : length s.union.kept.items ≤ NODES
+  pub fewer : length s.places.items ≤ NODES
   pub inside : (k : ℕ) → k < length s.places.items → slice_index s.places.items k < length s.union.kept.items
 
 -- The third row is that of the selected places in the first two rows together.

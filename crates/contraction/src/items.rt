@@ -1,6 +1,7 @@
 //! The contractions of no item, and of one.
 ghost use Rattle.std.specs.Prelude.{◌≡◌, ◌≢◌, ℕ, ◌<◌, ◌↔◌, min, max, Bool, true, Some, List, [], ◌∷◌, length};
 ghost use Rattle.std.specs.Prelude.{slice_get, IfOk, IsTrue};
+ghost use Rattle.station_graph.specs.declared.limits.TheConstants.{NODES};
 ghost use Rattle.station_graph.specs.Diagram.{Diagram};
 ghost use Rattle.station_graph.specs.Connection.{a_switch, a_link, a_tap, unless_breaker};
 ghost use Rattle.station_graph.specs.Sharing.{Touches};
@@ -53,8 +54,8 @@ impl Contraction {
         bonded: bool,
     ) -> Result<Contraction, Memory>
         requires apart { a ≢ b }
-        requires first { a < 1024 }
-        requires second { b < 1024 }
+        requires first { a < NODES }
+        requires second { b < NODES }
         ensures pair { IfOk result (IsPair a b coupled joined bonded) }
         ensures contraction { IfOk result IsContraction }
     {
@@ -75,7 +76,7 @@ impl Contraction {
         fed: bool,
         loaded: bool,
     ) -> Result<Contraction, Memory>
-        requires node { node < 1024 }
+        requires node { node < NODES }
         requires loaded { fed ≡ true → loaded ≡ true }
         ensures single { IfOk result (IsSingle node energisable earthable fed loaded) }
         ensures contraction { IfOk result IsContraction }

@@ -1,5 +1,6 @@
 //! Classes of kept nodes, as rows of labels. A label is the first place of its class.
 ghost use Rattle.std.specs.Prelude.{◌≡◌, ◌≢◌, ℕ, ◌<◌, ◌≤◌, [], ◌∷◌, if◌then◌else◌, length, slice_index, IfOk};
+ghost use Rattle.station_graph.specs.declared.limits.TheConstants.{NODES};
 ghost use Rattle.contraction.specs.Merging.{LabelsFit, LabelsOfBoth};
 ghost use Rattle.contraction.specs.Restricting.{LabelsRestrict};
 ghost use Rattle.contraction.specs.Single.{AreAlone};
@@ -82,7 +83,7 @@ fn first_with(labels: &[u16], places: &[u16], label: u16, most: usize) -> usize
 // The labels of these places alone.
 pub(crate) fn labels_at(alloc: Global, labels: &[u16], places: &[u16]) -> Result<NodeList, Memory>
     requires inside { (k : ℕ) → k < length places.now → slice_index places.now k < length labels.now }
-    requires few { length places.now ≤ 1024 }
+    requires few { length places.now ≤ NODES }
     ensures { IfOk result (LabelsRestrict labels.now places.now) }
 {
     let mut row = NodeList::with_capacity(alloc, places.len())?;

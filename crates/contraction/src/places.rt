@@ -1,5 +1,6 @@
 //! Places of kept nodes.
 ghost use Rattle.std.specs.Prelude.{◌≡◌, ℕ, ◌<◌, ◌≤◌, ◌↔◌, length, slice_get, slice_index, Some, IfOk, IsTrue};
+ghost use Rattle.station_graph.specs.declared.limits.TheConstants.{NODES};
 ghost use Rattle.station_graph.specs.Nodes.{Rises};
 ghost use Rattle.contraction.specs.Answers.{Keeps, SameAt, MarkedAt};
 ghost use Rattle.contraction.specs.Restricting.{PlacesOf, Picks};
@@ -42,7 +43,7 @@ pub(crate) fn is_marked(kept: &[u16], marks: &[bool], a: u16) -> bool
 
 // The places of the list at which one of these nodes stands.
 pub(crate) fn places_of(alloc: Global, kept: &[u16], nodes: &[u16]) -> Result<Vec<u16>, Memory>
-    requires few { length kept.now ≤ 1024 }
+    requires few { length kept.now ≤ NODES }
     ensures { IfOk result (λ places. PlacesOf nodes.now kept.now places.items) }
 {
     let mut places = Vec::with_capacity(alloc, nodes.len())?;

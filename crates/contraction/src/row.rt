@@ -1,6 +1,7 @@
 //! Kept nodes in classes, with marks: one view of a contraction.
 ghost use Rattle.std.specs.Prelude.{◌≡◌, ℕ, ◌<◌, ◌≤◌, Bool, false, replicate, [], ◌∷◌, if◌then◌else◌, length};
 ghost use Rattle.std.specs.Prelude.{slice_index, IfOk};
+ghost use Rattle.station_graph.specs.declared.limits.TheConstants.{NODES};
 ghost use Rattle.contraction.specs.Merging.{LabelsFit, RowFits, RowOfBoth};
 ghost use Rattle.contraction.specs.Restricting.{RowRestricts, RowOfBothAt};
 ghost use Rattle.contraction.specs.Single.{AreAlone};
@@ -64,7 +65,7 @@ impl Row {
 
     // The rows of two lists as the row of their union.
     pub(crate) fn of_both(alloc: Global, union: &Union, x: &Row, y: &Row) -> Result<Row, Memory>
-        requires few { length union.now.kept.items ≤ 1024 }
+        requires few { length union.now.kept.items ≤ NODES }
         requires first { RowFits union.now.first.items (length union.now.kept.items) x.now }
         requires second { RowFits union.now.second.items (length union.now.kept.items) y.now }
         ensures { IfOk result (RowOfBoth union.now x.now y.now) }
@@ -98,8 +99,8 @@ impl Row {
         x: &Row,
         y: &Row,
     ) -> Result<Row, Memory>
-        requires few { length union.now.kept.items ≤ 1024 }
-        requires fewer { length places.now ≤ 1024 }
+        requires few { length union.now.kept.items ≤ NODES }
+        requires fewer { length places.now ≤ NODES }
         requires inside { (k : ℕ) → k < length places.now
             → slice_index places.now k < length union.now.kept.items }
         requires first { RowFits union.now.first.items (length union.now.kept.items) x.now }
@@ -129,7 +130,7 @@ impl Row {
 
     // The row of these places alone.
     pub(crate) fn at(&self, alloc: Global, places: &[u16]) -> Result<Row, Memory>
-        requires few { length places.now ≤ 1024 }
+        requires few { length places.now ≤ NODES }
         requires labels { (k : ℕ) → k < length places.now
             → slice_index places.now k < length self.now.labels }
         requires first { length self.now.first.items ≡ length self.now.labels }

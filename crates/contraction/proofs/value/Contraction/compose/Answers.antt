@@ -1,4 +1,5 @@
 use Rattle.std.proofs.Common.{◌≤◌, ◌++◌, ℕ, List, length, arith, subst}
+use Rattle.station_graph.specs.declared.limits.TheConstants.{NODES}
 use Rattle.contraction.specs.Answers.{Answers}
 use Rattle.contraction.specs.Stands.{Among}
 use Rattle.contraction.specs.Composing.{Composes}
@@ -26,7 +27,7 @@ of_both-requires-2-clause-few c =
 pub overflow_cast-len : goal.overflow_cast-len
 overflow_cast-len c =
     let u = c.in_ok-union.union in
-    let few : length u.kept.items ≤ 1024 =
+    let few : length u.kept.items ≤ NODES =
     merged_few c.deref.result.now c.self.inside.kept.items c.deref-2.result.now c.other.inside.kept.items u.kept.items
     u.first.items u.second.items c.deref.ensures.value c.deref-2.ensures.value c.self.invariant.nodes
     c.other.invariant.nodes c.in_ok-union.ensures in
