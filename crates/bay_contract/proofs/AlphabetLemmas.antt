@@ -5,6 +5,7 @@ use Rattle.std.proofs.Math.ListN.{replicate}
 use Rattle.std.proofs.lemmas.Option.{slice_get_within, get_or_from_slice_get}
 use Rattle.std.proofs.lemmas.List.{length-replicate, length_push}
 use Rattle.std.proofs.lemmas.List.Sums.{sum_by_push}
+use Rattle.station_graph.specs.declared.limits.TheConstants.{BAY_SWITCHES}
 use Rattle.station_graph.specs.Diagram.{Diagram, AreSwitchesOf}
 use Rattle.station_graph.specs.Sharing.{OfPart}
 use Rattle.station_graph.specs.Alike.{IsVector}
@@ -12,6 +13,7 @@ use Rattle.station_graph.proofs.LinkedLemmas.{linked_self}
 use Rattle.contraction.specs.Answers.{Answers, IsContraction, Keeps}
 use Rattle.contraction.specs.Stands.{StandsFor}
 use Rattle.contraction.proofs.ItemSets.{stands_over}
+use Rattle.bay_contract.specs.declared.limits.TheConstants.{CONTRACTIONS, LETTERS}
 use Rattle.bay_contract.specs.declared.fork.Fork.{Fork}
 use Rattle.bay_contract.specs.Layers.{OfLayer, IsBase, IsKept, digit, rank, bits}
 use Rattle.bay_contract.specs.Diagrams.{ForkGoes, ForksLeadTo}
@@ -78,7 +80,7 @@ layer_zero d part first count c are is kept stands =
 pub alphabet_from_layer : (d : Diagram) (part first count : ℕ) (values : List Answers) (ranks examples : List ℕ)
     (forks : List Fork) → AreSwitchesOf d part first count → IsLayer d part first count values ranks forks
     → AreExamples d first count ranks examples → length examples ≡ length ranks → 0 < length values
-    → length values ≤ 255 → IsBuilt d part first count values examples forks
+    → length values ≤ LETTERS → IsBuilt d part first count values examples forks
 alphabet_from_layer d part first count values ranks examples forks are h ex ex_len some few =
     let in_ranks : (i : ℕ) → i < length values → i < length ranks = λ i lt. omega (arith, h.ranks_count) in
     let index_in : (v : List Bool) → IsVector d v → (i : ℕ) → ForksLeadTo forks v i → i < length values = λ v vec i l.
@@ -171,13 +173,13 @@ pub record SoFar (d : Diagram) (part first count j : ℕ) (values : List Answers
     (forks : List Fork) : Type 0 where
   pub layer : IsLayer d part first j values ranks forks
   pub fits : (k : ℕ) → k ≤ j → StepFits d part first count k
-  pub few : length values ≤ 4096
-  pub last : j ≡ count → length values ≤ 255
-  pub steps : length forks ≤ 4096 * j
+  pub few : length values ≤ CONTRACTIONS
+  pub last : j ≡ count → length values ≤ LETTERS
+  pub steps : length forks ≤ CONTRACTIONS * j
   pub sizes : AreSizes d part first j (length forks)
 
 step_fits : (d : Diagram) (part first count j : ℕ) (values : List Answers) (ranks : List ℕ) (forks : List Fork)
-    → IsLayer d part first j values ranks forks → length values ≤ 4096 → (j ≡ count → length values ≤ 255)
+    → IsLayer d part first j values ranks forks → length values ≤ CONTRACTIONS → (j ≡ count → length values ≤ LETTERS)
     → StepFits d part first count j
 step_fits d part first count j values ranks forks h few last = record {
   number = length values;
@@ -206,9 +208,9 @@ so_far_none d part first count values ranks forks h one none =
 pub so_far_next : (d : Diagram) (part first count j limit : ℕ) (values news : List Answers) (ranks newranks : List ℕ)
     (forks more : List Fork) → SoFar d part first count j values ranks forks → IsLayer d part first
     (j + 1) news newranks more → length news ≤ limit → length more ≡ length forks + length values → (j + 1 ≡ count
-    → limit ≡ 255) → limit ≤ 4096 → SoFar d part first count (j + 1) news newranks more
+    → limit ≡ LETTERS) → limit ≤ CONTRACTIONS → SoFar d part first count (j + 1) news newranks more
 so_far_next d part first count j limit values news ranks newranks forks more h next few added is_last most =
-    let at_end : j + 1 ≡ count → length news ≤ 255 = λ e. (let l = is_last e in omega arith) in
+    let at_end : j + 1 ≡ count → length news ≤ LETTERS = λ e. (let l = is_last e in omega arith) in
     record {
       layer = next;
       fits = λ k le. elim (cases_lt k (j + 1)) [
@@ -225,8 +227,8 @@ so_far_next d part first count j limit values news ranks newranks forks more h n
 
 pub so_far_past : (d : Diagram) (part first count j limit : ℕ) (values : List Answers) (ranks : List ℕ)
     (forks : List Fork) → AreSwitchesOf d part first count → SoFar d part first count j values ranks forks → j < count
-    → ArePast d (SameLayer d part (first + (j + 1))) limit → (j + 1 ≡ count → limit ≡ 255) → (j + 1 ≢ count
-    → limit ≡ 4096) → PartIsPast d part (j + 1)
+    → ArePast d (SameLayer d part (first + (j + 1))) limit → (j + 1 ≡ count → limit ≡ LETTERS) → (j + 1 ≢ count
+    → limit ≡ CONTRACTIONS) → PartIsPast d part (j + 1)
 so_far_past d part first count j limit values ranks forks are h lt past is_last is_way = record {
   first = first;
   count = count;
@@ -246,13 +248,14 @@ own_at d part first count j are lt =
     (x, at, (are.those (first + j) x at).1 (omega arith, omega arith))
 
 pub room_at : (d : Diagram) (part first count j : ℕ) → IsStation d → AreSwitchesOf d part first count → j < count
-    → (j < 24) × (first + j < 65535)
+    → (j < BAY_SWITCHES) × (first + j + 1 < 2 ^ 16)
 room_at d part first count j s are lt =
     let few = s.items.switches_few in
     let bay = s.items.each_bay_few part in
     (omega (arith, are.counted), omega (arith, are.within))
 
-pub count_few : (d : Diagram) (part first count : ℕ) → IsStation d → AreSwitchesOf d part first count → count ≤ 24
+pub count_few : (d : Diagram) (part first count : ℕ) → IsStation d → AreSwitchesOf d part first count
+    → count ≤ BAY_SWITCHES
 count_few d part first count s are = let bay = s.items.each_bay_few part in omega (arith, are.counted)
 
 -- positions as bits and ranks tell one another

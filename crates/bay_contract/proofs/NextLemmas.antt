@@ -8,6 +8,7 @@ use Rattle.std.proofs.lemmas.Bool.{cases_lt}
 use Rattle.std.proofs.lemmas.Option.{slice_get_within}
 use Rattle.std.proofs.Math.ListN.{replicate}
 use Rattle.std.proofs.lemmas.List.{length-set, length-replicate}
+use Rattle.station_graph.specs.declared.limits.TheConstants.{BAY_SWITCHES}
 use Rattle.station_graph.specs.Diagram.{Diagram}
 use Rattle.station_graph.specs.Connection.{a_switch}
 use Rattle.station_graph.specs.Sharing.{OfPart}
@@ -77,7 +78,7 @@ module _ (d : Diagram) (part first j : ℕ) (own : OfPart d part (a_switch (firs
   step_leads v i lt leads b at =
       let there = goes_more forks more f.kept v 0 (length forks + i) leads in
       let step : ForkGoes more v (length forks + i)
-          (length more + slice_index targets (2 * i + digit (Some b))) = record {
+      (length more + slice_index targets (2 * i + digit (Some b))) = record {
         fork = fork_at (first + j) (length more) targets i;
         closed = b;
         listed = f.added i lt;
@@ -309,11 +310,12 @@ module _ (d : Diagram) (part first j : ℕ) (own : OfPart d part (a_switch (firs
 
 -- ranks of few switches are small
 pub ranks_small : (d : Diagram) (part first j : ℕ) (values : List Answers) (ranks : List ℕ) (forks : List Fork)
-    → IsLayer d part first j values ranks forks → j < 24 → (i : ℕ) → i < length values → slice_index ranks i < 16777216
+    → IsLayer d part first j values ranks forks → j < BAY_SWITCHES → (i : ℕ) → i < length values
+    → slice_index ranks i < 2 ^ BAY_SWITCHES
 ranks_small d part first j values ranks forks h low i lt =
     let (w, vec, r) = h.rank_in i lt in
     let below = rank_below first j w in
     let two : 0 < 2 = omega arith in
-    let le : j ≤ 24 = omega arith in
-    let most : 2 ^ j ≤ 2 ^ 24 = pow-le-pow_right {n = 2} two {i = j} {j = 24} le in
+    let le : j ≤ BAY_SWITCHES = omega arith in
+    let most : 2 ^ j ≤ 2 ^ BAY_SWITCHES = pow-le-pow_right {n = 2} two {i = j} {j = BAY_SWITCHES} le in
     omega arith

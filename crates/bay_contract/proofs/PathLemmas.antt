@@ -7,6 +7,7 @@ use Rattle.std.proofs.lemmas.Grind.{common_steps}
 use Rattle.std.proofs.lemmas.List.{length-set}
 use Rattle.std.proofs.Math.Nat.{pow-le-pow_right}
 use Rattle.ilk_base.specs.declared.words.Dbpos.{Dbpos}
+use Rattle.station_graph.specs.declared.limits.TheConstants.{BAY_SWITCHES}
 use Rattle.station_graph.proofs.LinkedLemmas.{linked_self, linked_one, linked_trans}
 use Rattle.station_graph.proofs.PathLemmas.{slice_get-push}
 use Rattle.station_graph.proofs.PositionLemmas.{slice_get-set_other}
@@ -27,7 +28,7 @@ pub notes_one : (at position : ℕ) (old : List (Option ℕ)) → at < length ol
     (slice_set old at (Some position))
 notes_one at position old lt =
     let here : LeadsBack (slice_set old at (Some position)) at position =
-        slice_get-set_same old at (Some position) lt in
+    slice_get-set_same old at (Some position) lt in
     record {
       len = length-set old at (Some position);
       kept = λ t h. elim (cases_eq t at) [
@@ -38,7 +39,7 @@ notes_one at position old lt =
       none_else = λ t p h. elim (cases_eq t at) [
         | inl e ↦
             let there : LeadsBack (slice_set old at (Some position)) t position =
-                subst (λ n. LeadsBack (slice_set old at
+            subst (λ n. LeadsBack (slice_set old at
             (Some position)) n position) (sym e) here in
             inr (refl, sym e, cc (there, h))
         | inr ne ↦ inl (sym (slice_get-set_other old at t (Some position) ne) ∙ h)
@@ -187,16 +188,17 @@ pass_over x words i paths bare h = record {
 
 -- the room that a position with one more bit needs
 pub room_for : (x : PartAlphabet) (words : List Dbpos) (i p : ℕ) (f : Fork) → IsShaped x
-    → slice_get x.forks i ≡ Some f → LeadsHere x words i p → (x.first ≤ f.switch.0) × (f.switch.0 - x.first < 24)
-    × (p + 2 ^ (f.switch.0 - x.first) < 33554432)
+    → slice_get x.forks i ≡ Some f → LeadsHere x words i p → (x.first ≤ f.switch.0)
+    × (f.switch.0 - x.first < BAY_SWITCHES) × (p + 2 ^ (f.switch.0 - x.first) < 2 * 2 ^ BAY_SWITCHES)
 room_for x words i p f shaped listed l =
     let inside = shaped.staged.inside i f listed in
     let place : f.switch.0 ≡ x.first + l.tested = l.before.step f listed in
     let same : f.switch.0 - x.first ≡ l.tested = omega arith in
-    let few : l.tested < 24 = omega (arith, inside.1, shaped.few_switches) in
+    let few : l.tested < BAY_SWITCHES = omega (arith, inside.1, shaped.few_switches) in
     let two : 0 < 2 = omega arith in
-    let le : l.tested ≤ 24 = omega arith in
-    let most : 2 ^ l.tested ≤ 2 ^ 24 = pow-le-pow_right {n = 2} two {i = l.tested} {j = 24} le in
+    let le : l.tested ≤ BAY_SWITCHES = omega arith in
+    let most : 2 ^ l.tested ≤ 2 ^ BAY_SWITCHES =
+    pow-le-pow_right {n = 2} two {i = l.tested} {j = BAY_SWITCHES} le in
     let power : 2 ^ (f.switch.0 - x.first) ≡ 2 ^ l.tested = ap (λ n. 2 ^ n) same in
     (inside.0, omega arith, omega (arith, l.small))
 

@@ -1,13 +1,15 @@
 -- What is built of a course, one turn after another, for every part that is like it.
-use Rattle.std.proofs.Common.{zero, suc, ◌≡◌, ◌≢◌, ℕ, ◌+◌, ◌*◌, ◌<◌, ◌≤◌, List, [], ◌∷◌, ◌++◌, length, map, slice_get}
+use Rattle.std.proofs.Common.{zero, suc, ◌≡◌, ◌≢◌, ℕ, ◌+◌, ◌*◌, ◌^◌, ◌<◌, ◌≤◌, List, [], ◌∷◌, ◌++◌, length, map, slice_get}
 use Rattle.std.proofs.Common.{slice_index, Some, Contains, refl, sym, ◌∙◌, ap, subst, inl, inr, arith}
 use Rattle.std.proofs.lemmas.Option.{slice_get_within}
 use Rattle.std.proofs.lemmas.List.{length-map}
+use Rattle.station_graph.specs.declared.limits.TheConstants.{BAY_SWITCHES}
 use Rattle.station_graph.specs.Diagram.{Diagram, IsStation}
 use Rattle.station_graph.specs.Nodes.{Rises}
 use Rattle.station_graph.proofs.PathLemmas.{slice_get-push}
 use Rattle.contraction.specs.Answers.{Answers, Keeps}
 use Rattle.contraction.specs.Renaming.{renamed}
+use Rattle.bay_contract.specs.declared.limits.TheConstants.{CONTRACTIONS, LETTERS}
 use Rattle.bay_contract.specs.declared.course.Turn.{Turn}
 use Rattle.bay_contract.specs.declared.course.Course.{Course}
 use Rattle.bay_contract.specs.declared.fork.Fork.{Fork}
@@ -68,8 +70,8 @@ module _ (d : Diagram) (count : ℕ) (x : Course) (rises : Rises x.nodes) (j : �
     (at_s : slice_get x.turns.items j ≡ Some s) (lt : j < count) where
   -- one turn more for one part
   next_each : (limit : ℕ) (news : List Answers) (newranks : List ℕ) (more : List Fork)
-      → Turns j s values ranks forks news newranks more → length news ≤ limit → (j + 1 ≡ count → limit ≡ 255)
-      → limit ≤ 4096 → (part first : ℕ) (y : Course) → IsCourse d part first count y → IsLikeCourse x y
+      → Turns j s values ranks forks news newranks more → length news ≤ limit → (j + 1 ≡ count → limit ≡ LETTERS)
+      → limit ≤ CONTRACTIONS → (part first : ℕ) (y : Course) → IsCourse d part first count y → IsLikeCourse x y
       → SoFar d part first count (j + 1) (map (renamed (nodes_after y (j + 1))) news) newranks (map
       (shifted first) more)
   next_each limit news newranks more t few is_last most part first y is like =
@@ -101,16 +103,16 @@ module _ (d : Diagram) (count : ℕ) (x : Course) (rises : Rises x.nodes) (j : �
 
   -- ONE TURN MORE
   pub follows_next : (limit : ℕ) (news : List Answers) (newranks : List ℕ) (more : List Fork)
-      → Turns j s values ranks forks news newranks more → length news ≤ limit → (j + 1 ≡ count → limit ≡ 255)
-      → limit ≤ 4096 → Follows d count x (j + 1) news newranks more
+      → Turns j s values ranks forks news newranks more → length news ≤ limit → (j + 1 ≡ count → limit ≡ LETTERS)
+      → limit ≤ CONTRACTIONS → Follows d count x (j + 1) news newranks more
   follows_next limit news newranks more t few is_last most = record {
     on = λ i c at. subst (λ l. KeepsThese l c) (sym (nodes_turned x j s at_s)) (t.sorted.keep i c at);
     each = next_each limit news newranks more t few is_last most;
   }
 
   -- too many for a part that is like it
-  pub follows_past : (limit : ℕ) → TurnsPast s values limit → (j + 1 ≡ count → limit ≡ 255) → (j + 1 ≢ count
-      → limit ≡ 4096) → (part first : ℕ) (y : Course) → IsCourse d part first count y → IsLikeCourse x y
+  pub follows_past : (limit : ℕ) → TurnsPast s values limit → (j + 1 ≡ count → limit ≡ LETTERS) → (j + 1 ≢ count
+      → limit ≡ CONTRACTIONS) → (part first : ℕ) (y : Course) → IsCourse d part first count y → IsLikeCourse x y
       → PartIsPast d part (j + 1)
   follows_past limit t is_last is_way part first y is like =
       let (u, at_u) = some_at y.turns.items j (omega (arith, is.counted)) in
@@ -132,16 +134,16 @@ module _ (d : Diagram) (part first count : ℕ) (x : Course) (is : IsCourse d pa
   own : SoFar d part first count j (map (renamed (nodes_after x j)) values) ranks (map (shifted first) forks)
   own = h.each part first x is (like_self d part first count x is)
 
-  pub values_few : length values ≤ 4096
+  pub values_few : length values ≤ CONTRACTIONS
   values_few = omega (arith, own.few, length-map values (renamed (nodes_after x j)))
 
-  pub forks_few : length forks ≤ 4096 * j
+  pub forks_few : length forks ≤ CONTRACTIONS * j
   forks_few = omega (arith, own.steps, length-map forks (shifted first))
 
   pub ranks_each : length ranks ≡ length values
   ranks_each = own.layer.ranks_count ∙ length-map values (renamed (nodes_after x j))
 
-  pub ranks_low : j < 24 → (i : ℕ) → i < length ranks → slice_index ranks i < 16777216
+  pub ranks_low : j < BAY_SWITCHES → (i : ℕ) → i < length ranks → slice_index ranks i < 2 ^ BAY_SWITCHES
   ranks_low low i lt = ranks_small d part first j (map (renamed (nodes_after x j)) values) ranks (map
       (shifted first) forks) own.layer low i (omega (arith, own.layer.ranks_count))
 
@@ -204,7 +206,7 @@ module _ (d : Diagram) (station : IsStation d) (part first count : ℕ) (y : Cou
       (omega arith) ∙ sym (ap length en)))
 
   pub switch_room : (forks : List Fork) → forks ≡ f.forks.items → (i : ℕ) (k : Fork) → slice_get forks i ≡ Some k
-      → first + k.switch.0 < 65536
+      → first + k.switch.0 < 2 ^ 16
   switch_room forks e i k at =
       let there = at_map (shifted first) f.forks.items i k (ap (λ (l : List Fork). slice_get l i) (sym e) ∙ at) in
       omega (arith, (made.staged.inside i (shifted first k) there).1, is.switches.within, station.items.switches_few)

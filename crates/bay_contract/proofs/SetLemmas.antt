@@ -8,7 +8,7 @@ use Rattle.bay_contract.specs.Alphabets.{CanHave, IsAgreeing, KeepsPosition, InS
 -- it is a position, where all that are kept are
 pub kept_position : (Position : ℕ → Type 0) (set : List (Option ℕ)) (i : ℕ) (o : Option ℕ)
     → ((k p : ℕ) → KeepsPosition set k p → Position p) → MatchOption o (¬ InSet set i) (KeepsPosition set i)
-        → IfSome o Position
+    → IfSome o Position
 kept_position Position set i None are none = tt
 kept_position Position set i (Some p) are at = are i p at
 

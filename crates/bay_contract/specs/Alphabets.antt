@@ -8,6 +8,7 @@ use Rattle.station_graph.specs.Sharing.{OfPart, IsShared}
 use Rattle.station_graph.specs.Alike.{IsVector}
 use Rattle.contraction.specs.Answers.{Answers, IsContraction, Keeps, SameGap, SameLoad}
 use Rattle.contraction.specs.Stands.{StandsFor}
+use Rattle.bay_contract.specs.declared.limits.TheConstants.{LETTERS}
 use Rattle.bay_contract.specs.Diagrams.{ForksLeadTo}
 use Rattle.bay_contract.specs.Counting.{AreStepSizes}
 use Rattle.bay_contract.specs.PartAlphabets.{Alphabets, letters_of, size_of, example_of, forks_of, first_switch_of}
@@ -37,7 +38,7 @@ pub record IsExample (d : Diagram) (a : Alphabets) (part index n : ℕ) : Type 0
 pub record IsAlphabet (d : Diagram) (a : Alphabets) (part : ℕ) : Type 0 where
   pub switches : AreSwitchesOf d part (first_switch_of a part) (count_of a part)
   pub some : 0 < size_of a part
-  pub few : size_of a part ≤ 255
+  pub few : size_of a part ≤ LETTERS
   pub letters : (i : ℕ) (c : Answers) → slice_get (letters_of a part) i ≡ Some c → IsLetter d part c
   pub apart : (i k : ℕ) (x y : Answers) → slice_get (letters_of a part) i ≡ Some x
       → slice_get (letters_of a part) k ≡ Some y → SameGap x y → SameLoad x y → i ≡ k

@@ -7,6 +7,7 @@ use Rattle.station_graph.specs.Sharing.{OfPart, IsShared}
 use Rattle.station_graph.specs.Alike.{IsVector}
 use Rattle.contraction.specs.Answers.{Answers, IsContraction, Keeps}
 use Rattle.contraction.specs.Stands.{StandsFor}
+use Rattle.bay_contract.specs.declared.limits.TheConstants.{LETTERS}
 use Rattle.bay_contract.specs.declared.fork.Fork.{Fork}
 use Rattle.bay_contract.specs.Layers.{OfLayer, rank, bits}
 use Rattle.bay_contract.specs.Diagrams.{ForksLeadTo, ForksFit, AreStaged}
@@ -66,7 +67,7 @@ AreExamples d first count ranks examples =
 pub record IsBuilt (d : Diagram) (part first count : ℕ) (values : List Answers) (examples : List ℕ)
     (forks : List Fork) : Type 0 where
   pub switches : AreSwitchesOf d part first count
-  pub size : (0 < length values) × (length values ≤ 255)
+  pub size : (0 < length values) × (length values ≤ LETTERS)
   pub contractions : (i : ℕ) (c : Answers) → slice_get values i ≡ Some c → IsContraction c
   pub apart : AreApart values
   pub kept : (i : ℕ) (c : Answers) → slice_get values i ≡ Some c → (n : ℕ) → Keeps c.kept n ↔ IsShared d part n

@@ -3,6 +3,7 @@
 use Rattle.std.specs.Prelude.{◌≡◌, ℕ, ◌+◌, ◌<◌, ◌≤◌, ◌⊎◌, Bool, List, length, slice_get, slice_index, sum, Some}
 use Rattle.station_graph.specs.Diagram.{Diagram, AreSwitchesOf}
 use Rattle.station_graph.specs.Alike.{IsVector}
+use Rattle.bay_contract.specs.declared.limits.TheConstants.{CONTRACTIONS, LETTERS}
 use Rattle.bay_contract.specs.Layers.{SameLayer}
 
 -- Vectors of the station, no two of which are the same.
@@ -31,18 +32,18 @@ pub record ArePast (d : Diagram) (Same : List Bool → List Bool → Type 0) (li
   pub distinct : AreDistinct d Same list
   pub past : limit < length list
 
--- Of the part's switches, which are so many from the first on, step j keeps the limits: at most 4,096
--- contractions on the way, and at most 255 at the end.
+-- Of the part's switches, which are so many from the first on, step j keeps the limits: that of
+-- contractions on the way, and that of letters at the end.
 pub record StepFits (d : Diagram) (part first count j : ℕ) : Type 0 where
   pub number : ℕ
   pub counted : AreSoMany d (SameLayer d part (first + j)) number
-  pub on_the_way : number ≤ 4096
-  pub at_end : j ≡ count → number ≤ 255
+  pub on_the_way : number ≤ CONTRACTIONS
+  pub at_end : j ≡ count → number ≤ LETTERS
 
 -- Step j passes a limit.
 abbrev pub StepIsPast : Diagram → ℕ → ℕ → ℕ → ℕ → Type 0
-StepIsPast d part first count j = ArePast d (SameLayer d part (first + j)) 4096 ⊎ ((j ≡ count) × ArePast d
-    (SameLayer d part (first + j)) 255)
+StepIsPast d part first count j = ArePast d (SameLayer d part (first + j)) CONTRACTIONS ⊎ ((j ≡ count) × ArePast d
+    (SameLayer d part (first + j)) LETTERS)
 
 -- Each step of the part keeps the limits.
 pub record PartFits (d : Diagram) (part : ℕ) : Type 0 where

@@ -1,10 +1,12 @@
 -- What the layers of a part are made of, and when another part is like it.
-use Rattle.std.specs.Prelude.{zero, suc, ◌≡◌, ℕ, ◌+◌, ◌≤◌, ◌↔◌, Bool, List, [], Option, Some, None, length, map}
+use Rattle.std.specs.Prelude.{zero, suc, ◌≡◌, ℕ, ◌+◌, ◌*◌, ◌≤◌, ◌↔◌, Bool, List, [], Option, Some, None, length, map}
 use Rattle.std.specs.Prelude.{slice_get, Contains}
+use Rattle.station_graph.specs.declared.limits.TheConstants.{BAY_SWITCHES}
 use Rattle.station_graph.specs.Diagram.{Diagram, AreSwitchesOf}
 use Rattle.contraction.specs.Answers.{Answers, AreNodes}
 use Rattle.contraction.specs.Stands.{StandsFor}
 use Rattle.contraction.specs.Renaming.{renamed}
+use Rattle.bay_contract.specs.declared.limits.TheConstants.{CONTRACTIONS}
 use Rattle.bay_contract.specs.declared.course.Turn.{Turn}
 use Rattle.bay_contract.specs.declared.course.Course.{Course}
 use Rattle.bay_contract.specs.declared.fork.Fork.{Fork}
@@ -84,7 +86,7 @@ pub record IsBuiltOf (d : Diagram) (part first count : ℕ) (y : Course) (f : Pa
       (shifted first) f.forks.items)
   pub staged : AreStaged first count (map (shifted first) f.forks.items)
   pub steps : AreStepSizes d part (length f.forks.items)
-  pub few_steps : length f.forks.items ≤ 98304
+  pub few_steps : length f.forks.items ≤ CONTRACTIONS * BAY_SWITCHES
   pub fits : PartFits d part
 
 -- The pattern serves each part of the station whose course is like its own. Its values are on the last nodes of

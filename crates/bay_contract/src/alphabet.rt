@@ -1,5 +1,5 @@
 //! The alphabet of one part.
-ghost use Rattle.std.specs.Prelude.{◌≡◌, ℕ, ◌+◌, ◌<◌, ◌≤◌, List, Some, length, map, slice_get, IfOk, IfErr};
+ghost use Rattle.std.specs.Prelude.{◌≡◌, ℕ, ◌+◌, ◌^◌, ◌<◌, ◌≤◌, List, Some, length, map, slice_get, IfOk, IfErr};
 ghost use Rattle.contraction.specs.Answers.{Answers, AreNodes};
 ghost use Rattle.contraction.specs.Renaming.{renamed};
 ghost use Rattle.bay_contract.specs.declared.fork.Fork.{Fork};
@@ -61,7 +61,7 @@ fn values_on(
 
 // The steps of the part whose first switch has this number.
 fn steps_from(alloc: Global, forks: &[Fork], first: u16) -> Result<Vec<Fork>, Memory>
-    requires { (i : ℕ) (f : Fork) → slice_get forks.now i ≡ Some f → first + f.switch.0 < 65536 }
+    requires { (i : ℕ) (f : Fork) → slice_get forks.now i ≡ Some f → first + f.switch.0 < 2 ^ 16 }
     ensures { IfOk result (λ l. l.items ≡ map (shifted first) forks.now) }
 {
     let mut steps = Vec::with_capacity(alloc, forks.len())?;

@@ -1,5 +1,5 @@
 //! What the layers of a part are made of.
-ghost use Rattle.std.specs.Prelude.{◌≡◌, ℕ, ◌+◌, ◌<◌, ◌≤◌, ◌↔◌, length, IfOk, Contains};
+ghost use Rattle.std.specs.Prelude.{◌≡◌, ℕ, ◌+◌, ◌^◌, ◌<◌, ◌≤◌, ◌↔◌, length, IfOk, Contains};
 ghost use Rattle.station_graph.specs.Connection.{a_switch};
 ghost use Rattle.station_graph.specs.Diagram.{AreSwitchesOf};
 ghost use Rattle.station_graph.specs.Sharing.{IsShared, OfPart};
@@ -43,7 +43,7 @@ fn turn_of(
     id: SwitchId,
 ) -> Result<Turn, Memory>
     requires own { OfPart station.now part.0 (a_switch id.0) }
-    requires room { id.0 < 65535 }
+    requires room { id.0 + 1 < 2 ^ 16 }
     requires after { first ≤ id.0 }
     requires shared { (n : ℕ) → Contains shared.now n ↔ IsShared station.now part.0 n }
     requires nodes { (n : ℕ) → Contains nodes.now n ↔ IsKept station.now part.0 first n }
@@ -68,7 +68,7 @@ fn turns_of(
     count: u16,
 ) -> Result<Vec<Turn>, Memory>
     requires switches { AreSwitchesOf station.now part.0 first count }
-    requires room { first + count ≤ 65535 }
+    requires room { first + count < 2 ^ 16 }
     requires shared { (n : ℕ) → Contains shared.now n ↔ IsShared station.now part.0 n }
     requires nodes { (n : ℕ) → Contains nodes.now n ↔ IsKept station.now part.0 first n }
     requires rising { AreNodes nodes.now }

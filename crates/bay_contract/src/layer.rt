@@ -1,8 +1,10 @@
 //! One layer after another: the values after each switch of a part, and the steps that lead to them.
 ghost use Rattle.std.specs.Prelude.{◌≡◌, ℕ, ◌+◌, ◌*◌, ◌^◌, ◌<◌, ◌≤◌, length, slice_get, slice_index, Some, IfOk};
 ghost use Rattle.std.specs.Prelude.{IfSome, IfNone, Contains};
+ghost use Rattle.station_graph.specs.declared.limits.TheConstants.{BAY_SWITCHES};
 ghost use Rattle.station_graph.specs.Nodes.{Rises};
 ghost use Rattle.contraction.specs.Answers.{Answers, Keeps};
+ghost use Rattle.bay_contract.specs.declared.limits.TheConstants.{CONTRACTIONS};
 ghost use Rattle.bay_contract.specs.Building.{Forked, Ranked};
 ghost use Rattle.bay_contract.specs.Turns.{Turns, TurnsPast};
 
@@ -66,10 +68,10 @@ pub(crate) fn next_layer(
     layer: &Layer,
     forks: &mut Vec<Fork>,
 ) -> Result<Option<Layer>, Memory>
-    requires few { length layer.now.values.items ≤ 4096 }
-    requires limit { limit ≤ 4096 }
-    requires low { j < 24 }
-    requires steps { length forks.old.items ≤ 4096 * j }
+    requires few { length layer.now.values.items ≤ CONTRACTIONS }
+    requires limit { limit ≤ CONTRACTIONS }
+    requires low { j < BAY_SWITCHES }
+    requires steps { length forks.old.items ≤ CONTRACTIONS * j }
     requires kept { (i : ℕ) (x : Answers) → slice_get layer.now.values.items i ≡ Some x
         → (n : ℕ) → Contains turn.now.kept n → Keeps x.kept n }
     requires rises { Rises turn.now.kept }

@@ -47,10 +47,10 @@ fn keep(alphabets: &mut Vec<Alphabet>, alphabet: Alphabet) -> Result<(), Memory>
 
 impl Parts {
     /// The alphabets of the station's parts. `Many` names the first part, in document order, that has too
-    /// many distinct contractions, and the first of its switches after which it has: more than 4,096, or
-    /// more than 255 after its last switch. Time: the contractions after each switch of a part, each
-    /// composed with the next switch, once for parts that are like each other. Memory: those of one part, and
-    /// the alphabets.
+    /// many distinct contractions, and the first of its switches after which it has: more than
+    /// `CONTRACTIONS`, or more than `LETTERS` after its last switch. Time: the contractions after each switch of
+    /// a part, each composed with the next switch, once for parts that are like each other. Memory: those of one
+    /// part, and the alphabets.
     pub fn new(alloc: Global, station: &Station) -> Result<Parts, PartsRefusal>
         ensures alphabets { IfOk result (AreAlphabets station.now) }
         ensures fits { IfOk result (λ _. (part : ℕ) → part < part_count station.now → PartFits station.now part) }

@@ -1,7 +1,9 @@
 //! What is built of a part, so that it serves each part that is like it.
 ghost use Rattle.std.specs.Prelude.{◌≡◌, ◌≢◌, ℕ, ◌+◌, ◌<◌, ◌≤◌, Bool, List, [], ◌∷◌, ◌++◌, Some, length, slice_get};
 ghost use Rattle.std.specs.Prelude.{IfOk, IfErr, IfSome};
+ghost use Rattle.station_graph.specs.declared.limits.TheConstants.{BAY_SWITCHES};
 ghost use Rattle.contraction.specs.Answers.{AreNodes};
+ghost use Rattle.bay_contract.specs.declared.limits.TheConstants.{CONTRACTIONS, LETTERS};
 ghost use Rattle.bay_contract.specs.declared.pattern.Pattern.{Pattern};
 ghost use Rattle.bay_contract.specs.Layers.{rank, bits};
 ghost use Rattle.bay_contract.specs.Building.{AreReversed};
@@ -12,6 +14,7 @@ use crate::course::Course;
 use crate::fork::Fork;
 use crate::layer::{Layer, next_layer};
 use crate::like::is_like_course;
+use crate::limits::{CONTRACTIONS, LETTERS};
 use crate::refusal::PartsRefusal;
 use contraction::Contraction;
 use ilk_base::{BayId, Memory};
@@ -30,7 +33,7 @@ pub(crate) struct Pattern {
 
 // The positions of a rank as bits.
 fn reversed(number: u32, count: u16) -> u32
-    requires { count ≤ 24 }
+    requires { count ≤ BAY_SWITCHES }
     ensures { (first : ℕ) (v : List Bool) → rank first count v ≡ number → bits first count v ≡ result }
 {
     let mut rest = number;
@@ -46,7 +49,7 @@ fn reversed(number: u32, count: u16) -> u32
 
 // The positions of these ranks as bits.
 fn examples_of(alloc: Global, ranks: &[u32], count: u16) -> Result<Vec<u32>, Memory>
-    requires { count ≤ 24 }
+    requires { count ≤ BAY_SWITCHES }
     ensures { IfOk result (λ e. AreReversed count ranks.now e.items) }
 {
     let mut examples = Vec::new(alloc);
@@ -59,11 +62,15 @@ fn examples_of(alloc: Global, ranks: &[u32], count: u16) -> Result<Vec<u32>, Mem
 // The limit of values after step j + 1.
 fn limit_after(j: u16, count: u16) -> usize
     requires { j < count }
-    ensures last { j + 1 ≡ count → result ≡ 255 }
-    ensures on_the_way { j + 1 ≢ count → result ≡ 4096 }
-    ensures most { result ≤ 4096 }
+    ensures last { j + 1 ≡ count → result ≡ LETTERS }
+    ensures on_the_way { j + 1 ≢ count → result ≡ CONTRACTIONS }
+    ensures most { result ≤ CONTRACTIONS }
 {
-    if j + 1 == count { 255 } else { 4096 }
+    if j + 1 == count {
+        LETTERS
+    } else {
+        CONTRACTIONS
+    }
 }
 
 // The layer of no switch.

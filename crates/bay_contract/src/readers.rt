@@ -23,7 +23,7 @@ use station_graph::Vector;
 use std::alloc::Global;
 
 impl Parts {
-    /// How many indices the part has, from 1 to 255, at once. Takes no memory.
+    /// How many indices the part has, from 1 to `LETTERS`, at once. Takes no memory.
     pub fn size(&self, part: BayId) -> u8
         requires { part.0 < length self.now.parts }
         ensures size { result ≡ size_of self.now part.0 }

@@ -1,6 +1,7 @@
 //! From the positions of a part's switches to its index.
 ghost use Rattle.std.specs.Prelude.{◌≡◌, ℕ, ◌+◌, ◌^◌, ◌<◌, ◌≤◌, ◌⊎◌, Some, length, slice_get, slice_index};
 ghost use Rattle.station_graph.specs.Connection.{Linked};
+ghost use Rattle.bay_contract.specs.declared.limits.TheConstants.{LETTERS};
 ghost use Rattle.bay_contract.specs.Layers.{bits};
 ghost use Rattle.bay_contract.specs.Diagrams.{ForkGoes, ForksFit, ForksLeadTo};
 ghost use Rattle.bay_contract.specs.Targets.{number_of, IsTargetOf, IsStepAt};
@@ -15,7 +16,7 @@ use station_graph::Vector;
 fn walk(forks: &[Fork], size: usize, vector: &Vector) -> usize
     requires fit { ForksFit (length vector.now) size forks.now }
     requires some { 0 < size }
-    requires few { size ≤ 255 }
+    requires few { size ≤ LETTERS }
     ensures linked { Linked (ForkGoes forks.now vector.now) 0 result }
     ensures past { length forks.now ≤ result }
     ensures within { result < length forks.now + size }
@@ -34,7 +35,7 @@ fn walk(forks: &[Fork], size: usize, vector: &Vector) -> usize
 
 // The target of this number.
 fn target_of(at: u32, steps: u32) -> Target
-    requires few { at < steps + 255 }
+    requires few { at < steps + LETTERS }
     ensures number { number_of steps result ≡ at }
     ensures target { IsTargetOf steps result }
 {
