@@ -12,7 +12,7 @@ use Rattle.station_graph.specs.CentralRules.{Breaks}
 use Rattle.station_graph.specs.Alike.{IsVector}
 use Rattle.central_rules.specs.Readings.{Decides}
 use Rattle.central_rules.specs.declared.verdict.Verdict.{Verdict}
-use Rattle.central_rules.specs.declared.verdict.Verdict.TheVariants.{Release, Denied}
+use Rattle.central_rules.specs.declared.verdict.Verdict.TheVariants.{Denied}
 use Rattle.equation_audit.specs.Equations.{Equation, is_released, is_own, AreOwn, OwnBelow}
 use Rattle.equation_audit.specs.Positions.{placed, SharesPosition}
 use Rattle.equation_audit.specs.Findings.{IsLoose, IsLooseIn, NoneLooseBy, Suffices, IsStrict, IsStrictAt, AreFindings}
@@ -20,13 +20,6 @@ use Rattle.equation_audit.specs.Findings.{SomeDiffers, is_different, some_differ
 use Rattle.equation_audit.specs.declared.finding.Loose.{Loose}
 use Rattle.equation_audit.specs.declared.finding.Finding.{Finding}
 use Rattle.equation_audit.proofs.PositionLemmas.{released_same, number_of, length-placed}
-
--- what breaks a rule does not break none
-pub excludes : (d : Diagram) (v : List Bool) (op : Op) (rule : Rule) → Breaks d v op (Some rule) →
-    Breaks d v op None → ⊥
-excludes d v op R1 breaks none = none.0 breaks
-excludes d v op R2 breaks none = none.1 breaks.1
-excludes d v op R3 breaks none = none.2 breaks.2
 
 -- where it breaks no rule, it breaks none
 pub breaks_none : (d : Diagram) (v : List Bool) (op : Op) → ((rule : Rule) → ¬ Breaks d v op (Some rule)) →
@@ -47,9 +40,6 @@ pub not_released : (d : Diagram) (e : Equation) (u : List Bool) → is_released 
     NoneLooseBy d e u
 not_released d e u denied = λ rule v shares loose. let released : is_released e.alternatives u ≡ true =
     sym (released_by d e u v shares) ∙ loose.released in cc (released, denied)
-
-pub suffices_none : (d : Diagram) (e : Equation) (u : List Bool) → Suffices d e u → NoneLooseBy d e u
-suffices_none d e u suffices = λ rule v shares loose. excludes d v e.op rule loose.breaks (suffices v shares)
 
 -- the vectors with the position of v are those with the position of u
 pub shares_again : (d : Diagram) (e : Equation) (u v w : List Bool) → SharesPosition d (is_own e.alternatives) u v →
@@ -185,18 +175,3 @@ pub denied_loose : (d : Diagram) (e : Equation) (u : List Bool) (verdict : Verdi
 denied_loose d e u verdict rule reading released decides is =
     let here = subst (λ (x : Verdict). Decides d (SharesPosition d (is_own e.alternatives) u) e.op x) is decides in
     record { whole = here.0.whole; released = released_by d e u reading here.0 ∙ released; breaks = here.1 }
-
--- and of one in which it does not
-pub release_strict : (d : Diagram) (e : Equation) (u : List Bool) (verdict : Verdict) → IsVector d u →
-    is_released e.alternatives u ≡ false → Decides d (SharesPosition d (is_own e.alternatives) u) e.op verdict →
-    verdict ≡ Release → IsStrictAt d e u
-release_strict d e u verdict whole denied decides is = record {
-  whole = whole;
-  denied = denied;
-  suffices = subst (λ (x : Verdict). Decides d (SharesPosition d (is_own e.alternatives) u) e.op x) is decides;
-}
-
-pub denied_not_strict : (d : Diagram) (e : Equation) (u : List Bool) (rule : Rule) (reading : List Bool) →
-    Decides d (SharesPosition d (is_own e.alternatives) u) e.op (Denied rule reading) → ¬ IsStrictAt d e u
-denied_not_strict d e u rule reading decides strict = excludes d reading e.op rule decides.1
-    (strict.suffices reading decides.0)

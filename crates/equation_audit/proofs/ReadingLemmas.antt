@@ -92,17 +92,6 @@ asked (Ok verdict) d m own u words op of all are whole below decides =
     (subst (λ (x : Diagram). Decides x (IsReading words) op verdict) of decides)
 asked (Err e) d m own u words op of all are whole below decides = tt
 
--- the same over the own switches, however they are listed
-pub asked_own : {E : Type 0} (r : Result Verdict E) (d : Diagram) (first second : ℕ → Bool) (u : List Bool) (op : Op) →
-    ((i : ℕ) → first i ≡ second i)
-    → IfOk r (Decides d (SharesPosition d first u) op) → IfOk r (Decides d (SharesPosition d second u) op)
-asked_own (Ok verdict) d first second u op each decides =
-    decides_same d (SharesPosition d first u) (SharesPosition d second u) op verdict
-    (λ v shares. record { whole = shares.whole; same = λ i is. shares.same i (each i ∙ is) })
-    (λ v shares. record { whole = shares.whole; same = λ i is. shares.same i (sym (each i) ∙ is) })
-    decides
-asked_own (Err e) d first second u op each decides = tt
-
 own_word-same : (own more : List SwitchId) (u : List Bool) (i : ℕ) → is_among own i ≡ is_among more i →
     own_word own u i ≡ own_word more u i
 own_word-same own more u i same = ap (λ t. if t then word_at (get_or u i false) else Lost) same

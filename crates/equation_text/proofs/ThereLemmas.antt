@@ -46,15 +46,6 @@ abbrev first_byte : List ℕ → ℕ
 first_byte [] = 0
 first_byte (b ∷ bs) = b
 
--- the first byte of what defines an entry
-abbrev kind_byte : Entry → ℕ
-kind_byte (step_of p m) = 115
-kind_byte (node_of n) = 110
-
-head_byte : (x : Entry) (more : List ℕ) → first_byte (head_of x ++ more) ≡ kind_byte x
-head_byte (step_of p m) more = refl
-head_byte (node_of n) more = refl
-
 target_there : (n : ℕ) (t : Target) → IsTarget NUMBERS t → ((m : ℕ) → t ≡ Step m → m < n) → IsTarget n t
 target_there n (Step m) may named = named m refl
 target_there n (Index i) may named = may

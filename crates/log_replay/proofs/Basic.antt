@@ -60,11 +60,6 @@ get_listed f zero i d lt = absurd (omega (arith, lt))
 get_listed f (suc n) zero d lt = refl
 get_listed f (suc n) (suc i) d lt = get_listed (λ k. f (suc k)) n i d (omega (arith, lt))
 
-pub get_listed_past : {A : Type 0} (f : ℕ → A) (n i : ℕ) (d : A) → n ≤ i → get_or (listed f n) i d ≡ d
-get_listed_past f zero i d past = refl
-get_listed_past f (suc n) zero d past = absurd (omega (arith, past))
-get_listed_past f (suc n) (suc i) d past = get_listed_past (λ k. f (suc k)) n i d (omega (arith, past))
-
 pub length_listed : {A : Type 0} (f : ℕ → A) (n : ℕ) → length (listed f n) ≡ n
 length_listed f zero = refl
 length_listed f (suc n) = ap (λ x. suc x) (length_listed (λ k. f (suc k)) n)

@@ -1,5 +1,5 @@
 -- The scene after the lines of a run is what the lines say.
-use Rattle.std.proofs.Common.{◌⊎◌, ◌≡◌, ◌≢◌, ◌+◌, ◌-◌, ◌<◌, ◌≤◌, ◌==◌, ℕ, zero, suc, Bool, cond, List, [], ◌∷◌, ◌++◌}
+use Rattle.std.proofs.Common.{◌⊎◌, ◌≡◌, ◌≢◌, ◌+◌, ◌-◌, ◌<◌, ◌==◌, ℕ, zero, suc, Bool, cond, List, [], ◌∷◌, ◌++◌}
 use Rattle.std.proofs.Common.{length, get_or, set, Option, Some, None, Contains, refl, sym, subst, ap, ◌∙◌, inl, inr}
 use Rattle.std.proofs.Common.{arith, get_or-set_same, get_or-set_other}
 use Rattle.std.specs.Prelude.{slice_get, unwrap_or}
@@ -70,16 +70,6 @@ pub get_contains : {A : Type 0} (xs : List A) (k : ℕ) (x : A) → slice_get xs
 get_contains [] k x got = absurd (cc got)
 get_contains (y ∷ xs) zero x got = let e : y ≡ x = cc got in (zero, omega arith, e)
 get_contains (y ∷ xs) (suc k) x got = let rest = get_contains xs k x got in (suc rest.0, omega (arith, rest.1), rest.2)
-
-pub get_within : {A : Type 0} (xs : List A) (k : ℕ) (x : A) → slice_get xs k ≡ Some x → k < length xs
-get_within [] k x got = absurd (cc got)
-get_within (y ∷ xs) zero x got = omega arith
-get_within (y ∷ xs) (suc k) x got = let rest = get_within xs k x got in omega (arith, rest)
-
-pub get_past : {A : Type 0} (xs : List A) (k : ℕ) (d : A) → length xs ≤ k → get_or xs k d ≡ d
-get_past [] k d past = refl
-get_past (x ∷ xs) zero d past = absurd (omega (arith, past))
-get_past (x ∷ xs) (suc k) d past = get_past xs k d (omega (arith, past))
 
 pub put_is : {A : Type 0} (xs : List A) (i j : ℕ) (x d : A) → i < length xs → get_or (set xs i x) j d ≡ cond (i == j) x
     (get_or xs j d)

@@ -74,14 +74,6 @@ order_more events e order follows k x at = elim (got_pushed events e k x at) [
       subst (λ (before : List LogEvent). MayFollow before x) (sym whole) (subst (MayFollow events) p.1 follows)
 ]
 
-pub tell_nothing : (d : Diagram) (rows : List (List (List ℕ))) → Tell d (take 0 rows) []
-tell_nothing d rows = record {
-  each = tt;
-  texts = λ k x lt. absurd (omega (arith, lt));
-  order = λ k e at. absurd (cc at);
-  few = omega arith;
-}
-
 pub tell_more : (d : Diagram) (all : List (List (List ℕ))) (events more : List LogEvent) (row : List (List ℕ))
     (e : LogEvent) (rest : List (List (List ℕ))) → more ≡ events ++ e ∷ [] → drop (length events) all ≡ row ∷ rest
     → Tell d (take (length events) all) events → RecordSays d row e → IsText row → MayFollow events e

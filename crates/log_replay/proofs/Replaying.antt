@@ -20,8 +20,6 @@ use Rattle.reservation_core.specs.declared.values.WorldEvent.TheVariants.{Restar
 use Rattle.reservation_core.specs.declared.values.WorldOutcome.{WorldOutcome}
 use Rattle.reservation_core.specs.declared.values.WorldOutcome.TheVariants.{Premise, Drive, Node}
 use Rattle.reservation_core.specs.declared.values.Which.{Which}
-use Rattle.reservation_core.specs.declared.values.Which.TheVariants.{Start}
-use Rattle.reservation_core.specs.declared.values.TheConstants.{MESSAGES}
 use Rattle.reservation_core.specs.Scene.{Scene, stops}
 use Rattle.reservation_core.specs.Start.{IsStart}
 use Rattle.reservation_core.specs.Happens.{Happens, NodeSteps, IsRefused, IsDriven, SenseHappens, DeliverHappens}
@@ -30,14 +28,14 @@ use Rattle.reservation_core.specs.World.{World, WorldFacts, OutputFits, IsNewWor
 use Rattle.reservation_core.specs.Lines.{Line, Shown}
 use Rattle.reservation_core.specs.Runs.{Run, Leads, Shows, MayHappen, IsBrokenBy, PremiseExact, PremisesHold}
 use Rattle.reservation_core.specs.Runs.{nothing_shown, shown_of}
-use Rattle.reservation_core.specs.LogLines.{HasStart, told_at, start_of, lines_of, at_count}
+use Rattle.reservation_core.specs.LogLines.{HasStart, told_at, start_of, lines_of}
 use Rattle.reservation_core.specs.Hearing.{listed}
 use Rattle.station_graph.specs.Alike.{IsVector}
 use Rattle.reservation_core.specs.Headline.{Headline, IsUnderWay}
 use Rattle.log_replay.specs.declared.log.TheConstants.{MOST_RECORDS}
 use Rattle.log_replay.specs.Records.{MayBeTold}
 use Rattle.log_replay.specs.Following.{LineHappens, FitsAt, IsBroken}
-use Rattle.log_replay.specs.Replay.{Replayed, IsRunOf, IsReplay, ShownFits, ReportFits, shown_at}
+use Rattle.log_replay.specs.Replay.{Replayed, IsRunOf, IsReplay, ShownFits, shown_at}
 use Rattle.log_replay.proofs.All.{run_headline}
 use Rattle.log_replay.proofs.Premises.{premise_exact}
 use Rattle.log_replay.proofs.ReportLemmas.{fits_shown, below_numbers, all_more, each_at}
@@ -257,10 +255,6 @@ goes_on m log outs old new k (Step e) (Some o) station laws r got lt told happen
           (shown_of_fits m old.scene new.scene e o happens fits (omega (arith, few, r.room, lt))));
     }
 
-pub room_left : (m : Meaning) (log : List LogEvent) (outs : List (Option WorldOutcome)) (w : World) (k : ℕ)
-    → Replaying m log outs w k → k ≤ MOST_RECORDS → length w.scene.sent ≤ MESSAGES
-room_left m log outs w k r few = omega (arith, r.room, few)
-
 -- ---- the end
 
 -- a report of these outcomes
@@ -305,10 +299,6 @@ is_stopped m log outs old new k (Step e) (Some o) which r station laws has rs go
     (IsReplay.stops old.scene e which (run_of m log outs old k has rs) (got_at log outs k
     (Step e) rs.count got) breaks (ap (λ (n : ℕ). let b : Option (ℕ × Which) = Some (n + 1, which) in
     b) (sym long)))
-
-pub no_start_is : (m : Meaning) (log : List LogEvent) (r : Replayed) → ¬ HasStart m.diagram log → r.out ≡ []
-    → r.broken ≡ Some (at_count log + 1, Start) → IsReplay m log r
-no_start_is m log r none first second = IsReplay.no_start none first second
 
 -- ---- the headline
 
@@ -370,11 +360,6 @@ fits_in m d o same fits = subst (λ (y : Diagram). FitsAt y o) (sym same) fits
 
 pub has_in : (m : Meaning) (d : Diagram) (log : List LogEvent) → m.diagram ≡ d → HasStart d log → HasStart m.diagram log
 has_in m d log same has = subst (λ (y : Diagram). HasStart y log) (sym same) has
-
-pub report_fits : (m : Meaning) (d : Diagram) (log : List LogEvent) (outs : List (Option WorldOutcome)) (w : World)
-    (k : ℕ) (r : Replayed) → m.diagram ≡ d → Replaying m log outs w k → r.out ≡ map shown_at outs → ReportFits d r
-report_fits m d log outs w k r same rs is = subst (λ (ss : List Shown). All (ShownFits d) ss) (sym is) (subst (λ
-    (y : Diagram). All (ShownFits y) (map shown_at outs)) same rs.fits)
 
 pub headline_in : (m : Meaning) (d : Diagram) (log : List LogEvent) (r : Replayed) → m.diagram ≡ d
     → IsStation m.diagram → Laws m → IsReplay m log r → Headline d (start_of d log) (lines_of log r.out [])

@@ -72,10 +72,6 @@ pub cut_at : (c : ℕ) (a t : List ℕ) → free c a ≡ true → cut c (a ++ c 
 cut_at c [] t is = rw (same_test c) refl
 cut_at c (x ∷ a) t is = let p = pick (x == c) (free c a) is in rw (p.0, cut_at c a t p.1) refl
 
-pub cut_none : (c : ℕ) (a : List ℕ) → free c a ≡ true → cut c a ≡ (a, [])
-cut_none c [] is = refl
-cut_none c (x ∷ a) is = let p = pick (x == c) (free c a) is in rw (p.0, cut_none c a p.1) refl
-
 -- ---- rows
 
 abbrev pub push : ℕ → List (List ℕ) → List (List ℕ)

@@ -213,10 +213,6 @@ pub row_in : (image bytes : List ℕ) (n : ℕ) (kept : Kept) → slot image n �
     HasRecord image n kept
 row_in image bytes n kept is row = subst (λ (s : List ℕ). IsRecordRow (record_bytes s) kept) (sym is) row
 
-pub no_row_in : (image bytes : List ℕ) (n : ℕ) → slot image n ≡ bytes →
-    ((kept : Kept) → ¬ (IsRecordRow (record_bytes bytes) kept)) → (kept : Kept) → ¬ (HasRecord image n kept)
-no_row_in image bytes n is none kept has = none kept (subst (λ (s : List ℕ). IsRecordRow (record_bytes s) kept) is has)
-
 pub some_stands : (image : List ℕ) (n : Newest) (kept : Kept) → MatchesNewest image n →
     HasRecord image (number n.slot) kept → IsImageOf image kept
 some_stands image n kept matches has = inl (number n.slot, matches.newest, has)
@@ -235,17 +231,6 @@ some_not_refused image n kept matches has within m refused =
     subst (λ (k : ℕ). LAST_SEQUENCE < sequence (slot image k)) same h in
     too_great _ _ there matches.sequence_is within)
     refused.1
-
--- the slot is refused for want of a record
-pub unread_refused : (image : List ℕ) (n : Newest) → MatchesNewest image n →
-    ((kept : Kept) → ¬ (HasRecord image (number n.slot) kept)) → IsRefusedSlot image (number n.slot)
-unread_refused image n matches none = (matches.newest, inl none)
-
--- the slot is refused for its sequence
-pub great_refused : (image : List ℕ) (n : Newest) → MatchesNewest image n → LAST_SEQUENCE < n.sequence →
-    IsRefusedSlot image (number n.slot)
-great_refused image n matches more =
-    (matches.newest, inr (subst (λ (k : ℕ). LAST_SEQUENCE < k) (sym matches.sequence_is) more))
 
 -- bytes are the row of one record
 same_kept : (bytes : List ℕ) (a b : Kept) → IsRecordRow bytes a → IsRecordRow bytes b → a ≡ b

@@ -1,5 +1,5 @@
 -- What the code needs of the facts.
-use Rattle.std.proofs.Common.{◌≡◌, ◌≢◌, ◌+◌, ◌<◌, ◌≤◌, ◌-◌, ◌++◌, ℕ, zero, suc, Bool, true, List, [], ◌∷◌, length, map}
+use Rattle.std.proofs.Common.{◌≡◌, ◌≢◌, ◌+◌, ◌<◌, ◌≤◌, ◌-◌, ◌++◌, ℕ, zero, suc, Bool, List, [], ◌∷◌, length, map}
 use Rattle.std.proofs.Common.{take, get_or, slice_get, set, Option, Some, None, refl, sym, subst, ap, ◌∙◌, arith, lit<}
 use Rattle.std.specs.Prelude.{unwrap_or}
 use Rattle.std.proofs.Math.Seq.{take-suc}
@@ -11,7 +11,6 @@ use Rattle.station_graph.specs.declared.limits.TheConstants.{BAYS}
 use Rattle.central_rules.specs.Meaning.{Meaning, IsBay, bay_of}
 use Rattle.bay_frames.specs.declared.frame.Frame.{Frame}
 use Rattle.bay_frames.specs.Row.{frame_row, IsLawful, FitsRow}
-use Rattle.bay_protocol.specs.declared.values.Grant.{Grant}
 use Rattle.bay_protocol.specs.declared.values.NodeEvent.{NodeEvent}
 use Rattle.bay_protocol.specs.declared.values.NodeEvent.TheVariants.{Frame as Arrival}
 use Rattle.bay_protocol.specs.State.{State, kept_of}
@@ -19,9 +18,9 @@ use Rattle.bay_protocol.specs.Fits.{FitsHeard, IsNode}
 use Rattle.bay_protocol.specs.declared.values.NodeOutput.{NodeOutput}
 use Rattle.bay_protocol.specs.Step.{Turn, Step, TakeStep, Nothing}
 use Rattle.bay_protocol.specs.Output.{turn as as_turn, IsKeep}
-use Rattle.reservation_core.specs.Scene.{Scene, node, new_node, at_node, posts, runs, stops}
+use Rattle.reservation_core.specs.Scene.{Scene, node, new_node, at_node, posts, stops}
 use Rattle.reservation_core.specs.RoundFacts.{RoundFacts, FrameFits}
-use Rattle.reservation_core.specs.Happens.{Tells, NodeSteps, NodeTakes, IsMessage, IsOpened, no_turn}
+use Rattle.reservation_core.specs.Happens.{Tells, NodeSteps, NodeTakes, IsMessage, no_turn}
 use Rattle.reservation_core.specs.declared.values.Position.{Position}
 use Rattle.reservation_core.specs.declared.values.WorldOutcome.{WorldOutcome}
 use Rattle.reservation_core.specs.declared.values.WorldOutcome.TheVariants.{Premise, Drive, Node}
@@ -132,19 +131,6 @@ pub message_fits : (m : Meaning) (w : Scene) (k : ℕ) (f : Frame) → RoundFact
 message_fits m w k f facts message = facts.bounds.fit f (got_there w.sent (k - 1) f message.sent)
 
 -- ---- drives
-
--- the switch of a granted operation has a drive
-pub grant_known : (m : Meaning) (w : Scene) (b : ℕ) (g : Grant) → RoundFacts m w → IsBay m.diagram b →
-    (node m.diagram w b).granted ≡ Some g → g.op.switch.0 < length w.drives
-grant_known m w b g facts bay has =
-    let own = ((facts.rounds b bay).kept.granted g has).own in
-    let lt : g.op.switch.0 < length m.diagram.switches =
-    slice_get_within m.diagram.switches g.op.switch.0 own.0 own.1 in
-    omega (arith, lt, facts.shape.drives)
-
-pub opened : (m : Meaning) (w : Scene) (i : ℕ) → RoundFacts m w → i < length m.diagram.switches →
-    runs w.drives i ≡ true → IsOpened (node m.diagram w (bay_of m.diagram i)) i
-opened m w i facts lt on = let d = facts.drives i lt on in (d.grant, record { granted = d.granted; switch = d.switch })
 
 -- a drive that stops as its bay's node takes note
 pub cut_after : (m : Meaning) (old mid new : Scene) (i b : ℕ) (event : NodeEvent) (outcome : WorldOutcome) →

@@ -533,10 +533,6 @@ module _ (m : Meaning) (N : Type 0) (word : N → Dbpos) where
 
     -- grants
 
-    -- the moved switch as its word says
-    moved_to : (g : Grant) → Bool
-    moved_to g = agreeing (get_or (node m.diagram w b).words g.op.switch.0 Lost)
-
     -- a vector with the moved switch as its word says is one that the bay knew
     restored : (g : Grant) (r : Released m (node m.diagram w b) event g) (v : List Bool) → new.granted ≡ Some g →
         IsSwitchOf m b g.op.switch.0 → IsVector m.diagram v →

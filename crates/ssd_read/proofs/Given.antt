@@ -3,7 +3,6 @@ use Rattle.std.proofs.Common.{◌≡◌, ℕ, ◌<◌, ◌+◌, List, [], ◌∷
 use Rattle.std.proofs.Common.{Ok, refl, arith, zero, suc, sym, subst, inl, inr, ◌⊎◌}
 use Rattle.std.specs.List.{filter_map, flat_map, slice_get, range_with_len}
 use Rattle.std.proofs.lemmas.List.Elements.{filter_map-append}
-use Rattle.ilk_base.specs.declared.words.Kind.{Kind}
 use Rattle.ilk_base.specs.declared.words.Kind.TheVariants.{Breaker, Disconnector, Earthing, Infeed}
 use Rattle.station_graph.specs.Diagram.{Diagram, InfeedsTapped}
 use Rattle.station_graph.specs.declared.items.Switch.{Switch}
@@ -312,9 +311,6 @@ one_tapped y ts h = go
     go : (i : ℕ) (x : Switch) → slice_get (y ∷ []) i ≡ Some x → x.kind ≡ Infeed → HasTapIn ts x.first.0
     go zero x e k = let same : y ≡ x = cc in subst (λ (x : Switch). x.kind ≡ Infeed → HasTapIn ts x.first.0) same h k
     go (suc i) x e k = absurd (cc)
-
-not_infeed : (k : Kind) → k ≡ Infeed → Kind
-not_infeed k h = k
 
 use_tapped : (u : Use) (e : Entry) (part : ℕ) (ns : List ℕ) → IsTapped (use_steps u e part ns)
 use_tapped uses.Breaker e part [] = none_tapped [] refl

@@ -84,10 +84,6 @@ pub place_is : (t : List Entry) (ps : List DrawnElement) (all : List Element) (i
 place_is t ps all i x e h l r = rw (← e) (placed_at t ps i x h (in_places t ps all i e h l)
     ∙ ap (placed (entry_at t i)) (sym r))
 
-first_place : List DrawnElement → DrawnElement → DrawnElement
-first_place [] d = d
-first_place (p ∷ ps) d = p
-
 pub entry_is : (t : List Entry) (ps : List DrawnElement) (all : List Element) (i : ℕ) → placed_all t ps ≡ all →
     length ps ≡ length t → i < length all → entry_at t i ≡ (element_at all i).entry
 entry_is t [] all i e h l = absurd (omega (arith, in_places t [] all i e h l))

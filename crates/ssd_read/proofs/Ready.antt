@@ -3,7 +3,6 @@ use Rattle.std.proofs.Common.{◌≡◌, ℕ, ◌≤◌, ◌<◌, ◌+◌, ◌-�
 use Rattle.std.proofs.Common.{Some, None, Bool, true, false, ◌==◌, ◌||◌, ◌&&◌, not, cond, Ok, Err, add-one, refl}
 use Rattle.std.proofs.Common.{arith, zero, suc, ap, ◌∙◌, sym, subst}
 use Rattle.std.specs.List.{filter, filter_map, flat_map, slice_get, range_with_len, list_any, Contains}
-use Rattle.std.specs.Prelude.{nat_lt}
 use Rattle.std.specs.Option.{option_or, option_map, option_map_or}
 use Rattle.std.specs.Str.{bytes_eq}
 use Rattle.std.proofs.lemmas.Slice.Eq.{bytes_eq-Decides}
@@ -14,10 +13,8 @@ use Rattle.station_graph.specs.Building.{FollowsLast, path_in_part}
 use Rattle.station_graph.specs.declared.items.Switch.{Switch}
 use Rattle.ssd_text.specs.Nesting.{Entry, IsInOrder}
 use Rattle.ssd_read.specs.declared.refusal.SsdRefusal.{SsdRefusal}
-use Rattle.ssd_read.specs.declared.refusal.SsdRefusal.TheVariants.{NoName, Twice, Terminals, Grounded, Loop}
+use Rattle.ssd_read.specs.declared.refusal.SsdRefusal.TheVariants.{NoName, Twice}
 use Rattle.ssd_read.specs.declared.ends.TerminalPlace.{TerminalPlace}
-use Rattle.ssd_read.specs.declared.ends.Use.{Use}
-use Rattle.ssd_read.specs.declared.ends.Use.TheVariants as uses
 use Rattle.ssd_read.specs.declared.role.Role.{Role}
 use Rattle.ssd_read.specs.declared.role.Role.TheVariants.{Root, Substation, VoltageLevel, Bay, ConnectivityNode}
 use Rattle.ssd_read.specs.declared.role.Role.TheVariants.{ConductingEquipment, PowerTransformer, TransformerWinding}
@@ -26,8 +23,7 @@ use Rattle.ssd_read.specs.Drawn.{IsDrawn}
 use Rattle.ssd_read.specs.Elements.{Element, element_at, elements_of, nowhere, same_role, element_name, counted_as}
 use Rattle.ssd_read.specs.Names.{FaultAfter, first_fault, name_fault, is_nameless, is_taken, is_node, keys_of}
 use Rattle.ssd_read.specs.Names.{same_path, same_key, counted_path}
-use Rattle.ssd_read.specs.Ends.{ends_of, nodes_at, use_of, missing_fault, use_fault, fault_of_ends, end_fault}
-use Rattle.ssd_read.specs.Ends.{are_apart, breaker_fault, disconnector_fault, unless}
+use Rattle.ssd_read.specs.Ends.{ends_of, fault_of_ends, end_fault}
 use Rattle.ssd_read.specs.Steps.{Step, a_part, a_node, a_switch, a_link, a_tap, built, added, limit_at, limit_fault}
 use Rattle.ssd_read.specs.Steps.{is_part, naming_step, part_number, part_of, item_steps_at, steps_before}
 use Rattle.ssd_read.specs.Lists.{part_path, added_node, switch_in, switch_path_in}
@@ -93,12 +89,6 @@ is_equipment PowerTransformer h = absurd (cc)
 is_equipment TransformerWinding h = absurd (cc)
 is_equipment Terminal h = absurd (cc)
 is_equipment Skipped h = absurd (cc)
-
-naming_free : (Q : List ℕ → Switch → Type 0) (b c : Bool) (x : Element) →
-    AllSwitches Q (cond b (a_part x.path ∷ []) (cond c (a_node x.path ∷ []) []))
-naming_free Q true c x = tt
-naming_free Q false true x = tt
-naming_free Q false false x = tt
 
 follows_tree : (tree : List Entry) (i : ℕ) (d : Diagram) → IsInOrder tree → i < length tree →
     (element_at (elements_of tree) i).role ≡ ConductingEquipment →
@@ -436,45 +426,6 @@ transformer_part_in all i d g =
     (sym (part_total (elements_of tree) i d b)) (transformer_in tree i o (omega (arith, drawn_len tree)) r)) all g
 
 -- ---- what pass 2 says
-
-unless_none : (b : Bool) (e : SsdRefusal) → unless b e ≡ None → b ≡ true
-unless_none true e h = refl
-unless_none false e h = absurd (cc)
-
-breaker_apart : (at : ℕ) (ends : List TerminalPlace) → breaker_fault at ends ≡ None → are_apart (nodes_at ends) ≡ true
-breaker_apart at ends h =
-    let first = or_none (unless (length ends == 2) (Terminals at (length ends)))
-    (option_or (unless (length (nodes_at ends) == 2) (Grounded at)) (unless (are_apart (nodes_at ends))
-    (Loop at))) h in
-    let second = or_none (unless (length (nodes_at ends) == 2) (Grounded at)) (unless (are_apart (nodes_at ends))
-    (Loop at)) first.1 in
-    unless_none (are_apart (nodes_at ends)) (Loop at) second.1
-
-disconnector_apart : (at : ℕ) (ends : List TerminalPlace) → disconnector_fault at ends ≡ None →
-    are_apart (nodes_at ends) ≡ true
-disconnector_apart at ends h =
-    let first = or_none (unless (length ends == 2) (Terminals at (length ends)))
-    (option_or (unless (nat_lt 0 (length (nodes_at ends))) (Grounded at)) (unless (are_apart (nodes_at ends))
-    (Loop at))) h in
-    let second = or_none (unless (nat_lt 0 (length (nodes_at ends))) (Grounded at)) (unless (are_apart (nodes_at ends))
-    (Loop at)) first.1 in
-    unless_none (are_apart (nodes_at ends)) (Loop at) second.1
-
-of_use : (x : Element) (ends : List TerminalPlace) → x.role ≡ ConductingEquipment →
-    fault_of_ends x ends ≡ option_or (missing_fault ends) (use_fault (use_of x.entry) x.entry.at ends)
-of_use x ends h = rw h refl
-
-pub breaker_ends : (x : Element) (ends : List TerminalPlace) → x.role ≡ ConductingEquipment →
-    use_of x.entry ≡ uses.Breaker → fault_of_ends x ends ≡ None → are_apart (nodes_at ends) ≡ true
-breaker_ends x ends r u h =
-    let both = or_none (missing_fault ends) (use_fault (use_of x.entry) x.entry.at ends) (sym (of_use x ends r) ∙ h) in
-    breaker_apart x.entry.at ends (sym (ap (λ (u : Use). use_fault u x.entry.at ends) u) ∙ both.1)
-
-pub disconnector_ends : (x : Element) (ends : List TerminalPlace) → x.role ≡ ConductingEquipment →
-    use_of x.entry ≡ uses.Disconnector → fault_of_ends x ends ≡ None → are_apart (nodes_at ends) ≡ true
-disconnector_ends x ends r u h =
-    let both = or_none (missing_fault ends) (use_fault (use_of x.entry) x.entry.at ends) (sym (of_use x ends r) ∙ h) in
-    disconnector_apart x.entry.at ends (sym (ap (λ (u : Use). use_fault u x.entry.at ends) u) ∙ both.1)
 
 pub ends_good : (all : List Element) (i : ℕ) (ends : List TerminalPlace) → first_fault (end_fault all) [] all ≡ None →
     i < length all → ends ≡ ends_of all i → fault_of_ends (element_at all i) ends ≡ None

@@ -1,7 +1,7 @@
 -- Names that are taken after a list of elements.
 use Rattle.std.proofs.Common.{◌≡◌, ℕ, List, [], ◌∷◌, ◌++◌, map, Option, Some, None, Bool, true, false, not, ◌||◌, ◌&&◌}
 use Rattle.std.proofs.Common.{cond, refl, ap, ◌∙◌, sym}
-use Rattle.std.specs.List.{list_any, filter, filter_map, cons_option}
+use Rattle.std.specs.List.{list_any, filter, cons_option}
 use Rattle.std.specs.Option.{option_map, option_to_list}
 use Rattle.std.specs.Str.{bytes_eq}
 use Rattle.ssd_read.specs.declared.role.Role.{Role}
@@ -168,9 +168,3 @@ no_fault before x n p k = rw (
   not_true (list_any (same_path x) before) p,
   not_true (list_any (same_key x) before) k,
 ) refl
-
-pub filter_map_push : {X Y : Type 0} (f : X → Option Y) (xs : List X) (x : X) →
-    filter_map f (xs ++ x ∷ []) ≡ filter_map f xs ++ option_to_list (f x)
-filter_map_push f [] x = cons_none (f x)
-filter_map_push f (y ∷ ys) x = ap (cons_option (f y)) (filter_map_push f ys x) ∙ cons_end (f y) (filter_map f ys)
-    (option_to_list (f x))

@@ -9,7 +9,7 @@ use Rattle.std.proofs.lemmas.Bool.{eqb-true, false≢true}
 use Rattle.ssd_text.specs.declared.refusal.TextRefusal.{TextRefusal}
 use Rattle.ssd_text.specs.Grammar.{Piece, comment, instruction, cdata, start, end, run, close, attribute, spelling}
 use Rattle.ssd_text.specs.Grammar.{IsPiece, StopsThere, Begins}
-use Rattle.ssd_text.specs.Nesting.{Entry, Nest, Shape, shape, step, at_end, no_piece, Next, Goes, HasOutcome, mark_len}
+use Rattle.ssd_text.specs.Nesting.{Entry, Nest, Shape, shape, step, no_piece, Next, Goes, HasOutcome, mark_len}
 use Rattle.ssd_text.specs.Nesting.{Spells, nothing}
 use Rattle.ssd_text.specs.Reading.{piece_at}
 use Rattle.ssd_text.specs.Seen.{counted}
@@ -107,10 +107,6 @@ told_more at later n m text next o h place rest =
 pub told_fault : (at : ℕ) (n : Nest) (text : List ℕ) (f : TextRefusal) → 0 < length text → Next at n text (Err f) →
     HasOutcome at n text (Err f)
 told_fault at n text f some h = ([], inr (some, f, h, refl))
-
-pub told_end : (at : ℕ) (n : Nest) (text : List ℕ) (o : Result (List Entry) TextRefusal) → text ≡ [] →
-    o ≡ at_end at n.entries n.within → HasOutcome at n text o
-told_end at n text o none e = ([], inl (none, e))
 
 pub some_left : (xs : List ℕ) (b : Bool) → b ≡ eqb (length xs) 0 → b ≡ false → 0 < length xs
 some_left [] b e f = absurd (false≢true (sym f ∙ e))

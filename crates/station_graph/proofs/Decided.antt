@@ -1,6 +1,6 @@
 -- Each operation has an answer in each vector: what is joined can be decided.
 use Rattle.std.proofs.Common.{◌≡◌, ◌≢◌, ℕ, ◌+◌, ◌<◌, ◌≤◌, ◌⊎◌, zero, suc, Bool, true, false, List, length, slice_get}
-use Rattle.std.proofs.Common.{slice_set, slice_index, get_or, Option, Some, None, refl, sym, ◌∙◌, ap, subst, inl, inr}
+use Rattle.std.proofs.Common.{slice_set, slice_index, Option, Some, None, refl, sym, ◌∙◌, subst, inl, inr}
 use Rattle.std.proofs.Common.{arith, length-set, add-one}
 use Rattle.std.specs.Prelude.{MatchOption}
 use Rattle.std.specs.List.{range_with_len}
@@ -18,7 +18,7 @@ use Rattle.station_graph.specs.declared.items.Switch.{Switch}
 use Rattle.station_graph.specs.declared.items.Link.{Link}
 use Rattle.station_graph.specs.declared.items.Tap.{Tap}
 use Rattle.station_graph.specs.Diagram.{Diagram, IsStation, IsTwoEnded, HasTap, node_count}
-use Rattle.station_graph.specs.Connection.{Touching, Linked, Joined, Bonded, with_breakers_closed}
+use Rattle.station_graph.specs.Connection.{Touching, Linked, Joined, with_breakers_closed}
 use Rattle.station_graph.specs.Supply.{ClosedAt, Live, Quiet, Energisable, Earthable}
 use Rattle.station_graph.specs.CentralRules.{before, after, IsOperation, BreaksEarthing, BreaksClosing, BreaksFeeding}
 use Rattle.station_graph.specs.CentralRules.{GapCarriesLoad, BreaksLoad, Breaks}

@@ -1,5 +1,5 @@
 -- What a builder keeps with each item.
-use Rattle.std.proofs.Common.{◌≡◌, ◌≢◌, ℕ, ◌+◌, ◌-◌, ◌<◌, ◌≤◌, ◌⊎◌, zero, suc, false, eqb, List, [], ◌∷◌, ◌++◌, length}
+use Rattle.std.proofs.Common.{◌≡◌, ◌≢◌, ℕ, ◌+◌, ◌-◌, ◌<◌, ◌≤◌, ◌⊎◌, suc, false, eqb, List, [], ◌∷◌, ◌++◌, length}
 use Rattle.std.proofs.Common.{slice_get, Contains, Option, Some, None, refl, sym, ◌∙◌, ap, subst, inl, inr, arith}
 use Rattle.std.specs.Prelude.{count_by, nat_lt, MatchOption}
 use Rattle.std.specs.List.{range_with_len}
@@ -13,7 +13,7 @@ use Rattle.station_graph.specs.declared.items.Link.{Link}
 use Rattle.station_graph.specs.declared.items.Tap.{Tap}
 use Rattle.station_graph.specs.declared.limits.TheConstants.{PARTS, BAYS, NODES, SWITCHES, BAY_SWITCHES, LINKS, TAPS}
 use Rattle.station_graph.proofs.PathLemmas.{Differ-push, slice_get-push}
-use Rattle.station_graph.specs.Diagram.{Diagram, ItemsFit, Differ, PathsDiffer, IsOrdered, IsStation, InfeedsTapped}
+use Rattle.station_graph.specs.Diagram.{Diagram, ItemsFit, Differ, IsStation, InfeedsTapped}
 use Rattle.station_graph.specs.Diagram.{SwitchFits, LinkFits, TapFits, IsTwoEnded, node_count, part_count, bay_count}
 use Rattle.station_graph.specs.Diagram.{switches_in}
 use Rattle.station_graph.specs.Building.{IsDraft, CountsBays, FollowsLast}

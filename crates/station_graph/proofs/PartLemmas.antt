@@ -1,16 +1,16 @@
 -- What belongs to a part: where its switches stand, and what it shares.
-use Rattle.std.proofs.Common.{◌≡◌, ◌≢◌, ◌↔◌, ℕ, ◌+◌, ◌-◌, ◌<◌, ◌≤◌, ◌⊎◌, zero, suc, Bool, true, false, eqb, ltb, List}
-use Rattle.std.proofs.Common.{[], ◌∷◌, length, slice_get, get_or, Some, refl, sym, ◌∙◌, ap, subst, inl, inr, arith}
+use Rattle.std.proofs.Common.{◌≡◌, ◌↔◌, ℕ, ◌+◌, ◌-◌, ◌<◌, ◌≤◌, zero, suc, Bool, true, false, eqb, ltb, List}
+use Rattle.std.proofs.Common.{[], ◌∷◌, length, slice_get, get_or, Some, refl, sym, ◌∙◌, subst, inl, inr, arith}
 use Rattle.std.specs.Prelude.{count_by}
 use Rattle.std.specs.List.Sorted.{IsPartitionPoint, IsPartitionedBy}
 use Rattle.std.proofs.lemmas.Bool.{cases_lt, cases_eq, cases_Bool, ltb-true, lt-ltb, eq-eqb, ne_eqb}
 use Rattle.std.proofs.lemmas.Option.{slice_get_within, slice_get_cases, get_or_from_slice_get, slice_get-get_or}
 use Rattle.station_graph.specs.declared.items.Switch.{Switch}
-use Rattle.station_graph.specs.Diagram.{Diagram, IsOrdered, AreSwitchesOf, switches_in}
+use Rattle.station_graph.specs.Diagram.{Diagram, IsOrdered, AreSwitchesOf}
 use Rattle.station_graph.specs.Connection.{Item, a_switch, a_link, a_tap}
 use Rattle.station_graph.specs.Sharing.{OfPart, Touches, TouchedBy, IsShared, AtSwitch, AtLink, AtTap}
-use Rattle.station_graph.specs.Marking.{PartIs, SomeBelow, SwitchesAt, LinksAt, TapsAt, TouchedFrom}
-use Rattle.station_graph.proofs.CountLemmas.{counted, counted_no, counted_yes, count_by-cons, count_by-none}
+use Rattle.station_graph.specs.Marking.{PartIs, TouchedFrom}
+use Rattle.station_graph.proofs.CountLemmas.{counted_no, counted_yes, count_by-cons, count_by-none}
 use Rattle.station_graph.proofs.MarkLemmas.{SomeBelow-from}
 
 -- in the order of their parts the switches of earlier parts stand first

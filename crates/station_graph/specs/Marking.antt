@@ -1,8 +1,5 @@
 -- Marks on the nodes that items of a part, or of the other parts, touch.
 use Rattle.std.specs.Prelude.{◌≡◌, ◌≢◌, ◌↔◌, ◌<◌, ℕ, ◌⊎◌, Bool, true, false, List, length, slice_get, Some}
-use Rattle.station_graph.specs.declared.items.Switch.{Switch}
-use Rattle.station_graph.specs.declared.items.Link.{Link}
-use Rattle.station_graph.specs.declared.items.Tap.{Tap}
 use Rattle.station_graph.specs.Diagram.{Diagram}
 use Rattle.station_graph.specs.Sharing.{AtSwitch, AtLink, AtTap}
 

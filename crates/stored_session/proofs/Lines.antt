@@ -96,17 +96,6 @@ module _ (before : Option (List ℕ)) (done : List (List ℕ)) where
       at.consumed,
     )
 
-    -- there is none
-    pub none_next : held ≡ [] → IsAtEnd now → IsAll before now done
-    none_next empty at_end = (
-      at.taken ++ held,
-      record {
-        told = all_of before now (at.taken ++ held) at.consumed at_end;
-        cut = at.ends held ∙ ap (λ l. done ++ lines l) empty ∙ append-nil done;
-      },
-      at.consumed,
-    )
-
     -- the first line of what is held is passed
     pub reads_line : (line past : List ℕ) → BeginsLine held line past → ReadsThrough before now past
         (done ++ strip_carriage_return line ∷ [])
@@ -207,11 +196,6 @@ module _ (before : Option (List ℕ)) (done : List (List ℕ)) (now after : Opti
   last_comes text fills is some = subst (λ (t : List ℕ). IsAll before after (done ++ t ∷ [])) (sym is)
       (last_next before done after held_new
       (reads_more before done now after held held_new at fills.grows) fills.is.0 some fills.is.1)
-
-  -- none
-  pub none_comes : Fills held held_new now after Last → held_new ≡ [] → IsAll before after done
-  none_comes fills empty = none_next before done after held_new
-      (reads_more before done now after held held_new at fills.grows) empty fills.is.1
 
   -- it is not known
   pub fails_so : (rose : Type 0) (trouble : InputTrouble) → FillFails held held_new now after rose trouble

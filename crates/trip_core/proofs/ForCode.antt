@@ -42,7 +42,7 @@ use Rattle.trip_core.specs.declared.values.Learning.{Learning}
 use Rattle.trip_core.specs.declared.values.Note.{Note}
 use Rattle.trip_core.specs.Trips.{TripScene, lost, note_at, own_note}
 use Rattle.trip_core.specs.Learning.{CountsOf, IsCounted, number_of, learned_note}
-use Rattle.trip_core.specs.Happens.{sensed_after, known_then, later, NotesTurn, NotesAfter, StepHappens}
+use Rattle.trip_core.specs.Happens.{sensed_after, known_then, NotesTurn, NotesAfter, StepHappens}
 use Rattle.trip_core.specs.Facts.{IsClocked}
 
 -- ---- the bay that an event concerns
@@ -190,9 +190,6 @@ grows m old new event outcome station rounds range happens = grows_by m old new 
 
 length_grown : (old new : Scene) (g : Grows old new) → length new.sent ≡ length old.sent + length g.more
 length_grown old new g = ap (λ (x : List Frame). length x) g.is ∙ length-append old.sent g.more
-
-pub sent_rises : (old new : Scene) → Grows old new → length old.sent ≤ length new.sent
-sent_rises old new g = let e = length_grown old new g in omega (arith, e)
 
 -- ---- a step that was taken, with its notes
 
@@ -355,14 +352,6 @@ module _ (m : Meaning) (d : Diagram) (same : m.diagram ≡ d) (old new : TripSce
     words = words_kept;
     notes = NotesAfter.refused premise.0 premise.1 (is ∙ ap (λ (w : World). with_world old w)
         (unchanged premise.0 premise.1));
-  }
-
-  pub passed : ((which : Which) → out ≢ Premise which) → concern d old.world.scene event ≡ None
-      → new ≡ later old new.world → StepHappens m old event new out
-  passed fine none is = record {
-    happens = happens;
-    words = words_kept;
-    notes = NotesAfter.passes fine (ap (λ (x : Diagram). concern x old.world.scene event) same ∙ none) is;
   }
 
   pub turn_done : (c : Concern) (own said : List Note) (spare : List (List Note)) (l : Learning) → IsStation m.diagram

@@ -1,4 +1,4 @@
-use Rattle.std.proofs.Common.{◌≡◌, ◌++◌, ◌∙◌, ℕ, ap, false, drop, length, arith}
+use Rattle.std.proofs.Common.{◌∙◌, ℕ, ap, false, drop, length, arith}
 use Rattle.std.proofs.Math.ListN.{replicate}
 use Rattle.station_graph.specs.Diagram.{node_count}
 use Rattle.station_graph.specs.Marking.{TouchedFrom}

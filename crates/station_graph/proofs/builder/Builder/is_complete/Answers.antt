@@ -1,4 +1,4 @@
-use Rattle.std.proofs.Common.{◌↔◌, ◌∙◌, IsTrue, List, subst, sym, ap}
+use Rattle.std.proofs.Common.{◌↔◌, IsTrue, List, subst}
 use Rattle.station_graph.specs.declared.items.Switch.{Switch}
 use Rattle.station_graph.specs.declared.items.Tap.{Tap}
 use Rattle.station_graph.specs.Diagram.{Diagram, AllTapped}

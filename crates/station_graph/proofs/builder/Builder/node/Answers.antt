@@ -1,4 +1,4 @@
-use Rattle.std.proofs.Common.{◌<◌, ℕ, List, Contains, arith, subst, sym}
+use Rattle.std.proofs.Common.{◌<◌, ℕ, List, Contains, arith, subst}
 use Rattle.std.specs.String.{string_bytes}
 use Rattle.station_graph.specs.declared.limits.TheConstants.{NODES}
 use Rattle.station_graph.specs.Diagram.{Diagram, node_count}
