@@ -17,10 +17,10 @@ use Rattle.decision_graphs.proofs.BuildingLemmas.{node_count-sizes, size_at-size
 use Rattle.decision_graphs.proofs.BuildingLemmas.{MayHaveEdge-from_sizes}
 use Rattle.decision_graphs_bench.specs.Sizes.{AreSizes}
 
-pub sum-suc : (ns : List ℕ) (j : ℕ) → j < length ns → sum (take (suc j) ns) ≡ sum (take j ns) + get_or ns j 0
+sum-suc : (ns : List ℕ) (j : ℕ) → j < length ns → sum (take (suc j) ns) ≡ sum (take j ns) + get_or ns j 0
 sum-suc ns j lt = sum_before-suc (λ n. n) ns 0 j lt
 
-pub sum-within : (ns : List ℕ) (j : ℕ) → j < length ns → sum (take j ns) + get_or ns j 0 ≤ sum ns
+sum-within : (ns : List ℕ) (j : ℕ) → j < length ns → sum (take j ns) + get_or ns j 0 ≤ sum ns
 sum-within ns j lt = omega (
   arith,
   sum-suc ns j lt,

@@ -109,7 +109,7 @@ module _ (P Q : ℕ → Type 0) (node next : ℕ) (steps mid : List (Option ℕ)
     queue_only = h.queue_only;
   }
 
-  pub ReachesAll-more : (new : List (Option ℕ)) (last : List ℕ) → Visits node next mid new longer last →
+  ReachesAll-more : (new : List (Option ℕ)) (last : List ℕ) → Visits node next mid new longer last →
       ReachesAll Q next steps new queue last
   ReachesAll-more new last (inl (none, set, push)) =
       subst (λ (s : List (Option ℕ)). ReachesAll Q next steps s queue last) (sym set)

@@ -34,7 +34,7 @@ use Rattle.denial_explain.specs.Explained.{LeadsLive, Explains}
 use Rattle.denial_explain.specs.declared.chain.Chain.{Chain}
 
 -- one switch is moved
-pub one_moved : (d : Diagram) (op : Op) (x y : Switch) → Moves d op x → Moves d op y → x ≡ y
+one_moved : (d : Diagram) (op : Op) (x y : Switch) → Moves d op x → Moves d op y → x ≡ y
 one_moved d op x y at_x at_y = cc (at_x, at_y)
 
 not_two_ended : (k : Kind) → k ≡ Infeed → ¬ IsTwoEnded k
@@ -140,7 +140,7 @@ leads_in bonds_only d v station a (c ∷ after) b a_in leads =
     leads_in bonds_only d v station c after b (touched_in d station touched.item c touched.touches) leads.1
 
 -- what is linked to a node of the station is one
-pub linked_in : (bonds_only : Bool) (d : Diagram) (v : List Bool) → IsStation d → (a b : ℕ) → a < node_count d →
+linked_in : (bonds_only : Bool) (d : Diagram) (v : List Bool) → IsStation d → (a b : ℕ) → a < node_count d →
     Linked (Touching bonds_only d v) a b → b < node_count d
 linked_in bonds_only d v station a b a_in l = leads_in bonds_only d v station a l.after b a_in l.leads
 

@@ -34,7 +34,7 @@ IsWay-same R Q Target Goal a last nodes there back end_there end_back w = record
 }
 
 -- a node from which a list leads to an end has at most as many steps as the list has nodes
-pub steps_within : (R : ℕ → ℕ → Type 0) (Target : ℕ → Type 0) (count : ℕ) (steps : List (Option ℕ)) →
+steps_within : (R : ℕ → ℕ → Type 0) (Target : ℕ → Type 0) (count : ℕ) (steps : List (Option ℕ)) →
     AreSteps R Target count steps → (a : ℕ) (other : List ℕ) (m : ℕ) → LeadsTo R a other m → Target m → (k : ℕ)
     × HasSteps steps a k × (k ≤ length other)
 steps_within R Target count steps h a [] m e end = (0, h.ends a (subst Target (sym e) end), omega arith)

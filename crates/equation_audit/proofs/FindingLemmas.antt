@@ -22,7 +22,7 @@ use Rattle.equation_audit.specs.declared.finding.Finding.{Finding}
 use Rattle.equation_audit.proofs.PositionLemmas.{released_same, number_of, length-placed}
 
 -- where it breaks no rule, it breaks none
-pub breaks_none : (d : Diagram) (v : List Bool) (op : Op) → ((rule : Rule) → ¬ Breaks d v op (Some rule)) →
+breaks_none : (d : Diagram) (v : List Bool) (op : Op) → ((rule : Rule) → ¬ Breaks d v op (Some rule)) →
     Breaks d v op None
 breaks_none d v op never = (
   never R1,
@@ -31,7 +31,7 @@ breaks_none d v op never = (
       (never R1, λ second. never R2 (never R1, second), third),
 )
 
-pub released_by : (d : Diagram) (e : Equation) (u v : List Bool) → SharesPosition d (is_own e.alternatives) u v →
+released_by : (d : Diagram) (e : Equation) (u v : List Bool) → SharesPosition d (is_own e.alternatives) u v →
     is_released e.alternatives v ≡ is_released e.alternatives u
 released_by d e u v shares = released_same e.alternatives v u shares.same
 
@@ -42,7 +42,7 @@ not_released d e u denied = λ rule v shares loose. let released : is_released e
     sym (released_by d e u v shares) ∙ loose.released in cc (released, denied)
 
 -- the vectors with the position of v are those with the position of u
-pub shares_again : (d : Diagram) (e : Equation) (u v w : List Bool) → SharesPosition d (is_own e.alternatives) u v →
+shares_again : (d : Diagram) (e : Equation) (u v w : List Bool) → SharesPosition d (is_own e.alternatives) u v →
     SharesPosition d (is_own e.alternatives) v w → SharesPosition d (is_own e.alternatives) u w
 shares_again d e u v w first second = record {
   whole = second.whole;
@@ -50,12 +50,12 @@ shares_again d e u v w first second = record {
       ∙ first.same i own;
 }
 
-pub shares_back : (d : Diagram) (e : Equation) (u v : List Bool) → IsVector d u →
+shares_back : (d : Diagram) (e : Equation) (u v : List Bool) → IsVector d u →
     SharesPosition d (is_own e.alternatives) u v → SharesPosition d (is_own e.alternatives) v u
 shares_back d e u v whole shares = record { whole = whole; same = λ i own. sym (shares.same i own) }
 
 -- to be strict is a matter of the position of the own switches
-pub strict_same : (d : Diagram) (e : Equation) (u v : List Bool) → IsVector d u →
+strict_same : (d : Diagram) (e : Equation) (u v : List Bool) → IsVector d u →
     SharesPosition d (is_own e.alternatives) u v → IsStrictAt d e v → IsStrictAt d e u
 strict_same d e u v whole shares strict = record {
   whole = whole;
@@ -135,7 +135,7 @@ differ_exactly d (e ∷ es) (f ∷ fs) found =
     )
 
 -- each vector has the position of some number
-pub shares_number : (d : Diagram) (e : Equation) (own : List SwitchId) (v : List Bool) → AreOwn e.alternatives own →
+shares_number : (d : Diagram) (e : Equation) (own : List SwitchId) (v : List Bool) → AreOwn e.alternatives own →
     OwnBelow (length d.switches) e.alternatives → IsVector d v
     → (k : ℕ) × (k < 2 ^ length own) × IsVector d (placed (replicate (length d.switches) false) own k)
     × SharesPosition d (is_own e.alternatives) (placed (replicate (length d.switches) false) own k) v

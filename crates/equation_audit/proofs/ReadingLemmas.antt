@@ -36,7 +36,7 @@ own_word-other : (own : List SwitchId) (u : List Bool) (i : ℕ) → is_among ow
 own_word-other own u i none = ap (λ t. if t then word_at (get_or u i false) else Lost) none
 
 -- a reading has the position
-pub reading_shares : (d : Diagram) (own : List SwitchId) (u : List Bool) (words : List Dbpos) (v : List Bool) →
+reading_shares : (d : Diagram) (own : List SwitchId) (u : List Bool) (words : List Dbpos) (v : List Bool) →
     AreWords d words → AreOwnWords own u words → IsVector d u → AllAmong (length d.switches) own → IsReading words v →
     SharesPosition d (is_among own) u v
 reading_shares d own u words v all are whole below reading = record {
@@ -53,7 +53,7 @@ reading_shares d own u words v all are whole below reading = record {
 }
 
 -- and what has the position is a reading
-pub shares_reading : (d : Diagram) (own : List SwitchId) (u : List Bool) (words : List Dbpos) (v : List Bool) →
+shares_reading : (d : Diagram) (own : List SwitchId) (u : List Bool) (words : List Dbpos) (v : List Bool) →
     AreWords d words → AreOwnWords own u words → IsVector d u → SharesPosition d (is_among own) u v → IsReading words v
 shares_reading d own u words v all are whole shares = record {
   whole = shares.whole ∙ sym all;
@@ -75,7 +75,7 @@ shares_reading d own u words v all are whole shares = record {
         subst (λ (w : Dbpos). Agrees w closed) e tt
 
 -- what is decided over some vectors is decided over the same
-pub decides_same : (d : Diagram) (P Q : List Bool → Type 0) (op : Op) (verdict : Verdict) →
+decides_same : (d : Diagram) (P Q : List Bool → Type 0) (op : Op) (verdict : Verdict) →
     ((v : List Bool) → P v → Q v) → ((v : List Bool) → Q v → P v) → Decides d P op verdict → Decides d Q op verdict
 decides_same d P Q op Release to back decides = λ v these. decides v (back v these)
 decides_same d P Q op (Denied rule v) to back decides = (to v decides.0, decides.1)

@@ -69,7 +69,7 @@ after_more d alts front_lines before left all count r those (inr ends) = inr (re
   refused = ends.refused;
 })
 
-pub none_own : HasFewOwn []
+none_own : HasFewOwn []
 none_own = ([], record { are = record { differ = tt; each = λ i. refl }; few = omega arith })
 
 -- a body `never` that does not end
@@ -127,7 +127,7 @@ block_read d all left line rest new es e first names read said = record {
 }
 
 -- the first fault is in a block that is begun
-pub fault_in_block : (d : Diagram) (all left : List (ℕ × List ℕ)) (line : ℕ × List ℕ) (rest : List (ℕ × List ℕ))
+fault_in_block : (d : Diagram) (all left : List (ℕ × List ℕ)) (line : ℕ × List ℕ) (rest : List (ℕ × List ℕ))
     (es : List Equation) (op : Op) (count : ℕ) (r : InputRefusal) → left ≡ line ∷ rest → NamesOperation d line.1 op →
     IsRestFault d rest count r → HasSaid d all left (flat_map whole es)
     → (before : List (ℕ × List ℕ)) × (alts : List (List Condition)) × HasFewOwn alts

@@ -24,7 +24,7 @@ eqb_same a = elim (eqb_tells a a) [ inl p ↦ p.0 | inr p ↦ absurd (p.1 refl) 
 pub eqb_differ : (a b : ℕ) → a ≢ b → (a == b) ≡ false
 eqb_differ a b differ = elim (eqb_tells a b) [ inl p ↦ absurd (differ p.1) | inr p ↦ p.0 ]
 
-pub eqb_is : (a b : ℕ) → (a == b) ≡ true → a ≡ b
+eqb_is : (a b : ℕ) → (a == b) ≡ true → a ≡ b
 eqb_is a b is = elim (eqb_tells a b) [ inl p ↦ p.1 | inr p ↦ absurd (cc (p.0, is)) ]
 
 pub and_left : (a b : Bool) → (a && b) ≡ true → a ≡ true

@@ -44,7 +44,7 @@ nothing_left [] (suc k) left = refl
 nothing_left (x ∷ all) zero left = absurd (cc)
 nothing_left (x ∷ all) (suc k) left = ap (λ zs. x ∷ zs) (nothing_left all k left)
 
-pub got_pushed : {X : Type 0} (xs : List X) (y : X) (k : ℕ) (x : X) → slice_get (xs ++ y ∷ []) k ≡ Some x
+got_pushed : {X : Type 0} (xs : List X) (y : X) (k : ℕ) (x : X) → slice_get (xs ++ y ∷ []) k ≡ Some x
     → ((k < length xs) × (slice_get xs k ≡ Some x)) ⊎ ((k ≡ length xs) × (y ≡ x))
 got_pushed [] y zero x is = inr (refl, cc is)
 got_pushed [] y (suc k) x is = absurd (cc)

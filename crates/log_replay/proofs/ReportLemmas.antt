@@ -60,7 +60,7 @@ pub take_next : {X : Type 0} (xs : List X) (k : ℕ) (x : X) → slice_get xs k 
     take (k + 1) xs ≡ take k xs ++ x ∷ []
 take_next xs k x at = ap (λ j. take j xs) (add-one k) ∙ take_suc xs k x at
 
-pub taken_length : {X : Type 0} (xs : List X) (k : ℕ) → k ≤ length xs → length (take k xs) ≡ k
+taken_length : {X : Type 0} (xs : List X) (k : ℕ) → k ≤ length xs → length (take k xs) ≡ k
 taken_length xs zero few = refl
 taken_length [] (suc k) few = absurd (omega (arith, few))
 taken_length (x ∷ xs) (suc k) few = ap suc (taken_length xs k (omega (arith, few)))
@@ -73,7 +73,7 @@ enumerate_more {X} n m (y ∷ xs) x is = ap (λ (ps : List (ℕ × X)). (n, y) �
     (omega (arith, is)))
 
 -- one line more of a log
-pub all_lines_more : (d : Diagram) (out : List Shown) (s : Shown) (k : ℕ) → length out ≡ k →
+all_lines_more : (d : Diagram) (out : List Shown) (s : Shown) (k : ℕ) → length out ≡ k →
     all_lines d (out ++ s ∷ []) ≡ all_lines d out ++ shown_lines d (k + 1) s
 all_lines_more d out s k is =
     let text = λ (p : ℕ × Shown). shown_lines d p.0 p.1 in

@@ -31,7 +31,7 @@ whole_at {X} (y ∷ xs) zero x at = let same : y ≡ x = cc at in
 whole_at {X} (y ∷ xs) (suc k) x at = let it = whole_at xs k x at in (it.0, ap (λ (zs : List X). y ∷ zs) it.1)
 
 -- the first event that tells it
-pub told_first : (log : List LogEvent) (k : ℕ) (e : LogEvent) (s : ℕ) (closed : Bool) → told_at (take k log) s ≡ None →
+told_first : (log : List LogEvent) (k : ℕ) (e : LogEvent) (s : ℕ) (closed : Bool) → told_at (take k log) s ≡ None →
     slice_get log k ≡ Some e → told_by e s ≡ Some closed → told_at log s ≡ Some closed
 told_first log k e s closed none at tells =
     let whole = whole_at log k e at in
@@ -39,7 +39,7 @@ told_first log k e s closed none at tells =
     ∙ ap (λ (o : Option Bool). or_else o (told_at whole.0 s)) tells
 
 -- an event that does not
-pub told_not : (log : List LogEvent) (k : ℕ) (e : LogEvent) (s : ℕ) → told_at (take k log) s ≡ None →
+told_not : (log : List LogEvent) (k : ℕ) (e : LogEvent) (s : ℕ) → told_at (take k log) s ≡ None →
     slice_get log k ≡ Some e → told_by e s ≡ None → told_at (take (k + 1) log) s ≡ None
 told_not log k e s none at tells = ap (λ (es : List LogEvent). told_at es s) (take_next log k e at)
     ∙ told_after (take k log) e [] s none ∙ ap (λ (o : Option Bool). or_else o None) tells

@@ -24,7 +24,7 @@ abbrev pub free : ℕ → List ℕ → Bool
 free c [] = true
 free c (x ∷ t) = if x == c then false else free c t
 
-pub pick : (b r : Bool) → (if b then false else r) ≡ true → (b ≡ false) × (r ≡ true)
+pick : (b r : Bool) → (if b then false else r) ≡ true → (b ≡ false) × (r ≡ true)
 pick true r e = absurd (cc e)
 pick false r e = (refl, e)
 
@@ -62,7 +62,7 @@ abbrev pub cut : ℕ → List ℕ → List ℕ × List ℕ
 cut c [] = ([], [])
 cut c (x ∷ t) = if x == c then ([], t) else (x ∷ (cut c t).0, (cut c t).1)
 
-pub same_test : (c : ℕ) → (c == c) ≡ true
+same_test : (c : ℕ) → (c == c) ≡ true
 same_test c = elim (eqb_tells c c) [
   | inl p ↦ p.0
   | inr p ↦ absurd (p.1 refl)

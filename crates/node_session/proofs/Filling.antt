@@ -42,7 +42,7 @@ consumes_both (Some x) None c p q first second = absurd first
 consumes_both (Some x) (Some y) None p q first second = absurd second
 consumes_both (Some x) (Some y) (Some z) p q first second = first ∙ ap (λ l. p ++ l) second ∙ sym (append_assoc p q z)
 
-pub consumes_keeps : (a b c : Option (List ℕ)) (p : List ℕ) → Consumes a b p → Keeps b c → Consumes a c p
+consumes_keeps : (a b c : Option (List ℕ)) (p : List ℕ) → Consumes a b p → Keeps b c → Consumes a c p
 consumes_keeps None b c p first second = tt
 consumes_keeps (Some x) None c p first second = absurd first
 consumes_keeps (Some x) (Some y) None p first second = absurd second

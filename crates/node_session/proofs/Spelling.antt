@@ -15,7 +15,7 @@ row_length highest (Some l) None = refl
 row_length highest (Some l) (Some g) = refl
 
 -- the row of a record has 18 bytes
-pub length-kept_row : (k : Kept) → length (kept_row k) ≡ 18
+length-kept_row : (k : Kept) → length (kept_row k) ≡ 18
 length-kept_row k = row_length k.highest k.lock k.granted
 
 -- digits that spell a record are read as its row

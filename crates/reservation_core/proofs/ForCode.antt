@@ -30,17 +30,17 @@ use Rattle.reservation_core.proofs.Steps.{bay_of_is}
 -- ---- nodes
 
 -- the node of a bay is what stands at its place
-pub stands_at : (d : Diagram) (w : Scene) (b : ℕ) (s : State) → slice_get w.nodes b ≡ Some (Some s) → node d w b ≡ s
+stands_at : (d : Diagram) (w : Scene) (b : ℕ) (s : State) → slice_get w.nodes b ≡ Some (Some s) → node d w b ≡ s
 stands_at d w b s got =
     ap (λ (x : Option State). unwrap_or x (new_node d b)) (same_Some (get_or w.nodes b None) (Some s)
     (sym (slice_get-get_or w.nodes b None (slice_get_within w.nodes b (Some s) got)) ∙ got))
 
 -- the place of a bay is not empty
-pub never_empty : (m : Meaning) (w : Scene) (b : ℕ) → RoundFacts m w → IsBay m.diagram b →
+never_empty : (m : Meaning) (w : Scene) (b : ℕ) → RoundFacts m w → IsBay m.diagram b →
     slice_get w.nodes b ≡ Some None → ⊥
 never_empty m w b facts bay got = let there = facts.shape.present b bay in cc (there.1, got)
 
-pub fits_heard : (m : Meaning) (w : Scene) (b : ℕ) → RoundFacts m w → FitsHeard m (node m.diagram w b)
+fits_heard : (m : Meaning) (w : Scene) (b : ℕ) → RoundFacts m w → FitsHeard m (node m.diagram w b)
 fits_heard m w b facts =
     λ g has x s other got. subst (λ (y : ℕ). m.Fits x y s) (sym (facts.shape.named b))
     (facts.heard b x g s has got).fits
@@ -52,7 +52,7 @@ set_same (y ∷ ys) zero x got = let e : y ≡ x = cc got in ap (λ z. z ∷ ys)
 set_same (y ∷ ys) (suc i) x got = ap (λ zs. y ∷ zs) (set_same ys i x got)
 
 -- a node that is as it was leaves the scene as it was
-pub unchanged_at : (m : Meaning) (w : Scene) (b : ℕ) → RoundFacts m w → IsBay m.diagram b →
+unchanged_at : (m : Meaning) (w : Scene) (b : ℕ) → RoundFacts m w → IsBay m.diagram b →
     posts (at_node w b (node m.diagram w b)) [] ≡ w
 unchanged_at m w b facts bay =
     let there = facts.shape.present b bay in
@@ -151,7 +151,7 @@ pub record Placed (m : Meaning) (w : Scene) (b : ℕ) (s : State) : Type 0 where
   pub name : s.bay ≡ b
 
 -- what was found at the place of a bay
-pub found : (m : Meaning) (w : Scene) (b k : ℕ) (nodes : List (Option State)) (x : Option State) → RoundFacts m w →
+found : (m : Meaning) (w : Scene) (b k : ℕ) (nodes : List (Option State)) (x : Option State) → RoundFacts m w →
     IsBay m.diagram b → nodes ≡ w.nodes → k ≡ b → x ≡ get_or nodes k x → slice_get w.nodes b ≡ Some x
 found m w b k nodes x facts bay is at got =
     let low : b < length w.nodes = omega (arith, bay.0, facts.shape.nodes) in

@@ -87,7 +87,7 @@ out_of_tree all j x holder e h =
     let past : slice_get all holder ≡ None = slice_get_past all holder h in
     rw (← e, past) (and_false (same_role x.role Terminal && same_role x.within TransformerWinding))
 
-pub winding_test : (all : List Element) (j : ℕ) (x : Element) (holder : ℕ) → same_role x.role Terminal ≡ true →
+winding_test : (all : List Element) (j : ℕ) (x : Element) (holder : ℕ) → same_role x.role Terminal ≡ true →
     x.entry.parent ≡ Some holder → holder < length all
     → is_winding_terminal_of all j x ≡ (same_role x.within TransformerWinding && is_number j
     (element_at all holder).entry.parent)

@@ -27,8 +27,8 @@ use Rattle.ssd_read.proofs.Laid.{part_paths_built, node_paths_built, parts_named
 use Rattle.ssd_read.proofs.Numbered.{nodes_below, AllBelow, outer_part}
 use Rattle.ssd_read.specs.Laws.{StandsIn}
 use Rattle.ssd_read.proofs.Drawn.{stands_in, drawn_len}
-use Rattle.ssd_read.proofs.Ready.{over_trees, lacks, apart_paths, path_new, part_path_of, node_path_of, paths_len}
-use Rattle.ssd_read.proofs.Ready.{node_total}
+use Rattle.ssd_read.proofs.Ready.{over_trees}
+use Rattle.ssd_read.proofs.NewPaths.{lacks, apart_paths, path_new, part_path_of, node_path_of, paths_len, node_total}
 
 pub few_breaker : (part : ℕ) (name ns : List ℕ) → length ns < 2 → breaker_steps part name ns ≡ []
 few_breaker part name [] h = refl
@@ -51,11 +51,11 @@ infeed_both part name (a ∷ ns) h = refl
 
 -- ---- parts and nodes under way
 
-pub named_parts : (xs : List Element) (d : Diagram) → built empty (flat_map naming_step xs) ≡ Ok d →
+named_parts : (xs : List Element) (d : Diagram) → built empty (flat_map naming_step xs) ≡ Ok d →
     d.part_paths ≡ map (λ (x : Element). x.path) (filter is_part xs)
 named_parts xs d h = part_paths_built empty d (flat_map naming_step xs) h ∙ parts_named xs
 
-pub named_nodes : (xs : List Element) (d : Diagram) → built empty (flat_map naming_step xs) ≡ Ok d →
+named_nodes : (xs : List Element) (d : Diagram) → built empty (flat_map naming_step xs) ≡ Ok d →
     d.node_paths ≡ map (λ (x : Element). x.path) (filter is_node xs)
 named_nodes xs d h = node_paths_built empty d (flat_map naming_step xs) h ∙ nodes_named xs
 

@@ -67,7 +67,7 @@ built_stop d (s ∷ ss) ts f h = stop_case (limit_at d s) (built (added d s) ss)
 pub joined_link : (bond : Bool) (part a b : ℕ) → a ≡ b → link_step bond part a b ≡ []
 joined_link bond part a b e = rw (eq-eqb a b e) refl
 
-pub apart_link : (bond : Bool) (part a b : ℕ) → (a ≡ b → ⊥) →
+apart_link : (bond : Bool) (part a b : ℕ) → (a ≡ b → ⊥) →
     link_step bond part a b ≡ a_link (record {
       first = record { 0 = a };
       second = record { 0 = b };

@@ -110,13 +110,13 @@ cond_end : {X : Type 0} (b : Bool) (y : X) (xs ys : List X) → cond b (y ∷ (x
 cond_end true y xs ys = refl
 cond_end false y xs ys = refl
 
-pub filter_push : {X : Type 0} (p : X → Bool) (xs : List X) (x : X) → filter p (xs ++ x ∷ []) ≡ filter p xs ++ cond
+filter_push : {X : Type 0} (p : X → Bool) (xs : List X) (x : X) → filter p (xs ++ x ∷ []) ≡ filter p xs ++ cond
     (p x) (x ∷ []) []
 filter_push p [] x = refl
 filter_push p (y ∷ ys) x = ap (λ l. cond (p y) (y ∷ l) l) (filter_push p ys x) ∙ cond_end (p y) y (filter p ys)
     (cond (p x) (x ∷ []) [])
 
-pub map_end : {X Y : Type 0} (f : X → Y) (xs ys : List X) → map f (xs ++ ys) ≡ map f xs ++ map f ys
+map_end : {X Y : Type 0} (f : X → Y) (xs ys : List X) → map f (xs ++ ys) ≡ map f xs ++ map f ys
 map_end f [] ys = refl
 map_end f (x ∷ xs) ys = ap (λ l. f x ∷ l) (map_end f xs ys)
 

@@ -15,7 +15,8 @@ use Rattle.ssd_text.specs.Reading.{piece_at}
 use Rattle.ssd_text.specs.Seen.{counted}
 use Rattle.ssd_text.proofs.Fronts.{map_is_some}
 use Rattle.ssd_text.proofs.Texts.{IsSeam, utf8_seam, utf8_tail}
-use Rattle.ssd_text.proofs.PieceLaws.{piece_takes, piece_again}
+use Rattle.ssd_text.proofs.PieceAgain.{piece_again}
+use Rattle.ssd_text.proofs.PieceTakes.{piece_takes}
 
 -- what is behind an ASCII byte
 utf8_behind : (y r : List ℕ) → IsUtf8 (y ++ (62 ∷ r)) → IsUtf8 r
@@ -157,7 +158,7 @@ no_step at n m text rest p f b s (inr a) =
     ok_err : (m : Nest) (f : TextRefusal) → ◌≡◌ {A = Result Nest TextRefusal} (Ok m) (Err f) → ⊥
     ok_err m f e = cc
 
-pub one_outcome : (ps qs : List Piece) (at : ℕ) (n : Nest) (text : List ℕ) (o w : Result (List Entry) TextRefusal) →
+one_outcome : (ps qs : List Piece) (at : ℕ) (n : Nest) (text : List ℕ) (o w : Result (List Entry) TextRefusal) →
     Goes at n text ps o → Goes at n text qs w → o ≡ w
 one_outcome [] [] at n text o w (inl a) (inl b) = a.1 ∙ sym b.1
 one_outcome [] [] at n text o w (inl a) (inr b) = absurd (omega (arith, ap length a.0, b.0))

@@ -21,7 +21,7 @@ label_in R count labels least n n_in = let le = least.least n n n_in (linked_sel
 
 module _ (d : Diagram) (v : List Bool) (kind : Kind) (labels : List ℕ) where
   -- a closed switch under the label of a node is one in the class of the node
-  pub class_from_under : (n : ℕ) → ClosedUnder d v kind labels (length d.switches) (slice_index labels n) →
+  class_from_under : (n : ℕ) → ClosedUnder d v kind labels (length d.switches) (slice_index labels n) →
       ClosedInClass d v kind labels n
   class_from_under n h = (
     h.switch.first.0,
@@ -36,7 +36,7 @@ module _ (d : Diagram) (v : List Bool) (kind : Kind) (labels : List ℕ) where
     },
   )
 
-  pub under_from_class : (n : ℕ) → ClosedInClass d v kind labels n → ClosedUnder d v kind labels (length d.switches)
+  under_from_class : (n : ℕ) → ClosedInClass d v kind labels n → ClosedUnder d v kind labels (length d.switches)
       (slice_index labels n)
   under_from_class n (m, same, at) = record {
     number = at.number;

@@ -49,7 +49,7 @@ pub map-append_one : {A B : Type 0} (f : A → B) (xs : List A) (x : A) → map 
 map-append_one f [] x = refl
 map-append_one {B = B} f (y ∷ xs) x = ap (λ (zs : List B). f y ∷ zs) (map-append_one f xs x)
 
-pub undone-cons : (op : Op) (ops : List Op) → undone (op ∷ ops) ≡ undone ops ++ opposite op ∷ []
+undone-cons : (op : Op) (ops : List Op) → undone (op ∷ ops) ≡ undone ops ++ opposite op ∷ []
 undone-cons op ops = ap (map opposite) (reverse-append (op ∷ []) ops) ∙ map-append_one opposite (reverse ops) op
 
 abbrev pub Moves : List Bool → Op → Type 0

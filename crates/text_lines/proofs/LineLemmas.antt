@@ -37,7 +37,7 @@ last_part : (bs : List ℕ) → 0 < length bs → lines_of_parts (bs ∷ []) ≡
 last_part bs some = ap (λ t. cond t [] (bs ∷ [])) (ne_eqb (length bs) 0 (λ none. omega arith))
 
 -- a text without a newline is one line
-pub lines-last : (bs : List ℕ) → 0 < length bs → All (λ b. (b == 10) ≡ false) bs → lines bs ≡ bs ∷ []
+lines-last : (bs : List ℕ) → 0 < length bs → All (λ b. (b == 10) ≡ false) bs → lines bs ≡ bs ∷ []
 lines-last bs some none = ap lines_of_parts (slice_split_none (λ b. b == 10) bs none) ∙ last_part bs some
 
 -- the same, where no place of a newline is found

@@ -22,7 +22,9 @@ use Rattle.log_replay.specs.Following.{FitsAt, IsBroken}
 use Rattle.log_replay.specs.Replay.{Replayed, ShownFits, shown_at}
 use Rattle.log_replay.proofs.Premises.{Exactly, happens_exact}
 use Rattle.log_replay.proofs.ReportLemmas.{all_more, each_at}
-use Rattle.log_replay.proofs.Replaying.{shows_so, nothing_fits, shown_of_fits, shown_more, report_is, start_is_vector}
+use Rattle.log_replay.proofs.Replaying.{shows_so, shown_more, report_is}
+use Rattle.log_replay.proofs.ReplayHeadline.{start_is_vector}
+use Rattle.log_replay.proofs.ShownOutcomes.{nothing_fits, shown_of_fits}
 use Rattle.trip_core.specs.declared.values.TripEvent.{TripEvent}
 use Rattle.trip_core.specs.declared.values.TripEvent.TheVariants.{Step as Happening, Trip}
 use Rattle.trip_core.specs.Trips.{TripScene}
@@ -104,7 +106,7 @@ in_range d (Trip i) told = told
 
 -- ---- the lines
 
-pub start_replaying : (m : Meaning) (log : List TripLogEvent) (s : TripScene) → IsTripStart m.diagram
+start_replaying : (m : Meaning) (log : List TripLogEvent) (s : TripScene) → IsTripStart m.diagram
     (trip_start_of m.diagram log) s → TripFacts m s → TripReplaying m log [] s 0
 start_replaying m log s is facts = record {
   facts = facts;
