@@ -17,29 +17,16 @@ use Rattle.decision_graphs.proofs.BuildingLemmas.{node_count-sizes, size_at-size
 use Rattle.decision_graphs.proofs.BuildingLemmas.{MayHaveEdge-from_sizes}
 use Rattle.decision_graphs_bench.specs.Sizes.{AreSizes}
 
-pub sum-suc : (ns : List ℕ) (j : ℕ) → j < length ns → sum (take (suc j) ns) ≡ sum (take j ns) + get_or ns j 0
+sum-suc : (ns : List ℕ) (j : ℕ) → j < length ns → sum (take (suc j) ns) ≡ sum (take j ns) + get_or ns j 0
 sum-suc ns j lt = sum_before-suc (λ n. n) ns 0 j lt
 
-pub sum-within : (ns : List ℕ) (j : ℕ) → j < length ns → sum (take j ns) + get_or ns j 0 ≤ sum ns
+sum-within : (ns : List ℕ) (j : ℕ) → j < length ns → sum (take j ns) + get_or ns j 0 ≤ sum ns
 sum-within ns j lt = omega (
   arith,
   sum-suc ns j lt,
   sum_before-mono (λ (n : ℕ). n) ns (suc j) (length ns) lt,
   ap sum (take_all (length ns) ns (omega arith)),
 )
-
-pub sizes_hold : (labels : ℕ) (cs ns : List ℕ) (n total : ℕ) → 0 < labels → length cs ≡ length ns → length ns ≤ 65535 →
-    n ≡ length ns → ((j : ℕ) → j < n → 0 < get_or ns j 0) → ((j : ℕ) → j < n → 0 < get_or cs j 0) →
-    total ≡ sum (take n ns) → total ≤ 4294967295 → AreSizes labels cs ns
-sizes_hold labels cs ns n total some same layers all filled chosen is fits =
-    record {
-      any_label = some;
-      same = same;
-      layers = layers;
-      filled = λ j lt. filled j (omega arith);
-      chosen = λ j lt. chosen j (omega arith);
-      total = omega (arith, is, ap (λ i. sum (take i ns)) all, ap sum (take_all (length ns) ns (omega arith)));
-    }
 
 -- a new node is one node more
 pub node_count-with_node : (d : Draft) → 0 < length d.layers → node_count (with_node d) ≡ node_count d + 1

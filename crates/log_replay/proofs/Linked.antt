@@ -150,19 +150,6 @@ stays m before e c x y words is harmless tells = record {
   missing = is.missing;
 }
 
--- events that deliver nothing
-abbrev pub IsDelivery : WorldEvent → Type 0
-IsDelivery (Deliver n) = ⊤
-IsDelivery (Sense i word) = ⊥
-IsDelivery (Restart b) = ⊥
-IsDelivery (Command op) = ⊥
-IsDelivery (Tick b) = ⊥
-IsDelivery (Withdraw b) = ⊥
-IsDelivery (Begin i) = ⊥
-IsDelivery (End i) = ⊥
-IsDelivery (Part n bytes) = ⊥
-IsDelivery (Cut i) = ⊥
-
 -- a message that is no answer to c from another bay in its round tells nothing
 pub tells_nothing : (d : Diagram) (before : List Line) (n : ℕ) (c : ℕ) (s : Sending) → sending before n ≡ Some s →
     ((b : ℕ) → is_another d c b ≡ true → ¬ IsAnswer s.message b c (last_round before c)) →

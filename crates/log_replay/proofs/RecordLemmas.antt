@@ -14,7 +14,7 @@ use Rattle.log_replay.specs.RecordFaults.{kind_name, record_row, IsOfKind, IsKno
 use Rattle.log_replay.specs.RecordFaults.{RecordFault}
 
 -- what is told again is told by a record `at`
-pub again_is_at : (k : RecordKind) → kind_name k ≡ kind_name At → k ≡ At
+again_is_at : (k : RecordKind) → kind_name k ≡ kind_name At → k ≡ At
 again_is_at At is = refl
 again_is_at Command is = cc is
 again_is_at Sense is = cc is
