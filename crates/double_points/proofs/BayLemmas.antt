@@ -1,16 +1,14 @@
 -- The row of one bay's words.
-use Rattle.std.proofs.Common.{◌≡◌, ◌≤◌, ◌<◌, ◌+◌, ◌-◌, ◌++◌, ◌∙◌, ℕ, List, length, take, drop, get_or, slice_get, Some}
+use Rattle.std.proofs.Common.{◌≡◌, ◌≤◌, ◌<◌, ◌+◌, ◌-◌, ◌++◌, ◌∙◌, ℕ, List, length, take, drop, slice_get, Some}
 use Rattle.std.proofs.Common.{ap, sym, arith, length-append}
 use Rattle.std.proofs.Math.ListN.{replicate}
 use Rattle.std.proofs.Math.Seq.{drop-append_seam}
 use Rattle.std.proofs.lemmas.List.{drop-replicate, length-replicate, length-drop, length-take-le, get_or-take}
 use Rattle.std.proofs.lemmas.List.{get_or-drop}
-use Rattle.std.proofs.lemmas.Option.{slice_get-get_or, get_or_from_slice_get}
+use Rattle.std.proofs.lemmas.Option.{slice_get-get_or}
 use Rattle.ilk_base.specs.declared.words.Dbpos.{Dbpos}
 use Rattle.ilk_base.specs.declared.words.Dbpos.TheVariants.{Lost}
-use Rattle.station_graph.specs.Diagram.{Diagram, AreSwitchesOf, place_in}
-use Rattle.station_graph.specs.Connection.{a_switch}
-use Rattle.station_graph.specs.Sharing.{OfPart}
+use Rattle.station_graph.specs.Diagram.{Diagram, AreSwitchesOf}
 use Rattle.station_graph.proofs.PlaceLemmas.{placed}
 use Rattle.double_points.specs.Filled.{IsFilled}
 use Rattle.double_points.specs.Words.{AreWordsOf}

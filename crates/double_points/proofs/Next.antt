@@ -1,12 +1,11 @@
 -- The records of a text, one after another.
-use Rattle.std.proofs.Common.{◌≡◌, ℕ, zero, suc, ◌+◌, ◌<◌, ◌≤◌, ◌&&◌, Bool, true, false, cond, List, [], ◌∷◌, ◌++◌}
-use Rattle.std.proofs.Common.{length, Option, Some, None, refl, sym, ap, ◌∙◌, arith, rules, subst, add-one, ◌==◌, ◌||◌}
+use Rattle.std.proofs.Common.{◌≡◌, ℕ, zero, suc, ◌+◌, ◌<◌, ◌≤◌, Bool, true, false, cond, List, [], ◌∷◌}
+use Rattle.std.proofs.Common.{length, Option, Some, None, refl, ap, ◌∙◌, arith, subst, add-one, ◌==◌, ◌||◌}
 use Rattle.std.proofs.Common.{inl}
 use Rattle.csv.specs.Machine.{Read, next_record, step, in_field, start_field, start_record, is_end, ends_at_end}
 use Rattle.csv.specs.Machine.{fields_after, field_after}
 use Rattle.csv.specs.Reading.{default_config, records_from, records_next, strip_bom, is_bom, ReadsNext, NextIs}
 use Rattle.csv.specs.Reading.{ReadRecord, ExplainsRead, stops_reader, source_of, pending_of}
-use Rattle.csv.specs.declared.parser.Config.{Config}
 use Rattle.csv.specs.declared.parser.State.{State}
 use Rattle.csv.specs.declared.parser.State.TheVariants as st
 use Rattle.csv.specs.declared.parser.Action.{Action}

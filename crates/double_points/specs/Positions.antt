@@ -1,5 +1,5 @@
 -- What a file of positions says.
-use Rattle.std.specs.Prelude.{◌≡◌, ◌<◌, ◌≤◌, ◌-◌, ◌&&◌, ◌⊎◌, ⊤, ℕ, Bool, true, false, not, List, [], ◌∷◌, length, take}
+use Rattle.std.specs.Prelude.{◌≡◌, ◌<◌, ◌≤◌, ◌-◌, ◌&&◌, ◌⊎◌, ⊤, ℕ, Bool, true, not, List, [], ◌∷◌, length, take}
 use Rattle.std.specs.Prelude.{map, Option, Some, None, is_some, unwrap_or, if◌then◌else◌, slice_index_or}
 use Rattle.std.specs.List.{list_any}
 use Rattle.std.specs.Str.{bytes_eq, is_utf8}

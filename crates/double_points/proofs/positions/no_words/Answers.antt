@@ -1,7 +1,6 @@
-use Rattle.std.proofs.Common.{◌≡◌, ◌<◌, true, rules, map, take, ◌++◌, ◌∷◌, [], ap, length, arith, get_or}
+use Rattle.std.proofs.Common.{◌≡◌, ◌<◌, true, rules, [], length, arith}
 use Rattle.std.specs.Result.{is_ok}
 use Rattle.std.proofs.lemmas.List.{take_more, map-append}
-use Rattle.double_points.specs.Positions.{given}
 use Rattle.double_points.proofs.positions.no_words.Goals as goal
 
 pub loop-i-preserved : goal.loop-i-preserved

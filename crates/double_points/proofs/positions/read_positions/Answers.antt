@@ -1,15 +1,13 @@
-use Rattle.std.proofs.Common.{◌≡◌, ◌≢◌, ◌∙◌, sym, ap, ◌<◌, ℕ, None, Some, is_some, arith, length, rules, true, false}
-use Rattle.std.proofs.Common.{Bool, get_or, set, take, drop, map, [], ◌+◌, ◌-◌, inr, subst, unwrap_or, below_more}
-use Rattle.std.proofs.Common.{Option}
-use Rattle.std.proofs.lemmas.List.{get_or-map, length-map}
+use Rattle.std.proofs.Common.{◌≡◌, ◌∙◌, sym, ap, is_some, arith, length, true, false}
+use Rattle.std.proofs.Common.{get_or, take, map, [], inr, unwrap_or, below_more}
+use Rattle.std.proofs.lemmas.List.{length-map}
 use Rattle.std.specs.List.{list_any}
 use Rattle.csv.specs.Records.{fields_of}
 use Rattle.double_points.specs.Rows.{rows_of}
-use Rattle.ilk_base.specs.declared.words.Dbpos.{Dbpos}
 use Rattle.ilk_base.specs.declared.words.Dbpos.TheVariants.{Lost}
-use Rattle.double_points.specs.Positions.{IsFirstFault, fault_at, names, given}
-use Rattle.double_points.proofs.Records.{Turn, turn, one_more, OneMore, fault_at-none, fault_at-form, fault_at-again}
-use Rattle.double_points.proofs.Records.{is_some-given, HaveWords-append, refused_here, named_is, at_last}
+use Rattle.double_points.specs.Positions.{names, given}
+use Rattle.double_points.proofs.Records.{turn, one_more, fault_at-none, fault_at-form, fault_at-again}
+use Rattle.double_points.proofs.Records.{HaveWords-append, refused_here, named_is, at_last}
 use Rattle.double_points.proofs.Places.{distinct}
 use Rattle.double_points.proofs.positions.read_positions.Goals as goal
 

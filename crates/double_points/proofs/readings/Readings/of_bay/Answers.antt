@@ -1,4 +1,4 @@
-use Rattle.std.proofs.Common.{◌≡◌, ◌+◌, ◌-◌, arith}
+use Rattle.std.proofs.Common.{◌+◌, ◌-◌, arith}
 use Rattle.double_points.proofs.BayLemmas.{cut_out}
 use Rattle.double_points.proofs.readings.Readings.of_bay.Goals as goal
 

@@ -1,5 +1,5 @@
 use Rattle.std.proofs.Common.{◌≡◌, ◌∙◌, Ok, Err, Result, ap, true, false, Bool, IfErr}
-use Rattle.csv.specs.Reading.{reader_trim, ExplainsRead, Ready, error_kind, stops_reader}
+use Rattle.csv.specs.Reading.{ExplainsRead, Ready, error_kind, stops_reader}
 use Rattle.csv.specs.declared.error.Error.{Error}
 use Rattle.csv.specs.declared.reader.Reader.{Reader}
 use Rattle.double_points.specs.Left.{Bytes, ReaderStands, told}
