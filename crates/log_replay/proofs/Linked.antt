@@ -62,7 +62,7 @@ pub record NodeAfter (m : Meaning) (before : List Line) (c : ℕ) (x : Option Co
   pub heard : (g : Collection) (b : ℕ) → x ≡ Some g →
       HeardIs m b c (get_or g.heard b None) (cond (is_another m.diagram c b)
       (heard_after o (words_told m.diagram (delivered e before) b c (last_round before c))
-          (heard m.diagram before c b)) None)
+      (heard m.diagram before c b)) None)
   pub missing : (g : Collection) → x ≡ Some g → ¬ AllHeard m.diagram c g.heard
 
 pub node_is : (m : Meaning) (l : Line) (before : List Line) (c : ℕ) (x : Option Collection) (y : Option Grant)

@@ -44,7 +44,7 @@ there paths i lt = (i, lt, same paths i lt)
 
 pub told_again : (d : Diagram) (before : List LogEvent) (k : RecordKind) (first second : List ℕ) (e : LogEvent) →
     IsStation d → RecordSays d (record_row k first second) e → is_again before e ≡ true
-        → ToldAgain d before k first second
+    → ToldAgain d before k first second
 told_again d before k first second (TellsStep e) station says again = cc again
 told_again d before k first second (TellsAt i closed) station says again =
     let named : kind_name k ≡ kind_name At = ap (λ (row : List (List ℕ)). get_or row 0 []) says.written in

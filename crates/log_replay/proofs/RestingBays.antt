@@ -129,7 +129,7 @@ heard_before : (m : Meaning) (before : List Line) (l : Line) (c : ℕ) → Plain
     Every m.diagram c (heard m.diagram before c)
 heard_before m before l c plain tells all b other none =
     all b other (heard_plain (of_bay l.shown c)
-        (words_told m.diagram (delivered l.event before) b c (last_round before c))
+    (words_told m.diagram (delivered l.event before) b c (last_round before c))
     (heard m.diagram before c b) plain
     ∙ ap (λ (t : Option (List Dbpos)). or_else t (heard m.diagram before c b))
     (tells b (another_yes m.diagram c b other)) ∙ none)

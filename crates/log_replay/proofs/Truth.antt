@@ -95,7 +95,7 @@ collects_it m before old c o rounds said has =
 
 pub idle_at : (m : Meaning) (before : List Line) (l : Line) (old new : Scene) (c : ℕ) (o : Opened) → RoundFacts m old
     → Spoken m before old → Leads m old l new → DecidesRound m.diagram before l c o
-        → (node m.diagram old c).granted ≡ None
+    → (node m.diagram old c).granted ≡ None
 idle_at m before l old new c o rounds said leads (DecidesRound.at_tick has e) =
     (collects_it m before old c o rounds said has).idle
 idle_at m before l old new c o rounds said leads (DecidesRound.all_heard n has e all) =
