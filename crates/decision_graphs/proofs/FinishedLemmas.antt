@@ -17,6 +17,7 @@ use Rattle.decision_graphs.proofs.ViewLemmas.{rows-view, step-view}
 use Rattle.decision_graphs.proofs.GraphLemmas.{choices-view}
 use Rattle.decision_graphs.proofs.NodeLemmas.{map-same}
 use Rattle.decision_graphs.proofs.AssembleLemmas.{IsLaid-append}
+use Rattle.decision_graphs.specs.declared.limits.TheConstants.{LAYERS, GRAPH_NODES, LABELS}
 
 -- edges behind those of a layer do not change it
 layer_of-append : (es xs : List ℕ) (s : Shape) → s.base + s.nodes * s.choices ≤ length es →
@@ -39,11 +40,11 @@ layer_end ss es j laid lt = omega (
 
 -- one layer more behind the last
 pub IsJoined-push : (ls : List FinishedLayer) (ss : List Shape) (es : List ℕ) (i : ℕ) (s : Shape) (l : FinishedLayer) →
-    IsJoined ls ss es i → take (i + 1) ls ≡ take i ls ++ l ∷ [] → i < 65535 → s.choices ≡ l.choices →
+    IsJoined ls ss es i → take (i + 1) ls ≡ take i ls ++ l ∷ [] → i < LAYERS → s.choices ≡ l.choices →
     s.nodes ≡ l.nodes →
     s.first ≡ first_of ss (length ss) → s.base ≡ length es → length l.edges.items ≡ l.nodes * l.choices →
     0 < l.choices →
-    first_of ss (length ss) + l.nodes ≤ 4294967295 → IsJoined ls (ss ++ s ∷ []) (es ++ l.edges.items) (i + 1)
+    first_of ss (length ss) + l.nodes ≤ GRAPH_NODES → IsJoined ls (ss ++ s ∷ []) (es ++ l.edges.items) (i + 1)
 IsJoined-push ls ss es i s l made more few choices nodes first base counted some fits =
     record {
       laid = IsLaid-append ss es l.edges.items s made.laid (omega (arith, made.layers, few)) first base (counted
@@ -114,7 +115,7 @@ start_is labels (l ∷ ls) (s ∷ ss) es view zero =
 start_is labels (l ∷ ls) (s ∷ ss) es view (suc j) = start_is labels ls ss es (ap (λ xs. drop 1 xs) view) j
 
 -- with all layers joined, the graph is whole
-pub IsWhole-joined : (labels : ℕ) (ls : List FinishedLayer) (ss : List Shape) (es : List ℕ) → labels < 4294967296 →
+pub IsWhole-joined : (labels : ℕ) (ls : List FinishedLayer) (ss : List Shape) (es : List ℕ) → labels ≤ LABELS →
     AreFinished labels ls → IsLaid ss es → map (layer_of es) ss ≡ map finished ls → IsWhole labels ss es
 IsWhole-joined labels ls ss es range are laid view =
     record {

@@ -12,6 +12,7 @@ use Rattle.decision_graphs.proofs.ShapeLemmas.{place_in, place_before, size_of-i
 use Rattle.decision_graphs.proofs.ViewLemmas.{step-view, rows-view}
 use Rattle.decision_graphs.proofs.GraphLemmas.{choices-view}
 use Rattle.decision_graphs.proofs.LayersLemmas.{AreLayers-view}
+use Rattle.decision_graphs.specs.declared.limits.TheConstants.{LABELS}
 
 -- an edge of the last layer leads to a label
 pub last_edge : (labels : ℕ) (ss : List Shape) (es : List ℕ) (p : ℕ) → IsWhole labels ss es → last_base ss ≤ p →
@@ -76,7 +77,7 @@ module _ (labels : ℕ) (ss : List Shape) (es names new : List ℕ) (whole : IsW
       (get_or names (get_or es (place (shape_at ss j) k c) 0) 0)) (le-ltb (place (shape_at ss j) k c)
       (last_base ss) from)
 
-  pub IsWhole-renamed : (labels' : ℕ) → 0 < labels' → labels' < 4294967296 →
+  pub IsWhole-renamed : (labels' : ℕ) → 0 < labels' → labels' ≤ LABELS →
       ((x : ℕ) → x < labels → get_or names x 0 < labels') → IsWhole labels' ss new
   IsWhole-renamed labels' some small within = record {
     laid = record {

@@ -2,6 +2,7 @@
 ghost use Rattle.std.specs.Prelude.{◌≡◌, ℕ, ◌+◌, ◌<◌, ◌≤◌, length, map, sum_by, IfOk};
 ghost use Rattle.decision_graphs.specs.Finished.{AreFinished, IsJoined, finished};
 ghost use Rattle.decision_graphs.specs.Inside.{layered_of, IsGraph};
+ghost use Rattle.decision_graphs.specs.declared.limits.TheConstants.{LAYERS, GRAPH_NODES};
 
 use crate::assemble::{Assembled, parts_of};
 use crate::layout::GraphParts;
@@ -24,8 +25,8 @@ pub struct FinishedLayer {
 // The layers one behind the other.
 fn join(alloc: Global, labels: u32, layers: &[FinishedLayer]) -> Result<Assembled, Memory>
     requires finished { AreFinished labels layers.now }
-    requires few_layers { length layers.now ≤ 65535 }
-    requires few_nodes { sum_by (λ (l : FinishedLayer). l.nodes) layers.now ≤ 4294967295 }
+    requires few_layers { length layers.now ≤ LAYERS }
+    requires few_nodes { sum_by (λ (l : FinishedLayer). l.nodes) layers.now ≤ GRAPH_NODES }
     ensures { IfOk result (λ a. IsJoined layers.now a.shapes.items a.edges.items (length layers.now)) }
 {
     let mut shapes = Vec::new(alloc);
@@ -51,8 +52,8 @@ pub(crate) fn joined(
     layers: &[FinishedLayer],
 ) -> Result<GraphParts, Memory>
     requires finished { AreFinished labels layers.now }
-    requires few_layers { length layers.now ≤ 65535 }
-    requires few_nodes { sum_by (λ (l : FinishedLayer). l.nodes) layers.now ≤ 4294967295 }
+    requires few_layers { length layers.now ≤ LAYERS }
+    requires few_nodes { sum_by (λ (l : FinishedLayer). l.nodes) layers.now ≤ GRAPH_NODES }
     ensures graph { IfOk result IsGraph }
     ensures view { IfOk result (λ g. layered_of g ≡ record { labels = labels; layers = map finished layers.now }) }
 {

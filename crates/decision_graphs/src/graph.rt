@@ -7,6 +7,7 @@ ghost use Rattle.decision_graphs.specs.Reaching.{AreSetsOf, AreMarksOf, MarksRea
 ghost use Rattle.decision_graphs.specs.Finished.{AreFinished, finished};
 ghost use Rattle.decision_graphs.specs.Inside.{layered_of, IsGraph};
 ghost use Rattle.decision_graphs.specs.LaidOut.{layered_in, IsWholeLayout, HasHomes};
+ghost use Rattle.decision_graphs.specs.declared.limits.TheConstants.{LAYERS, GRAPH_NODES};
 
 use crate::assemble::reduced;
 use crate::choices::ChoiceList;
@@ -55,10 +56,10 @@ impl Graph {
         self.parts.labels
     }
 
-    /// How many layers there are, and that they have at most 4,294,967,295 nodes. Constant time.
+    /// How many layers there are, and that they have at most `GRAPH_NODES` nodes. Constant time.
     pub fn layers(&self) -> u16
         ensures count { result ≡ length self.now.layers }
-        ensures few_nodes { node_total self.now ≤ 4294967295 }
+        ensures few_nodes { node_total self.now ≤ GRAPH_NODES }
     {
         self.parts.shapes.len() as u16
     }
@@ -101,8 +102,8 @@ impl Graph {
         layers: &[FinishedLayer],
     ) -> Result<Graph, Memory>
         requires finished { AreFinished labels layers.now }
-        requires few_layers { length layers.now ≤ 65535 }
-        requires few_nodes { sum_by (λ (l : FinishedLayer). l.nodes) layers.now ≤ 4294967295 }
+        requires few_layers { length layers.now ≤ LAYERS }
+        requires few_nodes { sum_by (λ (l : FinishedLayer). l.nodes) layers.now ≤ GRAPH_NODES }
         ensures { IfOk result (λ g. g ≡ record { labels = labels; layers = map finished layers.now }) }
     {
         let parts = joined(alloc, labels, layers)?;

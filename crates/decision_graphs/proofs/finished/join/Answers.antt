@@ -6,6 +6,7 @@ use Rattle.decision_graphs.specs.declared.finished.FinishedLayer.{FinishedLayer}
 use Rattle.decision_graphs.specs.declared.shape.Shape.{Shape}
 use Rattle.decision_graphs.proofs.ShapeLemmas.{first_of-push}
 use Rattle.decision_graphs.proofs.FinishedLemmas.{IsJoined-push, finished_read}
+use Rattle.decision_graphs.specs.declared.limits.TheConstants.{GRAPH_NODES}
 use Rattle.decision_graphs.proofs.finished.join.Goals as goal
 
 pub overflow_add-total : goal.overflow_add-total
@@ -30,7 +31,7 @@ loop-layer-preserved c =
     let more = sum_by_more (λ (l : FinishedLayer). l.nodes) layers i l c.loop-layer-test.true in
     let counted : c.loop-layer.total + l.nodes ≡ sum_by (λ (l : FinishedLayer). l.nodes) (take (i + 1) layers) =
     omega (arith, more, ap (λ (l : FinishedLayer). l.nodes) c.layer-item.is, c.loop-layer.invariant.counted) in
-    let below : c.loop-layer.total + l.nodes ≤ 4294967295 =
+    let below : c.loop-layer.total + l.nodes ≤ GRAPH_NODES =
     omega (arith, counted, sum_by-take-le (λ (l : FinishedLayer). l.nodes) layers (i + 1), c.requires.few_nodes) in
     let grown = take_more layers i l c.loop-layer-test.true ∙ ap (λ x. take i layers ++ x ∷ []) (sym c.layer-item.is) in
     let fits = finished_read c.args.labels layers i l c.requires.finished c.loop-layer-test.true c.layer-item.is in
