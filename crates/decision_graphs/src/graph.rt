@@ -5,8 +5,10 @@ ghost use Rattle.decision_graphs.specs.Label.{DependsOn, layer_at, first_at, Has
 ghost use Rattle.decision_graphs.specs.Label.{AreChoices, AreReduced, AreLayers, Layer, label_of, place_after, step};
 ghost use Rattle.decision_graphs.specs.Reaching.{AreSetsOf, AreMarksOf, MarksReached, node_total, IsSet};
 ghost use Rattle.decision_graphs.specs.Finished.{AreFinished, finished};
-ghost use Rattle.decision_graphs.specs.Inside.{layered_of, IsGraph};
-ghost use Rattle.decision_graphs.specs.LaidOut.{layered_in, IsWholeLayout, HasHomes};
+ghost use Rattle.decision_graphs.specs.Inside.{IsGraph};
+ghost use Rattle.decision_graphs.specs.LaidOut.{lists_in, lists_of};
+ghost use Rattle.decision_graphs.specs.Shapes.{AreHomes};
+ghost use Rattle.decision_graphs.specs.Whole.{layered_of, IsWhole};
 ghost use Rattle.decision_graphs.specs.declared.limits.TheConstants.{LAYERS, GRAPH_NODES};
 
 use crate::assemble::reduced;
@@ -39,9 +41,11 @@ impl Model for Graph {
 
     ghost Value = { Layered };
 
-    ghost use Rattle.decision_graphs.specs.Inside.{layered_of, IsGraph};
+    ghost use Rattle.decision_graphs.specs.LaidOut.{lists_of};
+    ghost use Rattle.decision_graphs.specs.Whole.{layered_of};
+    ghost use Rattle.decision_graphs.specs.Inside.{IsGraph};
 
-    ghost view = { λ g. layered_of g.parts };
+    ghost view = { λ g. layered_of (lists_of g.parts) };
 
     ghost invariant = { λ g. IsGraph g.parts };
 }
@@ -113,7 +117,7 @@ impl Graph {
     // The graph of these parts.
     pub(crate) fn from_parts(parts: GraphParts) -> Graph
         requires { IsGraph parts }
-        ensures { result ≡ layered_of parts }
+        ensures { result ≡ layered_of (lists_of parts) }
     {
         Graph { parts }
     }
@@ -154,9 +158,9 @@ impl Graph {
 
     // The lists in which the graph lies.
     pub(crate) fn layout(&self) -> Layout<'_>
-        ensures layered { layered_in result ≡ self.now }
-        ensures whole { IsWholeLayout result }
-        ensures homes { HasHomes result }
+        ensures layered { layered_of (lists_in result) ≡ self.now }
+        ensures whole { IsWhole (lists_in result) }
+        ensures homes { AreHomes (lists_in result) result.homes.now }
     {
         self.parts.layout()
     }
