@@ -1,7 +1,10 @@
 //! A graph out of finished layers.
 ghost use Rattle.std.specs.Prelude.{◌≡◌, ℕ, ◌+◌, ◌<◌, ◌≤◌, length, map, sum_by, IfOk};
 ghost use Rattle.decision_graphs.specs.Finished.{AreFinished, IsJoined, finished};
-ghost use Rattle.decision_graphs.specs.Inside.{layered_of, IsGraph};
+ghost use Rattle.decision_graphs.specs.Inside.{IsGraph};
+ghost use Rattle.decision_graphs.specs.LaidOut.{lists_of, assembled};
+ghost use Rattle.decision_graphs.specs.Whole.{layered_of};
+ghost use Rattle.decision_graphs.specs.declared.limits.TheConstants.{LAYERS, GRAPH_NODES};
 
 use crate::assemble::{Assembled, parts_of};
 use crate::layout::GraphParts;
@@ -24,9 +27,10 @@ pub struct FinishedLayer {
 // The layers one behind the other.
 fn join(alloc: Global, labels: u32, layers: &[FinishedLayer]) -> Result<Assembled, Memory>
     requires finished { AreFinished labels layers.now }
-    requires few_layers { length layers.now ≤ 65535 }
-    requires few_nodes { sum_by (λ (l : FinishedLayer). l.nodes) layers.now ≤ 4294967295 }
-    ensures { IfOk result (λ a. IsJoined layers.now a.shapes.items a.edges.items (length layers.now)) }
+    requires few_layers { length layers.now ≤ LAYERS }
+    requires few_nodes { sum_by (λ (l : FinishedLayer). l.nodes) layers.now ≤ GRAPH_NODES }
+    ensures labels { IfOk result (λ a. a.labels ≡ labels) }
+    ensures joined { IfOk result (λ a. IsJoined layers.now (assembled a) (length layers.now)) }
 {
     let mut shapes = Vec::new(alloc);
     let mut edges = Vec::new(alloc);
@@ -41,7 +45,11 @@ fn join(alloc: Global, labels: u32, layers: &[FinishedLayer]) -> Result<Assemble
         edges.extend_from_slice(&layer.edges)?;
         total += layer.nodes;
     }
-    Ok(Assembled { shapes, edges })
+    Ok(Assembled {
+        labels,
+        shapes,
+        edges,
+    })
 }
 
 // What the graph of the layers is made of.
@@ -51,12 +59,13 @@ pub(crate) fn joined(
     layers: &[FinishedLayer],
 ) -> Result<GraphParts, Memory>
     requires finished { AreFinished labels layers.now }
-    requires few_layers { length layers.now ≤ 65535 }
-    requires few_nodes { sum_by (λ (l : FinishedLayer). l.nodes) layers.now ≤ 4294967295 }
+    requires few_layers { length layers.now ≤ LAYERS }
+    requires few_nodes { sum_by (λ (l : FinishedLayer). l.nodes) layers.now ≤ GRAPH_NODES }
     ensures graph { IfOk result IsGraph }
-    ensures view { IfOk result (λ g. layered_of g ≡ record { labels = labels; layers = map finished layers.now }) }
+    ensures view { IfOk result (λ g. layered_of (lists_of g)
+        ≡ record { labels = labels; layers = map finished layers.now }) }
 {
     let made = join(alloc, labels, layers)?;
-    let parts = parts_of(alloc, labels, made)?;
+    let parts = parts_of(alloc, made)?;
     Ok(parts)
 }

@@ -1,5 +1,5 @@
 -- Sums of the first counts, and what a new node does to them.
-use Rattle.std.proofs.Common.{◌≡◌, ℕ, ◌+◌, ◌-◌, ◌<◌, ◌≤◌, suc, List, ◌∷◌, ◌++◌, [], length, get_or, take, sum}
+use Rattle.std.proofs.Common.{◌≡◌, ℕ, ◌+◌, ◌-◌, ◌^◌, ◌<◌, ◌≤◌, suc, List, ◌∷◌, ◌++◌, [], length, get_or, take, sum}
 use Rattle.std.proofs.Common.{replicate, None, Bool, true, false, cond, eqb, inl, inr, refl, ap, ◌∙◌, arith, add-one}
 use Rattle.std.proofs.lemmas.Bool.{cases_lt}
 use Rattle.std.proofs.lemmas.Bool.Decides.{nat_tests}
@@ -11,6 +11,7 @@ use Rattle.decision_graphs.specs.Label.{Layer, layer_at, no_layer}
 use Rattle.decision_graphs.specs.Reaching.{AreSetsOf, set_at}
 use Rattle.decision_graphs.specs.Drafting.{DraftLayer, Draft, draft_layer_at, MayGrow, MayHaveEdge, node_count}
 use Rattle.decision_graphs.specs.Drafting.{with_node, sizes_of, choices_of, IsShaped, IsBare}
+use Rattle.decision_graphs.specs.declared.limits.TheConstants.{LAYERS, GRAPH_NODES}
 use Rattle.decision_graphs.proofs.SetLemmas.{set_at-AreSetsOf}
 use Rattle.decision_graphs.proofs.ShapeLemmas.{sum_before-suc, sum_before-mono}
 use Rattle.decision_graphs.proofs.BuildingLemmas.{node_count-sizes, size_at-sizes, MayGrow-from_bare}
@@ -85,7 +86,7 @@ may_grow d labels cs ns i sizes le shaped bare =
 
 -- its nodes are within the limit
 pub room_for : (d : Draft) (labels : ℕ) (cs' cs ns : List ℕ) (i : ℕ) → AreSizes labels cs ns → i < length ns →
-    IsShaped d labels cs' (take i ns ++ 0 ∷ []) → node_count d + get_or ns i 0 ≤ 4294967295
+    IsShaped d labels cs' (take i ns ++ 0 ∷ []) → node_count d + get_or ns i 0 ≤ GRAPH_NODES
 room_for d labels cs' cs ns i sizes lt shaped =
     omega (
       arith,
@@ -96,9 +97,9 @@ room_for d labels cs' cs ns i sizes lt shaped =
     )
 
 -- the numbers of the places after a layer
-pub places_fit : (labels : ℕ) (cs ns : List ℕ) (i first low places : ℕ) → AreSizes labels cs ns → labels < 4294967296 →
+pub places_fit : (labels : ℕ) (cs ns : List ℕ) (i first low places : ℕ) → AreSizes labels cs ns → labels < 2 ^ 32 →
     i < length ns → first ≡ sum (take i ns) → low ≡ cond (eqb (suc i) (length ns)) 0 (first + get_or ns i 0) →
-    places ≡ cond (eqb (suc i) (length ns)) labels (get_or ns (suc i) 0) → low + places ≤ 4294967295
+    places ≡ cond (eqb (suc i) (length ns)) labels (get_or ns (suc i) 0) → low + places < 2 ^ 32
 places_fit labels cs ns i first low places sizes range lt begins low_is places_is =
     elim (cases_lt (suc i) (length ns)) [
       | inl more ↦
