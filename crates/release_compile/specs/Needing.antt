@@ -1,5 +1,5 @@
 -- The nodes that are kept before each layer of a graph.
-use Rattle.std.specs.Prelude.{◌≡◌, ℕ, zero, suc, ◌<◌, ◌≤◌, ◌⊎◌, ◌↔◌, Bool, true, List, length, slice_get, Some}
+use Rattle.std.specs.Prelude.{◌≡◌, ℕ, zero, suc, ◌+◌, ◌<◌, ◌≤◌, ◌⊎◌, ◌↔◌, Bool, true, List, length, slice_get, Some}
 use Rattle.std.specs.Prelude.{Contains}
 use Rattle.station_graph.specs.Diagram.{Diagram, part_count}
 use Rattle.station_graph.specs.Connection.{a_switch}
@@ -46,3 +46,11 @@ IsNeededInner d m first others j n = Touches d (a_switch m) n ⊎ TouchesOther d
 abbrev pub InnerNeeds : Diagram → ℕ → ℕ → ℕ → ℕ → ℕ → ℕ → Type 0
 InnerNeeds d b m first others zero n = IsShared d b n ⊎ IsNeededInner d m first others 0 n
 InnerNeeds d b m first others (suc j) n = IsNeededInner d m first others j n
+
+-- One of the bay's switches, so many from the first on, touches the node.
+abbrev pub TouchesOwn : Diagram → ℕ → ℕ → ℕ → Type 0
+TouchesOwn d first count n = (i : ℕ) × (i < count) × Touches d (a_switch (first + i)) n
+
+-- The bay shares the node, or one of its switches touches it.
+abbrev pub BayNeeds : Diagram → ℕ → ℕ → ℕ → ℕ → Type 0
+BayNeeds d b first count n = IsShared d b n ⊎ TouchesOwn d first count n

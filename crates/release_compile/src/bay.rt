@@ -1,13 +1,13 @@
 //! The graphs of the bays.
 ghost use Rattle.std.specs.Prelude.{◌≡◌, ◌+◌, ◌<◌, ◌≤◌, ◌↔◌, ℕ, suc, length, IfOk, IfErr, OnOk, Contains};
 ghost use Rattle.station_graph.specs.Diagram.{part_count, AreSwitchesOf};
-ghost use Rattle.station_graph.specs.Sharing.{IsShared};
+ghost use Rattle.contraction.specs.Answers.{AreNodes};
 ghost use Rattle.bay_contract.specs.PartAlphabets.{Alphabets};
 ghost use Rattle.bay_contract.specs.Alphabets.{AreAlphabets};
 ghost use Rattle.release_compile.specs.Lettered.{lettered};
 ghost use Rattle.release_compile.specs.Pooling.{IsPool, GrewTo};
 ghost use Rattle.release_compile.specs.Layering.{values_at};
-ghost use Rattle.release_compile.specs.Needing.{AreShared};
+ghost use Rattle.release_compile.specs.Needing.{AreShared, BayNeeds};
 ghost use Rattle.release_compile.specs.Inputs.{AreNames};
 ghost use Rattle.release_compile.specs.Built.{AreInner, AreViewGraphs, AreBayGraphs};
 ghost use Rattle.release_compile.specs.Counted.{SwitchesHave, ViewHas, BayHas, Spends, Passes};
@@ -20,6 +20,7 @@ ghost use Rattle.release_compile.specs.BuiltView.{view_of, seen_bay};
 
 use crate::inner::inner_graph;
 use crate::layer::Trouble;
+use crate::needed::bay_nodes;
 use crate::noted::Noted;
 use crate::outer::outer_graph;
 use crate::partners::told_like;
@@ -76,7 +77,7 @@ fn inner_graphs(
     pool: &mut Pool,
     notes: &mut Vec<Noted>,
     station: &Station,
-    shared: &NodeList,
+    list: &NodeList,
     bay: BayId,
     first: u16,
     count: u16,
@@ -87,7 +88,8 @@ fn inner_graphs(
     requires notes { AreRight pool.old notes.old.items }
     requires bay { bay.0 < part_count station.now }
     requires switches { AreSwitchesOf station.now bay.0 first count }
-    requires shared { (n : ℕ) → Contains shared.now n ↔ IsShared station.now bay.0 n }
+    requires nodes { AreNodes list.now }
+    requires list { (n : ℕ) → Contains list.now n ↔ BayNeeds station.now bay.0 first count n }
     requires names { AreNames pool.old station.now bay.0 names.now }
     requires few { length names.now ≤ 8000001 }
     requires left { left ≤ 8000000 }
@@ -109,7 +111,7 @@ fn inner_graphs(
         let others = count - 1;
         let moved = first + i;
         let made = inner_graph(
-            alloc, pool, notes, station, shared, bay, first, moved, others, names, rest,
+            alloc, pool, notes, station, list, bay, first, moved, others, names, rest,
         )?;
         rest = made.left;
         graphs.push(made.graph)?;
@@ -125,6 +127,7 @@ fn view_graphs(
     parts: &Parts,
     stock: &mut Stock,
     shared: &[NodeList],
+    list: &NodeList,
     bay: BayId,
     first: u16,
     count: u16,
@@ -133,6 +136,8 @@ fn view_graphs(
     requires lettered { AreAlphabets station.now parts.now }
     requires stock { IsStock (lettered station.now parts.now) view stock.old }
     requires shared { AreShared station.now shared.now }
+    requires nodes { AreNodes list.now }
+    requires list { (n : ℕ) → Contains list.now n ↔ BayNeeds station.now bay.0 first count n }
     requires bay { bay.0 < part_count station.now }
     requires switches { AreSwitchesOf station.now bay.0 first count }
     requires left { left ≤ 8000000 }
@@ -157,14 +162,12 @@ fn view_graphs(
         others,
         left,
     )?;
-    let place = usize::from(bay.0);
-    let nodes = &shared[place];
     let inners = inner_graphs(
         alloc,
         &mut stock.pool,
         &mut stock.inner,
         station,
-        nodes,
+        list,
         bay,
         first,
         count,
@@ -209,6 +212,7 @@ pub(crate) fn bay_graphs(
 {
     let (id, count) = station.switches_of(bay);
     let first = id.0;
+    let list = bay_nodes(alloc, station, shared, bay, first, count)?;
     let gap = view_graphs(
         alloc,
         View::Gap,
@@ -216,6 +220,7 @@ pub(crate) fn bay_graphs(
         parts,
         gap_stock,
         shared,
+        &list,
         bay,
         first,
         count,
@@ -228,6 +233,7 @@ pub(crate) fn bay_graphs(
         parts,
         load_stock,
         shared,
+        &list,
         bay,
         first,
         count,

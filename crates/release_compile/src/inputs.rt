@@ -14,7 +14,7 @@ ghost use Rattle.release_compile.specs.Needing.{AreShared, IsNeededOuter, InnerN
 ghost use Rattle.release_compile.specs.Inputs.{AreKeeps, AreCopies, AreLetters, AreOtherRows, HasNothing, HasLinks};
 ghost use Rattle.release_compile.specs.Inputs.{HasSwitch, HasPair, AreInnerRows};
 
-use crate::needed::{inner_nodes, met_nodes, outer_nodes};
+use crate::needed::{inner_places, met_nodes, outer_nodes};
 use crate::places::{intern_in_places, places_of};
 use crate::placing::other_number;
 use crate::pool::Pool;
@@ -161,8 +161,7 @@ pub(crate) fn inner_keeps(
     keeps.push(id)?;
     let count = others + 1;
     for from in 0..count {
-        let nodes = inner_nodes(alloc, station, first, moved, from, others)?;
-        let places = places_of(alloc, list, nodes.numbers())?;
+        let places = inner_places(alloc, station, list, first, moved, from, others)?;
         let id = pool.keep(places)?;
         keeps.push(id)?;
     }

@@ -1,13 +1,14 @@
 //! The nodes that are kept before each layer of a graph.
-ghost use Rattle.std.specs.Prelude.{◌≡◌, ℕ, ◌+◌, ◌<◌, ◌≤◌, ◌⊎◌, ◌↔◌, List, suc, length, slice_get, Some, true, IfOk};
-ghost use Rattle.std.specs.Prelude.{IsTrue, Contains};
+ghost use Rattle.std.specs.Prelude.{◌≡◌, ℕ, ◌+◌, ◌<◌, ◌≤◌, ◌⊎◌, ◌↔◌, List, suc, length, map, slice_get, Some, true};
+ghost use Rattle.std.specs.Prelude.{IfOk, IsTrue, Contains};
 ghost use Rattle.station_graph.specs.Diagram.{part_count, node_count};
 ghost use Rattle.station_graph.specs.Connection.{a_switch};
-ghost use Rattle.station_graph.specs.Sharing.{AtSwitch, Touches, IsShared};
+ghost use Rattle.station_graph.specs.Sharing.{AtSwitch, Touches};
 ghost use Rattle.contraction.specs.Answers.{AreNodes};
 ghost use Rattle.release_compile.specs.Graphs.{other_of, IsOwn};
 ghost use Rattle.release_compile.specs.Needing.{AreShared, AreMet, SharesFrom, IsNeededOuter, TouchesOther};
-ghost use Rattle.release_compile.specs.Needing.{IsNeededInner};
+ghost use Rattle.release_compile.specs.Needing.{IsNeededInner, TouchesOwn, BayNeeds};
+ghost use Rattle.release_compile.specs.Places.{node_listed};
 
 use crate::placing::other_number;
 use ilk_base::{BayId, Memory, NodeId, SwitchId};
@@ -65,10 +66,12 @@ fn is_needed(station: &Station, first: u16, moved: u16, from: u16, others: u16, 
     switch_touches(station, moved, node) || other_touches(station, first, moved, from, others, node)
 }
 
-// The nodes that the moved switch or one of the bay's other switches from a place on touches, rising.
-pub(crate) fn inner_nodes(
+// The places in a list of those of its nodes that the moved switch or one of the bay's other switches from a place on
+// touches, rising.
+pub(crate) fn inner_places(
     alloc: Global,
     station: &Station,
+    list: &NodeList,
     first: u16,
     moved: u16,
     from: u16,
@@ -76,55 +79,71 @@ pub(crate) fn inner_nodes(
 ) -> Result<NodeList, Memory>
     requires moved { moved < length station.now.switches }
     requires those { first + others < length station.now.switches }
-    ensures { IfOk result (λ l. (n : ℕ) → Contains l n ↔ IsNeededInner station.now moved first others from n) }
+    requires nodes { AreNodes list.now }
+    requires has { (n : ℕ) → IsNeededInner station.now moved first others from n → Contains list.now n }
+    ensures { IfOk result (λ l. (n : ℕ) →
+        Contains (map (node_listed list.now) l) n ↔ IsNeededInner station.now moved first others from n) }
 {
-    let mut nodes = NodeList::new(alloc);
-    for node in 0..station.node_count() {
-        if is_needed(station, first, moved, from, others, node) {
-            nodes.push(NodeId(node))?;
+    let nodes = list.numbers();
+    let mut places = NodeList::new(alloc);
+    for k in 0..nodes.len() {
+        if is_needed(station, first, moved, from, others, nodes[k]) {
+            places.push(NodeId(k as u16))?;
         }
     }
-    Ok(nodes)
+    Ok(places)
 }
 
-// Whether the node is shared, or needed by one of the bay's switches.
-fn is_needed_first(
+// Whether one of the bay's switches touches the node.
+fn own_touches(station: &Station, first: u16, count: u16, node: u16) -> bool
+    requires { first + count ≤ length station.now.switches }
+    ensures { IsTrue result ↔ TouchesOwn station.now first count node }
+{
+    let _count = station.switch_count();
+    for i in 0..count {
+        if switch_touches(station, first + i, node) {
+            return true;
+        }
+    }
+    false
+}
+
+// Whether the bay shares the node, or one of its switches touches it.
+fn is_needed_own(
     station: &Station,
+    shared: &[NodeList],
     bay: BayId,
-    shared: &NodeList,
     first: u16,
-    moved: u16,
-    others: u16,
+    count: u16,
     node: u16,
 ) -> bool
-    requires moved { moved < length station.now.switches }
-    requires those { first + others < length station.now.switches }
-    requires shared { (n : ℕ) → Contains shared.now n ↔ IsShared station.now bay.0 n }
-    ensures { IsTrue result ↔ (IsShared station.now bay.0 node ⊎ IsNeededInner station.now moved first others 0 node) }
+    requires shared { AreShared station.now shared.now }
+    requires bay { bay.0 < part_count station.now }
+    requires those { first + count ≤ length station.now.switches }
+    ensures { IsTrue result ↔ BayNeeds station.now bay.0 first count node }
 {
-    shared.numbers().contains(&node) || is_needed(station, first, moved, 0, others, node)
+    shared[usize::from(bay.0)].numbers().contains(&node)
+        || own_touches(station, first, count, node)
 }
 
 // The nodes that the bay shares, and those that its switches touch, rising.
-pub(crate) fn start_nodes(
+pub(crate) fn bay_nodes(
     alloc: Global,
     station: &Station,
+    shared: &[NodeList],
     bay: BayId,
-    shared: &NodeList,
     first: u16,
-    moved: u16,
-    others: u16,
+    count: u16,
 ) -> Result<NodeList, Memory>
-    requires moved { moved < length station.now.switches }
-    requires those { first + others < length station.now.switches }
-    requires shared { (n : ℕ) → Contains shared.now n ↔ IsShared station.now bay.0 n }
-    ensures exact { IfOk result (λ l. (n : ℕ) → Contains l n ↔
-        (IsShared station.now bay.0 n ⊎ IsNeededInner station.now moved first others 0 n)) }
+    requires shared { AreShared station.now shared.now }
+    requires bay { bay.0 < part_count station.now }
+    requires those { first + count ≤ length station.now.switches }
+    ensures exact { IfOk result (λ l. (n : ℕ) → Contains l n ↔ BayNeeds station.now bay.0 first count n) }
     ensures nodes { IfOk result AreNodes }
 {
     let mut nodes = NodeList::new(alloc);
     for node in 0..station.node_count() {
-        if is_needed_first(station, bay, shared, first, moved, others, node) {
+        if is_needed_own(station, shared, bay, first, count, node) {
             nodes.push(NodeId(node))?;
         }
     }
