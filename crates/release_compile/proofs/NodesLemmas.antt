@@ -14,7 +14,7 @@ use Rattle.contraction.specs.Answers.{AreNodes}
 use Rattle.contraction.specs.Stands.{Among}
 use Rattle.release_compile.specs.Graphs.{other_of, IsOwn}
 use Rattle.release_compile.specs.Listing.{part_items}
-use Rattle.release_compile.specs.Needing.{AreShared, AreMet, SharesFrom, IsNeededOuter, IsNeededInner, InnerNeeds}
+use Rattle.release_compile.specs.Needing.{AreShared, IsSharedBySome, SharesFrom, IsNeededOuter, IsNeededInner, InnerNeeds}
 use Rattle.release_compile.specs.Needing.{TouchesOwn, BayNeeds}
 use Rattle.release_compile.proofs.LayerLemmas.{get_front, get_last}
 use Rattle.release_compile.proofs.VerdictLemmas.{other_cases, other_in, own_place}
@@ -34,8 +34,8 @@ pub bay_node : (d : Diagram) → IsStation d → (b first count n : ℕ) → Bay
 bay_node d s b first count n (inl h) = touched_node d s h.here.item n h.here.touches
 bay_node d s b first count n (inr (i, lt, t)) = touched_node d s (a_switch (first + i)) n t
 
-pub outer_node : (d : Diagram) → IsStation d → (b j n : ℕ) → IsNeededOuter d b j n → n < node_count d
-outer_node d s b j n h = touched_node d s h.before.item n h.before.touches
+pub shared_node : (d : Diagram) → IsStation d → (n : ℕ) → IsSharedBySome d n → n < node_count d
+shared_node d s n (part, h) = touched_node d s h.here.item n h.here.touches
 
 -- The list has exactly the nodes of the kind below the limit, rising.
 pub record NodesBelow (Kind : ℕ → Type 0) (limit : ℕ) (nodes : List ℕ) : Type 0 where
@@ -271,6 +271,12 @@ module _ (d : Diagram) (shared : List (List ℕ)) (b others j n : ℕ) (station 
         has = has_of (other_of 0 b first_part.0) p_in is;
       }
 
+  pub shared_by_first : IsSharedBySome d n
+  shared_by_first = (
+    other_of 0 b first_shares.place,
+    (are.each (other_of 0 b first_shares.place) first_shares.nodes first_shares.listed n).0 first_shares.has,
+  )
+
   -- and the bay or a later part does
   pub rest_shares : IsShared d b n ⊎ SharesFrom shared b j others n
   rest_shares = elim need.after [
@@ -299,21 +305,10 @@ module _ (d : Diagram) (shared : List (List ℕ)) (b others j n : ℕ) (station 
         | inr x ↦ omega (arith, x.0, x.1, lt)
       ]
 
--- ---- marks of the nodes that stand in a list, one by one
-
-pub met_none : (shared : List (List ℕ)) → AreMet shared [] 0
-met_none shared = record { len = refl; marked = λ part n nodes at has lt. absurd (omega (arith, lt)) }
-
-pub met_more : (shared : List (List ℕ)) (marks : List Bool) (node : ℕ) (sign : Bool) → AreMet shared marks node →
-    ((part : ℕ) (nodes : List ℕ) → slice_get shared part ≡ Some nodes → Contains nodes node → sign ≡ true) →
-    AreMet shared (marks ++ sign ∷ []) (node + 1)
-met_more shared marks node sign h here = record {
-  len = omega (arith, length_push marks sign, h.len);
-  marked = λ part n nodes at has lt. elim (cases_lt n node) [
-    | inl less ↦ get_front marks (sign ∷ []) n true (h.marked part n nodes at has less)
-    | inr more ↦
-        let e : node ≡ n = omega (arith, more, lt) in
-        let is : sign ≡ true = here part nodes at (subst (λ k. Contains nodes k) (sym e) has) in
-        subst (λ k. slice_get (marks ++ sign ∷ []) k ≡ Some true) (h.len ∙ e) (get_last marks sign ∙ ap Some is)
-  ];
-}
+-- the list of a part that shares a node
+pub list_of_part : (d : Diagram) (shared : List (List ℕ)) (part n : ℕ) → IsStation d → AreShared d shared →
+    IsShared d part n → (nodes : List ℕ) × (slice_get shared part ≡ Some nodes) × Contains nodes n
+list_of_part d shared part n station are h =
+    let p_in = part_in d part h.here.item station h.here.among in
+    let at = slice_get-get_or shared part [] (omega (arith, p_in, are.count)) in
+    (get_or shared part [], at, (are.each part (get_or shared part []) at n).1 h)

@@ -7,7 +7,7 @@ ghost use Rattle.bay_contract.specs.Alphabets.{AreAlphabets};
 ghost use Rattle.release_compile.specs.Lettered.{lettered};
 ghost use Rattle.release_compile.specs.Pooling.{IsPool, GrewTo};
 ghost use Rattle.release_compile.specs.Layering.{values_at};
-ghost use Rattle.release_compile.specs.Needing.{AreShared, BayNeeds};
+ghost use Rattle.release_compile.specs.Needing.{IsSharing, BayNeeds};
 ghost use Rattle.release_compile.specs.Inputs.{AreNames};
 ghost use Rattle.release_compile.specs.Built.{AreInner, AreViewGraphs, AreBayGraphs};
 ghost use Rattle.release_compile.specs.Counted.{SwitchesHave, ViewHas, BayHas, Spends, Passes};
@@ -20,7 +20,7 @@ ghost use Rattle.release_compile.specs.BuiltView.{view_of, seen_bay};
 
 use crate::inner::inner_graph;
 use crate::layer::Trouble;
-use crate::needed::bay_nodes;
+use crate::needed::{Sharing, bay_nodes};
 use crate::noted::Noted;
 use crate::outer::outer_graph;
 use crate::partners::told_like;
@@ -126,7 +126,7 @@ fn view_graphs(
     station: &Station,
     parts: &Parts,
     stock: &mut Stock,
-    shared: &[NodeList],
+    sharing: &Sharing,
     list: &NodeList,
     bay: BayId,
     first: u16,
@@ -135,7 +135,7 @@ fn view_graphs(
 ) -> Result<Viewed, Trouble>
     requires lettered { AreAlphabets station.now parts.now }
     requires stock { IsStock (lettered station.now parts.now) view stock.old }
-    requires shared { AreShared station.now shared.now }
+    requires sharing { IsSharing station.now sharing.now }
     requires nodes { AreNodes list.now }
     requires list { (n : ℕ) → Contains list.now n ↔ BayNeeds station.now bay.0 first count n }
     requires bay { bay.0 < part_count station.now }
@@ -157,7 +157,7 @@ fn view_graphs(
         &mut stock.last,
         station,
         parts,
-        shared,
+        sharing,
         bay,
         others,
         left,
@@ -191,7 +191,7 @@ pub(crate) fn bay_graphs(
     gap_stock: &mut Stock,
     load_stock: &mut Stock,
     bays: &[Option<BayGraphs>],
-    shared: &[NodeList],
+    sharing: &Sharing,
     bay: BayId,
     left: usize,
 ) -> Result<Bay, Trouble>
@@ -199,7 +199,7 @@ pub(crate) fn bay_graphs(
     requires gap { IsStock (lettered station.now parts.now) Gap gap_stock.old }
     requires load { IsStock (lettered station.now parts.now) Load load_stock.old }
     requires bays { HaveTold bays.now }
-    requires shared { AreShared station.now shared.now }
+    requires sharing { IsSharing station.now sharing.now }
     requires bay { bay.0 < part_count station.now }
     requires left { left ≤ 8000000 }
     ensures gap { OnOk result (IsStock (lettered station.now parts.now) Gap gap_stock.new) }
@@ -212,14 +212,14 @@ pub(crate) fn bay_graphs(
 {
     let (id, count) = station.switches_of(bay);
     let first = id.0;
-    let list = bay_nodes(alloc, station, shared, bay, first, count)?;
+    let list = bay_nodes(alloc, station, &sharing.parts, bay, first, count)?;
     let gap = view_graphs(
         alloc,
         View::Gap,
         station,
         parts,
         gap_stock,
-        shared,
+        sharing,
         &list,
         bay,
         first,
@@ -232,7 +232,7 @@ pub(crate) fn bay_graphs(
         station,
         parts,
         load_stock,
-        shared,
+        sharing,
         &list,
         bay,
         first,

@@ -1,19 +1,26 @@
 //! The nodes that are kept before each layer of a graph.
 ghost use Rattle.std.specs.Prelude.{◌≡◌, ℕ, ◌+◌, ◌<◌, ◌≤◌, ◌⊎◌, ◌↔◌, List, suc, length, map, slice_get, Some, true};
 ghost use Rattle.std.specs.Prelude.{IfOk, IsTrue, Contains};
-ghost use Rattle.station_graph.specs.Diagram.{part_count, node_count};
+ghost use Rattle.station_graph.specs.Diagram.{part_count};
 ghost use Rattle.station_graph.specs.Connection.{a_switch};
 ghost use Rattle.station_graph.specs.Sharing.{AtSwitch, Touches};
 ghost use Rattle.contraction.specs.Answers.{AreNodes};
 ghost use Rattle.release_compile.specs.Graphs.{other_of, IsOwn};
-ghost use Rattle.release_compile.specs.Needing.{AreShared, AreMet, SharesFrom, IsNeededOuter, TouchesOther};
-ghost use Rattle.release_compile.specs.Needing.{IsNeededInner, TouchesOwn, BayNeeds};
+ghost use Rattle.release_compile.specs.Needing.{AreShared, IsSharedBySome, IsSharing, SharesFrom, IsNeededOuter};
+ghost use Rattle.release_compile.specs.Needing.{TouchesOther, IsNeededInner, TouchesOwn, BayNeeds};
 ghost use Rattle.release_compile.specs.Places.{node_listed};
 
 use crate::placing::other_number;
 use ilk_base::{BayId, Memory, NodeId, SwitchId};
 use station_graph::{NodeList, Station, Switch};
 use std::alloc::Global;
+
+// Which nodes the parts of a station share: for each part a list, and the nodes that some part shares, rising.
+#[derive(Drop)]
+pub(crate) struct Sharing {
+    pub(crate) parts: Vec<NodeList>,
+    pub(crate) all: NodeList,
+}
 
 // Whether the switch touches the node.
 fn touches(switch: Switch, node: u16) -> bool
@@ -165,36 +172,22 @@ fn other_shares(shared: &[NodeList], bay: BayId, from: u16, to: u16, node: u16) 
     false
 }
 
-// Whether the node is marked.
-fn is_met(met: &[bool], node: u16) -> bool
-    requires { node < length met.now }
-    ensures { IsTrue result ↔ (slice_get met.now node ≡ Some true) }
-{
-    met[usize::from(node)]
-}
-
 // Whether one of the first other parts shares the node, and the bay or one of the rest shares it too.
 fn is_needed_between(
     station: &Station,
     shared: &[NodeList],
-    met: &[bool],
     bay: BayId,
     place: u16,
     others: u16,
     node: u16,
 ) -> bool
     requires shared { AreShared station.now shared.now }
-    requires met { AreMet shared.now met.now (node_count station.now) }
-    requires node { node < node_count station.now }
     requires count { suc others ≡ part_count station.now }
     requires bay { bay.0 < part_count station.now }
     requires place { place ≤ others }
     ensures { IsTrue result ↔ IsNeededOuter station.now bay.0 place node }
 {
     let _count = station.part_count();
-    if !is_met(met, node) {
-        return false;
-    }
     if !other_shares(shared, bay, 0, place, node) {
         return false;
     }
@@ -207,22 +200,23 @@ fn is_needed_between(
 pub(crate) fn outer_nodes(
     alloc: Global,
     station: &Station,
-    shared: &[NodeList],
-    met: &[bool],
+    sharing: &Sharing,
     bay: BayId,
     place: u16,
     others: u16,
 ) -> Result<NodeList, Memory>
-    requires shared { AreShared station.now shared.now }
-    requires met { AreMet shared.now met.now (node_count station.now) }
+    requires sharing { IsSharing station.now sharing.now }
     requires count { suc others ≡ part_count station.now }
     requires bay { bay.0 < part_count station.now }
     requires place { place ≤ others }
     ensures { IfOk result (λ l. (n : ℕ) → Contains l n ↔ IsNeededOuter station.now bay.0 place n) }
 {
+    let _count = station.part_count();
+    let all = sharing.all.numbers();
     let mut nodes = NodeList::new(alloc);
-    for node in 0..station.node_count() {
-        if is_needed_between(station, shared, met, bay, place, others, node) {
+    for k in 0..all.len() {
+        let node = all[k];
+        if is_needed_between(station, &sharing.parts, bay, place, others, node) {
             nodes.push(NodeId(node))?;
         }
     }
@@ -230,10 +224,11 @@ pub(crate) fn outer_nodes(
 }
 
 // Whether one of the parts shares the node.
-fn some_shares(shared: &[NodeList], node: u16) -> bool
-    ensures { (part : ℕ) (nodes : List ℕ) → slice_get shared.now part ≡ Some nodes → Contains nodes node →
-        IsTrue result }
+fn some_shares(station: &Station, shared: &[NodeList], node: u16) -> bool
+    requires { AreShared station.now shared.now }
+    ensures { IsTrue result ↔ IsSharedBySome station.now node }
 {
+    let _count = station.part_count();
     for part in 0..shared.len() {
         if shared[part].numbers().contains(&node) {
             return true;
@@ -242,24 +237,22 @@ fn some_shares(shared: &[NodeList], node: u16) -> bool
     false
 }
 
-// For each node whether a part shares it.
-pub(crate) fn met_nodes(
-    alloc: Global,
-    station: &Station,
-    shared: &[NodeList],
-) -> Result<Vec<bool>, Memory>
-    ensures { IfOk result (λ v. AreMet shared.now v.items (node_count station.now)) }
+// The nodes that some part shares, rising.
+fn all_shared(alloc: Global, station: &Station, shared: &[NodeList]) -> Result<NodeList, Memory>
+    requires { AreShared station.now shared.now }
+    ensures { IfOk result (λ l. (n : ℕ) → Contains l n ↔ IsSharedBySome station.now n) }
 {
-    let mut marks = Vec::new(alloc);
+    let mut nodes = NodeList::new(alloc);
     for node in 0..station.node_count() {
-        let yes = some_shares(shared, node);
-        marks.push(yes)?;
+        if some_shares(station, shared, node) {
+            nodes.push(NodeId(node))?;
+        }
     }
-    Ok(marks)
+    Ok(nodes)
 }
 
 // The nodes that each part shares.
-pub(crate) fn all_shared(alloc: Global, station: &Station) -> Result<Vec<NodeList>, Memory>
+fn each_shared(alloc: Global, station: &Station) -> Result<Vec<NodeList>, Memory>
     ensures { IfOk result (λ v. AreShared station.now v.items) }
 {
     let mut lists = Vec::new(alloc);
@@ -268,4 +261,13 @@ pub(crate) fn all_shared(alloc: Global, station: &Station) -> Result<Vec<NodeLis
         lists.push(nodes)?;
     }
     Ok(lists)
+}
+
+// Which nodes the parts of a station share.
+pub(crate) fn sharing_of(alloc: Global, station: &Station) -> Result<Sharing, Memory>
+    ensures { IfOk result (IsSharing station.now) }
+{
+    let parts = each_shared(alloc, station)?;
+    let all = all_shared(alloc, station, &parts)?;
+    Ok(Sharing { parts, all })
 }
