@@ -1,7 +1,7 @@
 -- Lists of the nodes of a kind, found one after another.
-use Rattle.std.proofs.Common.{◌≡◌, ℕ, ◌+◌, ◌<◌, ◌⊎◌, ◌↔◌, suc, Bool, true, List, [], ◌∷◌, ◌++◌, length, get_or}
+use Rattle.std.proofs.Common.{◌≡◌, ℕ, ◌+◌, ◌-◌, ◌<◌, ◌≤◌, ◌⊎◌, ◌↔◌, suc, Bool, true, List, [], ◌∷◌, ◌++◌, length, get_or}
 use Rattle.std.proofs.Common.{slice_get, slice_index, Contains, Some, refl, sym, ap, ◌∙◌, subst, inl, inr, arith}
-use Rattle.std.proofs.lemmas.Bool.{cases_lt}
+use Rattle.std.proofs.lemmas.Bool.{cases_lt, cases_eq}
 use Rattle.std.proofs.lemmas.Option.{slice_get-get_or}
 use Rattle.std.proofs.lemmas.List.{length_push, get_or_append_left, get_or_push}
 use Rattle.std.proofs.lemmas.List.Elements.{Contains-push, Contains-push_cases, Contains-append_left}
@@ -12,11 +12,12 @@ use Rattle.station_graph.specs.Nodes.{Rises}
 use Rattle.station_graph.proofs.PartialEdges.{second_fits}
 use Rattle.contraction.specs.Answers.{AreNodes}
 use Rattle.contraction.specs.Stands.{Among}
-use Rattle.release_compile.specs.Graphs.{other_of}
+use Rattle.release_compile.specs.Graphs.{other_of, IsOwn}
 use Rattle.release_compile.specs.Listing.{part_items}
-use Rattle.release_compile.specs.Needing.{AreShared, AreMet, SharesFrom, IsNeededOuter, IsNeededInner}
+use Rattle.release_compile.specs.Needing.{AreShared, IsSharedBySome, SharesFrom, IsNeededOuter, IsNeededInner, InnerNeeds}
+use Rattle.release_compile.specs.Needing.{TouchesOwn, BayNeeds}
 use Rattle.release_compile.proofs.LayerLemmas.{get_front, get_last}
-use Rattle.release_compile.proofs.VerdictLemmas.{other_cases}
+use Rattle.release_compile.proofs.VerdictLemmas.{other_cases, other_in, own_place}
 use Rattle.release_compile.proofs.OuterLemmas.{part_has, has_part, before_has, others_apart, other_not}
 use Rattle.release_compile.proofs.OuterFits.{before_to, part_in, place_of_part}
 
@@ -29,18 +30,12 @@ touched_node d s (a_link i) n (x, at, inl e) = subst (λ k. k < node_count d) e 
 touched_node d s (a_link i) n (x, at, inr e) = subst (λ k. k < node_count d) e (s.items.links_fit i x at).second_in
 touched_node d s (a_tap i) n (x, at, e) = subst (λ k. k < node_count d) e (s.items.taps_fit i x at).node_in
 
-pub inner_node : (d : Diagram) → IsStation d → (m first others j n : ℕ) → IsNeededInner d m first others j n →
-    n < node_count d
-inner_node d s m first others j n (inl t) = touched_node d s (a_switch m) n t
-inner_node d s m first others j n (inr (i, le, lt, t)) = touched_node d s (a_switch (other_of first m i)) n t
+pub bay_node : (d : Diagram) → IsStation d → (b first count n : ℕ) → BayNeeds d b first count n → n < node_count d
+bay_node d s b first count n (inl h) = touched_node d s h.here.item n h.here.touches
+bay_node d s b first count n (inr (i, lt, t)) = touched_node d s (a_switch (first + i)) n t
 
-pub start_node : (d : Diagram) → IsStation d → (b m first others n : ℕ) →
-    IsShared d b n ⊎ IsNeededInner d m first others 0 n → n < node_count d
-start_node d s b m first others n (inl h) = touched_node d s h.here.item n h.here.touches
-start_node d s b m first others n (inr h) = inner_node d s m first others 0 n h
-
-pub outer_node : (d : Diagram) → IsStation d → (b j n : ℕ) → IsNeededOuter d b j n → n < node_count d
-outer_node d s b j n h = touched_node d s h.before.item n h.before.touches
+pub shared_node : (d : Diagram) → IsStation d → (n : ℕ) → IsSharedBySome d n → n < node_count d
+shared_node d s n (part, h) = touched_node d s h.here.item n h.here.touches
 
 -- The list has exactly the nodes of the kind below the limit, rising.
 pub record NodesBelow (Kind : ℕ → Type 0) (limit : ℕ) (nodes : List ℕ) : Type 0 where
@@ -131,6 +126,80 @@ are_nodes Kind d nodes s h = record {
   small = λ k in_k. (let few = s.items.nodes_few in omega (arith, h.below k in_k));
 }
 
+-- The list has exactly those of these nodes that are of the kind.
+pub record NodesAmong (Kind : ℕ → Type 0) (all nodes : List ℕ) : Type 0 where
+  pub exact : (n : ℕ) → Contains nodes n ↔ (Kind n × Contains all n)
+
+pub among_none : (Kind : ℕ → Type 0) → NodesAmong Kind [] []
+among_none Kind = record {
+  exact = λ n. (λ h. absurd (omega (arith, h.1)), λ w. (let h = w.1 in absurd (omega (arith, h.1))));
+}
+
+pub among_skip : (Kind : ℕ → Type 0) (all nodes : List ℕ) (x : ℕ) → NodesAmong Kind all nodes → ¬ Kind x →
+    NodesAmong Kind (all ++ x ∷ []) nodes
+among_skip Kind all nodes x h not = record {
+  exact = λ n. (
+    λ e. (let w = (h.exact n).0 e in (w.0, Contains-append_left all (x ∷ []) n w.1)),
+    λ w. elim (Contains-push_cases all x n w.1) [
+      | inl old ↦ (h.exact n).1 (w.0, old)
+      | inr same ↦ absurd (not (subst (λ k. Kind k) (sym same) w.0))
+    ],
+  );
+}
+
+pub among_push : (Kind : ℕ → Type 0) (all nodes more : List ℕ) (x : ℕ) → NodesAmong Kind all nodes → Kind x →
+    more ≡ nodes ++ x ∷ [] → NodesAmong Kind (all ++ x ∷ []) more
+among_push Kind all nodes more x h here e = subst (λ l. NodesAmong Kind (all ++ x ∷ []) l) (sym e) (record {
+  exact = λ n. (
+    λ p. elim (Contains-push_cases nodes x n p) [
+      | inl old ↦ (let w = (h.exact n).0 old in (w.0, Contains-append_left all (x ∷ []) n w.1))
+      | inr same ↦
+          (subst (λ k. Kind k) same here, subst (λ k. Contains (all ++ x ∷ []) k) same (Contains-push all x))
+    ],
+    λ w. elim (Contains-push_cases all x n w.1) [
+      | inl old ↦ Contains-append_left nodes (x ∷ []) n ((h.exact n).1 (w.0, old))
+      | inr same ↦ subst (λ k. Contains (nodes ++ x ∷ []) k) same (Contains-push nodes x)
+    ],
+  );
+})
+
+pub among_exact : (Kind : ℕ → Type 0) (all nodes : List ℕ) → NodesAmong Kind all nodes →
+    ((n : ℕ) → Kind n → Contains all n) → (n : ℕ) → Contains nodes n ↔ Kind n
+among_exact Kind all nodes h within n = (λ e. ((h.exact n).0 e).0, λ k. (h.exact n).1 (k, within n k))
+
+-- ---- what a bay needs
+
+module _ (d : Diagram) (b m first others : ℕ) (own : IsOwn d b m first others) (n : ℕ) where
+  at_own : (i : ℕ) → first ≤ i → i < first + suc others → Touches d (a_switch i) n → TouchesOwn d first (suc others) n
+  at_own i from below t =
+      let e : i ≡ first + (i - first) = omega (arith, from) in
+      (i - first, omega (arith, from, below), subst (λ k. Touches d (a_switch k) n) e t)
+
+  own_of_inner : IsNeededInner d m first others 0 n → TouchesOwn d first (suc others) n
+  own_of_inner (inl t) = at_own m own.from own.below t
+  own_of_inner (inr (i, le, lt, t)) =
+      (let r = other_in first m others i lt in at_own (other_of first m i) r.0 r.1 t)
+
+  inner_of_own : TouchesOwn d first (suc others) n → IsNeededInner d m first others 0 n
+  inner_of_own (i, lt, t) = elim (cases_eq (first + i) m) [
+    | inl e ↦ inl (subst (λ k. Touches d (a_switch k) n) e t)
+    | inr ne ↦
+        let k = own_place first m others (first + i) own.from own.below (omega arith) (omega (arith, lt)) ne in
+        inr (k.0, omega arith, k.1, subst (λ j. Touches d (a_switch j) n) (sym k.2) t)
+  ]
+
+  -- whichever of its switches is moved
+  pub bay_inner : BayNeeds d b first (suc others) n ↔ InnerNeeds d b m first others 0 n
+  bay_inner = (there, back)
+    where
+      there : BayNeeds d b first (suc others) n → InnerNeeds d b m first others 0 n
+      there (inl h) = inl h
+      there (inr t) = inr (inner_of_own t)
+
+      back : InnerNeeds d b m first others 0 n → BayNeeds d b first (suc others) n
+      back (inl h) = inl h
+      back (inr t) = inr (own_of_inner t)
+
 -- ---- shared nodes
 
 touched_of : (d : Diagram) (p n : ℕ) → TouchedBy (Among (part_items d p)) d n → TouchedBy (OfPart d p) d n
@@ -202,6 +271,12 @@ module _ (d : Diagram) (shared : List (List ℕ)) (b others j n : ℕ) (station 
         has = has_of (other_of 0 b first_part.0) p_in is;
       }
 
+  pub shared_by_first : IsSharedBySome d n
+  shared_by_first = (
+    other_of 0 b first_shares.place,
+    (are.each (other_of 0 b first_shares.place) first_shares.nodes first_shares.listed n).0 first_shares.has,
+  )
+
   -- and the bay or a later part does
   pub rest_shares : IsShared d b n ⊎ SharesFrom shared b j others n
   rest_shares = elim need.after [
@@ -230,21 +305,10 @@ module _ (d : Diagram) (shared : List (List ℕ)) (b others j n : ℕ) (station 
         | inr x ↦ omega (arith, x.0, x.1, lt)
       ]
 
--- ---- marks of the nodes that stand in a list, one by one
-
-pub met_none : (shared : List (List ℕ)) → AreMet shared [] 0
-met_none shared = record { len = refl; marked = λ part n nodes at has lt. absurd (omega (arith, lt)) }
-
-pub met_more : (shared : List (List ℕ)) (marks : List Bool) (node : ℕ) (sign : Bool) → AreMet shared marks node →
-    ((part : ℕ) (nodes : List ℕ) → slice_get shared part ≡ Some nodes → Contains nodes node → sign ≡ true) →
-    AreMet shared (marks ++ sign ∷ []) (node + 1)
-met_more shared marks node sign h here = record {
-  len = omega (arith, length_push marks sign, h.len);
-  marked = λ part n nodes at has lt. elim (cases_lt n node) [
-    | inl less ↦ get_front marks (sign ∷ []) n true (h.marked part n nodes at has less)
-    | inr more ↦
-        let e : node ≡ n = omega (arith, more, lt) in
-        let is : sign ≡ true = here part nodes at (subst (λ k. Contains nodes k) (sym e) has) in
-        subst (λ k. slice_get (marks ++ sign ∷ []) k ≡ Some true) (h.len ∙ e) (get_last marks sign ∙ ap Some is)
-  ];
-}
+-- the list of a part that shares a node
+pub list_of_part : (d : Diagram) (shared : List (List ℕ)) (part n : ℕ) → IsStation d → AreShared d shared →
+    IsShared d part n → (nodes : List ℕ) × (slice_get shared part ≡ Some nodes) × Contains nodes n
+list_of_part d shared part n station are h =
+    let p_in = part_in d part h.here.item station h.here.among in
+    let at = slice_get-get_or shared part [] (omega (arith, p_in, are.count)) in
+    (get_or shared part [], at, (are.each part (get_or shared part []) at n).1 h)

@@ -1,10 +1,11 @@
 -- The nodes that are kept before each layer of a graph.
-use Rattle.std.specs.Prelude.{◌≡◌, ℕ, zero, suc, ◌<◌, ◌≤◌, ◌⊎◌, ◌↔◌, Bool, true, List, length, slice_get, Some}
+use Rattle.std.specs.Prelude.{◌≡◌, ℕ, zero, suc, ◌+◌, ◌<◌, ◌≤◌, ◌⊎◌, ◌↔◌, List, length, slice_get, Some}
 use Rattle.std.specs.Prelude.{Contains}
 use Rattle.station_graph.specs.Diagram.{Diagram, part_count}
 use Rattle.station_graph.specs.Connection.{a_switch}
 use Rattle.station_graph.specs.Sharing.{OfPart, Touches, TouchedBy, IsShared}
 use Rattle.contraction.specs.Stands.{Among}
+use Rattle.release_compile.specs.declared.needed.Sharing.{Sharing}
 use Rattle.release_compile.specs.Graphs.{other_of}
 use Rattle.release_compile.specs.Listing.{part_items, parts_before}
 
@@ -14,11 +15,14 @@ pub record AreShared (d : Diagram) (shared : List (List ℕ)) : Type 0 where
   pub each : (part : ℕ) (nodes : List ℕ) → slice_get shared part ≡ Some nodes → (n : ℕ) → Contains nodes n ↔
       IsShared d part n
 
--- There is a mark for each of so many nodes, and each node that stands in one of the lists is marked.
-pub record AreMet (shared : List (List ℕ)) (marks : List Bool) (count : ℕ) : Type 0 where
-  pub len : length marks ≡ count
-  pub marked : (part n : ℕ) (nodes : List ℕ) → slice_get shared part ≡ Some nodes → Contains nodes n → n < count →
-      slice_get marks n ≡ Some true
+-- Some part shares the node.
+abbrev pub IsSharedBySome : Diagram → ℕ → Type 0
+IsSharedBySome d n = (part : ℕ) × IsShared d part n
+
+-- The lists are those of the nodes that each part shares, and of the nodes that some part shares.
+pub record IsSharing (d : Diagram) (s : Sharing) : Type 0 where
+  pub parts : AreShared d s.parts.items
+  pub all : (n : ℕ) → Contains s.all n ↔ IsSharedBySome d n
 
 -- One of the other parts between two places has the node in its list.
 pub record SharesFrom (shared : List (List ℕ)) (b from to n : ℕ) : Type 0 where
@@ -46,3 +50,11 @@ IsNeededInner d m first others j n = Touches d (a_switch m) n ⊎ TouchesOther d
 abbrev pub InnerNeeds : Diagram → ℕ → ℕ → ℕ → ℕ → ℕ → ℕ → Type 0
 InnerNeeds d b m first others zero n = IsShared d b n ⊎ IsNeededInner d m first others 0 n
 InnerNeeds d b m first others (suc j) n = IsNeededInner d m first others j n
+
+-- One of the bay's switches, so many from the first on, touches the node.
+abbrev pub TouchesOwn : Diagram → ℕ → ℕ → ℕ → Type 0
+TouchesOwn d first count n = (i : ℕ) × (i < count) × Touches d (a_switch (first + i)) n
+
+-- The bay shares the node, or one of its switches touches it.
+abbrev pub BayNeeds : Diagram → ℕ → ℕ → ℕ → ℕ → Type 0
+BayNeeds d b first count n = IsShared d b n ⊎ TouchesOwn d first count n

@@ -1,13 +1,13 @@
 //! The graphs of the bays.
 ghost use Rattle.std.specs.Prelude.{◌≡◌, ◌+◌, ◌<◌, ◌≤◌, ◌↔◌, ℕ, suc, length, IfOk, IfErr, OnOk, Contains};
 ghost use Rattle.station_graph.specs.Diagram.{part_count, AreSwitchesOf};
-ghost use Rattle.station_graph.specs.Sharing.{IsShared};
+ghost use Rattle.contraction.specs.Answers.{AreNodes};
 ghost use Rattle.bay_contract.specs.PartAlphabets.{Alphabets};
 ghost use Rattle.bay_contract.specs.Alphabets.{AreAlphabets};
 ghost use Rattle.release_compile.specs.Lettered.{lettered};
 ghost use Rattle.release_compile.specs.Pooling.{IsPool, GrewTo};
 ghost use Rattle.release_compile.specs.Layering.{values_at};
-ghost use Rattle.release_compile.specs.Needing.{AreShared};
+ghost use Rattle.release_compile.specs.Needing.{IsSharing, BayNeeds};
 ghost use Rattle.release_compile.specs.Inputs.{AreNames};
 ghost use Rattle.release_compile.specs.Built.{AreInner, AreViewGraphs, AreBayGraphs};
 ghost use Rattle.release_compile.specs.Counted.{SwitchesHave, ViewHas, BayHas, Spends, Passes};
@@ -20,6 +20,7 @@ ghost use Rattle.release_compile.specs.BuiltView.{view_of, seen_bay};
 
 use crate::inner::inner_graph;
 use crate::layer::Trouble;
+use crate::needed::{Sharing, bay_nodes};
 use crate::noted::Noted;
 use crate::outer::outer_graph;
 use crate::partners::told_like;
@@ -76,7 +77,7 @@ fn inner_graphs(
     pool: &mut Pool,
     notes: &mut Vec<Noted>,
     station: &Station,
-    shared: &NodeList,
+    list: &NodeList,
     bay: BayId,
     first: u16,
     count: u16,
@@ -87,7 +88,8 @@ fn inner_graphs(
     requires notes { AreRight pool.old notes.old.items }
     requires bay { bay.0 < part_count station.now }
     requires switches { AreSwitchesOf station.now bay.0 first count }
-    requires shared { (n : ℕ) → Contains shared.now n ↔ IsShared station.now bay.0 n }
+    requires nodes { AreNodes list.now }
+    requires list { (n : ℕ) → Contains list.now n ↔ BayNeeds station.now bay.0 first count n }
     requires names { AreNames pool.old station.now bay.0 names.now }
     requires few { length names.now ≤ 8000001 }
     requires left { left ≤ 8000000 }
@@ -109,7 +111,7 @@ fn inner_graphs(
         let others = count - 1;
         let moved = first + i;
         let made = inner_graph(
-            alloc, pool, notes, station, shared, bay, first, moved, others, names, rest,
+            alloc, pool, notes, station, list, bay, first, moved, others, names, rest,
         )?;
         rest = made.left;
         graphs.push(made.graph)?;
@@ -124,7 +126,8 @@ fn view_graphs(
     station: &Station,
     parts: &Parts,
     stock: &mut Stock,
-    shared: &[NodeList],
+    sharing: &Sharing,
+    list: &NodeList,
     bay: BayId,
     first: u16,
     count: u16,
@@ -132,7 +135,9 @@ fn view_graphs(
 ) -> Result<Viewed, Trouble>
     requires lettered { AreAlphabets station.now parts.now }
     requires stock { IsStock (lettered station.now parts.now) view stock.old }
-    requires shared { AreShared station.now shared.now }
+    requires sharing { IsSharing station.now sharing.now }
+    requires nodes { AreNodes list.now }
+    requires list { (n : ℕ) → Contains list.now n ↔ BayNeeds station.now bay.0 first count n }
     requires bay { bay.0 < part_count station.now }
     requires switches { AreSwitchesOf station.now bay.0 first count }
     requires left { left ≤ 8000000 }
@@ -152,19 +157,17 @@ fn view_graphs(
         &mut stock.last,
         station,
         parts,
-        shared,
+        sharing,
         bay,
         others,
         left,
     )?;
-    let place = usize::from(bay.0);
-    let nodes = &shared[place];
     let inners = inner_graphs(
         alloc,
         &mut stock.pool,
         &mut stock.inner,
         station,
-        nodes,
+        list,
         bay,
         first,
         count,
@@ -188,7 +191,7 @@ pub(crate) fn bay_graphs(
     gap_stock: &mut Stock,
     load_stock: &mut Stock,
     bays: &[Option<BayGraphs>],
-    shared: &[NodeList],
+    sharing: &Sharing,
     bay: BayId,
     left: usize,
 ) -> Result<Bay, Trouble>
@@ -196,7 +199,7 @@ pub(crate) fn bay_graphs(
     requires gap { IsStock (lettered station.now parts.now) Gap gap_stock.old }
     requires load { IsStock (lettered station.now parts.now) Load load_stock.old }
     requires bays { HaveTold bays.now }
-    requires shared { AreShared station.now shared.now }
+    requires sharing { IsSharing station.now sharing.now }
     requires bay { bay.0 < part_count station.now }
     requires left { left ≤ 8000000 }
     ensures gap { OnOk result (IsStock (lettered station.now parts.now) Gap gap_stock.new) }
@@ -209,13 +212,15 @@ pub(crate) fn bay_graphs(
 {
     let (id, count) = station.switches_of(bay);
     let first = id.0;
+    let list = bay_nodes(alloc, station, &sharing.parts, bay, first, count)?;
     let gap = view_graphs(
         alloc,
         View::Gap,
         station,
         parts,
         gap_stock,
-        shared,
+        sharing,
+        &list,
         bay,
         first,
         count,
@@ -227,7 +232,8 @@ pub(crate) fn bay_graphs(
         station,
         parts,
         load_stock,
-        shared,
+        sharing,
+        &list,
         bay,
         first,
         count,

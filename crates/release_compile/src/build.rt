@@ -10,7 +10,7 @@ ghost use Rattle.release_compile.specs.declared.bay.BayGraphs.{BayGraphs as Grap
 ghost use Rattle.release_compile.specs.declared.limits.TheConstants.{BAY_EDGES as BAY, ALL_EDGES as ALL};
 ghost use Rattle.release_compile.specs.declared.layer.Trouble.TheVariants.{Wide as IsWide};
 ghost use Rattle.release_compile.specs.Lettered.{lettered};
-ghost use Rattle.release_compile.specs.Needing.{AreShared};
+ghost use Rattle.release_compile.specs.Needing.{IsSharing};
 ghost use Rattle.release_compile.specs.Stocking.{IsStock};
 ghost use Rattle.release_compile.specs.Telling.{HasTold, HaveTold};
 ghost use Rattle.release_compile.specs.declared.view.View.TheVariants.{Gap, Load};
@@ -23,14 +23,14 @@ ghost use Rattle.release_compile.specs.Judging.{IsBuildRefusal, IsTooWide};
 use crate::bay::{BayGraphs, bay_graphs};
 use crate::layer::Trouble;
 use crate::limits::{ALL_EDGES, BAY_EDGES};
-use crate::needed::all_shared;
+use crate::needed::{Sharing, sharing_of};
 use crate::refusal::BuildRefusal;
 use crate::stock::{Stock, stock_of};
 use crate::view::View;
 use bay_contract::{Parts, PartsRefusal};
 use decision_graphs::Graph;
 use ilk_base::{BayId, Memory, SwitchId};
-use station_graph::{NodeList, Station};
+use station_graph::Station;
 use std::alloc::Global;
 use std::marker::Model;
 
@@ -59,7 +59,7 @@ fn part_graphs(
     gap: &mut Stock,
     load: &mut Stock,
     bays: &[Option<BayGraphs>],
-    shared: &[NodeList],
+    sharing: &Sharing,
     bay: BayId,
     left: usize,
 ) -> Result<Part, Trouble>
@@ -67,7 +67,7 @@ fn part_graphs(
     requires gap { IsStock (lettered station.now parts.now) Gap gap.old }
     requires load { IsStock (lettered station.now parts.now) Load load.old }
     requires bays { HaveTold bays.now }
-    requires shared { AreShared station.now shared.now }
+    requires sharing { IsSharing station.now sharing.now }
     requires bay { bay.0 < part_count station.now }
     requires left { left ≤ BAY }
     ensures gap { OnOk result (IsStock (lettered station.now parts.now) Gap gap.new) }
@@ -83,7 +83,7 @@ fn part_graphs(
     if count == 0 {
         return Ok(Part { graphs: None, left });
     }
-    let made = bay_graphs(alloc, station, parts, gap, load, bays, shared, bay, left)?;
+    let made = bay_graphs(alloc, station, parts, gap, load, bays, sharing, bay, left)?;
     Ok(Part {
         graphs: Some(made.graphs),
         left: made.left,
@@ -103,24 +103,24 @@ fn all_bays(
     alloc: Global,
     station: &Station,
     parts: &Parts,
-    shared: &[NodeList],
+    sharing: &Sharing,
 ) -> Result<Vec<Option<BayGraphs>>, BuildRefusal>
     requires lettered { AreAlphabets station.now parts.now }
-    requires shared { AreShared station.now shared.now }
+    requires sharing { IsSharing station.now sharing.now }
     ensures bays { IfOk result (λ v. AreBays (lettered station.now parts.now) (map seen_part v.items)
         (part_count station.now)) }
     ensures fits { IfOk result (λ _. (edges : ℕ) × KeepEdges station.now (part_count station.now) edges) }
     ensures refusal { IfErr result (IsTooWide station.now) }
 {
-    let mut gap = stock_of(alloc, View::Gap, station, parts, shared)?;
-    let mut load = stock_of(alloc, View::Load, station, parts, shared)?;
+    let mut gap = stock_of(alloc, View::Gap, station, parts, &sharing.parts)?;
+    let mut load = stock_of(alloc, View::Load, station, parts, &sharing.parts)?;
     let mut bays = Vec::new(alloc);
     let mut spent = 0usize;
     for part in 0..station.part_count() {
         let bay = BayId(part as u8);
         let left = allowed(spent);
         match part_graphs(
-            alloc, station, parts, &mut gap, &mut load, &bays, shared, bay, left,
+            alloc, station, parts, &mut gap, &mut load, &bays, sharing, bay, left,
         ) {
             Ok(made) => {
                 spent += left - made.left;
@@ -210,8 +210,8 @@ impl<'a> GraphJudge<'a> {
     {
         let _count = station.part_count();
         let parts = alphabets(alloc, station)?;
-        let shared = all_shared(alloc, station)?;
-        let bays = all_bays(alloc, station, &parts, &shared)?;
+        let sharing = sharing_of(alloc, station)?;
+        let bays = all_bays(alloc, station, &parts, &sharing)?;
         Ok(GraphJudge {
             station,
             parts,

@@ -1,7 +1,6 @@
 //! The inner graphs of the switches of a bay.
-ghost use Rattle.std.specs.Prelude.{◌≡◌, ◌<◌, ◌≤◌, ℕ, length, IfOk, IfErr, OnOk, Contains, ◌↔◌};
+ghost use Rattle.std.specs.Prelude.{◌≡◌, ◌<◌, ◌≤◌, ℕ, suc, length, IfOk, IfErr, OnOk, Contains, ◌↔◌};
 ghost use Rattle.station_graph.specs.Diagram.{part_count};
-ghost use Rattle.station_graph.specs.Sharing.{IsShared};
 ghost use Rattle.contraction.specs.Answers.{AreNodes};
 ghost use Rattle.bay_contract.specs.PartAlphabets.{Alphabets};
 ghost use Rattle.decision_graphs.specs.Label.{AreReduced};
@@ -11,7 +10,7 @@ ghost use Rattle.release_compile.specs.Layering.{values_at};
 ghost use Rattle.release_compile.specs.Graphs.{IsOwn, IsInner};
 ghost use Rattle.release_compile.specs.Coding.{labels_of};
 ghost use Rattle.release_compile.specs.Inputs.{AreNames};
-ghost use Rattle.release_compile.specs.Needing.{InnerNeeds};
+ghost use Rattle.release_compile.specs.Needing.{InnerNeeds, BayNeeds};
 ghost use Rattle.release_compile.specs.Noting.{AreRight, IsInPlaces};
 ghost use Rattle.release_compile.specs.Counted.{InnerHas, Spends, Passes, InnerIsSmall};
 ghost use Rattle.release_compile.specs.declared.layer.Trouble.TheVariants.{Wide};
@@ -19,7 +18,6 @@ ghost use Rattle.release_compile.specs.declared.layer.Trouble.TheVariants.{Wide}
 use crate::codes::{codes, label_count};
 use crate::inputs::{inner_keeps, inner_rows, links};
 use crate::layer::Trouble;
-use crate::needed::start_nodes;
 use crate::noted::{Intake, Noted, taken_again};
 use crate::places::names_in_places;
 use crate::pool::Pool;
@@ -75,7 +73,7 @@ pub(crate) fn inner_graph(
     pool: &mut Pool,
     notes: &mut Vec<Noted>,
     station: &Station,
-    shared: &NodeList,
+    list: &NodeList,
     bay: BayId,
     first: u16,
     moved: u16,
@@ -87,7 +85,8 @@ pub(crate) fn inner_graph(
     requires notes { AreRight pool.old notes.old.items }
     requires bay { bay.0 < part_count station.now }
     requires own { IsOwn station.now bay.0 moved first others }
-    requires shared { (n : ℕ) → Contains shared.now n ↔ IsShared station.now bay.0 n }
+    requires nodes { AreNodes list.now }
+    requires list { (n : ℕ) → Contains list.now n ↔ BayNeeds station.now bay.0 first (suc others) n }
     requires names { AreNames pool.old station.now bay.0 names.now }
     requires few { length names.now ≤ 8000001 }
     requires left { left ≤ 8000000 }
@@ -106,13 +105,10 @@ pub(crate) fn inner_graph(
     ensures left { IfOk result (λ r. r.left ≤ left) }
 {
     let _count = station.switch_count();
-    let list = start_nodes(alloc, station, bay, shared, first, moved, others)?;
-    let intake = inner_intake(
-        alloc, pool, station, bay, &list, first, moved, others, names,
-    )?;
+    let intake = inner_intake(alloc, pool, station, bay, list, first, moved, others, names)?;
     let whole = taken_again(alloc, pool, notes, intake, left + names.len())?;
     let states = whole.names.as_slice();
-    let labels = codes(alloc, pool, station, SwitchId(moved), &list, states)?;
+    let labels = codes(alloc, pool, station, SwitchId(moved), list, states)?;
     let named = whole.graph.rename(alloc, label_count(pool.view), &labels)?;
     let graph = named.reduce(alloc)?;
     let _labels = graph.labels();

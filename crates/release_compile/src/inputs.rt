@@ -10,11 +10,11 @@ ghost use Rattle.release_compile.specs.Lettered.{lettered};
 ghost use Rattle.release_compile.specs.Pooling.{IsPool, GrewTo};
 ghost use Rattle.release_compile.specs.Places.{node_listed, pool_on};
 ghost use Rattle.release_compile.specs.Graphs.{other_of};
-ghost use Rattle.release_compile.specs.Needing.{AreShared, IsNeededOuter, InnerNeeds};
+ghost use Rattle.release_compile.specs.Needing.{AreShared, IsSharing, IsNeededOuter, InnerNeeds};
 ghost use Rattle.release_compile.specs.Inputs.{AreKeeps, AreCopies, AreLetters, AreOtherRows, HasNothing, HasLinks};
 ghost use Rattle.release_compile.specs.Inputs.{HasSwitch, HasPair, AreInnerRows};
 
-use crate::needed::{inner_nodes, met_nodes, outer_nodes};
+use crate::needed::{Sharing, inner_places, outer_nodes};
 use crate::places::{intern_in_places, places_of};
 use crate::placing::other_number;
 use crate::pool::Pool;
@@ -29,12 +29,12 @@ pub(crate) fn outer_keeps(
     alloc: Global,
     pool: &mut Pool,
     station: &Station,
-    shared: &[NodeList],
+    sharing: &Sharing,
     bay: BayId,
     others: u16,
 ) -> Result<Vec<usize>, Memory>
     requires pool { IsPool pool.old }
-    requires shared { AreShared station.now shared.now }
+    requires sharing { IsSharing station.now sharing.now }
     requires count { suc others ≡ part_count station.now }
     requires bay { bay.0 < part_count station.now }
     ensures grew { OnOk result (GrewTo pool.old pool.new) }
@@ -42,10 +42,9 @@ pub(crate) fn outer_keeps(
 {
     let _count = station.part_count();
     let mut keeps = Vec::new(alloc);
-    let met = met_nodes(alloc, station, shared)?;
     let count = others + 1;
     for place in 0..count {
-        let nodes = outer_nodes(alloc, station, shared, &met, bay, place, others)?;
+        let nodes = outer_nodes(alloc, station, sharing, bay, place, others)?;
         let id = pool.keep(nodes)?;
         keeps.push(id)?;
     }
@@ -161,8 +160,7 @@ pub(crate) fn inner_keeps(
     keeps.push(id)?;
     let count = others + 1;
     for from in 0..count {
-        let nodes = inner_nodes(alloc, station, first, moved, from, others)?;
-        let places = places_of(alloc, list, nodes.numbers())?;
+        let places = inner_places(alloc, station, list, first, moved, from, others)?;
         let id = pool.keep(places)?;
         keeps.push(id)?;
     }

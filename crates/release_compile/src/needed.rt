@@ -1,18 +1,26 @@
 //! The nodes that are kept before each layer of a graph.
-ghost use Rattle.std.specs.Prelude.{◌≡◌, ℕ, ◌+◌, ◌<◌, ◌≤◌, ◌⊎◌, ◌↔◌, List, suc, length, slice_get, Some, true, IfOk};
-ghost use Rattle.std.specs.Prelude.{IsTrue, Contains};
-ghost use Rattle.station_graph.specs.Diagram.{part_count, node_count};
+ghost use Rattle.std.specs.Prelude.{◌≡◌, ℕ, ◌+◌, ◌<◌, ◌≤◌, ◌⊎◌, ◌↔◌, List, suc, length, map, slice_get, Some, true};
+ghost use Rattle.std.specs.Prelude.{IfOk, IsTrue, Contains};
+ghost use Rattle.station_graph.specs.Diagram.{part_count};
 ghost use Rattle.station_graph.specs.Connection.{a_switch};
-ghost use Rattle.station_graph.specs.Sharing.{AtSwitch, Touches, IsShared};
+ghost use Rattle.station_graph.specs.Sharing.{AtSwitch, Touches};
 ghost use Rattle.contraction.specs.Answers.{AreNodes};
 ghost use Rattle.release_compile.specs.Graphs.{other_of, IsOwn};
-ghost use Rattle.release_compile.specs.Needing.{AreShared, AreMet, SharesFrom, IsNeededOuter, TouchesOther};
-ghost use Rattle.release_compile.specs.Needing.{IsNeededInner};
+ghost use Rattle.release_compile.specs.Needing.{AreShared, IsSharedBySome, IsSharing, SharesFrom, IsNeededOuter};
+ghost use Rattle.release_compile.specs.Needing.{TouchesOther, IsNeededInner, TouchesOwn, BayNeeds};
+ghost use Rattle.release_compile.specs.Places.{node_listed};
 
 use crate::placing::other_number;
 use ilk_base::{BayId, Memory, NodeId, SwitchId};
 use station_graph::{NodeList, Station, Switch};
 use std::alloc::Global;
+
+// Which nodes the parts of a station share: for each part a list, and the nodes that some part shares, rising.
+#[derive(Drop)]
+pub(crate) struct Sharing {
+    pub(crate) parts: Vec<NodeList>,
+    pub(crate) all: NodeList,
+}
 
 // Whether the switch touches the node.
 fn touches(switch: Switch, node: u16) -> bool
@@ -65,10 +73,12 @@ fn is_needed(station: &Station, first: u16, moved: u16, from: u16, others: u16, 
     switch_touches(station, moved, node) || other_touches(station, first, moved, from, others, node)
 }
 
-// The nodes that the moved switch or one of the bay's other switches from a place on touches, rising.
-pub(crate) fn inner_nodes(
+// The places in a list of those of its nodes that the moved switch or one of the bay's other switches from a place on
+// touches, rising.
+pub(crate) fn inner_places(
     alloc: Global,
     station: &Station,
+    list: &NodeList,
     first: u16,
     moved: u16,
     from: u16,
@@ -76,55 +86,71 @@ pub(crate) fn inner_nodes(
 ) -> Result<NodeList, Memory>
     requires moved { moved < length station.now.switches }
     requires those { first + others < length station.now.switches }
-    ensures { IfOk result (λ l. (n : ℕ) → Contains l n ↔ IsNeededInner station.now moved first others from n) }
+    requires nodes { AreNodes list.now }
+    requires has { (n : ℕ) → IsNeededInner station.now moved first others from n → Contains list.now n }
+    ensures { IfOk result (λ l. (n : ℕ) →
+        Contains (map (node_listed list.now) l) n ↔ IsNeededInner station.now moved first others from n) }
 {
-    let mut nodes = NodeList::new(alloc);
-    for node in 0..station.node_count() {
-        if is_needed(station, first, moved, from, others, node) {
-            nodes.push(NodeId(node))?;
+    let nodes = list.numbers();
+    let mut places = NodeList::new(alloc);
+    for k in 0..nodes.len() {
+        if is_needed(station, first, moved, from, others, nodes[k]) {
+            places.push(NodeId(k as u16))?;
         }
     }
-    Ok(nodes)
+    Ok(places)
 }
 
-// Whether the node is shared, or needed by one of the bay's switches.
-fn is_needed_first(
+// Whether one of the bay's switches touches the node.
+fn own_touches(station: &Station, first: u16, count: u16, node: u16) -> bool
+    requires { first + count ≤ length station.now.switches }
+    ensures { IsTrue result ↔ TouchesOwn station.now first count node }
+{
+    let _count = station.switch_count();
+    for i in 0..count {
+        if switch_touches(station, first + i, node) {
+            return true;
+        }
+    }
+    false
+}
+
+// Whether the bay shares the node, or one of its switches touches it.
+fn is_needed_own(
     station: &Station,
+    shared: &[NodeList],
     bay: BayId,
-    shared: &NodeList,
     first: u16,
-    moved: u16,
-    others: u16,
+    count: u16,
     node: u16,
 ) -> bool
-    requires moved { moved < length station.now.switches }
-    requires those { first + others < length station.now.switches }
-    requires shared { (n : ℕ) → Contains shared.now n ↔ IsShared station.now bay.0 n }
-    ensures { IsTrue result ↔ (IsShared station.now bay.0 node ⊎ IsNeededInner station.now moved first others 0 node) }
+    requires shared { AreShared station.now shared.now }
+    requires bay { bay.0 < part_count station.now }
+    requires those { first + count ≤ length station.now.switches }
+    ensures { IsTrue result ↔ BayNeeds station.now bay.0 first count node }
 {
-    shared.numbers().contains(&node) || is_needed(station, first, moved, 0, others, node)
+    shared[usize::from(bay.0)].numbers().contains(&node)
+        || own_touches(station, first, count, node)
 }
 
 // The nodes that the bay shares, and those that its switches touch, rising.
-pub(crate) fn start_nodes(
+pub(crate) fn bay_nodes(
     alloc: Global,
     station: &Station,
+    shared: &[NodeList],
     bay: BayId,
-    shared: &NodeList,
     first: u16,
-    moved: u16,
-    others: u16,
+    count: u16,
 ) -> Result<NodeList, Memory>
-    requires moved { moved < length station.now.switches }
-    requires those { first + others < length station.now.switches }
-    requires shared { (n : ℕ) → Contains shared.now n ↔ IsShared station.now bay.0 n }
-    ensures exact { IfOk result (λ l. (n : ℕ) → Contains l n ↔
-        (IsShared station.now bay.0 n ⊎ IsNeededInner station.now moved first others 0 n)) }
+    requires shared { AreShared station.now shared.now }
+    requires bay { bay.0 < part_count station.now }
+    requires those { first + count ≤ length station.now.switches }
+    ensures exact { IfOk result (λ l. (n : ℕ) → Contains l n ↔ BayNeeds station.now bay.0 first count n) }
     ensures nodes { IfOk result AreNodes }
 {
     let mut nodes = NodeList::new(alloc);
     for node in 0..station.node_count() {
-        if is_needed_first(station, bay, shared, first, moved, others, node) {
+        if is_needed_own(station, shared, bay, first, count, node) {
             nodes.push(NodeId(node))?;
         }
     }
@@ -146,36 +172,22 @@ fn other_shares(shared: &[NodeList], bay: BayId, from: u16, to: u16, node: u16) 
     false
 }
 
-// Whether the node is marked.
-fn is_met(met: &[bool], node: u16) -> bool
-    requires { node < length met.now }
-    ensures { IsTrue result ↔ (slice_get met.now node ≡ Some true) }
-{
-    met[usize::from(node)]
-}
-
 // Whether one of the first other parts shares the node, and the bay or one of the rest shares it too.
 fn is_needed_between(
     station: &Station,
     shared: &[NodeList],
-    met: &[bool],
     bay: BayId,
     place: u16,
     others: u16,
     node: u16,
 ) -> bool
     requires shared { AreShared station.now shared.now }
-    requires met { AreMet shared.now met.now (node_count station.now) }
-    requires node { node < node_count station.now }
     requires count { suc others ≡ part_count station.now }
     requires bay { bay.0 < part_count station.now }
     requires place { place ≤ others }
     ensures { IsTrue result ↔ IsNeededOuter station.now bay.0 place node }
 {
     let _count = station.part_count();
-    if !is_met(met, node) {
-        return false;
-    }
     if !other_shares(shared, bay, 0, place, node) {
         return false;
     }
@@ -188,22 +200,23 @@ fn is_needed_between(
 pub(crate) fn outer_nodes(
     alloc: Global,
     station: &Station,
-    shared: &[NodeList],
-    met: &[bool],
+    sharing: &Sharing,
     bay: BayId,
     place: u16,
     others: u16,
 ) -> Result<NodeList, Memory>
-    requires shared { AreShared station.now shared.now }
-    requires met { AreMet shared.now met.now (node_count station.now) }
+    requires sharing { IsSharing station.now sharing.now }
     requires count { suc others ≡ part_count station.now }
     requires bay { bay.0 < part_count station.now }
     requires place { place ≤ others }
     ensures { IfOk result (λ l. (n : ℕ) → Contains l n ↔ IsNeededOuter station.now bay.0 place n) }
 {
+    let _count = station.part_count();
+    let all = sharing.all.numbers();
     let mut nodes = NodeList::new(alloc);
-    for node in 0..station.node_count() {
-        if is_needed_between(station, shared, met, bay, place, others, node) {
+    for k in 0..all.len() {
+        let node = all[k];
+        if is_needed_between(station, &sharing.parts, bay, place, others, node) {
             nodes.push(NodeId(node))?;
         }
     }
@@ -211,10 +224,11 @@ pub(crate) fn outer_nodes(
 }
 
 // Whether one of the parts shares the node.
-fn some_shares(shared: &[NodeList], node: u16) -> bool
-    ensures { (part : ℕ) (nodes : List ℕ) → slice_get shared.now part ≡ Some nodes → Contains nodes node →
-        IsTrue result }
+fn some_shares(station: &Station, shared: &[NodeList], node: u16) -> bool
+    requires { AreShared station.now shared.now }
+    ensures { IsTrue result ↔ IsSharedBySome station.now node }
 {
+    let _count = station.part_count();
     for part in 0..shared.len() {
         if shared[part].numbers().contains(&node) {
             return true;
@@ -223,24 +237,22 @@ fn some_shares(shared: &[NodeList], node: u16) -> bool
     false
 }
 
-// For each node whether a part shares it.
-pub(crate) fn met_nodes(
-    alloc: Global,
-    station: &Station,
-    shared: &[NodeList],
-) -> Result<Vec<bool>, Memory>
-    ensures { IfOk result (λ v. AreMet shared.now v.items (node_count station.now)) }
+// The nodes that some part shares, rising.
+fn all_shared(alloc: Global, station: &Station, shared: &[NodeList]) -> Result<NodeList, Memory>
+    requires { AreShared station.now shared.now }
+    ensures { IfOk result (λ l. (n : ℕ) → Contains l n ↔ IsSharedBySome station.now n) }
 {
-    let mut marks = Vec::new(alloc);
+    let mut nodes = NodeList::new(alloc);
     for node in 0..station.node_count() {
-        let yes = some_shares(shared, node);
-        marks.push(yes)?;
+        if some_shares(station, shared, node) {
+            nodes.push(NodeId(node))?;
+        }
     }
-    Ok(marks)
+    Ok(nodes)
 }
 
 // The nodes that each part shares.
-pub(crate) fn all_shared(alloc: Global, station: &Station) -> Result<Vec<NodeList>, Memory>
+fn each_shared(alloc: Global, station: &Station) -> Result<Vec<NodeList>, Memory>
     ensures { IfOk result (λ v. AreShared station.now v.items) }
 {
     let mut lists = Vec::new(alloc);
@@ -249,4 +261,13 @@ pub(crate) fn all_shared(alloc: Global, station: &Station) -> Result<Vec<NodeLis
         lists.push(nodes)?;
     }
     Ok(lists)
+}
+
+// Which nodes the parts of a station share.
+pub(crate) fn sharing_of(alloc: Global, station: &Station) -> Result<Sharing, Memory>
+    ensures { IfOk result (IsSharing station.now) }
+{
+    let parts = each_shared(alloc, station)?;
+    let all = all_shared(alloc, station, &parts)?;
+    Ok(Sharing { parts, all })
 }

@@ -7,7 +7,7 @@ ghost use Rattle.release_compile.specs.Lettered.{lettered};
 ghost use Rattle.release_compile.specs.Pooling.{IsPool, GrewTo};
 ghost use Rattle.release_compile.specs.Layering.{values_at};
 ghost use Rattle.release_compile.specs.Graphs.{IsOuter};
-ghost use Rattle.release_compile.specs.Needing.{AreShared};
+ghost use Rattle.release_compile.specs.Needing.{IsSharing};
 ghost use Rattle.release_compile.specs.Inputs.{AreNames, AreLetters};
 ghost use Rattle.release_compile.specs.Plans.{IsOuterReady};
 ghost use Rattle.release_compile.specs.Noting.{letter_rows, IsRight};
@@ -16,11 +16,12 @@ ghost use Rattle.release_compile.specs.declared.layer.Trouble.TheVariants.{Wide}
 
 use crate::inputs::{nothing, other_rows, outer_keeps};
 use crate::layer::Trouble;
+use crate::needed::Sharing;
 use crate::noted::{Copied, Intake, Noted, taken};
 use crate::pool::Pool;
 use bay_contract::Parts;
 use ilk_base::{BayId, Memory};
-use station_graph::{NodeList, Station};
+use station_graph::Station;
 use std::alloc::Global;
 
 // What the layers of a bay's outer graph take in.
@@ -30,7 +31,7 @@ fn outer_intake(
     letters: &[Vec<usize>],
     station: &Station,
     parts: &Parts,
-    shared: &[NodeList],
+    sharing: &Sharing,
     bay: BayId,
     others: u16,
 ) -> Result<Intake, Memory>
@@ -38,7 +39,7 @@ fn outer_intake(
     requires lettered { AreAlphabets station.now parts.now }
     requires letters { AreLetters (lettered station.now parts.now) pool.old (map (λ v. v.items) letters.now)
         (part_count station.now) }
-    requires shared { AreShared station.now shared.now }
+    requires sharing { IsSharing station.now sharing.now }
     requires count { suc others ≡ part_count station.now }
     requires bay { bay.0 < part_count station.now }
     ensures grew { OnOk result (GrewTo pool.old pool.new) }
@@ -49,7 +50,7 @@ fn outer_intake(
 {
     let _count = station.part_count();
     let _ = parts;
-    let keeps = outer_keeps(alloc, pool, station, shared, bay, others)?;
+    let keeps = outer_keeps(alloc, pool, station, sharing, bay, others)?;
     let start = nothing(alloc, pool)?;
     let letters = other_rows(alloc, letters, u16::from(bay.0), others)?;
     Ok(Intake {
@@ -67,7 +68,7 @@ pub(crate) fn outer_graph(
     last: &mut Option<Noted>,
     station: &Station,
     parts: &Parts,
-    shared: &[NodeList],
+    sharing: &Sharing,
     bay: BayId,
     others: u16,
     left: usize,
@@ -77,7 +78,7 @@ pub(crate) fn outer_graph(
     requires letters { AreLetters (lettered station.now parts.now) pool.old (map (λ v. v.items) letters.now)
         (part_count station.now) }
     requires last { IsRight pool.old last.old }
-    requires shared { AreShared station.now shared.now }
+    requires sharing { IsSharing station.now sharing.now }
     requires count { suc others ≡ part_count station.now }
     requires bay { bay.0 < part_count station.now }
     requires left { left ≤ 8000000 }
@@ -96,7 +97,7 @@ pub(crate) fn outer_graph(
     ensures left { IfOk result (λ o. o.left ≤ left) }
 {
     let _count = station.part_count();
-    let intake = outer_intake(alloc, pool, letters, station, parts, shared, bay, others)?;
+    let intake = outer_intake(alloc, pool, letters, station, parts, sharing, bay, others)?;
     let outer = taken(alloc, pool, last, intake, left)?;
     let _labels = outer.graph.labels();
     Ok(outer)

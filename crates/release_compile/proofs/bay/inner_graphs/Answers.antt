@@ -1,8 +1,10 @@
-use Rattle.std.proofs.Common.{◌≡◌, ◌+◌, ◌-◌, ◌∙◌, List, sym, ap, subst, arith}
+use Rattle.std.proofs.Common.{◌≡◌, ◌+◌, ◌-◌, ◌∙◌, List, suc, sym, ap, subst, arith}
+use Rattle.std.specs.Prelude.{Contains, ◌↔◌}
 use Rattle.contraction.specs.Answers.{Answers}
 use Rattle.decision_graphs.specs.Label.{Layered}
 use Rattle.release_compile.specs.Lettered.{lettered}
 use Rattle.release_compile.specs.Layering.{values_at}
+use Rattle.release_compile.specs.Needing.{BayNeeds}
 use Rattle.release_compile.specs.Graphs.{IsInner}
 use Rattle.release_compile.specs.Coding.{labels_of}
 use Rattle.release_compile.specs.Built.{IsInnerAt, AreInner}
@@ -39,6 +41,12 @@ loop-i-init c = record {
 pub inner_graph-requires-clause-own : goal.inner_graph-requires-clause-own
 inner_graph-requires-clause-own c =
     own_of c.args.station.now c.args.bay.0 c.args.first c.args.count c.loop-i.i c.requires.switches c.loop-i-test.true
+
+pub inner_graph-requires-clause-list : goal.inner_graph-requires-clause-list
+inner_graph-requires-clause-list c n =
+    let e : c.args.count ≡ suc (c.args.count - 1) = omega (arith, c.loop-i-test.true) in
+    subst (λ k. Contains c.args.list.now n ↔ BayNeeds c.args.station.now c.args.bay.0 c.args.first k n) e
+    (c.requires.list n)
 
 pub inner_graph-requires-clause-names : goal.inner_graph-requires-clause-names
 inner_graph-requires-clause-names c =

@@ -16,16 +16,6 @@ use Rattle.release_compile.proofs.InputsLemmas.{letters_stay}
 use Rattle.release_compile.proofs.NotingLemmas.{right_stays, all_right_stay}
 use Rattle.release_compile.proofs.bay.view_graphs.Goals as goal
 
-pub inner_graphs-requires-clause-shared : goal.inner_graphs-requires-clause-shared
-inner_graphs-requires-clause-shared c n =
-    let b = c.args.bay.0 in
-    let row : List ℕ = c.index-shared-place.result in
-    let here : slice_get c.args.shared.now b ≡ Some row =
-    ap (slice_get c.args.shared.now) (sym c.from-place.ensures)
-    ∙ slice_get_read c.args.shared.now _ c.from-place.result row refl
-    (omega (arith, c.from-place.ensures, c.requires.bay, c.requires.shared.count)) c.index-shared-place.is in
-    c.requires.shared.each b row here n
-
 pub inner_graphs-requires-clause-notes : goal.inner_graphs-requires-clause-notes
 inner_graphs-requires-clause-notes c =
     let p0 : Pool = c.args.stock.now.pool in

@@ -22,7 +22,7 @@ loop-part-init c =
     }
 
 pub part_graphs-requires-clause-bays : goal.part_graphs-requires-clause-bays
-part_graphs-requires-clause-bays c = rw c.deref.ensures.value c.loop-part.invariant.told
+part_graphs-requires-clause-bays c = rw c.deref-in-loop-part.ensures.value c.loop-part.invariant.told
 
 pub loop-part-preserved : goal.loop-part-preserved
 loop-part-preserved c =

@@ -20,6 +20,7 @@ use Rattle.release_compile.specs.Noting.{letter_rows}
 use Rattle.release_compile.proofs.LayeringLemmas.{grew_more, grows}
 use Rattle.release_compile.proofs.MappedPools.{at_mapped, values_on}
 use Rattle.release_compile.proofs.NotingLemmas.{all_right_stay}
+use Rattle.release_compile.proofs.NodesLemmas.{bay_inner}
 use Rattle.release_compile.proofs.PlacesLemmas.{places_rise, place_inside, needed_later, inner_for}
 use Rattle.release_compile.proofs.CodeLemmas.{labels_some}
 use Rattle.release_compile.proofs.ChoiceLemmas.{choices_on}
@@ -30,7 +31,9 @@ use Rattle.release_compile.proofs.ErrorLemmas.{passed_on}
 use Rattle.release_compile.proofs.inner.inner_graph.Goals as goal
 
 pub inner_intake-requires-clause-list : goal.inner_intake-requires-clause-list
-inner_intake-requires-clause-list c n = c.in_ok-list.ensures.exact n
+inner_intake-requires-clause-list c n =
+    let needs = bay_inner c.args.station.now c.args.bay.0 c.args.moved c.args.first c.args.others c.requires.own n in
+    (λ h. needs.0 ((c.requires.list n).0 h), λ h. (c.requires.list n).1 (needs.1 h))
 
 pub taken_again-requires-clause-notes : goal.taken_again-requires-clause-notes
 taken_again-requires-clause-notes c =
@@ -46,9 +49,9 @@ taken_again-requires-clause-linked c =
     let m = c.args.moved in
     let first = c.args.first in
     let others = c.args.others in
-    let list : List ℕ = c.in_ok-list.list in
+    let list : List ℕ = c.args.list.now in
     let f : ℕ → ℕ = node_listed list in
-    let order = places_rise list c.in_ok-list.ensures.nodes in
+    let order = places_rise list c.requires.nodes in
     let p0 : Pool = c.args.pool.now in
     let p : Pool = c.inner_intake.new.pool in
     let i : Intake = c.in_ok-intake.intake in
@@ -81,9 +84,9 @@ codes-requires-clause-places c k place x at kept =
     let m = c.args.moved in
     let first = c.args.first in
     let others = c.args.others in
-    let list : List ℕ = c.in_ok-list.list in
+    let list : List ℕ = c.args.list.now in
     let f : ℕ → ℕ = node_listed list in
-    let order = places_rise list c.in_ok-list.ensures.nodes in
+    let order = places_rise list c.requires.nodes in
     let p0 : Pool = c.args.pool.now in
     let p : Pool = c.inner_intake.new.pool in
     let i : Intake = c.in_ok-intake.intake in
@@ -102,8 +105,9 @@ codes-requires-clause-places c k place x at kept =
     ap (λ xs. slice_get xs k) (values_on f q.values.items ids)
     ∙ at_mapped (mapped f) (values_at q.values.items ids) k x at_x in
     let need = (exact.kept k (mapped f x) on (f place)).0 (keeps_map f x.kept place kept) in
-    place_inside list c.in_ok-list.ensures.nodes place
-    ((c.in_ok-list.ensures.exact (f place)).1 (inr (needed_later d m first others others (f place) need)))
+    place_inside list c.requires.nodes place
+    ((c.requires.list (f place)).1 ((bay_inner d b m first others c.requires.own (f place)).1
+    (inr (needed_later d m first others others (f place) need))))
 
 pub codes-requires-clause-ends : goal.codes-requires-clause-ends
 codes-requires-clause-ends c k x at =
@@ -114,9 +118,9 @@ codes-requires-clause-ends c k x at =
     let m = c.args.moved in
     let first = c.args.first in
     let others = c.args.others in
-    let list : List ℕ = c.in_ok-list.list in
+    let list : List ℕ = c.args.list.now in
     let f : ℕ → ℕ = node_listed list in
-    let order = places_rise list c.in_ok-list.ensures.nodes in
+    let order = places_rise list c.requires.nodes in
     let p0 : Pool = c.args.pool.now in
     let p : Pool = c.inner_intake.new.pool in
     let i : Intake = c.in_ok-intake.intake in
@@ -136,7 +140,7 @@ codes-requires-clause-ends c k x at =
 pub rename-requires-clause-count : goal.rename-requires-clause-count
 rename-requires-clause-count c =
     let t = c.in_ok-whole.ensures.taken in
-    let values : List Answers = map (mapped (node_listed c.in_ok-list.list)) c.taken_again.new.pool.values.items in
+    let values : List Answers = map (mapped (node_listed c.args.list.now)) c.taken_again.new.pool.values.items in
     let labels : c.in_ok-whole.whole.graph.labels ≡ length c.in_ok-whole.whole.names.items =
     ap (λ (h : Layered). h.labels) t.graph ∙ (t.right.labels ∙ ap length (sym t.names)) in
     ap length c.deref.ensures.value
@@ -147,7 +151,7 @@ rename-requires-clause-count c =
 pub rename-requires-clause-within : goal.rename-requires-clause-within
 rename-requires-clause-within c =
     let t = c.in_ok-whole.ensures.taken in
-    let values : List Answers = map (mapped (node_listed c.in_ok-list.list)) c.taken_again.new.pool.values.items in
+    let values : List Answers = map (mapped (node_listed c.args.list.now)) c.taken_again.new.pool.values.items in
     let labels : c.in_ok-whole.whole.graph.labels ≡ length c.in_ok-whole.whole.names.items =
     ap (λ (h : Layered). h.labels) t.graph ∙ (t.right.labels ∙ ap length (sym t.names)) in
     let count : length c.in_ok-labels.labels.items ≡ c.in_ok-whole.whole.graph.labels =
@@ -173,9 +177,9 @@ returns-clause-inner c letters =
     let m = c.args.moved in
     let first = c.args.first in
     let others = c.args.others in
-    let list : List ℕ = c.in_ok-list.list in
+    let list : List ℕ = c.args.list.now in
     let f : ℕ → ℕ = node_listed list in
-    let order = places_rise list c.in_ok-list.ensures.nodes in
+    let order = places_rise list c.requires.nodes in
     let p0 : Pool = c.args.pool.now in
     let p : Pool = c.inner_intake.new.pool in
     let i : Intake = c.in_ok-intake.intake in
@@ -240,9 +244,9 @@ returns-clause-small c =
     let m = c.args.moved in
     let first = c.args.first in
     let others = c.args.others in
-    let list : List ℕ = c.in_ok-list.list in
+    let list : List ℕ = c.args.list.now in
     let f : ℕ → ℕ = node_listed list in
-    let order = places_rise list c.in_ok-list.ensures.nodes in
+    let order = places_rise list c.requires.nodes in
     let p0 : Pool = c.args.pool.now in
     let p : Pool = c.inner_intake.new.pool in
     let i : Intake = c.in_ok-intake.intake in
@@ -274,9 +278,9 @@ returns-clause-spent c =
     let m = c.args.moved in
     let first = c.args.first in
     let others = c.args.others in
-    let list : List ℕ = c.in_ok-list.list in
+    let list : List ℕ = c.args.list.now in
     let f : ℕ → ℕ = node_listed list in
-    let order = places_rise list c.in_ok-list.ensures.nodes in
+    let order = places_rise list c.requires.nodes in
     let p0 : Pool = c.args.pool.now in
     let p : Pool = c.inner_intake.new.pool in
     let i : Intake = c.in_ok-intake.intake in
@@ -303,9 +307,9 @@ returns-clause-left c =
     let m = c.args.moved in
     let first = c.args.first in
     let others = c.args.others in
-    let list : List ℕ = c.in_ok-list.list in
+    let list : List ℕ = c.args.list.now in
     let f : ℕ → ℕ = node_listed list in
-    let order = places_rise list c.in_ok-list.ensures.nodes in
+    let order = places_rise list c.requires.nodes in
     let p0 : Pool = c.args.pool.now in
     let p : Pool = c.inner_intake.new.pool in
     let i : Intake = c.in_ok-intake.intake in
@@ -333,9 +337,9 @@ returns-in_err-whole-clause-wide c =
     let m = c.args.moved in
     let first = c.args.first in
     let others = c.args.others in
-    let list : List ℕ = c.in_ok-list.list in
+    let list : List ℕ = c.args.list.now in
     let f : ℕ → ℕ = node_listed list in
-    let order = places_rise list c.in_ok-list.ensures.nodes in
+    let order = places_rise list c.requires.nodes in
     let p0 : Pool = c.args.pool.now in
     let p : Pool = c.inner_intake.new.pool in
     let i : Intake = c.in_ok-intake.intake in

@@ -19,16 +19,10 @@ pub places_of-requires-clause-has : goal.places_of-requires-clause-has
 places_of-requires-clause-has c n kept =
     has_from_keeps c.args.list.now n (subst (λ xs. Keeps xs n) c.numbers-all.ensures kept)
 
-pub places_of-requires-in-loop-from-clause-few : goal.places_of-requires-in-loop-from-clause-few
-places_of-requires-in-loop-from-clause-few c = few_nodes c.args.list.now c.requires.nodes
-
-pub places_of-requires-in-loop-from-clause-has : goal.places_of-requires-in-loop-from-clause-has
-places_of-requires-in-loop-from-clause-has c n kept =
-    let d = c.args.station.now in
-    let here : Contains c.in_ok-nodes.nodes n =
-    has_from_keeps c.in_ok-nodes.nodes n (subst (λ xs. Keeps xs n) c.numbers.ensures kept) in
+pub inner_places-requires-clause-has : goal.inner_places-requires-clause-has
+inner_places-requires-clause-has c n need =
     (c.requires.start n).1
-    (inr (needed_later d c.args.moved c.args.first c.args.others c.loop-from.from n ((c.in_ok-nodes.ensures n).0 here)))
+    (inr (needed_later c.args.station.now c.args.moved c.args.first c.args.others c.loop-from.from n need))
 
 pub loop-from-init : goal.loop-from-init
 loop-from-init c =
@@ -64,8 +58,8 @@ loop-from-preserved c =
       nodes = map f c.in_ok-places-2.places;
       listed = at_mapped (map f) q.keeps.items c.in_ok-id-2.id c.in_ok-places-2.places c.in_ok-id-2.ensures.kept;
       exact =
-          λ m. subst (λ xs. Contains xs m ↔ N (n + 1) m) (sym (c.in_ok-places-2.ensures ∙ c.numbers.ensures))
-          (subst (λ k. Contains c.in_ok-nodes.nodes m ↔ N k m) (sym (add-one n)) (c.in_ok-nodes.ensures m));
+          λ m. subst (λ k. Contains (map f c.in_ok-places-2.places) m ↔ N k m) (sym (add-one n))
+          (c.in_ok-places-2.ensures m);
     } in
     record {
       grew = grew_more c.args.pool.now p q c.loop-from.invariant.grew g;

@@ -1,11 +1,6 @@
-use Rattle.std.proofs.Common.{◌≡◌, ◌↔◌, ℕ, List, length, slice_get, Some}
-use Rattle.std.specs.Prelude.{Contains}
-use Rattle.station_graph.specs.Sharing.{IsShared}
+use Rattle.release_compile.specs.Needing.{IsSharedBySome}
+use Rattle.release_compile.proofs.NodesLemmas.{NodesBelow}
 use Rattle.release_compile.proofs.needed.all_shared.Given as goal
 
-abbrev pub invariant-loop-part : goal.invariant-loop-part
-invariant-loop-part l = record {
-  count : length l.lists.items ≡ l.part;
-  each : (p : ℕ) (nodes : List ℕ) → slice_get l.lists.items p ≡ Some nodes → (n : ℕ) → Contains nodes n ↔
-      IsShared l.station p n;
-}
+abbrev pub invariant-loop-node : goal.invariant-loop-node
+invariant-loop-node l = NodesBelow (IsSharedBySome l.station) l.node l.nodes

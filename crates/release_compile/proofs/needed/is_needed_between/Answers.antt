@@ -18,17 +18,6 @@ returns-then-not-other_shares c = (
       absurd (cc (is, c.if-not-other_shares.true)),
 )
 
-pub returns-then-not-is_met : goal.returns-then-not-is_met
-returns-then-not-is_met c = (
-  λ h. absurd (false≢true h),
-  λ need.
-      let first = first_shares c.args.station.now c.args.shared.now c.args.bay.0 c.args.others c.args.place c.args.node
-      c.part_count-count.ensures.station c.requires.shared c.requires.count c.requires.bay need in
-      let is = c.is_met.ensures.1 (c.requires.met.marked (other_of 0 c.args.bay.0 first.place) c.args.node first.nodes
-      first.listed first.has c.requires.node) in
-      absurd (cc (is, c.if-not-is_met.true)),
-)
-
 pub returns-then-contains : goal.returns-then-contains
 returns-then-contains c =
     let d = c.args.station.now in

@@ -1,6 +1,7 @@
+use Rattle.std.proofs.Common.{take}
 use Rattle.release_compile.specs.Needing.{IsNeededOuter}
-use Rattle.release_compile.proofs.NodesLemmas.{NodesBelow}
+use Rattle.release_compile.proofs.NodesLemmas.{NodesAmong}
 use Rattle.release_compile.proofs.needed.outer_nodes.Given as goal
 
-abbrev pub invariant-loop-node : goal.invariant-loop-node
-invariant-loop-node l = NodesBelow (IsNeededOuter l.station l.bay.0 l.place) l.node l.nodes
+abbrev pub invariant-loop-k : goal.invariant-loop-k
+invariant-loop-k l = NodesAmong (IsNeededOuter l.station l.bay.0 l.place) (take l.k l.sharing.all) l.nodes
