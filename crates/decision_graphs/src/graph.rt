@@ -177,6 +177,7 @@ impl Graph {
         marks.mark(self, sets);
     }
 
+    // Marks the nodes that are reached, and behind them the labels.
     pub(crate) fn mark(&self, sets: &[Vec<bool>], seen: &mut [bool])
         requires sets { AreSetsOf self.now.layers (map (λ v. v.items) sets.now) }
         requires places { length seen.old ≡ node_total self.now + self.now.labels }
@@ -207,8 +208,8 @@ impl Graph {
 
     /// The graph in which nodes of equal edges are one: each list of choices leads to the label it led to,
     /// no two nodes of one layer have equal edges, and no layer has more nodes than before. Nodes that no
-    /// list of choices reaches stay. Linear
-    /// in edges but for hashing; takes about 16 bytes for each edge and 100 for each node while it runs.
+    /// list of choices reaches stay. Linear in edges but for hashing; takes about 16 bytes for each edge and
+    /// 100 for each node while it runs.
     pub fn reduce(&self, alloc: Global) -> Result<Graph, Memory>
         ensures labels { IfOk result (λ g. g.labels ≡ self.now.labels) }
         ensures choices { IfOk result (λ g. map (λ (l : Layer). l.choices) g.layers ≡ map (λ (l : Layer). l.choices)

@@ -1,7 +1,7 @@
 //! Graphs from tables: for each layer how many choices and nodes it has, and the edges of all nodes
 //! in order, each as a number within the next layer, or a label.
-ghost use Rattle.std.specs.Prelude.{◌≡◌, ℕ, suc, ◌+◌, ◌^◌, ◌<◌, ◌≤◌, ◌++◌, ◌∷◌, [], List, length, slice_index, IsTrue, IfOk};
-ghost use Rattle.std.specs.Prelude.{OnOk, if◌then◌else◌, ◌==◌};
+ghost use Rattle.std.specs.Prelude.{◌≡◌, ℕ, suc, ◌+◌, ◌^◌, ◌<◌, ◌≤◌, ◌++◌, ◌∷◌, [], List, length, slice_index, IsTrue};
+ghost use Rattle.std.specs.Prelude.{IfOk, OnOk, if◌then◌else◌, ◌==◌};
 ghost use Rattle.decision_graphs.specs.Drafting.{node_count, MayHaveEdge, IsShaped, IsBare, EachHasNode, choices_of};
 ghost use Rattle.decision_graphs.specs.Drafting.{sizes_of};
 ghost use Rattle.decision_graphs.specs.declared.limits.TheConstants.{GRAPH_NODES};
