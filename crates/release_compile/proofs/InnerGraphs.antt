@@ -1,6 +1,6 @@
 -- The inner graphs: what their layers take in is linked, and their labels say what holds of the switch.
 use Rattle.std.proofs.Common.{◌≡◌, ◌≢◌, ℕ, ◌-◌, ◌<◌, ◌≤◌, ◌⊎◌, ◌↔◌, zero, suc, Bool, true, false, List, [], ◌∷◌, ◌++◌}
-use Rattle.std.proofs.Common.{length, map, get_or, slice_get, Some, refl, sym, ap, ◌∙◌, subst, inl, inr, arith}
+use Rattle.std.proofs.Common.{length, map, get_or, slice_get, Some, Vec, Global, refl, sym, ap, ◌∙◌, subst, inl, inr, arith}
 use Rattle.std.specs.Prelude.{Contains}
 use Rattle.std.proofs.lemmas.Bool.{cases_eq}
 use Rattle.std.proofs.lemmas.Option.{slice_get_within, slice_get-get_or, slice_get_cases, same_Some}
@@ -26,7 +26,8 @@ use Rattle.release_compile.specs.Graphs.{other_of, OfOthers, SwitchChosen, IsOwn
 use Rattle.release_compile.specs.Listing.{own_links, parts_before}
 use Rattle.release_compile.specs.Needing.{IsNeededInner, InnerNeeds}
 use Rattle.release_compile.specs.Coding.{AreCodes, KeepsEnds}
-use Rattle.release_compile.specs.Inputs.{HasPair, HasSwitch, AreKeeps, AreNames, AreInnerRows, HasLinks}
+use Rattle.release_compile.specs.Inputs.{HasPair, HasSwitch, AreKeeps, AreInnerRows, AreOtherRows, IsBayIntake}
+use Rattle.release_compile.specs.declared.own.BayIntake.{BayIntake}
 use Rattle.release_compile.specs.Plans.{Plan, inner_plan, ChosenBy, items_of, NeededBy, AreLinked, IsInnerReady}
 use Rattle.release_compile.specs.Plans.{layers_of}
 use Rattle.release_compile.proofs.VerdictLemmas.{own_place}
@@ -34,8 +35,9 @@ use Rattle.release_compile.proofs.InnerFits.{number_of}
 use Rattle.release_compile.proofs.InnerEdges.{before_items}
 use Rattle.release_compile.proofs.OuterFits.{seen_over, others_all, needed_at}
 use Rattle.release_compile.proofs.PlacingLemmas.{switch_not}
-use Rattle.release_compile.proofs.LayeringLemmas.{Grows, grows_more}
-use Rattle.release_compile.proofs.InputsLemmas.{base_listed, listed_base, keeps_stay, names_stay, links_stay}
+use Rattle.release_compile.proofs.LayeringLemmas.{Grows}
+use Rattle.release_compile.proofs.InputsLemmas.{base_listed, listed_base, bay_intake_stays, inner_rows_of}
+use Rattle.release_compile.proofs.NodesLemmas.{bay_inner}
 use Rattle.release_compile.proofs.ChoiceLemmas.{choices_each, row_choices, same_choices, same_count}
 
 -- ---- what the layers take in
@@ -285,30 +287,31 @@ ends_kept d m first others x kept s at = record {
   second = λ n has. (kept n.0).1 (inl (s, at, inr (n, has, refl)));
 }
 
--- what the layers of an inner graph take in, from what the calls give
-pub inner_ready : (a : Lettered) (b m first others : ℕ) (p0 p1 p2 p3 : Pool) (nodes : List ℕ) (start : ℕ)
-    (names : List ℕ) (rows : List (List ℕ)) (keeps : List ℕ) → IsStation a.diagram → b < part_count a.diagram →
-    IsOwn a.diagram b m first others → Grows p0 p1 → Grows p1 p2 → Grows p2 p3 → AreNames p0 a.diagram b names →
-    ((n : ℕ) → Contains nodes n ↔ InnerNeeds a.diagram b m first others 0 n) →
-    HasLinks p1 a.diagram b (Contains nodes) start →
-    AreKeeps (InnerNeeds a.diagram b m first others) p2 keeps (suc (suc others)) →
-    AreInnerRows a.diagram m first p3 names rows others → IsInnerReady a b m first others p3 start names rows keeps
-inner_ready a b m first others p0 p1 p2 p3 nodes start names rows keeps station b_in own g1 g2 g3 named exact begins
-    kept are = record {
+-- what the layers of an inner graph take in, from what those of all the bay's switches take in
+pub inner_ready : (a : Lettered) (b m first others : ℕ) (p q : Pool) (i : BayIntake) (rows : List (List ℕ))
+    (keeps : List ℕ) → IsStation a.diagram → b < part_count a.diagram → IsOwn a.diagram b m first others → Grows p q →
+    IsBayIntake p a.diagram b first (suc others) i →
+    AreKeeps (InnerNeeds a.diagram b m first others) q keeps (suc (suc others)) →
+    AreOtherRows (m - first) (map (λ v. v.items) i.pairs.items) rows others →
+    IsInnerReady a b m first others q i.start i.names.items (i.names.items ∷ rows) keeps
+inner_ready a b m first others p q i rows keeps station b_in own g intake kept others_are =
+    let h = bay_intake_stays p q g a.diagram b first (suc others) i intake in
+    let needs = bay_inner a.diagram b m first others own in
+    record {
       station = station;
       bay_in = b_in;
       own = own;
-      named = names_stay p0 p3 (grows_more p0 p2 p3 (grows_more p0 p1 p2 g1 g2) g3) a.diagram b names named;
-      rows = are;
-      needed = keeps_stay p2 p3 g3 (InnerNeeds a.diagram b m first others) keeps (suc (suc others)) kept;
-      begins =
-          let here : HasLinks p1 a.diagram b (InnerNeeds a.diagram b m first others 0) start = record {
-            value = begins.value;
-            listed = begins.listed;
-            kept = λ n. (λ h. (exact n).0 ((begins.kept n).0 h), λ h. (begins.kept n).1 ((exact n).1 h));
-            stands = begins.stands;
-          } in
-          links_stay p1 p3 (grows_more p1 p2 p3 g2 g3) a.diagram b (InnerNeeds a.diagram b m first others 0) start here;
+      named = h.named;
+      rows =
+          inner_rows_of a.diagram m first q i.names.items (map (λ (v : Vec ℕ Global). v.items) i.pairs.items) rows
+          others own.from h.pairs others_are;
+      needed = kept;
+      begins = record {
+        value = h.links.value;
+        listed = h.links.listed;
+        kept = λ n. (λ k. (needs n).0 ((h.links.kept n).0 k), λ k. (h.links.kept n).1 ((needs n).1 k));
+        stands = h.links.stands;
+      };
     }
 
 pub inner_choices : (d : Diagram) (m first others : ℕ) (p : Pool) (names : List ℕ) (rows : List (List ℕ))

@@ -1,6 +1,6 @@
 -- What the layers take in stays so where a pool grows, and comes one by one.
-use Rattle.std.proofs.Common.{◌≡◌, ℕ, ◌+◌, ◌<◌, ◌↔◌, zero, suc, Bool, true, false, eqb, List, [], ◌∷◌, ◌++◌, length}
-use Rattle.std.proofs.Common.{slice_get, Some, refl, sym, ap, ◌∙◌, subst, inl, inr, arith}
+use Rattle.std.proofs.Common.{◌≡◌, ℕ, ◌+◌, ◌-◌, ◌<◌, ◌≤◌, ◌↔◌, zero, suc, Bool, true, false, eqb, List, [], ◌∷◌, ◌++◌}
+use Rattle.std.proofs.Common.{length, map, slice_get, Some, Vec, Global, refl, sym, ap, ◌∙◌, subst, inl, inr, arith}
 use Rattle.std.specs.Prelude.{Contains}
 use borrow.Author.Tests.{eqb-true}
 use Rattle.std.proofs.lemmas.Bool.{eq-eqb}
@@ -26,9 +26,13 @@ use Rattle.release_compile.specs.Folding.{AreViews}
 use Rattle.release_compile.specs.Graphs.{other_of, OfOthers}
 use Rattle.release_compile.specs.Listing.{own_links, listed}
 use Rattle.release_compile.specs.Inputs.{HasNodes, AreKeeps, HasCopyAt, AreCopies, AreLetters, AreOtherRows, AreRows}
-use Rattle.release_compile.specs.Inputs.{HasNothing, HasLinks, HasSwitch, HasPair, AreInnerRows, AreNames}
+use Rattle.release_compile.specs.Inputs.{HasNothing, HasLinks, HasSwitch, HasPair, ArePairs, AreInnerRows, AreNames}
+use Rattle.release_compile.specs.Inputs.{IsBayIntake}
+use Rattle.release_compile.specs.Needing.{BayNeeds}
+use Rattle.release_compile.specs.declared.own.BayIntake.{BayIntake}
 use Rattle.release_compile.proofs.LayerLemmas.{get_front, get_last}
 use Rattle.release_compile.proofs.OuterLemmas.{among_from, among_to}
+use Rattle.release_compile.proofs.VerdictLemmas.{other_cases}
 use Rattle.release_compile.proofs.OuterFits.{seen_over, seen_of, seen_same, kept_of_same}
 use Rattle.release_compile.proofs.LayeringLemmas.{Grows, value_in}
 use Rattle.release_compile.proofs.PlanLemmas.{values_more}
@@ -112,12 +116,11 @@ module _ (p q : Pool) (g : Grows p q) where
     on_has = switch_stays d i true h.on h.on_has;
   }
 
-  pub inner_rows_stay : (d : Diagram) (m first : ℕ) (names : List ℕ) (rows : List (List ℕ)) (n : ℕ) →
-      AreInnerRows d m first p names rows n → AreInnerRows d m first q names rows n
-  inner_rows_stay d m first names rows n h = record {
+  pub pairs_stay : (d : Diagram) (first : ℕ) (pairs : List (List ℕ)) (n : ℕ) → ArePairs p d first pairs n →
+      ArePairs q d first pairs n
+  pairs_stay d first pairs n h = record {
     len = h.len;
-    first_row = h.first_row;
-    pairs = λ i ids at. pair_stays d (other_of first m i) ids (h.pairs i ids at);
+    each = λ i ids at. pair_stays d (first + i) ids (h.each i ids at);
   }
 
   pub names_stay : (d : Diagram) (b : ℕ) (names : List ℕ) → AreNames p d b names → AreNames q d b names
@@ -130,6 +133,15 @@ module _ (p q : Pool) (g : Grows p q) where
     views = subst (λ w. AreViews w (OfOthers d b) d (values_at q.values.items names)) (sym g.view)
         (subst (λ xs. AreViews p.view (OfOthers d b) d xs)
         (sym (values_more p.values.items q.values.items names g.values h.within)) h.views);
+  }
+
+  pub bay_intake_stays : (d : Diagram) (b first count : ℕ) (i : BayIntake) → IsBayIntake p d b first count i →
+      IsBayIntake q d b first count i
+  bay_intake_stays d b first count i h = record {
+    links = links_stay d b (BayNeeds d b first count) i.start h.links;
+    keep = nodes_stay (BayNeeds d b first count) i.keep h.keep;
+    named = names_stay d b i.names.items h.named;
+    pairs = pairs_stay d first (map (λ (v : Vec ℕ Global). v.items) i.pairs.items) count h.pairs;
   }
 
 -- ---- one by one
@@ -257,31 +269,48 @@ rows_of_letters a b p all rows m n letters others = record {
   each = λ j ids at. letters.each (other_of 0 b j) ids (others.each j ids at);
 }
 
-pub inner_rows_first : (d : Diagram) (m first : ℕ) (p : Pool) (names : List ℕ) →
-    AreInnerRows d m first p names (names ∷ []) 0
-inner_rows_first d m first p names = record {
-  len = refl;
-  first_row = refl;
-  pairs = λ i ids at. absurd (no_row i ids at);
-}
+pub pairs_none : (p : Pool) (d : Diagram) (first : ℕ) → ArePairs p d first [] 0
+pairs_none p d first = record { len = refl; each = λ i ids at. absurd (no_row i ids at) }
   where
-    no_row : (i : ℕ) (ids : List ℕ) → slice_get (names ∷ []) (suc i) ≡ Some ids → ⊥
+    no_row : (j : ℕ) (ids : List ℕ) → slice_get {X = List ℕ} [] j ≡ Some ids → ⊥
     no_row zero ids at = cc
-    no_row (suc i) ids at = cc
+    no_row (suc j) ids at = cc
 
-pub inner_rows_more : (d : Diagram) (m first : ℕ) (p q : Pool) (names : List ℕ) (rows : List (List ℕ)) (n : ℕ)
-    (row : List ℕ) → Grows p q → AreInnerRows d m first p names rows n → HasPair q d (other_of first m n) row →
-    AreInnerRows d m first q names (rows ++ row ∷ []) (n + 1)
-inner_rows_more d m first p q names rows n row g h new = record {
-  len = omega (arith, length_push rows row, h.len);
-  first_row = get_front rows (row ∷ []) 0 names h.first_row;
-  pairs = λ i ids at. elim (slice_get-push rows row ids (suc i) at) [
-    | inl before ↦ pair_stays p q g d (other_of first m i) ids (h.pairs i ids before)
+pub pairs_more : (p q : Pool) (d : Diagram) (first : ℕ) (pairs : List (List ℕ)) (n : ℕ) (row : List ℕ) → Grows p q →
+    ArePairs p d first pairs n → HasPair q d (first + n) row → ArePairs q d first (pairs ++ row ∷ []) (n + 1)
+pairs_more p q d first pairs n row g h new = record {
+  len = omega (arith, length_push pairs row, h.len);
+  each = λ i ids at. elim (slice_get-push pairs row ids i at) [
+    | inl before ↦ pair_stays p q g d (first + i) ids (h.each i ids before)
     | inr here ↦
-        (let e : n ≡ i = omega (arith, here.0, h.len) in
-        subst (λ r. HasPair q d (other_of first m i) r) here.1
-        (subst (λ k. HasPair q d (other_of first m k) row) e new))
+        (let e : n ≡ i = sym (here.0 ∙ h.len) in
+        subst (λ r. HasPair q d (first + i) r) here.1 (subst (λ k. HasPair q d (first + k) row) e new))
   ];
+}
+
+-- the numbers that are not this one, counted from the first
+other_from : (first m i : ℕ) → first ≤ m → first + other_of 0 (m - first) i ≡ other_of first m i
+other_from first m i from = elim (other_cases 0 (m - first) i) [
+  | inl x ↦ elim (other_cases first m i) [
+    | inl y ↦ omega (arith, x.1, y.1)
+    | inr y ↦ absurd (omega (arith, x.0, y.0, from))
+  ]
+  | inr x ↦ elim (other_cases first m i) [
+    | inl y ↦ absurd (omega (arith, x.0, y.0, from))
+    | inr y ↦ omega (arith, x.1, y.1)
+  ]
+]
+
+-- the names, and the pairs of the switches that are not moved
+pub inner_rows_of : (d : Diagram) (m first : ℕ) (p : Pool) (names : List ℕ) (pairs rows : List (List ℕ)) (n : ℕ) →
+    first ≤ m → ArePairs p d first pairs (suc n) → AreOtherRows (m - first) pairs rows n →
+    AreInnerRows d m first p names (names ∷ rows) n
+inner_rows_of d m first p names pairs rows n from are others = record {
+  len = ap suc others.len;
+  first_row = refl;
+  pairs = λ i ids at.
+      subst (λ k. HasPair p d k ids) (other_from first m i from)
+      (are.each (other_of 0 (m - first) i) ids (others.each i ids at));
 }
 
 -- ---- what is interned

@@ -25,6 +25,7 @@ use Rattle.release_compile.specs.Layering.{values_at, no_answers}
 use Rattle.release_compile.specs.Folding.{StandsIn}
 use Rattle.release_compile.specs.Graphs.{other_of, OfOthers, IsInner}
 use Rattle.release_compile.specs.Listing.{parts_before}
+use Rattle.release_compile.specs.Built.{AreInner}
 use Rattle.release_compile.specs.Needing.{IsNeededOuter, IsNeededInner}
 use Rattle.release_compile.specs.Inputs.{AreCopies, HasCopyAt, AreNames}
 use Rattle.release_compile.proofs.BridgeLemmas.{at_number, number_at}
@@ -295,6 +296,24 @@ module _ (a : Lettered) (b : ℕ) (station : IsStation a.diagram) (b_in : b < pa
     outer = omega (arith, h.outer, length-map ids (λ i. get_or q.values.items i no_answers), copies.len);
     choices = h.choices;
     says = λ v name ds whole s count own. h.says v name ds whole (copies_stand v name s) count own;
+  }
+
+  -- and so are the graphs of a bay's switches
+  pub inner_all_for : (first count : ℕ) (graphs : List Layered) (n : ℕ) →
+      AreInner q.view a b first count (values_at q.values.items ids) graphs n →
+      AreInner q.view a b first count values graphs n
+  inner_all_for first count graphs n h = record {
+    len = h.len;
+    each = λ i g at.
+        let x = h.each i g at in
+        record {
+          others = x.others;
+          one_more = x.one_more;
+          graph = inner_for (first + i) first x.others g x.graph;
+          labels = x.labels;
+          reduced = x.reduced;
+          small = x.small;
+        };
   }
 
 -- ---- the nodes of an inner graph's layers

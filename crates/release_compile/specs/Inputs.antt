@@ -1,11 +1,12 @@
 -- What the layers of a graph take in, by the numbers of a pool.
-use Rattle.std.specs.Prelude.{◌≡◌, ℕ, suc, ◌<◌, ◌↔◌, ◌-◌, Bool, true, false, List, [], ◌∷◌, length, slice_get, Some}
-use Rattle.std.specs.Prelude.{Contains}
+use Rattle.std.specs.Prelude.{◌≡◌, ℕ, suc, ◌+◌, ◌-◌, ◌<◌, ◌↔◌, Bool, true, false, List, [], ◌∷◌, length, map, slice_get}
+use Rattle.std.specs.Prelude.{Some, Contains}
 use Rattle.station_graph.specs.Diagram.{Diagram, part_count}
 use Rattle.station_graph.specs.Connection.{a_switch}
 use Rattle.station_graph.specs.Sharing.{Touches}
 use Rattle.contraction.specs.Answers.{Answers, Keeps}
 use Rattle.contraction.specs.Stands.{Among}
+use Rattle.release_compile.specs.declared.own.BayIntake.{BayIntake}
 use Rattle.release_compile.specs.declared.pool.Pool.{Pool}
 use Rattle.release_compile.specs.Lettered.{Lettered, letters_in}
 use Rattle.release_compile.specs.Seen.{SeenFor}
@@ -14,7 +15,7 @@ use Rattle.release_compile.specs.Layering.{values_at}
 use Rattle.release_compile.specs.Folding.{AreViews}
 use Rattle.release_compile.specs.Graphs.{other_of, OfOthers}
 use Rattle.release_compile.specs.Listing.{own_links}
-use Rattle.release_compile.specs.Needing.{IsNeededOuter}
+use Rattle.release_compile.specs.Needing.{IsNeededOuter, BayNeeds}
 
 -- The list of this number has exactly the nodes of the kind.
 pub record HasNodes (Kind : ℕ → Type 0) (p : Pool) (k : ℕ) : Type 0 where
@@ -83,6 +84,11 @@ pub record HasPair (p : Pool) (d : Diagram) (switch : ℕ) (ids : List ℕ) : Ty
   pub off_has : HasSwitch p d switch false off
   pub on_has : HasSwitch p d switch true on
 
+-- They are the pairs of so many switches from the first on.
+pub record ArePairs (p : Pool) (d : Diagram) (first : ℕ) (pairs : List (List ℕ)) (n : ℕ) : Type 0 where
+  pub len : length pairs ≡ n
+  pub each : (i : ℕ) (ids : List ℕ) → slice_get pairs i ≡ Some ids → HasPair p d (first + i) ids
+
 -- The first row has the names of the outer graph's labels, and the next n rows the values of the bay's other switches.
 pub record AreInnerRows (d : Diagram) (m first : ℕ) (p : Pool) (names : List ℕ) (rows : List (List ℕ))
     (n : ℕ) : Type 0 where
@@ -98,3 +104,10 @@ pub record AreNames (p : Pool) (d : Diagram) (b : ℕ) (names : List ℕ) : Type
   pub kept : (t : ℕ) (x : Answers) → slice_get (values_at p.values.items names) t ≡ Some x → (n : ℕ) → Keeps x.kept n ↔
       IsNeededOuter d b (part_count d - 1) n
   pub views : AreViews p.view (OfOthers d b) d (values_at p.values.items names)
+
+-- What the inner graphs of the bay take in whichever switch is moved.
+pub record IsBayIntake (p : Pool) (d : Diagram) (b first count : ℕ) (i : BayIntake) : Type 0 where
+  pub links : HasLinks p d b (BayNeeds d b first count) i.start
+  pub keep : HasNodes (BayNeeds d b first count) p i.keep
+  pub named : AreNames p d b i.names.items
+  pub pairs : ArePairs p d first (map (λ v. v.items) i.pairs.items) count

@@ -48,14 +48,6 @@ pub record IsNoted (p : Pool) (n : Noted) : Type 0 where
   pub reduced : AreReduced n.graph.layers
   pub sizes : (j : ℕ) → length (layer_at n.graph.layers j).rows ≤ length (layer_at layers j).rows
 
--- By places of the list, what is taken in is that of the inner graph of a switch, and the names are copies of these.
-pub record IsInPlaces (a : Lettered) (b m first others : ℕ) (list : List ℕ) (old p : Pool) (names : List ℕ)
-    (i : Intake) : Type 0 where
-  pub labels : List ℕ
-  pub ready : IsInnerReady a b m first others (pool_on (node_listed list) p) i.start labels (letter_rows i)
-      i.keeps.items
-  pub copies : AreCopies (pool_on (node_listed list) p) (values_at old.values.items names) labels
-
 -- What is noted, if there is a note, is so, and its labels are few.
 abbrev pub IsRight : Pool → Option Noted → Type 0
 IsRight p None = Unit {0}

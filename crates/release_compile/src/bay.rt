@@ -1,14 +1,17 @@
 //! The graphs of the bays.
-ghost use Rattle.std.specs.Prelude.{◌≡◌, ◌+◌, ◌<◌, ◌≤◌, ◌↔◌, ℕ, suc, length, IfOk, IfErr, OnOk, Contains};
+ghost use Rattle.std.specs.Prelude.{◌≡◌, ◌+◌, ◌<◌, ◌≤◌, ◌↔◌, ℕ, suc, length, map, IfOk, IfErr, OnOk};
+ghost use Rattle.std.specs.Prelude.{Contains};
 ghost use Rattle.station_graph.specs.Diagram.{part_count, AreSwitchesOf};
 ghost use Rattle.contraction.specs.Answers.{AreNodes};
+ghost use Rattle.contraction.specs.Renaming.{mapped};
 ghost use Rattle.bay_contract.specs.PartAlphabets.{Alphabets};
 ghost use Rattle.bay_contract.specs.Alphabets.{AreAlphabets};
 ghost use Rattle.release_compile.specs.Lettered.{lettered};
 ghost use Rattle.release_compile.specs.Pooling.{IsPool, GrewTo};
 ghost use Rattle.release_compile.specs.Layering.{values_at};
 ghost use Rattle.release_compile.specs.Needing.{IsSharing, BayNeeds};
-ghost use Rattle.release_compile.specs.Inputs.{AreNames};
+ghost use Rattle.release_compile.specs.Inputs.{AreNames, IsBayIntake};
+ghost use Rattle.release_compile.specs.Places.{node_listed, pool_on};
 ghost use Rattle.release_compile.specs.Built.{AreInner, AreViewGraphs, AreBayGraphs};
 ghost use Rattle.release_compile.specs.Counted.{SwitchesHave, ViewHas, BayHas, Spends, Passes};
 ghost use Rattle.release_compile.specs.Stocking.{IsStock};
@@ -23,6 +26,7 @@ use crate::layer::Trouble;
 use crate::needed::{Sharing, bay_nodes};
 use crate::noted::Noted;
 use crate::outer::outer_graph;
+use crate::own::{BayIntake, bay_intake};
 use crate::partners::told_like;
 use crate::pool::Pool;
 use crate::stock::Stock;
@@ -71,14 +75,62 @@ pub(crate) struct Bay {
     pub(crate) left: usize,
 }
 
+// The inner graphs of one view, from what they take in together.
+fn own_graphs(
+    alloc: Global,
+    pool: &mut Pool,
+    notes: &mut Vec<Noted>,
+    station: &Station,
+    bay: BayId,
+    list: &NodeList,
+    own: &BayIntake,
+    first: u16,
+    count: u16,
+    left: usize,
+) -> Result<Inners, Trouble>
+    requires pool { IsPool pool.old }
+    requires notes { AreRight pool.old notes.old.items }
+    requires bay { bay.0 < part_count station.now }
+    requires switches { AreSwitchesOf station.now bay.0 first count }
+    requires nodes { AreNodes list.now }
+    requires list { (n : ℕ) → Contains list.now n ↔ BayNeeds station.now bay.0 first count n }
+    requires intake { IsBayIntake (pool_on (node_listed list.now) pool.old) station.now bay.0 first count own.now }
+    requires few { length own.now.names.items ≤ 8000001 }
+    requires left { left ≤ 8000000 }
+    ensures grew { OnOk result (GrewTo pool.old pool.new) }
+    ensures notes { OnOk result (AreRight pool.new notes.new.items) }
+    ensures inner { IfOk result (λ r. (a : Alphabets) → AreInner pool.old.view (lettered station.now a) bay.0 first count
+        (values_at (map (mapped (node_listed list.now)) pool.old.values.items) own.now.names.items) r.graphs.items
+        count) }
+    ensures wide { IfErr result (λ e. e ≡ Wide →
+        Passes (SwitchesHave pool.old.view station.now bay.0 first count count) station.now left) }
+    ensures spent { IfOk result (λ r. Spends (SwitchesHave pool.old.view station.now bay.0 first count count)
+        station.now left r.left) }
+    ensures left { IfOk result (λ r. r.left ≤ left) }
+{
+    let _count = station.switch_count();
+    let mut graphs = Vec::new(alloc);
+    let mut rest = left;
+    for i in 0..count {
+        let others = count - 1;
+        let moved = first + i;
+        let made = inner_graph(
+            alloc, pool, notes, station, bay, list, own, first, moved, others, rest,
+        )?;
+        rest = made.left;
+        graphs.push(made.graph)?;
+    }
+    Ok(Inners { graphs, left: rest })
+}
+
 // The inner graphs of one view.
 fn inner_graphs(
     alloc: Global,
     pool: &mut Pool,
     notes: &mut Vec<Noted>,
     station: &Station,
-    list: &NodeList,
     bay: BayId,
+    list: &NodeList,
     first: u16,
     count: u16,
     names: &[usize],
@@ -105,18 +157,11 @@ fn inner_graphs(
     ensures left { IfOk result (λ r. r.left ≤ left) }
 {
     let _count = station.switch_count();
-    let mut graphs = Vec::new(alloc);
-    let mut rest = left;
-    for i in 0..count {
-        let others = count - 1;
-        let moved = first + i;
-        let made = inner_graph(
-            alloc, pool, notes, station, list, bay, first, moved, others, names, rest,
-        )?;
-        rest = made.left;
-        graphs.push(made.graph)?;
-    }
-    Ok(Inners { graphs, left: rest })
+    let own = bay_intake(alloc, pool, station, bay, list, first, count, names)?;
+    let inners = own_graphs(
+        alloc, pool, notes, station, bay, list, &own, first, count, left,
+    )?;
+    Ok(inners)
 }
 
 // The graphs of one view of a bay, of which the stock is.
@@ -167,8 +212,8 @@ fn view_graphs(
         &mut stock.pool,
         &mut stock.inner,
         station,
-        list,
         bay,
+        list,
         first,
         count,
         &outer.names,

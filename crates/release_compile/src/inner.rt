@@ -1,7 +1,8 @@
 //! The inner graphs of the switches of a bay.
-ghost use Rattle.std.specs.Prelude.{◌≡◌, ◌<◌, ◌≤◌, ℕ, suc, length, IfOk, IfErr, OnOk, Contains, ◌↔◌};
+ghost use Rattle.std.specs.Prelude.{◌≡◌, ◌<◌, ◌≤◌, ℕ, suc, length, map, IfOk, IfErr, OnOk, Contains, ◌↔◌};
 ghost use Rattle.station_graph.specs.Diagram.{part_count};
 ghost use Rattle.contraction.specs.Answers.{AreNodes};
+ghost use Rattle.contraction.specs.Renaming.{mapped};
 ghost use Rattle.bay_contract.specs.PartAlphabets.{Alphabets};
 ghost use Rattle.decision_graphs.specs.Label.{AreReduced};
 ghost use Rattle.release_compile.specs.Lettered.{lettered};
@@ -9,17 +10,19 @@ ghost use Rattle.release_compile.specs.Pooling.{IsPool, GrewTo};
 ghost use Rattle.release_compile.specs.Layering.{values_at};
 ghost use Rattle.release_compile.specs.Graphs.{IsOwn, IsInner};
 ghost use Rattle.release_compile.specs.Coding.{labels_of};
-ghost use Rattle.release_compile.specs.Inputs.{AreNames};
-ghost use Rattle.release_compile.specs.Needing.{InnerNeeds, BayNeeds};
-ghost use Rattle.release_compile.specs.Noting.{AreRight, IsInPlaces};
+ghost use Rattle.release_compile.specs.Inputs.{IsBayIntake};
+ghost use Rattle.release_compile.specs.Needing.{BayNeeds};
+ghost use Rattle.release_compile.specs.Noting.{letter_rows, AreRight};
+ghost use Rattle.release_compile.specs.Places.{node_listed, pool_on};
+ghost use Rattle.release_compile.specs.Plans.{IsInnerReady};
 ghost use Rattle.release_compile.specs.Counted.{InnerHas, Spends, Passes, InnerIsSmall};
 ghost use Rattle.release_compile.specs.declared.layer.Trouble.TheVariants.{Wide};
 
 use crate::codes::{codes, label_count};
-use crate::inputs::{inner_keeps, inner_rows, links};
+use crate::inputs::{inner_keeps, inner_letters};
 use crate::layer::Trouble;
 use crate::noted::{Intake, Noted, taken_again};
-use crate::places::names_in_places;
+use crate::own::BayIntake;
 use crate::pool::Pool;
 use decision_graphs::Graph;
 use ilk_base::{BayId, Memory, SwitchId};
@@ -40,28 +43,29 @@ fn inner_intake(
     station: &Station,
     bay: BayId,
     list: &NodeList,
+    own: &BayIntake,
     first: u16,
     moved: u16,
     others: u16,
-    names: &[usize],
 ) -> Result<Intake, Memory>
     requires pool { IsPool pool.old }
     requires bay { bay.0 < part_count station.now }
     requires own { IsOwn station.now bay.0 moved first others }
     requires nodes { AreNodes list.now }
-    requires list { (n : ℕ) → Contains list.now n ↔ InnerNeeds station.now bay.0 moved first others 0 n }
-    requires names { AreNames pool.old station.now bay.0 names.now }
+    requires list { (n : ℕ) → Contains list.now n ↔ BayNeeds station.now bay.0 first (suc others) n }
+    requires intake { IsBayIntake (pool_on (node_listed list.now) pool.old) station.now bay.0 first (suc others)
+        own.now }
     ensures grew { OnOk result (GrewTo pool.old pool.new) }
-    ensures ready { IfOk result (λ i. (a : Alphabets) →
-        IsInPlaces (lettered station.now a) bay.0 moved first others list.now pool.old pool.new names.now i) }
+    ensures ready { IfOk result (λ i. (a : Alphabets) → IsInnerReady (lettered station.now a) bay.0 moved first others
+        (pool_on (node_listed list.now) pool.new) i.start own.now.names.items (letter_rows i) i.keeps.items) }
 {
     let _count = station.switch_count();
-    let labels = names_in_places(alloc, pool, list, names)?;
-    let start = links(alloc, pool, station, bay, list)?;
-    let keeps = inner_keeps(alloc, pool, station, bay, list, first, moved, others)?;
-    let letters = inner_rows(alloc, pool, station, list, labels, first, moved, others)?;
+    let keeps = inner_keeps(
+        alloc, pool, station, bay, list, own.keep, first, moved, others,
+    )?;
+    let letters = inner_letters(alloc, own, moved - first, others)?;
     Ok(Intake {
-        start,
+        start: own.start,
         letters,
         keeps,
     })
@@ -73,12 +77,12 @@ pub(crate) fn inner_graph(
     pool: &mut Pool,
     notes: &mut Vec<Noted>,
     station: &Station,
-    list: &NodeList,
     bay: BayId,
+    list: &NodeList,
+    own: &BayIntake,
     first: u16,
     moved: u16,
     others: u16,
-    names: &[usize],
     left: usize,
 ) -> Result<Inner, Trouble>
     requires pool { IsPool pool.old }
@@ -87,8 +91,9 @@ pub(crate) fn inner_graph(
     requires own { IsOwn station.now bay.0 moved first others }
     requires nodes { AreNodes list.now }
     requires list { (n : ℕ) → Contains list.now n ↔ BayNeeds station.now bay.0 first (suc others) n }
-    requires names { AreNames pool.old station.now bay.0 names.now }
-    requires few { length names.now ≤ 8000001 }
+    requires intake { IsBayIntake (pool_on (node_listed list.now) pool.old) station.now bay.0 first (suc others)
+        own.now }
+    requires few { length own.now.names.items ≤ 8000001 }
     requires left { left ≤ 8000000 }
     ensures grew { OnOk result (GrewTo pool.old pool.new) }
     ensures notes { OnOk result (AreRight pool.new notes.new.items) }
@@ -99,14 +104,14 @@ pub(crate) fn inner_graph(
     ensures small { IfOk result (λ r. InnerIsSmall pool.old.view station.now bay.0 moved first others r.graph) }
     ensures inner { IfOk result (λ r. (a : Alphabets) →
         IsInner pool.old.view (lettered station.now a) bay.0 moved first others
-        (values_at pool.old.values.items names.now) r.graph) }
+        (values_at (map (mapped (node_listed list.now)) pool.old.values.items) own.now.names.items) r.graph) }
     ensures labels { IfOk result (λ r. r.graph.labels ≡ labels_of pool.old.view) }
     ensures reduced { IfOk result (λ r. AreReduced r.graph.layers) }
     ensures left { IfOk result (λ r. r.left ≤ left) }
 {
     let _count = station.switch_count();
-    let intake = inner_intake(alloc, pool, station, bay, list, first, moved, others, names)?;
-    let whole = taken_again(alloc, pool, notes, intake, left + names.len())?;
+    let intake = inner_intake(alloc, pool, station, bay, list, own, first, moved, others)?;
+    let whole = taken_again(alloc, pool, notes, intake, left + own.names.len())?;
     let states = whole.names.as_slice();
     let labels = codes(alloc, pool, station, SwitchId(moved), list, states)?;
     let named = whole.graph.rename(alloc, label_count(pool.view), &labels)?;

@@ -1,26 +1,24 @@
 //! What the layers of a graph take in: values and lists of nodes, by their numbers in a pool.
-ghost use Rattle.std.specs.Prelude.{◌≡◌, ℕ, suc, ◌+◌, ◌<◌, ◌≤◌, ◌↔◌, length, map, slice_get, Some, OnOk, IfOk};
-ghost use Rattle.std.specs.Prelude.{Contains, true, false};
+ghost use Rattle.std.specs.Prelude.{◌≡◌, ℕ, suc, ◌+◌, ◌<◌, ◌≤◌, ◌↔◌, ◌∷◌, List, length, map, slice_get, Some, OnOk};
+ghost use Rattle.std.specs.Prelude.{IfOk, Contains};
 ghost use Rattle.station_graph.specs.Diagram.{part_count};
-ghost use Rattle.station_graph.specs.Connection.{a_switch};
-ghost use Rattle.station_graph.specs.Sharing.{Touches};
 ghost use Rattle.contraction.specs.Answers.{Answers, Keeps, AreNodes};
 ghost use Rattle.bay_contract.specs.Alphabets.{AreAlphabets};
 ghost use Rattle.release_compile.specs.Lettered.{lettered};
 ghost use Rattle.release_compile.specs.Pooling.{IsPool, GrewTo};
 ghost use Rattle.release_compile.specs.Places.{node_listed, pool_on};
-ghost use Rattle.release_compile.specs.Graphs.{other_of};
-ghost use Rattle.release_compile.specs.Needing.{AreShared, IsSharing, IsNeededOuter, InnerNeeds};
-ghost use Rattle.release_compile.specs.Inputs.{AreKeeps, AreCopies, AreLetters, AreOtherRows, HasNothing, HasLinks};
-ghost use Rattle.release_compile.specs.Inputs.{HasSwitch, HasPair, AreInnerRows};
+ghost use Rattle.release_compile.specs.Graphs.{IsOwn};
+ghost use Rattle.release_compile.specs.Needing.{AreShared, IsSharing, IsNeededOuter, BayNeeds};
+ghost use Rattle.release_compile.specs.Needing.{InnerNeeds};
+ghost use Rattle.release_compile.specs.Inputs.{HasNodes, AreKeeps, AreCopies, AreLetters, AreOtherRows, HasNothing};
 
 use crate::needed::{Sharing, inner_places, outer_nodes};
-use crate::places::{intern_in_places, places_of};
+use crate::own::BayIntake;
 use crate::placing::other_number;
 use crate::pool::Pool;
-use bay_contract::{Parts, base};
+use bay_contract::Parts;
 use contraction::Contraction;
-use ilk_base::{BayId, Memory, SwitchId};
+use ilk_base::{BayId, Memory};
 use station_graph::{NodeList, Station};
 use std::alloc::Global;
 
@@ -132,32 +130,33 @@ pub(crate) fn nothing(alloc: Global, pool: &mut Pool) -> Result<usize, Memory>
     Ok(id)
 }
 
-// The numbers of the lists of nodes that are kept before each layer of an inner graph, by places in the first of them.
+// The numbers of the lists of nodes that are kept before each layer of an inner graph, by places in the first of them,
+// of which this is the number.
 pub(crate) fn inner_keeps(
     alloc: Global,
     pool: &mut Pool,
     station: &Station,
     bay: BayId,
     list: &NodeList,
+    keep: usize,
     first: u16,
     moved: u16,
     others: u16,
 ) -> Result<Vec<usize>, Memory>
     requires pool { IsPool pool.old }
-    requires moved { moved < length station.now.switches }
-    requires those { first + others < length station.now.switches }
+    requires own { IsOwn station.now bay.0 moved first others }
     requires nodes { AreNodes list.now }
-    requires start { (n : ℕ) → Contains list.now n ↔ InnerNeeds station.now bay.0 moved first others 0 n }
+    requires list { (n : ℕ) → Contains list.now n ↔ BayNeeds station.now bay.0 first (suc others) n }
+    requires keep { HasNodes (BayNeeds station.now bay.0 first (suc others)) (pool_on (node_listed list.now) pool.old)
+        keep }
     ensures grew { OnOk result (GrewTo pool.old pool.new) }
     ensures keeps { IfOk result (λ v. AreKeeps (InnerNeeds station.now bay.0 moved first others)
         (pool_on (node_listed list.now) pool.new) v.items (suc (suc others))) }
 {
     let _count = station.switch_count();
+    let _ = bay;
     let mut keeps = Vec::new(alloc);
-    let all = list.numbers();
-    let places = places_of(alloc, list, all)?;
-    let id = pool.keep(places)?;
-    keeps.push(id)?;
+    keeps.push(keep)?;
     let count = others + 1;
     for from in 0..count {
         let places = inner_places(alloc, station, list, first, moved, from, others)?;
@@ -167,96 +166,19 @@ pub(crate) fn inner_keeps(
     Ok(keeps)
 }
 
-// The number of the value of the bay's links and taps, on these nodes by their places.
-pub(crate) fn links(
+// The letters of the layers of an inner graph: the names, and of each other switch of the bay the values, open and closed.
+pub(crate) fn inner_letters(
     alloc: Global,
-    pool: &mut Pool,
-    station: &Station,
-    bay: BayId,
-    list: &NodeList,
-) -> Result<usize, Memory>
-    requires pool { IsPool pool.old }
-    requires nodes { AreNodes list.now }
-    ensures grew { OnOk result (GrewTo pool.old pool.new) }
-    ensures links { IfOk result
-        (HasLinks (pool_on (node_listed list.now) pool.new) station.now bay.0 (Contains list.now)) }
-{
-    let value = base(alloc, station, bay, list)?;
-    let id = intern_in_places(alloc, pool, list, &value)?;
-    Ok(id)
-}
-
-// The number of the value of a switch in a position, by places of a list that has its ends.
-fn switch_id(
-    alloc: Global,
-    pool: &mut Pool,
-    station: &Station,
-    list: &NodeList,
-    id: SwitchId,
-    closed: bool,
-) -> Result<usize, Memory>
-    requires pool { IsPool pool.old }
-    requires nodes { AreNodes list.now }
-    requires switch { id.0 < length station.now.switches }
-    requires has { (n : ℕ) → Touches station.now (a_switch id.0) n → Contains list.now n }
-    ensures grew { OnOk result (GrewTo pool.old pool.new) }
-    ensures has { IfOk result (HasSwitch (pool_on (node_listed list.now) pool.new) station.now id.0 closed) }
-{
-    let value = Contraction::of_switch(alloc, station, id, closed)?;
-    let place = intern_in_places(alloc, pool, list, &value)?;
-    Ok(place)
-}
-
-// The numbers of the values of a switch, open and closed, by places of a list that has its ends.
-fn switch_pair(
-    alloc: Global,
-    pool: &mut Pool,
-    station: &Station,
-    list: &NodeList,
-    id: SwitchId,
-) -> Result<Vec<usize>, Memory>
-    requires pool { IsPool pool.old }
-    requires nodes { AreNodes list.now }
-    requires switch { id.0 < length station.now.switches }
-    requires has { (n : ℕ) → Touches station.now (a_switch id.0) n → Contains list.now n }
-    ensures grew { OnOk result (GrewTo pool.old pool.new) }
-    ensures pair { IfOk result (λ v. HasPair (pool_on (node_listed list.now) pool.new) station.now id.0 v.items) }
-{
-    let off = switch_id(alloc, pool, station, list, id, false)?;
-    let on = switch_id(alloc, pool, station, list, id, true)?;
-    let mut ids = Vec::new(alloc);
-    ids.push(off)?;
-    ids.push(on)?;
-    Ok(ids)
-}
-
-// The names, and the numbers of the values of the bay's other switches by places of a list that has their ends.
-pub(crate) fn inner_rows(
-    alloc: Global,
-    pool: &mut Pool,
-    station: &Station,
-    list: &NodeList,
-    names: Vec<usize>,
-    first: u16,
-    moved: u16,
+    own: &BayIntake,
+    place: u16,
     others: u16,
 ) -> Result<Vec<Vec<usize>>, Memory>
-    requires pool { IsPool pool.old }
-    requires nodes { AreNodes list.now }
-    requires those { first + others < length station.now.switches }
-    requires has { (i n : ℕ) → i < others → Touches station.now (a_switch (other_of first moved i)) n →
-        Contains list.now n }
-    ensures grew { OnOk result (GrewTo pool.old pool.new) }
-    ensures rows { IfOk result (λ v. AreInnerRows station.now moved first (pool_on (node_listed list.now) pool.new)
-        names.items (map (λ r. r.items) v.items) others) }
+    requires { others < length own.now.pairs.items }
+    ensures { IfOk result (λ v. (rows : List (List ℕ)) × (map (λ r. r.items) v.items ≡ own.now.names.items ∷ rows)
+        × AreOtherRows place (map (λ r. r.items) own.now.pairs.items) rows others) }
 {
-    let _count = station.switch_count();
-    let mut rows = Vec::new(alloc);
-    rows.push(names)?;
-    for i in 0..others {
-        let id = SwitchId(other_number(first, moved, i));
-        let pair = switch_pair(alloc, pool, station, list, id)?;
-        rows.push(pair)?;
-    }
+    let names = Vec::from_slice(alloc, &own.names)?;
+    let mut rows = other_rows(alloc, &own.pairs, place, others)?;
+    rows.insert(0, names)?;
     Ok(rows)
 }

@@ -19,6 +19,7 @@ mod limits;
 mod needed;
 mod noted;
 mod outer;
+mod own;
 mod partners;
 mod places;
 mod placing;

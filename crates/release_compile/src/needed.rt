@@ -129,8 +129,7 @@ fn is_needed_own(
     requires those { first + count ≤ length station.now.switches }
     ensures { IsTrue result ↔ BayNeeds station.now bay.0 first count node }
 {
-    shared[usize::from(bay.0)].numbers().contains(&node)
-        || own_touches(station, first, count, node)
+    shared[usize::from(bay.0)].numbers().contains(&node) || own_touches(station, first, count, node)
 }
 
 // The nodes that the bay shares, and those that its switches touch, rising.

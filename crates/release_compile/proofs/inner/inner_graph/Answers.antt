@@ -17,11 +17,12 @@ use Rattle.release_compile.specs.Coding.{AreCodes}
 use Rattle.release_compile.specs.Counted.{InnerHas, Spends, Passes, InnerIsSmall}
 use Rattle.release_compile.specs.Plans.{PlanPasses}
 use Rattle.release_compile.specs.Noting.{letter_rows}
+use Rattle.release_compile.proofs.PlanLemmas.{values_more}
 use Rattle.release_compile.proofs.LayeringLemmas.{grew_more, grows}
-use Rattle.release_compile.proofs.MappedPools.{at_mapped, values_on}
+use Rattle.release_compile.proofs.MappedPools.{at_mapped, values_on, grows_on}
 use Rattle.release_compile.proofs.NotingLemmas.{all_right_stay}
 use Rattle.release_compile.proofs.NodesLemmas.{bay_inner}
-use Rattle.release_compile.proofs.PlacesLemmas.{places_rise, place_inside, needed_later, inner_for}
+use Rattle.release_compile.proofs.PlacesLemmas.{places_rise, place_inside, needed_later}
 use Rattle.release_compile.proofs.CodeLemmas.{labels_some}
 use Rattle.release_compile.proofs.ChoiceLemmas.{choices_on}
 use Rattle.release_compile.proofs.InnerGraphs.{inner_says, inner_small, ends_kept}
@@ -29,11 +30,6 @@ use Rattle.release_compile.proofs.InnerTaken.{plan_on, fits_on, taken_linked, ta
 use Rattle.release_compile.proofs.InnerTaken.{taken_first, taken_two, taken_choices}
 use Rattle.release_compile.proofs.ErrorLemmas.{passed_on}
 use Rattle.release_compile.proofs.inner.inner_graph.Goals as goal
-
-pub inner_intake-requires-clause-list : goal.inner_intake-requires-clause-list
-inner_intake-requires-clause-list c n =
-    let needs = bay_inner c.args.station.now c.args.bay.0 c.args.moved c.args.first c.args.others c.requires.own n in
-    (λ h. needs.0 ((c.requires.list n).0 h), λ h. (c.requires.list n).1 (needs.1 h))
 
 pub taken_again-requires-clause-notes : goal.taken_again-requires-clause-notes
 taken_again-requires-clause-notes c =
@@ -55,16 +51,18 @@ taken_again-requires-clause-linked c =
     let p0 : Pool = c.args.pool.now in
     let p : Pool = c.inner_intake.new.pool in
     let i : Intake = c.in_ok-intake.intake in
-    let r = c.in_ok-intake.ensures.ready none in
-    taken_linked a b m first others f order p i r.labels r.ready
+    let names : List ℕ = c.args.own.now.names.items in
+    let ready = c.in_ok-intake.ensures.ready none in
+    taken_linked a b m first others f order p i names ready
 
 pub taken_again-requires-clause-few : goal.taken_again-requires-clause-few
 taken_again-requires-clause-few c =
     let none : Alphabets = record { switches = 0; parts = [] } in
-    let r = c.in_ok-intake.ensures.ready none in
+    let names : List ℕ = c.args.own.now.names.items in
+    let ready = c.in_ok-intake.ensures.ready none in
     omega (
       arith,
-      r.ready.rows.len,
+      ready.rows.len,
       c.requires.own.those.within,
       c.switch_count-count.ensures.station.items.switches_few,
     )
@@ -90,15 +88,16 @@ codes-requires-clause-places c k place x at kept =
     let p0 : Pool = c.args.pool.now in
     let p : Pool = c.inner_intake.new.pool in
     let i : Intake = c.in_ok-intake.intake in
-    let r = c.in_ok-intake.ensures.ready none in
+    let names : List ℕ = c.args.own.now.names.items in
+    let ready = c.in_ok-intake.ensures.ready none in
     let q : Pool = c.taken_again.new.pool in
     let o : Copied = c.in_ok-whole.whole in
     let g = grows p q c.in_ok-whole.ensures.grew in
     let t = c.in_ok-whole.ensures.taken in
-    let budget : ℕ = c.args.left + length c.args.names.now in
+    let budget : ℕ = c.args.left + c.len.result in
     let ids : List ℕ = o.names.items in
     let here : c.as_slice-states.result.now ≡ ids = c.as_slice-states.ensures.value in
-    let exact = taken_exact a b m first others f order p i r.labels r.ready q budget o g t in
+    let exact = taken_exact a b m first others f order p i names ready q budget o g t in
     let at_x : slice_get (values_at q.values.items ids) k ≡ Some x =
     ap (λ (xs : List ℕ). slice_get (values_at q.values.items xs) k) (sym here) ∙ at in
     let on : slice_get (values_at (map (mapped f) q.values.items) ids) k ≡ Some (mapped f x) =
@@ -124,15 +123,16 @@ codes-requires-clause-ends c k x at =
     let p0 : Pool = c.args.pool.now in
     let p : Pool = c.inner_intake.new.pool in
     let i : Intake = c.in_ok-intake.intake in
-    let r = c.in_ok-intake.ensures.ready none in
+    let names : List ℕ = c.args.own.now.names.items in
+    let ready = c.in_ok-intake.ensures.ready none in
     let q : Pool = c.taken_again.new.pool in
     let o : Copied = c.in_ok-whole.whole in
     let g = grows p q c.in_ok-whole.ensures.grew in
     let t = c.in_ok-whole.ensures.taken in
-    let budget : ℕ = c.args.left + length c.args.names.now in
+    let budget : ℕ = c.args.left + c.len.result in
     let ids : List ℕ = o.names.items in
     let here : c.as_slice-states.result.now ≡ ids = c.as_slice-states.ensures.value in
-    let exact = taken_exact a b m first others f order p i r.labels r.ready q budget o g t in
+    let exact = taken_exact a b m first others f order p i names ready q budget o g t in
     let at_x : slice_get (values_at (map (mapped f) q.values.items) ids) k ≡ Some x =
     ap (λ (xs : List ℕ). slice_get (values_at (map (mapped f) q.values.items) xs) k) (sym here) ∙ at in
     ends_kept d m first others x (λ n. exact.kept k x at_x n)
@@ -183,15 +183,16 @@ returns-clause-inner c letters =
     let p0 : Pool = c.args.pool.now in
     let p : Pool = c.inner_intake.new.pool in
     let i : Intake = c.in_ok-intake.intake in
-    let r = c.in_ok-intake.ensures.ready letters in
+    let names : List ℕ = c.args.own.now.names.items in
+    let ready = c.in_ok-intake.ensures.ready letters in
     let q : Pool = c.taken_again.new.pool in
     let o : Copied = c.in_ok-whole.whole in
     let g = grows p q c.in_ok-whole.ensures.grew in
     let t = c.in_ok-whole.ensures.taken in
-    let budget : ℕ = c.args.left + length c.args.names.now in
+    let budget : ℕ = c.args.left + c.len.result in
     let ids : List ℕ = o.names.items in
     let here : c.as_slice-states.result.now ≡ ids = c.as_slice-states.ensures.value in
-    let exact = taken_exact a b m first others f order p i r.labels r.ready q budget o g t in
+    let exact = taken_exact a b m first others f order p i names ready q budget o g t in
     let values : List Answers = map (mapped f) q.values.items in
     let states : List Answers = values_at values ids in
     let codes : List ℕ = c.in_ok-labels.labels.items in
@@ -203,14 +204,17 @@ returns-clause-inner c letters =
     subst (λ v. AreCodes v d m states codes) g.view
     (subst (λ (xs : List ℕ). AreCodes q.view d m (values_at values xs) codes) here c.in_ok-labels.ensures) in
     let renamed = rw c.deref.ensures.value at c.in_ok-named.ensures.label in
-    let same_layers = taken_choices a b m first others f order p i r.labels r.ready q budget o g t in
-    let labels : List Answers = values_at (map (mapped f) p.values.items) r.labels in
+    let same_layers = taken_choices a b m first others f order p i names ready q budget o g t in
+    let labels : List Answers = values_at (map (mapped f) p.values.items) names in
+    let before : List Answers = map (mapped f) p0.values.items in
+    let same = values_more before (map (mapped f) p.values.items) names
+    (grows_on f p0 p (grows p0 p c.in_ok-intake.ensures.grew)).values c.requires.intake.named.within in
     let made : IsInner p.view a b m first others labels h =
     inner_says p.view a b m first others labels c.switch_count-count.ensures.station c.requires.own c.requires.bay laid
     h states codes exact are
-    (taken_first a b m first others f order p i r.labels r.ready q budget o g t
-    ∙ sym (length-map r.labels (λ k. get_or (map (mapped f) p.values.items) k no_answers)))
-    (taken_two a b m first others f order p i r.labels r.ready q budget o g t)
+    (taken_first a b m first others f order p i names ready q budget o g t
+    ∙ sym (length-map names (λ k. get_or (map (mapped f) p.values.items) k no_answers)))
+    (taken_two a b m first others f order p i names ready q budget o g t)
     (c.in_ok-graph.ensures.choices ∙ (c.in_ok-named.ensures.choices ∙ same_layers))
     (λ cs ok.
     let ok_w = choices_on t.right.layers w.layers cs same_layers ok in
@@ -219,11 +223,8 @@ returns-clause-inner c letters =
     ∙ (renamed (some_layer w.layers t.right.layers others same_layers exact.count) cs ok_w
     ∙ ap (λ k. get_or codes k 0) (ap (λ (x : Layered). label_of x cs) t.graph ∙ t.right.label cs ok)))
     c.labels-labels.ensures.layered in
-    let copied : IsInner p.view a b m first others (values_at p0.values.items c.args.names.now) h =
-    inner_for a b c.switch_count-count.ensures.station c.requires.bay (pool_on f p)
-    (values_at p0.values.items c.args.names.now) r.labels r.copies m first others h made in
-    subst (λ v. IsInner v a b m first others (values_at p0.values.items c.args.names.now) h)
-    c.in_ok-intake.ensures.grew.view copied
+    subst (λ v. IsInner v a b m first others (values_at before names) h) c.in_ok-intake.ensures.grew.view
+    (subst (λ xs. IsInner p.view a b m first others xs h) same made)
   where
     some_layer : (ls ms : List Layer) (j : ℕ) → map (λ (l : Layer). l.choices) ls ≡ map (λ (l : Layer). l.choices) ms →
         length ms ≡ suc j → 0 < length ls
@@ -250,18 +251,19 @@ returns-clause-small c =
     let p0 : Pool = c.args.pool.now in
     let p : Pool = c.inner_intake.new.pool in
     let i : Intake = c.in_ok-intake.intake in
-    let r = c.in_ok-intake.ensures.ready none in
+    let names : List ℕ = c.args.own.now.names.items in
+    let ready = c.in_ok-intake.ensures.ready none in
     let q : Pool = c.taken_again.new.pool in
     let o : Copied = c.in_ok-whole.whole in
     let g = grows p q c.in_ok-whole.ensures.grew in
     let t = c.in_ok-whole.ensures.taken in
-    let budget : ℕ = c.args.left + length c.args.names.now in
+    let budget : ℕ = c.args.left + c.len.result in
     let ids : List ℕ = o.names.items in
     let here : c.as_slice-states.result.now ≡ ids = c.as_slice-states.ensures.value in
-    let exact = taken_exact a b m first others f order p i r.labels r.ready q budget o g t in
+    let exact = taken_exact a b m first others f order p i names ready q budget o g t in
     let laid : Layered = record { labels = 0; layers = t.right.layers } in
     subst (λ v. InnerIsSmall v d b m first others c.in_ok-graph.graph) c.in_ok-intake.ensures.grew.view
-    (inner_small p.view a b m first others (values_at (map (mapped f) p.values.items) r.labels) t.right.layers
+    (inner_small p.view a b m first others (values_at (map (mapped f) p.values.items) names) t.right.layers
     (values_at (map (mapped f) q.values.items) ids) laid laid c.in_ok-graph.graph exact refl (λ j. refl)
     (λ j.
     let small : length (layer_at o.graph.layers j).rows ≤ length (layer_at t.right.layers j).rows =
@@ -284,19 +286,18 @@ returns-clause-spent c =
     let p0 : Pool = c.args.pool.now in
     let p : Pool = c.inner_intake.new.pool in
     let i : Intake = c.in_ok-intake.intake in
-    let r = c.in_ok-intake.ensures.ready none in
+    let names : List ℕ = c.args.own.now.names.items in
+    let ready = c.in_ok-intake.ensures.ready none in
     let q : Pool = c.taken_again.new.pool in
     let o : Copied = c.in_ok-whole.whole in
     let g = grows p q c.in_ok-whole.ensures.grew in
     let t = c.in_ok-whole.ensures.taken in
-    let budget : ℕ = c.args.left + length c.args.names.now in
+    let budget : ℕ = c.args.left + c.len.result in
     let ids : List ℕ = o.names.items in
     let here : c.as_slice-states.result.now ≡ ids = c.as_slice-states.ensures.value in
-    let count : length r.labels ≡ length c.args.names.now =
-    r.copies.len ∙ length-map c.args.names.now (λ k. get_or p0.values.items k no_answers) in
-    let e : budget ≡ c.args.left + length r.labels = omega (arith, count) in
+    let e : budget ≡ c.args.left + length names = omega (arith, c.len.ensures, c.args.own.now.names.ok.0) in
     subst (λ v. Spends (InnerHas v d b m first others others) d c.args.left o.left) c.in_ok-intake.ensures.grew.view
-    (taken_spends a b m first others f order p i r.labels r.ready q budget o g t c.args.left e)
+    (taken_spends a b m first others f order p i names ready q budget o g t c.args.left e)
 
 pub returns-clause-left : goal.returns-clause-left
 returns-clause-left c =
@@ -313,18 +314,17 @@ returns-clause-left c =
     let p0 : Pool = c.args.pool.now in
     let p : Pool = c.inner_intake.new.pool in
     let i : Intake = c.in_ok-intake.intake in
-    let r = c.in_ok-intake.ensures.ready none in
+    let names : List ℕ = c.args.own.now.names.items in
+    let ready = c.in_ok-intake.ensures.ready none in
     let q : Pool = c.taken_again.new.pool in
     let o : Copied = c.in_ok-whole.whole in
     let g = grows p q c.in_ok-whole.ensures.grew in
     let t = c.in_ok-whole.ensures.taken in
-    let budget : ℕ = c.args.left + length c.args.names.now in
+    let budget : ℕ = c.args.left + c.len.result in
     let ids : List ℕ = o.names.items in
     let here : c.as_slice-states.result.now ≡ ids = c.as_slice-states.ensures.value in
-    let count : length r.labels ≡ length c.args.names.now =
-    r.copies.len ∙ length-map c.args.names.now (λ k. get_or p0.values.items k no_answers) in
-    let e : budget ≡ c.args.left + length r.labels = omega (arith, count) in
-    let spent = taken_spends a b m first others f order p i r.labels r.ready q budget o g t c.args.left e in
+    let e : budget ≡ c.args.left + length names = omega (arith, c.len.ensures, c.args.own.now.names.ok.0) in
+    let spent = taken_spends a b m first others f order p i names ready q budget o g t c.args.left e in
     omega (arith, spent.all)
 
 pub returns-in_err-whole-clause-wide : goal.returns-in_err-whole-clause-wide
@@ -343,13 +343,13 @@ returns-in_err-whole-clause-wide c =
     let p0 : Pool = c.args.pool.now in
     let p : Pool = c.inner_intake.new.pool in
     let i : Intake = c.in_ok-intake.intake in
-    let r = c.in_ok-intake.ensures.ready none in
-    let count : length r.labels ≡ length c.args.names.now =
-    r.copies.len ∙ length-map c.args.names.now (λ k. get_or p0.values.items k no_answers) in
-    let e : c.args.left + length c.args.names.now ≡ c.args.left + length r.labels = omega (arith, count) in
-    let plan = plan_on a b m first others f order p i r.labels r.ready in
+    let names : List ℕ = c.args.own.now.names.items in
+    let ready = c.in_ok-intake.ensures.ready none in
+    let e : c.args.left + c.len.result ≡ c.args.left + length names =
+    omega (arith, c.len.ensures, c.args.own.now.names.ok.0) in
+    let plan = plan_on a b m first others f order p i names ready in
     let past = c.in_err-whole.ensures.wide (sym same ∙ is) f plan order
-    (fits_on a b m first others f order p i r.labels r.ready) in
+    (fits_on a b m first others f order p i names ready) in
     subst (λ v. Passes (InnerHas v d b m first others others) d c.args.left) c.in_ok-intake.ensures.grew.view
-    (taken_passes a b m first others f order p i r.labels r.ready c.args.left
+    (taken_passes a b m first others f order p i names ready c.args.left
     (subst (λ n. PlanPasses p.view plan (letter_rows i) n) e past)))

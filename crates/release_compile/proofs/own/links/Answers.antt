@@ -1,7 +1,7 @@
 use Rattle.contraction.specs.Answers.{Answers}
 use Rattle.release_compile.specs.Places.{node_listed, pool_on}
 use Rattle.release_compile.proofs.InputsLemmas.{links_of}
-use Rattle.release_compile.proofs.inputs.links.Goals as goal
+use Rattle.release_compile.proofs.own.links.Goals as goal
 
 pub intern_in_places-requires-clause-has : goal.intern_in_places-requires-clause-has
 intern_in_places-requires-clause-has c n kept = (c.in_ok-value.ensures.kept n).0 kept

@@ -3,7 +3,7 @@ use Rattle.release_compile.proofs.LayeringLemmas.{grew_more, grows}
 use Rattle.release_compile.specs.Places.{node_listed, pool_on}
 use Rattle.release_compile.proofs.MappedPools.{grows_on}
 use Rattle.release_compile.proofs.InputsLemmas.{switch_stays}
-use Rattle.release_compile.proofs.inputs.switch_pair.Goals as goal
+use Rattle.release_compile.proofs.own.switch_pair.Goals as goal
 
 pub returns-clause-grew : goal.returns-clause-grew
 returns-clause-grew c =

@@ -1,12 +1,14 @@
-use Rattle.std.proofs.Common.{◌≤◌}
+use Rattle.std.proofs.Common.{◌≤◌, map}
+use Rattle.contraction.specs.Renaming.{mapped}
 use Rattle.bay_contract.specs.PartAlphabets.{Alphabets}
 use Rattle.release_compile.specs.Lettered.{lettered}
 use Rattle.release_compile.specs.Pooling.{GrewTo}
 use Rattle.release_compile.specs.Noting.{AreRight}
 use Rattle.release_compile.specs.Layering.{values_at}
+use Rattle.release_compile.specs.Places.{node_listed}
 use Rattle.release_compile.specs.Built.{AreInner}
 use Rattle.release_compile.specs.Counted.{SwitchesHave, Spends}
-use Rattle.release_compile.proofs.bay.inner_graphs.Given as goal
+use Rattle.release_compile.proofs.bay.own_graphs.Given as goal
 
 abbrev pub invariant-loop-i : goal.invariant-loop-i
 invariant-loop-i l = record {
@@ -15,6 +17,6 @@ invariant-loop-i l = record {
   left : l.rest ≤ l.left;
   spends : Spends (SwitchesHave l.fn.pool.view l.station l.bay.0 l.first l.count l.i) l.station l.left l.rest;
   inner : (a : Alphabets) →
-      AreInner l.fn.pool.view (lettered l.station a) l.bay.0 l.first l.count (values_at l.fn.pool.values.items l.names)
-      l.graphs.items l.i;
+      AreInner l.fn.pool.view (lettered l.station a) l.bay.0 l.first l.count
+      (values_at (map (mapped (node_listed l.list)) l.fn.pool.values.items) l.own.names.items) l.graphs.items l.i;
 }
