@@ -1,4 +1,4 @@
--- The edges of a layer, one by one.
+-- Places in a list without repeats, and a pool that grows.
 use Rattle.std.proofs.Common.{◌≡◌, ◌≢◌, ℕ, ◌+◌, ◌*◌, ◌/◌, ◌%◌, ◌<◌, ◌≤◌, ◌⊎◌, Bool, true, false, cond, List, [], ◌∷◌}
 use Rattle.std.proofs.Common.{◌++◌, length, get_or, slice_get, Some, refl, sym, ap, ◌∙◌, subst, inl, inr, arith, nat_eq}
 use Rattle.std.specs.List.{list_any}
@@ -15,9 +15,9 @@ use Rattle.station_graph.proofs.PathLemmas.{slice_get-push}
 use Rattle.contraction.specs.Answers.{Answers}
 use Rattle.release_compile.specs.declared.view.View.{View}
 use Rattle.release_compile.specs.declared.pool.Pool.{Pool}
-use Rattle.release_compile.specs.Pooling.{Extends, IsMadeOf, WasMade, IsPool, GrewTo, EitherKeeps}
+use Rattle.release_compile.specs.Pooling.{Extends, IsPool, GrewTo, EitherKeeps, letter_lists}
 use Rattle.release_compile.specs.Folding.{AreApartIn, AreRising}
-use Rattle.release_compile.specs.Layering.{NoneTwice, IsPlaced, LeadsToMade, AreEdges}
+use Rattle.release_compile.specs.Layering.{NoneTwice, IsPlaced}
 use Rattle.release_compile.proofs.LayerLemmas.{get_front}
 
 -- ---- places
@@ -93,35 +93,54 @@ pub record AreSound (p : Pool) : Type 0 where
   pub apart : AreApartIn p.view p.values.items
   pub rising : AreRising p.values.items
 
--- All values and lists of nodes of the one are those of the other.
+-- All that the one has is what the other has.
 pub record Grows (old new : Pool) : Type 0 where
   pub view : new.view ≡ old.view
   pub keeps : Extends old.keeps.items new.keeps.items
   pub values : Extends old.values.items new.values.items
+  pub letters : Extends (letter_lists old) (letter_lists new)
+  pub made : Extends old.made.items new.made.items
 
 pub sound : (p : Pool) → IsPool p → AreSound p
 sound p h = record { apart = h.apart; rising = λ t r at. (h.well t r at).nodes.rises }
 
 pub grows : (p q : Pool) → GrewTo p q → Grows p q
-grows p q g = record { view = g.view; keeps = g.keeps; values = g.values }
+grows p q g = record { view = g.view; keeps = g.keeps; values = g.values; letters = g.letters; made = g.made }
+
+-- a pool of which nothing was taken
+pub grew_of : (p q : Pool) → IsPool q → Grows p q → GrewTo p q
+grew_of p q h g = record {
+  is_pool = h;
+  view = g.view;
+  keeps = g.keeps;
+  values = g.values;
+  letters = g.letters;
+  made = g.made;
+}
+
+pub grows_same : (p : Pool) → Grows p p
+grows_same p = record {
+  view = refl;
+  keeps = λ k ns at. at;
+  values = λ i x at. at;
+  letters = λ l ids at. at;
+  made = λ i t at. at;
+}
 
 pub grows_more : (p q r : Pool) → Grows p q → Grows q r → Grows p r
 grows_more p q r a b = record {
   view = b.view ∙ a.view;
   keeps = λ k ns at. b.keeps k ns (a.keeps k ns at);
   values = λ i x at. b.values i x (a.values i x at);
+  letters = λ l ids at. b.letters l ids (a.letters l ids at);
+  made = λ i t at. b.made i t (a.made i t at);
 }
 
 pub grew_same : (p : Pool) → IsPool p → GrewTo p p
-grew_same p h = record { is_pool = h; view = refl; keeps = λ k ns at. at; values = λ i x at. at }
+grew_same p h = grew_of p p h (grows_same p)
 
 pub grew_more : (p q r : Pool) → GrewTo p q → GrewTo q r → GrewTo p r
-grew_more p q r a b = record {
-  is_pool = b.is_pool;
-  view = b.view ∙ a.view;
-  keeps = λ k ns at. b.keeps k ns (a.keeps k ns at);
-  values = λ i x at. b.values i x (a.values i x at);
-}
+grew_more p q r a b = grew_of p r b.is_pool (grows_more p q r (grows p q a) (grows q r b))
 
 pub value_in : (p q : Pool) (i : ℕ) (d : Answers) → Grows p q → i < length p.values.items → i < length q.values.items
 value_in p q i d g lt =
@@ -149,92 +168,6 @@ list_was p q k nodes g lt at =
 pub keep_was : (p q : Pool) (k : ℕ) (nodes : List ℕ) → GrewTo p q → k < length p.keeps.items →
     slice_get q.keeps.items k ≡ Some nodes → slice_get p.keeps.items k ≡ Some nodes
 keep_was p q k nodes g lt at = list_was p q k nodes (grows p q g) lt at
-
-made_more : (view : View) (x y : Answers) (keep : List ℕ) (values values' : List Answers) (t : ℕ) →
-    Extends values values' → IsMadeOf view x y keep values t → IsMadeOf view x y keep values' t
-made_more view x y keep values values' t more m = record {
-  value = m.value;
-  listed = more t m.value m.listed;
-  composes = m.composes;
-  kept = m.kept;
-}
-
--- ---- edges
-
-pub edges_none : (view : View) (values : List Answers) (keep states letters next edges : List ℕ) → next ≡ [] →
-    edges ≡ [] → AreEdges view values keep states letters next edges 0
-edges_none view values keep states letters next edges e f = record {
-  len = ap length f;
-  made = λ p i j lt. absurd (omega (arith, lt));
-  none_twice =
-      λ a b id at_a. absurd (let h : slice_get {X = ℕ} [] a ≡ Some id = ap (λ l. slice_get l a) (sym e) ∙ at_a in cc);
-  hit = λ b id at. absurd (let h : slice_get {X = ℕ} [] b ≡ Some id = ap (λ l. slice_get l b) (sym e) ∙ at in cc);
-}
-
-module _ (view : View) (values values' : List Answers) (keep states letters next next' edges edges' : List ℕ)
-    (n i j id to : ℕ) (more : Extends values values') (old : AreEdges view values keep states letters next edges n)
-    (pl : IsPlaced next next' id to) (here : LeadsToMade view values' keep next' i j to)
-    (at_i : slice_get states (n / length letters) ≡ Some i) (at_j : slice_get letters (n % length letters) ≡ Some j)
-    (e : edges' ≡ edges ++ to ∷ []) where
-  edge_before : (p : ℕ) → p < n → get_or edges' p 0 ≡ get_or edges p 0
-  edge_before p lt = ap (λ l. get_or l p 0) e ∙ get_or_append_left edges (to ∷ []) 0 p (omega (arith, old.len))
-
-  edge_here : get_or edges' n 0 ≡ to
-  edge_here =
-      ap (λ l. get_or l n 0) e
-      ∙ (ap (λ k. get_or (edges ++ to ∷ []) k 0) (sym old.len) ∙ get_or-append_seam edges to [] 0)
-
-  lead_more : (a b place : ℕ) → LeadsToMade view values keep next a b place →
-      LeadsToMade view values' keep next' a b place
-  lead_more a b place l = record {
-    id = l.id;
-    at = pl.stays place l.id l.at;
-    x = l.x;
-    y = l.y;
-    first = more a l.x l.first;
-    second = more b l.y l.second;
-    made = made_more view l.x l.y keep values values' l.id more l.made;
-  }
-
-  made_at : (p a b : ℕ) → p < n + 1 → slice_get states (p / length letters) ≡ Some a →
-      slice_get letters (p % length letters) ≡ Some b → (p ≡ n) ⊎ (p ≢ n) →
-      LeadsToMade view values' keep next' a b (get_or edges' p 0)
-  made_at p a b lt at_a at_b (inl is) =
-      let ea : i ≡ a = same_Some i a (sym at_i ∙ (ap (λ q. slice_get states (q / length letters)) (sym is) ∙ at_a)) in
-      let eb : j ≡ b = same_Some j b (sym at_j ∙ (ap (λ q. slice_get letters (q % length letters)) (sym is) ∙ at_b)) in
-      let ep : to ≡ get_or edges' p 0 = sym edge_here ∙ ap (λ q. get_or edges' q 0) (sym is) in
-      subst (λ q. LeadsToMade view values' keep next' a b q) ep (subst (λ q. LeadsToMade view values' keep next' a q to)
-      eb (subst (λ q. LeadsToMade view values' keep next' q j to) ea here))
-  made_at p a b lt at_a at_b (inr ne) =
-      let less : p < n = omega (arith, lt, ne) in
-      subst (λ q. LeadsToMade view values' keep next' a b q) (sym (edge_before p less))
-      (lead_more a b (get_or edges p 0) (old.made p a b less at_a at_b))
-
-  pub edges_more : AreEdges view values' keep states letters next' edges' (n + 1)
-  edges_more = record {
-    len = ap length e ∙ (length-append edges (to ∷ []) ∙ omega (arith, old.len));
-    made = λ p a b lt at_a at_b. made_at p a b lt at_a at_b (cases_eq p n);
-    none_twice = pl.none_twice old.none_twice;
-    hit = λ b t at. elim (pl.only b t at) [
-      | inl before ↦
-          (let h = old.hit b t before in (h.0, h.1, h.2, omega (arith, h.3), h.4, h.5, edge_before h.0 h.3 ∙ h.6))
-      | inr new ↦ (n, i, j, omega arith, at_i, at_j, edge_here ∙ sym new.0)
-    ];
-  }
-
--- what was made as the key says is where the edge leads
-pub lead_here : (view : View) (values : List Answers) (keeps : List (List ℕ)) (keep next' next : List ℕ)
-    (i j k id to : ℕ) → WasMade view values keeps (record { first = i; second = j; keep = k }) id →
-    slice_get keeps k ≡ Some keep → IsPlaced next next' id to → LeadsToMade view values keep next' i j to
-lead_here view values keeps keep next' next i j k id to w at pl = record {
-  id = id;
-  at = pl.at;
-  x = w.x;
-  y = w.y;
-  first = w.first;
-  second = w.second;
-  made = subst (λ l. IsMadeOf view w.x w.y l values id) (same_Some w.keep keep (sym w.nodes ∙ at)) w.made;
-}
 
 -- ---- places of edges
 

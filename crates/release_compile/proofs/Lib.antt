@@ -8,6 +8,8 @@ pub mod MappedViews
 pub mod MappedPools
 pub mod PoolLemmas
 pub mod LayeringLemmas
+pub mod BatchLemmas
+pub mod AddedEdges
 pub mod VerdictLemmas
 pub mod BridgeLemmas
 pub mod PlanLemmas

@@ -15,16 +15,13 @@ use Rattle.std.proofs.lemmas.Slice.Eq.{bytes_eq-Decides}
 use Rattle.station_graph.proofs.PathLemmas.{slice_get-push}
 use Rattle.release_compile.specs.Seen.{SeenFor, SameSeen, ComposesIn, seen_row}
 use Rattle.release_compile.specs.Folding.{AreApartIn}
-use Rattle.std.specs.Prelude.{nat_eq, ◌&&◌}
-use Rattle.std.proofs.lemmas.Bool.Decides.{Decides-eqb}
 use Rattle.contraction.specs.Answers.{IsContraction}
 use Rattle.contraction.proofs.ViewLemmas.{gap_rows, load_rows}
-use Rattle.release_compile.specs.declared.pool.Made.{Made}
 use Rattle.release_compile.specs.Folding.{AreWell}
 use Rattle.std.specs.Prelude.{Contains}
 use Rattle.contraction.specs.Answers.{Keeps}
 use Rattle.release_compile.specs.declared.pool.Pool.{Pool}
-use Rattle.release_compile.specs.Pooling.{HasSame, IsRowIndex, Extends, IsMadeOf, WasMade, same_made, NotesAreRight}
+use Rattle.release_compile.specs.Pooling.{HasSame, IsRowIndex, IsMadeOf}
 use Rattle.release_compile.proofs.LayerLemmas.{get_front, get_last}
 use Rattle.release_compile.proofs.MappedViews.{composes_same}
 
@@ -58,65 +55,6 @@ index_more view values x old new row index is updates = record {
       | inr here ↦ false≢true (sym same ∙ (bytes_eq-Decides row q).1 (is ∙ ap (seen_row view) here.1 ∙ sym is_y))
     ]
 
--- ---- notes
-
-and_three : (p q r : Bool) → (p && (q && r)) ≡ true → (p ≡ true) × (q ≡ true) × (r ≡ true)
-and_three true true true e = (refl, refl, refl)
-and_three true true false e = cc
-and_three true false true e = cc
-and_three true false false e = cc
-and_three false true true e = cc
-and_three false true false e = cc
-and_three false false true e = cc
-and_three false false false e = cc
-
-was_made_so : (view : View) (values : List Answers) (keeps : List (List ℕ)) (k q : Made) (t : ℕ) →
-    same_made k q ≡ true → WasMade view values keeps k t → WasMade view values keeps q t
-was_made_so view values keeps k q t same w =
-    let e = and_three (nat_eq k.first q.first) (nat_eq k.second q.second) (nat_eq k.keep q.keep) same in
-    let e1 : k.first ≡ q.first = (Decides-eqb k.first q.first).0 e.0 in
-    let e2 : k.second ≡ q.second = (Decides-eqb k.second q.second).0 e.1 in
-    let e3 : k.keep ≡ q.keep = (Decides-eqb k.keep q.keep).0 e.2 in
-    record {
-      x = w.x;
-      y = w.y;
-      keep = w.keep;
-      first = ap (slice_get values) (sym e1) ∙ w.first;
-      second = ap (slice_get values) (sym e2) ∙ w.second;
-      nodes = ap (slice_get keeps) (sym e3) ∙ w.nodes;
-      made = w.made;
-    }
-
--- a note more
-pub notes_more : {S : Type 0} (view : View) (values : List Answers) (keeps : List (List ℕ)) (old new : HashMap Made ℕ S)
-    (key : Made) (place : ℕ) → NotesAreRight view values keeps old → WasMade view values keeps key place →
-    Updates same_made old new key (Some place) → NotesAreRight view values keeps new
-notes_more view values keeps old new key place right made updates k t e =
-    by_key (same_made key k) refl (sym (updates.0 k) ∙ e)
-  where
-    by_key : (b : Bool) → same_made key k ≡ b → cond b (Some place) (get same_made old k) ≡ Some t →
-        WasMade view values keeps k t
-    by_key true same is =
-        let at : place ≡ t = cc in
-        subst (λ u. WasMade view values keeps k u) at (was_made_so view values keeps key k place same made)
-    by_key false same is = right k t is
-
--- and where lists of nodes come
-pub notes_keep : {S : Type 0} (view : View) (values : List Answers) (keeps keeps' : List (List ℕ))
-    (m : HashMap Made ℕ S) → Extends keeps keeps' → NotesAreRight view values keeps m →
-    NotesAreRight view values keeps' m
-notes_keep view values keeps keeps' m more right k t e =
-    let w = right k t e in
-    record {
-      x = w.x;
-      y = w.y;
-      keep = w.keep;
-      first = w.first;
-      second = w.second;
-      nodes = more k.keep w.keep w.nodes;
-      made = w.made;
-    }
-
 -- a view of a value that keep_only gives
 pub kept_view : (view : View) (x value : Answers) →
     ((items : List Item) (d : Diagram) (v : List Bool) → GapStandsFor (Among items) d v x →
@@ -126,27 +64,6 @@ pub kept_view : (view : View) (x value : Answers) →
     SeenFor view (Among items) d v x → SeenFor view (Among items) d v value
 kept_view Gap x value gap load items d v s = gap items d v s
 kept_view Load x value gap load items d v s = load items d v s
-
--- notes stay right where values come
-pub notes_stay : {S : Type 0} (view : View) (values values' : List Answers) (keeps : List (List ℕ))
-    (m : HashMap Made ℕ S) → Extends values values' → NotesAreRight view values keeps m →
-    NotesAreRight view values' keeps m
-notes_stay view values values' keeps m more right k t e =
-    let w = right k t e in
-    record {
-      x = w.x;
-      y = w.y;
-      keep = w.keep;
-      first = more k.first w.x w.first;
-      second = more k.second w.y w.second;
-      nodes = w.nodes;
-      made = record {
-        value = w.made.value;
-        listed = more t w.made.value w.made.listed;
-        composes = w.made.composes;
-        kept = w.made.kept;
-      };
-    }
 
 -- ---- a new value
 
@@ -208,10 +125,6 @@ index_none view values m ev em = record {
       λ row e i x at same. absurd
       (let h : slice_get {X = Answers} [] i ≡ Some x = ap (λ vs. slice_get vs i) (sym ev) ∙ at in cc);
 }
-
-pub notes_none : {S : Type 0} (view : View) (values : List Answers) (keeps : List (List ℕ)) (m : HashMap Made ℕ S) →
-    m.entries ≡ [] → NotesAreRight view values keeps m
-notes_none view values keeps m em k t e = absurd (let h = rw em at e in cc)
 
 pub apart_none : (view : View) (values : List Answers) → values ≡ [] → AreApartIn view values
 apart_none view values ev t u x y at_t at_u same =

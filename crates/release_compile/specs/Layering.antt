@@ -1,6 +1,6 @@
 -- A layer by the numbers of values in a pool.
-use Rattle.std.specs.Prelude.{◌≡◌, ℕ, suc, ◌⊎◌, ◌/◌, ◌%◌, ◌<◌, ◌≤◌, List, [], length, map, slice_get, slice_index}
-use Rattle.std.specs.Prelude.{slice_index_or, Some}
+use Rattle.std.specs.Prelude.{◌≡◌, ℕ, suc, ◌⊎◌, ◌+◌, ◌/◌, ◌%◌, ◌<◌, ◌≤◌, List, [], ◌++◌, length, map, slice_get}
+use Rattle.std.specs.Prelude.{slice_index, slice_index_or, Some}
 use Rattle.contraction.specs.Answers.{Answers}
 use Rattle.release_compile.specs.declared.view.View.{View}
 use Rattle.release_compile.specs.Pooling.{Extends, IsMadeOf}
@@ -16,6 +16,19 @@ pub record IsPlaced (old new : List ℕ) (id place : ℕ) : Type 0 where
   pub only : (b t : ℕ) → slice_get new b ≡ Some t → (slice_get old b ≡ Some t) ⊎ ((b ≡ place) × (t ≡ id))
   pub none_twice : NoneTwice old → NoneTwice new
   pub grown : length new ≤ suc (length old)
+
+-- Behind the edges stand as many as there are numbers here, each to its number; the list has these numbers too, each
+-- once.
+pub record AreAdded (old edges ids next edges' : List ℕ) : Type 0 where
+  pub to : List ℕ
+  pub behind : edges' ≡ edges ++ to
+  pub len : length to ≡ length ids
+  pub at : (c id : ℕ) → slice_get ids c ≡ Some id → slice_get next (slice_index to c) ≡ Some id
+  pub stays : Extends old next
+  pub only : (b t : ℕ) → slice_get next b ≡ Some t → (slice_get old b ≡ Some t)
+      ⊎ ((c : ℕ) × (slice_get ids c ≡ Some t) × (slice_index to c ≡ b))
+  pub none_twice : NoneTwice old → NoneTwice next
+  pub grown : length next ≤ length old + length ids
 
 -- The value at a place of the next layer was made of two values on these nodes.
 pub record LeadsToMade (view : View) (values : List Answers) (keep next : List ℕ) (i j place : ℕ) : Type 0 where

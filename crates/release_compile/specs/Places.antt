@@ -29,6 +29,8 @@ pool_on f p = record {
   values = with_mapped (mapped f) p.values;
   index = p.index;
   keeps = with_mapped (map f) p.keeps;
+  letters = p.letters;
+  made = p.made;
   notes = p.notes;
   selection = p.selection;
 }

@@ -1,5 +1,6 @@
--- Values of one view, found again by their rows, and what was composed of them.
-use Rattle.std.specs.Prelude.{◌≡◌, ℕ, ◌↔◌, ◌⊎◌, List, slice_get, Option, Some, None, Contains, nat_eq, ◌&&◌, Bool}
+-- Values of one view, found again by their rows, and the batches that were composed of them.
+use Rattle.std.specs.Prelude.{◌≡◌, ℕ, ◌↔◌, ◌⊎◌, ◌+◌, ◌<◌, List, length, map, slice_get, Option, Some, None, Contains}
+use Rattle.std.specs.Prelude.{nat_eq, ◌&&◌, Bool}
 use Rattle.std.specs.Str.{bytes_eq}
 use Rattle.std.specs.HashMap.{HashMap, get}
 use Rattle.station_graph.specs.Diagram.{Diagram}
@@ -8,7 +9,8 @@ use Rattle.contraction.specs.Answers.{Answers, Keeps, IsContraction}
 use Rattle.contraction.specs.Selecting.{Selected}
 use Rattle.contraction.specs.Stands.{Among}
 use Rattle.release_compile.specs.declared.view.View.{View}
-use Rattle.release_compile.specs.declared.pool.Made.{Made}
+use Rattle.release_compile.specs.declared.batches.Made.{Made}
+use Rattle.release_compile.specs.declared.batches.Batch.{Batch}
 use Rattle.release_compile.specs.declared.pool.Pool.{Pool}
 use Rattle.release_compile.specs.Seen.{SeenFor, SameSeen, ComposesIn, seen_row}
 use Rattle.release_compile.specs.Folding.{AreApartIn, AreWell}
@@ -45,27 +47,51 @@ pub record WasMade (view : View) (values : List Answers) (keeps : List (List ℕ
   pub nodes : slice_get keeps k.keep ≡ Some keep
   pub made : IsMadeOf view x y keep values t
 
--- Both are made of the same two values and keep the same nodes.
-abbrev pub same_made : Made → Made → Bool
-same_made a b = nat_eq a.first b.first && (nat_eq a.second b.second && nat_eq a.keep b.keep)
+-- The composition of the batch at one of its letters.
+abbrev pub composition : Batch → ℕ → Made
+composition b letter = record { first = b.first; second = letter; keep = b.keep }
 
--- What is noted was made so.
-abbrev pub NotesAreRight : {S : Type 0} → View → List Answers → List (List ℕ) → HashMap Made ℕ S → Type 0
-NotesAreRight view values keeps m = (k : Made) (t : ℕ) → get same_made m k ≡ Some t → WasMade view values keeps k t
+-- The lists of letters of the pool.
+abbrev pub letter_lists : Pool → List (List ℕ)
+letter_lists p = map (λ v. v.items) p.letters.items
+
+-- Letter by letter, these are the numbers of what the value of the batch and the letter make together.
+pub record AreMade (p : Pool) (b : Batch) (letters ids : List ℕ) : Type 0 where
+  pub len : length ids ≡ length letters
+  pub made : (c j t : ℕ) → slice_get letters c ≡ Some j → slice_get ids c ≡ Some t →
+      WasMade p.view p.values.items p.keeps.items (composition b j) t
+
+-- From this place on stand the numbers of the batch, one behind the other.
+pub record HasBatch (p : Pool) (b : Batch) (start : ℕ) : Type 0 where
+  pub letters : List ℕ
+  pub ids : List ℕ
+  pub listed : slice_get (letter_lists p) b.letters ≡ Some letters
+  pub made : AreMade p b letters ids
+  pub at : (c t : ℕ) → slice_get ids c ≡ Some t → slice_get p.made.items (start + c) ≡ Some t
+
+-- Both are of the same value, the same letters and the same nodes.
+abbrev pub same_batch : Batch → Batch → Bool
+same_batch a b = nat_eq a.first b.first && (nat_eq a.letters b.letters && nat_eq a.keep b.keep)
+
+-- Each batch that is noted begins where it is noted.
+abbrev pub NotesAreRight : {S : Type 0} → Pool → HashMap Batch ℕ S → Type 0
+NotesAreRight p m = (b : Batch) (start : ℕ) → get same_batch m b ≡ Some start → HasBatch p b start
 
 -- The pool has each value once, and its notes are right.
 pub record IsPool (p : Pool) : Type 0 where
   pub index : IsRowIndex p.view p.values.items p.index
   pub apart : AreApartIn p.view p.values.items
   pub well : AreWell p.values.items
-  pub notes : NotesAreRight p.view p.values.items p.keeps.items p.notes
+  pub notes : NotesAreRight p p.notes
 
--- The pool has what it had, and maybe more values and lists of nodes.
+-- The pool has what it had, and maybe more values, lists of nodes, lists of letters and numbers of made values.
 pub record GrewTo (old new : Pool) : Type 0 where
   pub is_pool : IsPool new
   pub view : new.view ≡ old.view
   pub keeps : Extends old.keeps.items new.keeps.items
   pub values : Extends old.values.items new.values.items
+  pub letters : Extends (letter_lists old) (letter_lists new)
+  pub made : Extends old.made.items new.made.items
 
 -- The pool has a value that is the same as this one in its view.
 pub record HasSame (p : Pool) (value : Answers) (t : ℕ) : Type 0 where
@@ -89,6 +115,17 @@ EitherKeeps p first second keep =
     (x y : Answers) (nodes : List ℕ) → slice_get p.values.items first ≡ Some x →
     slice_get p.values.items second ≡ Some y → slice_get p.keeps.items keep ≡ Some nodes → (n : ℕ) → Contains nodes n →
     Keeps x.kept n ⊎ Keeps y.kept n
+
+-- The pool has both values and the list of nodes, each of which one of the two keeps.
+pub record CanCompose (p : Pool) (k : Made) : Type 0 where
+  pub first : k.first < length p.values.items
+  pub second : k.second < length p.values.items
+  pub keep : k.keep < length p.keeps.items
+  pub either : EitherKeeps p k.first k.second k.keep
+
+-- So for each letter of the batch.
+abbrev pub LettersFit : Pool → Batch → List ℕ → Type 0
+LettersFit p b letters = (c j : ℕ) → slice_get letters c ≡ Some j → CanCompose p (composition b j)
 
 -- The selection is that of these of the nodes that two values keep.
 pub record Selects (x y : Answers) (nodes : List ℕ) (s : Selected) : Type 0 where

@@ -5,7 +5,7 @@ ghost use Rattle.decision_graphs.specs.Finished.{AreFinished};
 ghost use Rattle.contraction.specs.Renaming.{KeepsOrder, mapped};
 ghost use Rattle.release_compile.specs.Pooling.{IsPool, GrewTo, EitherKeeps};
 ghost use Rattle.release_compile.specs.Places.{pool_on};
-ghost use Rattle.release_compile.specs.Layering.{IsPlaced, AreEdges, values_at};
+ghost use Rattle.release_compile.specs.Layering.{IsPlaced, AreAdded, AreEdges, values_at};
 ghost use Rattle.release_compile.specs.Counted.{Spends};
 ghost use Rattle.release_compile.specs.Folding.{IsExact, ReachesMore};
 ghost use Rattle.release_compile.specs.declared.layer.Trouble.TheVariants.{Wide};
@@ -89,6 +89,18 @@ fn place(ids: &mut IndexSet<usize>, id: usize) -> Result<usize, Memory>
     Ok(place)
 }
 
+// Adds an edge to each of these values, which are put at the end of the next layer where it has not got them.
+fn add_edges(next: &mut IndexSet<usize>, edges: &mut Vec<u32>, ids: &[usize]) -> Result<(), Memory>
+    requires few { length next.old.keys + length ids.now ≤ 80000000 }
+    ensures { OnOk result (AreAdded next.old.keys edges.old.items ids.now next.new.keys edges.new.items) }
+{
+    for c in 0..ids.len() {
+        let to = place(next, ids[c])?;
+        edges.push(to as u32)?;
+    }
+    Ok(())
+}
+
 // From the values of a layer, by the letters of its choices, to those of the next layer. It is too wide, and no more of
 // it is made, as soon as the next layer has more than so many values.
 pub(crate) fn next_layer(
@@ -118,17 +130,14 @@ pub(crate) fn next_layer(
 {
     let mut next = IndexSet::new(alloc);
     let mut edges = Vec::new(alloc);
-    let choices = letters.len();
-    'pairs: for p in 0..states.len() * choices {
+    let number = pool.note_letters(alloc, letters)?;
+    'states: for k in 0..states.len() {
         if next.len() > most {
             return Err(Trouble::Wide);
         }
-        let first = states[p / choices];
-        let second = letters[p % choices];
-        let id = pool.compose(alloc, first, second, keep)?;
-        let to = place(&mut next, id)?;
-        let edge = to as u32;
-        edges.push(edge)?;
+        let start = pool.batch(alloc, states[k], letters, number, keep)?;
+        let end = start + letters.len();
+        add_edges(&mut next, &mut edges, &pool.made[start..end])?;
     }
     let next = listed(alloc, &next)?;
     Ok(Step { next, edges })

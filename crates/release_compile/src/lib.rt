@@ -2,6 +2,7 @@
 #![tactic(auto)]
 
 mod all_words;
+mod batches;
 mod bay;
 mod build;
 mod by_words;

@@ -1,111 +1,127 @@
-use Rattle.std.proofs.Common.{◌≡◌, ◌<◌, ◌*◌, ◌/◌, ◌%◌, length, Some, slice_get, get_or, arith, ap, subst, sym}
-use Rattle.std.proofs.lemmas.Option.{slice_get-get_or, slice_get_within}
-use Rattle.release_compile.specs.Layering.{AreEdges, no_answers}
-use Rattle.release_compile.proofs.LayeringLemmas.{grew_same, grew_more, grew_in, edges_none, edges_more, lead_here}
-use Rattle.release_compile.proofs.LayeringLemmas.{nil_of_len, state_in, either_more, keep_in}
+use Rattle.std.proofs.Common.{◌≡◌, ◌<◌, ◌≤◌, ◌+◌, ◌-◌, ◌*◌, ℕ, suc, List, length, Some, slice_get, get_or, take}
+use Rattle.std.proofs.Common.{drop, arith, ap, ◌∙◌, subst, sym}
+use Rattle.std.proofs.lemmas.Option.{slice_get-get_or}
+use Rattle.std.proofs.Math.Nat.{suc-mul, zero-mul, mul-le-mul_right}
+use Rattle.release_compile.specs.declared.batches.Batch.{Batch}
+use Rattle.release_compile.specs.declared.pool.Pool.{Pool}
+use Rattle.release_compile.specs.Pooling.{AreMade, HasBatch, letter_lists}
+use Rattle.release_compile.specs.Layering.{AreEdges}
+use Rattle.release_compile.proofs.LayeringLemmas.{grew_more, nil_of_len}
+use Rattle.release_compile.proofs.AddedEdges.{edges_none, edges_more}
+use Rattle.release_compile.proofs.BatchLemmas.{can_more, batch_made}
 use Rattle.release_compile.proofs.PassLemmas.{more_reached}
 use Rattle.release_compile.proofs.layer.next_layer.Goals as goal
 
-pub pairs-init : goal.pairs-init
-pairs-init c = record {
-  grew = grew_same c.args.pool.now c.requires.pool;
-  few = omega (arith, c.new-next.ensures.len);
-  edges =
-      λ nodes at. edges_none c.args.pool.now.view c.args.pool.now.values.items nodes c.args.states.now
-      c.args.letters.now c.new-next.result.keys c.new-edges.result.items
-      (nil_of_len c.new-next.result.keys c.new-next.ensures.len) c.new-edges.ensures.items;
-}
-
-pub compose-requires-clause-first : goal.compose-requires-clause-first
-compose-requires-clause-first c =
-    let k = c.pairs.p / length c.args.letters.now in
-    let k_in : k < length c.args.states.now =
-    state_in c.pairs.p (length c.args.states.now) (length c.args.letters.now) c.pairs-test.true in
-    grew_in c.args.pool.now c.pairs.pool (get_or c.args.states.now k 0) no_answers c.pairs.invariant.grew
-    (c.requires.states k (get_or c.args.states.now k 0) (slice_get-get_or c.args.states.now k 0 k_in))
-
-pub compose-requires-clause-second : goal.compose-requires-clause-second
-compose-requires-clause-second c =
-    let k = c.pairs.p % length c.args.letters.now in
-    let some : 0 < length c.args.letters.now = c.requires.some in
-    let k_in : k < length c.args.letters.now = omega arith in
-    grew_in c.args.pool.now c.pairs.pool (get_or c.args.letters.now k 0) no_answers c.pairs.invariant.grew
-    (c.requires.letters k (get_or c.args.letters.now k 0) (slice_get-get_or c.args.letters.now k 0 k_in))
-
-pub compose-requires-clause-keep : goal.compose-requires-clause-keep
-compose-requires-clause-keep c = keep_in c.args.pool.now c.pairs.pool c.args.keep c.pairs.invariant.grew c.requires.keep
-
-pub compose-requires-clause-nodes : goal.compose-requires-clause-nodes
-compose-requires-clause-nodes c =
-    let k = c.pairs.p / length c.args.letters.now in
-    let m = c.pairs.p % length c.args.letters.now in
-    let some : 0 < length c.args.letters.now = c.requires.some in
-    let k_in : k < length c.args.states.now =
-    state_in c.pairs.p (length c.args.states.now) (length c.args.letters.now) c.pairs-test.true in
-    let m_in : m < length c.args.letters.now = omega arith in
-    let at_k = slice_get-get_or c.args.states.now k 0 k_in in
-    let at_m = slice_get-get_or c.args.letters.now m 0 m_in in
-    either_more c.args.pool.now c.pairs.pool (get_or c.args.states.now k 0) (get_or c.args.letters.now m 0) c.args.keep
-    no_answers c.pairs.invariant.grew
-    (c.requires.states k (get_or c.args.states.now k 0) at_k)
-    (c.requires.letters m (get_or c.args.letters.now m 0) at_m)
-    c.requires.keep
-    (c.requires.nodes k m (get_or c.args.states.now k 0) (get_or c.args.letters.now m 0) at_k at_m)
-
-pub pairs-preserved : goal.pairs-preserved
-pairs-preserved c =
-    let states = c.args.states.now in
-    let letters = c.args.letters.now in
-    let p = c.pairs.p in
-    let k = p / length letters in
-    let m = p % length letters in
-    let some : 0 < length letters = c.requires.some in
-    let k_in : k < length states = state_in p (length states) (length letters) c.pairs-test.true in
-    let m_in : m < length letters = omega arith in
-    let at_k = slice_get-get_or states k 0 k_in in
-    let at_m = slice_get-get_or letters m 0 m_in in
-    let q = c.compose.new.self in
-    let g = c.in_ok-id.ensures.grew in
+pub states-init : goal.states-init
+states-init c =
+    let q = c.note_letters.new.self in
     record {
-      grew = grew_more c.args.pool.now c.pairs.pool q c.pairs.invariant.grew g;
-      few = omega (arith, c.in_ok-to.ensures.grown, c.pairs.invariant.few);
+      grew = c.in_ok-number.ensures.grew;
+      noted = c.in_ok-number.ensures.noted;
+      few = omega (arith, c.new-next.ensures.len, zero-mul (length c.args.letters.now));
       edges = λ nodes at.
-          let at_q : slice_get q.keeps.items c.args.keep ≡ Some nodes =
-          g.keeps c.args.keep nodes (c.pairs.invariant.grew.keeps c.args.keep nodes at) in
-          let here = lead_here q.view q.values.items q.keeps.items nodes c.place.new.ids.keys c.pairs.next.keys
-          (get_or states k 0) (get_or letters m 0) c.args.keep c.in_ok-id.id c.in_ok-to.to c.in_ok-id.ensures.made at_q
-          c.in_ok-to.ensures in
-          let old = subst
-          (λ v. AreEdges v c.pairs.pool.values.items nodes states letters c.pairs.next.keys c.pairs.edges.items p)
-          (sym g.view) (c.pairs.invariant.edges nodes at) in
-          edges_more q.view c.pairs.pool.values.items q.values.items nodes states letters c.pairs.next.keys
-          c.place.new.ids.keys c.pairs.edges.items c.push.new.self.items p (get_or states k 0) (get_or letters m 0)
-          c.in_ok-id.id c.in_ok-to.to g.values old c.in_ok-to.ensures here at_k at_m c.in_ok-push.ensures.items;
+          subst (λ n. AreEdges q.view q.values.items nodes c.args.states.now c.args.letters.now c.new-next.result.keys
+          c.new-edges.result.items n) (sym (zero-mul (length c.args.letters.now)))
+          (edges_none q.view q.values.items nodes c.args.states.now c.args.letters.now c.new-next.result.keys
+          c.new-edges.result.items (nil_of_len c.new-next.result.keys c.new-next.ensures.len)
+          c.new-edges.ensures.items);
     }
 
-pub overflow_cast-edge : goal.overflow_cast-edge
-overflow_cast-edge c =
-    let within = slice_get_within c.place.new.ids.keys c.in_ok-to.to c.in_ok-id.id c.in_ok-to.ensures.at in
-    omega (arith, within, c.in_ok-to.ensures.grown, c.pairs.invariant.few, c.pairs-test.true, c.requires.few)
+pub batch-requires-clause-fit : goal.batch-requires-clause-fit
+batch-requires-clause-fit c m j at_j =
+    let p = c.args.pool.now in
+    let q = c.states.pool in
+    let g = c.states.invariant.grew in
+    let k = c.states.k in
+    let i = get_or c.args.states.now k 0 in
+    let at_i : slice_get c.args.states.now k ≡ Some i = slice_get-get_or c.args.states.now k 0 c.states-test.true in
+    can_more p q (record { first = i; second = j; keep = c.args.keep }) g (record {
+      first = c.requires.states k i at_i;
+      second = c.requires.letters m j at_j;
+      keep = c.requires.keep;
+      either = c.requires.nodes k m i j at_i at_j;
+    })
+
+-- the batch of a state ends in what was made, and is there letter by letter
+module _ (q : Pool) (b : Batch) (start : ℕ) (letters : List ℕ) (has : HasBatch q b start)
+    (noted : slice_get (letter_lists q) b.letters ≡ Some letters) (some : 0 < length letters) (made : List ℕ)
+    (is : made ≡ q.made.items) where
+  part_made : AreMade q b letters (take (start + length letters - start) (drop start made))
+  part_made =
+      subst (λ n. AreMade q b letters (take n (drop start made)))
+      (let e : length letters ≡ start + length letters - start = omega arith in e)
+      (subst (λ l. AreMade q b letters (take (length letters) (drop start l))) (sym is)
+      (batch_made q b start letters has noted some))
+
+pub add_edges-requires : goal.add_edges-requires
+add_edges-requires c =
+    let q = c.batch.new.self in
+    let w = length c.args.letters.now in
+    let k = c.states.k in
+    let noted = c.in_ok-start.ensures.grew.letters c.in_ok-number.number c.args.letters.now c.states.invariant.noted in
+    let part = part_made q _ c.in_ok-start.start c.args.letters.now c.in_ok-start.ensures.batch noted c.requires.some
+    c.deref.result.now c.deref.ensures.value in
+    let most : suc k * w ≤ length c.args.states.now * w =
+    mul-le-mul_right w (let h : suc k ≤ length c.args.states.now = omega (arith, c.states-test.true) in h) in
+    record { few = omega (arith, part.len, c.states.invariant.few, most, suc-mul k w, c.requires.few) }
+
+pub states-preserved : goal.states-preserved
+states-preserved c =
+    let p = c.args.pool.now in
+    let old = c.states.pool in
+    let q = c.batch.new.self in
+    let states = c.args.states.now in
+    let letters = c.args.letters.now in
+    let w = length letters in
+    let k = c.states.k in
+    let g = c.in_ok-start.ensures.grew in
+    let inv = c.states.invariant in
+    let noted = g.letters c.in_ok-number.number letters inv.noted in
+    let i = get_or states k 0 in
+    let at_i : slice_get states k ≡ Some i = slice_get-get_or states k 0 c.states-test.true in
+    let part = part_made q _ c.in_ok-start.start letters c.in_ok-start.ensures.batch noted c.requires.some
+    c.deref.result.now c.deref.ensures.value in
+    let added = c.in_ok-add_edges.ensures in
+    let next : (k + 1) * w ≡ k * w + w =
+    ap (λ n. n * w) (let e : k + 1 ≡ suc k = omega arith in e) ∙ suc-mul k w in
+    record {
+      grew = grew_more p old q inv.grew g;
+      noted = noted;
+      few = omega (arith, added.grown, part.len, inv.few, next);
+      edges = λ nodes at.
+          let at_q : slice_get q.keeps.items c.args.keep ≡ Some nodes =
+          g.keeps c.args.keep nodes (inv.grew.keeps c.args.keep nodes at) in
+          let before = subst
+          (λ v. AreEdges v old.values.items nodes states letters c.states.next.keys c.states.edges.items (k * w))
+          (sym g.view) (inv.edges nodes at) in
+          edges_more q.view old.values.items q.values.items q.keeps.items nodes states letters c.states.next.keys
+          c.add_edges.new.next.keys c.states.edges.items c.add_edges.new.edges.items _ k i c.args.keep g.values before
+          added at_i at_q part.len part.made;
+    }
 
 pub returns-clause-few : goal.returns-clause-few
 returns-clause-few c =
-    let done : c.pairs.p ≡ length c.args.states.now * length c.args.letters.now =
-    omega (arith, c.pairs.auto.p-end, c.pairs-test.false) in
-    omega (arith, ap length c.in_ok-next.ensures, c.pairs.invariant.few, done)
+    let done : c.states.k ≡ length c.args.states.now = omega (arith, c.states.auto.k-end, c.states-test.false) in
+    omega (
+      arith,
+      ap length c.in_ok-next.ensures,
+      c.states.invariant.few,
+      ap (λ n. n * length c.args.letters.now) done,
+    )
 
 pub returns-clause-edges : goal.returns-clause-edges
 returns-clause-edges c nodes at =
-    let done : c.pairs.p ≡ length c.args.states.now * length c.args.letters.now =
-    omega (arith, c.pairs.auto.p-end, c.pairs-test.false) in
-    subst (λ l. AreEdges c.pairs.pool.view c.pairs.pool.values.items nodes c.args.states.now c.args.letters.now l
-    c.pairs.edges.items (length c.args.states.now * length c.args.letters.now)) (sym c.in_ok-next.ensures)
-    (subst (λ n. AreEdges c.pairs.pool.view c.pairs.pool.values.items nodes c.args.states.now c.args.letters.now
-    c.pairs.next.keys c.pairs.edges.items n) done (c.pairs.invariant.edges nodes at))
+    let done : c.states.k ≡ length c.args.states.now = omega (arith, c.states.auto.k-end, c.states-test.false) in
+    subst (λ l. AreEdges c.states.pool.view c.states.pool.values.items nodes c.args.states.now c.args.letters.now l
+    c.states.edges.items (length c.args.states.now * length c.args.letters.now)) (sym c.in_ok-next.ensures)
+    (subst (λ n. AreEdges c.states.pool.view c.states.pool.values.items nodes c.args.states.now c.args.letters.now
+    c.states.next.keys c.states.edges.items (n * length c.args.letters.now)) done (c.states.invariant.edges nodes at))
 
 pub returns-then-len-most-clause-wide : goal.returns-then-len-most-clause-wide
 returns-then-len-most-clause-wide c e nodes at =
-    more_reached c.args.pool.now c.pairs.pool c.pairs.invariant.grew nodes c.args.states.now c.args.letters.now
-    c.pairs.next.keys c.pairs.edges.items c.pairs.p c.args.most c.requires.states c.requires.letters
-    (c.pairs.invariant.edges nodes at) c.pairs.invariant.few (omega (arith, c.pairs-test.true))
+    more_reached c.args.pool.now c.states.pool c.states.invariant.grew nodes c.args.states.now c.args.letters.now
+    c.states.next.keys c.states.edges.items (c.states.k * length c.args.letters.now) c.args.most c.requires.states
+    c.requires.letters (c.states.invariant.edges nodes at) c.states.invariant.few
+    (mul-le-mul_right (length c.args.letters.now)
+    (let h : c.states.k ≤ length c.args.states.now = omega (arith, c.states-test.true) in h))
     (omega (arith, c.len.ensures.len, c.if-len-most.true))

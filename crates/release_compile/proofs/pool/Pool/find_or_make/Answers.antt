@@ -16,11 +16,11 @@ composed_row-requires-clause-first c =
     let y : Answers = c.index-y.result.now in
     let nodes : List ℕ = get_or p.keeps.items k.keep [] in
     let first : slice_get p.values.items k.first ≡ Some x =
-    slice_get_read p.values.items _ k.first x refl c.requires.first c.index-x.ensures in
+    slice_get_read p.values.items _ k.first x refl c.requires.fits.first c.index-x.ensures in
     let second : slice_get p.values.items k.second ≡ Some y =
-    slice_get_read p.values.items _ k.second y refl c.requires.second c.index-y.ensures in
+    slice_get_read p.values.items _ k.second y refl c.requires.fits.second c.index-y.ensures in
     let asked : slice_get p.keeps.items k.keep ≡ Some nodes =
-    slice_get-get_or p.keeps.items k.keep [] c.requires.keep in
+    slice_get-get_or p.keeps.items k.keep [] c.requires.fits.keep in
     let sel : Selects x y nodes s = c.requires.selection x y nodes first second asked in
     sel.first
 
@@ -33,11 +33,11 @@ composed_row-requires-clause-second c =
     let y : Answers = c.index-y.result.now in
     let nodes : List ℕ = get_or p.keeps.items k.keep [] in
     let first : slice_get p.values.items k.first ≡ Some x =
-    slice_get_read p.values.items _ k.first x refl c.requires.first c.index-x.ensures in
+    slice_get_read p.values.items _ k.first x refl c.requires.fits.first c.index-x.ensures in
     let second : slice_get p.values.items k.second ≡ Some y =
-    slice_get_read p.values.items _ k.second y refl c.requires.second c.index-y.ensures in
+    slice_get_read p.values.items _ k.second y refl c.requires.fits.second c.index-y.ensures in
     let asked : slice_get p.keeps.items k.keep ≡ Some nodes =
-    slice_get-get_or p.keeps.items k.keep [] c.requires.keep in
+    slice_get-get_or p.keeps.items k.keep [] c.requires.fits.keep in
     let sel : Selects x y nodes s = c.requires.selection x y nodes first second asked in
     sel.second
 
@@ -50,14 +50,14 @@ composed_row-requires-clause-nodes c =
     let y : Answers = c.index-y.result.now in
     let nodes : List ℕ = get_or p.keeps.items k.keep [] in
     let first : slice_get p.values.items k.first ≡ Some x =
-    slice_get_read p.values.items _ k.first x refl c.requires.first c.index-x.ensures in
+    slice_get_read p.values.items _ k.first x refl c.requires.fits.first c.index-x.ensures in
     let second : slice_get p.values.items k.second ≡ Some y =
-    slice_get_read p.values.items _ k.second y refl c.requires.second c.index-y.ensures in
+    slice_get_read p.values.items _ k.second y refl c.requires.fits.second c.index-y.ensures in
     let asked : slice_get p.keeps.items k.keep ≡ Some nodes =
-    slice_get-get_or p.keeps.items k.keep [] c.requires.keep in
+    slice_get-get_or p.keeps.items k.keep [] c.requires.fits.keep in
     let sel : Selects x y nodes s = c.requires.selection x y nodes first second asked in
     subst (λ l. (n : ℕ) → Contains l n → Keeps x.kept n ⊎ Keeps y.kept n) (sym sel.asked)
-    (c.requires.nodes x y nodes first second asked)
+    (c.requires.fits.either x y nodes first second asked)
 
 pub composed-requires-clause-first : goal.composed-requires-clause-first
 composed-requires-clause-first c =
@@ -68,11 +68,11 @@ composed-requires-clause-first c =
     let y : Answers = c.index-y.result.now in
     let nodes : List ℕ = get_or p.keeps.items k.keep [] in
     let first : slice_get p.values.items k.first ≡ Some x =
-    slice_get_read p.values.items _ k.first x refl c.requires.first c.index-x.ensures in
+    slice_get_read p.values.items _ k.first x refl c.requires.fits.first c.index-x.ensures in
     let second : slice_get p.values.items k.second ≡ Some y =
-    slice_get_read p.values.items _ k.second y refl c.requires.second c.index-y.ensures in
+    slice_get_read p.values.items _ k.second y refl c.requires.fits.second c.index-y.ensures in
     let asked : slice_get p.keeps.items k.keep ≡ Some nodes =
-    slice_get-get_or p.keeps.items k.keep [] c.requires.keep in
+    slice_get-get_or p.keeps.items k.keep [] c.requires.fits.keep in
     let sel : Selects x y nodes s = c.requires.selection x y nodes first second asked in
     sel.first
 
@@ -85,11 +85,11 @@ composed-requires-clause-second c =
     let y : Answers = c.index-y.result.now in
     let nodes : List ℕ = get_or p.keeps.items k.keep [] in
     let first : slice_get p.values.items k.first ≡ Some x =
-    slice_get_read p.values.items _ k.first x refl c.requires.first c.index-x.ensures in
+    slice_get_read p.values.items _ k.first x refl c.requires.fits.first c.index-x.ensures in
     let second : slice_get p.values.items k.second ≡ Some y =
-    slice_get_read p.values.items _ k.second y refl c.requires.second c.index-y.ensures in
+    slice_get_read p.values.items _ k.second y refl c.requires.fits.second c.index-y.ensures in
     let asked : slice_get p.keeps.items k.keep ≡ Some nodes =
-    slice_get-get_or p.keeps.items k.keep [] c.requires.keep in
+    slice_get-get_or p.keeps.items k.keep [] c.requires.fits.keep in
     let sel : Selects x y nodes s = c.requires.selection x y nodes first second asked in
     sel.second
 
@@ -102,14 +102,14 @@ composed-requires-clause-nodes c =
     let y : Answers = c.index-y.result.now in
     let nodes : List ℕ = get_or p.keeps.items k.keep [] in
     let first : slice_get p.values.items k.first ≡ Some x =
-    slice_get_read p.values.items _ k.first x refl c.requires.first c.index-x.ensures in
+    slice_get_read p.values.items _ k.first x refl c.requires.fits.first c.index-x.ensures in
     let second : slice_get p.values.items k.second ≡ Some y =
-    slice_get_read p.values.items _ k.second y refl c.requires.second c.index-y.ensures in
+    slice_get_read p.values.items _ k.second y refl c.requires.fits.second c.index-y.ensures in
     let asked : slice_get p.keeps.items k.keep ≡ Some nodes =
-    slice_get-get_or p.keeps.items k.keep [] c.requires.keep in
+    slice_get-get_or p.keeps.items k.keep [] c.requires.fits.keep in
     let sel : Selects x y nodes s = c.requires.selection x y nodes first second asked in
     subst (λ l. (n : ℕ) → Contains l n → Keeps x.kept n ⊎ Keeps y.kept n) (sym sel.asked)
-    (c.requires.nodes x y nodes first second asked)
+    (c.requires.fits.either x y nodes first second asked)
 
 pub returns-in-Some-clause-made : goal.returns-in-Some-clause-made
 returns-in-Some-clause-made c =
@@ -120,11 +120,11 @@ returns-in-Some-clause-made c =
     let y : Answers = c.index-y.result.now in
     let nodes : List ℕ = get_or p.keeps.items k.keep [] in
     let first : slice_get p.values.items k.first ≡ Some x =
-    slice_get_read p.values.items _ k.first x refl c.requires.first c.index-x.ensures in
+    slice_get_read p.values.items _ k.first x refl c.requires.fits.first c.index-x.ensures in
     let second : slice_get p.values.items k.second ≡ Some y =
-    slice_get_read p.values.items _ k.second y refl c.requires.second c.index-y.ensures in
+    slice_get_read p.values.items _ k.second y refl c.requires.fits.second c.index-y.ensures in
     let asked : slice_get p.keeps.items k.keep ≡ Some nodes =
-    slice_get-get_or p.keeps.items k.keep [] c.requires.keep in
+    slice_get-get_or p.keeps.items k.keep [] c.requires.fits.keep in
     let sel : Selects x y nodes s = c.requires.selection x y nodes first second asked in
     let b = c.in_ok-row.ensures in
     let h = c.in-Some.ensures p.view p.values.items c.requires.pool.index in
@@ -157,11 +157,11 @@ returns-clause-made c =
     let y : Answers = c.index-y.result.now in
     let nodes : List ℕ = get_or p.keeps.items k.keep [] in
     let first : slice_get p.values.items k.first ≡ Some x =
-    slice_get_read p.values.items _ k.first x refl c.requires.first c.index-x.ensures in
+    slice_get_read p.values.items _ k.first x refl c.requires.fits.first c.index-x.ensures in
     let second : slice_get p.values.items k.second ≡ Some y =
-    slice_get_read p.values.items _ k.second y refl c.requires.second c.index-y.ensures in
+    slice_get_read p.values.items _ k.second y refl c.requires.fits.second c.index-y.ensures in
     let asked : slice_get p.keeps.items k.keep ≡ Some nodes =
-    slice_get-get_or p.keeps.items k.keep [] c.requires.keep in
+    slice_get-get_or p.keeps.items k.keep [] c.requires.fits.keep in
     let sel : Selects x y nodes s = c.requires.selection x y nodes first second asked in
     let q = c.intern.new.self in
     let g = c.in_ok-place.ensures.grew in

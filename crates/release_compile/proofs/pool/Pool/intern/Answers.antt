@@ -1,9 +1,12 @@
 use Rattle.std.proofs.Common.{◌≡◌, [], ◌∷◌, ◌++◌, length, slice_get, refl, sym, ap, ◌∙◌, subst}
 use Rattle.contraction.specs.Answers.{Answers}
+use Rattle.release_compile.specs.declared.pool.Pool.{Pool}
 use Rattle.release_compile.specs.Folding.{AreApartIn, AreWell}
-use Rattle.release_compile.specs.Pooling.{IsRowIndex, NotesAreRight, Extends}
+use Rattle.release_compile.specs.Pooling.{IsRowIndex, Extends}
 use Rattle.release_compile.proofs.LayerLemmas.{get_front, get_last}
-use Rattle.release_compile.proofs.PoolLemmas.{notes_stay, well_more, apart_more}
+use Rattle.release_compile.proofs.PoolLemmas.{well_more, apart_more}
+use Rattle.release_compile.proofs.LayeringLemmas.{Grows, grew_of}
+use Rattle.release_compile.proofs.BatchLemmas.{notes_stay}
 use Rattle.release_compile.proofs.pool.Pool.intern.Goals as goal
 
 pub returns-in-Some-clause-same : goal.returns-in-Some-clause-same
@@ -26,24 +29,25 @@ returns-in_ok-push-in-None-clause-grew c =
     let well_x = c.row_in.ensures.answers in
     let more : Extends p.values.items (p.values.items ++ x ∷ []) = λ i y at. get_front p.values.items (x ∷ []) i y at in
     let none = c.in-None.ensures p.view p.values.items c.requires.index in
-    record {
-      is_pool = record {
-        index =
-            subst (λ vs. IsRowIndex p.view vs c.note_row.new.index) (sym items) (c.in_ok-note_row-in-None.ensures p.view
-            p.values.items x c.requires.index (ap length c.as_slice-held.ensures.value) c.in_ok-row.ensures.row);
-        apart =
-            subst (λ vs. AreApartIn p.view vs) (sym items) (apart_more p.view p.values.items x c.requires.well well_x
-            c.requires.apart
-            (λ i y at same. none i y at ((c.in_ok-row.ensures.tells y (c.requires.well i y at)).1 same)));
-        well = subst (λ vs. AreWell vs) (sym items) (well_more p.view p.values.items x c.requires.well well_x);
-        notes =
-            subst (λ vs. NotesAreRight p.view vs p.keeps.items p.notes) (sym items)
-            (notes_stay p.view p.values.items (p.values.items ++ x ∷ []) p.keeps.items p.notes more c.requires.notes);
-      };
+    let q : Pool = record p { index = c.note_row.new.index; values = c.push.new.self } in
+    let g : Grows p q = record {
       view = refl;
       keeps = λ k ns at. at;
       values = subst (λ vs. Extends p.values.items vs) (sym items) more;
-    }
+      letters = λ l ids at. at;
+      made = λ i t at. at;
+    } in
+    grew_of p q (record {
+      index =
+          subst (λ vs. IsRowIndex p.view vs c.note_row.new.index) (sym items) (c.in_ok-note_row-in-None.ensures p.view
+          p.values.items x c.requires.index (ap length c.as_slice-held.ensures.value) c.in_ok-row.ensures.row);
+      apart =
+          subst (λ vs. AreApartIn p.view vs) (sym items) (apart_more p.view p.values.items x c.requires.well well_x
+          c.requires.apart
+          (λ i y at same. none i y at ((c.in_ok-row.ensures.tells y (c.requires.well i y at)).1 same)));
+      well = subst (λ vs. AreWell vs) (sym items) (well_more p.view p.values.items x c.requires.well well_x);
+      notes = notes_stay p q g p.notes c.requires.notes;
+    }) g
 
 pub returns-in_ok-push-in-None-clause-same : goal.returns-in_ok-push-in-None-clause-same
 returns-in_ok-push-in-None-clause-same c =

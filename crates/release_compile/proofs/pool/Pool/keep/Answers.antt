@@ -1,7 +1,9 @@
 use Rattle.std.proofs.Common.{◌≡◌, ◌++◌, ◌∷◌, [], length, slice_get, refl, sym, ap, ◌∙◌, subst}
-use Rattle.release_compile.specs.Pooling.{Extends, NotesAreRight}
+use Rattle.release_compile.specs.declared.pool.Pool.{Pool}
+use Rattle.release_compile.specs.Pooling.{Extends}
 use Rattle.release_compile.proofs.LayerLemmas.{get_front, get_last}
-use Rattle.release_compile.proofs.PoolLemmas.{notes_keep}
+use Rattle.release_compile.proofs.LayeringLemmas.{Grows, grew_of}
+use Rattle.release_compile.proofs.BatchLemmas.{notes_stay}
 use Rattle.release_compile.proofs.pool.Pool.keep.Goals as goal
 
 pub returns-clause-grew : goal.returns-clause-grew
@@ -10,19 +12,20 @@ returns-clause-grew c =
     let items : c.push.new.self.items ≡ p.keeps.items ++ c.args.nodes ∷ [] = c.in_ok-push.ensures.items in
     let more : Extends p.keeps.items (p.keeps.items ++ c.args.nodes ∷ []) =
     λ k ns at. get_front p.keeps.items (c.args.nodes ∷ []) k ns at in
-    record {
-      is_pool = record {
-        index = c.requires.index;
-        apart = c.requires.apart;
-        well = c.requires.well;
-        notes =
-            subst (λ ks. NotesAreRight p.view p.values.items ks p.notes) (sym items) (notes_keep p.view p.values.items
-            p.keeps.items (p.keeps.items ++ c.args.nodes ∷ []) p.notes more c.requires.notes);
-      };
+    let q : Pool = record p { keeps = c.push.new.self } in
+    let g : Grows p q = record {
       view = refl;
       keeps = subst (λ ks. Extends p.keeps.items ks) (sym items) more;
       values = λ i x at. at;
-    }
+      letters = λ l ids at. at;
+      made = λ i t at. at;
+    } in
+    grew_of p q (record {
+      index = c.requires.index;
+      apart = c.requires.apart;
+      well = c.requires.well;
+      notes = notes_stay p q g p.notes c.requires.notes;
+    }) g
 
 pub returns-clause-kept : goal.returns-clause-kept
 returns-clause-kept c =

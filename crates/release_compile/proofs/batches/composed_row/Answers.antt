@@ -5,7 +5,7 @@ use Rattle.contraction.specs.Composing.{IsGapRowOfBoth, IsLoadRowOfBoth}
 use Rattle.release_compile.specs.declared.view.View.TheVariants.{Gap, Load}
 use Rattle.release_compile.specs.Pooling.{IsRowOfBoth}
 use Rattle.release_compile.proofs.PoolLemmas.{if_ok}
-use Rattle.release_compile.proofs.pool.composed_row.Goals as goal
+use Rattle.release_compile.proofs.batches.composed_row.Goals as goal
 
 pub returns-in-Gap : goal.returns-in-Gap
 returns-in-Gap c =
