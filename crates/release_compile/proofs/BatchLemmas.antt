@@ -1,17 +1,19 @@
 -- Batches of a pool, noted by where they begin.
-use Rattle.std.proofs.Common.{◌≡◌, ℕ, ◌+◌, Bool, true, false, cond, List, [], ◌∷◌, ◌++◌, length, get_or, slice_get, take, drop}
+use Rattle.std.proofs.Common.{◌≡◌, ℕ, ◌+◌, Bool, true, false, cond, List, [], ◌∷◌, ◌++◌, length, get_or, slice_get}
+use Rattle.std.proofs.Common.{take, drop}
 use Rattle.std.proofs.Common.{◌-◌, ◌<◌, ◌≤◌, Option, Some, refl, sym, ap, ◌∙◌, subst, inl, inr, arith}
 use Rattle.std.specs.Prelude.{nat_eq, ◌&&◌}
 use Rattle.std.specs.HashMap.{HashMap, get, Updates}
 use Rattle.std.proofs.lemmas.Bool.Decides.{Decides-eqb}
-use Rattle.std.proofs.lemmas.List.{length-append, get_or-append-add, length_push, length-drop, length-take-le, get_or-take, get_or-drop, same_lists}
+use Rattle.std.proofs.lemmas.List.{length-append, get_or-append-add, length_push, length-drop, length-take-le}
+use Rattle.std.proofs.lemmas.List.{get_or-take, get_or-drop, same_lists}
 use Rattle.std.proofs.lemmas.Option.{slice_get_within, slice_get-get_or, get_or_from_slice_get, same_Some}
 use Rattle.station_graph.proofs.PathLemmas.{slice_get-push}
 use Rattle.contraction.specs.Selecting.{Selected}
 use Rattle.release_compile.specs.declared.batches.Made.{Made}
 use Rattle.release_compile.specs.declared.batches.Batch.{Batch}
 use Rattle.release_compile.specs.declared.pool.Pool.{Pool}
-use Rattle.release_compile.specs.Pooling.{Extends, WasMade, AreMade, HasBatch, NotesAreRight, composition, same_batch}
+use Rattle.release_compile.specs.Pooling.{Extends, WasMade, MakesEach, HasBatch, NotesAreRight, composition, same_batch}
 use Rattle.release_compile.specs.Pooling.{letter_lists, IsPool, GrewTo, CanCompose}
 use Rattle.release_compile.specs.Layering.{no_answers}
 use Rattle.release_compile.proofs.LayeringLemmas.{Grows, grew_of, grew_in, keep_in, either_more}
@@ -36,8 +38,8 @@ was_made_more p q g k t w =
       };
     })
 
-pub are_made_more : (p q : Pool) → Grows p q → (b : Batch) (letters ids : List ℕ) → AreMade p b letters ids →
-    AreMade q b letters ids
+pub are_made_more : (p q : Pool) → Grows p q → (b : Batch) (letters ids : List ℕ) → MakesEach p b letters ids →
+    MakesEach q b letters ids
 are_made_more p q g b letters ids m = record {
   len = m.len;
   made = λ c j t at_c at_t. was_made_more p q g (composition b j) t (m.made c j t at_c at_t);
@@ -123,15 +125,15 @@ notes_none p m em b start e = absurd (let h = rw em at e in cc)
 
 -- ---- letter by letter
 
-pub made_none : (p : Pool) (b : Batch) (ids : List ℕ) → ids ≡ [] → AreMade p b [] ids
+pub made_none : (p : Pool) (b : Batch) (ids : List ℕ) → ids ≡ [] → MakesEach p b [] ids
 made_none p b ids e = record {
   len = ap length e;
   made = λ c j t at_c. absurd (let h : slice_get {X = ℕ} [] c ≡ Some j = at_c in cc);
 }
 
-pub made_one : (p : Pool) (b : Batch) (letters ids : List ℕ) (letter id : ℕ) → AreMade p b letters ids →
+pub made_one : (p : Pool) (b : Batch) (letters ids : List ℕ) (letter id : ℕ) → MakesEach p b letters ids →
     WasMade p.view p.values.items p.keeps.items (composition b letter) id →
-    AreMade p b (letters ++ letter ∷ []) (ids ++ id ∷ [])
+    MakesEach p b (letters ++ letter ∷ []) (ids ++ id ∷ [])
 made_one p b letters ids letter id old new = record {
   len = omega (arith, length_push ids id, length_push letters letter, old.len);
   made = λ c j t at_c at_t. elim (slice_get-push letters letter j c at_c) [
@@ -190,9 +192,9 @@ module _ (p : Pool) (b : Batch) (start : ℕ) (letters : List ℕ) (h : HasBatch
       h.at last id (slice_get-get_or h.ids last 0 (omega (arith, count, some))) in
       omega (arith, slice_get_within p.made.items (start + last) id at, some)
 
-  pub batch_made : AreMade p b letters (take (length letters) (drop start p.made.items))
+  pub batch_made : MakesEach p b letters (take (length letters) (drop start p.made.items))
   batch_made =
       let is : take (length letters) (drop start p.made.items) ≡ h.ids =
       ap (λ n. take n (drop start p.made.items)) (sym count)
       ∙ part_is p.made.items h.ids start h.at (omega (arith, count, batch_ends)) in
-      subst (λ l. AreMade p b letters l) (sym is) (subst (λ l. AreMade p b l h.ids) same_letters h.made)
+      subst (λ l. MakesEach p b letters l) (sym is) (subst (λ l. MakesEach p b l h.ids) same_letters h.made)

@@ -1,5 +1,6 @@
 -- Lists of the nodes of a kind, found one after another.
-use Rattle.std.proofs.Common.{◌≡◌, ℕ, ◌+◌, ◌-◌, ◌<◌, ◌≤◌, ◌⊎◌, ◌↔◌, suc, Bool, true, List, [], ◌∷◌, ◌++◌, length, get_or}
+use Rattle.std.proofs.Common.{◌≡◌, ℕ, ◌+◌, ◌-◌, ◌<◌, ◌≤◌, ◌⊎◌, ◌↔◌, suc, Bool, true, List, [], ◌∷◌, ◌++◌, length}
+use Rattle.std.proofs.Common.{get_or}
 use Rattle.std.proofs.Common.{slice_get, slice_index, Contains, Some, refl, sym, ap, ◌∙◌, subst, inl, inr, arith}
 use Rattle.std.proofs.lemmas.Bool.{cases_lt, cases_eq}
 use Rattle.std.proofs.lemmas.Option.{slice_get-get_or}
@@ -14,7 +15,8 @@ use Rattle.contraction.specs.Answers.{AreNodes}
 use Rattle.contraction.specs.Stands.{Among}
 use Rattle.release_compile.specs.Graphs.{other_of, IsOwn}
 use Rattle.release_compile.specs.Listing.{part_items}
-use Rattle.release_compile.specs.Needing.{AreShared, IsSharedBySome, SharesFrom, IsNeededOuter, IsNeededInner, InnerNeeds}
+use Rattle.release_compile.specs.Needing.{AreShared, IsSharedBySome, SharesFrom, IsNeededOuter, IsNeededInner}
+use Rattle.release_compile.specs.Needing.{InnerNeeds}
 use Rattle.release_compile.specs.Needing.{TouchesOwn, BayNeeds}
 use Rattle.release_compile.proofs.LayerLemmas.{get_front, get_last}
 use Rattle.release_compile.proofs.VerdictLemmas.{other_cases, other_in, own_place}

@@ -56,7 +56,7 @@ abbrev pub letter_lists : Pool → List (List ℕ)
 letter_lists p = map (λ v. v.items) p.letters.items
 
 -- Letter by letter, these are the numbers of what the value of the batch and the letter make together.
-pub record AreMade (p : Pool) (b : Batch) (letters ids : List ℕ) : Type 0 where
+pub record MakesEach (p : Pool) (b : Batch) (letters ids : List ℕ) : Type 0 where
   pub len : length ids ≡ length letters
   pub made : (c j t : ℕ) → slice_get letters c ≡ Some j → slice_get ids c ≡ Some t →
       WasMade p.view p.values.items p.keeps.items (composition b j) t
@@ -66,7 +66,7 @@ pub record HasBatch (p : Pool) (b : Batch) (start : ℕ) : Type 0 where
   pub letters : List ℕ
   pub ids : List ℕ
   pub listed : slice_get (letter_lists p) b.letters ≡ Some letters
-  pub made : AreMade p b letters ids
+  pub made : MakesEach p b letters ids
   pub at : (c t : ℕ) → slice_get ids c ≡ Some t → slice_get p.made.items (start + c) ≡ Some t
 
 -- Both are of the same value, the same letters and the same nodes.

@@ -5,7 +5,8 @@ ghost use Rattle.contraction.specs.Answers.{Keeps};
 ghost use Rattle.release_compile.specs.declared.pool.Pool.{Pool as AnyPool};
 ghost use Rattle.release_compile.specs.Seen.{ComposesIn};
 ghost use Rattle.release_compile.specs.Pooling.{IsPool, GrewTo, Selects, SelectsFor, IsRowOfBoth};
-ghost use Rattle.release_compile.specs.Pooling.{CanCompose, LettersFit, WasMade, AreMade, HasBatch, NotesAreRight, letter_lists};
+ghost use Rattle.release_compile.specs.Pooling.{CanCompose, LettersFit, WasMade, MakesEach, HasBatch, NotesAreRight};
+ghost use Rattle.release_compile.specs.Pooling.{letter_lists};
 
 use crate::pool::{Pool, find_row};
 use crate::view::View;
@@ -195,7 +196,7 @@ impl Pool {
         requires pool { IsPool self.old }
         requires fit { LettersFit self.old batch letters.now }
         ensures grew { OnOk result (GrewTo self.old self.new) }
-        ensures made { IfOk result (λ v. AreMade self.new batch letters.now v.items) }
+        ensures made { IfOk result (λ v. MakesEach self.new batch letters.now v.items) }
     {
         let mut ids = Vec::with_capacity(alloc, letters.len())?;
         'letters: for c in 0..letters.len() {

@@ -99,7 +99,8 @@ fn own_graphs(
     requires left { left ≤ 8000000 }
     ensures grew { OnOk result (GrewTo pool.old pool.new) }
     ensures notes { OnOk result (AreRight pool.new notes.new.items) }
-    ensures inner { IfOk result (λ r. (a : Alphabets) → AreInner pool.old.view (lettered station.now a) bay.0 first count
+    ensures inner { IfOk result
+        (λ r. (a : Alphabets) → AreInner pool.old.view (lettered station.now a) bay.0 first count
         (values_at (map (mapped (node_listed list.now)) pool.old.values.items) own.now.names.items) r.graphs.items
         count) }
     ensures wide { IfErr result (λ e. e ≡ Wide →

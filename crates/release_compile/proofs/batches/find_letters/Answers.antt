@@ -10,7 +10,8 @@ returns-then-eq c =
     let place = c.loop-place.place in
     let held = c.index-lists-place.result in
     let here : List ℕ = c.as_slice.result.now in
-    let same : here ≡ c.args.letters.now = (bytes_eq-Decides here c.args.letters.now).0 (sym c.eq.ensures ∙ c.if-eq.true) in
+    let same : here ≡ c.args.letters.now =
+    (bytes_eq-Decides here c.args.letters.now).0 (sym c.eq.ensures ∙ c.if-eq.true) in
     slice_get-map (λ v. v.items) lists place
     ∙ (ap (option_map (λ v. v.items))
     (slice_get_read lists _ place held refl c.loop-place-test.true c.index-lists-place.is)

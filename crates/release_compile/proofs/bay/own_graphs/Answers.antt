@@ -38,9 +38,13 @@ loop-i-init c = record {
   };
   inner =
       λ a. subst (λ (gs : List Layered). AreInner c.args.pool.now.view (lettered c.args.station.now a) c.args.bay.0
-      c.args.first c.args.count (values_at (map (mapped (node_listed c.args.list.now)) c.args.pool.now.values.items) c.args.own.now.names.items) gs 0)
+      c.args.first c.args.count
+      (values_at (map (mapped (node_listed c.args.list.now)) c.args.pool.now.values.items)
+      c.args.own.now.names.items) gs 0)
       (sym c.new-graphs.ensures.items) (inner_none c.args.pool.now.view (lettered c.args.station.now a) c.args.bay.0
-      c.args.first c.args.count (values_at (map (mapped (node_listed c.args.list.now)) c.args.pool.now.values.items) c.args.own.now.names.items));
+      c.args.first c.args.count
+      (values_at (map (mapped (node_listed c.args.list.now)) c.args.pool.now.values.items)
+      c.args.own.now.names.items));
 }
 
 pub inner_graph-requires-clause-own : goal.inner_graph-requires-clause-own
@@ -119,7 +123,8 @@ pub returns-clause-inner : goal.returns-clause-inner
 returns-clause-inner c a =
     let done : c.loop-i.i ≡ c.args.count = omega (arith, c.loop-i.auto.i-end, c.loop-i-test.false) in
     subst (λ n. AreInner c.args.pool.now.view (lettered c.args.station.now a) c.args.bay.0 c.args.first c.args.count
-    (values_at (map (mapped (node_listed c.args.list.now)) c.args.pool.now.values.items) c.args.own.now.names.items) c.loop-i.graphs.items n) done (c.loop-i.invariant.inner a)
+    (values_at (map (mapped (node_listed c.args.list.now)) c.args.pool.now.values.items) c.args.own.now.names.items)
+    c.loop-i.graphs.items n) done (c.loop-i.invariant.inner a)
 
 pub returns-clause-spent : goal.returns-clause-spent
 returns-clause-spent c =

@@ -4,7 +4,7 @@ use Rattle.std.proofs.lemmas.Option.{slice_get-get_or}
 use Rattle.std.proofs.Math.Nat.{suc-mul, zero-mul, mul-le-mul_right}
 use Rattle.release_compile.specs.declared.batches.Batch.{Batch}
 use Rattle.release_compile.specs.declared.pool.Pool.{Pool}
-use Rattle.release_compile.specs.Pooling.{AreMade, HasBatch, letter_lists}
+use Rattle.release_compile.specs.Pooling.{MakesEach, HasBatch, letter_lists}
 use Rattle.release_compile.specs.Layering.{AreEdges}
 use Rattle.release_compile.proofs.LayeringLemmas.{grew_more, nil_of_len}
 use Rattle.release_compile.proofs.AddedEdges.{edges_none, edges_more}
@@ -46,11 +46,11 @@ batch-requires-clause-fit c m j at_j =
 module _ (q : Pool) (b : Batch) (start : ℕ) (letters : List ℕ) (has : HasBatch q b start)
     (noted : slice_get (letter_lists q) b.letters ≡ Some letters) (some : 0 < length letters) (made : List ℕ)
     (is : made ≡ q.made.items) where
-  part_made : AreMade q b letters (take (start + length letters - start) (drop start made))
+  part_made : MakesEach q b letters (take (start + length letters - start) (drop start made))
   part_made =
-      subst (λ n. AreMade q b letters (take n (drop start made)))
+      subst (λ n. MakesEach q b letters (take n (drop start made)))
       (let e : length letters ≡ start + length letters - start = omega arith in e)
-      (subst (λ l. AreMade q b letters (take (length letters) (drop start l))) (sym is)
+      (subst (λ l. MakesEach q b letters (take (length letters) (drop start l))) (sym is)
       (batch_made q b start letters has noted some))
 
 pub add_edges-requires : goal.add_edges-requires

@@ -28,6 +28,11 @@ returns c = (
       let w = list_of_part c.args.station.now c.args.shared.now some.0 c.args.node c.part_count-count.ensures.station
       c.requires some.1 in
       absurd (c.loop-part.invariant some.0 w.0
-      (omega (arith, slice_get_within c.args.shared.now some.0 w.0 w.1, c.loop-part-test.false, c.loop-part.auto.part-end))
+      (omega (
+        arith,
+        slice_get_within c.args.shared.now some.0 w.0 w.1,
+        c.loop-part-test.false,
+        c.loop-part.auto.part-end,
+      ))
       w.1 w.2),
 )

@@ -19,7 +19,8 @@ find_or_make-requires-clause-selection c x y nodes at_x at_y at_nodes =
     let b : Answers = c.index-y.result.now in
     let list : List ℕ = c.index.result.now in
     let is_x : a ≡ x =
-    same_Some a x (sym (slice_get_read p.values.items _ k.first a refl c.requires.fits.first c.index-x.ensures) ∙ at_x) in
+    same_Some a x (sym (slice_get_read p.values.items _ k.first a refl c.requires.fits.first c.index-x.ensures) ∙ at_x)
+    in
     let is_y : b ≡ y =
     same_Some b y
     (sym (slice_get_read p.values.items _ k.second b refl c.requires.fits.second c.index-y.ensures) ∙ at_y) in

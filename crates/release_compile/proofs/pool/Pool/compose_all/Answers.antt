@@ -1,7 +1,7 @@
 use Rattle.std.proofs.Common.{◌≡◌, [], ◌∷◌, ◌++◌, take, get_or, length, sym, subst, arith}
 use Rattle.std.proofs.lemmas.List.{take_more, take_all}
 use Rattle.std.proofs.lemmas.Option.{slice_get-get_or}
-use Rattle.release_compile.specs.Pooling.{AreMade, composition}
+use Rattle.release_compile.specs.Pooling.{MakesEach, composition}
 use Rattle.release_compile.proofs.LayeringLemmas.{grows, grew_same, grew_more}
 use Rattle.release_compile.proofs.BatchLemmas.{can_more, are_made_more, made_none, made_one}
 use Rattle.release_compile.proofs.pool.Pool.compose_all.Goals as goal
@@ -36,12 +36,12 @@ letters-preserved c =
     record {
       grew = grew_more c.args.self.now c.letters.self q c.letters.invariant.grew g;
       made =
-          subst (λ l. AreMade q b l c.push.new.self.items) (sym (take_more letters k 0 c.letters-test.true))
-          (subst (λ l. AreMade q b (take k letters ++ letter ∷ []) l) (sym c.in_ok-push.ensures.items)
+          subst (λ l. MakesEach q b l c.push.new.self.items) (sym (take_more letters k 0 c.letters-test.true))
+          (subst (λ l. MakesEach q b (take k letters ++ letter ∷ []) l) (sym c.in_ok-push.ensures.items)
           (made_one q b (take k letters) c.letters.ids.items letter id old c.in_ok-id.ensures.made));
     }
 
 pub returns-clause-made : goal.returns-clause-made
 returns-clause-made c =
-    subst (λ l. AreMade c.letters.self c.args.batch l c.letters.ids.items)
+    subst (λ l. MakesEach c.letters.self c.args.batch l c.letters.ids.items)
     (take_all c.letters.c c.args.letters.now (omega (arith, c.letters-test.false))) c.letters.invariant.made

@@ -13,7 +13,8 @@ returns-clause-grew c =
     let q : Pool = record p { letters = c.push.new.self } in
     let new : List ℕ = c.in_ok-to_vec.field-0.items in
     let lists : letter_lists q ≡ letter_lists p ++ new ∷ [] =
-    ap (map (λ v. v.items)) c.in_ok-push.ensures.items ∙ map_push (λ v. v.items) p.letters.items c.in_ok-to_vec.field-0 in
+    ap (map (λ v. v.items)) c.in_ok-push.ensures.items
+    ∙ map_push (λ v. v.items) p.letters.items c.in_ok-to_vec.field-0 in
     let more : Extends (letter_lists p) (letter_lists p ++ new ∷ []) =
     λ l ids at. get_front (letter_lists p) (new ∷ []) l ids at in
     let g : Grows p q = record {
@@ -35,7 +36,8 @@ returns-clause-noted c =
     let p = c.args.self.now in
     let new : List ℕ = c.in_ok-to_vec.field-0.items in
     let lists : map (λ v. v.items) c.push.new.self.items ≡ letter_lists p ++ new ∷ [] =
-    ap (map (λ v. v.items)) c.in_ok-push.ensures.items ∙ map_push (λ v. v.items) p.letters.items c.in_ok-to_vec.field-0 in
+    ap (map (λ v. v.items)) c.in_ok-push.ensures.items
+    ∙ map_push (λ v. v.items) p.letters.items c.in_ok-to_vec.field-0 in
     let place : length c.as_slice-held.result.now ≡ length (letter_lists p) =
     ap length c.as_slice-held.ensures.value ∙ sym (length-map p.letters.items (λ v. v.items)) in
     ap (λ ls. slice_get ls (length c.as_slice-held.result.now)) lists
