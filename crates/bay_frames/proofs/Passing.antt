@@ -1,97 +1,27 @@
 -- Bytes that pass each test are the row of their fields, which are lawful, and the row of a lawful
 -- frame passes each test.
-use Rattle.std.proofs.Common.{◌≡◌, ℕ, ◌+◌, ◌^◌, ◌<◌, ◌≤◌, ◌≢◌, Bool, true, false, cond, ltb, leb, eqb, not, ◌||◌, List}
-use Rattle.std.proofs.Common.{[], ◌∷◌, ◌++◌, length, take, drop, get_or, inl, inr, Option, Some, None, Result, Ok, Err}
+use Rattle.std.proofs.Common.{◌≡◌, ℕ, ◌+◌, ◌^◌, ◌<◌, ◌≤◌, ◌≢◌, Bool, true, false, cond, ltb, leb, eqb, ◌||◌, List, []}
+use Rattle.std.proofs.Common.{◌∷◌, ◌++◌, length, take, drop, get_or, inl, inr, Option, Some, None, Result, Ok, Err}
 use Rattle.std.proofs.Common.{refl, sym, ap, subst, ◌∙◌, arith}
 use Rattle.std.specs.Prelude.{IfOk}
 use Rattle.std.specs.Int.{w16, w32, to_be_bytes, from_be_bytes}
 use Rattle.std.proofs.lemmas.Bool.{cases_lt, and_parts, ltb-false, le-ltb, leb-true, le-leb, eqb-true, eqb-false}
-use Rattle.std.proofs.lemmas.Bool.{ne_eqb, not-false, or_parts, or_from}
+use Rattle.std.proofs.lemmas.Bool.{ne_eqb, or_parts, or_from}
 use Rattle.std.proofs.lemmas.List.{nil_from_length, get_or-drop, get_or-take, get_or_past, length-take, length-drop}
 use Rattle.std.proofs.lemmas.Nat.{be_bytes_2, be_bytes_4}
 use Rattle.ilk_base.specs.declared.words.BayId.{BayId}
 use Rattle.bay_frames.specs.declared.frame.Frame.{Frame}
 use Rattle.bay_frames.specs.declared.frame.FrameRefusal.{FrameRefusal}
-use Rattle.bay_frames.specs.declared.frame.FrameRefusal.TheVariants.{Short, Kind, Length, Long, Field}
+use Rattle.bay_frames.specs.declared.frame.FrameRefusal.TheVariants.{Field}
 use Rattle.bay_frames.specs.declared.frame.Body.{Body}
 use Rattle.bay_frames.specs.declared.frame.Body.TheVariants.{Reserve, Answer, Busy, Query, Over}
 use Rattle.bay_frames.specs.Row.{row_of, frame_row, payload_row, kind_number, IsLawful, IsLawfulBody, FitsRow, FitsBody}
-use Rattle.bay_frames.specs.Tests.{round_at, said_length, is_kind, is_length, refused_if, short_test, long_test}
-use Rattle.bay_frames.specs.Tests.{kind_test, length_test, receiver_test, round_test, size_tests, payload_tests}
+use Rattle.bay_frames.specs.Tests.{round_at, said_length, is_kind, is_length, refused_if}
+use Rattle.bay_frames.specs.Tests.{receiver_test, round_test, size_tests, payload_tests}
 use Rattle.bay_frames.specs.Tests.{field_tests, first_refusal, first_failure, PassesOrRefuses}
 use Rattle.bay_frames.specs.Fields.{bay_at, body_at, frame_at}
 use Rattle.bay_frames.proofs.Rows.{IsBytes, frame_again, round_back, holder_back, length_said, payload_short}
-
--- ---- lists of tests
-
--- a list of which no test fails begins with one that does not, and so on
-pub passes_first : (b : Bool) (r : FrameRefusal) (tests : List (Option FrameRefusal)) →
-    first_refusal (refused_if b r ∷ tests) ≡ None → (b ≡ false) × (first_refusal tests ≡ None)
-passes_first true r tests e = absurd cc
-passes_first false r tests e = (refl, e)
-
-pub passes : (b : Bool) (r : FrameRefusal) (tests : List (Option FrameRefusal)) → b ≡ false →
-    first_refusal tests ≡ None → first_refusal (refused_if b r ∷ tests) ≡ None
-passes b r tests e h = rw e h
-
-pub parts_pass : (xs ys : List (Option FrameRefusal)) → first_refusal (xs ++ ys) ≡ None → (first_refusal xs ≡ None)
-    × (first_refusal ys ≡ None)
-parts_pass [] ys e = (refl, e)
-parts_pass (None ∷ xs) ys e = parts_pass xs ys e
-parts_pass (Some r ∷ xs) ys e = absurd cc
-
--- ---- sizes
-
-pub record FitsSize (bytes : List ℕ) : Type 0 where
-  pub head : 9 ≤ length bytes
-  pub kind : is_kind (get_or bytes 0 0) ≡ true
-  pub fits : is_length (get_or bytes 0 0) (said_length bytes) ≡ true
-  pub whole : length bytes ≡ 9 + said_length bytes
-
--- the tests that follow each
-abbrev from_long : List ℕ → List (Option FrameRefusal)
-from_long bytes = long_test bytes (9 + said_length bytes) ∷ []
-
-abbrev from_short : List ℕ → List (Option FrameRefusal)
-from_short bytes = short_test bytes (9 + said_length bytes) ∷ from_long bytes
-
-abbrev from_length : List ℕ → List (Option FrameRefusal)
-from_length bytes = length_test bytes ∷ from_short bytes
-
-abbrev from_kind : List ℕ → List (Option FrameRefusal)
-from_kind bytes = kind_test bytes ∷ from_length bytes
-
-pub size_fits : (bytes : List ℕ) → first_refusal (size_tests bytes) ≡ None → FitsSize bytes
-size_fits bytes e =
-    let n = length bytes in
-    let kind = get_or bytes 0 0 in
-    let said = said_length bytes in
-    let a = passes_first (ltb n 9) (Short n 9) (from_kind bytes) e in
-    let b = passes_first (not (is_kind kind)) (Kind kind) (from_length bytes) a.1 in
-    let c = passes_first (not (is_length kind said)) (Length said) (from_short bytes) b.1 in
-    let d = passes_first (ltb n (9 + said)) (Short n (9 + said)) (from_long bytes) c.1 in
-    let f = passes_first (ltb (9 + said) n) (Long n (9 + said)) [] d.1 in
-    let low : 9 + said ≤ n = ltb-false _ _ d.0 in
-    let high : n ≤ 9 + said = ltb-false _ _ f.0 in
-    record {
-      head = ltb-false _ _ a.0;
-      kind = not-false _ b.0;
-      fits = not-false _ c.0;
-      whole = omega (arith, low, high);
-    }
-
-pub size_passes : (bytes : List ℕ) → FitsSize bytes → first_refusal (size_tests bytes) ≡ None
-size_passes bytes h =
-    let n = length bytes in
-    let kind = get_or bytes 0 0 in
-    let said = said_length bytes in
-    let low : 9 + said ≤ n = omega (arith, h.whole) in
-    let high : n ≤ 9 + said = omega (arith, h.whole) in
-    passes (ltb n 9) (Short n 9) (from_kind bytes) (le-ltb _ _ h.head)
-    (passes (not (is_kind kind)) (Kind kind) (from_length bytes) (ap not h.kind)
-    (passes (not (is_length kind said)) (Length said) (from_short bytes) (ap not h.fits)
-    (passes (ltb n (9 + said)) (Short n (9 + said)) (from_long bytes) (le-ltb _ _ low)
-    (passes (ltb (9 + said) n) (Long n (9 + said)) [] (le-ltb _ _ high) refl))))
+use Rattle.bay_frames.proofs.SizeTests.{passes_first, passes, parts_pass, FitsSize, size_fits, size_passes}
 
 -- ---- bytes
 

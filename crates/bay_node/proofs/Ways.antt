@@ -7,7 +7,6 @@ use Rattle.std.specs.List.{filter, range_with_len}
 use Rattle.bay_frames.specs.declared.frame.Frame.{Frame}
 use Rattle.bay_protocol.proofs.Others.{filtered_more, another_yes, another_no}
 use Rattle.station_graph.specs.Diagram.{Diagram, part_count}
-use Rattle.central_rules.specs.Meaning.{bay_of}
 use Rattle.bay_frames.specs.declared.frame.Body.{Body}
 use Rattle.bay_protocol.specs.declared.values.Collection.{Collection}
 use Rattle.bay_protocol.specs.State.{State, IsOther, is_another, collects}
@@ -27,9 +26,6 @@ each_none from round body (x ∷ xs) e = absurd (cc e)
 -- a switch of a bay is one of the station, and its bay is this
 pub own_in : (d : Diagram) (b i : ℕ) → IsOwn d b i → i < length d.switches
 own_in d b i own = slice_get_within d.switches i own.0 own.1
-
-pub own_bay : (d : Diagram) (b i : ℕ) → IsOwn d b i → bay_of d i ≡ b
-own_bay d b i own = rw own.1 own.2
 
 -- a node that collects g in its highest round
 pub collected_same : (s : State) (g : Collection) → s.collecting ≡ Some g → g.round ≡ s.highest →

@@ -1,3 +1,5 @@
+pub mod UnderWay
+pub mod GoodStates
 pub mod Keeping
 pub mod Others
 pub mod RecordRows

@@ -21,7 +21,7 @@ use Rattle.bay_protocol.specs.Step.{CutStep}
 use Rattle.bay_protocol.specs.OutcomeLines.{OutcomeFits}
 
 -- a switch of a bay is one of the station
-pub own_within : (d : Diagram) (b i : ℕ) → IsOwn d b i → i < length d.switches
+own_within : (d : Diagram) (b i : ℕ) → IsOwn d b i → i < length d.switches
 own_within d b i own = slice_get_within d.switches i own.0 own.1
 
 module _ (d : Diagram) where

@@ -44,14 +44,14 @@ first_more {X} f n xs x lt is h k less = by_place (eq-or-lt_of_le (omega (arith,
 
 -- ---- codes
 
-pub code_back : (word : Dbpos) → word_of_code (code_of_word word) ≡ word
+code_back : (word : Dbpos) → word_of_code (code_of_word word) ≡ word
 code_back Intermediate = refl
 code_back Off = refl
 code_back On = refl
 code_back Bad = refl
 code_back Lost = refl
 
-pub code_small : (word : Dbpos) → code_of_word word ≤ 4
+code_small : (word : Dbpos) → code_of_word word ≤ 4
 code_small Intermediate = omega arith
 code_small Off = omega arith
 code_small On = omega arith

@@ -37,7 +37,3 @@ find-all {A} p q (y ∷ xs) x all found = elim (cases_Bool (p y)) [
       let later : find p xs ≡ Some x = rw fails at found in
       find-all p q xs x (both (q y) (list_all q xs) all).1 later
 ]
-
-pub or-false : (b : Bool) → (b || false) ≡ b
-or-false true = refl
-or-false false = refl

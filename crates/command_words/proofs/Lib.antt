@@ -1,4 +1,5 @@
 pub mod FindLemmas
+pub mod WordCounts
 pub mod LeafLemmas
 pub mod LineLemmas
 pub mod ReadLemmas

@@ -21,8 +21,8 @@ use Rattle.clap.proofs.OnLiterals.{clap_on_literals}
 use Rattle.command_words.specs.Rows.{is_plain, is_row, row_of, rows}
 use Rattle.command_words.specs.App.{command_line, ids}
 use Rattle.command_words.proofs.FindLemmas.{both, find-holds, find-all}
-use Rattle.command_words.proofs.LeafLemmas.{top, leaf, leaf_fault, leaf_given, leaf_exactly, leaf_reads, IsNoFlag}
-use Rattle.command_words.proofs.LeafLemmas.{AreNoFlags, Exactly}
+use Rattle.command_words.proofs.LeafLemmas.{leaf_exactly, leaf_reads, Exactly}
+use Rattle.command_words.proofs.WordCounts.{top, leaf, leaf_fault, leaf_given, IsNoFlag, AreNoFlags}
 
 -- a command line with these commands, as it is built
 abbrev whole : List Shape → App

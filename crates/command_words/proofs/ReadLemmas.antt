@@ -31,7 +31,7 @@ first_entry (e ∷ xs) id = elim (cases_Bool (bytes_eq e.0.now id)) [
 ]
 
 -- what was given is what the rows say
-pub given-rows : (f : Found) → given f ≡ filter_map (λ id. first_of id (rows_of f)) ids
+given-rows : (f : Found) → given f ≡ filter_map (λ id. first_of id (rows_of f)) ids
 given-rows f = sym (λ i. filter_map (λ id. first_entry f.entries.items id i) ids)
 
 same_name : {S : Type 0} (name : S → Text) (rows : S → List Row) (o : Option S) →
@@ -40,7 +40,7 @@ same_name name rows None = refl
 same_name name rows (Some s) = refl
 
 -- the name of the command that was read
-pub name_read : (m : ArgMatches) (name : Text) (rows_read : List Row) → subcommand_rows_of m ≡ Some (name, rows_read) →
+name_read : (m : ArgMatches) (name : Text) (rows_read : List Row) → subcommand_rows_of m ≡ Some (name, rows_read) →
     subcommand_name_of m ≡ Some name
 name_read m name rows_read e =
     same_name _ _ (out-ArgMatches m).subcommand ∙ ap (option_map (λ (p : Text × List Row). p.0)) e

@@ -5,6 +5,7 @@ pub mod DraftLemmas
 pub mod BuildingLemmas
 pub mod NodeLemmas
 pub mod HomeLemmas
+pub mod TargetLemmas
 pub mod EdgeLemmas
 pub mod GraphLemmas
 pub mod FinishLemmas

@@ -3,6 +3,7 @@ pub mod Rows
 pub mod Drafting
 pub mod Shapes
 pub mod Whole
+pub mod LaidOut
 pub mod Inside
 pub mod DraftInside
 pub mod Reaching
@@ -14,5 +15,4 @@ pub mod Assembling
 pub mod Depending
 pub mod Renaming
 pub mod Finished
-pub mod LaidOut
 pub mod Made

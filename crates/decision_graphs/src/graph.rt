@@ -5,8 +5,11 @@ ghost use Rattle.decision_graphs.specs.Label.{DependsOn, layer_at, first_at, Has
 ghost use Rattle.decision_graphs.specs.Label.{AreChoices, AreReduced, AreLayers, Layer, label_of, place_after, step};
 ghost use Rattle.decision_graphs.specs.Reaching.{AreSetsOf, AreMarksOf, MarksReached, node_total, IsSet};
 ghost use Rattle.decision_graphs.specs.Finished.{AreFinished, finished};
-ghost use Rattle.decision_graphs.specs.Inside.{layered_of, IsGraph};
-ghost use Rattle.decision_graphs.specs.LaidOut.{layered_in, IsWholeLayout, HasHomes};
+ghost use Rattle.decision_graphs.specs.Inside.{IsGraph};
+ghost use Rattle.decision_graphs.specs.LaidOut.{lists_in, lists_of};
+ghost use Rattle.decision_graphs.specs.Shapes.{AreHomes};
+ghost use Rattle.decision_graphs.specs.Whole.{layered_of, IsWhole};
+ghost use Rattle.decision_graphs.specs.declared.limits.TheConstants.{LAYERS, GRAPH_NODES};
 
 use crate::assemble::reduced;
 use crate::choices::ChoiceList;
@@ -38,9 +41,11 @@ impl Model for Graph {
 
     ghost Value = { Layered };
 
-    ghost use Rattle.decision_graphs.specs.Inside.{layered_of, IsGraph};
+    ghost use Rattle.decision_graphs.specs.LaidOut.{lists_of};
+    ghost use Rattle.decision_graphs.specs.Whole.{layered_of};
+    ghost use Rattle.decision_graphs.specs.Inside.{IsGraph};
 
-    ghost view = { λ g. layered_of g.parts };
+    ghost view = { λ g. layered_of (lists_of g.parts) };
 
     ghost invariant = { λ g. IsGraph g.parts };
 }
@@ -55,10 +60,10 @@ impl Graph {
         self.parts.labels
     }
 
-    /// How many layers there are, and that they have at most 4,294,967,295 nodes. Constant time.
+    /// How many layers there are, and that they have at most `GRAPH_NODES` nodes. Constant time.
     pub fn layers(&self) -> u16
         ensures count { result ≡ length self.now.layers }
-        ensures few_nodes { node_total self.now ≤ 4294967295 }
+        ensures few_nodes { node_total self.now ≤ GRAPH_NODES }
     {
         self.parts.shapes.len() as u16
     }
@@ -101,8 +106,8 @@ impl Graph {
         layers: &[FinishedLayer],
     ) -> Result<Graph, Memory>
         requires finished { AreFinished labels layers.now }
-        requires few_layers { length layers.now ≤ 65535 }
-        requires few_nodes { sum_by (λ (l : FinishedLayer). l.nodes) layers.now ≤ 4294967295 }
+        requires few_layers { length layers.now ≤ LAYERS }
+        requires few_nodes { sum_by (λ (l : FinishedLayer). l.nodes) layers.now ≤ GRAPH_NODES }
         ensures { IfOk result (λ g. g ≡ record { labels = labels; layers = map finished layers.now }) }
     {
         let parts = joined(alloc, labels, layers)?;
@@ -112,7 +117,7 @@ impl Graph {
     // The graph of these parts.
     pub(crate) fn from_parts(parts: GraphParts) -> Graph
         requires { IsGraph parts }
-        ensures { result ≡ layered_of parts }
+        ensures { result ≡ layered_of (lists_of parts) }
     {
         Graph { parts }
     }
@@ -153,9 +158,9 @@ impl Graph {
 
     // The lists in which the graph lies.
     pub(crate) fn layout(&self) -> Layout<'_>
-        ensures layered { layered_in result ≡ self.now }
-        ensures whole { IsWholeLayout result }
-        ensures homes { HasHomes result }
+        ensures layered { layered_of (lists_in result) ≡ self.now }
+        ensures whole { IsWhole (lists_in result) }
+        ensures homes { AreHomes (lists_in result) result.homes.now }
     {
         self.parts.layout()
     }

@@ -1,5 +1,5 @@
 -- Sums of the first counts, and what a new node does to them.
-use Rattle.std.proofs.Common.{◌≡◌, ℕ, ◌+◌, ◌-◌, ◌<◌, ◌≤◌, suc, List, ◌∷◌, ◌++◌, [], length, get_or, take, sum}
+use Rattle.std.proofs.Common.{◌≡◌, ℕ, ◌+◌, ◌-◌, ◌^◌, ◌<◌, ◌≤◌, suc, List, ◌∷◌, ◌++◌, [], length, get_or, take, sum}
 use Rattle.std.proofs.Common.{replicate, None, Bool, true, false, cond, eqb, inl, inr, refl, ap, ◌∙◌, arith, add-one}
 use Rattle.std.proofs.lemmas.Bool.{cases_lt}
 use Rattle.std.proofs.lemmas.Bool.Decides.{nat_tests}
@@ -11,35 +11,23 @@ use Rattle.decision_graphs.specs.Label.{Layer, layer_at, no_layer}
 use Rattle.decision_graphs.specs.Reaching.{AreSetsOf, set_at}
 use Rattle.decision_graphs.specs.Drafting.{DraftLayer, Draft, draft_layer_at, MayGrow, MayHaveEdge, node_count}
 use Rattle.decision_graphs.specs.Drafting.{with_node, sizes_of, choices_of, IsShaped, IsBare}
+use Rattle.decision_graphs.specs.declared.limits.TheConstants.{LAYERS, GRAPH_NODES}
 use Rattle.decision_graphs.proofs.SetLemmas.{set_at-AreSetsOf}
 use Rattle.decision_graphs.proofs.ShapeLemmas.{sum_before-suc, sum_before-mono}
 use Rattle.decision_graphs.proofs.BuildingLemmas.{node_count-sizes, size_at-sizes, MayGrow-from_bare}
 use Rattle.decision_graphs.proofs.BuildingLemmas.{MayHaveEdge-from_sizes}
 use Rattle.decision_graphs_bench.specs.Sizes.{AreSizes}
 
-pub sum-suc : (ns : List ℕ) (j : ℕ) → j < length ns → sum (take (suc j) ns) ≡ sum (take j ns) + get_or ns j 0
+sum-suc : (ns : List ℕ) (j : ℕ) → j < length ns → sum (take (suc j) ns) ≡ sum (take j ns) + get_or ns j 0
 sum-suc ns j lt = sum_before-suc (λ n. n) ns 0 j lt
 
-pub sum-within : (ns : List ℕ) (j : ℕ) → j < length ns → sum (take j ns) + get_or ns j 0 ≤ sum ns
+sum-within : (ns : List ℕ) (j : ℕ) → j < length ns → sum (take j ns) + get_or ns j 0 ≤ sum ns
 sum-within ns j lt = omega (
   arith,
   sum-suc ns j lt,
   sum_before-mono (λ (n : ℕ). n) ns (suc j) (length ns) lt,
   ap sum (take_all (length ns) ns (omega arith)),
 )
-
-pub sizes_hold : (labels : ℕ) (cs ns : List ℕ) (n total : ℕ) → 0 < labels → length cs ≡ length ns → length ns ≤ 65535 →
-    n ≡ length ns → ((j : ℕ) → j < n → 0 < get_or ns j 0) → ((j : ℕ) → j < n → 0 < get_or cs j 0) →
-    total ≡ sum (take n ns) → total ≤ 4294967295 → AreSizes labels cs ns
-sizes_hold labels cs ns n total some same layers all filled chosen is fits =
-    record {
-      any_label = some;
-      same = same;
-      layers = layers;
-      filled = λ j lt. filled j (omega arith);
-      chosen = λ j lt. chosen j (omega arith);
-      total = omega (arith, is, ap (λ i. sum (take i ns)) all, ap sum (take_all (length ns) ns (omega arith)));
-    }
 
 -- a new node is one node more
 pub node_count-with_node : (d : Draft) → 0 < length d.layers → node_count (with_node d) ≡ node_count d + 1
@@ -98,7 +86,7 @@ may_grow d labels cs ns i sizes le shaped bare =
 
 -- its nodes are within the limit
 pub room_for : (d : Draft) (labels : ℕ) (cs' cs ns : List ℕ) (i : ℕ) → AreSizes labels cs ns → i < length ns →
-    IsShaped d labels cs' (take i ns ++ 0 ∷ []) → node_count d + get_or ns i 0 ≤ 4294967295
+    IsShaped d labels cs' (take i ns ++ 0 ∷ []) → node_count d + get_or ns i 0 ≤ GRAPH_NODES
 room_for d labels cs' cs ns i sizes lt shaped =
     omega (
       arith,
@@ -109,9 +97,9 @@ room_for d labels cs' cs ns i sizes lt shaped =
     )
 
 -- the numbers of the places after a layer
-pub places_fit : (labels : ℕ) (cs ns : List ℕ) (i first low places : ℕ) → AreSizes labels cs ns → labels < 4294967296 →
+pub places_fit : (labels : ℕ) (cs ns : List ℕ) (i first low places : ℕ) → AreSizes labels cs ns → labels < 2 ^ 32 →
     i < length ns → first ≡ sum (take i ns) → low ≡ cond (eqb (suc i) (length ns)) 0 (first + get_or ns i 0) →
-    places ≡ cond (eqb (suc i) (length ns)) labels (get_or ns (suc i) 0) → low + places ≤ 4294967295
+    places ≡ cond (eqb (suc i) (length ns)) labels (get_or ns (suc i) 0) → low + places < 2 ^ 32
 places_fit labels cs ns i first low places sizes range lt begins low_is places_is =
     elim (cases_lt (suc i) (length ns)) [
       | inl more ↦

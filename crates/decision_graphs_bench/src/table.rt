@@ -1,12 +1,13 @@
 //! Graphs from tables: for each layer how many choices and nodes it has, and the edges of all nodes
 //! in order, each as a number within the next layer, or a label.
-ghost use Rattle.std.specs.Prelude.{◌≡◌, ℕ, suc, ◌+◌, ◌<◌, ◌≤◌, ◌++◌, ◌∷◌, [], List, length, slice_index, IsTrue, IfOk};
+ghost use Rattle.std.specs.Prelude.{◌≡◌, ℕ, suc, ◌+◌, ◌^◌, ◌<◌, ◌≤◌, ◌++◌, ◌∷◌, [], List, length, slice_index, IsTrue, IfOk};
 ghost use Rattle.std.specs.Prelude.{OnOk, if◌then◌else◌, ◌==◌};
 ghost use Rattle.decision_graphs.specs.Drafting.{node_count, MayHaveEdge, IsShaped, IsBare, EachHasNode, choices_of};
 ghost use Rattle.decision_graphs.specs.Drafting.{sizes_of};
+ghost use Rattle.decision_graphs.specs.declared.limits.TheConstants.{GRAPH_NODES};
 ghost use Rattle.decision_graphs_bench.specs.Sizes.{AreSizes};
 
-use decision_graphs::GraphBuilder;
+use decision_graphs::{GraphBuilder, LAYERS};
 use ilk_base::Memory;
 use std::alloc::Global;
 
@@ -14,7 +15,7 @@ use std::alloc::Global;
 pub fn are_sizes(labels: u32, choices: &[u32], nodes: &[u32]) -> bool
     ensures { IsTrue result → AreSizes labels choices.now nodes.now }
 {
-    if labels == 0 || choices.len() != nodes.len() || nodes.len() > 65535 {
+    if labels == 0 || choices.len() != nodes.len() || nodes.len() > LAYERS {
         return false;
     }
     let mut total = 0u32;
@@ -47,7 +48,7 @@ pub fn bare(
 
 fn add_nodes(builder: &mut GraphBuilder, count: u32) -> Result<(), Memory>
     requires layer { 0 < length builder.old.layers }
-    requires room { node_count builder.old + count ≤ 4294967295 }
+    requires room { node_count builder.old + count ≤ GRAPH_NODES }
     ensures shaped { OnOk result ((labels : ℕ) (cs ns : List ℕ) → IsShaped builder.old labels cs (ns ++ 0 ∷ []) →
         IsShaped builder.new labels cs (ns ++ count ∷ [])) }
     ensures bare { OnOk result (IsBare builder.old → IsBare builder.new) }
@@ -92,7 +93,7 @@ pub fn fill(
 // The number of the first place after a layer, and how many there are.
 fn places_after(labels: u32, nodes: &[u32], layer: usize, first: u32) -> (u32, u32)
     requires layer { layer < length nodes.now }
-    requires first { first + slice_index nodes.now layer ≤ 4294967295 }
+    requires first { first + slice_index nodes.now layer ≤ GRAPH_NODES }
     ensures low { result.0 ≡ (if suc layer == length nodes.now then 0 else (first + slice_index nodes.now layer)) }
     ensures places { result.1 ≡ (if suc layer == length nodes.now then labels else slice_index nodes.now (suc layer)) }
 {
@@ -114,8 +115,8 @@ struct Part {
 
 fn fill_layer(builder: &mut GraphBuilder, part: Part, edges: &[Option<u32>], start: usize) -> usize
     requires places { 0 < part.places }
-    requires fits { part.low + part.places ≤ 4294967295 }
-    requires nodes { part.first + part.count ≤ 4294967295 }
+    requires fits { part.low + part.places < 2 ^ 32 }
+    requires nodes { part.first + part.count ≤ GRAPH_NODES }
     requires edges { (k c t : ℕ) → k < part.count → c < part.choices → t < part.places →
         MayHaveEdge builder.old (part.first + k) c (part.low + t) }
     ensures { IsShaped builder.new builder.old.labels (choices_of builder.old) (sizes_of builder.old) }
@@ -130,7 +131,7 @@ fn fill_layer(builder: &mut GraphBuilder, part: Part, edges: &[Option<u32>], sta
 
 fn fill_row(builder: &mut GraphBuilder, from: u32, part: Part, edges: &[Option<u32>], start: usize)
     requires places { 0 < part.places }
-    requires fits { part.low + part.places ≤ 4294967295 }
+    requires fits { part.low + part.places < 2 ^ 32 }
     requires edges { (c t : ℕ) → c < part.choices → t < part.places → MayHaveEdge builder.old from c (part.low + t) }
     ensures { IsShaped builder.new builder.old.labels (choices_of builder.old) (sizes_of builder.old) }
 {

@@ -11,13 +11,6 @@ pub record Picks (P : ℕ → Type 0) (i : ℕ) (nodes : List ℕ) : Type 0 wher
   pub below : (k : ℕ) → k < length nodes → slice_index nodes k < i
   pub exact : (n : ℕ) → Contains nodes n ↔ ((n < i) × P n)
 
-pub Picks-none : (P : ℕ → Type 0) → Picks P 0 []
-Picks-none P = record {
-  rises = λ j k jk k_in. absurd (omega arith);
-  below = λ k k_in. absurd (omega arith);
-  exact = λ n. (λ h. absurd (omega (arith, h.1)), λ h. absurd (omega (arith, h.0)));
-}
-
 module _ (P : ℕ → Type 0) (i : ℕ) (nodes : List ℕ) (h : Picks P i nodes) where
   pub Picks-push : P i → Picks P (i + 1) (nodes ++ i ∷ [])
   Picks-push has =

@@ -17,14 +17,8 @@ pub record Gathers (At : ℕ → ℕ → Type 0) (i : ℕ) (nodes : List ℕ) : 
   pub listed : (k n : ℕ) → k < i → At k n → Contains nodes n
   pub only : (n : ℕ) → Contains nodes n → (k : ℕ) × (k < i) × At k n
 
-pub Gathers-none : (At : ℕ → ℕ → Type 0) → Gathers At 0 []
-Gathers-none At = record {
-  listed = λ k n below at. absurd (omega (arith, below));
-  only = λ n h. absurd (omega (arith, h.1));
-}
-
 module _ (At : ℕ → ℕ → Type 0) (i : ℕ) (nodes : List ℕ) (h : Gathers At i nodes) where
-  pub Gathers-push : (node : ℕ) → At i node → ((n : ℕ) → At i n → n ≡ node) → Gathers At (i + 1) (nodes ++ node ∷ [])
+  Gathers-push : (node : ℕ) → At i node → ((n : ℕ) → At i n → n ≡ node) → Gathers At (i + 1) (nodes ++ node ∷ [])
   Gathers-push node here one = record {
     listed = λ k n below at. elim (cases_lt k i) [
       | inl less ↦ Contains-append_left nodes (node ∷ []) n (h.listed k n less at)
@@ -39,7 +33,7 @@ module _ (At : ℕ → ℕ → Type 0) (i : ℕ) (nodes : List ℕ) (h : Gathers
     ];
   }
 
-  pub Gathers-pass : ((n : ℕ) → At i n → ⊥) → Gathers At (i + 1) nodes
+  Gathers-pass : ((n : ℕ) → At i n → ⊥) → Gathers At (i + 1) nodes
   Gathers-pass none = record {
     listed = λ k n below at. elim (cases_lt k i) [
       | inl less ↦ h.listed k n less at

@@ -86,10 +86,10 @@ module _ (R Q : ℕ → ℕ → Type 0) (count : ℕ) (lists : List (List ℕ)) 
   unfolding one
   edge_len = length-set one q (list_at one q ++ p ∷ []) ∙ (length-set lists p (list_at lists p ++ q ∷ []) ∙ h.len)
 
-  pub AreLists-edge : AreLists Q count (with_neighbours lists p q)
+  AreLists-edge : AreLists Q count (with_neighbours lists p q)
   AreLists-edge = record { len = edge_len; exact = λ a b. (edge_only a b, edge_listed a b) }
 
-pub AreLists-same : (R Q : ℕ → ℕ → Type 0) (count : ℕ) (lists : List (List ℕ)) → SameEdges R Q →
+AreLists-same : (R Q : ℕ → ℕ → Type 0) (count : ℕ) (lists : List (List ℕ)) → SameEdges R Q →
     AreLists R count lists → AreLists Q count lists
 AreLists-same R Q count lists same h = record {
   len = h.len;
@@ -168,7 +168,7 @@ module _ (d : Diagram) (station : IsStation d) (v : List Bool) where
       ends_in h.link.first.0 h.link.second.0 (node_count d) a b fits.first_in fits.second_in h.ends
   between_in bonds_only (a_tap i) a b h = absurd h
 
-  pub touching_in : (a b : ℕ) → Touching false d v a b → a < node_count d
+  touching_in : (a b : ℕ) → Touching false d v a b → a < node_count d
   touching_in a b h = between_in false h.item a b h.between
 
   -- the neighbours in a station are undirected

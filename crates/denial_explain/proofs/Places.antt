@@ -14,10 +14,6 @@ slice_get-push_old [] y x i e = cc
 slice_get-push_old (z ∷ zs) y x zero e = e
 slice_get-push_old (z ∷ zs) y x (suc i) e = slice_get-push_old zs y x i e
 
-pub slice_get-push_new : {X : Type 0} (xs : List X) (y : X) → slice_get (xs ++ y ∷ []) (length xs) ≡ Some y
-slice_get-push_new [] y = refl
-slice_get-push_new (z ∷ zs) y = slice_get-push_new zs y
-
 pub slice_get-set_same : {X : Type 0} (xs : List X) (i : ℕ) (y : X) → i < length xs →
     slice_get (slice_set xs i y) i ≡ Some y
 slice_get-set_same [] i y h = absurd (omega (arith, h))

@@ -1,6 +1,6 @@
 -- Nodes that are reached, one by one.
 use Rattle.std.proofs.Common.{◌≡◌, ℕ, ◌+◌, ◌<◌, ◌⊎◌, List, [], ◌∷◌, ◌++◌, length, get_or, take, slice_get, slice_set}
-use Rattle.std.proofs.Common.{Contains, Option, Some, None, cond, refl, sym, ◌∙◌, ap, subst, inl, inr, arith}
+use Rattle.std.proofs.Common.{Contains, Option, Some, None, cond, sym, ◌∙◌, ap, subst, inl, inr, arith}
 use Rattle.std.proofs.Common.{length-set}
 use Rattle.std.specs.Prelude.{count_by, is_none}
 use Rattle.std.proofs.lemmas.Bool.{cases_eq}
@@ -48,35 +48,6 @@ module _ (steps : List (Option ℕ)) (node next : ℕ) (none : slice_get steps n
       let one : ◌≡◌ {A = ℕ} (cond (is_none (get_or steps node None)) 1 0) 1 =
       ap (λ (o : Option ℕ). cond (is_none o) 1 0) was in
       omega arith
-
--- none of them, so far
-pub ReachesAll-none : (P : ℕ → Type 0) (next : ℕ) (steps : List (Option ℕ)) (queue : List ℕ) → ((n : ℕ) → P n → ⊥) →
-    ReachesAll P next steps steps queue queue
-ReachesAll-none P next steps queue none = record {
-  len = refl;
-  room = refl;
-  kept = λ n k h. h;
-  all = λ n p. absurd (none n p);
-  only = λ n k h. inl h;
-  longer = omega arith;
-  queue_kept = λ j n h. h;
-  queue_only = λ j n h. inl h;
-}
-
--- the same for a set that holds alike
-pub ReachesAll-same : (P Q : ℕ → Type 0) (next : ℕ) (steps new : List (Option ℕ)) (queue longer : List ℕ) →
-    ((n : ℕ) → P n → Q n) → ((n : ℕ) → Q n → P n) → ReachesAll P next steps new queue longer →
-    ReachesAll Q next steps new queue longer
-ReachesAll-same P Q next steps new queue longer there back h = record {
-  len = h.len;
-  room = h.room;
-  kept = h.kept;
-  all = λ n q. h.all n (back n q);
-  only = λ n k s. elim (h.only n k s) [ inl old ↦ inl old | inr w ↦ inr (w.0, there n w.1, w.2) ];
-  longer = h.longer;
-  queue_kept = h.queue_kept;
-  queue_only = h.queue_only;
-}
 
 -- One node more.
 module _ (P Q : ℕ → Type 0) (node next : ℕ) (steps mid : List (Option ℕ)) (queue longer : List ℕ) (only : (n : ℕ) →
@@ -138,7 +109,7 @@ module _ (P Q : ℕ → Type 0) (node next : ℕ) (steps mid : List (Option ℕ)
     queue_only = h.queue_only;
   }
 
-  pub ReachesAll-more : (new : List (Option ℕ)) (last : List ℕ) → Visits node next mid new longer last →
+  ReachesAll-more : (new : List (Option ℕ)) (last : List ℕ) → Visits node next mid new longer last →
       ReachesAll Q next steps new queue last
   ReachesAll-more new last (inl (none, set, push)) =
       subst (λ (s : List (Option ℕ)). ReachesAll Q next steps s queue last) (sym set)

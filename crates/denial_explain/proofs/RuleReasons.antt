@@ -6,8 +6,7 @@ use Rattle.std.proofs.lemmas.List.{get_or-set_same}
 use Rattle.std.proofs.lemmas.Option.{slice_get_within, slice_get-get_or, slice_get_cases}
 use Rattle.ilk_base.specs.declared.words.Kind.{Kind}
 use Rattle.ilk_base.specs.declared.words.Kind.TheVariants.{Breaker, Disconnector, Earthing, Infeed}
-use Rattle.ilk_base.specs.declared.words.Rule.{Rule}
-use Rattle.ilk_base.specs.declared.words.Rule.TheVariants.{R1, R2, R3}
+use Rattle.ilk_base.specs.declared.words.Rule.TheVariants.{R2, R3}
 use Rattle.ilk_base.specs.declared.words.Op.{Op}
 use Rattle.ilk_base.specs.declared.words.NodeId.{NodeId}
 use Rattle.station_graph.specs.declared.items.Switch.{Switch}
@@ -17,7 +16,7 @@ use Rattle.station_graph.specs.Sharing.{Touches}
 use Rattle.station_graph.specs.Connection.{Item, a_switch, a_link, a_tap, AnyItem, ItemBetween, Touching, LeadsTo}
 use Rattle.station_graph.specs.Connection.{Linked, Joined, Bonded, Coupled, with_breakers_closed}
 use Rattle.station_graph.specs.Supply.{ClosedAt, Quiet, Energisable, Earthable}
-use Rattle.station_graph.specs.CentralRules.{before, after, Moves, BreaksEarthing, BreaksLoad, GapCarriesLoad, Applies}
+use Rattle.station_graph.specs.CentralRules.{before, after, Moves, BreaksLoad, GapCarriesLoad, Applies}
 use Rattle.station_graph.specs.CentralRules.{Breaks}
 use Rattle.station_graph.specs.Classes.{LabelsLeast}
 use Rattle.station_graph.proofs.LinkedLemmas.{linked_self, linked_weaker}
@@ -35,14 +34,8 @@ use Rattle.denial_explain.specs.Explained.{LeadsLive, Explains}
 use Rattle.denial_explain.specs.declared.chain.Chain.{Chain}
 
 -- one switch is moved
-pub one_moved : (d : Diagram) (op : Op) (x y : Switch) → Moves d op x → Moves d op y → x ≡ y
+one_moved : (d : Diagram) (op : Op) (x y : Switch) → Moves d op x → Moves d op y → x ≡ y
 one_moved d op x y at_x at_y = cc (at_x, at_y)
-
-pub earthing_energised : (d : Diagram) (v : List Bool) (op : Op) (x : Switch) → Moves d op x → BreaksEarthing d v op →
-    Energisable d (before v op) x.first.0
-earthing_energised d v op x moves broken =
-    subst (λ (y : Switch). Energisable d (before v op) y.first.0) (one_moved d op broken.switch x broken.moves moves)
-    broken.energisable
 
 not_two_ended : (k : Kind) → k ≡ Infeed → ¬ IsTwoEnded k
 not_two_ended Breaker e = cc e
@@ -147,7 +140,7 @@ leads_in bonds_only d v station a (c ∷ after) b a_in leads =
     leads_in bonds_only d v station c after b (touched_in d station touched.item c touched.touches) leads.1
 
 -- what is linked to a node of the station is one
-pub linked_in : (bonds_only : Bool) (d : Diagram) (v : List Bool) → IsStation d → (a b : ℕ) → a < node_count d →
+linked_in : (bonds_only : Bool) (d : Diagram) (v : List Bool) → IsStation d → (a b : ℕ) → a < node_count d →
     Linked (Touching bonds_only d v) a b → b < node_count d
 linked_in bonds_only d v station a b a_in l = leads_in bonds_only d v station a l.after b a_in l.leads
 
@@ -189,13 +182,6 @@ module _ (d : Diagram) (station : IsStation d) (v : List Bool) (whole : length v
     | inr none ↦ absurd (loaded (λ m (i, x, at, stands) join. none i x (slice_get_within d.taps i x at) at
         (subst (λ k. Joined d v n k) (sym stands) join)))
   ]
-
--- an operation that breaks a rule does not break none
-pub not_none : (d : Diagram) (v : List Bool) (op : Op) (rule : Rule) → Breaks d v op (Some rule) →
-    Breaks d v op None → ⊥
-not_none d v op R1 some none = none.0 some
-not_none d v op R2 some none = none.1 some.1
-not_none d v op R3 some none = none.2 some.2
 
 -- the gap of the moved disconnector carries load
 pub load_gap : (d : Diagram) (v : List Bool) (op : Op) (x : Switch) (n : NodeId) → Moves d op x → x.second ≡ Some n →

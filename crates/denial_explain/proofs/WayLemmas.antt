@@ -1,5 +1,5 @@
 -- Ways that follow the steps, and what makes them shortest.
-use Rattle.std.proofs.Common.{◌≡◌, ℕ, ◌+◌, ◌≤◌, zero, suc, List, [], ◌∷◌, ◌++◌, length, slice_get, Option, Some, refl}
+use Rattle.std.proofs.Common.{◌≡◌, ℕ, ◌+◌, ◌≤◌, suc, List, [], ◌∷◌, ◌++◌, length, slice_get, Option, Some, refl}
 use Rattle.std.proofs.Common.{sym, ap, subst, inl, inr, arith}
 use Rattle.std.proofs.lemmas.Option.{slice_get_within}
 use Rattle.std.proofs.lemmas.List.{length_push}
@@ -34,7 +34,7 @@ IsWay-same R Q Target Goal a last nodes there back end_there end_back w = record
 }
 
 -- a node from which a list leads to an end has at most as many steps as the list has nodes
-pub steps_within : (R : ℕ → ℕ → Type 0) (Target : ℕ → Type 0) (count : ℕ) (steps : List (Option ℕ)) →
+steps_within : (R : ℕ → ℕ → Type 0) (Target : ℕ → Type 0) (count : ℕ) (steps : List (Option ℕ)) →
     AreSteps R Target count steps → (a : ℕ) (other : List ℕ) (m : ℕ) → LeadsTo R a other m → Target m → (k : ℕ)
     × HasSteps steps a k × (k ≤ length other)
 steps_within R Target count steps h a [] m e end = (0, h.ends a (subst Target (sym e) end), omega arith)
@@ -68,24 +68,6 @@ pub record Follows (R : ℕ → ℕ → Type 0) (steps : List (Option ℕ)) (fro
   pub leads : LeadsTo R from after last
   pub here : HasSteps steps last left
   pub falls : (i n : ℕ) → slice_get nodes i ≡ Some n → (k : ℕ) × HasSteps steps n k × (i + k ≡ length after + left)
-
-one_place : (from i n : ℕ) → slice_get (from ∷ []) i ≡ Some n → (i ≡ 0) × (from ≡ n)
-one_place from zero n e = (refl, cc)
-one_place from (suc i) n e = cc
-
-pub Follows-start : (R : ℕ → ℕ → Type 0) (steps : List (Option ℕ)) (from left : ℕ) → HasSteps steps from left →
-    Follows R steps from from left (from ∷ [])
-Follows-start R steps from left has = record {
-  after = [];
-  begins = refl;
-  leads = refl;
-  here = has;
-  falls = λ i n e. let w = one_place from i n e in (
-    left,
-    subst (λ m. HasSteps steps m left) w.1 has,
-    omega (arith, w.0),
-  );
-}
 
 module _ (R : ℕ → ℕ → Type 0) (steps : List (Option ℕ)) (from last : ℕ) (nodes : List ℕ) where
   pub Follows-step : (left m : ℕ) → Follows R steps from last (left + 1) nodes → R last m → HasSteps steps m left →

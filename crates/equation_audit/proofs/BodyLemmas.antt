@@ -1,5 +1,5 @@
 -- What a body says, when one more condition or alternative is added; and lines that say statements.
-use Rattle.std.proofs.Common.{◌≡◌, ◌≢◌, ◌∙◌, sym, ap, refl, append_assoc, ℕ, List, [], ◌∷◌, ◌++◌}
+use Rattle.std.proofs.Common.{◌≡◌, ◌∙◌, sym, ap, refl, append_assoc, ℕ, List, [], ◌∷◌, ◌++◌}
 use Rattle.std.specs.Prelude.{map}
 use Rattle.std.specs.List.{AllZip}
 use Rattle.station_graph.specs.Diagram.{Diagram}
@@ -56,11 +56,6 @@ body-when earlier last c =
     ∙ ap (λ (ss : List Statement). heads earlier ++ ss) (map-append_one Statement.When last c)
     ∙ sym (append_assoc (heads earlier) (map Statement.When last) (Statement.When c ∷ []))
     ∙ ap (λ (ss : List Statement). ss ++ Statement.When c ∷ []) (sym (body-last earlier last))
-
--- there is always one more, so it is not empty
-pub some_last : {X : Type 0} (xs : List X) (x : X) → xs ++ x ∷ [] ≢ []
-some_last [] x e = cc
-some_last (y ∷ xs) x e = cc
 
 pub AllZip-append : {A B : Type 0} (R : A → B → Type 0) (xs us : List A) (ys vs : List B) → AllZip R xs ys →
     AllZip R us vs → AllZip R (xs ++ us) (ys ++ vs)

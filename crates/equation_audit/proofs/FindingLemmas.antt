@@ -12,7 +12,7 @@ use Rattle.station_graph.specs.CentralRules.{Breaks}
 use Rattle.station_graph.specs.Alike.{IsVector}
 use Rattle.central_rules.specs.Readings.{Decides}
 use Rattle.central_rules.specs.declared.verdict.Verdict.{Verdict}
-use Rattle.central_rules.specs.declared.verdict.Verdict.TheVariants.{Release, Denied}
+use Rattle.central_rules.specs.declared.verdict.Verdict.TheVariants.{Denied}
 use Rattle.equation_audit.specs.Equations.{Equation, is_released, is_own, AreOwn, OwnBelow}
 use Rattle.equation_audit.specs.Positions.{placed, SharesPosition}
 use Rattle.equation_audit.specs.Findings.{IsLoose, IsLooseIn, NoneLooseBy, Suffices, IsStrict, IsStrictAt, AreFindings}
@@ -21,15 +21,8 @@ use Rattle.equation_audit.specs.declared.finding.Loose.{Loose}
 use Rattle.equation_audit.specs.declared.finding.Finding.{Finding}
 use Rattle.equation_audit.proofs.PositionLemmas.{released_same, number_of, length-placed}
 
--- what breaks a rule does not break none
-pub excludes : (d : Diagram) (v : List Bool) (op : Op) (rule : Rule) → Breaks d v op (Some rule) →
-    Breaks d v op None → ⊥
-excludes d v op R1 breaks none = none.0 breaks
-excludes d v op R2 breaks none = none.1 breaks.1
-excludes d v op R3 breaks none = none.2 breaks.2
-
 -- where it breaks no rule, it breaks none
-pub breaks_none : (d : Diagram) (v : List Bool) (op : Op) → ((rule : Rule) → ¬ Breaks d v op (Some rule)) →
+breaks_none : (d : Diagram) (v : List Bool) (op : Op) → ((rule : Rule) → ¬ Breaks d v op (Some rule)) →
     Breaks d v op None
 breaks_none d v op never = (
   never R1,
@@ -38,7 +31,7 @@ breaks_none d v op never = (
       (never R1, λ second. never R2 (never R1, second), third),
 )
 
-pub released_by : (d : Diagram) (e : Equation) (u v : List Bool) → SharesPosition d (is_own e.alternatives) u v →
+released_by : (d : Diagram) (e : Equation) (u v : List Bool) → SharesPosition d (is_own e.alternatives) u v →
     is_released e.alternatives v ≡ is_released e.alternatives u
 released_by d e u v shares = released_same e.alternatives v u shares.same
 
@@ -48,11 +41,8 @@ pub not_released : (d : Diagram) (e : Equation) (u : List Bool) → is_released 
 not_released d e u denied = λ rule v shares loose. let released : is_released e.alternatives u ≡ true =
     sym (released_by d e u v shares) ∙ loose.released in cc (released, denied)
 
-pub suffices_none : (d : Diagram) (e : Equation) (u : List Bool) → Suffices d e u → NoneLooseBy d e u
-suffices_none d e u suffices = λ rule v shares loose. excludes d v e.op rule loose.breaks (suffices v shares)
-
 -- the vectors with the position of v are those with the position of u
-pub shares_again : (d : Diagram) (e : Equation) (u v w : List Bool) → SharesPosition d (is_own e.alternatives) u v →
+shares_again : (d : Diagram) (e : Equation) (u v w : List Bool) → SharesPosition d (is_own e.alternatives) u v →
     SharesPosition d (is_own e.alternatives) v w → SharesPosition d (is_own e.alternatives) u w
 shares_again d e u v w first second = record {
   whole = second.whole;
@@ -60,12 +50,12 @@ shares_again d e u v w first second = record {
       ∙ first.same i own;
 }
 
-pub shares_back : (d : Diagram) (e : Equation) (u v : List Bool) → IsVector d u →
+shares_back : (d : Diagram) (e : Equation) (u v : List Bool) → IsVector d u →
     SharesPosition d (is_own e.alternatives) u v → SharesPosition d (is_own e.alternatives) v u
 shares_back d e u v whole shares = record { whole = whole; same = λ i own. sym (shares.same i own) }
 
 -- to be strict is a matter of the position of the own switches
-pub strict_same : (d : Diagram) (e : Equation) (u v : List Bool) → IsVector d u →
+strict_same : (d : Diagram) (e : Equation) (u v : List Bool) → IsVector d u →
     SharesPosition d (is_own e.alternatives) u v → IsStrictAt d e v → IsStrictAt d e u
 strict_same d e u v whole shares strict = record {
   whole = whole;
@@ -145,7 +135,7 @@ differ_exactly d (e ∷ es) (f ∷ fs) found =
     )
 
 -- each vector has the position of some number
-pub shares_number : (d : Diagram) (e : Equation) (own : List SwitchId) (v : List Bool) → AreOwn e.alternatives own →
+shares_number : (d : Diagram) (e : Equation) (own : List SwitchId) (v : List Bool) → AreOwn e.alternatives own →
     OwnBelow (length d.switches) e.alternatives → IsVector d v
     → (k : ℕ) × (k < 2 ^ length own) × IsVector d (placed (replicate (length d.switches) false) own k)
     × SharesPosition d (is_own e.alternatives) (placed (replicate (length d.switches) false) own k) v
@@ -185,18 +175,3 @@ pub denied_loose : (d : Diagram) (e : Equation) (u : List Bool) (verdict : Verdi
 denied_loose d e u verdict rule reading released decides is =
     let here = subst (λ (x : Verdict). Decides d (SharesPosition d (is_own e.alternatives) u) e.op x) is decides in
     record { whole = here.0.whole; released = released_by d e u reading here.0 ∙ released; breaks = here.1 }
-
--- and of one in which it does not
-pub release_strict : (d : Diagram) (e : Equation) (u : List Bool) (verdict : Verdict) → IsVector d u →
-    is_released e.alternatives u ≡ false → Decides d (SharesPosition d (is_own e.alternatives) u) e.op verdict →
-    verdict ≡ Release → IsStrictAt d e u
-release_strict d e u verdict whole denied decides is = record {
-  whole = whole;
-  denied = denied;
-  suffices = subst (λ (x : Verdict). Decides d (SharesPosition d (is_own e.alternatives) u) e.op x) is decides;
-}
-
-pub denied_not_strict : (d : Diagram) (e : Equation) (u : List Bool) (rule : Rule) (reading : List Bool) →
-    Decides d (SharesPosition d (is_own e.alternatives) u) e.op (Denied rule reading) → ¬ IsStrictAt d e u
-denied_not_strict d e u rule reading decides strict = excludes d reading e.op rule decides.1
-    (strict.suffices reading decides.0)

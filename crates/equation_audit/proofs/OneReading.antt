@@ -70,7 +70,7 @@ body_no_end : (alts : List (List Condition)) → NoEnd (body alts)
 body_no_end [] = (refl, tt)
 body_no_end (cs ∷ rest) = inner_no_end (body (cs ∷ rest)) (body_inner cs rest)
 
-pub no_end_there : (xs ys : List Statement) → NoEnd (xs ++ End ∷ ys) → ⊥
+no_end_there : (xs ys : List Statement) → NoEnd (xs ++ End ∷ ys) → ⊥
 no_end_there [] ys none = let e = none.0 in cc
 no_end_there (x ∷ xs) ys none = no_end_there xs ys none.1
 
@@ -124,7 +124,7 @@ gather_body (cs ∷ next ∷ rest) =
     ∙ (λ i. append-nil cs i ∷ gather_body (next ∷ rest) i)
 
 -- a body is of one list of alternatives
-pub one_body : (alts others : List (List Condition)) → body alts ≡ body others → alts ≡ others
+one_body : (alts others : List (List Condition)) → body alts ≡ body others → alts ≡ others
 one_body alts others same = sym (gather_body alts) ∙ ap gather same ∙ gather_body others
 
 -- what a body that goes on says next

@@ -8,10 +8,6 @@ use Rattle.equation_audit.specs.declared.condition.Condition.{Condition}
 use Rattle.equation_audit.specs.Equations.{is_named, is_own, is_among, AllDiffer, AreOwn, OwnBelow}
 use Rattle.equation_audit.specs.Positions.{AllAmong}
 
-pub or_assoc : (a b c : Bool) → ((a || b) || c) ≡ (a || (b || c))
-or_assoc true b c = refl
-or_assoc false b c = refl
-
 pub or_false : (a : Bool) → (a || false) ≡ a
 or_false true = refl
 or_false false = refl
@@ -29,30 +25,6 @@ pub is_among-push : (ids : List SwitchId) (id : SwitchId) (i : ℕ) →
 is_among-push ids id i = list_any-append (λ (x : SwitchId). x.0 == i) ids (id ∷ []) ∙ ap (λ b. is_among ids i || b)
     (or_false (id.0 == i))
 
--- one more alternative names what its conditions name
-pub is_own-last : (earlier : List (List Condition)) (last : List Condition) (i : ℕ) →
-    is_own (earlier ++ last ∷ []) i ≡ (is_own earlier i || is_named last i)
-is_own-last earlier last i = list_any-append (λ (cs : List Condition). is_named cs i) earlier (last ∷ [])
-    ∙ ap (λ b. is_own earlier i || b) (or_false (is_named last i))
-
-pub is_named-push : (cs : List Condition) (c : Condition) (i : ℕ) →
-    is_named (cs ++ c ∷ []) i ≡ (is_named cs i || (c.switch.0 == i))
-is_named-push cs c i = list_any-append (λ (x : Condition). x.switch.0 == i) cs (c ∷ []) ∙ ap (λ b. is_named cs i || b)
-    (or_false (c.switch.0 == i))
-
--- one more condition of the last alternative names its switch
-pub is_own-more : (earlier : List (List Condition)) (last : List Condition) (c : Condition) (i : ℕ) →
-    is_own (earlier ++ (last ++ c ∷ []) ∷ []) i ≡ (is_own (earlier ++ last ∷ []) i || (c.switch.0 == i))
-is_own-more earlier last c i =
-    is_own-last earlier (last ++ c ∷ []) i
-    ∙ ap (λ b. is_own earlier i || b) (is_named-push last c i)
-    ∙ sym (or_assoc (is_own earlier i) (is_named last i) (c.switch.0 == i))
-    ∙ ap (λ b. b || (c.switch.0 == i)) (sym (is_own-last earlier last i))
-
--- an alternative without conditions names nothing
-pub is_own-empty : (alts : List (List Condition)) (i : ℕ) → is_own (alts ++ [] ∷ []) i ≡ is_own alts i
-is_own-empty alts i = is_own-last alts [] i ∙ or_false (is_own alts i)
-
 not_itself : (x y : ℕ) → (x == y) ≡ false → (y == x) ≡ false
 not_itself x y differ = by_test (y == x) refl
   where
@@ -69,15 +41,6 @@ AllDiffer-push (x ∷ ids) id differ none = (
       ∙ not_itself x.0 id.0 (or_left (x.0 == id.0) (is_among ids id.0) none),
   AllDiffer-push ids id differ.1 (or_right (x.0 == id.0) (is_among ids id.0) none),
 )
-
--- a switch that is in the list already changes nothing
-pub already : (ids : List SwitchId) (j i : ℕ) → is_among ids j ≡ true → is_among ids i ≡ (is_among ids i || (j == i))
-already ids j i is = by_test (j == i) refl
-  where
-    by_test : (t : Bool) → (j == i) ≡ t → is_among ids i ≡ (is_among ids i || (j == i))
-    by_test false other = sym (ap (λ b. is_among ids i || b) other ∙ or_false (is_among ids i))
-    by_test true same = ap (is_among ids) (sym (eqb-true j i same)) ∙ is
-        ∙ sym (ap (λ b. b || (j == i)) (ap (is_among ids) (sym (eqb-true j i same)) ∙ is))
 
 itself : (a b : Bool) → a ≡ true → (a || b) ≡ true
 itself true b is = refl

@@ -36,7 +36,7 @@ own_word-other : (own : List SwitchId) (u : List Bool) (i : ℕ) → is_among ow
 own_word-other own u i none = ap (λ t. if t then word_at (get_or u i false) else Lost) none
 
 -- a reading has the position
-pub reading_shares : (d : Diagram) (own : List SwitchId) (u : List Bool) (words : List Dbpos) (v : List Bool) →
+reading_shares : (d : Diagram) (own : List SwitchId) (u : List Bool) (words : List Dbpos) (v : List Bool) →
     AreWords d words → AreOwnWords own u words → IsVector d u → AllAmong (length d.switches) own → IsReading words v →
     SharesPosition d (is_among own) u v
 reading_shares d own u words v all are whole below reading = record {
@@ -53,7 +53,7 @@ reading_shares d own u words v all are whole below reading = record {
 }
 
 -- and what has the position is a reading
-pub shares_reading : (d : Diagram) (own : List SwitchId) (u : List Bool) (words : List Dbpos) (v : List Bool) →
+shares_reading : (d : Diagram) (own : List SwitchId) (u : List Bool) (words : List Dbpos) (v : List Bool) →
     AreWords d words → AreOwnWords own u words → IsVector d u → SharesPosition d (is_among own) u v → IsReading words v
 shares_reading d own u words v all are whole shares = record {
   whole = shares.whole ∙ sym all;
@@ -75,7 +75,7 @@ shares_reading d own u words v all are whole shares = record {
         subst (λ (w : Dbpos). Agrees w closed) e tt
 
 -- what is decided over some vectors is decided over the same
-pub decides_same : (d : Diagram) (P Q : List Bool → Type 0) (op : Op) (verdict : Verdict) →
+decides_same : (d : Diagram) (P Q : List Bool → Type 0) (op : Op) (verdict : Verdict) →
     ((v : List Bool) → P v → Q v) → ((v : List Bool) → Q v → P v) → Decides d P op verdict → Decides d Q op verdict
 decides_same d P Q op Release to back decides = λ v these. decides v (back v these)
 decides_same d P Q op (Denied rule v) to back decides = (to v decides.0, decides.1)
@@ -91,17 +91,6 @@ asked (Ok verdict) d m own u words op of all are whole below decides =
     (λ v shares. shares_reading d own u words v all are whole shares)
     (subst (λ (x : Diagram). Decides x (IsReading words) op verdict) of decides)
 asked (Err e) d m own u words op of all are whole below decides = tt
-
--- the same over the own switches, however they are listed
-pub asked_own : {E : Type 0} (r : Result Verdict E) (d : Diagram) (first second : ℕ → Bool) (u : List Bool) (op : Op) →
-    ((i : ℕ) → first i ≡ second i)
-    → IfOk r (Decides d (SharesPosition d first u) op) → IfOk r (Decides d (SharesPosition d second u) op)
-asked_own (Ok verdict) d first second u op each decides =
-    decides_same d (SharesPosition d first u) (SharesPosition d second u) op verdict
-    (λ v shares. record { whole = shares.whole; same = λ i is. shares.same i (each i ∙ is) })
-    (λ v shares. record { whole = shares.whole; same = λ i is. shares.same i (sym (each i) ∙ is) })
-    decides
-asked_own (Err e) d first second u op each decides = tt
 
 own_word-same : (own more : List SwitchId) (u : List Bool) (i : ℕ) → is_among own i ≡ is_among more i →
     own_word own u i ≡ own_word more u i

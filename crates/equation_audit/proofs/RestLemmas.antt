@@ -1,5 +1,5 @@
 -- Lines that were read, and what they have said; blocks that follow one another.
-use Rattle.std.proofs.Common.{◌≡◌, ◌≢◌, ◌∙◌, sym, ap, subst, refl, append_assoc, append-nil, ℕ, ◌+◌, ◌⊎◌, List, []}
+use Rattle.std.proofs.Common.{◌≡◌, ◌≢◌, ◌∙◌, sym, ap, subst, refl, append_assoc, append-nil, ℕ, ◌⊎◌, List, []}
 use Rattle.std.proofs.Common.{◌∷◌, ◌++◌, length, arith, inl, inr, Some, None}
 use Rattle.std.specs.Prelude.{flat_map, codes}
 use Rattle.std.proofs.lemmas.Grind.{flat_map-append}
@@ -11,7 +11,7 @@ use Rattle.operation_lines.specs.OperationLines.{NamesOperation}
 use Rattle.equation_audit.specs.declared.condition.Condition.{Condition}
 use Rattle.equation_audit.specs.Equations.{Equation, HasFewOwn}
 use Rattle.equation_audit.specs.BlockLines.{Statement, LineSays, Say, body, front, whole, HasBlock, OneEach, AllFew}
-use Rattle.equation_audit.specs.BlockLines.{HasHeadFault, HasBodyFault, IsOutOfPlace, BodyFaultAfter, IsEndPassed}
+use Rattle.equation_audit.specs.BlockLines.{HasHeadFault, IsOutOfPlace, BodyFaultAfter, IsEndPassed}
 use Rattle.equation_audit.specs.BlockLines.{IsRest, IsRestFault, IsFirstFault}
 use Rattle.text_lines.specs.Lines.{filled_lines}
 use Rattle.std.specs.Str.Lines.{lines}
@@ -25,9 +25,6 @@ pub record HasSaid (d : Diagram) (all left : List (ℕ × List ℕ)) (statements
   pub before : List (ℕ × List ℕ)
   pub those : all ≡ before ++ left
   pub say : Say d before statements
-
-pub nothing_said : (d : Diagram) (all : List (ℕ × List ℕ)) → HasSaid d all all []
-nothing_said d all = record { before = []; those = refl; say = tt }
 
 pub said_next : (d : Diagram) (all left : List (ℕ × List ℕ)) (line : ℕ × List ℕ) (rest : List (ℕ × List ℕ))
     (ss more : List Statement) (s : Statement) → left ≡ line ∷ rest → more ≡ ss ++ s ∷ [] → LineSays d line.1 s →
@@ -56,38 +53,6 @@ never_read d all left line rest new first is_never passed said =
     rest_read d all rest passed.line new [] passed.those passed.is_end (said_next d all left line rest [] (body [])
     Statement.Never first refl is_never said)
 
--- the line at hand is the first fault of the rest of a block
-pub fault_here : (d : Diagram) (all left : List (ℕ × List ℕ)) (number : ℕ) (line : List ℕ) (rest : List (ℕ × List ℕ))
-    (alts : List (List Condition)) (count : ℕ) (r : InputRefusal) → left ≡ (number, line) ∷ rest → HasFewOwn alts →
-    (r.line ≡ number) × HasBodyFault d alts line r.number → HasSaid d all left (body alts) → IsRestFault d all count r
-fault_here d all left number line rest alts count r first few fault said = record {
-  before = said.before;
-  alternatives = alts;
-  say = said.say;
-  few = few;
-  fault = inl (record {
-    line = line;
-    rest = rest;
-    stands = said.those ∙ (λ j. said.before ++ (first ∙ (λ k. (sym fault.0 k, line) ∷ rest)) j);
-    fault = fault.1;
-  });
-}
-
-no_more : {X : Type 0} (xs ys : List X) → ys ≡ [] → xs ++ ys ≡ xs
-no_more xs ys none = ap (λ (zs : List _). xs ++ zs) none ∙ append-nil xs
-
--- nothing is left, and the block has no end
-pub ends_here : (d : Diagram) (all left : List (ℕ × List ℕ)) (alts : List (List Condition)) (count : ℕ)
-    (r : InputRefusal) → left ≡ [] → HasFewOwn alts → r ≡ record { number = 10; line = count + 1 } →
-    HasSaid d all left (body alts) → IsRestFault d all count r
-ends_here d all left alts count r none few refused said = record {
-  before = said.before;
-  alternatives = alts;
-  say = said.say;
-  few = few;
-  fault = inr (record { nothing = said.those ∙ no_more said.before left none; refused = refused });
-}
-
 -- what is wrong in the lines that are left, is wrong after those before
 after_more : (d : Diagram) (alts : List (List Condition)) (front_lines before left all : List (ℕ × List ℕ)) (count : ℕ)
     (r : InputRefusal) → all ≡ front_lines ++ left → BodyFaultAfter d alts before left count r →
@@ -104,7 +69,7 @@ after_more d alts front_lines before left all count r those (inr ends) = inr (re
   refused = ends.refused;
 })
 
-pub none_own : HasFewOwn []
+none_own : HasFewOwn []
 none_own = ([], record { are = record { differ = tt; each = λ i. refl }; few = omega arith })
 
 -- a body `never` that does not end
@@ -162,7 +127,7 @@ block_read d all left line rest new es e first names read said = record {
 }
 
 -- the first fault is in a block that is begun
-pub fault_in_block : (d : Diagram) (all left : List (ℕ × List ℕ)) (line : ℕ × List ℕ) (rest : List (ℕ × List ℕ))
+fault_in_block : (d : Diagram) (all left : List (ℕ × List ℕ)) (line : ℕ × List ℕ) (rest : List (ℕ × List ℕ))
     (es : List Equation) (op : Op) (count : ℕ) (r : InputRefusal) → left ≡ line ∷ rest → NamesOperation d line.1 op →
     IsRestFault d rest count r → HasSaid d all left (flat_map whole es)
     → (before : List (ℕ × List ℕ)) × (alts : List (List Condition)) × HasFewOwn alts

@@ -82,7 +82,7 @@ module _ (d : Diagram) (text : List ℕ) where
           let behind = append_cancel_left other.before other.left (found.0 ++ left) (sym other.is ∙ stop.is ∙ ap (λ
           (z : List ℕ). z ++ left) found.1 ∙ append_assoc other.before found.0 left) in
           let none = none_before other.before other.left found.0 left other.wrong
-              (subst (λ (z : List ℕ). BeginsText d z)
+          (subst (λ (z : List ℕ). BeginsText d z)
           found.1 stop.wrong.begins) (subst (λ (z : List ℕ). EndsInLf z) found.1 stop.wrong.whole) behind in
           let same : stop.before ≡ other.before = found.1 ∙ ap (λ (z : List ℕ). other.before ++ z) none ∙ append-nil
           other.before in
@@ -130,7 +130,7 @@ module _ (d : Diagram) (text : List ℕ) where
         is = all ∙ sym (append-nil (other.before ++ other.left));
       } in
       let none = none_before other.before other.left other.left [] other.wrong begins
-          (subst (λ (z : List ℕ). EndsInLf z)
+      (subst (λ (z : List ℕ). EndsInLf z)
       all (whole_text (lines_of d e))) (sym (append-nil other.left)) in
       other.wrong.not_all none e formed (sym (all ∙ ap (λ (z : List ℕ). other.before ++ z) none ∙ append-nil
       other.before))

@@ -18,7 +18,7 @@ module _ {X : Type 0} (Next : X → X → Type 0) where
 
   ends_alike : ((a b c : X) → Next a b → Next a c → b ≡ c) → (a b c : X) (after more : List X) →
       ((x : X) → ¬ Next b x) → ((x : X) → ¬ Next c x) → PassesThrough Next a after b
-          → PassesThrough Next a more c → b ≡ c
+      → PassesThrough Next a more c → b ≡ c
   ends_alike one a b c [] [] last_b last_c p q = sym p ∙ q
   ends_alike one a b c [] (y ∷ more) last_b last_c p q = absurd (last_b y (subst (λ x. Next x y) p q.0))
   ends_alike one a b c (x ∷ after) [] last_b last_c p q = absurd (last_c x (subst (λ z. Next z x) q p.0))

@@ -30,6 +30,7 @@ pub mod StepsLemmas
 pub mod WholeText
 pub mod FilledLemmas
 pub mod FormedLemmas
+pub mod StopAtParts
 pub mod StopLemmas
 pub mod LineLemmas
 pub mod EntryLemmas
@@ -39,4 +40,5 @@ pub mod LinesBefore
 pub mod FirstFault
 pub mod NamedLemmas
 pub mod AmongLemmas
+pub mod DefinedThere
 pub mod ThereLemmas

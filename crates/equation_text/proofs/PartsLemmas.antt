@@ -77,7 +77,7 @@ module _ (d : Diagram) (a : Alphabets) (part : ℕ) (al : IsAlphabet d a part) (
 
   along : (v : List Bool) (t : Target) (after : List ℕ) (i : ℕ) → IsTargetOf (length (forks_of a part)) t →
       Walks (ForkGoes (forks_of a part) v) (number_of (length (forks_of a part)) t) after
-          (length (forks_of a part) + i) →
+      (length (forks_of a part) + i) →
       Leads (NextTarget x.steps v) t (Index i)
   along v (Step n) [] i proper same = absurd (omega (arith, proper, same))
   along v (Index k) [] i proper same =

@@ -1,6 +1,6 @@
--- Where the reading of a group stops, the next line cannot stand.
-use Rattle.std.proofs.Common.{◌≡◌, ◌≢◌, ◌∙◌, ℕ, ◌+◌, ◌<◌, ◌≤◌, List, [], ◌∷◌, ◌++◌, length, map, refl, sym}
-use Rattle.std.proofs.Common.{ap, subst, inl, inr, arith, append_assoc, append-nil, None}
+-- Where the reading stops behind the lines of the parts, the next line cannot stand.
+use Rattle.std.proofs.Common.{◌≡◌, ◌≢◌, ◌∙◌, ℕ, ◌+◌, ◌<◌, ◌≤◌, List, [], ◌∷◌, ◌++◌, length, map, refl, sym, ap, subst}
+use Rattle.std.proofs.Common.{inl, inr, arith, append_assoc, append-nil, None}
 use Rattle.std.specs.Prelude.{codes}
 use Rattle.std.proofs.lemmas.List.{append_cancel_left, length-map, length_push}
 use Rattle.ilk_base.specs.declared.words.Direction.TheVariants.{ToOff, ToOn}
@@ -10,80 +10,27 @@ use Rattle.equation_text.specs.declared.goal.Goal.TheVariants.{Answer}
 use Rattle.equation_text.specs.declared.goal.SwitchGoals.{SwitchGoals}
 use Rattle.equation_text.specs.declared.goal.TheConstants.{NUMBERS}
 use Rattle.equation_text.specs.EquationLines.{PartLines, NodeLine, EquationLines, goal_count}
-use Rattle.equation_text.specs.EquationText.{part_line, step_line, op_line, node_line, lines_of, text_of}
+use Rattle.equation_text.specs.EquationText.{step_line, op_line, node_line, lines_of, text_of}
 use Rattle.equation_text.specs.Reading.{front_text, start_lines, all_step_lines, op_lines, node_lines}
 use Rattle.equation_text.specs.Reading.{MayBeStarts, MayBeOps, MayBeNodes, AreAllSteps}
 use Rattle.equation_text.specs.ReadText.{MayBeParts}
 use Rattle.equation_text.specs.Faults.{EndsInLf, AreFormed, BeginsText}
-use Rattle.equation_text.specs.Stops.{StopsIn, StopsAtStart, StopsBetween, NoOp, StopsAtOps, StopsAtNode, StopsWrong}
+use Rattle.equation_text.specs.Stops.{StopsBetween, NoOp, StopsAtOps, StopsAtNode, StopsWrong}
 use Rattle.equation_text.proofs.WordLemmas.{cut_once, lacks_by}
-use Rattle.equation_text.proofs.OnceLemmas.{part_lacks, op_lacks, node_lacks}
+use Rattle.equation_text.proofs.OnceLemmas.{op_lacks, node_lacks}
 use Rattle.equation_text.proofs.StepFits.{may_lacks}
-use Rattle.equation_text.proofs.ReadLoops.{part_of, next_start, NextOps, next_ops, ops_next, ops_push, after_nodes}
-use Rattle.equation_text.proofs.ReadLoops.{writable}
+use Rattle.equation_text.proofs.ReadLoops.{NextOps, next_ops, ops_next, ops_push, after_nodes, writable}
 use Rattle.equation_text.proofs.TopLemmas.{parts_may}
-use Rattle.equation_text.proofs.FormedLemmas.{groups, starts_may, left_steps, left_ops, left_nodes, left_none}
-use Rattle.equation_text.proofs.FormedLemmas.{at_starts, at_steps, at_ops, at_end, few_switches}
+use Rattle.equation_text.proofs.FormedLemmas.{groups, left_steps, left_ops, left_nodes, left_none}
+use Rattle.equation_text.proofs.FormedLemmas.{at_starts, at_ops, at_end, few_switches}
 use Rattle.equation_text.proofs.WholeText.{whole_line, whole_more, whole_text, front_whole, whole_four, whole_five}
 use Rattle.equation_text.proofs.WholeText.{Alike, alike_more, NothingFits, wrong_at}
-use Rattle.equation_text.proofs.FilledLemmas.{nest_three, nest_four, begins_prefix, begins_front, begins_starts}
+use Rattle.equation_text.proofs.FilledLemmas.{nest_three, nest_four, begins_prefix}
 use Rattle.equation_text.proofs.FilledLemmas.{begins_ops, begins_nodes, begins_all}
 
 module _ (d : Diagram) (station : IsStation d) where
-  few_parts : part_count d ≤ NUMBERS
-  few_parts = omega (arith, station.items.parts_few)
-
   few_all : length d.switches ≤ NUMBERS
   few_all = omega (arith, station.items.switches_few)
-
-  -- ---- before the lines of the parts
-
-  module _ (text left : List ℕ) (stop : StopsIn (front_text d) text left) where
-    no_front : NothingFits d stop.before left
-    no_front e formed more same alike =
-        let behind = at_starts d station e formed (text_of (lines_of d e)) refl in
-        let here = append_cancel_left stop.before more (stop.line ++ 10 ∷ (stop.more ++ behind))
-        (sym same ∙ groups d station e formed (text_of (lines_of d e)) refl
-        ∙ ap (λ (z : List ℕ). z ++ behind) stop.is ∙ append_assoc stop.before (stop.line ++ 10 ∷ stop.more) behind
-        ∙ ap (λ (z : List ℕ). stop.before ++ z) (append_assoc stop.line (10 ∷ stop.more) behind)) in
-        let found = alike.line stop.line (stop.more ++ behind) stop.lacks here in
-        stop.other found.0 found.1
-
-    pub wrong_front : StopsWrong d text left
-    wrong_front = record {
-      before = stop.before;
-      is = stop.passed;
-      wrong = wrong_at d stop.before left stop.whole (begins_front d stop.before (stop.line ++ 10 ∷ stop.more) stop.is)
-          no_front;
-    }
-
-  -- ---- among the lines of the parts
-
-  module _ (text l1 left : List ℕ) (e1 : text ≡ front_text d ++ l1) (stop : StopsAtStart (part_count d) l1 left) where
-    abbrev passed : List ℕ
-    passed = text_of (start_lines stop.starts)
-
-    no_start : NothingFits d (front_text d ++ passed) left
-    no_start e formed more same alike =
-        let whole = text_of (lines_of d e) in
-        let here = append_cancel_left (front_text d) (at_starts d station e formed whole refl) (passed ++ more)
-        (sym (groups d station e formed whole refl) ∙ same ∙ append_assoc (front_text d) passed more) in
-        let next = next_start (part_count d) (length stop.starts) stop.starts (map (λ (x : PartLines). x.start) e.parts)
-        (at_starts d station e formed whole refl) more (at_steps d station e formed whole refl) few_parts stop.few
-        stop.may (starts_may d station e formed whole refl) here refl in
-        let found = alike.line (part_line (length stop.starts) (part_of next.start)) next.rest
-        (part_lacks (length stop.starts) (part_of next.start) (omega (arith, stop.few, few_parts)) next.target)
-        next.is in
-        stop.none (part_of next.start) found.0 next.target found.1
-
-    pub wrong_start : StopsWrong d text left
-    wrong_start = record {
-      before = front_text d ++ passed;
-      is = e1 ∙ ap (λ (z : List ℕ). front_text d ++ z) stop.passed ∙ sym (append_assoc (front_text d) passed left);
-      wrong = wrong_at d (front_text d ++ passed) left (whole_more (front_text d) passed (front_whole d)
-          (whole_text (start_lines stop.starts)))
-          (begins_starts d stop.starts (omega (arith, stop.few)) stop.may) no_start;
-    }
 
   -- ---- behind the steps of all parts
 

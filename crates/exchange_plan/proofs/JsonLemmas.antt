@@ -1,25 +1,13 @@
 -- Lists of values, and a plan's object, which has no float.
-use Rattle.std.proofs.Common.{◌≡◌, ◌∙◌, ℕ, ◌+◌, ◌<◌, Bool, true, false, List, [], ◌∷◌, ◌++◌, length, take, map, get_or}
-use Rattle.std.proofs.Common.{refl, sym, ap, arith}
+use Rattle.std.proofs.Common.{◌≡◌, ◌∙◌, Bool, true, false, List, [], ◌∷◌, map}
+use Rattle.std.proofs.Common.{refl, ap, arith}
 use Rattle.std.specs.Prelude.{◌||◌}
-use Rattle.std.proofs.lemmas.List.{map-append, take_more}
 use Rattle.station_graph.specs.Diagram.{Diagram}
 use Rattle.serde_json.specs.View.{items_of}
 use Rattle.serde_json.specs.Written.{has_float, items_have_float}
 use Rattle.exchange_plan.specs.declared.planned.PartnerBits.{PartnerBits}
 use Rattle.exchange_plan.specs.declared.planned.BayPlan.{BayPlan}
 use Rattle.exchange_plan.specs.PlanText.{partner_data, bay_data, plan_data}
-
--- one more element on both sides
-pub map_more : {X Y Z : Type 0} (f : X → Z) (g : Y → Z) (old : List X) (v : X) (ys : List Y) (k : ℕ) (y : Y) →
-    k < length ys → y ≡ get_or ys k y → map f old ≡ map g (take k ys) → f v ≡ g y →
-    map f (old ++ v ∷ []) ≡ map g (take (k + 1) ys)
-map_more f g old v ys k y lt is before here =
-    map-append f old (v ∷ [])
-    ∙ (ap (λ zs. zs ++ f v ∷ []) before
-    ∙ (ap (λ z. map g (take k ys) ++ z ∷ []) here
-    ∙ (sym (map-append g (take k ys) (y ∷ []))
-    ∙ ap (map g) (ap (λ h. take k ys ++ h ∷ []) is ∙ sym (take_more ys k y lt)))))
 
 partners_plain : (list : List PartnerBits) → items_have_float (items_of (map partner_data list)) ≡ false
 partners_plain [] = refl

@@ -12,7 +12,7 @@ use Rattle.exchange_plan.specs.Planning.{IsPartnerOf, HasSize, partner_bays, Are
 use Rattle.exchange_plan.specs.Planning.{ListsPartner}
 
 -- an element with this key, where the keys contain it
-pub with_key : {X : Type 0} (key : X → ℕ) (xs : List X) (p : ℕ) → Contains (map key xs) p →
+with_key : {X : Type 0} (key : X → ℕ) (xs : List X) (p : ℕ) → Contains (map key xs) p →
     (i : ℕ) × (x : X) × (slice_get xs i ≡ Some x) × (key x ≡ p)
 with_key key xs p c =
     let at : slice_get (map key xs) c.0 ≡ Some p = slice_get-get_or (map key xs) c.0 p c.1 ∙ ap Some c.2 in
@@ -20,7 +20,7 @@ with_key key xs p c =
     (c.0, x, listed, is)
 
 -- the keys contain that of each element
-pub key_of : {X : Type 0} (key : X → ℕ) (xs : List X) (i : ℕ) (x : X) → slice_get xs i ≡ Some x →
+key_of : {X : Type 0} (key : X → ℕ) (xs : List X) (i : ℕ) (x : X) → slice_get xs i ≡ Some x →
     Contains (map key xs) (key x)
 key_of key xs i x at =
     let there : slice_get (map key xs) i ≡ Some (key x) = slice_get-map key xs i ∙ ap (option_map key) at in
@@ -36,13 +36,13 @@ module _ (d : Diagram) (plan : List BayPlan) (is : IsPlan d plan) (b p : ℕ) wh
     partners : ArePartners d b x.partners.items
     partners = subst (λ k. ArePartners d k x.partners.items) lists.named (is.partners lists.place x lists.listed)
 
-    pub not_listed : ((n : ℕ) → ¬ ListsPartner x.partners.items p n) → ¬ IsPartnerOf d b p
+    not_listed : ((n : ℕ) → ¬ ListsPartner x.partners.items p n) → ¬ IsPartnerOf d b p
     not_listed none partner =
         let (i, y, at, named) =
         with_key (λ (z : PartnerBits). z.bay.0) x.partners.items p ((partners.exact p).1 partner) in
         none y.bits (record { place = i; entry = y; listed = at; named = named; size = refl })
 
-    pub is_listed : (n : ℕ) → ListsPartner x.partners.items p n → IsPartnerOf d b p × HasSize d p n
+    is_listed : (n : ℕ) → ListsPartner x.partners.items p n → IsPartnerOf d b p × HasSize d p n
     is_listed n l =
         let named : Contains (partner_bays x.partners.items) p =
         subst (λ k. Contains (partner_bays x.partners.items) k) l.named

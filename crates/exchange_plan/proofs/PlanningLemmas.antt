@@ -11,10 +11,7 @@ use Rattle.release_compile.proofs.EdgesLemmas.{alphabet_counts}
 use Rattle.exchange_plan.specs.declared.planned.PartnerBits.{PartnerBits}
 use Rattle.exchange_plan.specs.declared.planned.BayPlan.{BayPlan}
 use Rattle.exchange_plan.specs.Planning.{IsPartnerOf, HasSize, partner_bays, ArePartners, planned_bays, IsPlan}
-use Rattle.exchange_plan.proofs.RisingLemmas.{AreBelow, below_none, below_push, below_pass}
-
-none_listed : {X : Type 0} (i : ℕ) (x : X) → slice_get {X = X} [] i ≡ Some x → ⊥
-none_listed i x at = cc
+use Rattle.exchange_plan.proofs.RisingLemmas.{AreBelow, below_push, below_pass}
 
 -- ---- the partners of a bay
 
@@ -22,9 +19,6 @@ none_listed i x at = cc
 pub record PartnersBelow (d : Diagram) (b : ℕ) (list : List PartnerBits) (n : ℕ) : Type 0 where
   pub keys : AreBelow (IsPartnerOf d b) (partner_bays list) n
   pub bits : (i : ℕ) (x : PartnerBits) → slice_get list i ≡ Some x → HasSize d x.bay.0 x.bits
-
-pub partners_none : (d : Diagram) (b : ℕ) → PartnersBelow d b [] 0
-partners_none d b = record { keys = below_none (IsPartnerOf d b); bits = λ i x at. absurd (none_listed i x at) }
 
 pub partners_more : (d : Diagram) (b : ℕ) (list : List PartnerBits) (n : ℕ) (x : PartnerBits) →
     PartnersBelow d b list n → x.bay.0 ≡ n → IsPartnerOf d b n → HasSize d n x.bits →
@@ -63,9 +57,6 @@ partners_all d b list n h is = record {
 pub record BaysBelow (d : Diagram) (plan : List BayPlan) (n : ℕ) : Type 0 where
   pub keys : AreBelow (IsBay d) (planned_bays plan) n
   pub partners : (i : ℕ) (x : BayPlan) → slice_get plan i ≡ Some x → ArePartners d x.bay.0 x.partners.items
-
-pub bays_none : (d : Diagram) → BaysBelow d [] 0
-bays_none d = record { keys = below_none (IsBay d); partners = λ i x at. absurd (none_listed i x at) }
 
 pub bays_more : (d : Diagram) (plan : List BayPlan) (n : ℕ) (x : BayPlan) → BaysBelow d plan n → x.bay.0 ≡ n →
     IsBay d n → ArePartners d n x.partners.items → BaysBelow d (plan ++ x ∷ []) (n + 1)

@@ -12,13 +12,6 @@ pub record AreBelow (Kind : ℕ → Type 0) (numbers : List ℕ) (n : ℕ) : Typ
   pub below : (k : ℕ) → k < length numbers → slice_index numbers k < n
   pub exact : (p : ℕ) → Contains numbers p ↔ ((p < n) × Kind p)
 
-pub below_none : (Kind : ℕ → Type 0) → AreBelow Kind [] 0
-below_none Kind = record {
-  rises = λ j k jk k_in. absurd (omega arith);
-  below = λ k k_in. absurd (omega arith);
-  exact = λ p. (λ h. absurd (omega (arith, h.1)), λ h. absurd (omega (arith, h.0)));
-}
-
 module _ (Kind : ℕ → Type 0) (numbers : List ℕ) (n : ℕ) (h : AreBelow Kind numbers n) where
   pub below_push : Kind n → AreBelow Kind (numbers ++ n ∷ []) (n + 1)
   below_push kind =

@@ -32,7 +32,7 @@ whole : (h d l a w m : List ℕ) (at what many : Option ℕ) →
     ++ (d
     ++ (label_where a at
     ++ (digits_of at ++ (label_where w what
-        ++ (digits_of what ++ (label_where m many ++ (digits_of many ++ (l ++ []))))))))
+    ++ (digits_of what ++ (label_where m many ++ (digits_of many ++ (l ++ []))))))))
     ≡ h ++ d ++ labelled a at ++ labelled w what ++ labelled m many ++ l
 whole h d l a w m at what many =
     rw (

@@ -66,7 +66,7 @@ wide_some : (bay : BayId) → Wide bay ≡ Memory → ⊥
 wide_some bay is = cc is
 
 -- no content is accepted and refused
-pub one_verdict : (f : Format) (content : List ℕ) (a : Value f) (end : End) → AcceptsAs f content a →
+one_verdict : (f : Format) (content : List ℕ) (a : Value f) (end : End) → AcceptsAs f content a →
     Refuses f content end → ⊥
 one_verdict Drawing content a (e.Station refusal) p r = not_refused content a refusal p.0 r
 one_verdict Drawing content a (e.Many part step) p r =

@@ -8,7 +8,7 @@ use Rattle.equation_audit.specs.declared.finding.Finding.{Finding}
 use Rattle.interlock_cli.specs.OrderWrites.{done_or_differs}
 use Rattle.interlock_cli.specs.declared.end.Outcome.{Outcome}
 
--- the text of what is found of each of the equations; one that is loose or strict is a difference
+-- The text of what is found of each of the equations; one that is loose or strict is a difference.
 abbrev pub AuditWrites : Diagram → List Equation → Outcome → List ℕ → Type 0
 AuditWrites d es outcome text =
     (findings : List Finding) × AreFindings d es findings × (outcome ≡ done_or_differs (some_differ findings))

@@ -54,83 +54,83 @@ pub data Command : Type 0 where
   -- `work NUMBER`
   Work : ℕ → Command
 
--- the direction that a word names
+-- The direction that a word names.
 abbrev pub direction_of : List ℕ → Option Direction
 direction_of word =
     if bytes_eq word (codes "open") then Some ToOff else (if bytes_eq word (codes "close") then Some ToOn else None)
 
--- one word, and what it names; and two, three or four
+-- One word, and what it names; and two, three or four.
 abbrev pub one_word : (List ℕ → Option Command) → List (List ℕ) → Option Command
 one_word names (a ∷ []) = names a
 one_word names _ = None
 
--- two words, and what they name
+-- Two words, and what they name.
 abbrev pub two_words : (List ℕ → List ℕ → Option Command) → List (List ℕ) → Option Command
 two_words names (a ∷ b ∷ []) = names a b
 two_words names _ = None
 
--- three words, and what they name
+-- Three words, and what they name.
 abbrev pub three_words : (List ℕ → List ℕ → List ℕ → Option Command) → List (List ℕ) → Option Command
 three_words names (a ∷ b ∷ c ∷ []) = names a b c
 three_words names _ = None
 
--- four words, and what they name
+-- Four words, and what they name.
 abbrev pub four_words : (List ℕ → List ℕ → List ℕ → List ℕ → Option Command) → List (List ℕ) → Option Command
 four_words names (a ∷ b ∷ c ∷ d ∷ []) = names a b c d
 four_words names _ = None
 
--- the words behind the name of each command
+-- The words behind the name of each command.
 abbrev pub check_of : List (List ℕ) → Option Command
 check_of = two_words (λ station positions. Some (Check station positions))
 
--- the words behind `explain`
+-- The words behind `explain`.
 abbrev pub explain_of : List (List ℕ) → Option Command
 explain_of =
     four_words (λ station positions direction switch. option_map (λ d. Explain station positions d switch)
     (direction_of direction))
 
--- the words behind `state`
+-- The words behind `state`.
 abbrev pub state_of : List (List ℕ) → Option Command
 state_of = two_words (λ station positions. Some (State station positions))
 
--- the words behind `order`
+-- The words behind `order`.
 abbrev pub order_of : List (List ℕ) → Option Command
 order_of = three_words (λ station positions order. Some (Order station positions order))
 
--- the words behind `replay`
+-- The words behind `replay`.
 abbrev pub replay_of : List (List ℕ) → Option Command
 replay_of = two_words (λ station log. Some (Replay station log))
 
--- the words behind `audit`
+-- The words behind `audit`.
 abbrev pub audit_of : List (List ℕ) → Option Command
 audit_of = two_words (λ station equations. Some (Audit station equations))
 
--- the words behind `node`
+-- The words behind `node`.
 abbrev pub node_of : List (List ℕ) → Option Command
 node_of = two_words (λ station bay. Some (Node station bay))
 
--- the words behind `compile`
+-- The words behind `compile`.
 abbrev pub compile_of : List (List ℕ) → Option Command
 compile_of = one_word (λ station. Some (Compile station))
 
--- the words behind `trips`
+-- The words behind `trips`.
 abbrev pub trips_of : List (List ℕ) → Option Command
 trips_of = two_words (λ station log. Some (Trips station log))
 
--- the words behind `make`
+-- The words behind `plan`.
 abbrev pub plan_of : List (List ℕ) → Option Command
 plan_of = one_word (λ station. Some (Plan station))
 
--- the words behind `make`
+-- The words behind `make`.
 abbrev pub make_of : List (List ℕ) → Option Command
 make_of =
     two_words (λ number text. option_and_then (λ n. option_map (λ t. Make n t) (text_named text)) (feeders_of number))
 
--- the words behind `work`
+-- The words behind `work`.
 abbrev pub work_of : List (List ℕ) → Option Command
 work_of = one_word (λ number. option_map (λ n. Work n) (feeders_of number))
 
--- what the words name, the command's name first
+-- What the words name, the command's name first.
 abbrev pub named_command : List (List ℕ) → Option Command
 named_command [] = None
 named_command (name ∷ rest) =
@@ -148,15 +148,15 @@ named_command (name ∷ rest) =
     else if bytes_eq name (codes "work") then work_of rest
     else None
 
--- what the words name, where no word is empty or begins with `-`
+-- What the words name, where no word is empty or begins with `-`.
 abbrev pub command_of : List (List ℕ) → Option Command
 command_of words = if list_all is_plain words then named_command words else None
 
--- a text with which the call ends Done
+-- A text with which the call ends Done.
 abbrev pub IsDoneWith : (List ℕ → Type 0) → Outcome → List ℕ → Type 0
 IsDoneWith IsText outcome text = (outcome ≡ Done) × IsText text
 
--- what each command is given, in the order in which it is judged, and what it writes
+-- What each command is given, in the order in which it is judged, and what it writes.
 abbrev pub form_of : Command → Form
 form_of (Check station positions) =
     Take (File station) Drawing

@@ -15,7 +15,7 @@ use Rattle.interlock_cli.specs.declared.end.End.{End}
 use Rattle.interlock_cli.specs.declared.end.End.TheVariants as e
 use Rattle.interlock_cli.specs.declared.status.Status.{Status}
 
--- what a call finds outside and leaves there, where that is told
+-- What a call finds outside and leaves there, where that is told.
 pub record Call : Type 0 where
   -- what the files hold, by their names
   pub held : List ℕ → Option (List ℕ)
@@ -27,7 +27,7 @@ pub record Call : Type 0 where
   pub after : Streams
 
 -- `out` takes nothing before all is accepted; then the text, or after a fault of the write a front of it
--- that is not all
+-- that is not all.
 abbrev pub FormEnds : Form → Call → End → Type 0
 FormEnds form c (e.Written outcome) =
     (text : List ℕ) × FormSays form c.held outcome text × Appends c.before.out c.after.out text
@@ -37,44 +37,44 @@ FormEnds form c e.WriteFault =
 FormEnds form c e.Usage = ⊥
 FormEnds form c end = FormStops form c.held c.reads_before c.reads_after end × Appends c.before.out c.after.out []
 
--- nothing is asked of the input
+-- Nothing is asked of the input.
 pub record Unasked (c : Call) : Type 0 where
   pub left : Keeps c.before.input c.after.input
   pub reads : c.after.reads ≡ c.before.reads
 
--- all that the form names is accepted, and the input is served so
+-- All that the form names is accepted, and the input is served so.
 abbrev pub Serves : Form → Call → End → Type 0
 Serves (Write writes) c end = ⊥
 Serves (Serve d b) c end = (s : SessionEnd) × (end ≡ session_end s) × ServesBay d b c.before c.after s
 Serves (Take origin f next) c end = (value : Value f) × Given c.held origin f value × Serves (next value) c end
 
--- the words name a command that asks for the input
+-- The words name a command that asks for the input.
 abbrev pub CommandAsks : Option Command → Type 0
 CommandAsks None = ⊥
 CommandAsks (Some command) = AsksInput (form_of command)
 
--- the words are not read as a command: they name none, or for memory
+-- The words are not read as a command: they name none, or for memory.
 abbrev pub WordsUnread : Option Command → End → Type 0
 WordsUnread command e.Usage = command ≡ None
 WordsUnread command e.Memory = ⊤
 WordsUnread command _ = ⊥
 
--- words that name no command are Usage, and no others, or want memory
+-- Words that name no command are Usage, and no others, or want memory.
 abbrev pub Ends : Option Command → Call → End → Type 0
 Ends None c end = WordsUnread None end × Appends c.before.out c.after.out []
 Ends (Some command) c end = (FormEnds (form_of command) c end × Unasked c) ⊎ Serves (form_of command) c end
 
--- what is to be written was written, or a front of it where the count rose
+-- What is to be written was written, or a front of it where the count rose.
 abbrev pub Wrote : Output → ℕ → ℕ → Option (List ℕ) → Option (List ℕ) → End → Type 0
 Wrote output before after old new (e.Written outcome) = (outcome ≡ output.outcome) × Appends old new output.text
 Wrote output before after old new e.WriteFault = Rose before after × AppendsFront old new output.text
 Wrote output before after old new _ = ⊥
 
--- the line was written, or a front of it where the count rose
+-- The line was written, or a front of it where the count rose.
 abbrev pub WroteLine : Option (List ℕ) → Option (List ℕ) → ℕ → ℕ → List ℕ → Type 0
 WroteLine old new before after line = Appends old new line ⊎ (Rose before after × AppendsFront old new line)
 
--- the call answers the status of an end that has its cause, and the line of this end went to `err`
+-- The call answers the status of an end that has its cause, and the line of this end went to `err`.
 pub record AnswersCall (status : Status) (command : Option Command) (c : Call) (err_old err_new : Option (List ℕ))
     (err_before err_after : ℕ) : Type 0 where
   pub end : End

@@ -9,7 +9,7 @@ use Rattle.interlock_cli.specs.declared.end.Output.{Output}
 use Rattle.interlock_cli.specs.declared.end.End.{End}
 use Rattle.interlock_cli.specs.declared.end.End.TheVariants as e
 
--- where a content comes from: a file of this name; or it is this text itself, a word or one that the program makes
+-- Where a content comes from: a file of this name; or it is this text itself, a word or one that the program makes.
 pub data Origin : Type 0 where
   File : List ℕ → Origin
   Word : List ℕ → Origin
@@ -24,42 +24,42 @@ pub data Form : Type 1 where
   -- next
   Serve : Diagram → ℕ → Form
 
--- the content of the origin is this, where it is told
+-- The content of the origin is this, where it is told.
 abbrev pub IsContent : (List ℕ → Option (List ℕ)) → Origin → List ℕ → Type 0
 IsContent held (File name) content = IfSome (held name) (λ h. h ≡ content)
 IsContent held (Word word) content = word ≡ content
 
--- a content of the origin is accepted, as this
+-- A content of the origin is accepted, as this.
 abbrev pub Given : (List ℕ → Option (List ℕ)) → Origin → (f : Format) → Value f → Type 0
 Given held origin f value = (content : List ℕ) × IsContent held origin content × AcceptsAs f content value
 
--- a content of the origin is refused, and the call ends so
+-- A content of the origin is refused, and the call ends so.
 abbrev pub Refused : (List ℕ → Option (List ℕ)) → Origin → Format → End → Type 0
 Refused held origin f end = (content : List ℕ) × IsContent held origin content × Refuses f content end
 
--- the count of faults of the origin rose
+-- The count of faults of the origin rose.
 abbrev pub ReadRose : (List ℕ → ℕ) → (List ℕ → ℕ) → Origin → Type 0
 ReadRose before after (File name) = Rose (before name) (after name)
 ReadRose before after (Word word) = ⊥
 
--- why a content is not accepted: for memory, by a fault of its read, or it is refused
+-- Why a content is not accepted: for memory, by a fault of its read, or it is refused.
 abbrev pub Fails : (List ℕ → Option (List ℕ)) → (List ℕ → ℕ) → (List ℕ → ℕ) → Origin → Format → End → Type 0
 Fails held before after origin f e.Memory = ⊤
 Fails held before after origin f e.ReadFault = ReadRose before after origin
 Fails held before after origin f end = Refused held origin f end
 
--- all that the form names is accepted, and it then writes this text and ends so
+-- All that the form names is accepted, and it then writes this text and ends so.
 abbrev pub FormSays : Form → (List ℕ → Option (List ℕ)) → Outcome → List ℕ → Type 0
 FormSays (Write writes) held outcome text = writes outcome text
 FormSays (Serve d b) held outcome text = ⊥
 FormSays (Take origin f next) held outcome text =
     (value : Value f) × Given held origin f value × FormSays (next value) held outcome text
 
--- the same, of what a call has to write
+-- The same, of what a call has to write.
 abbrev pub Gives : Form → (List ℕ → Option (List ℕ)) → Output → Type 0
 Gives form held output = FormSays form held output.outcome output.text
 
--- the form ends before it writes or serves: at the first content that is not accepted, or for memory
+-- The form ends before it writes or serves: at the first content that is not accepted, or for memory.
 abbrev pub FormStops : Form → (List ℕ → Option (List ℕ)) → (List ℕ → ℕ) → (List ℕ → ℕ) → End → Type 0
 FormStops (Write writes) held before after end = end ≡ e.Memory
 FormStops (Serve d b) held before after end = ⊥
@@ -67,7 +67,7 @@ FormStops (Take origin f next) held before after end =
     Fails held before after origin f end
     ⊎ ((value : Value f) × Given held origin f value × FormStops (next value) held before after end)
 
--- the form asks for the input
+-- The form asks for the input.
 abbrev pub AsksInput : Form → Type 0
 AsksInput (Write writes) = ⊥
 AsksInput (Serve d b) = ⊤

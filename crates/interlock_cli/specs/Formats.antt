@@ -43,8 +43,8 @@ pub data Format : Type 0 where
   -- the path of a bay of the station
   BayOf : Diagram → Format
 
--- what a content is accepted as: a station, a word or a position for each of its switches, the steps of
--- an order, equations, the path itself, or the number of the bay
+-- What a content is accepted as: a station, a word or a position for each of its switches, the steps of
+-- an order, equations, the path itself, or the number of the bay.
 abbrev pub Value : Format → Type 0
 Value Drawing = Diagram
 Value (Positions d) = List Dbpos
@@ -56,12 +56,12 @@ Value (BlocksOf d) = List Equation
 Value (SwitchOf d) = List ℕ
 Value (BayOf d) = ℕ
 
--- the path is that of this part, which is a bay
+-- The path is that of this part, which is a bay.
 abbrev pub NamesBay : Diagram → List ℕ → ℕ → Type 0
 NamesBay d path b = (slice_get d.part_paths b ≡ Some path) × IsBay d b
 
--- the content is accepted, as this; a drawing is accepted whose station keeps the limits of its graphs, and
--- blocks name the switches of a station, of which no two have one path
+-- The content is accepted, as this; a drawing is accepted whose station keeps the limits of its graphs, and
+-- blocks name the switches of a station, of which no two have one path.
 abbrev pub AcceptsAs : (f : Format) → List ℕ → Value f → Type 0
 AcceptsAs Drawing content d = Stands content (Ok d) × KeepsLimits d
 AcceptsAs (Positions d) content words = IsAccepted d.switch_paths content words
@@ -74,20 +74,20 @@ AcceptsAs (BlocksOf d) content es = Differ d.switch_paths × AreBlocks d content
 AcceptsAs (SwitchOf d) content path = Contains d.switch_paths content × (path ≡ content)
 AcceptsAs (BayOf d) content b = NamesBay d content b
 
--- the positions are accepted, and a word of them leaves a position open: 14, in no line
+-- The positions are accepted, and a word of them leaves a position open: 14, in no line.
 abbrev pub IsUnsureRefusal : Diagram → List ℕ → InputRefusal → Type 0
 IsUnsureRefusal d content refusal =
     (words : List Dbpos) × IsAccepted d.switch_paths content words × IsUnsure words
     × (refusal ≡ record { number = 14; line = 0 })
 
--- the drawing is that of a station, which is refused since it passes a limit of its graphs
+-- The drawing is that of a station, which is refused since it passes a limit of its graphs.
 pub record PassesLimit (content : List ℕ) (refusal : BuildRefusal) : Type 0 where
   pub diagram : Diagram
   pub stands : Stands content (Ok diagram)
   pub station : IsStation diagram
   pub past : IsBuildRefusal diagram refusal
 
--- the content is refused, and the call ends so; a switch or bay that is not of the station is 11, in no line
+-- The content is refused, and the call ends so; a switch or bay that is not of the station is 11, in no line.
 abbrev pub Refuses : Format → List ℕ → End → Type 0
 Refuses Drawing content (e.Station refusal) = Stands content (Err refusal)
 Refuses Drawing content (e.Many part step) = PassesLimit content (Many part step)

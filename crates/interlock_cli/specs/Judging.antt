@@ -10,29 +10,29 @@ use Rattle.interlock_cli.specs.Form.{Origin, IsContent}
 use Rattle.interlock_cli.specs.declared.end.End.{End}
 use Rattle.interlock_cli.specs.declared.end.End.TheVariants as e
 
--- a file is not read: for memory, or by a fault of it
+-- A file is not read: for memory, or by a fault of it.
 abbrev pub ReadFails : Type 0 → End → Type 0
 ReadFails rose e.Memory = ⊤
 ReadFails rose e.ReadFault = rose
 ReadFails rose _ = ⊥
 
--- a content is not accepted: for memory, or it is refused
+-- A content is not accepted: for memory, or it is refused.
 abbrev pub JudgeFails : Format → List ℕ → End → Type 0
 JudgeFails f content e.Memory = ⊤
 JudgeFails f content end = Refuses f content end
 
--- the origin has a drawing of this station, whatever its limits
+-- The origin has a drawing of this station, whatever its limits.
 abbrev pub Drawn : (List ℕ → Option (List ℕ)) → Origin → Diagram → Type 0
 Drawn held origin d = (content : List ℕ) × IsContent held origin content × Stands content (Ok d)
 
--- a station has no judge: for memory, or since it passes a limit
+-- A station has no judge: for memory, or since it passes a limit.
 abbrev pub BuildFails : Diagram → End → Type 0
 BuildFails d e.Memory = ⊤
 BuildFails d (e.Many part step) = IsStation d × IsBuildRefusal d (Many part step)
 BuildFails d (e.Wide bay) = IsStation d × IsBuildRefusal d (Wide bay)
 BuildFails d _ = ⊥
 
--- what a read leaves: what was told stays, and no count falls
+-- What a read leaves: what was told stays, and no count falls.
 pub record Onward (held later : List ℕ → Option (List ℕ)) (before between : List ℕ → ℕ) : Type 0 where
   pub keeps : (n : List ℕ) → Keeps (held n) (later n)
   pub grows : (n : List ℕ) → before n ≤ between n

@@ -11,13 +11,13 @@ use Rattle.interlock_cli.specs.declared.end.End.TheVariants as e
 use Rattle.interlock_cli.specs.declared.status.Status.{Status}
 use Rattle.interlock_cli.specs.declared.status.Status.TheVariants as s
 
--- the status of a call whose text is written
+-- The status of a call whose text is written.
 abbrev pub outcome_status : Outcome → Status
 outcome_status o.Done = s.Done
 outcome_status o.Differs = s.Differs
 outcome_status (o.Premise number line) = s.Premise
 
--- the status of an end
+-- The status of an end.
 abbrev pub status_of : End → Status
 status_of (e.Written outcome) = outcome_status outcome
 status_of e.Usage = s.Usage
@@ -30,38 +30,38 @@ status_of (e.Input refusal) = s.InputRefused
 status_of e.Long = s.Long
 status_of e.Memory = s.Memory
 
--- the line of a call that wants memory
+-- The line of a call that wants memory.
 abbrev pub memory_line : List ℕ
 memory_line = codes "interlock: out of memory\n"
 
--- a number behind its label, where there is one
+-- A number behind its label, where there is one.
 abbrev pub labelled : List ℕ → Option ℕ → List ℕ
 labelled label None = []
 labelled label (Some n) = label ++ decimal n
 
--- the line of a fault of the drawing: its number, and those of its place, limit and count that it has
+-- The line of a fault of the drawing: its number, and those of its place, limit and count that it has.
 abbrev pub fault_line : ℕ → Option ℕ → Option ℕ → Option ℕ → List ℕ
 fault_line n at what many =
     codes "interlock: station refused " ++ decimal n ++ labelled (codes " at ") at ++ labelled (codes " limit ") what
     ++ labelled (codes " count ") many ++ codes "\n"
 
--- the line of a refusal of this number; one that has none is want of memory
+-- The line of a refusal of this number; one that has none is want of memory.
 abbrev pub numbered_line : Option ℕ → SsdRefusal → List ℕ
 numbered_line None refusal = memory_line
 numbered_line (Some n) refusal = fault_line n (place refusal) (option_map limit_number (limit refusal)) (count refusal)
 
--- the line of a drawing that is refused
+-- The line of a drawing that is refused.
 abbrev pub station_line : SsdRefusal → List ℕ
 station_line refusal = numbered_line (number refusal) refusal
 
--- the line of a call whose text is written: the premise that is broken, and where
+-- The line of a call whose text is written: the premise that is broken, and where.
 abbrev pub outcome_line : Outcome → List ℕ
 outcome_line o.Done = []
 outcome_line o.Differs = []
 outcome_line (o.Premise number line) =
     codes "interlock: premise " ++ decimal number ++ codes " line " ++ decimal line ++ codes "\n"
 
--- the line on `err`
+-- The line on `err`.
 abbrev pub line_of : End → List ℕ
 line_of (e.Written outcome) = outcome_line outcome
 line_of e.Usage = codes "interlock: usage\n"

@@ -7,12 +7,12 @@ use Rattle.switching_orders.specs.declared.text.OrderReport.{OrderReport}
 use Rattle.interlock_cli.specs.declared.end.Outcome.{Outcome}
 use Rattle.interlock_cli.specs.declared.end.Outcome.TheVariants.{Done, Differs}
 
--- how a call ends that has found a difference from the rules, or none
+-- How a call ends that has found a difference from the rules, or none.
 abbrev pub done_or_differs : Bool → Outcome
 done_or_differs false = Done
 done_or_differs true = Differs
 
--- the text of the order from this start; a step that is denied or idle is a difference
+-- The text of the order from this start; a step that is denied or idle is a difference.
 abbrev pub OrderWrites : Diagram → List Bool → List Op → Outcome → List ℕ → Type 0
 OrderWrites d start steps outcome text =
     (report : OrderReport) × IsOrderText d start steps report × (outcome ≡ done_or_differs report.differs)

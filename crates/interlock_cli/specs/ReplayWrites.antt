@@ -13,7 +13,7 @@ use Rattle.log_replay.specs.Replay.{Replayed, IsReplay, report_text}
 use Rattle.interlock_cli.specs.declared.end.Outcome.{Outcome}
 use Rattle.interlock_cli.specs.declared.end.Outcome.TheVariants.{Done, Premise}
 
--- how a replay ends: at the line of a broken premise, or at the end of its log
+-- How a replay ends: at the line of a broken premise, or at the end of its log.
 abbrev pub replay_outcome : Option (ℕ × Which) → Outcome
 replay_outcome None = Done
 replay_outcome (Some broken) = Premise (number broken.1) broken.0
@@ -29,7 +29,7 @@ pub record Replays (d : Diagram) (log : List LogEvent) (r : Replayed) : Type 0 w
   pub count : r.count ≡ length log
   pub headline : Headline d (start_of d log) (lines_of log r.out [])
 
--- the text of the report; where a premise is broken, the call ends so
+-- The text of the report; where a premise is broken, the call ends so.
 abbrev pub ReplayWrites : Diagram → List LogEvent → Outcome → List ℕ → Type 0
 ReplayWrites d log outcome text =
     (r : Replayed) × Replays d log r × (outcome ≡ replay_outcome r.broken) × (text ≡ report_text d r)

@@ -4,7 +4,7 @@ use Rattle.interlock_cli.specs.declared.words.Command.{Command}
 use Rattle.interlock_cli.specs.declared.words.Command.TheVariants.{Check, Explain, State, Order, Replay, Audit, Node}
 use Rattle.interlock_cli.specs.declared.words.Command.TheVariants.{Compile, Trips, Plan, Make, Work}
 
--- a command, as the definitions name it
+-- A command, as the definitions name it.
 abbrev pub seen_command : Command → c.Command
 seen_command (Check station positions) = c.Check station.now positions.now
 seen_command (Explain station positions direction switch) = c.Explain station.now positions.now direction switch.now

@@ -11,7 +11,7 @@ use Rattle.interlock_cli.specs.declared.end.Outcome.TheVariants.{Done}
 use Rattle.interlock_cli.specs.declared.end.End.{End}
 use Rattle.interlock_cli.specs.declared.end.End.TheVariants as e
 
--- the end of a call whose session ends so; a line that is refused is 10
+-- The end of a call whose session ends so; a line that is refused is 10.
 abbrev pub session_end : SessionEnd → End
 session_end s.Done = e.Written Done
 session_end (s.Refused line) = e.Input (record { number = 10; line = line })
@@ -20,7 +20,7 @@ session_end s.ReadFault = e.ReadFault
 session_end s.WriteFault = e.WriteFault
 session_end s.Memory = e.Memory
 
--- the session of the bay ends so, for the judge by the graphs over the station's alphabets
+-- The session of the bay ends so, for the judge by the graphs over the station's alphabets.
 pub record ServesBay (d : Diagram) (b : ℕ) (before after : Streams) (end : SessionEnd) : Type 0 where
   pub judging : Judging
   pub of_station : judging.diagram ≡ d

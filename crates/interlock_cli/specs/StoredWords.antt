@@ -10,16 +10,16 @@ pub record StoredWords : Type 0 where
   pub station : List ℕ
   pub bay : List ℕ
 
--- `stored STATION BAY FILE`
+-- `stored STATION BAY FILE`.
 abbrev pub stored_named : List (List ℕ) → Option StoredWords
 stored_named (name ∷ station ∷ bay ∷ file ∷ []) =
     if bytes_eq name (codes "stored") then Some (record { station = station; bay = bay }) else None
 stored_named _ = None
 
--- what the words name, where no word is empty or begins with `-`
+-- What the words name, where no word is empty or begins with `-`.
 abbrev pub stored_of : List (List ℕ) → Option StoredWords
 stored_of words = if list_all is_plain words then stored_named words else None
 
--- what a contract sees of the words
+-- What a contract sees of the words.
 abbrev pub seen_words : Words → StoredWords
 seen_words words = record { station = words.station.now; bay = words.bay.now }

@@ -23,7 +23,7 @@ pub record ReplaysTrips (d : Diagram) (log : List TripLogEvent) (r : Replayed) :
   pub count : r.count ≡ length log
   pub headline : TripHeadline d (trip_start_of d log) (trip_lines_of log r.out [])
 
--- the text of the report; where a premise is broken, the call ends so
+-- The text of the report; where a premise is broken, the call ends so.
 abbrev pub TripsWrites : Diagram → List TripLogEvent → Outcome → List ℕ → Type 0
 TripsWrites d log outcome text =
     (r : Replayed) × ReplaysTrips d log r × (outcome ≡ replay_outcome r.broken) × (text ≡ report_text d r)

@@ -130,10 +130,10 @@ fn call<F: Shelf, I: Source, O: Sink>(
 /// text of the command, or after a fault of the write a front of it, and at every other end nothing, and
 /// that `err` took the end's line, or a front of it where its own count rose. Where a file is not told, it
 /// says the same of some content. Of `node` it says what `serve` of `node_session` does: which lines are
-/// answered, what `out` took of their texts, and how much of the input was taken. `usage` and `unread` say that
-/// the call is `Usage` exactly where the words name no command, and then reads no file. `complete` says that a
-/// call whose files are told and accepted, and in which no count rose, ends as its text says, or has served the
-/// whole input, or wants memory. No other command than `node` asks for the input (`input`).
+/// answered, what `out` took of their texts, and how much of the input was taken. The call is `Usage` only where
+/// the words name no command (`usage`); where they name none it is `Usage` or wants memory (`unnamed`), and reads
+/// no file (`unread`). `complete` says that a call whose files are told and accepted, and in which no count rose,
+/// ends as its text says, or has served the whole input, or wants memory. No other command than `node` asks for the input (`input`).
 pub fn run<F: Shelf, I: Source, O: Sink, E: Sink>(
     alloc: Global,
     words: &[String],

@@ -1,4 +1,4 @@
-// What `trips` writes of logs of the two feeders, and how it ends.
+//! What `trips` writes of logs of the two feeders, and how it ends.
 use crate::logs::{BAYS, log_of, ran};
 use ilk_base::Text;
 use interlock_cli::Status;

@@ -1,4 +1,4 @@
-// Each operation of small stations by both judges, over tables of words.
+//! Each operation of small stations by both judges, over tables of words.
 ghost use Rattle.std.specs.Prelude.{◌≡◌, ◌<◌, ◌≤◌, length, IfOk};
 ghost use Rattle.station_graph.specs.CentralRules.{IsOperation};
 ghost use Rattle.double_points.specs.Words.{AreWords};

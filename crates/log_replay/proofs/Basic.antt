@@ -24,7 +24,7 @@ eqb_same a = elim (eqb_tells a a) [ inl p ↦ p.0 | inr p ↦ absurd (p.1 refl) 
 pub eqb_differ : (a b : ℕ) → a ≢ b → (a == b) ≡ false
 eqb_differ a b differ = elim (eqb_tells a b) [ inl p ↦ absurd (differ p.1) | inr p ↦ p.0 ]
 
-pub eqb_is : (a b : ℕ) → (a == b) ≡ true → a ≡ b
+eqb_is : (a b : ℕ) → (a == b) ≡ true → a ≡ b
 eqb_is a b is = elim (eqb_tells a b) [ inl p ↦ p.1 | inr p ↦ absurd (cc (p.0, is)) ]
 
 pub and_left : (a b : Bool) → (a && b) ≡ true → a ≡ true
@@ -59,11 +59,6 @@ pub get_listed : {A : Type 0} (f : ℕ → A) (n i : ℕ) (d : A) → i < n → 
 get_listed f zero i d lt = absurd (omega (arith, lt))
 get_listed f (suc n) zero d lt = refl
 get_listed f (suc n) (suc i) d lt = get_listed (λ k. f (suc k)) n i d (omega (arith, lt))
-
-pub get_listed_past : {A : Type 0} (f : ℕ → A) (n i : ℕ) (d : A) → n ≤ i → get_or (listed f n) i d ≡ d
-get_listed_past f zero i d past = refl
-get_listed_past f (suc n) zero d past = absurd (omega (arith, past))
-get_listed_past f (suc n) (suc i) d past = get_listed_past (λ k. f (suc k)) n i d (omega (arith, past))
 
 pub length_listed : {A : Type 0} (f : ℕ → A) (n : ℕ) → length (listed f n) ≡ n
 length_listed f zero = refl

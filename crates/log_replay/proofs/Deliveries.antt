@@ -20,8 +20,9 @@ use Rattle.reservation_core.specs.declared.values.WorldEvent.TheVariants.{Delive
 use Rattle.log_replay.proofs.Basic.{one_frame, IsAnswer, answer_is, told_nothing}
 use Rattle.log_replay.proofs.Linked.{opened, HeardIs, stays, tells_nothing}
 use Rattle.log_replay.proofs.Others.{missing_some}
-use Rattle.log_replay.proofs.Turns.{Before, TurnIs, by_ends, nothing_sent, one_sent, each_sent, decided_turn, no_round}
-use Rattle.log_replay.proofs.Turns.{last_opened, own_known}
+use Rattle.log_replay.proofs.TurnParts.{Before, TurnIs, by_ends, nothing_sent, one_sent, each_sent, decided_turn}
+use Rattle.log_replay.proofs.TurnParts.{no_round, own_known}
+use Rattle.log_replay.proofs.Turns.{last_opened}
 
 -- the message that is delivered, where it was sent, and what it tells
 pub record Brought (m : Meaning) (before : List Line) (n : ℕ) (f : Frame) : Type 0 where

@@ -4,8 +4,11 @@ pub mod LogLemmas
 pub mod All
 pub mod Apart
 pub mod Basic
+pub mod RestingBays
 pub mod Decisions
+pub mod DeliveryDecisions
 pub mod Deliveries
+pub mod DriveMoves
 pub mod Leading
 pub mod LineDecisions
 pub mod Linked
@@ -17,11 +20,14 @@ pub mod Senders
 pub mod Since
 pub mod Stops
 pub mod Truth
+pub mod TurnParts
 pub mod Turns
 pub mod Verdicts
 pub mod Who
 pub mod ReportLemmas
+pub mod ShownOutcomes
 pub mod Replaying
+pub mod ReplayHeadline
 pub mod StartLemmas
 pub mod OneOutcome
 pub mod TextRows

@@ -24,8 +24,9 @@ use Rattle.log_replay.proofs.Basic.{of_own, of_other, of_quiet}
 use Rattle.log_replay.proofs.Linked.{TellsNothing, tells_nothing}
 use Rattle.log_replay.proofs.Links.{Spoken, turn_shown, quiet_shown, not_refused, drive_shown}
 use Rattle.log_replay.proofs.Leading.{before_of, brought_of, run_is}
-use Rattle.log_replay.proofs.Decisions.{BayDecides, shows_it, decides_it, quiet_bay, command_bay, tick_bay, sense_bay}
-use Rattle.log_replay.proofs.Decisions.{withdraw_bay, cut_bay, restart_bay, frame_bay}
+use Rattle.log_replay.proofs.Decisions.{command_bay, tick_bay, sense_bay, withdraw_bay, cut_bay, restart_bay}
+use Rattle.log_replay.proofs.RestingBays.{BayDecides, shows_it, decides_it, quiet_bay}
+use Rattle.log_replay.proofs.DeliveryDecisions.{frame_bay}
 
 module _ (m : Meaning) (before : List Line) (old new : Scene) (s : Shown) (outcome : WorldOutcome)
     (station : IsStation m.diagram) (laws : Laws m) (facts : RoundFacts m old) (links : Spoken m before old)

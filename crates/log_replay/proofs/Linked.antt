@@ -62,7 +62,7 @@ pub record NodeAfter (m : Meaning) (before : List Line) (c : ℕ) (x : Option Co
   pub heard : (g : Collection) (b : ℕ) → x ≡ Some g →
       HeardIs m b c (get_or g.heard b None) (cond (is_another m.diagram c b)
       (heard_after o (words_told m.diagram (delivered e before) b c (last_round before c))
-          (heard m.diagram before c b)) None)
+      (heard m.diagram before c b)) None)
   pub missing : (g : Collection) → x ≡ Some g → ¬ AllHeard m.diagram c g.heard
 
 pub node_is : (m : Meaning) (l : Line) (before : List Line) (c : ℕ) (x : Option Collection) (y : Option Grant)
@@ -149,19 +149,6 @@ stays m before e c x y words is harmless tells = record {
   heard = λ g b has. nothing_heard m before e c b (get_or g.heard b None) (tells g has) (is.heard g b has);
   missing = is.missing;
 }
-
--- events that deliver nothing
-abbrev pub IsDelivery : WorldEvent → Type 0
-IsDelivery (Deliver n) = ⊤
-IsDelivery (Sense i word) = ⊥
-IsDelivery (Restart b) = ⊥
-IsDelivery (Command op) = ⊥
-IsDelivery (Tick b) = ⊥
-IsDelivery (Withdraw b) = ⊥
-IsDelivery (Begin i) = ⊥
-IsDelivery (End i) = ⊥
-IsDelivery (Part n bytes) = ⊥
-IsDelivery (Cut i) = ⊥
 
 -- a message that is no answer to c from another bay in its round tells nothing
 pub tells_nothing : (d : Diagram) (before : List Line) (n : ℕ) (c : ℕ) (s : Sending) → sending before n ≡ Some s →

@@ -1,5 +1,5 @@
 -- The scene after the lines of a run is what the lines say.
-use Rattle.std.proofs.Common.{◌⊎◌, ◌≡◌, ◌≢◌, ◌+◌, ◌-◌, ◌<◌, ◌≤◌, ◌==◌, ℕ, zero, suc, Bool, cond, List, [], ◌∷◌, ◌++◌}
+use Rattle.std.proofs.Common.{◌⊎◌, ◌≡◌, ◌≢◌, ◌+◌, ◌-◌, ◌<◌, ◌==◌, ℕ, zero, suc, Bool, cond, List, [], ◌∷◌, ◌++◌}
 use Rattle.std.proofs.Common.{length, get_or, set, Option, Some, None, Contains, refl, sym, subst, ap, ◌∙◌, inl, inr}
 use Rattle.std.proofs.Common.{arith, get_or-set_same, get_or-set_other}
 use Rattle.std.specs.Prelude.{slice_get, unwrap_or}
@@ -27,13 +27,13 @@ use Rattle.reservation_core.specs.Lines.{Line, Shown, message, messages, shown}
 use Rattle.reservation_core.specs.History.{true_after, drive_runs, reading_at, with_number, sending}
 use Rattle.reservation_core.specs.Hearing.{words_at}
 use Rattle.reservation_core.specs.Runs.{ShowsNothing, Shows}
-use Rattle.reservation_core.proofs.Moves.{get_lost}
+use Rattle.reservation_core.proofs.Rounds.{get_lost}
 use Rattle.reservation_core.proofs.Nodes.{each_node, node_here}
-use Rattle.reservation_core.proofs.Truths.{got_or, switch_of, granted_bay}
+use Rattle.reservation_core.proofs.AlikeNotes.{got_or, switch_of, granted_bay}
 use Rattle.log_replay.proofs.Basic.{in_or_past, of_own, of_other, get_listed, length_listed, number_before}
 use Rattle.log_replay.proofs.Basic.{number_after, number_at}
 use Rattle.log_replay.proofs.Linked.{NodeIs, NodeAfter, Harmless, TellsNothing, node_is, stays}
-use Rattle.log_replay.proofs.Turns.{TurnIs}
+use Rattle.log_replay.proofs.TurnParts.{TurnIs}
 use Rattle.log_replay.proofs.Deliveries.{Brought}
 
 -- the nodes and the messages are what the lines say
@@ -52,7 +52,7 @@ pub record Linked (m : Meaning) (start : List Bool) (lines : List Line) (w : Sce
 
 -- ---- lists
 
-pub get_append : {A : Type 0} (xs ys : List A) (k : ℕ) → k < length xs → slice_get (xs ++ ys) k ≡ slice_get xs k
+get_append : {A : Type 0} (xs ys : List A) (k : ℕ) → k < length xs → slice_get (xs ++ ys) k ≡ slice_get xs k
 get_append [] ys k lt = absurd (omega (arith, lt))
 get_append (x ∷ xs) ys zero lt = refl
 get_append (x ∷ xs) ys (suc k) lt = get_append xs ys k (omega (arith, lt))
@@ -62,24 +62,14 @@ get_appended [] ys k j is = let e : k ≡ j = omega (arith, is) in ap (λ n. sli
 get_appended (x ∷ xs) ys zero j is = absurd (omega (arith, is))
 get_appended (x ∷ xs) ys (suc k) j is = get_appended xs ys k j (omega (arith, is))
 
-pub length_append : {A : Type 0} (xs ys : List A) → length (xs ++ ys) ≡ length xs + length ys
+length_append : {A : Type 0} (xs ys : List A) → length (xs ++ ys) ≡ length xs + length ys
 length_append [] ys = omega arith
 length_append (x ∷ xs) ys = let e = length_append xs ys in omega (arith, e)
 
-pub get_contains : {A : Type 0} (xs : List A) (k : ℕ) (x : A) → slice_get xs k ≡ Some x → Contains xs x
+get_contains : {A : Type 0} (xs : List A) (k : ℕ) (x : A) → slice_get xs k ≡ Some x → Contains xs x
 get_contains [] k x got = absurd (cc got)
 get_contains (y ∷ xs) zero x got = let e : y ≡ x = cc got in (zero, omega arith, e)
 get_contains (y ∷ xs) (suc k) x got = let rest = get_contains xs k x got in (suc rest.0, omega (arith, rest.1), rest.2)
-
-pub get_within : {A : Type 0} (xs : List A) (k : ℕ) (x : A) → slice_get xs k ≡ Some x → k < length xs
-get_within [] k x got = absurd (cc got)
-get_within (y ∷ xs) zero x got = omega arith
-get_within (y ∷ xs) (suc k) x got = let rest = get_within xs k x got in omega (arith, rest)
-
-pub get_past : {A : Type 0} (xs : List A) (k : ℕ) (d : A) → length xs ≤ k → get_or xs k d ≡ d
-get_past [] k d past = refl
-get_past (x ∷ xs) zero d past = absurd (omega (arith, past))
-get_past (x ∷ xs) (suc k) d past = get_past xs k d (omega (arith, past))
 
 pub put_is : {A : Type 0} (xs : List A) (i j : ℕ) (x d : A) → i < length xs → get_or (set xs i x) j d ≡ cond (i == j) x
     (get_or xs j d)
@@ -108,7 +98,7 @@ fresh_at (None ∷ xs) zero n each = refl
 fresh_at (Some s ∷ xs) zero n each = each s refl
 fresh_at (x ∷ xs) (suc c) n each = fresh_at xs c n each
 
-pub start_spoken : (m : Meaning) (start : List Bool) (w : Scene) → IsStart m.diagram start w → Spoken m [] w
+start_spoken : (m : Meaning) (start : List Bool) (w : Scene) → IsStart m.diagram start w → Spoken m [] w
 start_spoken m start w is = record {
   nodes = λ c. new_is m c (node m.diagram w c) (fresh_at w.nodes c (new_node m.diagram c)
       (λ s got. (is.nodes.each c (Some s) got).1));
@@ -142,7 +132,7 @@ stands_same m b words other v long same a = record {
   alike = a.alike;
 }
 
-pub sums_same : (m : Meaning) (b to : ℕ) (words other : List Dbpos) (s : List ℕ) →
+sums_same : (m : Meaning) (b to : ℕ) (words other : List Dbpos) (s : List ℕ) →
     length words ≡ length m.diagram.switches → length other ≡ length m.diagram.switches →
     ((i : ℕ) → i < length m.diagram.switches → bay_of m.diagram i ≡ b → get_or words i Lost ≡ get_or other i Lost) →
     Summarises m b to words s → Summarises m b to other s

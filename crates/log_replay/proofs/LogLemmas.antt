@@ -44,7 +44,7 @@ nothing_left [] (suc k) left = refl
 nothing_left (x ∷ all) zero left = absurd (cc)
 nothing_left (x ∷ all) (suc k) left = ap (λ zs. x ∷ zs) (nothing_left all k left)
 
-pub got_pushed : {X : Type 0} (xs : List X) (y : X) (k : ℕ) (x : X) → slice_get (xs ++ y ∷ []) k ≡ Some x
+got_pushed : {X : Type 0} (xs : List X) (y : X) (k : ℕ) (x : X) → slice_get (xs ++ y ∷ []) k ≡ Some x
     → ((k < length xs) × (slice_get xs k ≡ Some x)) ⊎ ((k ≡ length xs) × (y ≡ x))
 got_pushed [] y zero x is = inr (refl, cc is)
 got_pushed [] y (suc k) x is = absurd (cc)
@@ -73,14 +73,6 @@ order_more events e order follows k x at = elim (got_pushed events e k x at) [
       ∙ take-append_seam events (e ∷ []) in
       subst (λ (before : List LogEvent). MayFollow before x) (sym whole) (subst (MayFollow events) p.1 follows)
 ]
-
-pub tell_nothing : (d : Diagram) (rows : List (List (List ℕ))) → Tell d (take 0 rows) []
-tell_nothing d rows = record {
-  each = tt;
-  texts = λ k x lt. absurd (omega (arith, lt));
-  order = λ k e at. absurd (cc at);
-  few = omega arith;
-}
 
 pub tell_more : (d : Diagram) (all : List (List (List ℕ))) (events more : List LogEvent) (row : List (List ℕ))
     (e : LogEvent) (rest : List (List (List ℕ))) → more ≡ events ++ e ∷ [] → drop (length events) all ≡ row ∷ rest

@@ -11,7 +11,7 @@ use Rattle.reservation_core.specs.Facts.{IsSoundTruth}
 use Rattle.reservation_core.specs.Happens.{DeliverHappens}
 use Rattle.reservation_core.specs.declared.values.Position.{Position}
 use Rattle.reservation_core.specs.declared.values.WorldOutcome.{WorldOutcome}
-use Rattle.reservation_core.proofs.Plain.{obeys, obeys_first_two}
+use Rattle.reservation_core.proofs.TrueWords.{obeys, obeys_first_two}
 use Rattle.reservation_core.proofs.Soundness.{happens_sound}
 use Rattle.reservation_core.specs.Lines.{Line}
 use Rattle.reservation_core.specs.History.{open_of}
@@ -27,7 +27,7 @@ to_scene m start lines w v links is i closed at =
     let lt : i < length v = slice_get_within v i closed at in
     subst (λ (p : Position). Stands p closed) (sym (links.truth i (omega (arith, lt, is.whole)))) (is.each i closed at)
 
-pub to_lines : (m : Meaning) (start : List Bool) (lines : List Line) (w : Scene) (v : List Bool) →
+to_lines : (m : Meaning) (start : List Bool) (lines : List Line) (w : Scene) (v : List Bool) →
     Linked m start lines w → IsVector m.diagram v → Resolves w.truth v → MayBeTrue m.diagram start lines v
 to_lines m start lines w v links whole is = record {
   whole = whole;

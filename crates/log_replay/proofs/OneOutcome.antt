@@ -195,7 +195,7 @@ no_kind_fault d before e number station texts told follows (KindFault.no_number 
 
 pub no_fault : (d : Diagram) (before : List LogEvent) (row : List (List ℕ)) (e : LogEvent) (number : ℕ) → IsStation d →
     RecordSays d row e → IsText row → MayFollow before e → length before < MOST_RECORDS
-        → RecordFault d before row number → ⊥
+    → RecordFault d before row number → ⊥
 no_fault d before row e number station says texts follows few (RecordFault.too_many many is) = omega (arith, few, many)
 no_fault d before row e number station says texts follows few (RecordFault.no_kind room none is) =
     none (kind_of e) (of_row d row e says)

@@ -1,10 +1,8 @@
 -- All others are heard by a node exactly where they are by the lines.
 use Rattle.std.proofs.Common.{◌≡◌, ◌≢◌, ◌+◌, ◌<◌, ◌≤◌, ◌==◌, ℕ, zero, suc, Bool, true, false, cond, List, [], ◌∷◌}
 use Rattle.std.proofs.Common.{get_or, replicate, Option, Some, None, refl, subst, ap, arith, inl, inr}
-use Rattle.std.specs.Prelude.{slice_get}
-use Rattle.std.specs.List.{All, filter, range_with_len}
-use Rattle.std.specs.Prelude.{nat_lt, not}
-use Rattle.std.specs.List.{count_by}
+use Rattle.std.specs.Prelude.{slice_get, nat_lt, not}
+use Rattle.std.specs.List.{All, filter, range_with_len, count_by}
 use Rattle.std.proofs.lemmas.Bool.{ltb-true}
 use Rattle.std.proofs.lemmas.Bool.Decides.{eqb_tells}
 use Rattle.station_graph.specs.declared.items.Switch.{Switch}
@@ -13,7 +11,7 @@ use Rattle.station_graph.specs.Diagram.{Diagram, IsStation, part_count, switches
 use Rattle.central_rules.specs.Meaning.{Meaning}
 use Rattle.bay_protocol.specs.State.{IsOther, is_another, others, AllHeard}
 use Rattle.bay_protocol.proofs.Others.{another_yes, others_each}
-use Rattle.reservation_core.proofs.Moves.{unheard}
+use Rattle.reservation_core.proofs.Rounds.{unheard}
 use Rattle.log_replay.proofs.Basic.{eqb_differ, and_left, and_right, in_or_past}
 use Rattle.log_replay.proofs.Linked.{HeardIs}
 
@@ -66,7 +64,7 @@ first_of P [] all some = absurd (some refl)
 first_of P (x ∷ xs) all some = (x, all 0 x (omega arith))
 
 -- where there are others, another bay is
-pub other_there : (d : Diagram) (c : ℕ) → others d c ≢ [] → (x : ℕ) × IsOther d c x
+other_there : (d : Diagram) (c : ℕ) → others d c ≢ [] → (x : ℕ) × IsOther d c x
 other_there d c some = first_of (IsOther d c) (others d c) (others_each d c) some
 
 -- ---- what was heard

@@ -24,7 +24,7 @@ use Rattle.reservation_core.specs.declared.values.WorldEvent.TheVariants.{Comman
 use Rattle.reservation_core.specs.declared.values.WorldEvent.TheVariants.{Restart, Begin, End, Part, Cut}
 use Rattle.reservation_core.specs.declared.values.WorldOutcome.{WorldOutcome}
 use Rattle.reservation_core.specs.declared.values.WorldOutcome.TheVariants.{Premise}
-use Rattle.reservation_core.proofs.Truths.{switch_of, granted_bay}
+use Rattle.reservation_core.proofs.AlikeNotes.{switch_of, granted_bay}
 use Rattle.reservation_core.specs.Lines.{Line}
 use Rattle.reservation_core.specs.History.{sending, true_after, drive_runs}
 use Rattle.reservation_core.specs.Runs.{MayHappenBy, IsPremiseOf, PremiseExact, Run}

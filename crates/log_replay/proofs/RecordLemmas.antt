@@ -14,7 +14,7 @@ use Rattle.log_replay.specs.RecordFaults.{kind_name, record_row, IsOfKind, IsKno
 use Rattle.log_replay.specs.RecordFaults.{RecordFault}
 
 -- what is told again is told by a record `at`
-pub again_is_at : (k : RecordKind) → kind_name k ≡ kind_name At → k ≡ At
+again_is_at : (k : RecordKind) → kind_name k ≡ kind_name At → k ≡ At
 again_is_at At is = refl
 again_is_at Command is = cc is
 again_is_at Sense is = cc is
@@ -44,7 +44,7 @@ there paths i lt = (i, lt, same paths i lt)
 
 pub told_again : (d : Diagram) (before : List LogEvent) (k : RecordKind) (first second : List ℕ) (e : LogEvent) →
     IsStation d → RecordSays d (record_row k first second) e → is_again before e ≡ true
-        → ToldAgain d before k first second
+    → ToldAgain d before k first second
 told_again d before k first second (TellsStep e) station says again = cc again
 told_again d before k first second (TellsAt i closed) station says again =
     let named : kind_name k ≡ kind_name At = ap (λ (row : List (List ℕ)). get_or row 0 []) says.written in

@@ -1,65 +1,27 @@
 -- The text of a report.
-use Rattle.std.proofs.Common.{◌≡◌, ◌≢◌, ◌+◌, ◌<◌, ◌≤◌, ◌∙◌, sym, ap, refl, subst, ℕ, zero, suc, Bool, true, false}
-use Rattle.std.proofs.Common.{List, [], ◌∷◌, ◌++◌, length, take, map, append-nil, append_assoc, inl, inr, arith}
+use Rattle.std.proofs.Common.{◌≡◌, ◌+◌, ◌<◌, ◌≤◌, ◌∙◌, sym, ap, refl, subst, ℕ, zero, suc, Bool, true, false}
+use Rattle.std.proofs.Common.{List, [], ◌∷◌, ◌++◌, length, take, map, append-nil, append_assoc, arith}
 use Rattle.std.proofs.Common.{add-one, Some, length-set}
-use Rattle.std.specs.Prelude.{slice_get, slice_set, slice_index_or, All, Option, cond, codes, decimal}
+use Rattle.std.specs.Prelude.{slice_get, All, Option, cond, codes, decimal}
 use Rattle.std.proofs.lemmas.Bool.{lt-ltb}
 use Rattle.std.specs.List.{enumerate_from, flat_map}
-use Rattle.std.proofs.lemmas.Bool.Decides.{eqb_tells}
 use Rattle.std.proofs.lemmas.List.{length-map, map-append}
 use Rattle.std.proofs.lemmas.List.Sums.{fold-append}
 use Rattle.std.proofs.lemmas.Grind.{flat_map-append}
 use Rattle.std.proofs.lemmas.Option.{get_or_from_slice_get}
 use Rattle.station_graph.specs.Diagram.{Diagram, switches_in}
 use Rattle.central_rules.specs.Meaning.{IsBay}
-use Rattle.central_rules.specs.Names.{texts_below}
 use Rattle.bay_frames.specs.declared.frame.Frame.{Frame}
 use Rattle.bay_protocol.specs.declared.values.Outcome.{Outcome}
 use Rattle.bay_protocol.specs.declared.values.Outcome.TheVariants.{UnderWay, HeldBy, There, Spent, Collecting, Granted}
 use Rattle.bay_protocol.specs.declared.values.Outcome.TheVariants.{Denied, BusyBy, Finished, Withdrawn, Stopped, Quiet}
-use Rattle.bay_protocol.specs.OutcomeLines.{with_line, outcome_lines, OutcomeFits}
+use Rattle.bay_protocol.specs.OutcomeLines.{OutcomeFits}
 use Rattle.reservation_core.specs.declared.values.WorldOutcome.{WorldOutcome}
 use Rattle.log_replay.specs.Replay.{how_many, shown_at}
 use Rattle.reservation_core.specs.Lines.{Message, Shown, message, messages, shown}
 use Rattle.reservation_core.specs.ReportLines.{bay_line, shown_lines, all_lines, message_line}
 
 -- ---- the moved switch is not shown
-
-set_other : (v : List Bool) (m i : ℕ) (b d : Bool) → i ≢ m → slice_index_or (slice_set v m b) i d ≡ slice_index_or v i d
-set_other [] zero i b d differ = refl
-set_other [] (suc m) i b d differ = refl
-set_other (x ∷ v) zero zero b d differ = absurd (differ refl)
-set_other (x ∷ v) zero (suc i) b d differ = refl
-set_other (x ∷ v) (suc m) zero b d differ = refl
-set_other (x ∷ v) (suc m) (suc i) b d differ = set_other v m i b d (λ e. differ (ap suc e))
-
-with_same : (prefix : List ℕ) (d : Diagram) (v : List Bool) (moved i : ℕ) →
-    with_line prefix d (slice_set v moved false) moved i ≡ with_line prefix d v moved i
-with_same prefix d v moved i = elim (eqb_tells i moved) [
-  | inl p ↦ rw p.0 refl
-  | inr p ↦ rw (p.0, set_other v moved i false false p.1) refl
-]
-
-all_with_same : (prefix : List ℕ) (d : Diagram) (v : List Bool) (moved n : ℕ) →
-    texts_below (with_line prefix d (slice_set v moved false) moved) n ≡ texts_below (with_line prefix d v moved) n
-all_with_same prefix d v moved zero = refl
-all_with_same prefix d v moved (suc n) = rw (all_with_same prefix d v moved n, with_same prefix d v moved n) refl
-
--- an outcome and what is shown of it have the same lines
-pub shown_same : (prefix : List ℕ) (d : Diagram) (o : Outcome) →
-    outcome_lines prefix d (shown o) ≡ outcome_lines prefix d o
-shown_same prefix d (Collecting r) = refl
-shown_same prefix d (Granted r op) = refl
-shown_same prefix d (Denied r op rule v) = rw (all_with_same prefix d v op.switch.0 (length d.switches)) refl
-shown_same prefix d (BusyBy r bay holder q) = refl
-shown_same prefix d (HeldBy bay q) = refl
-shown_same prefix d (UnderWay r) = refl
-shown_same prefix d There = refl
-shown_same prefix d Spent = refl
-shown_same prefix d (Finished r) = refl
-shown_same prefix d (Withdrawn r) = refl
-shown_same prefix d (Stopped r) = refl
-shown_same prefix d Quiet = refl
 
 -- what is shown of an outcome is of the station exactly where the outcome is
 pub fits_shown : (d : Diagram) (o : Outcome) → OutcomeFits d o → OutcomeFits d (shown o)
@@ -75,20 +37,6 @@ fits_shown d (Finished r) fits = tt
 fits_shown d (Withdrawn r) fits = tt
 fits_shown d (Stopped r) fits = tt
 fits_shown d Quiet fits = tt
-
-pub shown_fits : (d : Diagram) (o : Outcome) → OutcomeFits d (shown o) → OutcomeFits d o
-shown_fits d (Collecting r) fits = tt
-shown_fits d (Granted r op) fits = fits
-shown_fits d (Denied r op rule v) fits = (fits.0, sym (length-set v op.switch.0 false) ∙ fits.1)
-shown_fits d (BusyBy r bay holder q) fits = tt
-shown_fits d (HeldBy bay q) fits = tt
-shown_fits d (UnderWay r) fits = tt
-shown_fits d There fits = tt
-shown_fits d Spent fits = tt
-shown_fits d (Finished r) fits = tt
-shown_fits d (Withdrawn r) fits = tt
-shown_fits d (Stopped r) fits = tt
-shown_fits d Quiet fits = tt
 
 -- ---- bays
 
@@ -112,7 +60,7 @@ pub take_next : {X : Type 0} (xs : List X) (k : ℕ) (x : X) → slice_get xs k 
     take (k + 1) xs ≡ take k xs ++ x ∷ []
 take_next xs k x at = ap (λ j. take j xs) (add-one k) ∙ take_suc xs k x at
 
-pub taken_length : {X : Type 0} (xs : List X) (k : ℕ) → k ≤ length xs → length (take k xs) ≡ k
+taken_length : {X : Type 0} (xs : List X) (k : ℕ) → k ≤ length xs → length (take k xs) ≡ k
 taken_length xs zero few = refl
 taken_length [] (suc k) few = absurd (omega (arith, few))
 taken_length (x ∷ xs) (suc k) few = ap suc (taken_length xs k (omega (arith, few)))
@@ -125,7 +73,7 @@ enumerate_more {X} n m (y ∷ xs) x is = ap (λ (ps : List (ℕ × X)). (n, y) �
     (omega (arith, is)))
 
 -- one line more of a log
-pub all_lines_more : (d : Diagram) (out : List Shown) (s : Shown) (k : ℕ) → length out ≡ k →
+all_lines_more : (d : Diagram) (out : List Shown) (s : Shown) (k : ℕ) → length out ≡ k →
     all_lines d (out ++ s ∷ []) ≡ all_lines d out ++ shown_lines d (k + 1) s
 all_lines_more d out s k is =
     let text = λ (p : ℕ × Shown). shown_lines d p.0 p.1 in

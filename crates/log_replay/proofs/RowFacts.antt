@@ -27,7 +27,7 @@ use Rattle.log_replay.proofs.ReportRows.{message_rows, shown_rows, all_rows, las
 pub no_blank : NoDigit 32
 no_blank k few is = omega (arith, few, is)
 
-pub no_end : NoDigit 10
+no_end : NoDigit 10
 no_end k few is = omega (arith, few, is)
 
 pub wide : (n : ℕ) → Is32Bits n → n < 2 ^ 64
@@ -45,7 +45,7 @@ two_row : (n : ℕ) (t : List ℕ) → Is32Bits n → IsRow t → IsRow (decimal
 two_row n t less row = free_append 10 (decimal n) t (number_row n less) row
 
 -- a row is its line's number, a bay, and what follows
-pub prefix_is : (i b : ℕ) (t : List ℕ) → line_prefix i b ++ t ≡ decimal i ++ 32 ∷ (decimal b ++ 32 ∷ t)
+prefix_is : (i b : ℕ) (t : List ℕ) → line_prefix i b ++ t ≡ decimal i ++ 32 ∷ (decimal b ++ 32 ∷ t)
 prefix_is i b t =
     append_assoc (decimal i ++ codes " " ++ decimal b) (codes " ") t
     ∙ append_assoc (decimal i ++ codes " ") (decimal b) (32 ∷ t)

@@ -29,7 +29,7 @@ use Rattle.log_replay.proofs.Leading.{run_is}
 use Rattle.log_replay.proofs.Who.{Who, who}
 
 -- all these frames are from bay b
-abbrev pub From : ℕ → List Frame → Type 0
+abbrev From : ℕ → List Frame → Type 0
 From b fs = (f : Frame) → Contains fs f → f.from.0 ≡ b
 
 none_from : (b : ℕ) → From b []
@@ -139,7 +139,7 @@ cut_from m s i turn (CutStep.stops h has at end) =
 cut_from m s i turn (CutStep.other_switch h has other end) = ends_from s.bay turn _ _ _ end (none_from s.bay)
 cut_from m s i turn (CutStep.no_grant none end) = ends_from s.bay turn _ _ _ end (none_from s.bay)
 
-pub step_from : (m : Meaning) (s : State) (e : NodeEvent) (turn : Turn) → Step m m.diagram s e turn →
+step_from : (m : Meaning) (s : State) (e : NodeEvent) (turn : Turn) → Step m m.diagram s e turn →
     From s.bay turn.frames
 step_from m s (Commanded op) turn step = command_from m s op turn step
 step_from m s (Sensing i word) turn step = sense_from m s i.0 word turn step

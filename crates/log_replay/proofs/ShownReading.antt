@@ -88,7 +88,7 @@ read_rows d [] = (0, Quiet)
 read_rows d (r ∷ rs) = (bay_in r, read_outcome d (first (said r)) (behind (said r)) (read_vector d rs))
 
 -- the outcome that is told of a bay
-abbrev pub told_of : ℕ × Outcome → ℕ → Outcome
+abbrev told_of : ℕ × Outcome → ℕ → Outcome
 told_of p b = if p.0 == b then p.1 else Quiet
 
 row_is : (d : Diagram) → IsStation d → (i c : ℕ) (o : Outcome) (rs : List (List ℕ)) → Is32Bits i → Is32Bits c →

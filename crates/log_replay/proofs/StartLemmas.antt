@@ -1,10 +1,8 @@
 -- Where the switches stand at first, as a log tells it.
 use Rattle.std.proofs.Common.{◌≡◌, ◌≢◌, ◌+◌, ◌<◌, ◌∙◌, sym, ap, refl, ℕ, zero, suc, Bool, true, false, List, [], ◌∷◌}
-use Rattle.std.proofs.Common.{◌++◌, length, take, Option, Some, None, arith, inl, inr, ◌⊎◌, length-set, replicate}
-use Rattle.std.specs.Prelude.{slice_get, slice_set, unwrap_or, is_some, cond}
+use Rattle.std.proofs.Common.{◌++◌, length, take, Option, Some, None, arith}
+use Rattle.std.specs.Prelude.{slice_get, unwrap_or, is_some, cond}
 use Rattle.std.proofs.lemmas.List.Sums.{fold-append}
-use Rattle.std.proofs.lemmas.List.{length-replicate}
-use Rattle.std.proofs.lemmas.Bool.{cases_lt}
 use Rattle.station_graph.specs.Diagram.{Diagram}
 use Rattle.reservation_core.specs.declared.values.LogEvent.{LogEvent}
 use Rattle.reservation_core.specs.Hearing.{listed}
@@ -33,7 +31,7 @@ whole_at {X} (y ∷ xs) zero x at = let same : y ≡ x = cc at in
 whole_at {X} (y ∷ xs) (suc k) x at = let it = whole_at xs k x at in (it.0, ap (λ (zs : List X). y ∷ zs) it.1)
 
 -- the first event that tells it
-pub told_first : (log : List LogEvent) (k : ℕ) (e : LogEvent) (s : ℕ) (closed : Bool) → told_at (take k log) s ≡ None →
+told_first : (log : List LogEvent) (k : ℕ) (e : LogEvent) (s : ℕ) (closed : Bool) → told_at (take k log) s ≡ None →
     slice_get log k ≡ Some e → told_by e s ≡ Some closed → told_at log s ≡ Some closed
 told_first log k e s closed none at tells =
     let whole = whole_at log k e at in
@@ -41,7 +39,7 @@ told_first log k e s closed none at tells =
     ∙ ap (λ (o : Option Bool). or_else o (told_at whole.0 s)) tells
 
 -- an event that does not
-pub told_not : (log : List LogEvent) (k : ℕ) (e : LogEvent) (s : ℕ) → told_at (take k log) s ≡ None →
+told_not : (log : List LogEvent) (k : ℕ) (e : LogEvent) (s : ℕ) → told_at (take k log) s ≡ None →
     slice_get log k ≡ Some e → told_by e s ≡ None → told_at (take (k + 1) log) s ≡ None
 told_not log k e s none at tells = ap (λ (es : List LogEvent). told_at es s) (take_next log k e at)
     ∙ told_after (take k log) e [] s none ∙ ap (λ (o : Option Bool). or_else o None) tells
@@ -81,43 +79,6 @@ pub record TellsSoFar (d : Diagram) (log : List LogEvent) (v : List Bool) (n : �
   pub long : length v ≡ length d.switches
   pub each : (s : ℕ) → s < n → slice_get v s ≡ Some (unwrap_or (told_at log s) false)
   pub some : (s : ℕ) → s < n → told_at log s ≢ None
-
-pub tells_nothing : (d : Diagram) (log : List LogEvent) (v : List Bool) → v ≡ replicate (length d.switches) false →
-    TellsSoFar d log v 0
-tells_nothing d log v is = record {
-  long = ap length is ∙ length-replicate (length d.switches) false;
-  each = λ s lt. absurd (omega (arith, lt));
-  some = λ s lt. absurd (omega (arith, lt));
-}
-
-set_here : (v : List Bool) (n : ℕ) (b : Bool) → n < length v → slice_get (slice_set v n b) n ≡ Some b
-set_here [] n b lt = absurd (omega (arith, lt))
-set_here (x ∷ v) zero b lt = refl
-set_here (x ∷ v) (suc n) b lt = set_here v n b (omega (arith, lt))
-
-set_there : (v : List Bool) (n s : ℕ) (b : Bool) → s < n → slice_get (slice_set v n b) s ≡ slice_get v s
-set_there v zero s b lt = absurd (omega (arith, lt))
-set_there [] (suc n) s b lt = refl
-set_there (x ∷ v) (suc n) zero b lt = refl
-set_there (x ∷ v) (suc n) (suc s) b lt = set_there v n s b (omega (arith, lt))
-
-pub tells_more : (d : Diagram) (log : List LogEvent) (v : List Bool) (n : ℕ) (closed : Bool) → TellsSoFar d log v n →
-    n < length d.switches → told_at log n ≡ Some closed → TellsSoFar d log (slice_set v n closed) (n + 1)
-tells_more d log v n closed t lt tells = record {
-  long = length-set v n closed ∙ t.long;
-  each = λ s less. elim (cases s less) [
-    | inl below ↦ set_there v n s closed below ∙ t.each s below
-    | inr is ↦ ap (slice_get (slice_set v n closed)) is ∙ set_here v n closed (omega (arith, lt, t.long))
-        ∙ ap (λ (o : Option Bool). Some (unwrap_or o false)) (sym (ap (told_at log) is ∙ tells))
-  ];
-  some = λ s less none. elim (cases s less) [
-    | inl below ↦ t.some s below none
-    | inr is ↦ let told = ap (told_at log) is ∙ tells in absurd (cc (told, none))
-  ];
-}
-  where
-    cases : (s : ℕ) → s < n + 1 → (s < n) ⊎ (s ≡ n)
-    cases s less = elim (cases_lt s n) [ inl below ↦ inl below | inr past ↦ inr (omega (arith, less, past)) ]
 
 same_list : (f : ℕ → Bool) (n : ℕ) (v : List Bool) → length v ≡ n → ((s : ℕ) → s < n → slice_get v s ≡ Some (f s)) →
     v ≡ listed f n

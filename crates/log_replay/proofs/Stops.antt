@@ -26,7 +26,7 @@ use Rattle.reservation_core.specs.Scene.{Scene, node}
 use Rattle.reservation_core.specs.declared.values.WorldEvent.{WorldEvent}
 use Rattle.reservation_core.specs.declared.values.WorldEvent.TheVariants.{Command, Sense, Deliver, Tick, Withdraw}
 use Rattle.reservation_core.specs.declared.values.WorldEvent.TheVariants.{Restart, Begin, End, Part, Cut}
-use Rattle.reservation_core.proofs.Moves.{idle_collecting}
+use Rattle.bay_protocol.proofs.UnderWay.{idle_collecting}
 use Rattle.reservation_core.specs.Lines.{Line, Shown, of_bay, shown}
 use Rattle.reservation_core.specs.History.{Opened, collecting_after, forgotten, collecting}
 use Rattle.reservation_core.specs.Hearing.{IsVerdictOn, DecidesRound}

@@ -24,7 +24,7 @@ abbrev pub free : ℕ → List ℕ → Bool
 free c [] = true
 free c (x ∷ t) = if x == c then false else free c t
 
-pub pick : (b r : Bool) → (if b then false else r) ≡ true → (b ≡ false) × (r ≡ true)
+pick : (b r : Bool) → (if b then false else r) ≡ true → (b ≡ false) × (r ≡ true)
 pick true r e = absurd (cc e)
 pick false r e = (refl, e)
 
@@ -62,7 +62,7 @@ abbrev pub cut : ℕ → List ℕ → List ℕ × List ℕ
 cut c [] = ([], [])
 cut c (x ∷ t) = if x == c then ([], t) else (x ∷ (cut c t).0, (cut c t).1)
 
-pub same_test : (c : ℕ) → (c == c) ≡ true
+same_test : (c : ℕ) → (c == c) ≡ true
 same_test c = elim (eqb_tells c c) [
   | inl p ↦ p.0
   | inr p ↦ absurd (p.1 refl)
@@ -71,10 +71,6 @@ same_test c = elim (eqb_tells c c) [
 pub cut_at : (c : ℕ) (a t : List ℕ) → free c a ≡ true → cut c (a ++ c ∷ t) ≡ (a, t)
 cut_at c [] t is = rw (same_test c) refl
 cut_at c (x ∷ a) t is = let p = pick (x == c) (free c a) is in rw (p.0, cut_at c a t p.1) refl
-
-pub cut_none : (c : ℕ) (a : List ℕ) → free c a ≡ true → cut c a ≡ (a, [])
-cut_none c [] is = refl
-cut_none c (x ∷ a) is = let p = pick (x == c) (free c a) is in rw (p.0, cut_none c a p.1) refl
 
 -- ---- rows
 

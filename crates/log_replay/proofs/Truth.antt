@@ -27,9 +27,9 @@ use Rattle.reservation_core.specs.Held.{IsSwitchOf}
 use Rattle.reservation_core.specs.Happens.{Happens, InRange, NodeSteps}
 use Rattle.reservation_core.specs.declared.values.Position.{Position}
 use Rattle.reservation_core.specs.declared.values.WorldEvent.{WorldEvent}
-use Rattle.reservation_core.proofs.Moves.{idle_grant}
-use Rattle.reservation_core.proofs.Plain.{true_word_agrees, stood, answers}
-use Rattle.reservation_core.proofs.Truths.{of_part, bay_agrees}
+use Rattle.bay_protocol.proofs.UnderWay.{idle_grant}
+use Rattle.reservation_core.proofs.TrueWords.{true_word_agrees, stood, answers}
+use Rattle.reservation_core.proofs.AlikeNotes.{of_part, bay_agrees}
 use Rattle.reservation_core.specs.Lines.{Line, of_bay, shown}
 use Rattle.reservation_core.specs.History.{Opened, collecting, reading_at}
 use Rattle.reservation_core.specs.Hearing.{words_at, heard, heard_of, heard_by, known_at, IsVerdictOn, DecidesRound}
@@ -37,12 +37,13 @@ use Rattle.reservation_core.specs.Runs.{Run, Leads}
 use Rattle.reservation_core.specs.Headline.{Verdict, MayBeTrue, TrueVerdict, TruthDecides}
 use Rattle.log_replay.proofs.Basic.{of_own, get_listed}
 use Rattle.log_replay.proofs.Linked.{opened}
-use Rattle.log_replay.proofs.Turns.{own_known}
+use Rattle.log_replay.proofs.TurnParts.{own_known}
 use Rattle.log_replay.proofs.Links.{Spoken, Linked, turn_shown, collecting_bay}
 use Rattle.log_replay.proofs.Leading.{RunIs, run_is}
 use Rattle.log_replay.proofs.Others.{is_other, other_of}
 use Rattle.log_replay.proofs.Verdicts.{listed_at}
-use Rattle.log_replay.proofs.Decisions.{not_decided, own_of}
+use Rattle.log_replay.proofs.Decisions.{own_of}
+use Rattle.log_replay.proofs.RestingBays.{not_decided}
 use Rattle.log_replay.proofs.LineDecisions.{decides_well}
 use Rattle.log_replay.proofs.Obeying.{to_scene, deliver_truth}
 use Rattle.log_replay.proofs.Apart.{heard_old}
@@ -94,7 +95,7 @@ collects_it m before old c o rounds said has =
 
 pub idle_at : (m : Meaning) (before : List Line) (l : Line) (old new : Scene) (c : ℕ) (o : Opened) → RoundFacts m old
     → Spoken m before old → Leads m old l new → DecidesRound m.diagram before l c o
-        → (node m.diagram old c).granted ≡ None
+    → (node m.diagram old c).granted ≡ None
 idle_at m before l old new c o rounds said leads (DecidesRound.at_tick has e) =
     (collects_it m before old c o rounds said has).idle
 idle_at m before l old new c o rounds said leads (DecidesRound.all_heard n has e all) =

@@ -16,12 +16,11 @@ use Rattle.bay_protocol.specs.declared.values.Outcome.{Outcome}
 use Rattle.bay_protocol.specs.declared.values.Outcome.TheVariants.{Collecting}
 use Rattle.bay_protocol.specs.State.{State}
 use Rattle.bay_protocol.specs.Step.{Turn, Deciding}
-use Rattle.reservation_core.proofs.Truths.{of_part}
+use Rattle.reservation_core.proofs.AlikeNotes.{of_part}
 use Rattle.reservation_core.specs.Lines.{Line, of_bay, shown}
 use Rattle.reservation_core.specs.History.{or_else, reading_at, Opened, last_round}
 use Rattle.reservation_core.specs.Hearing.{words_at, words_told, delivered, heard_after, heard, heard_of, heard_by}
-use Rattle.reservation_core.specs.Hearing.{listed}
-use Rattle.reservation_core.specs.Hearing.{known_at}
+use Rattle.reservation_core.specs.Hearing.{listed, known_at}
 use Rattle.reservation_core.specs.Headline.{Verdict}
 use Rattle.log_replay.proofs.Basic.{get_listed, length_listed}
 use Rattle.log_replay.proofs.Linked.{HeardIs}
@@ -49,7 +48,7 @@ listed_at f zero i x got = absurd (cc got)
 listed_at f (suc n) zero x got = (omega arith, cc got)
 listed_at f (suc n) (suc i) x got = let rest = listed_at (λ k. f (suc k)) n i x got in (omega (arith, rest.0), rest.1)
 
-pub at_listed : {A : Type 0} (f : ℕ → A) (n i : ℕ) → i < n → slice_get (listed f n) i ≡ Some (f i)
+at_listed : {A : Type 0} (f : ℕ → A) (n i : ℕ) → i < n → slice_get (listed f n) i ≡ Some (f i)
 at_listed f zero i lt = absurd (omega (arith, lt))
 at_listed f (suc n) zero lt = refl
 at_listed f (suc n) (suc i) lt = at_listed (λ k. f (suc k)) n i (omega (arith, lt))
@@ -64,7 +63,7 @@ words_of : (m : Meaning) (b c : ℕ) (s : List ℕ) (w : Option (List Dbpos)) �
 words_of m b c s None is = absurd is
 words_of m b c s (Some words) is = (words, refl)
 
-pub are_made : (m : Meaning) (lines : List Line) (c : ℕ) (own : List Dbpos) (hs : List (Option (List ℕ))) →
+are_made : (m : Meaning) (lines : List Line) (c : ℕ) (own : List Dbpos) (hs : List (Option (List ℕ))) →
     length hs ≡ part_count m.diagram → ((b : ℕ) → HeardIs m b c (get_or hs b None) (heard_of m.diagram lines c b)) →
     AreMade m (record { bay = c; own = own; heard = heard_by m.diagram lines c }) hs
 are_made m lines c own hs long are = record {

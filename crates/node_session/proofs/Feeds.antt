@@ -35,7 +35,7 @@ first-behind (x ∷ xs) b none =
     let parts = no_feed-cons x xs none in
     ap (λ t. cond (not t) (1 + position_or_len is_feed (xs ++ b)) 0) parts.0 ∙ omega (arith, first-behind xs b parts.1)
 
-pub first-none : (a : List ℕ) → HasNoFeed a → position_or_len is_feed a ≡ length a
+first-none : (a : List ℕ) → HasNoFeed a → position_or_len is_feed a ≡ length a
 first-none a none =
     subst (λ (l : List ℕ). position_or_len is_feed l ≡ length a) (append-nil a) (first-behind a [] none ∙ omega arith)
 
@@ -85,7 +85,7 @@ no_feed-none a none =
     subst (λ (l : List ℕ). HasNoFeed l) (take_all (position_or_len is_feed a) a past) (no_feed-before a)
 
 -- and where there is none, none is found
-pub none-no_feed : (a : List ℕ) → HasNoFeed a → position is_feed a ≡ None
+none-no_feed : (a : List ℕ) → HasNoFeed a → position is_feed a ≡ None
 none-no_feed a none =
     ap (λ n. cond (nat_lt n (length a)) (Some n) None) (first-none a none)
     ∙ ap (λ t. cond t (Some (length a)) None) (itself (length a))

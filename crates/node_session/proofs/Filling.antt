@@ -21,9 +21,6 @@ pub record Recent (held : List ℕ) : Type 0 where
   pub whole : HasNoFeed front
   pub near : length tail ≤ CHUNK
 
-pub recent_first : (held : List ℕ) → length held ≤ CHUNK → Recent held
-recent_first held few = record { front = []; tail = held; parts = refl; whole = refl; near = few }
-
 pub recent_more : (held held_new : List ℕ) (left left_new : Option (List ℕ)) → position is_feed held ≡ None →
     TakesPiece held held_new left left_new true → Recent held_new
 recent_more held held_new left left_new none takes = record {
@@ -45,14 +42,11 @@ consumes_both (Some x) None c p q first second = absurd first
 consumes_both (Some x) (Some y) None p q first second = absurd second
 consumes_both (Some x) (Some y) (Some z) p q first second = first ∙ ap (λ l. p ++ l) second ∙ sym (append_assoc p q z)
 
-pub consumes_keeps : (a b c : Option (List ℕ)) (p : List ℕ) → Consumes a b p → Keeps b c → Consumes a c p
+consumes_keeps : (a b c : Option (List ℕ)) (p : List ℕ) → Consumes a b p → Keeps b c → Consumes a c p
 consumes_keeps None b c p first second = tt
 consumes_keeps (Some x) None c p first second = absurd first
 consumes_keeps (Some x) (Some y) None p first second = absurd second
 consumes_keeps (Some x) (Some y) (Some z) p first second = first ∙ ap (λ l. p ++ l) (sym second)
-
-pub grows_first : (held : List ℕ) (left : Option (List ℕ)) → Consumes left left [] → Grows held held left left
-grows_first held left none = record { piece = []; parts = sym (append-nil held); consumed = none }
 
 pub grows_more : (held mid held_new : List ℕ) (left between left_new : Option (List ℕ)) (more : Bool) →
     Grows held mid left between → TakesPiece mid held_new between left_new more → Grows held held_new left left_new

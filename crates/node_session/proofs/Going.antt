@@ -70,7 +70,7 @@ appends_both (Some x) (Some y) None p q first second = absurd second
 appends_both (Some x) (Some y) (Some z) p q first second = second ∙ ap (λ l. l ++ q) first ∙ append_assoc x p q
 
 -- the same bytes, cut at the end of the line instead of before it
-pub past_line : (taken held line past rest : List ℕ) → held ≡ line ++ 10 ∷ past →
+past_line : (taken held line past rest : List ℕ) → held ≡ line ++ 10 ∷ past →
     (taken ++ (line ++ 10 ∷ [])) ++ (past ++ rest) ≡ taken ++ (held ++ rest)
 past_line taken held line past rest parts =
     append_assoc taken (line ++ 10 ∷ []) (past ++ rest)

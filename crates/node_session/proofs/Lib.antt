@@ -1,7 +1,9 @@
 pub mod Feeds
 pub mod Filling
 pub mod Going
+pub mod AnsweredLines
 pub mod Ending
+pub mod Stopping
 pub mod Next
 pub mod Naming
 pub mod Spelling

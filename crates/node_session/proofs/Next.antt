@@ -20,7 +20,8 @@ use Rattle.node_session.specs.SessionEnds.{Streams, SessionEnds, IsDone, IsStopp
 use Rattle.node_session.specs.Reading.{HasNoFeed, Grows, TakesPiece, BeginsLine, Fills, MoreFails, FillFails}
 use Rattle.node_session.specs.Progress.{AnswersLine, LineFails, Stands}
 use Rattle.node_session.proofs.Going.{appends_nothing, appends_both, stands_more, stands_past}
-use Rattle.node_session.proofs.Ending.{want, read_fault, stopped_line, stopped_long, stopped_last, done_empty, long}
+use Rattle.node_session.proofs.Ending.{want, read_fault, done_empty, long}
+use Rattle.node_session.proofs.Stopping.{stopped_line, stopped_long, stopped_last}
 use Rattle.node_session.proofs.Ending.{write_fault_line, write_fault_last, done_last}
 
 keeps_consumes : (a b : Option (List ℕ)) → Keeps a b → Consumes a b []

@@ -1,7 +1,7 @@
 -- The digits of a record.
-use Rattle.std.proofs.Common.{◌≡◌, ◌∙◌, refl, sym, arith, ℕ, ◌*◌, List, length, Option, Some, None, Ok}
+use Rattle.std.proofs.Common.{◌≡◌, ◌∙◌, refl, arith, ℕ, ◌*◌, List, length, Option, Some, None, Ok}
 use Rattle.hex.specs.Hex.{decode_of, decode_sized}
-use Rattle.hex.proofs.HexLemmas.{decode_of-ok, decode_sized-ok, decode_sized-twice}
+use Rattle.hex.proofs.HexLemmas.{decode_of-ok, decode_sized-twice}
 use Rattle.bay_protocol.specs.declared.values.Lock.{Lock}
 use Rattle.bay_protocol.specs.declared.values.Grant.{Grant}
 use Rattle.bay_protocol.specs.declared.values.Kept.{Kept}
@@ -15,12 +15,8 @@ row_length highest (Some l) None = refl
 row_length highest (Some l) (Some g) = refl
 
 -- the row of a record has 18 bytes
-pub length-kept_row : (k : Kept) → length (kept_row k) ≡ 18
+length-kept_row : (k : Kept) → length (kept_row k) ≡ 18
 length-kept_row k = row_length k.highest k.lock k.granted
-
--- digits that are read as 18 bytes spell them
-pub spells_18 : (digits bytes : List ℕ) → decode_sized digits 18 ≡ Ok bytes → decode_of digits ≡ Ok bytes
-spells_18 digits bytes read = sym (decode_sized-twice digits 18 (decode_sized-ok digits 18 bytes read)) ∙ read
 
 -- digits that spell a record are read as its row
 pub reads_18 : (digits : List ℕ) (k : Kept) → decode_of digits ≡ Ok (kept_row k) →

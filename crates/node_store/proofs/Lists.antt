@@ -1,25 +1,12 @@
 -- Parts of lists, and their elements.
-use Rattle.std.proofs.Common.{◌≡◌, ◌≤◌, ◌<◌, ◌⊎◌, ◌+◌, ◌-◌, ◌∷◌, [], zero, suc, inl, inr, ⊎_elim, ℕ, List, false}
-use Rattle.std.proofs.Common.{length, take, drop, get_or, refl, sym, ◌∙◌, ap, arith}
+use Rattle.std.proofs.Common.{◌≡◌, ◌≤◌, ◌<◌, ◌⊎◌, ◌+◌, ◌∷◌, [], zero, suc, inl, inr, ⊎_elim, ℕ, List, false}
+use Rattle.std.proofs.Common.{length, take, drop, get_or, refl, ap, arith}
 use Rattle.std.proofs.Math.ListN.{replicate}
-use Rattle.std.proofs.lemmas.List.{get_or-drop, get_or-take}
 
 pub all_false : (n i : ℕ) → get_or (replicate n false) i false ≡ false
 all_false zero i = refl
 all_false (suc n) zero = refl
 all_false (suc n) (suc i) = all_false n i
-
-at_part : (n at k : ℕ) (xs : List ℕ) → at ≤ k → k < at + n → get_or (take n (drop at xs)) (k - at) 0 ≡ get_or xs k 0
-at_part n at k xs from to =
-    let place : at + (k - at) ≡ k = omega (arith, from) in
-    let below : k - at < n = omega (arith, from, to) in
-    get_or-take n (drop at xs) (k - at) 0 below ∙ get_or-drop at xs (k - at) 0 ∙ ap (λ (j : ℕ). get_or xs j 0) place
-
--- parts that are one have the same elements
-pub inside_at : (n at k : ℕ) (xs ys : List ℕ) → take n (drop at xs) ≡ take n (drop at ys) → at ≤ k → k < at + n →
-    get_or xs k 0 ≡ get_or ys k 0
-inside_at n at k xs ys same from to =
-    sym (at_part n at k xs from to) ∙ ap (λ (l : List ℕ). get_or l (k - at) 0) same ∙ at_part n at k ys from to
 
 -- parts with the same elements are one
 pub same_part : (n at : ℕ) (xs ys : List ℕ) → length xs ≡ length ys →

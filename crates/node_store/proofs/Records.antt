@@ -24,7 +24,7 @@ number_small First = omega arith
 number_small Second = omega arith
 
 -- slot n gives way to slot m
-abbrev pub Loses : List ℕ → ℕ → ℕ → Type 0
+abbrev Loses : List ℕ → ℕ → ℕ → Type 0
 Loses c n m = (sequence (slot c n) < sequence (slot c m)) ⊎ ((sequence (slot c n) ≡ sequence (slot c m)) × (m ≡ 0))
 
 clash : (x y z w : ℕ) → (x < y) ⊎ ((x ≡ y) × (z ≡ 0)) → (y < x) ⊎ ((y ≡ x) × (suc w ≡ 0)) → ⊥
@@ -33,7 +33,7 @@ clash x y z w (inl a) (inr b) = absurd (omega (arith, a, b.0))
 clash x y z w (inr a) (inl b) = absurd (omega (arith, a.0, b))
 clash x y z w (inr a) (inr b) = absurd (omega (arith, b.1))
 
-pub unique : (image : List ℕ) (n m : ℕ) → IsNewest image n → IsNewest image m → n ≡ m
+unique : (image : List ℕ) (n m : ℕ) → IsNewest image n → IsNewest image m → n ≡ m
 unique image zero zero a b = refl
 unique image zero (suc zero) a b = absurd (clash _ _ 0 0 (a.newest b.is_open) (b.newest a.is_open))
 unique image (suc zero) zero a b = absurd (clash _ _ 0 0 (b.newest a.is_open) (a.newest b.is_open))
@@ -42,31 +42,31 @@ unique image (suc (suc n)) m a b = absurd (omega (arith, a.is_slot))
 unique image zero (suc (suc m)) a b = absurd (omega (arith, b.is_slot))
 unique image (suc zero) (suc (suc m)) a b = absurd (omega (arith, b.is_slot))
 
-pub none_newest : (image : List ℕ) (n : ℕ) → NoneOpen image → IsNewest image n → ⊥
+none_newest : (image : List ℕ) (n : ℕ) → NoneOpen image → IsNewest image n → ⊥
 none_newest image zero none a = none.0 a.is_open
 none_newest image (suc zero) none a = none.1 a.is_open
 none_newest image (suc (suc n)) none a = absurd (omega (arith, a.is_slot))
 
 -- slot n is open and newer than slot m, and holds this record
-abbrev pub HoldsFirst : List ℕ → ℕ → ℕ → Kept → Type 0
+abbrev HoldsFirst : List ℕ → ℕ → ℕ → Kept → Type 0
 HoldsFirst c n m kept = IsOpen c n × (IsOpen c m → Loses c m n) × HasRecord c n kept
 
-pub stands_here : (c : List ℕ) (n : ℕ) (kept : Kept) → n < 2 → HoldsFirst c n (1 - n) kept → IsImageOf c kept
+stands_here : (c : List ℕ) (n : ℕ) (kept : Kept) → n < 2 → HoldsFirst c n (1 - n) kept → IsImageOf c kept
 stands_here c n kept lt s = inl (n, record { is_slot = lt; is_open = s.0; newest = s.1 }, s.2)
 
-pub stands_there : (c : List ℕ) (n : ℕ) (kept : Kept) → n < 2 → HoldsFirst c (1 - n) n kept → IsImageOf c kept
+stands_there : (c : List ℕ) (n : ℕ) (kept : Kept) → n < 2 → HoldsFirst c (1 - n) n kept → IsImageOf c kept
 stands_there c zero kept lt s = inl (1, record { is_slot = omega arith; is_open = s.0; newest = s.1 }, s.2)
 stands_there c (suc zero) kept lt s = inl (0, record { is_slot = omega arith; is_open = s.0; newest = s.1 }, s.2)
 stands_there c (suc (suc n)) kept lt s = absurd (omega (arith, lt))
 
-pub stands_none : (c : List ℕ) (n : ℕ) (kept : Kept) → n < 2 → ¬ (IsOpen c n) → ¬ (IsOpen c (1 - n)) →
+stands_none : (c : List ℕ) (n : ℕ) (kept : Kept) → n < 2 → ¬ (IsOpen c n) → ¬ (IsOpen c (1 - n)) →
     kept ≡ nothing_kept → IsImageOf c kept
 stands_none c zero kept lt here there empty = inr ((here, there), empty)
 stands_none c (suc zero) kept lt here there empty = inr ((there, here), empty)
 stands_none c (suc (suc n)) kept lt here there empty = absurd (omega (arith, lt))
 
 -- where the slot is closed, the image stands for what the other one says
-pub stands_beside : (image c : List ℕ) (n : ℕ) (kept : Kept) → n < 2 → slot c (1 - n) ≡ slot image (1 - n) →
+stands_beside : (image c : List ℕ) (n : ℕ) (kept : Kept) → n < 2 → slot c (1 - n) ≡ slot image (1 - n) →
     HoldsBeside image n kept → ¬ (IsOpen c n) → IsImageOf c kept
 stands_beside image c n kept lt other beside shut = ⊎_elim
     (λ (b : IsOpen image (1 - n) × HasRecord image (1 - n) kept).
@@ -110,7 +110,7 @@ close_keeps image c n kept lt beside loses may = elim (cases_eq (gate (slot c n)
 ]
 
 -- filling it: the old record while it is closed, then the new one
-pub filled_stands : (image c : List ℕ) (n m : ℕ) (kept : Kept) → n < 2 →
+filled_stands : (image c : List ℕ) (n m : ℕ) (kept : Kept) → n < 2 →
     (IsOpen image (1 - n) → sequence (slot image (1 - n)) < m) → slot c (1 - n) ≡ slot image (1 - n)
     → IsOpen c n → (sequence (slot c n) ≡ m) × HasRecord c n kept → HoldsFirst c n (1 - n) kept
 filled_stands image c n m kept lt below other now holds = (
@@ -213,10 +213,6 @@ pub row_in : (image bytes : List ℕ) (n : ℕ) (kept : Kept) → slot image n �
     HasRecord image n kept
 row_in image bytes n kept is row = subst (λ (s : List ℕ). IsRecordRow (record_bytes s) kept) (sym is) row
 
-pub no_row_in : (image bytes : List ℕ) (n : ℕ) → slot image n ≡ bytes →
-    ((kept : Kept) → ¬ (IsRecordRow (record_bytes bytes) kept)) → (kept : Kept) → ¬ (HasRecord image n kept)
-no_row_in image bytes n is none kept has = none kept (subst (λ (s : List ℕ). IsRecordRow (record_bytes s) kept) is has)
-
 pub some_stands : (image : List ℕ) (n : Newest) (kept : Kept) → MatchesNewest image n →
     HasRecord image (number n.slot) kept → IsImageOf image kept
 some_stands image n kept matches has = inl (number n.slot, matches.newest, has)
@@ -235,17 +231,6 @@ some_not_refused image n kept matches has within m refused =
     subst (λ (k : ℕ). LAST_SEQUENCE < sequence (slot image k)) same h in
     too_great _ _ there matches.sequence_is within)
     refused.1
-
--- the slot is refused for want of a record
-pub unread_refused : (image : List ℕ) (n : Newest) → MatchesNewest image n →
-    ((kept : Kept) → ¬ (HasRecord image (number n.slot) kept)) → IsRefusedSlot image (number n.slot)
-unread_refused image n matches none = (matches.newest, inl none)
-
--- the slot is refused for its sequence
-pub great_refused : (image : List ℕ) (n : Newest) → MatchesNewest image n → LAST_SEQUENCE < n.sequence →
-    IsRefusedSlot image (number n.slot)
-great_refused image n matches more =
-    (matches.newest, inr (subst (λ (k : ℕ). LAST_SEQUENCE < k) (sym matches.sequence_is) more))
 
 -- bytes are the row of one record
 same_kept : (bytes : List ℕ) (a b : Kept) → IsRecordRow bytes a → IsRecordRow bytes b → a ≡ b

@@ -22,13 +22,13 @@ state_kept past old now c k le left = ⊎_elim
     (cases_lt (length past) k)
 
 -- after a call that was kept, what was possible before or what is now
-pub since_call : (past later : List Snapshot) (old now : Snapshot) (c : List ℕ) → later ≡ past ++ old ∷ [] →
+since_call : (past later : List Snapshot) (old now : Snapshot) (c : List ℕ) → later ≡ past ++ old ∷ [] →
     At later (length past) c now → MayLeave old c ⊎ MayLeave now c
 since_call past later old now c same left =
     state_kept past old now c left.0 left.1
     (subst (λ (l : List Snapshot). MayLeave (get_or l left.0 now) c) same left.2)
 
-pub left_now : (past : List Snapshot) (now : Snapshot) (c : List ℕ) → MayLeave now c → At past (length past) c now
+left_now : (past : List Snapshot) (now : Snapshot) (c : List ℕ) → MayLeave now c → At past (length past) c now
 left_now past now c left = (
   length past,
   omega arith,
@@ -40,11 +40,11 @@ unmarked s n c none left =
     ext_get_or 0 c s.bytes left.size
     (λ i lt. left.kept i (ap (λ (l : List Bool). get_or l i false) none ∙ all_false n i))
 
-pub itself : (s : Snapshot) → MayLeave s s.bytes
+itself : (s : Snapshot) → MayLeave s s.bytes
 itself s = record { size = refl; kept = λ k h. refl }
 
 -- before the write the crash left the same, but for the range
-pub before_write : (at : ℕ) (piece : List ℕ) (old now : Snapshot) (c : List ℕ) →
+before_write : (at : ℕ) (piece : List ℕ) (old now : Snapshot) (c : List ℕ) →
     IsWritten at piece old.bytes now.bytes → IsMarked at (length piece) old.marks now.marks → MayLeave now c
     → (d : List ℕ) × MayLeave old d × IsChangedWithin at (length piece) d c
 before_write at piece old now c written marked left =

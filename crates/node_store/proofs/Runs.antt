@@ -7,7 +7,7 @@ one_content h = cc
 
 module _ {D : Type 0} (moment : D → ℕ) (between : D → ℕ → ℕ → List ℕ → Type 0) (since : D → ℕ → List ℕ → Type 0)
     (time : (d : D) (t u : ℕ) (c : List ℕ) → t ≤ u → (since d t c ↔ (between d t u c ⊎ since d u c))) where
-  pub still : (d : D) → KeepsPast moment between d d
+  still : (d : D) → KeepsPast moment between d d
   still d = record { later = omega arith; same = λ t u c le left. left }
 
   pub goes_on : (old mid new : D) → KeepsPast moment between old mid → KeepsPast moment between mid new →
@@ -18,7 +18,7 @@ module _ {D : Type 0} (moment : D → ℕ) (between : D → ℕ → ℕ → List
   }
 
   -- what a crash may have left by the end of two runs, it may have left in the first or in the second
-  pub splits : (old mid new : D) (c : List ℕ) → KeepsPast moment between old mid → KeepsPast moment between mid new →
+  splits : (old mid new : D) (c : List ℕ) → KeepsPast moment between old mid → KeepsPast moment between mid new →
       since new (moment old) c → since mid (moment old) c ⊎ since new (moment mid) c
   splits old mid new c first second left = ⊎_elim
       (λ (h : between new (moment old) (moment mid) c). inl ((time mid (moment old) (moment mid) c first.later).1

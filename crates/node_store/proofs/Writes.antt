@@ -13,7 +13,7 @@ use Rattle.node_store.specs.Store.{MayClose, HoldsIfOpen}
 use Rattle.node_store.proofs.Lists.{same_part}
 
 -- the other slot stays
-pub other_stays : (n at len : ℕ) (image c : List ℕ) → n < 2 → 32 * n ≤ at → at + len ≤ 32 * n + 32 →
+other_stays : (n at len : ℕ) (image c : List ℕ) → n < 2 → 32 * n ≤ at → at + len ≤ 32 * n + 32 →
     IsChangedWithin at len image c → slot c (1 - n) ≡ slot image (1 - n)
 other_stays zero at len image c lt from to changed =
     same_part 32 32 c image changed.size (λ k low high. changed.outside k (inr (omega (arith, to, low))))
@@ -27,7 +27,7 @@ gate_is n image =
     ∙ ap (λ (k : ℕ). get_or image k 0) (let e : 32 * n + 0 ≡ 32 * n = omega arith in e)
 
 -- a write behind the gate leaves it
-pub gate_stays : (n len : ℕ) (image c : List ℕ) → IsChangedWithin (32 * n + 1) len image c →
+gate_stays : (n len : ℕ) (image c : List ℕ) → IsChangedWithin (32 * n + 1) len image c →
     gate (slot c n) ≡ gate (slot image n)
 gate_stays n len image c changed = gate_is n c ∙ changed.outside (32 * n) (inl (omega arith)) ∙ sym (gate_is n image)
 
@@ -35,7 +35,7 @@ rest_is : (n : ℕ) (image : List ℕ) → drop 1 (slot image n) ≡ take 31 (dr
 rest_is n image = drop-take 1 31 (drop (32 * n) image) ∙ ap (λ (l : List ℕ). take 31 l) (drop-drop 1 (32 * n) image)
 
 -- a write of the gate leaves the rest
-pub rest_stays : (n : ℕ) (image c : List ℕ) → IsChangedWithin (32 * n) 1 image c →
+rest_stays : (n : ℕ) (image c : List ℕ) → IsChangedWithin (32 * n) 1 image c →
     drop 1 (slot c n) ≡ drop 1 (slot image n)
 rest_stays n image c changed =
     rest_is n c ∙ same_part 31 (32 * n + 1) c image changed.size (λ k low high. changed.outside k (inr low))
@@ -47,7 +47,7 @@ record_is s = ap (λ (l : List ℕ). take 18 l) (sym (drop-drop 8 1 s))
 pub same_sequence : (s t : List ℕ) → drop 1 s ≡ drop 1 t → sequence s ≡ sequence t
 same_sequence s t same = ap (λ (l : List ℕ). from_be_bytes w64 (take 8 l)) same
 
-pub same_record : (s t : List ℕ) → drop 1 s ≡ drop 1 t → record_bytes s ≡ record_bytes t
+same_record : (s t : List ℕ) → drop 1 s ≡ drop 1 t → record_bytes s ≡ record_bytes t
 same_record s t same = record_is s ∙ ap (λ (l : List ℕ). take 18 (drop 8 l)) same ∙ sym (record_is t)
 
 module _ (n number : ℕ) (bytes image c : List ℕ) (fits : number < 2 ^ 64) (size : length bytes ≡ 18)
@@ -64,14 +64,14 @@ module _ (n number : ℕ) (bytes image c : List ℕ) (fits : number < 2 ^ 64) (s
       omega (arith, length-append (to_be_bytes w64 number) bytes, size) in
       e) ∙ written.inside
 
-  pub wrote_sequence : sequence (slot c n) ≡ number
+  wrote_sequence : sequence (slot c n) ≡ number
   wrote_sequence =
       ap (λ (l : List ℕ). from_be_bytes w64 (take 8 l)) (rest_is n c)
       ∙ ap (λ (l : List ℕ). from_be_bytes w64 l) (take-take 8 31 X (omega arith) ∙ sym (take-take 8 26 X (omega arith))
       ∙ ap (λ (l : List ℕ). take 8 l) whole ∙ take_at (to_be_bytes w64 number) bytes 8 refl)
       ∙ from_be_bytes-to_be_bytes_8 number fits
 
-  pub wrote_record : record_bytes (slot c n) ≡ bytes
+  wrote_record : record_bytes (slot c n) ≡ bytes
   wrote_record =
       record_is (slot c n)
       ∙ ap (λ (l : List ℕ). take 18 (drop 8 l)) (rest_is n c)
@@ -81,7 +81,7 @@ module _ (n number : ℕ) (bytes image c : List ℕ) (fits : number < 2 ^ 64) (s
       ∙ ap (λ (l : List ℕ). drop 8 l) whole
       ∙ drop_at (to_be_bytes w64 number) bytes 8 refl
 
-pub wrote_gate : (n g : ℕ) (image c : List ℕ) → IsWritten (32 * n) (g ∷ []) image c → gate (slot c n) ≡ g
+wrote_gate : (n g : ℕ) (image c : List ℕ) → IsWritten (32 * n) (g ∷ []) image c → gate (slot c n) ≡ g
 wrote_gate n g image c written =
     get_or-take 32 (drop (32 * n) c) 0 0 (omega arith) ∙ sym (get_or-take 1 (drop (32 * n) c) 0 0 (omega arith))
     ∙ ap (λ (l : List ℕ). get_or l 0 0) written.inside

@@ -29,17 +29,20 @@ LeftSince d t c = (k : ℕ) × (t ≤ k) × MayLeave (state_at d k) c
 abbrev pub LeftBetween : MemDevice → ℕ → ℕ → List ℕ → Type 0
 LeftBetween d t u c = (k : ℕ) × (t ≤ k) × (k < u) × MayLeave (state_at d k) c
 
+-- What it may leave from a moment on it leaves before a later moment, or from that on.
 before_or_after : (d : MemDevice) (t u : ℕ) (c : List ℕ) → LeftSince d t c → LeftBetween d t u c ⊎ LeftSince d u c
 before_or_after d t u c left =
     ⊎_elim (λ lt. inl (left.0, left.1, lt, left.2)) (λ ge. inr (left.0, ge, left.2)) (cases_lt left.0 u)
 
+-- What it leaves between two moments it leaves from the first on.
 before : (d : MemDevice) (t u : ℕ) (c : List ℕ) → LeftBetween d t u c → LeftSince d t c
 before d t u c left = (left.0, left.1, left.3)
 
+-- What it leaves from the later moment on it leaves from the earlier one on.
 after : (d : MemDevice) (t u : ℕ) (c : List ℕ) → t ≤ u → LeftSince d u c → LeftSince d t c
 after d t u c le left = (left.0, le_trans le left.1, left.2)
 
--- What a crash may leave from a moment on, it leaves before a later moment or from that on.
+-- What a crash may leave from a moment on is what it may leave before a later moment or from that on.
 pub since_splits : (d : MemDevice) (t u : ℕ) (c : List ℕ) → t ≤ u →
     (LeftSince d t c ↔ (LeftBetween d t u c ⊎ LeftSince d u c))
 since_splits d t u c le = (before_or_after d t u c, ⊎_elim (before d t u c) (after d t u c le))

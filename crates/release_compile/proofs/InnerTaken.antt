@@ -53,7 +53,7 @@ module _ (a : Lettered) (b m first others : ℕ) (f : ℕ → ℕ) (order : Keep
     fits =
         fits_stays (pool_on f p) (pool_on f q) (grows_on f p q g) i.start (letter_rows i) i.keeps.items
         (inner_linked a b m first others (pool_on f p) i.start names (letter_rows i) i.keeps.items ready)
-            plan_on fits_on
+        plan_on fits_on
 
     pub taken_exact : IsExact p.view a.diagram (ChosenBy plan_on) (items_of plan_on) (NeededBy plan_on) (suc others)
         t.right.layers (values_at (map (mapped f) q.values.items) o.names.items)
@@ -71,7 +71,7 @@ module _ (a : Lettered) (b m first others : ℕ) (f : ℕ → ℕ) (order : Keep
           edges = t.note.edges;
           has = subst (λ n. PlanHas p.view plan_on (letter_rows i) n (AreSoMany a.diagram) t.note.edges) ready.rows.len
               (subst (λ w. PlanHas w plan_on (letter_rows i) (length (letter_rows i)) (AreSoMany a.diagram)
-                  t.note.edges) g.view
+              t.note.edges) g.view
               (laid.has f plan_on order fits));
           all = t.all ∙ is;
         })
@@ -85,7 +85,7 @@ module _ (a : Lettered) (b m first others : ℕ) (f : ℕ → ℕ) (order : Keep
         let at : slice_get (letter_rows i) (suc k) ≡ Some row =
         slice_get-get_or (letter_rows i) (suc k) [] (omega (arith, lt, ready.rows.len)) in
         plain_choices t.right.layers (letter_rows i) (suc k) row laid.choices at
-            ∙ ap length (ready.rows.pairs k row at).two
+        ∙ ap length (ready.rows.pairs k row at).two
 
     pub taken_choices : map (λ (l : Layer). l.choices) o.graph.layers ≡ map (λ (l : Layer). l.choices) t.right.layers
     taken_choices = ap (λ (h : Layered). map (λ (l : Layer). l.choices) h.layers) t.graph ∙ t.right.same_choices

@@ -108,7 +108,7 @@ module _ (p q : Pool) (g : Grows p q) (start : ℕ) (letters : List (List ℕ)) 
       subst (λ w. StandsIn w (Among (new_of plan j)) (plan_diagram plan) v (values_at q.values.items ids) c)
           (sym g.view)
           (subst (λ xs. StandsIn p.view (Among (new_of plan j)) (plan_diagram plan) v xs c)
-              (sym (row_same j ids at)) s),
+          (sym (row_same j ids at)) s),
     ));
   }
 
@@ -148,7 +148,7 @@ noted_stays p q g n h = record {
   linked = linked_stays p q g n.intake.start (letter_rows n.intake) n.intake.keeps.items h.linked;
   laid =
       laid_stays p q g n.intake.start (letter_rows n.intake) n.intake.keeps.items n.names.items n.edges
-          h.layers h.linked
+      h.layers h.linked
       h.within h.laid;
   within = λ t i at. value_in p q i no_answers g (h.within t i at);
   labels = h.labels;
@@ -212,7 +212,7 @@ module _ (p q : Pool) (g : Grows p q) (start : ℕ) (letters : List (List ℕ)) 
         let s = spent f plan order was in
         let e : s.edges ≡ budget - left = omega (arith, s.all) in
         subst (λ w. PlanHas w plan letters (length letters) (AreSoMany (plan_diagram plan)) (budget - left))
-            (sym g.view)
+        (sym g.view)
         (subst (λ k. PlanHas p.view plan letters k (AreSoMany (plan_diagram plan)) (budget - left)) count
         (subst (λ k. PlanHas p.view plan letters n (AreSoMany (plan_diagram plan)) k) e s.has));
     choices = finished_choices ds ∙ choices;

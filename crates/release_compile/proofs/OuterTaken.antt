@@ -68,7 +68,7 @@ module _ (a : Lettered) (b others budget : ℕ) (p q : Pool) (i : Intake) (o : C
   indices j lt =
       let row : List ℕ = get_or (letter_rows i) j [] in
       let at : slice_get (letter_rows i) j ≡ Some row =
-          slice_get-get_or (letter_rows i) j [] (omega (arith, lt, rows_count)) in
+      slice_get-get_or (letter_rows i) j [] (omega (arith, lt, rows_count)) in
       plain_choices t.right.layers (letter_rows i) j row laid.choices at ∙ (ready.rows.each j row at).len
 
   choices : map (λ (l : Layer). l.choices) o.graph.layers ≡ map (λ (l : Layer). l.choices) t.right.layers
@@ -106,7 +106,7 @@ module _ (a : Lettered) (b others budget : ℕ) (p q : Pool) (i : Intake) (o : C
         edges = t.note.edges;
         has =
             subst (λ w. PlanHas w (outer_plan a b) (letter_rows i) (length (letter_rows i)) (AreSoMany a.diagram)
-                t.note.edges)
+            t.note.edges)
             g.view (laid.has (λ n. n) (outer_plan a b) order_self fits);
         all = t.all;
       }))

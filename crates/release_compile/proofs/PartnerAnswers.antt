@@ -153,7 +153,7 @@ module _ (d : Diagram) (b c m : ℕ) (own : OfPart d c (a_switch m)) (v w : List
 
 pub gap_shows : (d : Diagram) (b c m : ℕ) (v w : List Bool) (x y : ℕ) → OfPart d c (a_switch m) → IsVector d v →
     IsVector d w → DifferInPart d b v w → LabelSays Gap d m v x → LabelSays Gap d m w y → x < 3 → y < 3 → x ≢ y
-        → Shown d b c
+    → Shown d b c
 gap_shows d b c m v w x y own whole_v whole_w differ says_v says_w in_x in_y ne = elim (rules_apart x y in_x in_y ne) [
   | inl t ↦ gap_one_way d b c m own v w whole_v whole_w differ x y says_v says_w t
   | inr t ↦ gap_one_way d b c m own w v whole_w whole_v (shown_back d b v w differ) y x says_w says_v t
@@ -161,7 +161,7 @@ gap_shows d b c m v w x y own whole_v whole_w differ says_v says_w in_x in_y ne 
 
 pub load_shows : (d : Diagram) (b c m : ℕ) (v w : List Bool) (x y : ℕ) → OfPart d c (a_switch m) → IsVector d v →
     IsVector d w → DifferInPart d b v w → LabelSays Load d m v x → LabelSays Load d m w y → x < 2 → y < 2 → x ≢ y
-        → Shown d b c
+    → Shown d b c
 load_shows d b c m v w x y own whole_v whole_w differ says_v says_w in_x in_y ne = elim (cases_eq x 1) [
   | inl e ↦ load_one_way d b c m own v w whole_v whole_w differ x y says_v says_w e (λ q. ne (e ∙ sym q))
   | inr not_one ↦

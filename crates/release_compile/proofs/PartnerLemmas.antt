@@ -62,7 +62,7 @@ module _ (d : Diagram) (c first count : ℕ) (those : AreSwitchesOf d c first co
       let one = silent d c first count 3 GapChosen (LabelSays Gap d) gap gap_inners gap_view those j in_gap no_gap v w
       whole_v whole_w differ place g.0 g.1 in
       let two = silent d c first count 2 LoadChosen (LabelSays Load d) load load_inners load_view those j in_load
-          no_load v w
+      no_load v w
       whole_v whole_w differ place h.0 h.1 in
       says_same d (first + place) v w one.0 two.0 one.1 one.2 two.1 two.2 op moves answer
 

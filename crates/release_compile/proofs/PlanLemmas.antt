@@ -119,12 +119,12 @@ module _ (p q r : Pool) (start : ℕ) (letters : List (List ℕ)) (keeps : List 
       (ls ++ layer_with (length ids) (length states) edges ∷ []) (values_at r.values.items next)
   layer_exact plan ls fits old =
       let here = subst (λ xs. IsExact p.view (plan_diagram plan) (ChosenBy plan) (items_of plan)
-          (NeededBy plan) j ls xs)
+      (NeededBy plan) j ls xs)
       (sym states_more) old in
       let states_len = length-map states (λ i. get_or r.values.items i no_answers) in
       let letters_len = length-map ids (λ i. get_or r.values.items i no_answers) in
       let done = fold_step p.view (plan_diagram plan) (ChosenBy plan) (items_of plan) (NeededBy plan) j
-          (new_of plan j) ls
+      (new_of plan j) ls
       nodes (values_at r.values.items states) (values_at r.values.items ids) (values_at r.values.items next) edges
       here step
       (omega (arith, some, states_len)) (omega (arith, some_letter, letters_len)) refl

@@ -28,7 +28,8 @@ use Rattle.reservation_core.specs.declared.values.WorldOutcome.{WorldOutcome}
 use Rattle.reservation_core.proofs.Sends.{facts_stops}
 use Rattle.reservation_core.proofs.Steps.{bay_of_is}
 use Rattle.reservation_core.proofs.Keeping.{got_there}
-use Rattle.reservation_core.proofs.Effects.{IsAsked, effect}
+use Rattle.reservation_core.proofs.Effects.{effect}
+use Rattle.reservation_core.proofs.StepEffect.{IsAsked}
 
 -- frames are added to what was sent, an Answer alone, and beside them the copy is what is to be kept
 pub record Added (d : Diagram) (old new : Scene) (copy : Option (List Dbpos)) : Type 0 where

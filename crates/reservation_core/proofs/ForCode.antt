@@ -1,5 +1,5 @@
 -- What the code needs of the facts.
-use Rattle.std.proofs.Common.{◌≡◌, ◌≢◌, ◌+◌, ◌<◌, ◌≤◌, ◌-◌, ◌++◌, ℕ, zero, suc, Bool, true, List, [], ◌∷◌, length, map}
+use Rattle.std.proofs.Common.{◌≡◌, ◌≢◌, ◌+◌, ◌<◌, ◌≤◌, ◌-◌, ◌++◌, ℕ, zero, suc, Bool, List, [], ◌∷◌, length, map}
 use Rattle.std.proofs.Common.{take, get_or, slice_get, set, Option, Some, None, refl, sym, subst, ap, ◌∙◌, arith, lit<}
 use Rattle.std.specs.Prelude.{unwrap_or}
 use Rattle.std.proofs.Math.Seq.{take-suc}
@@ -11,7 +11,6 @@ use Rattle.station_graph.specs.declared.limits.TheConstants.{BAYS}
 use Rattle.central_rules.specs.Meaning.{Meaning, IsBay, bay_of}
 use Rattle.bay_frames.specs.declared.frame.Frame.{Frame}
 use Rattle.bay_frames.specs.Row.{frame_row, IsLawful, FitsRow}
-use Rattle.bay_protocol.specs.declared.values.Grant.{Grant}
 use Rattle.bay_protocol.specs.declared.values.NodeEvent.{NodeEvent}
 use Rattle.bay_protocol.specs.declared.values.NodeEvent.TheVariants.{Frame as Arrival}
 use Rattle.bay_protocol.specs.State.{State, kept_of}
@@ -19,9 +18,9 @@ use Rattle.bay_protocol.specs.Fits.{FitsHeard, IsNode}
 use Rattle.bay_protocol.specs.declared.values.NodeOutput.{NodeOutput}
 use Rattle.bay_protocol.specs.Step.{Turn, Step, TakeStep, Nothing}
 use Rattle.bay_protocol.specs.Output.{turn as as_turn, IsKeep}
-use Rattle.reservation_core.specs.Scene.{Scene, node, new_node, at_node, posts, runs, stops}
+use Rattle.reservation_core.specs.Scene.{Scene, node, new_node, at_node, posts, stops}
 use Rattle.reservation_core.specs.RoundFacts.{RoundFacts, FrameFits}
-use Rattle.reservation_core.specs.Happens.{Tells, NodeSteps, NodeTakes, IsMessage, IsOpened, no_turn}
+use Rattle.reservation_core.specs.Happens.{Tells, NodeSteps, NodeTakes, IsMessage, no_turn}
 use Rattle.reservation_core.specs.declared.values.Position.{Position}
 use Rattle.reservation_core.specs.declared.values.WorldOutcome.{WorldOutcome}
 use Rattle.reservation_core.specs.declared.values.WorldOutcome.TheVariants.{Premise, Drive, Node}
@@ -31,17 +30,17 @@ use Rattle.reservation_core.proofs.Steps.{bay_of_is}
 -- ---- nodes
 
 -- the node of a bay is what stands at its place
-pub stands_at : (d : Diagram) (w : Scene) (b : ℕ) (s : State) → slice_get w.nodes b ≡ Some (Some s) → node d w b ≡ s
+stands_at : (d : Diagram) (w : Scene) (b : ℕ) (s : State) → slice_get w.nodes b ≡ Some (Some s) → node d w b ≡ s
 stands_at d w b s got =
     ap (λ (x : Option State). unwrap_or x (new_node d b)) (same_Some (get_or w.nodes b None) (Some s)
     (sym (slice_get-get_or w.nodes b None (slice_get_within w.nodes b (Some s) got)) ∙ got))
 
 -- the place of a bay is not empty
-pub never_empty : (m : Meaning) (w : Scene) (b : ℕ) → RoundFacts m w → IsBay m.diagram b →
+never_empty : (m : Meaning) (w : Scene) (b : ℕ) → RoundFacts m w → IsBay m.diagram b →
     slice_get w.nodes b ≡ Some None → ⊥
 never_empty m w b facts bay got = let there = facts.shape.present b bay in cc (there.1, got)
 
-pub fits_heard : (m : Meaning) (w : Scene) (b : ℕ) → RoundFacts m w → FitsHeard m (node m.diagram w b)
+fits_heard : (m : Meaning) (w : Scene) (b : ℕ) → RoundFacts m w → FitsHeard m (node m.diagram w b)
 fits_heard m w b facts =
     λ g has x s other got. subst (λ (y : ℕ). m.Fits x y s) (sym (facts.shape.named b))
     (facts.heard b x g s has got).fits
@@ -53,7 +52,7 @@ set_same (y ∷ ys) zero x got = let e : y ≡ x = cc got in ap (λ z. z ∷ ys)
 set_same (y ∷ ys) (suc i) x got = ap (λ zs. y ∷ zs) (set_same ys i x got)
 
 -- a node that is as it was leaves the scene as it was
-pub unchanged_at : (m : Meaning) (w : Scene) (b : ℕ) → RoundFacts m w → IsBay m.diagram b →
+unchanged_at : (m : Meaning) (w : Scene) (b : ℕ) → RoundFacts m w → IsBay m.diagram b →
     posts (at_node w b (node m.diagram w b)) [] ≡ w
 unchanged_at m w b facts bay =
     let there = facts.shape.present b bay in
@@ -133,19 +132,6 @@ message_fits m w k f facts message = facts.bounds.fit f (got_there w.sent (k - 1
 
 -- ---- drives
 
--- the switch of a granted operation has a drive
-pub grant_known : (m : Meaning) (w : Scene) (b : ℕ) (g : Grant) → RoundFacts m w → IsBay m.diagram b →
-    (node m.diagram w b).granted ≡ Some g → g.op.switch.0 < length w.drives
-grant_known m w b g facts bay has =
-    let own = ((facts.rounds b bay).kept.granted g has).own in
-    let lt : g.op.switch.0 < length m.diagram.switches =
-    slice_get_within m.diagram.switches g.op.switch.0 own.0 own.1 in
-    omega (arith, lt, facts.shape.drives)
-
-pub opened : (m : Meaning) (w : Scene) (i : ℕ) → RoundFacts m w → i < length m.diagram.switches →
-    runs w.drives i ≡ true → IsOpened (node m.diagram w (bay_of m.diagram i)) i
-opened m w i facts lt on = let d = facts.drives i lt on in (d.grant, record { granted = d.granted; switch = d.switch })
-
 -- a drive that stops as its bay's node takes note
 pub cut_after : (m : Meaning) (old mid new : Scene) (i b : ℕ) (event : NodeEvent) (outcome : WorldOutcome) →
     NodeSteps m old b event mid outcome → new ≡ stops mid i → NodeSteps m (stops old i) b event new outcome
@@ -165,7 +151,7 @@ pub record Placed (m : Meaning) (w : Scene) (b : ℕ) (s : State) : Type 0 where
   pub name : s.bay ≡ b
 
 -- what was found at the place of a bay
-pub found : (m : Meaning) (w : Scene) (b k : ℕ) (nodes : List (Option State)) (x : Option State) → RoundFacts m w →
+found : (m : Meaning) (w : Scene) (b k : ℕ) (nodes : List (Option State)) (x : Option State) → RoundFacts m w →
     IsBay m.diagram b → nodes ≡ w.nodes → k ≡ b → x ≡ get_or nodes k x → slice_get w.nodes b ≡ Some x
 found m w b k nodes x facts bay is at got =
     let low : b < length w.nodes = omega (arith, bay.0, facts.shape.nodes) in

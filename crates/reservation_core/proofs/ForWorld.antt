@@ -24,8 +24,9 @@ use Rattle.reservation_core.specs.declared.values.WorldEvent.{WorldEvent}
 use Rattle.reservation_core.specs.declared.values.WorldOutcome.{WorldOutcome}
 use Rattle.reservation_core.specs.declared.values.WorldOutcome.TheVariants.{Premise}
 use Rattle.reservation_core.proofs.Keeping.{happens_keeps}
-use Rattle.reservation_core.proofs.Plain.{Next, keeps_truth, obeys_first_two}
-use Rattle.reservation_core.proofs.Truths.{there_or_new}
+use Rattle.reservation_core.proofs.Plain.{Next, keeps_truth}
+use Rattle.reservation_core.proofs.TrueWords.{obeys_first_two}
+use Rattle.reservation_core.proofs.AlikeNotes.{there_or_new}
 use Rattle.reservation_core.proofs.Soundness.{happens_sound}
 use Rattle.reservation_core.proofs.Ways.{Way, way, premise_same}
 use Rattle.reservation_core.proofs.Gives.{gives}
@@ -55,7 +56,7 @@ way_longer m old new event outcome (Way.cuts i c some fair s) = record {
   is = ap (λ (w : Scene). w.sent) s.world;
 }
 
-pub longer : (m : Meaning) (station : IsStation m.diagram) (old new : Scene) (event : WorldEvent)
+longer : (m : Meaning) (station : IsStation m.diagram) (old new : Scene) (event : WorldEvent)
     (outcome : WorldOutcome) → RoundFacts m old → InRange m.diagram event → Happens m old event new outcome →
     Longer old new
 longer m station old new event outcome rounds range happens =
@@ -128,7 +129,7 @@ module _ (m : Meaning) (old new : World) (facts : WorldFacts m old)
     held = λ i own. next.fresh k f s late got body i own;
   }
 
-  pub words_held : (k : ℕ) (f : Frame) (s : List ℕ) → slice_get new.scene.sent k ≡ Some f → f.body ≡ Answer s →
+  words_held : (k : ℕ) (f : Frame) (s : List ℕ) → slice_get new.scene.sent k ≡ Some f → f.body ≡ Answer s →
       WordsHeld m new next.now.held.beside k f s
   words_held k f s got body =
       elim (there_or_new old.scene.sent more.frames k f (ap (λ xs. slice_get xs k) (sym more.is) ∙ got)) [
@@ -255,7 +256,7 @@ module _ {E : Type 0} (m : Meaning) (d : Diagram) (same : m.diagram ≡ d) (stat
 module _ (m : Meaning) (d : Diagram) (same : m.diagram ≡ d) (inside old new : Scene) (is : inside ≡ old)
     (copy : Option (List Dbpos)) (it : Added m.diagram inside new copy) (count : ℕ)
     (counted : count ≡ length inside.sent) (sent : List Frame) (got : sent ≡ drop count new.sent) where
-  pub frames_are : sent ≡ it.frames
+  frames_are : sent ≡ it.frames
   frames_are = got ∙ (ap (λ (n : ℕ). drop n new.sent) counted ∙ since m.diagram inside new copy it)
 
   pub answers_alone : AnswersAlone sent

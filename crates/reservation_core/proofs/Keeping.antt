@@ -18,7 +18,8 @@ use Rattle.reservation_core.specs.declared.values.WorldEvent.TheVariants.{Restar
 use Rattle.reservation_core.specs.declared.values.WorldOutcome.{WorldOutcome}
 use Rattle.reservation_core.proofs.Sends.{facts_moves, facts_stops}
 use Rattle.reservation_core.proofs.Steps.{After, bay_of_is, switch_there}
-use Rattle.reservation_core.proofs.Events.{command_keeps, frame_keeps, tick_keeps, sense_keeps, withdraw_keeps}
+use Rattle.reservation_core.proofs.Events.{command_keeps, tick_keeps, sense_keeps, withdraw_keeps}
+use Rattle.reservation_core.proofs.FrameEvents.{frame_keeps}
 use Rattle.reservation_core.proofs.Events.{cut_keeps, restart_keeps}
 
 stepped : (m : Meaning) (old new : Scene) (b : ℕ) (turn : Turn) → new ≡ posts (at_node old b turn.new) turn.frames →

@@ -19,8 +19,8 @@ use Rattle.bay_protocol.specs.State.{State}
 use Rattle.bay_protocol.specs.Counts.{Counts}
 use Rattle.reservation_core.specs.Scene.{Scene, node}
 use Rattle.reservation_core.specs.Held.{Held, IsSwitchOf}
-use Rattle.reservation_core.proofs.Effects.{CountsAt, IsSensed, IsNewWord}
-use Rattle.reservation_core.proofs.Truths.{HeldStep}
+use Rattle.reservation_core.proofs.StepEffect.{CountsAt, IsSensed, IsNewWord}
+use Rattle.reservation_core.proofs.KnownNotes.{HeldStep}
 
 -- at a message that counts, the notes beside it are those of its bay's switches
 abbrev pub comes : (N : Type 0) → NodeEvent → ℕ → N → N → N

@@ -28,7 +28,7 @@ use Rattle.reservation_core.specs.Happens.{Happens, InRange, NodeSteps, SenseHap
 use Rattle.reservation_core.specs.Happens.{WithdrawHappens, BeginHappens, EndHappens, CutHappens}
 use Rattle.reservation_core.specs.Facts.{IsSoundTruth, ObeysFirstTwo}
 use Rattle.reservation_core.proofs.Nodes.{set_set}
-use Rattle.reservation_core.proofs.Truths.{got_or}
+use Rattle.reservation_core.proofs.AlikeNotes.{got_or}
 
 -- each switch of the vector stands as it may, by its place
 abbrev StandsAll : Diagram → List Position → List Bool → Type 0

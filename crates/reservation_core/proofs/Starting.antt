@@ -15,7 +15,7 @@ use Rattle.reservation_core.specs.Scene.{Scene, node, new_node, true_at, IsTrueW
 use Rattle.reservation_core.specs.RoundFacts.{RoundFacts}
 use Rattle.reservation_core.specs.Start.{AreNew, IsStart}
 use Rattle.reservation_core.specs.Facts.{Facts}
-use Rattle.reservation_core.proofs.Moves.{get_lost}
+use Rattle.reservation_core.proofs.Rounds.{get_lost}
 use Rattle.reservation_core.proofs.Steps.{none_there}
 
 fresh_at : (xs : List (Option State)) (c : ℕ) (n : State) → ((s : State) → slice_get xs c ≡ Some (Some s) → s ≡ n) →

@@ -21,7 +21,8 @@ use Rattle.reservation_core.specs.Scene.{Scene, node, at_node, posts}
 use Rattle.reservation_core.specs.RoundFacts.{RoundFacts, FrameFits}
 use Rattle.reservation_core.proofs.Nodes.{node_here, set_set}
 use Rattle.reservation_core.proofs.Change.{facts_at}
-use Rattle.reservation_core.proofs.Moves.{node_there, may_drop, may_grant}
+use Rattle.reservation_core.proofs.Moves.{may_drop, may_grant}
+use Rattle.reservation_core.proofs.Rounds.{node_there}
 use Rattle.reservation_core.proofs.Sends.{MaySend, facts_posts}
 
 -- ---- the station
@@ -76,7 +77,7 @@ contains_cons x xs y there = contains_at x xs y there.0 there.1 there.2
 pub none_there : {X : Type 0} (y : X) → Contains [] y → ⊥
 none_there y there = omega (arith, there.1)
 
-pub each_to : (P : Frame → Type 0) (b r : ℕ) (body : Body) (xs : List ℕ) →
+each_to : (P : Frame → Type 0) (b r : ℕ) (body : Body) (xs : List ℕ) →
     ((c : ℕ) → Contains xs c → P (frame b c r body)) → (f : Frame) → Contains (to_each b r body xs) f → P f
 each_to P b r body [] give f there = absurd (none_there f there)
 each_to P b r body (x ∷ xs) give f there = elim (contains_cons (frame b x r body) (to_each b r body xs) f there) [

@@ -56,7 +56,7 @@ abbrev pub heard : Diagram → List Line → ℕ → ℕ → Option (List Dbpos)
 heard d [] c b = None
 heard d (l ∷ before) c b =
     heard_after (of_bay l.shown c) (words_told d (delivered l.event before) b c (last_round before c))
-        (heard d before c b)
+    (heard d before c b)
 
 -- The same of other bays than c alone.
 abbrev pub heard_of : Diagram → List Line → ℕ → ℕ → Option (List Dbpos)

@@ -209,14 +209,14 @@ may_stand Skipped front e = tt
 -- ---- within a bay
 
 -- What may stand in a bay, or deeper.
-abbrev pub IsInner : Role → Type 0
+abbrev IsInner : Role → Type 0
 IsInner Root = ⊥
 IsInner Substation = ⊥
 IsInner VoltageLevel = ⊥
 IsInner Bay = ⊥
 IsInner _ = Unit {0}
 
-abbrev pub IsBayOrInner : Role → Type 0
+abbrev IsBayOrInner : Role → Type 0
 IsBayOrInner Bay = Unit {0}
 IsBayOrInner r = IsInner r
 

@@ -1,13 +1,11 @@
 -- Lists of ends.
-use Rattle.std.proofs.Common.{◌≡◌, ℕ, ◌≤◌, ◌<◌, ◌+◌, List, [], ◌∷◌, ◌++◌, length, take, map, get_or, set, replicate}
+use Rattle.std.proofs.Common.{◌≡◌, ℕ, ◌≤◌, ◌<◌, ◌+◌, List, [], ◌∷◌, ◌++◌, length, map, get_or, set, replicate}
 use Rattle.std.proofs.Common.{Option, Some, None, Bool, true, false, cond, refl, arith, zero, suc, ap, ◌∙◌, sym, Vec}
 use Rattle.std.proofs.Common.{Global}
 use Rattle.std.specs.List.{filter, slice_get, cons_option}
 use Rattle.std.proofs.lemmas.List.{replicate-append-replicate}
 use Rattle.std.proofs.lemmas.Option.{slice_get_past, slice_get-get_or}
 use Rattle.std.proofs.lemmas.Bool.{ne_eqb, eqb-false}
-use Rattle.std.proofs.lemmas.List.{take_more}
-use Rattle.ssd_read.proofs.Taken.{filter_push, map_end}
 use Rattle.ssd_read.specs.Ends.{node_at, nodes_at}
 use borrow.Author.Tests.{eqb-true}
 use Rattle.std.proofs.Common.{◌&&◌, ◌==◌, get_or-set_same, get_or-set_other}
@@ -89,7 +87,7 @@ out_of_tree all j x holder e h =
     let past : slice_get all holder ≡ None = slice_get_past all holder h in
     rw (← e, past) (and_false (same_role x.role Terminal && same_role x.within TransformerWinding))
 
-pub winding_test : (all : List Element) (j : ℕ) (x : Element) (holder : ℕ) → same_role x.role Terminal ≡ true →
+winding_test : (all : List Element) (j : ℕ) (x : Element) (holder : ℕ) → same_role x.role Terminal ≡ true →
     x.entry.parent ≡ Some holder → holder < length all
     → is_winding_terminal_of all j x ≡ (same_role x.within TransformerWinding && is_number j
     (element_at all holder).entry.parent)
@@ -134,19 +132,6 @@ put_at old new i j e p h = rw p (put_case old i j e (j == i) refl h)
 
 pub put_none : (old : List TerminalPlace) (e : TerminalPlace) (b : Bool) → b ≡ false → old ≡ old ++ cond b (e ∷ []) []
 put_none old e b h = rw h (nil_end old)
-
-map_cond : (f : Element → TerminalPlace) (b : Bool) (x : Element) → map f (cond b (x ∷ []) []) ≡ cond b (f x ∷ []) []
-map_cond f true x = refl
-map_cond f false x = refl
-
-pub ends_more : (all : List Element) (f : Element → TerminalPlace) (p : Element → Bool) (i : ℕ) → i < length all
-    → map f (filter p (take (i + 1) all)) ≡ map f (filter p (take i all)) ++ cond (p (element_at all i))
-    (f (element_at all i) ∷ []) []
-ends_more all f p i h =
-    ap (λ l. map f (filter p l)) (take_more all i nowhere h)
-    ∙ (ap (map f) (filter_push p (take i all) (element_at all i))
-    ∙ (map_end f (filter p (take i all)) (cond (p (element_at all i)) (element_at all i ∷ []) [])
-    ∙ ap (λ l. map f (filter p (take i all)) ++ l) (map_cond f (p (element_at all i)) (element_at all i))))
 
 len_step : (f : Element → TerminalPlace) (p : Element → Bool) (b : Bool) (x : Element) (xs : List Element) →
     length (map f (filter p xs)) ≤ length xs → length (map f (cond b (x ∷ filter p xs) (filter p xs))) ≤ length (x ∷ xs)

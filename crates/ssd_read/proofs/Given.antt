@@ -1,25 +1,18 @@
 -- What the items of a drawing give.
 use Rattle.std.proofs.Common.{◌≡◌, ℕ, ◌<◌, ◌+◌, List, [], ◌∷◌, ◌++◌, length, take, Some, Bool, true, false, ◌==◌, cond}
-use Rattle.std.proofs.Common.{Ok, refl, arith, zero, suc, sym, subst, inl, inr, ◌⊎◌}
+use Rattle.std.proofs.Common.{refl, arith, zero, suc, subst}
 use Rattle.std.specs.List.{filter_map, flat_map, slice_get, range_with_len}
-use Rattle.std.proofs.lemmas.List.Elements.{filter_map-append}
-use Rattle.ilk_base.specs.declared.words.Kind.{Kind}
-use Rattle.ilk_base.specs.declared.words.Kind.TheVariants.{Breaker, Disconnector, Earthing, Infeed}
-use Rattle.station_graph.specs.Diagram.{Diagram, InfeedsTapped}
 use Rattle.station_graph.specs.declared.items.Switch.{Switch}
-use Rattle.station_graph.specs.declared.items.Tap.{Tap}
 use Rattle.ssd_text.specs.Nesting.{Entry}
 use Rattle.ssd_read.specs.declared.ends.Use.{Use}
 use Rattle.ssd_read.specs.declared.ends.Use.TheVariants as uses
 use Rattle.ssd_read.specs.declared.role.Role.TheVariants.{ConductingEquipment, PowerTransformer}
 use Rattle.ssd_read.specs.Elements.{Element, element_at, same_role, element_name}
 use Rattle.ssd_read.specs.Ends.{ends_of, nodes_at, use_of}
-use Rattle.ssd_read.specs.Steps.{Step, a_part, a_node, a_switch, a_link, a_tap, built, naming_step, part_of, tap_step}
+use Rattle.ssd_read.specs.Steps.{Step, a_part, a_node, a_switch, a_link, a_tap, part_of, tap_step}
 use Rattle.ssd_read.specs.Steps.{tap_steps, link_step, links_after, links_along, lone_tap, is_tapless, is_bond}
 use Rattle.ssd_read.specs.Steps.{use_steps, transformer_steps, winding_ends_of, item_steps_at}
-use Rattle.station_graph.specs.Diagram.{empty}
-use Rattle.ssd_read.specs.Lists.{part_path, added_node, switch_in, tap_in}
-use Rattle.ssd_read.proofs.Laid.{switches_built, taps_built, no_switches_named}
+use Rattle.ssd_read.specs.Lists.{part_path, added_node, switch_in}
 
 -- ---- what holds of the steps of a list holds of them all
 
@@ -28,7 +21,7 @@ pub flat_all : {X : Type 0} (P : List Step → Type 0) → P [] → ((ss ts : Li
 flat_all P none both f each [] = none
 flat_all P none both f each (x ∷ xs) = both (f x) (flat_map f xs) (each x) (flat_all P none both f each xs)
 
-pub flat_first : (P : List Step → Type 0) → P [] → ((ss ts : List Step) → P ss → P ts → P (ss ++ ts)) →
+flat_first : (P : List Step → Type 0) → P [] → ((ss ts : List Step) → P ss → P ts → P (ss ++ ts)) →
     (f : ℕ → List Step) → (a n i : ℕ) → ((k : ℕ) → k < a + i → P (f k)) → P (flat_map f (take i (range_with_len a n)))
 flat_first P none both f a zero zero each = none
 flat_first P none both f a zero (suc i) each = none
@@ -97,7 +90,7 @@ plain_items (a_switch name x ∷ ss) h = absurd h
 plain_items (a_link x ∷ ss) h = plain_items ss h
 plain_items (a_tap x ∷ ss) h = plain_items ss h
 
-plain_switches : (ss : List Step) → IsPlain ss → filter_map switch_in ss ≡ []
+pub plain_switches : (ss : List Step) → IsPlain ss → filter_map switch_in ss ≡ []
 plain_switches [] h = refl
 plain_switches (a_part path ∷ ss) h = absurd h
 plain_switches (a_node path ∷ ss) h = absurd h
@@ -137,7 +130,7 @@ lone_plain e part [] = tt
 lone_plain e part (a ∷ []) = lone_case part a (is_tapless e)
 lone_plain e part (a ∷ b ∷ ns) = tt
 
-other_plain : (e : Entry) (part : ℕ) (ns : List ℕ) → IsPlain (links_along (is_bond e) part ns ++ lone_tap e part ns)
+pub other_plain : (e : Entry) (part : ℕ) (ns : List ℕ) → IsPlain (links_along (is_bond e) part ns ++ lone_tap e part ns)
 other_plain e part ns = plain_both (links_along (is_bond e) part ns) (lone_tap e part ns)
     (links_plain (is_bond e) part ns) (lone_plain e part ns)
 
@@ -154,7 +147,7 @@ item_case P false true ss ts u t n = t
 item_case P false false ss ts u t n = n
 
 -- What holds of the steps of each use, and of those of links and taps, holds of an item's.
-each_item : (P : List Step → Type 0) (all : List Element) (i : ℕ) → P [] → ((ss : List Step) → IsPlain ss → P ss)
+pub each_item : (P : List Step → Type 0) (all : List Element) (i : ℕ) → P [] → ((ss : List Step) → IsPlain ss → P ss)
     → (same_role (element_at all i).role ConductingEquipment ≡ true → (u : Use) (ns : List ℕ) →
     P (use_steps u (element_at all i).entry (part_of all i (element_at all i)) ns)) → P (item_steps_at all i)
 each_item P all i none plain by_use =
@@ -178,7 +171,7 @@ use_items uses.Infeed e part (a ∷ ns) = tt
 use_items uses.Other e part ns = plain_items (links_along (is_bond e) part ns ++ lone_tap e part ns)
     (other_plain e part ns)
 
-pub item_items : (all : List Element) (i : ℕ) → IsItems (item_steps_at all i)
+item_items : (all : List Element) (i : ℕ) → IsItems (item_steps_at all i)
 item_items all i = each_item IsItems all i tt plain_items (λ t u ns. use_items u (element_at all i).entry
     (part_of all i (element_at all i)) ns)
 
@@ -249,104 +242,3 @@ switch_at Q R w (a_switch name y ∷ ss) zero x h g = let same : y ≡ x = cc in
 switch_at Q R w (a_switch name y ∷ ss) (suc k) x h g = switch_at Q R w ss k x h.1 g
 switch_at Q R w (a_link y ∷ ss) k x h g = switch_at Q R w ss k x h g
 switch_at Q R w (a_tap y ∷ ss) k x h g = switch_at Q R w ss k x h g
-
--- ---- infeeds are tapped
-
-abbrev HasTapIn : List Tap → ℕ → Type 0
-HasTapIn ts n = (i : ℕ) × (x : Tap) × (slice_get ts i ≡ Some x) × (x.node.0 ≡ n)
-
-abbrev AreTapped : List Switch → List Tap → Type 0
-AreTapped xs ts = (i : ℕ) (x : Switch) → slice_get xs i ≡ Some x → x.kind ≡ Infeed → HasTapIn ts x.first.0
-
-get_left : {X : Type 0} (xs ys : List X) (i : ℕ) (x : X) → slice_get xs i ≡ Some x → slice_get (xs ++ ys) i ≡ Some x
-get_left [] ys i x h = absurd (cc)
-get_left (y ∷ xs) ys zero x h = h
-get_left (y ∷ xs) ys (suc i) x h = get_left xs ys i x h
-
-tap_left : (ts us : List Tap) (n : ℕ) → HasTapIn ts n → HasTapIn (ts ++ us) n
-tap_left ts us n h = (h.0, h.1, get_left ts us h.0 h.1 h.2, h.3)
-
-tap_right : (ts us : List Tap) (n : ℕ) → HasTapIn us n → HasTapIn (ts ++ us) n
-tap_right [] us n h = h
-tap_right (t ∷ ts) us n h = let r = tap_right ts us n h in (suc r.0, r.1, r.2, r.3)
-
-in_half : (xs ys : List Switch) (i : ℕ) (x : Switch) → slice_get (xs ++ ys) i ≡ Some x → (slice_get xs i ≡ Some x)
-    ⊎ ((j : ℕ) × (slice_get ys j ≡ Some x))
-in_half [] ys i x h = inr (i, h)
-in_half (y ∷ xs) ys zero x h = inl h
-in_half (y ∷ xs) ys (suc i) x h = in_half xs ys i x h
-
-both_case : (xs ys : List Switch) (ts us : List Tap) (i : ℕ) (x : Switch) → AreTapped xs ts → AreTapped ys us →
-    x.kind ≡ Infeed → (slice_get xs i ≡ Some x) ⊎ ((j : ℕ) × (slice_get ys j ≡ Some x)) → HasTapIn (ts ++ us) x.first.0
-both_case xs ys ts us i x h g k (inl a) = tap_left ts us x.first.0 (h i x a k)
-both_case xs ys ts us i x h g k (inr b) = tap_right ts us x.first.0 (g b.0 x b.1 k)
-
-both_tapped : (xs ys : List Switch) (ts us : List Tap) → AreTapped xs ts → AreTapped ys us →
-    AreTapped (xs ++ ys) (ts ++ us)
-both_tapped xs ys ts us h g = λ i x e k. both_case xs ys ts us i x h g k (in_half xs ys i x e)
-
-abbrev pub IsTapped : List Step → Type 0
-IsTapped ss = AreTapped (filter_map switch_in ss) (filter_map tap_in ss)
-
-tapped_both : (ss ts : List Step) → IsTapped ss → IsTapped ts → IsTapped (ss ++ ts)
-tapped_both ss ts h g =
-    let whole : AreTapped (filter_map switch_in ss ++ filter_map switch_in ts)
-    (filter_map tap_in ss ++ filter_map tap_in ts) = both_tapped (filter_map switch_in ss) (filter_map switch_in ts)
-    (filter_map tap_in ss) (filter_map tap_in ts) h g in
-    let left : AreTapped (filter_map switch_in (ss ++ ts)) (filter_map tap_in ss ++ filter_map tap_in ts) =
-    subst (λ (xs : List Switch). AreTapped xs (filter_map tap_in ss ++ filter_map tap_in ts))
-    (sym (filter_map-append switch_in ss ts)) whole in
-    subst (λ (us : List Tap). AreTapped (filter_map switch_in (ss ++ ts)) us)
-    (sym (filter_map-append tap_in ss ts)) left
-
-none_tapped : (ss : List Step) → filter_map switch_in ss ≡ [] → IsTapped ss
-none_tapped ss h = λ i x e k. let bad : slice_get [] i ≡ Some x = subst (λ (xs : List Switch). slice_get xs i ≡ Some x)
-    h e in absurd (cc)
-
-plain_tapped : (ss : List Step) → IsPlain ss → IsTapped ss
-plain_tapped ss h = none_tapped ss (plain_switches ss h)
-
-one_tapped : (y : Switch) (ts : List Tap) → (y.kind ≡ Infeed → HasTapIn ts y.first.0) → AreTapped (y ∷ []) ts
-one_tapped y ts h = go
-  where
-    go : (i : ℕ) (x : Switch) → slice_get (y ∷ []) i ≡ Some x → x.kind ≡ Infeed → HasTapIn ts x.first.0
-    go zero x e k = let same : y ≡ x = cc in subst (λ (x : Switch). x.kind ≡ Infeed → HasTapIn ts x.first.0) same h k
-    go (suc i) x e k = absurd (cc)
-
-not_infeed : (k : Kind) → k ≡ Infeed → Kind
-not_infeed k h = k
-
-use_tapped : (u : Use) (e : Entry) (part : ℕ) (ns : List ℕ) → IsTapped (use_steps u e part ns)
-use_tapped uses.Breaker e part [] = none_tapped [] refl
-use_tapped uses.Breaker e part (a ∷ []) = none_tapped [] refl
-use_tapped uses.Breaker e part (a ∷ b ∷ ns) = one_tapped _ [] (λ k. absurd (let bad : Breaker ≡ Infeed = k in cc))
-use_tapped uses.Disconnector e part [] = none_tapped [] refl
-use_tapped uses.Disconnector e part (a ∷ []) = one_tapped _ [] (λ k. absurd (let bad : Earthing ≡ Infeed = k in cc))
-use_tapped uses.Disconnector e part (a ∷ b ∷ ns) =
-    one_tapped _ [] (λ k. absurd (let bad : Disconnector ≡ Infeed = k in cc))
-use_tapped uses.Infeed e part [] = none_tapped [] refl
-use_tapped uses.Infeed e part (a ∷ ns) = one_tapped _ (record { node = record { 0 = a }; part = record { 0 = part } }
-    ∷ []) (λ k. (0, record { node = record { 0 = a }; part = record { 0 = part } }, refl, refl))
-use_tapped uses.Other e part ns = plain_tapped (links_along (is_bond e) part ns ++ lone_tap e part ns)
-    (other_plain e part ns)
-
-item_tapped : (all : List Element) (i : ℕ) → IsTapped (item_steps_at all i)
-item_tapped all i = each_item IsTapped all i (none_tapped [] refl) plain_tapped
-    (λ t u ns. use_tapped u (element_at all i).entry (part_of all i (element_at all i)) ns)
-
-steps_tapped : (all : List Element) (is : List ℕ) →
-    IsTapped (flat_map naming_step all ++ flat_map (item_steps_at all) is)
-steps_tapped all is = tapped_both (flat_map naming_step all) (flat_map (item_steps_at all) is)
-    (none_tapped (flat_map naming_step all) (no_switches_named all))
-    (flat_all IsTapped (none_tapped [] refl) tapped_both
-    (item_steps_at all) (item_tapped all) is)
-
-pub infeeds_tapped : (all : List Element) (is : List ℕ) (d : Diagram) →
-    built empty (flat_map naming_step all ++ flat_map (item_steps_at all) is) ≡ Ok d → InfeedsTapped d
-infeeds_tapped all is d h =
-    let ss : List Step = flat_map naming_step all ++ flat_map (item_steps_at all) is in
-    let switches : d.switches ≡ filter_map switch_in ss = switches_built empty d ss h in
-    let taps : d.taps ≡ filter_map tap_in ss = taps_built empty d ss h in
-    let left : AreTapped d.switches (filter_map tap_in ss) =
-    subst (λ (xs : List Switch). AreTapped xs (filter_map tap_in ss)) (sym switches) (steps_tapped all is) in
-    subst (λ (ts : List Tap). AreTapped d.switches ts) (sym taps) left

@@ -17,7 +17,8 @@ use Rattle.ssd_read.specs.Laws.{HasInOrder, switch_paths_at, numbers_of}
 use Rattle.ssd_read.specs.StandsFor.{outcome_of, station_of, fault_of}
 use Rattle.ssd_read.proofs.Laid.{switches_built, links_built, taps_built}
 use Rattle.ssd_read.proofs.Given.{AllSwitches, item_all}
-use Rattle.ssd_read.proofs.Ready.{laid_parts, laid_nodes, laid_paths, own_path, is_equipment}
+use Rattle.ssd_read.proofs.SwitchPaths.{laid_paths, own_path}
+use Rattle.ssd_read.proofs.NewPaths.{laid_parts, laid_nodes, is_equipment}
 use Rattle.ssd_read.proofs.Drawn.{drawn_len}
 
 none_step : {X : Type 0} (w : Step → Option X) (b c : Bool) (x : Element) (ss : List Step) →
@@ -96,7 +97,7 @@ no_root_fault : (o : Option SsdRefusal) (r : Result Diagram SsdRefusal) (d : Dia
 no_root_fault None r d h = h
 no_root_fault (Some e) r d h = absurd (cc)
 
-pub accepted_builds : (tree : List Entry) (d : Diagram) → outcome_of tree ≡ Ok d →
+accepted_builds : (tree : List Entry) (d : Diagram) → outcome_of tree ≡ Ok d →
     built empty (steps_of (elements_of tree)) ≡ Ok d
 accepted_builds tree d h =
     no_root_fault (fault_of (elements_of tree)) (built empty (steps_of (elements_of tree))) d

@@ -1,6 +1,6 @@
 -- What the small calls that add items need.
 use Rattle.std.proofs.Common.{◌≡◌, ℕ, ◌≤◌, ◌<◌, ◌+◌, List, [], ◌∷◌, ◌++◌, length, take, map, get_or, Some, None, Bool}
-use Rattle.std.proofs.Common.{true, false, ◌==◌, cond, Ok, refl, arith, zero, suc, ap, ◌∙◌, sym, subst, length-append}
+use Rattle.std.proofs.Common.{true, false, ◌==◌, Ok, refl, arith, zero, suc, ap, ◌∙◌, sym, subst, length-append}
 use Rattle.std.specs.List.{filter, flat_map, range_with_len, Contains, list_any}
 use Rattle.std.specs.Str.{bytes_eq}
 use Rattle.std.proofs.lemmas.List.FromFn.{length-range_with_len, get_or-range_with_len}
@@ -17,9 +17,9 @@ use Rattle.ssd_read.specs.declared.role.Role.TheVariants.{Terminal, Skipped}
 use Rattle.ssd_read.specs.Drawn.{IsDrawn}
 use Rattle.ssd_read.specs.Elements.{Element, element_at, elements_of, same_role}
 use Rattle.ssd_read.specs.Names.{first_fault, name_fault, is_node, keys_of}
-use Rattle.ssd_read.specs.Ends.{ends_of, nodes_at, is_terminal_of, use_of}
+use Rattle.ssd_read.specs.Ends.{ends_of, nodes_at, is_terminal_of}
 use Rattle.ssd_read.specs.Steps.{built, is_part, naming_step, part_number, part_of, switch_step, tap_step}
-use Rattle.ssd_read.specs.Steps.{breaker_steps, disconnector_steps, infeed_steps, use_steps, transformer_steps}
+use Rattle.ssd_read.specs.Steps.{breaker_steps, disconnector_steps, infeed_steps}
 use Rattle.ssd_read.specs.Steps.{item_steps_at, steps_before, steps_of, winding_ends_of, is_winding_terminal_of}
 use Rattle.ssd_read.specs.Seen.{IsRefused}
 use Rattle.ssd_read.proofs.Stepped.{built_none, built_then, flat_next, flat_refused, flat_whole, at_refused}
@@ -27,8 +27,8 @@ use Rattle.ssd_read.proofs.Laid.{part_paths_built, node_paths_built, parts_named
 use Rattle.ssd_read.proofs.Numbered.{nodes_below, AllBelow, outer_part}
 use Rattle.ssd_read.specs.Laws.{StandsIn}
 use Rattle.ssd_read.proofs.Drawn.{stands_in, drawn_len}
-use Rattle.ssd_read.proofs.Ready.{over_trees, lacks, apart_paths, path_new, part_path_of, node_path_of, paths_len}
-use Rattle.ssd_read.proofs.Ready.{node_total}
+use Rattle.ssd_read.proofs.Ready.{over_trees}
+use Rattle.ssd_read.proofs.NewPaths.{lacks, apart_paths, path_new, part_path_of, node_path_of, paths_len, node_total}
 
 pub few_breaker : (part : ℕ) (name ns : List ℕ) → length ns < 2 → breaker_steps part name ns ≡ []
 few_breaker part name [] h = refl
@@ -51,11 +51,11 @@ infeed_both part name (a ∷ ns) h = refl
 
 -- ---- parts and nodes under way
 
-pub named_parts : (xs : List Element) (d : Diagram) → built empty (flat_map naming_step xs) ≡ Ok d →
+named_parts : (xs : List Element) (d : Diagram) → built empty (flat_map naming_step xs) ≡ Ok d →
     d.part_paths ≡ map (λ (x : Element). x.path) (filter is_part xs)
 named_parts xs d h = part_paths_built empty d (flat_map naming_step xs) h ∙ parts_named xs
 
-pub named_nodes : (xs : List Element) (d : Diagram) → built empty (flat_map naming_step xs) ≡ Ok d →
+named_nodes : (xs : List Element) (d : Diagram) → built empty (flat_map naming_step xs) ≡ Ok d →
     d.node_paths ≡ map (λ (x : Element). x.path) (filter is_node xs)
 named_nodes xs d h = node_paths_built empty d (flat_map naming_step xs) h ∙ nodes_named xs
 
@@ -150,23 +150,6 @@ no_transformer Skipped h = refl
 pub gives_nothing : (all : List Element) (i : ℕ) → ((element_at all i).role ≡ ConductingEquipment → ⊥) →
     ((element_at all i).role ≡ PowerTransformer → ⊥) → item_steps_at all i ≡ []
 gives_nothing all i h g = rw (no_equipment (element_at all i).role h, no_transformer (element_at all i).role g) refl
-
-pub equipment_gives : (all : List Element) (i : ℕ) → (element_at all i).role ≡ ConductingEquipment →
-    item_steps_at all i ≡ use_steps (use_of (element_at all i).entry) (element_at all i).entry
-    (part_of all i (element_at all i)) (nodes_at (ends_of all i))
-equipment_gives all i h =
-    ap (λ (r : Role). cond (same_role r ConductingEquipment) (use_steps (use_of (element_at all i).entry)
-    (element_at all i).entry (part_of all i (element_at all i)) (nodes_at (ends_of all i)))
-    (cond (same_role r PowerTransformer) (transformer_steps (part_of all i (element_at all i))
-    (nodes_at (winding_ends_of all i))) [])) h
-
-pub transformer_gives : (all : List Element) (i : ℕ) → (element_at all i).role ≡ PowerTransformer →
-    item_steps_at all i ≡ transformer_steps (part_of all i (element_at all i)) (nodes_at (winding_ends_of all i))
-transformer_gives all i h =
-    ap (λ (r : Role). cond (same_role r ConductingEquipment) (use_steps (use_of (element_at all i).entry)
-    (element_at all i).entry (part_of all i (element_at all i)) (nodes_at (ends_of all i)))
-    (cond (same_role r PowerTransformer) (transformer_steps (part_of all i (element_at all i))
-    (nodes_at (winding_ends_of all i))) [])) h
 
 -- ---- the loop over all elements
 

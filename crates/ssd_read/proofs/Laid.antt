@@ -1,5 +1,5 @@
 -- What a diagram has after steps, list by list.
-use Rattle.std.proofs.Common.{◌≡◌, ℕ, List, [], ◌∷◌, ◌++◌, map, get_or, Bool, true, false, ◌||◌, ◌&&◌, not, cond, Ok}
+use Rattle.std.proofs.Common.{◌≡◌, List, [], ◌∷◌, ◌++◌, map, get_or, Bool, true, false, ◌||◌, ◌&&◌, not, cond, Ok}
 use Rattle.std.proofs.Common.{refl, ap, ◌∙◌, sym, append_assoc}
 use Rattle.std.specs.List.{filter, filter_map, flat_map}
 use Rattle.station_graph.specs.Diagram.{Diagram}
@@ -176,10 +176,3 @@ item_free false false x ss = refl
 pub no_switches_named : (xs : List Element) → filter_map switch_in (flat_map naming_step xs) ≡ []
 no_switches_named [] = refl
 no_switches_named (x ∷ xs) = item_free (is_part x) (is_node x) x (flat_map naming_step xs) ∙ no_switches_named xs
-
-path_free : (parts : List (List ℕ)) (b c : Bool) (x : Element) (ss : List Step) →
-    filter_map (switch_path_in parts) (cond b (a_part x.path ∷ []) (cond c (a_node x.path ∷ []) []) ++ ss) ≡ filter_map
-    (switch_path_in parts) ss
-path_free parts true c x ss = refl
-path_free parts false true x ss = refl
-path_free parts false false x ss = refl

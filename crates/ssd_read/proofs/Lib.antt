@@ -13,6 +13,9 @@ pub mod Drawn
 pub mod Numbered
 pub mod Laid
 pub mod Given
+pub mod Tapped
+pub mod NewPaths
+pub mod SwitchPaths
 pub mod Ready
 pub mod Items
 pub mod InOrder

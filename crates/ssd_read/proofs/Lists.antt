@@ -19,7 +19,7 @@ use Rattle.ssd_read.specs.Names.{same_pair}
 use Rattle.ssd_read.specs.SeenPaths.{key_pair}
 use Rattle.std.proofs.Common.{◌&&◌}
 
-pub any_map : {X Y : Type 0} (f : X → Y) (p : Y → Bool) (xs : List X) →
+any_map : {X Y : Type 0} (f : X → Y) (p : Y → Bool) (xs : List X) →
     list_any p (map f xs) ≡ list_any (λ x. p (f x)) xs
 any_map f p [] = refl
 any_map f p (x ∷ xs) = ap (λ b. p (f x) || b) (any_map f p xs)
@@ -29,7 +29,7 @@ place_map : {X Y : Type 0} (f : X → Y) (p : Y → Bool) (xs : List X) → posi
 place_map f p [] = refl
 place_map f p (x ∷ xs) = ap (λ n. cond (not (p (f x))) (1 + n) 0) (place_map f p xs)
 
-pub position_map : {X Y : Type 0} (f : X → Y) (p : Y → Bool) (xs : List X) →
+position_map : {X Y : Type 0} (f : X → Y) (p : Y → Bool) (xs : List X) →
     position p (map f xs) ≡ position (λ x. p (f x)) xs
 position_map f p xs = rw (place_map f p xs, length-map xs f) refl
 
@@ -45,7 +45,7 @@ pub found_text : (keys : List (String Global)) (all : List (List ℕ)) (text : L
 found_text keys all text o e h = h ∙ (sym (position_map string_bytes (bytes_eq text) keys)
     ∙ ap (position (bytes_eq text)) e)
 
-pub role_eq : (a b : Role) → sameb the_type a b ≡ same_role a b
+role_eq : (a b : Role) → sameb the_type a b ≡ same_role a b
 role_eq Root b = elim b as (λ (v : Role). sameb the_type Root v ≡ same_role Root v) [
   | Root ↦ refl
   | Substation ↦ refl
@@ -180,7 +180,7 @@ role_eq Skipped b = elim b as (λ (v : Role). sameb the_type Skipped v ≡ same_
 key_eq : (x y : Key) → eq-value.it x y ≡ same_pair (key_pair x) (key_pair y)
 key_eq x y = ap (λ b. b && bytes_eq (string_bytes x.path) (string_bytes y.path)) (role_eq x.kind y.kind)
 
-pub any_same : {X : Type 0} (p q : X → Bool) → ((x : X) → p x ≡ q x) → (xs : List X) → list_any p xs ≡ list_any q xs
+any_same : {X : Type 0} (p q : X → Bool) → ((x : X) → p x ≡ q x) → (xs : List X) → list_any p xs ≡ list_any q xs
 any_same p q h [] = refl
 any_same p q h (x ∷ xs) = rw (h x, any_same p q h xs) refl
 

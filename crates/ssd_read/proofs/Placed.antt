@@ -15,14 +15,14 @@ use Rattle.ssd_read.specs.Elements.{unless_grounded, path_in, front_of_tree, ele
 use Rattle.ssd_text.specs.Nesting.{entry_at, no_entry}
 use Rattle.ssd_read.specs.Seen.{placed, placed_all}
 
-pub placed_len : (es : List Entry) (ps : List DrawnElement) → length ps ≤ length es →
+placed_len : (es : List Entry) (ps : List DrawnElement) → length ps ≤ length es →
     length (placed_all es ps) ≡ length ps
 placed_len [] [] h = refl
 placed_len [] (p ∷ ps) h = absurd (omega arith)
 placed_len (e ∷ es) [] h = refl
 placed_len (e ∷ es) (p ∷ ps) h = let h' : length ps ≤ length es = omega arith in ap suc (placed_len es ps h')
 
-pub placed_get : (es : List Entry) (ps : List DrawnElement) (k : ℕ) → length ps ≤ length es →
+placed_get : (es : List Entry) (ps : List DrawnElement) (k : ℕ) → length ps ≤ length es →
     slice_get (placed_all es ps) k ≡ option_map (placed (entry_at es k)) (slice_get ps k)
 placed_get [] [] k h = refl
 placed_get [] (p ∷ ps) k h = absurd (omega arith)
@@ -30,7 +30,7 @@ placed_get (e ∷ es) [] k h = refl
 placed_get (e ∷ es) (p ∷ ps) zero h = refl
 placed_get (e ∷ es) (p ∷ ps) (suc k) h = let h' : length ps ≤ length es = omega arith in placed_get es ps k h'
 
-pub placed_at : (es : List Entry) (ps : List DrawnElement) (k : ℕ) (d : DrawnElement) → length ps ≡ length es →
+placed_at : (es : List Entry) (ps : List DrawnElement) (k : ℕ) (d : DrawnElement) → length ps ≡ length es →
     k < length ps → element_at (placed_all es ps) k ≡ placed (entry_at es k) (get_or ps k d)
 placed_at [] [] k d h l = absurd (omega arith)
 placed_at [] (p ∷ ps) k d h l = absurd (omega arith)
@@ -41,7 +41,7 @@ placed_at (e ∷ es) (p ∷ ps) (suc k) d h l =
     let l' : k < length ps = omega arith in
     placed_at es ps k d h' l'
 
-pub placed_push : (es : List Entry) (ps : List DrawnElement) (p : DrawnElement) → length ps < length es →
+placed_push : (es : List Entry) (ps : List DrawnElement) (p : DrawnElement) → length ps < length es →
     placed_all es (ps ++ p ∷ []) ≡ placed_all es ps ++ placed (entry_at es (length ps)) p ∷ []
 placed_push [] ps p h = absurd (omega arith)
 placed_push (e ∷ []) [] p h = refl
@@ -83,10 +83,6 @@ pub place_is : (t : List Entry) (ps : List DrawnElement) (all : List Element) (i
     element_at all i ≡ placed (entry_at t i) x
 place_is t ps all i x e h l r = rw (← e) (placed_at t ps i x h (in_places t ps all i e h l)
     ∙ ap (placed (entry_at t i)) (sym r))
-
-first_place : List DrawnElement → DrawnElement → DrawnElement
-first_place [] d = d
-first_place (p ∷ ps) d = p
 
 pub entry_is : (t : List Entry) (ps : List DrawnElement) (all : List Element) (i : ℕ) → placed_all t ps ≡ all →
     length ps ≡ length t → i < length all → entry_at t i ≡ (element_at all i).entry

@@ -1,14 +1,13 @@
 -- Steps that are taken, and the first that passes a limit.
-use Rattle.std.proofs.Common.{◌≡◌, ℕ, ◌≤◌, ◌<◌, ◌+◌, ◌-◌, List, [], ◌∷◌, ◌++◌, length, Option, Some, None, Bool, true}
+use Rattle.std.proofs.Common.{◌≡◌, ℕ, ◌≤◌, ◌<◌, ◌+◌, List, [], ◌∷◌, ◌++◌, length, Option, Some, None, Bool, true}
 use Rattle.std.proofs.Common.{false, Result, Ok, Err, refl, arith, zero, suc, ap, ◌∙◌, sym}
-use Rattle.std.specs.List.{slice_get, flat_map}
+use Rattle.std.specs.List.{flat_map}
 use Rattle.std.proofs.Common.{take, drop, get_or, drop-cons, append_assoc, eq-eqb}
 use Rattle.std.proofs.lemmas.List.{take_more}
 use Rattle.std.proofs.lemmas.Bool.{ne_eqb}
 use Rattle.ssd_read.proofs.Taken.{append_none}
 use Rattle.station_graph.specs.Building.{link_limit}
 use Rattle.std.specs.Option.{option_map_or}
-use Rattle.station_graph.specs.declared.items.Switch.{Switch}
 use Rattle.station_graph.specs.declared.fault.What.{What}
 use Rattle.station_graph.specs.declared.fault.BuildFault.{BuildFault}
 use Rattle.station_graph.specs.declared.fault.BuildFault.TheVariants as faults
@@ -65,29 +64,10 @@ built_stop d [] ts f h = absurd (cc)
 built_stop d (s ∷ ss) ts f h = stop_case (limit_at d s) (built (added d s) ss) (built (added d s) (ss ++ ts)) f h
     (λ g. built_stop (added d s) ss ts f g)
 
-last_at : (xs : List Switch) (y : Switch) → slice_get (xs ++ y ∷ []) (length xs) ≡ Some y
-last_at [] y = refl
-last_at (x ∷ xs) y = last_at xs y
-
-length_push : (xs : List Switch) (y : Switch) → length (xs ++ y ∷ []) ≡ suc (length xs)
-length_push [] y = refl
-length_push (x ∷ xs) y = ap suc (length_push xs y)
-
-push_len : (xs : List Switch) (y : Switch) → length (xs ++ y ∷ []) - 1 ≡ length xs
-push_len xs y = grind (arith, length_push xs y)
-
-pub follows : (xs : List Switch) (y : Switch) (zs : List Switch) (part : ℕ) → zs ≡ xs ++ y ∷ [] → y.bay.0 ≡ part →
-    (x : Switch) → slice_get zs (length zs - 1) ≡ Some x → x.bay.0 ≤ part
-follows xs y zs part e p x h =
-    let found : slice_get (xs ++ y ∷ []) (length xs) ≡ Some x = rw (← push_len xs y, ← e) h in
-    let same : Some y ≡ Some x = sym (last_at xs y) ∙ found in
-    let is : y ≡ x = cc in
-    rw (← is, p) (omega arith)
-
 pub joined_link : (bond : Bool) (part a b : ℕ) → a ≡ b → link_step bond part a b ≡ []
 joined_link bond part a b e = rw (eq-eqb a b e) refl
 
-pub apart_link : (bond : Bool) (part a b : ℕ) → (a ≡ b → ⊥) →
+apart_link : (bond : Bool) (part a b : ℕ) → (a ≡ b → ⊥) →
     link_step bond part a b ≡ a_link (record {
       first = record { 0 = a };
       second = record { 0 = b };

@@ -1,7 +1,7 @@
 -- Names that are taken after a list of elements.
 use Rattle.std.proofs.Common.{◌≡◌, ℕ, List, [], ◌∷◌, ◌++◌, map, Option, Some, None, Bool, true, false, not, ◌||◌, ◌&&◌}
 use Rattle.std.proofs.Common.{cond, refl, ap, ◌∙◌, sym}
-use Rattle.std.specs.List.{list_any, filter, filter_map, cons_option}
+use Rattle.std.specs.List.{list_any, filter, cons_option}
 use Rattle.std.specs.Option.{option_map, option_to_list}
 use Rattle.std.specs.Str.{bytes_eq}
 use Rattle.ssd_read.specs.declared.role.Role.{Role}
@@ -110,13 +110,13 @@ cond_end : {X : Type 0} (b : Bool) (y : X) (xs ys : List X) → cond b (y ∷ (x
 cond_end true y xs ys = refl
 cond_end false y xs ys = refl
 
-pub filter_push : {X : Type 0} (p : X → Bool) (xs : List X) (x : X) → filter p (xs ++ x ∷ []) ≡ filter p xs ++ cond
+filter_push : {X : Type 0} (p : X → Bool) (xs : List X) (x : X) → filter p (xs ++ x ∷ []) ≡ filter p xs ++ cond
     (p x) (x ∷ []) []
 filter_push p [] x = refl
 filter_push p (y ∷ ys) x = ap (λ l. cond (p y) (y ∷ l) l) (filter_push p ys x) ∙ cond_end (p y) y (filter p ys)
     (cond (p x) (x ∷ []) [])
 
-pub map_end : {X Y : Type 0} (f : X → Y) (xs ys : List X) → map f (xs ++ ys) ≡ map f xs ++ map f ys
+map_end : {X Y : Type 0} (f : X → Y) (xs ys : List X) → map f (xs ++ ys) ≡ map f xs ++ map f ys
 map_end f [] ys = refl
 map_end f (x ∷ xs) ys = ap (λ l. f x ∷ l) (map_end f xs ys)
 
@@ -168,9 +168,3 @@ no_fault before x n p k = rw (
   not_true (list_any (same_path x) before) p,
   not_true (list_any (same_key x) before) k,
 ) refl
-
-pub filter_map_push : {X Y : Type 0} (f : X → Option Y) (xs : List X) (x : X) →
-    filter_map f (xs ++ x ∷ []) ≡ filter_map f xs ++ option_to_list (f x)
-filter_map_push f [] x = cons_none (f x)
-filter_map_push f (y ∷ ys) x = ap (cons_option (f y)) (filter_map_push f ys x) ∙ cons_end (f y) (filter_map f ys)
-    (option_to_list (f x))

@@ -8,7 +8,7 @@ and_assoc : (a b c : Bool) → (a && (b && c)) ≡ ((a && b) && c)
 and_assoc true b c = refl
 and_assoc false b c = refl
 
-pub eq_front : (f n w : List ℕ) → length f ≤ length n →
+eq_front : (f n w : List ℕ) → length f ≤ length n →
     bytes_eq n (f ++ w) ≡ (bytes_eq (take (length f) n) f && bytes_eq (drop (length f) n) w)
 eq_front [] n w h = refl
 eq_front (c ∷ f) [] w h = absurd (omega arith)
@@ -17,7 +17,7 @@ eq_front (c ∷ f) (m ∷ n) w h =
     ap (λ r. nat_eq m c && r) (eq_front f n w h') ∙ and_assoc (nat_eq m c) (bytes_eq (take (length f) n) f)
     (bytes_eq (drop (length f) n) w)
 
-pub eq_cut : (f n w a b : List ℕ) → length f ≤ length n → a ≡ take (length f) n → b ≡ drop (length f) n →
+eq_cut : (f n w a b : List ℕ) → length f ≤ length n → a ≡ take (length f) n → b ≡ drop (length f) n →
     bytes_eq n (f ++ w) ≡ (bytes_eq a f && bytes_eq b w)
 eq_cut f n w a b h p q = rw (p, q) (eq_front f n w h)
 

@@ -39,7 +39,7 @@ with_slash _ _ = None
 abbrev pub joined_names : Entry → Option (List ℕ)
 joined_names e = with_slash (with_slash (with_slash (attribute_value e (codes "substationName"))
     (attribute_value e (codes "voltageLevelName"))) (attribute_value e (codes "bayName")))
-        (attribute_value e (codes "cNodeName"))
+    (attribute_value e (codes "cNodeName"))
 
 -- The key of the node on which a terminal stands: what it says, or its four names joined.
 abbrev pub wanted_key : Entry → Option (List ℕ)

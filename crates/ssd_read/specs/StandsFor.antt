@@ -49,10 +49,6 @@ Stands text outcome =
     ⊎ ((length text ≤ FILE_BYTES) × (read : Result (List Entry) TextRefusal) × Spells text read
     × (outcome ≡ after_text read))
 
--- The text, or the tree, stands for the station.
-abbrev pub TextStandsFor : List ℕ → Diagram → Type 0
-TextStandsFor text d = Stands text (Ok d)
-
 -- The tree stands for this station.
 abbrev pub TreeStandsFor : List Entry → Diagram → Type 0
 TreeStandsFor tree d = outcome_of tree ≡ Ok d

@@ -11,7 +11,8 @@ use Rattle.ssd_text.specs.Nesting.{start_fault, step, at_end, Goes, Spells, mark
 use Rattle.ssd_text.specs.Document.{IsCut, IsBeside, IsElement, at_once, with_content, IsContent, none, pass}
 use Rattle.ssd_text.specs.Document.{data_section, text, child, begins_element, SpellsDocument}
 use Rattle.ssd_text.proofs.Nested.{starts, ends_same, inside_literal, inside_told, told_blank, step_passed}
-use Rattle.ssd_text.proofs.Grammatical.{Closes, nest, not_zero, kept, one_in_front, step_count}
+use Rattle.ssd_text.proofs.Grammatical.{kept, one_in_front, step_count}
+use Rattle.ssd_text.proofs.Closing.{Closes, nest, not_zero}
 use Rattle.ssd_text.specs.declared.limits.TheConstants.{DEPTH, ELEMENTS}
 
 -- what a step owes: it is taken, and what is left closes the open elements

@@ -5,12 +5,15 @@ pub mod Texts
 pub mod Many
 pub mod Nested
 pub mod Sections
-pub mod PieceLaws
+pub mod TagLemmas
+pub mod PieceTakes
+pub mod PieceAgain
 pub mod Whole
 pub mod Few
 pub mod Ordered
 pub mod Elements
 pub mod Decoded
+pub mod Closing
 pub mod Grammatical
 pub mod Accepted
 pub mod Marks

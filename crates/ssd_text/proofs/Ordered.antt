@@ -17,12 +17,12 @@ use Rattle.ssd_text.specs.Nesting.{Goes, HasOutcome, Spells, nothing, mark_len}
 use Rattle.ssd_text.proofs.Few.{made, tested, sames, matched}
 
 -- each open element of a list is behind the one that holds it, and what came behind it stands below it
-abbrev pub Holds : List Entry → List Open → ℕ → Type 0
+abbrev Holds : List Entry → List Open → ℕ → Type 0
 Holds es [] top = Unit {0}
 Holds es (o ∷ os) top = (o.number < top) × ((k : ℕ) → o.number < k → k < length es →
     IsSomeAnd (entry_at es k).parent (λ q. o.number ≤ q)) × Holds es os o.number
 
-abbrev pub IsSound : List Entry → List Open → Type 0
+abbrev IsSound : List Entry → List Open → Type 0
 IsSound es within = IsInOrder es × Holds es within (length es)
 
 old_at : (es : List Entry) (e : Entry) (k : ℕ) → k < length es → entry_at (es ++ (e ∷ [])) k ≡ entry_at es k

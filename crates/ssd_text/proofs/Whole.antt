@@ -9,13 +9,14 @@ use Rattle.std.proofs.lemmas.Bool.{eqb-true, false≢true}
 use Rattle.ssd_text.specs.declared.refusal.TextRefusal.{TextRefusal}
 use Rattle.ssd_text.specs.Grammar.{Piece, comment, instruction, cdata, start, end, run, close, attribute, spelling}
 use Rattle.ssd_text.specs.Grammar.{IsPiece, StopsThere, Begins}
-use Rattle.ssd_text.specs.Nesting.{Entry, Nest, Shape, shape, step, at_end, no_piece, Next, Goes, HasOutcome, mark_len}
+use Rattle.ssd_text.specs.Nesting.{Entry, Nest, Shape, shape, step, no_piece, Next, Goes, HasOutcome, mark_len}
 use Rattle.ssd_text.specs.Nesting.{Spells, nothing}
 use Rattle.ssd_text.specs.Reading.{piece_at}
 use Rattle.ssd_text.specs.Seen.{counted}
 use Rattle.ssd_text.proofs.Fronts.{map_is_some}
 use Rattle.ssd_text.proofs.Texts.{IsSeam, utf8_seam, utf8_tail}
-use Rattle.ssd_text.proofs.PieceLaws.{piece_takes, piece_again}
+use Rattle.ssd_text.proofs.PieceAgain.{piece_again}
+use Rattle.ssd_text.proofs.PieceTakes.{piece_takes}
 
 -- what is behind an ASCII byte
 utf8_behind : (y r : List ℕ) → IsUtf8 (y ++ (62 ∷ r)) → IsUtf8 r
@@ -108,10 +109,6 @@ pub told_fault : (at : ℕ) (n : Nest) (text : List ℕ) (f : TextRefusal) → 0
     HasOutcome at n text (Err f)
 told_fault at n text f some h = ([], inr (some, f, h, refl))
 
-pub told_end : (at : ℕ) (n : Nest) (text : List ℕ) (o : Result (List Entry) TextRefusal) → text ≡ [] →
-    o ≡ at_end at n.entries n.within → HasOutcome at n text o
-told_end at n text o none e = ([], inl (none, e))
-
 pub some_left : (xs : List ℕ) (b : Bool) → b ≡ eqb (length xs) 0 → b ≡ false → 0 < length xs
 some_left [] b e f = absurd (false≢true (sym f ∙ e))
 some_left (x ∷ xs) b e f = omega arith
@@ -161,7 +158,7 @@ no_step at n m text rest p f b s (inr a) =
     ok_err : (m : Nest) (f : TextRefusal) → ◌≡◌ {A = Result Nest TextRefusal} (Ok m) (Err f) → ⊥
     ok_err m f e = cc
 
-pub one_outcome : (ps qs : List Piece) (at : ℕ) (n : Nest) (text : List ℕ) (o w : Result (List Entry) TextRefusal) →
+one_outcome : (ps qs : List Piece) (at : ℕ) (n : Nest) (text : List ℕ) (o w : Result (List Entry) TextRefusal) →
     Goes at n text ps o → Goes at n text qs w → o ≡ w
 one_outcome [] [] at n text o w (inl a) (inl b) = a.1 ∙ sym b.1
 one_outcome [] [] at n text o w (inl a) (inr b) = absurd (omega (arith, ap length a.0, b.0))

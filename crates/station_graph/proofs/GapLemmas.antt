@@ -81,10 +81,10 @@ module _ (d : Diagram) (v w : List Bool) (len : length v ≡ length w) (same : S
   coupled : (a b : ℕ) → Coupled d v a b → Coupled d w a b
   coupled a b = subst (λ (u : List Bool). Joined d u a b) (same_closed d.switches v w len same)
 
-  pub energisable : (n : ℕ) → Energisable d v n → Energisable d w n
+  energisable : (n : ℕ) → Energisable d v n → Energisable d w n
   energisable n (m, l, at) = (m, coupled n m l, closed_at Infeed m (λ e. cc e) at)
 
-  pub earthable : (n : ℕ) → Earthable d v n → Earthable d w n
+  earthable : (n : ℕ) → Earthable d v n → Earthable d w n
   earthable n (m, l, at) = (m, coupled n m l, closed_at Earthing m (λ e. cc e) at)
 
 module _ (d : Diagram) (v w : List Bool) (op : Op) (len : length v ≡ length w) (same : SameButBreakers d v w) where

@@ -4,10 +4,12 @@ pub mod ClassesLemmas
 pub mod BreakerLemmas
 pub mod CountLemmas
 pub mod DraftLemmas
+pub mod DraftItems
 pub mod MarkLemmas
 pub mod PartLemmas
 pub mod PartialEdges
 pub mod Decided
+pub mod SomeAnswer
 pub mod WalkLemmas
 pub mod TouchLemmas
 pub mod PartWalks

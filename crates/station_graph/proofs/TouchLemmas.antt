@@ -10,7 +10,7 @@ use Rattle.station_graph.specs.Views.{ClosedAtBy, HasTapBy}
 use Rattle.station_graph.proofs.PartialEdges.{by_back}
 
 -- an item touches what it joins
-pub between_touches : (bonds_only : Bool) (d : Diagram) (v : List Bool) (item : Item) (a b : ℕ) →
+between_touches : (bonds_only : Bool) (d : Diagram) (v : List Bool) (item : Item) (a b : ℕ) →
     ItemBetween bonds_only d v item a b → Touches d item a
 between_touches bonds_only d v (a_switch i) a b h =
     (h.switch, h.listed, elim h.ends [ inl e ↦ inl (sym e.0) | inr e ↦ inr (h.second, h.has_second, sym e.0) ])

@@ -12,7 +12,7 @@ pub called : (a b x y : List ℕ) → x ≡ y → b ≡ a ++ x → b ≡ a ++ y
 called a b x y same pushed = pushed ∙ ap (λ (s : List ℕ). a ++ s) same
 
 -- two texts, one after the other
-pub two : (t a b x y : List ℕ) → a ≡ t ++ x → b ≡ a ++ y → b ≡ t ++ (x ++ y)
+two : (t a b x y : List ℕ) → a ≡ t ++ x → b ≡ a ++ y → b ≡ t ++ (x ++ y)
 two t a b x y first second = second ∙ ap (λ s. s ++ y) first ∙ append_assoc t x y
 
 pub three : (t a b c x y z : List ℕ) → a ≡ t ++ x → b ≡ a ++ y → c ≡ b ++ z → c ≡ t ++ (x ++ y ++ z)

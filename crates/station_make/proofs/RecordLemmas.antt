@@ -10,7 +10,7 @@ use Rattle.station_make.specs.EventsText.{events_of}
 use Rattle.station_make.proofs.Numbers.{range_with_len-more}
 
 -- the records of six parts are those of each, in turn
-pub lines_text-six : (a b c d e f : List (List ℕ)) →
+lines_text-six : (a b c d e f : List (List ℕ)) →
     lines_text (a ++ b ++ c ++ d ++ e ++ f)
     ≡ lines_text a ++ lines_text b ++ lines_text c ++ lines_text d ++ lines_text e ++ lines_text f
 lines_text-six a b c d e f = simp flat_map-append

@@ -145,6 +145,15 @@ pub(crate) fn contraction_of(
     with_taps(alloc, station, items, links)
 }
 
+// The nodes of these numbers.
+pub(crate) fn nodes_of(alloc: Global, numbers: &[u16]) -> Result<NodeList, Memory> {
+    let mut list = NodeList::new(alloc);
+    for number in numbers {
+        list.push(NodeId(*number))?;
+    }
+    Ok(list)
+}
+
 // The contraction of the same items on these nodes.
 fn on_nodes(
     rt: &impl Abort,
@@ -152,10 +161,7 @@ fn on_nodes(
     value: &Contraction,
     nodes: &[u16],
 ) -> Result<Contraction, Memory> {
-    let mut list = NodeList::new(alloc);
-    for node in nodes {
-        list.push(NodeId(*node))?;
-    }
+    let list = nodes_of(alloc, nodes)?;
     assert!(rt; value.keeps_all(&list));
     value.keep_only(alloc, &list)
 }

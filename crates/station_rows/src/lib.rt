@@ -15,3 +15,7 @@ mod ends;
 mod limits;
 #[cfg(test)]
 mod readers;
+#[cfg(test)]
+mod renamed;
+#[cfg(test)]
+mod selected;

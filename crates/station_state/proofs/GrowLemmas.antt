@@ -34,10 +34,10 @@ module _ (d : Diagram) (v w : List Bool) (grows : Grows v w) where
         between_grows bonds_only h.item a b h.between;
   }
 
-  pub joined_grows : (a b : ℕ) → Joined d v a b → Joined d w a b
+  joined_grows : (a b : ℕ) → Joined d v a b → Joined d w a b
   joined_grows a b h = linked_weaker (Touching false d v) (Touching false d w) (touching_grows false) a b h
 
-  pub closed_grows : (kind : Kind) (n : ℕ) → ClosedAt d v kind n → ClosedAt d w kind n
+  closed_grows : (kind : Kind) (n : ℕ) → ClosedAt d v kind n → ClosedAt d w kind n
   closed_grows kind n h = record {
     number = h.number;
     switch = h.switch;

@@ -2,7 +2,6 @@
 use Rattle.std.proofs.Common.{◌≡◌, ◌↔◌, ℕ, ◌+◌, Bool, true, false, List, [], ◌∷◌, ◌++◌, IsTrue, refl, sym, ◌∙◌, ap}
 use Rattle.std.proofs.Common.{subst, inl, inr}
 use Rattle.std.proofs.lemmas.List.{length_push}
-use Rattle.std.proofs.lemmas.Option.{none-some}
 use Rattle.ilk_base.specs.declared.words.Dbpos.{Dbpos}
 use Rattle.station_graph.specs.Diagram.{Diagram, node_count}
 use Rattle.station_graph.specs.Supply.{Live}
@@ -41,9 +40,6 @@ between_of P Q false true p_is q_is = (λ p. let e = p_is.1 p in cc, q_is.0 refl
 between_of P Q false false p_is q_is = λ q. let e = q_is.1 q in cc
 
 module _ (d : Diagram) (least greatest : List Bool) where
-  pub between_none : AreBetween 0 d least greatest []
-  between_none = record { count = refl; each = λ n s at. absurd (none-some s at) }
-
   pub between_next : (k : ℕ) (states : List NodeState) (s : NodeState) → AreBetween k d least greatest states →
       IsBetween d least greatest k s → AreBetween (k + 1) d least greatest (states ++ s ∷ [])
   between_next k states s so_far here = record {

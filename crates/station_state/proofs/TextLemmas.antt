@@ -1,7 +1,6 @@
 -- The lines of the states, node by node.
-use Rattle.std.proofs.Common.{◌≡◌, ◌++◌, ◌+◌, ℕ, zero, suc, List, [], ◌∷◌, length, take, slice_get, Some, sym, ◌∙◌, ap}
+use Rattle.std.proofs.Common.{◌≡◌, ◌++◌, ◌+◌, ℕ, zero, suc, List, [], ◌∷◌, take, slice_get, Some, sym, ◌∙◌, ap}
 use Rattle.std.proofs.Common.{arith}
-use Rattle.std.proofs.Math.Seq.{take-length}
 use Rattle.std.proofs.lemmas.List.{append_assoc, append-nil}
 use Rattle.std.proofs.lemmas.Option.{same_Some}
 use Rattle.station_state.specs.declared.certainty.NodeState.{NodeState}
@@ -30,10 +29,3 @@ pub lines_more : (states : List NodeState) (paths : List (List ℕ)) (i : ℕ) (
 lines_more states paths i s p at_s at_p =
     let e : i + 1 ≡ suc i = omega arith in
     ap (λ k. first_lines k states paths) e ∙ lines_next states paths i s p at_s at_p
-
-pub lines_all : (states : List NodeState) (paths : List (List ℕ)) (n : ℕ) → length states ≡ n → length paths ≡ n →
-    first_lines n states paths ≡ state_lines states paths
-lines_all states paths n at_states at_paths =
-    let whole_states : take n states ≡ states = ap (λ k. take k states) (sym at_states) ∙ take-length states in
-    let whole_paths : take n paths ≡ paths = ap (λ k. take k paths) (sym at_paths) ∙ take-length paths in
-    ap (λ xs. state_lines xs (take n paths)) whole_states ∙ ap (state_lines states) whole_paths

@@ -8,7 +8,7 @@ use Rattle.station_work.specs.declared.tally.Sight.TheVariants.{Full, Blind}
 use Rattle.station_work.specs.declared.tally.Tally.{Tally}
 use Rattle.station_work.specs.Tallying.{TalliesAll}
 
--- `station bays B switches S nodes N`
+-- `station bays B switches S nodes N`.
 abbrev pub sizes_line : List ℕ → ℕ → ℕ → ℕ → List ℕ
 sizes_line name bays switches nodes =
     name ++ codes " bays " ++ decimal bays ++ codes " switches " ++ decimal switches ++ codes " nodes " ++ decimal
@@ -18,12 +18,12 @@ sizes_line name bays switches nodes =
 abbrev pub size_line : Diagram → List ℕ
 size_line d = sizes_line (codes "station") (bay_count d) (length d.switches) (node_count d)
 
--- `full released R denied D`, or `blind`
+-- `full released R denied D`, or `blind`.
 abbrev pub tally_line : List ℕ → Tally → List ℕ
 tally_line name t =
     name ++ codes " released " ++ decimal t.released ++ codes " denied " ++ decimal t.denied ++ codes "\n"
 
--- `log lines L granted G denied D finished F`: the records of the log, and the outcomes that are shown
+-- `log lines L granted G denied D finished F`: the records of the log, and the outcomes that are shown.
 abbrev pub log_line : Replayed → List ℕ
 log_line r =
     codes "log lines " ++ decimal r.count ++ codes " granted " ++ decimal (how_many is_granted r.out)

@@ -1,5 +1,5 @@
 -- A session from before the opening of the store.
-use Rattle.std.proofs.Common.{◌≡◌, ◌∙◌, ◌≤◌, inl, inr, ⊎_elim, ℕ, List, refl, sym, subst, arith}
+use Rattle.std.proofs.Common.{◌≡◌, ◌∙◌, ◌≤◌, inl, inr, ⊎_elim, ℕ, List, sym, subst, arith}
 use Rattle.ilk_base.specs.Outside.{Rose}
 use Rattle.ilk_base.proofs.Fronts.{rose_earlier}
 use Rattle.station_graph.specs.Diagram.{Diagram}
@@ -11,7 +11,7 @@ use Rattle.node_store.specs.Image.{IsImageOf}
 use Rattle.node_store.proofs.Runs.{one_call, then_more, stays_settled}
 use Rattle.stored_session.specs.View.{View, KeepsTime}
 use Rattle.stored_session.specs.Along.{StandsAlong}
-use Rattle.stored_session.specs.Ends.{EndsSo, BegunEnds, IsIdle}
+use Rattle.stored_session.specs.Ends.{EndsSo, BegunEnds}
 use Rattle.stored_session.specs.declared.end.StoredEnd.{StoredEnd}
 use Rattle.stored_session.specs.declared.end.StoredEnd.TheVariants.{Done, Unfit, Refused, Long, ReadFault, WriteFault}
 use Rattle.stored_session.specs.declared.end.StoredEnd.TheVariants.{Memory}
@@ -48,16 +48,6 @@ so_earlier m d b start before now part whole lines text low Unfit rose so = so
 module _ {D : Type 0} (v : View D) (time : KeepsTime v) (old mid : D) (same : v.content mid ≡ v.content old)
     (follows : LeavesFrom v.since (v.moment old) old mid (λ c d. c ≡ d)) (past : KeepsPast v.moment v.between old mid)
     (called : RisesBy 3 (v.calls old) (v.calls mid)) where
-  -- no line was asked for
-  pub idle : (now : Streams) → IsIdle v now now old mid
-  idle now = record {
-    streams = refl;
-    crash = λ image told settled.
-        one_call v.moment v.between v.since time old mid image (λ c d. c ≡ d) (λ c. c ≡ image) settled follows past
-        (λ c is. sym is);
-    called = called;
-  }
-
   -- the session that follows the opening, with it
   begun_at : (m : Meaning) (d : Diagram) (b : ℕ) (start : State) (before now : Streams) (new : D) (end : StoredEnd)
       → v.writes old ≤ v.writes mid → Told (v.content old) (λ image. IsImageOf image (kept_of start))

@@ -74,7 +74,7 @@ module _ {D : Type 0} (v : View D) (time : KeepsTime v) (m : Meaning) (d : Diagr
       (rises_on (length done) (v.calls old) (v.calls device) (v.calls new) first second))
 
   -- a line is not stored, and its text not written
-  pub ends_unstored : (now after : Streams) (device new : D) (done : List (List ℕ)) (store : Store) (state : State)
+  ends_unstored : (now after : Streams) (device new : D) (done : List (List ℕ)) (store : Store) (state : State)
       → (line answer : List ℕ) (next : State) → Now v time m d b start before old now device done store state
       → HasNext before.input done line → TakesNear before.input after.input (done ++ line ∷ [])
       → LeavesEither v device new state next
@@ -119,7 +119,7 @@ module _ {D : Type 0} (v : View D) (time : KeepsTime v) (m : Meaning) (d : Diagr
       }
 
   -- a line is stored, and of its text a front written
-  pub ends_unwritten : (now after : Streams) (device new : D) (done : List (List ℕ)) (store : Store) (state : State)
+  ends_unwritten : (now after : Streams) (device new : D) (done : List (List ℕ)) (store : Store) (state : State)
       → (line : List ℕ) (next : State) → Now v time m d b start before old now device done store state
       → HasNext before.input done line → TakesNear before.input after.input (done ++ line ∷ [])
       → LeavesEither v device new state next

@@ -33,7 +33,7 @@ consumes_none None = tt
 consumes_none (Some x) = refl
 
 -- a line of so many bytes, and what follows its end
-pub at_line : (n : ℕ) (held line past : List ℕ) → length line ≡ n → held ≡ line ++ 10 ∷ past
+at_line : (n : ℕ) (held line past : List ℕ) → length line ≡ n → held ≡ line ++ 10 ∷ past
     → (take n held ≡ line) × (drop (n + 1) held ≡ past)
 at_line n held line past len parts = (
   ap (take n) parts ∙ ap (λ k. take k (line ++ 10 ∷ past)) (sym len) ∙ take-append_seam line (10 ∷ past),
@@ -46,7 +46,7 @@ module _ (before : Option (List ℕ)) (done : List (List ℕ)) where
   reads_none = record { taken = []; consumed = consumes_none before; ends = λ rest. refl }
 
   -- more is held
-  pub reads_more : (now after : Option (List ℕ)) (held held_new : List ℕ) → ReadsThrough before now held done
+  reads_more : (now after : Option (List ℕ)) (held held_new : List ℕ) → ReadsThrough before now held done
       → Grows held held_new now after → ReadsThrough before after held_new done
   reads_more now after held held_new at grows = record {
     taken = at.taken;
@@ -67,7 +67,7 @@ module _ (before : Option (List ℕ)) (done : List (List ℕ)) where
         ((at.taken ++ held) ++ rest, lines (held ++ rest), record { told = told; cut = cut rest })
 
     -- the next one is too long
-    pub long_next : HasNoFeed held → is_long held ≡ true → (line : List ℕ) × HasNext before done line
+    long_next : HasNoFeed held → is_long held ≡ true → (line : List ℕ) × HasNext before done line
         × (MOST_LINE < length line)
     long_next none long =
         let (rest, told) = rest_of before now (at.taken ++ held) at.consumed in
@@ -86,7 +86,7 @@ module _ (before : Option (List ℕ)) (done : List (List ℕ)) where
         )
 
     -- the last one has no end
-    pub last_next : HasNoFeed held → 0 < length held → IsAtEnd now → IsAll before now (done ++ held ∷ [])
+    last_next : HasNoFeed held → 0 < length held → IsAtEnd now → IsAll before now (done ++ held ∷ [])
     last_next none some at_end = (
       at.taken ++ held,
       record {
@@ -96,19 +96,8 @@ module _ (before : Option (List ℕ)) (done : List (List ℕ)) where
       at.consumed,
     )
 
-    -- there is none
-    pub none_next : held ≡ [] → IsAtEnd now → IsAll before now done
-    none_next empty at_end = (
-      at.taken ++ held,
-      record {
-        told = all_of before now (at.taken ++ held) at.consumed at_end;
-        cut = at.ends held ∙ ap (λ l. done ++ lines l) empty ∙ append-nil done;
-      },
-      at.consumed,
-    )
-
     -- the first line of what is held is passed
-    pub reads_line : (line past : List ℕ) → BeginsLine held line past → ReadsThrough before now past
+    reads_line : (line past : List ℕ) → BeginsLine held line past → ReadsThrough before now past
         (done ++ strip_carriage_return line ∷ [])
     reads_line line past first = record {
       taken = at.taken ++ (line ++ 10 ∷ []);
@@ -207,11 +196,6 @@ module _ (before : Option (List ℕ)) (done : List (List ℕ)) (now after : Opti
   last_comes text fills is some = subst (λ (t : List ℕ). IsAll before after (done ++ t ∷ [])) (sym is)
       (last_next before done after held_new
       (reads_more before done now after held held_new at fills.grows) fills.is.0 some fills.is.1)
-
-  -- none
-  pub none_comes : Fills held held_new now after Last → held_new ≡ [] → IsAll before after done
-  none_comes fills empty = none_next before done after held_new
-      (reads_more before done now after held held_new at fills.grows) empty fills.is.1
 
   -- it is not known
   pub fails_so : (rose : Type 0) (trouble : InputTrouble) → FillFails held held_new now after rose trouble

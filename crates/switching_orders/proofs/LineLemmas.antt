@@ -27,7 +27,7 @@ next all k x rest left =
     let h = drop-suc all k x rest left in
     record { at = h.0; taken = take-next all k x h.0; left = ap (λ n. drop n all) (add-one k) ∙ h.1 }
 
-pub NameSteps-push : (d : Diagram) (lines : List (ℕ × List ℕ)) (ops : List Op) (line : ℕ × List ℕ) (op : Op) →
+NameSteps-push : (d : Diagram) (lines : List (ℕ × List ℕ)) (ops : List Op) (line : ℕ × List ℕ) (op : Op) →
     NameSteps d lines ops → NamesOperation d line.1 op → NameSteps d (lines ++ line ∷ []) (ops ++ op ∷ [])
 NameSteps-push d [] [] line op steps last = (last, tt)
 NameSteps-push d [] (x ∷ ops) line op steps last = absurd steps

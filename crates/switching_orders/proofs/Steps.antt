@@ -1,11 +1,10 @@
 -- What holds of each step of an order in the vector after those before it, by index and by recursion.
-use Rattle.std.proofs.Common.{◌≡◌, ◌∙◌, ap, subst, refl, ℕ, zero, suc, ◌+◌, Bool, List, [], ◌∷◌, ◌++◌, length, take}
+use Rattle.std.proofs.Common.{◌≡◌, ◌∙◌, ap, subst, refl, ℕ, zero, suc, ◌+◌, Bool, List, [], ◌∷◌, ◌++◌, take}
 use Rattle.std.proofs.Common.{add-one, Some}
-use Rattle.std.proofs.lemmas.List.{length-set}
 use Rattle.std.specs.Prelude.{slice_get, fold, ⊤}
 use Rattle.std.proofs.lemmas.Option.{none-some, same_Some}
 use Rattle.ilk_base.specs.declared.words.Op.{Op}
-use Rattle.station_graph.specs.CentralRules.{wanted_end, carried_out}
+use Rattle.station_graph.specs.CentralRules.{carried_out}
 use Rattle.switching_orders.specs.OrderRuling.{after_all}
 
 -- it holds of each operation in the vector after those before it
@@ -46,8 +45,3 @@ take-suc {X} (y ∷ xs) (suc k) x at = ap (λ (zs : List X). y ∷ zs) (take-suc
 pub take-next : {X : Type 0} (xs : List X) (k : ℕ) (x : X) → slice_get xs k ≡ Some x →
     take (k + 1) xs ≡ take k xs ++ x ∷ []
 take-next xs k x at = ap (λ n. take n xs) (add-one k) ∙ take-suc xs k x at
-
-pub length-after_all : (v : List Bool) (ops : List Op) → length (after_all v ops) ≡ length v
-length-after_all v [] = refl
-length-after_all v (op ∷ ops) = length-after_all (carried_out v op) ops ∙ length-set v op.switch.0
-    (wanted_end op.direction)

@@ -1,15 +1,14 @@
 -- An order undone leads back, and no step of it is idle.
-use Rattle.std.proofs.Common.{◌≡◌, ◌≢◌, ◌∙◌, sym, ap, subst, refl, ℕ, zero, suc, ◌<◌, Bool, true, false, List, [], ◌∷◌}
+use Rattle.std.proofs.Common.{◌≡◌, ◌≢◌, ◌∙◌, sym, ap, subst, refl, ℕ, zero, suc, Bool, true, false, List, [], ◌∷◌}
 use Rattle.std.proofs.Common.{◌++◌, Some, None}
 use Rattle.std.specs.Prelude.{slice_get, slice_set, ⊤, map, reverse}
 use Rattle.std.proofs.lemmas.Option.{none-some, same_Some}
 use Rattle.std.proofs.lemmas.List.{reverse-append}
-use Rattle.std.proofs.lemmas.List.Elements.{All-head, All-tail, All-push}
 use Rattle.ilk_base.specs.declared.words.Direction.{Direction}
 use Rattle.ilk_base.specs.declared.words.Direction.TheVariants.{ToOff, ToOn}
 use Rattle.ilk_base.specs.declared.words.Op.{Op}
 use Rattle.station_graph.specs.CentralRules.{wanted_end, carried_out}
-use Rattle.switching_orders.specs.OrderRuling.{after_all, IsIdle, MoveSwitches}
+use Rattle.switching_orders.specs.OrderRuling.{after_all, IsIdle}
 use Rattle.switching_orders.specs.Undoing.{other_way, opposite, undone}
 use Rattle.switching_orders.proofs.Steps.{EachAfter, EachAfter-push, after_all-append}
 
@@ -50,7 +49,7 @@ pub map-append_one : {A B : Type 0} (f : A → B) (xs : List A) (x : A) → map 
 map-append_one f [] x = refl
 map-append_one {B = B} f (y ∷ xs) x = ap (λ (zs : List B). f y ∷ zs) (map-append_one f xs x)
 
-pub undone-cons : (op : Op) (ops : List Op) → undone (op ∷ ops) ≡ undone ops ++ opposite op ∷ []
+undone-cons : (op : Op) (ops : List Op) → undone (op ∷ ops) ≡ undone ops ++ opposite op ∷ []
 undone-cons op ops = ap (map opposite) (reverse-append (op ∷ []) ops) ∙ map-append_one opposite (reverse ops) op
 
 abbrev pub Moves : List Bool → Op → Type 0
@@ -72,12 +71,3 @@ moves_back v (op ∷ ops) each =
     (EachAfter-push Moves (after_all (carried_out v op) ops) (undone ops) (opposite op)
     (moves_back (carried_out v op) ops each.1)
     (subst (λ w. Moves w (opposite op)) (sym (leads_back (carried_out v op) ops each.1)) (not_idle_back v op)))
-
--- the order undone moves the same switches
-pub MoveSwitches-undone : (count : ℕ) (ops : List Op) → MoveSwitches count ops → MoveSwitches count (undone ops)
-MoveSwitches-undone count [] moves = moves
-MoveSwitches-undone count (op ∷ ops) moves =
-    subst (MoveSwitches count) (sym (undone-cons op ops))
-    (All-push (λ (x : Op). x.switch.0 < count) (undone ops) (opposite op) (MoveSwitches-undone count ops
-    (All-tail (λ (x : Op). x.switch.0 < count) op ops moves)) (All-head (λ (x : Op). x.switch.0 < count)
-    op ops moves))

@@ -3,7 +3,6 @@ use Rattle.std.proofs.Common.{◌≡◌, refl, ap, ◌∙◌, ℕ, ◌+◌, ◌<
 use Rattle.std.proofs.Common.{true, false, cond, ◌==◌, sym, nat_lt, position, Some, None}
 use Rattle.std.specs.List.{All, slice_split, onto_first, before_first, after_first, position_or_len}
 use Rattle.std.specs.Str.Lines.{lines, lines_of_parts, strip_carriage_return}
-use Rattle.text_lines.specs.Lines.{filled_from}
 use Rattle.std.proofs.lemmas.List.Splits.{slice_split_none, slice_split_first, length-slice_split}
 use Rattle.std.proofs.lemmas.List.Sums.{fails_before_first}
 use Rattle.std.proofs.lemmas.Option.{cond_some, none-some}
@@ -38,7 +37,7 @@ last_part : (bs : List ℕ) → 0 < length bs → lines_of_parts (bs ∷ []) ≡
 last_part bs some = ap (λ t. cond t [] (bs ∷ [])) (ne_eqb (length bs) 0 (λ none. omega arith))
 
 -- a text without a newline is one line
-pub lines-last : (bs : List ℕ) → 0 < length bs → All (λ b. (b == 10) ≡ false) bs → lines bs ≡ bs ∷ []
+lines-last : (bs : List ℕ) → 0 < length bs → All (λ b. (b == 10) ≡ false) bs → lines bs ≡ bs ∷ []
 lines-last bs some none = ap lines_of_parts (slice_split_none (λ b. b == 10) bs none) ∙ last_part bs some
 
 -- the same, where no place of a newline is found
@@ -72,15 +71,3 @@ length-lines (b ∷ bs) = simp unary_clauses at more_byte b (slice_split (λ x. 
 pub lines-none : (bs : List ℕ) → length bs ≡ 0 → lines bs ≡ []
 lines-none [] none = refl
 lines-none (b ∷ bs) none = absurd (omega arith)
-
--- a first line that is empty is passed over
-pub filled_from-empty : (n : ℕ) (all : List (List ℕ)) (line : List ℕ) (rest : List (List ℕ)) → all ≡ line ∷ rest →
-    length line ≡ 0 → filled_from n all ≡ filled_from (n + 1) rest
-filled_from-empty n all [] rest first empty = ap (filled_from n) first
-filled_from-empty n all (b ∷ bs) rest first empty = absurd (omega arith)
-
--- and another one is kept, with its number
-pub filled_from-filled : (n : ℕ) (all : List (List ℕ)) (line : List ℕ) (rest : List (List ℕ)) → all ≡ line ∷ rest →
-    0 < length line → filled_from n all ≡ (n, line) ∷ filled_from (n + 1) rest
-filled_from-filled n all [] rest first some = absurd (omega arith)
-filled_from-filled n all (b ∷ bs) rest first some = ap (filled_from n) first

@@ -15,7 +15,7 @@ use Rattle.station_graph.specs.Connection.{SameButBreakers}
 use Rattle.station_graph.specs.CentralRules.{Breaks, GapBreaks}
 use Rattle.station_graph.proofs.GapLemmas.{gap_same, none_parts}
 use Rattle.reservation_core.specs.Scene.{true_at, Stands}
-use Rattle.reservation_core.proofs.Plain.{true_word_agrees}
+use Rattle.reservation_core.proofs.TrueWords.{true_word_agrees}
 use Rattle.trip_core.specs.declared.values.Note.{Note}
 use Rattle.trip_core.specs.Trips.{TripScene, IsBreaker, IsGoodNote}
 

@@ -12,7 +12,7 @@ use Rattle.bay_protocol.specs.declared.values.NodeEvent.TheVariants.{Withdraw as
 use Rattle.bay_protocol.specs.declared.values.NodeEvent.TheVariants.{Cut as Cutting}
 use Rattle.bay_protocol.specs.Counts.{Counts}
 use Rattle.bay_protocol.specs.State.{State}
-use Rattle.reservation_core.proofs.Effects.{CountsAt}
+use Rattle.reservation_core.proofs.StepEffect.{CountsAt}
 use Rattle.reservation_core.proofs.Noting.{heard_of, known_of}
 use Rattle.trip_core.specs.declared.values.Note.{Note}
 use Rattle.trip_core.specs.Trips.{lost}

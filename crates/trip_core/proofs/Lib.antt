@@ -1,8 +1,10 @@
 pub mod Good
 pub mod Counted
 pub mod Agreed
+pub mod TurnKeeping
 pub mod Keeping
 pub mod Obeying
 pub mod Starting
+pub mod TakenStep
 pub mod ForCode
 pub mod ForStep

@@ -22,8 +22,8 @@ use Rattle.reservation_core.specs.Facts.{IsSoundTruth}
 use Rattle.reservation_core.specs.declared.values.Position.{Position}
 use Rattle.reservation_core.specs.declared.values.Position.TheVariants.{Open, Between}
 use Rattle.reservation_core.specs.declared.values.WorldOutcome.{WorldOutcome}
-use Rattle.reservation_core.proofs.Plain.{true_word_agrees, stood}
-use Rattle.reservation_core.proofs.Truths.{backed_agrees, granted_bay, switch_of, of_part}
+use Rattle.reservation_core.proofs.TrueWords.{true_word_agrees, stood}
+use Rattle.reservation_core.proofs.AlikeNotes.{backed_agrees, granted_bay, switch_of, of_part}
 use Rattle.reservation_core.proofs.Keeping.{got_there}
 use Rattle.reservation_core.proofs.Soundness.{happens_sound, opens_sound}
 use Rattle.trip_core.specs.declared.values.Note.{Note}

@@ -1,7 +1,11 @@
 pub mod TripFollowing
 pub mod NotesAre
 pub mod NotesTurns
+pub mod TurnLines
+pub mod BesideNotes
+pub mod HeardNotes
 pub mod NotesStep
+pub mod NotesPassed
 pub mod NotesRun
 pub mod TripAll
 pub mod TripReplaying

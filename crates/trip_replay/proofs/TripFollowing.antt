@@ -21,9 +21,10 @@ use Rattle.reservation_core.specs.declared.values.Position.TheVariants.{Open, Be
 use Rattle.reservation_core.specs.declared.values.WorldEvent.{WorldEvent}
 use Rattle.reservation_core.specs.declared.values.WorldOutcome.{WorldOutcome}
 use Rattle.log_replay.proofs.Links.{Spoken, start_linked, put_is, drive_shown}
-use Rattle.log_replay.proofs.Leading.{speaks, happens_moves}
+use Rattle.log_replay.proofs.Leading.{speaks}
+use Rattle.log_replay.proofs.DriveMoves.{happens_moves}
 use Rattle.log_replay.proofs.LineDecisions.{lead_bays}
-use Rattle.log_replay.proofs.Decisions.{shows_it, decides_it}
+use Rattle.log_replay.proofs.RestingBays.{shows_it, decides_it}
 use Rattle.log_replay.proofs.Truth.{idle_at}
 use Rattle.log_replay.proofs.Since.{grant, stays_open}
 use Rattle.trip_core.specs.declared.values.TripEvent.{TripEvent}

@@ -13,20 +13,20 @@ use Rattle.reservation_core.specs.declared.values.WorldOutcome.{WorldOutcome}
 use Rattle.reservation_core.specs.declared.values.WorldOutcome.TheVariants.{Premise, Drive, Node}
 use Rattle.reservation_core.specs.declared.values.Which.{Which}
 use Rattle.reservation_core.specs.declared.values.Which.TheVariants.{Start}
-use Rattle.reservation_core.specs.declared.values.TheConstants.{MESSAGES}
 use Rattle.reservation_core.specs.Happens.{InRange}
 use Rattle.reservation_core.specs.World.{OutputFits}
 use Rattle.reservation_core.specs.Lines.{Shown}
 use Rattle.reservation_core.specs.Runs.{Shows, nothing_shown, shown_of}
 use Rattle.log_replay.specs.declared.log.TheConstants.{MOST_RECORDS}
 use Rattle.log_replay.specs.Following.{FitsAt, IsBroken}
-use Rattle.log_replay.specs.Replay.{Replayed, ShownFits, ReportFits, shown_at}
+use Rattle.log_replay.specs.Replay.{Replayed, ShownFits, shown_at}
 use Rattle.log_replay.proofs.Premises.{Exactly, happens_exact}
 use Rattle.log_replay.proofs.ReportLemmas.{all_more, each_at}
-use Rattle.log_replay.proofs.Replaying.{shows_so, nothing_fits, shown_of_fits, shown_more, report_is, start_is_vector}
+use Rattle.log_replay.proofs.Replaying.{shows_so, shown_more, report_is}
+use Rattle.log_replay.proofs.ReplayHeadline.{start_is_vector}
+use Rattle.log_replay.proofs.ShownOutcomes.{nothing_fits, shown_of_fits}
 use Rattle.trip_core.specs.declared.values.TripEvent.{TripEvent}
 use Rattle.trip_core.specs.declared.values.TripEvent.TheVariants.{Step as Happening, Trip}
-use Rattle.trip_core.specs.declared.values.TheConstants.{EVENTS}
 use Rattle.trip_core.specs.Trips.{TripScene}
 use Rattle.trip_core.specs.Start.{IsTripStart}
 use Rattle.trip_core.specs.Happens.{TripHappens, TripInRange}
@@ -106,7 +106,7 @@ in_range d (Trip i) told = told
 
 -- ---- the lines
 
-pub start_replaying : (m : Meaning) (log : List TripLogEvent) (s : TripScene) → IsTripStart m.diagram
+start_replaying : (m : Meaning) (log : List TripLogEvent) (s : TripScene) → IsTripStart m.diagram
     (trip_start_of m.diagram log) s → TripFacts m s → TripReplaying m log [] s 0
 start_replaying m log s is facts = record {
   facts = facts;
@@ -226,14 +226,6 @@ module _ (m : Meaning) (log : List TripLogEvent) (outs : List (Option WorldOutco
       (IsTripReplay.stops old e which (run_of has) (got_at log outs k (Step (Happening e)) r.count got) breaks (ap (λ
       (n : ℕ). let b : Option (ℕ × Which) = Some (n + 1, which) in b) (sym long)))
 
-pub room_left : (m : Meaning) (log : List TripLogEvent) (outs : List (Option WorldOutcome)) (s : TripScene) (k : ℕ)
-    → TripReplaying m log outs s k → k ≤ MOST_RECORDS → length s.world.scene.sent ≤ MESSAGES
-room_left m log outs s k r few = omega (arith, r.room, few)
-
-pub events_left : (m : Meaning) (log : List TripLogEvent) (outs : List (Option WorldOutcome)) (s : TripScene) (k : ℕ)
-    → TripReplaying m log outs s k → k ≤ MOST_RECORDS → s.events ≤ EVENTS
-events_left m log outs s k r few = omega (arith, r.events, few)
-
 -- ---- the headline
 
 run_headline : (m : Meaning) (log : List TripLogEvent) (out : List Shown) (s : TripScene) → IsStation m.diagram
@@ -277,12 +269,6 @@ told_in m d log k x same all got = subst (λ (y : Diagram). TripMayBeTold y x) (
 pub has_in : (m : Meaning) (d : Diagram) (log : List TripLogEvent) → m.diagram ≡ d → TripHasStart d log
     → TripHasStart m.diagram log
 has_in m d log same has = subst (λ (y : Diagram). TripHasStart y log) (sym same) has
-
-pub trip_report_fits : (m : Meaning) (d : Diagram) (log : List TripLogEvent) (outs : List (Option WorldOutcome))
-    (s : TripScene) (k : ℕ) (r : Replayed) → m.diagram ≡ d → TripReplaying m log outs s k → r.out ≡ map shown_at outs
-    → ReportFits d r
-trip_report_fits m d log outs s k r same rs is = subst (λ (ss : List Shown). All (ShownFits d) ss) (sym is) (subst (λ
-    (y : Diagram). All (ShownFits y) (map shown_at outs)) same rs.fits)
 
 pub trip_headline_if : {E : Type 0} (m : Meaning) (d : Diagram) (log : List TripLogEvent) (r : Result Replayed E)
     → m.diagram ≡ d → IsStation m.diagram → Laws m → IfOk r (IsTripReplay m log) → IfOk r (λ x. TripHeadline d

@@ -7,7 +7,8 @@ use Rattle.equation_text.proofs.WordLemmas.{none_told, some_told}
 use Rattle.equation_text.proofs.NodeFits.{not_empty, is_empty}
 use Rattle.equation_text.proofs.TopLemmas.{sound, parts_may, formed}
 use Rattle.equation_text.proofs.FormedLemmas.{left_starts, left_steps, left_ops, left_nodes, left_none, all_same}
-use Rattle.equation_text.proofs.StopLemmas.{wrong_front, wrong_start, wrong_op, wrong_node, wrong_end}
+use Rattle.equation_text.proofs.StopLemmas.{wrong_op, wrong_node, wrong_end}
+use Rattle.equation_text.proofs.StopAtParts.{wrong_front, wrong_start}
 use Rattle.equation_text.proofs.read.read_lines.Goals as goal
 
 pub returns-then-not-passed : goal.returns-then-not-passed

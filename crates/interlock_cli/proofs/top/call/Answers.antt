@@ -32,13 +32,13 @@ returns-in-Err-clause-ends g c =
 pub returns-in-Ok-node-clause-input : goal.returns-in-Ok-node-clause-input
 returns-in-Ok-node-clause-input g c = λ other.
     let named : command_of (map string_bytes c.args.words.now) ≡ Some (seen_command c.in-Ok.command) =
-        c.in-Ok.ensures.ok in
+    c.in-Ok.ensures.ok in
     absurd (other (rw (named, c.in-Node.is) (empty, (0, tt))))
 
 pub returns-in-Err-node-clause-ends : goal.returns-in-Err-node-clause-ends
 returns-in-Err-node-clause-ends g c =
     let named : command_of (map string_bytes c.args.words.now) ≡ Some (seen_command c.in-Ok.command) =
-        c.in-Ok.ensures.ok in
+    c.in-Ok.ensures.ok in
     let node : command_of (map string_bytes c.args.words.now) ≡ Some (Node c.in-Node.station.now c.in-Node.bay.now) =
     named ∙ ap (λ k. Some (seen_command k)) c.in-Node.is in
     let x : Call = record {
@@ -72,7 +72,7 @@ returns-in-Err-node-clause-ends g c =
 pub returns-in-Ok-output_of : goal.returns-in-Ok-output_of
 returns-in-Ok-output_of g c =
     let named : command_of (map string_bytes c.args.words.now) ≡ Some (seen_command c.in-Ok.command) =
-        c.in-Ok.ensures.ok in
+    c.in-Ok.ensures.ok in
     let x : Call = record {
       held = g.F.Shelf.held c.args.shelf.now;
       reads_before = g.F.Shelf.faults c.args.shelf.now;
@@ -104,7 +104,7 @@ returns-in-Ok-output_of g c =
 pub returns-in-Err-output_of : goal.returns-in-Err-output_of
 returns-in-Err-output_of g c =
     let named : command_of (map string_bytes c.args.words.now) ≡ Some (seen_command c.in-Ok.command) =
-        c.in-Ok.ensures.ok in
+    c.in-Ok.ensures.ok in
     let x : Call = record {
       held = g.F.Shelf.held c.args.shelf.now;
       reads_before = g.F.Shelf.faults c.args.shelf.now;

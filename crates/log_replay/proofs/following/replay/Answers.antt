@@ -1,6 +1,6 @@
 use Rattle.std.proofs.Common.{ap, map, ◌∙◌}
 use Rattle.log_replay.specs.Replay.{shown_at}
-use Rattle.log_replay.proofs.Replaying.{headline_if, empty_headline}
+use Rattle.log_replay.proofs.ReplayHeadline.{headline_if, empty_headline}
 use Rattle.log_replay.proofs.following.replay.Goals as goal
 
 pub returns-in-Some-clause-headline : goal.returns-in-Some-clause-headline

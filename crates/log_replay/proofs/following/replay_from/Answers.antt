@@ -2,8 +2,8 @@ use Rattle.std.proofs.Common.{arith, subst, sym, List, Option, ◌+◌}
 use Rattle.reservation_core.specs.declared.values.WorldOutcome.{WorldOutcome}
 use Rattle.log_replay.specs.Records.{MayBeTold}
 use Rattle.log_replay.proofs.ReportLemmas.{each_at}
-use Rattle.log_replay.proofs.Replaying.{Replaying, start_is_vector, start_with, told_in, fits_in, has_in, goes_on}
-use Rattle.log_replay.proofs.Replaying.{is_whole, is_stopped}
+use Rattle.log_replay.proofs.Replaying.{Replaying, goes_on, is_whole, is_stopped}
+use Rattle.log_replay.proofs.ReplayHeadline.{start_is_vector, start_with, told_in, fits_in, has_in}
 use Rattle.log_replay.proofs.following.replay_from.Goals as goal
 
 pub new-requires : goal.new-requires

@@ -54,7 +54,7 @@ layers-init c =
           c.requires.linked t i m x nodes (ap (λ xs. slice_get xs t) (sym is) ∙ at_i) at_x at_m at_nodes n;
       exact = λ f plan order fits.
           subst (λ ds. IsExact p.view (plan_diagram plan) (ChosenBy plan) (items_of plan) (NeededBy plan) 0
-              (layers_of ds)
+          (layers_of ds)
           (values_at (map (mapped f) p.values.items) c.in_ok-states.states.items)) (sym c.new-layers.ensures.items)
           (subst (λ xs. IsExact p.view (plan_diagram plan) (ChosenBy plan) (items_of plan) (NeededBy plan) 0 []
           (values_at (map (mapped f) p.values.items) xs)) (sym is)
@@ -222,7 +222,7 @@ layers-preserved c =
           ap (λ n. n * length row)
           (length-map states (λ i. get_or (map (mapped f) q.values.items) i no_answers) ∙ sym count) in
           subst (λ n. Spends (PlanHas p.view plan letters (j + 1)) (plan_diagram plan) c.args.budget
-              (c.layers.left - n))
+          (c.layers.left - n))
           made
           (plan_spends p.view plan letters j c.args.budget c.layers.left (length values) row
           (c.layers.invariant.spends f plan order fits) at_j (states_count p.view plan j
@@ -260,7 +260,7 @@ layers-preserved c =
           (λ t i at. in_on i (c.layers.invariant.states_in t i at)) c.layers.invariant.some e_on plan
           (layers_of c.layers.layers.items) fits (c.layers.invariant.exact f plan order fits) in
           let with_count = subst (λ n. IsExact p.view (plan_diagram plan) (ChosenBy plan) (items_of plan)
-              (NeededBy plan)
+          (NeededBy plan)
           (suc j) (layers_of c.layers.layers.items ++ layer_with (length row) n edges ∷ [])
           (values_at (map (mapped f) r.values.items) next)) (sym count) done in
           let with_drafts = subst (λ ls. IsExact p.view (plan_diagram plan) (ChosenBy plan) (items_of plan)

@@ -12,7 +12,7 @@ pub returns-clause-exact : goal.returns-clause-exact
 returns-clause-exact c =
     let named : AreLeastLabels c.args.inners.now c.args.outer.now.labels c.in_ok-names.names.items =
     subst (λ n. AreLeastLabels c.args.inners.now n c.in_ok-names.names.items) c.labels.ensures.count
-        c.in_ok-names.ensures in
+    c.in_ok-names.ensures in
     let renamed : IsRenamed c.args.outer.now c.in_ok-names.names.items c.in_ok-copy.copy =
     subst (λ xs. IsRenamed c.args.outer.now xs c.in_ok-copy.copy) c.deref.ensures.value c.in_ok-copy.ensures in
     λ j lt.

@@ -18,7 +18,7 @@ loop-t-init c = record {
       subst (λ (ids : List ℕ). CopiesBelow (pool_on (node_listed c.args.list.now) c.args.pool.now)
       (values_at c.args.pool.now.values.items c.args.names.now) ids 0) (sym c.new-ids.ensures.items) (copies_none
       (pool_on (node_listed c.args.list.now) c.args.pool.now)
-          (values_at c.args.pool.now.values.items c.args.names.now));
+      (values_at c.args.pool.now.values.items c.args.names.now));
 }
 
 pub copy_in_places-requires-clause-within : goal.copy_in_places-requires-clause-within

@@ -53,7 +53,7 @@ place_for-position-requires-clause-held c =
     slice_get-get_or c.args.choices.now j 0 (omega (arith, c.requires.len, c.loop-j-test.true))
     ∙ ap Some (sym c.choice-index.ensures) in
     IfSome_then c.args.known c.requires.held
-        (λ w held. subst (λ p. SetHolds w.now.possible.items p c.choice-index.result)
+    (λ w held. subst (λ p. SetHolds w.now.possible.items p c.choice-index.result)
     (sym e) (held j c.choice-index.result at))
 
 pub overflow_cast-index : goal.overflow_cast-index

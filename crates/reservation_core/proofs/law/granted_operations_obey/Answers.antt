@@ -1,4 +1,4 @@
-use Rattle.reservation_core.proofs.Plain.{obeys, answers, words, grants}
+use Rattle.reservation_core.proofs.TrueWords.{obeys, answers, words, grants}
 use Rattle.reservation_core.proofs.law.granted_operations_obey.Goals as goal
 
 pub returns-clause-obeys : goal.returns-clause-obeys

@@ -1,4 +1,4 @@
-use Rattle.reservation_core.proofs.Plain.{obeys_first_two}
+use Rattle.reservation_core.proofs.TrueWords.{obeys_first_two}
 use Rattle.reservation_core.proofs.Soundness.{happens_sound}
 use Rattle.reservation_core.proofs.law.soundness_of_truth_is_kept.Goals as goal
 

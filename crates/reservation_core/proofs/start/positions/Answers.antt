@@ -4,7 +4,7 @@ use Rattle.std.proofs.lemmas.Option.{slice_get-get_or}
 use Rattle.reservation_core.specs.Start.{position_of}
 use Rattle.reservation_core.specs.declared.values.Position.{Position}
 use Rattle.reservation_core.specs.declared.values.Position.TheVariants.{Between}
-use Rattle.reservation_core.proofs.Truths.{got_or}
+use Rattle.reservation_core.proofs.AlikeNotes.{got_or}
 use Rattle.reservation_core.proofs.ForCode.{pushed_each}
 use Rattle.reservation_core.proofs.start.positions.Goals as goal
 

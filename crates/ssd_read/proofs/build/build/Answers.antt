@@ -3,7 +3,7 @@ use Rattle.std.specs.List.{flat_map, range_with_len}
 use Rattle.station_graph.specs.Diagram.{empty}
 use Rattle.ssd_read.specs.Steps.{naming_step, item_steps_at}
 use Rattle.ssd_read.proofs.Stepped.{first_refused}
-use Rattle.ssd_read.proofs.Given.{infeeds_tapped}
+use Rattle.ssd_read.proofs.Tapped.{infeeds_tapped}
 use Rattle.ssd_read.proofs.build.build.Goals as goal
 
 pub finish-requires : goal.finish-requires

@@ -1,5 +1,5 @@
 use Rattle.station_graph.proofs.AnswerLemmas.{same_answer}
-use Rattle.station_graph.proofs.Decided.{some_answer}
+use Rattle.station_graph.proofs.SomeAnswer.{some_answer}
 use Rattle.station_graph.proofs.laws.one_answer.Goals as goal
 
 pub returns-clause-one : goal.returns-clause-one

@@ -1,7 +1,7 @@
 use Rattle.std.proofs.Common.{arith, subst, sym, List, Option, ◌+◌}
 use Rattle.reservation_core.specs.declared.values.WorldOutcome.{WorldOutcome}
 use Rattle.log_replay.proofs.ReportLemmas.{each_at}
-use Rattle.log_replay.proofs.Replaying.{fits_in}
+use Rattle.log_replay.proofs.ReplayHeadline.{fits_in}
 use Rattle.trip_replay.specs.TripRecords.{TripMayBeTold}
 use Rattle.trip_replay.proofs.TripReplaying.{TripReplaying, trip_start_is_vector, start_with, told_in, has_in}
 use Rattle.trip_replay.proofs.TripReplaying.{goes_on, is_whole, is_stopped}

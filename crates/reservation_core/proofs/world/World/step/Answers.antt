@@ -1,5 +1,5 @@
 use Rattle.reservation_core.proofs.ForWorld.{exactly, unchanged, outputs, few, facts_kept, sound_kept}
-use Rattle.reservation_core.proofs.Plain.{obeys}
+use Rattle.reservation_core.proofs.TrueWords.{obeys}
 use Rattle.reservation_core.proofs.world.World.step.Goals as goal
 
 pub returns-clause-premise : goal.returns-clause-premise

@@ -5,8 +5,8 @@ use Rattle.station_graph.specs.Diagram.{Diagram, SwitchFits, switches_in, bay_co
 use Rattle.station_graph.specs.declared.limits.TheConstants.{BAYS, SWITCHES, BAY_SWITCHES}
 use Rattle.station_graph.specs.Building.{FollowsLast, path_in_part}
 use Rattle.station_graph.specs.DraftInside.{draft_of}
-use Rattle.station_graph.proofs.DraftLemmas.{IsDraft-switch, CountsBays-switch, bay_count-new, bay_count-known}
-use Rattle.station_graph.proofs.DraftLemmas.{with_switch}
+use Rattle.station_graph.proofs.DraftItems.{IsDraft-switch, CountsBays-switch, bay_count-new, bay_count-known}
+use Rattle.station_graph.proofs.DraftItems.{with_switch}
 use Rattle.station_graph.proofs.builder.Builder.switch.Goals as goal
 use Rattle.station_graph.proofs.builder.Builder.switch.Goals.{else-in_part-eq0-via-then-in_part-eq0+else-bays-eq-BAYS}
 use Rattle.station_graph.proofs.builder.Builder.switch.Goals.{else-in_part-eq0-via-else-in_part-eq0}
