@@ -1,6 +1,6 @@
 -- The text of an explanation.
 use Rattle.std.specs.Prelude.{◌≡◌, ◌<◌, ◌++◌, ◌==◌, ℕ, Bool, List, [], length, Option, Some, None, slice_get}
-use Rattle.std.specs.Prelude.{slice_index_or, codes, if◌then◌else◌}
+use Rattle.std.specs.Prelude.{codes, if◌then◌else◌}
 use Rattle.std.specs.List.{flat_map}
 use Rattle.ilk_base.specs.declared.words.Dbpos.{Dbpos}
 use Rattle.ilk_base.specs.declared.words.Rule.{Rule}

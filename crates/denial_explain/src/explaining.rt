@@ -1,5 +1,5 @@
 //! Why an operation breaks a rule.
-ghost use Rattle.std.specs.Prelude.{◌≡◌, ◌<◌, ◌↔◌, ◌⊎◌, ℕ, length, slice_set, Some, IfOk, Contains};
+ghost use Rattle.std.specs.Prelude.{◌≡◌, ◌<◌, ◌^◌, ◌↔◌, ◌⊎◌, ℕ, length, slice_set, Some, IfOk, Contains};
 ghost use Rattle.ilk_base.specs.declared.words.Rule.{Rule as AnyRule};
 ghost use Rattle.ilk_base.specs.declared.words.Rule.TheVariants.{R1, R2, R3};
 ghost use Rattle.station_graph.specs.Diagram.{node_count};
@@ -118,7 +118,7 @@ fn explain_closing(
 // The nodes with the label of this node, rising.
 fn same_class(alloc: Global, labels: &NodeList, node: NodeId) -> Result<NodeList, Memory>
     requires node { node.0 < length labels.now }
-    requires few { length labels.now < 65536 }
+    requires few { length labels.now < 2 ^ 16 }
     ensures { IfOk result (IsClassOf labels.now node.0) }
 {
     let class = labels.get(node.0 as usize);

@@ -1,26 +1,27 @@
--- What an image of 64 bytes stands for.
-use Rattle.std.specs.Prelude.{◌≡◌, ◌≢◌, ◌<◌, ◌⊎◌, ◌*◌, ◌-◌, ℕ, List, take, drop, slice_index}
+-- What an image, the bytes of a device, stands for.
+use Rattle.std.specs.Prelude.{◌≡◌, ◌≢◌, ◌<◌, ◌⊎◌, ◌+◌, ◌*◌, ◌-◌, ℕ, List, take, drop, slice_index}
 use Rattle.std.specs.Int.{w64, from_be_bytes}
 use Rattle.bay_protocol.specs.declared.values.Kept.{Kept}
 use Rattle.bay_protocol.specs.KeptRow.{kept_row, InRow}
 use Rattle.bay_protocol.specs.State.{nothing_kept}
+use Rattle.node_store.specs.declared.sizes.TheConstants.{SEQUENCE_BYTES, RECORD_BYTES, SLOT_BYTES}
 use Rattle.node_store.specs.declared.store.TheConstants.{LAST_SEQUENCE}
 
--- Slot 0 begins at byte 0, slot 1 at byte 32.
+-- Slot 0 begins at the first byte, slot 1 behind it.
 abbrev pub slot : List ℕ → ℕ → List ℕ
-slot image n = take 32 (drop (32 * n) image)
+slot image n = take SLOT_BYTES (drop (SLOT_BYTES * n) image)
 
--- A slot is a gate byte, a sequence number of 8 bytes, high byte first, and a kept record of 18 bytes.
+-- A slot is a gate byte, a sequence number, high byte first, and a kept record.
 abbrev pub gate : List ℕ → ℕ
 gate s = slice_index s 0
 
--- The sequence number of a slot, in eight bytes behind its gate.
+-- The sequence number of a slot, behind its gate.
 abbrev pub sequence : List ℕ → ℕ
-sequence s = from_be_bytes w64 (take 8 (drop 1 s))
+sequence s = from_be_bytes w64 (take SEQUENCE_BYTES (drop 1 s))
 
--- The record of a slot, in eighteen bytes behind its sequence number.
+-- The record of a slot, behind its sequence number.
 abbrev pub record_bytes : List ℕ → List ℕ
-record_bytes s = take 18 (drop 9 s)
+record_bytes s = take RECORD_BYTES (drop (1 + SEQUENCE_BYTES) s)
 
 -- A slot is open where its gate is 1.
 abbrev pub IsOpen : List ℕ → ℕ → Type 0

@@ -1,11 +1,12 @@
 //! A device as the store sees it: what a read gives, and what a crash may leave.
 ghost use Rattle.std.specs.Prelude.{◌≡◌, ◌≤◌, ◌⊎◌, ◌↔◌, ◌+◌, List, ℕ, Option, Some, length, take, drop, OnOk, OnErr};
 ghost use Rattle.ilk_base.specs.Outside.{Rose};
+ghost use Rattle.node_store.specs.declared.sizes.TheConstants.{DEVICE_BYTES};
 ghost use Rattle.node_store.specs.Device.{Told, Becomes, IsChangedWithin, IsWritten, LeavesFrom, KeepsPast, RisesBy};
 
 use ilk_base::Failed;
 
-/// A device of 64 bytes.
+/// A device of `DEVICE_BYTES` bytes.
 ///
 /// It has two counts of faults and a count of calls, which never fall, and a clock.
 pub trait Device {
@@ -32,7 +33,7 @@ pub trait Device {
 
     /// Reads the bytes from a place on.
     fn read(&mut self, at: u8, into: &mut [u8]) -> Result<(), Failed>
-        requires { at + length into.old ≤ 64 }
+        requires { at + length into.old ≤ DEVICE_BYTES }
         ensures bytes { OnOk result (Told (content self.old)
             (λ image. into.new ≡ take (length into.old) (drop at image))) }
         ensures same { content self.new ≡ content self.old }
@@ -46,7 +47,7 @@ pub trait Device {
     /// Writes over the bytes from a place on. Until a sync succeeds, a crash may leave any bytes in
     /// the range, also where the write failed.
     fn write(&mut self, at: u8, piece: &[u8]) -> Result<(), Failed>
-        requires { at + length piece.now ≤ 64 }
+        requires { at + length piece.now ≤ DEVICE_BYTES }
         ensures written { OnOk result (Becomes (content self.old) (content self.new) (IsWritten at piece.now)) }
         ensures changed { Becomes (content self.old) (content self.new) (IsChangedWithin at (length piece.now)) }
         ensures crash { LeavesFrom left_since (moment self.old) self.old self.new

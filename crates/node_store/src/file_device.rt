@@ -4,6 +4,7 @@ ghost use Rattle.ilk_base.specs.Outside.{Rose};
 ghost use Rattle.node_store.specs.Edge.{NothingTold, NothingToldBetween, nothing_splits};
 
 use crate::device::Device;
+use crate::sizes::DEVICE_BYTES;
 use ilk_base::{Failed, Memory};
 use std::alloc::Global;
 use std::fs;
@@ -11,7 +12,7 @@ use std::fs::{OpenFile, OpenOptions};
 use std::io::{ErrorKind, Read, Result as IoResult, Seek, SeekFrom, Write};
 use std::rt::Files;
 
-/// A file of 64 bytes. It is opened at the first call, and made of 64 zeros where it is missing; a
+/// A file of `DEVICE_BYTES` bytes. It is opened at the first call, and made of zeros where it is missing; a
 /// failure to do this is a fault of that call. A missing file is made whole under its name with
 /// `.new` behind it, and then renamed, so that a stop in between leaves no short file. A file of
 /// fewer bytes is left as it is, and a read past its end is a fault.
@@ -33,7 +34,7 @@ fn open_file<R: Files>(rt: &R, name: &str) -> IoResult<R::File> {
 // Makes the file whole beside its place, and puts it there.
 fn make_file<R: Files>(rt: &R, name: &str, beside: &str) -> IoResult<()> {
     let mut file = fs::create(rt, beside)?;
-    file.write_all(&[0; 64])?;
+    file.write_all(&[0; DEVICE_BYTES])?;
     file.sync_all()?;
     fs::rename(rt, beside, name)
 }

@@ -4,18 +4,20 @@ ghost use Rattle.std.specs.Prelude.{◌≡◌, ◌≤◌, ◌<◌, ◌⊎◌, �
 ghost use Rattle.std.specs.Prelude.{take, drop, slice_index, IsTrue, IfOk, OnOk, OnErr};
 ghost use Rattle.std.proofs.Math.ListN.{get_or, replicate};
 ghost use Rattle.ilk_base.specs.Outside.{Rose};
+ghost use Rattle.node_store.specs.declared.sizes.TheConstants.{DEVICE_BYTES};
 ghost use Rattle.node_store.specs.Device.{IsChangedWithin, IsWritten, RisesBy};
 ghost use Rattle.node_store.specs.Memory.{LeftSince, LeftBetween, IsMarked, since_splits};
 
 use crate::device::Device;
+use crate::sizes::DEVICE_BYTES;
 use ilk_base::{Failed, Memory};
 use std::alloc::Global;
 
 // What a read gives at a moment, and which bytes were written since the last sync.
 #[derive(Clone, Copy, Debug)]
 struct Snapshot {
-    bytes: [u8; 64],
-    marks: [bool; 64],
+    bytes: [u8; DEVICE_BYTES],
+    marks: [bool; DEVICE_BYTES],
 }
 
 /// A device in memory, with room for so many calls. It keeps the state before each call.
@@ -31,31 +33,31 @@ pub struct MemDevice {
 }
 
 // Puts the piece over the bytes from a place on.
-fn overwrite(bytes: &mut [u8; 64], at: usize, piece: &[u8])
-    requires { at + length piece.now ≤ 64 }
+fn overwrite(bytes: &mut [u8; DEVICE_BYTES], at: usize, piece: &[u8])
+    requires { at + length piece.now ≤ DEVICE_BYTES }
     ensures { IsWritten at piece.now bytes.old bytes.new }
 {
     bytes[at..at + piece.len()].copy_from_slice(piece);
 }
 
 // Marks the bytes from a place on.
-fn mark(marks: &mut [bool; 64], at: usize, len: usize)
-    requires { at + len ≤ 64 }
+fn mark(marks: &mut [bool; DEVICE_BYTES], at: usize, len: usize)
+    requires { at + len ≤ DEVICE_BYTES }
     ensures { IsMarked at len marks.old marks.new }
 {
     marks[at..at + len].fill(true);
 }
 
 impl MemDevice {
-    /// A device of 64 zeros, with room for so many calls. It takes all its memory here.
+    /// A device of zeros, with room for so many calls. It takes all its memory here.
     pub fn new(alloc: Global, calls: u32) -> Result<MemDevice, Memory>
-        ensures { IfOk result (λ d. (d.state.bytes ≡ replicate 64 0) × (d.state.marks ≡ replicate 64 false)
-            × (d.past.items ≡ []) × (d.calls ≡ 0)) }
+        ensures { IfOk result (λ d. (d.state.bytes ≡ replicate DEVICE_BYTES 0)
+            × (d.state.marks ≡ replicate DEVICE_BYTES false) × (d.past.items ≡ []) × (d.calls ≡ 0)) }
     {
         Ok(MemDevice {
             state: Snapshot {
-                bytes: [0; 64],
-                marks: [false; 64],
+                bytes: [0; DEVICE_BYTES],
+                marks: [false; DEVICE_BYTES],
             },
             past: Vec::with_capacity(alloc, calls as usize)?,
             room: calls,
@@ -76,16 +78,16 @@ impl MemDevice {
     /// Ends this, and makes what was written the content.
     pub fn mend(&mut self)
         ensures { self.new ≡ record self.old
-            { failing = None; state = record { bytes = self.old.state.bytes; marks = replicate 64 false } } }
+            { failing = None; state = record { bytes = self.old.state.bytes; marks = replicate DEVICE_BYTES false } } }
     {
         self.failing = None;
-        self.state.marks = [false; 64];
+        self.state.marks = [false; DEVICE_BYTES];
     }
 
     /// What a read gives.
     pub fn bytes(&self) -> &[u8]
         ensures bytes { result.now ≡ self.now.state.bytes }
-        ensures size { length result.now ≡ 64 }
+        ensures size { length result.now ≡ DEVICE_BYTES }
     {
         &self.state.bytes
     }
@@ -156,7 +158,7 @@ impl Device for MemDevice {
             self.write_faults = self.write_faults.saturating_add(1);
             return Err(Failed);
         }
-        self.state.marks = [false; 64];
+        self.state.marks = [false; DEVICE_BYTES];
         Ok(())
     }
 }

@@ -10,6 +10,7 @@ ghost use Rattle.node_store.specs.Store.{HasSlots, Matches, MatchesStore, store_
 ghost use Rattle.node_store.specs.Store.{MayTake};
 
 use crate::device::Device;
+use crate::sizes::SLOT_BYTES;
 use crate::slots::{Slot, kept_in, sequence_in};
 use crate::writing::{fill, make_room};
 use bay_node::Kept;
@@ -47,7 +48,7 @@ pub enum OpenTrouble {
     SyncFailed,
     /// A read failed.
     ReadFailed,
-    /// The newest slot holds no record, or its sequence is above 9,223,372,036,854,775,807.
+    /// The newest slot holds no record, or its sequence is above `LAST_SEQUENCE`.
     Record {
         /// that slot
         slot: u8,
@@ -64,7 +65,7 @@ struct NextSlot {
 }
 
 // What the two slots say.
-fn newest_of(first: &[u8; 32], second: &[u8; 32]) -> Option<Newest>
+fn newest_of(first: &[u8; SLOT_BYTES], second: &[u8; SLOT_BYTES]) -> Option<Newest>
     ensures { (image : List ℕ) → HasSlots image first.now second.now → Matches image result }
 {
     let first_open = first[0] == 1;
@@ -89,7 +90,11 @@ fn newest_of(first: &[u8; 32], second: &[u8; 32]) -> Option<Newest>
 }
 
 // The bytes of a slot.
-fn bytes_of<'a>(slot: Slot, first: &'a [u8; 32], second: &'a [u8; 32]) -> &'a [u8; 32]
+fn bytes_of<'a>(
+    slot: Slot,
+    first: &'a [u8; SLOT_BYTES],
+    second: &'a [u8; SLOT_BYTES],
+) -> &'a [u8; SLOT_BYTES]
     ensures { (image : List ℕ) → HasSlots image first.now second.now → slot_in image (number slot) ≡ result.now }
 {
     match slot {
@@ -99,7 +104,7 @@ fn bytes_of<'a>(slot: Slot, first: &'a [u8; 32], second: &'a [u8; 32]) -> &'a [u
 }
 
 // The store for these two slots, or the slot that is refused.
-fn decide(first: &[u8; 32], second: &[u8; 32]) -> Result<Opened, u8>
+fn decide(first: &[u8; SLOT_BYTES], second: &[u8; SLOT_BYTES]) -> Result<Opened, u8>
     ensures stands { IfOk result (λ o. (image : List ℕ) → HasSlots image first.now second.now →
         IsImageOf image o.kept) }
     ensures knows { IfOk result (λ o. (image : List ℕ) → HasSlots image first.now second.now →
@@ -158,12 +163,12 @@ impl Store {
         let Ok(()) = device.sync() else {
             return Err(OpenTrouble::SyncFailed);
         };
-        let mut first = [0; 32];
+        let mut first = [0; SLOT_BYTES];
         let Ok(()) = device.read(0, &mut first) else {
             return Err(OpenTrouble::ReadFailed);
         };
-        let mut second = [0; 32];
-        let Ok(()) = device.read(32, &mut second) else {
+        let mut second = [0; SLOT_BYTES];
+        let Ok(()) = device.read(SLOT_BYTES as u8, &mut second) else {
             return Err(OpenTrouble::ReadFailed);
         };
         match decide(&first, &second) {

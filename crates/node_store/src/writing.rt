@@ -1,6 +1,7 @@
 //! Writes into a slot, each with what a crash inside it may leave.
 ghost use Rattle.std.specs.Prelude.{◌≡◌, ◌≤◌, ◌+◌, ◌↔◌, length, OnOk, OnErr, IsTrue};
 ghost use Rattle.ilk_base.specs.Outside.{Rose};
+ghost use Rattle.node_store.specs.declared.sizes.TheConstants.{DEVICE_BYTES};
 ghost use Rattle.node_store.specs.Device.{Told, Becomes, IsChangedWithin, IsWritten, RisesBy, IsSettled, LeavesOnly};
 ghost use Rattle.node_store.specs.Image.{IsOpen};
 ghost use Rattle.node_store.specs.Slots.{number};
@@ -13,7 +14,7 @@ use ilk_base::Failed;
 
 // A write, and a sync.
 fn write_through<D: Device>(device: &mut D, at: u8, piece: &[u8]) -> Result<(), Failed>
-    requires place { at + length piece.now ≤ 64 }
+    requires place { at + length piece.now ≤ DEVICE_BYTES }
     requires settled { Told (D.content device.old) (λ image. IsSettled D.moment D.left_since device.old image) }
     // A crash leaves what was there, but for any bytes in the range.
     ensures crash { Told (D.content device.old) (λ image.
