@@ -105,7 +105,7 @@ module _ {m : Meaning} {start : List Bool} {before : List TripLine} {old new : T
         | inl p ↦ notes.before k i p.0 own.0 ∙ (said.beside k f t p.1 body i own ∙ ap (λ
             (ls : List TripLine). line_note d ls i) (sym (old_sent k p.0)))
         | inr p ↦
-            let it = turn_effect turned.answers f t p.1 body in
+            let it = (turn_effect turned).answers f t p.1 body in
             let mine : bay_of d i ≡ b = own.1 ∙ (it.from ∙ named turned) in
             let asked = asked_by c.event it.asked in
             notes.beside k i f t p.0 got body own.0 mine ∙ (own_is turned i own.0 ∙ (sym

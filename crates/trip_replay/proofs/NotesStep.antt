@@ -162,7 +162,7 @@ module _ {m : Meaning} {start : List Bool} {before : List TripLine} {old new : T
         subst (λ (z : ℕ). note_at new.known z i ≡ heard_note_at d (heard_lines (l ∷ before) z (bay_of d i)) i)
         (sym same)
         (known ∙ heard_is turned g i lt mine (λ h old_has r. no_new_round g h new_has old_has r) (fresh_round g
-        (bay_of d i) new_has) (turn_effect turned.heard g new_has))
+        (bay_of d i) new_has) ((turn_effect turned).heard g new_has))
   ]
 
   -- ---- what a grant knew
@@ -247,7 +247,7 @@ module _ {m : Meaning} {start : List Bool} {before : List TripLine} {old new : T
         let new_has : turn.new.granted ≡ Some g = sym (ap (λ (n : State). n.granted) here) ∙ (ap (λ (z : ℕ).
         (node d new.world.scene z).granted) (sym same) ∙ has) in
         subst (λ (z : ℕ). KnewAt d (l ∷ before) (note_at new.known z) z g) (sym same) (elim
-        (turn_effect turned.grants g new_has) [
+        ((turn_effect turned).grants g new_has) [
           | inl had ↦ stays_granted g new_has had
           | inr released ↦ granted_at g new_has released
         ])
