@@ -40,7 +40,7 @@ same_name name rows None = refl
 same_name name rows (Some s) = refl
 
 -- the name of the command that was read
-name_read : (m : ArgMatches) (name : Text) (rows_read : List Row) → subcommand_rows_of m ≡ Some (name, rows_read) →
+pub name_read : (m : ArgMatches) (name : Text) (rows_read : List Row) → subcommand_rows_of m ≡ Some (name, rows_read) →
     subcommand_name_of m ≡ Some name
 name_read m name rows_read e =
     same_name _ _ (out-ArgMatches m).subcommand ∙ ap (option_map (λ (p : Text × List Row). p.0)) e
