@@ -17,6 +17,7 @@ use Rattle.release_compile.specs.Judging.{PartHasEdges, KeepEdges, IsFirstWide}
 use Rattle.release_compile.proofs.VerdictLemmas.{other_in}
 use Rattle.release_compile.proofs.EdgesLemmas.{alphabet_counts, switches_at_least, outer_at_least, view_at_least}
 use Rattle.release_compile.proofs.EdgesLemmas.{switches_more, switches_all, switches_zero, outer_none}
+use Rattle.release_compile.specs.declared.limits.TheConstants.{BAY_EDGES, ALL_EDGES}
 
 -- ---- the switches of a bay, one by one
 
@@ -177,15 +178,15 @@ module _ (d : Diagram) (a : Alphabets) (alphabets : AreAlphabets d a) (b first c
 pub keep_none : (d : Diagram) → KeepEdges d 0 0
 keep_none d = record { each = []; len = refl; counted = λ part size at. cc; all = refl; few = omega arith }
 
-pub keep_more : (d : Diagram) (n edges size : ℕ) → KeepEdges d n edges → PartHasEdges d n size → size ≤ 8000000 →
-    edges + size ≤ 80000000 → KeepEdges d (n + 1) (edges + size)
+pub keep_more : (d : Diagram) (n edges size : ℕ) → KeepEdges d n edges → PartHasEdges d n size → size ≤ BAY_EDGES →
+    edges + size ≤ ALL_EDGES → KeepEdges d (n + 1) (edges + size)
 keep_more d n edges size h new few all = record {
   each = h.each ++ size ∷ [];
   len = omega (arith, length_push h.each size, h.len);
   counted = λ part k at. elim (slice_get-push h.each size k part at) [
     | inl before ↦ h.counted part k before
     | inr here ↦
-        subst (λ z. PartHasEdges d part z × (z ≤ 8000000)) here.1
+        subst (λ z. PartHasEdges d part z × (z ≤ BAY_EDGES)) here.1
         (subst (λ z. PartHasEdges d z size) (sym (here.0 ∙ h.len)) new, few)
   ];
   all = omega (arith, sum_by_push (λ (x : ℕ). x) h.each size, h.all);
@@ -203,7 +204,7 @@ no_bay_of_count d b first count are none bay = omega (arith, bay.1, are.counted,
 
 -- the bay at which the edges that are left are too few is the first that is too wide
 pub first_wide : (d : Diagram) (b spent left : ℕ) → IsBay d b → KeepEdges d b spent →
-    (left ≡ 8000000) ⊎ (left + spent ≡ 80000000) → Passes (BayHas d b) d left → IsFirstWide d b
+    (left ≡ BAY_EDGES) ⊎ (left + spent ≡ ALL_EDGES) → Passes (BayHas d b) d left → IsFirstWide d b
 first_wide d b spent left bay before either past = record {
   bay = bay;
   spent = spent;
@@ -211,6 +212,6 @@ first_wide d b spent left bay before either past = record {
   past = elim either [
     | inl one ↦ inl (subst (λ n. Passes (BayHas d b) d n) one past)
     | inr all ↦
-        inr (let e : left ≡ 80000000 - spent = omega (arith, all) in subst (λ n. Passes (BayHas d b) d n) e past)
+        inr (let e : left ≡ ALL_EDGES - spent = omega (arith, all) in subst (λ n. Passes (BayHas d b) d n) e past)
   ];
 }

@@ -28,6 +28,7 @@ use Rattle.release_compile.specs.Counted.{Size, edges_in, AreAtLeast, before_swi
 use Rattle.release_compile.specs.Counted.{ViewHas, BayHas, Passes}
 use Rattle.release_compile.specs.Judging.{PartHasEdges, KeepEdges, KeepsLimits, IsBuildRefusal}
 use Rattle.release_compile.proofs.EdgesLemmas.{view_at_least}
+use Rattle.release_compile.specs.declared.limits.TheConstants.{BAY_EDGES, ALL_EDGES}
 
 -- ---- views and contractions are the same to and fro
 
@@ -234,10 +235,10 @@ limits_kept d station (Wide bay) keeps is = absurd (wide (is.1.past))
     size total k = get_or k.each b 0
 
     counted : (total : ℕ) (k : KeepEdges d (part_count d) total) →
-        PartHasEdges d b (size total k) × (size total k ≤ 8000000)
+        PartHasEdges d b (size total k) × (size total k ≤ BAY_EDGES)
     counted total k = k.counted b (size total k) (slice_get-get_or k.each b 0 (omega (arith, k.len, is.1.bay.0)))
 
-    wide : Passes (BayHas d b) d 8000000 ⊎ Passes (BayHas d b) d (80000000 - is.1.spent) → ⊥
+    wide : Passes (BayHas d b) d BAY_EDGES ⊎ Passes (BayHas d b) d (ALL_EDGES - is.1.spent) → ⊥
     wide (inl p) =
         let total = keeps.1 in
         let k = keeps.2 in

@@ -14,6 +14,7 @@ use Rattle.release_compile.specs.Inputs.{AreCopies}
 use Rattle.release_compile.specs.Places.{node_listed, pool_on}
 use Rattle.release_compile.specs.Plans.{Plan, PlanFits, PlanHas, AreLinked, IsInnerReady, plan_diagram, ChosenBy}
 use Rattle.release_compile.specs.Plans.{items_of, NeededBy}
+use Rattle.release_compile.specs.declared.limits.TheConstants.{BAY_EDGES}
 
 -- The letters of the layers, as numbers.
 abbrev pub letter_rows : Intake → List (List ℕ)
@@ -51,7 +52,7 @@ pub record IsNoted (p : Pool) (n : Noted) : Type 0 where
 -- What is noted, if there is a note, is so, and its labels are few.
 abbrev pub IsRight : Pool → Option Noted → Type 0
 IsRight p None = Unit {0}
-IsRight p (Some n) = IsNoted p n × (length n.names.items ≤ 8000001)
+IsRight p (Some n) = IsNoted p n × (length n.names.items ≤ BAY_EDGES + 1)
 
 -- What is noted is so.
 abbrev pub AreRight : Pool → List Noted → Type 0

@@ -20,6 +20,7 @@ ghost use Rattle.release_compile.specs.Telling.{IsToldBy, HaveTold};
 ghost use Rattle.release_compile.specs.declared.view.View.TheVariants.{Gap, Load};
 ghost use Rattle.release_compile.specs.declared.layer.Trouble.TheVariants.{Wide};
 ghost use Rattle.release_compile.specs.BuiltView.{view_of, seen_bay};
+ghost use Rattle.release_compile.specs.declared.limits.TheConstants.{BAY_EDGES};
 
 use crate::inner::inner_graph;
 use crate::layer::Trouble;
@@ -95,8 +96,8 @@ fn own_graphs(
     requires nodes { AreNodes list.now }
     requires list { (n : ℕ) → Contains list.now n ↔ BayNeeds station.now bay.0 first count n }
     requires intake { IsBayIntake (pool_on (node_listed list.now) pool.old) station.now bay.0 first count own.now }
-    requires few { length own.now.names.items ≤ 8000001 }
-    requires left { left ≤ 8000000 }
+    requires few { length own.now.names.items ≤ BAY_EDGES + 1 }
+    requires left { left ≤ BAY_EDGES }
     ensures grew { OnOk result (GrewTo pool.old pool.new) }
     ensures notes { OnOk result (AreRight pool.new notes.new.items) }
     ensures inner { IfOk result
@@ -144,8 +145,8 @@ fn inner_graphs(
     requires nodes { AreNodes list.now }
     requires list { (n : ℕ) → Contains list.now n ↔ BayNeeds station.now bay.0 first count n }
     requires names { AreNames pool.old station.now bay.0 names.now }
-    requires few { length names.now ≤ 8000001 }
-    requires left { left ≤ 8000000 }
+    requires few { length names.now ≤ BAY_EDGES + 1 }
+    requires left { left ≤ BAY_EDGES }
     ensures grew { OnOk result (GrewTo pool.old pool.new) }
     ensures notes { OnOk result (AreRight pool.new notes.new.items) }
     ensures inner { IfOk result (λ r. (a : Alphabets) →
@@ -186,7 +187,7 @@ fn view_graphs(
     requires list { (n : ℕ) → Contains list.now n ↔ BayNeeds station.now bay.0 first count n }
     requires bay { bay.0 < part_count station.now }
     requires switches { AreSwitchesOf station.now bay.0 first count }
-    requires left { left ≤ 8000000 }
+    requires left { left ≤ BAY_EDGES }
     ensures stock { OnOk result (IsStock (lettered station.now parts.now) view stock.new) }
     ensures graphs { IfOk result (λ r. AreViewGraphs view (lettered station.now parts.now) bay.0 first count
         (view_of r.graphs)) }
@@ -247,7 +248,7 @@ pub(crate) fn bay_graphs(
     requires bays { HaveTold bays.now }
     requires sharing { IsSharing station.now sharing.now }
     requires bay { bay.0 < part_count station.now }
-    requires left { left ≤ 8000000 }
+    requires left { left ≤ BAY_EDGES }
     ensures gap { OnOk result (IsStock (lettered station.now parts.now) Gap gap_stock.new) }
     ensures load { OnOk result (IsStock (lettered station.now parts.now) Load load_stock.new) }
     ensures told { IfOk result (λ r. IsToldBy (view_of r.graphs.gap) (view_of r.graphs.load) r.graphs.told.items) }

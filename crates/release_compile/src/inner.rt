@@ -1,5 +1,5 @@
 //! The inner graphs of the switches of a bay.
-ghost use Rattle.std.specs.Prelude.{◌≡◌, ◌<◌, ◌≤◌, ℕ, suc, length, map, IfOk, IfErr, OnOk, Contains, ◌↔◌};
+ghost use Rattle.std.specs.Prelude.{◌≡◌, ◌+◌, ◌<◌, ◌≤◌, ℕ, suc, length, map, IfOk, IfErr, OnOk, Contains, ◌↔◌};
 ghost use Rattle.station_graph.specs.Diagram.{part_count};
 ghost use Rattle.contraction.specs.Answers.{AreNodes};
 ghost use Rattle.contraction.specs.Renaming.{mapped};
@@ -17,6 +17,7 @@ ghost use Rattle.release_compile.specs.Places.{node_listed, pool_on};
 ghost use Rattle.release_compile.specs.Plans.{IsInnerReady};
 ghost use Rattle.release_compile.specs.Counted.{InnerHas, Spends, Passes, InnerIsSmall};
 ghost use Rattle.release_compile.specs.declared.layer.Trouble.TheVariants.{Wide};
+ghost use Rattle.release_compile.specs.declared.limits.TheConstants.{BAY_EDGES};
 
 use crate::codes::{codes, label_count};
 use crate::inputs::{inner_keeps, inner_letters};
@@ -93,8 +94,8 @@ pub(crate) fn inner_graph(
     requires list { (n : ℕ) → Contains list.now n ↔ BayNeeds station.now bay.0 first (suc others) n }
     requires intake { IsBayIntake (pool_on (node_listed list.now) pool.old) station.now bay.0 first (suc others)
         own.now }
-    requires few { length own.now.names.items ≤ 8000001 }
-    requires left { left ≤ 8000000 }
+    requires few { length own.now.names.items ≤ BAY_EDGES + 1 }
+    requires left { left ≤ BAY_EDGES }
     ensures grew { OnOk result (GrewTo pool.old pool.new) }
     ensures notes { OnOk result (AreRight pool.new notes.new.items) }
     ensures wide { IfErr result (λ e. e ≡ Wide →

@@ -11,6 +11,7 @@ ghost use Rattle.release_compile.specs.Folding.{IsExact, ReachesMore};
 ghost use Rattle.release_compile.specs.declared.layer.Trouble.TheVariants.{Wide};
 ghost use Rattle.release_compile.specs.Plans.{Plan, PlanFits, PlanHas, PlanPasses, AreLinked, plan_diagram, ChosenBy};
 ghost use Rattle.release_compile.specs.Plans.{items_of, NeededBy, layers_of};
+ghost use Rattle.release_compile.specs.declared.limits.TheConstants.{ALL_EDGES};
 
 use crate::pool::Pool;
 use decision_graphs::FinishedLayer;
@@ -91,7 +92,7 @@ fn place(ids: &mut IndexSet<usize>, id: usize) -> Result<usize, Memory>
 
 // Adds an edge to each of these values, which are put at the end of the next layer where it has not got them.
 fn add_edges(next: &mut IndexSet<usize>, edges: &mut Vec<u32>, ids: &[usize]) -> Result<(), Memory>
-    requires few { length next.old.keys + length ids.now ≤ 80000000 }
+    requires few { length next.old.keys + length ids.now ≤ ALL_EDGES }
     ensures { OnOk result (AreAdded next.old.keys edges.old.items ids.now next.new.keys edges.new.items) }
 {
     for c in 0..ids.len() {
@@ -115,7 +116,7 @@ pub(crate) fn next_layer(
     requires states { (k i : ℕ) → slice_get states.now k ≡ Some i → i < length pool.old.values.items }
     requires letters { (c j : ℕ) → slice_get letters.now c ≡ Some j → j < length pool.old.values.items }
     requires some { 0 < length letters.now }
-    requires few { length states.now * length letters.now ≤ 80000000 }
+    requires few { length states.now * length letters.now ≤ ALL_EDGES }
     requires keep { keep < length pool.old.keeps.items }
     requires nodes { (k c i j : ℕ) → slice_get states.now k ≡ Some i → slice_get letters.now c ≡ Some j →
         EitherKeeps pool.old i j keep }
@@ -190,7 +191,7 @@ pub(crate) fn fold_layers(
 ) -> Result<Drafts, Trouble>
     requires pool { IsPool pool.old }
     requires linked { AreLinked pool.old start (map (λ v. v.items) letters.now) keeps.now }
-    requires budget { budget ≤ 80000000 }
+    requires budget { budget ≤ ALL_EDGES }
     ensures grew { OnOk result (GrewTo pool.old pool.new) }
     ensures wide { IfErr result (λ e. e ≡ Wide → (f : ℕ → ℕ) (plan : Plan) → KeepsOrder f →
         PlanFits plan (pool_on f pool.old) start (map (λ v. v.items) letters.now) keeps.now

@@ -1,5 +1,5 @@
 //! Graphs that were made before, so that bays that look the same share them.
-ghost use Rattle.std.specs.Prelude.{◌≡◌, ℕ, suc, ◌+◌, ◌<◌, ◌≤◌, length, map, slice_get, Some, IfOk, IfErr, IfSome};
+ghost use Rattle.std.specs.Prelude.{◌≡◌, ℕ, suc, ◌+◌, ◌*◌, ◌<◌, ◌≤◌, length, map, slice_get, Some, IfOk, IfErr, IfSome};
 ghost use Rattle.std.specs.Prelude.{OnOk, IsTrue};
 ghost use Rattle.contraction.specs.Renaming.{KeepsOrder};
 ghost use Rattle.release_compile.specs.Pooling.{IsPool, GrewTo};
@@ -8,6 +8,7 @@ ghost use Rattle.release_compile.specs.Plans.{Plan, PlanFits, PlanPasses, AreLin
 ghost use Rattle.release_compile.specs.Noting.{letter_rows, SameIntake, IsNoted, IsRight, AreRight, IsTaken};
 ghost use Rattle.release_compile.specs.declared.noted.Noted.{Noted as Note};
 ghost use Rattle.release_compile.specs.declared.layer.Trouble.TheVariants.{Wide};
+ghost use Rattle.release_compile.specs.declared.limits.TheConstants.{BAY_EDGES};
 
 use crate::layer::{Trouble, fold_layers};
 use crate::pool::Pool;
@@ -87,7 +88,7 @@ fn note(alloc: Global, pool: &mut Pool, intake: Intake, budget: usize) -> Result
     requires pool { IsPool pool.old }
     requires linked { AreLinked pool.old intake.start (letter_rows intake) intake.keeps.items }
     requires few { length (letter_rows intake) ≤ 65535 }
-    requires budget { budget ≤ 16000001 }
+    requires budget { budget ≤ 2 * BAY_EDGES + 1 }
     ensures grew { OnOk result (GrewTo pool.old pool.new) }
     ensures noted { IfOk result (IsNoted pool.new) }
     ensures few { IfOk result (λ n. length n.names.items ≤ suc budget) }
@@ -129,10 +130,10 @@ fn renew(
     requires last { IsRight pool.old last.old }
     requires linked { AreLinked pool.old intake.start (letter_rows intake) intake.keeps.items }
     requires few { length (letter_rows intake) ≤ 65535 }
-    requires budget { budget ≤ 8000000 }
+    requires budget { budget ≤ BAY_EDGES }
     ensures grew { OnOk result (GrewTo pool.old pool.new) }
     ensures noted { OnOk result ((n : Note) × (last.new ≡ Some n) × IsNoted pool.new n
-        × (length n.names.items ≤ 8000001) × SameIntake n.intake intake) }
+        × (length n.names.items ≤ BAY_EDGES + 1) × SameIntake n.intake intake) }
     ensures wide { IfErr result (λ e. e ≡ Wide → (f : ℕ → ℕ) (plan : Plan) → KeepsOrder f →
         PlanFits plan (pool_on f pool.old) intake.start (letter_rows intake) intake.keeps.items
         → PlanPasses pool.old.view plan (letter_rows intake) budget) }
@@ -188,11 +189,11 @@ pub(crate) fn taken(
     requires last { IsRight pool.old last.old }
     requires linked { AreLinked pool.old intake.start (letter_rows intake) intake.keeps.items }
     requires few { length (letter_rows intake) ≤ 65535 }
-    requires budget { budget ≤ 8000000 }
+    requires budget { budget ≤ BAY_EDGES }
     ensures grew { OnOk result (GrewTo pool.old pool.new) }
     ensures last { OnOk result (IsRight pool.new last.new) }
     ensures taken { IfOk result (IsTaken pool.new intake budget) }
-    ensures few { IfOk result (λ o. length o.names.items ≤ 8000001) }
+    ensures few { IfOk result (λ o. length o.names.items ≤ BAY_EDGES + 1) }
     ensures wide { IfErr result (λ e. e ≡ Wide → (f : ℕ → ℕ) (plan : Plan) → KeepsOrder f →
         PlanFits plan (pool_on f pool.old) intake.start (letter_rows intake) intake.keeps.items
         → PlanPasses pool.old.view plan (letter_rows intake) budget) }
@@ -226,7 +227,7 @@ fn noted_at(
     requires notes { AreRight pool.old notes.old.items }
     requires linked { AreLinked pool.old intake.start (letter_rows intake) intake.keeps.items }
     requires few { length (letter_rows intake) ≤ 65535 }
-    requires budget { budget ≤ 16000001 }
+    requires budget { budget ≤ 2 * BAY_EDGES + 1 }
     ensures grew { OnOk result (GrewTo pool.old pool.new) }
     ensures notes { OnOk result (AreRight pool.new notes.new.items) }
     ensures noted { IfOk result (λ k. (n : Note) × (slice_get notes.new.items k ≡ Some n)
@@ -258,7 +259,7 @@ pub(crate) fn taken_again(
     requires notes { AreRight pool.old notes.old.items }
     requires linked { AreLinked pool.old intake.start (letter_rows intake) intake.keeps.items }
     requires few { length (letter_rows intake) ≤ 65535 }
-    requires budget { budget ≤ 16000001 }
+    requires budget { budget ≤ 2 * BAY_EDGES + 1 }
     ensures grew { OnOk result (GrewTo pool.old pool.new) }
     ensures notes { OnOk result (AreRight pool.new notes.new.items) }
     ensures taken { IfOk result (IsTaken pool.new intake budget) }

@@ -13,6 +13,7 @@ ghost use Rattle.release_compile.specs.Plans.{IsOuterReady};
 ghost use Rattle.release_compile.specs.Noting.{letter_rows, IsRight};
 ghost use Rattle.release_compile.specs.Counted.{OuterHas, Spends, Passes, OuterIsSmall};
 ghost use Rattle.release_compile.specs.declared.layer.Trouble.TheVariants.{Wide};
+ghost use Rattle.release_compile.specs.declared.limits.TheConstants.{BAY_EDGES};
 
 use crate::inputs::{nothing, other_rows, outer_keeps};
 use crate::layer::Trouble;
@@ -81,7 +82,7 @@ pub(crate) fn outer_graph(
     requires sharing { IsSharing station.now sharing.now }
     requires count { suc others ≡ part_count station.now }
     requires bay { bay.0 < part_count station.now }
-    requires left { left ≤ 8000000 }
+    requires left { left ≤ BAY_EDGES }
     ensures grew { OnOk result (GrewTo pool.old pool.new) }
     ensures last { OnOk result (IsRight pool.new last.new) }
     ensures wide { IfErr result (λ e. e ≡ Wide →
@@ -93,7 +94,7 @@ pub(crate) fn outer_graph(
         (values_at pool.new.values.items o.names.items)) }
     ensures reduced { IfOk result (λ o. AreReduced o.graph.layers) }
     ensures names { IfOk result (λ o. AreNames pool.new station.now bay.0 o.names.items) }
-    ensures names_few { IfOk result (λ o. length o.names.items ≤ 8000001) }
+    ensures names_few { IfOk result (λ o. length o.names.items ≤ BAY_EDGES + 1) }
     ensures left { IfOk result (λ o. o.left ≤ left) }
 {
     let _count = station.part_count();

@@ -6,6 +6,7 @@ ghost use Rattle.release_compile.specs.Pooling.{IsPool, GrewTo, HasSame, HasCopy
 ghost use Rattle.release_compile.specs.Places.{node_listed, pool_on};
 ghost use Rattle.release_compile.specs.Inputs.{AreCopies};
 ghost use Rattle.release_compile.specs.Layering.{values_at};
+ghost use Rattle.station_graph.specs.declared.limits.TheConstants.{NODES};
 
 use crate::pool::Pool;
 use contraction::Contraction;
@@ -27,7 +28,7 @@ fn place_in(list: &[u16], node: u16) -> usize
 
 // The places of these nodes in a list that has them.
 pub(crate) fn places_of(alloc: Global, list: &NodeList, nodes: &[u16]) -> Result<NodeList, Memory>
-    requires few { length list.now ≤ 1024 }
+    requires few { length list.now ≤ NODES }
     requires has { (n : ℕ) → Keeps nodes.now n → Contains list.now n }
     ensures { IfOk result (λ places. map (node_listed list.now) places ≡ nodes.now) }
 {

@@ -7,13 +7,14 @@ use Rattle.release_compile.specs.Stocking.{IsStock}
 use Rattle.release_compile.specs.Telling.{HaveTold}
 use Rattle.release_compile.specs.declared.view.View.TheVariants.{Gap, Load}
 use Rattle.release_compile.proofs.build.all_bays.Given as goal
+use Rattle.release_compile.specs.declared.limits.TheConstants.{ALL_EDGES}
 
 abbrev pub invariant-loop-part : goal.invariant-loop-part
 invariant-loop-part l = record {
   told : HaveTold l.bays.items;
   gap : IsStock (lettered l.station l.parts) Gap l.gap;
   load : IsStock (lettered l.station l.parts) Load l.load;
-  spent : l.spent ≤ 80000000;
+  spent : l.spent ≤ ALL_EDGES;
   edges : KeepEdges l.station l.part l.spent;
   bays : AreBays (lettered l.station l.parts) (map seen_part l.bays.items) l.part;
 }

@@ -26,6 +26,7 @@ use Rattle.release_compile.proofs.PassLemmas.{plan_none, plan_spends, plan_passe
 use Rattle.release_compile.proofs.PassLemmas.{passes_next}
 use Rattle.release_compile.proofs.ErrorLemmas.{passed_on}
 use Rattle.release_compile.proofs.layer.fold_layers.Goals as goal
+use Rattle.release_compile.specs.declared.limits.TheConstants.{ALL_EDGES}
 
 pub layers-init : goal.layers-init
 layers-init c =
@@ -186,7 +187,7 @@ layers-preserved c =
     let few_next : length next ≤ length states * length row =
     subst (λ (xs : List ℕ). length next ≤ length xs * length row) c.as_slice-held.ensures.value
     c.in_ok-step.ensures.few in
-    let edges_few : length states * length row ≤ 80000000 =
+    let edges_few : length states * length row ≤ ALL_EDGES =
     omega (arith, room, product, c.layers.invariant.nodes, c.requires.budget) in
     let nodes_few : length states ≤ length states * length row = at_least (length states) (length row) some_row in
     let fits_layer : IsFinished (length next) layer = record {
