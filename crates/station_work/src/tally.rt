@@ -1,5 +1,5 @@
 //! How many operations of a station are released.
-ghost use Rattle.std.specs.Prelude.{◌≡◌, ◌<◌, ◌+◌, ◌∷◌, [], count_by, replicate, None, IfOk};
+ghost use Rattle.std.specs.Prelude.{◌≡◌, ◌<◌, ◌+◌, ◌^◌, ◌∷◌, [], count_by, replicate, None, IfOk};
 ghost use Rattle.station_graph.specs.Diagram.{part_count};
 ghost use Rattle.station_graph.specs.CentralRules.{IsOperation};
 ghost use Rattle.double_points.specs.Words.{AreWords};
@@ -56,7 +56,7 @@ fn verdict<J: Judge>(
 impl Tally {
     // Counts a verdict more.
     fn count(&mut self, verdict: &Verdict)
-        requires { self.old.released + self.old.denied < 4294967295 }
+        requires { self.old.released + self.old.denied + 1 < 2 ^ 32 }
         ensures released { self.new.released ≡ self.old.released + count_by is_release (verdict.now ∷ []) }
         ensures denied { self.new.denied ≡ self.old.denied + count_by is_denial (verdict.now ∷ []) }
         ensures sum { self.new.released + self.new.denied ≡ self.old.released + self.old.denied + 1 }
