@@ -9,7 +9,7 @@ use Rattle.release_compile.specs.Layering.{values_at, no_answers}
 use Rattle.release_compile.specs.Built.{AreInner}
 use Rattle.release_compile.specs.Counted.{SwitchesHave, Spends, Passes}
 use Rattle.release_compile.proofs.LayeringLemmas.{grew_more, grows}
-use Rattle.release_compile.proofs.NotingLemmas.{all_right_stay}
+use Rattle.release_compile.proofs.LabellingLemmas.{inner_notes_stay}
 use Rattle.release_compile.proofs.PlacesLemmas.{inner_all_for}
 use Rattle.release_compile.proofs.ErrorLemmas.{passed_on}
 use Rattle.release_compile.proofs.bay.inner_graphs.Goals as goal
@@ -18,7 +18,7 @@ pub own_graphs-requires-clause-notes : goal.own_graphs-requires-clause-notes
 own_graphs-requires-clause-notes c =
     let p0 : Pool = c.args.pool.now in
     let p1 : Pool = c.bay_intake.new.pool in
-    all_right_stay p0 p1 (grows p0 p1 c.in_ok-own.ensures.grew) c.args.notes.now.items c.requires.notes
+    inner_notes_stay p0 p1 (grows p0 p1 c.in_ok-own.ensures.grew) c.args.notes.now c.requires.notes
 
 pub own_graphs-requires-clause-few : goal.own_graphs-requires-clause-few
 own_graphs-requires-clause-few c = omega (
