@@ -9,6 +9,7 @@ use Rattle.bay_contract.specs.declared.fork.Target.TheVariants.{Step, Index}
 use Rattle.equation_text.specs.declared.goal.Goal.{Goal}
 use Rattle.equation_text.specs.declared.goal.Goal.TheVariants.{Node, Answer}
 use Rattle.equation_text.specs.declared.goal.SwitchGoals.{SwitchGoals}
+use Rattle.text_lines.specs.declared.lines.TheConstants.{MOST_BYTES}
 use Rattle.equation_text.specs.declared.goal.TheConstants.{NUMBERS}
 use Rattle.equation_text.specs.EquationLines.{PartLines, NodeLine, part_node, switch_node, EquationLines, goal_count}
 use Rattle.equation_text.specs.EquationForm.{IsTarget, IsLaterTarget, IsGoal, IsLaterGoal}
@@ -109,7 +110,7 @@ parts_may d ts old new parts may read = record {
 }
 
 module _ (d : Diagram) (station : IsStation d) (e : EquationLines) (are : AreEquations d e) (text : List ℕ)
-    (is : text ≡ text_of (lines_of d e)) (short : length text ≤ 4294967294) where
+    (is : text ≡ text_of (lines_of d e)) (short : length text ≤ MOST_BYTES) where
   abbrev starts : List Target
   starts = map (λ (x : PartLines). x.start) e.parts
 

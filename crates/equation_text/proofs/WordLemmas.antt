@@ -14,7 +14,7 @@ use Rattle.bay_contract.specs.declared.fork.Target.{Target}
 use Rattle.bay_contract.specs.declared.fork.Target.TheVariants.{Step, Index}
 use Rattle.equation_text.specs.declared.goal.Goal.{Goal}
 use Rattle.equation_text.specs.declared.goal.Goal.TheVariants.{Node, Answer}
-use Rattle.equation_text.specs.declared.goal.TheConstants.{NUMBERS}
+use Rattle.equation_text.specs.declared.goal.TheConstants.{NUMBERS, GREATEST_INDEX}
 use Rattle.equation_text.specs.EquationForm.{IsTarget, IsGoal}
 use Rattle.equation_text.specs.EquationText.{target_text, goal_text}
 use Rattle.equation_text.specs.Words.{Lacks, IsCut, EndsWord, IsFirstWord}
@@ -270,6 +270,6 @@ goal_once (Answer a) (Answer b) p q same = ap (λ (x : Option Rule). Answer x) (
 
 -- what stands behind `=` is an index
 pub index_word : (word : List ℕ) (t : Target) → IsTarget NUMBERS t → codes "=" ++ word ≡ target_text t
-    → (i : ℕ) × (i ≤ 254) × (word ≡ decimal i)
+    → (i : ℕ) × (i ≤ GREATEST_INDEX) × (word ≡ decimal i)
 index_word word (Step n) small is = absurd (no_number n 61 word (omega (arith, small)) (omega arith) (sym is))
 index_word word (Index i) small is = (i, small, append_cancel_left (codes "=") word (decimal i) is)

@@ -19,7 +19,7 @@ ghost use Rattle.equation_text.specs.Compiling.{AreExact, AreExactParts, IsOwnBa
 ghost use Rattle.equation_text.specs.Compiling.{AreGoalsOf, HaveFewSteps, view_nodes, switch_nodes};
 
 use crate::equations::Equations;
-use crate::goal::{Goal, SwitchGoals};
+use crate::goal::{Goal, NUMBERS, SwitchGoals};
 use crate::layers::view_goal;
 use crate::node::Node;
 use crate::steps::all_steps;
@@ -203,11 +203,11 @@ fn all_goals(
     Ok(ops)
 }
 
-// How many nodes there are, at most 4,294,967,295.
+// How many nodes there are, where they are fewer than `NUMBERS`.
 fn node_count(nodes: &[Node]) -> Result<u32, Memory>
     ensures { IfOk result (λ n. length nodes.now ≡ n) }
 {
-    if nodes.len() > 4_294_967_295 {
+    if nodes.len() as u64 >= NUMBERS {
         return Err(Memory);
     }
     Ok(nodes.len() as u32)

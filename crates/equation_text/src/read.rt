@@ -1,6 +1,7 @@
 //! Equations, read from a text.
 ghost use Rattle.std.specs.Prelude.{◌≡◌, ◌≤◌, ◌↔◌, length, min, IfOk, IfErr, IfSome, IsTrue, MatchOption};
 ghost use Rattle.station_graph.specs.Diagram.{IsStation};
+ghost use Rattle.text_lines.specs.declared.lines.TheConstants.{MOST_BYTES};
 ghost use Rattle.equation_text.specs.EquationLines.{EquationLines};
 ghost use Rattle.equation_text.specs.EquationText.{IsTextOf};
 ghost use Rattle.equation_text.specs.Defined.{PartsMay, AreThere};
@@ -63,7 +64,7 @@ fn read_lines(
     left: &mut Left<'_>,
     station: &Station,
 ) -> Result<Option<Lines>, Memory>
-    requires { length left.old.text.now ≤ 4294967294 }
+    requires { length left.old.text.now ≤ MOST_BYTES }
     ensures { IfOk result (λ o. MatchOption o (StopsWrong station.now left.old.text.now left.new.text.now)
         (λ v. AreLines station.now left.old.text.now v.parts.items v.ops.items v.nodes.items)) }
 {
@@ -136,7 +137,7 @@ pub fn read_equations(
     station: &Station,
     bytes: &[u8],
 ) -> Result<Equations, EquationsFault>
-    requires { length bytes.now ≤ 4294967294 }
+    requires { length bytes.now ≤ MOST_BYTES }
     ensures ok { IfOk result (IsTextOf station.now bytes.now) }
     ensures once { IfOk result (λ e. (other : EquationLines) → IsTextOf station.now bytes.now other → other ≡ e) }
     ensures number { IfErr result (λ f. ForRefused f (λ r. r.number ≡ 10)) }

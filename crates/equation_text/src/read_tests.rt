@@ -5,6 +5,7 @@ use station_graph::Station;
 use std::alloc::Global;
 use std::process::Abort;
 use std::test::Fail;
+use text_lines::MOST_BYTES;
 
 // The equations of a bay with an earthing switch and an infeed at one node.
 const WHOLE: &[u8] =
@@ -125,7 +126,7 @@ fn refused_at(
     station: &Station,
     text: &[u8],
 ) -> Result<Option<u32>, Fail> {
-    assert!(rt; text.len() <= 4_294_967_294);
+    assert!(rt; text.len() <= MOST_BYTES);
     match read_equations(alloc, station, text) {
         Ok(_) => Ok(None),
         Err(EquationsFault::Refused(refusal)) => {

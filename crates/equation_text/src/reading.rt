@@ -87,7 +87,7 @@ fn read_steps(
     let mut steps = Vec::new(alloc);
     let mut m = 0u32;
     while let Some(step) = next_step(left, station, part, m) {
-        if m == 4_294_967_295 {
+        if m == u32::MAX {
             return Err(Memory);
         }
         steps.push(step)?;

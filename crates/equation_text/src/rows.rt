@@ -3,6 +3,7 @@ ghost use Rattle.std.specs.Prelude.{◌≡◌, ◌<◌, ◌≤◌, ◌+◌, ◌�
 ghost use Rattle.std.specs.Prelude.{OnOk};
 ghost use Rattle.decision_graphs.specs.Label.{layer_at, size_at, step};
 ghost use Rattle.equation_text.specs.declared.goal.Goal.{Goal as GoalOf};
+ghost use Rattle.equation_text.specs.declared.goal.TheConstants.{NUMBERS};
 ghost use Rattle.equation_text.specs.EquationLines.{PartLines};
 ghost use Rattle.equation_text.specs.EquationMeaning.{LineLeads, NextGoal};
 ghost use Rattle.equation_text.specs.EquationForm.{IsGoal, goals_of};
@@ -11,7 +12,7 @@ ghost use Rattle.equation_text.specs.Growing.{AreGoals, GrewFrom, AllGrew, LeadT
 ghost use Rattle.release_compile.specs.Pooling.{Extends};
 ghost use Rattle.equation_text.specs.Apart.{IsFrom, AreFrom, AllFrom};
 
-use crate::goal::Goal;
+use crate::goal::{Goal, NUMBERS};
 use crate::node::Node;
 use crate::subject::Subject;
 use decision_graphs::Graph;
@@ -71,12 +72,12 @@ fn only(goals: &[Goal]) -> Option<Goal>
     Some(first)
 }
 
-// The number of the next node; numbers end with 4,294,967,294.
+// The number of the next node, with which there are fewer than `NUMBERS`.
 pub(crate) fn next_number(nodes: &[Node]) -> Result<u32, Memory>
     ensures number { IfOk result (λ n. n ≡ length nodes.now) }
-    ensures small { IfOk result (λ n. n < 4294967295) }
+    ensures small { IfOk result (λ n. n + 1 < NUMBERS) }
 {
-    if nodes.len() >= 4_294_967_295 {
+    if nodes.len() as u64 + 1 >= NUMBERS {
         return Err(Memory);
     }
     Ok(nodes.len() as u32)

@@ -1,6 +1,7 @@
 //! The first line that names a step or node that no line defines.
 ghost use Rattle.std.specs.Prelude.{◌≡◌, ◌≢◌, ◌≤◌, ◌+◌, ◌∷◌, ℕ, List, suc, codes, length, IfOk, IfSome, IfNone};
 ghost use Rattle.std.specs.Prelude.{IsTrue, IsFalse, MatchOption};
+ghost use Rattle.text_lines.specs.declared.lines.TheConstants.{MOST_BYTES};
 ghost use Rattle.text_lines.specs.Decimals.{IsDecimal};
 ghost use Rattle.equation_text.specs.Words.{EndsWord};
 ghost use Rattle.equation_text.specs.Faults.{feeds, IsNextWord, Behind};
@@ -161,7 +162,7 @@ fn all_kept(line: &[u8], entries: &Entries) -> bool
 
 // How many lines stand before the first that names an entry that is not there.
 fn lines_before(text: &[u8], entries: &Entries) -> Option<u32>
-    requires short { length text.now ≤ 4294967294 }
+    requires short { length text.now ≤ MOST_BYTES }
     requires defined { AreDefined text.now (has_entry entries.now) }
     ensures { MatchOption result (NoneUndefined text.now) (IsFirstUndefined text.now) }
 {
@@ -179,7 +180,7 @@ fn lines_before(text: &[u8], entries: &Entries) -> Option<u32>
 
 // The number of the line behind these whole lines.
 pub(crate) fn line_behind(lines: &[u8]) -> u32
-    requires { length lines.now ≤ 4294967294 }
+    requires { length lines.now ≤ MOST_BYTES }
     ensures { result ≡ suc (feeds lines.now) }
 {
     let mut line = 1u32;
@@ -197,7 +198,7 @@ pub(crate) fn undefined_line(
     station: &Station,
     text: &[u8],
 ) -> Result<Option<u32>, Memory>
-    requires { length text.now ≤ 4294967294 }
+    requires { length text.now ≤ MOST_BYTES }
     ensures { IfOk result (λ o. MatchOption o (NoneWithout station.now text.now)
         (IsFirstWithout station.now text.now)) }
 {
