@@ -27,11 +27,13 @@ pub mod InputsLemmas
 pub mod PlacesLemmas
 pub mod ChoiceLemmas
 pub mod NotingLemmas
+pub mod LabellingLemmas
 pub mod TellingLemmas
 pub mod OuterGraphs
 pub mod OuterTaken
 pub mod InnerGraphs
 pub mod InnerTaken
+pub mod InnerLabelled
 pub mod CodeLemmas
 pub mod BayLemmas
 pub mod PlacingLemmas

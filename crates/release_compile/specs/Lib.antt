@@ -13,6 +13,7 @@ pub mod Deciding
 pub mod Sides
 pub mod Plans
 pub mod Noting
+pub mod Labelling
 pub mod Stocking
 pub mod Pooling
 pub mod Places

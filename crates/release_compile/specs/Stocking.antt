@@ -6,7 +6,8 @@ use Rattle.release_compile.specs.declared.stock.Stock.{Stock}
 use Rattle.release_compile.specs.Lettered.{Lettered}
 use Rattle.release_compile.specs.Pooling.{IsPool}
 use Rattle.release_compile.specs.Inputs.{AreLetters}
-use Rattle.release_compile.specs.Noting.{IsRight, AreRight}
+use Rattle.release_compile.specs.Noting.{IsRight}
+use Rattle.release_compile.specs.Labelling.{AreInnerNotes}
 
 -- The pool is of this view and has the letters of each part, and what is noted is so.
 pub record IsStock (a : Lettered) (view : View) (s : Stock) : Type 0 where
@@ -14,4 +15,4 @@ pub record IsStock (a : Lettered) (view : View) (s : Stock) : Type 0 where
   pub of_view : s.pool.view ≡ view
   pub letters : AreLetters a s.pool (map (λ v. v.items) s.letters.items) (part_count a.diagram)
   pub last : IsRight s.pool s.last
-  pub inner : AreRight s.pool s.inner.items
+  pub inner : AreInnerNotes s.pool s.inner

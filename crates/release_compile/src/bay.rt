@@ -15,16 +15,16 @@ ghost use Rattle.release_compile.specs.Places.{node_listed, pool_on};
 ghost use Rattle.release_compile.specs.Built.{AreInner, AreViewGraphs, AreBayGraphs};
 ghost use Rattle.release_compile.specs.Counted.{SwitchesHave, ViewHas, BayHas, Spends, Passes};
 ghost use Rattle.release_compile.specs.Stocking.{IsStock};
-ghost use Rattle.release_compile.specs.Noting.{AreRight};
+ghost use Rattle.release_compile.specs.Labelling.{AreInnerNotes};
 ghost use Rattle.release_compile.specs.Telling.{IsToldBy, HaveTold};
 ghost use Rattle.release_compile.specs.declared.view.View.TheVariants.{Gap, Load};
 ghost use Rattle.release_compile.specs.declared.layer.Trouble.TheVariants.{Wide};
 ghost use Rattle.release_compile.specs.BuiltView.{view_of, seen_bay};
 
 use crate::inner::inner_graph;
+use crate::labelled::InnerNotes;
 use crate::layer::Trouble;
 use crate::needed::{Sharing, bay_nodes};
-use crate::noted::Noted;
 use crate::outer::outer_graph;
 use crate::own::{BayIntake, bay_intake};
 use crate::partners::told_like;
@@ -79,7 +79,7 @@ pub(crate) struct Bay {
 fn own_graphs(
     alloc: Global,
     pool: &mut Pool,
-    notes: &mut Vec<Noted>,
+    notes: &mut InnerNotes,
     station: &Station,
     bay: BayId,
     list: &NodeList,
@@ -89,7 +89,7 @@ fn own_graphs(
     left: usize,
 ) -> Result<Inners, Trouble>
     requires pool { IsPool pool.old }
-    requires notes { AreRight pool.old notes.old.items }
+    requires notes { AreInnerNotes pool.old notes.old }
     requires bay { bay.0 < part_count station.now }
     requires switches { AreSwitchesOf station.now bay.0 first count }
     requires nodes { AreNodes list.now }
@@ -98,7 +98,7 @@ fn own_graphs(
     requires few { length own.now.names.items ≤ 8000001 }
     requires left { left ≤ 8000000 }
     ensures grew { OnOk result (GrewTo pool.old pool.new) }
-    ensures notes { OnOk result (AreRight pool.new notes.new.items) }
+    ensures notes { OnOk result (AreInnerNotes pool.new notes.new) }
     ensures inner { IfOk result
         (λ r. (a : Alphabets) → AreInner pool.old.view (lettered station.now a) bay.0 first count
         (values_at (map (mapped (node_listed list.now)) pool.old.values.items) own.now.names.items) r.graphs.items
@@ -128,7 +128,7 @@ fn own_graphs(
 fn inner_graphs(
     alloc: Global,
     pool: &mut Pool,
-    notes: &mut Vec<Noted>,
+    notes: &mut InnerNotes,
     station: &Station,
     bay: BayId,
     list: &NodeList,
@@ -138,7 +138,7 @@ fn inner_graphs(
     left: usize,
 ) -> Result<Inners, Trouble>
     requires pool { IsPool pool.old }
-    requires notes { AreRight pool.old notes.old.items }
+    requires notes { AreInnerNotes pool.old notes.old }
     requires bay { bay.0 < part_count station.now }
     requires switches { AreSwitchesOf station.now bay.0 first count }
     requires nodes { AreNodes list.now }
@@ -147,7 +147,7 @@ fn inner_graphs(
     requires few { length names.now ≤ 8000001 }
     requires left { left ≤ 8000000 }
     ensures grew { OnOk result (GrewTo pool.old pool.new) }
-    ensures notes { OnOk result (AreRight pool.new notes.new.items) }
+    ensures notes { OnOk result (AreInnerNotes pool.new notes.new) }
     ensures inner { IfOk result (λ r. (a : Alphabets) →
         AreInner pool.old.view (lettered station.now a) bay.0 first count (values_at pool.old.values.items names.now)
         r.graphs.items count) }

@@ -12,7 +12,8 @@ ghost use Rattle.release_compile.specs.Graphs.{IsOwn, IsInner};
 ghost use Rattle.release_compile.specs.Coding.{labels_of};
 ghost use Rattle.release_compile.specs.Inputs.{IsBayIntake};
 ghost use Rattle.release_compile.specs.Needing.{BayNeeds};
-ghost use Rattle.release_compile.specs.Noting.{letter_rows, AreRight};
+ghost use Rattle.release_compile.specs.Noting.{letter_rows};
+ghost use Rattle.release_compile.specs.Labelling.{AreInnerNotes};
 ghost use Rattle.release_compile.specs.Places.{node_listed, pool_on};
 ghost use Rattle.release_compile.specs.Plans.{IsInnerReady};
 ghost use Rattle.release_compile.specs.Counted.{InnerHas, Spends, Passes, InnerIsSmall};
@@ -20,8 +21,9 @@ ghost use Rattle.release_compile.specs.declared.layer.Trouble.TheVariants.{Wide}
 
 use crate::codes::{codes, label_count};
 use crate::inputs::{inner_keeps, inner_letters};
+use crate::labelled::{InnerNotes, labelled_graph};
 use crate::layer::Trouble;
-use crate::noted::{Intake, Noted, taken_again};
+use crate::noted::{Intake, taken_again};
 use crate::own::BayIntake;
 use crate::pool::Pool;
 use decision_graphs::Graph;
@@ -75,7 +77,7 @@ fn inner_intake(
 pub(crate) fn inner_graph(
     alloc: Global,
     pool: &mut Pool,
-    notes: &mut Vec<Noted>,
+    notes: &mut InnerNotes,
     station: &Station,
     bay: BayId,
     list: &NodeList,
@@ -86,7 +88,7 @@ pub(crate) fn inner_graph(
     left: usize,
 ) -> Result<Inner, Trouble>
     requires pool { IsPool pool.old }
-    requires notes { AreRight pool.old notes.old.items }
+    requires notes { AreInnerNotes pool.old notes.old }
     requires bay { bay.0 < part_count station.now }
     requires own { IsOwn station.now bay.0 moved first others }
     requires nodes { AreNodes list.now }
@@ -96,7 +98,7 @@ pub(crate) fn inner_graph(
     requires few { length own.now.names.items ≤ 8000001 }
     requires left { left ≤ 8000000 }
     ensures grew { OnOk result (GrewTo pool.old pool.new) }
-    ensures notes { OnOk result (AreRight pool.new notes.new.items) }
+    ensures notes { OnOk result (AreInnerNotes pool.new notes.new) }
     ensures wide { IfErr result (λ e. e ≡ Wide →
         Passes (InnerHas pool.old.view station.now bay.0 moved first others others) station.now left) }
     ensures spent { IfOk result (λ r. Spends (InnerHas pool.old.view station.now bay.0 moved first others others)
@@ -111,14 +113,15 @@ pub(crate) fn inner_graph(
 {
     let _count = station.switch_count();
     let intake = inner_intake(alloc, pool, station, bay, list, own, first, moved, others)?;
-    let whole = taken_again(alloc, pool, notes, intake, left + own.names.len())?;
-    let states = whole.names.as_slice();
-    let labels = codes(alloc, pool, station, SwitchId(moved), list, states)?;
-    let named = whole.graph.rename(alloc, label_count(pool.view), &labels)?;
-    let graph = named.reduce(alloc)?;
-    let _labels = graph.labels();
+    let budget = left + own.names.len();
+    let taken = taken_again(alloc, pool, &mut notes.graphs, intake, budget)?;
+    let held = notes.graphs.as_slice();
+    let names = held[taken.place].names.as_slice();
+    let labels = codes(alloc, pool, station, SwitchId(moved), list, names)?;
+    let count = label_count(pool.view);
+    let graph = labelled_graph(alloc, held, &mut notes.labelled, taken.place, count, labels)?;
     Ok(Inner {
         graph,
-        left: whole.left,
+        left: taken.left,
     })
 }

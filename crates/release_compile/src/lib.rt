@@ -14,6 +14,7 @@ mod inner;
 mod inputs;
 mod judge;
 mod label_names;
+mod labelled;
 mod layer;
 mod layers_told;
 mod limits;

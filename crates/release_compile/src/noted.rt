@@ -2,7 +2,7 @@
 ghost use Rattle.std.specs.Prelude.{◌≡◌, ℕ, suc, ◌+◌, ◌<◌, ◌≤◌, length, map, slice_get, Some, IfOk, IfErr, IfSome};
 ghost use Rattle.std.specs.Prelude.{OnOk, IsTrue};
 ghost use Rattle.contraction.specs.Renaming.{KeepsOrder};
-ghost use Rattle.release_compile.specs.Pooling.{IsPool, GrewTo};
+ghost use Rattle.release_compile.specs.Pooling.{IsPool, GrewTo, Extends};
 ghost use Rattle.release_compile.specs.Places.{pool_on};
 ghost use Rattle.release_compile.specs.Plans.{Plan, PlanFits, PlanPasses, AreLinked};
 ghost use Rattle.release_compile.specs.Noting.{letter_rows, SameIntake, IsNoted, IsRight, AreRight, IsTaken};
@@ -38,6 +38,13 @@ pub(crate) struct Noted {
 pub(crate) struct Copied {
     pub(crate) graph: Graph,
     pub(crate) names: Vec<usize>,
+    pub(crate) left: usize,
+}
+
+// The place of a note, and how many edges are left beside those of its graph.
+#[derive(Clone, Copy)]
+pub(crate) struct NotePlace {
+    pub(crate) place: usize,
     pub(crate) left: usize,
 }
 
@@ -145,6 +152,17 @@ fn renew(
     Ok(())
 }
 
+// How many of so many edges are left beside those of a noted graph. It is too wide where it has more.
+fn edges_left(noted: &Noted, budget: usize) -> Result<usize, Trouble>
+    ensures all { IfOk result (λ left. noted.now.edges + left ≡ budget) }
+    ensures wide { IfErr result (λ e. e ≡ Wide → budget < noted.now.edges) }
+{
+    if noted.edges > budget {
+        return Err(Trouble::Wide);
+    }
+    Ok(budget - noted.edges)
+}
+
 // A copy of a noted graph. It is too wide where its layers have more than so many edges.
 fn copy_noted(alloc: Global, noted: &Noted, budget: usize) -> Result<Copied, Trouble>
     ensures graph { IfOk result (λ o. o.graph ≡ noted.now.graph) }
@@ -152,13 +170,11 @@ fn copy_noted(alloc: Global, noted: &Noted, budget: usize) -> Result<Copied, Tro
     ensures all { IfOk result (λ o. noted.now.edges + o.left ≡ budget) }
     ensures wide { IfErr result (λ e. e ≡ Wide → budget < noted.now.edges) }
 {
-    if noted.edges > budget {
-        return Err(Trouble::Wide);
-    }
+    let left = edges_left(noted, budget)?;
     Ok(Copied {
         graph: noted.graph.copy(alloc)?,
         names: Vec::from_slice(alloc, &noted.names)?,
-        left: budget - noted.edges,
+        left,
     })
 }
 
@@ -229,6 +245,7 @@ fn noted_at(
     requires budget { budget ≤ 16000001 }
     ensures grew { OnOk result (GrewTo pool.old pool.new) }
     ensures notes { OnOk result (AreRight pool.new notes.new.items) }
+    ensures more { OnOk result (Extends notes.old.items notes.new.items) }
     ensures noted { IfOk result (λ k. (n : Note) × (slice_get notes.new.items k ≡ Some n)
         × SameIntake n.intake intake) }
     ensures wide { IfErr result (λ e. e ≡ Wide → (f : ℕ → ℕ) (plan : Plan) → KeepsOrder f →
@@ -245,15 +262,15 @@ fn noted_at(
     Ok(place)
 }
 
-// The graph of layers that take this in, with what its labels name; it is made only where none is noted. It is too wide
-// where its layers have more than so many edges.
+// The note of layers that take this in, made only where there is none. It is too wide where its layers have more than so
+// many edges.
 pub(crate) fn taken_again(
     alloc: Global,
     pool: &mut Pool,
     notes: &mut Vec<Noted>,
     intake: Intake,
     budget: usize,
-) -> Result<Copied, Trouble>
+) -> Result<NotePlace, Trouble>
     requires pool { IsPool pool.old }
     requires notes { AreRight pool.old notes.old.items }
     requires linked { AreLinked pool.old intake.start (letter_rows intake) intake.keeps.items }
@@ -261,14 +278,15 @@ pub(crate) fn taken_again(
     requires budget { budget ≤ 16000001 }
     ensures grew { OnOk result (GrewTo pool.old pool.new) }
     ensures notes { OnOk result (AreRight pool.new notes.new.items) }
-    ensures taken { IfOk result (IsTaken pool.new intake budget) }
+    ensures more { OnOk result (Extends notes.old.items notes.new.items) }
+    ensures taken { IfOk result (λ t. (n : Note) × (slice_get notes.new.items t.place ≡ Some n)
+        × SameIntake n.intake intake × (n.edges + t.left ≡ budget)) }
     ensures wide { IfErr result (λ e. e ≡ Wide → (f : ℕ → ℕ) (plan : Plan) → KeepsOrder f →
         PlanFits plan (pool_on f pool.old) intake.start (letter_rows intake) intake.keeps.items
         → PlanPasses pool.old.view plan (letter_rows intake) budget) }
 {
     let place = noted_at(alloc, pool, notes, intake, budget)?;
     let held = notes.as_slice();
-    let noted = &held[place];
-    let copy = copy_noted(alloc, noted, budget)?;
-    Ok(copy)
+    let left = edges_left(&held[place], budget)?;
+    Ok(NotePlace { place, left })
 }

@@ -6,6 +6,7 @@ ghost use Rattle.release_compile.specs.Needing.{AreShared};
 ghost use Rattle.release_compile.specs.Stocking.{IsStock};
 
 use crate::inputs::letter_rows;
+use crate::labelled::InnerNotes;
 use crate::noted::Noted;
 use crate::pool::Pool;
 use crate::view::View;
@@ -21,7 +22,7 @@ pub(crate) struct Stock {
     pub(crate) pool: Pool,
     pub(crate) letters: Vec<Vec<usize>>,
     pub(crate) last: Option<Noted>,
-    pub(crate) inner: Vec<Noted>,
+    pub(crate) inner: InnerNotes,
 }
 
 // The letters of all parts.
@@ -42,6 +43,9 @@ pub(crate) fn stock_of(
         pool,
         letters,
         last: None,
-        inner: Vec::new(alloc),
+        inner: InnerNotes {
+            graphs: Vec::new(alloc),
+            labelled: Vec::new(alloc),
+        },
     })
 }

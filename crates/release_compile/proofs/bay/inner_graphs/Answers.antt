@@ -1,7 +1,6 @@
-use Rattle.std.proofs.Common.{◌≡◌, ◌∙◌, ℕ, List, length, get_or, sym, subst, arith}
+use Rattle.std.proofs.Common.{◌∙◌, ℕ, List, get_or, sym, subst, arith}
 use Rattle.std.proofs.lemmas.List.{length-map}
 use Rattle.contraction.specs.Answers.{Answers}
-use Rattle.bay_contract.specs.PartAlphabets.{Alphabets}
 use Rattle.release_compile.specs.declared.pool.Pool.{Pool}
 use Rattle.release_compile.specs.Lettered.{Lettered, lettered}
 use Rattle.release_compile.specs.Places.{node_listed, pool_on}
@@ -9,7 +8,7 @@ use Rattle.release_compile.specs.Layering.{values_at, no_answers}
 use Rattle.release_compile.specs.Built.{AreInner}
 use Rattle.release_compile.specs.Counted.{SwitchesHave, Spends, Passes}
 use Rattle.release_compile.proofs.LayeringLemmas.{grew_more, grows}
-use Rattle.release_compile.proofs.NotingLemmas.{all_right_stay}
+use Rattle.release_compile.proofs.LabellingLemmas.{inner_notes_stay}
 use Rattle.release_compile.proofs.PlacesLemmas.{inner_all_for}
 use Rattle.release_compile.proofs.ErrorLemmas.{passed_on}
 use Rattle.release_compile.proofs.bay.inner_graphs.Goals as goal
@@ -18,7 +17,7 @@ pub own_graphs-requires-clause-notes : goal.own_graphs-requires-clause-notes
 own_graphs-requires-clause-notes c =
     let p0 : Pool = c.args.pool.now in
     let p1 : Pool = c.bay_intake.new.pool in
-    all_right_stay p0 p1 (grows p0 p1 c.in_ok-own.ensures.grew) c.args.notes.now.items c.requires.notes
+    inner_notes_stay p0 p1 (grows p0 p1 c.in_ok-own.ensures.grew) c.args.notes.now c.requires.notes
 
 pub own_graphs-requires-clause-few : goal.own_graphs-requires-clause-few
 own_graphs-requires-clause-few c = omega (

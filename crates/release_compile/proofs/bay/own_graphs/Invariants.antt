@@ -3,7 +3,7 @@ use Rattle.contraction.specs.Renaming.{mapped}
 use Rattle.bay_contract.specs.PartAlphabets.{Alphabets}
 use Rattle.release_compile.specs.Lettered.{lettered}
 use Rattle.release_compile.specs.Pooling.{GrewTo}
-use Rattle.release_compile.specs.Noting.{AreRight}
+use Rattle.release_compile.specs.Labelling.{AreInnerNotes}
 use Rattle.release_compile.specs.Layering.{values_at}
 use Rattle.release_compile.specs.Places.{node_listed}
 use Rattle.release_compile.specs.Built.{AreInner}
@@ -13,7 +13,7 @@ use Rattle.release_compile.proofs.bay.own_graphs.Given as goal
 abbrev pub invariant-loop-i : goal.invariant-loop-i
 invariant-loop-i l = record {
   grew : GrewTo l.fn.pool l.pool;
-  notes : AreRight l.pool l.notes.items;
+  notes : AreInnerNotes l.pool l.notes;
   left : l.rest ≤ l.left;
   spends : Spends (SwitchesHave l.fn.pool.view l.station l.bay.0 l.first l.count l.i) l.station l.left l.rest;
   inner : (a : Alphabets) →

@@ -1,6 +1,5 @@
-use Rattle.std.proofs.Common.{◌≡◌, ◌∙◌, ◌-◌, suc, ℕ, List, Vec, Global, map, refl, sym, ap, subst, slice_get, Some}
+use Rattle.std.proofs.Common.{◌≡◌, ◌∙◌, ◌-◌, suc, ℕ, List, Vec, Global, map, sym, subst}
 use Rattle.std.proofs.Common.{arith}
-use Rattle.std.proofs.lemmas.Option.{slice_get_read}
 use Rattle.contraction.specs.Answers.{Answers}
 use Rattle.release_compile.specs.declared.pool.Pool.{Pool}
 use Rattle.release_compile.specs.Lettered.{Lettered, lettered}
@@ -13,14 +12,15 @@ use Rattle.release_compile.proofs.BayEdges.{view_spends, outer_view_passes, inne
 use Rattle.release_compile.proofs.ErrorLemmas.{passed_on}
 use Rattle.release_compile.proofs.LayeringLemmas.{grew_more, grows}
 use Rattle.release_compile.proofs.InputsLemmas.{letters_stay}
-use Rattle.release_compile.proofs.NotingLemmas.{right_stays, all_right_stay}
+use Rattle.release_compile.proofs.NotingLemmas.{right_stays}
+use Rattle.release_compile.proofs.LabellingLemmas.{inner_notes_stay}
 use Rattle.release_compile.proofs.bay.view_graphs.Goals as goal
 
 pub inner_graphs-requires-clause-notes : goal.inner_graphs-requires-clause-notes
 inner_graphs-requires-clause-notes c =
     let p0 : Pool = c.args.stock.now.pool in
     let p1 : Pool = c.outer_graph.new.pool in
-    all_right_stay p0 p1 (grows p0 p1 c.in_ok-outer.ensures.grew) c.args.stock.now.inner.items c.requires.stock.inner
+    inner_notes_stay p0 p1 (grows p0 p1 c.in_ok-outer.ensures.grew) c.args.stock.now.inner c.requires.stock.inner
 
 pub outer_graph-requires-clause-letters : goal.outer_graph-requires-clause-letters
 outer_graph-requires-clause-letters c = rw c.deref.ensures.value c.requires.stock.letters

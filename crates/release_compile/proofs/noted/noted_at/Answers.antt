@@ -2,7 +2,7 @@ use Rattle.std.proofs.Common.{◌∙◌, ◌++◌, ◌∷◌, [], List, length, 
 use Rattle.release_compile.specs.declared.noted.Intake.{Intake}
 use Rattle.release_compile.specs.declared.noted.Noted.{Noted}
 use Rattle.release_compile.specs.Noting.{letter_rows, AreRight}
-use Rattle.release_compile.proofs.LayerLemmas.{get_last}
+use Rattle.release_compile.proofs.LayerLemmas.{get_front, get_last}
 use Rattle.release_compile.proofs.LayeringLemmas.{grows}
 use Rattle.release_compile.proofs.NotingLemmas.{all_right_stay, all_right_more}
 use Rattle.release_compile.proofs.noted.noted_at.Goals as goal
@@ -15,6 +15,12 @@ returns-clause-notes c =
     subst (AreRight q) (sym c.in_ok-push.ensures.items)
     (all_right_more q old c.in_ok-noted.noted
     (all_right_stay p q (grows p q c.in_ok-noted.ensures.grew) old c.requires.notes) c.in_ok-noted.ensures.noted)
+
+pub returns-clause-more : goal.returns-clause-more
+returns-clause-more c i x at =
+    let old : List Noted = c.args.notes.now.items in
+    ap (λ (xs : List Noted). slice_get xs i) c.in_ok-push.ensures.items
+    ∙ get_front old (c.in_ok-noted.noted ∷ []) i x at
 
 pub returns-clause-noted : goal.returns-clause-noted
 returns-clause-noted c =

@@ -20,18 +20,11 @@ returns-clause-taken c =
     ∙ slice_get_read c.as_slice-held.result.now _ place held refl (subst (λ (xs : List Noted). place < length xs)
     (sym c.as_slice-held.ensures.value) (slice_get_within notes place n at)) c.index-held-place.is in
     let is : n ≡ held = same_Some n held (sym at ∙ here) in
-    record {
-      note = held;
-      right = c.in_ok-place.ensures.notes place held here;
-      same = subst (λ (k : Noted). SameIntake k.intake c.args.intake) is same;
-      graph = c.in_ok-copy.ensures.graph;
-      names = c.in_ok-copy.ensures.names;
-      all = c.in_ok-copy.ensures.all;
-    }
+    (held, here, subst (λ (k : Noted). SameIntake k.intake c.args.intake) is same, c.in_ok-left.ensures.all)
 
-pub returns-in_err-copy-clause-wide : goal.returns-in_err-copy-clause-wide
-returns-in_err-copy-clause-wide c =
-    passed_on _ _ c.from_residual-in_err-copy.result c.from_residual-in_err-copy.ensures.1
+pub returns-in_err-left-clause-wide : goal.returns-in_err-left-clause-wide
+returns-in_err-left-clause-wide c =
+    passed_on _ _ c.from_residual-in_err-left.result c.from_residual-in_err-left.ensures.1
     (λ trouble same is f plan order fits.
     let p : Pool = c.args.pool.now in
     let q : Pool = c.noted_at.new.pool in
@@ -46,7 +39,7 @@ returns-in_err-copy-clause-wide c =
     (sym c.as_slice-held.ensures.value) (slice_get_within notes place n at)) c.index-held-place.is in
     let one : n ≡ held = same_Some n held (sym at ∙ here) in
     let right : IsNoted q held = c.in_ok-place.ensures.notes place held here in
-    let past = c.in_err-copy.ensures.wide (sym same ∙ is) in
+    let past = c.in_err-left.ensures.wide (sym same ∙ is) in
     laid_passes p q i.start (letter_rows i) i.keeps.items held.names.items held.edges c.args.budget right.layers
     (grows p q c.in_ok-place.ensures.grew) c.requires.linked (laid_same q held.intake i held.names.items
     held.names.items held.edges right.layers (subst (λ (k : Noted). SameIntake k.intake i) one as_is) refl right.laid)
