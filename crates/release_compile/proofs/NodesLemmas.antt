@@ -1,7 +1,7 @@
 -- Lists of the nodes of a kind, found one after another.
-use Rattle.std.proofs.Common.{◌≡◌, ℕ, ◌+◌, ◌-◌, ◌<◌, ◌≤◌, ◌⊎◌, ◌↔◌, suc, Bool, true, List, [], ◌∷◌, ◌++◌, length}
+use Rattle.std.proofs.Common.{◌≡◌, ℕ, ◌+◌, ◌-◌, ◌<◌, ◌≤◌, ◌⊎◌, ◌↔◌, suc, List, [], ◌∷◌, ◌++◌, length}
 use Rattle.std.proofs.Common.{get_or}
-use Rattle.std.proofs.Common.{slice_get, slice_index, Contains, Some, refl, sym, ap, ◌∙◌, subst, inl, inr, arith}
+use Rattle.std.proofs.Common.{slice_get, slice_index, Contains, Some, refl, sym, subst, inl, inr, arith}
 use Rattle.std.proofs.lemmas.Bool.{cases_lt, cases_eq}
 use Rattle.std.proofs.lemmas.Option.{slice_get-get_or}
 use Rattle.std.proofs.lemmas.List.{length_push, get_or_append_left, get_or_push}
@@ -18,7 +18,6 @@ use Rattle.release_compile.specs.Listing.{part_items}
 use Rattle.release_compile.specs.Needing.{AreShared, IsSharedBySome, SharesFrom, IsNeededOuter, IsNeededInner}
 use Rattle.release_compile.specs.Needing.{InnerNeeds}
 use Rattle.release_compile.specs.Needing.{TouchesOwn, BayNeeds}
-use Rattle.release_compile.proofs.LayerLemmas.{get_front, get_last}
 use Rattle.release_compile.proofs.VerdictLemmas.{other_cases, other_in, own_place}
 use Rattle.release_compile.proofs.OuterLemmas.{part_has, has_part, before_has, others_apart, other_not}
 use Rattle.release_compile.proofs.OuterFits.{before_to, part_in, place_of_part}

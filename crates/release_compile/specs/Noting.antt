@@ -9,10 +9,8 @@ use Rattle.release_compile.specs.declared.noted.Copied.{Copied}
 use Rattle.release_compile.specs.declared.pool.Pool.{Pool}
 use Rattle.release_compile.specs.Folding.{IsExact}
 use Rattle.release_compile.specs.Layering.{values_at}
-use Rattle.release_compile.specs.Lettered.{Lettered}
-use Rattle.release_compile.specs.Inputs.{AreCopies}
-use Rattle.release_compile.specs.Places.{node_listed, pool_on}
-use Rattle.release_compile.specs.Plans.{Plan, PlanFits, PlanHas, AreLinked, IsInnerReady, plan_diagram, ChosenBy}
+use Rattle.release_compile.specs.Places.{pool_on}
+use Rattle.release_compile.specs.Plans.{Plan, PlanFits, PlanHas, AreLinked, plan_diagram, ChosenBy}
 use Rattle.release_compile.specs.Plans.{items_of, NeededBy}
 use Rattle.release_compile.specs.declared.limits.TheConstants.{BAY_EDGES}
 

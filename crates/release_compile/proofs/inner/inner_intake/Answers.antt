@@ -1,4 +1,4 @@
-use Rattle.std.proofs.Common.{◌∙◌, ◌-◌, ℕ, List, subst, sym}
+use Rattle.std.proofs.Common.{ℕ, subst, sym}
 use Rattle.release_compile.specs.declared.pool.Pool.{Pool}
 use Rattle.release_compile.specs.Lettered.{lettered}
 use Rattle.release_compile.specs.Places.{node_listed, pool_on}

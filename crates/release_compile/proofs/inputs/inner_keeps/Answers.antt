@@ -3,7 +3,7 @@ use Rattle.std.specs.Prelude.{Contains, ◌↔◌}
 use Rattle.release_compile.specs.Needing.{InnerNeeds}
 use Rattle.release_compile.specs.Places.{node_listed, pool_on}
 use Rattle.release_compile.specs.Inputs.{AreKeeps, HasNodes}
-use Rattle.release_compile.proofs.LayeringLemmas.{Grows, grew_same, grew_more, grows}
+use Rattle.release_compile.proofs.LayeringLemmas.{grew_same, grew_more, grows}
 use Rattle.release_compile.proofs.MappedPools.{at_mapped, grows_on}
 use Rattle.release_compile.proofs.NodesLemmas.{bay_inner}
 use Rattle.release_compile.proofs.PlacesLemmas.{needed_later}

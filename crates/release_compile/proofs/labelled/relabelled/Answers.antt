@@ -1,5 +1,5 @@
-use Rattle.std.proofs.Common.{◌≡◌, ◌∙◌, subst, arith}
-use Rattle.decision_graphs.specs.Label.{Layered, AreLayers}
+use Rattle.std.proofs.Common.{◌∙◌, arith}
+use Rattle.decision_graphs.specs.Label.{Layered}
 use Rattle.release_compile.proofs.ChoiceLemmas.{choices_on}
 use Rattle.release_compile.proofs.labelled.relabelled.Goals as goal
 

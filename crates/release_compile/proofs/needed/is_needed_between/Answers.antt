@@ -4,7 +4,6 @@ use Rattle.std.proofs.lemmas.Bool.{false≢true}
 use Rattle.std.proofs.lemmas.Option.{slice_get_read}
 use Rattle.station_graph.specs.Sharing.{IsShared}
 use Rattle.contraction.proofs.PlaceLemmas.{has_answer}
-use Rattle.release_compile.specs.Graphs.{other_of}
 use Rattle.release_compile.proofs.NodesLemmas.{needed_by_shares, first_shares, rest_shares}
 use Rattle.release_compile.proofs.needed.is_needed_between.Goals as goal
 
