@@ -166,7 +166,8 @@ pub(crate) fn inner_keeps(
     Ok(keeps)
 }
 
-// The letters of the layers of an inner graph: the names, and of each other switch of the bay the values, open and closed.
+// The letters of the layers of an inner graph: the names, and of each other switch of the bay the values, open and
+// closed.
 pub(crate) fn inner_letters(
     alloc: Global,
     own: &BayIntake,

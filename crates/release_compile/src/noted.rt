@@ -263,8 +263,8 @@ fn noted_at(
     Ok(place)
 }
 
-// The note of layers that take this in, made only where there is none. It is too wide where its layers have more than so
-// many edges.
+// The note of layers that take this in, made only where there is none. It is too wide where its layers have more than
+// so many edges.
 pub(crate) fn taken_again(
     alloc: Global,
     pool: &mut Pool,
