@@ -133,7 +133,8 @@ fn call<F: Shelf, I: Source, O: Sink>(
 /// answered, what `out` took of their texts, and how much of the input was taken. The call is `Usage` only where
 /// the words name no command (`usage`); where they name none it is `Usage` or wants memory (`unnamed`), and reads
 /// no file (`unread`). `complete` says that a call whose files are told and accepted, and in which no count rose,
-/// ends as its text says, or has served the whole input, or wants memory. No other command than `node` asks for the input (`input`).
+/// ends as its text says, or has served the whole input, or wants memory. No other command than `node` asks for the
+/// input (`input`).
 pub fn run<F: Shelf, I: Source, O: Sink, E: Sink>(
     alloc: Global,
     words: &[String],

@@ -25,8 +25,8 @@ taken-requires-clause-last c =
 pub taken-requires-clause-linked : goal.taken-requires-clause-linked
 taken-requires-clause-linked c =
     let i : Intake = c.in_ok-intake.intake in
-    outer_linked (lettered c.args.station.now c.args.parts.now) c.args.bay.0 c.outer_intake.new.pool i.start (letter_rows i)
-    i.keeps.items c.in_ok-intake.ensures.ready
+    outer_linked (lettered c.args.station.now c.args.parts.now) c.args.bay.0 c.outer_intake.new.pool i.start
+    (letter_rows i) i.keeps.items c.in_ok-intake.ensures.ready
 
 pub returns-clause-grew : goal.returns-clause-grew
 returns-clause-grew c =
@@ -94,8 +94,8 @@ returns-in_err-outer-clause-wide c =
     let i : Intake = c.in_ok-intake.intake in
     let ready = c.in_ok-intake.ensures.ready in
     let passes = outer_passes p.view a b p i.start (letter_rows i) i.keeps.items ready c.args.left
-    (c.in_err-outer.ensures.wide (sym same ∙ is) (λ n. n) (outer_plan a b) order_self (fits_self p i.start (letter_rows i)
-    i.keeps.items (outer_linked a b p i.start (letter_rows i) i.keeps.items ready) (outer_plan a b)
+    (c.in_err-outer.ensures.wide (sym same ∙ is) (λ n. n) (outer_plan a b) order_self (fits_self p i.start
+    (letter_rows i) i.keeps.items (outer_linked a b p i.start (letter_rows i) i.keeps.items ready) (outer_plan a b)
     (outer_fits a b p i.start (letter_rows i) i.keeps.items ready))) in
     subst (λ w. Passes (OuterHas w c.args.station.now b c.args.others) c.args.station.now c.args.left)
     c.in_ok-intake.ensures.grew.view
