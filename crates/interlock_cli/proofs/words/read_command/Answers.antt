@@ -9,14 +9,14 @@ pub returns-in_default-clause-err : goal.returns-in_default-clause-err
 returns-in_default-clause-err c =
     unwritten (map string_bytes c.args.words.now) (sym (ap (option_map row_words) c.in_default.is) ∙ c.in-Ok.ensures)
 
-pub returns-in-Some-named_command-clause-ok : goal.returns-in-Some-named_command-clause-ok
-returns-in-Some-named_command-clause-ok c =
+pub returns-in-Some-named-clause-ok : goal.returns-in-Some-named-clause-ok
+returns-in-Some-named-clause-ok c =
     let read = c.in-Some.row in
     let is : Some (row_words read) ≡ written (map string_bytes c.args.words.now) =
     sym (ap (option_map row_words) c.in-Some.is) ∙ c.in-Ok.ensures in
     of_written (map string_bytes c.args.words.now) (row_words read) is
     ∙ sym (ap (λ ws. named_command (read.name.now ∷ map (λ w. w.now) ws)) c.deref.ensures.value)
-    ∙ c.in-Some-named_command.ensures
+    ∙ c.in-Some-named.ensures
 
 pub returns-clause-err : goal.returns-clause-err
 returns-clause-err c =
