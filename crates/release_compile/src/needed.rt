@@ -1,6 +1,6 @@
 //! The nodes that are kept before each layer of a graph.
 ghost use Rattle.std.specs.Prelude.{◌≡◌, ℕ, ◌+◌, ◌<◌, ◌≤◌, ◌⊎◌, ◌↔◌, List, suc, length, map, slice_get, Some, true};
-ghost use Rattle.std.specs.Prelude.{IfOk, IsTrue, Contains};
+ghost use Rattle.std.specs.Prelude.{IfOk, IsTrue, Contains, ◌^◌};
 ghost use Rattle.station_graph.specs.Diagram.{part_count};
 ghost use Rattle.station_graph.specs.Connection.{a_switch};
 ghost use Rattle.station_graph.specs.Sharing.{AtSwitch, Touches};
@@ -159,7 +159,7 @@ pub(crate) fn bay_nodes(
 // Whether one of the other parts between two places shares the node.
 fn other_shares(shared: &[NodeList], bay: BayId, from: u16, to: u16, node: u16) -> bool
     requires few { to < length shared.now }
-    requires most { length shared.now < 65535 }
+    requires most { length shared.now + 1 < 2 ^ 16 }
     ensures { IsTrue result ↔ SharesFrom shared.now bay.0 from to node }
 {
     for i in from..to {

@@ -9,6 +9,7 @@ ghost use Rattle.release_compile.specs.Noting.{letter_rows, SameIntake, IsNoted,
 ghost use Rattle.release_compile.specs.declared.noted.Noted.{Noted as Note};
 ghost use Rattle.release_compile.specs.declared.layer.Trouble.TheVariants.{Wide};
 ghost use Rattle.release_compile.specs.declared.limits.TheConstants.{BAY_EDGES};
+ghost use Rattle.decision_graphs.specs.declared.limits.TheConstants.{LAYERS};
 
 use crate::layer::{Trouble, fold_layers};
 use crate::pool::Pool;
@@ -94,7 +95,7 @@ fn is_noted(last: &Option<Noted>, intake: &Intake) -> bool
 fn note(alloc: Global, pool: &mut Pool, intake: Intake, budget: usize) -> Result<Noted, Trouble>
     requires pool { IsPool pool.old }
     requires linked { AreLinked pool.old intake.start (letter_rows intake) intake.keeps.items }
-    requires few { length (letter_rows intake) ≤ 65535 }
+    requires few { length (letter_rows intake) ≤ LAYERS }
     requires budget { budget ≤ 2 * BAY_EDGES + 1 }
     ensures grew { OnOk result (GrewTo pool.old pool.new) }
     ensures noted { IfOk result (IsNoted pool.new) }
@@ -136,7 +137,7 @@ fn renew(
     requires pool { IsPool pool.old }
     requires last { IsRight pool.old last.old }
     requires linked { AreLinked pool.old intake.start (letter_rows intake) intake.keeps.items }
-    requires few { length (letter_rows intake) ≤ 65535 }
+    requires few { length (letter_rows intake) ≤ LAYERS }
     requires budget { budget ≤ BAY_EDGES }
     ensures grew { OnOk result (GrewTo pool.old pool.new) }
     ensures noted { OnOk result ((n : Note) × (last.new ≡ Some n) × IsNoted pool.new n
@@ -204,7 +205,7 @@ pub(crate) fn taken(
     requires pool { IsPool pool.old }
     requires last { IsRight pool.old last.old }
     requires linked { AreLinked pool.old intake.start (letter_rows intake) intake.keeps.items }
-    requires few { length (letter_rows intake) ≤ 65535 }
+    requires few { length (letter_rows intake) ≤ LAYERS }
     requires budget { budget ≤ BAY_EDGES }
     ensures grew { OnOk result (GrewTo pool.old pool.new) }
     ensures last { OnOk result (IsRight pool.new last.new) }
@@ -242,7 +243,7 @@ fn noted_at(
     requires pool { IsPool pool.old }
     requires notes { AreRight pool.old notes.old.items }
     requires linked { AreLinked pool.old intake.start (letter_rows intake) intake.keeps.items }
-    requires few { length (letter_rows intake) ≤ 65535 }
+    requires few { length (letter_rows intake) ≤ LAYERS }
     requires budget { budget ≤ 2 * BAY_EDGES + 1 }
     ensures grew { OnOk result (GrewTo pool.old pool.new) }
     ensures notes { OnOk result (AreRight pool.new notes.new.items) }
@@ -275,7 +276,7 @@ pub(crate) fn taken_again(
     requires pool { IsPool pool.old }
     requires notes { AreRight pool.old notes.old.items }
     requires linked { AreLinked pool.old intake.start (letter_rows intake) intake.keeps.items }
-    requires few { length (letter_rows intake) ≤ 65535 }
+    requires few { length (letter_rows intake) ≤ LAYERS }
     requires budget { budget ≤ 2 * BAY_EDGES + 1 }
     ensures grew { OnOk result (GrewTo pool.old pool.new) }
     ensures notes { OnOk result (AreRight pool.new notes.new.items) }

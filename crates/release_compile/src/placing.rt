@@ -1,5 +1,5 @@
 //! A vector that gives the choices that were found.
-ghost use Rattle.std.specs.Prelude.{◌≡◌, ℕ, ◌+◌, ◌<◌, ◌≤◌, ◌⊎◌, suc, drop, length, slice_get, Some, IfSome};
+ghost use Rattle.std.specs.Prelude.{◌≡◌, ℕ, ◌+◌, ◌<◌, ◌≤◌, ◌⊎◌, suc, drop, length, slice_get, Some, IfSome, ◌^◌};
 ghost use Rattle.station_graph.specs.Diagram.{Diagram, part_count};
 ghost use Rattle.bay_contract.specs.PartAlphabets.{size_of};
 ghost use Rattle.bay_contract.specs.Alphabets.{AreAlphabets};
@@ -17,7 +17,7 @@ use station_graph::{Station, Vector};
 
 // The i-th number from the first on that is not this one.
 pub(crate) fn other_number(first: u16, this: u16, i: u16) -> u16
-    requires { first + i < 65535 }
+    requires { first + i + 1 < 2 ^ 16 }
     ensures { result ≡ other_of first this i }
 {
     if first + i < this {
@@ -84,7 +84,7 @@ pub(crate) fn place_own(
     vector: &mut Vector,
 )
     requires within { first + others < length vector.old }
-    requires few { length vector.old < 65535 }
+    requires few { length vector.old + 1 < 2 ^ 16 }
     requires len { length choices.now ≡ suc others }
     requires small { (i c : ℕ) → slice_get (drop 1 choices.now) i ≡ Some c → c < 2 }
     ensures count { length vector.new ≡ length vector.old }

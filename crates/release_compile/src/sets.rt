@@ -1,6 +1,6 @@
 //! Sets of allowed choices for the graphs of a bay.
 ghost use Rattle.std.specs.Prelude.{◌≡◌, ◌≢◌, ◌+◌, ◌*◌, ◌<◌, ◌≤◌, ◌==◌, ◌⊎◌, ◌↔◌, ℕ, suc, List, [], Bool, true, length};
-ghost use Rattle.std.specs.Prelude.{slice_get, Some, IfOk, IsTrue};
+ghost use Rattle.std.specs.Prelude.{slice_get, Some, IfOk, IsTrue, ◌^◌};
 ghost use Rattle.station_graph.specs.Diagram.{part_count};
 ghost use Rattle.double_points.specs.Words.{Agrees};
 ghost use Rattle.bay_contract.specs.PartAlphabets.{size_of};
@@ -45,7 +45,7 @@ fn allow_if(sets: &mut ChoiceSets, layer: u16, choice: u32, yes: bool)
 fn allow_marked(sets: &mut ChoiceSets, layer: u16, marks: &[bool])
     requires layer { layer < length sets.old }
     requires marks { length marks.now ≡ length (set_at sets.old layer) }
-    requires few { length marks.now ≤ 4294967295 }
+    requires few { length marks.now < 2 ^ 32 }
     ensures count { length sets.new ≡ length sets.old }
     ensures lens { (j : ℕ) → length (set_at sets.new j) ≡ length (set_at sets.old j) }
     ensures sets { (ls : List Layer) → AreSetsOf ls sets.old → AreSetsOf ls sets.new }
@@ -212,7 +212,7 @@ fn allow_own(inner: &mut ChoiceSets, own: &Readings, first: u16, moved: u16, oth
     requires two { (i : ℕ) → i < others → length (set_at inner.old (suc i)) ≡ 2 }
     requires bare { (i c : ℕ) → IsSet (set_at inner.old (suc i)) c → ⊥ }
     requires words { first + others < length own.now }
-    requires few { length own.now < 65535 }
+    requires few { length own.now + 1 < 2 ^ 16 }
     ensures sets { (ls : List Layer) → AreSetsOf ls inner.old → AreSetsOf ls inner.new }
     ensures own { OwnAllowed first moved others own.now inner.new }
     ensures first { set_at inner.new 0 ≡ set_at inner.old 0 }
@@ -243,7 +243,7 @@ pub(crate) fn side<'a>(
     requires count { length inner.now.layers ≡ suc others }
     requires two { (i : ℕ) → i < others → (layer_at inner.now.layers (suc i)).choices ≡ 2 }
     requires words { first + others < length own.now }
-    requires few { length own.now < 65535 }
+    requires few { length own.now + 1 < 2 ^ 16 }
     ensures outer { IfOk result (λ s. s.outer.now ≡ outer.now) }
     ensures inner { IfOk result (λ s. s.inner.now ≡ inner.now) }
     ensures ready { IfOk result (λ s. IsReady s sets.now) }
