@@ -28,6 +28,7 @@ use Rattle.release_compile.specs.Counted.{Size, edges_in, AreAtLeast, before_swi
 use Rattle.release_compile.specs.Counted.{ViewHas, BayHas, Passes}
 use Rattle.release_compile.specs.Judging.{PartHasEdges, KeepEdges, KeepsLimits, IsBuildRefusal}
 use Rattle.release_compile.proofs.EdgesLemmas.{view_at_least}
+use Rattle.bay_contract.specs.declared.limits.TheConstants.{CONTRACTIONS, LETTERS}
 use Rattle.release_compile.specs.declared.limits.TheConstants.{BAY_EDGES, ALL_EDGES}
 
 -- ---- views and contractions are the same to and fro
@@ -213,9 +214,19 @@ limits_kept d station (Many p step) keeps is = absurd (many (is.0))
         (subst (λ n. StepFits d p.0 fits.first n step) count (fits.steps step (omega (arith, past.within.1, count)))) in
         elim past.past [
           | inl way ↦
-              omega (arith, here.on_the_way, layer_past d p.0 (past.first + step) here.number 4096 here.counted way)
+              omega (
+                arith,
+                here.on_the_way,
+                layer_past d p.0 (past.first + step)
+                    here.number CONTRACTIONS here.counted way,
+              )
           | inr end ↦
-              omega (arith, here.at_end end.0, layer_past d p.0 (past.first + step) here.number 255 here.counted end.1)
+              omega (
+                arith,
+                here.at_end end.0,
+                layer_past d p.0 (past.first + step)
+                    here.number LETTERS here.counted end.1,
+              )
         ]
       where
         in_range : PartIsPast d p.0 step → p.0 < part_count d
