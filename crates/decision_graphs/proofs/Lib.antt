@@ -11,7 +11,9 @@ pub mod GraphLemmas
 pub mod FinishLemmas
 pub mod ReachLemmas
 pub mod FrontierLemmas
+pub mod NoteLemmas
 pub mod PathLemmas
+pub mod ArrivalLemmas
 pub mod ReducedLemmas
 pub mod FoldLemmas
 pub mod RowIndexLemmas

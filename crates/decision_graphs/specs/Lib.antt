@@ -7,7 +7,8 @@ pub mod LaidOut
 pub mod Inside
 pub mod DraftInside
 pub mod Reaching
-pub mod Ahead
+pub mod Arriving
+pub mod Marked
 pub mod Folding
 pub mod RowIndex
 pub mod FoldedView

@@ -1,9 +1,11 @@
 //! Layered graphs, and what is asked of them.
 ghost use Rattle.std.specs.Prelude.{◌≡◌, ℕ, ◌+◌, ◌<◌, ◌≤◌, ◌↔◌, length, sum_by, List, map, slice_index, slice_index_or};
 ghost use Rattle.std.specs.Prelude.{true, false, IfOk, MatchOption, IsTrue};
-ghost use Rattle.decision_graphs.specs.Label.{DependsOn, layer_at, first_at, HasEdge, IsNode, Reaches, AreAllowed};
+ghost use Rattle.decision_graphs.specs.Label.{DependsOn, layer_at, first_at, HasEdge, IsNode, Reaches};
 ghost use Rattle.decision_graphs.specs.Label.{AreChoices, AreReduced, AreLayers, Layer, label_of, place_after, step};
-ghost use Rattle.decision_graphs.specs.Reaching.{AreSetsOf, AreMarksOf, MarksReached, node_total, IsSet};
+ghost use Rattle.decision_graphs.specs.Reaching.{AreSetsOf, MarksReached, LeadsTo, node_total, IsSet};
+ghost use Rattle.decision_graphs.specs.Marked.{AreMarksOf, PathsLead};
+ghost use Rattle.decision_graphs.specs.Arriving.{AreWithin, traced};
 ghost use Rattle.decision_graphs.specs.Finished.{AreFinished, finished};
 ghost use Rattle.decision_graphs.specs.Inside.{IsGraph};
 ghost use Rattle.decision_graphs.specs.LaidOut.{lists_in, lists_of};
@@ -11,13 +13,13 @@ ghost use Rattle.decision_graphs.specs.Shapes.{AreHomes};
 ghost use Rattle.decision_graphs.specs.Whole.{layered_of, IsWhole};
 ghost use Rattle.decision_graphs.specs.declared.limits.TheConstants.{LAYERS, GRAPH_NODES};
 
+use crate::arrival::Arrival;
 use crate::assemble::reduced;
 use crate::choices::ChoiceList;
 use crate::depend::{label_depends_on, layers_depended};
 use crate::finished::{FinishedLayer, joined};
 use crate::layout::{GraphParts, Layout};
 use crate::marks::Marks;
-use crate::path::find_path;
 use crate::reach::mark_labels;
 use crate::rename::renamed;
 use crate::same::{same_edges, same_shapes};
@@ -165,30 +167,39 @@ impl Graph {
         self.parts.layout()
     }
 
-    /// Marks exactly the labels to which some list of allowed choices leads, whatever was marked before.
-    /// Where a layer has no allowed choice there is no such list, and no label is marked. The sets and
-    /// the marks were made for this graph. Linear in edges and nodes; takes no memory.
+    /// Marks exactly the labels to which some list of allowed choices leads, whatever was marked before, and
+    /// notes such a list for each of them. Where a layer has no allowed choice there is no such list, and no
+    /// label is marked. The sets and the marks were made for this graph. Linear in edges and nodes; takes no
+    /// memory.
     pub fn reach(&self, sets: &ChoiceSets, marks: &mut Marks)
         requires sets { AreSetsOf self.now.layers sets.now }
         requires marks { AreMarksOf self.now marks.old }
         ensures same { AreMarksOf self.now marks.new }
         ensures exact { MarksReached self.now sets.now marks.new.labels }
+        ensures paths { PathsLead self.now sets.now marks.new }
     {
         marks.mark(self, sets);
     }
 
-    // Marks the nodes that are reached, and behind them the labels.
-    pub(crate) fn mark(&self, sets: &[Vec<bool>], seen: &mut [bool])
+    // Marks the nodes that are reached, and behind them the labels, and notes by which edges.
+    pub(crate) fn mark(&self, sets: &[Vec<bool>], seen: &mut [bool], arrivals: &mut [Arrival])
         requires sets { AreSetsOf self.now.layers (map (λ v. v.items) sets.now) }
         requires places { length seen.old ≡ node_total self.now + self.now.labels }
-        ensures { (goal : ℕ) → goal < self.now.labels
+        requires room { length arrivals.old ≡ length seen.old }
+        requires within { AreWithin (length seen.old) arrivals.old }
+        ensures marks { (goal : ℕ) → goal < self.now.labels
             → IsSet seen.new (node_total self.now + goal) ↔ Reaches self.now (map (λ v. v.items) sets.now) goal }
+        ensures paths { (goal : ℕ) → goal < self.now.labels → IsSet seen.new (node_total self.now + goal)
+            → LeadsTo self.now (map (λ v. v.items) sets.now) goal
+            (traced arrivals.new (length self.now.layers) (node_total self.now + goal)) }
+        ensures within { AreWithin (length seen.new) arrivals.new }
     {
-        mark_labels(&self.layout(), sets, seen);
+        mark_labels(&self.layout(), sets, seen, arrivals);
     }
 
     /// A list of allowed choices that leads to the label, None exactly where no such list does. The sets
-    /// were made for this graph. Linear in edges and nodes, with one byte for each node and label.
+    /// were made for this graph. Linear in edges and nodes, with nine bytes for each node and label. Where
+    /// paths to more than one label are wanted, `reach` finds all of them at once.
     pub fn path_to(
         &self,
         alloc: Global,
@@ -198,12 +209,15 @@ impl Graph {
         requires sets { AreSetsOf self.now.layers sets.now }
         requires label { label < self.now.labels }
         ensures { IfOk result (λ o. MatchOption o (Reaches self.now sets.now label → ⊥)
-            (λ p. AreAllowed sets.now p × (label_of self.now p ≡ label))) }
+            (λ p. LeadsTo self.now sets.now label p)) }
     {
-        match find_path(alloc, &self.layout(), sets.sets(), label)? {
-            Some(path) => Ok(Some(ChoiceList::from_vec(path))),
-            None => Ok(None),
+        let mut marks = Marks::new(alloc, self)?;
+        self.reach(sets, &mut marks);
+        if !marks.marked(label) {
+            return Ok(None);
         }
+        let path = marks.path_to(alloc, label)?;
+        Ok(Some(path))
     }
 
     /// The graph in which nodes of equal edges are one: each list of choices leads to the label it led to,

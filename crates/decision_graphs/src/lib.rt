@@ -7,6 +7,7 @@
 //! Edges stand in one list of 4 bytes each, beside 2 bytes a node for its layer.
 #![tactic(auto)]
 
+mod arrival;
 mod assemble;
 mod builder;
 mod choices;
@@ -20,7 +21,6 @@ mod law;
 mod layout;
 mod limits;
 mod marks;
-mod path;
 mod reach;
 mod rename;
 mod same;

@@ -1,6 +1,7 @@
 //! Questions to a graph, as a caller asks them.
 ghost use Rattle.std.specs.Prelude.{IfOk};
-ghost use Rattle.decision_graphs.specs.Reaching.{AreSetsOf, AreMarksOf};
+ghost use Rattle.decision_graphs.specs.Reaching.{AreSetsOf};
+ghost use Rattle.decision_graphs.specs.Marked.{AreMarksOf};
 
 use decision_graphs::{ChoiceSets, Graph, Marks};
 use ilk_base::Memory;

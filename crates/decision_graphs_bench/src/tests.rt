@@ -1,6 +1,7 @@
 //! Graphs by hand: what their edges say, and what is asked of them.
 ghost use Rattle.std.specs.Prelude.{◌≡◌, ◌<◌, length, IfOk};
 ghost use Rattle.decision_graphs.specs.Reaching.{AreSetsOf};
+ghost use Rattle.decision_graphs.specs.Marked.{AreMarksOf};
 
 use crate::questions::{allow_one, marked_labels, node_total};
 use crate::table::{are_sizes, bare, fill};
@@ -127,6 +128,37 @@ fn ends(alloc: Global, graph: &Graph, sets: &ChoiceSets) -> Result<Vec<u32>, Mem
     Ok(labels)
 }
 
+// The marked labels to which the path that is noted for them leads.
+fn noted_ends(alloc: Global, graph: &Graph, sets: &ChoiceSets) -> Result<Vec<u32>, Memory>
+    requires { AreSetsOf graph.now.layers sets.now }
+{
+    let mut marks = Marks::new(alloc, graph)?;
+    graph.reach(sets, &mut marks);
+    let mut labels = Vec::new(alloc);
+    for label in marked_labels(alloc, graph, &marks)?.iter() {
+        if noted_end(alloc, graph, &marks, *label)? == Some(*label) {
+            labels.push(*label)?;
+        }
+    }
+    Ok(labels)
+}
+
+// Where the path that is noted for a label leads; None where the label is not marked.
+fn noted_end(
+    alloc: Global,
+    graph: &Graph,
+    marks: &Marks,
+    label: u32,
+) -> Result<Option<u32>, Memory>
+    requires { AreMarksOf graph.now marks.now }
+{
+    if label >= graph.labels() || !marks.marked(label) {
+        return Ok(None);
+    }
+    let path = marks.path_to(alloc, label)?;
+    Ok(label_along(graph, &path))
+}
+
 fn dependence(alloc: Global, graph: &Graph) -> Result<Vec<bool>, Memory> {
     let mut depends = Vec::new(alloc);
     for layer in 0..graph.layers() {
@@ -176,6 +208,7 @@ fn every_list_of_choices_ends_at_its_sum(rt: HostRuntime) -> anyhow::Result<()> 
         let sets = sets_of(alloc, &graph, allowed)?;
         assert_eq!(rt; reached(alloc, &graph, &sets)?.as_slice(), want);
         assert_eq!(rt; ends(alloc, &graph, &sets)?.as_slice(), want);
+        assert_eq!(rt; noted_ends(alloc, &graph, &sets)?.as_slice(), want);
     }
     Ok(())
 }

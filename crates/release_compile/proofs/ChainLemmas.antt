@@ -108,8 +108,8 @@ module _ (outer inner : Layered) (sets inner_sets : List (List Bool)) (marks : L
         first_len (l ∷ ls) [] some e = absurd (cc)
         first_len (l ∷ ls) (s ∷ ss) some e = cc
 
-    pub is_reached : Reaches outer sets (get_or all 0 0)
-    is_reached = (reached (get_or all 0 0) first_in).0 ((first (get_or all 0 0)).0 parts.2)
+    pub is_marked : IsSet marks (get_or all 0 0)
+    is_marked = (first (get_or all 0 0)).0 parts.2
 
     pub is_chain : (cs : List ℕ) → AreAllowed sets cs → label_of outer cs ≡ get_or all 0 0 → label_of inner all ≡ goal →
         IsChain outer inner sets inner_sets goal cs all

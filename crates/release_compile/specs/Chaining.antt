@@ -1,7 +1,8 @@
 -- Two graphs in a row: a label of the first is the first choice of the second.
 use Rattle.std.specs.Prelude.{◌≡◌, ℕ, ◌<◌, ◌↔◌, List, ◌∷◌, length, drop, Bool}
 use Rattle.decision_graphs.specs.Label.{Layered, layer_at, label_of, AreAllowed}
-use Rattle.decision_graphs.specs.Reaching.{IsSet, set_at, AreSetsOf, AreMarksOf, MarksReached}
+use Rattle.decision_graphs.specs.Reaching.{IsSet, set_at, AreSetsOf, MarksReached}
+use Rattle.decision_graphs.specs.Marked.{AreMarksOf, PathsLead}
 use Rattle.ilk_base.specs.declared.words.Direction.{Direction}
 use Rattle.ilk_base.specs.declared.words.Direction.TheVariants.{ToOn}
 use Rattle.ilk_base.specs.declared.words.Rule.{Rule}
@@ -41,6 +42,7 @@ pub record IsReady (s : Side) (sets : List (List Bool)) : Type 0 where
   pub fits : AreSetsOf s.outer.now.layers sets
   pub inner_fits : AreSetsOf s.inner.now.layers s.inner_sets
   pub reached : MarksReached s.outer.now sets s.marks.now.labels
+  pub paths : PathsLead s.outer.now sets s.marks.now
   pub first : FirstAllows s.inner_sets s.marks.now.labels
   pub row : AreInARow s.outer.now s.inner.now
 
@@ -52,6 +54,8 @@ pub record HasReached (outer_gap outer_load : Layered) (r : Reached) : Type 0 wh
   pub load_marks : AreMarksOf outer_load r.load
   pub gap : MarksReached outer_gap r.sets r.gap.labels
   pub load : MarksReached outer_load r.sets r.load.labels
+  pub gap_paths : PathsLead outer_gap r.sets r.gap
+  pub load_paths : PathsLead outer_load r.sets r.load
 
 -- No choices lead through the graphs of a side to the goal.
 abbrev pub NoneLeadsTo : Side → List (List Bool) → ℕ → Type 0

@@ -1,6 +1,7 @@
 //! Two graphs in a row.
 ghost use Rattle.std.specs.Prelude.{◌≡◌, ℕ, ◌<◌, IfOk, MatchOption};
 ghost use Rattle.decision_graphs.specs.Reaching.{AreSetsOf, MarksReached};
+ghost use Rattle.decision_graphs.specs.Marked.{PathsLead};
 ghost use Rattle.release_compile.specs.Chaining.{AreInARow, FirstAllows, IsChain, NoneLeads};
 
 use decision_graphs::{ChoiceList, ChoiceSets, Graph, Marks};
@@ -14,8 +15,8 @@ pub(crate) struct Through {
     pub(crate) inner: ChoiceList,
 }
 
-// Allowed choices that lead through both graphs to the label, if there are some. The inner sets allow in
-// their first layer what the outer graph reaches.
+// Allowed choices that lead through both graphs to the label, if there are some. The marks are of what the outer
+// graph reaches, and the inner sets allow that in their first layer.
 pub(crate) fn find_chain(
     alloc: Global,
     outer: &Graph,
@@ -28,6 +29,7 @@ pub(crate) fn find_chain(
     requires outer_sets { AreSetsOf outer.now.layers sets.now }
     requires inner_sets { AreSetsOf inner.now.layers inner_sets.now }
     requires marks { MarksReached outer.now sets.now marks.now.labels }
+    requires paths { PathsLead outer.now sets.now marks.now }
     requires first { FirstAllows inner_sets.now marks.now.labels }
     requires goal { goal < inner.now.labels }
     requires row { AreInARow outer.now inner.now }
@@ -35,19 +37,15 @@ pub(crate) fn find_chain(
         (NoneLeads outer.now inner.now sets.now inner_sets.now goal)
         (λ f. IsChain outer.now inner.now sets.now inner_sets.now goal f.outer f.inner)) }
 {
-    let labels = outer.labels();
+    let _labels = outer.labels();
     match inner.path_to(alloc, inner_sets, goal)? {
         None => Ok(None),
         Some(path) => {
-            let label = path.choice(0);
-            prove!(label < labels);
-            match outer.path_to(alloc, sets, label)? {
-                Some(before) => Ok(Some(Through {
-                    outer: before,
-                    inner: path,
-                })),
-                None => unreachable!(),
-            }
+            let before = marks.path_to(alloc, path.choice(0))?;
+            Ok(Some(Through {
+                outer: before,
+                inner: path,
+            }))
         }
     }
 }

@@ -1,6 +1,7 @@
 //! What the outer graphs of a bay reach.
 ghost use Rattle.std.specs.Prelude.{◌≡◌, IfOk};
-ghost use Rattle.decision_graphs.specs.Reaching.{AreSetsOf, AreMarksOf, MarksReached};
+ghost use Rattle.decision_graphs.specs.Reaching.{AreSetsOf, MarksReached};
+ghost use Rattle.decision_graphs.specs.Marked.{AreMarksOf, PathsLead};
 ghost use Rattle.release_compile.specs.Chaining.{HasReached};
 
 use crate::bay::BayGraphs;
@@ -21,6 +22,7 @@ fn marked(alloc: Global, graph: &Graph, sets: &ChoiceSets) -> Result<Marks, Memo
     requires { AreSetsOf graph.now.layers sets.now }
     ensures marks { IfOk result (AreMarksOf graph.now) }
     ensures reached { IfOk result (λ m. MarksReached graph.now sets.now m.labels) }
+    ensures paths { IfOk result (PathsLead graph.now sets.now) }
 {
     let mut marks = Marks::new(alloc, graph)?;
     graph.reach(sets, &mut marks);

@@ -6,7 +6,8 @@ ghost use Rattle.double_points.specs.Words.{Agrees};
 ghost use Rattle.bay_contract.specs.PartAlphabets.{size_of};
 ghost use Rattle.bay_contract.specs.Alphabets.{AreAlphabets, InSet};
 ghost use Rattle.decision_graphs.specs.Label.{Layer, layer_at};
-ghost use Rattle.decision_graphs.specs.Reaching.{AreSetsOf, AreMarksOf, MarksReached, IsSet, set_at};
+ghost use Rattle.decision_graphs.specs.Reaching.{AreSetsOf, MarksReached, IsSet, set_at};
+ghost use Rattle.decision_graphs.specs.Marked.{AreMarksOf, PathsLead};
 ghost use Rattle.release_compile.specs.Lettered.{lettered};
 ghost use Rattle.release_compile.specs.Chaining.{AreInARow, IsReady};
 ghost use Rattle.release_compile.specs.Graphs.{other_of, OwnAllowed};
@@ -239,6 +240,7 @@ pub(crate) fn side<'a>(
     requires sets { AreSetsOf outer.now.layers sets.now }
     requires marks { AreMarksOf outer.now marks.now }
     requires reached { MarksReached outer.now sets.now marks.now.labels }
+    requires paths { PathsLead outer.now sets.now marks.now }
     requires row { AreInARow outer.now inner.now }
     requires count { length inner.now.layers ≡ suc others }
     requires two { (i : ℕ) → i < others → (layer_at inner.now.layers (suc i)).choices ≡ 2 }

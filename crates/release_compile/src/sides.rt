@@ -4,7 +4,8 @@ ghost use Rattle.station_graph.specs.Diagram.{part_count, AreSwitchesOf};
 ghost use Rattle.station_graph.specs.Connection.{a_switch};
 ghost use Rattle.station_graph.specs.Sharing.{OfPart};
 ghost use Rattle.double_points.specs.Words.{AreWords};
-ghost use Rattle.decision_graphs.specs.Reaching.{AreSetsOf, AreMarksOf, MarksReached};
+ghost use Rattle.decision_graphs.specs.Reaching.{AreSetsOf, MarksReached};
+ghost use Rattle.decision_graphs.specs.Marked.{AreMarksOf, PathsLead};
 ghost use Rattle.release_compile.specs.declared.view.View.TheVariants.{Gap as GapView, Load as LoadView};
 ghost use Rattle.release_compile.specs.Coding.{labels_of};
 ghost use Rattle.release_compile.specs.Lettered.{Lettered, lettered};
@@ -84,6 +85,7 @@ fn view_side<'a>(
     requires sets { AreSetsOf graphs.now.outer.layers sets.now }
     requires marks { AreMarksOf graphs.now.outer marks.now }
     requires reached { MarksReached graphs.now.outer sets.now marks.now.labels }
+    requires paths { PathsLead graphs.now.outer sets.now marks.now }
     requires graphs { AreViewGraphs view (lettered station.now parts.now) place.bay.0 place.first (suc place.others)
         (view_of graphs.now) }
     ensures side { IfOk result (IsSide view (lettered station.now parts.now) place.bay.0 switch.0 place.first

@@ -41,6 +41,7 @@ returns-clause-ready c = record {
       c.allow_own.ensures.sets c.args.inner.now.layers
       (c.allow_labels.ensures.sets c.args.inner.now.layers c.in_ok-inner_sets.ensures.sets);
   reached = c.requires.reached;
+  paths = c.requires.paths;
   first = λ label.
       let here = c.allow_labels.ensures.here label in
       let none : IsSet (set_at c.in_ok-inner_sets.inner_sets 0) label → ⊥ =
