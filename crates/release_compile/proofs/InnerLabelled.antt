@@ -82,7 +82,7 @@ module _ {a : Lettered} {b m first others : ℕ} {list : List ℕ} {p q : Pool} 
   pub name_in : (k j : ℕ) → slice_get n.names.items k ≡ Some j → j < length q.values.items
   name_in k j at = h.taken.right.within k j (ap (λ (xs : List ℕ). slice_get xs k) (sym h.taken.names) ∙ at)
 
-  pub label_each : n.graph.labels ≡ length n.names.items
+  pub label_each : n.graph.value.labels ≡ length n.names.items
   label_each =
       ap (λ (g : Layered). g.labels) h.taken.graph ∙ (h.taken.right.labels ∙ ap length (sym h.taken.names))
 
@@ -91,7 +91,7 @@ module _ {a : Lettered} {b m first others : ℕ} {list : List ℕ} {p q : Pool} 
       taken_spends a b m first others (node_listed list) (places_rise list h.nodes) p h.intake names h.ready q
       (limit + length names) (copy_of_note n left) h.grown h.taken limit refl
 
-  module _ {count : ℕ} {codes : List ℕ} {g : Layered} (labelled : IsLabelled count codes n.graph g) where
+  module _ {count : ℕ} {codes : List ℕ} {g : Layered} (labelled : IsLabelled count codes n.graph.value g) where
     pub labelled_inner : AreCodes q.view a.diagram m
         (values_at (map (mapped (node_listed list)) q.values.items) n.names.items) codes →
         IsInner p.view a b m first others (values_at (map (mapped (node_listed list)) p.values.items) names) g
@@ -114,8 +114,8 @@ module _ {a : Lettered} {b m first others : ℕ} {list : List ℕ} {p q : Pool} 
         (taken_two a b m first others f order p h.intake names h.ready q budget (copy_of_note n left) h.grown t)
         (labelled.same_choices ∙ same)
         (λ cs ok.
-        labelled.label (some_layer n.graph.layers t.right.layers others same exact.count) cs
-        (choices_on t.right.layers n.graph.layers cs same ok)
+        labelled.label (some_layer n.graph.value.layers t.right.layers others same exact.count) cs
+        (choices_on t.right.layers n.graph.value.layers cs same ok)
         ∙ ap (λ k. get_or codes k 0) (ap (λ (x : Layered). label_of x cs) t.graph ∙ t.right.label cs ok)) labelled.fits
 
     pub labelled_small : InnerIsSmall p.view a.diagram b m first others g
@@ -128,7 +128,7 @@ module _ {a : Lettered} {b m first others : ℕ} {list : List ℕ} {p q : Pool} 
         inner_small p.view a b m first others (values_at (map (mapped f) p.values.items) names) t.right.layers
         (values_at (map (mapped f) q.values.items) n.names.items) laid laid g exact refl (λ j. refl)
         (λ j.
-        let small : length (layer_at n.graph.layers j).rows ≤ length (layer_at t.right.layers j).rows =
+        let small : length (layer_at n.graph.value.layers j).rows ≤ length (layer_at t.right.layers j).rows =
         subst (λ (x : Layered). length (layer_at x.layers j).rows ≤ length (layer_at t.right.layers j).rows)
         (sym t.graph) (t.right.sizes j) in
         omega (arith, labelled.sizes j, small))

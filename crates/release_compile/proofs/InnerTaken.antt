@@ -87,5 +87,5 @@ module _ (a : Lettered) (b m first others : ℕ) (f : ℕ → ℕ) (order : Keep
         plain_choices t.right.layers (letter_rows i) (suc k) row laid.choices at
         ∙ ap length (ready.rows.pairs k row at).two
 
-    pub taken_choices : map (λ (l : Layer). l.choices) o.graph.layers ≡ map (λ (l : Layer). l.choices) t.right.layers
+    pub taken_choices : map (λ (l : Layer). l.choices) o.graph.value.layers ≡ map (λ (l : Layer). l.choices) t.right.layers
     taken_choices = ap (λ (h : Layered). map (λ (l : Layer). l.choices) h.layers) t.graph ∙ t.right.same_choices

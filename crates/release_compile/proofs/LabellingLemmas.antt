@@ -21,13 +21,13 @@ pub labelled_stay : (count : ℕ) (notes more : List Noted) (known : List Labell
 labelled_stay count notes more known grew h k l at = (let (n, at_n, is) = h k l at in (n, grew l.place n at_n, is))
 
 pub labelled_push : (count : ℕ) (notes : List Noted) (known : List Labelled) (l : Labelled) (n : Noted) →
-    AreLabelled count notes known → slice_get notes l.place ≡ Some n → IsLabelled count l.labels.items n.graph l.graph →
+    AreLabelled count notes known → slice_get notes l.place ≡ Some n → IsLabelled count l.labels.items n.graph.value l.graph →
     AreLabelled count notes (known ++ l ∷ [])
 labelled_push count notes known l n h at_n is k m at = elim (slice_get-push known l m k at) [
   | inl before ↦ h k m before
   | inr here ↦
       subst (λ (x : Labelled).
-      (y : Noted) × (slice_get notes x.place ≡ Some y) × IsLabelled count x.labels.items y.graph x.graph) here.1
+      (y : Noted) × (slice_get notes x.place ≡ Some y) × IsLabelled count x.labels.items y.graph.value x.graph) here.1
       (n, at_n, is)
 ]
 

@@ -71,14 +71,14 @@ module _ (a : Lettered) (b others budget : ℕ) (p q : Pool) (i : Intake) (o : C
       slice_get-get_or (letter_rows i) j [] (omega (arith, lt, rows_count)) in
       plain_choices t.right.layers (letter_rows i) j row laid.choices at ∙ (ready.rows.each j row at).len
 
-  choices : map (λ (l : Layer). l.choices) o.graph.layers ≡ map (λ (l : Layer). l.choices) t.right.layers
+  choices : map (λ (l : Layer). l.choices) o.graph.value.layers ≡ map (λ (l : Layer). l.choices) t.right.layers
   choices = ap (λ (h : Layered). map (λ (l : Layer). l.choices) h.layers) t.graph ∙ t.right.same_choices
 
-  pub taken_outer : AreLayers o.graph.labels o.graph.layers →
-      IsOuter p.view a b o.graph (values_at q.values.items o.names.items)
+  pub taken_outer : AreLayers o.graph.value.labels o.graph.value.layers →
+      IsOuter p.view a b o.graph.value (values_at q.values.items o.names.items)
   taken_outer layered =
       let names : List Answers = values_at q.values.items o.names.items in
-      outer_same p.view a b names (record { labels = length names; layers = t.right.layers }) o.graph
+      outer_same p.view a b names (record { labels = length names; layers = t.right.layers }) o.graph.value
       (outer_named a b others station count b_in p.view t.right.layers names exact
       (λ j lt. indices j (omega (arith, lt, exact.count))))
       (ap (λ (h : Layered). h.labels) t.graph ∙ (t.right.labels ∙ (ap length (sym t.names) ∙ sym names_count)))
@@ -86,10 +86,10 @@ module _ (a : Lettered) (b others budget : ℕ) (p q : Pool) (i : Intake) (o : C
       (λ cs h. ap (λ (k : Layered). label_of k cs) t.graph ∙ t.right.label cs h)
       layered
 
-  pub taken_small : OuterIsSmall p.view a.diagram b o.graph
+  pub taken_small : OuterIsSmall p.view a.diagram b o.graph.value
   taken_small =
       outer_small p.view a b others t.right.layers (values_at q.values.items o.names.items)
-      (record { labels = 0; layers = t.right.layers }) o.graph exact refl choices
+      (record { labels = 0; layers = t.right.layers }) o.graph.value exact refl choices
       (λ j. subst (λ (h : Layered). length (layer_at h.layers j).rows ≤ length (layer_at t.right.layers j).rows)
       (sym t.graph) (t.right.sizes j))
 
@@ -114,5 +114,5 @@ module _ (a : Lettered) (b others budget : ℕ) (p q : Pool) (i : Intake) (o : C
   pub taken_left : o.left ≤ budget
   taken_left = omega (arith, t.all)
 
-  pub taken_reduced : AreReduced o.graph.layers
+  pub taken_reduced : AreReduced o.graph.value.layers
   taken_reduced = subst (λ (h : Layered). AreReduced h.layers) (sym t.graph) t.right.reduced

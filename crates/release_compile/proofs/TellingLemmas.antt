@@ -19,11 +19,11 @@ same_lists (x ∷ xs) (y ∷ ys) len h =
     ap (λ z. z ∷ xs) (h 0 x y refl refl)
     ∙ ap (λ zs. y ∷ zs) (same_lists xs ys (omega (arith, len)) (λ k v w a b. h (suc k) v w a b))
 
-pub view_same : (one other : ViewGraphs) → one.outer ≡ other.outer → one.inner.items ≡ other.inner.items →
+pub view_same : (one other : ViewGraphs) → one.outer.value ≡ other.outer.value → one.inner.items ≡ other.inner.items →
     view_of one ≡ view_of other
 view_same one other outer inner =
     let f : Layered → ViewOf = λ g. record { outer = g; inner = one.inner.items } in
-    let h : List Layered → ViewOf = λ gs. record { outer = other.outer; inner = gs } in
+    let h : List Layered → ViewOf = λ gs. record { outer = other.outer.value; inner = gs } in
     ap f outer ∙ ap h inner
 
 pub told_same : (g : BayGraphs) (gap load : ViewOf) (told : List Bool) → AreThese g gap load → told ≡ g.told.items →

@@ -22,7 +22,7 @@ pub record IsLabelled (count : ℕ) (labels : List ℕ) (g h : Layered) : Type 0
 -- Each is the graph of a note with its labels.
 abbrev pub AreLabelled : ℕ → List Noted → List Labelled → Type 0
 AreLabelled count notes known = (k : ℕ) (l : Labelled) → slice_get known k ≡ Some l →
-    (n : Noted) × (slice_get notes l.place ≡ Some n) × IsLabelled count l.labels.items n.graph l.graph
+    (n : Noted) × (slice_get notes l.place ≡ Some n) × IsLabelled count l.labels.items n.graph.value l.graph
 
 -- What is noted of the inner graphs of one view is so.
 pub record AreInnerNotes (p : Pool) (notes : InnerNotes) : Type 0 where

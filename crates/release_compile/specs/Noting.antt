@@ -41,11 +41,11 @@ pub record IsNoted (p : Pool) (n : Noted) : Type 0 where
   pub linked : AreLinked p n.intake.start (letter_rows n.intake) n.intake.keeps.items
   pub laid : AreLaid p n.intake.start (letter_rows n.intake) n.intake.keeps.items n.names.items n.edges layers
   pub within : (t i : ℕ) → slice_get n.names.items t ≡ Some i → i < length p.values.items
-  pub labels : n.graph.labels ≡ length n.names.items
-  pub same_choices : map (λ (l : Layer). l.choices) n.graph.layers ≡ map (λ (l : Layer). l.choices) layers
-  pub label : (cs : List ℕ) → AreChoices layers cs → label_of n.graph cs ≡ leads layers 0 cs
-  pub reduced : AreReduced n.graph.layers
-  pub sizes : (j : ℕ) → length (layer_at n.graph.layers j).rows ≤ length (layer_at layers j).rows
+  pub labels : n.graph.value.labels ≡ length n.names.items
+  pub same_choices : map (λ (l : Layer). l.choices) n.graph.value.layers ≡ map (λ (l : Layer). l.choices) layers
+  pub label : (cs : List ℕ) → AreChoices layers cs → label_of n.graph.value cs ≡ leads layers 0 cs
+  pub reduced : AreReduced n.graph.value.layers
+  pub sizes : (j : ℕ) → length (layer_at n.graph.value.layers j).rows ≤ length (layer_at layers j).rows
 
 -- What is noted, if there is a note, is so, and its labels are few.
 abbrev pub IsRight : Pool → Option Noted → Type 0
@@ -61,6 +61,6 @@ pub record IsTaken (p : Pool) (i : Intake) (budget : ℕ) (o : Copied) : Type 0 
   pub note : Noted
   pub right : IsNoted p note
   pub same : SameIntake note.intake i
-  pub graph : o.graph ≡ note.graph
+  pub graph : o.graph.value ≡ note.graph.value
   pub names : o.names.items ≡ note.names.items
   pub all : note.edges + o.left ≡ budget

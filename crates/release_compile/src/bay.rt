@@ -37,11 +37,13 @@ use decision_graphs::Graph;
 use ilk_base::BayId;
 use station_graph::{NodeList, Station};
 use std::alloc::Global;
+use std::rc::Rc;
 
-// The graphs of one view of a bay: the outer one, and an inner one for each of its switches.
+// The graphs of one view of a bay: the outer one, which bays that look the same hold together, and an inner one for
+// each of its switches.
 #[derive(Debug, Drop)]
 pub(crate) struct ViewGraphs {
-    pub(crate) outer: Graph,
+    pub(crate) outer: Rc<Graph>,
     pub(crate) inner: Vec<Graph>,
 }
 

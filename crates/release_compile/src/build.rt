@@ -251,7 +251,7 @@ impl<'a> GraphJudge<'a> {
         ensures graphs { AreBayGraphs (ground self.now) bay.0 (bay_at self.now bay.0) }
     {
         let graphs = self.bay(bay);
-        &graphs.gap.outer
+        graphs.gap.outer.as_ref()
     }
 
     /// The outer load graph of the bay, whose labels name load views of all other parts. At once.
@@ -261,7 +261,7 @@ impl<'a> GraphJudge<'a> {
         ensures graphs { AreBayGraphs (ground self.now) bay.0 (bay_at self.now bay.0) }
     {
         let graphs = self.bay(bay);
-        &graphs.load.outer
+        graphs.load.outer.as_ref()
     }
 
     /// The inner gap graph of the switch: first a layer whose choices are the labels of its bay's outer gap

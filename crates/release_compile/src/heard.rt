@@ -40,10 +40,10 @@ fn reach_heard(
     requires heard { length heard.now ≡ part_count station.now }
     requires fits { HeardFit (by_indices (lettered station.now parts.now)) bay.0 heard.now }
     ensures sets { IfOk result (λ r. AreHeardSets (lettered station.now parts.now) bay.0 heard.now r.sets) }
-    ensures reached { IfOk result (HasReached graphs.now.gap.outer graphs.now.load.outer) }
+    ensures reached { IfOk result (HasReached graphs.now.gap.outer.value graphs.now.load.outer.value) }
 {
     let others = station.part_count() - 1;
-    let sets = heard_sets(alloc, station, parts, &graphs.gap.outer, bay, others, heard)?;
+    let sets = heard_sets(alloc, station, parts, graphs.gap.outer.as_ref(), bay, others, heard)?;
     let reached = reach(alloc, graphs, sets)?;
     Ok(reached)
 }

@@ -76,18 +76,18 @@ pub(crate) fn labelled_graph(
     requires known { AreLabelled count notes.now known.old.items }
     requires place { place < length notes.now }
     requires some { 0 < count }
-    requires len { (n : Note) → slice_get notes.now place ≡ Some n → length labels.items ≡ n.graph.labels }
+    requires len { (n : Note) → slice_get notes.now place ≡ Some n → length labels.items ≡ n.graph.value.labels }
     requires within { (x : ℕ) → x < length labels.items → slice_index labels.items x < count }
     ensures known { OnOk result (AreLabelled count notes.now known.new.items) }
     ensures graph { IfOk result (λ g. (n : Note) → slice_get notes.now place ≡ Some n →
-        IsLabelled count labels.items n.graph g) }
+        IsLabelled count labels.items n.graph.value g) }
 {
     let held = known.as_slice();
     if let Some(k) = find_labelled(held, place, &labels) {
         let copy = held[k].graph.copy(alloc)?;
         return Ok(copy);
     }
-    let graph = relabelled(alloc, &notes[place].graph, count, &labels)?;
+    let graph = relabelled(alloc, notes[place].graph.as_ref(), count, &labels)?;
     let copy = graph.copy(alloc)?;
     known.push(Labelled {
         place,

@@ -16,6 +16,7 @@ use crate::pool::Pool;
 use decision_graphs::Graph;
 use ilk_base::Memory;
 use std::alloc::Global;
+use std::rc::Rc;
 
 // What the layers of a graph take in, by the numbers of a pool: the start, the letters of each layer, and the
 // nodes kept before each and after the last.
@@ -30,15 +31,16 @@ pub(crate) struct Intake {
 #[derive(Drop)]
 pub(crate) struct Noted {
     pub(crate) intake: Intake,
-    pub(crate) graph: Graph,
+    pub(crate) graph: Rc<Graph>,
     pub(crate) names: Vec<usize>,
     pub(crate) edges: usize,
 }
 
-// A copy of a noted graph, the values that its labels name, and how many edges are left of those that may be made.
+// A noted graph, held by the note too, the values that its labels name, and how many edges are left of those that may
+// be made.
 #[derive(Drop)]
 pub(crate) struct Copied {
-    pub(crate) graph: Graph,
+    pub(crate) graph: Rc<Graph>,
     pub(crate) names: Vec<usize>,
     pub(crate) left: usize,
 }
@@ -91,6 +93,14 @@ fn is_noted(last: &Option<Noted>, intake: &Intake) -> bool
     }
 }
 
+// The graph, to be held by more than one owner.
+fn shared(alloc: Global, graph: Graph) -> Result<Rc<Graph>, Memory>
+    ensures { IfOk result (λ r. r.value ≡ graph) }
+{
+    let held = Rc::new(alloc, graph)?;
+    Ok(held)
+}
+
 // The graph of layers that take this in. It is too wide where they have more than so many edges.
 fn note(alloc: Global, pool: &mut Pool, intake: Intake, budget: usize) -> Result<Noted, Trouble>
     requires pool { IsPool pool.old }
@@ -116,7 +126,8 @@ fn note(alloc: Global, pool: &mut Pool, intake: Intake, budget: usize) -> Result
     )?;
     let states = drafts.states.as_slice();
     let whole = Graph::from_layers(alloc, states.len() as u32, &drafts.layers)?;
-    let graph = whole.reduce(alloc)?;
+    let reduced = whole.reduce(alloc)?;
+    let graph = shared(alloc, reduced)?;
     let edges = budget - drafts.left;
     Ok(Noted {
         intake,
@@ -165,26 +176,26 @@ fn edges_left(noted: &Noted, budget: usize) -> Result<usize, Trouble>
     Ok(budget - noted.edges)
 }
 
-// A copy of a noted graph. It is too wide where its layers have more than so many edges.
+// A noted graph with its names. It is too wide where its layers have more than so many edges.
 fn copy_noted(alloc: Global, noted: &Noted, budget: usize) -> Result<Copied, Trouble>
-    ensures graph { IfOk result (λ o. o.graph ≡ noted.now.graph) }
+    ensures graph { IfOk result (λ o. o.graph.value ≡ noted.now.graph.value) }
     ensures names { IfOk result (λ o. o.names.items ≡ noted.now.names.items) }
     ensures all { IfOk result (λ o. noted.now.edges + o.left ≡ budget) }
     ensures wide { IfErr result (λ e. e ≡ Wide → budget < noted.now.edges) }
 {
     let left = edges_left(noted, budget)?;
     Ok(Copied {
-        graph: noted.graph.copy(alloc)?,
+        graph: noted.graph.clone()?,
         names: Vec::from_slice(alloc, &noted.names)?,
         left,
     })
 }
 
-// A copy of the graph made last. It is too wide where its layers have more than so many edges.
+// The graph made last, with its names. It is too wide where its layers have more than so many edges.
 fn copy_last(alloc: Global, last: &Option<Noted>, budget: usize) -> Result<Copied, Trouble>
     requires { (n : Note) × (last.now ≡ Some n) }
     ensures copy { IfOk result (λ o. (n : Note) → last.now ≡ Some n
-        → (o.graph ≡ n.graph) × (o.names.items ≡ n.names.items) × (n.edges + o.left ≡ budget)) }
+        → (o.graph.value ≡ n.graph.value) × (o.names.items ≡ n.names.items) × (n.edges + o.left ≡ budget)) }
     ensures wide { IfErr result (λ e. e ≡ Wide → (n : Note) → last.now ≡ Some n → budget < n.edges) }
 {
     match last {

@@ -89,10 +89,10 @@ pub(crate) fn outer_graph(
         Passes (OuterHas pool.old.view station.now bay.0 others) station.now left) }
     ensures spent { IfOk result (λ o. Spends (OuterHas pool.old.view station.now bay.0 others) station.now
         left o.left) }
-    ensures small { IfOk result (λ o. OuterIsSmall pool.old.view station.now bay.0 o.graph) }
-    ensures outer { IfOk result (λ o. IsOuter pool.old.view (lettered station.now parts.now) bay.0 o.graph
+    ensures small { IfOk result (λ o. OuterIsSmall pool.old.view station.now bay.0 o.graph.value) }
+    ensures outer { IfOk result (λ o. IsOuter pool.old.view (lettered station.now parts.now) bay.0 o.graph.value
         (values_at pool.new.values.items o.names.items)) }
-    ensures reduced { IfOk result (λ o. AreReduced o.graph.layers) }
+    ensures reduced { IfOk result (λ o. AreReduced o.graph.value.layers) }
     ensures names { IfOk result (λ o. AreNames pool.new station.now bay.0 o.names.items) }
     ensures names_few { IfOk result (λ o. length o.names.items ≤ BAY_EDGES + 1) }
     ensures left { IfOk result (λ o. o.left ≤ left) }
@@ -100,6 +100,6 @@ pub(crate) fn outer_graph(
     let _count = station.part_count();
     let intake = outer_intake(alloc, pool, letters, station, parts, sharing, bay, others)?;
     let outer = taken(alloc, pool, last, intake, left)?;
-    let _labels = outer.graph.labels();
+    let _labels = outer.graph.as_ref().labels();
     Ok(outer)
 }

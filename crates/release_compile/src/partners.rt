@@ -33,23 +33,23 @@ fn either(alloc: Global, first: &[bool], second: &[bool]) -> Result<Vec<bool>, M
 
 // For each other part, in document order, whether the graphs of this view tell of its layer.
 fn view_tells(alloc: Global, graphs: &ViewGraphs) -> Result<Vec<bool>, Memory>
-    requires { AreInnersOf graphs.now.outer.labels graphs.now.inner.items }
-    ensures count { IfOk result (λ v. length v.items ≡ length graphs.now.outer.layers) }
-    ensures told { IfOk result (λ v. (j : ℕ) → j < length graphs.now.outer.layers
-        → (slice_index_or v.items j false ≡ true) ↔ TellsOf graphs.now.outer graphs.now.inner.items j) }
+    requires { AreInnersOf graphs.now.outer.value.labels graphs.now.inner.items }
+    ensures count { IfOk result (λ v. length v.items ≡ length graphs.now.outer.value.layers) }
+    ensures told { IfOk result (λ v. (j : ℕ) → j < length graphs.now.outer.value.layers
+        → (slice_index_or v.items j false ≡ true) ↔ TellsOf graphs.now.outer.value graphs.now.inner.items j) }
 {
-    let told = tells_of(alloc, &graphs.outer, &graphs.inner)?;
+    let told = tells_of(alloc, graphs.outer.as_ref(), &graphs.inner)?;
     Ok(told)
 }
 
 // For each other part, in document order, whether the graphs of one of the two views tell of its layer.
 fn told_layers(alloc: Global, gap: &ViewGraphs, load: &ViewGraphs) -> Result<Vec<bool>, Memory>
-    requires same { length gap.now.outer.layers ≡ length load.now.outer.layers }
-    requires gap_inners { AreInnersOf gap.now.outer.labels gap.now.inner.items }
-    requires load_inners { AreInnersOf load.now.outer.labels load.now.inner.items }
-    ensures count { IfOk result (λ v. length v.items ≡ length gap.now.outer.layers) }
-    ensures told { IfOk result (λ v. (j : ℕ) → j < length gap.now.outer.layers → (slice_index_or v.items j false ≡ true)
-        ↔ (TellsOf gap.now.outer gap.now.inner.items j ⊎ TellsOf load.now.outer load.now.inner.items j)) }
+    requires same { length gap.now.outer.value.layers ≡ length load.now.outer.value.layers }
+    requires gap_inners { AreInnersOf gap.now.outer.value.labels gap.now.inner.items }
+    requires load_inners { AreInnersOf load.now.outer.value.labels load.now.inner.items }
+    ensures count { IfOk result (λ v. length v.items ≡ length gap.now.outer.value.layers) }
+    ensures told { IfOk result (λ v. (j : ℕ) → j < length gap.now.outer.value.layers → (slice_index_or v.items j false ≡ true)
+        ↔ (TellsOf gap.now.outer.value gap.now.inner.items j ⊎ TellsOf load.now.outer.value load.now.inner.items j)) }
 {
     let by_gap = view_tells(alloc, gap)?;
     let by_load = view_tells(alloc, load)?;
@@ -76,7 +76,7 @@ fn same_inners(one: &[Graph], other: &[Graph]) -> bool
 fn same_view(one: &ViewGraphs, other: &ViewGraphs) -> bool
     ensures { result ≡ true → view_of one.now ≡ view_of other.now }
 {
-    if !one.outer.same(&other.outer) {
+    if !one.outer.as_ref().same(other.outer.as_ref()) {
         return false;
     }
     same_inners(&one.inner, &other.inner)
@@ -125,9 +125,9 @@ pub(crate) fn told_like(
     load: &ViewGraphs,
 ) -> Result<Vec<bool>, Memory>
     requires bays { HaveTold bays.now }
-    requires same { length gap.now.outer.layers ≡ length load.now.outer.layers }
-    requires gap_inners { AreInnersOf gap.now.outer.labels gap.now.inner.items }
-    requires load_inners { AreInnersOf load.now.outer.labels load.now.inner.items }
+    requires same { length gap.now.outer.value.layers ≡ length load.now.outer.value.layers }
+    requires gap_inners { AreInnersOf gap.now.outer.value.labels gap.now.inner.items }
+    requires load_inners { AreInnersOf load.now.outer.value.labels load.now.inner.items }
     ensures { IfOk result (λ v. IsToldBy (view_of gap.now) (view_of load.now) v.items) }
 {
     match before_like(bays, gap, load) {

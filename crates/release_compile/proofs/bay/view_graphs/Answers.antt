@@ -57,9 +57,9 @@ returns-clause-graphs c =
     let inner = rw c.deref-2.ensures.value at (c.in_ok-inners.ensures.inner c.args.parts.now) in
     record {
       names = names;
-      outer = subst (λ w. IsOuter w a b c.in_ok-outer.outer.graph names) view0 c.in_ok-outer.ensures.outer;
+      outer = subst (λ w. IsOuter w a b c.in_ok-outer.outer.graph.value names) view0 c.in_ok-outer.ensures.outer;
       outer_reduced = c.in_ok-outer.ensures.reduced;
-      outer_small = subst (λ w. OuterIsSmall w d b c.in_ok-outer.outer.graph) view0 c.in_ok-outer.ensures.small;
+      outer_small = subst (λ w. OuterIsSmall w d b c.in_ok-outer.outer.graph.value) view0 c.in_ok-outer.ensures.small;
       inner =
           subst (λ w. AreInner w a b first count names c.in_ok-inners.inners.graphs.items count)
           (c.in_ok-outer.ensures.grew.view ∙ view0) inner;

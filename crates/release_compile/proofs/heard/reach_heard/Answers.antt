@@ -1,15 +1,19 @@
-use Rattle.std.proofs.Common.{inl, inr, arith}
+use Rattle.std.proofs.Common.{inl, inr, subst, arith}
 use Rattle.release_compile.specs.declared.view.View.TheVariants.{Gap, Load}
+use Rattle.decision_graphs.specs.Label.{Layered}
+use Rattle.decision_graphs.specs.Reaching.{AreSetsOf}
 use Rattle.release_compile.specs.Lettered.{lettered}
 use Rattle.release_compile.proofs.HeardLemmas.{other_sets}
 use Rattle.release_compile.proofs.heard.reach_heard.Goals as goal
 
 pub heard_sets-requires-clause-layers : goal.heard_sets-requires-clause-layers
-heard_sets-requires-clause-layers c = omega (arith, c.requires.graphs.gap.outer.count, c.requires.bay)
+heard_sets-requires-clause-layers c =
+    rw c.as_ref.ensures (omega (arith, c.requires.graphs.gap.outer.count, c.requires.bay))
 
 pub heard_sets-requires-clause-choices : goal.heard_sets-requires-clause-choices
 heard_sets-requires-clause-choices c j lt =
-    c.requires.graphs.gap.outer.choices j (omega (arith, lt, c.requires.graphs.gap.outer.count, c.requires.bay))
+    rw c.as_ref.ensures
+    (c.requires.graphs.gap.outer.choices j (omega (arith, lt, c.requires.graphs.gap.outer.count, c.requires.bay)))
 
 pub heard_sets-requires-clause-fit : goal.heard_sets-requires-clause-fit
 heard_sets-requires-clause-fit c part s ne at = elim (c.requires.fits part s ne at) [
@@ -22,4 +26,5 @@ reach-requires-clause-load c =
     let g = c.requires.graphs.gap in
     let l = c.requires.graphs.load in
     other_sets Gap Load (lettered c.args.station.now c.args.parts.now) c.args.bay.0 g.names l.names
-    c.args.graphs.now.gap.outer c.args.graphs.now.load.outer c.in_ok-sets.sets g.outer l.outer c.in_ok-sets.ensures.sets
+    c.args.graphs.now.gap.outer.value c.args.graphs.now.load.outer.value c.in_ok-sets.sets g.outer l.outer
+    (subst (λ (x : Layered). AreSetsOf x.layers c.in_ok-sets.sets) c.as_ref.ensures c.in_ok-sets.ensures.sets)

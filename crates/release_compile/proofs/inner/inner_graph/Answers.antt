@@ -75,7 +75,7 @@ its_names c =
     c.in_ok-taken.ensures.taken.1 (λ lt. slice_get_read held _ place read refl lt c.index-held-taken.is))
 
 labelled_of : (c : In_ok-graph) →
-    IsLabelled c.label_count-count.result c.in_ok-labels.labels.items (c.in_ok-taken.ensures.taken.0).graph
+    IsLabelled c.label_count-count.result c.in_ok-labels.labels.items (c.in_ok-taken.ensures.taken.0).graph.value
     c.in_ok-graph.graph
 labelled_of c =
     c.in_ok-graph.ensures.graph c.in_ok-taken.ensures.taken.0
@@ -148,7 +148,7 @@ labelled_graph-requires-clause-len c other at_o =
     let s = (goal.at.labelled_graph-requires-clause-len c).After-as_slice-names in
     let values : List Answers = map (mapped (node_listed c.args.list.now)) c.taken_again.new.pool.values.items in
     let one : note s ≡ other = same_Some (note s) other (sym (at_held s) ∙ at_o) in
-    subst (λ (k : Noted). length c.in_ok-labels.labels.items ≡ k.graph.labels) one
+    subst (λ (k : Noted). length c.in_ok-labels.labels.items ≡ k.graph.value.labels) one
     (c.in_ok-labels.ensures.len
     ∙ (length-map c.as_slice-names.result.now (λ j. get_or values j no_answers)
     ∙ (ap length (its_names s) ∙ sym (label_each (note_of s none)))))

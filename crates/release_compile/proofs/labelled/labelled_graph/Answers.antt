@@ -19,10 +19,10 @@ returns-in-Some-clause-graph c n at_n =
     let (m, at_m, is) = c.requires.known k l
     (ap (λ (xs : List Labelled). slice_get xs k) (sym c.as_slice-held.ensures.value) ∙ at) in
     let whose : m ≡ n = same_Some m n (sym at_m ∙ (ap (slice_get c.args.notes.now) of ∙ at_n)) in
-    subst (λ (h : Layered). IsLabelled c.args.count c.args.labels.items n.graph h)
+    subst (λ (h : Layered). IsLabelled c.args.count c.args.labels.items n.graph.value h)
     (ap (λ (x : Labelled). x.graph) (one ∙ c.index-held-k.is) ∙ sym c.in_ok-copy.ensures)
-    (subst (λ ids. IsLabelled c.args.count ids n.graph l.graph) (same ∙ c.deref.ensures.value)
-    (subst (λ (x : Noted). IsLabelled c.args.count l.labels.items x.graph l.graph) whose is))
+    (subst (λ ids. IsLabelled c.args.count ids n.graph.value l.graph) (same ∙ c.deref.ensures.value)
+    (subst (λ (x : Noted). IsLabelled c.args.count l.labels.items x.graph.value l.graph) whose is))
 
 pub relabelled-requires-clause-len : goal.relabelled-requires-clause-len
 relabelled-requires-clause-len c =
@@ -30,7 +30,8 @@ relabelled-requires-clause-len c =
     ap length c.deref-2.ensures.value
     ∙ (c.requires.len n
     (slice_get_read c.args.notes.now _ c.args.place n refl c.requires.place c.index-notes-place.is)
-    ∙ ap (λ (x : Noted). x.graph.labels) c.index-notes-place.is)
+    ∙ ap (λ (x : Noted). x.graph.value.labels) c.index-notes-place.is)
+    ∙ ap (λ (g : Layered). g.labels) (sym c.as_ref.ensures)
 
 pub relabelled-requires-clause-within : goal.relabelled-requires-clause-within
 relabelled-requires-clause-within c = rw c.deref-2.ensures.value c.requires.within
@@ -42,9 +43,10 @@ returns-clause-known c =
     subst (AreLabelled c.args.count c.args.notes.now) (sym c.in_ok-push.ensures.items)
     (labelled_push c.args.count c.args.notes.now c.args.known.now.items l n c.requires.known
     (slice_get_read c.args.notes.now _ c.args.place n refl c.requires.place c.index-notes-place.is)
-    (subst (λ ids. IsLabelled c.args.count ids n.graph l.graph) c.deref-2.ensures.value
-    (subst (λ (x : Noted). IsLabelled c.args.count c.deref-2.result.now x.graph l.graph) (sym c.index-notes-place.is)
-    c.in_ok-graph.ensures)))
+    (subst (λ ids. IsLabelled c.args.count ids n.graph.value l.graph) c.deref-2.ensures.value
+    (subst (λ (x : Noted). IsLabelled c.args.count c.deref-2.result.now x.graph.value l.graph) (sym c.index-notes-place.is)
+    (subst (λ (g : Layered). IsLabelled c.args.count c.deref-2.result.now g l.graph) c.as_ref.ensures
+    c.in_ok-graph.ensures))))
 
 pub returns-clause-graph : goal.returns-clause-graph
 returns-clause-graph c n at_n =
@@ -52,8 +54,9 @@ returns-clause-graph c n at_n =
     let at : slice_get c.args.notes.now c.args.place ≡ Some read =
     slice_get_read c.args.notes.now _ c.args.place read refl c.requires.place c.index-notes-place.is in
     let whose : read ≡ n = same_Some read n (sym at ∙ at_n) in
-    subst (λ (h : Layered). IsLabelled c.args.count c.args.labels.items n.graph h) (sym c.in_ok-copy-2.ensures)
-    (subst (λ (x : Noted). IsLabelled c.args.count c.args.labels.items x.graph c.in_ok-graph.graph) whose
-    (subst (λ ids. IsLabelled c.args.count ids read.graph c.in_ok-graph.graph) c.deref-2.ensures.value
-    (subst (λ (x : Noted). IsLabelled c.args.count c.deref-2.result.now x.graph c.in_ok-graph.graph)
-    (sym c.index-notes-place.is) c.in_ok-graph.ensures)))
+    subst (λ (h : Layered). IsLabelled c.args.count c.args.labels.items n.graph.value h) (sym c.in_ok-copy-2.ensures)
+    (subst (λ (x : Noted). IsLabelled c.args.count c.args.labels.items x.graph.value c.in_ok-graph.graph) whose
+    (subst (λ ids. IsLabelled c.args.count ids read.graph.value c.in_ok-graph.graph) c.deref-2.ensures.value
+    (subst (λ (x : Noted). IsLabelled c.args.count c.deref-2.result.now x.graph.value c.in_ok-graph.graph)
+    (sym c.index-notes-place.is) (subst (λ (g : Layered). IsLabelled c.args.count c.deref-2.result.now g
+    c.in_ok-graph.graph) c.as_ref.ensures c.in_ok-graph.ensures))))

@@ -2,7 +2,7 @@ use Rattle.std.proofs.Common.{◌≡◌, ◌≤◌, ◌∙◌, ℕ, List, Vec, G
 use Rattle.std.proofs.lemmas.List.{length-map}
 use Rattle.decision_graphs.specs.declared.finished.FinishedLayer.{FinishedLayer}
 use Rattle.decision_graphs.specs.Finished.{AreFinished}
-use Rattle.decision_graphs.specs.Label.{Layer, Layered, layer_at, label_of, AreChoices}
+use Rattle.decision_graphs.specs.Label.{Layer, Layered, layer_at, label_of, AreChoices, AreReduced}
 use Rattle.release_compile.specs.declared.pool.Pool.{Pool}
 use Rattle.release_compile.specs.Plans.{layers_of}
 use Rattle.release_compile.specs.Noting.{letter_rows}
@@ -36,6 +36,8 @@ returns-clause-noted c =
     c.in_ok-whole.ensures
     ∙ (ap (build (length c.as_slice-states.result.now)) c.deref-3.ensures.value
     ∙ ap (λ n. build n ds) (ap length c.as_slice-states.ensures.value)) in
+    let made = c.in_ok-reduced.ensures in
+    let held : c.in_ok-graph.graph.value ≡ c.in_ok-reduced.reduced = c.in_ok-graph.ensures in
     record {
       layers = layers_of ds;
       linked = linked_stays p q (grows p q g) i.start rows i.keeps.items c.requires.linked;
@@ -44,15 +46,18 @@ returns-clause-noted c =
           c.args.budget c.in_ok-drafts.drafts.left names ds
           (sym (length-map i.letters.items (λ (v : Vec ℕ Global). v.items))) spent exact choices;
       within = c.in_ok-drafts.ensures.states_in;
-      labels = c.in_ok-graph.ensures.labels ∙ ap (λ (h : Layered). h.labels) is;
-      same_choices = c.in_ok-graph.ensures.choices ∙ ap (λ (h : Layered). map (λ (l : Layer). l.choices) h.layers) is;
+      labels = ap (λ (h : Layered). h.labels) held ∙ made.labels ∙ ap (λ (h : Layered). h.labels) is;
+      same_choices = ap (λ (h : Layered). map (λ (l : Layer). l.choices) h.layers) held ∙ made.choices
+          ∙ ap (λ (h : Layered). map (λ (l : Layer). l.choices) h.layers) is;
       label =
-          λ cs h. c.in_ok-graph.ensures.label cs (subst (λ (k : Layered). AreChoices k.layers cs) (sym is) h)
+          λ cs h. ap (λ (k : Layered). label_of k cs) held
+          ∙ made.label cs (subst (λ (k : Layered). AreChoices k.layers cs) (sym is) h)
           ∙ ap (λ (k : Layered). label_of k cs) is;
-      reduced = c.in_ok-graph.ensures.reduced;
+      reduced = subst (λ (h : Layered). AreReduced h.layers) (sym held) made.reduced;
       sizes =
-          λ j. subst (λ (k : Layered). length (layer_at c.in_ok-graph.graph.layers j).rows
-          ≤ length (layer_at k.layers j).rows) is (c.in_ok-graph.ensures.sizes j);
+          λ j. subst (λ (h : Layered). length (layer_at h.layers j).rows ≤ length (layer_at (layers_of ds) j).rows)
+          (sym held) (subst (λ (k : Layered). length (layer_at c.in_ok-reduced.reduced.layers j).rows
+          ≤ length (layer_at k.layers j).rows) is (made.sizes j));
     }
 
 pub returns-in_err-drafts-clause-wide : goal.returns-in_err-drafts-clause-wide

@@ -1,4 +1,5 @@
 use Rattle.std.proofs.Common.{◌∙◌, subst, sym}
+use Rattle.decision_graphs.specs.Label.{Layered, AreLayers}
 use Rattle.release_compile.specs.declared.noted.Intake.{Intake}
 use Rattle.release_compile.specs.Lettered.{Lettered, lettered}
 use Rattle.release_compile.specs.Layering.{values_at}
@@ -37,16 +38,17 @@ pub returns-clause-outer : goal.returns-clause-outer
 returns-clause-outer c =
     let a : Lettered = lettered c.args.station.now c.args.parts.now in
     let q = c.taken.new.pool in
-    subst (λ w. IsOuter w a c.args.bay.0 c.in_ok-outer.outer.graph
+    subst (λ w. IsOuter w a c.args.bay.0 c.in_ok-outer.outer.graph.value
     (values_at q.values.items c.in_ok-outer.outer.names.items)) c.in_ok-intake.ensures.grew.view
     (taken_outer a c.args.bay.0 c.args.others c.args.left c.outer_intake.new.pool q c.in_ok-intake.intake
     c.in_ok-outer.outer c.part_count-count.ensures.station c.requires.count c.requires.bay c.in_ok-intake.ensures.ready
-    c.in_ok-outer.ensures.grew c.in_ok-outer.ensures.taken c.labels-labels.ensures.layered)
+    c.in_ok-outer.ensures.grew c.in_ok-outer.ensures.taken
+    (subst (λ (g : Layered). AreLayers g.labels g.layers) c.as_ref.ensures c.labels-labels.ensures.layered))
 
 pub returns-clause-small : goal.returns-clause-small
 returns-clause-small c =
     let a : Lettered = lettered c.args.station.now c.args.parts.now in
-    subst (λ w. OuterIsSmall w c.args.station.now c.args.bay.0 c.in_ok-outer.outer.graph)
+    subst (λ w. OuterIsSmall w c.args.station.now c.args.bay.0 c.in_ok-outer.outer.graph.value)
     c.in_ok-intake.ensures.grew.view
     (taken_small a c.args.bay.0 c.args.others c.args.left c.outer_intake.new.pool c.taken.new.pool c.in_ok-intake.intake
     c.in_ok-outer.outer c.part_count-count.ensures.station c.requires.count c.requires.bay c.in_ok-intake.ensures.ready

@@ -13,8 +13,8 @@ joined A B first second both j h f g = (
 pub returns-clause-told : goal.returns-clause-told
 returns-clause-told c =
     let either = rw (c.deref.ensures.value, c.deref-2.ensures.value) at c.in_ok-told.ensures.each in
-    λ j lt. joined (TellsOf c.args.gap.now.outer c.args.gap.now.inner.items j)
-    (TellsOf c.args.load.now.outer c.args.load.now.inner.items j) c.in_ok-by_gap.by_gap.items
+    λ j lt. joined (TellsOf c.args.gap.now.outer.value c.args.gap.now.inner.items j)
+    (TellsOf c.args.load.now.outer.value c.args.load.now.inner.items j) c.in_ok-by_gap.by_gap.items
     c.in_ok-by_load.by_load.items c.in_ok-told.told.items j
     (either j (omega (arith, lt, c.in_ok-by_gap.ensures.count)))
     (c.in_ok-by_gap.ensures.told j lt)

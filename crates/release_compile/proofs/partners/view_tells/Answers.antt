@@ -6,6 +6,7 @@ use Rattle.release_compile.proofs.partners.view_tells.Goals as goal
 pub tells_of-requires : goal.tells_of-requires
 tells_of-requires c = record {
   inners =
-      subst (λ (gs : List Layered). AreInnersOf c.args.graphs.now.outer.labels gs)
-      (sym c.deref.ensures.value) c.requires;
+      subst (λ (g : Layered). AreInnersOf g.labels c.deref.result.now) (sym c.as_ref.ensures)
+      (subst (λ (gs : List Layered). AreInnersOf c.args.graphs.now.outer.value.labels gs) (sym c.deref.ensures.value)
+      c.requires);
 }

@@ -13,7 +13,8 @@ side-requires-clause-row c =
     let h : Layered = c.index-inner.result.now in
     let x = inner_at c.args.view a p.bay.0 c.args.switch.0 p.first p.others c.requires.own (view_of c.args.graphs.now)
     gs c.from-index.result h c.from-index.ensures c.index-inner.ensures in
-    in_a_row c.args.view a p.bay.0 c.args.switch.0 p.first p.others gs.names c.args.graphs.now.outer h gs.outer x.graph
+    rw c.as_ref.ensures (in_a_row c.args.view a p.bay.0 c.args.switch.0 p.first p.others gs.names
+    c.args.graphs.now.outer.value h gs.outer x.graph)
 
 pub side-requires-clause-count : goal.side-requires-clause-count
 side-requires-clause-count c =
@@ -41,7 +42,7 @@ returns-clause-side c =
     gs c.from-index.result h c.from-index.ensures c.index-inner.ensures in
     let e = c.in_ok-made.ensures in
     side_is c.args.view a p.bay.0 c.args.switch.0 p.first p.others c.args.own.now c.args.sets.now c.in_ok-made.made
-    gs.names c.args.graphs.now.outer h gs.outer x.graph e.outer e.inner e.ready e.own
+    gs.names c.args.graphs.now.outer.value h gs.outer x.graph (e.outer ∙ c.as_ref.ensures) e.inner e.ready e.own
 
 pub returns-clause-labels : goal.returns-clause-labels
 returns-clause-labels c =
