@@ -144,12 +144,7 @@ fn noted_ends(alloc: Global, graph: &Graph, sets: &ChoiceSets) -> Result<Vec<u32
 }
 
 // Where the path that is noted for a label leads; None where the label is not marked.
-fn noted_end(
-    alloc: Global,
-    graph: &Graph,
-    marks: &Marks,
-    label: u32,
-) -> Result<Option<u32>, Memory>
+fn noted_end(alloc: Global, graph: &Graph, marks: &Marks, label: u32) -> Result<Option<u32>, Memory>
     requires { AreMarksOf graph.now marks.now }
 {
     if label >= graph.labels() || !marks.marked(label) {

@@ -1,5 +1,5 @@
 -- The edges of a layer, state by state.
-use Rattle.std.proofs.Common.{◌≡◌, ℕ, ◌+◌, ◌-◌, ◌*◌, ◌/◌, ◌%◌, ◌<◌, ◌≤◌, ◌⊎◌, suc, List, [], ◌∷◌, ◌++◌, length}
+use Rattle.std.proofs.Common.{◌≡◌, ℕ, ◌+◌, ◌-◌, ◌*◌, ◌/◌, ◌%◌, ◌<◌, ◌⊎◌, suc, List, [], ◌∷◌, ◌++◌, length}
 use Rattle.std.proofs.Common.{get_or, slice_get, Some, refl, sym, ap, ◌∙◌, subst, inl, inr, arith}
 use Rattle.std.proofs.lemmas.Bool.{cases_lt}
 use Rattle.std.proofs.lemmas.List.{append-nil, append_assoc, length-append, length_push, get_or_append_left}
@@ -11,7 +11,7 @@ use Rattle.station_graph.proofs.PathLemmas.{slice_get-push}
 use Rattle.contraction.specs.Answers.{Answers}
 use Rattle.release_compile.specs.declared.view.View.{View}
 use Rattle.release_compile.specs.Pooling.{Extends, IsMadeOf, WasMade}
-use Rattle.release_compile.specs.Layering.{NoneTwice, IsPlaced, AreAdded, LeadsToMade, AreEdges}
+use Rattle.release_compile.specs.Layering.{IsPlaced, AreAdded, LeadsToMade, AreEdges}
 use Rattle.release_compile.proofs.LayerLemmas.{get_front, get_last}
 
 -- ---- edges that are added one by one

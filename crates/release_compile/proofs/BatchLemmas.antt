@@ -13,7 +13,7 @@ use Rattle.contraction.specs.Selecting.{Selected}
 use Rattle.release_compile.specs.declared.batches.Made.{Made}
 use Rattle.release_compile.specs.declared.batches.Batch.{Batch}
 use Rattle.release_compile.specs.declared.pool.Pool.{Pool}
-use Rattle.release_compile.specs.Pooling.{Extends, WasMade, MakesEach, HasBatch, NotesAreRight, composition, same_batch}
+use Rattle.release_compile.specs.Pooling.{WasMade, MakesEach, HasBatch, NotesAreRight, composition, same_batch}
 use Rattle.release_compile.specs.Pooling.{letter_lists, IsPool, GrewTo, CanCompose}
 use Rattle.release_compile.specs.Layering.{no_answers}
 use Rattle.release_compile.proofs.LayeringLemmas.{Grows, grew_of, grew_in, keep_in, either_more}

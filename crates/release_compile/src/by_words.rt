@@ -43,7 +43,15 @@ pub(crate) fn reach_words(
     ensures reached { IfOk result (HasReached graphs.now.gap.outer.value graphs.now.load.outer.value) }
 {
     let others = station.part_count() - 1;
-    let sets = possible_sets(alloc, station, parts, graphs.gap.outer.as_ref(), bay, others, all)?;
+    let sets = possible_sets(
+        alloc,
+        station,
+        parts,
+        graphs.gap.outer.as_ref(),
+        bay,
+        others,
+        all,
+    )?;
     let reached = reach(alloc, graphs, sets)?;
     Ok(reached)
 }

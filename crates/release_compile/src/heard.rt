@@ -43,7 +43,15 @@ fn reach_heard(
     ensures reached { IfOk result (HasReached graphs.now.gap.outer.value graphs.now.load.outer.value) }
 {
     let others = station.part_count() - 1;
-    let sets = heard_sets(alloc, station, parts, graphs.gap.outer.as_ref(), bay, others, heard)?;
+    let sets = heard_sets(
+        alloc,
+        station,
+        parts,
+        graphs.gap.outer.as_ref(),
+        bay,
+        others,
+        heard,
+    )?;
     let reached = reach(alloc, graphs, sets)?;
     Ok(reached)
 }

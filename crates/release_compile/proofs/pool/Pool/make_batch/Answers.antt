@@ -1,4 +1,4 @@
-use Rattle.std.proofs.Common.{◌≡◌, ◌++◌, List, ℕ, Some, length, slice_get, ◌+◌, refl, sym, ap, ◌∙◌, subst}
+use Rattle.std.proofs.Common.{◌≡◌, ◌++◌, length, slice_get, ◌+◌, refl, sym, ap, ◌∙◌, subst}
 use Rattle.release_compile.specs.declared.pool.Pool.{Pool}
 use Rattle.release_compile.specs.Pooling.{Extends}
 use Rattle.release_compile.proofs.LayerLemmas.{get_front}
