@@ -25,7 +25,7 @@ use Rattle.release_compile.proofs.MappedPools.{at_mapped, values_on}
 use Rattle.release_compile.proofs.ChoiceLemmas.{choices_on}
 use Rattle.release_compile.proofs.NodesLemmas.{bay_inner}
 use Rattle.release_compile.proofs.PlacesLemmas.{places_rise, place_inside, needed_later}
-use Rattle.release_compile.proofs.LabellingLemmas.{copy_of_note}
+use Rattle.release_compile.proofs.LabellingLemmas.{taken_of_note}
 use Rattle.release_compile.proofs.InnerGraphs.{inner_says, inner_small, ends_kept}
 use Rattle.release_compile.proofs.InnerTaken.{taken_exact, taken_spends, taken_first, taken_two, taken_choices}
 
@@ -49,7 +49,7 @@ pub record IsNoteOf (a : Lettered) (b m first others : ℕ) (list : List ℕ) (p
   pub ready : IsInnerReady a b m first others (pool_on (node_listed list) p) intake.start names (letter_rows intake)
       intake.keeps.items
   pub grown : Grows p q
-  pub taken : IsTaken q intake (limit + length names) (copy_of_note n left)
+  pub taken : IsTaken q intake (limit + length names) (taken_of_note n left)
 
 module _ {a : Lettered} {b m first others : ℕ} {list : List ℕ} {p q : Pool} {names : List ℕ} {limit left : ℕ}
     {n : Noted} (h : IsNoteOf a b m first others list p q names limit left n) where
@@ -59,7 +59,7 @@ module _ {a : Lettered} {b m first others : ℕ} {list : List ℕ} {p q : Pool} 
       Keeps x.kept node ↔ IsNeededInner a.diagram m first others others node
   state_needs k x at node =
       (taken_exact a b m first others (node_listed list) (places_rise list h.nodes) p h.intake names h.ready q
-      (limit + length names) (copy_of_note n left) h.grown h.taken).kept k x at node
+      (limit + length names) (taken_of_note n left) h.grown h.taken).kept k x at node
 
   pub place_within : ((node : ℕ) → Contains list node ↔ BayNeeds a.diagram b first (suc others) node) →
       (k place : ℕ) (x : Answers) → slice_get (values_at q.values.items n.names.items) k ≡ Some x →
@@ -89,7 +89,7 @@ module _ {a : Lettered} {b m first others : ℕ} {list : List ℕ} {p q : Pool} 
   pub note_spends : Spends (InnerHas p.view a.diagram b m first others others) a.diagram limit left
   note_spends =
       taken_spends a b m first others (node_listed list) (places_rise list h.nodes) p h.intake names h.ready q
-      (limit + length names) (copy_of_note n left) h.grown h.taken limit refl
+      (limit + length names) (taken_of_note n left) h.grown h.taken limit refl
 
   module _ {count : ℕ} {codes : List ℕ} {g : Layered} (labelled : IsLabelled count codes n.graph.value g) where
     pub labelled_inner : AreCodes q.view a.diagram m
@@ -102,16 +102,16 @@ module _ {a : Lettered} {b m first others : ℕ} {list : List ℕ} {p q : Pool} 
         let t = h.taken in
         let states : List Answers = values_at (map (mapped f) q.values.items) n.names.items in
         let values : List Answers = map (mapped f) p.values.items in
-        let exact = taken_exact a b m first others f order p h.intake names h.ready q budget (copy_of_note n left)
+        let exact = taken_exact a b m first others f order p h.intake names h.ready q budget (taken_of_note n left)
         h.grown t in
         let laid : Layered = record { labels = 0; layers = t.right.layers } in
-        let same = taken_choices a b m first others f order p h.intake names h.ready q budget (copy_of_note n left)
+        let same = taken_choices a b m first others f order p h.intake names h.ready q budget (taken_of_note n left)
         h.grown t in
         inner_says p.view a b m first others (values_at values names) h.ready.station h.ready.own h.ready.bay_in laid g
         states codes exact (subst (λ v. AreCodes v a.diagram m states codes) h.grown.view are)
-        (taken_first a b m first others f order p h.intake names h.ready q budget (copy_of_note n left) h.grown t
+        (taken_first a b m first others f order p h.intake names h.ready q budget (taken_of_note n left) h.grown t
         ∙ sym (length-map names (λ k. get_or values k no_answers)))
-        (taken_two a b m first others f order p h.intake names h.ready q budget (copy_of_note n left) h.grown t)
+        (taken_two a b m first others f order p h.intake names h.ready q budget (taken_of_note n left) h.grown t)
         (labelled.same_choices ∙ same)
         (λ cs ok.
         labelled.label (some_layer n.graph.value.layers t.right.layers others same exact.count) cs
@@ -123,7 +123,7 @@ module _ {a : Lettered} {b m first others : ℕ} {list : List ℕ} {p q : Pool} 
         let f : ℕ → ℕ = node_listed list in
         let t = h.taken in
         let exact = taken_exact a b m first others f (places_rise list h.nodes) p h.intake names h.ready q
-        (limit + length names) (copy_of_note n left) h.grown t in
+        (limit + length names) (taken_of_note n left) h.grown t in
         let laid : Layered = record { labels = 0; layers = t.right.layers } in
         inner_small p.view a b m first others (values_at (map (mapped f) p.values.items) names) t.right.layers
         (values_at (map (mapped f) q.values.items) n.names.items) laid laid g exact refl (λ j. refl)

@@ -7,7 +7,7 @@ use Rattle.bay_contract.specs.Counting.{AreSoMany}
 use Rattle.decision_graphs.specs.Label.{Layer, Layered, layer_at}
 use Rattle.release_compile.specs.declared.pool.Pool.{Pool}
 use Rattle.release_compile.specs.declared.noted.Intake.{Intake}
-use Rattle.release_compile.specs.declared.noted.Copied.{Copied}
+use Rattle.release_compile.specs.declared.noted.TakenGraph.{TakenGraph}
 use Rattle.release_compile.specs.Lettered.{Lettered}
 use Rattle.release_compile.specs.Places.{pool_on}
 use Rattle.release_compile.specs.Layering.{values_at}
@@ -43,7 +43,7 @@ module _ (a : Lettered) (b m first others : ℕ) (f : ℕ → ℕ) (order : Keep
   taken_passes limit h =
       inner_passes a b m first others (pool_on f p) i.start names (letter_rows i) i.keeps.items ready limit h
 
-  module _ (q : Pool) (budget : ℕ) (o : Copied) (g : Grows p q) (t : IsTaken q i budget o) where
+  module _ (q : Pool) (budget : ℕ) (o : TakenGraph) (g : Grows p q) (t : IsTaken q i budget o) where
     laid : AreLaid q i.start (letter_rows i) i.keeps.items o.names.items t.note.edges t.right.layers
     laid =
         laid_same q t.note.intake i t.note.names.items o.names.items t.note.edges t.right.layers t.same

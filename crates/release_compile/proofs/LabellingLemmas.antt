@@ -6,7 +6,7 @@ use Rattle.station_graph.proofs.PathLemmas.{slice_get-push}
 use Rattle.release_compile.specs.declared.pool.Pool.{Pool}
 use Rattle.release_compile.specs.declared.noted.Intake.{Intake}
 use Rattle.release_compile.specs.declared.noted.Noted.{Noted}
-use Rattle.release_compile.specs.declared.noted.Copied.{Copied}
+use Rattle.release_compile.specs.declared.noted.TakenGraph.{TakenGraph}
 use Rattle.release_compile.specs.declared.labelled.Labelled.{Labelled}
 use Rattle.release_compile.specs.declared.labelled.InnerNotes.{InnerNotes}
 use Rattle.release_compile.specs.Pooling.{Extends}
@@ -37,14 +37,14 @@ inner_notes_stay p q g notes h = record {
   labelled = subst (λ v. AreLabelled (labels_of v) notes.graphs.items notes.labelled.items) (sym g.view) h.labelled;
 }
 
--- a copy of a note
-abbrev pub copy_of_note : Noted → ℕ → Copied
-copy_of_note n left = record { graph = n.graph; names = n.names; left = left }
+-- what is taken of a note
+abbrev pub taken_of_note : Noted → ℕ → TakenGraph
+taken_of_note n left = record { graph = n.graph; names = n.names; left = left }
 
--- a note that was found is taken as a copy of it is
+-- what is taken of a note that was found
 pub found_taken : (q : Pool) (i : Intake) (budget left place : ℕ) (notes : List Noted) (n : Noted) → AreRight q notes →
     slice_get notes place ≡ Some n → SameIntake n.intake i → n.edges + left ≡ budget →
-    IsTaken q i budget (copy_of_note n left)
+    IsTaken q i budget (taken_of_note n left)
 found_taken q i budget left place notes n right at same all = record {
   note = n;
   right = right place n at;

@@ -9,7 +9,7 @@ use Rattle.bay_contract.specs.Counting.{AreSoMany}
 use Rattle.decision_graphs.specs.Label.{Layer, Layered, layer_at, label_of, AreLayers, AreReduced}
 use Rattle.release_compile.specs.declared.pool.Pool.{Pool}
 use Rattle.release_compile.specs.declared.noted.Intake.{Intake}
-use Rattle.release_compile.specs.declared.noted.Copied.{Copied}
+use Rattle.release_compile.specs.declared.noted.TakenGraph.{TakenGraph}
 use Rattle.release_compile.specs.Lettered.{Lettered, index_count}
 use Rattle.release_compile.specs.Pooling.{GrewTo}
 use Rattle.release_compile.specs.Layering.{values_at, no_answers}
@@ -29,7 +29,7 @@ use Rattle.release_compile.proofs.OuterFits.{outer_fits, outer_named}
 use Rattle.release_compile.proofs.OuterEdges.{outer_spends}
 use Rattle.release_compile.proofs.OuterGraphs.{outer_linked, outer_same, outer_small, names_of}
 
-module _ (a : Lettered) (b others budget : ℕ) (p q : Pool) (i : Intake) (o : Copied) (station : IsStation a.diagram)
+module _ (a : Lettered) (b others budget : ℕ) (p q : Pool) (i : Intake) (o : TakenGraph) (station : IsStation a.diagram)
     (count : suc others ≡ part_count a.diagram) (b_in : b < part_count a.diagram)
     (ready : IsOuterReady a b p i.start (letter_rows i) i.keeps.items) (g : GrewTo p q) (t : IsTaken q i budget o) where
   laid : AreLaid q i.start (letter_rows i) i.keeps.items o.names.items t.note.edges t.right.layers

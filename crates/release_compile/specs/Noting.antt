@@ -5,7 +5,7 @@ use Rattle.bay_contract.specs.Counting.{AreSoMany}
 use Rattle.decision_graphs.specs.Label.{Layer, layer_at, leads, label_of, AreChoices, AreReduced}
 use Rattle.release_compile.specs.declared.noted.Intake.{Intake}
 use Rattle.release_compile.specs.declared.noted.Noted.{Noted}
-use Rattle.release_compile.specs.declared.noted.Copied.{Copied}
+use Rattle.release_compile.specs.declared.noted.TakenGraph.{TakenGraph}
 use Rattle.release_compile.specs.declared.pool.Pool.{Pool}
 use Rattle.release_compile.specs.Folding.{IsExact}
 use Rattle.release_compile.specs.Layering.{values_at}
@@ -57,7 +57,7 @@ abbrev pub AreRight : Pool → List Noted → Type 0
 AreRight p notes = (k : ℕ) (n : Noted) → slice_get notes k ≡ Some n → IsNoted p n
 
 -- The graph is the one noted for what is taken in, and with its edges and those left these are so many.
-pub record IsTaken (p : Pool) (i : Intake) (budget : ℕ) (o : Copied) : Type 0 where
+pub record IsTaken (p : Pool) (i : Intake) (budget : ℕ) (o : TakenGraph) : Type 0 where
   pub note : Noted
   pub right : IsNoted p note
   pub same : SameIntake note.intake i

@@ -36,10 +36,10 @@ pub(crate) struct Noted {
     pub(crate) edges: usize,
 }
 
-// A noted graph, held by the note too, the values that its labels name, and how many edges are left of those that may
-// be made.
+// A noted graph, which its note holds too, the values that its labels name, and how many edges are left of those that
+// may be made.
 #[derive(Drop)]
-pub(crate) struct Copied {
+pub(crate) struct TakenGraph {
     pub(crate) graph: Rc<Graph>,
     pub(crate) names: Vec<usize>,
     pub(crate) left: usize,
@@ -177,14 +177,14 @@ fn edges_left(noted: &Noted, budget: usize) -> Result<usize, Trouble>
 }
 
 // A noted graph with its names. It is too wide where its layers have more than so many edges.
-fn copy_noted(alloc: Global, noted: &Noted, budget: usize) -> Result<Copied, Trouble>
+fn take_noted(alloc: Global, noted: &Noted, budget: usize) -> Result<TakenGraph, Trouble>
     ensures graph { IfOk result (λ o. o.graph.value ≡ noted.now.graph.value) }
     ensures names { IfOk result (λ o. o.names.items ≡ noted.now.names.items) }
     ensures all { IfOk result (λ o. noted.now.edges + o.left ≡ budget) }
     ensures wide { IfErr result (λ e. e ≡ Wide → budget < noted.now.edges) }
 {
     let left = edges_left(noted, budget)?;
-    Ok(Copied {
+    Ok(TakenGraph {
         graph: noted.graph.clone()?,
         names: Vec::from_slice(alloc, &noted.names)?,
         left,
@@ -192,14 +192,14 @@ fn copy_noted(alloc: Global, noted: &Noted, budget: usize) -> Result<Copied, Tro
 }
 
 // The graph made last, with its names. It is too wide where its layers have more than so many edges.
-fn copy_last(alloc: Global, last: &Option<Noted>, budget: usize) -> Result<Copied, Trouble>
+fn take_last(alloc: Global, last: &Option<Noted>, budget: usize) -> Result<TakenGraph, Trouble>
     requires { (n : Note) × (last.now ≡ Some n) }
-    ensures copy { IfOk result (λ o. (n : Note) → last.now ≡ Some n
+    ensures taken { IfOk result (λ o. (n : Note) → last.now ≡ Some n
         → (o.graph.value ≡ n.graph.value) × (o.names.items ≡ n.names.items) × (n.edges + o.left ≡ budget)) }
     ensures wide { IfErr result (λ e. e ≡ Wide → (n : Note) → last.now ≡ Some n → budget < n.edges) }
 {
     match last {
-        Some(noted) => copy_noted(alloc, noted, budget),
+        Some(noted) => take_noted(alloc, noted, budget),
         None => unreachable!(),
     }
 }
@@ -212,7 +212,7 @@ pub(crate) fn taken(
     last: &mut Option<Noted>,
     intake: Intake,
     budget: usize,
-) -> Result<Copied, Trouble>
+) -> Result<TakenGraph, Trouble>
     requires pool { IsPool pool.old }
     requires last { IsRight pool.old last.old }
     requires linked { AreLinked pool.old intake.start (letter_rows intake) intake.keeps.items }
@@ -227,7 +227,7 @@ pub(crate) fn taken(
         → PlanPasses pool.old.view plan (letter_rows intake) budget) }
 {
     renew(alloc, pool, last, intake, budget)?;
-    let outer = copy_last(alloc, last, budget)?;
+    let outer = take_last(alloc, last, budget)?;
     Ok(outer)
 }
 

@@ -18,7 +18,7 @@ ghost use Rattle.release_compile.specs.declared.limits.TheConstants.{BAY_EDGES};
 use crate::inputs::{nothing, other_rows, outer_keeps};
 use crate::layer::Trouble;
 use crate::needed::Sharing;
-use crate::noted::{Copied, Intake, Noted, taken};
+use crate::noted::{Intake, Noted, TakenGraph, taken};
 use crate::pool::Pool;
 use bay_contract::Parts;
 use ilk_base::{BayId, Memory};
@@ -73,7 +73,7 @@ pub(crate) fn outer_graph(
     bay: BayId,
     others: u16,
     left: usize,
-) -> Result<Copied, Trouble>
+) -> Result<TakenGraph, Trouble>
     requires pool { IsPool pool.old }
     requires lettered { AreAlphabets station.now parts.now }
     requires letters { AreLetters (lettered station.now parts.now) pool.old (map (λ v. v.items) letters.now)

@@ -20,7 +20,7 @@ use Rattle.release_compile.proofs.PlanLemmas.{values_more}
 use Rattle.release_compile.proofs.LayeringLemmas.{grew_more, grows}
 use Rattle.release_compile.proofs.MappedPools.{grows_on}
 use Rattle.release_compile.proofs.NotingLemmas.{all_right_stay}
-use Rattle.release_compile.proofs.LabellingLemmas.{copy_of_note, found_taken, same_note, labelled_stay}
+use Rattle.release_compile.proofs.LabellingLemmas.{taken_of_note, found_taken, same_note, labelled_stay}
 use Rattle.release_compile.proofs.PlacesLemmas.{places_rise}
 use Rattle.release_compile.proofs.CodeLemmas.{labels_some}
 use Rattle.release_compile.proofs.InnerTaken.{plan_on, fits_on, taken_linked, taken_passes}
@@ -52,7 +52,7 @@ note_of c letters =
       ready = c.in_ok-intake.ensures.ready letters;
       grown = grows c.inner_intake.new.pool q c.in_ok-taken.ensures.grew;
       taken =
-          subst (λ k. IsTaken q c.in_ok-intake.intake k (copy_of_note w.0 c.in_ok-taken.taken.left)) budget
+          subst (λ k. IsTaken q c.in_ok-intake.intake k (taken_of_note w.0 c.in_ok-taken.taken.left)) budget
           (found_taken q c.in_ok-intake.intake (c.args.left + c.len.result) c.in_ok-taken.taken.left
           c.in_ok-taken.taken.place c.taken_again.new.notes.items w.0 c.in_ok-taken.ensures.notes w.1 w.2 w.3);
     }

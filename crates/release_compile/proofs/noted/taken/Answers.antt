@@ -15,17 +15,17 @@ returns-clause-last c =
 pub returns-clause-taken : goal.returns-clause-taken
 returns-clause-taken c =
     let (n, at, right, few, same) = c.in_ok-renew.ensures.noted in
-    let copy = c.in_ok-outer.ensures.copy n at in
-    record { note = n; right = right; same = same; graph = copy.0; names = copy.1; all = copy.2 }
+    let held = c.in_ok-outer.ensures.taken n at in
+    record { note = n; right = right; same = same; graph = held.0; names = held.1; all = held.2 }
 
 pub returns-clause-few : goal.returns-clause-few
 returns-clause-few c =
     let (n, at, right, few, same) = c.in_ok-renew.ensures.noted in
-    let copy = c.in_ok-outer.ensures.copy n at in
-    omega (arith, few, ap length copy.1)
+    let held = c.in_ok-outer.ensures.taken n at in
+    omega (arith, few, ap length held.1)
 
-pub copy_last-requires : goal.copy_last-requires
-copy_last-requires c = (let (n, at, right, few, same) = c.in_ok-renew.ensures.noted in (n, at))
+pub take_last-requires : goal.take_last-requires
+take_last-requires c = (let (n, at, right, few, same) = c.in_ok-renew.ensures.noted in (n, at))
 
 pub returns-in_err-outer-clause-wide : goal.returns-in_err-outer-clause-wide
 returns-in_err-outer-clause-wide c =
