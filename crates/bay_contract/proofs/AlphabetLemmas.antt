@@ -247,13 +247,6 @@ own_at d part first count j are lt =
     let (x, at) = some_at d.switches (first + j) (omega (arith, are.within)) in
     (x, at, (are.those (first + j) x at).1 (omega arith, omega arith))
 
-pub room_at : (d : Diagram) (part first count j : ℕ) → IsStation d → AreSwitchesOf d part first count → j < count
-    → (j < BAY_SWITCHES) × (first + j + 1 < 2 ^ 16)
-room_at d part first count j s are lt =
-    let few = s.items.switches_few in
-    let bay = s.items.each_bay_few part in
-    (omega (arith, are.counted), omega (arith, are.within))
-
 pub count_few : (d : Diagram) (part first count : ℕ) → IsStation d → AreSwitchesOf d part first count
     → count ≤ BAY_SWITCHES
 count_few d part first count s are = let bay = s.items.each_bay_few part in omega (arith, are.counted)

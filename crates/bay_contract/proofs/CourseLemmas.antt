@@ -145,13 +145,6 @@ module _ (d : Diagram) (part first count : ℕ) (x y : Course) (is : IsCourse d 
     like_turn : IsLikeTurn R s t
     like_turn = like.turns j s t at_s at_t
 
-    -- the values on the nodes of this part
-    before : Answers → Answers
-    before = renamed (nodes_after y j)
-
-    after : Answers → Answers
-    after = renamed t.kept
-
     touching : (v : List Bool) (a c : Answers) (closed : Bool) → StandsFor (OfLayer d part (first + j)) d v (renamed
         (nodes_after y j) a) → (e : Answers) → ((n : ℕ) → Keeps e.kept n ↔ Touches d (a_switch (first + j)) n)
         → StandsFor (Among (a_switch (first + j) ∷ [])) d v e → AreTogether (renamed (nodes_after y j) a) e c

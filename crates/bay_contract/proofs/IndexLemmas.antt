@@ -4,7 +4,7 @@ use Rattle.std.proofs.Common.{ap, subst, inl, inr, arith}
 use Rattle.std.proofs.lemmas.Bool.{cases_lt}
 use Rattle.station_graph.specs.Diagram.{Diagram, AreSwitchesOf}
 use Rattle.station_graph.specs.Sharing.{OfPart, IsShared}
-use Rattle.station_graph.specs.Alike.{IsVector, Alike, SamePositions, DifferInPart}
+use Rattle.station_graph.specs.Alike.{IsVector, Alike, DifferInPart}
 use Rattle.contraction.specs.Answers.{Answers, Keeps, SameGap, SameLoad}
 use Rattle.contraction.specs.Stands.{StandsFor}
 use Rattle.contraction.proofs.ViewLemmas.{gap_told, load_told}
@@ -16,7 +16,6 @@ use Rattle.bay_contract.specs.PartAlphabets.{count_of}
 use Rattle.bay_contract.specs.Alphabets.{IsLetter, HasIndex, IsAlphabet, AreAlphabets}
 use Rattle.contraction.proofs.RisingLemmas.{rising_equal}
 use Rattle.contraction.proofs.SameLemmas.{gap_self, load_self, gap_fewer, load_fewer}
-use Rattle.contraction.proofs.MoveLemmas.{stands_moves}
 use Rattle.bay_contract.proofs.NextLemmas.{some_at}
 use Rattle.bay_contract.proofs.AlphabetLemmas.{bits_below}
 
@@ -86,15 +85,6 @@ index_alike d a part is v w i k hv hw = (
 pub one_index : (d : Diagram) (a : Alphabets) (part : ℕ) → AreLetters d a part → (v : List Bool) (i k : ℕ)
     → HasIndex d a part i v → HasIndex d a part k v → i ≡ k
 one_index d a part is v i k h g = (index_alike d a part is v v i k h g).0 (alike_self d part v)
-
--- the index is a matter of the positions of the part's switches alone
-pub index_moves : (d : Diagram) (a : Alphabets) (part i : ℕ) (v w : List Bool) → SamePositions (OfPart d part) v w
-    → HasIndex d a part i v → HasIndex d a part i w
-index_moves d a part i v w same h = record {
-  letter = h.letter;
-  listed = h.listed;
-  stands = stands_moves (OfPart d part) d v w same h.letter h.stands;
-}
 
 -- WHAT IS BUILT IS THE ALPHABET
 module _ (d : Diagram) (a : Alphabets) (part : ℕ) (b : IsBuiltFor d part (part_at a part))

@@ -36,21 +36,6 @@ pub rank_more : (first j : ℕ) (v : List Bool) → rank first (j + 1) v ≡ 2 *
     (first + j))
 rank_more first j v = ap (λ n. rank first n v) (add-one j)
 
--- ranks with one digit more keep their order
-digits_le : (a b i k p q : ℕ) → a ≤ b → p < 2 → q < 2 → (i < k → a < b) → i ≤ k → (i ≡ k → (a ≡ b) × (p ≤ q))
-    → 2 * a + p ≤ 2 * b + q
-digits_le a b i k p q le sp sq less ik same = elim (cases_lt i k) [
-  | inl lt ↦ (let s = less lt in omega arith)
-  | inr more ↦ (let s = same (omega arith) in omega (arith, s.0, s.1))
-]
-
-digits_lt : (a b i k p q : ℕ) → p < 2 → q < 2 → (i < k → a < b) → i ≤ k → (i ≡ k → (a ≡ b) × (p < q))
-    → 2 * a + p < 2 * b + q
-digits_lt a b i k p q sp sq less ik same = elim (cases_lt i k) [
-  | inl lt ↦ (let s = less lt in omega arith)
-  | inr more ↦ (let s = same (omega arith) in omega (arith, s.0, s.1))
-]
-
 module _ (d : Diagram) (part first j : ℕ) (own : OfPart d part (a_switch (first + j))) (values news : List Answers)
     (ranks newranks targets origins : List ℕ) (forks more : List Fork) (h : IsLayer d part first j values ranks forks)
     (s : IsSorted d part (first + j) values news targets origins (2 * length values)) (f : Forked (first + j)

@@ -1,6 +1,6 @@
 -- Positions that agree with the words, one step after another.
-use Rattle.std.proofs.Common.{◌≡◌, ℕ, ◌+◌, ◌-◌, ◌*◌, ◌^◌, ◌<◌, ◌≤◌, ◌↔◌, Bool, true, false, Option, None, List, []}
-use Rattle.std.proofs.Common.{◌∷◌, ◌++◌, take, drop, length, slice_get, slice_set, Some, refl, sym, ◌∙◌, ap, subst}
+use Rattle.std.proofs.Common.{◌≡◌, ℕ, ◌+◌, ◌-◌, ◌*◌, ◌^◌, ◌<◌, ◌≤◌, ◌↔◌, Bool, true, false, Option, List}
+use Rattle.std.proofs.Common.{◌++◌, take, drop, length, slice_get, slice_set, Some, refl, sym, ◌∙◌, ap, subst}
 use Rattle.std.proofs.Common.{inl, inr, add-one, arith}
 use Rattle.std.proofs.lemmas.Bool.{cases_lt, cases_eq}
 use Rattle.std.proofs.lemmas.Grind.{common_steps}
@@ -9,7 +9,6 @@ use Rattle.std.proofs.Math.Nat.{pow-le-pow_right}
 use Rattle.ilk_base.specs.declared.words.Dbpos.{Dbpos}
 use Rattle.station_graph.specs.declared.limits.TheConstants.{BAY_SWITCHES}
 use Rattle.station_graph.proofs.LinkedLemmas.{linked_self, linked_one, linked_trans}
-use Rattle.station_graph.proofs.PathLemmas.{slice_get-push}
 use Rattle.station_graph.proofs.PositionLemmas.{slice_get-set_other}
 use Rattle.contraction.proofs.MarkLemmas.{slice_get-set_same}
 use Rattle.double_points.specs.Words.{Agrees}
@@ -225,15 +224,6 @@ paths_start x words paths shaped len none =
       ];
       done = λ a b f closed lt. absurd (omega arith);
     }
-
--- a number without a position
-pub push_none : (paths more : List (Option ℕ)) → more ≡ paths ++ None ∷ [] → ((t p : ℕ) → LeadsBack paths t p → ⊥)
-    → (t p : ℕ) → LeadsBack more t p → ⊥
-push_none paths more e none t p m = elim (slice_get-push paths None (Some p) t (subst (λ (l : List
-    (Option ℕ)). LeadsBack l t p) e m)) [
-      | inl old ↦ none t p old
-      | inr new ↦ cc (new.1)
-    ]
 
 pub written_back : (new old : List (Option ℕ)) (n : ℕ) → n ≡ length new → take n (new ++ drop (length new) old) ≡ new
 written_back new old n e = let le : n ≤ length new = omega arith in grind (arith, common_steps)

@@ -72,9 +72,6 @@ put_all first count position old v k rest e small h =
     (λ n. bits first n v + rest * 2 ^ n ≡ position) e h.whole in
     none_left (bits first count v) rest (2 ^ count) position whole small
 
-half : (j r : ℕ) → r < 2 ^ suc j → r / 2 < 2 ^ j
-half j r h = grind arith
-
 -- each position is that of some vector
 pub bits_some : (len first count position : ℕ) → position < 2 ^ count → first + count ≤ len
     → (v : List Bool) × (length v ≡ len) × (bits first count v ≡ position)

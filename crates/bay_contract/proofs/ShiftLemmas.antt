@@ -1,9 +1,9 @@
 -- The same steps in a part whose switches begin elsewhere.
-use Rattle.std.proofs.Common.{◌≡◌, ℕ, ◌+◌, ◌≤◌, zero, suc, List, [], ◌∷◌, ◌++◌, length, map, slice_get, Some, sym}
-use Rattle.std.proofs.Common.{◌∙◌, ap, inl, inr, arith, add-one}
-use Rattle.std.specs.Prelude.{option_map, take}
+use Rattle.std.proofs.Common.{◌≡◌, ℕ, ◌+◌, List, length, map, slice_get, Some, sym}
+use Rattle.std.proofs.Common.{◌∙◌, ap, inl, inr, arith}
+use Rattle.std.specs.Prelude.{option_map}
 use Rattle.std.proofs.lemmas.Option.{slice_get-map}
-use Rattle.std.proofs.lemmas.List.{length-map, take_all}
+use Rattle.std.proofs.lemmas.List.{length-map}
 use Rattle.bay_contract.specs.declared.fork.Fork.{Fork}
 use Rattle.bay_contract.specs.Building.{Forked}
 use Rattle.bay_contract.specs.Courses.{shifted}
@@ -38,18 +38,3 @@ forked_shifted first j count targets old new h =
             | inr is_new ↦ inr (omega (arith, is_new.0), omega (arith, is_new.1))
           ];
     }
-
--- the images of the first entries, one more
-images_more : {X Y : Type 0} (f : X → Y) (xs : List X) (i : ℕ) (x : X) → slice_get xs i ≡ Some x
-    → map f (take (suc i) xs) ≡ map f (take i xs) ++ f x ∷ []
-images_more f [] i x e = cc
-images_more f (y ∷ xs) zero x e = (let same : y ≡ x = cc in ap (λ z. f z ∷ []) same)
-images_more f (y ∷ xs) (suc i) x e = ap (λ l. f y ∷ l) (images_more f xs i x e)
-
-pub images_push : {X Y : Type 0} (f : X → Y) (xs : List X) (i : ℕ) (x : X) (new : List Y) → slice_get xs i ≡ Some x
-    → new ≡ map f (take i xs) ++ f x ∷ [] → new ≡ map f (take (i + 1) xs)
-images_push f xs i x new at e = e ∙ (sym (images_more f xs i x at) ∙ ap (λ n. map f (take n xs)) (sym (add-one i)))
-
-pub images_all : {X Y : Type 0} (f : X → Y) (xs : List X) (n : ℕ) (new : List Y) → length xs ≤ n
-    → new ≡ map f (take n xs) → new ≡ map f xs
-images_all f xs n new all e = e ∙ ap (map f) (take_all n xs all)

@@ -19,7 +19,7 @@ use std::alloc::Global;
 use std::marker::Model;
 
 // The alphabet of a part, seen as its switches, letters, examples and forks.
-#[derive(Debug, Drop)]
+#[derive(Drop)]
 pub(crate) struct Alphabet {
     pub(crate) switches: u16,
     pub(crate) first: u16,

@@ -18,7 +18,7 @@ use std::marker::Model;
 /// part has one index in each position of its switches.
 ///
 /// A decision diagram leads from the positions of a part's switches to its index.
-#[derive(Debug, Drop)]
+#[derive(Drop)]
 pub struct Parts {
     switches: u16,
     alphabets: Vec<Alphabet>,

@@ -13,7 +13,7 @@ use std::marker::Model;
 
 /// A set of indices of a part, each with a position of the part. It is seen as a list with a place for each
 /// index: the position of an index that is in the set.
-#[derive(Debug, Drop)]
+#[derive(Drop)]
 pub struct IndexSet {
     positions: Vec<Option<u32>>,
 }

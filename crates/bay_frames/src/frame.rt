@@ -4,14 +4,14 @@ ghost use Rattle.bay_frames.specs.declared.frame.Frame.{Frame as AnyFrame};
 ghost use Rattle.bay_frames.specs.Row.{frame_row, IsLawful, FitsRow};
 ghost use Rattle.bay_frames.specs.Tests.{first_failure};
 
-use crate::reading::read;
-use crate::writing::{holder_row, put};
+use crate::read::read;
+use crate::write::{holder_row, put};
 use ilk_base::{BayId, Summary};
 use std::error::Error;
 use std::fmt;
 
 /// What a bay tells another in a round.
-#[derive(Clone, Copy, Debug, PartialEq, Eq)]
+#[derive(Clone, Copy, PartialEq, Eq)]
 pub enum Body {
     /// kind 1: asks the receiver to hold still for the sender, and for its summary
     Reserve,
@@ -31,7 +31,7 @@ pub enum Body {
 }
 
 /// A frame from one bay to another: 9 bytes and a payload (docs/FORMATS.md).
-#[derive(Clone, Copy, Debug, PartialEq, Eq)]
+#[derive(Clone, Copy, PartialEq, Eq)]
 pub struct Frame {
     /// the sender, at most 199
     pub from: BayId,

@@ -3,14 +3,11 @@
 #![tactic(auto)]
 
 mod frame;
-mod law;
+mod laws;
 mod list;
-mod reading;
-mod writing;
+mod read;
+mod write;
 
 pub use frame::{Body, Frame, FrameRefusal};
-pub use law::{no_front_is_a_row, one_frame_for_a_row, passing_bytes_are_rows};
+pub use laws::{no_front_is_a_row, one_frame_for_a_row, passing_bytes_are_rows};
 pub use list::FrameList;
-
-#[cfg(test)]
-mod tests;

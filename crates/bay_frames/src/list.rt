@@ -7,7 +7,7 @@ use std::alloc::Global;
 use std::marker::Model;
 
 /// Frames in the order in which they are sent, seen as a list.
-#[derive(Debug, Drop)]
+#[derive(Drop)]
 pub struct FrameList {
     frames: Vec<Frame>,
 }

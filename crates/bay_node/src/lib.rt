@@ -8,8 +8,6 @@ mod heard;
 mod node;
 mod receiving;
 mod sending;
-#[cfg(test)]
-mod tests;
 
 pub use bay_protocol::{Grant, Kept, Lock, NodeEvent, NodeOutput, Outcome, kept_fits};
 pub use node::Node;

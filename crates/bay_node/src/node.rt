@@ -23,7 +23,7 @@ use std::marker::Model;
 /// One bay. It is seen as its state: what it keeps over a restart, the round that it collects, and its words.
 /// It is made for a bay of a station, and each later call takes that station; `step` and `take` take the
 /// judge too, which may be another at each call only while no round is being collected.
-#[derive(Debug, Drop)]
+#[derive(Drop)]
 pub struct Node {
     pub(crate) bay: BayId,
     pub(crate) highest: u32,

@@ -7,7 +7,7 @@ use station_graph::Vector;
 pub const LAST_ROUND: u32 = 4_294_967_295;
 
 /// A bay holds still for a round of another bay.
-#[derive(Clone, Copy, Debug, PartialEq, Eq)]
+#[derive(Clone, Copy, PartialEq, Eq)]
 pub struct Lock {
     /// the bay for which it holds still
     pub holder: BayId,
@@ -16,7 +16,7 @@ pub struct Lock {
 }
 
 /// An operation that was granted and has not ended.
-#[derive(Clone, Copy, Debug, PartialEq, Eq)]
+#[derive(Clone, Copy, PartialEq, Eq)]
 pub struct Grant {
     /// the round in which it was granted, from 1
     pub round: u32,
@@ -25,7 +25,7 @@ pub struct Grant {
 }
 
 /// What a node keeps over a restart.
-#[derive(Clone, Copy, Debug, PartialEq, Eq)]
+#[derive(Clone, Copy, PartialEq, Eq)]
 pub struct Kept {
     /// the highest round that it has opened, 0 at first
     pub highest: u32,
@@ -37,7 +37,7 @@ pub struct Kept {
 
 /// A round that is being collected: what the bay wants to do, and what it has heard so far. It is lost at
 /// a restart.
-#[derive(Debug, Drop)]
+#[derive(Drop)]
 pub struct Collection {
     /// the round, from 1
     pub round: u32,
@@ -48,7 +48,7 @@ pub struct Collection {
 }
 
 /// What happens to a node.
-#[derive(Clone, Copy, Debug, PartialEq, Eq)]
+#[derive(Clone, Copy, PartialEq, Eq)]
 pub enum NodeEvent {
     /// an operation of a switch of the bay is commanded
     Command(Op),
@@ -72,7 +72,7 @@ pub enum NodeEvent {
 }
 
 /// What a step of a node shows.
-#[derive(Debug, Drop)]
+#[derive(Drop)]
 pub enum Outcome {
     /// a command is refused: a round of the bay is under way
     UnderWay {
@@ -144,7 +144,7 @@ pub enum Outcome {
 }
 
 /// What comes of a step of a node.
-#[derive(Debug, Drop)]
+#[derive(Drop)]
 pub struct NodeOutput {
     /// the new record, exactly where what is kept has changed; it is to be stored before the frames are
     /// sent

@@ -155,7 +155,7 @@ fn words_known(
 /// lost. A verdict is found by trial of each reading; the time is that of `breaks` for each, of which there
 /// are two for each switch whose word is neither off nor on, multiplied. Memory: the nodes and the switches.
 /// No other call takes memory.
-#[derive(Debug, Drop)]
+#[derive(Drop)]
 pub struct PlainJudge<'a> {
     station: &'a Station,
 }

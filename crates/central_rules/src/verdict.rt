@@ -3,7 +3,7 @@ use ilk_base::Rule;
 use station_graph::Vector;
 
 /// What a judge decides of an operation.
-#[derive(Debug, Drop)]
+#[derive(Drop)]
 pub enum Verdict {
     /// No rule is broken in any reading.
     Release,

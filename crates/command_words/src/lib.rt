@@ -2,11 +2,8 @@
 #![tactic(auto)]
 
 mod parser;
-mod reading;
+mod read;
 mod row;
 
-pub use reading::read_words;
+pub use read::read_words;
 pub use row::Row;
-
-#[cfg(test)]
-mod tests;

@@ -31,7 +31,7 @@ pub(crate) const ROWS: [(&str, usize); 13] = [
 ];
 
 /// The words of a command that are of the written form.
-#[derive(Debug, Drop)]
+#[derive(Drop)]
 pub struct Row<'a> {
     /// the name of the command
     pub name: &'a str,

@@ -10,7 +10,7 @@ use Rattle.station_graph.proofs.LinkedLemmas.{linked_self, linked_one}
 use Rattle.station_graph.specs.Views.{ClosedAtBy, HasTapBy}
 use Rattle.contraction.specs.Answers.{Answers, IsAt, Keeps, SameAt, MarkedAt}
 use Rattle.contraction.specs.Stands.{StandsFor}
-use Rattle.contraction.specs.Single.{Only, NoneMarked, PairLabels, IsPair, IsSingle}
+use Rattle.contraction.specs.Single.{Only, PairLabels, IsPair, IsSingle}
 
 -- the item joins its ends exactly where the bit says so
 pub record JoinsWhere (bonds_only : Bool) (d : Diagram) (u : List Bool) (item : Item) (a b : ℕ)
@@ -54,11 +54,6 @@ module _ (d : Diagram) (item : Item) where
       λ l. (p x y kx ky).1 (bit_from_lead x y l.after l.leads),
     )
 
-  -- no mark and no source
-  none_stand : (kept : List ℕ) (marks : List Bool) (P : ℕ → Type 0) → NoneMarked kept marks → ((n : ℕ) → P n → ⊥) →
-      (n : ℕ) → Keeps kept n → MarkedAt kept marks n ↔ P n
-  none_stand kept marks P none never n k = (λ m. absurd (none n m), λ p. absurd (never n p))
-
   -- A PAIR STANDS FOR ITS ITEM
   pub pair_stands : (v : List Bool) (a b : ℕ) (coupled joined bonded : Bool) (c : Answers) →
       IsPair a b coupled joined bonded c → JoinsWhere false d (with_breakers_closed d v) item a b coupled →
@@ -90,17 +85,8 @@ module _ (d : Diagram) (item : Item) where
         };
       }
 
-  -- A single node: the item joins nothing.
-  module _ (v : List Bool) (a : ℕ)
-      (none : (bonds_only : Bool) (u : List Bool) (x y : ℕ) → ItemBetween bonds_only d u item x y → ⊥) where
-    stays_lead : (bonds_only : Bool) (u : List Bool) (x y : ℕ) (xs : List ℕ) →
-        LeadsTo (TouchingBy (Only item) bonds_only d u) x xs y → x ≡ y
-    stays_lead bonds_only u x y [] e = e
-    stays_lead bonds_only u x y (z ∷ xs) l = absurd (none bonds_only u x z (between bonds_only u x z l.0))
-
-    stays : (bonds_only : Bool) (u : List Bool) (x y : ℕ) → Linked (TouchingBy (Only item) bonds_only d u) x y → x ≡ y
-    stays bonds_only u x y l = stays_lead bonds_only u x y l.after l.leads
-
+  -- A single node.
+  module _ (v : List Bool) (a : ℕ) where
     one_at : (k n : ℕ) → IsAt (a ∷ []) k n → (k ≡ 0) × (a ≡ n)
     one_at zero n e = (refl, cc)
     one_at (suc k) n e = cc

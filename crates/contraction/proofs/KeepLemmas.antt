@@ -5,7 +5,7 @@ use Rattle.station_graph.specs.Connection.{Item, Linked}
 use Rattle.station_graph.specs.Views.{CoupledBy, JoinedBy, BondedBy, EnergisableBy, EarthableBy, FedBy, TappedBy}
 use Rattle.contraction.specs.Answers.{Answers, MarkedAt, SaysCoupled, SaysJoined, SaysBonded, SaysEnergisable}
 use Rattle.contraction.specs.Answers.{SaysEarthable, SaysFed, SaysLoaded}
-use Rattle.contraction.specs.Stands.{GapStandsFor, LoadStandsFor, StandsFor}
+use Rattle.contraction.specs.Stands.{GapStandsFor, LoadStandsFor}
 use Rattle.contraction.specs.Composing.{Restricts, SameInEither, ComposesGap, ComposesLoad}
 
 pub via : (P Q R : Type 0) → P ↔ Q → Q ↔ R → P ↔ R
@@ -38,13 +38,6 @@ restricts_load These d v c r h s = record {
   loaded =
       λ a ka. via (SaysLoaded r a) (SaysLoaded c a) (FedBy These d v a ⊎ TappedBy These d v a) (h.loaded a ka)
       (s.loaded a (h.kept a ka));
-}
-
-pub restricts_stands : (These : Item → Type 0) (d : Diagram) (v : List Bool) (c r : Answers) → Restricts c r →
-    StandsFor These d v c → StandsFor These d v r
-restricts_stands These d v c r h s = record {
-  gap = restricts_gap These d v c r h s.gap;
-  load = restricts_load These d v c r h s.load;
 }
 
 -- a composition on fewer nodes

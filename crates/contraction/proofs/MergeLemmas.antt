@@ -250,37 +250,3 @@ module _ (a b kept p q p1 q1 : List ℕ) (x : ℕ) (rises_a : Rises a) (rises_b 
       advances_long a x (length kept) p p1 in_a,
     )
   ]
-
-pub merging_none : (a b : List ℕ) → Merging a b [] [] []
-merging_none a b = record {
-  rises = λ j k less h. absurd (omega (arith, h));
-  first_follows = record {
-    within = omega arith;
-    inside = λ k h. absurd (omega (arith, h));
-    stands = λ k h. absurd (omega (arith, h));
-    ahead = λ k h more. absurd (omega (arith, h));
-  };
-  second_follows = record {
-    within = omega arith;
-    inside = λ k h. absurd (omega (arith, h));
-    stands = λ k h. absurd (omega (arith, h));
-    ahead = λ k h more. absurd (omega (arith, h));
-  };
-  comes = λ k h. absurd (omega (arith, h));
-}
-
-pub merged_all : (a b kept p q : List ℕ) → Merging a b kept p q → length a ≤ length p → length b ≤ length q →
-    IsMerged a b kept p q
-merged_all a b kept p q m in_a in_b =
-    let f = m.first_follows in
-    let s = m.second_follows in
-    record {
-      rises = m.rises;
-      first_len = omega (arith, f.within);
-      second_len = omega (arith, s.within);
-      first_inside = λ k h. f.inside k (omega arith);
-      second_inside = λ k h. s.inside k (omega arith);
-      first_stands = λ k h. f.stands k (omega arith);
-      second_stands = λ k h. s.stands k (omega arith);
-      comes = m.comes;
-    }

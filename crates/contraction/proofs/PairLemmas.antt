@@ -105,16 +105,6 @@ steady_two same (suc (suc k)) h = absurd (omega arith)
 pub two_are_labels : (same : Bool) → AreLabels 2 (0 ∷ cond same 0 1 ∷ [])
 two_are_labels same = record { len = refl; below = below_two same; steady = steady_two same }
 
-pub one_are_labels : AreLabels 1 (0 ∷ [])
-one_are_labels = record { len = refl; below = b; steady = s } where
-  b : (k : ℕ) → k < 1 → slice_index (0 ∷ []) k ≤ k
-  b zero h = omega arith
-  b (suc k) h = absurd (omega arith)
-
-  s : (k : ℕ) → k < 1 → slice_index (0 ∷ []) (slice_index (0 ∷ []) k) ≡ slice_index (0 ∷ []) k
-  s zero h = refl
-  s (suc k) h = absurd (omega arith)
-
 abbrev pub pair_answers : ℕ → ℕ → Bool → Bool → Bool → Answers
 pair_answers lo hi coupled joined bonded = record {
   kept = lo ∷ hi ∷ [];

@@ -1,5 +1,5 @@
 -- The places at which named nodes stand, place by place.
-use Rattle.std.proofs.Common.{◌≡◌, ◌↔◌, ℕ, ◌+◌, Bool, true, false, List, [], ◌∷◌, ◌++◌, length, slice_index}
+use Rattle.std.proofs.Common.{◌≡◌, ℕ, ◌+◌, Bool, true, false, List, [], ◌∷◌, ◌++◌, length, slice_index}
 use Rattle.std.proofs.Common.{slice_index_or, eqb, eq-eqb, refl, sym, ◌∙◌, subst, inl, inr, arith, Some, ap}
 use Rattle.std.specs.Prelude.{Contains}
 use Rattle.std.specs.List.{IsAnyAnswer}
@@ -10,14 +10,6 @@ use Rattle.std.proofs.lemmas.Option.{slice_get_within, slice_get-get_or, get_or_
 use Rattle.contraction.specs.Answers.{Keeps}
 use Rattle.contraction.specs.Restricting.{PlacesBelow}
 use Rattle.contraction.proofs.MergeLemmas.{push_old, push_new, rises_push}
-
-pub places_none : (nodes kept : List ℕ) → PlacesBelow nodes kept 0 []
-places_none nodes kept = record {
-  below = λ k h. absurd (omega arith);
-  rises = λ j k less h. absurd (omega arith);
-  named = λ k h. absurd (omega arith);
-  found = λ p h c. absurd (omega arith);
-}
 
 -- a list that is asked for a node has it or not
 pub has_answer : (xs : List ℕ) (n : ℕ) (b : Bool) → IsAnyAnswer (λ y c. eqb y n ≡ c) xs b →
@@ -32,10 +24,6 @@ keeps_from_has xs n c = record { place = c.0; at = slice_get-get_or xs c.0 n c.1
 
 pub has_from_keeps : (xs : List ℕ) (n : ℕ) → Keeps xs n → Contains xs n
 has_from_keeps xs n k = (k.place, slice_get_within xs k.place n k.at, get_or_from_slice_get xs k.place n n k.at)
-
-pub keeps_answer : (xs : List ℕ) (n : ℕ) (b : Bool) → IsAnyAnswer (λ y c. eqb y n ≡ c) xs b → (b ≡ true) ↔ Keeps xs n
-keeps_answer xs n true h = (λ e. keeps_from_has xs n ((has_answer xs n true h).0 refl), λ k. refl)
-keeps_answer xs n false h = (λ e. cc, λ k. absurd ((has_answer xs n false h).1 refl (has_from_keeps xs n k)))
 
 module _ (nodes kept : List ℕ) (i : ℕ) (places : List ℕ) (h : PlacesBelow nodes kept i places) where
   -- the node at place i is not named

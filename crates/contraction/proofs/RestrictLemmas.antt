@@ -1,7 +1,6 @@
 -- Rows of fewer places.
 use Rattle.std.proofs.Common.{◌≡◌, ℕ, ◌<◌, ◌≤◌, ◌↔◌, Bool, true, List, length, slice_get, slice_index, Some, sym, ◌∙◌}
-use Rattle.std.proofs.Common.{ap, subst, inl, inr, arith}
-use Rattle.std.proofs.lemmas.Bool.{cases_eq, cases_lt}
+use Rattle.std.proofs.Common.{ap, subst, arith}
 use Rattle.std.proofs.lemmas.Option.{slice_get_within, slice_get-get_or, get_or_from_slice_get}
 use Rattle.std.specs.Prelude.{Contains}
 use Rattle.station_graph.specs.declared.limits.TheConstants.{NODES}
@@ -10,39 +9,10 @@ use Rattle.contraction.specs.Answers.{Answers, IsAt, Keeps, SameAt, MarkedAt, Ar
 use Rattle.contraction.specs.Inside.{answers_of}
 use Rattle.contraction.specs.declared.row.Row.{Row}
 use Rattle.contraction.specs.declared.value.Contraction.TheInside.{Inside}
-use Rattle.contraction.specs.Restricting.{FirstAt, LabelsRestrict, Picks, PlacesOf, RowRestricts}
+use Rattle.contraction.specs.Restricting.{LabelsRestrict, Picks, PlacesOf, RowRestricts}
 use Rattle.contraction.proofs.MergeLemmas.{rises_short, few_nodes}
 use Rattle.contraction.specs.Composing.{Restricts}
 use Rattle.contraction.proofs.ValueLemmas.{one_place}
-
--- two first places of one label are the same
-firsts_same : (labels places : List ℕ) (i j f g : ℕ) → FirstAt labels places i f → FirstAt labels places j g →
-    slice_index labels (slice_index places i) ≡ slice_index labels (slice_index places j) → f ≡ g
-firsts_same labels places i j f g hf hg e = elim (cases_lt f g) [
-  | inl less ↦ absurd (hg.least f less (hf.label ∙ e))
-  | inr more ↦ elim (cases_eq f g) [
-    | inl same ↦ same
-    | inr ne ↦ absurd (hf.least g (omega arith) (hg.label ∙ sym e))
-  ]
-]
-
-pub labels_restrict : (labels places row : List ℕ) → length row ≡ length places →
-    ((j : ℕ) → j < length places → FirstAt labels places j (slice_index row j)) → LabelsRestrict labels places row
-labels_restrict labels places row len firsts = record {
-  are_labels = record {
-    len = len;
-    below = λ k k_in. (firsts k k_in).most;
-    steady = λ k k_in.
-        let f = firsts k k_in in
-        let f_in : slice_index row k < length places = omega (arith, f.most) in
-        firsts_same labels places (slice_index row k) k (slice_index row (slice_index row k)) (slice_index row k)
-        (firsts (slice_index row k) f_in) f f.label;
-  };
-  same = λ i j i_in j_in. (
-    λ e. sym (firsts i i_in).label ∙ ap (λ f. slice_index labels (slice_index places f)) e ∙ (firsts j j_in).label,
-    λ e. firsts_same labels places i j (slice_index row i) (slice_index row j) (firsts i i_in) (firsts j j_in) e,
-  );
-}
 
 -- What rows of fewer places say of the nodes.
 module _ (kept nodes places : List ℕ) (rises_kept : Rises kept) (p : Picks kept places nodes) where

@@ -7,7 +7,7 @@ use Rattle.station_graph.specs.Connection.{Item, TouchingBy, Linked, with_breake
 use Rattle.station_graph.specs.Views.{ClosedAtBy, HasTapBy}
 use Rattle.station_graph.specs.Sharing.{TouchedBy}
 use Rattle.contraction.specs.Answers.{Answers, Keeps, SameAt, MarkedAt}
-use Rattle.contraction.specs.Stands.{GapStandsFor, LoadStandsFor, StandsFor, MeetsKept}
+use Rattle.contraction.specs.Stands.{GapStandsFor, LoadStandsFor, MeetsKept}
 use Rattle.contraction.specs.Composing.{LabelsCompose, MarksCompose, Composes, ComposesGap, ComposesLoad}
 use Rattle.contraction.proofs.ItemSets.{Either}
 use Rattle.station_graph.proofs.TouchLemmas.{closed_touches, tap_touches}
@@ -239,11 +239,3 @@ pub composes_load : (These Those : Item → Type 0) (d : Diagram) (v : List Bool
     LoadStandsFor (Either These Those) d v c
 composes_load These Those d v x y c meets composes =
     load_composes These Those d v x y c meets (load_half x y c composes)
-
-pub composes_stands : (These Those : Item → Type 0) (d : Diagram) (v : List Bool) (x y c : Answers) →
-    MeetsKept These Those d x.kept y.kept → Composes x y c → StandsFor These d v x → StandsFor Those d v y →
-    StandsFor (Either These Those) d v c
-composes_stands These Those d v x y c meets composes sx sy = record {
-  gap = composes_gap These Those d v x y c meets composes sx.gap sy.gap;
-  load = composes_load These Those d v x y c meets composes sx.load sy.load;
-}

@@ -1,6 +1,6 @@
 -- The value of one switch stands for it.
 use Rattle.std.proofs.Common.{◌≡◌, ℕ, ◌⊎◌, ◌↔◌, zero, suc, Bool, true, false, IsTrue, List, [], ◌∷◌, slice_get, Some}
-use Rattle.std.proofs.Common.{None, refl, sym, ◌∙◌, ap, subst, inl, inr}
+use Rattle.std.proofs.Common.{refl, sym, ◌∙◌, ap, subst, inl, inr}
 use Rattle.ilk_base.specs.declared.words.Kind.{Kind}
 use Rattle.ilk_base.specs.declared.words.Kind.TheVariants.{Breaker, Disconnector, Earthing, Infeed}
 use Rattle.ilk_base.specs.declared.words.NodeId.{NodeId}
@@ -83,11 +83,11 @@ module _ (d : Diagram) (v : List Bool) (i : ℕ) (x : Switch) (closed : Bool) (l
     among = refl;
   }
 
-  pub switch_single_stands : (feeds earths : Bool) (c : Answers) → x.second ≡ None →
+  pub switch_single_stands : (feeds earths : Bool) (c : Answers) →
       (IsTrue feeds ↔ ((x.kind ≡ Infeed) × (closed ≡ true))) →
       (IsTrue earths ↔ ((x.kind ≡ Earthing) × (closed ≡ true))) → IsSingle x.first.0 feeds earths feeds feeds c →
       StandsFor (Only (a_switch i)) d v c
-  switch_single_stands feeds earths c one f e is =
+  switch_single_stands feeds earths c f e is =
       let fed : (n : ℕ) → ClosedAtBy (Only (a_switch i)) d v Infeed n → feeds ≡ true = λ n h.
       let s = same_switch Infeed n h in
       f.1 (s.0, s.1) in
@@ -95,11 +95,6 @@ module _ (d : Diagram) (v : List Bool) (i : ℕ) (x : Switch) (closed : Bool) (l
       let s = f.0 on in
       stands_here Infeed s.0 s.1 in
       single_stands d (a_switch i) v x.first.0
-      (λ bonds_only u a b h.
-      let same : h.switch ≡ x = cc (h.listed, listed) in
-      let seconds : h.switch.second ≡ x.second = ap (λ (y : Switch). y.second) same in
-      let two : h.switch.second ≡ Some h.second = h.has_second in
-      cc)
       feeds earths feeds feeds c is
       (λ n h. (fed n h, fed n h))
       (λ on. elim on [ inl e1 ↦ feeding e1 | inr e1 ↦ feeding e1 ])

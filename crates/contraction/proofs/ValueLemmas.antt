@@ -70,10 +70,6 @@ module _ (a b kept p q : List ℕ) (m : IsMerged a b kept p q) (rises_a : Rises 
     same = sym s.same;
   }
 
-  either_back : (x y : ℕ) → Same x y → Same y x
-  either_back x y (inl s) = inl (same_back a la x y s)
-  either_back x y (inr s) = inr (same_back b lb x y s)
-
   -- an edge between places is one between their nodes
   edge_in : (nodes labels places : List ℕ) → AreLabels (length nodes) labels → length places ≡ length nodes →
       ((k : ℕ) → k < length nodes → slice_index kept (slice_index places k) ≡ slice_index nodes k) → (i j : ℕ) →
@@ -135,11 +131,6 @@ module _ (a b kept p q : List ℕ) (m : IsMerged a b kept p q) (rises_a : Rises 
       (linked_one Edge (slice_index places k) (slice_index places (slice_index labels k)) down)
       (subst (λ x. Linked Edge (slice_index places x) (slice_index places l)) (sym same)
       (linked_one Edge (slice_index places (slice_index labels l)) (slice_index places l) up))
-
-  -- the place in the merged list of an entry of one list
-  record PlaceOf (n : ℕ) : Type 0 where
-    place : ℕ
-    at : IsAt kept place n
 
   place_at : (nodes places : List ℕ) → length places ≡ length nodes →
       ((k : ℕ) → k < length nodes → slice_index places k < length kept) →

@@ -13,7 +13,7 @@ use station_graph::NodeList;
 use std::alloc::Global;
 
 // Two rising lists of nodes as one, and some of its nodes with their places in it.
-#[derive(Debug, Drop)]
+#[derive(Drop)]
 pub(crate) struct Layout {
     pub(crate) union: Union,
     pub(crate) places: Vec<u16>,

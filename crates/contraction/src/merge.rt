@@ -8,7 +8,7 @@ use ilk_base::Memory;
 use std::alloc::Global;
 
 // Two rising lists of nodes as one, with the place of each entry of both.
-#[derive(Debug, Drop)]
+#[derive(Drop)]
 pub(crate) struct Union {
     pub(crate) kept: Vec<u16>,
     pub(crate) first: Vec<u16>,

@@ -16,7 +16,7 @@ use std::alloc::Global;
 
 // The classes of the kept nodes, place by place, and two marks on each node. A label is the first
 // place of its class.
-#[derive(Debug, Drop)]
+#[derive(Drop)]
 pub(crate) struct Row {
     pub(crate) labels: NodeList,
     pub(crate) first: Vec<bool>,

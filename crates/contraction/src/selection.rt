@@ -11,7 +11,7 @@ use std::marker::Model;
 
 /// The kept nodes of two contractions merged, and those of them that are asked for. Many pairs of contractions keep
 /// the same nodes: `compose_gap_on` and `compose_load_on` take one selection for all of them.
-#[derive(Debug, Drop)]
+#[derive(Drop)]
 pub struct Selection {
     first: Vec<u16>,
     second: Vec<u16>,

@@ -18,7 +18,7 @@ use std::marker::Model;
 /// these items alone couple, join, bond and supply there. It is seen as its answers. Its gap view says
 /// what is coupled, energisable and earthable; its load view says what is joined, bonded and supplied.
 /// For which items and positions a value stands is said by the calls that make it.
-#[derive(Debug, Drop)]
+#[derive(Drop)]
 pub struct Contraction {
     pub(crate) kept: Vec<u16>,
     pub(crate) gap: Row,

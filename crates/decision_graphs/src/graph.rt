@@ -3,7 +3,7 @@ ghost use Rattle.std.specs.Prelude.{◌≡◌, ℕ, ◌+◌, ◌<◌, ◌≤◌,
 ghost use Rattle.std.specs.Prelude.{true, false, IfOk, MatchOption, IsTrue};
 ghost use Rattle.decision_graphs.specs.Label.{DependsOn, layer_at, first_at, HasEdge, IsNode, Reaches};
 ghost use Rattle.decision_graphs.specs.Label.{AreChoices, AreReduced, AreLayers, Layer, label_of, place_after, step};
-ghost use Rattle.decision_graphs.specs.Reaching.{AreSetsOf, MarksReached, LeadsTo, node_total, IsSet};
+ghost use Rattle.decision_graphs.specs.Reaching.{AreSetsOf, MarksReached, IsPathTo, node_total, IsSet};
 ghost use Rattle.decision_graphs.specs.Marked.{AreMarksOf, PathsLead};
 ghost use Rattle.decision_graphs.specs.Arriving.{AreWithin, traced};
 ghost use Rattle.decision_graphs.specs.Finished.{AreFinished, finished};
@@ -33,7 +33,7 @@ use std::marker::Model;
 /// labels from 0. A graph without layers leads to label 0. A `GraphBuilder` makes one.
 ///
 /// Contracts see it as its layers, where an edge is a number within the next layer.
-#[derive(Debug, Drop)]
+#[derive(Drop)]
 pub struct Graph {
     parts: GraphParts,
 }
@@ -190,7 +190,7 @@ impl Graph {
         ensures marks { (goal : ℕ) → goal < self.now.labels
             → IsSet seen.new (node_total self.now + goal) ↔ Reaches self.now (map (λ v. v.items) sets.now) goal }
         ensures paths { (goal : ℕ) → goal < self.now.labels → IsSet seen.new (node_total self.now + goal)
-            → LeadsTo self.now (map (λ v. v.items) sets.now) goal
+            → IsPathTo self.now (map (λ v. v.items) sets.now) goal
             (traced arrivals.new (length self.now.layers) (node_total self.now + goal)) }
         ensures within { AreWithin (length seen.new) arrivals.new }
     {
@@ -209,7 +209,7 @@ impl Graph {
         requires sets { AreSetsOf self.now.layers sets.now }
         requires label { label < self.now.labels }
         ensures { IfOk result (λ o. MatchOption o (Reaches self.now sets.now label → ⊥)
-            (λ p. LeadsTo self.now sets.now label p)) }
+            (λ p. IsPathTo self.now sets.now label p)) }
     {
         let mut marks = Marks::new(alloc, self)?;
         self.reach(sets, &mut marks);

@@ -6,7 +6,7 @@ use station_graph::NodeList;
 /// closed one), of a closed disconnector, or of a link. It leads to a node where a closed switch stands, or to one
 /// with a tap, and no other way from its first node to such a node has fewer nodes. Where the first
 /// node is such a node itself, the chain is that node alone.
-#[derive(Debug, Drop)]
+#[derive(Drop)]
 pub struct Chain {
     /// its nodes, from the first to the last, no node twice
     pub nodes: NodeList,

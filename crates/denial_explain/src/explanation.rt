@@ -4,7 +4,7 @@ use ilk_base::{Op, Rule};
 use station_graph::NodeList;
 
 /// Why an operation breaks a rule in a reading of the positions.
-#[derive(Debug, Drop)]
+#[derive(Drop)]
 pub struct Explanation {
     /// the operation
     pub op: Op,

@@ -12,7 +12,7 @@ use std::marker::Model;
 
 // For each node the nodes to which one item joins it, seen as one list of nodes for each node. A node
 // stands in a list as often as there are items that join the two.
-#[derive(Debug, Drop)]
+#[derive(Drop)]
 pub(crate) struct Neighbours {
     lists: Vec<NodeList>,
 }

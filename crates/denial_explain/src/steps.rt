@@ -11,7 +11,7 @@ use station_graph::NodeList;
 use std::alloc::Global;
 
 // A way, and its last node.
-#[derive(Debug, Drop)]
+#[derive(Drop)]
 pub(crate) struct Way {
     pub(crate) nodes: NodeList,
     pub(crate) last: NodeId,

@@ -1,14 +1,12 @@
 -- The place of a path among paths that differ.
-use Rattle.std.proofs.Common.{◌≡◌, ◌≢◌, ◌<◌, ℕ, zero, suc, Bool, true, false, cond, List, [], ◌∷◌, length, map, get_or}
+use Rattle.std.proofs.Common.{◌≡◌, ◌≢◌, ◌<◌, ℕ, zero, suc, Bool, true, false, cond, List, [], ◌∷◌, length, get_or}
 use Rattle.std.proofs.Common.{Option, Some, None, option_map, refl, sym, ap, ◌∙◌, arith}
-use Rattle.std.specs.Prelude.{slice_get, Contains, replicate}
+use Rattle.std.specs.Prelude.{slice_get, Contains}
 use Rattle.std.specs.Str.{bytes_eq, is_utf8, IsUtf8}
 use Rattle.std.proofs.lemmas.Slice.Eq.{bytes_eq-Decides}
 use Rattle.std.proofs.lemmas.Str.{IsUtf8-from_is_utf8}
-use Rattle.ilk_base.specs.declared.words.Dbpos.{Dbpos}
 use Rattle.station_graph.specs.Diagram.{Differ}
 use Rattle.double_points.specs.Paths.{place_of, IsDistinct}
-use Rattle.double_points.specs.Positions.{given}
 
 pub not_utf8 : (bs : List ℕ) → ¬ (IsUtf8 bs) → is_utf8 bs ≡ false
 not_utf8 bs h = by_cases (is_utf8 bs) refl h
@@ -76,8 +74,3 @@ place_of-some (x ∷ paths) p i e = by_cases (bytes_eq x p) (place_of p paths) i
         let k : j ≡ i = cc e in
         let m = more i (ap Some k) in
         (omega (arith, m.0), m.1)
-
--- no record gives a path a word
-pub none_given : (paths : List (List ℕ)) → map (given []) paths ≡ replicate (length paths) None
-none_given [] = refl
-none_given (p ∷ paths) = ap (λ (l : List (Option Dbpos)). None ∷ l) (none_given paths)

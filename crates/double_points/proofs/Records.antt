@@ -11,7 +11,7 @@ use Rattle.csv.specs.Records.{field_at}
 use Rattle.ilk_base.specs.declared.words.Dbpos.{Dbpos}
 use Rattle.double_points.specs.Paths.{IsDistinct, place_of}
 use Rattle.double_points.specs.Words.{word_of}
-use Rattle.double_points.specs.Positions.{Row, form_fault, fault_at, names, given, HaveWords, IsFirstFault, Accepts}
+use Rattle.double_points.specs.Positions.{Row, form_fault, fault_at, names, given, HaveWords, IsFirstRowFault, Accepts}
 use Rattle.double_points.specs.Positions.{words_of}
 use Rattle.ilk_base.specs.declared.words.Dbpos.TheVariants.{Lost}
 
@@ -189,7 +189,7 @@ one_more paths before row p w distinct place word =
 -- the first fault stands here
 pub refused_here : (paths : List (List ℕ)) (all : List Row) (k n : ℕ) → k < length all → fault_at paths all k ≡ Some n →
     ((j : ℕ) → j < k → fault_at paths all j ≡ None)
-    → IsFirstFault paths all (record { number = n; line = k + 1 })
+    → IsFirstRowFault paths all (record { number = n; line = k + 1 })
 refused_here paths all k n lt fault first =
     let e : k + 1 - 1 ≡ k = omega arith in
     record {

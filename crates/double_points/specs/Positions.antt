@@ -9,8 +9,6 @@ use Rattle.double_points.specs.Words.{word_of}
 use Rattle.ilk_base.specs.declared.words.Dbpos.{Dbpos}
 use Rattle.ilk_base.specs.declared.words.Dbpos.TheVariants.{Lost}
 use Rattle.double_points.specs.Rows.{rows_of}
-use Rattle.double_points.specs.declared.positions.PositionsFault.{PositionsFault}
-use Rattle.double_points.specs.declared.positions.PositionsFault.TheVariants.{Memory, Refused}
 use Rattle.ilk_base.specs.declared.words.InputRefusal.{InputRefusal}
 
 -- A record, as the list of its fields.
@@ -48,7 +46,7 @@ abbrev pub Accepts : List (List ℕ) → List Row → Type 0
 Accepts paths rows = (k : ℕ) → k < length rows → fault_at paths rows k ≡ None
 
 -- This record is the first with a fault, and this is its fault.
-pub record IsFirstFault (paths : List (List ℕ)) (rows : List Row) (r : InputRefusal) : Type 0 where
+pub record IsFirstRowFault (paths : List (List ℕ)) (rows : List Row) (r : InputRefusal) : Type 0 where
   pub counts : 1 ≤ r.line
   pub within : r.line ≤ length rows
   pub fault : fault_at paths rows (r.line - 1) ≡ Some r.number
@@ -71,12 +69,7 @@ IsAccepted paths bytes words = (length bytes ≤ FILE_BYTES) × Accepts paths (r
 -- Why a file is refused.
 abbrev pub IsRefusedWith : List (List ℕ) → List ℕ → InputRefusal → Type 0
 IsRefusedWith paths bytes r = ((FILE_BYTES < length bytes) × (r ≡ record { number = 5; line = 0 }))
-    ⊎ ((length bytes ≤ FILE_BYTES) × IsFirstFault paths (rows_of bytes) r)
-
--- This holds of the refusal, where there is one; want of memory has no cause.
-abbrev pub ForRefused : PositionsFault → (InputRefusal → Type 0) → Type 0
-ForRefused Memory P = ⊤
-ForRefused (Refused r) P = P r
+    ⊎ ((length bytes ≤ FILE_BYTES) × IsFirstRowFault paths (rows_of bytes) r)
 
 -- Each record has a word.
 abbrev pub HaveWords : List Row → Type 0

@@ -12,7 +12,7 @@ use std::marker::Model;
 
 /// The words of one bay's switches, in their order, seen as the list of these words. There is room for the
 /// most switches of a bay, kept in place: it takes no memory, and a copy is made at once.
-#[derive(Clone, Copy, Debug)]
+#[derive(Clone, Copy)]
 pub struct BayWords {
     words: [Dbpos; BAY_SWITCHES],
     count: usize,

@@ -10,6 +10,3 @@ pub use bay_words::BayWords;
 pub use positions::{PositionsFault, read_positions, switch_named, text_of};
 pub use readings::{Readings, agrees, word_from};
 pub use rows::Rows;
-
-#[cfg(test)]
-mod tests;

@@ -1,48 +1,23 @@
 //! The file of positions.
-ghost use Rattle.std.specs.Prelude.{◌≡◌, ◌≢◌, ◌<◌, ◌≤◌, ℕ, List, [], ◌∷◌, length, map, Some, None, Err, IfOk, IfErr};
+ghost use Rattle.std.specs.Prelude.{◌≡◌, ◌≢◌, ◌<◌, ◌≤◌, ℕ, List, [], ◌∷◌, length, map, Some, None, IfOk, IfErr};
 ghost use Rattle.std.specs.Prelude.{OnOk, IfSome, IfNone, unwrap_or, slice_index_or, true, false};
 ghost use Rattle.std.specs.Str.{is_utf8};
 ghost use Rattle.csv.specs.Records.{fields_of};
 ghost use Rattle.double_points.specs.Words.{word_of, AreWords};
 ghost use Rattle.double_points.specs.Paths.{place_of};
-ghost use Rattle.double_points.specs.Positions.{form_fault, given, IsAccepted, IsRefusedWith, ForRefused};
+ghost use Rattle.double_points.specs.Positions.{form_fault, given, IsAccepted, IsRefusedWith};
+ghost use Rattle.ilk_base.specs.Inputs.{ForRefused};
 ghost use Rattle.ilk_base.specs.declared.words.Dbpos.TheVariants as word;
 
 use crate::readings::{Readings, readings_of, word_from};
 use crate::rows::Rows;
 use csv::ByteRecord;
-use ilk_base::{Dbpos, FILE_BYTES, InputRefusal, Memory, SwitchId};
+use ilk_base::{Dbpos, FILE_BYTES, Memory, SwitchId};
 use station_graph::Station;
-use std::alloc::{AllocError, Global};
+use std::alloc::Global;
 
 /// Why a positions file gave no readings.
-#[derive(Clone, Copy, Debug, PartialEq, Eq)]
-pub enum PositionsFault {
-    /// There was not enough memory.
-    Memory,
-    /// The file is refused at its first record with a fault, or, with line 0, for its length.
-    Refused(InputRefusal),
-}
-
-impl From<Memory> for PositionsFault {
-    ghost use Rattle.double_points.specs.declared.positions.PositionsFault.TheVariants.{Memory};
-
-    ghost from_gives = { λ _ e. e ≡ Memory };
-
-    fn from(_: Memory) -> Self {
-        PositionsFault::Memory
-    }
-}
-
-impl From<AllocError> for PositionsFault {
-    ghost use Rattle.double_points.specs.declared.positions.PositionsFault.TheVariants.{Memory};
-
-    ghost from_gives = { λ _ e. e ≡ Memory };
-
-    fn from(_: AllocError) -> Self {
-        PositionsFault::Memory
-    }
-}
+pub use ilk_base::InputFault as PositionsFault;
 
 /// The bytes as text, where they are UTF-8. Time: their length.
 pub fn text_of(bytes: &[u8]) -> Option<&str>
@@ -145,13 +120,6 @@ fn filled(alloc: Global, found: &[Option<Dbpos>]) -> Result<Vec<Dbpos>, Memory>
     Ok(words)
 }
 
-// The answer that the file is refused.
-fn refused(number: u8, line: u32) -> Result<Readings, PositionsFault>
-    ensures { result ≡ Err (PositionsFault.Refused (record { number = number; line = line })) }
-{
-    Err(PositionsFault::Refused(InputRefusal { number, line }))
-}
-
 /// Reads a positions file: records `PATH,WORD` (docs/FORMATS.md). A switch that no record names is
 /// lost. A file is refused at its first record with a fault, with the fault's number and the
 /// record's, from 1; blank lines are no records. In one record the faults come in this order: 1 not
@@ -169,7 +137,7 @@ pub fn read_positions(
     ensures count { IfOk result (λ r. AreWords station.now r) }
 {
     if bytes.len() > FILE_BYTES {
-        return refused(5, 0);
+        return Err(PositionsFault::refused(5, 0));
     }
     station.is_station();
     let mut rows = Rows::new(alloc, bytes);
@@ -180,10 +148,10 @@ pub fn read_positions(
         line += 1;
         let (place, word) = match parsed(station, &row) {
             Ok(p) => p,
-            Err(number) => return refused(number, line),
+            Err(number) => return Err(PositionsFault::refused(number, line)),
         };
         if found[place].is_some() {
-            return refused(4, line);
+            return Err(PositionsFault::refused(4, line));
         }
         found[place] = Some(word);
     }

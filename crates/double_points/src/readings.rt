@@ -45,7 +45,7 @@ pub fn agrees(word: Dbpos, closed: bool) -> bool
 }
 
 /// The words of all switches of a station, seen as a list with one entry for each switch.
-#[derive(Debug, Drop)]
+#[derive(Drop)]
 pub struct Readings {
     words: Vec<Dbpos>,
 }

@@ -12,12 +12,12 @@ use Rattle.equation_audit.specs.declared.condition.Condition.{Condition}
 use Rattle.equation_audit.specs.Equations.{Equation, HasFewOwn}
 use Rattle.equation_audit.specs.BlockLines.{Statement, LineSays, Say, body, front, whole, HasBlock, OneEach, AllFew}
 use Rattle.equation_audit.specs.BlockLines.{HasHeadFault, IsOutOfPlace, BodyFaultAfter, IsEndPassed}
-use Rattle.equation_audit.specs.BlockLines.{IsRest, IsRestFault, IsFirstFault}
+use Rattle.equation_audit.specs.BlockLines.{IsRest, IsRestFault, IsFirstBlockFault}
 use Rattle.text_lines.specs.Lines.{filled_lines}
 use Rattle.std.specs.Str.Lines.{lines}
-use Rattle.equation_audit.specs.BlockFaults.{ForRefused}
-use Rattle.equation_audit.specs.declared.reading.BlocksFault.{BlocksFault}
-use Rattle.equation_audit.specs.declared.reading.BlocksFault.TheVariants.{Memory, Refused}
+use Rattle.ilk_base.specs.Inputs.{ForRefused}
+use Rattle.ilk_base.specs.declared.input_fault.InputFault.{InputFault}
+use Rattle.ilk_base.specs.declared.input_fault.InputFault.TheVariants.{Memory, Refused}
 use Rattle.equation_audit.proofs.BodyLemmas.{Say-append, Say-push}
 
 -- the lines before those that are left say these
@@ -155,7 +155,7 @@ pub first_head_fault : (d : Diagram) (bytes : List ℕ) (left : List (ℕ × Lis
     (rest : List (ℕ × List ℕ)) (es : List Equation) (r : InputRefusal) → left ≡ (number, line) ∷ rest →
     (r.line ≡ number)
     × HasHeadFault d es line r.number → OneEach es → AllFew es
-    → HasSaid d (filled_lines bytes) left (flat_map whole es) → IsFirstFault d bytes r
+    → HasSaid d (filled_lines bytes) left (flat_map whole es) → IsFirstBlockFault d bytes r
 first_head_fault d bytes left number line rest es r first fault one_each few said = record {
   before = said.before;
   blocks = es;
@@ -176,7 +176,7 @@ pub first_body_fault : (d : Diagram) (bytes : List ℕ) (left : List (ℕ × Lis
     (rest : List (ℕ × List ℕ)) (es : List Equation) (op : Op) (count : ℕ) (r : InputRefusal) → left ≡ line ∷ rest →
     NamesOperation d line.1 op → count ≡ length (lines bytes) → IsRestFault d rest count r → OneEach es →
     ¬ HasBlock es op → AllFew es
-    → HasSaid d (filled_lines bytes) left (flat_map whole es) → IsFirstFault d bytes r
+    → HasSaid d (filled_lines bytes) left (flat_map whole es) → IsFirstBlockFault d bytes r
 first_body_fault d bytes left line rest es op count r first names counted fault one_each new few said =
     let found = fault_in_block d (filled_lines bytes) left line rest es op count r first names fault said in
     record {
@@ -199,7 +199,7 @@ never_out line other = record {
       λ closed path is. refl;
 }
 
-pub for_refused_weaker : (e : BlocksFault) (P Q : InputRefusal → Type 0) → ((r : InputRefusal) → P r → Q r) →
+pub for_refused_weaker : (e : InputFault) (P Q : InputRefusal → Type 0) → ((r : InputRefusal) → P r → Q r) →
     ForRefused e P → ForRefused e Q
 for_refused_weaker Memory P Q weaker holds = tt
 for_refused_weaker (Refused r) P Q weaker holds = weaker r holds

@@ -150,7 +150,7 @@ begun_lines None = []
 begun_lines (Some e) = front e
 
 -- The first fault of the text: the lines before it are whole blocks, and perhaps one that is begun.
-pub record IsFirstFault (d : Diagram) (bytes : List ℕ) (r : InputRefusal) : Type 0 where
+pub record IsFirstBlockFault (d : Diagram) (bytes : List ℕ) (r : InputRefusal) : Type 0 where
   pub before : List (ℕ × List ℕ)
   pub blocks : List Equation
   pub begun : Option Equation
@@ -163,7 +163,7 @@ pub record IsFirstFault (d : Diagram) (bytes : List ℕ) (r : InputRefusal) : Ty
 abbrev pub IsBlocksFault : Diagram → List ℕ → InputRefusal → Type 0
 IsBlocksFault d bytes r =
     ((FILE_BYTES < length bytes) × (r ≡ record { number = 5; line = 0 }))
-    ⊎ ((length bytes ≤ FILE_BYTES) × IsFirstFault d bytes r)
+    ⊎ ((length bytes ≤ FILE_BYTES) × IsFirstBlockFault d bytes r)
 
 -- The next line was `end`.
 pub record IsEndPassed (old new : List (ℕ × List ℕ)) : Type 0 where

@@ -11,7 +11,7 @@ use std::marker::Model;
 pub const MOST_OWN: usize = 12;
 
 // An alternative of a block, seen as the list of its conditions.
-#[derive(Debug, Drop)]
+#[derive(Drop)]
 pub(crate) struct Alternative {
     pub(crate) conditions: Vec<Condition>,
 }
@@ -27,7 +27,7 @@ impl Model for Alternative {
 
 // A block, seen as its equation. It keeps its own switches, each once, in the order in which they are
 // first named.
-#[derive(Debug, Drop)]
+#[derive(Drop)]
 pub(crate) struct Block {
     pub(crate) op: Op,
     pub(crate) alternatives: Vec<Alternative>,
@@ -65,7 +65,7 @@ impl Block {
 }
 
 /// The blocks of a text, seen as the list of their equations. They are made by `read_blocks`.
-#[derive(Debug, Drop)]
+#[derive(Drop)]
 pub struct Blocks {
     pub(crate) blocks: Vec<Block>,
 }

@@ -8,7 +8,7 @@ use station_graph::Station;
 use text_lines::after;
 
 /// A condition: the switch has this position.
-#[derive(Clone, Copy, Debug)]
+#[derive(Clone, Copy)]
 pub struct Condition {
     /// the switch
     pub switch: SwitchId,

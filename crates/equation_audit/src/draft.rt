@@ -12,7 +12,7 @@ use std::alloc::{AllocFailed, Global};
 use std::marker::Model;
 
 // Why a condition is not added.
-#[derive(Clone, Copy, Debug, PartialEq, Eq)]
+#[derive(Clone, Copy, PartialEq, Eq)]
 pub(crate) enum DraftFault {
     // There was not enough memory.
     Memory,
@@ -57,7 +57,7 @@ fn with_own(mut own: Vec<SwitchId>, id: SwitchId) -> Result<Vec<SwitchId>, Draft
 }
 
 // What was read of a body that is not `never`, seen as its alternatives; one is always begun.
-#[derive(Debug, Drop)]
+#[derive(Drop)]
 pub(crate) struct Draft {
     // those before the last
     earlier: Vec<Alternative>,

@@ -3,7 +3,7 @@ use ilk_base::{Op, Rule, SwitchId};
 use station_graph::Vector;
 
 /// A vector in which a block releases what the rules forbid.
-#[derive(Debug, Drop)]
+#[derive(Drop)]
 pub struct Loose {
     /// the first rule that is broken in the vector
     pub rule: Rule,
@@ -13,7 +13,7 @@ pub struct Loose {
 
 /// What is found of a block: where it is loose and where it is strict. It is the same as the rules where it
 /// is neither.
-#[derive(Debug, Drop)]
+#[derive(Drop)]
 pub struct Finding {
     /// the operation of the block
     pub op: Op,

@@ -20,7 +20,7 @@ fn some_differ(findings: &[Finding]) -> bool
 }
 
 /// What is found of each block of a text, seen as the list of that. It is made by `audit`.
-#[derive(Debug, Drop)]
+#[derive(Drop)]
 pub struct Audit {
     pub(crate) findings: Vec<Finding>,
 }

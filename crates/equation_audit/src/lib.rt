@@ -9,7 +9,7 @@ mod finding;
 mod findings;
 mod laws;
 mod question;
-mod reading;
+mod read;
 mod text;
 
 pub use auditing::audit;
@@ -18,7 +18,4 @@ pub use condition::Condition;
 pub use finding::{Finding, Loose};
 pub use findings::Audit;
 pub use laws::{one_outcome, same_is_exact};
-pub use reading::{BlocksFault, read_blocks};
-
-#[cfg(test)]
-mod tests;
+pub use read::{BlocksFault, read_blocks};

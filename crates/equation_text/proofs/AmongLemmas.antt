@@ -2,10 +2,10 @@
 use Rattle.std.proofs.Common.{◌≡◌, ◌∙◌, ◌⊎◌, ℕ, ◌+◌, zero, suc, List, [], ◌∷◌, ◌++◌, refl, sym, ap, subst}
 use Rattle.std.proofs.Common.{inl, inr, arith, Some, append_assoc}
 use Rattle.std.specs.Prelude.{slice_get, codes}
-use Rattle.equation_text.specs.EquationText.{text_of}
+use Rattle.station_equations.specs.EquationText.{text_of}
 use Rattle.equation_text.specs.Words.{Lacks}
 use Rattle.equation_text.specs.Faults.{EndsInLf, HasLine, IsLine}
-use Rattle.equation_text.proofs.TextLemmas.{text_of-append}
+use Rattle.station_equations.proofs.TextLemmas.{text_of-append}
 use Rattle.equation_text.proofs.GroupLemmas.{lines_from, text_cons}
 use Rattle.equation_text.proofs.WholeText.{whole_more, whole_text}
 use Rattle.equation_text.proofs.FilledLemmas.{at_either}

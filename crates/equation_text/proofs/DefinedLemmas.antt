@@ -3,8 +3,8 @@ use Rattle.std.proofs.Common.{◌≡◌, ◌∙◌, ◌↔◌, ℕ, zero, suc, B
 use Rattle.std.proofs.Common.{subst}
 use Rattle.std.specs.Prelude.{IsTrue}
 use Rattle.std.proofs.lemmas.Option.{same_Some}
-use Rattle.equation_text.specs.declared.goal.Goal.{Goal}
-use Rattle.equation_text.specs.EquationForm.{IsGoal}
+use Rattle.station_equations.specs.declared.goal.Goal.{Goal}
+use Rattle.station_equations.specs.EquationForm.{IsGoal}
 use Rattle.equation_text.specs.Defined.{GoalsThere}
 
 pub both_there : (n : ℕ) (off on : Goal) → IsGoal n off → IsGoal n on → GoalsThere n (off ∷ on ∷ [])

@@ -8,11 +8,12 @@ use Rattle.ilk_base.specs.declared.words.Direction.TheVariants.{ToOff, ToOn}
 use Rattle.station_graph.specs.Diagram.{Diagram, IsStation, part_count}
 use Rattle.bay_contract.specs.declared.fork.PartStep.{PartStep}
 use Rattle.bay_contract.specs.declared.fork.Target.{Target}
-use Rattle.equation_text.specs.declared.goal.SwitchGoals.{SwitchGoals}
-use Rattle.equation_text.specs.declared.goal.TheConstants.{NUMBERS}
-use Rattle.equation_text.specs.EquationLines.{PartLines, NodeLine, part_node, switch_node, EquationLines, goal_count}
-use Rattle.equation_text.specs.EquationForm.{IsGoal}
-use Rattle.equation_text.specs.EquationText.{part_line, step_line, op_line, node_line, lines_of, text_of}
+use Rattle.station_equations.specs.declared.goal.SwitchGoals.{SwitchGoals}
+use Rattle.station_equations.specs.declared.goal.TheConstants.{NUMBERS}
+use Rattle.station_equations.specs.EquationLines.{PartLines, NodeLine, part_node, switch_node, EquationLines}
+use Rattle.station_equations.specs.EquationLines.{goal_count}
+use Rattle.station_equations.specs.EquationForm.{IsGoal}
+use Rattle.station_equations.specs.EquationText.{part_line, step_line, op_line, node_line, lines_of, text_of}
 use Rattle.equation_text.specs.Words.{Lacks}
 use Rattle.equation_text.specs.Beginnings.{test_text, goals_text}
 use Rattle.equation_text.specs.Reading.{start_lines, all_step_lines, op_lines, node_lines}

@@ -6,18 +6,18 @@ use Rattle.std.proofs.lemmas.List.{length-map, length-append}
 use Rattle.station_graph.specs.Diagram.{Diagram, part_count}
 use Rattle.bay_contract.specs.declared.fork.Target.{Target}
 use Rattle.bay_contract.specs.declared.fork.Target.TheVariants.{Index}
-use Rattle.equation_text.specs.declared.goal.Goal.TheVariants.{Answer}
-use Rattle.equation_text.specs.declared.goal.SwitchGoals.{SwitchGoals}
-use Rattle.equation_text.specs.declared.goal.TheConstants.{NUMBERS}
-use Rattle.equation_text.specs.EquationLines.{PartLines, EquationLines, goal_count}
-use Rattle.equation_text.specs.EquationForm.{IsTarget, SwitchGoalsFit}
-use Rattle.equation_text.specs.EquationText.{text_of}
+use Rattle.station_equations.specs.declared.goal.Goal.TheVariants.{Answer}
+use Rattle.station_equations.specs.declared.goal.SwitchGoals.{SwitchGoals}
+use Rattle.station_equations.specs.declared.goal.TheConstants.{NUMBERS}
+use Rattle.station_equations.specs.EquationLines.{PartLines, EquationLines, goal_count}
+use Rattle.station_equations.specs.EquationForm.{IsTarget, SwitchGoalsFit}
+use Rattle.station_equations.specs.EquationText.{text_of}
 use Rattle.equation_text.specs.Reading.{front_text, start_lines, all_step_lines, op_lines, node_lines}
 use Rattle.equation_text.specs.Reading.{MayBeStarts, MayBeSteps, MayBeOps, MayBeNodes}
 use Rattle.equation_text.specs.ReadText.{MayBeParts}
 use Rattle.equation_text.specs.Faults.{AreFormed, BeginsText}
-use Rattle.equation_text.proofs.TextLemmas.{text_of-append}
-use Rattle.equation_text.proofs.TurnLemmas.{unmapped}
+use Rattle.station_equations.proofs.TextLemmas.{text_of-append}
+use Rattle.station_equations.proofs.TurnLemmas.{unmapped}
 use Rattle.equation_text.proofs.GroupLemmas.{lines_from}
 use Rattle.equation_text.proofs.ReadLemmas.{start_of, ops_of, whole_groups}
 

@@ -6,8 +6,8 @@ use Rattle.std.specs.Prelude.{MatchOption, IfSome}
 use Rattle.std.proofs.lemmas.Bool.{cases_lt, cases_eq}
 use Rattle.std.proofs.lemmas.List.{append_cancel_left, length-append}
 use Rattle.station_graph.specs.Diagram.{Diagram}
-use Rattle.equation_text.specs.EquationLines.{EquationLines}
-use Rattle.equation_text.specs.EquationText.{lines_of, text_of}
+use Rattle.station_equations.specs.EquationLines.{EquationLines}
+use Rattle.station_equations.specs.EquationText.{lines_of, text_of}
 use Rattle.equation_text.specs.Words.{Lacks}
 use Rattle.equation_text.specs.Reading.{front_text}
 use Rattle.equation_text.specs.Faults.{feeds, EndsInLf, AreFormed, BeginsText, IsWrongAt, IsWrong, HasUndefined}

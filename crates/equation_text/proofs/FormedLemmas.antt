@@ -8,14 +8,14 @@ use Rattle.std.proofs.lemmas.Option.{slice_get_within}
 use Rattle.station_graph.specs.Diagram.{Diagram, IsStation, part_count}
 use Rattle.bay_contract.specs.declared.fork.PartStep.{PartStep}
 use Rattle.bay_contract.specs.declared.fork.Target.{Target}
-use Rattle.equation_text.specs.declared.goal.SwitchGoals.{SwitchGoals}
-use Rattle.equation_text.specs.declared.goal.TheConstants.{NUMBERS}
-use Rattle.equation_text.specs.EquationLines.{PartLines, NodeLine, EquationLines, goal_count}
-use Rattle.equation_text.specs.EquationForm.{IsTarget}
-use Rattle.equation_text.specs.EquationText.{node_line, lines_of, text_of}
+use Rattle.station_equations.specs.declared.goal.SwitchGoals.{SwitchGoals}
+use Rattle.station_equations.specs.declared.goal.TheConstants.{NUMBERS}
+use Rattle.station_equations.specs.EquationLines.{PartLines, NodeLine, EquationLines, goal_count}
+use Rattle.station_equations.specs.EquationForm.{IsTarget}
+use Rattle.station_equations.specs.EquationText.{node_line, lines_of, text_of}
 use Rattle.equation_text.specs.Reading.{front_text, start_lines, all_step_lines, op_lines, node_lines}
 use Rattle.equation_text.specs.Reading.{MayBeStarts, MayBeSteps, MayBeOps, MayBeNodes, NoStep, AreAllSteps}
-use Rattle.equation_text.proofs.TurnLemmas.{unmapped}
+use Rattle.station_equations.proofs.TurnLemmas.{unmapped}
 use Rattle.equation_text.proofs.GroupLemmas.{text_one, once, next}
 use Rattle.equation_text.proofs.OnceLemmas.{any_target}
 use Rattle.equation_text.proofs.ReadLemmas.{start_of, StartFits, start_one, ops_of, OpFits, op_one}

@@ -3,8 +3,8 @@ use Rattle.std.proofs.Common.{◌≡◌, ◌∙◌, ℕ, ◌+◌, ◌<◌, suc, 
 use Rattle.std.proofs.Common.{ap, subst, arith, Some, append_assoc}
 use Rattle.std.specs.Prelude.{codes, slice_get}
 use Rattle.std.specs.List.{flat_map, enumerate_from}
-use Rattle.equation_text.specs.EquationText.{text_of}
-use Rattle.equation_text.proofs.TextLemmas.{text_of-append}
+use Rattle.station_equations.specs.EquationText.{text_of}
+use Rattle.station_equations.proofs.TextLemmas.{text_of-append}
 
 pub text_cons : (l : List ℕ) (ls : List (List ℕ)) (r : List ℕ) → text_of (l ∷ ls) ++ r ≡ l ++ 10 ∷ (text_of ls ++ r)
 text_cons l ls r = append_assoc (l ++ codes "\n") (text_of ls) r ∙ append_assoc l (codes "\n") (text_of ls ++ r)

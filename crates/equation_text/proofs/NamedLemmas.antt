@@ -8,12 +8,12 @@ use Rattle.ilk_base.specs.declared.words.Direction.TheVariants.{ToOff, ToOn}
 use Rattle.central_rules.specs.Names.{direction_name}
 use Rattle.bay_contract.specs.declared.fork.PartStep.{PartStep}
 use Rattle.bay_contract.specs.declared.fork.Target.TheVariants.{Step}
-use Rattle.equation_text.specs.declared.goal.Goal.{Goal}
-use Rattle.equation_text.specs.declared.goal.Goal.TheVariants.{Node}
-use Rattle.equation_text.specs.declared.goal.SwitchGoals.{SwitchGoals}
-use Rattle.equation_text.specs.EquationLines.{PartLines, part_node, switch_node, goal_towards}
-use Rattle.equation_text.specs.EquationText.{then_word, then_number, target_text, goal_text, part_line, step_line}
-use Rattle.equation_text.specs.EquationText.{op_line, node_line}
+use Rattle.station_equations.specs.declared.goal.Goal.{Goal}
+use Rattle.station_equations.specs.declared.goal.Goal.TheVariants.{Node}
+use Rattle.station_equations.specs.declared.goal.SwitchGoals.{SwitchGoals}
+use Rattle.station_equations.specs.EquationLines.{PartLines, part_node, switch_node, goal_towards}
+use Rattle.station_equations.specs.EquationText.{then_word, then_number, target_text, goal_text, part_line, step_line}
+use Rattle.station_equations.specs.EquationText.{op_line, node_line}
 use Rattle.equation_text.specs.Words.{Lacks}
 use Rattle.equation_text.specs.Beginnings.{goals_text}
 use Rattle.equation_text.specs.Faults.{step_of, node_of, HasNumber, Names, IsNextWord}

@@ -5,13 +5,13 @@ use Rattle.std.proofs.Common.{append-nil}
 use Rattle.std.specs.Prelude.{codes, decimal, slice_get}
 use Rattle.std.proofs.lemmas.Grind.{flat_map-append}
 use Rattle.std.proofs.lemmas.Bool.Decides.{nat_tests}
-use Rattle.equation_text.specs.declared.goal.Goal.{Goal}
-use Rattle.equation_text.specs.declared.goal.TheConstants.{NUMBERS}
-use Rattle.equation_text.specs.EquationForm.{IsLaterGoal, AreLaterGoals}
-use Rattle.equation_text.specs.EquationText.{goal_text, then_word}
+use Rattle.station_equations.specs.declared.goal.Goal.{Goal}
+use Rattle.station_equations.specs.declared.goal.TheConstants.{NUMBERS}
+use Rattle.station_equations.specs.EquationForm.{IsLaterGoal, AreLaterGoals}
+use Rattle.station_equations.specs.EquationText.{goal_text, then_word}
 use Rattle.equation_text.specs.Words.{IsFirstWord}
 use Rattle.equation_text.specs.Beginnings.{goals_text}
-use Rattle.equation_text.proofs.GrowingLemmas.{get_push}
+use Rattle.station_equations.proofs.GrowingLemmas.{get_push}
 use Rattle.equation_text.proofs.WordLemmas.{lacks_goal, lacks_decimal, word_once}
 use Rattle.equation_text.proofs.OnceLemmas.{any_goal, goals_end}
 

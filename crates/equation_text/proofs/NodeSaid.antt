@@ -1,8 +1,8 @@
 -- The words behind a node's number.
 use Rattle.std.proofs.Common.{◌≡◌, ◌⊎◌, ℕ, List, [], ◌∷◌, ◌++◌, refl, ap, inl, inr, arith}
 use Rattle.std.specs.Prelude.{codes, decimal}
-use Rattle.equation_text.specs.EquationLines.{NodeLine, part_node, switch_node}
-use Rattle.equation_text.specs.EquationText.{node_line}
+use Rattle.station_equations.specs.EquationLines.{NodeLine, part_node, switch_node}
+use Rattle.station_equations.specs.EquationText.{node_line}
 use Rattle.equation_text.specs.Words.{numbered_head}
 use Rattle.equation_text.specs.Beginnings.{goals_text, IsPartNode, IsSwitchNode, MayBeNode}
 use Rattle.std.proofs.lemmas.List.{append_cancel_left}

@@ -9,13 +9,13 @@ use Rattle.ilk_base.specs.declared.words.Direction.TheVariants.{ToOff, ToOn}
 use Rattle.central_rules.specs.Names.{direction_name}
 use Rattle.bay_contract.specs.declared.fork.PartStep.{PartStep}
 use Rattle.bay_contract.specs.declared.fork.Target.{Target}
-use Rattle.equation_text.specs.declared.goal.Goal.{Goal}
-use Rattle.equation_text.specs.declared.goal.SwitchGoals.{SwitchGoals}
-use Rattle.equation_text.specs.declared.goal.TheConstants.{NUMBERS}
-use Rattle.equation_text.specs.EquationLines.{PartLines, NodeLine, part_node, switch_node, goal_towards}
-use Rattle.equation_text.specs.EquationForm.{IsTarget, IsLaterTarget, IsGoal, IsLaterGoal, AreLaterGoals}
-use Rattle.equation_text.specs.EquationText.{then_number, then_word, target_text, goal_text, part_line, step_line}
-use Rattle.equation_text.specs.EquationText.{op_line, node_line}
+use Rattle.station_equations.specs.declared.goal.Goal.{Goal}
+use Rattle.station_equations.specs.declared.goal.SwitchGoals.{SwitchGoals}
+use Rattle.station_equations.specs.declared.goal.TheConstants.{NUMBERS}
+use Rattle.station_equations.specs.EquationLines.{PartLines, NodeLine, part_node, switch_node, goal_towards}
+use Rattle.station_equations.specs.EquationForm.{IsTarget, IsLaterTarget, IsGoal, IsLaterGoal, AreLaterGoals}
+use Rattle.station_equations.specs.EquationText.{then_number, then_word, target_text, goal_text, part_line, step_line}
+use Rattle.station_equations.specs.EquationText.{op_line, node_line}
 use Rattle.equation_text.specs.Words.{Lacks, EndsWord, numbered_head}
 use Rattle.equation_text.specs.Beginnings.{test_text, goals_text}
 use Rattle.equation_text.proofs.WordLemmas.{lacks_all, lacks_by, lacks_decimal, lacks_target, lacks_goal, cut_once}

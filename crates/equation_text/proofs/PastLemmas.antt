@@ -5,8 +5,8 @@ use Rattle.std.specs.Prelude.{slice_get}
 use Rattle.std.specs.List.{flat_map}
 use Rattle.std.proofs.lemmas.Grind.{flat_map-append}
 use Rattle.bay_contract.specs.declared.fork.PartStep.{PartStep}
-use Rattle.equation_text.specs.EquationLines.{index_in, past_greatest}
-use Rattle.equation_text.proofs.TextLemmas.{take-next}
+use Rattle.station_equations.specs.EquationLines.{index_in, past_greatest}
+use Rattle.station_equations.proofs.TextLemmas.{take-next}
 
 -- the indices that steps write
 abbrev pub written : List PartStep → List ℕ

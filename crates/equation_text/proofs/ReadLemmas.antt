@@ -6,14 +6,14 @@ use Rattle.ilk_base.specs.declared.words.Direction.TheVariants.{ToOff, ToOn}
 use Rattle.station_graph.specs.Diagram.{Diagram}
 use Rattle.bay_contract.specs.declared.fork.PartStep.{PartStep}
 use Rattle.bay_contract.specs.declared.fork.Target.{Target}
-use Rattle.equation_text.specs.declared.goal.SwitchGoals.{SwitchGoals}
-use Rattle.equation_text.specs.declared.goal.TheConstants.{NUMBERS}
-use Rattle.equation_text.specs.EquationLines.{PartLines, NodeLine, EquationLines}
-use Rattle.equation_text.specs.EquationForm.{IsTarget, SwitchGoalsFit}
-use Rattle.equation_text.specs.EquationText.{then_number, then_word, target_text, switch_line, part_line, step_line}
-use Rattle.equation_text.specs.EquationText.{op_line, node_line, numbered, lines_of, text_of}
+use Rattle.station_equations.specs.declared.goal.SwitchGoals.{SwitchGoals}
+use Rattle.station_equations.specs.declared.goal.TheConstants.{NUMBERS}
+use Rattle.station_equations.specs.EquationLines.{PartLines, NodeLine, EquationLines}
+use Rattle.station_equations.specs.EquationForm.{IsTarget, SwitchGoalsFit}
+use Rattle.station_equations.specs.EquationText.{then_number, then_word, target_text, switch_line, part_line, step_line}
+use Rattle.station_equations.specs.EquationText.{op_line, node_line, numbered, lines_of, text_of}
 use Rattle.equation_text.specs.Reading.{front_text, start_lines, all_step_lines, op_lines, node_lines}
-use Rattle.equation_text.proofs.TextLemmas.{text_of-append}
+use Rattle.station_equations.proofs.TextLemmas.{text_of-append}
 use Rattle.equation_text.proofs.WordLemmas.{cut_once}
 use Rattle.equation_text.proofs.GroupLemmas.{text_cons, text_one, lines_from}
 use Rattle.equation_text.proofs.OnceLemmas.{part_lacks, part_once, step_lacks, step_once, op_lacks}

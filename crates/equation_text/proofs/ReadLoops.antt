@@ -11,16 +11,16 @@ use Rattle.ilk_base.specs.declared.words.Direction.TheVariants.{ToOff, ToOn}
 use Rattle.station_graph.specs.Diagram.{Diagram}
 use Rattle.bay_contract.specs.declared.fork.PartStep.{PartStep}
 use Rattle.bay_contract.specs.declared.fork.Target.{Target}
-use Rattle.equation_text.specs.declared.goal.SwitchGoals.{SwitchGoals}
-use Rattle.equation_text.specs.declared.goal.TheConstants.{NUMBERS}
-use Rattle.equation_text.specs.EquationLines.{PartLines, NodeLine, part_node, switch_node}
-use Rattle.equation_text.specs.EquationForm.{IsTarget, SwitchGoalsFit}
-use Rattle.equation_text.specs.EquationText.{part_line, op_line, node_line, numbered, text_of}
+use Rattle.station_equations.specs.declared.goal.SwitchGoals.{SwitchGoals}
+use Rattle.station_equations.specs.declared.goal.TheConstants.{NUMBERS}
+use Rattle.station_equations.specs.EquationLines.{PartLines, NodeLine, part_node, switch_node}
+use Rattle.station_equations.specs.EquationForm.{IsTarget, SwitchGoalsFit}
+use Rattle.station_equations.specs.EquationText.{part_line, op_line, node_line, numbered, text_of}
 use Rattle.equation_text.specs.Beginnings.{MayBeStep, MayBeNode, IsNodeLine}
 use Rattle.equation_text.specs.Reading.{start_lines, step_lines, op_lines, node_lines, MayBeStarts, MayBeSteps}
 use Rattle.equation_text.specs.Reading.{MayBeOps, MayBeNodes, NoneFrom, NoStep, AreAllSteps}
-use Rattle.equation_text.proofs.TextLemmas.{text_of-append, enumerate_from-push}
-use Rattle.equation_text.proofs.GrowingLemmas.{get_old, get_last, get_push}
+use Rattle.station_equations.proofs.TextLemmas.{text_of-append, enumerate_from-push}
+use Rattle.station_equations.proofs.GrowingLemmas.{get_old, get_last, get_push}
 use Rattle.equation_text.proofs.GroupLemmas.{text_one, once, next}
 use Rattle.equation_text.proofs.OnceLemmas.{IsWritable}
 use Rattle.equation_text.proofs.ReadLemmas.{start_of, StartFits, start_one, ops_of, OpFits, op_one, text_two}

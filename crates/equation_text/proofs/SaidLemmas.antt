@@ -5,11 +5,11 @@ use Rattle.std.specs.Prelude.{codes, decimal}
 use Rattle.ilk_base.specs.declared.words.Direction.{Direction}
 use Rattle.central_rules.specs.Names.{direction_name}
 use Rattle.bay_contract.specs.declared.fork.PartStep.{PartStep}
-use Rattle.equation_text.specs.declared.goal.Goal.{Goal}
-use Rattle.equation_text.specs.declared.goal.SwitchGoals.{SwitchGoals}
-use Rattle.equation_text.specs.EquationLines.{PartLines, part_node, switch_node, goal_towards}
-use Rattle.equation_text.specs.EquationText.{then_number, then_word, target_text, goal_text, part_line, step_line}
-use Rattle.equation_text.specs.EquationText.{op_line, node_line, lead_text}
+use Rattle.station_equations.specs.declared.goal.Goal.{Goal}
+use Rattle.station_equations.specs.declared.goal.SwitchGoals.{SwitchGoals}
+use Rattle.station_equations.specs.EquationLines.{PartLines, part_node, switch_node, goal_towards}
+use Rattle.station_equations.specs.EquationText.{then_number, then_word, target_text, goal_text, part_line, step_line}
+use Rattle.station_equations.specs.EquationText.{op_line, node_line, lead_text}
 use Rattle.equation_text.specs.Words.{numbered_head}
 use Rattle.equation_text.specs.Beginnings.{test_text, goals_text}
 

@@ -3,8 +3,8 @@ use Rattle.std.proofs.Common.{ℕ, ◌<◌, ◌≤◌, arith}
 use Rattle.station_graph.specs.Diagram.{Diagram, IsStation}
 use Rattle.bay_contract.specs.declared.fork.PartStep.{PartStep}
 use Rattle.equation_text.specs.Beginnings.{MayBeStep, IsTest}
-use Rattle.equation_text.specs.declared.goal.TheConstants.{NUMBERS}
-use Rattle.equation_text.specs.EquationText.{step_line}
+use Rattle.station_equations.specs.declared.goal.TheConstants.{NUMBERS}
+use Rattle.station_equations.specs.EquationText.{step_line}
 use Rattle.equation_text.specs.Words.{Lacks}
 use Rattle.equation_text.proofs.OnceLemmas.{any_target, step_lacks}
 

@@ -4,12 +4,12 @@ use Rattle.std.proofs.Common.{sym, ap, subst, inl, inr, arith, Some, append_asso
 use Rattle.std.specs.Prelude.{slice_get}
 use Rattle.station_graph.specs.Diagram.{Diagram}
 use Rattle.bay_contract.specs.declared.fork.PartStep.{PartStep}
-use Rattle.equation_text.specs.declared.goal.TheConstants.{NUMBERS}
-use Rattle.equation_text.specs.EquationLines.{PartLines}
-use Rattle.equation_text.specs.EquationText.{step_line, text_of}
+use Rattle.station_equations.specs.declared.goal.TheConstants.{NUMBERS}
+use Rattle.station_equations.specs.EquationLines.{PartLines}
+use Rattle.station_equations.specs.EquationText.{step_line, text_of}
 use Rattle.equation_text.specs.Beginnings.{MayBeStep}
 use Rattle.equation_text.specs.Reading.{step_lines, NoneFrom, NoStep}
-use Rattle.equation_text.proofs.TextLemmas.{text_of-append}
+use Rattle.station_equations.proofs.TextLemmas.{text_of-append}
 use Rattle.equation_text.proofs.GroupLemmas.{text_one, lines_from, once_ended}
 use Rattle.equation_text.proofs.OnceLemmas.{step_part}
 use Rattle.equation_text.proofs.ReadLemmas.{StepFits, step_of, step_one}

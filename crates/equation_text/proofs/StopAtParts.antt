@@ -2,9 +2,9 @@
 use Rattle.std.proofs.Common.{◌≡◌, ◌∙◌, ℕ, ◌≤◌, List, ◌∷◌, ◌++◌, length, map, refl, sym, ap, arith, append_assoc}
 use Rattle.std.proofs.lemmas.List.{append_cancel_left}
 use Rattle.station_graph.specs.Diagram.{Diagram, IsStation, part_count}
-use Rattle.equation_text.specs.declared.goal.TheConstants.{NUMBERS}
-use Rattle.equation_text.specs.EquationLines.{PartLines}
-use Rattle.equation_text.specs.EquationText.{part_line, lines_of, text_of}
+use Rattle.station_equations.specs.declared.goal.TheConstants.{NUMBERS}
+use Rattle.station_equations.specs.EquationLines.{PartLines}
+use Rattle.station_equations.specs.EquationText.{part_line, lines_of, text_of}
 use Rattle.equation_text.specs.Reading.{front_text, start_lines}
 use Rattle.equation_text.specs.Stops.{StopsIn, StopsAtStart, StopsWrong}
 use Rattle.equation_text.proofs.OnceLemmas.{part_lacks}

@@ -6,11 +6,11 @@ use Rattle.std.proofs.lemmas.List.{append_cancel_left, length-map, length_push}
 use Rattle.ilk_base.specs.declared.words.Direction.TheVariants.{ToOff, ToOn}
 use Rattle.station_graph.specs.Diagram.{Diagram, IsStation, part_count}
 use Rattle.bay_contract.specs.declared.fork.Target.{Target}
-use Rattle.equation_text.specs.declared.goal.Goal.TheVariants.{Answer}
-use Rattle.equation_text.specs.declared.goal.SwitchGoals.{SwitchGoals}
-use Rattle.equation_text.specs.declared.goal.TheConstants.{NUMBERS}
-use Rattle.equation_text.specs.EquationLines.{PartLines, NodeLine, EquationLines, goal_count}
-use Rattle.equation_text.specs.EquationText.{step_line, op_line, node_line, lines_of, text_of}
+use Rattle.station_equations.specs.declared.goal.Goal.TheVariants.{Answer}
+use Rattle.station_equations.specs.declared.goal.SwitchGoals.{SwitchGoals}
+use Rattle.station_equations.specs.declared.goal.TheConstants.{NUMBERS}
+use Rattle.station_equations.specs.EquationLines.{PartLines, NodeLine, EquationLines, goal_count}
+use Rattle.station_equations.specs.EquationText.{step_line, op_line, node_line, lines_of, text_of}
 use Rattle.equation_text.specs.Reading.{front_text, start_lines, all_step_lines, op_lines, node_lines}
 use Rattle.equation_text.specs.Reading.{MayBeStarts, MayBeOps, MayBeNodes, AreAllSteps}
 use Rattle.equation_text.specs.ReadText.{MayBeParts}

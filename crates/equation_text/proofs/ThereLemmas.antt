@@ -9,20 +9,21 @@ use Rattle.station_graph.specs.Diagram.{Diagram, IsStation}
 use Rattle.bay_contract.specs.declared.fork.PartStep.{PartStep}
 use Rattle.bay_contract.specs.declared.fork.Target.{Target}
 use Rattle.bay_contract.specs.declared.fork.Target.TheVariants.{Step, Index}
-use Rattle.equation_text.specs.declared.goal.Goal.{Goal}
-use Rattle.equation_text.specs.declared.goal.Goal.TheVariants.{Node, Answer}
-use Rattle.equation_text.specs.declared.goal.SwitchGoals.{SwitchGoals}
-use Rattle.equation_text.specs.declared.goal.TheConstants.{NUMBERS}
-use Rattle.equation_text.specs.EquationLines.{PartLines, NodeLine, part_node, switch_node, EquationLines, goal_count}
-use Rattle.equation_text.specs.EquationForm.{IsTarget, IsLaterGoal, IsGoal, goals_of}
-use Rattle.equation_text.specs.EquationText.{part_line, step_line, op_line, node_line, lines_of, text_of}
+use Rattle.station_equations.specs.declared.goal.Goal.{Goal}
+use Rattle.station_equations.specs.declared.goal.Goal.TheVariants.{Node, Answer}
+use Rattle.station_equations.specs.declared.goal.SwitchGoals.{SwitchGoals}
+use Rattle.station_equations.specs.declared.goal.TheConstants.{NUMBERS}
+use Rattle.station_equations.specs.EquationLines.{PartLines, NodeLine, part_node, switch_node, EquationLines}
+use Rattle.station_equations.specs.EquationLines.{goal_count}
+use Rattle.station_equations.specs.EquationForm.{IsTarget, IsLaterGoal, IsGoal, goals_of}
+use Rattle.station_equations.specs.EquationText.{part_line, step_line, op_line, node_line, lines_of, text_of}
 use Rattle.equation_text.specs.Words.{Lacks}
 use Rattle.equation_text.specs.Beginnings.{MayBeNode}
 use Rattle.equation_text.specs.Reading.{front_text, start_lines, all_step_lines, op_lines, node_lines}
 use Rattle.equation_text.specs.Defined.{AreThere}
 use Rattle.equation_text.specs.Faults.{Entry, step_of, node_of, IsDefined, Names, AreFormed, feeds}
 use Rattle.equation_text.specs.Entries.{NoneWithout}
-use Rattle.equation_text.proofs.TurnLemmas.{mapped}
+use Rattle.station_equations.proofs.TurnLemmas.{mapped}
 use Rattle.equation_text.proofs.OnceLemmas.{any_target, part_lacks, op_lacks, node_lacks}
 use Rattle.equation_text.proofs.StepFits.{may_lacks}
 use Rattle.equation_text.proofs.ReadLemmas.{start_of, ops_of, node_of as lines_of_node}

@@ -6,20 +6,21 @@ use Rattle.std.proofs.lemmas.List.{length-map, length-append}
 use Rattle.station_graph.specs.Diagram.{Diagram, IsStation, part_count}
 use Rattle.bay_contract.specs.declared.fork.Target.{Target}
 use Rattle.bay_contract.specs.declared.fork.Target.TheVariants.{Step, Index}
-use Rattle.equation_text.specs.declared.goal.Goal.{Goal}
-use Rattle.equation_text.specs.declared.goal.Goal.TheVariants.{Node, Answer}
-use Rattle.equation_text.specs.declared.goal.SwitchGoals.{SwitchGoals}
+use Rattle.station_equations.specs.declared.goal.Goal.{Goal}
+use Rattle.station_equations.specs.declared.goal.Goal.TheVariants.{Node, Answer}
+use Rattle.station_equations.specs.declared.goal.SwitchGoals.{SwitchGoals}
 use Rattle.text_lines.specs.declared.lines.TheConstants.{MOST_BYTES}
-use Rattle.equation_text.specs.declared.goal.TheConstants.{NUMBERS}
-use Rattle.equation_text.specs.EquationLines.{PartLines, NodeLine, part_node, switch_node, EquationLines, goal_count}
-use Rattle.equation_text.specs.EquationForm.{IsTarget, IsLaterTarget, IsGoal, IsLaterGoal}
-use Rattle.equation_text.specs.EquationForm.{NodeLineFits, AreEquations}
-use Rattle.equation_text.specs.EquationText.{step_line, node_line, lines_of, text_of}
+use Rattle.station_equations.specs.declared.goal.TheConstants.{NUMBERS}
+use Rattle.station_equations.specs.EquationLines.{PartLines, NodeLine, part_node, switch_node, EquationLines}
+use Rattle.station_equations.specs.EquationLines.{goal_count}
+use Rattle.station_equations.specs.EquationForm.{IsTarget, IsLaterTarget, IsGoal, IsLaterGoal}
+use Rattle.station_equations.specs.EquationForm.{NodeLineFits, AreEquations}
+use Rattle.station_equations.specs.EquationText.{step_line, node_line, lines_of, text_of}
 use Rattle.equation_text.specs.Beginnings.{MayBeNode}
 use Rattle.equation_text.specs.Reading.{front_text, start_lines, step_lines, all_step_lines, op_lines, node_lines}
 use Rattle.equation_text.specs.Reading.{MayBeStarts, MayBeOps, MayBeNodes, AreAllSteps}
 use Rattle.equation_text.specs.ReadText.{MayBeParts}
-use Rattle.equation_text.proofs.TurnLemmas.{mapped}
+use Rattle.station_equations.proofs.TurnLemmas.{mapped}
 use Rattle.equation_text.proofs.GroupLemmas.{lines_from}
 use Rattle.equation_text.proofs.ReadLemmas.{whole_groups}
 use Rattle.equation_text.proofs.StepsLemmas.{part_steps}

@@ -5,17 +5,18 @@ use Rattle.std.specs.Prelude.{slice_get}
 use Rattle.station_graph.specs.Diagram.{Diagram}
 use Rattle.bay_contract.specs.declared.fork.Target.{Target}
 use Rattle.bay_contract.specs.declared.fork.Target.TheVariants.{Step, Index}
-use Rattle.equation_text.specs.declared.goal.Goal.{Goal}
-use Rattle.equation_text.specs.declared.goal.Goal.TheVariants.{Node, Answer}
-use Rattle.equation_text.specs.declared.goal.SwitchGoals.{SwitchGoals}
-use Rattle.equation_text.specs.declared.goal.TheConstants.{NUMBERS}
-use Rattle.equation_text.specs.EquationLines.{PartLines, NodeLine, part_node, switch_node, EquationLines, goal_count}
-use Rattle.equation_text.specs.EquationForm.{IsTarget, IsLaterTarget, IsGoal, IsLaterGoal, NodeLineFits, goals_of}
-use Rattle.equation_text.specs.EquationForm.{AreWhole, AreEquations}
+use Rattle.station_equations.specs.declared.goal.Goal.{Goal}
+use Rattle.station_equations.specs.declared.goal.Goal.TheVariants.{Node, Answer}
+use Rattle.station_equations.specs.declared.goal.SwitchGoals.{SwitchGoals}
+use Rattle.station_equations.specs.declared.goal.TheConstants.{NUMBERS}
+use Rattle.station_equations.specs.EquationLines.{PartLines, NodeLine, part_node, switch_node, EquationLines}
+use Rattle.station_equations.specs.EquationLines.{goal_count}
+use Rattle.station_equations.specs.EquationForm.{IsTarget, IsLaterTarget, IsGoal, IsLaterGoal, NodeLineFits, goals_of}
+use Rattle.station_equations.specs.EquationForm.{AreWhole, AreEquations}
 use Rattle.equation_text.specs.Beginnings.{MayBeNode}
 use Rattle.equation_text.specs.Defined.{PartsMay, AreThere, GoalsThere}
 use Rattle.equation_text.specs.ReadText.{MayBeParts, AreLines}
-use Rattle.equation_text.proofs.TurnLemmas.{unmapped}
+use Rattle.station_equations.proofs.TurnLemmas.{unmapped}
 use Rattle.equation_text.proofs.OnceLemmas.{any_target}
 
 target_there : (n m : ℕ) (t : Target) → IsLaterTarget n m t → IsTarget n t

@@ -3,8 +3,8 @@ use Rattle.std.proofs.Common.{◌≡◌, ◌∙◌, ℕ, List, [], ◌∷◌, �
 use Rattle.std.proofs.Common.{ap, subst, inl, inr, append-nil, append_assoc}
 use Rattle.std.specs.Prelude.{codes}
 use Rattle.station_graph.specs.Diagram.{Diagram}
-use Rattle.equation_text.specs.EquationLines.{EquationLines}
-use Rattle.equation_text.specs.EquationText.{switch_line, numbered, lines_of, text_of}
+use Rattle.station_equations.specs.EquationLines.{EquationLines}
+use Rattle.station_equations.specs.EquationText.{switch_line, numbered, lines_of, text_of}
 use Rattle.equation_text.specs.Reading.{front_text}
 use Rattle.equation_text.specs.Words.{Lacks}
 use Rattle.equation_text.specs.Faults.{EndsInLf, AreFormed, BeginsText, IsWrongAt}

@@ -12,11 +12,11 @@ use Rattle.ilk_base.specs.declared.words.Rule.{Rule}
 use Rattle.ilk_base.specs.declared.words.Rule.TheVariants.{R1, R2, R3}
 use Rattle.bay_contract.specs.declared.fork.Target.{Target}
 use Rattle.bay_contract.specs.declared.fork.Target.TheVariants.{Step, Index}
-use Rattle.equation_text.specs.declared.goal.Goal.{Goal}
-use Rattle.equation_text.specs.declared.goal.Goal.TheVariants.{Node, Answer}
-use Rattle.equation_text.specs.declared.goal.TheConstants.{NUMBERS, GREATEST_INDEX}
-use Rattle.equation_text.specs.EquationForm.{IsTarget, IsGoal}
-use Rattle.equation_text.specs.EquationText.{target_text, goal_text}
+use Rattle.station_equations.specs.declared.goal.Goal.{Goal}
+use Rattle.station_equations.specs.declared.goal.Goal.TheVariants.{Node, Answer}
+use Rattle.station_equations.specs.declared.goal.TheConstants.{NUMBERS, GREATEST_INDEX}
+use Rattle.station_equations.specs.EquationForm.{IsTarget, IsGoal}
+use Rattle.station_equations.specs.EquationText.{target_text, goal_text}
 use Rattle.equation_text.specs.Words.{Lacks, IsCut, EndsWord, IsFirstWord}
 
 -- what is told of an option

@@ -6,11 +6,11 @@ use Rattle.station_graph.specs.Diagram.{Diagram}
 use Rattle.station_graph.specs.Connection.{a_switch}
 use Rattle.station_graph.specs.Sharing.{OfPart}
 use Rattle.bay_contract.specs.declared.fork.PartStep.{PartStep}
-use Rattle.equation_text.specs.declared.goal.TheConstants.{NUMBERS}
-use Rattle.equation_text.specs.declared.goal.Goal.{Goal}
-use Rattle.equation_text.specs.EquationLines.{NodeLine, part_node, switch_node}
-use Rattle.equation_text.specs.EquationForm.{IsTarget, IsLaterGoal, AreLaterGoals, StepLineFits}
-use Rattle.equation_text.specs.EquationText.{target_text, goal_text, then_word, node_line}
+use Rattle.station_equations.specs.declared.goal.TheConstants.{NUMBERS}
+use Rattle.station_equations.specs.declared.goal.Goal.{Goal}
+use Rattle.station_equations.specs.EquationLines.{NodeLine, part_node, switch_node}
+use Rattle.station_equations.specs.EquationForm.{IsTarget, IsLaterGoal, AreLaterGoals, StepLineFits}
+use Rattle.station_equations.specs.EquationText.{target_text, goal_text, then_word, node_line}
 
 -- Step m of the part may be this: it tests a switch of the part, and leads to greater steps or to indices.
 pub record MayBeStep (d : Diagram) (part m : ℕ) (s : PartStep) : Type 0 where

@@ -1,11 +1,11 @@
 -- Whether each number that lines name is defined.
 use Rattle.std.specs.Prelude.{◌≡◌, ℕ, List, length, slice_get, Some}
 use Rattle.bay_contract.specs.declared.fork.PartStep.{PartStep}
-use Rattle.equation_text.specs.declared.goal.Goal.{Goal}
-use Rattle.equation_text.specs.declared.goal.SwitchGoals.{SwitchGoals}
-use Rattle.equation_text.specs.declared.goal.TheConstants.{NUMBERS}
-use Rattle.equation_text.specs.EquationLines.{PartLines, NodeLine}
-use Rattle.equation_text.specs.EquationForm.{IsTarget, IsGoal, OpsFit, goals_of}
+use Rattle.station_equations.specs.declared.goal.Goal.{Goal}
+use Rattle.station_equations.specs.declared.goal.SwitchGoals.{SwitchGoals}
+use Rattle.station_equations.specs.declared.goal.TheConstants.{NUMBERS}
+use Rattle.station_equations.specs.EquationLines.{PartLines, NodeLine}
+use Rattle.station_equations.specs.EquationForm.{IsTarget, IsGoal, OpsFit, goals_of}
 
 -- Each target is one of so many steps, or an index.
 abbrev pub StepsThere : ℕ → List PartStep → Type 0

@@ -4,8 +4,8 @@ use Rattle.std.specs.Prelude.{◌≡◌, ◌≤◌, ◌==◌, ◌++◌, ◌⊎�
 use Rattle.std.specs.Prelude.{count_by}
 use Rattle.station_graph.specs.Diagram.{Diagram}
 use Rattle.text_lines.specs.Decimals.{IsDecimal}
-use Rattle.equation_text.specs.EquationLines.{EquationLines, goal_count}
-use Rattle.equation_text.specs.EquationText.{lines_of, text_of}
+use Rattle.station_equations.specs.EquationLines.{EquationLines, goal_count}
+use Rattle.station_equations.specs.EquationText.{lines_of, text_of}
 use Rattle.equation_text.specs.Words.{Lacks, EndsWord}
 use Rattle.equation_text.specs.Reading.{front_text, MayBeOps, MayBeNodes}
 use Rattle.equation_text.specs.ReadText.{MayBeParts}

@@ -2,13 +2,13 @@
 use Rattle.std.specs.Prelude.{◌≡◌, ⊤, ℕ, List, length, map, slice_get, Some}
 use Rattle.ilk_base.specs.declared.words.InputRefusal.{InputRefusal}
 use Rattle.station_graph.specs.Diagram.{Diagram, part_count}
-use Rattle.equation_text.specs.declared.goal.SwitchGoals.{SwitchGoals}
-use Rattle.equation_text.specs.declared.goal.TheConstants.{NUMBERS}
+use Rattle.station_equations.specs.declared.goal.SwitchGoals.{SwitchGoals}
+use Rattle.station_equations.specs.declared.goal.TheConstants.{NUMBERS}
 use Rattle.equation_text.specs.declared.read.EquationsFault.{EquationsFault}
 use Rattle.equation_text.specs.declared.read.EquationsFault.TheVariants.{Memory, Refused}
-use Rattle.equation_text.specs.EquationLines.{PartLines, NodeLine, EquationLines, goal_count}
-use Rattle.equation_text.specs.EquationForm.{IsTarget}
-use Rattle.equation_text.specs.EquationText.{IsTextOf, lines_of, text_of}
+use Rattle.station_equations.specs.EquationLines.{PartLines, NodeLine, EquationLines, goal_count}
+use Rattle.station_equations.specs.EquationForm.{IsTarget}
+use Rattle.station_equations.specs.EquationText.{IsTextOf, lines_of, text_of}
 use Rattle.equation_text.specs.Reading.{MayBeSteps, MayBeOps, MayBeNodes}
 
 -- Where the fault is a refusal, this holds of it.

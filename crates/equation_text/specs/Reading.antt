@@ -4,12 +4,12 @@ use Rattle.ilk_base.specs.declared.words.Direction.TheVariants.{ToOff, ToOn}
 use Rattle.station_graph.specs.Diagram.{Diagram}
 use Rattle.bay_contract.specs.declared.fork.PartStep.{PartStep}
 use Rattle.bay_contract.specs.declared.fork.Target.{Target}
-use Rattle.equation_text.specs.declared.goal.SwitchGoals.{SwitchGoals}
-use Rattle.equation_text.specs.declared.goal.TheConstants.{NUMBERS}
-use Rattle.equation_text.specs.EquationLines.{PartLines, NodeLine}
-use Rattle.equation_text.specs.EquationForm.{IsTarget, OpsFit}
-use Rattle.equation_text.specs.EquationText.{then_number, then_word, target_text, switch_line, step_line, op_line}
-use Rattle.equation_text.specs.EquationText.{node_line, numbered, text_of}
+use Rattle.station_equations.specs.declared.goal.SwitchGoals.{SwitchGoals}
+use Rattle.station_equations.specs.declared.goal.TheConstants.{NUMBERS}
+use Rattle.station_equations.specs.EquationLines.{PartLines, NodeLine}
+use Rattle.station_equations.specs.EquationForm.{IsTarget, OpsFit}
+use Rattle.station_equations.specs.EquationText.{then_number, then_word, target_text, switch_line, step_line, op_line}
+use Rattle.station_equations.specs.EquationText.{node_line, numbered, text_of}
 use Rattle.equation_text.specs.Beginnings.{MayBeStep, MayBeNode}
 
 -- The lines before those of the parts, as a text.

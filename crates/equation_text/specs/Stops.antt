@@ -4,11 +4,11 @@ use Rattle.ilk_base.specs.declared.words.Direction.{Direction}
 use Rattle.ilk_base.specs.declared.words.Direction.TheVariants.{ToOff, ToOn}
 use Rattle.station_graph.specs.Diagram.{Diagram}
 use Rattle.bay_contract.specs.declared.fork.Target.{Target}
-use Rattle.equation_text.specs.declared.goal.SwitchGoals.{SwitchGoals}
-use Rattle.equation_text.specs.declared.goal.TheConstants.{NUMBERS}
-use Rattle.equation_text.specs.EquationLines.{PartLines, NodeLine, goal_towards}
-use Rattle.equation_text.specs.EquationForm.{IsTarget, IsGoal}
-use Rattle.equation_text.specs.EquationText.{part_line, op_line, node_line, text_of}
+use Rattle.station_equations.specs.declared.goal.SwitchGoals.{SwitchGoals}
+use Rattle.station_equations.specs.declared.goal.TheConstants.{NUMBERS}
+use Rattle.station_equations.specs.EquationLines.{PartLines, NodeLine, goal_towards}
+use Rattle.station_equations.specs.EquationForm.{IsTarget, IsGoal}
+use Rattle.station_equations.specs.EquationText.{part_line, op_line, node_line, text_of}
 use Rattle.equation_text.specs.Beginnings.{MayBeNode}
 use Rattle.equation_text.specs.Words.{Lacks}
 use Rattle.equation_text.specs.Reading.{start_lines, op_lines, node_lines, MayBeStarts, MayBeOps, MayBeNodes}

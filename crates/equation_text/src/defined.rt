@@ -1,15 +1,13 @@
 //! Whether each number that lines name is defined.
 ghost use Rattle.std.specs.Prelude.{◌≡◌, ◌↔◌, length, map, max, IfOk, IsTrue};
-ghost use Rattle.equation_text.specs.declared.goal.TheConstants.{NUMBERS};
-ghost use Rattle.equation_text.specs.EquationLines.{index_in, past_greatest, goal_count as count_of};
-ghost use Rattle.equation_text.specs.EquationForm.{IsTarget, IsGoal, OpsFit, goals_of};
+ghost use Rattle.station_equations.specs.declared.goal.TheConstants.{NUMBERS};
+ghost use Rattle.station_equations.specs.EquationLines.{index_in, past_greatest, goal_count as count_of};
+ghost use Rattle.station_equations.specs.EquationForm.{IsTarget, IsGoal, OpsFit, goals_of};
 ghost use Rattle.equation_text.specs.Defined.{StepsThere, PartsThere, GoalsThere, NodesThere, StepsMay, PartsMay};
 
-use crate::goal::{Goal, SwitchGoals};
-use crate::node::{Lead, Node};
-use crate::part::PartSteps;
 use bay_contract::{PartStep, Target};
 use ilk_base::Memory;
+use station_equations::{Goal, Lead, Node, PartSteps, SwitchGoals};
 use std::alloc::Global;
 
 // So many, or one more than an index that the target writes.
@@ -128,7 +126,7 @@ pub(crate) fn ops_there(ops: &[SwitchGoals], nodes: usize) -> bool
 fn node_there(node: &Node, nodes: usize) -> bool
     ensures { IsTrue result ↔ GoalsThere nodes (goals_of node.now) }
 {
-    match &node.lead {
+    match node.lead() {
         Lead::Part { goals, .. } => goals_there(goals, nodes),
         Lead::Switch { off, on, .. } => is_node(*off, nodes) && is_node(*on, nodes),
     }

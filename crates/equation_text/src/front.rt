@@ -6,8 +6,8 @@ ghost use Rattle.equation_text.specs.Stops.{StopsIn};
 
 use crate::reading::Left;
 use crate::words::{behind, cut_line};
-use crate::writing::push_switches;
 use ilk_base::{Memory, Text};
+use station_equations::push_switches;
 use station_graph::Station;
 use std::alloc::Global;
 

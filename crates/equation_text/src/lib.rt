@@ -1,36 +1,19 @@
-//! The interlocking of a station as equations: a text that leads, for each operation and each vector, to the
-//! answer of the rules. It is made of the decision graphs of the station's judge, written, read and evaluated.
+//! The interlocking of a station as equations in a text, which is read back here as the lines that it says. What
+//! the lines are and mean, and how they are made and written, is `station_equations`, which this crate offers too.
 #![tactic(auto)]
 
-mod compile;
 mod defined;
 mod entries;
-mod equations;
 mod front;
-mod goal;
-mod law;
-mod layers;
 mod lines;
-mod node;
 mod node_lines;
-mod part;
 mod read;
 mod reading;
-mod rows;
-mod steps;
-mod subject;
-mod turning;
 mod undefined;
 mod words;
-mod writing;
 
-pub use compile::{compile_equations, compile_text};
-pub use equations::Equations;
-pub use goal::{GREATEST_INDEX, Goal, NUMBERS, SwitchGoals};
-pub use law::text_means_the_answer;
 pub use read::{EquationsFault, read_equations};
-
-#[cfg(test)]
-mod read_tests;
-#[cfg(test)]
-mod tests;
+pub use station_equations::{
+    Equations, GREATEST_INDEX, Goal, NUMBERS, SwitchGoals, compile_equations, compile_text,
+    text_means_the_answer,
+};

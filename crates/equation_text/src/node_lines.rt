@@ -1,17 +1,16 @@
 //! What the line of a node says.
 ghost use Rattle.std.specs.Prelude.{◌≡◌, ◌≢◌, ◌≤◌, ◌↔◌, List, length, slice_get, Some, IfOk, IfSome, IfNone, IsTrue};
 ghost use Rattle.std.specs.Prelude.{MatchOption};
-ghost use Rattle.equation_text.specs.declared.goal.Goal.{Goal as GoalOf};
-ghost use Rattle.equation_text.specs.declared.goal.TheConstants.{NUMBERS};
-ghost use Rattle.equation_text.specs.EquationLines.{NodeLine};
-ghost use Rattle.equation_text.specs.EquationForm.{IsLaterGoal, AreLaterGoals};
-ghost use Rattle.equation_text.specs.EquationText.{goal_text};
+ghost use Rattle.station_equations.specs.declared.goal.Goal.{Goal as GoalOf};
+ghost use Rattle.station_equations.specs.declared.goal.TheConstants.{NUMBERS};
+ghost use Rattle.station_equations.specs.EquationLines.{NodeLine};
+ghost use Rattle.station_equations.specs.EquationForm.{IsLaterGoal, AreLaterGoals};
+ghost use Rattle.station_equations.specs.EquationText.{goal_text};
 ghost use Rattle.equation_text.specs.Beginnings.{goals_text, IsSwitchNode, IsPartNode, IsNodeLine};
 
-use crate::goal::Goal;
-use crate::node::Node;
 use crate::words::{behind, behind_number, cut_word, first_word, goal};
 use ilk_base::{BayId, Memory, SwitchId};
+use station_equations::{Goal, Node};
 use std::alloc::Global;
 use text_lines::decimal_number;
 

@@ -2,27 +2,24 @@
 ghost use Rattle.std.specs.Prelude.{◌≡◌, ◌≤◌, ◌↔◌, length, min, IfOk, IfErr, IfSome, IsTrue, MatchOption};
 ghost use Rattle.station_graph.specs.Diagram.{IsStation};
 ghost use Rattle.text_lines.specs.declared.lines.TheConstants.{MOST_BYTES};
-ghost use Rattle.equation_text.specs.EquationLines.{EquationLines};
-ghost use Rattle.equation_text.specs.EquationText.{IsTextOf};
+ghost use Rattle.station_equations.specs.EquationLines.{EquationLines};
+ghost use Rattle.station_equations.specs.EquationText.{IsTextOf};
 ghost use Rattle.equation_text.specs.Defined.{PartsMay, AreThere};
 ghost use Rattle.equation_text.specs.Faults.{IsFirstFault};
 ghost use Rattle.equation_text.specs.ReadText.{AreLines, ForRefused};
 ghost use Rattle.equation_text.specs.Stops.{StopsWrong};
 
 use crate::defined::{index_counts, nodes_there, ops_there, parts_there};
-use crate::equations::Equations;
 use crate::front::read_front;
-use crate::goal::SwitchGoals;
-use crate::node::Node;
-use crate::part::PartSteps;
 use crate::reading::{Left, read_all_steps, read_nodes, read_ops, read_starts};
 use crate::undefined::{line_behind, undefined_line};
 use ilk_base::{InputRefusal, Memory};
+use station_equations::{Equations, Node, PartSteps, SwitchGoals};
 use station_graph::Station;
 use std::alloc::{AllocFailed, Global};
 
 /// Why a text gave no equations.
-#[derive(Clone, Copy, Debug, PartialEq, Eq)]
+#[derive(Clone, Copy, PartialEq, Eq)]
 pub enum EquationsFault {
     /// There was not enough memory.
     Memory,
@@ -156,9 +153,5 @@ pub fn read_equations(
         let undefined = undefined_line(alloc, station, bytes)?;
         return Err(refused(line_of(undefined)));
     }
-    Ok(Equations {
-        parts: lines.parts,
-        ops: lines.ops,
-        nodes: lines.nodes,
-    })
+    Ok(Equations::new(lines.parts, lines.ops, lines.nodes))
 }

@@ -4,25 +4,22 @@ ghost use Rattle.std.specs.Prelude.{IfSome, IfNone, OnOk, MatchOption};
 ghost use Rattle.ilk_base.specs.declared.words.Direction.TheVariants.{ToOff, ToOn};
 ghost use Rattle.station_graph.specs.Diagram.{part_count};
 ghost use Rattle.bay_contract.specs.declared.fork.Target.{Target as TargetOf};
-ghost use Rattle.equation_text.specs.declared.goal.SwitchGoals.{SwitchGoals as GoalsOf};
-ghost use Rattle.equation_text.specs.declared.goal.TheConstants.{NUMBERS};
-ghost use Rattle.equation_text.specs.EquationLines.{NodeLine, goal_towards};
-ghost use Rattle.equation_text.specs.EquationForm.{IsGoal, SwitchGoalsFit};
-ghost use Rattle.equation_text.specs.EquationText.{step_line, op_line, text_of};
+ghost use Rattle.station_equations.specs.declared.goal.SwitchGoals.{SwitchGoals as GoalsOf};
+ghost use Rattle.station_equations.specs.declared.goal.TheConstants.{NUMBERS};
+ghost use Rattle.station_equations.specs.EquationLines.{NodeLine, goal_towards};
+ghost use Rattle.station_equations.specs.EquationForm.{IsGoal, SwitchGoalsFit};
+ghost use Rattle.station_equations.specs.EquationText.{step_line, op_line, text_of};
 ghost use Rattle.equation_text.specs.Beginnings.{MayBeStep};
 ghost use Rattle.equation_text.specs.Stops.{NoOp, StopsAtStart, StopsAtOp, StopsAtOps, StopsAtNode};
 ghost use Rattle.equation_text.specs.Reading.{start_lines, step_lines, op_lines, node_lines, MayBeStarts, MayBeSteps};
 ghost use Rattle.equation_text.specs.Reading.{NoStep, AreAllSteps, MayBeOps, MayBeNodes};
 
-use crate::goal::{Goal, SwitchGoals};
 use crate::lines::{read_op, read_part, read_step};
-use crate::node::Node;
 use crate::node_lines::read_node;
-use crate::part::PartSteps;
-use crate::rows::next_number;
 use crate::words::{behind, cut_line};
 use bay_contract::{PartStep, Target};
 use ilk_base::{BayId, Direction, Memory};
+use station_equations::{Goal, Node, PartSteps, SwitchGoals, next_number};
 use station_graph::Station;
 use std::alloc::Global;
 
@@ -109,7 +106,7 @@ fn keep(parts: &mut Vec<PartSteps>, start: Target, steps: Vec<PartStep>) -> Resu
     ensures { IfOk result (λ _. parts.new.items
         ≡ parts.old.items ++ (record { start = start; steps = steps.items }) ∷ []) }
 {
-    parts.push(PartSteps { start, steps })?;
+    parts.push(PartSteps::new(start, steps))?;
     Ok(())
 }
 

@@ -5,7 +5,7 @@ use Rattle.std.proofs.lemmas.List.{length-map}
 use Rattle.std.proofs.lemmas.Option.{slice_get-map, slice_get_within, slice_get-get_or, get_or_from_slice_get}
 use Rattle.std.specs.Prelude.{option_map}
 use Rattle.station_graph.specs.Diagram.{Diagram, part_count}
-use Rattle.release_compile.proofs.BridgeLemmas.{from_map}
+use Rattle.judge_pool.proofs.BridgeLemmas.{from_map}
 use Rattle.exchange_plan.specs.declared.planned.PartnerBits.{PartnerBits}
 use Rattle.exchange_plan.specs.declared.planned.BayPlan.{BayPlan}
 use Rattle.exchange_plan.specs.Planning.{IsPartnerOf, HasSize, partner_bays, ArePartners, planned_bays, IsPlan, Lists}

@@ -7,7 +7,7 @@ use Rattle.station_graph.proofs.PathLemmas.{slice_get-push}
 use Rattle.central_rules.specs.Meaning.{IsBay}
 use Rattle.bay_contract.specs.PartAlphabets.{Alphabets, size_of}
 use Rattle.bay_contract.specs.Alphabets.{AreAlphabets}
-use Rattle.release_compile.proofs.EdgesLemmas.{alphabet_counts}
+use Rattle.judge_graphs.proofs.EdgesLemmas.{alphabet_counts}
 use Rattle.exchange_plan.specs.declared.planned.PartnerBits.{PartnerBits}
 use Rattle.exchange_plan.specs.declared.planned.BayPlan.{BayPlan}
 use Rattle.exchange_plan.specs.Planning.{IsPartnerOf, HasSize, partner_bays, ArePartners, planned_bays, IsPlan}

@@ -9,6 +9,3 @@ mod planning;
 pub use json::plan_text;
 pub use planned::Plan;
 pub use planning::plan;
-
-#[cfg(test)]
-mod tests;

@@ -8,14 +8,14 @@ use ilk_base::BayId;
 use std::marker::Model;
 
 // A partner of a bay, and the size of its alphabet: so many bits tell of its positions.
-#[derive(Clone, Copy, Debug)]
+#[derive(Clone, Copy)]
 pub(crate) struct PartnerBits {
     pub(crate) bay: BayId,
     pub(crate) bits: u8,
 }
 
 // A bay and its partners, by bay.
-#[derive(Debug, Drop)]
+#[derive(Drop)]
 pub(crate) struct BayPlan {
     pub(crate) bay: BayId,
     pub(crate) partners: Vec<PartnerBits>,
@@ -23,7 +23,7 @@ pub(crate) struct BayPlan {
 
 /// The data exchange plan of a station: for each bay, by bay, its partners and the size of each partner's alphabet.
 /// Contracts see it as this list.
-#[derive(Debug, Drop)]
+#[derive(Drop)]
 pub struct Plan {
     bays: Vec<BayPlan>,
 }

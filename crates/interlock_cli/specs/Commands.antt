@@ -21,7 +21,7 @@ use Rattle.interlock_cli.specs.OrderWrites.{OrderWrites}
 use Rattle.interlock_cli.specs.ReplayWrites.{ReplayWrites}
 use Rattle.interlock_cli.specs.TripsWrites.{TripsWrites}
 use Rattle.interlock_cli.specs.AuditWrites.{AuditWrites}
-use Rattle.equation_text.specs.CompileText.{IsCompileText}
+use Rattle.station_equations.specs.CompileText.{IsCompileText}
 use Rattle.exchange_plan.specs.PlanText.{IsPlanText}
 use Rattle.interlock_cli.specs.WorkWrites.{WorkWrites}
 use Rattle.interlock_cli.specs.declared.end.Outcome.{Outcome}

@@ -26,6 +26,16 @@ pub record Call : Type 0 where
   pub before : Streams
   pub after : Streams
 
+-- A call by its parts: the files, their counts before and after, the streams before and after.
+abbrev pub called : (List ℕ → Option (List ℕ)) → (List ℕ → ℕ) → (List ℕ → ℕ) → Streams → Streams → Call
+called held reads_before reads_after before after = record {
+  held = held;
+  reads_before = reads_before;
+  reads_after = reads_after;
+  before = before;
+  after = after;
+}
+
 -- `out` takes nothing before all is accepted; then the text, or after a fault of the write a front of it
 -- that is not all.
 abbrev pub FormEnds : Form → Call → End → Type 0

@@ -1,5 +1,5 @@
 -- How the parts of reading and judging fail, and what a read leaves.
-use Rattle.std.specs.Prelude.{◌≤◌, ⊤, ℕ, List, Option, Ok}
+use Rattle.std.specs.Prelude.{◌≡◌, ◌≤◌, ⊤, ℕ, List, Option, Ok}
 use Rattle.std.specs.Io.KnownBytes.{Keeps}
 use Rattle.station_graph.specs.Diagram.{Diagram, IsStation}
 use Rattle.ssd_read.specs.StandsFor.{Stands}
@@ -7,6 +7,8 @@ use Rattle.release_compile.specs.Judging.{IsBuildRefusal}
 use Rattle.release_compile.specs.declared.refusal.BuildRefusal.TheVariants.{Many, Wide}
 use Rattle.interlock_cli.specs.Formats.{Format, Refuses}
 use Rattle.interlock_cli.specs.Form.{Origin, IsContent}
+use Rattle.ilk_base.specs.declared.input_fault.InputFault.{InputFault}
+use Rattle.ilk_base.specs.declared.input_fault.InputFault.TheVariants as f
 use Rattle.interlock_cli.specs.declared.end.End.{End}
 use Rattle.interlock_cli.specs.declared.end.End.TheVariants as e
 
@@ -18,8 +20,13 @@ ReadFails rose _ = ⊥
 
 -- A content is not accepted: for memory, or it is refused.
 abbrev pub JudgeFails : Format → List ℕ → End → Type 0
-JudgeFails f content e.Memory = ⊤
-JudgeFails f content end = Refuses f content end
+JudgeFails format content e.Memory = ⊤
+JudgeFails format content end = Refuses format content end
+
+-- A call ends so where an input gave no value.
+abbrev pub EndsInput : InputFault → End → Type 0
+EndsInput f.Memory end = end ≡ e.Memory
+EndsInput (f.Refused refusal) end = end ≡ e.Input refusal
 
 -- The origin has a drawing of this station, whatever its limits.
 abbrev pub Drawn : (List ℕ → Option (List ℕ)) → Origin → Diagram → Type 0

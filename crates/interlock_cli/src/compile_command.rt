@@ -5,8 +5,8 @@ ghost use Rattle.interlock_cli.specs.Form.{Gives, FormStops};
 
 use crate::end::{End, Outcome, Output};
 use crate::loading::{build_judge, load_drawing};
-use equation_text::compile_text;
 use ilk_base::Shelf;
+use station_equations::compile_text;
 use std::alloc::Global;
 
 // What `compile STATION` has to write.

@@ -3,11 +3,11 @@ ghost use Rattle.std.specs.Prelude.{◌≡◌};
 ghost use Rattle.interlock_cli.specs.Lines.{outcome_status, status_of};
 
 use crate::status::Status;
-use ilk_base::{BayId, InputRefusal, Text};
+use ilk_base::{BayId, InputFault, InputRefusal, Memory, Text};
 use ssd_read::SsdRefusal;
 
 // How a call ends whose text is written.
-#[derive(Clone, Copy, Debug)]
+#[derive(Clone, Copy)]
 pub enum Outcome {
     Done,
     Differs,
@@ -15,14 +15,14 @@ pub enum Outcome {
 }
 
 // What a call has to write once all is accepted, and how it then ends.
-#[derive(Debug, Drop)]
+#[derive(Drop)]
 pub struct Output {
     pub outcome: Outcome,
     pub text: Text,
 }
 
 // How a call ends, with what its line shows.
-#[derive(Debug, Drop)]
+#[derive(Drop)]
 pub enum End {
     Written(Outcome),
     Usage,
@@ -34,6 +34,29 @@ pub enum End {
     Input(InputRefusal),
     Long,
     Memory,
+}
+
+impl From<Memory> for End {
+    ghost use Rattle.interlock_cli.specs.declared.end.End.TheVariants.{Memory};
+
+    ghost from_gives = { λ _ end. end ≡ Memory };
+
+    fn from(_: Memory) -> Self {
+        End::Memory
+    }
+}
+
+impl From<InputFault> for End {
+    ghost use Rattle.interlock_cli.specs.Judging.{EndsInput};
+
+    ghost from_gives = { λ fault end. EndsInput fault end };
+
+    fn from(fault: InputFault) -> Self {
+        match fault {
+            InputFault::Memory => End::Memory,
+            InputFault::Refused(refusal) => End::Input(refusal),
+        }
+    }
 }
 
 // The status of a call whose text is written.

@@ -29,6 +29,3 @@ mod work_command;
 pub use status::Status;
 pub use stored_top::run_stored;
 pub use top::run;
-
-#[cfg(test)]
-mod tests;

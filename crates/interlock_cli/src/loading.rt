@@ -16,14 +16,14 @@ ghost use Rattle.interlock_cli.specs.Form.{Given, Fails, File};
 ghost use Rattle.interlock_cli.specs.Judging.{Drawn, BuildFails, ReadFails, JudgeFails, Onward};
 
 use crate::end::End;
-use double_points::{PositionsFault, Readings, read_positions};
-use equation_audit::{Blocks, BlocksFault, read_blocks};
+use double_points::{Readings, read_positions};
+use equation_audit::{Blocks, read_blocks};
 use ilk_base::{BayId, FILE_BYTES, InputRefusal, ReadTrouble, Shelf, SwitchId};
 use release_compile::{BuildRefusal, GraphJudge};
 use ssd_read::{SsdRefusal, read_ssd};
 use station_graph::{Station, Vector};
 use std::alloc::Global;
-use switching_orders::{Order, OrderFault, certain_positions, read_order};
+use switching_orders::{Order, certain_positions, read_order};
 
 // One byte more than a file may have, so that a file that is too long is seen to be.
 const MOST: u32 = FILE_BYTES as u32 + 1;
@@ -63,11 +63,7 @@ pub(crate) fn judge_positions(
     ensures count { IfOk result (AreWords station.now) }
     ensures err { IfErr result (JudgeFails (Positions station.now) bytes.now) }
 {
-    match read_positions(alloc, station, bytes) {
-        Ok(readings) => Ok(readings),
-        Err(PositionsFault::Memory) => Err(End::Memory),
-        Err(PositionsFault::Refused(refusal)) => Err(End::Input(refusal)),
-    }
+    Ok(read_positions(alloc, station, bytes)?)
 }
 
 // The positions of the bytes of a file of positions, of which no word leaves one open.
@@ -76,11 +72,7 @@ fn judge_start(alloc: Global, station: &Station, bytes: &[u8]) -> Result<Vector,
     ensures vector { IfOk result (IsVector station.now) }
     ensures err { IfErr result (JudgeFails (CertainPositions station.now) bytes.now) }
 {
-    let readings = match read_positions(alloc, station, bytes) {
-        Ok(readings) => readings,
-        Err(PositionsFault::Memory) => return Err(End::Memory),
-        Err(PositionsFault::Refused(refusal)) => return Err(End::Input(refusal)),
-    };
+    let readings = read_positions(alloc, station, bytes)?;
     match certain_positions(alloc, station, &readings) {
         Ok(Some(start)) => Ok(start),
         Ok(None) => Err(End::Input(InputRefusal {
@@ -97,11 +89,7 @@ fn judge_steps(alloc: Global, station: &Station, bytes: &[u8]) -> Result<Order, 
     ensures operations { IfOk result (AreOperations station.now) }
     ensures err { IfErr result (JudgeFails (OrderOf station.now) bytes.now) }
 {
-    match read_order(alloc, station, bytes) {
-        Ok(order) => Ok(order),
-        Err(OrderFault::Memory) => Err(End::Memory),
-        Err(OrderFault::Refused(refusal)) => Err(End::Input(refusal)),
-    }
+    Ok(read_order(alloc, station, bytes)?)
 }
 
 // The blocks of the bytes of a file.
@@ -112,11 +100,7 @@ fn judge_blocks(alloc: Global, station: &Station, bytes: &[u8]) -> Result<Blocks
 {
     // Its clause says that no two switches have one path; it does nothing.
     station.is_station();
-    match read_blocks(alloc, station, bytes) {
-        Ok(blocks) => Ok(blocks),
-        Err(BlocksFault::Memory) => Err(End::Memory),
-        Err(BlocksFault::Refused(refusal)) => Err(End::Input(refusal)),
-    }
+    Ok(read_blocks(alloc, station, bytes)?)
 }
 
 // The judge of a station.

@@ -9,10 +9,10 @@ ghost use Rattle.interlock_cli.specs.Judging.{JudgeFails, Onward};
 use crate::end::End;
 use crate::loading::read_file;
 use ilk_base::Shelf;
-use log_replay::{Log, LogFault, read_log};
+use log_replay::{Log, read_log};
 use station_graph::Station;
 use std::alloc::Global;
-use trip_replay::{TripLog, TripLogFault, read_trip_log};
+use trip_replay::{TripLog, read_trip_log};
 
 // The log of the bytes of a file.
 pub(crate) fn judge_log(alloc: Global, station: &Station, bytes: &[u8]) -> Result<Log, End>
@@ -22,11 +22,7 @@ pub(crate) fn judge_log(alloc: Global, station: &Station, bytes: &[u8]) -> Resul
 {
     // Its clause says that it is a station; it does nothing.
     station.is_station();
-    match read_log(alloc, station, bytes) {
-        Ok(log) => Ok(log),
-        Err(LogFault::Memory) => Err(End::Memory),
-        Err(LogFault::Refused(refusal)) => Err(End::Input(refusal)),
-    }
+    Ok(read_log(alloc, station, bytes)?)
 }
 
 // The log with trips of the bytes of a file.
@@ -37,11 +33,7 @@ fn judge_trip_log(alloc: Global, station: &Station, bytes: &[u8]) -> Result<Trip
 {
     // Its clause says that it is a station; it does nothing.
     station.is_station();
-    match read_trip_log(alloc, station, bytes) {
-        Ok(log) => Ok(log),
-        Err(TripLogFault::Memory) => Err(End::Memory),
-        Err(TripLogFault::Refused(refusal)) => Err(End::Input(refusal)),
-    }
+    Ok(read_trip_log(alloc, station, bytes)?)
 }
 
 // The log of a file.

@@ -2,7 +2,8 @@
 ghost use Rattle.std.specs.Prelude.{◌≡◌, IfOk, IfErr, OnErr};
 ghost use Rattle.interlock_cli.specs.Commands.{Node, form_of};
 ghost use Rattle.interlock_cli.specs.Form.{FormStops};
-ghost use Rattle.interlock_cli.specs.Ends.{Call, Serves};
+ghost use Rattle.interlock_cli.specs.Ends.{Serves, called};
+ghost use Rattle.node_session.specs.SessionEnds.{streams};
 ghost use Rattle.interlock_cli.specs.Serving.{session_end};
 
 use crate::end::{End, Outcome};
@@ -36,23 +37,9 @@ pub(crate) fn node<F: Shelf, I: Source, O: Sink>(
     out: &mut O,
 ) -> Result<End, End>
     ensures ok { IfOk result (Serves (form_of (Node station.now bay.now))
-        record {
-          held = F.held shelf.old;
-          reads_before = F.faults shelf.old;
-          reads_after = F.faults shelf.new;
-          before = record {
-            input = I.left input.old;
-            reads = I.faults input.old;
-            out = O.took out.old;
-            writes = O.faults out.old;
-          };
-          after = record {
-            input = I.left input.new;
-            reads = I.faults input.new;
-            out = O.took out.new;
-            writes = O.faults out.new;
-          };
-        }) }
+        (called (F.held shelf.old) (F.faults shelf.old) (F.faults shelf.new)
+        (streams (I.left input.old) (I.faults input.old) (O.took out.old) (O.faults out.old))
+        (streams (I.left input.new) (I.faults input.new) (O.took out.new) (O.faults out.new)))) }
     ensures err { IfErr result (FormStops (form_of (Node station.now bay.now)) (F.held shelf.old) (F.faults shelf.old)
         (F.faults shelf.new)) }
     ensures unasked { OnErr result (input.new ≡ input.old) }

@@ -1,7 +1,8 @@
 //! The command `stored`.
 ghost use Rattle.std.specs.Prelude.{◌≡◌};
-ghost use Rattle.stored_session.specs.View.{view, streams};
-ghost use Rattle.interlock_cli.specs.Ends.{Call};
+ghost use Rattle.stored_session.specs.View.{view};
+ghost use Rattle.node_session.specs.SessionEnds.{streams};
+ghost use Rattle.interlock_cli.specs.Ends.{called};
 ghost use Rattle.interlock_cli.specs.StoredWords.{StoredWords};
 ghost use Rattle.interlock_cli.specs.StoredEnding.{stored_end, EndsStored};
 
@@ -44,13 +45,9 @@ pub(crate) fn stored<F: Shelf, I: Source, O: Sink, D: Device>(
     ensures { EndsStored
         (view D.content D.moment D.left_between D.left_since D.read_faults D.write_faults D.calls)
         record { station = station.now; bay = bay.now }
-        record {
-          held = F.held shelf.old;
-          reads_before = F.faults shelf.old;
-          reads_after = F.faults shelf.new;
-          before = streams (I.left input.old) (I.faults input.old) (O.took out.old) (O.faults out.old);
-          after = streams (I.left input.new) (I.faults input.new) (O.took out.new) (O.faults out.new);
-        }
+        (called (F.held shelf.old) (F.faults shelf.old) (F.faults shelf.new)
+        (streams (I.left input.old) (I.faults input.old) (O.took out.old) (O.faults out.old))
+        (streams (I.left input.new) (I.faults input.new) (O.took out.new) (O.faults out.new)))
         device.old device.new result }
 {
     let station = match load_drawing(alloc, station, shelf) {

@@ -1,8 +1,9 @@
 //! The top call with a device.
 ghost use Rattle.std.specs.Prelude.{◌≡◌, map, string_bytes, None, IfSome};
-ghost use Rattle.stored_session.specs.View.{view, streams};
+ghost use Rattle.stored_session.specs.View.{view};
+ghost use Rattle.node_session.specs.SessionEnds.{streams};
 ghost use Rattle.interlock_cli.specs.Commands.{command_of};
-ghost use Rattle.interlock_cli.specs.Ends.{CommandAsks, Call, WroteLine};
+ghost use Rattle.interlock_cli.specs.Ends.{CommandAsks, WroteLine, called};
 ghost use Rattle.interlock_cli.specs.Lines.{line_of};
 ghost use Rattle.interlock_cli.specs.StoredWords.{seen_words, stored_of};
 ghost use Rattle.interlock_cli.specs.StoredEnding.{AnswersWords, CompletesStored, SaysAsRun};
@@ -30,24 +31,16 @@ fn answer_stored<F: Shelf, I: Source, O: Sink, E: Sink, D: Device>(
     ensures answers { AnswersWords
         (view D.content D.moment D.left_between D.left_since D.read_faults D.write_faults D.calls)
         result (seen_words words.entry)
-        record {
-          held = F.held shelf.old;
-          reads_before = F.faults shelf.old;
-          reads_after = F.faults shelf.new;
-          before = streams (I.left input.old) (I.faults input.old) (O.took out.old) (O.faults out.old);
-          after = streams (I.left input.new) (I.faults input.new) (O.took out.new) (O.faults out.new);
-        }
+        (called (F.held shelf.old) (F.faults shelf.old) (F.faults shelf.new)
+        (streams (I.left input.old) (I.faults input.old) (O.took out.old) (O.faults out.old))
+        (streams (I.left input.new) (I.faults input.new) (O.took out.new) (O.faults out.new)))
         device.old device.new (E.took err.old) (E.took err.new) (E.faults err.old) (E.faults err.new) }
     ensures complete { CompletesStored
         (view D.content D.moment D.left_between D.left_since D.read_faults D.write_faults D.calls)
         result (seen_words words.entry)
-        record {
-          held = F.held shelf.old;
-          reads_before = F.faults shelf.old;
-          reads_after = F.faults shelf.new;
-          before = streams (I.left input.old) (I.faults input.old) (O.took out.old) (O.faults out.old);
-          after = streams (I.left input.new) (I.faults input.new) (O.took out.new) (O.faults out.new);
-        }
+        (called (F.held shelf.old) (F.faults shelf.old) (F.faults shelf.new)
+        (streams (I.left input.old) (I.faults input.old) (O.took out.old) (O.faults out.old))
+        (streams (I.left input.new) (I.faults input.new) (O.took out.new) (O.faults out.new)))
         device.old device.new }
 {
     let end = stored(alloc, words.station, words.bay, shelf, input, out, device);
@@ -88,13 +81,9 @@ pub fn run_stored<F: Shelf, I: Source, O: Sink, E: Sink, D: Device>(
 ) -> Status
     ensures others { stored_of (map string_bytes words.now) ≡ None → SaysAsRun result
         (command_of (map string_bytes words.now))
-        record {
-          held = F.held shelf.old;
-          reads_before = F.faults shelf.old;
-          reads_after = F.faults shelf.new;
-          before = streams (I.left input.old) (I.faults input.old) (O.took out.old) (O.faults out.old);
-          after = streams (I.left input.new) (I.faults input.new) (O.took out.new) (O.faults out.new);
-        }
+        (called (F.held shelf.old) (F.faults shelf.old) (F.faults shelf.new)
+        (streams (I.left input.old) (I.faults input.old) (O.took out.old) (O.faults out.old))
+        (streams (I.left input.new) (I.faults input.new) (O.took out.new) (O.faults out.new)))
         (E.took err.old) (E.took err.new) (E.faults err.old) (E.faults err.new) }
     ensures untouched { stored_of (map string_bytes words.now) ≡ None → device.new ≡ device.old }
     ensures unread { stored_of (map string_bytes words.now) ≡ None → command_of (map string_bytes words.now) ≡ None
@@ -104,23 +93,15 @@ pub fn run_stored<F: Shelf, I: Source, O: Sink, E: Sink, D: Device>(
         → input.new ≡ input.old }
     ensures stored { IfSome (stored_of (map string_bytes words.now)) (λ w. AnswersWords
         (view D.content D.moment D.left_between D.left_since D.read_faults D.write_faults D.calls) result w
-        record {
-          held = F.held shelf.old;
-          reads_before = F.faults shelf.old;
-          reads_after = F.faults shelf.new;
-          before = streams (I.left input.old) (I.faults input.old) (O.took out.old) (O.faults out.old);
-          after = streams (I.left input.new) (I.faults input.new) (O.took out.new) (O.faults out.new);
-        }
+        (called (F.held shelf.old) (F.faults shelf.old) (F.faults shelf.new)
+        (streams (I.left input.old) (I.faults input.old) (O.took out.old) (O.faults out.old))
+        (streams (I.left input.new) (I.faults input.new) (O.took out.new) (O.faults out.new)))
         device.old device.new (E.took err.old) (E.took err.new) (E.faults err.old) (E.faults err.new)) }
     ensures stored_complete { IfSome (stored_of (map string_bytes words.now)) (λ w. CompletesStored
         (view D.content D.moment D.left_between D.left_since D.read_faults D.write_faults D.calls) result w
-        record {
-          held = F.held shelf.old;
-          reads_before = F.faults shelf.old;
-          reads_after = F.faults shelf.new;
-          before = streams (I.left input.old) (I.faults input.old) (O.took out.old) (O.faults out.old);
-          after = streams (I.left input.new) (I.faults input.new) (O.took out.new) (O.faults out.new);
-        }
+        (called (F.held shelf.old) (F.faults shelf.old) (F.faults shelf.new)
+        (streams (I.left input.old) (I.faults input.old) (O.took out.old) (O.faults out.old))
+        (streams (I.left input.new) (I.faults input.new) (O.took out.new) (O.faults out.new)))
         device.old device.new) }
 {
     let named = match read_stored(alloc, words) {

@@ -3,7 +3,8 @@ ghost use Rattle.std.specs.Prelude.{◌≡◌, ◌⊎◌, map, string_bytes, Non
 ghost use Rattle.interlock_cli.specs.Commands.{command_of, form_of};
 ghost use Rattle.interlock_cli.specs.Seen.{seen_command};
 ghost use Rattle.interlock_cli.specs.Form.{AsksInput, Gives, FormStops};
-ghost use Rattle.interlock_cli.specs.Ends.{AnswersCall, CommandAsks, Ends, Wrote};
+ghost use Rattle.interlock_cli.specs.Ends.{AnswersCall, CommandAsks, Ends, Wrote, called};
+ghost use Rattle.node_session.specs.SessionEnds.{streams};
 ghost use Rattle.interlock_cli.specs.Complete.{Completes};
 
 use crate::audit_command::audit;
@@ -76,23 +77,9 @@ fn call<F: Shelf, I: Source, O: Sink>(
     out: &mut O,
 ) -> End
     ensures ends { Ends (command_of (map string_bytes words.now))
-        record {
-          held = F.held shelf.old;
-          reads_before = F.faults shelf.old;
-          reads_after = F.faults shelf.new;
-          before = record {
-            input = I.left input.old;
-            reads = I.faults input.old;
-            out = O.took out.old;
-            writes = O.faults out.old;
-          };
-          after = record {
-            input = I.left input.new;
-            reads = I.faults input.new;
-            out = O.took out.new;
-            writes = O.faults out.new;
-          };
-        }
+        (called (F.held shelf.old) (F.faults shelf.old) (F.faults shelf.new)
+        (streams (I.left input.old) (I.faults input.old) (O.took out.old) (O.faults out.old))
+        (streams (I.left input.new) (I.faults input.new) (O.took out.new) (O.faults out.new)))
         result }
     ensures unread { command_of (map string_bytes words.now) ≡ None → shelf.new ≡ shelf.old }
     ensures input { ¬ CommandAsks (command_of (map string_bytes words.now)) → input.new ≡ input.old }
@@ -144,46 +131,18 @@ pub fn run<F: Shelf, I: Source, O: Sink, E: Sink>(
     err: &mut E,
 ) -> Status
     ensures answers { AnswersCall result (command_of (map string_bytes words.now))
-        record {
-          held = F.held shelf.old;
-          reads_before = F.faults shelf.old;
-          reads_after = F.faults shelf.new;
-          before = record {
-            input = I.left input.old;
-            reads = I.faults input.old;
-            out = O.took out.old;
-            writes = O.faults out.old;
-          };
-          after = record {
-            input = I.left input.new;
-            reads = I.faults input.new;
-            out = O.took out.new;
-            writes = O.faults out.new;
-          };
-        }
+        (called (F.held shelf.old) (F.faults shelf.old) (F.faults shelf.new)
+        (streams (I.left input.old) (I.faults input.old) (O.took out.old) (O.faults out.old))
+        (streams (I.left input.new) (I.faults input.new) (O.took out.new) (O.faults out.new)))
         (E.took err.old) (E.took err.new) (E.faults err.old) (E.faults err.new) }
     ensures usage { result ≡ Status.Usage → command_of (map string_bytes words.now) ≡ None }
     ensures unnamed { command_of (map string_bytes words.now) ≡ None →
         (result ≡ Status.Usage) ⊎ (result ≡ Status.Memory) }
     ensures unread { command_of (map string_bytes words.now) ≡ None → shelf.new ≡ shelf.old }
     ensures complete { Completes result (command_of (map string_bytes words.now))
-        record {
-          held = F.held shelf.old;
-          reads_before = F.faults shelf.old;
-          reads_after = F.faults shelf.new;
-          before = record {
-            input = I.left input.old;
-            reads = I.faults input.old;
-            out = O.took out.old;
-            writes = O.faults out.old;
-          };
-          after = record {
-            input = I.left input.new;
-            reads = I.faults input.new;
-            out = O.took out.new;
-            writes = O.faults out.new;
-          };
-        } }
+        (called (F.held shelf.old) (F.faults shelf.old) (F.faults shelf.new)
+        (streams (I.left input.old) (I.faults input.old) (O.took out.old) (O.faults out.old))
+        (streams (I.left input.new) (I.faults input.new) (O.took out.new) (O.faults out.new))) }
     ensures input { ¬ CommandAsks (command_of (map string_bytes words.now)) → input.new ≡ input.old }
 {
     let end = call(alloc, words, shelf, input, out);

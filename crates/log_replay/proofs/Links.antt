@@ -19,7 +19,7 @@ use Rattle.bay_protocol.specs.Step.{Turn}
 use Rattle.reservation_core.specs.Scene.{Scene, node, new_node, at_node, posts, true_at, runs}
 use Rattle.reservation_core.specs.RoundFacts.{RoundFacts}
 use Rattle.reservation_core.specs.Start.{IsStart}
-use Rattle.reservation_core.specs.Happens.{Tells, IsRefused, IsUnsent, no_turn}
+use Rattle.reservation_core.specs.Happens.{Tells, IsStoppedBy, IsUnsent, no_turn}
 use Rattle.reservation_core.specs.declared.values.Which.{Which}
 use Rattle.reservation_core.specs.declared.values.WorldOutcome.{WorldOutcome}
 use Rattle.reservation_core.specs.declared.values.WorldOutcome.TheVariants.{Premise, Drive, Node}
@@ -191,7 +191,7 @@ quiet_shown count b old (Premise which) s quiet shows = absurd quiet
 quiet_shown count b old Drive s quiet shows = absurd quiet
 
 pub not_refused : (old new : Scene) (outcome : WorldOutcome) (which : Which) (s : Shown) →
-    IsRefused old new outcome which → Shows outcome s → ⊥
+    IsStoppedBy old new outcome which → Shows outcome s → ⊥
 not_refused old new outcome which s refused shows = subst (λ (x : WorldOutcome). Shows x s) refused.says shows
 
 pub drive_shown : (new after : Scene) (outcome : WorldOutcome) (s : Shown) → outcome ≡ Drive → Shows outcome s →

@@ -6,7 +6,7 @@ use Rattle.station_graph.specs.Alike.{IsVector}
 use Rattle.station_graph.specs.CentralRules.{Breaks}
 use Rattle.central_rules.specs.Meaning.{Meaning, Laws}
 use Rattle.bay_protocol.specs.declared.values.Grant.{Grant}
-use Rattle.reservation_core.specs.Scene.{Scene, Stands, Resolves}
+use Rattle.reservation_core.specs.Scene.{Scene, ReadsAs, Resolves}
 use Rattle.reservation_core.specs.Facts.{IsSoundTruth}
 use Rattle.reservation_core.specs.Happens.{DeliverHappens}
 use Rattle.reservation_core.specs.declared.values.Position.{Position}
@@ -25,14 +25,14 @@ pub to_scene : (m : Meaning) (start : List Bool) (lines : List Line) (w : Scene)
     Linked m start lines w → MayBeTrue m.diagram start lines v → Resolves w.truth v
 to_scene m start lines w v links is i closed at =
     let lt : i < length v = slice_get_within v i closed at in
-    subst (λ (p : Position). Stands p closed) (sym (links.truth i (omega (arith, lt, is.whole)))) (is.each i closed at)
+    subst (λ (p : Position). ReadsAs p closed) (sym (links.truth i (omega (arith, lt, is.whole)))) (is.each i closed at)
 
 to_lines : (m : Meaning) (start : List Bool) (lines : List Line) (w : Scene) (v : List Bool) →
     Linked m start lines w → IsVector m.diagram v → Resolves w.truth v → MayBeTrue m.diagram start lines v
 to_lines m start lines w v links whole is = record {
   whole = whole;
   each = λ i closed at. let lt : i < length v = slice_get_within v i closed at in
-      subst (λ (p : Position). Stands p closed) (links.truth i (omega (arith, lt, whole))) (is i closed at);
+      subst (λ (p : Position). ReadsAs p closed) (links.truth i (omega (arith, lt, whole))) (is i closed at);
 }
 
 -- the open operation of each bay breaks no rule

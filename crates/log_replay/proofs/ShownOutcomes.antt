@@ -16,7 +16,7 @@ use Rattle.reservation_core.specs.declared.values.WorldOutcome.{WorldOutcome}
 use Rattle.reservation_core.specs.declared.values.WorldOutcome.TheVariants.{Premise, Drive, Node}
 use Rattle.reservation_core.specs.declared.values.Which.{Which}
 use Rattle.reservation_core.specs.Scene.{Scene, stops}
-use Rattle.reservation_core.specs.Happens.{Happens, NodeSteps, IsRefused, IsDriven, SenseHappens, DeliverHappens}
+use Rattle.reservation_core.specs.Happens.{Happens, NodeSteps, IsStoppedBy, IsDriven, SenseHappens, DeliverHappens}
 use Rattle.reservation_core.specs.Happens.{PartHappens, WithdrawHappens, BeginHappens, EndHappens, CutHappens}
 use Rattle.reservation_core.specs.World.{OutputFits}
 use Rattle.reservation_core.specs.Runs.{nothing_shown, shown_of}
@@ -39,7 +39,7 @@ node_said m old b e new bay first output t = record {
 }
 
 not_node : (old new : Scene) (bay : BayId) (first : ℕ) (output : NodeOutput) (which : Which)
-    → IsRefused old new (Node bay first output) which → Said old new first output.frames
+    → IsStoppedBy old new (Node bay first output) which → Said old new first output.frames
 not_node old new bay first output which refused = let is : Node bay first output ≡ Premise which = refused.says in
     absurd (cc is)
 

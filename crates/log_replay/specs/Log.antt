@@ -9,8 +9,6 @@ use Rattle.reservation_core.specs.declared.values.LogEvent.{LogEvent}
 use Rattle.reservation_core.specs.declared.values.LogEvent.TheVariants.{At, Step}
 use Rattle.log_replay.specs.Records.{RecordSays, has_step, tell_of}
 use Rattle.log_replay.specs.RecordFaults.{RecordFault}
-use Rattle.log_replay.specs.declared.log.LogFault.{LogFault}
-use Rattle.log_replay.specs.declared.log.LogFault.TheVariants.{Memory, Refused}
 use Rattle.log_replay.specs.declared.log.TheConstants.{MOST_RECORDS}
 use Rattle.ilk_base.specs.declared.limits.TheConstants.{FILE_BYTES}
 
@@ -40,7 +38,7 @@ pub record IsLog (d : Diagram) (bytes : List ℕ) (events : List LogEvent) : Typ
   pub tell : Tell d (rows_of bytes) events
 
 -- The first record with a fault: those before it say events.
-pub record IsFirstFault (d : Diagram) (rows : List (List (List ℕ))) (r : InputRefusal) : Type 0 where
+pub record IsFirstRecordFault (d : Diagram) (rows : List (List (List ℕ))) (r : InputRefusal) : Type 0 where
   pub before : List LogEvent
   pub row : List (List ℕ)
   pub tell : Tell d (take (length before) rows) before
@@ -52,9 +50,4 @@ pub record IsFirstFault (d : Diagram) (rows : List (List (List ℕ))) (r : Input
 abbrev pub IsLogFault : Diagram → List ℕ → InputRefusal → Type 0
 IsLogFault d bytes r =
     ((FILE_BYTES < length bytes) × (r ≡ record { number = 5; line = 0 }))
-    ⊎ ((length bytes ≤ FILE_BYTES) × IsFirstFault d (rows_of bytes) r)
-
--- This holds of the refusal, where the fault is one; want of memory has no cause.
-abbrev pub ForRefused : LogFault → (InputRefusal → Type 0) → Type 0
-ForRefused Memory P = ⊤
-ForRefused (Refused r) P = P r
+    ⊎ ((length bytes ≤ FILE_BYTES) × IsFirstRecordFault d (rows_of bytes) r)

@@ -4,7 +4,7 @@ ghost use Rattle.log_replay.specs.declared.kinds.RecordKind.{RecordKind as AnyKi
 ghost use Rattle.log_replay.specs.RecordFaults.{kind_name, field_count};
 
 /// The kinds of records of a log, each named by the first field.
-#[derive(Clone, Copy, Debug, PartialEq, Eq)]
+#[derive(Clone, Copy, PartialEq, Eq)]
 pub enum RecordKind {
     /// `at`: where a switch stands at first
     At,

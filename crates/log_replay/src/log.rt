@@ -1,53 +1,28 @@
 //! A log.
-ghost use Rattle.std.specs.Prelude.{◌≡◌, ◌≤◌, ◌<◌, length, slice_get, Some, Err, All, IfOk, IfErr};
+ghost use Rattle.std.specs.Prelude.{◌≡◌, ◌≤◌, ◌<◌, length, slice_get, Some, All, IfOk, IfErr};
 ghost use Rattle.log_replay.specs.Records.{MayBeTold};
-ghost use Rattle.log_replay.specs.Log.{IsLog, IsLogFault, ForRefused};
+ghost use Rattle.log_replay.specs.Log.{IsLog, IsLogFault};
+ghost use Rattle.ilk_base.specs.Inputs.{ForRefused};
 ghost use Rattle.log_replay.specs.declared.log.TheConstants.{MOST_RECORDS};
 
 use crate::record::read_record;
 use csv::ByteRecord;
 use double_points::Rows;
-use ilk_base::{FILE_BYTES, InputRefusal, Memory};
+use ilk_base::FILE_BYTES;
 use reservation_core::LogEvent;
 use station_graph::Station;
-use std::alloc::{AllocFailed, Global};
+use std::alloc::Global;
 use std::marker::Model;
 
 /// The most records of a log.
 pub const MOST_RECORDS: usize = 20_000;
 
 /// Why bytes gave no log.
-#[derive(Clone, Copy, Debug, PartialEq, Eq)]
-pub enum LogFault {
-    /// There was not enough memory.
-    Memory,
-    /// The bytes are refused at their first record with a fault, or, with line 0, for their length.
-    Refused(InputRefusal),
-}
-
-impl From<Memory> for LogFault {
-    ghost use Rattle.log_replay.specs.declared.log.LogFault.TheVariants.{Memory};
-
-    ghost from_gives = { λ _ e. e ≡ Memory };
-
-    fn from(_: Memory) -> Self {
-        LogFault::Memory
-    }
-}
-
-impl<T: Drop> From<AllocFailed<T>> for LogFault {
-    ghost use Rattle.log_replay.specs.declared.log.LogFault.TheVariants.{Memory};
-
-    ghost from_gives = { λ _ e. e ≡ Memory };
-
-    fn from(_: AllocFailed<T>) -> Self {
-        LogFault::Memory
-    }
-}
+pub use ilk_base::InputFault as LogFault;
 
 /// A log of an operation, seen as the list of its events. It is made by `read_log`, and has at most
 /// `MOST_RECORDS`.
-#[derive(Debug, Drop)]
+#[derive(Drop)]
 pub struct Log {
     events: Vec<LogEvent>,
 }
@@ -91,13 +66,6 @@ impl Log {
     }
 }
 
-// The answer that the bytes are refused.
-fn refused(number: u8, line: u32) -> Result<Log, LogFault>
-    ensures { result ≡ Err (LogFault.Refused (record { number = number; line = line })) }
-{
-    Err(LogFault::Refused(InputRefusal { number, line }))
-}
-
 /// Reads a log: CSV records as docs/FORMATS.md says, without a header, blank lines skipped. Bytes are refused
 /// at their first record with a fault, with the fault's number and the record's, from 1. In one record the
 /// faults come in this order: 9 it comes after `MOST_RECORDS` records; 6 its first field is no kind; 1 it has
@@ -115,7 +83,7 @@ pub fn read_log(alloc: Global, station: &Station, bytes: &[u8]) -> Result<Log, L
     ensures err { IfErr result (λ e. ForRefused e (IsLogFault station.now bytes.now)) }
 {
     if bytes.len() > FILE_BYTES {
-        return refused(5, 0);
+        return Err(LogFault::refused(5, 0));
     }
     let mut rows = Rows::new(alloc, bytes);
     let mut row = ByteRecord::new(alloc);
@@ -123,7 +91,7 @@ pub fn read_log(alloc: Global, station: &Station, bytes: &[u8]) -> Result<Log, L
     while rows.next(&mut row)? {
         match read_record(station, &events, &row) {
             Ok(event) => events.push(event)?,
-            Err(number) => return refused(number, events.len() as u32 + 1),
+            Err(number) => return Err(LogFault::refused(number, events.len() as u32 + 1)),
         }
     }
     Ok(Log { events })

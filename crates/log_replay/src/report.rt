@@ -14,7 +14,7 @@ use std::marker::Model;
 
 /// What the replay of a log shows, seen as what is shown at each line, the line at which a premise is broken,
 /// if one is, and how many records the log has. It is made by `replay`.
-#[derive(Debug, Drop)]
+#[derive(Drop)]
 pub struct Report {
     outcomes: Vec<Option<WorldOutcome>>,
     broken: Option<(u32, Which)>,

@@ -11,7 +11,7 @@ use Rattle.central_rules.specs.Meaning.{Meaning}
 use Rattle.bay_protocol.specs.State.{State, nothing_kept, resumed}
 use Rattle.node_session.specs.Session.{AnswersWith, Session}
 use Rattle.node_session.specs.SessionEnds.{Streams, Takes, Answered}
-use Rattle.node_session.specs.Progress.{Stands}
+use Rattle.node_session.specs.Progress.{HasServed}
 use Rattle.node_session.proofs.Going.{session_more}
 
 rest_of : (a b : Option (List ℕ)) (taken : List ℕ) → Consumes a b taken →
@@ -40,7 +40,7 @@ stands_there [] line rest = refl
 stands_there (l ∷ done) line rest = stands_there done line rest
 
 module _ {m : Meaning} {d : Diagram} {b : ℕ} {before now : Streams} {held : List ℕ} {count : ℕ} {state : State}
-    (at : Stands m d b before now held count state) where
+    (at : HasServed m d b before now held count state) where
   -- an input of which what is held is the last that was taken
   pub takes_some : (rest : List ℕ) × Takes before now ((at.taken ++ held) ++ rest) (at.taken ++ held)
   takes_some =

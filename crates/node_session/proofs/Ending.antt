@@ -12,14 +12,14 @@ use Rattle.bay_protocol.specs.State.{State}
 use Rattle.node_session.specs.declared.end.TheConstants.{MOST_LINES}
 use Rattle.node_session.specs.SessionEnds.{Streams, Takes, Answered, IsDone, IsLong, IsReadFault, IsWriteFault, IsWant}
 use Rattle.node_session.specs.Reading.{is_feed, HasNoFeed, BeginsLine}
-use Rattle.node_session.specs.Progress.{AnswersLine, TellsFront, Stands}
+use Rattle.node_session.specs.Progress.{AnswersLine, TellsFront, HasServed}
 use Rattle.node_session.proofs.Feeds.{feeds-append, lines-line, lines-no_end, some_line}
 use Rattle.node_session.proofs.Going.{appends_both}
 use Rattle.node_session.proofs.AnsweredLines.{taken_one_more, takes_some, takes_all, cut, cut_all}
 use Rattle.node_session.proofs.AnsweredLines.{answered_of, one_more_of}
 
 module _ (m : Meaning) (d : Diagram) (b : ℕ) (before now : Streams) (held : List ℕ) (count : ℕ) (state : State)
-    (at : Stands m d b before now held count state) where
+    (at : HasServed m d b before now held count state) where
   pub want : IsWant m d b before now
   want =
       let (rest, takes) = takes_some at in

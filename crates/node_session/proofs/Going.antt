@@ -10,7 +10,7 @@ use Rattle.bay_protocol.specs.State.{State, nothing_kept, resumed}
 use Rattle.node_session.specs.Session.{AnswersWith, Session}
 use Rattle.node_session.specs.SessionEnds.{Streams}
 use Rattle.node_session.specs.Reading.{Grows, BeginsLine}
-use Rattle.node_session.specs.Progress.{AnswersLine, Stands}
+use Rattle.node_session.specs.Progress.{AnswersLine, HasServed}
 use Rattle.node_session.proofs.Feeds.{feeds-append, lines-line}
 use Rattle.node_session.proofs.Filling.{consumes_both}
 
@@ -80,9 +80,9 @@ past_line taken held line past rest parts =
 module _ (m : Meaning) (d : Diagram) (b : ℕ) (before now after : Streams) (held held_new : List ℕ) (count : ℕ)
     (state : State) where
   -- more is held
-  pub stands_more : Stands m d b before now held count state → Grows held held_new now.input after.input →
+  pub stands_more : HasServed m d b before now held count state → Grows held held_new now.input after.input →
       after.out ≡ now.out → now.reads ≤ after.reads → now.writes ≤ after.writes
-      → Stands m d b before after held_new count state
+      → HasServed m d b before after held_new count state
   stands_more at grows same reads writes = record {
     taken = at.taken;
     done = at.done;
@@ -102,11 +102,11 @@ module _ (m : Meaning) (d : Diagram) (b : ℕ) (before now after : Streams) (hel
   }
 
   -- the first line of what is held is answered
-  pub stands_past : (line : List ℕ) (next : State) → Stands m d b before now held count state →
+  pub stands_past : (line : List ℕ) (next : State) → HasServed m d b before now held count state →
       BeginsLine held line held_new
       → AnswersLine m d (count == 0) state (strip_carriage_return line) next now.out after.out → next.bay ≡ b →
       after.input ≡ now.input → now.reads ≤ after.reads → now.writes ≤ after.writes
-      → Stands m d b before after held_new (count + 1) next
+      → HasServed m d b before after held_new (count + 1) next
   stands_past line next at begins answered bay same reads writes = record {
     taken = at.taken ++ (line ++ 10 ∷ []);
     done = at.done ++ strip_carriage_return line ∷ [];

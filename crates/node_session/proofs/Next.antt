@@ -18,7 +18,7 @@ use Rattle.node_session.specs.declared.end.SessionEnd.TheVariants as e
 use Rattle.node_session.specs.Requests.{IsRequest}
 use Rattle.node_session.specs.SessionEnds.{Streams, SessionEnds, IsDone, IsStopped, IsLong, IsReadFault, IsWant}
 use Rattle.node_session.specs.Reading.{HasNoFeed, Grows, TakesPiece, BeginsLine, Fills, MoreFails, FillFails}
-use Rattle.node_session.specs.Progress.{AnswersLine, LineFails, Stands}
+use Rattle.node_session.specs.Progress.{AnswersLine, LineFails, HasServed}
 use Rattle.node_session.proofs.Going.{appends_nothing, appends_both, stands_more, stands_past}
 use Rattle.node_session.proofs.Ending.{want, read_fault, done_empty, long}
 use Rattle.node_session.proofs.Stopping.{stopped_line, stopped_long, stopped_last}
@@ -42,9 +42,9 @@ pub record Written (now after : Streams) : Type 0 where
   pub writes : now.writes ≤ after.writes
 
 module _ (m : Meaning) (d : Diagram) (b : ℕ) (before now : Streams) (held : List ℕ) (count : ℕ) (state : State)
-    (at : Stands m d b before now held count state) where
+    (at : HasServed m d b before now held count state) where
   module _ (mid : Streams) (asked : Asked now mid) (held_new : List ℕ) where
-    filled : Grows held held_new now.input mid.input → Stands m d b before mid held_new count state
+    filled : Grows held held_new now.input mid.input → HasServed m d b before mid held_new count state
     filled grows =
         stands_more m d b before now mid held held_new count state at grows asked.out asked.reads asked.writes
 
@@ -93,8 +93,8 @@ module _ (m : Meaning) (d : Diagram) (b : ℕ) (before now : Streams) (held : Li
 
     module _ (after : Streams) (written : Written mid after) where
       -- nothing was written, and no line answered
-      unwritten : Stands m d b before mid held_new count state → Appends mid.out after.out [] →
-          Stands m d b before after held_new count state
+      unwritten : HasServed m d b before mid held_new count state → Appends mid.out after.out [] →
+          HasServed m d b before after held_new count state
       unwritten there nothing = record {
         taken = there.taken;
         done = there.done;
@@ -125,11 +125,11 @@ module _ (m : Meaning) (d : Diagram) (b : ℕ) (before now : Streams) (held : Li
       pub next_line : (n : ℕ) (next : State) → Fills held held_new now.input mid.input (Line n) →
           AnswersLine m d (count == 0) state (strip_carriage_return (take n held_new)) next mid.out after.out →
           next.bay ≡ b
-          → Stands m d b before after (drop (n + 1) held_new) (count + 1) next
+          → HasServed m d b before after (drop (n + 1) held_new) (count + 1) next
       next_line n next fills answered bay =
           let (line, past, len, begins) = fills.is in
           let there = at_line n line past len begins.parts in
-          subst (λ (l : List ℕ). Stands m d b before after l (count + 1) next) (sym there.1)
+          subst (λ (l : List ℕ). HasServed m d b before after l (count + 1) next) (sym there.1)
           (stands_past m d b before mid after held_new past count state line next (filled fills.grows) begins
           (subst (λ (l : List ℕ). AnswersLine m d (count == 0) state (strip_carriage_return l) next mid.out after.out)
           there.0 answered) bay written.input written.reads written.writes)
@@ -208,8 +208,8 @@ consumes_nothing (Some x) = refl
 
 -- before the first line
 pub stands_first : (m : Meaning) (d : Diagram) (b : ℕ) (now : Streams) (held : List ℕ) (state : State) → held ≡ [] →
-    state ≡ resumed d b nothing_kept → Stands m d b now now held 0 state
-stands_first m d b now held state empty is = subst (λ (s : State). Stands m d b now now held 0 s) (sym is) (record {
+    state ≡ resumed d b nothing_kept → HasServed m d b now now held 0 state
+stands_first m d b now held state empty is = subst (λ (s : State). HasServed m d b now now held 0 s) (sym is) (record {
   taken = [];
   done = [];
   text = [];
@@ -243,7 +243,7 @@ held_some l held r same test is = some_is (length l) (ap (λ k. length k == 0) (
 
 -- what the last read gave is lost
 pub last_want : (m : Meaning) (d : Diagram) (b : ℕ) (before now : Streams) (held : List ℕ) (count : ℕ) (state : State)
-    (at : Stands m d b before now held count state) (mid : Streams) → Asked now mid → (held_new : List ℕ)
+    (at : HasServed m d b before now held count state) (mid : Streams) → Asked now mid → (held_new : List ℕ)
     → MoreFails held held_new now.input mid.input (Rose now.reads mid.reads) Memory → IsWant m d b before mid
 last_want m d b before now held count state at mid asked held_new (piece, consumed) =
     next_want m d b before now held count state at mid asked held_new (piece, consumed)

@@ -13,13 +13,13 @@ use Rattle.node_session.specs.declared.end.TheConstants.{MOST_LINES}
 use Rattle.node_session.specs.Requests.{IsRequest}
 use Rattle.node_session.specs.SessionEnds.{Streams, IsStopped}
 use Rattle.node_session.specs.Reading.{is_long, HasNoFeed, BeginsLine}
-use Rattle.node_session.specs.Progress.{Stands}
+use Rattle.node_session.specs.Progress.{HasServed}
 use Rattle.node_session.proofs.Feeds.{lines-line, lines-no_end, long_line}
 use Rattle.node_session.proofs.AnsweredLines.{stands_there, takes_some, takes_all, cut, cut_all, first_lines}
 use Rattle.node_session.proofs.AnsweredLines.{answered_of, taken_lines}
 
 module _ (m : Meaning) (d : Diagram) (b : ℕ) (before now : Streams) (held : List ℕ) (count : ℕ) (state : State)
-    (at : Stands m d b before now held count state) where
+    (at : HasServed m d b before now held count state) where
   -- the next line is refused, whatever follows what is held
   stopped : (line : List ℕ → List ℕ) (more : List ℕ → List (List ℕ)) →
       ((rest : List ℕ) → lines (held ++ rest) ≡ line rest ∷ more rest) →

@@ -7,14 +7,14 @@ use Rattle.station_graph.specs.Diagram.{Diagram}
 use Rattle.central_rules.specs.Meaning.{Meaning}
 use Rattle.node_session.specs.declared.end.SessionEnd.{SessionEnd}
 use Rattle.node_session.specs.declared.end.SessionEnd.TheVariants as e
-use Rattle.node_session.specs.SessionEnds.{Streams, IsRefused, SessionEnds, IsInput}
+use Rattle.node_session.specs.SessionEnds.{Streams, IsRefusedLine, SessionEnds, IsInput}
 
 told_is : (a : Option (List ℕ)) (content other : List ℕ) → a ≡ Some content → IfSome a (λ known. known ≡ other) →
     other ≡ content
 told_is a content other is told = let known = rw is at told in sym known
 
 never_refused : (d : Diagram) (b : ℕ) (content other : List ℕ) (count : ℕ) → other ≡ content → IsInput d b content →
-    IsRefused d b other count → ⊥
+    IsRefusedLine d b other count → ⊥
 never_refused d b content other count same input refused =
     refused.refused (input.each count refused.line (ap (λ c. slice_get (lines c) count) (sym same) ∙ refused.stands))
 

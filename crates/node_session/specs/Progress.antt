@@ -40,7 +40,7 @@ LineFails m d count old line before after rose end = ⊥
 
 -- Between two lines: so many are answered, the node is in this state, and these bytes of the input are held
 -- that follow them.
-pub record Stands (m : Meaning) (d : Diagram) (b : ℕ) (before now : Streams) (held : List ℕ) (count : ℕ)
+pub record HasServed (m : Meaning) (d : Diagram) (b : ℕ) (before now : Streams) (held : List ℕ) (count : ℕ)
     (state : State) : Type 0 where
   pub taken : List ℕ
   pub done : List (List ℕ)
@@ -57,6 +57,6 @@ pub record Stands (m : Meaning) (d : Diagram) (b : ℕ) (before now : Streams) (
 
 -- How one more line goes: it is answered and little is held, or the session ends.
 abbrev pub Goes : Meaning → Diagram → ℕ → Streams → Streams → List ℕ → ℕ → State → Result Bool SessionEnd → Type 0
-Goes m d b before now held count state (Ok true) = Stands m d b before now held (count + 1) state
+Goes m d b before now held count state (Ok true) = HasServed m d b before now held (count + 1) state
 Goes m d b before now held count state (Ok false) = IsDone m d b before now
 Goes m d b before now held count state (Err end) = SessionEnds m d b before now end

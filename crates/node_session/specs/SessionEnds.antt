@@ -22,6 +22,10 @@ pub record Streams : Type 0 where
   pub out : Option (List ℕ)
   pub writes : ℕ
 
+-- The streams by these parts.
+abbrev pub streams : Option (List ℕ) → ℕ → Option (List ℕ) → ℕ → Streams
+streams input reads out writes = record { input = input; reads = reads; out = out; writes = writes }
+
 -- The input is this, where it is told, and these first bytes of it were taken.
 pub record Takes (before after : Streams) (content taken : List ℕ) : Type 0 where
   pub told : IfSome before.input (λ known. known ≡ content)
@@ -43,7 +47,7 @@ pub record EndsNear (content taken : List ℕ) (count most : ℕ) : Type 0 where
   pub near : length past ≤ most
 
 -- The line at this place, counted from 0, is not one of an input.
-pub record IsRefused (d : Diagram) (b : ℕ) (content : List ℕ) (count : ℕ) : Type 0 where
+pub record IsRefusedLine (d : Diagram) (b : ℕ) (content : List ℕ) (count : ℕ) : Type 0 where
   pub line : List ℕ
   pub stands : slice_get (lines content) count ≡ Some line
   pub refused : ¬ IsRequest d b (count == 0) line
@@ -65,7 +69,7 @@ pub record IsStopped (m : Meaning) (d : Diagram) (b : ℕ) (before after : Strea
   pub takes : Takes before after content taken
   pub few : count < MOST_LINES
   pub answered : Answered m d b content count text
-  pub refused : IsRefused d b content count
+  pub refused : IsRefusedLine d b content count
   pub near : EndsNear content taken count (MOST_LINE + 1 + CHUNK)
   pub wrote : Appends before.out after.out text
 

@@ -4,7 +4,7 @@
 pub const MOST_LINES: u32 = 1_000_000;
 
 /// How a session ends.
-#[derive(Clone, Copy, Debug, PartialEq, Eq)]
+#[derive(Clone, Copy, PartialEq, Eq)]
 pub enum SessionEnd {
     /// all lines are answered
     Done,

@@ -14,7 +14,7 @@ use std::marker::Model;
 pub const CHUNK: usize = 4_096;
 
 /// Why the input gave nothing.
-#[derive(Clone, Copy, Debug, PartialEq, Eq)]
+#[derive(Clone, Copy, PartialEq, Eq)]
 pub enum InputTrouble {
     /// There was not enough memory, and what was read may be lost.
     Memory,
@@ -23,7 +23,7 @@ pub enum InputTrouble {
 }
 
 /// What stands at the front of the bytes that are held.
-#[derive(Clone, Copy, Debug, PartialEq, Eq)]
+#[derive(Clone, Copy, PartialEq, Eq)]
 pub enum Front {
     /// a line of so many bytes, and its line feed
     Line(usize),
@@ -35,7 +35,7 @@ pub enum Front {
 
 /// The bytes of an input that were taken and are not passed yet, seen as their list. It takes no more of the input
 /// than the front of what it holds needs.
-#[derive(Debug, Drop)]
+#[derive(Drop)]
 pub struct Reader {
     bytes: Vec<u8>,
     passed: usize,

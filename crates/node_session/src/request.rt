@@ -6,7 +6,7 @@ use ilk_base::Text;
 pub const MOST_LINE: usize = 4_096;
 
 /// What a line asks of a node.
-#[derive(Debug, Drop)]
+#[derive(Drop)]
 pub enum Request {
     /// `kept HEX`: to begin with this record
     Resume(Kept),
@@ -17,7 +17,7 @@ pub enum Request {
 }
 
 /// Why a line asks nothing.
-#[derive(Clone, Copy, Debug, PartialEq, Eq)]
+#[derive(Clone, Copy, PartialEq, Eq)]
 pub enum LineTrouble {
     /// There was not enough memory.
     Memory,

@@ -6,7 +6,7 @@ ghost use Rattle.bay_protocol.specs.Fits.{IsNode, FitsHeard};
 ghost use Rattle.node_session.specs.Requests.{RequestFits};
 ghost use Rattle.node_session.specs.Session.{Does};
 ghost use Rattle.node_session.specs.SessionEnds.{Streams, SessionEnds, IsInput};
-ghost use Rattle.node_session.specs.Progress.{AnswersLine, LineFails, Stands, Goes};
+ghost use Rattle.node_session.specs.Progress.{AnswersLine, LineFails, HasServed, Goes};
 ghost use Rattle.node_session.specs.declared.end.TheConstants.{MOST_LINES};
 ghost use Rattle.node_session.specs.declared.reader.TheConstants.{CHUNK};
 
@@ -115,7 +115,7 @@ fn answer_next<J: Judge, I: Source, O: Sink>(
     requires near { length reader.old ≤ CHUNK }
     // Wherever the session stood, it goes on so.
     ensures goes { (before : Streams)
-        → Stands (J.meaning judge.now) station.now bay.0 before
+        → HasServed (J.meaning judge.now) station.now bay.0 before
         record { input = I.left input.old; reads = I.faults input.old; out = O.took out.old; writes = O.faults out.old }
         reader.old count node.old
         → Goes (J.meaning judge.now) station.now bay.0 before

@@ -3,7 +3,7 @@
 
 mod device;
 mod file_device;
-mod law;
+mod laws;
 mod mem_device;
 mod sizes;
 mod slots;
@@ -12,10 +12,7 @@ mod writing;
 
 pub use device::Device;
 pub use file_device::FileDevice;
-pub use law::{image_is_of_one, stop_is_restart};
+pub use laws::{image_is_of_one, stop_is_restart};
 pub use mem_device::MemDevice;
 pub use sizes::{DEVICE_BYTES, RECORD_BYTES, SEQUENCE_BYTES, SLOT_BYTES};
 pub use store::{LAST_SEQUENCE, OpenTrouble, Opened, Store};
-
-#[cfg(test)]
-mod tests;

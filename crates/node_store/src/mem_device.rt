@@ -14,14 +14,14 @@ use ilk_base::{Failed, Memory};
 use std::alloc::Global;
 
 // What a read gives at a moment, and which bytes were written since the last sync.
-#[derive(Clone, Copy, Debug)]
+#[derive(Clone, Copy)]
 struct Snapshot {
     bytes: [u8; DEVICE_BYTES],
     marks: [bool; DEVICE_BYTES],
 }
 
 /// A device in memory, with room for so many calls. It keeps the state before each call.
-#[derive(Debug, Drop)]
+#[derive(Drop)]
 pub struct MemDevice {
     state: Snapshot,
     past: Vec<Snapshot>,

@@ -11,7 +11,7 @@ use crate::sizes::{PIECE_BYTES, RECORD_BYTES, SEQUENCE_BYTES, SLOT_BYTES};
 use bay_node::Kept;
 
 // A slot.
-#[derive(Clone, Copy, Debug)]
+#[derive(Clone, Copy)]
 pub(crate) enum Slot {
     First,
     Second,

@@ -21,7 +21,7 @@ use ilk_base::Failed;
 pub const LAST_SEQUENCE: u64 = 9_223_372_036_854_775_807;
 
 // The slot for whose record an image stands, its sequence, and whether the other one is open.
-#[derive(Clone, Copy, Debug)]
+#[derive(Clone, Copy)]
 pub(crate) struct Newest {
     slot: Slot,
     sequence: u64,
@@ -29,20 +29,20 @@ pub(crate) struct Newest {
 }
 
 /// The kept record on a device; none of its slots is open where it has no newest one.
-#[derive(Clone, Copy, Debug)]
+#[derive(Clone, Copy)]
 pub struct Store {
     newest: Option<Newest>,
 }
 
 /// A store that was opened, and the record for which the device's content stands.
-#[derive(Clone, Copy, Debug)]
+#[derive(Clone, Copy)]
 pub struct Opened {
     pub store: Store,
     pub kept: Kept,
 }
 
 /// Why a store was not opened.
-#[derive(Clone, Copy, Debug, PartialEq, Eq)]
+#[derive(Clone, Copy, PartialEq, Eq)]
 pub enum OpenTrouble {
     /// The sync failed.
     SyncFailed,

@@ -9,7 +9,7 @@ use station_graph::Station;
 use text_lines::after;
 
 /// Why a line names no operation of the station.
-#[derive(Clone, Copy, Debug, PartialEq, Eq)]
+#[derive(Clone, Copy, PartialEq, Eq)]
 pub enum LineFault {
     /// It is not `open PATH` or `close PATH`, or its path is empty.
     Form,

@@ -13,20 +13,20 @@ use Rattle.station_graph.specs.Connection.{a_switch}
 use Rattle.station_graph.specs.Sharing.{OfPart}
 use Rattle.station_graph.proofs.PositionLemmas.{slice_get-set_other}
 use Rattle.contraction.proofs.MarkLemmas.{slice_get-set_same}
-use Rattle.release_compile.specs.Lettered.{Lettered}
+use Rattle.judge_pool.specs.Lettered.{Lettered}
 use Rattle.decision_graphs.specs.Label.{AreAllowed}
 use Rattle.decision_graphs.specs.Reaching.{IsSet, set_at}
-use Rattle.release_compile.specs.declared.view.View.TheVariants.{Gap, Load}
+use Rattle.judge_pool.specs.declared.view.View.TheVariants.{Gap, Load}
 use Rattle.release_compile.specs.declared.search.Side.{Side}
-use Rattle.release_compile.specs.Folding.{AreChosen}
+use Rattle.judge_pool.specs.Folding.{AreChosen}
 use Rattle.release_compile.specs.Chaining.{IsReady, IsChainOf, IsFound}
-use Rattle.release_compile.specs.Graphs.{other_of, PartChosen, SwitchChosen, IsOwn, IsSide, Within, GivesChoices}
+use Rattle.judge_pool.specs.Graphs.{other_of, PartChosen, SwitchChosen, IsOwn}
+use Rattle.release_compile.specs.Allowed.{IsSide, Within, GivesChoices}
 use Rattle.release_compile.specs.Deciding.{OthersAgree}
-use Rattle.release_compile.proofs.MoveLemmas.{index_moves}
-use Rattle.release_compile.proofs.OuterLemmas.{other_not}
-use Rattle.release_compile.proofs.PlacingLemmas.{switch_not}
-use Rattle.release_compile.proofs.VerdictLemmas.{allowed_length, allowed_at, length_sets, length_after, set_after}
-use Rattle.release_compile.proofs.VerdictLemmas.{within_of}
+use Rattle.judge_intake.proofs.MoveLemmas.{index_moves}
+use Rattle.judge_intake.proofs.OuterLemmas.{other_not}
+use Rattle.judge_intake.proofs.OtherLemmas.{switch_not, length_after}
+use Rattle.release_compile.proofs.VerdictLemmas.{allowed_length, allowed_at, length_sets, set_after, within_of}
 
 chain_fits : (s : Side) (sets : List (List Bool)) (others goal : ℕ) (cs all : List ℕ) → IsReady s sets →
     length s.inner.now.layers ≡ suc others → IsChainOf s sets goal cs all →

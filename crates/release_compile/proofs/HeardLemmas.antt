@@ -10,13 +10,14 @@ use Rattle.station_graph.specs.Sharing.{OfPart}
 use Rattle.contraction.specs.Answers.{Answers}
 use Rattle.decision_graphs.specs.Label.{Layer, Layered, layer_at}
 use Rattle.decision_graphs.specs.Reaching.{AreSetsOf, IsSet, set_at}
-use Rattle.release_compile.specs.declared.view.View.{View}
+use Rattle.judge_pool.specs.declared.view.View.{View}
 use Rattle.release_compile.specs.declared.search.Side.{Side}
-use Rattle.release_compile.specs.Lettered.{Lettered, index_count}
+use Rattle.judge_pool.specs.Lettered.{Lettered, index_count}
 use Rattle.release_compile.specs.Chaining.{AreInARow, IsReady}
-use Rattle.release_compile.specs.Graphs.{other_of, IsOuter, IsInner, IsOwn, OwnAllowed, IsSide}
-use Rattle.release_compile.specs.Coding.{labels_of}
-use Rattle.release_compile.specs.Built.{ViewOf, AreInner, AreViewGraphs}
+use Rattle.judge_pool.specs.Graphs.{other_of, IsOuter, IsInner, IsOwn}
+use Rattle.release_compile.specs.Allowed.{OwnAllowed, IsSide}
+use Rattle.judge_intake.specs.Coding.{labels_of}
+use Rattle.judge_graphs.specs.Built.{ViewOf, AreInner, AreViewGraphs}
 use Rattle.release_compile.proofs.VerdictLemmas.{set_in, sets_at}
 
 -- the inner graph of a switch of the bay

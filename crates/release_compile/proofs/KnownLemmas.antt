@@ -10,19 +10,20 @@ use Rattle.double_points.specs.Words.{Agrees, AreWords}
 use Rattle.station_graph.specs.declared.items.Switch.{Switch}
 use Rattle.station_graph.specs.Diagram.{Diagram, part_count}
 use Rattle.station_graph.specs.Alike.{IsVector}
-use Rattle.release_compile.specs.Lettered.{Lettered, AreLettered, PartHas}
+use Rattle.judge_pool.specs.Lettered.{Lettered, AreLettered, PartHas}
 use Rattle.central_rules.specs.declared.verdict.Verdict.{Verdict}
 use Rattle.central_rules.specs.declared.verdict.Verdict.TheVariants.{Release, Denied}
 use Rattle.central_rules.specs.Readings.{IsReading, Decides}
 use Rattle.central_rules.specs.Meaning.{CannotExclude}
 use Rattle.decision_graphs.specs.Reaching.{IsSet, set_at}
-use Rattle.release_compile.specs.Graphs.{other_of, PartChosen, Within}
+use Rattle.judge_pool.specs.Graphs.{other_of, PartChosen}
+use Rattle.release_compile.specs.Allowed.{Within}
 use Rattle.release_compile.specs.Summaries.{by_indices, HeardAllows, AreHeardSets, ArePossibleSets}
 use Rattle.release_compile.specs.declared.all_words.AllWords.{AllWords}
 use Rattle.release_compile.specs.Deciding.{WithinAll}
-use Rattle.release_compile.proofs.VerdictLemmas.{other_in}
-use Rattle.release_compile.proofs.OuterLemmas.{other_not}
-use Rattle.release_compile.proofs.OuterFits.{place_of_part}
+use Rattle.judge_intake.proofs.OtherLemmas.{other_in}
+use Rattle.judge_intake.proofs.OuterLemmas.{other_not}
+use Rattle.judge_intake.proofs.OuterFits.{place_of_part}
 
 module _ (a : Lettered) (alphabets : AreLettered a) (bay n : ℕ) (count : suc n ≡ part_count a.diagram)
     (bay_in : bay < part_count a.diagram) (own : List Dbpos) (heard : List (Option (List ℕ)))

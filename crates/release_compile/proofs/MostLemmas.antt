@@ -15,21 +15,21 @@ use Rattle.station_graph.proofs.PositionLemmas.{SameLoadView-trans}
 use Rattle.bay_contract.specs.Counting.{AreSoMany, StepFits, PartIsPast}
 use Rattle.bay_contract.proofs.CountingLemmas.{not_longer, so_many_once, layer_past}
 use Rattle.central_rules.specs.Meaning.{IsBay}
-use Rattle.release_compile.specs.declared.view.View.{View}
-use Rattle.release_compile.specs.declared.view.View.TheVariants.{Gap, Load}
+use Rattle.judge_pool.specs.declared.view.View.{View}
+use Rattle.judge_pool.specs.declared.view.View.TheVariants.{Gap, Load}
 use Rattle.release_compile.specs.declared.refusal.BuildRefusal.{BuildRefusal}
 use Rattle.release_compile.specs.declared.refusal.BuildRefusal.TheVariants.{Memory, Many, Wide}
-use Rattle.release_compile.specs.Seen.{SameView}
-use Rattle.release_compile.specs.Graphs.{other_of}
-use Rattle.release_compile.specs.Listing.{parts_before}
-use Rattle.release_compile.specs.Needing.{IsNeededOuter, IsNeededInner}
+use Rattle.judge_pool.specs.Seen.{SameView}
+use Rattle.judge_pool.specs.Graphs.{other_of}
+use Rattle.judge_pool.specs.Listing.{parts_before}
+use Rattle.judge_pool.specs.Needing.{IsNeededOuter, IsNeededInner}
 use Rattle.contraction.specs.Stands.{Among}
-use Rattle.release_compile.specs.Counted.{Size, edges_in, AreAtLeast, before_switch, OuterHas, InnerHas, SwitchHas}
-use Rattle.release_compile.specs.Counted.{ViewHas, BayHas, Passes}
+use Rattle.judge_pool.specs.Counted.{Size, edges_in, AreAtLeast, before_switch, OuterHas, InnerHas, SwitchHas}
+use Rattle.judge_pool.specs.Counted.{ViewHas, BayHas, Passes}
 use Rattle.release_compile.specs.Judging.{PartHasEdges, KeepEdges, KeepsLimits, IsBuildRefusal}
-use Rattle.release_compile.proofs.EdgesLemmas.{view_at_least}
+use Rattle.judge_graphs.proofs.EdgesLemmas.{view_at_least}
 use Rattle.bay_contract.specs.declared.limits.TheConstants.{CONTRACTIONS, LETTERS}
-use Rattle.release_compile.specs.declared.limits.TheConstants.{BAY_EDGES, ALL_EDGES}
+use Rattle.judge_pool.specs.declared.limits.TheConstants.{BAY_EDGES, ALL_EDGES}
 
 -- ---- views and contractions are the same to and fro
 

@@ -1,27 +1,26 @@
 -- Vectors that give choices.
-use Rattle.std.proofs.Common.{◌≡◌, ◌≢◌, ℕ, ◌+◌, ◌<◌, suc, Bool, List, [], ◌∷◌, length, drop, get_or, eqb, slice_get}
+use Rattle.std.proofs.Common.{◌≡◌, ℕ, ◌+◌, ◌<◌, suc, Bool, List, [], ◌∷◌, length, drop, get_or, eqb, slice_get}
 use Rattle.std.proofs.Common.{slice_set, Option, Some, None, IfSome, refl, sym, ap, ◌∙◌, subst, inl, inr, arith}
 use Rattle.std.specs.Borrow.{Bor}
 use Rattle.std.proofs.lemmas.Bool.{cases_lt}
-use Rattle.std.proofs.lemmas.Option.{slice_get_within, slice_get-get_or, get_or_from_slice_get, same_Some}
+use Rattle.std.proofs.lemmas.Option.{slice_get_within, slice_get-get_or, get_or_from_slice_get}
 use Rattle.ilk_base.specs.declared.words.Dbpos.{Dbpos}
-use Rattle.station_graph.specs.declared.items.Switch.{Switch}
 use Rattle.station_graph.specs.Diagram.{Diagram}
 use Rattle.station_graph.specs.Connection.{a_switch}
 use Rattle.station_graph.specs.Sharing.{OfPart}
-use Rattle.station_graph.specs.Alike.{IsVector, SamePositions, DifferInPart}
+use Rattle.station_graph.specs.Alike.{IsVector, DifferInPart}
 use Rattle.station_graph.proofs.PositionLemmas.{slice_get-set_other}
 use Rattle.contraction.proofs.MarkLemmas.{slice_get-set_same}
 use Rattle.bay_contract.specs.PartAlphabets.{Alphabets, StandsAt}
 use Rattle.double_points.specs.Words.{BayAgrees}
-use Rattle.release_compile.specs.Lettered.{Lettered, PartHas}
-use Rattle.release_compile.specs.Graphs.{other_of, PartChosen, SwitchChosen}
-use Rattle.release_compile.specs.Folding.{AreChosen}
+use Rattle.judge_pool.specs.Lettered.{Lettered, PartHas}
+use Rattle.judge_pool.specs.Graphs.{other_of, PartChosen, SwitchChosen}
+use Rattle.judge_pool.specs.Folding.{AreChosen}
 use Rattle.release_compile.specs.declared.all_words.AllWords.{AllWords}
 use Rattle.release_compile.specs.Deciding.{IsPlaceFor, OthersAgree}
-use Rattle.release_compile.proofs.MoveLemmas.{index_moves}
-use Rattle.release_compile.proofs.OuterLemmas.{others_apart}
-use Rattle.release_compile.proofs.VerdictLemmas.{other_cases, length_after}
+use Rattle.judge_intake.proofs.MoveLemmas.{index_moves, part_stays}
+use Rattle.judge_intake.proofs.OuterLemmas.{others_apart}
+use Rattle.judge_intake.proofs.OtherLemmas.{switches_apart, length_after}
 
 -- the first n choices are those of the vector
 pub ChosenBelow : (ℕ → ℕ → List Bool → Type 0) → ℕ → List Bool → List ℕ → Type 0
@@ -35,13 +34,6 @@ pub below_all : (Chosen : ℕ → ℕ → List Bool → Type 0) (n : ℕ) (v : L
     ChosenBelow Chosen n v cs → AreChosen Chosen v cs
 unfolding ChosenBelow
 below_all Chosen n v cs len h i c at = h i c (omega (arith, slice_get_within cs i c at, len)) at
-
--- the positions of one part stay where only those of another are moved
-pub part_stays : (d : Diagram) (p q : ℕ) (v w : List Bool) → p ≢ q → DifferInPart d q v w →
-    SamePositions (OfPart d p) v w
-part_stays d p q v w ne stay i of_p =
-    stay i
-    (λ of_q. ne (sym of_p.2 ∙ (ap (λ (x : Switch). x.bay.0) (same_Some of_p.0 of_q.0 (sym of_p.1 ∙ of_q.1)) ∙ of_q.2)))
 
 pub parts_more : (a : Lettered) (b n index bits : ℕ) (v w : List Bool) (cs : List ℕ) →
     ChosenBelow (PartChosen a b) n v cs → get_or cs n 0 ≡ index →
@@ -84,25 +76,6 @@ pub all_agree_more : (d : Diagram) (a : Alphabets) (b n index bits : ℕ) (v w :
 all_agree_more d a b n index bits v w None before place whole stands stay = tt
 all_agree_more d a b n index bits v w (Some x) before place whole stands stay =
     agree_more d b n x.now.words.now v w before (place.agrees w whole stands) stay
-
--- the other switches have different numbers, none of them the moved one
-pub switches_apart : (first m i j : ℕ) → i < j → other_of first m i ≢ other_of first m j
-switches_apart first m i j lt e = elim (other_cases first m i) [
-  | inl x ↦ elim (other_cases first m j) [
-    | inl y ↦ omega (arith, lt, e, x.1, y.1)
-    | inr y ↦ omega (arith, lt, e, x.1, y.1)
-  ]
-  | inr x ↦ elim (other_cases first m j) [
-    | inl y ↦ omega (arith, lt, e, x.0, x.1, y.0, y.1)
-    | inr y ↦ omega (arith, lt, e, x.1, y.1)
-  ]
-]
-
-pub switch_not : (first m i : ℕ) → other_of first m i ≢ m
-switch_not first m i e = elim (other_cases first m i) [
-  | inl x ↦ omega (arith, e, x.0, x.1)
-  | inr x ↦ omega (arith, e, x.0, x.1)
-]
 
 behind_first : (xs : List ℕ) (j : ℕ) → get_or (drop 1 xs) j 0 ≡ get_or xs (j + 1) 0
 behind_first [] j = refl

@@ -8,7 +8,7 @@ use Rattle.station_graph.specs.Diagram.{part_count}
 use Rattle.station_graph.proofs.PathLemmas.{slice_get-push}
 use Rattle.bay_contract.specs.Alphabets.{CanHave, IsPossible}
 use Rattle.release_compile.specs.declared.all_words.AllWords.{AllWords}
-use Rattle.release_compile.specs.Lettered.{Lettered}
+use Rattle.judge_pool.specs.Lettered.{Lettered}
 use Rattle.release_compile.specs.Possible.{ArePossible, AreAllWords, SetHolds}
 
 -- part by part

@@ -5,11 +5,11 @@ use Rattle.ilk_base.specs.declared.words.Direction.{Direction}
 use Rattle.ilk_base.specs.declared.words.Rule.{Rule}
 use Rattle.decision_graphs.specs.Label.{AreAllowed}
 use Rattle.decision_graphs.specs.Reaching.{IsSet, set_at}
-use Rattle.release_compile.specs.declared.view.View.TheVariants.{Gap, Load}
+use Rattle.judge_pool.specs.declared.view.View.TheVariants.{Gap, Load}
 use Rattle.release_compile.specs.declared.sides.Sides.{Sides}
-use Rattle.release_compile.specs.Lettered.{Lettered, index_count}
+use Rattle.judge_pool.specs.Lettered.{Lettered, index_count}
 use Rattle.release_compile.specs.Chaining.{IsFound}
-use Rattle.release_compile.specs.Graphs.{other_of}
+use Rattle.judge_pool.specs.Graphs.{other_of}
 use Rattle.release_compile.specs.Sides.{AreSides}
 use Rattle.release_compile.proofs.VerdictLemmas.{length_sets}
 use Rattle.release_compile.proofs.HeardLemmas.{two_choices, allowed_index}

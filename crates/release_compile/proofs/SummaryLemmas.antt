@@ -16,7 +16,7 @@ use Rattle.contraction.proofs.SameLemmas.{gap_self, load_self, gap_fewer, load_f
 use Rattle.central_rules.specs.Knowledge.{StandsAlike}
 use Rattle.central_rules.specs.Meaning.{Summarises}
 use Rattle.bay_contract.specs.Alphabets.{CanHave, InSet}
-use Rattle.release_compile.specs.Lettered.{Lettered, AreLettered, index_count, PartHas}
+use Rattle.judge_pool.specs.Lettered.{Lettered, AreLettered, index_count, PartHas}
 use Rattle.release_compile.specs.Summaries.{byte_count, IsIndexSet, SetAllows, by_indices}
 use Rattle.release_compile.specs.Rows.{IsSetRow}
 

@@ -2,9 +2,9 @@
 use Rattle.std.proofs.Common.{◌≡◌, ◌≢◌, ℕ, ◌<◌, Bool, false, List, length, get_or, MatchBool, sym, subst, arith}
 use Rattle.station_graph.specs.Diagram.{Diagram, part_count}
 use Rattle.station_graph.specs.Alike.{Irrelevant, Partner}
-use Rattle.release_compile.specs.Graphs.{other_of}
-use Rattle.release_compile.specs.Built.{AreTold}
-use Rattle.release_compile.proofs.OuterFits.{place_of_part}
+use Rattle.judge_pool.specs.Graphs.{other_of}
+use Rattle.judge_graphs.specs.Built.{AreTold}
+use Rattle.judge_intake.proofs.OuterFits.{place_of_part}
 
 pub told_of : (d : Diagram) (to b : ℕ) (told : List Bool) (is : Bool) → AreTold d to told → b ≢ to → b < part_count d →
     to < part_count d → ((j : ℕ) → other_of 0 to j ≡ b → is ≡ get_or told j false) →

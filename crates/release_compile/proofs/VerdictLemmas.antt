@@ -1,12 +1,10 @@
 -- THE VERDICT: what the four graphs say of a vector, and so of all vectors that are allowed.
-use Rattle.std.proofs.Common.{◌≡◌, ◌≢◌, ℕ, ◌+◌, ◌-◌, ◌<◌, ◌≤◌, ◌⊎◌, zero, suc, Bool, true, false, eqb, ltb, List, []}
+use Rattle.std.proofs.Common.{◌≡◌, ◌≢◌, ℕ, ◌-◌, ◌<◌, zero, suc, Bool, false, eqb, List, []}
 use Rattle.std.proofs.Common.{◌∷◌, length, drop, get_or, slice_get, Some, None, refl, sym, ap, ◌∙◌, subst, inl, inr}
 use Rattle.std.proofs.Common.{arith}
-use Rattle.std.specs.Prelude.{if◌then◌else◌}
-use borrow.Author.Tests.{ltb-true, lt-ltb}
-use Rattle.std.proofs.lemmas.Bool.{cases_lt, cases_eq, false≢true, ne_eqb}
+use Rattle.std.proofs.lemmas.Bool.{cases_eq, false≢true, ne_eqb}
 use Rattle.std.proofs.lemmas.List.{length-map}
-use Rattle.std.proofs.lemmas.Option.{slice_get-get_or, slice_get_cases, same_Some}
+use Rattle.std.proofs.lemmas.Option.{slice_get-get_or, same_Some}
 use Rattle.ilk_base.specs.declared.words.Dbpos.{Dbpos}
 use Rattle.ilk_base.specs.declared.words.Direction.{Direction}
 use Rattle.ilk_base.specs.declared.words.Direction.TheVariants.{ToOff, ToOn}
@@ -19,16 +17,17 @@ use Rattle.station_graph.specs.Connection.{a_switch}
 use Rattle.station_graph.specs.Sharing.{OfPart}
 use Rattle.station_graph.specs.Alike.{IsVector}
 use Rattle.station_graph.specs.CentralRules.{Breaks, GapBreaks}
-use Rattle.release_compile.specs.Lettered.{Lettered}
+use Rattle.judge_pool.specs.Lettered.{Lettered}
 use Rattle.decision_graphs.specs.Label.{Layer, layer_at, label_of, AreAllowed}
 use Rattle.decision_graphs.specs.Reaching.{IsSet, set_at, AreSetsOf}
-use Rattle.release_compile.specs.declared.view.View.{View}
-use Rattle.release_compile.specs.declared.view.View.TheVariants.{Gap, Load}
+use Rattle.judge_pool.specs.declared.view.View.{View}
+use Rattle.judge_pool.specs.declared.view.View.TheVariants.{Gap, Load}
 use Rattle.release_compile.specs.declared.search.Side.{Side}
-use Rattle.release_compile.specs.Folding.{AreChosen}
+use Rattle.judge_pool.specs.Folding.{AreChosen}
 use Rattle.release_compile.specs.Chaining.{LeadThrough, NoneLeadsTo, IsChainOf, GapFree, IsFound}
-use Rattle.release_compile.specs.Graphs.{other_of, PartChosen, SwitchChosen, gap_rule, LabelSays, Within, IsOwn, IsSide}
-use Rattle.release_compile.specs.Graphs.{GivesChoices}
+use Rattle.judge_pool.specs.Graphs.{other_of, PartChosen, SwitchChosen, gap_rule, LabelSays, IsOwn}
+use Rattle.release_compile.specs.Allowed.{Within, IsSide, GivesChoices}
+use Rattle.judge_intake.proofs.OtherLemmas.{other_in, own_place, code, code_back, code_small, element, length_after}
 
 -- ---- lists of allowed choices
 
@@ -59,54 +58,6 @@ length_sets ls sets e = sym (length-map sets length) ∙ (ap length e ∙ length
 pub set_after : (sets : List (List Bool)) (i : ℕ) → set_at (drop 1 sets) i ≡ set_at sets (suc i)
 set_after [] i = refl
 set_after (s ∷ ss) i = refl
-
-pub length_after : {X : Type 0} (n : ℕ) (sets : List X) → length sets ≡ suc n → length (drop 1 sets) ≡ n
-length_after n [] e = absurd (omega (arith, e))
-length_after n (s ∷ ss) e = omega (arith, e)
-
--- ---- the other switches of the bay
-
-pub other_cases : (first m i : ℕ) →
-    ((first + i < m) × (other_of first m i ≡ first + i)) ⊎ ((m ≤ first + i) × (other_of first m i ≡ suc (first + i)))
-other_cases first m i = by (ltb (first + i) m) refl
-  where
-    by : (t : Bool) → ltb (first + i) m ≡ t →
-        ((first + i < m) × (other_of first m i ≡ first + i))
-        ⊎ ((m ≤ first + i) × (other_of first m i ≡ suc (first + i)))
-    by true e = inl (ltb-true (first + i) m e, ap (λ t. if t then first + i else suc (first + i)) e)
-    by false e = inr (
-      elim (cases_lt (first + i) m) [
-        | inl less ↦ absurd (false≢true (sym e ∙ lt-ltb (first + i) m less))
-        | inr more ↦ more
-      ],
-      ap (λ t. if t then first + i else suc (first + i)) e,
-    )
-
--- it is one of the bay's
-pub other_in : (first m others i : ℕ) → i < others →
-    (first ≤ other_of first m i) × (other_of first m i < first + suc others)
-other_in first m others i lt = elim (other_cases first m i) [
-  | inl below ↦ (omega (arith, below.1), omega (arith, below.1, lt))
-  | inr above ↦ (omega (arith, above.1), omega (arith, above.1, lt))
-]
-
--- the choice for a position
-pub code : Bool → ℕ
-code true = 1
-code false = 0
-
-pub code_back : (c : Bool) → (eqb (code c) 1) ≡ c
-unfolding code
-code_back true = refl
-code_back false = refl
-
-pub code_small : (c : Bool) → code c < 2
-unfolding code
-code_small true = omega arith
-code_small false = omega arith
-
-pub element : {X : Type 0} (xs : List X) (i : ℕ) → i < length xs → (x : X) × (slice_get xs i ≡ Some x)
-element xs i h = elim ((slice_get_cases xs i).1) [ inl w ↦ (w.0, w.2) | inr w ↦ absurd (omega (arith, w.0)) ]
 
 -- ---- one view
 
@@ -261,28 +212,6 @@ allowed_at [] (x ∷ xs) i c a at = absurd a
 allowed_at (s ∷ ss) [] i c a at = absurd a
 allowed_at (s ∷ ss) (x ∷ xs) zero c a at = subst (λ y. IsSet s y) (same_Some x c at) a.0
 allowed_at (s ∷ ss) (x ∷ xs) (suc i) c a at = allowed_at ss xs i c a.1 at
-
--- each switch of the bay is the moved one or one of the others
-pub own_place : (first m others i : ℕ) → first ≤ m → m < first + suc others → first ≤ i → i < first + suc others →
-    i ≢ m → (k : ℕ) × (k < others) × (other_of first m k ≡ i)
-own_place first m others i from below at_least at_most ne = elim (cases_lt i m) [
-  | inl less ↦ (
-    i - first,
-    omega (arith, at_least, less, below),
-    elim (other_cases first m (i - first)) [
-      | inl x ↦ x.1 ∙ omega (arith, at_least)
-      | inr x ↦ absurd (omega (arith, x.0, at_least, less))
-    ],
-  )
-  | inr more ↦ (
-    i - suc first,
-    omega (arith, from, more, ne, at_most),
-    elim (other_cases first m (i - suc first)) [
-      | inl x ↦ absurd (omega (arith, x.0, from, more, ne))
-      | inr x ↦ x.1 ∙ omega (arith, from, more, ne)
-    ],
-  )
-]
 
 module _ (view : View) (a : Lettered) (b m first others : ℕ) (words : List Dbpos) (sets : List (List Bool)) (s : Side)
     (is_own : IsOwn a.diagram b m first others) (side : IsSide view a b m first others words sets s) where

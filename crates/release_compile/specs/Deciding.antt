@@ -8,8 +8,9 @@ use Rattle.bay_contract.specs.PartAlphabets.{Alphabets, StandsAt, IsPosition}
 use Rattle.bay_contract.specs.Alphabets.{HasIndex}
 use Rattle.double_points.specs.Words.{BayAgrees}
 use Rattle.release_compile.specs.declared.all_words.AllWords.{AllWords}
-use Rattle.release_compile.specs.Lettered.{Lettered}
-use Rattle.release_compile.specs.Graphs.{other_of, Within}
+use Rattle.judge_pool.specs.Lettered.{Lettered}
+use Rattle.judge_pool.specs.Graphs.{other_of}
+use Rattle.release_compile.specs.Allowed.{Within}
 
 -- The number is a position in which the part has the index; where the words of all switches are known, one that agrees
 -- with them.

@@ -6,10 +6,10 @@ use Rattle.decision_graphs.specs.Label.{Layered}
 use Rattle.bay_contract.specs.PartAlphabets.{Alphabets}
 use Rattle.bay_contract.specs.Counting.{AreSoMany, PartFits, PartIsPast}
 use Rattle.central_rules.specs.Meaning.{IsBay}
-use Rattle.release_compile.specs.Counted.{BayHas, Passes}
-use Rattle.release_compile.specs.declared.limits.TheConstants.{BAY_EDGES, ALL_EDGES}
-use Rattle.release_compile.specs.Lettered.{Lettered, AreLettered, lettered}
-use Rattle.release_compile.specs.Built.{ViewOf, BayOf, AreBays}
+use Rattle.judge_pool.specs.Counted.{BayHas, Passes}
+use Rattle.judge_pool.specs.declared.limits.TheConstants.{BAY_EDGES, ALL_EDGES}
+use Rattle.judge_pool.specs.Lettered.{Lettered, AreLettered, lettered}
+use Rattle.judge_graphs.specs.Built.{ViewOf, BayOf, AreBays}
 use Rattle.release_compile.specs.declared.refusal.BuildRefusal.{BuildRefusal}
 use Rattle.release_compile.specs.declared.refusal.BuildRefusal.TheVariants.{Memory, Many, Wide}
 

@@ -1,7 +1,7 @@
 -- How the fields of a graph judge are seen.
 use Rattle.std.specs.Prelude.{map}
 use Rattle.release_compile.specs.Judging.{Judging}
-use Rattle.release_compile.specs.BuiltView.{seen_part}
+use Rattle.judge_graphs.specs.BuiltView.{seen_part}
 use Rattle.release_compile.specs.declared.build.GraphJudge.TheInside.{Inside}
 
 -- A judge, as a contract sees it.

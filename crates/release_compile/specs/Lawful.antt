@@ -5,7 +5,7 @@ use Rattle.station_graph.specs.Sharing.{OfPart}
 use Rattle.station_graph.specs.Alike.{SamePositions}
 use Rattle.contraction.proofs.MoveLemmas.{stands_moves}
 use Rattle.central_rules.specs.Meaning.{Laws}
-use Rattle.release_compile.specs.Lettered.{Lettered}
+use Rattle.judge_pool.specs.Lettered.{Lettered}
 use Rattle.release_compile.specs.Summaries.{SummaryAllows, by_indices}
 
 -- What an index set allows depends on the positions of its own bay alone.

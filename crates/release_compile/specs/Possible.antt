@@ -5,7 +5,7 @@ use Rattle.double_points.specs.Words.{AreWords}
 use Rattle.station_graph.specs.Diagram.{part_count}
 use Rattle.bay_contract.specs.Alphabets.{InSet, IsPossible}
 use Rattle.release_compile.specs.declared.all_words.AllWords.{AllWords}
-use Rattle.release_compile.specs.Lettered.{Lettered}
+use Rattle.judge_pool.specs.Lettered.{Lettered}
 
 -- The sets are those of the first n parts, each of exactly the indices that the part can have by the words.
 pub record ArePossible (a : Lettered) (words : List Dbpos) (sets : List (List (Option ℕ))) (n : ℕ) : Type 0 where

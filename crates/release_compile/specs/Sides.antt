@@ -2,11 +2,12 @@
 use Rattle.std.specs.Prelude.{◌≡◌, ℕ, suc, ◌<◌, Bool, List}
 use Rattle.ilk_base.specs.declared.words.Dbpos.{Dbpos}
 use Rattle.station_graph.specs.Diagram.{part_count}
-use Rattle.release_compile.specs.declared.view.View.TheVariants.{Gap, Load}
+use Rattle.judge_pool.specs.declared.view.View.TheVariants.{Gap, Load}
 use Rattle.release_compile.specs.declared.sides.Sides.{Sides}
-use Rattle.release_compile.specs.Coding.{labels_of}
-use Rattle.release_compile.specs.Lettered.{Lettered}
-use Rattle.release_compile.specs.Graphs.{IsOwn, IsSide}
+use Rattle.judge_intake.specs.Coding.{labels_of}
+use Rattle.judge_pool.specs.Lettered.{Lettered}
+use Rattle.judge_pool.specs.Graphs.{IsOwn}
+use Rattle.release_compile.specs.Allowed.{IsSide}
 
 -- The graphs of both views of switch m, ready for these sets of the other parts and these words of its bay.
 pub record AreSides (a : Lettered) (m : ℕ) (words : List Dbpos) (sets : List (List Bool)) (s : Sides) : Type 0 where

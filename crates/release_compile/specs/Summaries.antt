@@ -6,8 +6,8 @@ use Rattle.station_graph.specs.Diagram.{part_count}
 use Rattle.station_graph.specs.Alike.{Irrelevant, Partner}
 use Rattle.bay_contract.specs.Alphabets.{CanHave}
 use Rattle.decision_graphs.specs.Reaching.{IsSet, set_at}
-use Rattle.release_compile.specs.Graphs.{other_of}
-use Rattle.release_compile.specs.Lettered.{Lettered, index_count, PartHas}
+use Rattle.judge_pool.specs.Graphs.{other_of}
+use Rattle.judge_pool.specs.Lettered.{Lettered, index_count, PartHas}
 use Rattle.release_compile.specs.Judging.{Judging, ground}
 use Rattle.central_rules.specs.Meaning.{Meaning}
 

@@ -2,7 +2,7 @@
 ghost use Rattle.std.specs.Prelude.{◌≡◌, IfOk};
 ghost use Rattle.double_points.specs.Words.{AreWords};
 ghost use Rattle.bay_contract.specs.Alphabets.{AreAlphabets};
-ghost use Rattle.release_compile.specs.Lettered.{lettered};
+ghost use Rattle.judge_pool.specs.Lettered.{lettered};
 ghost use Rattle.release_compile.specs.Possible.{AreAllWords};
 
 use bay_contract::{IndexSet, Parts};

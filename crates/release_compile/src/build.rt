@@ -6,30 +6,27 @@ ghost use Rattle.station_graph.specs.Connection.{a_switch};
 ghost use Rattle.station_graph.specs.Sharing.{OfPart};
 ghost use Rattle.bay_contract.specs.Alphabets.{AreAlphabets};
 ghost use Rattle.central_rules.specs.Meaning.{IsBay, bay_of};
-ghost use Rattle.release_compile.specs.declared.bay.BayGraphs.{BayGraphs as Graphs};
-ghost use Rattle.release_compile.specs.declared.limits.TheConstants.{BAY_EDGES as BAY, ALL_EDGES as ALL};
-ghost use Rattle.release_compile.specs.declared.layer.Trouble.TheVariants.{Wide as IsWide};
-ghost use Rattle.release_compile.specs.Lettered.{lettered};
-ghost use Rattle.release_compile.specs.Needing.{IsSharing};
-ghost use Rattle.release_compile.specs.Stocking.{IsStock};
-ghost use Rattle.release_compile.specs.Telling.{HasTold, HaveTold};
-ghost use Rattle.release_compile.specs.declared.view.View.TheVariants.{Gap, Load};
-ghost use Rattle.release_compile.specs.Counted.{BayHas, Passes};
-ghost use Rattle.release_compile.specs.Built.{AreBays, AreGraphsOf, AreBayGraphs};
-ghost use Rattle.release_compile.specs.BuiltView.{seen_bay, seen_part};
+ghost use Rattle.judge_graphs.specs.declared.bay.BayGraphs.{BayGraphs as Graphs};
+ghost use Rattle.judge_pool.specs.declared.limits.TheConstants.{BAY_EDGES as BAY, ALL_EDGES as ALL};
+ghost use Rattle.judge_pool.specs.declared.layer.Trouble.TheVariants.{Wide as IsWide};
+ghost use Rattle.judge_pool.specs.Lettered.{lettered};
+ghost use Rattle.judge_intake.specs.SharedNodes.{IsSharing};
+ghost use Rattle.judge_graphs.specs.Stocking.{IsStock};
+ghost use Rattle.judge_graphs.specs.Telling.{HasTold, HaveTold};
+ghost use Rattle.judge_pool.specs.declared.view.View.TheVariants.{Gap, Load};
+ghost use Rattle.judge_pool.specs.Counted.{BayHas, Passes};
+ghost use Rattle.judge_graphs.specs.Built.{AreBays, AreGraphsOf, AreBayGraphs};
+ghost use Rattle.judge_graphs.specs.BuiltView.{seen_bay, seen_part};
 ghost use Rattle.release_compile.specs.Judging.{ground, bay_at, inner_at, AllFit, PartHasEdges, KeepEdges, KeepsLimits};
 ghost use Rattle.release_compile.specs.Judging.{IsBuildRefusal, IsTooWide};
 
-use crate::bay::{BayGraphs, bay_graphs};
-use crate::layer::Trouble;
-use crate::limits::{ALL_EDGES, BAY_EDGES};
-use crate::needed::{Sharing, sharing_of};
 use crate::refusal::BuildRefusal;
-use crate::stock::{Stock, stock_of};
-use crate::view::View;
 use bay_contract::{Parts, PartsRefusal};
 use decision_graphs::Graph;
 use ilk_base::{BayId, Memory, SwitchId};
+use judge_graphs::{BayGraphs, Stock, bay_graphs, stock_of};
+use judge_intake::{Sharing, sharing_of};
+use judge_pool::{ALL_EDGES, BAY_EDGES, Trouble, View};
 use station_graph::Station;
 use std::alloc::Global;
 use std::marker::Model;
@@ -178,7 +175,7 @@ fn alphabets(alloc: Global, station: &Station) -> Result<Parts, BuildRefusal>
 /// indices of the other parts to labels that name their views; for each switch an inner gap graph and an
 /// inner load graph lead from such a label and the positions of the bay's other switches to what the rules
 /// say of the switch. Contracts see it as its diagram, alphabets and graphs.
-#[derive(Debug, Drop)]
+#[derive(Drop)]
 pub struct GraphJudge<'a> {
     station: &'a Station,
     parts: Parts,

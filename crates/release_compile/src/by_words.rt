@@ -5,16 +5,15 @@ ghost use Rattle.station_graph.specs.Connection.{a_switch};
 ghost use Rattle.station_graph.specs.Sharing.{OfPart};
 ghost use Rattle.central_rules.specs.Readings.{IsReading, Decides};
 ghost use Rattle.bay_contract.specs.Alphabets.{AreAlphabets};
-ghost use Rattle.release_compile.specs.Lettered.{lettered};
-ghost use Rattle.release_compile.specs.Built.{AreBayGraphs};
-ghost use Rattle.release_compile.specs.BuiltView.{seen_bay};
+ghost use Rattle.judge_pool.specs.Lettered.{lettered};
+ghost use Rattle.judge_graphs.specs.Built.{AreBayGraphs};
+ghost use Rattle.judge_graphs.specs.BuiltView.{seen_bay};
 ghost use Rattle.release_compile.specs.Chaining.{HasReached};
 ghost use Rattle.release_compile.specs.Summaries.{ArePossibleSets};
 ghost use Rattle.release_compile.specs.Possible.{AreAllWords};
 ghost use Rattle.release_compile.specs.Sides.{AreSides};
 
 use crate::all_words::AllWords;
-use crate::bay::BayGraphs;
 use crate::decide::decide;
 use crate::reached::{Reached, reach};
 use crate::sets::possible_sets;
@@ -23,6 +22,7 @@ use bay_contract::Parts;
 use central_rules::Verdict;
 use decision_graphs::ChoiceSets;
 use ilk_base::{BayId, Memory, Op};
+use judge_graphs::BayGraphs;
 use station_graph::Station;
 use std::alloc::Global;
 

@@ -9,7 +9,7 @@ use ilk_base::Memory;
 use std::alloc::Global;
 
 // Choices that lead through two graphs.
-#[derive(Debug, Drop)]
+#[derive(Drop)]
 pub(crate) struct Through {
     pub(crate) outer: ChoiceList,
     pub(crate) inner: ChoiceList,

@@ -7,13 +7,12 @@ ghost use Rattle.double_points.specs.Words.{AreWords};
 ghost use Rattle.central_rules.specs.Readings.{Decides};
 ghost use Rattle.central_rules.specs.Meaning.{CannotExclude, HeardFit};
 ghost use Rattle.bay_contract.specs.Alphabets.{AreAlphabets};
-ghost use Rattle.release_compile.specs.Lettered.{lettered};
-ghost use Rattle.release_compile.specs.Built.{AreBayGraphs};
-ghost use Rattle.release_compile.specs.BuiltView.{seen_bay};
+ghost use Rattle.judge_pool.specs.Lettered.{lettered};
+ghost use Rattle.judge_graphs.specs.Built.{AreBayGraphs};
+ghost use Rattle.judge_graphs.specs.BuiltView.{seen_bay};
 ghost use Rattle.release_compile.specs.Chaining.{HasReached};
 ghost use Rattle.release_compile.specs.Summaries.{by_indices, AreHeardSets};
 
-use crate::bay::BayGraphs;
 use crate::decide::decide;
 use crate::reached::{Reached, reach};
 use crate::sets::heard_sets;
@@ -22,6 +21,7 @@ use bay_contract::Parts;
 use central_rules::Verdict;
 use double_points::Readings;
 use ilk_base::{BayId, HeardList, Memory, Op};
+use judge_graphs::BayGraphs;
 use station_graph::Station;
 use std::alloc::Global;
 

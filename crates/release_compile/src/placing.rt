@@ -1,11 +1,11 @@
 //! A vector that gives the choices that were found.
-ghost use Rattle.std.specs.Prelude.{◌≡◌, ℕ, ◌+◌, ◌<◌, ◌≤◌, ◌⊎◌, suc, drop, length, slice_get, Some, IfSome, ◌^◌};
+ghost use Rattle.std.specs.Prelude.{◌≡◌, ℕ, ◌+◌, ◌<◌, ◌⊎◌, suc, drop, length, slice_get, Some, IfSome, ◌^◌};
 ghost use Rattle.station_graph.specs.Diagram.{Diagram, part_count};
 ghost use Rattle.bay_contract.specs.PartAlphabets.{size_of};
 ghost use Rattle.bay_contract.specs.Alphabets.{AreAlphabets};
-ghost use Rattle.release_compile.specs.Lettered.{lettered};
-ghost use Rattle.release_compile.specs.Folding.{AreChosen};
-ghost use Rattle.release_compile.specs.Graphs.{other_of, PartChosen, SwitchChosen};
+ghost use Rattle.judge_pool.specs.Lettered.{lettered};
+ghost use Rattle.judge_pool.specs.Folding.{AreChosen};
+ghost use Rattle.judge_pool.specs.Graphs.{other_of, PartChosen, SwitchChosen};
 ghost use Rattle.release_compile.specs.Possible.{AreAllWords, SetHolds};
 ghost use Rattle.release_compile.specs.Deciding.{IsPlaceFor, OthersAgree};
 
@@ -13,19 +13,8 @@ use crate::all_words::AllWords;
 use bay_contract::Parts;
 use decision_graphs::ChoiceList;
 use ilk_base::{BayId, SwitchId};
+use judge_intake::other_number;
 use station_graph::{Station, Vector};
-
-// The i-th number from the first on that is not this one.
-pub(crate) fn other_number(first: u16, this: u16, i: u16) -> u16
-    requires { first + i + 1 < 2 ^ 16 }
-    ensures { result ≡ other_of first this i }
-{
-    if first + i < this {
-        first + i
-    } else {
-        first + i + 1
-    }
-}
 
 // A position of the part that has the index; where the words of all switches are known, one that agrees with them.
 fn place_for(parts: &Parts, part: BayId, known: Option<&AllWords>, index: u8) -> u32

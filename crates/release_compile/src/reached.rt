@@ -4,9 +4,9 @@ ghost use Rattle.decision_graphs.specs.Reaching.{AreSetsOf, MarksReached};
 ghost use Rattle.decision_graphs.specs.Marked.{AreMarksOf, PathsLead};
 ghost use Rattle.release_compile.specs.Chaining.{HasReached};
 
-use crate::bay::BayGraphs;
 use decision_graphs::{ChoiceSets, Graph, Marks};
 use ilk_base::Memory;
+use judge_graphs::BayGraphs;
 use std::alloc::Global;
 
 // Sets of the other parts' indices, and the labels of a bay's outer graphs to which they lead.

@@ -8,20 +8,21 @@ ghost use Rattle.bay_contract.specs.Alphabets.{AreAlphabets, InSet};
 ghost use Rattle.decision_graphs.specs.Label.{Layer, layer_at};
 ghost use Rattle.decision_graphs.specs.Reaching.{AreSetsOf, MarksReached, IsSet, set_at};
 ghost use Rattle.decision_graphs.specs.Marked.{AreMarksOf, PathsLead};
-ghost use Rattle.release_compile.specs.Lettered.{lettered};
+ghost use Rattle.judge_pool.specs.Lettered.{lettered};
 ghost use Rattle.release_compile.specs.Chaining.{AreInARow, IsReady};
-ghost use Rattle.release_compile.specs.Graphs.{other_of, OwnAllowed};
+ghost use Rattle.judge_pool.specs.Graphs.{other_of};
+ghost use Rattle.release_compile.specs.Allowed.{OwnAllowed};
 ghost use Rattle.release_compile.specs.Possible.{AreAllWords};
 ghost use Rattle.release_compile.specs.Summaries.{has_bit, HeardAllows, AreHeardSets, ArePossibleSets};
 
 use crate::all_words::AllWords;
-use crate::placing::other_number;
 use crate::search::Side;
 use crate::summary::bit_of;
 use bay_contract::{IndexSet, Parts};
 use decision_graphs::{ChoiceSets, Graph, Marks};
 use double_points::{Readings, agrees};
 use ilk_base::{BayId, Dbpos, HeardList, Memory, Summary, SwitchId};
+use judge_intake::other_number;
 use station_graph::Station;
 use std::alloc::Global;
 

@@ -5,9 +5,9 @@ ghost use Rattle.station_graph.specs.Connection.{a_switch};
 ghost use Rattle.station_graph.specs.Sharing.{OfPart};
 ghost use Rattle.double_points.specs.Words.{AreWords};
 ghost use Rattle.bay_contract.specs.Alphabets.{AreAlphabets};
-ghost use Rattle.release_compile.specs.Lettered.{lettered};
-ghost use Rattle.release_compile.specs.Built.{AreBayGraphs};
-ghost use Rattle.release_compile.specs.BuiltView.{seen_bay};
+ghost use Rattle.judge_pool.specs.Lettered.{lettered};
+ghost use Rattle.judge_graphs.specs.Built.{AreBayGraphs};
+ghost use Rattle.judge_graphs.specs.BuiltView.{seen_bay};
 ghost use Rattle.release_compile.specs.Chaining.{HasReached};
 ghost use Rattle.release_compile.specs.Judging.{ground};
 ghost use Rattle.release_compile.specs.Summaries.{ArePossibleSets};
@@ -16,7 +16,6 @@ ghost use Rattle.release_compile.specs.Sides.{AreSides};
 ghost use Rattle.release_compile.specs.Reaches.{IsReachOf, AreReaches, AreVerdictsOf, AreVerdicts};
 
 use crate::all_words::{AllWords, possible_by};
-use crate::bay::BayGraphs;
 use crate::build::{GraphJudge, switch_bay};
 use crate::by_words::{decide_words, reach_words};
 use crate::reached::Reached;
@@ -26,11 +25,12 @@ use central_rules::Verdict;
 use decision_graphs::ChoiceSets;
 use double_points::Readings;
 use ilk_base::{BayId, Direction, Memory, Op, SwitchId};
+use judge_graphs::BayGraphs;
 use station_graph::Station;
 use std::alloc::Global;
 
 /// The verdicts of a switch's two operations.
-#[derive(Debug, Drop)]
+#[derive(Drop)]
 pub struct SwitchVerdicts {
     /// of opening it
     pub opening: Verdict,

@@ -16,7 +16,7 @@ use Rattle.station_graph.proofs.ClosingLemmas.{apart_opened, apart_closed}
 use Rattle.central_rules.specs.Meaning.{Meaning, bay_of}
 use Rattle.bay_protocol.specs.declared.values.Grant.{Grant}
 use Rattle.bay_protocol.specs.declared.values.NodeEvent.{NodeEvent}
-use Rattle.reservation_core.specs.Scene.{Scene, node, moves, stops, true_at, Stands, Resolves, end_position}
+use Rattle.reservation_core.specs.Scene.{Scene, node, moves, stops, true_at, ReadsAs, Resolves, end_position}
 use Rattle.reservation_core.specs.declared.values.Position.{Position}
 use Rattle.reservation_core.specs.declared.values.Position.TheVariants.{Open, Closed, Between}
 use Rattle.reservation_core.specs.declared.values.WorldEvent.{WorldEvent}
@@ -32,13 +32,13 @@ use Rattle.reservation_core.proofs.AlikeNotes.{got_or}
 
 -- each switch of the vector stands as it may, by its place
 abbrev StandsAll : Diagram → List Position → List Bool → Type 0
-StandsAll d truth v = (i : ℕ) → i < length d.switches → Stands (true_at truth i) (get_or v i false)
+StandsAll d truth v = (i : ℕ) → i < length d.switches → ReadsAs (true_at truth i) (get_or v i false)
 
 resolves_all : (d : Diagram) (truth : List Position) (v : List Bool) → IsVector d v → StandsAll d truth v
     → Resolves truth v
 resolves_all d truth v whole stands i closed at =
     let within : i < length v = slice_get_within v i closed at in
-    subst (λ (x : Bool). Stands (true_at truth i) x) (got_or v i closed false at) (stands i (omega
+    subst (λ (x : Bool). ReadsAs (true_at truth i) x) (got_or v i closed false at) (stands i (omega
     (arith, within, whole)))
 
 all_stand : (d : Diagram) (truth : List Position) (v : List Bool) → IsVector d v → Resolves truth v
@@ -47,8 +47,8 @@ all_stand d truth v whole resolves i lt = resolves i (get_or v i false) (slice_g
     (arith, whole, lt)))
 
 other_stands : (truth : List Position) (i : ℕ) (at : Position) (v : List Bool) (j : ℕ) → j ≢ i
-    → Stands (true_at (set truth i at) j) (get_or v j false) → Stands (true_at truth j) (get_or v j false)
-other_stands truth i at v j other = subst (λ (x : Position). Stands x (get_or v j false))
+    → ReadsAs (true_at (set truth i at) j) (get_or v j false) → ReadsAs (true_at truth j) (get_or v j false)
+other_stands truth i at v j other = subst (λ (x : Position). ReadsAs x (get_or v j false))
     (get_or-set_other truth i j at Between other)
 
 is_itself : (v : List Bool) (i : ℕ) (b : Bool) → get_or v i false ≡ b → set v i b ≡ v
@@ -62,21 +62,21 @@ module _ (m : Meaning) where
 
   -- a vector with the switch set so resolves the old truth
   resolves_set : (truth : List Position) (i : ℕ) (at : Position) (v : List Bool) (b : Bool) → IsVector m.diagram v
-      → i < length m.diagram.switches → Stands (true_at truth i) b → StandsAll m.diagram (set truth i at) v
+      → i < length m.diagram.switches → ReadsAs (true_at truth i) b → StandsAll m.diagram (set truth i at) v
       → StandsAll m.diagram truth (set v i b)
   resolves_set truth i at v b whole lt here stands j jlt = elim (cases_eq j i) [
     | inl same ↦
         let inside : i < length v = omega (arith, lt, whole) in
-        subst (λ (x : ℕ). Stands (true_at truth x) (get_or (set v i b) x false)) (sym same) (subst (λ
-        (x : Bool). Stands (true_at truth i) x) (sym (get_or-set_same v i b false inside)) here)
-    | inr other ↦ subst (λ (x : Bool). Stands (true_at truth j) x) (sym (get_or-set_other v i j b false other))
+        subst (λ (x : ℕ). ReadsAs (true_at truth x) (get_or (set v i b) x false)) (sym same) (subst (λ
+        (x : Bool). ReadsAs (true_at truth i) x) (sym (get_or-set_same v i b false inside)) here)
+    | inr other ↦ subst (λ (x : Bool). ReadsAs (true_at truth j) x) (sym (get_or-set_other v i j b false other))
         (other_stands truth i at v j other (stands j jlt))
   ]
 
   -- a vector with the switch set so is apart
   apart_set : (truth : List Position) (i : ℕ) (at : Position) (v : List Bool) (b : Bool)
       → IsSoundTruth m.diagram truth → IsVector m.diagram v → i < length m.diagram.switches
-      → Stands (true_at truth i) b → StandsAll m.diagram (set truth i at) v → Apart m.diagram (set v i b)
+      → ReadsAs (true_at truth i) b → StandsAll m.diagram (set truth i at) v → Apart m.diagram (set v i b)
   apart_set truth i at v b sound whole lt here stands = sound_at truth (set v i b) sound (length-set v i b ∙ whole)
       (resolves_set truth i at v b whole lt here stands)
 
@@ -85,7 +85,7 @@ module _ (m : Meaning) where
       → i < length m.diagram.switches → true_at truth i ≡ Between → IsSoundTruth m.diagram (set truth i at)
   was_between truth i at sound lt between v whole resolves =
       subst (Apart m.diagram) (set-get_or v i false) (apart_set truth i at v (get_or v i false) sound whole lt (subst
-      (λ (x : Position). Stands x (get_or v i false)) (sym between) tt) (all_stand m.diagram
+      (λ (x : Position). ReadsAs x (get_or v i false)) (sym between) tt) (all_stand m.diagram
       (set truth i at) v whole resolves))
 
   -- an open switch is closed
@@ -94,7 +94,7 @@ module _ (m : Meaning) where
       (bay_of m.diagram i)).granted ≡ Some g → g.op.switch.0 ≡ i → g.op.direction ≡ ToOn → true_at w.truth i ≡ Open
       → StandsAll m.diagram (set w.truth i Between) v → Apart m.diagram (set v i true)
   closing w i g v sound obeys whole lt has switch direction at stands =
-      let may : Stands (true_at w.truth i) false = subst (λ (x : Position). Stands x false) (sym at) refl in
+      let may : ReadsAs (true_at w.truth i) false = subst (λ (x : Position). ReadsAs x false) (sym at) refl in
       let open_whole : IsVector m.diagram (set v i false) = length-set v i false ∙ whole in
       let open_stands : StandsAll m.diagram w.truth (set v i false) =
       resolves_set w.truth i Between v false whole lt may stands in
@@ -129,14 +129,14 @@ module _ (m : Meaning) where
   begins_sound w i g sound obeys lt has switch ToOn direction away Closed at = absurd (away at)
   begins_sound w i g sound obeys lt has switch ToOff direction away Closed at = λ v whole resolves.
       let closed : Apart m.diagram (set v i true) = apart_set w.truth i Between v true sound whole lt (subst (λ
-      (x : Position). Stands x true) (sym at) refl) (all_stand m.diagram
+      (x : Position). ReadsAs x true) (sym at) refl) (all_stand m.diagram
       (set w.truth i Between) v whole resolves) in
       either v i closed (subst (Apart m.diagram) (set_set v i true false) (apart_opened m.diagram
       (set v i true) i closed))
   begins_sound w i g sound obeys lt has switch ToOn direction away Open at = λ v whole resolves.
       let stands = all_stand m.diagram (set w.truth i Between) v whole resolves in
       either v i (closing w i g v sound obeys whole lt has switch direction at stands)
-      (apart_set w.truth i Between v false sound whole lt (subst (λ (x : Position). Stands x false)
+      (apart_set w.truth i Between v false sound whole lt (subst (λ (x : Position). ReadsAs x false)
       (sym at) refl) stands)
 
   -- ---- the events
@@ -211,12 +211,12 @@ module _ (m : Meaning) where
       → i < length m.diagram.switches → (p : Position) → true_at truth i ≡ p → StandsAll m.diagram
       (set truth i Open) v → get_or v i false ≡ false → Apart m.diagram v
   opened truth i v sound whole lt Between at stands shut = subst (Apart m.diagram) (is_itself v i false shut)
-      (apart_set truth i Open v false sound whole lt (subst (λ (x : Position). Stands x false) (sym at) tt) stands)
+      (apart_set truth i Open v false sound whole lt (subst (λ (x : Position). ReadsAs x false) (sym at) tt) stands)
   opened truth i v sound whole lt Open at stands shut = subst (Apart m.diagram) (is_itself v i false shut)
-      (apart_set truth i Open v false sound whole lt (subst (λ (x : Position). Stands x false) (sym at) refl) stands)
+      (apart_set truth i Open v false sound whole lt (subst (λ (x : Position). ReadsAs x false) (sym at) refl) stands)
   opened truth i v sound whole lt Closed at stands shut =
       let closed : Apart m.diagram (set v i true) = apart_set truth i Open v true sound whole lt (subst (λ
-      (x : Position). Stands x true) (sym at) refl) stands in
+      (x : Position). ReadsAs x true) (sym at) refl) stands in
       subst (Apart m.diagram) (set_set v i true false ∙ is_itself v i false shut) (apart_opened m.diagram
       (set v i true) i closed)
 
@@ -224,6 +224,6 @@ module _ (m : Meaning) where
       → IsSoundTruth m.diagram truth → IsSoundTruth m.diagram (set truth i Open)
   opens_sound truth i inside lt sound v whole resolves =
       let stands = all_stand m.diagram (set truth i Open) v whole resolves in
-      let shut : get_or v i false ≡ false = subst (λ (x : Position). Stands x (get_or v i false))
+      let shut : get_or v i false ≡ false = subst (λ (x : Position). ReadsAs x (get_or v i false))
       (get_or-set_same truth i Open Between inside) (stands i lt) in
       opened truth i v sound whole lt (true_at truth i) refl stands shut

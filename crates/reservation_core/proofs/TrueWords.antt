@@ -9,7 +9,7 @@ use Rattle.station_graph.specs.Alike.{IsVector}
 use Rattle.station_graph.proofs.GapLemmas.{none_parts}
 use Rattle.central_rules.specs.Meaning.{Meaning, bay_of}
 use Rattle.bay_frames.specs.declared.frame.Frame.{Frame}
-use Rattle.reservation_core.specs.Scene.{Scene, node, true_at, IsTrueWord, Stands}
+use Rattle.reservation_core.specs.Scene.{Scene, node, true_at, IsTrueWord, ReadsAs}
 use Rattle.reservation_core.specs.declared.values.Position.{Position}
 use Rattle.reservation_core.specs.Facts.{itself, IsGood, Facts, Obeys, ObeysFirstTwo, AnswersAllow, Words, Grants}
 use Rattle.reservation_core.proofs.AlikeNotes.{backed_agrees, granted_bay, got_or, of_part, switch_of}
@@ -17,10 +17,10 @@ use Rattle.reservation_core.proofs.AlikeNotes.{backed_agrees, granted_bay, got_o
 -- ---- the rules are obeyed
 
 -- where a word is true, a position that stands so agrees with it
-pub true_word_agrees : (word : Dbpos) (at : Position) (closed : Bool) → IsTrueWord word at → Stands at closed →
+pub true_word_agrees : (word : Dbpos) (at : Position) (closed : Bool) → IsTrueWord word at → ReadsAs at closed →
     Agrees word closed
-true_word_agrees On at closed truly stands = subst (λ (x : Position). Stands x closed) truly stands
-true_word_agrees Off at closed truly stands = subst (λ (x : Position). Stands x closed) truly stands
+true_word_agrees On at closed truly stands = subst (λ (x : Position). ReadsAs x closed) truly stands
+true_word_agrees Off at closed truly stands = subst (λ (x : Position). ReadsAs x closed) truly stands
 true_word_agrees Intermediate at closed truly stands = tt
 true_word_agrees Bad at closed truly stands = tt
 true_word_agrees Lost at closed truly stands = tt

@@ -11,7 +11,7 @@ use Rattle.bay_frames.specs.declared.frame.Body.TheVariants.{Answer}
 use Rattle.bay_protocol.specs.declared.values.Grant.{Grant}
 use Rattle.bay_protocol.specs.State.{under_way}
 use Rattle.bay_protocol.specs.Fits.{IsOwn}
-use Rattle.reservation_core.specs.Scene.{Scene, node, true_at, IsTrueWord, Stands, Resolves}
+use Rattle.reservation_core.specs.Scene.{Scene, node, true_at, IsTrueWord, ReadsAs, Resolves}
 use Rattle.reservation_core.specs.declared.values.Position.{Position}
 use Rattle.reservation_core.specs.RoundFacts.{RoundFacts, NotGranted, AnswerSent, IsLockedFor}
 use Rattle.reservation_core.specs.Held.{Held, TruthFacts, HeardAllow}
@@ -55,12 +55,12 @@ IsSoundTruth d truth = (v : List Bool) → IsVector d v → Resolves truth v →
 -- The switches of bay b stand in v as they truly do.
 abbrev pub BayResolves : Diagram → List Position → ℕ → List Bool → Type 0
 BayResolves d truth b v =
-    (i : ℕ) (closed : Bool) → IsOwn d b i → slice_get v i ≡ Some closed → Stands (true_at truth i) closed
+    (i : ℕ) (closed : Bool) → IsOwn d b i → slice_get v i ≡ Some closed → ReadsAs (true_at truth i) closed
 
 -- The same, but for switch `moved`.
 abbrev pub BayResolvesBut : Diagram → List Position → ℕ → ℕ → List Bool → Type 0
 BayResolvesBut d truth b moved v =
-    (i : ℕ) (closed : Bool) → IsOwn d b i → i ≢ moved → slice_get v i ≡ Some closed → Stands (true_at truth i) closed
+    (i : ℕ) (closed : Bool) → IsOwn d b i → i ≢ moved → slice_get v i ≡ Some closed → ReadsAs (true_at truth i) closed
 
 -- The sender of the Answer is locked for its round, and its summary allows each vector that resolves the
 -- sender's true positions.

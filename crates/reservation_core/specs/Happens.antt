@@ -31,7 +31,7 @@ use Rattle.reservation_core.specs.declared.values.WorldOutcome.{WorldOutcome}
 use Rattle.reservation_core.specs.declared.values.WorldOutcome.TheVariants.{Premise, Drive, Node}
 
 -- A premise is broken, and nothing changes.
-pub record IsRefused (old new : Scene) (outcome : WorldOutcome) (which : Which) : Type 0 where
+pub record IsStoppedBy (old new : Scene) (outcome : WorldOutcome) (which : Which) : Type 0 where
   pub unchanged : new ≡ old
   pub says : outcome ≡ Premise which
 
@@ -77,14 +77,14 @@ IsUnsent w k = (k ≡ 0) ⊎ (length w.sent < k)
 -- A word of switch i is read: it is refused where it is not true.
 pub data SenseHappens (m : Meaning) (old : Scene) (i : SwitchId) (word : Dbpos) (new : Scene)
     (outcome : WorldOutcome) : Type 0 where
-  untrue : ¬ IsTrueWord word (true_at old.truth i.0) → IsRefused old new outcome Sensed →
+  untrue : ¬ IsTrueWord word (true_at old.truth i.0) → IsStoppedBy old new outcome Sensed →
       SenseHappens m old i word new outcome
   reads : IsTrueWord word (true_at old.truth i.0) →
       NodeSteps m old (bay_of m.diagram i.0) (Sensing i word) new outcome → SenseHappens m old i word new outcome
 
 -- Message k is delivered: it is refused where it was not sent.
 pub data DeliverHappens (m : Meaning) (old : Scene) (k : ℕ) (new : Scene) (outcome : WorldOutcome) : Type 0 where
-  unsent : IsUnsent old k → IsRefused old new outcome Unsent → DeliverHappens m old k new outcome
+  unsent : IsUnsent old k → IsStoppedBy old new outcome Unsent → DeliverHappens m old k new outcome
   comes : (f : Frame) → IsMessage old k f → NodeSteps m old f.to.0 (Arrival f) new outcome →
       DeliverHappens m old k new outcome
 
@@ -94,7 +94,7 @@ no_turn s = record { new = s; outcome = Quiet; frames = [] }
 
 -- A message that is cut short changes nothing.
 pub data PartHappens (d : Diagram) (old : Scene) (k : ℕ) (new : Scene) (outcome : WorldOutcome) : Type 0 where
-  unsent : IsUnsent old k → IsRefused old new outcome Unsent → PartHappens d old k new outcome
+  unsent : IsUnsent old k → IsStoppedBy old new outcome Unsent → PartHappens d old k new outcome
   nothing : (f : Frame) → IsMessage old k f → new ≡ old →
       Tells (length old.sent) f.to.0 (node d old f.to.0) (no_turn (node d old f.to.0)) outcome →
       PartHappens d old k new outcome
@@ -106,7 +106,7 @@ IsMoving d w b = (g : Grant) × ((node d w b).granted ≡ Some g) × (runs w.dri
 -- Bay b gives up its operation: it is refused where the drive runs.
 pub data WithdrawHappens (m : Meaning) (old : Scene) (b : ℕ) (new : Scene) (outcome : WorldOutcome) : Type 0 where
   running : (g : Grant) → (node m.diagram old b).granted ≡ Some g → runs old.drives g.op.switch.0 ≡ true →
-      IsRefused old new outcome Withdrawn → WithdrawHappens m old b new outcome
+      IsStoppedBy old new outcome Withdrawn → WithdrawHappens m old b new outcome
   resting : ((g : Grant) → (node m.diagram old b).granted ≡ Some g → runs old.drives g.op.switch.0 ≡ false) →
       NodeSteps m old b Withdrawing new outcome → WithdrawHappens m old b new outcome
 
@@ -121,10 +121,10 @@ IsOpened s i = (g : Grant) × IsOpenOperation s i g
 
 -- The drive of switch i begins: it is refused where no operation of it is granted, or where it runs.
 pub data BeginHappens (d : Diagram) (old : Scene) (i : ℕ) (new : Scene) (outcome : WorldOutcome) : Type 0 where
-  not_open : NotGranted (node d old (bay_of d i)) i → IsRefused old new outcome Begun → BeginHappens d old i new outcome
-  running : runs old.drives i ≡ true → IsRefused old new outcome Begun → BeginHappens d old i new outcome
+  not_open : NotGranted (node d old (bay_of d i)) i → IsStoppedBy old new outcome Begun → BeginHappens d old i new outcome
+  running : runs old.drives i ≡ true → IsStoppedBy old new outcome Begun → BeginHappens d old i new outcome
   there_already : (g : Grant) → IsOpenOperation (node d old (bay_of d i)) i g →
-      true_at old.truth i ≡ end_position g.op.direction → IsRefused old new outcome Begun →
+      true_at old.truth i ≡ end_position g.op.direction → IsStoppedBy old new outcome Begun →
       BeginHappens d old i new outcome
   begins : (g : Grant) → IsOpenOperation (node d old (bay_of d i)) i g → runs old.drives i ≡ false →
       true_at old.truth i ≢ end_position g.op.direction → IsDriven new outcome (moves old i Between true) →
@@ -132,13 +132,13 @@ pub data BeginHappens (d : Diagram) (old : Scene) (i : ℕ) (new : Scene) (outco
 
 -- The drive of switch i ends: it is refused where it rests.
 pub data EndHappens (d : Diagram) (old : Scene) (i : ℕ) (new : Scene) (outcome : WorldOutcome) : Type 0 where
-  resting : runs old.drives i ≡ false → IsRefused old new outcome Ended → EndHappens d old i new outcome
+  resting : runs old.drives i ≡ false → IsStoppedBy old new outcome Ended → EndHappens d old i new outcome
   arrives : (g : Grant) → runs old.drives i ≡ true → IsOpenOperation (node d old (bay_of d i)) i g →
       IsDriven new outcome (moves old i (end_position g.op.direction) false) → EndHappens d old i new outcome
 
 -- The drive stops, the switch stays between, and its bay takes a step.
 pub data CutHappens (m : Meaning) (old : Scene) (i : SwitchId) (new : Scene) (outcome : WorldOutcome) : Type 0 where
-  resting : runs old.drives i.0 ≡ false → IsRefused old new outcome NotCut → CutHappens m old i new outcome
+  resting : runs old.drives i.0 ≡ false → IsStoppedBy old new outcome NotCut → CutHappens m old i new outcome
   stops_between : runs old.drives i.0 ≡ true →
       NodeSteps m (stops old i.0) (bay_of m.diagram i.0) (Cutting i) new outcome → CutHappens m old i new outcome
 

@@ -12,7 +12,7 @@ use Rattle.bay_protocol.specs.declared.values.Grant.{Grant}
 use Rattle.bay_protocol.specs.declared.values.Outcome.{Outcome}
 use Rattle.bay_protocol.specs.declared.values.Outcome.TheVariants.{Granted, Denied, BusyBy, Finished, Withdrawn}
 use Rattle.bay_protocol.specs.declared.values.Outcome.TheVariants.{Stopped}
-use Rattle.reservation_core.specs.Scene.{Stands}
+use Rattle.reservation_core.specs.Scene.{ReadsAs}
 use Rattle.reservation_core.specs.declared.values.WorldEvent.TheVariants.{Restart}
 use Rattle.reservation_core.specs.Lines.{Message, Line, of_bay, shown}
 use Rattle.reservation_core.specs.History.{open_of, true_after, Opened, collecting}
@@ -38,7 +38,7 @@ pub record DecidesWell (d : Diagram) (before : List Line) (l : Line) : Type 0 wh
 -- The vector resolves the truth after these lines: it is the true position of each switch that is not between.
 pub record MayBeTrue (d : Diagram) (start : List Bool) (lines : List Line) (v : List Bool) : Type 0 where
   pub whole : IsVector d v
-  pub each : (i : ℕ) (closed : Bool) → slice_get v i ≡ Some closed → Stands (true_after d start lines i) closed
+  pub each : (i : ℕ) (closed : Bool) → slice_get v i ≡ Some closed → ReadsAs (true_after d start lines i) closed
 
 -- The outcome ends the operation of this round.
 abbrev pub EndsIt : Outcome → ℕ → Type 0

@@ -37,10 +37,10 @@ abbrev pub runs : List Bool → ℕ → Bool
 runs drives i = slice_index_or drives i false
 
 -- A switch of this true position may stand so.
-abbrev pub Stands : Position → Bool → Type 0
-Stands Open closed = closed ≡ false
-Stands Closed closed = closed ≡ true
-Stands Between closed = ⊤
+abbrev pub ReadsAs : Position → Bool → Type 0
+ReadsAs Open closed = closed ≡ false
+ReadsAs Closed closed = closed ≡ true
+ReadsAs Between closed = ⊤
 
 -- If the word is off or on, it is the true position.
 abbrev pub IsTrueWord : Dbpos → Position → Type 0
@@ -57,7 +57,7 @@ end_position ToOn = Closed
 
 -- The vector resolves the truth: it is the true position of each switch that is not between.
 abbrev pub Resolves : List Position → List Bool → Type 0
-Resolves truth v = (i : ℕ) (closed : Bool) → slice_get v i ≡ Some closed → Stands (true_at truth i) closed
+Resolves truth v = (i : ℕ) (closed : Bool) → slice_get v i ≡ Some closed → ReadsAs (true_at truth i) closed
 
 -- ---- the changes
 

@@ -5,18 +5,16 @@ mod beside;
 mod deliveries;
 mod drives;
 mod happening;
-mod law;
+mod laws;
 mod looking;
 mod scene;
 mod start;
-#[cfg(test)]
-mod tests;
 mod turns;
 mod values;
 mod world;
 
 pub use bay_protocol::{NodeOutput, Outcome};
-pub use law::{
+pub use laws::{
     broken_premises_change_nothing, facts_are_kept, facts_hold_at_the_start,
     granted_operations_obey, kept_words_are_true, round_facts_are_kept, soundness_of_truth_is_kept,
 };

@@ -21,7 +21,7 @@ use std::alloc::Global;
 use std::marker::Model;
 
 // All that happens is a change of these. There is a node for each part that is a bay.
-#[derive(Debug, Drop)]
+#[derive(Drop)]
 pub(crate) struct Scene {
     pub(crate) nodes: Vec<Option<Node>>,
     pub(crate) truth: Vec<Position>,

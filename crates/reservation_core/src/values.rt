@@ -9,7 +9,7 @@ use ilk_base::{BayId, Dbpos, Op, SwitchId};
 pub const MESSAGES: u32 = 4_000_000_000;
 
 /// Where a switch truly stands.
-#[derive(Clone, Copy, Debug, PartialEq, Eq)]
+#[derive(Clone, Copy, PartialEq, Eq)]
 pub enum Position {
     /// open
     Open,
@@ -20,7 +20,7 @@ pub enum Position {
 }
 
 /// The premises, each named for the event that breaks it. Numbers: `number`.
-#[derive(Clone, Copy, Debug, PartialEq, Eq)]
+#[derive(Clone, Copy, PartialEq, Eq)]
 pub enum Which {
     /// 1: it is not told where a switch stands at first (found by whoever reads a log, not by a world)
     Start,
@@ -56,7 +56,7 @@ impl Which {
 }
 
 /// What may happen next.
-#[derive(Clone, Copy, Debug, PartialEq, Eq)]
+#[derive(Clone, Copy, PartialEq, Eq)]
 pub enum WorldEvent {
     /// an operation is commanded at the bay of its switch
     Command(Op),
@@ -94,7 +94,7 @@ pub enum WorldEvent {
 }
 
 /// What a log may tell: where a switch stands at first, or what happens next.
-#[derive(Clone, Copy, Debug, PartialEq, Eq)]
+#[derive(Clone, Copy, PartialEq, Eq)]
 pub enum LogEvent {
     /// where a switch stands before anything happens
     At {
@@ -108,7 +108,7 @@ pub enum LogEvent {
 }
 
 /// What comes of an event.
-#[derive(Debug, Drop)]
+#[derive(Drop)]
 pub enum WorldOutcome {
     /// the event breaks this premise, and nothing has changed
     Premise(Which),

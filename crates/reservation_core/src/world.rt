@@ -26,7 +26,7 @@ use std::marker::Model;
 /// (the node of each bay, where each switch truly stands, which drives run, and each message that was ever
 /// sent), and beside each Answer the words that its bay had when it sent it. Each call takes the station and
 /// the judge of the call before.
-#[derive(Debug, Drop)]
+#[derive(Drop)]
 pub struct World {
     pub(crate) scene: Scene,
     beside: Vec<Option<Readings>>,

@@ -21,7 +21,7 @@ use Rattle.ssd_read.specs.Ends.{ends_of, nodes_at, is_terminal_of}
 use Rattle.ssd_read.specs.Steps.{built, is_part, naming_step, part_number, part_of, switch_step, tap_step}
 use Rattle.ssd_read.specs.Steps.{breaker_steps, disconnector_steps, infeed_steps}
 use Rattle.ssd_read.specs.Steps.{item_steps_at, steps_before, steps_of, winding_ends_of, is_winding_terminal_of}
-use Rattle.ssd_read.specs.Seen.{IsRefused}
+use Rattle.ssd_read.specs.Seen.{AnswersRefusal}
 use Rattle.ssd_read.proofs.Stepped.{built_none, built_then, flat_next, flat_refused, flat_whole, at_refused}
 use Rattle.ssd_read.proofs.Laid.{part_paths_built, node_paths_built, parts_named, nodes_named}
 use Rattle.ssd_read.proofs.Numbered.{nodes_below, AllBelow, outer_part}
@@ -179,12 +179,12 @@ item_next all d mid new i h b n =
 pub item_refused : (all : List Element) (d mid : Diagram) (i : ℕ) (e : SsdRefusal) → i < length all →
     built empty (flat_map naming_step all) ≡ Ok d →
     built d (flat_map (item_steps_at all) (take i (range_with_len 0 (length all)))) ≡ Ok mid →
-    IsRefused e (built mid (item_steps_at all i))
-    → IsRefused e (built empty (steps_of all))
+    AnswersRefusal e (built mid (item_steps_at all i))
+    → AnswersRefusal e (built empty (steps_of all))
 item_refused all d mid i e h a b n =
-    let here : IsRefused e (built mid (item_steps_at all (get_or (range_with_len 0 (length all)) i 0))) =
-    subst (λ (k : ℕ). IsRefused e (built mid (item_steps_at all k))) (sym (this_one all i h)) n in
-    let rest : IsRefused e (built d (flat_map (item_steps_at all) (range_with_len 0 (length all)))) =
+    let here : AnswersRefusal e (built mid (item_steps_at all (get_or (range_with_len 0 (length all)) i 0))) =
+    subst (λ (k : ℕ). AnswersRefusal e (built mid (item_steps_at all k))) (sym (this_one all i h)) n in
+    let rest : AnswersRefusal e (built d (flat_map (item_steps_at all) (range_with_len 0 (length all)))) =
     flat_refused d mid (item_steps_at all) (range_with_len 0 (length all)) i 0 e (inside_range all i h) b here in
     at_refused e (built d (flat_map (item_steps_at all) (range_with_len 0 (length all)))) (built empty (steps_of all))
     (λ q. built_then empty d (flat_map naming_step all) (flat_map (item_steps_at all)

@@ -7,7 +7,7 @@ use Rattle.ssd_read.specs.declared.refusal.SsdRefusal.{SsdRefusal}
 use Rattle.std.proofs.Common.{arith, true, false}
 use Rattle.ssd_text.specs.Nesting.{Entry}
 use Rattle.ssd_read.specs.Steps.{Step, built, link_step, links_after, links_along, lone_tap, is_tapless, tap_step}
-use Rattle.ssd_read.specs.Seen.{IsRefused}
+use Rattle.ssd_read.specs.Seen.{AnswersRefusal}
 use Rattle.ssd_read.proofs.Taken.{append_none}
 use Rattle.ssd_read.proofs.Stepped.{built_then, built_stop, at_refused, halves, past_all}
 
@@ -45,8 +45,8 @@ link_next d mid new bond part a last ns i h e b n =
 
 pub link_refused : (d mid : Diagram) (bond : Bool) (part a last : ℕ) (ns : List ℕ) (i : ℕ) (f : SsdRefusal) →
     i < length ns → last ≡ last_of a (take i ns) → built d (links_after bond part a (take i ns)) ≡ Ok mid →
-    IsRefused f (built mid (link_step bond part last (get_or ns i 0)))
-    → IsRefused f (built d (links_after bond part a ns))
+    AnswersRefusal f (built mid (link_step bond part last (get_or ns i 0)))
+    → AnswersRefusal f (built d (links_after bond part a ns))
 link_refused d mid bond part a last ns i f h e b n =
     let b0 = get_or ns i 0 in
     let after : List Step = links_after bond part b0 (drop (suc i) ns) in

@@ -18,7 +18,7 @@ use Rattle.ssd_read.specs.declared.refusal.SsdRefusal.TheVariants.{Encoding, Syn
 use Rattle.ssd_read.specs.declared.refusal.SsdRefusal.TheVariants.{Many, Root, NoName, Twice, NodeMissing, Terminals}
 use Rattle.ssd_read.specs.declared.refusal.SsdRefusal.TheVariants.{Grounded, Loop, Limit, Memory}
 use Rattle.ssd_read.specs.Steps.{Step, built, limit_at, added, limit_fault, link_step, a_link}
-use Rattle.ssd_read.specs.Seen.{IsRefused, Builds, refusal_of}
+use Rattle.ssd_read.specs.Seen.{AnswersRefusal, Builds, refusal_of}
 use Rattle.ssd_read.specs.Elements.{Element}
 use Rattle.ssd_read.specs.Names.{is_node}
 use Rattle.ssd_read.specs.Steps.{a_part, a_node, is_part, naming_step}
@@ -37,7 +37,7 @@ unfolding built
 refused_at d s l h = rw h refl
 
 pub built_refused : (d : Diagram) (s : Step) (f : BuildFault) (e : SsdRefusal) → e ≡ refusal_of f →
-    IsFaultOf f (limit_at d s) → IsRefused e (built d (s ∷ []))
+    IsFaultOf f (limit_at d s) → AnswersRefusal e (built d (s ∷ []))
 built_refused d s faults.Memory e q h = rw q tt
 built_refused d s (faults.Limit what count) e q h = rw q (refused_at d s (what, count) h)
 
@@ -86,7 +86,7 @@ pub built_link : (d new : Diagram) (bond : Bool) (part a b : ℕ) → (a ≡ b �
 built_link d new bond part a b n h e = rw (apart_link bond part a b n) (built_one d new _ h e)
 
 pub refused_link : (d : Diagram) (bond : Bool) (part a b : ℕ) (f : BuildFault) (e : SsdRefusal) → (a ≡ b → ⊥) →
-    e ≡ refusal_of f → IsFaultOf f (link_limit d) → IsRefused e (built d (link_step bond part a b))
+    e ≡ refusal_of f → IsFaultOf f (link_limit d) → AnswersRefusal e (built d (link_step bond part a b))
 refused_link d bond part a b f e n q h = rw (apart_link bond part a b n)
     (built_refused d (a_link (record {
       first = record { 0 = a };
@@ -116,8 +116,8 @@ flat_next d mid new f xs i x h b n = rw (
       (flat_map f (take i xs)) (f (get_or xs i x)) b,
 ) n
 
-pub at_refused : (e : SsdRefusal) (r q : Result Diagram SsdRefusal) → (r ≡ Err e → q ≡ Err e) → IsRefused e r →
-    IsRefused e q
+pub at_refused : (e : SsdRefusal) (r q : Result Diagram SsdRefusal) → (r ≡ Err e → q ≡ Err e) → AnswersRefusal e r →
+    AnswersRefusal e q
 at_refused (Encoding at) r q h g = h g
 at_refused (Syntax at) r q h g = h g
 at_refused (Doctype at) r q h g = h g
@@ -148,8 +148,8 @@ past_all (x ∷ xs) zero h = absurd (omega arith)
 past_all (x ∷ xs) (suc i) h = let h' : length xs ≤ i = omega arith in ap (λ l. x ∷ l) (past_all xs i h')
 
 pub flat_refused : {X : Type 0} (d mid : Diagram) (f : X → List Step) (xs : List X) (i : ℕ) (x : X) (e : SsdRefusal) →
-    i < length xs → built d (flat_map f (take i xs)) ≡ Ok mid → IsRefused e (built mid (f (get_or xs i x))) →
-    IsRefused e (built d (flat_map f xs))
+    i < length xs → built d (flat_map f (take i xs)) ≡ Ok mid → AnswersRefusal e (built mid (f (get_or xs i x))) →
+    AnswersRefusal e (built d (flat_map f xs))
 flat_refused d mid f xs i x e h b n =
     let cut : xs ≡ take i xs ++ (get_or xs i x ∷ drop (suc i) xs) = sym (halves xs i) ∙ ap (λ l. take i xs ++ l)
     (drop-cons xs i x h) in
@@ -172,7 +172,7 @@ pub part_built : (d new : Diagram) (x : Element) (path : List ℕ) → true ≡ 
 part_built d new x path t e h n = rw (← t, ← e) (built_one d new (a_part path) h n)
 
 pub part_refused : (d : Diagram) (x : Element) (path : List ℕ) (f : BuildFault) (e : SsdRefusal) → true ≡ is_part x →
-    path ≡ x.path → e ≡ refusal_of f → IsFaultOf f (part_limit d) → IsRefused e (built d (naming_step x))
+    path ≡ x.path → e ≡ refusal_of f → IsFaultOf f (part_limit d) → AnswersRefusal e (built d (naming_step x))
 part_refused d x path f e t p q h = rw (← t, ← p) (built_refused d (a_part path) f e q h)
 
 pub node_built : (d new : Diagram) (x : Element) (path : List ℕ) → false ≡ is_part x → is_node x ≡ true →
@@ -181,7 +181,7 @@ node_built d new x path t k e h n = rw (← t, k, ← e) (built_one d new (a_nod
 
 pub node_refused : (d : Diagram) (x : Element) (path : List ℕ) (f : BuildFault) (e : SsdRefusal) → false ≡ is_part x →
     is_node x ≡ true → path ≡ x.path → e ≡ refusal_of f → IsFaultOf f (node_limit d) →
-    IsRefused e (built d (naming_step x))
+    AnswersRefusal e (built d (naming_step x))
 node_refused d x path f e t k p q h = rw (← t, k, ← p) (built_refused d (a_node path) f e q h)
 
 pub nothing_built : (d : Diagram) (x : Element) → false ≡ is_part x → is_node x ≡ false → built d (naming_step x) ≡ Ok d
@@ -189,8 +189,8 @@ nothing_built d x t k = rw (← t, k) (built_none d)
 
 -- ---- some steps and then others
 
-pub first_refused : (d : Diagram) (ss ts : List Step) (e : SsdRefusal) → IsRefused e (built d ss) →
-    IsRefused e (built d (ss ++ ts))
+pub first_refused : (d : Diagram) (ss ts : List Step) (e : SsdRefusal) → AnswersRefusal e (built d ss) →
+    AnswersRefusal e (built d (ss ++ ts))
 first_refused d ss ts e h = at_refused e (built d ss) (built d (ss ++ ts)) (λ q. built_stop d ss ts e q) h
 
 pub then_builds : {X : Type 0} (d mid new : Diagram) (ss ts : List Step) (r : Result X SsdRefusal) →

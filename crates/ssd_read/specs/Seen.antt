@@ -37,14 +37,14 @@ Finds (Ok x) fault = fault ≡ None
 Finds (Err e) fault = IsErrorOf e fault
 
 -- The error is that of the building, or want of memory.
-abbrev pub IsRefused : SsdRefusal → Result Diagram SsdRefusal → Type 0
-IsRefused Memory outcome = Unit {0}
-IsRefused e outcome = outcome ≡ Err e
+abbrev pub AnswersRefusal : SsdRefusal → Result Diagram SsdRefusal → Type 0
+AnswersRefusal Memory outcome = Unit {0}
+AnswersRefusal e outcome = outcome ≡ Err e
 
 -- What a call answers agrees with taking these steps from a diagram, unless memory ran out.
 abbrev pub Builds : {X : Type 0} → Diagram → List Step → Result X SsdRefusal → Diagram → Type 0
 Builds d steps (Ok x) new = built d steps ≡ Ok new
-Builds d steps (Err e) new = IsRefused e (built d steps)
+Builds d steps (Err e) new = AnswersRefusal e (built d steps)
 
 -- Each of these is a node of the diagram.
 abbrev pub AreNodes : Diagram → List ℕ → Type 0

@@ -13,7 +13,7 @@ use Rattle.ssd_read.specs.Names.{root_fault, name_fault, first_fault}
 use Rattle.ssd_read.specs.Ends.{end_fault}
 use Rattle.ssd_read.specs.Steps.{steps_of, built}
 use Rattle.station_graph.specs.Diagram.{empty}
-use Rattle.ssd_read.specs.Seen.{IsRefused, refusal_of_text}
+use Rattle.ssd_read.specs.Seen.{AnswersRefusal, refusal_of_text}
 
 -- The first fault of the elements: of names, then of ends.
 abbrev pub fault_of : List Element → Option SsdRefusal
@@ -26,7 +26,7 @@ station_of all = option_map_or Err (fault_of all) (built empty (steps_of all))
 -- The answer is the outcome of these elements; want of memory has no cause.
 abbrev pub ElementsAnswer : List Element → Result Diagram SsdRefusal → Type 0
 ElementsAnswer all (Ok d) = station_of all ≡ Ok d
-ElementsAnswer all (Err e) = IsRefused e (station_of all)
+ElementsAnswer all (Err e) = AnswersRefusal e (station_of all)
 
 -- The station of a tree, or its first fault.
 abbrev pub outcome_of : List Entry → Result Diagram SsdRefusal
@@ -35,7 +35,7 @@ outcome_of tree = option_map_or Err (root_fault tree) (station_of (elements_of t
 -- What a call answers for a tree is its outcome, unless memory ran out.
 abbrev pub TreeAnswers : List Entry → Result Diagram SsdRefusal → Type 0
 TreeAnswers tree (Ok d) = outcome_of tree ≡ Ok d
-TreeAnswers tree (Err e) = IsRefused e (outcome_of tree)
+TreeAnswers tree (Err e) = AnswersRefusal e (outcome_of tree)
 
 -- The outcome of a text, by the tree that it spells or its first fault.
 abbrev pub after_text : Result (List Entry) TextRefusal → Result Diagram SsdRefusal

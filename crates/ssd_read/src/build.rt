@@ -7,7 +7,7 @@ ghost use Rattle.ssd_read.specs.Elements.{element_at};
 ghost use Rattle.ssd_read.specs.Names.{first_fault, name_fault};
 ghost use Rattle.ssd_read.specs.Ends.{ends_of, end_fault};
 ghost use Rattle.ssd_read.specs.Steps.{is_part, naming_step, part_number, winding_ends_of, built, steps_of};
-ghost use Rattle.ssd_read.specs.Seen.{Builds, IsRefused};
+ghost use Rattle.ssd_read.specs.Seen.{Builds, AnswersRefusal};
 
 use crate::drawing::Drawing;
 use crate::end_lists::EndLists;
@@ -90,7 +90,7 @@ pub(crate) fn build(
     requires winding_ends { (j : ℕ) → j < length drawing.now → slice_index_or windings.now j [] ≡ winding_ends_of
         drawing.now j }
     ensures { MatchResult result (λ station. built empty (steps_of drawing.now) ≡ Ok station)
-        (λ e. IsRefused e (built empty (steps_of drawing.now))) }
+        (λ e. AnswersRefusal e (built empty (steps_of drawing.now))) }
 {
     let mut builder = Builder::new(alloc);
     let numbers = match add_names(alloc, drawing, &mut builder) {

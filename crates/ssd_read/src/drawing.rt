@@ -26,7 +26,7 @@ const MOST_PATH_BYTES: usize = 67_108_864;
 
 // What an element is, what it stands in, its name, where it is counted by one, its path, and its type, where
 // it is equipment: each decoded once, for all passes.
-#[derive(Debug, Drop)]
+#[derive(Drop)]
 pub(crate) struct DrawnElement {
     pub(crate) role: Role,
     pub(crate) within: Role,

@@ -22,7 +22,7 @@ use ilk_base::Memory;
 use std::alloc::Global;
 
 /// Where a terminal stands. The definitions speak of it.
-#[derive(Clone, Copy, Debug, PartialEq, Eq)]
+#[derive(Clone, Copy, PartialEq, Eq)]
 pub enum TerminalPlace {
     /// on earth
     Earth,
@@ -33,7 +33,7 @@ pub enum TerminalPlace {
 }
 
 /// What equipment is to a station, by its type. The definitions speak of it.
-#[derive(Clone, Copy, Debug, PartialEq, Eq)]
+#[derive(Clone, Copy, PartialEq, Eq)]
 pub enum Use {
     /// `CBR`
     Breaker,
@@ -60,7 +60,7 @@ fn after_slash(name: &[u8]) -> &[u8]
 }
 
 // The names by which a terminal says its node, decoded once: the node's key, and its own name.
-#[derive(Debug, Drop)]
+#[derive(Drop)]
 pub(crate) struct TerminalNames {
     key: Option<String>,
     node: Option<String>,

@@ -29,6 +29,3 @@ pub use read::read_ssd;
 pub use refusal::SsdRefusal;
 pub use role::Role;
 pub use types::EquipmentType;
-
-#[cfg(test)]
-mod tests;

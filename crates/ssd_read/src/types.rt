@@ -13,7 +13,7 @@ use std::alloc::Global;
 
 /// The type of conducting equipment (IEC 61850-6): those that make a difference to a station, and all
 /// others together. The definitions speak of it.
-#[derive(Clone, Copy, Debug, PartialEq, Eq)]
+#[derive(Clone, Copy, PartialEq, Eq)]
 pub enum EquipmentType {
     /// `CBR`
     CircuitBreaker,

@@ -19,6 +19,3 @@ mod value;
 pub use read::{accepted_is_document, document_is_accepted, one_outcome, read_in_order, read_text};
 pub use refusal::TextRefusal;
 pub use tree::{Attr, Element, Tree};
-
-#[cfg(test)]
-mod tests;

@@ -10,7 +10,7 @@ ghost use Rattle.ssd_text.specs.declared.limits.TheConstants.{ELEMENTS};
 use std::marker::Model;
 
 /// An attribute as it is written. Both texts are slices of the source.
-#[derive(Clone, Copy, Debug)]
+#[derive(Clone, Copy)]
 pub struct Attr<'a> {
     /// the name, with its prefix
     pub name: &'a str,
@@ -55,7 +55,7 @@ impl<'a> Model for Tree<'a> {
 }
 
 /// An element, without its attributes.
-#[derive(Clone, Copy, Debug)]
+#[derive(Clone, Copy)]
 pub struct Element<'a> {
     /// where its start tag begins: the number of bytes before it in the text
     pub at: u32,

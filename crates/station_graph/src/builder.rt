@@ -19,7 +19,7 @@ use std::marker::Model;
 /// A station under way, seen as its diagram so far. A call adds exactly its item, or refuses it and
 /// leaves the builder unchanged. Items are numbered in the order in which they are added, those of
 /// each kind from 0.
-#[derive(Debug, Drop)]
+#[derive(Drop)]
 pub struct Builder {
     pub(crate) node_paths: Paths,
     pub(crate) part_paths: Paths,

@@ -12,7 +12,7 @@ use std::marker::Model;
 /// `alone`, `merge` the two ends of each edge, and the labels are those of the least numbers to which
 /// the edges lead. The lemmas `KeepsLabels-alone`, `KeepsLabels-merged` and `LabelsLeast-from_keeps`
 /// of this crate prove it, over any relation.
-#[derive(Debug, Drop)]
+#[derive(Drop)]
 pub struct Classes {
     labels: Vec<u16>,
 }

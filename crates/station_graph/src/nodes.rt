@@ -10,7 +10,7 @@ use std::marker::Model;
 
 /// A list of nodes, seen as the list of their numbers. Two lists are equal where they name the same
 /// nodes in the same order.
-#[derive(Clone, Debug, Drop)]
+#[derive(Clone, Drop)]
 pub struct NodeList {
     numbers: Vec<u16>,
 }

@@ -8,7 +8,7 @@ use std::marker::Model;
 
 // Paths in the order in which they were added, seen as their list. A path is found by a hash, in
 // time of its own length.
-#[derive(Debug, Drop)]
+#[derive(Drop)]
 pub(crate) struct Paths {
     paths: IndexSet<String>,
 }

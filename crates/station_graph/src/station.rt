@@ -16,7 +16,7 @@ use std::marker::Model;
 
 /// A station, seen as its diagram: the paths of its nodes, parts and switches, its switches, links
 /// and taps. It is made by `Builder`. Every number is a place in the list of its kind.
-#[derive(Debug, Drop)]
+#[derive(Drop)]
 pub struct Station {
     pub(crate) node_paths: Paths,
     pub(crate) part_paths: Paths,

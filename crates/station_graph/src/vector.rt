@@ -14,7 +14,7 @@ use std::marker::Model;
 
 /// Which switches are closed, seen as a list with one entry for each switch of the station from
 /// which it was made.
-#[derive(Clone, Debug, Drop)]
+#[derive(Clone, Drop)]
 pub struct Vector {
     closed: Vec<bool>,
 }

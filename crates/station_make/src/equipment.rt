@@ -7,7 +7,7 @@ use ilk_base::Memory;
 use std::alloc::Global;
 
 // A bay of the station.
-#[derive(Clone, Copy, Debug, PartialEq, Eq)]
+#[derive(Clone, Copy, PartialEq, Eq)]
 pub(crate) enum Bay {
     FirstBusbar,
     SecondBusbar,
@@ -17,7 +17,7 @@ pub(crate) enum Bay {
 }
 
 // A node of a bay, or earth.
-#[derive(Clone, Copy, Debug, PartialEq, Eq)]
+#[derive(Clone, Copy, PartialEq, Eq)]
 pub(crate) enum Node {
     Busbar,
     CouplerFirst,
@@ -29,14 +29,14 @@ pub(crate) enum Node {
 }
 
 // A node, with the bay that it is of.
-#[derive(Clone, Copy, Debug, PartialEq, Eq)]
+#[derive(Clone, Copy, PartialEq, Eq)]
 pub(crate) struct Terminal {
     pub(crate) bay: Bay,
     pub(crate) node: Node,
 }
 
 // What a switch is called in its bay (IEC 81346).
-#[derive(Clone, Copy, Debug, PartialEq, Eq)]
+#[derive(Clone, Copy, PartialEq, Eq)]
 pub(crate) enum Designation {
     Qb1,
     Qb2,
@@ -47,7 +47,7 @@ pub(crate) enum Designation {
 }
 
 // A switch, with the nodes on which it stands and its position.
-#[derive(Clone, Copy, Debug, PartialEq, Eq)]
+#[derive(Clone, Copy, PartialEq, Eq)]
 pub(crate) struct Switch {
     pub(crate) bay: Bay,
     pub(crate) designation: Designation,

@@ -3,7 +3,7 @@ ghost use Rattle.std.specs.Prelude.{◌≤◌};
 ghost use Rattle.station_make.specs.declared.making.TheConstants.{LEAST_FEEDERS, MOST_FEEDERS};
 
 /// A number of feeders that can be made: from `LEAST_FEEDERS` to `MOST_FEEDERS`.
-#[derive(Clone, Copy, Debug)]
+#[derive(Clone, Copy)]
 pub struct Feeders {
     /// the number
     pub number: u8,

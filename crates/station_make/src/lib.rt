@@ -15,6 +15,3 @@ pub use feeders::Feeders;
 pub use laws::made_counts;
 pub use making::{LEAST_FEEDERS, MOST_FEEDERS, Made, make};
 pub use words::{MadeText, feeders_named, make_text, text_named};
-
-#[cfg(test)]
-mod tests;

@@ -17,7 +17,7 @@ pub const LEAST_FEEDERS: u8 = 2;
 pub const MOST_FEEDERS: u8 = 60;
 
 /// The texts of a station.
-#[derive(Debug, Drop)]
+#[derive(Drop)]
 pub struct Made {
     /// its drawing, as an SSD (IEC 61850-6)
     pub station: Text,

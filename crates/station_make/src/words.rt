@@ -9,7 +9,7 @@ use itoa::Buffer;
 use std::alloc::Global;
 
 /// A text of the station.
-#[derive(Clone, Copy, Debug, PartialEq, Eq)]
+#[derive(Clone, Copy, PartialEq, Eq)]
 pub enum MadeText {
     Station,
     Positions,

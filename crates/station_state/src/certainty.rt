@@ -4,7 +4,7 @@ ghost use Rattle.station_state.specs.State.{certainty_of};
 
 /// In which readings of the positions something holds: in every one, in none, or in one and not in
 /// another.
-#[derive(Clone, Copy, Debug, PartialEq, Eq)]
+#[derive(Clone, Copy, PartialEq, Eq)]
 pub enum Certainty {
     Always,
     Never,
@@ -13,7 +13,7 @@ pub enum Certainty {
 
 /// The state of a node: in which readings it is live (joined to the node of a closed infeed), and in
 /// which it is earthed (joined to the node of a closed earthing switch).
-#[derive(Clone, Copy, Debug, PartialEq, Eq)]
+#[derive(Clone, Copy, PartialEq, Eq)]
 pub struct NodeState {
     pub live: Certainty,
     pub earthed: Certainty,

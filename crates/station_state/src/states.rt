@@ -16,7 +16,7 @@ use std::alloc::Global;
 use std::marker::Model;
 
 /// The states of all nodes of a station, seen as the list of them.
-#[derive(Debug, Drop)]
+#[derive(Drop)]
 pub struct NodeStates {
     states: Vec<NodeState>,
 }

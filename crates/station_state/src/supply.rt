@@ -18,7 +18,7 @@ use std::alloc::Global;
 
 // Of one vector: a label for each node, the same at two nodes exactly where they are joined, and which
 // labels have a closed infeed, and which a closed earthing switch.
-#[derive(Debug, Drop)]
+#[derive(Drop)]
 pub(crate) struct Supply<'a> {
     station: &'a Station,
     vector: Vector,

@@ -12,7 +12,7 @@ use Rattle.central_rules.specs.declared.verdict.Verdict.{Verdict}
 use Rattle.central_rules.specs.Readings.{Decides}
 use Rattle.station_work.specs.declared.tally.Sight.{Sight}
 use Rattle.station_work.specs.declared.tally.Tally.{Tally}
-use Rattle.station_work.specs.Tallying.{operations_on, operations_below, Sees, AreVerdicts, Tallies, is_release}
+use Rattle.station_work.specs.Tallying.{operations_on, operations_below, Sees, AreSeenVerdicts, Tallies, is_release}
 use Rattle.station_work.specs.Tallying.{is_denial}
 
 range-suc : (first count next : ℕ) → next ≡ first + count
@@ -68,7 +68,7 @@ pub record Counted (old new : Tally) (verdict : Verdict) : Type 0 where
 -- the verdicts on one switch more
 pub so_far_more : (sight : Sight) (d : Diagram) (words : List Dbpos) (n : ℕ) (old between new : Tally)
     (opening closing : Verdict)
-    → AreVerdicts sight d words (operations_on n) (opening ∷ closing ∷ [])
+    → AreSeenVerdicts sight d words (operations_on n) (opening ∷ closing ∷ [])
     → Counted old between opening → Counted between new closing
     → SoFar sight d words n old → SoFar sight d words (n + 1) new
 so_far_more sight d words n old between new opening closing both first second far =
@@ -77,7 +77,7 @@ so_far_more sight d words n old between new opening closing both first second fa
     record {
       tallies = record {
         verdicts = t.verdicts ++ two;
-        are = subst (λ ops. AreVerdicts sight d words ops (t.verdicts ++ two)) (sym (operations-more n))
+        are = subst (λ ops. AreSeenVerdicts sight d words ops (t.verdicts ++ two)) (sym (operations-more n))
             (zip-append (λ op verdict. Decides d (Sees sight d words op) op verdict) (operations_below n)
             (operations_on n) t.verdicts two t.are both);
         released = counted_two is_release opening closing t.verdicts old.released between.released new.released

@@ -36,8 +36,8 @@ Sees Full d words op = IsReading words
 Sees Blind d words op = IsReadingOf d (own_words d words op)
 
 -- These are verdicts on these operations, one on each.
-abbrev pub AreVerdicts : Sight → Diagram → List Dbpos → List Op → List Verdict → Type 0
-AreVerdicts sight d words ops verdicts = AllZip (λ op verdict. Decides d
+abbrev pub AreSeenVerdicts : Sight → Diagram → List Dbpos → List Op → List Verdict → Type 0
+AreSeenVerdicts sight d words ops verdicts = AllZip (λ op verdict. Decides d
     (Sees sight d words op) op verdict) ops verdicts
 
 -- Whether it is a release.
@@ -53,7 +53,7 @@ is_denial (Denied rule v) = true
 -- So many of the verdicts on these operations are releases, and so many are denials.
 pub record Tallies (sight : Sight) (d : Diagram) (words : List Dbpos) (ops : List Op) (t : Tally) : Type 0 where
   pub verdicts : List Verdict
-  pub are : AreVerdicts sight d words ops verdicts
+  pub are : AreSeenVerdicts sight d words ops verdicts
   pub released : t.released ≡ count_by is_release verdicts
   pub denied : t.denied ≡ count_by is_denial verdicts
 

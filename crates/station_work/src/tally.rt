@@ -13,7 +13,7 @@ use station_graph::Station;
 use std::alloc::Global;
 
 /// What is known where an operation is judged.
-#[derive(Clone, Copy, Debug, PartialEq, Eq)]
+#[derive(Clone, Copy, PartialEq, Eq)]
 pub enum Sight {
     /// the words of all switches
     Full,
@@ -22,7 +22,7 @@ pub enum Sight {
 }
 
 /// How many operations are released, and how many are denied.
-#[derive(Clone, Copy, Debug, PartialEq, Eq)]
+#[derive(Clone, Copy, PartialEq, Eq)]
 pub struct Tally {
     /// those that are released
     pub released: u32,

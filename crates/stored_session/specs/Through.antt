@@ -7,8 +7,8 @@ use Rattle.node_session.specs.declared.request.TheConstants.{MOST_LINE}
 use Rattle.node_session.specs.declared.reader.TheConstants.{CHUNK}
 use Rattle.node_session.specs.declared.reader.InputTrouble.{InputTrouble}
 use Rattle.node_session.specs.declared.reader.InputTrouble.TheVariants.{Memory, Failed}
-use Rattle.stored_session.specs.declared.reading.NextLine.{NextLine}
-use Rattle.stored_session.specs.declared.reading.NextLine.TheVariants.{Line, Last, TooLong, End}
+use Rattle.stored_session.specs.declared.read.NextLine.{NextLine}
+use Rattle.stored_session.specs.declared.read.NextLine.TheVariants.{Line, Last, TooLong, End}
 
 -- These whole lines were taken of the input, and these bytes are held that follow them.
 pub record ReadsThrough (before now : Option (List ℕ)) (held : List ℕ) (done : List (List ℕ)) : Type 0 where

@@ -27,10 +27,6 @@ view content moment between since reads writes calls = record {
   calls = calls;
 }
 
--- The streams by these parts.
-abbrev pub streams : Option (List ℕ) → ℕ → Option (List ℕ) → ℕ → Streams
-streams input reads out writes = record { input = input; reads = reads; out = out; writes = writes }
-
 -- Its law on time.
 abbrev pub KeepsTime : {D : Type 0} → View D → Type 0
 KeepsTime {D} v = (d : D) (t u : ℕ) (c : List ℕ) → t ≤ u → (v.since d t c ↔ (v.between d t u c ⊎ v.since d u c))

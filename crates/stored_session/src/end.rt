@@ -7,7 +7,7 @@ use crate::line::LineEnd;
 use node_session::MOST_LINES;
 
 /// How a stored session ends.
-#[derive(Clone, Copy, Debug, PartialEq, Eq)]
+#[derive(Clone, Copy, PartialEq, Eq)]
 pub enum StoredEnd {
     /// all lines are answered
     Done,

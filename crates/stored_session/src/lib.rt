@@ -6,7 +6,7 @@ mod end;
 mod line;
 mod opening;
 mod putting;
-mod reading;
+mod read;
 mod session;
 
 pub use end::StoredEnd;

@@ -25,7 +25,7 @@ use station_graph::Station;
 use std::alloc::Global;
 
 /// Why a line is not answered to its end.
-#[derive(Clone, Copy, Debug, PartialEq, Eq)]
+#[derive(Clone, Copy, PartialEq, Eq)]
 pub enum LineEnd {
     /// There was not enough memory.
     Memory,

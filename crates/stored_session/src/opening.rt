@@ -15,7 +15,7 @@ use node_store::{Device, OpenTrouble, Opened, Store};
 use station_graph::Station;
 
 /// Why the store of a bay was not opened.
-#[derive(Clone, Copy, Debug, PartialEq, Eq)]
+#[derive(Clone, Copy, PartialEq, Eq)]
 pub enum BayTrouble {
     /// The sync failed.
     SyncFailed,

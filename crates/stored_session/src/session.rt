@@ -9,7 +9,8 @@ ghost use Rattle.node_session.specs.declared.end.TheConstants.{MOST_LINES};
 ghost use Rattle.node_session.specs.declared.reader.TheConstants.{CHUNK};
 ghost use Rattle.node_store.specs.Device.{Told, RisesBy};
 ghost use Rattle.node_store.specs.Store.{store_sequence};
-ghost use Rattle.stored_session.specs.View.{view, streams};
+ghost use Rattle.stored_session.specs.View.{view};
+ghost use Rattle.node_session.specs.SessionEnds.{streams};
 ghost use Rattle.stored_session.specs.Kept.{IsKept};
 ghost use Rattle.stored_session.specs.Opening.{IsUnfit};
 ghost use Rattle.stored_session.specs.Progress.{StoredStands, StoredGoes};
@@ -18,7 +19,7 @@ ghost use Rattle.stored_session.specs.Ends.{BegunEnds, StoredEnds, IsStoredInput
 use crate::end::{StoredEnd, end_at};
 use crate::line::take_line;
 use crate::opening::{BayTrouble, open_for_bay};
-use crate::reading::{NextLine, next_line};
+use crate::read::{NextLine, next_line};
 use bay_node::Node;
 use central_rules::Judge;
 use ilk_base::{BayId, Sink, Source};

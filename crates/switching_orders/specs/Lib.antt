@@ -3,4 +3,3 @@ pub mod Undoing
 pub mod OrderLines
 pub mod OrderText
 pub mod Certain
-pub mod OrderFaults

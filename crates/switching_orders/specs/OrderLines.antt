@@ -29,7 +29,7 @@ HasStepFault d before line number =
     ⊎ ((before < MOST_STEPS) × (fault : LineFault) × HasFault d line fault × (number ≡ fault_number fault))
 
 -- The first line with a fault: those before it that are not empty are steps.
-pub record IsFirstFault (d : Diagram) (bytes : List ℕ) (r : InputRefusal) : Type 0 where
+pub record IsFirstStepFault (d : Diagram) (bytes : List ℕ) (r : InputRefusal) : Type 0 where
   pub before : List Op
   pub line : List ℕ
   pub steps : NameSteps d (take (length before) (filled_lines bytes)) before
@@ -41,4 +41,4 @@ pub record IsFirstFault (d : Diagram) (bytes : List ℕ) (r : InputRefusal) : Ty
 abbrev pub IsOrderFault : Diagram → List ℕ → InputRefusal → Type 0
 IsOrderFault d bytes r =
     ((FILE_BYTES < length bytes) × (r ≡ record { number = 5; line = 0 }))
-    ⊎ ((length bytes ≤ FILE_BYTES) × IsFirstFault d bytes r)
+    ⊎ ((length bytes ≤ FILE_BYTES) × IsFirstStepFault d bytes r)

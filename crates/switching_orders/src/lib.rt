@@ -5,7 +5,7 @@ mod certain;
 mod judging;
 mod laws;
 mod order;
-mod reading;
+mod read;
 mod ruling;
 mod text;
 
@@ -13,9 +13,6 @@ pub use certain::certain_positions;
 pub use judging::judge_order;
 pub use laws::{accepted_keeps_apart, undone_gives_start};
 pub use order::{MOST_STEPS, Order};
-pub use reading::{OrderFault, read_order};
+pub use read::{OrderFault, read_order};
 pub use ruling::{Ruling, Step};
 pub use text::{OrderReport, order_text};
-
-#[cfg(test)]
-mod tests;

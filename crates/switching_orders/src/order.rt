@@ -65,7 +65,7 @@ fn move_all(steps: &[Op], vector: &mut Vector)
 
 /// An order of switching, seen as the list of its steps. It is made by `read_order`, and has at most
 /// `MOST_STEPS` steps.
-#[derive(Debug, Drop)]
+#[derive(Drop)]
 pub struct Order {
     pub(crate) steps: Vec<Op>,
 }

@@ -2,7 +2,7 @@
 use ilk_base::Rule;
 
 /// The ruling on a step.
-#[derive(Clone, Copy, Debug, PartialEq, Eq)]
+#[derive(Clone, Copy, PartialEq, Eq)]
 pub enum Step {
     /// It breaks no rule.
     Ok,
@@ -13,7 +13,7 @@ pub enum Step {
 }
 
 /// The ruling on an order.
-#[derive(Clone, Copy, Debug, PartialEq, Eq)]
+#[derive(Clone, Copy, PartialEq, Eq)]
 pub struct Ruling {
     /// how many steps are ok, from the first on
     pub passed: u32,

@@ -17,7 +17,7 @@ use station_graph::{Station, Vector};
 use std::alloc::Global;
 
 /// What is told of an order.
-#[derive(Debug, Drop)]
+#[derive(Drop)]
 pub struct OrderReport {
     /// the lines
     pub text: Text,

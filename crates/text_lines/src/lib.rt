@@ -8,6 +8,3 @@ mod lines;
 pub use decimals::decimal_number;
 pub use heads::after;
 pub use lines::{Lines, MOST_BYTES};
-
-#[cfg(test)]
-mod tests;

@@ -41,7 +41,7 @@ fn first_line(text: &[u8]) -> (&[u8], &[u8])
 /// The lines of a text that are left to be read, seen as how many were passed and the list of those that
 /// are left. A line ends with LF or CR LF, and the last may end with the text; a CR is part of the end only
 /// before LF.
-#[derive(Debug, Drop)]
+#[derive(Drop)]
 pub struct Lines<'a> {
     left: &'a [u8],
     passed: u32,

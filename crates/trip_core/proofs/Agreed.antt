@@ -14,7 +14,7 @@ use Rattle.station_graph.specs.Alike.{IsVector}
 use Rattle.station_graph.specs.Connection.{SameButBreakers}
 use Rattle.station_graph.specs.CentralRules.{Breaks, GapBreaks}
 use Rattle.station_graph.proofs.GapLemmas.{gap_same, none_parts}
-use Rattle.reservation_core.specs.Scene.{true_at, Stands}
+use Rattle.reservation_core.specs.Scene.{true_at, ReadsAs}
 use Rattle.reservation_core.proofs.TrueWords.{true_word_agrees}
 use Rattle.trip_core.specs.declared.values.Note.{Note}
 use Rattle.trip_core.specs.Trips.{TripScene, IsBreaker, IsGoodNote}
@@ -102,7 +102,7 @@ breaker_or_not d i = by_place (slice_get d.switches i) refl
 pub data IsFair (d : Diagram) (s : TripScene) (i : ℕ) (word : Dbpos) (closed : Bool) : Type 0 where
   unknown : word ≡ Lost → IsFair d s i word closed
   good_note : (n : Note) → word ≡ n.word → IsGoodNote d s.world.scene.truth s.tripped s.events i n
-      → Stands (true_at s.world.scene.truth i) closed → IsFair d s i word closed
+      → ReadsAs (true_at s.world.scene.truth i) closed → IsFair d s i word closed
 
 -- it agrees but for breakers
 fair_agrees : (d : Diagram) (s : TripScene) (i : ℕ) (word : Dbpos) (closed : Bool) → ¬ IsBreaker d i

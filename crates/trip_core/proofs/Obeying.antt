@@ -16,7 +16,7 @@ use Rattle.station_graph.proofs.GapLemmas.{none_parts, apart_same}
 use Rattle.central_rules.specs.Meaning.{Meaning, Laws, bay_of}
 use Rattle.bay_frames.specs.declared.frame.Frame.{Frame}
 use Rattle.bay_protocol.specs.declared.values.Grant.{Grant}
-use Rattle.reservation_core.specs.Scene.{Scene, node, moves, true_at, IsTrueWord, Stands, Resolves}
+use Rattle.reservation_core.specs.Scene.{Scene, node, moves, true_at, IsTrueWord, ReadsAs, Resolves}
 use Rattle.reservation_core.specs.RoundFacts.{RoundFacts}
 use Rattle.reservation_core.specs.Facts.{IsSoundTruth}
 use Rattle.reservation_core.specs.declared.values.Position.{Position}
@@ -59,7 +59,7 @@ module _ (m : Meaning) (s : TripScene) (facts : TripFacts m s) where
 
   -- a switch of a vector that resolves the truth stands as it truly does
   stands_in : (v : List Bool) (i : ℕ) → IsVector m.diagram v → i < length m.diagram.switches → Resolves w.truth v
-      → Stands (true_at w.truth i) (get_or v i false)
+      → ReadsAs (true_at w.truth i) (get_or v i false)
   stands_in v i whole lt resolves = resolves i (get_or v i false) (stood m v i whole lt)
 
   -- ---- the rules

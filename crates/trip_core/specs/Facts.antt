@@ -11,7 +11,7 @@ use Rattle.bay_frames.specs.declared.frame.Body.TheVariants.{Answer}
 use Rattle.bay_protocol.specs.declared.values.Grant.{Grant}
 use Rattle.bay_protocol.specs.Fits.{IsOwn}
 use Rattle.bay_protocol.specs.State.{under_way}
-use Rattle.reservation_core.specs.Scene.{node, true_at, IsTrueWord, Stands, Resolves}
+use Rattle.reservation_core.specs.Scene.{node, true_at, IsTrueWord, ReadsAs, Resolves}
 use Rattle.reservation_core.specs.RoundFacts.{NotGranted, IsLockedFor, AnswerSent}
 use Rattle.reservation_core.specs.Held.{TruthFacts, HeardAllow}
 use Rattle.reservation_core.specs.Facts.{ObeysFirstTwo, BayResolvesBut}
@@ -58,7 +58,7 @@ ObeysLoad m s = (c : ℕ) (g : Grant) (v : List Bool) → (node m.diagram s.worl
 -- it truly does.
 pub record StandsForAnswer (d : Diagram) (s : TripScene) (k i : ℕ) (closed : Bool) : Type 0 where
   pub on : IsBreaker d i → (note_at s.beside k i).word ≡ On → closed ≡ true
-  pub other : (¬ IsBreaker d i) ⊎ ((note_at s.beside k i).word ≢ On) → Stands (true_at s.world.scene.truth i) closed
+  pub other : (¬ IsBreaker d i) ⊎ ((note_at s.beside k i).word ≢ On) → ReadsAs (true_at s.world.scene.truth i) closed
 
 -- The sender of the Answer is locked for its round, and its summary allows each vector in which the switches of
 -- the sender stand as the Answer lets them.

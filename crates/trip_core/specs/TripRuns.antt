@@ -6,7 +6,7 @@ use Rattle.station_graph.specs.Alike.{IsVector}
 use Rattle.station_graph.specs.CentralRules.{GapBreaks, LoadBreaks}
 use Rattle.station_graph.specs.Supply.{Apart}
 use Rattle.central_rules.specs.Meaning.{Meaning}
-use Rattle.reservation_core.specs.Scene.{Stands}
+use Rattle.reservation_core.specs.Scene.{ReadsAs}
 use Rattle.reservation_core.specs.Lines.{Line, Shown}
 use Rattle.reservation_core.specs.Runs.{Shows, MayHappenBy, IsPremiseOf}
 use Rattle.reservation_core.specs.Headline.{DecidesWell, OpenSince}
@@ -56,7 +56,7 @@ pub record IsTripBroken (d : Diagram) (start : List Bool) (before : List TripLin
 -- The vector resolves the truth after these lines.
 pub record TripMayBeTrue (d : Diagram) (start : List Bool) (lines : List TripLine) (v : List Bool) : Type 0 where
   pub whole : IsVector d v
-  pub each : (i : ℕ) (closed : Bool) → slice_get v i ≡ Some closed → Stands (trip_true d start lines i) closed
+  pub each : (i : ℕ) (closed : Bool) → slice_get v i ≡ Some closed → ReadsAs (trip_true d start lines i) closed
 
 -- The first half of the headline, at a line that is no trip.
 abbrev pub TripDecides : Diagram → TripEvent → Shown → List Line → Type 0

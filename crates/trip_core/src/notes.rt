@@ -11,7 +11,7 @@ use std::alloc::Global;
 use std::marker::Model;
 
 // A note for each switch, or none at all.
-#[derive(Debug, Drop)]
+#[derive(Drop)]
 pub(crate) struct NoteList {
     notes: Vec<Note>,
 }

@@ -7,7 +7,7 @@ use reservation_core::WorldEvent;
 pub const EVENTS: u32 = 4_000_000_000;
 
 /// A word, and when it was read.
-#[derive(Clone, Copy, Debug, PartialEq, Eq)]
+#[derive(Clone, Copy, PartialEq, Eq)]
 pub struct Note {
     /// the word
     pub word: Dbpos,
@@ -16,7 +16,7 @@ pub struct Note {
 }
 
 /// What may happen next.
-#[derive(Clone, Copy, Debug, PartialEq, Eq)]
+#[derive(Clone, Copy, PartialEq, Eq)]
 pub enum TripEvent {
     /// what may happen in a station without trips
     Step(WorldEvent),
@@ -25,7 +25,7 @@ pub enum TripEvent {
 }
 
 // The node that an event concerns, what happens to it, and the place of the message that comes to it.
-#[derive(Clone, Copy, Debug, PartialEq, Eq)]
+#[derive(Clone, Copy, PartialEq, Eq)]
 pub(crate) struct Task {
     pub(crate) bay: BayId,
     pub(crate) message: usize,
@@ -34,7 +34,7 @@ pub(crate) struct Task {
 
 // What is asked of a node before its step: whose Answer counts, whether it collected a round, and whether it had
 // a granted operation.
-#[derive(Clone, Copy, Debug, PartialEq, Eq)]
+#[derive(Clone, Copy, PartialEq, Eq)]
 pub(crate) struct Learning {
     pub(crate) from: Option<BayId>,
     pub(crate) collected: bool,

@@ -26,7 +26,7 @@ use std::marker::Model;
 /// All bays of a station whose breakers may trip, the messages between them, and the drives of its switches. It
 /// is seen as a world, with the numbers of the events at which words were read and breakers tripped, beside each
 /// Answer and of each bay in its round under way. Each call takes the station and the judge of the call before.
-#[derive(Debug, Drop)]
+#[derive(Drop)]
 pub struct TripWorld {
     pub(crate) world: World,
     pub(crate) sensed: Vec<u32>,

@@ -9,7 +9,7 @@ use Rattle.station_graph.specs.CentralRules.{GapBreaks}
 use Rattle.central_rules.specs.Meaning.{Meaning, Laws}
 use Rattle.bay_protocol.specs.declared.values.Grant.{Grant}
 use Rattle.bay_protocol.specs.declared.values.Outcome.{Outcome}
-use Rattle.reservation_core.specs.Scene.{Scene, true_at, runs, Stands, Resolves}
+use Rattle.reservation_core.specs.Scene.{Scene, true_at, runs, ReadsAs, Resolves}
 use Rattle.reservation_core.specs.Facts.{IsSoundTruth}
 use Rattle.reservation_core.specs.Lines.{Line, Shown, of_bay}
 use Rattle.reservation_core.specs.History.{open_after, open_of, Opened}
@@ -169,14 +169,14 @@ module _ (m : Meaning) (start : List Bool) (station : IsStation m.diagram) (laws
       → TripMayBeTrue m.diagram start lines v → Resolves s.world.scene.truth v
   to_scene lines s v is may i closed at =
       let lt : i < length v = slice_get_within v i closed at in
-      subst (λ (p : Position). Stands p closed) (sym (is.truth i (omega (arith, lt, may.whole)))) (may.each i closed at)
+      subst (λ (p : Position). ReadsAs p closed) (sym (is.truth i (omega (arith, lt, may.whole)))) (may.each i closed at)
 
   to_lines : (lines : List TripLine) (s : TripScene) (v : List Bool) → TripIs m start lines s → IsVector m.diagram v
       → Resolves s.world.scene.truth v → TripMayBeTrue m.diagram start lines v
   to_lines lines s v is whole resolves = record {
     whole = whole;
     each = λ i closed at. let lt : i < length v = slice_get_within v i closed at in
-        subst (λ (p : Position). Stands p closed) (is.truth i (omega (arith, lt, whole))) (resolves i closed at);
+        subst (λ (p : Position). ReadsAs p closed) (is.truth i (omega (arith, lt, whole))) (resolves i closed at);
   }
 
   gap_since : (lines : List TripLine) (s : TripScene) → TripRun m start lines s → ObeysGapSince m.diagram start lines

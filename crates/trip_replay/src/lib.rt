@@ -2,10 +2,10 @@
 #![tactic(auto)]
 
 mod following;
-mod law;
+mod laws;
 mod log;
 mod record;
 
 pub use following::{TripReport, replay_trips};
-pub use law::{trip_headline_holds, trip_log_is_not_refused};
+pub use laws::{trip_headline_holds, trip_log_is_not_refused};
 pub use log::{TripLog, TripLogEvent, TripLogFault, read_trip_log};

@@ -1,6 +1,6 @@
 //! A log with trips.
-ghost use Rattle.std.specs.Prelude.{◌≡◌, ◌≤◌, ◌<◌, length, map, slice_get, Some, Err, All, IfOk, IfErr};
-ghost use Rattle.log_replay.specs.Log.{ForRefused};
+ghost use Rattle.std.specs.Prelude.{◌≡◌, ◌≤◌, ◌<◌, length, map, slice_get, Some, All, IfOk, IfErr};
+ghost use Rattle.ilk_base.specs.Inputs.{ForRefused};
 ghost use Rattle.log_replay.specs.declared.log.TheConstants.{MOST_RECORDS};
 ghost use Rattle.trip_replay.specs.TripRecords.{as_log, TripMayBeTold};
 ghost use Rattle.trip_replay.specs.TripLogs.{IsTripLog, IsTripLogFault};
@@ -8,7 +8,7 @@ ghost use Rattle.trip_replay.specs.TripLogs.{IsTripLog, IsTripLogFault};
 use crate::record::read_trip_record;
 use csv::ByteRecord;
 use double_points::Rows;
-use ilk_base::{FILE_BYTES, InputRefusal, Memory, SwitchId};
+use ilk_base::{FILE_BYTES, SwitchId};
 use log_replay::Log;
 use reservation_core::{LogEvent, WorldEvent};
 use station_graph::Station;
@@ -17,10 +17,10 @@ use std::marker::Model;
 use trip_core::TripEvent;
 
 /// Why bytes gave no log with trips.
-pub use log_replay::LogFault as TripLogFault;
+pub use ilk_base::InputFault as TripLogFault;
 
 /// What a log with trips may tell: where a switch stands at first, or what happens next.
-#[derive(Clone, Copy, Debug, PartialEq, Eq)]
+#[derive(Clone, Copy, PartialEq, Eq)]
 pub enum TripLogEvent {
     /// where a switch stands before anything happens
     At {
@@ -35,7 +35,7 @@ pub enum TripLogEvent {
 
 /// A log with trips, seen as the list of its events. It is made by `read_trip_log`, and has at most
 /// `MOST_RECORDS`.
-#[derive(Debug, Drop)]
+#[derive(Drop)]
 pub struct TripLog {
     events: Vec<TripLogEvent>,
     // the same with each trip as the begin of a drive: the tests of a log's order and start make no difference
@@ -92,13 +92,6 @@ fn as_log(event: TripLogEvent) -> LogEvent
     }
 }
 
-// The answer that the bytes are refused.
-fn refused(number: u8, line: u32) -> Result<TripLog, TripLogFault>
-    ensures { result ≡ Err (TripLogFault.Refused (record { number = number; line = line })) }
-{
-    Err(TripLogFault::Refused(InputRefusal { number, line }))
-}
-
 /// Reads a log with trips: that of `log_replay::read_log`, with one further record, `trip` and the path of a
 /// breaker. Bytes are refused at their first record with a fault, as there; 2 also where the path of a `trip` is no
 /// breaker's. Time and memory are those of `read_log`.
@@ -113,7 +106,7 @@ pub fn read_trip_log(
     ensures err { IfErr result (λ e. ForRefused e (IsTripLogFault station.now bytes.now)) }
 {
     if bytes.len() > FILE_BYTES {
-        return refused(5, 0);
+        return Err(TripLogFault::refused(5, 0));
     }
     let mut rows = Rows::new(alloc, bytes);
     let mut row = ByteRecord::new(alloc);
@@ -125,7 +118,7 @@ pub fn read_trip_log(
                 events.push(event)?;
                 plain.push(as_log(event))?;
             }
-            Err(number) => return refused(number, events.len() as u32 + 1),
+            Err(number) => return Err(TripLogFault::refused(number, events.len() as u32 + 1)),
         }
     }
     let plain = Log::of(plain);

@@ -1,7 +1,7 @@
 use Rattle.std.proofs.Common.{◌≡◌, ◌<◌, ℕ, Some}
 use Rattle.std.specs.Prelude.{slice_get}
-use Rattle.equation_text.specs.declared.goal.Goal.{Goal}
-use Rattle.equation_text.specs.EquationForm.{IsGoal}
+use Rattle.station_equations.specs.declared.goal.Goal.{Goal}
+use Rattle.station_equations.specs.EquationForm.{IsGoal}
 use Rattle.equation_text.proofs.defined.goals_there.Given as goal
 
 abbrev pub invariant-loop-goal : goal.invariant-loop-goal

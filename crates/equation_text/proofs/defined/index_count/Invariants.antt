@@ -1,5 +1,5 @@
 use Rattle.std.proofs.Common.{◌≡◌, ◌++◌, take}
-use Rattle.equation_text.specs.EquationLines.{index_in, past_greatest}
+use Rattle.station_equations.specs.EquationLines.{index_in, past_greatest}
 use Rattle.equation_text.proofs.PastLemmas.{written}
 use Rattle.equation_text.proofs.defined.index_count.Given as goal
 

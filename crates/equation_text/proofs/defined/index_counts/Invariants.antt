@@ -1,5 +1,5 @@
 use Rattle.std.proofs.Common.{◌≡◌, map, take}
-use Rattle.equation_text.specs.EquationLines.{goal_count}
+use Rattle.station_equations.specs.EquationLines.{goal_count}
 use Rattle.equation_text.proofs.defined.index_counts.Given as goal
 
 abbrev pub invariant-loop-part : goal.invariant-loop-part

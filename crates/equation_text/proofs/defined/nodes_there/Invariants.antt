@@ -1,7 +1,7 @@
 use Rattle.std.proofs.Common.{◌≡◌, ◌<◌, ℕ, length, Some}
 use Rattle.std.specs.Prelude.{slice_get}
-use Rattle.equation_text.specs.EquationLines.{NodeLine}
-use Rattle.equation_text.specs.EquationForm.{goals_of}
+use Rattle.station_equations.specs.EquationLines.{NodeLine}
+use Rattle.station_equations.specs.EquationForm.{goals_of}
 use Rattle.equation_text.specs.Defined.{GoalsThere}
 use Rattle.equation_text.proofs.defined.nodes_there.Given as goal
 

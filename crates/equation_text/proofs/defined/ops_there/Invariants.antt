@@ -1,7 +1,7 @@
 use Rattle.std.proofs.Common.{◌≡◌, ◌<◌, ℕ, Some}
 use Rattle.std.specs.Prelude.{slice_get}
-use Rattle.equation_text.specs.declared.goal.SwitchGoals.{SwitchGoals}
-use Rattle.equation_text.specs.EquationForm.{SwitchGoalsFit}
+use Rattle.station_equations.specs.declared.goal.SwitchGoals.{SwitchGoals}
+use Rattle.station_equations.specs.EquationForm.{SwitchGoalsFit}
 use Rattle.equation_text.proofs.defined.ops_there.Given as goal
 
 abbrev pub invariant-loop-goals : goal.invariant-loop-goals

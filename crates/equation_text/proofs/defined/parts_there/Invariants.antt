@@ -1,6 +1,6 @@
 use Rattle.std.proofs.Common.{◌≡◌, ◌<◌, ℕ, Some}
 use Rattle.std.specs.Prelude.{slice_get}
-use Rattle.equation_text.specs.EquationLines.{PartLines}
+use Rattle.station_equations.specs.EquationLines.{PartLines}
 use Rattle.equation_text.specs.Defined.{PartThere}
 use Rattle.equation_text.proofs.defined.parts_there.Given as goal
 

@@ -2,9 +2,9 @@ use Rattle.std.proofs.Common.{◌∙◌, ◌++◌, List, ℕ, sym, ap}
 use Rattle.std.specs.Prelude.{codes}
 use Rattle.std.proofs.lemmas.List.{append_cancel_left}
 use Rattle.central_rules.specs.Names.{direction_name}
-use Rattle.equation_text.specs.declared.goal.Goal.{Goal}
-use Rattle.equation_text.specs.EquationLines.{goal_towards}
-use Rattle.equation_text.specs.EquationText.{goal_text}
+use Rattle.station_equations.specs.declared.goal.Goal.{Goal}
+use Rattle.station_equations.specs.EquationLines.{goal_towards}
+use Rattle.station_equations.specs.EquationText.{goal_text}
 use Rattle.equation_text.specs.Words.{numbered_head}
 use Rattle.equation_text.proofs.SaidLemmas.{op_said}
 use Rattle.equation_text.proofs.lines.read_op.Goals as goal

@@ -1,7 +1,7 @@
 use Rattle.std.proofs.Common.{◌∙◌, ◌++◌, sym, arith}
 use Rattle.std.specs.Prelude.{codes, decimal}
 use Rattle.std.proofs.lemmas.Fmt.{decimal_injective}
-use Rattle.equation_text.specs.EquationText.{target_text}
+use Rattle.station_equations.specs.EquationText.{target_text}
 use Rattle.equation_text.proofs.WordLemmas.{not_cut, cut_said, lacks_decimal, lacks_target}
 use Rattle.equation_text.proofs.lines.read_test.Goals as goal
 

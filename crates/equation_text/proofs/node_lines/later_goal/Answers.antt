@@ -1,8 +1,8 @@
 use Rattle.std.proofs.Common.{◌≡◌, ◌∙◌, sym, subst, arith}
-use Rattle.equation_text.specs.declared.goal.Goal.{Goal}
-use Rattle.equation_text.specs.declared.goal.Goal.TheVariants.{Node}
-use Rattle.equation_text.specs.declared.goal.TheConstants.{NUMBERS}
-use Rattle.equation_text.specs.EquationForm.{IsLaterGoal}
+use Rattle.station_equations.specs.declared.goal.Goal.{Goal}
+use Rattle.station_equations.specs.declared.goal.Goal.TheVariants.{Node}
+use Rattle.station_equations.specs.declared.goal.TheConstants.{NUMBERS}
+use Rattle.station_equations.specs.EquationForm.{IsLaterGoal}
 use Rattle.equation_text.proofs.WordLemmas.{goal_once}
 use Rattle.equation_text.proofs.OnceLemmas.{any_goal}
 use Rattle.equation_text.proofs.node_lines.later_goal.Goals as goal

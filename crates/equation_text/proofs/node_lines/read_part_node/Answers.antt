@@ -2,7 +2,7 @@ use Rattle.std.proofs.Common.{◌∙◌, List, length, sym, ap, arith, Some}
 use Rattle.std.specs.Prelude.{slice_get}
 use Rattle.std.proofs.lemmas.Fmt.{decimal_injective}
 use Rattle.std.proofs.lemmas.Option.{slice_get_within}
-use Rattle.equation_text.specs.declared.goal.Goal.{Goal}
+use Rattle.station_equations.specs.declared.goal.Goal.{Goal}
 use Rattle.equation_text.proofs.WordLemmas.{true_false, none_told, some_told}
 use Rattle.equation_text.proofs.NodeFits.{part_words}
 use Rattle.equation_text.proofs.OnceLemmas.{goals_once}

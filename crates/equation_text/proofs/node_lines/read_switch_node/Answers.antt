@@ -1,7 +1,7 @@
 use Rattle.std.proofs.Common.{◌∙◌, ◌++◌, sym, arith}
 use Rattle.std.specs.Prelude.{codes, decimal}
 use Rattle.std.proofs.lemmas.Fmt.{decimal_injective}
-use Rattle.equation_text.specs.EquationText.{goal_text}
+use Rattle.station_equations.specs.EquationText.{goal_text}
 use Rattle.equation_text.proofs.WordLemmas.{not_cut, cut_said, lacks_decimal, lacks_goal}
 use Rattle.equation_text.proofs.OnceLemmas.{any_goal}
 use Rattle.equation_text.proofs.node_lines.read_switch_node.Goals as goal

@@ -1,7 +1,7 @@
 use Rattle.std.proofs.Common.{◌≡◌, ◌∙◌, suc, List, ℕ, refl, sym, ap, subst}
 use Rattle.equation_text.specs.declared.read.EquationsFault.{EquationsFault}
-use Rattle.equation_text.specs.EquationLines.{EquationLines}
-use Rattle.equation_text.specs.EquationText.{IsTextOf}
+use Rattle.station_equations.specs.EquationLines.{EquationLines}
+use Rattle.station_equations.specs.EquationText.{IsTextOf}
 use Rattle.equation_text.specs.Defined.{AreThere}
 use Rattle.equation_text.specs.ReadText.{ForRefused}
 use Rattle.equation_text.specs.Faults.{feeds, AreFormed, IsFirstFault}
@@ -26,8 +26,8 @@ returns-then-not-are_there-clause-none c =
     (there_of e h.are.whole) in
     true_false (sym (c.are_there.ensures.1 there) ∙ c.if-not-are_there.true))
 
-pub invariant_of-result : goal.invariant_of-result
-invariant_of-result c =
+pub new-requires : goal.new-requires
+new-requires c =
     let told = some_told c.in_ok-read.read _ _ c.in-Some.lines c.in-Some.is c.in_ok-read.ensures in
     (equations_of c.args.station.now c.args.bytes.now c.in-Some.lines.parts.items c.in-Some.lines.ops.items
     c.in-Some.lines.nodes.items told (c.are_there.ensures.0 c.if-not-are_there.false)).whole
@@ -35,12 +35,12 @@ invariant_of-result c =
 pub returns-clause-ok : goal.returns-clause-ok
 returns-clause-ok c =
     let told = some_told c.in_ok-read.read _ _ c.in-Some.lines c.in-Some.is c.in_ok-read.ensures in
-    record {
+    subst (λ (e : EquationLines). IsTextOf c.args.station.now c.args.bytes.now e) (sym c.new.ensures) (record {
       are =
           equations_of c.args.station.now c.args.bytes.now c.in-Some.lines.parts.items c.in-Some.lines.ops.items
           c.in-Some.lines.nodes.items told (c.are_there.ensures.0 c.if-not-are_there.false);
       is = told.is;
-    }
+    })
 
 pub returns-in_default-clause-none : goal.returns-in_default-clause-none
 returns-in_default-clause-none c =

@@ -1,6 +1,6 @@
 use Rattle.std.proofs.Common.{◌≡◌, ◌∙◌, List, ℕ, map, length, ap, subst}
 use Rattle.bay_contract.specs.declared.fork.Target.{Target}
-use Rattle.equation_text.specs.EquationLines.{PartLines, goal_count}
+use Rattle.station_equations.specs.EquationLines.{PartLines, goal_count}
 use Rattle.equation_text.specs.Reading.{MayBeStarts, MayBeOps, MayBeNodes, AreAllSteps}
 use Rattle.equation_text.specs.Stops.{StopsAtStart, StopsAtOps, StopsAtNode}
 use Rattle.equation_text.proofs.WordLemmas.{none_told, some_told}

@@ -1,5 +1,5 @@
 use Rattle.std.proofs.Common.{arith}
-use Rattle.equation_text.specs.EquationText.{op_line}
+use Rattle.station_equations.specs.EquationText.{op_line}
 use Rattle.equation_text.proofs.WordLemmas.{not_cut, cut_said}
 use Rattle.equation_text.proofs.OnceLemmas.{op_lacks}
 use Rattle.equation_text.proofs.reading.next_op.Goals as goal

@@ -1,5 +1,5 @@
 use Rattle.std.proofs.Common.{arith}
-use Rattle.equation_text.specs.EquationText.{step_line}
+use Rattle.station_equations.specs.EquationText.{step_line}
 use Rattle.equation_text.proofs.WordLemmas.{not_cut, cut_said}
 use Rattle.equation_text.proofs.StepFits.{may_lacks}
 use Rattle.equation_text.proofs.reading.next_step.Goals as goal

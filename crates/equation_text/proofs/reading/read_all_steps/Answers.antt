@@ -1,7 +1,7 @@
 use Rattle.std.proofs.Common.{◌≡◌, ◌∙◌, ◌+◌, [], ◌∷◌, ◌++◌, take, length, ap, add-one}
 use Rattle.std.proofs.lemmas.List.{length_push}
-use Rattle.equation_text.specs.EquationLines.{PartLines}
-use Rattle.equation_text.proofs.TextLemmas.{take-next}
+use Rattle.station_equations.specs.EquationLines.{PartLines}
+use Rattle.station_equations.proofs.TextLemmas.{take-next}
 use Rattle.equation_text.proofs.ReadLoops.{all_steps_push}
 use Rattle.equation_text.proofs.reading.read_all_steps.Goals as goal
 

@@ -1,7 +1,7 @@
 use Rattle.std.proofs.Common.{◌∙◌, ◌++◌, ◌∷◌, List, ℕ, length, sym, ap, arith}
 use Rattle.std.proofs.lemmas.List.{length_push}
-use Rattle.equation_text.specs.EquationLines.{NodeLine}
-use Rattle.equation_text.specs.EquationText.{node_line}
+use Rattle.station_equations.specs.EquationLines.{NodeLine}
+use Rattle.station_equations.specs.EquationText.{node_line}
 use Rattle.equation_text.proofs.WordLemmas.{not_cut, cut_said, none_told, some_told}
 use Rattle.equation_text.proofs.OnceLemmas.{node_lacks}
 use Rattle.equation_text.proofs.ReadLoops.{node_unread, nodes_push, line_next, writable}

@@ -1,8 +1,8 @@
 use Rattle.std.proofs.Common.{◌≡◌, ◌<◌, ◌++◌, ℕ, length, Some}
 use Rattle.std.specs.Prelude.{slice_get}
-use Rattle.equation_text.specs.declared.goal.TheConstants.{NUMBERS}
-use Rattle.equation_text.specs.EquationText.{text_of}
-use Rattle.equation_text.specs.EquationLines.{NodeLine}
+use Rattle.station_equations.specs.declared.goal.TheConstants.{NUMBERS}
+use Rattle.station_equations.specs.EquationText.{text_of}
+use Rattle.station_equations.specs.EquationLines.{NodeLine}
 use Rattle.equation_text.specs.Beginnings.{MayBeNode}
 use Rattle.equation_text.specs.Reading.{node_lines}
 use Rattle.equation_text.proofs.reading.read_nodes.Given as goal

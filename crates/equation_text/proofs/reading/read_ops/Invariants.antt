@@ -1,5 +1,5 @@
 use Rattle.std.proofs.Common.{◌≡◌, ◌++◌}
-use Rattle.equation_text.specs.EquationText.{text_of}
+use Rattle.station_equations.specs.EquationText.{text_of}
 use Rattle.equation_text.specs.Reading.{op_lines, MayBeOps}
 use Rattle.equation_text.proofs.reading.read_ops.Given as goal
 

@@ -1,6 +1,6 @@
 use Rattle.std.proofs.Common.{◌∙◌, ◌<◌, ◌++◌, ◌∷◌, List, ℕ, length, refl, ap, arith}
-use Rattle.equation_text.specs.declared.goal.TheConstants.{NUMBERS}
-use Rattle.equation_text.specs.EquationText.{part_line}
+use Rattle.station_equations.specs.declared.goal.TheConstants.{NUMBERS}
+use Rattle.station_equations.specs.EquationText.{part_line}
 use Rattle.equation_text.proofs.WordLemmas.{not_cut, cut_said}
 use Rattle.equation_text.proofs.OnceLemmas.{part_lacks}
 use Rattle.equation_text.proofs.ReadLoops.{starts_push, part_of, line_next}

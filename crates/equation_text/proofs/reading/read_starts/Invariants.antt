@@ -1,5 +1,5 @@
 use Rattle.std.proofs.Common.{◌≡◌, ◌++◌}
-use Rattle.equation_text.specs.EquationText.{text_of}
+use Rattle.station_equations.specs.EquationText.{text_of}
 use Rattle.equation_text.specs.Reading.{start_lines, MayBeStarts}
 use Rattle.equation_text.proofs.reading.read_starts.Given as goal
 

@@ -1,6 +1,6 @@
 use Rattle.std.proofs.Common.{◌∙◌, ◌+◌, length, ap}
 use Rattle.std.proofs.lemmas.List.{length_push}
-use Rattle.equation_text.specs.EquationText.{step_line}
+use Rattle.station_equations.specs.EquationText.{step_line}
 use Rattle.equation_text.proofs.ReadLoops.{line_next, steps_push}
 use Rattle.equation_text.proofs.reading.read_steps.Goals as goal
 

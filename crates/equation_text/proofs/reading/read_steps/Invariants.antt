@@ -1,6 +1,6 @@
 use Rattle.std.proofs.Common.{◌≡◌, ◌++◌, ℕ, length, Some}
 use Rattle.std.specs.Prelude.{slice_get}
-use Rattle.equation_text.specs.EquationText.{text_of}
+use Rattle.station_equations.specs.EquationText.{text_of}
 use Rattle.bay_contract.specs.declared.fork.PartStep.{PartStep}
 use Rattle.equation_text.specs.Beginnings.{MayBeStep}
 use Rattle.equation_text.specs.Reading.{step_lines}

@@ -1,12 +1,12 @@
 use Rattle.std.proofs.Common.{◌≡◌, ◌≤◌, length}
 use Rattle.bay_protocol.specs.Fits.{IsNode, FitsHeard}
 use Rattle.node_session.specs.declared.reader.TheConstants.{CHUNK}
-use Rattle.node_session.specs.Progress.{Stands}
+use Rattle.node_session.specs.Progress.{HasServed}
 use Rattle.node_session.proofs.session.run.Given as goal
 
 abbrev pub invariant-loop-count : goal.invariant-loop-count
 invariant-loop-count g l = record {
-  stands : Stands (g.J.Judge.meaning l.judge) l.station l.bay.0
+  stands : HasServed (g.J.Judge.meaning l.judge) l.station l.bay.0
       (record {
         input = g.I.Source.left l.fn.input;
         reads = g.I.Source.faults l.fn.input;

@@ -1,5 +1,5 @@
 use Rattle.std.proofs.Common.{◌+◌, ℕ, List, Option, sym, subst}
-use Rattle.release_compile.specs.Lettered.{lettered}
+use Rattle.judge_pool.specs.Lettered.{lettered}
 use Rattle.release_compile.specs.Possible.{ArePossible}
 use Rattle.release_compile.proofs.PossibleLemmas.{possible_none, possible_more}
 use Rattle.release_compile.proofs.all_words.possible_by.Goals as goal

@@ -1,4 +1,4 @@
-use Rattle.release_compile.specs.Lettered.{lettered}
+use Rattle.judge_pool.specs.Lettered.{lettered}
 use Rattle.release_compile.specs.Possible.{ArePossible}
 use Rattle.release_compile.proofs.all_words.possible_by.Given as goal
 

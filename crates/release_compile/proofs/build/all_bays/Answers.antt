@@ -1,12 +1,12 @@
 use Rattle.std.proofs.Common.{◌≡◌, ◌+◌, ◌-◌, Option, ◌++◌, ◌∷◌, [], List, map, refl, sym, ap, ◌∙◌, subst, arith}
 use Rattle.std.proofs.lemmas.List.{map-append}
-use Rattle.release_compile.specs.Lettered.{Lettered, lettered}
-use Rattle.release_compile.specs.Built.{BayOf, AreBays}
-use Rattle.release_compile.specs.BuiltView.{seen_part}
-use Rattle.release_compile.proofs.BayLemmas.{bays_none, bays_more}
-use Rattle.release_compile.specs.Telling.{HaveTold}
-use Rattle.release_compile.proofs.TellingLemmas.{told_more}
-use Rattle.release_compile.proofs.BayEdges.{keep_more, first_wide}
+use Rattle.judge_pool.specs.Lettered.{Lettered, lettered}
+use Rattle.judge_graphs.specs.Built.{BayOf, AreBays}
+use Rattle.judge_graphs.specs.BuiltView.{seen_part}
+use Rattle.judge_graphs.proofs.BayLemmas.{bays_none, bays_more}
+use Rattle.judge_graphs.specs.Telling.{HaveTold}
+use Rattle.judge_graphs.proofs.TellingLemmas.{told_more}
+use Rattle.release_compile.proofs.WideLemmas.{keep_more, first_wide}
 use Rattle.release_compile.proofs.build.all_bays.Goals as goal
 
 pub loop-part-init : goal.loop-part-init

@@ -1,13 +1,13 @@
 use Rattle.std.proofs.Common.{◌≤◌, map}
-use Rattle.release_compile.specs.Lettered.{lettered}
-use Rattle.release_compile.specs.Built.{AreBays}
+use Rattle.judge_pool.specs.Lettered.{lettered}
+use Rattle.judge_graphs.specs.Built.{AreBays}
 use Rattle.release_compile.specs.Judging.{KeepEdges}
-use Rattle.release_compile.specs.BuiltView.{seen_part}
-use Rattle.release_compile.specs.Stocking.{IsStock}
-use Rattle.release_compile.specs.Telling.{HaveTold}
-use Rattle.release_compile.specs.declared.view.View.TheVariants.{Gap, Load}
+use Rattle.judge_graphs.specs.BuiltView.{seen_part}
+use Rattle.judge_graphs.specs.Stocking.{IsStock}
+use Rattle.judge_graphs.specs.Telling.{HaveTold}
+use Rattle.judge_pool.specs.declared.view.View.TheVariants.{Gap, Load}
 use Rattle.release_compile.proofs.build.all_bays.Given as goal
-use Rattle.release_compile.specs.declared.limits.TheConstants.{ALL_EDGES}
+use Rattle.judge_pool.specs.declared.limits.TheConstants.{ALL_EDGES}
 
 abbrev pub invariant-loop-part : goal.invariant-loop-part
 invariant-loop-part l = record {

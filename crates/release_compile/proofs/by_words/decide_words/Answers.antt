@@ -1,9 +1,9 @@
 use Rattle.std.proofs.Common.{Bool, List, Some, arith}
 use Rattle.central_rules.specs.Readings.{IsReading}
-use Rattle.release_compile.specs.Lettered.{Lettered, AreLettered, lettered}
-use Rattle.release_compile.specs.Graphs.{other_of}
+use Rattle.judge_pool.specs.Lettered.{Lettered, AreLettered, lettered}
+use Rattle.judge_pool.specs.Graphs.{other_of}
 use Rattle.release_compile.specs.Deciding.{WithinAll}
-use Rattle.release_compile.proofs.VerdictLemmas.{other_in}
+use Rattle.judge_intake.proofs.OtherLemmas.{other_in}
 use Rattle.release_compile.proofs.HeardLemmas.{set_layer}
 use Rattle.release_compile.proofs.PossibleLemmas.{holds_of}
 use Rattle.release_compile.proofs.KnownLemmas.{decides_over, within_reading, reading_within}

@@ -1,8 +1,8 @@
 use Rattle.std.proofs.Common.{subst, arith}
-use Rattle.release_compile.specs.declared.view.View.TheVariants.{Gap, Load}
+use Rattle.judge_pool.specs.declared.view.View.TheVariants.{Gap, Load}
 use Rattle.decision_graphs.specs.Label.{Layered}
 use Rattle.decision_graphs.specs.Reaching.{AreSetsOf}
-use Rattle.release_compile.specs.Lettered.{lettered}
+use Rattle.judge_pool.specs.Lettered.{lettered}
 use Rattle.release_compile.proofs.HeardLemmas.{other_sets}
 use Rattle.release_compile.proofs.by_words.reach_words.Goals as goal
 

@@ -1,7 +1,7 @@
 use Rattle.std.proofs.Common.{Bool, List, refl, ◌∙◌}
 use Rattle.std.proofs.lemmas.Option.{MatchOption-at_some, MatchOption-at_none, IfSome_then}
 use Rattle.release_compile.specs.declared.search.Found.{Found}
-use Rattle.release_compile.specs.Lettered.{Lettered, lettered}
+use Rattle.judge_pool.specs.Lettered.{Lettered, lettered}
 use Rattle.release_compile.specs.Chaining.{GapFree, NoneLeadsTo, IsFound}
 use Rattle.release_compile.proofs.VerdictLemmas.{allowed_length, allowed_at, released, denied}
 use Rattle.release_compile.proofs.DecideLemmas.{found_small, found_within}

@@ -3,8 +3,8 @@ use Rattle.std.proofs.lemmas.Option.{same_Some, IfSome_then}
 use Rattle.ilk_base.specs.declared.words.Dbpos.{Dbpos}
 use Rattle.double_points.specs.Words.{Agrees}
 use Rattle.std.proofs.Math.ListN.{length-replicate}
-use Rattle.release_compile.specs.Lettered.{lettered}
-use Rattle.release_compile.specs.Graphs.{GivesChoices}
+use Rattle.judge_pool.specs.Lettered.{lettered}
+use Rattle.release_compile.specs.Allowed.{GivesChoices}
 use Rattle.release_compile.specs.Deciding.{OthersAgree}
 use Rattle.release_compile.proofs.DecideLemmas.{gives, agree_after, moved_agrees}
 use Rattle.release_compile.proofs.decide.vector_of.Goals as goal

@@ -1,8 +1,8 @@
 use Rattle.std.proofs.Common.{◌≡◌, ℕ, Bool, List, None, ap, subst}
 use Rattle.ilk_base.specs.declared.words.BayId.{BayId}
 use Rattle.central_rules.specs.Readings.{Decides}
-use Rattle.release_compile.specs.Lettered.{Lettered, lettered}
-use Rattle.release_compile.specs.Graphs.{Within}
+use Rattle.judge_pool.specs.Lettered.{Lettered, lettered}
+use Rattle.release_compile.specs.Allowed.{Within}
 use Rattle.release_compile.specs.Deciding.{WithinAll}
 use Rattle.release_compile.proofs.KnownLemmas.{decides_over, decides_known}
 use Rattle.release_compile.proofs.heard.judge_heard.Goals as goal

@@ -1,8 +1,8 @@
 use Rattle.std.proofs.Common.{inl, inr, subst, arith}
-use Rattle.release_compile.specs.declared.view.View.TheVariants.{Gap, Load}
+use Rattle.judge_pool.specs.declared.view.View.TheVariants.{Gap, Load}
 use Rattle.decision_graphs.specs.Label.{Layered}
 use Rattle.decision_graphs.specs.Reaching.{AreSetsOf}
-use Rattle.release_compile.specs.Lettered.{lettered}
+use Rattle.judge_pool.specs.Lettered.{lettered}
 use Rattle.release_compile.proofs.HeardLemmas.{other_sets}
 use Rattle.release_compile.proofs.heard.reach_heard.Goals as goal
 

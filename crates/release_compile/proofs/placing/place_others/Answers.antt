@@ -3,11 +3,11 @@ use Rattle.std.proofs.lemmas.Option.{slice_get-get_or, IfSome_then}
 use Rattle.station_graph.specs.Diagram.{part_count}
 use Rattle.station_graph.specs.Alike.{DifferInPart}
 use Rattle.bay_contract.specs.PartAlphabets.{Alphabets, size_of, StandsAt}
-use Rattle.release_compile.specs.Lettered.{lettered}
-use Rattle.release_compile.specs.Graphs.{other_of, PartChosen}
+use Rattle.judge_pool.specs.Lettered.{lettered}
+use Rattle.judge_pool.specs.Graphs.{other_of, PartChosen}
 use Rattle.release_compile.specs.Possible.{SetHolds}
 use Rattle.release_compile.specs.Deciding.{IsPlaceFor}
-use Rattle.release_compile.proofs.VerdictLemmas.{other_in}
+use Rattle.judge_intake.proofs.OtherLemmas.{other_in}
 use Rattle.release_compile.proofs.PlacingLemmas.{below_none, below_all, parts_more, none_agree, all_agree_more}
 use Rattle.release_compile.proofs.placing.place_others.Goals as goal
 

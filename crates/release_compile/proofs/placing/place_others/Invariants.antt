@@ -1,6 +1,6 @@
 use Rattle.std.proofs.Common.{◌≡◌, IfSome, length}
-use Rattle.release_compile.specs.Lettered.{lettered}
-use Rattle.release_compile.specs.Graphs.{PartChosen}
+use Rattle.judge_pool.specs.Lettered.{lettered}
+use Rattle.judge_pool.specs.Graphs.{PartChosen}
 use Rattle.release_compile.specs.Deciding.{OthersAgree}
 use Rattle.release_compile.proofs.PlacingLemmas.{ChosenBelow}
 use Rattle.release_compile.proofs.placing.place_others.Given as goal

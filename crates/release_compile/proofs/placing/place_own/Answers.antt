@@ -1,9 +1,9 @@
 use Rattle.std.proofs.Common.{◌≡◌, ◌≢◌, ◌+◌, ◌<◌, length, drop, eqb, slice_get, slice_set, refl, sym, ap, ◌∙◌, subst}
 use Rattle.std.proofs.Common.{inl, inr, arith, length-set}
 use Rattle.station_graph.proofs.PositionLemmas.{slice_get-set_other}
-use Rattle.release_compile.specs.Graphs.{other_of, SwitchChosen}
-use Rattle.release_compile.proofs.VerdictLemmas.{other_in, length_after}
-use Rattle.release_compile.proofs.PlacingLemmas.{ChosenBelow, below_none, below_all, own_more, switch_not, choice_at}
+use Rattle.judge_pool.specs.Graphs.{other_of, SwitchChosen}
+use Rattle.judge_intake.proofs.OtherLemmas.{other_in, length_after, switch_not}
+use Rattle.release_compile.proofs.PlacingLemmas.{ChosenBelow, below_none, below_all, own_more, choice_at}
 use Rattle.release_compile.proofs.placing.place_own.Goals as goal
 
 pub loop-i-init : goal.loop-i-init

@@ -5,8 +5,8 @@ use Rattle.std.proofs.lemmas.Bool.{cases_lt}
 use Rattle.ilk_base.specs.declared.words.Dbpos.{Dbpos}
 use Rattle.double_points.specs.Words.{Agrees}
 use Rattle.decision_graphs.specs.Reaching.{IsSet, set_at}
-use Rattle.release_compile.specs.Graphs.{other_of}
-use Rattle.release_compile.proofs.VerdictLemmas.{other_in}
+use Rattle.judge_pool.specs.Graphs.{other_of}
+use Rattle.judge_intake.proofs.OtherLemmas.{other_in}
 use Rattle.release_compile.proofs.SetsLemmas.{own_done}
 use Rattle.release_compile.proofs.sets.allow_own.Goals as goal
 

@@ -4,7 +4,7 @@ use Rattle.ilk_base.specs.declared.words.Dbpos.{Dbpos}
 use Rattle.double_points.specs.Words.{Agrees}
 use Rattle.decision_graphs.specs.Label.{Layer}
 use Rattle.decision_graphs.specs.Reaching.{AreSetsOf, IsSet, set_at}
-use Rattle.release_compile.specs.Graphs.{other_of}
+use Rattle.judge_pool.specs.Graphs.{other_of}
 use Rattle.release_compile.proofs.sets.allow_own.Given as goal
 
 abbrev pub invariant-loop-i : goal.invariant-loop-i

@@ -1,10 +1,11 @@
 use Rattle.std.proofs.Common.{◌≡◌, ◌<◌, inl, inr, List, Bool, slice_get, length, sym, ap, ◌∙◌, subst, arith}
 use Rattle.bay_contract.specs.PartAlphabets.{size_of}
-use Rattle.release_compile.specs.Lettered.{lettered, index_count}
-use Rattle.release_compile.specs.Graphs.{other_of}
+use Rattle.judge_pool.specs.Lettered.{lettered, index_count}
+use Rattle.judge_pool.specs.Graphs.{other_of}
 use Rattle.release_compile.specs.Summaries.{HeardAllows}
-use Rattle.release_compile.proofs.VerdictLemmas.{other_in, sets_at, length_sets}
-use Rattle.release_compile.proofs.OuterLemmas.{other_not}
+use Rattle.judge_intake.proofs.OtherLemmas.{other_in}
+use Rattle.release_compile.proofs.VerdictLemmas.{sets_at, length_sets}
+use Rattle.judge_intake.proofs.OuterLemmas.{other_not}
 use Rattle.release_compile.proofs.SetsLemmas.{filled_none, filled_more}
 use Rattle.release_compile.proofs.sets.heard_sets.Goals as goal
 

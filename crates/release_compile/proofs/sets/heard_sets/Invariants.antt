@@ -1,7 +1,7 @@
 use Rattle.std.proofs.Common.{◌<◌, slice_get}
 use Rattle.decision_graphs.specs.Reaching.{AreSetsOf}
-use Rattle.release_compile.specs.Lettered.{lettered, index_count}
-use Rattle.release_compile.specs.Graphs.{other_of}
+use Rattle.judge_pool.specs.Lettered.{lettered, index_count}
+use Rattle.judge_pool.specs.Graphs.{other_of}
 use Rattle.release_compile.specs.Summaries.{HeardAllows}
 use Rattle.release_compile.proofs.SetsLemmas.{FilledBelow}
 use Rattle.release_compile.proofs.sets.heard_sets.Given as goal

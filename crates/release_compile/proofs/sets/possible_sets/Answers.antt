@@ -2,8 +2,9 @@ use Rattle.std.proofs.Common.{◌≡◌, ◌<◌, ℕ, List, Bool, Option, Some,
 use Rattle.std.proofs.lemmas.Option.{slice_get-get_or}
 use Rattle.bay_contract.specs.PartAlphabets.{size_of}
 use Rattle.bay_contract.specs.Alphabets.{CanHave}
-use Rattle.release_compile.specs.Graphs.{other_of}
-use Rattle.release_compile.proofs.VerdictLemmas.{other_in, sets_at}
+use Rattle.judge_pool.specs.Graphs.{other_of}
+use Rattle.judge_intake.proofs.OtherLemmas.{other_in}
+use Rattle.release_compile.proofs.VerdictLemmas.{sets_at}
 use Rattle.release_compile.proofs.SetsLemmas.{filled_none, filled_more}
 use Rattle.release_compile.proofs.sets.possible_sets.Goals as goal
 

@@ -1,6 +1,6 @@
 use Rattle.decision_graphs.specs.Reaching.{AreSetsOf}
 use Rattle.bay_contract.specs.Alphabets.{CanHave}
-use Rattle.release_compile.specs.Graphs.{other_of}
+use Rattle.judge_pool.specs.Graphs.{other_of}
 use Rattle.release_compile.proofs.SetsLemmas.{FilledBelow}
 use Rattle.release_compile.proofs.sets.possible_sets.Given as goal
 

@@ -1,7 +1,7 @@
 use Rattle.std.proofs.Common.{subst, arith}
-use Rattle.release_compile.specs.declared.view.View.TheVariants.{Gap, Load}
-use Rattle.release_compile.specs.Built.{AreViewGraphs}
-use Rattle.release_compile.specs.BuiltView.{view_of}
+use Rattle.judge_pool.specs.declared.view.View.TheVariants.{Gap, Load}
+use Rattle.judge_graphs.specs.Built.{AreViewGraphs}
+use Rattle.judge_graphs.specs.BuiltView.{view_of}
 use Rattle.release_compile.proofs.HeardLemmas.{own_number, own_is}
 use Rattle.release_compile.proofs.sides.place_of.Goals as goal
 

@@ -1,7 +1,7 @@
 use Rattle.std.proofs.Common.{ap, ◌∙◌}
 use Rattle.decision_graphs.specs.Label.{Layered}
-use Rattle.release_compile.specs.Lettered.{Lettered, lettered}
-use Rattle.release_compile.specs.BuiltView.{view_of}
+use Rattle.judge_pool.specs.Lettered.{Lettered, lettered}
+use Rattle.judge_graphs.specs.BuiltView.{view_of}
 use Rattle.release_compile.proofs.HeardLemmas.{inner_at, in_a_row, side_is}
 use Rattle.release_compile.proofs.sides.view_side.Goals as goal
 

@@ -4,8 +4,8 @@ use Rattle.station_graph.specs.Diagram.{Diagram, part_count}
 use Rattle.bay_contract.specs.PartAlphabets.{Alphabets}
 use Rattle.central_rules.specs.Meaning.{IsBay}
 use Rattle.release_compile.specs.declared.reached.Reached.{Reached}
-use Rattle.release_compile.specs.Lettered.{lettered}
-use Rattle.release_compile.specs.Built.{BayOf}
+use Rattle.judge_pool.specs.Lettered.{lettered}
+use Rattle.judge_graphs.specs.Built.{BayOf}
 use Rattle.release_compile.specs.Chaining.{HasReached}
 use Rattle.release_compile.specs.Summaries.{ArePossibleSets}
 use Rattle.release_compile.specs.Reaches.{IsReachOf}

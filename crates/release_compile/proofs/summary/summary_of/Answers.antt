@@ -1,5 +1,5 @@
 use Rattle.std.proofs.Common.{◌∙◌, arith}
-use Rattle.release_compile.specs.Lettered.{lettered}
+use Rattle.judge_pool.specs.Lettered.{lettered}
 use Rattle.release_compile.proofs.SummaryLemmas.{summarises}
 use Rattle.release_compile.proofs.summary.summary_of.Goals as goal
 

@@ -38,5 +38,5 @@ returns-in-None-clause-stands c =
     (λ z is v at. stands_over (Only (a_switch i)) (Among (a_switch i ∷ [])) d v z
     (λ item has. among_one (a_switch i) item)
     (switch_single_stands d v i x c.args.closed c.switch-switch.ensures.value at c.acts_as-feeds.result
-    c.acts_as-earths.result z c.in-None.is c.acts_as-feeds.ensures c.acts_as-earths.ensures is))
+    c.acts_as-earths.result z c.acts_as-feeds.ensures c.acts_as-earths.ensures is))
     c.single.ensures.single

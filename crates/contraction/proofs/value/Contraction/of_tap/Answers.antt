@@ -14,7 +14,7 @@ returns-clause-stands c =
     let n = c.tap.result.node.0 in
     IfOk-weaker c.single.result _ _
     (λ z is v. stands_over (Only (a_tap i)) (Among (a_tap i ∷ [])) d v z (λ item has. among_one (a_tap i) item)
-    (single_stands d (a_tap i) v n (λ bonds_only u x y h. h) false false false true z is
+    (single_stands d (a_tap i) v n false false false true z is
     (λ m at. absurd (cc (at.among)))
     (λ e. absurd (elim e [ inl on ↦ cc | inr on ↦ cc ]))
     (λ m at. absurd (cc (at.among)))

@@ -1,10 +1,10 @@
 use Rattle.std.proofs.Common.{map, sym, ap, subst}
 use Rattle.station_graph.specs.Diagram.{part_count}
-use Rattle.release_compile.specs.Built.{BayOf, AreBayGraphs}
-use Rattle.release_compile.specs.BuiltView.{seen_part}
+use Rattle.judge_graphs.specs.Built.{BayOf, AreBayGraphs}
+use Rattle.judge_graphs.specs.BuiltView.{seen_part}
 use Rattle.release_compile.specs.Judging.{ground, or_no_bay}
 use Rattle.release_compile.specs.JudgingInside.{judging_of}
-use Rattle.release_compile.proofs.BayLemmas.{bay_listed, raw_bay}
+use Rattle.judge_graphs.proofs.BayLemmas.{bay_listed, raw_bay}
 use Rattle.release_compile.proofs.build.GraphJudge.bay.Goals as goal
 
 pub graphs_at-requires : goal.graphs_at-requires

@@ -2,7 +2,7 @@ use Rattle.std.proofs.Common.{sym, ap, ◌∙◌, subst, ◌≡◌}
 use Rattle.station_graph.specs.Diagram.{Diagram}
 use Rattle.central_rules.specs.Meaning.{bay_of}
 use Rattle.bay_contract.specs.PartAlphabets.{Alphabets}
-use Rattle.release_compile.specs.Lettered.{lettered}
+use Rattle.judge_pool.specs.Lettered.{lettered}
 use Rattle.release_compile.specs.Judging.{ground}
 use Rattle.release_compile.specs.Summaries.{BayTells}
 use Rattle.release_compile.proofs.judge.GraphJudgeJudge.judge.Goals as goal

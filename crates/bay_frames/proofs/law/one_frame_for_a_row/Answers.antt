@@ -1,5 +1,0 @@
-use Rattle.bay_frames.proofs.Rows.{one_frame}
-use Rattle.bay_frames.proofs.law.one_frame_for_a_row.Goals as goal
-
-pub returns : goal.returns
-returns c f g hf hg e = one_frame f g hf hg e

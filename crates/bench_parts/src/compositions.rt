@@ -1,0 +1,77 @@
+//! Compositions of two contractions, which keep the same nodes where the drawing is made so.
+use anyhow::Result;
+use contraction::Contraction;
+use ilk_base::SwitchId;
+use station_graph::{NodeList, Station};
+use std::alloc::Global;
+use std::time::Instant;
+
+// The contraction of no item, on no node.
+fn nothing(alloc: Global) -> Result<Contraction> {
+    Ok(Contraction::empty(alloc, &NodeList::new(alloc))?)
+}
+
+// All switches of every second part, from this one on, closed.
+fn switches(alloc: Global, station: &Station, first: u8) -> Result<Contraction> {
+    let mut all = nothing(alloc)?;
+    for i in 0..station.switch_count() {
+        if station.switch(SwitchId(i)).bay.0 % 2 == first {
+            let one = Contraction::of_switch(alloc, station, SwitchId(i), true)?;
+            all = all.compose(alloc, &one)?;
+        }
+    }
+    Ok(all)
+}
+
+// All taps.
+fn taps(alloc: Global, station: &Station) -> Result<Contraction> {
+    let mut all = nothing(alloc)?;
+    for i in 0..station.tap_count() {
+        let one = Contraction::of_tap(alloc, station, i)?;
+        all = all.compose(alloc, &one)?;
+    }
+    Ok(all)
+}
+
+// Composes so often, and gives the last composition.
+fn compose_often(
+    alloc: Global,
+    first: &Contraction,
+    second: &Contraction,
+    calls: u32,
+) -> Result<Contraction> {
+    let mut last = first.compose(alloc, second)?;
+    for _ in 1..calls {
+        last = first.compose(alloc, second)?;
+    }
+    Ok(last)
+}
+
+// Composes two values, and prints how many bytes the row of the composition has.
+fn measure_pair(
+    rt: &HostRuntime,
+    name: &str,
+    first: &Contraction,
+    second: &Contraction,
+    calls: u32,
+    timed: bool,
+) -> Result<()> {
+    let start = Instant::now(rt)?;
+    let last = compose_often(rt.alloc(), first, second, calls)?;
+    let spent = start.elapsed(rt)?.as_nanos();
+    let row = last.row(rt.alloc())?;
+    println!(rt; "{name}: {} bytes", row.bytes().len())?;
+    if timed {
+        println!(rt; "{name}: {spent} ns in all")?;
+    }
+    Ok(())
+}
+
+/// Composes the closed switches of every second part with those of the others, and the taps with themselves.
+pub fn measure(rt: &HostRuntime, station: &Station, calls: u32, timed: bool) -> Result<()> {
+    let first = switches(rt.alloc(), station, 0)?;
+    let second = switches(rt.alloc(), station, 1)?;
+    measure_pair(rt, "joined", &first, &second, calls, timed)?;
+    let alone = taps(rt.alloc(), station)?;
+    measure_pair(rt, "alone", &alone, &alone, calls, timed)
+}

@@ -1,6 +1,0 @@
-use Rattle.std.proofs.Common.{take}
-use Rattle.equation_audit.specs.BlockLines.{HasBlock}
-use Rattle.equation_audit.proofs.reading.has_block.Given as goal
-
-abbrev pub invariant-loop-block : goal.invariant-loop-block
-invariant-loop-block l = ¬ HasBlock (take l.block-index l.blocks) l.op

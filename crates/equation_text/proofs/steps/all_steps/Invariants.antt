@@ -1,5 +1,0 @@
-use Rattle.equation_text.specs.Compiling.{ArePartsOf}
-use Rattle.equation_text.proofs.steps.all_steps.Given as goal
-
-abbrev pub invariant-loop-part : goal.invariant-loop-part
-invariant-loop-part l = ArePartsOf l.parts l.part l.lines.items

@@ -1,6 +1,0 @@
-use Rattle.std.proofs.Common.{◌≡◌, ◌++◌, take, drop, map}
-use Rattle.equation_text.specs.Growing.{turned_goals}
-use Rattle.equation_text.proofs.turning.turn_ops.Given as goal
-
-abbrev pub invariant-loop-i : goal.invariant-loop-i
-invariant-loop-i l = l.ops ≡ map (turned_goals l.total) (take l.i l.fn.ops) ++ drop l.i l.fn.ops

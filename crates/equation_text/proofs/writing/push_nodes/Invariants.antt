@@ -1,6 +1,0 @@
-use Rattle.std.proofs.Common.{◌≡◌, ◌++◌, ◌∷◌, [], take}
-use Rattle.equation_text.specs.EquationText.{node_line, numbered, text_of}
-use Rattle.equation_text.proofs.writing.push_nodes.Given as goal
-
-abbrev pub invariant-loop-i : goal.invariant-loop-i
-invariant-loop-i l = l.text ≡ l.fn.text ++ text_of (numbered (λ n x. node_line n x ∷ []) (take l.i l.nodes))

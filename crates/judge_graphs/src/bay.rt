@@ -1,0 +1,309 @@
+//! The graphs of the bays.
+ghost use Rattle.std.specs.Prelude.{◌≡◌, ◌+◌, ◌<◌, ◌≤◌, ◌↔◌, ℕ, suc, length, map, IfOk, IfErr, OnOk};
+ghost use Rattle.std.specs.Prelude.{Contains};
+ghost use Rattle.station_graph.specs.Diagram.{part_count, AreSwitchesOf};
+ghost use Rattle.contraction.specs.Answers.{AreNodes};
+ghost use Rattle.contraction.specs.Renaming.{mapped};
+ghost use Rattle.bay_contract.specs.PartAlphabets.{Alphabets};
+ghost use Rattle.bay_contract.specs.Alphabets.{AreAlphabets};
+ghost use Rattle.judge_pool.specs.Lettered.{lettered};
+ghost use Rattle.judge_pool.specs.Pooling.{IsPool, GrewTo};
+ghost use Rattle.judge_pool.specs.Layering.{values_at};
+ghost use Rattle.judge_intake.specs.SharedNodes.{IsSharing};
+ghost use Rattle.judge_pool.specs.Needing.{BayNeeds};
+ghost use Rattle.judge_intake.specs.Inputs.{AreNames, IsBayIntake};
+ghost use Rattle.judge_pool.specs.Places.{node_listed, pool_on};
+ghost use Rattle.judge_graphs.specs.Built.{AreInner, AreViewGraphs, AreBayGraphs};
+ghost use Rattle.judge_pool.specs.Counted.{SwitchesHave, ViewHas, BayHas, Spends, Passes};
+ghost use Rattle.judge_graphs.specs.Stocking.{IsStock};
+ghost use Rattle.judge_graphs.specs.Labelling.{AreInnerNotes};
+ghost use Rattle.judge_graphs.specs.Telling.{IsToldBy, HaveTold};
+ghost use Rattle.judge_pool.specs.declared.view.View.TheVariants.{Gap, Load};
+ghost use Rattle.judge_pool.specs.declared.layer.Trouble.TheVariants.{Wide};
+ghost use Rattle.judge_graphs.specs.BuiltView.{view_of, seen_bay};
+ghost use Rattle.judge_pool.specs.declared.limits.TheConstants.{BAY_EDGES};
+
+use crate::inner::inner_graph;
+use crate::labelled::InnerNotes;
+use crate::outer::outer_graph;
+use crate::partners::told_like;
+use crate::stock::Stock;
+use bay_contract::Parts;
+use decision_graphs::Graph;
+use ilk_base::BayId;
+use judge_intake::{BayIntake, Sharing, bay_intake, bay_nodes};
+use judge_pool::{Pool, Trouble, View};
+use station_graph::{NodeList, Station};
+use std::alloc::Global;
+use std::rc::Rc;
+
+/// The graphs of one view of a bay.
+#[derive(Drop)]
+pub struct ViewGraphs {
+    /// the outer one, which bays that look the same hold together
+    pub outer: Rc<Graph>,
+    /// an inner one for each of its switches
+    pub inner: Vec<Graph>,
+}
+
+/// The graphs of a bay.
+#[derive(Drop)]
+pub struct BayGraphs {
+    /// its first switch
+    pub first: u16,
+    /// how many switches it has
+    pub count: u16,
+    /// the graphs of the gap view
+    pub gap: ViewGraphs,
+    /// the graphs of the load view
+    pub load: ViewGraphs,
+    /// for each other part, in document order, whether it is a partner
+    pub told: Vec<bool>,
+}
+
+// Inner graphs, and how many edges are left of those that may be made.
+#[derive(Drop)]
+struct Inners {
+    graphs: Vec<Graph>,
+    left: usize,
+}
+
+// The graphs of one view, and how many edges are left.
+#[derive(Drop)]
+struct Viewed {
+    graphs: ViewGraphs,
+    left: usize,
+}
+
+/// The graphs of a bay that were just made.
+#[derive(Drop)]
+pub struct Bay {
+    /// the graphs
+    pub graphs: BayGraphs,
+    /// how many edges are left of those that may be made
+    pub left: usize,
+}
+
+// The inner graphs of one view, from what they take in together.
+fn own_graphs(
+    alloc: Global,
+    pool: &mut Pool,
+    notes: &mut InnerNotes,
+    station: &Station,
+    bay: BayId,
+    list: &NodeList,
+    own: &BayIntake,
+    first: u16,
+    count: u16,
+    left: usize,
+) -> Result<Inners, Trouble>
+    requires pool { IsPool pool.old }
+    requires notes { AreInnerNotes pool.old notes.old }
+    requires bay { bay.0 < part_count station.now }
+    requires switches { AreSwitchesOf station.now bay.0 first count }
+    requires nodes { AreNodes list.now }
+    requires list { (n : ℕ) → Contains list.now n ↔ BayNeeds station.now bay.0 first count n }
+    requires intake { IsBayIntake (pool_on (node_listed list.now) pool.old) station.now bay.0 first count own.now }
+    requires few { length own.now.names.items ≤ BAY_EDGES + 1 }
+    requires left { left ≤ BAY_EDGES }
+    ensures grew { OnOk result (GrewTo pool.old pool.new) }
+    ensures notes { OnOk result (AreInnerNotes pool.new notes.new) }
+    ensures inner { IfOk result
+        (λ r. (a : Alphabets) → AreInner pool.old.view (lettered station.now a) bay.0 first count
+        (values_at (map (mapped (node_listed list.now)) pool.old.values.items) own.now.names.items) r.graphs.items
+        count) }
+    ensures wide { IfErr result (λ e. e ≡ Wide →
+        Passes (SwitchesHave pool.old.view station.now bay.0 first count count) station.now left) }
+    ensures spent { IfOk result (λ r. Spends (SwitchesHave pool.old.view station.now bay.0 first count count)
+        station.now left r.left) }
+    ensures left { IfOk result (λ r. r.left ≤ left) }
+{
+    let _count = station.switch_count();
+    let mut graphs = Vec::new(alloc);
+    let mut rest = left;
+    for i in 0..count {
+        let others = count - 1;
+        let moved = first + i;
+        let made = inner_graph(
+            alloc, pool, notes, station, bay, list, own, first, moved, others, rest,
+        )?;
+        rest = made.left;
+        graphs.push(made.graph)?;
+    }
+    Ok(Inners { graphs, left: rest })
+}
+
+// The inner graphs of one view.
+fn inner_graphs(
+    alloc: Global,
+    pool: &mut Pool,
+    notes: &mut InnerNotes,
+    station: &Station,
+    bay: BayId,
+    list: &NodeList,
+    first: u16,
+    count: u16,
+    names: &[usize],
+    left: usize,
+) -> Result<Inners, Trouble>
+    requires pool { IsPool pool.old }
+    requires notes { AreInnerNotes pool.old notes.old }
+    requires bay { bay.0 < part_count station.now }
+    requires switches { AreSwitchesOf station.now bay.0 first count }
+    requires nodes { AreNodes list.now }
+    requires list { (n : ℕ) → Contains list.now n ↔ BayNeeds station.now bay.0 first count n }
+    requires names { AreNames pool.old station.now bay.0 names.now }
+    requires few { length names.now ≤ BAY_EDGES + 1 }
+    requires left { left ≤ BAY_EDGES }
+    ensures grew { OnOk result (GrewTo pool.old pool.new) }
+    ensures notes { OnOk result (AreInnerNotes pool.new notes.new) }
+    ensures inner { IfOk result (λ r. (a : Alphabets) →
+        AreInner pool.old.view (lettered station.now a) bay.0 first count (values_at pool.old.values.items names.now)
+        r.graphs.items count) }
+    ensures wide { IfErr result (λ e. e ≡ Wide →
+        Passes (SwitchesHave pool.old.view station.now bay.0 first count count) station.now left) }
+    ensures spent { IfOk result (λ r. Spends (SwitchesHave pool.old.view station.now bay.0 first count count)
+        station.now left r.left) }
+    ensures left { IfOk result (λ r. r.left ≤ left) }
+{
+    let _count = station.switch_count();
+    let own = bay_intake(alloc, pool, station, bay, list, first, count, names)?;
+    let inners = own_graphs(
+        alloc, pool, notes, station, bay, list, &own, first, count, left,
+    )?;
+    Ok(inners)
+}
+
+// The graphs of one view of a bay, of which the stock is.
+fn view_graphs(
+    alloc: Global,
+    view: View,
+    station: &Station,
+    parts: &Parts,
+    stock: &mut Stock,
+    sharing: &Sharing,
+    list: &NodeList,
+    bay: BayId,
+    first: u16,
+    count: u16,
+    left: usize,
+) -> Result<Viewed, Trouble>
+    requires lettered { AreAlphabets station.now parts.now }
+    requires stock { IsStock (lettered station.now parts.now) view stock.old }
+    requires sharing { IsSharing station.now sharing.now }
+    requires nodes { AreNodes list.now }
+    requires list { (n : ℕ) → Contains list.now n ↔ BayNeeds station.now bay.0 first count n }
+    requires bay { bay.0 < part_count station.now }
+    requires switches { AreSwitchesOf station.now bay.0 first count }
+    requires left { left ≤ BAY_EDGES }
+    ensures stock { OnOk result (IsStock (lettered station.now parts.now) view stock.new) }
+    ensures graphs { IfOk result (λ r. AreViewGraphs view (lettered station.now parts.now) bay.0 first count
+        (view_of r.graphs)) }
+    ensures wide { IfErr result (λ e. e ≡ Wide → Passes (ViewHas view station.now bay.0 first count) station.now left) }
+    ensures spent { IfOk result (λ r. Spends (ViewHas view station.now bay.0 first count) station.now left r.left) }
+    ensures left { IfOk result (λ r. r.left ≤ left) }
+{
+    let _ = view;
+    let others = station.part_count() - 1;
+    let outer = outer_graph(
+        alloc,
+        &mut stock.pool,
+        &stock.letters,
+        &mut stock.last,
+        station,
+        parts,
+        sharing,
+        bay,
+        others,
+        left,
+    )?;
+    let inners = inner_graphs(
+        alloc,
+        &mut stock.pool,
+        &mut stock.inner,
+        station,
+        bay,
+        list,
+        first,
+        count,
+        &outer.names,
+        outer.left,
+    )?;
+    Ok(Viewed {
+        graphs: ViewGraphs {
+            outer: outer.graph,
+            inner: inners.graphs,
+        },
+        left: inners.left,
+    })
+}
+
+/// The graphs of a bay, where those of the bays before it are at hand. They are too wide where they have more edges
+/// than are left. Time and memory: those of the edges, each once, and of the compositions that the stocks have not got.
+pub fn bay_graphs(
+    alloc: Global,
+    station: &Station,
+    parts: &Parts,
+    gap_stock: &mut Stock,
+    load_stock: &mut Stock,
+    bays: &[Option<BayGraphs>],
+    sharing: &Sharing,
+    bay: BayId,
+    left: usize,
+) -> Result<Bay, Trouble>
+    requires lettered { AreAlphabets station.now parts.now }
+    requires gap { IsStock (lettered station.now parts.now) Gap gap_stock.old }
+    requires load { IsStock (lettered station.now parts.now) Load load_stock.old }
+    requires bays { HaveTold bays.now }
+    requires sharing { IsSharing station.now sharing.now }
+    requires bay { bay.0 < part_count station.now }
+    requires left { left ≤ BAY_EDGES }
+    ensures gap { OnOk result (IsStock (lettered station.now parts.now) Gap gap_stock.new) }
+    ensures load { OnOk result (IsStock (lettered station.now parts.now) Load load_stock.new) }
+    ensures told { IfOk result (λ r. IsToldBy (view_of r.graphs.gap) (view_of r.graphs.load) r.graphs.told.items) }
+    ensures graphs { IfOk result (λ r. AreBayGraphs (lettered station.now parts.now) bay.0 (seen_bay r.graphs)) }
+    ensures wide { IfErr result (λ e. e ≡ Wide → Passes (BayHas station.now bay.0) station.now left) }
+    ensures spent { IfOk result (λ r. Spends (BayHas station.now bay.0) station.now left r.left) }
+    ensures left { IfOk result (λ r. r.left ≤ left) }
+{
+    let (id, count) = station.switches_of(bay);
+    let first = id.0;
+    let list = bay_nodes(alloc, station, &sharing.parts, bay, first, count)?;
+    let gap = view_graphs(
+        alloc,
+        View::Gap,
+        station,
+        parts,
+        gap_stock,
+        sharing,
+        &list,
+        bay,
+        first,
+        count,
+        left,
+    )?;
+    let load = view_graphs(
+        alloc,
+        View::Load,
+        station,
+        parts,
+        load_stock,
+        sharing,
+        &list,
+        bay,
+        first,
+        count,
+        gap.left,
+    )?;
+    let told = told_like(alloc, bays, &gap.graphs, &load.graphs)?;
+    Ok(Bay {
+        graphs: BayGraphs {
+            first,
+            count,
+            gap: gap.graphs,
+            load: load.graphs,
+            told,
+        },
+        left: load.left,
+    })
+}

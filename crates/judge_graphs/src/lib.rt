@@ -1,0 +1,16 @@
+//! The decision graphs of a bay: an outer and inner ones for each of the two views, made over all vectors at once, and
+//! which other parts they tell of.
+#![tactic(auto)]
+
+mod bay;
+mod inner;
+mod label_names;
+mod labelled;
+mod layers_told;
+mod noted;
+mod outer;
+mod partners;
+mod stock;
+
+pub use bay::{Bay, BayGraphs, ViewGraphs, bay_graphs};
+pub use stock::{Stock, stock_of};

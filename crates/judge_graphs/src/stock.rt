@@ -1,0 +1,50 @@
+//! What the graphs of one view are made of, over the whole station.
+ghost use Rattle.std.specs.Prelude.{IfOk};
+ghost use Rattle.bay_contract.specs.Alphabets.{AreAlphabets};
+ghost use Rattle.judge_pool.specs.Lettered.{lettered};
+ghost use Rattle.judge_intake.specs.SharedNodes.{AreShared};
+ghost use Rattle.judge_graphs.specs.Stocking.{IsStock};
+
+use crate::labelled::InnerNotes;
+use crate::noted::Noted;
+use bay_contract::Parts;
+use ilk_base::Memory;
+use judge_intake::letter_rows;
+use judge_pool::{Pool, View};
+use station_graph::{NodeList, Station};
+use std::alloc::Global;
+
+/// Values of one view, the numbers of each part's letters among them, the outer graph that was made last, and the inner
+/// graphs of switches that were unlike all before them.
+#[derive(Drop)]
+pub struct Stock {
+    pub(crate) pool: Pool,
+    pub(crate) letters: Vec<Vec<usize>>,
+    pub(crate) last: Option<Noted>,
+    pub(crate) inner: InnerNotes,
+}
+
+/// The letters of all parts, and no graphs yet.
+pub fn stock_of(
+    alloc: Global,
+    view: View,
+    station: &Station,
+    parts: &Parts,
+    shared: &[NodeList],
+) -> Result<Stock, Memory>
+    requires lettered { AreAlphabets station.now parts.now }
+    requires shared { AreShared station.now shared.now }
+    ensures { IfOk result (IsStock (lettered station.now parts.now) view) }
+{
+    let mut pool = Pool::new(alloc, view, Vec::new(alloc));
+    let letters = letter_rows(alloc, &mut pool, station, parts, shared)?;
+    Ok(Stock {
+        pool,
+        letters,
+        last: None,
+        inner: InnerNotes {
+            graphs: Vec::new(alloc),
+            labelled: Vec::new(alloc),
+        },
+    })
+}

@@ -1,0 +1,4 @@
+pub mod SharedNodes
+pub mod Inputs
+pub mod Ready
+pub mod Coding

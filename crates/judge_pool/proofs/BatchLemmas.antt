@@ -1,0 +1,200 @@
+-- Batches of a pool, noted by where they begin.
+use Rattle.std.proofs.Common.{◌≡◌, ℕ, ◌+◌, Bool, true, false, cond, List, [], ◌∷◌, ◌++◌, length, get_or, slice_get}
+use Rattle.std.proofs.Common.{take, drop}
+use Rattle.std.proofs.Common.{◌-◌, ◌<◌, ◌≤◌, Option, Some, refl, sym, ap, ◌∙◌, subst, inl, inr, arith}
+use Rattle.std.specs.Prelude.{nat_eq, ◌&&◌}
+use Rattle.std.specs.HashMap.{HashMap, get, Updates}
+use Rattle.std.proofs.lemmas.Bool.Decides.{Decides-eqb}
+use Rattle.std.proofs.lemmas.List.{length-append, get_or-append-add, length_push, length-drop, length-take-le}
+use Rattle.std.proofs.lemmas.List.{get_or-take, get_or-drop, same_lists}
+use Rattle.std.proofs.lemmas.Option.{slice_get_within, slice_get-get_or, get_or_from_slice_get, same_Some}
+use Rattle.station_graph.proofs.PathLemmas.{slice_get-push}
+use Rattle.contraction.specs.Selecting.{Selected}
+use Rattle.judge_pool.specs.declared.batches.Made.{Made}
+use Rattle.judge_pool.specs.declared.batches.Batch.{Batch}
+use Rattle.judge_pool.specs.declared.pool.Pool.{Pool}
+use Rattle.judge_pool.specs.Pooling.{WasMade, MakesEach, HasBatch, NotesAreRight, composition, same_batch}
+use Rattle.judge_pool.specs.Pooling.{letter_lists, IsPool, GrewTo, CanCompose}
+use Rattle.judge_pool.specs.Layering.{no_answers}
+use Rattle.judge_pool.proofs.LayeringLemmas.{Grows, grew_of, grew_in, keep_in, either_more}
+
+-- ---- a pool that grew
+
+pub was_made_more : (p q : Pool) → Grows p q → (k : Made) (t : ℕ) →
+    WasMade p.view p.values.items p.keeps.items k t → WasMade q.view q.values.items q.keeps.items k t
+was_made_more p q g k t w =
+    subst (λ v. WasMade v q.values.items q.keeps.items k t) (sym g.view) (record {
+      x = w.x;
+      y = w.y;
+      keep = w.keep;
+      first = g.values k.first w.x w.first;
+      second = g.values k.second w.y w.second;
+      nodes = g.keeps k.keep w.keep w.nodes;
+      made = record {
+        value = w.made.value;
+        listed = g.values t w.made.value w.made.listed;
+        composes = w.made.composes;
+        kept = w.made.kept;
+      };
+    })
+
+pub are_made_more : (p q : Pool) → Grows p q → (b : Batch) (letters ids : List ℕ) → MakesEach p b letters ids →
+    MakesEach q b letters ids
+are_made_more p q g b letters ids m = record {
+  len = m.len;
+  made = λ c j t at_c at_t. was_made_more p q g (composition b j) t (m.made c j t at_c at_t);
+}
+
+pub batch_stays : (p q : Pool) → Grows p q → (b : Batch) (start : ℕ) → HasBatch p b start → HasBatch q b start
+batch_stays p q g b start h = record {
+  letters = h.letters;
+  ids = h.ids;
+  listed = g.letters b.letters h.letters h.listed;
+  made = are_made_more p q g b h.letters h.ids h.made;
+  at = λ c t at. g.made (start + c) t (h.at c t at);
+}
+
+pub notes_stay : {S : Type 0} (p q : Pool) → Grows p q → (m : HashMap Batch ℕ S) → NotesAreRight p m →
+    NotesAreRight q m
+notes_stay p q g m right b start e = batch_stays p q g b start (right b start e)
+
+pub can_more : (p q : Pool) (k : Made) → GrewTo p q → CanCompose p k → CanCompose q k
+can_more p q k g h = record {
+  first = grew_in p q k.first no_answers g h.first;
+  second = grew_in p q k.second no_answers g h.second;
+  keep = keep_in p q k.keep g h.keep;
+  either = either_more p q k.first k.second k.keep no_answers g h.first h.second h.keep h.either;
+}
+
+-- and with another selection at hand
+pub selects_other : (p : Pool) (s : Option Selected) → IsPool p → GrewTo p (record p { selection = s })
+selects_other p s h =
+    let q : Pool = record p { selection = s } in
+    let g : Grows p q = record {
+      view = refl;
+      keeps = λ k ns at. at;
+      values = λ i x at. at;
+      letters = λ l ids at. at;
+      made = λ i t at. at;
+    } in
+    grew_of p q (record {
+      index = h.index;
+      apart = h.apart;
+      well = h.well;
+      notes = notes_stay p q g p.notes h.notes;
+    }) g
+
+-- ---- a note more
+
+and_three : (p q r : Bool) → (p && (q && r)) ≡ true → (p ≡ true) × (q ≡ true) × (r ≡ true)
+and_three true true true e = (refl, refl, refl)
+and_three true true false e = cc
+and_three true false true e = cc
+and_three true false false e = cc
+and_three false true true e = cc
+and_three false true false e = cc
+and_three false false true e = cc
+and_three false false false e = cc
+
+abbrev batch_of : ℕ → ℕ → ℕ → Batch
+batch_of first letters keep = record { first = first; letters = letters; keep = keep }
+
+same_is : (b d : Batch) → same_batch b d ≡ true → b ≡ d
+same_is b d same =
+    let e = and_three (nat_eq b.first d.first) (nat_eq b.letters d.letters) (nat_eq b.keep d.keep) same in
+    let e1 : b.first ≡ d.first = (Decides-eqb b.first d.first).0 e.0 in
+    let e2 : b.letters ≡ d.letters = (Decides-eqb b.letters d.letters).0 e.1 in
+    let e3 : b.keep ≡ d.keep = (Decides-eqb b.keep d.keep).0 e.2 in
+    ap (λ n. batch_of n b.letters b.keep) e1
+    ∙ (ap (λ n. batch_of d.first n b.keep) e2 ∙ ap (λ n. batch_of d.first d.letters n) e3)
+
+pub notes_more : {S : Type 0} (p : Pool) (old new : HashMap Batch ℕ S) (batch : Batch) (place : ℕ) →
+    NotesAreRight p old → HasBatch p batch place → Updates same_batch old new batch (Some place) → NotesAreRight p new
+notes_more p old new batch place right has updates b start e =
+    by_key (same_batch batch b) refl (sym (updates.0 b) ∙ e)
+  where
+    by_key : (same : Bool) → same_batch batch b ≡ same → cond same (Some place) (get same_batch old b) ≡ Some start →
+        HasBatch p b start
+    by_key true same is =
+        subst (λ d. HasBatch p d start) (same_is batch b same)
+        (subst (λ n. HasBatch p batch n) (same_Some place start is) has)
+    by_key false same is = right b start is
+
+pub notes_none : {S : Type 0} (p : Pool) (m : HashMap Batch ℕ S) → m.entries ≡ [] → NotesAreRight p m
+notes_none p m em b start e = absurd (let h = rw em at e in cc)
+
+-- ---- letter by letter
+
+pub made_none : (p : Pool) (b : Batch) (ids : List ℕ) → ids ≡ [] → MakesEach p b [] ids
+made_none p b ids e = record {
+  len = ap length e;
+  made = λ c j t at_c. absurd (let h : slice_get {X = ℕ} [] c ≡ Some j = at_c in cc);
+}
+
+pub made_one : (p : Pool) (b : Batch) (letters ids : List ℕ) (letter id : ℕ) → MakesEach p b letters ids →
+    WasMade p.view p.values.items p.keeps.items (composition b letter) id →
+    MakesEach p b (letters ++ letter ∷ []) (ids ++ id ∷ [])
+made_one p b letters ids letter id old new = record {
+  len = omega (arith, length_push ids id, length_push letters letter, old.len);
+  made = λ c j t at_c at_t. elim (slice_get-push letters letter j c at_c) [
+    | inl before ↦ elim (slice_get-push ids id t c at_t) [
+      | inl was ↦ old.made c j t before was
+      | inr here ↦ absurd (omega (arith, slice_get_within letters c j before, here.0, old.len))
+    ]
+    | inr last ↦ elim (slice_get-push ids id t c at_t) [
+      | inl was ↦ absurd (omega (arith, slice_get_within ids c t was, last.0, old.len))
+      | inr here ↦
+          subst (λ n. WasMade p.view p.values.items p.keeps.items (composition b j) n) here.1
+          (subst (λ n. WasMade p.view p.values.items p.keeps.items (composition b n) id) last.1 new)
+    ]
+  ];
+}
+
+-- ---- the numbers of a batch
+
+-- an element of the second list
+pub get_behind : (xs ys : List ℕ) (i x : ℕ) → slice_get ys i ≡ Some x → slice_get (xs ++ ys) (length xs + i) ≡ Some x
+get_behind xs ys i x at =
+    slice_get-get_or (xs ++ ys) (length xs + i) x (omega (
+      arith,
+      length-append xs ys,
+      slice_get_within ys i x at,
+    ))
+    ∙ ap Some (get_or-append-add xs ys i x ∙ get_or_from_slice_get ys i x x at)
+
+-- the part of a list that begins at a place
+part_is : (xs ys : List ℕ) (start : ℕ) →
+    ((c t : ℕ) → slice_get ys c ≡ Some t → slice_get xs (start + c) ≡ Some t) → start + length ys ≤ length xs →
+    take (length ys) (drop start xs) ≡ ys
+part_is xs ys start at within =
+    let len : length (take (length ys) (drop start xs)) ≡ length ys =
+    length-take-le (length ys) (drop start xs) (omega (arith, length-drop start xs, within)) in
+    same_lists (take (length ys) (drop start xs)) ys len (λ k d lt.
+    (let lt_ys : k < length ys = omega (arith, lt, len) in
+    get_or-take (length ys) (drop start xs) k d lt_ys
+    ∙ (get_or-drop start xs k d
+    ∙ get_or_from_slice_get xs (start + k) (get_or ys k d) d
+    (at k (get_or ys k d) (slice_get-get_or ys k d lt_ys)))))
+
+module _ (p : Pool) (b : Batch) (start : ℕ) (letters : List ℕ) (h : HasBatch p b start)
+    (listed : slice_get (letter_lists p) b.letters ≡ Some letters) (some : 0 < length letters) where
+  same_letters : h.letters ≡ letters
+  same_letters = same_Some h.letters letters (sym h.listed ∙ listed)
+
+  count : length h.ids ≡ length letters
+  count = h.made.len ∙ ap length same_letters
+
+  pub batch_ends : start + length letters ≤ length p.made.items
+  batch_ends =
+      let last = length letters - 1 in
+      let id = get_or h.ids last 0 in
+      let at : slice_get p.made.items (start + last) ≡ Some id =
+      h.at last id (slice_get-get_or h.ids last 0 (omega (arith, count, some))) in
+      omega (arith, slice_get_within p.made.items (start + last) id at, some)
+
+  pub batch_made : MakesEach p b letters (take (length letters) (drop start p.made.items))
+  batch_made =
+      let is : take (length letters) (drop start p.made.items) ≡ h.ids =
+      ap (λ n. take n (drop start p.made.items)) (sym count)
+      ∙ part_is p.made.items h.ids start h.at (omega (arith, count, batch_ends)) in
+      subst (λ l. MakesEach p b letters l) (sym is) (subst (λ l. MakesEach p b l h.ids) same_letters h.made)

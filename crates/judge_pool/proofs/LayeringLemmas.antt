@@ -1,0 +1,200 @@
+-- Places in a list without repeats, and a pool that grows.
+use Rattle.std.proofs.Common.{◌≡◌, ◌≢◌, ℕ, ◌*◌, ◌/◌, ◌<◌, ◌≤◌, ◌⊎◌, Bool, true, false, cond, List, [], ◌∷◌}
+use Rattle.std.proofs.Common.{◌++◌, length, get_or, slice_get, Some, refl, sym, ap, ◌∙◌, subst, inl, inr, arith, nat_eq}
+use Rattle.std.specs.List.{list_any}
+use Rattle.std.proofs.lemmas.Bool.{false≢true}
+use Rattle.std.proofs.lemmas.Bool.Decides.{Decides-eqb}
+use Rattle.std.proofs.lemmas.List.{length_push}
+use Rattle.std.proofs.lemmas.List.Folds.{list_any_at}
+use Rattle.std.proofs.lemmas.Option.{slice_get_within, slice_get-get_or, get_or_from_slice_get, same_Some}
+use Rattle.std.proofs.Math.Nat.{div-mul-le_self, mul-le-mul_left, mul-le-mul_right}
+use Rattle.std.proofs.lemmas.Bool.{cases_lt}
+use Rattle.indexmap.specs.IndexSet.{insert_key}
+use Rattle.station_graph.proofs.PathLemmas.{slice_get-push}
+use Rattle.contraction.specs.Answers.{Answers}
+use Rattle.judge_pool.specs.declared.pool.Pool.{Pool}
+use Rattle.judge_pool.specs.Pooling.{Extends, IsPool, GrewTo, EitherKeeps, letter_lists}
+use Rattle.judge_pool.specs.Folding.{AreApartIn, AreRising}
+use Rattle.judge_pool.specs.Layering.{NoneTwice, IsPlaced, no_answers}
+use Rattle.judge_pool.proofs.LayerLemmas.{get_front}
+
+-- ---- places
+
+none_there : (ids : List ℕ) (id : ℕ) → list_any (nat_eq id) ids ≡ false → (k t : ℕ) → slice_get ids k ≡ Some t → id ≢ t
+none_there ids id none k t at e =
+    let passes : nat_eq id (get_or ids k t) ≡ true =
+    (Decides-eqb id (get_or ids k t)).1 (e ∙ sym (get_or_from_slice_get ids k t t at)) in
+    false≢true (sym none ∙ list_any_at (nat_eq id) ids k t (slice_get_within ids k t at) passes)
+
+module _ (old : List ℕ) (id place : ℕ) where
+  placed_old : (new : List ℕ) → new ≡ old → slice_get new place ≡ Some id → IsPlaced old new id place
+  placed_old new e at = record {
+    at = at;
+    stays = λ i x h. ap (λ l. slice_get l i) e ∙ h;
+    only = λ b t h. inl (ap (λ l. slice_get l b) (sym e) ∙ h);
+    none_twice = λ h. subst (λ l. NoneTwice l) (sym e) h;
+    grown = omega (arith, ap length e);
+  }
+
+  module _ (new : List ℕ) (e : new ≡ old ++ id ∷ []) (at : slice_get new place ≡ Some id)
+      (none : list_any (nat_eq id) old ≡ false) where
+    at_end : place ≡ length old
+    at_end = elim (slice_get-push old id id place (ap (λ l. slice_get l place) (sym e) ∙ at)) [
+      | inl before ↦ absurd (none_there old id none place id before refl)
+      | inr here ↦ here.0
+    ]
+
+    new_cases : (b t : ℕ) → slice_get new b ≡ Some t → (slice_get old b ≡ Some t) ⊎ ((b ≡ place) × (t ≡ id))
+    new_cases b t h = elim (slice_get-push old id t b (ap (λ l. slice_get l b) (sym e) ∙ h)) [
+      | inl before ↦ inl before
+      | inr here ↦ inr (here.0 ∙ sym at_end, sym here.1)
+    ]
+
+    placed_new : IsPlaced old new id place
+    placed_new = record {
+      at = at;
+      stays = λ i x h. ap (λ l. slice_get l i) e ∙ get_front old (id ∷ []) i x h;
+      only = new_cases;
+      none_twice = λ twice a b t at_a at_b. elim (new_cases a t at_a) [
+        | inl a_old ↦ elim (new_cases b t at_b) [
+          | inl b_old ↦ twice a b t a_old b_old
+          | inr b_new ↦ absurd (none_there old id none a t a_old (sym b_new.1))
+        ]
+        | inr a_new ↦ elim (new_cases b t at_b) [
+          | inl b_old ↦ absurd (none_there old id none b t b_old (sym a_new.1))
+          | inr b_new ↦ a_new.0 ∙ sym b_new.0
+        ]
+      ];
+      grown = omega (arith, ap length e, length_push old id);
+    }
+
+pub placed : (old new : List ℕ) (id place : ℕ) → new ≡ insert_key nat_eq old id →
+    (k : ℕ) × (slice_get new place ≡ Some k) × (nat_eq id k ≡ true) → IsPlaced old new id place
+placed old new id place keys (k, at, same) = by_case (list_any (nat_eq id) old) refl
+  where
+    at_id : slice_get new place ≡ Some id
+    at_id = at ∙ ap Some (sym ((Decides-eqb id k).0 same))
+
+    by_case : (b : Bool) → list_any (nat_eq id) old ≡ b → IsPlaced old new id place
+    by_case true any = placed_old old id place new (keys ∙ ap (λ b. cond b old (old ++ id ∷ [])) any) at_id
+    by_case false none = placed_new old id place new (keys ∙ ap (λ b. cond b old (old ++ id ∷ [])) none) at_id none
+
+-- ---- products
+
+pub at_least : (n w : ℕ) → 0 < w → n ≤ n * w
+at_least n w some = omega (arith, mul-le-mul_left n (let h : 1 ≤ w = omega (arith, some) in h))
+
+-- ---- growing
+
+-- No two values are the same, and the nodes that each keeps rise.
+pub record AreSound (p : Pool) : Type 0 where
+  pub apart : AreApartIn p.view p.values.items
+  pub rising : AreRising p.values.items
+
+-- All that the one has is what the other has.
+pub record Grows (old new : Pool) : Type 0 where
+  pub view : new.view ≡ old.view
+  pub keeps : Extends old.keeps.items new.keeps.items
+  pub values : Extends old.values.items new.values.items
+  pub letters : Extends (letter_lists old) (letter_lists new)
+  pub made : Extends old.made.items new.made.items
+
+pub sound : (p : Pool) → IsPool p → AreSound p
+sound p h = record { apart = h.apart; rising = λ t r at. (h.well t r at).nodes.rises }
+
+pub grows : (p q : Pool) → GrewTo p q → Grows p q
+grows p q g = record { view = g.view; keeps = g.keeps; values = g.values; letters = g.letters; made = g.made }
+
+-- a pool of which nothing was taken
+pub grew_of : (p q : Pool) → IsPool q → Grows p q → GrewTo p q
+grew_of p q h g = record {
+  is_pool = h;
+  view = g.view;
+  keeps = g.keeps;
+  values = g.values;
+  letters = g.letters;
+  made = g.made;
+}
+
+pub grows_same : (p : Pool) → Grows p p
+grows_same p = record {
+  view = refl;
+  keeps = λ k ns at. at;
+  values = λ i x at. at;
+  letters = λ l ids at. at;
+  made = λ i t at. at;
+}
+
+pub grows_more : (p q r : Pool) → Grows p q → Grows q r → Grows p r
+grows_more p q r a b = record {
+  view = b.view ∙ a.view;
+  keeps = λ k ns at. b.keeps k ns (a.keeps k ns at);
+  values = λ i x at. b.values i x (a.values i x at);
+  letters = λ l ids at. b.letters l ids (a.letters l ids at);
+  made = λ i t at. b.made i t (a.made i t at);
+}
+
+pub grew_same : (p : Pool) → IsPool p → GrewTo p p
+grew_same p h = grew_of p p h (grows_same p)
+
+pub grew_more : (p q r : Pool) → GrewTo p q → GrewTo q r → GrewTo p r
+grew_more p q r a b = grew_of p r b.is_pool (grows_more p q r (grows p q a) (grows q r b))
+
+pub value_in : (p q : Pool) (i : ℕ) (d : Answers) → Grows p q → i < length p.values.items → i < length q.values.items
+value_in p q i d g lt =
+    slice_get_within q.values.items i (get_or p.values.items i d)
+    (g.values i (get_or p.values.items i d) (slice_get-get_or p.values.items i d lt))
+
+pub grew_in : (p q : Pool) (i : ℕ) (d : Answers) → GrewTo p q → i < length p.values.items → i < length q.values.items
+grew_in p q i d g lt = value_in p q i d (grows p q g) lt
+
+-- lists of nodes that were there are there
+pub list_in : (p q : Pool) (k : ℕ) → Grows p q → k < length p.keeps.items → k < length q.keeps.items
+list_in p q k g lt =
+    slice_get_within q.keeps.items k (get_or p.keeps.items k [])
+    (g.keeps k (get_or p.keeps.items k []) (slice_get-get_or p.keeps.items k [] lt))
+
+pub keep_in : (p q : Pool) (k : ℕ) → GrewTo p q → k < length p.keeps.items → k < length q.keeps.items
+keep_in p q k g lt = list_in p q k (grows p q g) lt
+
+pub list_was : (p q : Pool) (k : ℕ) (nodes : List ℕ) → Grows p q → k < length p.keeps.items →
+    slice_get q.keeps.items k ≡ Some nodes → slice_get p.keeps.items k ≡ Some nodes
+list_was p q k nodes g lt at =
+    let was = slice_get-get_or p.keeps.items k [] lt in
+    was ∙ (sym (g.keeps k (get_or p.keeps.items k []) was) ∙ at)
+
+pub keep_was : (p q : Pool) (k : ℕ) (nodes : List ℕ) → GrewTo p q → k < length p.keeps.items →
+    slice_get q.keeps.items k ≡ Some nodes → slice_get p.keeps.items k ≡ Some nodes
+keep_was p q k nodes g lt at = list_was p q k nodes (grows p q g) lt at
+
+-- ---- places of edges
+
+pub nil_of_len : {X : Type 0} (xs : List X) → length xs ≡ 0 → xs ≡ []
+nil_of_len [] e = refl
+nil_of_len (x ∷ xs) e = absurd (omega (arith, e))
+
+pub state_in : (p n w : ℕ) → p < n * w → p / w < n
+state_in p n w lt = elim (cases_lt (p / w) n) [
+  | inl less ↦ less
+  | inr more ↦
+      let le : n * w ≤ p / w * w = mul-le-mul_right w (let h : n ≤ p / w = omega arith in h) in
+      absurd (omega (arith, lt, le, div-mul-le_self p w))
+]
+
+pub either_more : (p q : Pool) (i j k : ℕ) (d : Answers) → GrewTo p q → i < length p.values.items →
+    j < length p.values.items → k < length p.keeps.items → EitherKeeps p i j k → EitherKeeps q i j k
+either_more p q i j k d g i_in j_in k_in either x y nodes at_x at_y at_n =
+    let x0 : Answers = get_or p.values.items i d in
+    let y0 : Answers = get_or p.values.items j d in
+    let x_was : slice_get p.values.items i ≡ Some x0 = slice_get-get_or p.values.items i d i_in in
+    let y_was : slice_get p.values.items j ≡ Some y0 = slice_get-get_or p.values.items j d j_in in
+    let x_is : x0 ≡ x = same_Some x0 x (sym (g.values i x0 x_was) ∙ at_x) in
+    let y_is : y0 ≡ y = same_Some y0 y (sym (g.values j y0 y_was) ∙ at_y) in
+    either x y nodes (x_was ∙ ap Some x_is) (y_was ∙ ap Some y_is) (keep_was p q k nodes g k_in at_n)
+
+-- values that were there are there
+pub value_was : (p q : Pool) (i : ℕ) (x : Answers) → Grows p q → i < length p.values.items →
+    slice_get q.values.items i ≡ Some x → slice_get p.values.items i ≡ Some x
+value_was p q i x g lt at =
+    let was = slice_get-get_or p.values.items i no_answers lt in
+    was ∙ (sym (g.values i (get_or p.values.items i no_answers) was) ∙ at)

@@ -1,0 +1,16 @@
+pub mod LayerLemmas
+pub mod ErrorLemmas
+pub mod StepLemmas
+pub mod CountLemmas
+pub mod FoldLemmas
+pub mod MappedViews
+pub mod MappedPools
+pub mod PoolLemmas
+pub mod LayeringLemmas
+pub mod BatchLemmas
+pub mod AddedEdges
+pub mod BridgeLemmas
+pub mod PlanLemmas
+pub mod PassLemmas
+pub mod ChoiceLemmas
+pub mod MadeLemmas

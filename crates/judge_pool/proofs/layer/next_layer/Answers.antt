@@ -1,0 +1,127 @@
+use Rattle.std.proofs.Common.{◌≡◌, ◌<◌, ◌≤◌, ◌+◌, ◌-◌, ◌*◌, ℕ, suc, List, length, Some, slice_get, get_or, take}
+use Rattle.std.proofs.Common.{drop, arith, ap, ◌∙◌, subst, sym}
+use Rattle.std.proofs.lemmas.Option.{slice_get-get_or}
+use Rattle.std.proofs.Math.Nat.{suc-mul, zero-mul, mul-le-mul_right}
+use Rattle.judge_pool.specs.declared.batches.Batch.{Batch}
+use Rattle.judge_pool.specs.declared.pool.Pool.{Pool}
+use Rattle.judge_pool.specs.Pooling.{MakesEach, HasBatch, letter_lists}
+use Rattle.judge_pool.specs.Layering.{AreEdges}
+use Rattle.judge_pool.proofs.LayeringLemmas.{grew_more, nil_of_len}
+use Rattle.judge_pool.proofs.AddedEdges.{edges_none, edges_more}
+use Rattle.judge_pool.proofs.BatchLemmas.{can_more, batch_made}
+use Rattle.judge_pool.proofs.PassLemmas.{more_reached}
+use Rattle.judge_pool.proofs.layer.next_layer.Goals as goal
+
+pub states-init : goal.states-init
+states-init c =
+    let q = c.note_letters.new.self in
+    record {
+      grew = c.in_ok-number.ensures.grew;
+      noted = c.in_ok-number.ensures.noted;
+      few = omega (arith, c.new-next.ensures.len, zero-mul (length c.args.letters.now));
+      edges = λ nodes at.
+          subst (λ n. AreEdges q.view q.values.items nodes c.args.states.now c.args.letters.now c.new-next.result.keys
+          c.new-edges.result.items n) (sym (zero-mul (length c.args.letters.now)))
+          (edges_none q.view q.values.items nodes c.args.states.now c.args.letters.now c.new-next.result.keys
+          c.new-edges.result.items (nil_of_len c.new-next.result.keys c.new-next.ensures.len)
+          c.new-edges.ensures.items);
+    }
+
+pub batch-requires-clause-fit : goal.batch-requires-clause-fit
+batch-requires-clause-fit c m j at_j =
+    let p = c.args.pool.now in
+    let q = c.states.pool in
+    let g = c.states.invariant.grew in
+    let k = c.states.k in
+    let i = get_or c.args.states.now k 0 in
+    let at_i : slice_get c.args.states.now k ≡ Some i = slice_get-get_or c.args.states.now k 0 c.states-test.true in
+    can_more p q (record { first = i; second = j; keep = c.args.keep }) g (record {
+      first = c.requires.states k i at_i;
+      second = c.requires.letters m j at_j;
+      keep = c.requires.keep;
+      either = c.requires.nodes k m i j at_i at_j;
+    })
+
+-- the batch of a state ends in what was made, and is there letter by letter
+module _ (q : Pool) (b : Batch) (start : ℕ) (letters : List ℕ) (has : HasBatch q b start)
+    (noted : slice_get (letter_lists q) b.letters ≡ Some letters) (some : 0 < length letters) (made : List ℕ)
+    (is : made ≡ q.made.items) where
+  part_made : MakesEach q b letters (take (start + length letters - start) (drop start made))
+  part_made =
+      subst (λ n. MakesEach q b letters (take n (drop start made)))
+      (let e : length letters ≡ start + length letters - start = omega arith in e)
+      (subst (λ l. MakesEach q b letters (take (length letters) (drop start l))) (sym is)
+      (batch_made q b start letters has noted some))
+
+pub add_edges-requires : goal.add_edges-requires
+add_edges-requires c =
+    let q = c.batch.new.self in
+    let w = length c.args.letters.now in
+    let k = c.states.k in
+    let noted = c.in_ok-start.ensures.grew.letters c.in_ok-number.number c.args.letters.now c.states.invariant.noted in
+    let part = part_made q _ c.in_ok-start.start c.args.letters.now c.in_ok-start.ensures.batch noted c.requires.some
+    c.deref.result.now c.deref.ensures.value in
+    let most : suc k * w ≤ length c.args.states.now * w =
+    mul-le-mul_right w (let h : suc k ≤ length c.args.states.now = omega (arith, c.states-test.true) in h) in
+    record { few = omega (arith, part.len, c.states.invariant.few, most, suc-mul k w, c.requires.few) }
+
+pub states-preserved : goal.states-preserved
+states-preserved c =
+    let p = c.args.pool.now in
+    let old = c.states.pool in
+    let q = c.batch.new.self in
+    let states = c.args.states.now in
+    let letters = c.args.letters.now in
+    let w = length letters in
+    let k = c.states.k in
+    let g = c.in_ok-start.ensures.grew in
+    let inv = c.states.invariant in
+    let noted = g.letters c.in_ok-number.number letters inv.noted in
+    let i = get_or states k 0 in
+    let at_i : slice_get states k ≡ Some i = slice_get-get_or states k 0 c.states-test.true in
+    let part = part_made q _ c.in_ok-start.start letters c.in_ok-start.ensures.batch noted c.requires.some
+    c.deref.result.now c.deref.ensures.value in
+    let added = c.in_ok-add_edges.ensures in
+    let next : (k + 1) * w ≡ k * w + w =
+    ap (λ n. n * w) (let e : k + 1 ≡ suc k = omega arith in e) ∙ suc-mul k w in
+    record {
+      grew = grew_more p old q inv.grew g;
+      noted = noted;
+      few = omega (arith, added.grown, part.len, inv.few, next);
+      edges = λ nodes at.
+          let at_q : slice_get q.keeps.items c.args.keep ≡ Some nodes =
+          g.keeps c.args.keep nodes (inv.grew.keeps c.args.keep nodes at) in
+          let before = subst
+          (λ v. AreEdges v old.values.items nodes states letters c.states.next.keys c.states.edges.items (k * w))
+          (sym g.view) (inv.edges nodes at) in
+          edges_more q.view old.values.items q.values.items q.keeps.items nodes states letters c.states.next.keys
+          c.add_edges.new.next.keys c.states.edges.items c.add_edges.new.edges.items _ k i c.args.keep g.values before
+          added at_i at_q part.len part.made;
+    }
+
+pub returns-clause-few : goal.returns-clause-few
+returns-clause-few c =
+    let done : c.states.k ≡ length c.args.states.now = omega (arith, c.states.auto.k-end, c.states-test.false) in
+    omega (
+      arith,
+      ap length c.in_ok-next.ensures,
+      c.states.invariant.few,
+      ap (λ n. n * length c.args.letters.now) done,
+    )
+
+pub returns-clause-edges : goal.returns-clause-edges
+returns-clause-edges c nodes at =
+    let done : c.states.k ≡ length c.args.states.now = omega (arith, c.states.auto.k-end, c.states-test.false) in
+    subst (λ l. AreEdges c.states.pool.view c.states.pool.values.items nodes c.args.states.now c.args.letters.now l
+    c.states.edges.items (length c.args.states.now * length c.args.letters.now)) (sym c.in_ok-next.ensures)
+    (subst (λ n. AreEdges c.states.pool.view c.states.pool.values.items nodes c.args.states.now c.args.letters.now
+    c.states.next.keys c.states.edges.items (n * length c.args.letters.now)) done (c.states.invariant.edges nodes at))
+
+pub returns-then-len-most-clause-wide : goal.returns-then-len-most-clause-wide
+returns-then-len-most-clause-wide c e nodes at =
+    more_reached c.args.pool.now c.states.pool c.states.invariant.grew nodes c.args.states.now c.args.letters.now
+    c.states.next.keys c.states.edges.items (c.states.k * length c.args.letters.now) c.args.most c.requires.states
+    c.requires.letters (c.states.invariant.edges nodes at) c.states.invariant.few
+    (mul-le-mul_right (length c.args.letters.now)
+    (let h : c.states.k ≤ length c.args.states.now = omega (arith, c.states-test.true) in h))
+    (omega (arith, c.len.ensures.len, c.if-len-most.true))

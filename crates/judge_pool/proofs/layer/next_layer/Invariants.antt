@@ -1,0 +1,14 @@
+use Rattle.std.proofs.Common.{◌≡◌, ℕ, ◌*◌, ◌≤◌, List, Some, slice_get, length}
+use Rattle.judge_pool.specs.Pooling.{GrewTo, letter_lists}
+use Rattle.judge_pool.specs.Layering.{AreEdges}
+use Rattle.judge_pool.proofs.layer.next_layer.Given as goal
+
+abbrev pub invariant-states : goal.invariant-states
+invariant-states l = record {
+  grew : GrewTo l.fn.pool l.pool;
+  noted : slice_get (letter_lists l.pool) l.number ≡ Some l.letters;
+  few : length l.next.keys ≤ l.k * length l.letters;
+  edges : (nodes : List ℕ) → slice_get l.fn.pool.keeps.items l.keep ≡ Some nodes →
+      AreEdges l.pool.view l.pool.values.items nodes l.states l.letters l.next.keys l.edges.items
+      (l.k * length l.letters);
+}

@@ -1,0 +1,50 @@
+use Rattle.std.proofs.Common.{refl}
+use Rattle.judge_pool.specs.declared.pool.Pool.{Pool}
+use Rattle.judge_pool.proofs.LayeringLemmas.{Grows, grew_of, grew_more}
+use Rattle.judge_pool.proofs.BatchLemmas.{notes_stay, batch_stays, batch_ends}
+use Rattle.judge_pool.proofs.pool.Pool.batch.Goals as goal
+
+pub returns-clause-grew : goal.returns-clause-grew
+returns-clause-grew c =
+    let p = c.args.self.now in
+    let q = c.make_batch.new.self in
+    let h = c.in_ok-start.ensures.grew in
+    let r : Pool = record q { notes = c.note_batch.new.notes } in
+    let g : Grows q r = record {
+      view = refl;
+      keeps = λ k ns at. at;
+      values = λ i x at. at;
+      letters = λ l ls at. at;
+      made = λ i t at. at;
+    } in
+    grew_more p q r h (grew_of q r (record {
+      index = h.is_pool.index;
+      apart = h.is_pool.apart;
+      well = h.is_pool.well;
+      notes =
+          notes_stay q r g c.note_batch.new.notes
+          (c.in_ok-note_batch.ensures q h.is_pool.notes c.in_ok-start.ensures.batch);
+    }) g)
+
+pub returns-clause-batch : goal.returns-clause-batch
+returns-clause-batch c =
+    let q = c.make_batch.new.self in
+    let r : Pool = record q { notes = c.note_batch.new.notes } in
+    batch_stays q r (record {
+      view = refl;
+      keeps = λ k ns at. at;
+      values = λ i x at. at;
+      letters = λ l ls at. at;
+      made = λ i t at. at;
+    }) _ c.in_ok-start.start c.in_ok-start.ensures.batch
+
+pub returns-in-Some-clause-ends : goal.returns-in-Some-clause-ends
+returns-in-Some-clause-ends c =
+    batch_ends c.args.self.now _ c.in-Some.start c.args.letters.now
+    (c.in-Some.ensures c.args.self.now c.requires.pool.notes) c.requires.letters c.requires.some
+
+pub returns-clause-ends : goal.returns-clause-ends
+returns-clause-ends c =
+    let q = c.make_batch.new.self in
+    batch_ends q _ c.in_ok-start.start c.args.letters.now c.in_ok-start.ensures.batch
+    (c.in_ok-start.ensures.grew.letters c.args.number c.args.letters.now c.requires.letters) c.requires.some

@@ -1,0 +1,45 @@
+use Rattle.std.proofs.Common.{◌≡◌, ◌++◌, ◌∷◌, [], List, ℕ, length, map, slice_get, Some, refl, sym, ap, ◌∙◌, subst}
+use Rattle.std.proofs.lemmas.List.{length-map, map_push}
+use Rattle.judge_pool.specs.declared.pool.Pool.{Pool}
+use Rattle.judge_pool.specs.Pooling.{Extends, letter_lists}
+use Rattle.judge_pool.proofs.LayerLemmas.{get_front, get_last}
+use Rattle.judge_pool.proofs.LayeringLemmas.{Grows, grew_of}
+use Rattle.judge_pool.proofs.BatchLemmas.{notes_stay}
+use Rattle.judge_pool.proofs.pool.Pool.note_letters.Goals as goal
+
+pub returns-clause-grew : goal.returns-clause-grew
+returns-clause-grew c =
+    let p = c.args.self.now in
+    let q : Pool = record p { letters = c.push.new.self } in
+    let new : List ℕ = c.in_ok-to_vec.field-0.items in
+    let lists : letter_lists q ≡ letter_lists p ++ new ∷ [] =
+    ap (map (λ v. v.items)) c.in_ok-push.ensures.items
+    ∙ map_push (λ v. v.items) p.letters.items c.in_ok-to_vec.field-0 in
+    let more : Extends (letter_lists p) (letter_lists p ++ new ∷ []) =
+    λ l ids at. get_front (letter_lists p) (new ∷ []) l ids at in
+    let g : Grows p q = record {
+      view = refl;
+      keeps = λ k ns at. at;
+      values = λ i x at. at;
+      letters = subst (λ ls. Extends (letter_lists p) ls) (sym lists) more;
+      made = λ i t at. at;
+    } in
+    grew_of p q (record {
+      index = c.requires.index;
+      apart = c.requires.apart;
+      well = c.requires.well;
+      notes = notes_stay p q g p.notes c.requires.notes;
+    }) g
+
+pub returns-clause-noted : goal.returns-clause-noted
+returns-clause-noted c =
+    let p = c.args.self.now in
+    let new : List ℕ = c.in_ok-to_vec.field-0.items in
+    let lists : map (λ v. v.items) c.push.new.self.items ≡ letter_lists p ++ new ∷ [] =
+    ap (map (λ v. v.items)) c.in_ok-push.ensures.items
+    ∙ map_push (λ v. v.items) p.letters.items c.in_ok-to_vec.field-0 in
+    let place : length c.as_slice-held.result.now ≡ length (letter_lists p) =
+    ap length c.as_slice-held.ensures.value ∙ sym (length-map p.letters.items (λ v. v.items)) in
+    ap (λ ls. slice_get ls (length c.as_slice-held.result.now)) lists
+    ∙ (ap (slice_get (letter_lists p ++ new ∷ [])) place
+    ∙ (get_last (letter_lists p) new ∙ ap Some (c.in_ok-to_vec.ensures.items_if_clones_equal (λ x y h. h))))

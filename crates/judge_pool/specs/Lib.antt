@@ -1,0 +1,11 @@
+pub mod Lettered
+pub mod Seen
+pub mod Folding
+pub mod Graphs
+pub mod Listing
+pub mod Needing
+pub mod Counted
+pub mod Plans
+pub mod Pooling
+pub mod Places
+pub mod Layering

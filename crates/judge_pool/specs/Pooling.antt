@@ -1,0 +1,148 @@
+-- Values of one view, found again by their rows, and the batches that were composed of them.
+use Rattle.std.specs.Prelude.{◌≡◌, ℕ, ◌↔◌, ◌⊎◌, ◌+◌, ◌<◌, List, length, map, slice_get, Option, Some, None, Contains}
+use Rattle.std.specs.Prelude.{nat_eq, ◌&&◌, Bool}
+use Rattle.std.specs.Str.{bytes_eq}
+use Rattle.std.specs.HashMap.{HashMap, get}
+use Rattle.station_graph.specs.Diagram.{Diagram}
+use Rattle.station_graph.specs.Connection.{Item}
+use Rattle.contraction.specs.Answers.{Answers, Keeps, IsContraction}
+use Rattle.contraction.specs.Selecting.{Selected}
+use Rattle.contraction.specs.Stands.{Among}
+use Rattle.judge_pool.specs.declared.view.View.{View}
+use Rattle.judge_pool.specs.declared.batches.Made.{Made}
+use Rattle.judge_pool.specs.declared.batches.Batch.{Batch}
+use Rattle.judge_pool.specs.declared.pool.Pool.{Pool}
+use Rattle.judge_pool.specs.Seen.{SeenFor, SameSeen, ComposesIn, seen_row}
+use Rattle.judge_pool.specs.Folding.{AreApartIn, AreWell}
+
+-- The number that the index has for a row.
+abbrev pub number_in : {S : Type 0} → HashMap (List ℕ) ℕ S → List ℕ → Option ℕ
+number_in m row = get bytes_eq m row
+
+-- The index has the number of each value by its row, and no other number.
+pub record IsRowIndex {S : Type 0} (view : View) (values : List Answers) (m : HashMap (List ℕ) ℕ S) : Type 0 where
+  pub found : (row : List ℕ) (i : ℕ) → number_in m row ≡ Some i →
+      (x : Answers) × (slice_get values i ≡ Some x) × (row ≡ seen_row view x)
+  pub missing : (row : List ℕ) → number_in m row ≡ None → (i : ℕ) (x : Answers) → slice_get values i ≡ Some x →
+      row ≡ seen_row view x → ⊥
+
+-- The second list begins with the first.
+abbrev pub Extends : {X : Type 0} → List X → List X → Type 0
+Extends {X} old new = (i : ℕ) (x : X) → slice_get old i ≡ Some x → slice_get new i ≡ Some x
+
+-- The value of this number was made of two others on these nodes.
+pub record IsMadeOf (view : View) (x y : Answers) (keep : List ℕ) (values : List Answers) (t : ℕ) : Type 0 where
+  pub value : Answers
+  pub listed : slice_get values t ≡ Some value
+  pub composes : ComposesIn view x y value
+  pub kept : (n : ℕ) → Keeps value.kept n ↔ Contains keep n
+
+-- The value of this number was made as the key says.
+pub record WasMade (view : View) (values : List Answers) (keeps : List (List ℕ)) (k : Made) (t : ℕ) : Type 0 where
+  pub x : Answers
+  pub y : Answers
+  pub keep : List ℕ
+  pub first : slice_get values k.first ≡ Some x
+  pub second : slice_get values k.second ≡ Some y
+  pub nodes : slice_get keeps k.keep ≡ Some keep
+  pub made : IsMadeOf view x y keep values t
+
+-- The composition of the batch at one of its letters.
+abbrev pub composition : Batch → ℕ → Made
+composition b letter = record { first = b.first; second = letter; keep = b.keep }
+
+-- The lists of letters of the pool.
+abbrev pub letter_lists : Pool → List (List ℕ)
+letter_lists p = map (λ v. v.items) p.letters.items
+
+-- Letter by letter, these are the numbers of what the value of the batch and the letter make together.
+pub record MakesEach (p : Pool) (b : Batch) (letters ids : List ℕ) : Type 0 where
+  pub len : length ids ≡ length letters
+  pub made : (c j t : ℕ) → slice_get letters c ≡ Some j → slice_get ids c ≡ Some t →
+      WasMade p.view p.values.items p.keeps.items (composition b j) t
+
+-- From this place on stand the numbers of the batch, one behind the other.
+pub record HasBatch (p : Pool) (b : Batch) (start : ℕ) : Type 0 where
+  pub letters : List ℕ
+  pub ids : List ℕ
+  pub listed : slice_get (letter_lists p) b.letters ≡ Some letters
+  pub made : MakesEach p b letters ids
+  pub at : (c t : ℕ) → slice_get ids c ≡ Some t → slice_get p.made.items (start + c) ≡ Some t
+
+-- Both are of the same value, the same letters and the same nodes.
+abbrev pub same_batch : Batch → Batch → Bool
+same_batch a b = nat_eq a.first b.first && (nat_eq a.letters b.letters && nat_eq a.keep b.keep)
+
+-- Each batch that is noted begins where it is noted.
+abbrev pub NotesAreRight : {S : Type 0} → Pool → HashMap Batch ℕ S → Type 0
+NotesAreRight p m = (b : Batch) (start : ℕ) → get same_batch m b ≡ Some start → HasBatch p b start
+
+-- The pool has each value once, and its notes are right.
+pub record IsPool (p : Pool) : Type 0 where
+  pub index : IsRowIndex p.view p.values.items p.index
+  pub apart : AreApartIn p.view p.values.items
+  pub well : AreWell p.values.items
+  pub notes : NotesAreRight p p.notes
+
+-- The pool has what it had, and maybe more values, lists of nodes, lists of letters and numbers of made values.
+pub record GrewTo (old new : Pool) : Type 0 where
+  pub is_pool : IsPool new
+  pub view : new.view ≡ old.view
+  pub keeps : Extends old.keeps.items new.keeps.items
+  pub values : Extends old.values.items new.values.items
+  pub letters : Extends (letter_lists old) (letter_lists new)
+  pub made : Extends old.made.items new.made.items
+
+-- The pool has a value that is the same as this one in its view.
+pub record HasSame (p : Pool) (value : Answers) (t : ℕ) : Type 0 where
+  pub same : Answers
+  pub listed : slice_get p.values.items t ≡ Some same
+  pub is_same : SameSeen p.view value same
+  pub well : IsContraction value
+  pub well_same : IsContraction same
+
+-- The value of this number keeps the same nodes as this one, and answers for all that it answers for.
+pub record HasCopy (p : Pool) (x : Answers) (t : ℕ) : Type 0 where
+  pub value : Answers
+  pub listed : slice_get p.values.items t ≡ Some value
+  pub kept : (n : ℕ) → Keeps value.kept n ↔ Keeps x.kept n
+  pub stands : (items : List Item) (d : Diagram) (v : List Bool) → SeenFor p.view (Among items) d v x →
+      SeenFor p.view (Among items) d v value
+
+-- Each of the nodes of this number is kept by one of the two values.
+abbrev pub EitherKeeps : Pool → ℕ → ℕ → ℕ → Type 0
+EitherKeeps p first second keep =
+    (x y : Answers) (nodes : List ℕ) → slice_get p.values.items first ≡ Some x →
+    slice_get p.values.items second ≡ Some y → slice_get p.keeps.items keep ≡ Some nodes → (n : ℕ) → Contains nodes n →
+    Keeps x.kept n ⊎ Keeps y.kept n
+
+-- The pool has both values and the list of nodes, each of which one of the two keeps.
+pub record CanCompose (p : Pool) (k : Made) : Type 0 where
+  pub first : k.first < length p.values.items
+  pub second : k.second < length p.values.items
+  pub keep : k.keep < length p.keeps.items
+  pub either : EitherKeeps p k.first k.second k.keep
+
+-- So for each letter of the batch.
+abbrev pub LettersFit : Pool → Batch → List ℕ → Type 0
+LettersFit p b letters = (c j : ℕ) → slice_get letters c ≡ Some j → CanCompose p (composition b j)
+
+-- The selection is that of these of the nodes that two values keep.
+pub record Selects (x y : Answers) (nodes : List ℕ) (s : Selected) : Type 0 where
+  pub first : s.first ≡ x.kept
+  pub second : s.second ≡ y.kept
+  pub asked : s.nodes ≡ nodes
+
+-- So for the two values and the nodes of these numbers.
+abbrev pub SelectsFor : Pool → Made → Selected → Type 0
+SelectsFor p k s =
+    (x y : Answers) (nodes : List ℕ) → slice_get p.values.items k.first ≡ Some x →
+    slice_get p.values.items k.second ≡ Some y → slice_get p.keeps.items k.keep ≡ Some nodes → Selects x y nodes s
+
+-- The bytes are the row of a value on exactly these nodes that is two values together in this view.
+pub record IsRowOfBoth (view : View) (nodes : List ℕ) (x y : Answers) (bytes : List ℕ) : Type 0 where
+  pub value : Answers
+  pub contraction : IsContraction value
+  pub kept : (n : ℕ) → Keeps value.kept n ↔ Contains nodes n
+  pub composes : ComposesIn view x y value
+  pub row : bytes ≡ seen_row view value

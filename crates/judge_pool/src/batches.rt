@@ -1,0 +1,253 @@
+//! Compositions of values of a pool, by batches, each made once.
+ghost use Rattle.std.specs.Prelude.{◌≡◌, ℕ, ◌+◌, ◌<◌, ◌≤◌, ◌⊎◌, ◌↔◌, length, map, slice_get, Some};
+ghost use Rattle.std.specs.Prelude.{IfOk, IfSome, OnOk, Contains};
+ghost use Rattle.contraction.specs.Answers.{Keeps};
+ghost use Rattle.judge_pool.specs.declared.pool.Pool.{Pool as AnyPool};
+ghost use Rattle.judge_pool.specs.Seen.{ComposesIn};
+ghost use Rattle.judge_pool.specs.Pooling.{IsPool, GrewTo, Selects, SelectsFor, IsRowOfBoth, CanCompose, LettersFit};
+ghost use Rattle.judge_pool.specs.Pooling.{WasMade, MakesEach, HasBatch, NotesAreRight, letter_lists};
+
+use crate::pool::{Pool, find_row};
+use crate::view::View;
+use contraction::{Contraction, Selection};
+use ilk_base::{Memory, Text};
+use station_graph::NodeList;
+use std::alloc::Global;
+use std::collections::HashMap;
+
+// Of which two values, on which nodes, a value was made.
+#[derive(Clone, Copy)]
+pub(crate) struct Made {
+    pub(crate) first: usize,
+    pub(crate) second: usize,
+    pub(crate) keep: usize,
+}
+
+// The compositions of one value with each letter of a list, on the same nodes.
+#[derive(Clone, Copy, PartialEq, Eq, Hash)]
+pub(crate) struct Batch {
+    pub(crate) first: usize,
+    pub(crate) letters: usize,
+    pub(crate) keep: usize,
+}
+
+// The selection of these of the nodes that two values keep: the one at hand where it is that, else a new one.
+fn selection_for(
+    alloc: Global,
+    held: Option<Selection>,
+    x: &Contraction,
+    y: &Contraction,
+    keep: &NodeList,
+) -> Result<Selection, Memory>
+    ensures { IfOk result (Selects x.now y.now keep.now) }
+{
+    if let Some(selection) = held {
+        if selection.is_of(x.nodes(), y.nodes(), keep) {
+            return Ok(selection);
+        }
+    }
+    Selection::of(alloc, x.nodes(), y.nodes(), keep)
+}
+
+// The row of the composition of two values in this view, on a selection of their nodes.
+fn composed_row(
+    alloc: Global,
+    view: View,
+    x: &Contraction,
+    y: &Contraction,
+    selection: &Selection,
+) -> Result<Text, Memory>
+    requires first { selection.now.first ≡ x.now.kept }
+    requires second { selection.now.second ≡ y.now.kept }
+    requires nodes { (n : ℕ) → Contains selection.now.nodes n → Keeps x.now.kept n ⊎ Keeps y.now.kept n }
+    ensures { IfOk result (IsRowOfBoth view selection.now.nodes x.now y.now) }
+{
+    match view {
+        View::Gap => x.composed_gap_row(alloc, y, selection),
+        View::Load => x.composed_load_row(alloc, y, selection),
+    }
+}
+
+// The composition of two values in this view, on a selection of their nodes.
+fn composed(
+    alloc: Global,
+    view: View,
+    x: &Contraction,
+    y: &Contraction,
+    selection: &Selection,
+) -> Result<Contraction, Memory>
+    requires first { selection.now.first ≡ x.now.kept }
+    requires second { selection.now.second ≡ y.now.kept }
+    requires nodes { (n : ℕ) → Contains selection.now.nodes n → Keeps x.now.kept n ⊎ Keeps y.now.kept n }
+    ensures composes { IfOk result (ComposesIn view x.now y.now) }
+    ensures kept { IfOk result (λ r. (n : ℕ) → Keeps r.kept n ↔ Contains selection.now.nodes n) }
+{
+    match view {
+        View::Gap => x.compose_gap_on(alloc, y, selection),
+        View::Load => x.compose_load_on(alloc, y, selection),
+    }
+}
+
+// Where the batch begins, if it is noted.
+fn find_batch(notes: &HashMap<Batch, usize>, batch: Batch) -> Option<usize>
+    ensures { (p : AnyPool) → NotesAreRight p notes.now → IfSome result (HasBatch p batch) }
+{
+    match notes.get(&batch) {
+        Some(start) => Some(*start),
+        None => None,
+    }
+}
+
+// Notes where the batch begins.
+fn note_batch(notes: &mut HashMap<Batch, usize>, batch: Batch, start: usize) -> Result<(), Memory>
+    ensures { OnOk result ((p : AnyPool) → NotesAreRight p notes.old → HasBatch p batch start
+        → NotesAreRight p notes.new) }
+{
+    notes.insert(batch, start)?;
+    Ok(())
+}
+
+// The place of the list of letters among these.
+fn find_letters(lists: &[Vec<usize>], letters: &[usize]) -> Option<usize>
+    ensures { IfSome result (λ l. slice_get (map (λ v. v.items) lists.now) l ≡ Some letters.now) }
+{
+    for place in 0..lists.len() {
+        if lists[place].as_slice() == letters {
+            return Some(place);
+        }
+    }
+    None
+}
+
+impl Pool {
+    // The number of the list of letters, which the pool has once.
+    pub(crate) fn note_letters(&mut self, alloc: Global, letters: &[usize]) -> Result<usize, Memory>
+        requires { IsPool self.old }
+        ensures grew { OnOk result (GrewTo self.old self.new) }
+        ensures noted { IfOk result (λ l. slice_get (letter_lists self.new) l ≡ Some letters.now) }
+    {
+        if let Some(place) = find_letters(&self.letters, letters) {
+            return Ok(place);
+        }
+        let held = self.letters.as_slice();
+        let place = held.len();
+        self.letters.push(letters.to_vec(alloc)?)?;
+        Ok(place)
+    }
+
+    // Where the batch of the value with these letters, which have the number, begins. It is made once.
+    pub(crate) fn batch(
+        &mut self,
+        alloc: Global,
+        first: usize,
+        letters: &[usize],
+        number: usize,
+        keep: usize,
+    ) -> Result<usize, Memory>
+        requires pool { IsPool self.old }
+        requires letters { slice_get (letter_lists self.old) number ≡ Some letters.now }
+        requires some { 0 < length letters.now }
+        requires fit { LettersFit self.old (record { first = first; letters = number; keep = keep }) letters.now }
+        ensures grew { OnOk result (GrewTo self.old self.new) }
+        ensures batch { IfOk result (HasBatch self.new (record { first = first; letters = number; keep = keep })) }
+        ensures ends { IfOk result (λ start. start + length letters.now ≤ length self.new.made.items) }
+    {
+        let batch = Batch {
+            first,
+            letters: number,
+            keep,
+        };
+        if let Some(start) = find_batch(&self.notes, batch) {
+            return Ok(start);
+        }
+        let start = self.make_batch(alloc, batch, letters)?;
+        note_batch(&mut self.notes, batch, start)?;
+        Ok(start)
+    }
+
+    // Composes the batch, and puts it behind the others.
+    fn make_batch(
+        &mut self,
+        alloc: Global,
+        batch: Batch,
+        letters: &[usize],
+    ) -> Result<usize, Memory>
+        requires pool { IsPool self.old }
+        requires letters { slice_get (letter_lists self.old) batch.letters ≡ Some letters.now }
+        requires fit { LettersFit self.old batch letters.now }
+        ensures grew { OnOk result (GrewTo self.old self.new) }
+        ensures batch { IfOk result (HasBatch self.new batch) }
+    {
+        let ids = self.compose_all(alloc, batch, letters)?;
+        let held = self.made.as_slice();
+        let start = held.len();
+        self.made.extend_from_slice(&ids)?;
+        Ok(start)
+    }
+
+    // The numbers of what the value and each letter of the batch make together, in order.
+    fn compose_all(
+        &mut self,
+        alloc: Global,
+        batch: Batch,
+        letters: &[usize],
+    ) -> Result<Vec<usize>, Memory>
+        requires pool { IsPool self.old }
+        requires fit { LettersFit self.old batch letters.now }
+        ensures grew { OnOk result (GrewTo self.old self.new) }
+        ensures made { IfOk result (λ v. MakesEach self.new batch letters.now v.items) }
+    {
+        let mut ids = Vec::with_capacity(alloc, letters.len())?;
+        'letters: for c in 0..letters.len() {
+            let key = Made {
+                first: batch.first,
+                second: letters[c],
+                keep: batch.keep,
+            };
+            let id = self.compose(alloc, key)?;
+            ids.push(id)?;
+        }
+        Ok(ids)
+    }
+
+    // The number of the value that stands for both together, on these of their nodes.
+    fn compose(&mut self, alloc: Global, key: Made) -> Result<usize, Memory>
+        requires pool { IsPool self.old }
+        requires fits { CanCompose self.old key }
+        ensures grew { OnOk result (GrewTo self.old self.new) }
+        ensures made { IfOk result (λ t. WasMade self.new.view self.new.values.items self.new.keeps.items key t) }
+    {
+        let held = self.selection.take();
+        let x = &self.values[key.first];
+        let y = &self.values[key.second];
+        let selection = selection_for(alloc, held, x, y, &self.keeps[key.keep])?;
+        let place = self.find_or_make(alloc, key, &selection)?;
+        self.selection = Some(selection);
+        Ok(place)
+    }
+
+    // The number of the value that two values on this selection of their nodes make together. Where the pool has it,
+    // its row tells it, and it is not made.
+    fn find_or_make(
+        &mut self,
+        alloc: Global,
+        key: Made,
+        selection: &Selection,
+    ) -> Result<usize, Memory>
+        requires pool { IsPool self.old }
+        requires fits { CanCompose self.old key }
+        requires selection { SelectsFor self.old key selection.now }
+        ensures grew { OnOk result (GrewTo self.old self.new) }
+        ensures made { IfOk result (λ t. WasMade self.new.view self.new.values.items self.new.keeps.items key t) }
+    {
+        let x = &self.values[key.first];
+        let y = &self.values[key.second];
+        let row = composed_row(alloc, self.view, x, y, selection)?;
+        if let Some(place) = find_row(&self.index, &row) {
+            return Ok(place);
+        }
+        let value = composed(alloc, self.view, x, y, selection)?;
+        let place = self.intern(alloc, value)?;
+        Ok(place)
+    }
+}

@@ -1,0 +1,138 @@
+//! Values of one view, each kept once.
+ghost use Rattle.std.specs.Prelude.{◌≡◌, ℕ, ◌↔◌, ◌++◌, List, [], ◌∷◌, length, slice_get, Some, IfOk, IfSome};
+ghost use Rattle.std.specs.Prelude.{OnOk, MatchOption, Contains};
+ghost use Rattle.contraction.specs.Answers.{Answers, Keeps};
+ghost use Rattle.judge_pool.specs.declared.view.View.{View as Seen};
+ghost use Rattle.judge_pool.specs.Seen.{seen_row};
+ghost use Rattle.judge_pool.specs.Pooling.{IsRowIndex, IsPool, GrewTo, HasSame, HasCopy};
+
+use crate::batches::Batch;
+use crate::view::{View, row_in};
+use contraction::{Contraction, Selection};
+use ilk_base::{Memory, Text};
+use station_graph::NodeList;
+use std::alloc::Global;
+use std::collections::HashMap;
+
+/// Values of one view, each once, with lists of nodes that values are to keep. Batches of compositions stand one behind
+/// the other, and where each begins is noted, so that none is made twice. The selection of the last composition is at
+/// hand for the next, which is mostly of values on the same nodes.
+#[derive(Drop)]
+pub struct Pool {
+    /// the view
+    pub view: View,
+    /// the values, by number
+    pub values: Vec<Contraction>,
+    pub(crate) index: HashMap<Text, usize>,
+    /// the lists of nodes, by number
+    pub keeps: Vec<NodeList>,
+    pub(crate) letters: Vec<Vec<usize>>,
+    pub(crate) made: Vec<usize>,
+    pub(crate) notes: HashMap<Batch, usize>,
+    pub(crate) selection: Option<Selection>,
+}
+
+// The number that the index has for a row.
+pub(crate) fn find_row(index: &HashMap<Text, usize>, row: &Text) -> Option<usize>
+    ensures { (view : Seen) (values : List Answers) → IsRowIndex view values index.now → MatchOption result
+        ((i : ℕ) (x : Answers) → slice_get values i ≡ Some x → row.now ≡ seen_row view x → ⊥)
+        (λ i. (x : Answers) × (slice_get values i ≡ Some x) × (row.now ≡ seen_row view x)) }
+{
+    match index.get(row) {
+        Some(place) => Some(*place),
+        None => None,
+    }
+}
+
+// Makes the index know the row of a new value.
+fn note_row(index: &mut HashMap<Text, usize>, row: Text, place: usize) -> Result<(), Memory>
+    ensures { OnOk result ((view : Seen) (values : List Answers) (x : Answers) → IsRowIndex view values index.old
+        → place ≡ length values → row ≡ seen_row view x → IsRowIndex view (values ++ x ∷ []) index.new) }
+{
+    index.insert(row, place)?;
+    Ok(())
+}
+
+// The place of the list of nodes among these.
+fn find_keep(keeps: &[NodeList], nodes: &NodeList) -> Option<usize>
+    ensures { IfSome result (λ k. slice_get keeps.now k ≡ Some nodes.now) }
+{
+    for place in 0..keeps.len() {
+        if keeps[place] == *nodes {
+            return Some(place);
+        }
+    }
+    None
+}
+
+impl Pool {
+    /// A pool without values, for these lists of nodes.
+    pub fn new(alloc: Global, view: View, keeps: Vec<NodeList>) -> Pool
+        ensures pool { IsPool result }
+        ensures view { result.view ≡ view }
+        ensures keeps { result.keeps.items ≡ keeps.items }
+        ensures empty { result.values.items ≡ [] }
+    {
+        Pool {
+            view,
+            values: Vec::new(alloc),
+            index: HashMap::new(alloc),
+            keeps,
+            letters: Vec::new(alloc),
+            made: Vec::new(alloc),
+            notes: HashMap::new(alloc),
+            selection: None,
+        }
+    }
+
+    /// The number of the value that is the same in the view, which is put last where there is none.
+    pub fn intern(&mut self, alloc: Global, value: Contraction) -> Result<usize, Memory>
+        requires { IsPool self.old }
+        ensures grew { OnOk result (GrewTo self.old self.new) }
+        ensures same { IfOk result (HasSame self.new value) }
+    {
+        let row = row_in(alloc, self.view, &value)?;
+        match find_row(&self.index, &row) {
+            Some(place) => Ok(place),
+            None => {
+                let held = self.values.as_slice();
+                let place = held.len();
+                note_row(&mut self.index, row, place)?;
+                self.values.push(value)?;
+                Ok(place)
+            }
+        }
+    }
+
+    /// The number of the list of nodes, which the pool has once.
+    pub fn keep(&mut self, nodes: NodeList) -> Result<usize, Memory>
+        requires { IsPool self.old }
+        ensures grew { OnOk result (GrewTo self.old self.new) }
+        ensures kept { IfOk result (λ k. slice_get self.new.keeps.items k ≡ Some nodes) }
+    {
+        if let Some(place) = find_keep(&self.keeps, &nodes) {
+            return Ok(place);
+        }
+        let held = self.keeps.as_slice();
+        let place = held.len();
+        self.keeps.push(nodes)?;
+        Ok(place)
+    }
+
+    /// The number of a copy of the value, which keeps these nodes.
+    pub fn copy(
+        &mut self,
+        alloc: Global,
+        value: &Contraction,
+        nodes: &NodeList,
+    ) -> Result<usize, Memory>
+        requires pool { IsPool self.old }
+        requires nodes { (n : ℕ) → Keeps value.now.kept n ↔ Contains nodes.now n }
+        ensures grew { OnOk result (GrewTo self.old self.new) }
+        ensures copy { IfOk result (HasCopy self.new value.now) }
+    {
+        let same = value.keep_only(alloc, nodes)?;
+        let id = self.intern(alloc, same)?;
+        Ok(id)
+    }
+}

@@ -1,0 +1,30 @@
+//! The two views of a contraction.
+ghost use Rattle.std.specs.Prelude.{◌≡◌, ◌↔◌, IfOk};
+ghost use Rattle.contraction.specs.Answers.{Answers, IsContraction};
+ghost use Rattle.judge_pool.specs.Seen.{seen_row, SameSeen};
+
+use contraction::Contraction;
+use ilk_base::{Memory, Text};
+use std::alloc::Global;
+
+/// One of the two views of a contraction.
+#[derive(Clone, Copy)]
+pub enum View {
+    /// what is coupled, energisable and earthable
+    Gap,
+    /// what is joined, bonded and supplied
+    Load,
+}
+
+// The row of this view.
+pub(crate) fn row_in(alloc: Global, view: View, value: &Contraction) -> Result<Text, Memory>
+    ensures row { IfOk result (λ t. t ≡ seen_row view value.now) }
+    ensures tells { IfOk result (λ t. (other : Answers) → IsContraction other
+        → (t ≡ seen_row view other) ↔ SameSeen view value.now other) }
+    ensures answers { IsContraction value.now }
+{
+    match view {
+        View::Gap => value.gap_row(alloc),
+        View::Load => value.load_row(alloc),
+    }
+}

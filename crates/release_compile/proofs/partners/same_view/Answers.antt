@@ -1,8 +1,0 @@
-use Rattle.std.proofs.Common.{◌∙◌, sym}
-use Rattle.release_compile.proofs.TellingLemmas.{view_same}
-use Rattle.release_compile.proofs.partners.same_view.Goals as goal
-
-pub returns : goal.returns
-returns c h =
-    view_same c.args.one.now c.args.other.now (sym c.as_ref.ensures ∙ (c.same.ensures c.if-not-same.false ∙ c.as_ref-2.ensures))
-    (sym c.deref.ensures.value ∙ (c.same_inners.ensures h ∙ c.deref-2.ensures.value))

@@ -1,0 +1,15 @@
+pub mod LeadsLemmas
+pub mod TextLemmas
+pub mod FollowLemmas
+pub mod GraphFacts
+pub mod GrowingLemmas
+pub mod ApartLemmas
+pub mod ChoosingLemmas
+pub mod AnswerLemmas
+pub mod PartsLemmas
+pub mod TurnLemmas
+pub mod MeaningLemmas
+pub mod CompileLemmas
+pub mod ReadyLemmas
+pub mod CountedLemmas
+pub mod ReachedLemmas

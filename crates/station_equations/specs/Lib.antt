@@ -1,0 +1,11 @@
+pub mod EquationLines
+pub mod EquationMeaning
+pub mod EquationForm
+pub mod EquationText
+pub mod Inside
+pub mod Subjects
+pub mod Growing
+pub mod Compiling
+pub mod Apart
+pub mod NodeCount
+pub mod CompileText

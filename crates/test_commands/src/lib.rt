@@ -1,0 +1,19 @@
+//! Tests of what each command works out: words, blocks, equations, plans, orders and stations that are made.
+#![tactic(auto)]
+
+#[cfg(test)]
+mod audits;
+#[cfg(test)]
+mod equations;
+#[cfg(test)]
+mod equations_read;
+#[cfg(test)]
+mod makes;
+#[cfg(test)]
+mod orders;
+#[cfg(test)]
+mod plans;
+#[cfg(test)]
+mod taken;
+#[cfg(test)]
+mod words;

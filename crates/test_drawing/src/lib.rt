@@ -1,0 +1,15 @@
+//! Tests of the reading of drawings: the tree of a text, and the station for which a drawing stands.
+#![tactic(auto)]
+
+#[cfg(test)]
+mod drawings;
+#[cfg(test)]
+mod exported;
+#[cfg(test)]
+mod refusals;
+#[cfg(test)]
+mod refused_rows;
+#[cfg(test)]
+mod stations;
+#[cfg(test)]
+mod trees;

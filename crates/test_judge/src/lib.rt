@@ -1,0 +1,25 @@
+//! Tests of contractions, alphabets, decision graphs and the judge by graphs, on small stations worked by hand.
+#![tactic(auto)]
+
+#[cfg(test)]
+mod agree;
+#[cfg(test)]
+mod alike;
+#[cfg(test)]
+mod alphabets;
+#[cfg(test)]
+mod answers;
+#[cfg(test)]
+mod composed;
+#[cfg(test)]
+mod ends;
+#[cfg(test)]
+mod graphs;
+#[cfg(test)]
+mod questions;
+#[cfg(test)]
+mod renamed;
+#[cfg(test)]
+mod selected;
+#[cfg(test)]
+mod table;

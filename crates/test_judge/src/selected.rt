@@ -1,0 +1,270 @@
+//! Two contractions together on some of their nodes, in one view alone.
+ghost use Rattle.std.specs.Prelude.{◌≡◌, ◌⊎◌, ℕ, IsTrue, Contains};
+ghost use Rattle.contraction.specs.Answers.{Keeps};
+
+use crate::composed::{Items, kept_of, nodes_of};
+use contraction::{Contraction, Selection};
+use ilk_base::{Memory, Text};
+use station_graph::{NodeList, Station};
+use std::alloc::Global;
+use std::process::Abort;
+use std::test::Fail;
+use test_stations::{Example, built};
+
+// Which part of the station, and the nodes on which it is told.
+type Told = (u8, &'static [u16]);
+
+// Two parts in these positions, the nodes on which both are told together, and the bytes of both rows there. The gap
+// row has the nodes, the labels of what is coupled, and a mark for each node that is energisable, then one for each
+// that is earthable. The load row has the nodes, the labels of what is joined, those of what is bonded, and a mark
+// for each node that is fed, then one for each that is fed or tapped. A number has two bytes; a label is the first
+// place of its class.
+struct Row {
+    drawing: Example,
+    closed: &'static [u8],
+    first: Told,
+    second: Told,
+    nodes: &'static [u16],
+    gap: &'static [u8],
+    load: &'static [u8],
+}
+
+// Each feeder is told on the busbar and the end of its line. Both lines are on, and the first feeder's breaker is open;
+// both are off, with that breaker open; the second line is on, and the first is through and earthed; the same with the
+// first line on too, behind its open busbar disconnector. Then a transformer to the other voltage, and the bay between
+// the busbars with its disconnector open: it joins the two voltages without bonding them.
+const ROWS: &[Row] = &[
+    Row {
+        drawing: Example::TwoFeeders,
+        closed: b"1010111101",
+        first: (1, &[0, 3]),
+        second: (2, &[0, 6]),
+        nodes: &[3, 6],
+        gap: &[0, 3, 0, 6, 0, 0, 0, 0, 1, 1, 0, 0],
+        load: &[0, 3, 0, 6, 0, 0, 0, 1, 0, 0, 0, 1, 1, 1, 1, 1],
+    },
+    Row {
+        drawing: Example::TwoFeeders,
+        closed: b"1010011100",
+        first: (1, &[0, 3]),
+        second: (2, &[0, 6]),
+        nodes: &[0, 6],
+        gap: &[0, 0, 0, 6, 0, 0, 0, 0, 0, 0, 0, 0],
+        load: &[0, 0, 0, 6, 0, 0, 0, 0, 0, 0, 0, 0, 0, 0, 1, 1],
+    },
+    Row {
+        drawing: Example::TwoFeeders,
+        closed: b"1111011101",
+        first: (1, &[0, 3]),
+        second: (2, &[0, 6]),
+        nodes: &[0],
+        gap: &[0, 0, 0, 0, 1, 1],
+        load: &[0, 0, 0, 0, 0, 0, 1, 1],
+    },
+    Row {
+        drawing: Example::TwoFeeders,
+        closed: b"0111111101",
+        first: (1, &[0, 3]),
+        second: (2, &[0, 6]),
+        nodes: &[0, 3, 6],
+        gap: &[0, 0, 0, 3, 0, 6, 0, 0, 0, 1, 0, 0, 1, 1, 1, 0, 1, 0],
+        load: &[
+            0, 0, 0, 3, 0, 6, 0, 0, 0, 1, 0, 0, 0, 0, 0, 1, 0, 0, 1, 1, 1, 1, 1, 1,
+        ],
+    },
+    Row {
+        drawing: Example::TwoTransformers,
+        closed: b"01",
+        first: (0, &[0, 2]),
+        second: (4, &[0, 1]),
+        nodes: &[0, 1, 2],
+        gap: &[0, 0, 0, 1, 0, 2, 0, 0, 0, 1, 0, 0, 1, 0, 1, 0, 0, 0],
+        load: &[
+            0, 0, 0, 1, 0, 2, 0, 0, 0, 1, 0, 0, 0, 0, 0, 1, 0, 2, 1, 0, 1, 1, 0, 1,
+        ],
+    },
+];
+
+// Whether these are the bytes of the text.
+fn is_text(text: &Text, bytes: &[u8]) -> bool {
+    text.bytes() == bytes
+}
+
+// Whether each of the nodes is kept by one of the two.
+fn either_keeps(x: &Contraction, y: &Contraction, nodes: &NodeList) -> bool
+    ensures { IsTrue result → (n : ℕ) → Contains nodes.now n → Keeps x.now.kept n ⊎ Keeps y.now.kept n }
+{
+    for i in 0..nodes.len() {
+        let node = nodes.get(i);
+        if !x.keeps(node) && !y.keeps(node) {
+            return false;
+        }
+    }
+    true
+}
+
+// The gap row of the value that both have together on these nodes.
+fn gap_row(
+    alloc: Global,
+    x: &Contraction,
+    y: &Contraction,
+    nodes: &NodeList,
+) -> Result<Text, Memory>
+    requires { (n : ℕ) → Contains nodes.now n → Keeps x.now.kept n ⊎ Keeps y.now.kept n }
+{
+    x.compose_gap(alloc, y, nodes)?.gap_row(alloc)
+}
+
+// The load row of the value that both have together on these nodes.
+fn load_row(
+    alloc: Global,
+    x: &Contraction,
+    y: &Contraction,
+    nodes: &NodeList,
+) -> Result<Text, Memory>
+    requires { (n : ℕ) → Contains nodes.now n → Keeps x.now.kept n ⊎ Keeps y.now.kept n }
+{
+    x.compose_load(alloc, y, nodes)?.load_row(alloc)
+}
+
+// The gap row of the value that both have together on a selection.
+fn gap_row_on(
+    alloc: Global,
+    x: &Contraction,
+    y: &Contraction,
+    selection: &Selection,
+) -> Result<Text, Memory>
+    requires first { selection.now.first ≡ x.now.kept }
+    requires second { selection.now.second ≡ y.now.kept }
+    requires nodes { (n : ℕ) → Contains selection.now.nodes n → Keeps x.now.kept n ⊎ Keeps y.now.kept n }
+{
+    x.compose_gap_on(alloc, y, selection)?.gap_row(alloc)
+}
+
+// The load row of the value that both have together on a selection.
+fn load_row_on(
+    alloc: Global,
+    x: &Contraction,
+    y: &Contraction,
+    selection: &Selection,
+) -> Result<Text, Memory>
+    requires first { selection.now.first ≡ x.now.kept }
+    requires second { selection.now.second ≡ y.now.kept }
+    requires nodes { (n : ℕ) → Contains selection.now.nodes n → Keeps x.now.kept n ⊎ Keeps y.now.kept n }
+{
+    x.compose_load_on(alloc, y, selection)?.load_row(alloc)
+}
+
+// Whether both rows on these nodes are those of the table.
+fn has_rows(
+    alloc: Global,
+    x: &Contraction,
+    y: &Contraction,
+    nodes: &NodeList,
+    row: &Row,
+) -> Result<bool, Memory>
+    requires { (n : ℕ) → Contains nodes.now n → Keeps x.now.kept n ⊎ Keeps y.now.kept n }
+{
+    let gap = is_text(&gap_row(alloc, x, y, nodes)?, row.gap);
+    let load = is_text(&load_row(alloc, x, y, nodes)?, row.load);
+    Ok(gap && load)
+}
+
+// Whether both rows on a selection are those of the table, of the value and without it.
+fn has_rows_on(
+    alloc: Global,
+    x: &Contraction,
+    y: &Contraction,
+    selection: &Selection,
+    row: &Row,
+) -> Result<bool, Memory>
+    requires first { selection.now.first ≡ x.now.kept }
+    requires second { selection.now.second ≡ y.now.kept }
+    requires nodes { (n : ℕ) → Contains selection.now.nodes n → Keeps x.now.kept n ⊎ Keeps y.now.kept n }
+{
+    let gap = is_text(&gap_row_on(alloc, x, y, selection)?, row.gap);
+    let load = is_text(&load_row_on(alloc, x, y, selection)?, row.load);
+    let gap_alone = is_text(&x.composed_gap_row(alloc, y, selection)?, row.gap);
+    let load_alone = is_text(&x.composed_load_row(alloc, y, selection)?, row.load);
+    Ok(gap && load && gap_alone && load_alone)
+}
+
+// Whether both rows on the selection of these nodes are those of the table.
+fn has_rows_selected(
+    alloc: Global,
+    x: &Contraction,
+    y: &Contraction,
+    nodes: &NodeList,
+    row: &Row,
+) -> Result<bool, Memory>
+    requires { (n : ℕ) → Contains nodes.now n → Keeps x.now.kept n ⊎ Keeps y.now.kept n }
+{
+    let selection = Selection::of(alloc, x.nodes(), y.nodes(), nodes)?;
+    has_rows_on(alloc, x, y, &selection, row)
+}
+
+fn expect_rows(
+    rt: &impl Abort,
+    alloc: Global,
+    x: &Contraction,
+    y: &Contraction,
+    nodes: &NodeList,
+    row: &Row,
+) -> Result<(), Fail> {
+    assert!(rt; either_keeps(x, y, nodes));
+    assert!(rt; has_rows(alloc, x, y, nodes, row)?);
+    assert!(rt; has_rows_selected(alloc, x, y, nodes, row)?);
+    Ok(())
+}
+
+// Whether the selection of these nodes is that of the two, and of no other two and no other nodes.
+fn is_its_own(
+    alloc: Global,
+    x: &Contraction,
+    y: &Contraction,
+    nodes: &NodeList,
+) -> Result<bool, Memory> {
+    let selection = Selection::of(alloc, x.nodes(), y.nodes(), nodes)?;
+    let own = selection.is_of(x.nodes(), y.nodes(), nodes);
+    let turned = selection.is_of(y.nodes(), x.nodes(), nodes);
+    let first_twice = selection.is_of(x.nodes(), x.nodes(), nodes);
+    let nowhere = selection.is_of(x.nodes(), y.nodes(), &NodeList::new(alloc));
+    Ok(own && !turned && !first_twice && !nowhere)
+}
+
+fn expect_on(rt: &impl Abort, alloc: Global, station: &Station, row: &Row) -> Result<(), Fail> {
+    let (first, first_kept) = row.first;
+    let (second, second_kept) = row.second;
+    let x = kept_of(
+        rt,
+        alloc,
+        station,
+        Items::Part(first),
+        row.closed,
+        first_kept,
+    )?;
+    let y = kept_of(
+        rt,
+        alloc,
+        station,
+        Items::Part(second),
+        row.closed,
+        second_kept,
+    )?;
+    let nodes = nodes_of(alloc, row.nodes)?;
+    assert!(rt; is_its_own(alloc, &x, &y, &nodes)?);
+    expect_rows(rt, alloc, &x, &y, &nodes, row)
+}
+
+fn expect_row(rt: &impl Abort, alloc: Global, row: &Row) -> Result<(), Fail> {
+    let station = built(alloc, row.drawing)?;
+    expect_on(rt, alloc, &station, row)
+}
+
+#[test]
+fn parts_in_one_view(rt: HostRuntime) -> Result<(), Fail> {
+    for row in ROWS {
+        expect_row(&rt, rt.alloc(), row)?;
+    }
+    Ok(())
+}

@@ -1,0 +1,9 @@
+//! The stations that tests are worked on, as tables, for the test crates.
+#![tactic(auto)]
+
+mod drawing;
+mod example;
+mod tables;
+
+pub use drawing::{Drawing, DrawingFault, SwitchLine, station_of};
+pub use example::{Example, built, drawing_of};

@@ -1,0 +1,7 @@
+//! Tests of words, files and streams, and of the lines of a text.
+#![tactic(auto)]
+
+#[cfg(test)]
+mod lines;
+#[cfg(test)]
+mod outside;

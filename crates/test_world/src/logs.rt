@@ -1,0 +1,182 @@
+//! Log files and what they give; the expected events and refusals are those of the format.
+use ilk_base::{BayId, Dbpos, Direction, InputRefusal, Op, SwitchId, Text};
+use log_replay::{LogFault, read_log};
+use reservation_core::{LogEvent, WorldEvent};
+use station_graph::Station;
+use std::alloc::Global;
+use std::process::Abort;
+use std::test::Fail;
+use test_stations::{Example, built};
+
+// The last event of a log, if it has one, or why the bytes are none.
+fn last_event(
+    alloc: Global,
+    station: &Station,
+    bytes: &[u8],
+) -> Result<Option<LogEvent>, LogFault> {
+    let log = read_log(alloc, station, bytes)?;
+    if log.count() == 0 {
+        return Ok(None);
+    }
+    Ok(Some(log.event(log.count() - 1)))
+}
+
+const SWITCH: SwitchId = SwitchId(0);
+
+// Logs on a station with one switch, `S/V1/Q1/QC9`, and the last event of each.
+const EVENTS: &[(&[u8], LogEvent)] = &[
+    (
+        b"command,S/V1/Q1/QC9,close\n",
+        LogEvent::Step(WorldEvent::Command(Op {
+            switch: SWITCH,
+            direction: Direction::ToOn,
+        })),
+    ),
+    (
+        b"sense,S/V1/Q1/QC9,lost",
+        LogEvent::Step(WorldEvent::Sense {
+            switch: SWITCH,
+            word: Dbpos::Lost,
+        }),
+    ),
+    (
+        b"begin,S/V1/Q1/QC9",
+        LogEvent::Step(WorldEvent::Begin(SWITCH)),
+    ),
+    (
+        b"end,S/V1/Q1/QC9\r\n",
+        LogEvent::Step(WorldEvent::End(SWITCH)),
+    ),
+    (
+        b"cut,\"S/V1/Q1/QC9\"",
+        LogEvent::Step(WorldEvent::Cut(SWITCH)),
+    ),
+    (
+        b"deliver,4294967295",
+        LogEvent::Step(WorldEvent::Deliver {
+            message: 4_294_967_295,
+        }),
+    ),
+    (
+        b"part,1,64",
+        LogEvent::Step(WorldEvent::Part {
+            message: 1,
+            bytes: 64,
+        }),
+    ),
+    (
+        b"\n\ntick,S/V1/Q1\n\n",
+        LogEvent::Step(WorldEvent::Tick(BayId(0))),
+    ),
+    (
+        b"withdraw,S/V1/Q1",
+        LogEvent::Step(WorldEvent::Withdraw(BayId(0))),
+    ),
+    (
+        b"restart,S/V1/Q1",
+        LogEvent::Step(WorldEvent::Restart(BayId(0))),
+    ),
+    (
+        b"at,S/V1/Q1/QC9,off",
+        LogEvent::At {
+            switch: SWITCH,
+            closed: false,
+        },
+    ),
+    (
+        b"\xEF\xBB\xBFat,S/V1/Q1/QC9,on\n",
+        LogEvent::At {
+            switch: SWITCH,
+            closed: true,
+        },
+    ),
+];
+
+fn expect_events(rt: &impl Abort, alloc: Global, station: &Station) {
+    for (bytes, want) in EVENTS {
+        assert!(rt; last_event(alloc, station, bytes) == Ok(Some(*want)));
+    }
+    assert!(rt; last_event(alloc, station, b"\n\r\n") == Ok(None));
+}
+
+#[test]
+fn reads_each_kind(rt: HostRuntime) -> Result<(), Fail> {
+    let station = built(rt.alloc(), Example::OneEarthed)?;
+    expect_events(&rt, rt.alloc(), &station);
+    Ok(())
+}
+
+// Logs, and the number and the line with which each is refused.
+const REFUSED: &[(&[u8], u8, u32)] = &[
+    (b"tick", 1, 1),
+    (b"tick,S/V1/Q1,", 1, 1),
+    (b"tick,S/V1/Q1\xFF", 1, 1),
+    (b"tick,S/V1/Q2", 2, 1),
+    (b"tick,S/V1/Q1\n\nbegin,S/V1/Q1", 2, 2),
+    (b"command,S/V1/Q1/QC9,on", 3, 1),
+    (b"sense,S/V1/Q1/QX,up", 2, 1),
+    (b"sense,S/V1/Q1/QC9,up", 3, 1),
+    (b"at,S/V1/Q1/QC9,lost", 3, 1),
+    (b"at,S/V1/Q1/QC9,on\nat,S/V1/Q1/QC9,off", 4, 2),
+    (b"tack,S/V1/Q1", 6, 1),
+    (b",S/V1/Q1", 6, 1),
+    (b"sense,S/V1/Q1/QC9,lost\nat,S/V1/Q1/QX,up", 7, 2),
+    (b"deliver,0", 8, 1),
+    (b"deliver,01", 8, 1),
+    (b"deliver,+1", 8, 1),
+    (b"deliver,4294967296", 8, 1),
+    (b"part,1,65", 8, 1),
+    (b"part,0,x", 8, 1),
+    (b"deliver,1\ntack\ndeliver,0", 6, 2),
+];
+
+fn expect_refused(
+    rt: &impl Abort,
+    alloc: Global,
+    station: &Station,
+    bytes: &[u8],
+    number: u8,
+    line: u32,
+) {
+    let want = LogFault::Refused(InputRefusal { number, line });
+    assert!(rt; last_event(alloc, station, bytes) == Err(want));
+}
+
+fn expect_all_refused(rt: &impl Abort, alloc: Global, station: &Station) {
+    for (bytes, number, line) in REFUSED {
+        expect_refused(rt, alloc, station, bytes, *number, *line);
+    }
+}
+
+#[test]
+fn refuses_at_the_first_fault(rt: HostRuntime) -> Result<(), Fail> {
+    let station = built(rt.alloc(), Example::OneEarthed)?;
+    expect_all_refused(&rt, rt.alloc(), &station);
+    Ok(())
+}
+
+// A log of the most records.
+fn long_log(alloc: Global) -> Result<Text, Fail> {
+    let mut text = Text::new(alloc);
+    for _ in 0..20_000 {
+        text.push(b"tick,S/V1/Q1\n")?;
+    }
+    Ok(text)
+}
+
+fn expect_limits(rt: &impl Abort, alloc: Global, station: &Station) -> Result<(), Fail> {
+    let mut text = long_log(alloc)?;
+    let tick = LogEvent::Step(WorldEvent::Tick(BayId(0)));
+    assert!(rt; last_event(alloc, station, text.bytes()) == Ok(Some(tick)));
+    text.push(b"tack\n")?;
+    expect_refused(rt, alloc, station, text.bytes(), 9, 20_001);
+    let large = vec![in alloc; b'x'; 8_388_609]?;
+    expect_refused(rt, alloc, station, &large, 5, 0);
+    Ok(())
+}
+
+#[test]
+fn keeps_the_limits(rt: HostRuntime) -> Result<(), Fail> {
+    let station = built(rt.alloc(), Example::OneEarthed)?;
+    expect_limits(&rt, rt.alloc(), &station)
+}

@@ -1,9 +1,0 @@
-//! The stations that tests are worked on, as tables, for the test crates and tests of the others.
-#![tactic(auto)]
-
-mod drawing;
-mod example;
-mod tables;
-
-pub use drawing::{Drawing, DrawingFault, SwitchLine, station_of};
-pub use example::{Example, built, drawing_of};
