@@ -53,7 +53,7 @@ def program(crate="interlock"):
     """The program of a crate as it was proved and built."""
     path = pathlib.Path(sys.argv[1]) if len(sys.argv) > 1 else TOP / f"crates/{crate}/out/{crate}"
     if not path.exists():
-        how = "./interlock --prove" if crate == "interlock" else f"(cd crates/{crate} && rt run)"
+        how = "./interlock --prove" if crate == "interlock" else "(cd crates/bench_parts && rt run -- graphs 4 3 5 4)"
         sys.exit(f"{path} is not there; build it first: {how}")
     return path.resolve()
 

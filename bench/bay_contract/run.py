@@ -2,8 +2,8 @@
 """Times the alphabets of all parts of double busbars of 3, 40 and 60 feeders, which are alike, and those of parts with 24
 disconnectors that have 4,096 contractions on the way.
 
-Build the program first: (cd crates/bay_contract_bench && rt run). A time is the shortest of nine runs, without the reading
-of the drawing.
+Build the program first: (cd crates/bench_parts && rt run -- graphs 4 3 5 4). A time is the shortest of nine runs,
+without the reading of the drawing.
 """
 import pathlib
 import sys
@@ -36,12 +36,12 @@ def timed(program, text):
     """The letters, and the milliseconds, of the shortest of nine runs."""
     with common.folder() as folder:
         pathlib.Path(folder, "drawing.ssd").write_text(text)
-        runs = [common.printed([program, "time"], cwd=folder).splitlines() for _ in range(9)]
+        runs = [common.printed([program, "alphabets", "time"], cwd=folder).splitlines() for _ in range(9)]
     return runs[0][0].split()[1], min(int(lines[1].split()[1]) for lines in runs) / 1000
 
 
 def figures():
-    program = common.program("bay_contract_bench")
+    program = common.program("bench_parts")
     for feeders, most in MOST.items():
         letters, spent = timed(program, common.double_busbar(feeders)[0])
         yield Figure(f"alphabets of {feeders} feeders", spent, "ms", most, f"{letters} letters")

@@ -2,8 +2,8 @@
 """Times the graphs of all bays of double busbars of 3, 40 and 60 feeders, and the verdicts of all operations where no
 position is known.
 
-Build the program first: (cd crates/release_compile_bench && rt run). A time is the shortest of nine runs, without the
-reading of the drawing.
+Build the program first: (cd crates/bench_parts && rt run -- graphs 4 3 5 4). A time is the shortest of nine runs,
+without the reading of the drawing.
 """
 import pathlib
 import sys
@@ -17,11 +17,11 @@ MOST = {3: None, 40: 30, 60: 40}
 
 
 def figures():
-    program = common.program("release_compile_bench")
+    program = common.program("bench_parts")
     for feeders, most in MOST.items():
         with common.folder() as folder:
             pathlib.Path(folder, "drawing.ssd").write_text(common.double_busbar(feeders)[0])
-            runs = [common.printed([program, "time"], cwd=folder).split() for _ in range(9)]
+            runs = [common.printed([program, "verdicts", "time"], cwd=folder).split() for _ in range(9)]
         denied = runs[0][3]
         built = min(int(words[1]) for words in runs) / 1000
         judged = min(int(words[5]) for words in runs) / 1000

@@ -1,7 +1,7 @@
 #!/usr/bin/env python3
 """Times the reading of the text of a drawing as a tree, and measures the memory of the tree.
 
-Build the program first: (cd crates/ssd_text_bench && rt run). The texts:
+Build the program first: (cd crates/bench_parts && rt run -- graphs 4 3 5 4). The texts:
 
 - full: a drawing of 8,388,608 bytes with 200,000 elements, each with two attributes
 - attributes: one start tag with as many attributes as fit, and one with 100,000
@@ -57,23 +57,23 @@ def nested(elements):
     return b"".join(parts) + b"</SCL>"
 
 
-def told(program, folder, word):
+def told(program, folder, *words):
     """what the program prints of the text in the folder, by the first word of each line"""
-    lines = (line.split() for line in common.printed([program, word], cwd=folder).splitlines())
+    lines = (line.split() for line in common.printed([program, *words], cwd=folder).splitlines())
     return {line[0]: int(line[1]) for line in lines}
 
 
 def measure(program, folder, text):
     """milliseconds, elements, and bytes of memory for each element"""
     pathlib.Path(folder, "drawing.ssd").write_bytes(text)
-    runs = [told(program, folder, "time") for _ in range(7)]
+    runs = [told(program, folder, "elements", "time") for _ in range(7)]
     elements = runs[0]["elements"]
     memory = (runs[0]["VmHWM:"] - told(program, folder, "load")["VmHWM:"]) * 1024
     return min(r["microseconds"] for r in runs) / 1e3, elements, memory / elements
 
 
 def figures():
-    program = common.program("ssd_text_bench")
+    program = common.program("bench_parts")
     texts = [
         ("full", full(LIMIT // 2, 100_000), full(LIMIT, 200_000)),
         ("attributes, 100,000", attributes(LIMIT, 50_000), attributes(LIMIT, 100_000)),

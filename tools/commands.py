@@ -1,0 +1,113 @@
+"""The commands of the program, as its help and README.md say them; tools/check_readme.py compares the two."""
+import textwrap
+from typing import NamedTuple
+
+STATUSES = {
+    0: "all is written",
+    1: "all is written, and a step was found that is denied or idle, or an equation that is loose or strict",
+    2: "the words are not those of a command",
+    3: "a file, the input or the device could not be read",
+    4: "the output or the device could not be written",
+    5: "the drawing is refused",
+    6: "another input is refused",
+    7: "the log breaks a premise of the outside",
+    8: "there was not enough memory",
+    9: "more than 1,000,000 lines",
+    70: "of the script: the checked build gave no answer",
+    127: "of the script: neither the proved program nor the Rattle kit is here",
+}
+# Those with which every command may end.
+OF_ALL = {0, 2, 4, 8, 70, 127}
+
+
+class Command(NamedTuple):
+    """A command: its words as README.md has them; what it does, in a few words; what README.md says that it answers; its
+    statuses beside those of all; the places of the words that name files; and what its help says."""
+    forms: str
+    does: str
+    answer: str
+    statuses: set
+    files: tuple
+    # what its help says in place of README.md's words, where it says more
+    more: str = ""
+
+    def words(self):
+        return self.forms.split("`")[1]
+
+    def name(self):
+        return self.words().split()[0]
+
+
+ROWS = [
+    Command("`check STATION POSITIONS`", "both releases of each switch",
+            "for each switch both releases, and a reading for each denial", {3, 5, 6}, (1, 2)),
+    Command("`explain STATION POSITIONS open SWITCH`, or `close`", "why one operation is released or denied",
+            "that one operation is released, or why not: the ways by which a node is live and earthed, or the "
+            "load on both sides and what bonds them", {3, 5, 6}, (1, 2),
+            "that one operation is released, or why not: the way by which a node is energised (`live`), the way "
+            "by which it is earthed (`earthed`), or the load on both sides (`tap`) and all that is bonded to the "
+            "first side (`bonded`), among which the second is not"),
+    Command("`state STATION POSITIONS`", "which nodes are live and which earthed",
+            "for each node whether it is `live`, `dead` or `unknown`, and `earthed`, `free` or `unknown`, over "
+            "every reading of the positions", {3, 5, 6}, (1, 2),
+            "for each node a line `VOLTAGE EARTH PATH`: `live`, `dead` or `unknown`, and `earthed`, `free` or "
+            "`unknown`, over every reading of the positions"),
+    Command("`order STATION POSITIONS ORDER`", "a switching order, judged in advance",
+            "each step of a switching order: `ok`, `denied` with its rule, or `idle`; where all are ok, also "
+            "whether the order can be undone", {1, 3, 5, 6}, (1, 2, 3),
+            "each step of a switching order, judged from the positions after those before it: `ok`, `denied` with"
+            " its rule, or `idle`; where all are ok, also whether the order can be undone"),
+    Command("`replay STATION LOG`", "what every bay does over a log",
+            "what every bay does over a log of commands, readings, drives and messages: who was granted what, in "
+            "which line", {3, 5, 6, 7}, (1, 2),
+            "what every bay of the station does over a log of commands, readings, drives, and messages that are "
+            "delivered, lost, repeated or cut: who was granted what, in which line"),
+    Command("`trips STATION LOG`", "the same of a log in which breakers may trip",
+            "the same of a log in which protection may open breakers at any moment (`trip` records)", {3, 5, 6, 7}, (1, 2)),
+    Command("`plan STATION`", "who must talk to whom, as JSON",
+            "who must talk to whom, as JSON: for each bay the bays whose positions can change an answer for it", {3, 5}, (1,),
+            "who must talk to whom, as JSON: for each bay exactly the bays whose positions can change an answer "
+            "for one of its operations"),
+    Command("`compile STATION`", "the release equations of the whole station",
+            "the release equations of the whole station as one text, whose meaning is the rules", {3, 5}, (1,)),
+    Command("`audit STATION EQUATIONS`", "hand-written equations held against the rules",
+            "each hand-written equation held against the rules: `same`, `loose` or `strict`, with a vector that "
+            "shows it", {1, 3, 5, 6}, (1, 2),
+            "each hand-written equation held against the rules: `same`, `loose` with a vector in which it "
+            "releases what they forbid, or `strict` with a position in which it denies what they allow"),
+    Command("`node STATION BAY`", "one bay's controller, over lines",
+            "one bay's controller: commands, readings and messages come in as lines, outcomes and messages go out", {3, 5, 6, 9}, (1,),
+            "one bay's controller: commands, readings and messages come in as lines, outcomes and messages go "
+            "out, each line answered before the next is asked for"),
+    # The file of `stored` is written, so that only the proved program runs it.
+    Command("`stored STATION BAY FILE`", "the same, with its record kept in a file",
+            "the same, with what the bay must not forget kept in FILE: it may be switched off at any moment, and "
+            "goes on from there", {3, 5, 6, 9}, (),
+            "the same, with what the bay must not forget kept in FILE: before a line's text is written, what it "
+            "changed is there. It may be switched off at any moment, and goes on from FILE"),
+    Command("`make NUMBER station`, `positions` or `log`", "a generated station, its positions or its log",
+            "a double busbar with a coupler and 2 to 60 feeders, to try the program on", set(), ()),
+    Command("`work NUMBER`", "a generated station at work, in four lines",
+            "the same station at work, in four lines", set(), (),
+            "the same station at work, in four lines: how large it is, how many operations are released where "
+            "every position is known and where each bay knows its own alone, and what came of its log"),
+]
+COMMANDS = {row.name(): row for row in ROWS}
+
+
+def table():
+    """The rows of README.md's table."""
+    return [f"| {row.forms} | {row.answer} |" for row in ROWS]
+
+
+def overview():
+    """All commands, one a line."""
+    return "\n".join(f"    {row.words():38} {row.does}" for row in ROWS)
+
+
+def help_text(name):
+    """The words of a command, what it answers, and its statuses."""
+    row = COMMANDS[name]
+    ends = "\n".join(f"    {status:3}  {STATUSES[status]}" for status in sorted(OF_ALL | row.statuses))
+    answer = textwrap.fill((row.more or row.answer).replace("`", ""), 100)
+    return f"{row.forms.replace('`', '')}\n\n{answer}\n\nStatuses:\n{ends}"
