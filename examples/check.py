@@ -11,8 +11,8 @@
     examples/check.py --store    writes what the program says as the stored texts, where the definitions
                                  allow it; look at each difference by hand before you commit it
 
-It takes the proved program where that stands and is not older than its sources, and else the checked build,
-which is made once for all examples, in about a minute. Status 1 where anything differs.
+It takes the proved program where that stands and its sources are those that were proved, and else the checked
+build, which is made once for all examples, in a minute or two. Status 1 where anything differs.
 """
 import importlib.machinery
 import importlib.util
