@@ -7,7 +7,7 @@
                                  - the lines that README.md here and at the top cite, with the stored texts
                                  and what `order` says of each order in examples/orders, `replay` of the log
                                  two_feeders and `audit` of the equations double_busbar, with the stored texts,
-                                 which were worked by hand
+                                 which were worked by hand; and that `station` has no remark on any drawing
     examples/check.py --store    writes what the program says as the stored texts, where the definitions
                                  allow it; look at each difference by hand before you commit it
 
@@ -76,8 +76,11 @@ def main(words):
     commands = [["check", str(HERE / f"{name}.ssd"), str(HERE / f"{name}.csv")] for name in names]
     commands += [["order", str(HERE / ORDERED), str(order.with_suffix(".csv")), str(order)] for order in orders]
     commands += [[command, *(str(HERE / file) for file in files)] for (command, *files), _ in OTHERS]
+    drawings = sorted(HERE.glob("*.ssd"))
+    commands += [["station", str(drawing)] for drawing in drawings]
     commands += [IN_GATE]
     *answers, in_gate = (text for _, text in script.answers(commands))
+    looks = answers[len(commands) - 1 - len(drawings):]
     found = [d for name, text in zip(names, answers) for d in example_differences(name, text, words == ["--store"])]
     found += [
         f"{order.stem}: the program does not say what examples/orders/{order.stem}.txt says"
@@ -88,6 +91,12 @@ def main(words):
         f"{stored}: the program does not say what examples/{stored} says"
         for (_, stored), text in zip(OTHERS, answers[len(names) + len(orders):])
         if (HERE / stored).read_text() != text
+    ]
+    found += [
+        f"{drawing.name}: {line}"
+        for drawing, text in zip(drawings, looks)
+        for line in text.splitlines() or ["no answer to station"]
+        if line.startswith(("remark\t", "no answer"))
     ]
     if (CRATE / "stdout").read_text() != in_gate:
         found += ["the program does not say what crates/interlock/stdout says"]

@@ -4,13 +4,16 @@
     examples/stored_stops.py [PROGRAM]
 
 Runs `interlock stored two_feeders.ssd S/V1/Q1 FILE` over a file, on Linux, as a process of which each system call on the
-file is seen (ptrace). At each of them in turn the process is killed before the call is done; at a write also with any
-front of its bytes written, with any tail, and with other bytes in their place. Then the file is looked at, by the rules of
-docs/FORMATS.md and not by the program: it must stand for the record after some number of the lines, and for no fewer than
-those of whose text a byte was written. The session is then run again over the rest of the lines, and must write what
-`node` writes from that record.
+file is seen (ptrace). At each of them in turn the process is killed before the call is done. Then the files are looked at
+that a crash of the machine may leave: each write since the last sync that was done, and the one that was stopped, is there
+whole, not at all, with any front of its bytes, with any tail, or with other bytes in their place; and where the file's new
+name was not on the disk yet, it may be missing. They are looked at by the rules of docs/FORMATS.md and not by the program:
+each must stand for the record after some number of the lines, and for no fewer than those of whose text a byte was
+written. The session is then run again over the rest of the lines, and must write what `node` writes from that record.
 
-The records are those that `node` hands out as `keep` lines. The status is 0 where all agrees.
+The records are those that `node` hands out as `keep` lines. At last the same is looked at as if no sync of the file, and
+then as if none of its folder, had been made: each of the two must be seen to leave a wrong file. The status is 0 where
+all agrees.
 """
 import ctypes
 import os
@@ -34,8 +37,10 @@ EMPTY = bytes(RECORD)
 
 TRACEME, SYSCALL, SET_OPTIONS, SYSCALL_INFO = 0, 24, 0x4200, 0x420E
 SEES_SYSCALLS, KILLS_WITH_ITS_PARENT, AT_ENTRY = 1, 0x100000, 1
-# the number of the call `write`
-WRITES = {"x86_64": 1, "aarch64": 64, "riscv64": 64}
+# the numbers of the calls that write, sync and rename
+WRITES = {"x86_64": (1,), "aarch64": (64,), "riscv64": (64,)}
+SYNCS = {"x86_64": (74, 75), "aarch64": (82, 83), "riscv64": (82, 83)}
+RENAMES = {"x86_64": (82, 264, 316), "aarch64": (38, 276), "riscv64": (276,)}
 
 
 class Info(ctypes.Structure):
@@ -71,17 +76,52 @@ def run(words, lines):
     return done.returncode, done.stdout.decode().splitlines()
 
 
+def called(info, numbers):
+    return info.number in numbers[os.uname().machine]
+
+
 def at_device(process, name, info):
-    """whether the call is one on the open file, or on the new one that is made where it is missing"""
+    """what the call is on: `file`, the file that is open; `new`, the one that is made where it is missing; `folder`"""
+    if called(info, RENAMES):
+        return "name"
     try:
-        return os.readlink(f"/proc/{process}/fd/{info.args[0]}") in (name, name + ".new")
+        path = os.readlink(f"/proc/{process}/fd/{info.args[0]}")
     except OSError:
-        return False
+        return None
+    return {name: "file", name + ".new": "new", os.path.dirname(name): "folder"}.get(path)
 
 
-def stopped_run(name, stop):
+class Disk:
+    """What a crash may leave of the file: what was there at its last sync, the writes since, and whether its name is on
+    the disk. `syncs` and `names` say whether a sync of the file, and of its folder, counts."""
+
+    def __init__(self, image, syncs, names):
+        self.image, self.named, self.syncs, self.names = image, image is not None, syncs, names
+        self.writes = []
+
+    def done(self, kind, info, write):
+        """after a call that was done"""
+        if write and kind == "file":
+            self.writes.append(write)
+        elif called(info, RENAMES):
+            # it is renamed whole: the file beside was synced
+            self.image = bytes(SIZE)
+        elif called(info, SYNCS) and kind == "folder" and self.names:
+            self.named = self.image is not None
+        elif called(info, SYNCS) and kind == "file" and self.syncs:
+            self.image, self.writes = with_all(self.image, self.writes), []
+
+
+def with_all(image, writes):
+    for place, piece in writes:
+        image = image[:place] + piece + image[place + len(piece):]
+    return image
+
+
+def stopped_run(name, stop, disk):
     """Runs a stored session, and kills it before its call of this number on the file is done. Returns how many calls
-    were seen, the text that was written, and of a write that was stopped its place and its bytes."""
+    were seen, the text that was written, and of a write that was stopped its place and its bytes. What the calls that
+    were done leave is kept in `disk`."""
     given, out = tempfile.TemporaryFile(), tempfile.TemporaryFile()
     given.write("".join(line + "\n" for line in LINES).encode())
     given.seek(0)
@@ -93,7 +133,7 @@ def stopped_run(name, stop):
         os.execv(program(), [program(), "stored", str(STATION), BAY, name])
     os.waitpid(process, 0)
     ptrace(SET_OPTIONS, process, 0, SEES_SYSCALLS | KILLS_WITH_ITS_PARENT)
-    calls, entry, torn, handed = 0, Info(), None, 0
+    calls, entry, torn, handed, open_call = 0, Info(), None, 0, None
     while True:
         ptrace(SYSCALL, process, 0, handed)
         _, status = os.waitpid(process, 0)
@@ -103,22 +143,29 @@ def stopped_run(name, stop):
         if os.WSTOPSIG(status) != signal.SIGTRAP | 0x80:
             handed = os.WSTOPSIG(status) if os.WSTOPSIG(status) != signal.SIGTRAP else 0
             continue
+        if open_call:
+            disk.done(*open_call)
+            open_call = None
+        entry = Info()
         ptrace(SYSCALL_INFO, process, ctypes.sizeof(entry), ctypes.addressof(entry))
-        if entry.op != AT_ENTRY or not at_device(process, name, entry):
+        kind = at_device(process, name, entry) if entry.op == AT_ENTRY else None
+        if kind is None:
             continue
         calls += 1
+        write = write_of(process, entry) if kind == "file" else None
         if calls == stop:
-            torn = write_of(process, entry)
+            torn = write
             os.kill(process, signal.SIGKILL)
             os.waitpid(process, 0)
             break
+        open_call = kind, entry, write
     out.seek(0)
     return calls, out.read().decode().splitlines(), torn
 
 
 def write_of(process, info):
     """place and bytes of a call that writes into the file"""
-    if info.number != WRITES[os.uname().machine] or os.readlink(f"/proc/{process}/fd/{info.args[0]}").endswith(".new"):
+    if not called(info, WRITES):
         return None
     with open(f"/proc/{process}/fdinfo/{info.args[0]}") as told:
         place = int(told.readline().split()[1])
@@ -130,7 +177,7 @@ def write_of(process, info):
 def record_of(image):
     """the record for which an image stands"""
     if len(image) != SIZE:
-        sys.exit(f"an image of {len(image)} bytes")
+        raise Wrong(f"an image of {len(image)} bytes")
     newest = None
     for slot in (image[:SLOT], image[SLOT:]):
         number = int.from_bytes(slot[1:9], "big")
@@ -166,7 +213,7 @@ def looked_at(image, text, told, texts, where):
         shown += len(lines)
     after = [count for count in range(answered, len(told)) if told[count] == record_of(image)]
     if not after:
-        sys.exit(f"{where}: the image stands for {record_of(image).hex()}, which is no record after {answered} lines or more")
+        raise Wrong(f"{where}: the image stands for {record_of(image).hex()}, which is no record after {answered} lines or more")
     return after[0]
 
 
@@ -179,21 +226,37 @@ def resumes(folder, image, count, told, where):
     wanted_status, wanted = run(["node", str(STATION), BAY], ["kept " + told[count].hex(), *rest])
     wanted = [line for line in wanted if not line.startswith("keep ")]
     if (status, text) != (wanted_status, wanted):
-        sys.exit(f"{where}: resumed after {count} lines, it ended with {status} and wrote {text}, not {wanted}")
+        raise Wrong(f"{where}: resumed after {count} lines, it ended with {status} and wrote {text}, not {wanted}")
 
 
-def images_of(image, torn, chance):
-    """the file as the stop left it, and with the stopped write done in part"""
-    yield "before the call", image
-    if torn is None:
-        return
-    place, piece = torn
+def parts_of(image, write, chance):
+    """the image with a write on it done in part, in each way"""
+    place, piece = write
     for count in range(1, len(piece) + 1):
         front = piece[:count] + image[place + count:place + len(piece)]
         tail = image[place:place + len(piece) - count] + piece[len(piece) - count:]
         other = bytes(chance.randrange(256) if chance.randrange(2) else byte for byte in front)
         for name, part in (("a front", front), ("a tail", tail), ("other bytes", other)):
-            yield f"{name} of {count} bytes written", image[:place] + part + image[place + len(piece):]
+            yield f"{name} of {count} bytes", image[:place] + part + image[place + len(piece):]
+
+
+def images_of(disk, torn, chance):
+    """what a crash may leave: of the writes since the last sync, and the one that was stopped, one torn, and each of
+    the others there or not"""
+    if not disk.named:
+        yield "no name", bytes(SIZE)
+    if disk.image is None:
+        return
+    writes = disk.writes + ([torn] if torn else [])
+    yield "nothing since the sync", disk.image
+    for number, write in enumerate(writes):
+        others = writes[:number] + writes[number + 1:]
+        for kept in ([], others, [other for other in others if chance.randrange(2)]):
+            image = with_all(disk.image, kept)
+            for name, part in parts_of(image, write, chance):
+                yield f"write {number + 1} of {len(writes)} since the sync, {name}, with {len(kept)} others", part
+            if not others:
+                break
 
 
 def begin(file, is_there):
@@ -204,22 +267,28 @@ def begin(file, is_there):
         file.write_bytes(bytes(SIZE))
 
 
-def all_stops(folder, is_there, told, texts):
+class Wrong(Exception):
+    """a file that a crash may leave, from which the session does not go on rightly"""
+
+
+def all_stops(folder, is_there, told, texts, syncs=True, names=True):
     """stops the session at each call; how many calls and how many images there were"""
     file, chance = pathlib.Path(folder, "q1.bin"), random.Random(1)
+    begun = lambda: Disk(bytes(SIZE) if is_there else None, syncs, names)
     begin(file, is_there)
-    last, text, _ = stopped_run(str(file), 0)
+    last, text, _ = stopped_run(str(file), 0, begun())
     wanted = [line for lines in texts for line in lines]
     if text != wanted:
-        sys.exit(f"without a stop it wrote {text}, not {wanted}")
+        raise Wrong(f"without a stop it wrote {text}, not {wanted}")
     if record_of(file.read_bytes()) != told[-1]:
-        sys.exit("without a stop the image stands for another record than the last")
+        raise Wrong("without a stop the image stands for another record than the last")
     seen = 0
-    for stop in range(1, last + 1):
+    # from the last call to the first; behind the last the process has ended by itself, and the machine stops then
+    for stop in range(last + 1, 0, -1):
         begin(file, is_there)
-        _, text, torn = stopped_run(str(file), stop)
-        left = file.read_bytes() if file.exists() else bytes(SIZE)
-        for name, image in images_of(left, torn, chance):
+        disk = begun()
+        _, text, torn = stopped_run(str(file), stop, disk)
+        for name, image in images_of(disk, torn, chance):
             where = f"stopped at call {stop}, {name}"
             count = looked_at(image, text, told, texts, where)
             resumes(folder, image, count, told, where)
@@ -227,13 +296,30 @@ def all_stops(folder, is_there, told, texts):
     return last, seen
 
 
+def is_seen_wrong(folder, told, texts, **without):
+    """whether a wrong file is seen where these syncs do not count"""
+    try:
+        all_stops(folder, False, told, texts, **without)
+    except Wrong as wrong:
+        print(f"without {', '.join(without)}: {wrong}")
+        return True
+    return False
+
+
 def main():
     told, texts = records()
-    with tempfile.TemporaryDirectory() as folder:
-        for is_there in (True, False):
-            calls, seen = all_stops(os.path.realpath(folder), is_there, told, texts)
-            start = "a file of zeros" if is_there else "no file"
-            print(f"from {start}: {calls} calls on it, {seen} images after a stop; each stands for a record, and goes on from it")
+    with tempfile.TemporaryDirectory() as made:
+        folder = os.path.realpath(made)
+        try:
+            for is_there in (True, False):
+                calls, seen = all_stops(folder, is_there, told, texts)
+                start = "a file of zeros" if is_there else "no file"
+                print(f"from {start}: {calls} calls on it, {seen} images after a stop; each stands for a record, "
+                      "and goes on from it")
+        except Wrong as wrong:
+            sys.exit(str(wrong))
+        if not is_seen_wrong(folder, told, texts, syncs=False) or not is_seen_wrong(folder, told, texts, names=False):
+            sys.exit("a sync that is not made is not seen")
 
 
 if __name__ == "__main__":

@@ -4,7 +4,7 @@ from typing import NamedTuple
 
 STATUSES = {
     0: "all is written",
-    1: "all is written, and a step was found that is denied or idle, or an equation that is loose or strict",
+    1: "all is written, and a step was found that is denied or idle, an equation that is loose or strict, or a remark",
     2: "the words are not those of a command",
     3: "a file, the input or the device could not be read",
     4: "the output or the device could not be written",
@@ -39,6 +39,11 @@ class Command(NamedTuple):
 
 
 ROWS = [
+    Command("`station STATION`", "the station as it was read, with remarks",
+            "the station as it was read, with a remark for each thing that is likely not meant", {1, 3, 5}, (1,),
+            "the station as it was read, in document order: each part, node, switch, link and tap in a line, its fields "
+            "parted by tabs; then a line for each thing that is likely not meant; then counts. docs/DRAWINGS.md says what "
+            "each remark means"),
     Command("`check STATION POSITIONS`", "both releases of each switch",
             "for each switch both releases, and a reading for each denial", {3, 5, 6}, (1, 2)),
     Command("`explain STATION POSITIONS open SWITCH`, or `close`", "why one operation is released or denied",
@@ -68,6 +73,11 @@ ROWS = [
             "who must talk to whom, as JSON: for each bay the bays whose positions can change an answer for it", {3, 5}, (1,),
             "who must talk to whom, as JSON: for each bay exactly the bays whose positions can change an answer "
             "for one of its operations"),
+    Command("`program STATION`", "the interlocking as structured text for a controller",
+            "the releases of every switch as structured text of IEC 61131-3, from the two contacts of each switch",
+            {3, 5}, (1,),
+            "the releases of every switch as a function block of structured text (IEC 61131-3): assignments of AND, OR "
+            "and NOT alone, from the two contacts of each switch"),
     Command("`compile STATION`", "the release equations of the whole station",
             "the release equations of the whole station as one text, whose meaning is the rules", {3, 5}, (1,)),
     Command("`audit STATION EQUATIONS`", "hand-written equations held against the rules",

@@ -35,7 +35,7 @@ LAYERS = [
     Layer("station and drawing",
           "Begin with `station_graph/specs`, where a station and the three rules are defined, and then "
           "`ssd_read/src/read.rt`.",
-          "station_graph ssd_read"),
+          "station_graph ssd_read station_lines"),
     Layer("positions and rules",
           "Begin with `central_rules/specs/Meaning.antt`, what a judge is, and `central_rules/src/rules.rt`, the rules on "
           "one vector.",
@@ -44,6 +44,10 @@ LAYERS = [
           "Begin with `contraction/specs/Stands.antt`, what some items are to the rest, and end with "
           "`release_compile/src/judge.rt`.",
           "contraction bay_contract decision_graphs judge_pool judge_intake judge_graphs release_compile"),
+    Layer("two stations",
+          "Begin with `station_changes/specs/Compare.antt`, what an extension changes, and then `step_graphs/specs/Moved.antt`. "
+          "No command stands on these crates yet.",
+          "station_changes release_dependence graph_products graph_walks step_graphs"),
     Layer("bay",
           "Begin with `bay_protocol/specs/Step.antt`: each constructor is one rule of what a bay does at an event.",
           "bay_frames bay_protocol bay_node node_session node_store stored_session"),
@@ -52,10 +56,11 @@ LAYERS = [
           "reservation_core log_replay trip_core trip_replay"),
     Layer("commands",
           "Begin with the command that you know; each has its definitions in `specs` and one public call.",
-          "command_words exchange_plan station_equations equation_text station_make station_work"),
+          "command_words exchange_plan station_equations equation_text station_make station_work interlock_terms "
+          "short_equations structured_text program_text station_lines drawing_remarks"),
     Layer("top",
           "Begin with `interlock_cli/src/top.rt`, where the words of a command become its work.",
-          "interlock_cli interlock"),
+          "interlock_cli program_edge interlock"),
     Layer("tests and benches",
           "Begin with `test_stations`, the stations that the tests are worked on.",
           "test_stations test_texts test_drawing test_station test_judge test_bay test_world test_commands test_program bench_parts"),

@@ -31,10 +31,11 @@ LEGEND = [
 
 
 class Picture:
-    """`states` has (voltage, earth) by node path, `releases` (open, close, rule, rule) by switch path."""
+    """`states` has (voltage, earth) by node path, `releases` (open, close, rule, rule) by switch path; `remarks` are pairs
+    of a kind and a path."""
 
-    def __init__(self, layout, words, releases, states):
-        self.layout, self.drawing = layout, layout.drawing
+    def __init__(self, layout, words, releases, states, remarks=()):
+        self.layout, self.drawing, self.remarks = layout, layout.drawing, remarks
         self.words, self.releases, self.states = words, releases, states
         left, top, right, bottom = layout.size()
         self.origin = (2.2 - left, 1.6 - top)
@@ -190,6 +191,7 @@ class Picture:
             opens, closes, opening, closing = self.releases[item.path]
             lines.append("EnaOpn: " + ("1" if opens else f"0, {opening}"))
             lines.append("EnaCls: " + ("1" if closes else f"0, {closing}"))
+        lines += [f"remark: {kind}" for kind, path in self.remarks if path == item.path]
         return "\n".join(lines)
 
     def name(self, item):
@@ -279,7 +281,10 @@ class Picture:
             self.mark(36, y - 10, "C", False)
             self.text(68, y, "opening released; closing denied")
             y += 17
-        width = max(self.width, 300)
+        for kind, path in self.remarks:
+            self.text(20, y, f"remark {kind} {path}", weight="bold")
+            y += 17
+        width = max(self.width, 300, *(40 + 7 * len(kind + path) for kind, path in self.remarks))
         head = f'<svg xmlns="http://www.w3.org/2000/svg" width="{width:.0f}" height="{y + 6:.0f}" viewBox="0 0 {width:.0f} {y + 6:.0f}" font-family="DejaVu Sans, Arial, sans-serif">'
         return "\n".join([head, f"<title>{escape(self.drawing.title)}</title>", *self.parts, "</svg>"]) + "\n"
 

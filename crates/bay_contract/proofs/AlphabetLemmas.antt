@@ -18,7 +18,8 @@ use Rattle.bay_contract.specs.declared.fork.Fork.{Fork}
 use Rattle.bay_contract.specs.Layers.{OfLayer, IsBase, IsKept, digit, rank, bits}
 use Rattle.bay_contract.specs.Diagrams.{ForkGoes, ForksLeadTo}
 use Rattle.bay_contract.specs.Sorting.{KeepsAt}
-use Rattle.bay_contract.specs.Building.{IsLayer, AreExamples, IsBuilt}
+use Rattle.bay_contract.specs.Building.{IsBuilt}
+use Rattle.bay_contract.proofs.Layers.{IsLayer, AreExamples}
 use Rattle.std.proofs.lemmas.Bool.{cases_lt, cases_eq}
 use Rattle.station_graph.specs.Diagram.{IsStation}
 use Rattle.station_graph.specs.Connection.{a_switch}

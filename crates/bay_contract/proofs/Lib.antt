@@ -25,3 +25,4 @@ pub mod PathLemmas
 pub mod WayLemmas
 pub mod SetLemmas
 pub mod OwnLemmas
+pub mod Layers

@@ -21,8 +21,10 @@ use Rattle.contraction.proofs.MarkLemmas.{slice_get-set_same}
 use Rattle.bay_contract.specs.declared.fork.Fork.{Fork}
 use Rattle.bay_contract.specs.Layers.{OfLayer, digit, rank}
 use Rattle.bay_contract.specs.Diagrams.{branch, ForkGoes, ForksLeadTo, ForkFits, ForksFit, AreStaged}
-use Rattle.bay_contract.specs.Sorting.{AllKeepAt, IsSorted}
-use Rattle.bay_contract.specs.Building.{Stops, IsLayer, Forked, Ranked}
+use Rattle.bay_contract.specs.Sorting.{IsSorted}
+use Rattle.bay_contract.proofs.Layers.{AllKeepAt}
+use Rattle.bay_contract.specs.Building.{Forked, Ranked}
+use Rattle.bay_contract.proofs.Layers.{Stops, IsLayer}
 use Rattle.bay_contract.proofs.RankLemmas.{digit_small, digit_of, rank_set, rank_below}
 use Rattle.bay_contract.proofs.DiagramLemmas.{goes_more}
 use Rattle.bay_contract.proofs.ForkLemmas.{fork_at}

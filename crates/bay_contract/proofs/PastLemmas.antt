@@ -15,7 +15,7 @@ use Rattle.bay_contract.specs.declared.fork.Fork.{Fork}
 use Rattle.bay_contract.specs.Layers.{OfLayer, SameLayer}
 use Rattle.bay_contract.specs.Counting.{ArePast}
 use Rattle.bay_contract.specs.Sorting.{IsSorted}
-use Rattle.bay_contract.specs.Building.{IsLayer}
+use Rattle.bay_contract.proofs.Layers.{IsLayer}
 use Rattle.bay_contract.proofs.RankLemmas.{rank_set}
 use Rattle.bay_contract.proofs.DiagramLemmas.{leads_one}
 use Rattle.bay_contract.proofs.ViewIndexLemmas.{list_of, views_told}

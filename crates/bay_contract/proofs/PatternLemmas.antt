@@ -19,7 +19,8 @@ use Rattle.bay_contract.specs.Sorting.{IsSorted}
 use Rattle.bay_contract.specs.Shapes.{IsShaped}
 use Rattle.bay_contract.specs.Counting.{PartIsPast, AreStepSizes}
 use Rattle.bay_contract.specs.Diagrams.{ForksFit, AreStaged}
-use Rattle.bay_contract.specs.Building.{IsLayer, Forked, AreReversed, IsBuilt}
+use Rattle.bay_contract.specs.Building.{Forked, AreReversed, IsBuilt}
+use Rattle.bay_contract.proofs.Layers.{IsLayer}
 use Rattle.bay_contract.specs.Turns.{KeepsThese, Turns, TurnsPast}
 use Rattle.bay_contract.specs.Courses.{IsCourse, nodes_after, IsLikeCourse, shifted, IsBuiltOf, IsPattern, ArePatterns}
 use Rattle.bay_contract.proofs.NextLemmas.{some_at, next_is_layer, ranks_small}

@@ -15,7 +15,7 @@ use Rattle.bay_contract.specs.Layers.{OfLayer, IsKept, SameLayer}
 use Rattle.bay_contract.specs.Diagrams.{ForksLeadTo}
 use Rattle.bay_contract.specs.Sorting.{KeepsAt}
 use Rattle.bay_contract.specs.Counting.{AreSoMany}
-use Rattle.bay_contract.specs.Building.{IsLayer}
+use Rattle.bay_contract.proofs.Layers.{IsLayer}
 use Rattle.bay_contract.proofs.DiagramLemmas.{leads_one}
 use Rattle.contraction.proofs.RisingLemmas.{rising_equal}
 use Rattle.contraction.proofs.SameLemmas.{gap_self, load_self, gap_fewer, load_fewer}

@@ -2,41 +2,16 @@
 use Rattle.std.specs.Prelude.{◌≡◌, ℕ, ◌+◌, ◌*◌, ◌/◌, ◌%◌, ◌<◌, ◌≤◌, ◌⊎◌, ◌↔◌, Bool, List, length, slice_get}
 use Rattle.std.specs.Prelude.{slice_index, Some}
 use Rattle.station_graph.specs.Diagram.{Diagram, AreSwitchesOf}
-use Rattle.station_graph.specs.Nodes.{Rises}
 use Rattle.station_graph.specs.Sharing.{OfPart, IsShared}
 use Rattle.station_graph.specs.Alike.{IsVector}
 use Rattle.contraction.specs.Answers.{Answers, IsContraction, Keeps}
 use Rattle.contraction.specs.Stands.{StandsFor}
 use Rattle.bay_contract.specs.declared.limits.TheConstants.{LETTERS}
 use Rattle.bay_contract.specs.declared.fork.Fork.{Fork}
-use Rattle.bay_contract.specs.Layers.{OfLayer, rank, bits}
-use Rattle.bay_contract.specs.Diagrams.{ForksLeadTo, ForksFit, AreStaged}
+use Rattle.bay_contract.specs.Layers.{rank, bits}
+use Rattle.bay_contract.specs.Diagrams.{ForksLeadTo, ForksFit}
 use Rattle.bay_contract.specs.PartAlphabets.{PartAlphabet}
-use Rattle.bay_contract.specs.Sorting.{AreApart, AllKeepAt}
-
--- The vector leads to a value that stands for the layer in it, and whose rank is not above its own.
-pub record Stops (d : Diagram) (part first j : ℕ) (values : List Answers) (ranks : List ℕ) (forks : List Fork)
-    (v : List Bool) : Type 0 where
-  pub index : ℕ
-  pub value : Answers
-  pub listed : slice_get values index ≡ Some value
-  pub leads : ForksLeadTo forks v index
-  pub stands : StandsFor (OfLayer d part (first + j)) d v value
-  pub least : slice_index ranks index ≤ rank first j v
-
--- The values of a layer with the least rank of each, and the steps that lead to them.
-pub record IsLayer (d : Diagram) (part first j : ℕ) (values : List Answers) (ranks : List ℕ)
-    (forks : List Fork) : Type 0 where
-  pub keep : AllKeepAt d part (first + j) values
-  pub apart : AreApart values
-  pub stops : (v : List Bool) → IsVector d v → Stops d part first j values ranks forks v
-  pub ranks_count : length ranks ≡ length values
-  pub rises : Rises ranks
-  pub ranked : (i : ℕ) → i < length values → (v : List Bool) → IsVector d v → rank first j v ≡ slice_index ranks i
-      → ForksLeadTo forks v i
-  pub rank_in : (i : ℕ) → i < length values → (v : List Bool) × IsVector d v × (rank first j v ≡ slice_index ranks i)
-  pub fit : ForksFit (length d.switches) (length values) forks
-  pub staged : AreStaged first j forks
+use Rattle.bay_contract.specs.Sorting.{AreApart}
 
 -- A step was added for each value of the last layer: places 2i and 2i + 1 say where value i leads.
 pub record Forked (switch count : ℕ) (targets : List ℕ) (old new : List Fork) : Type 0 where
@@ -55,12 +30,6 @@ pub record Ranked (last origins ranks : List ℕ) : Type 0 where
   pub len : length ranks ≡ length origins
   pub told : (n : ℕ) → n < length origins → slice_index ranks n ≡ 2 * slice_index last
       (slice_index origins n / 2) + slice_index origins n % 2
-
--- The examples are the same positions as the ranks, as bits.
-abbrev pub AreExamples : Diagram → ℕ → ℕ → List ℕ → List ℕ → Type 0
-AreExamples d first count ranks examples =
-    (i : ℕ) (v : List Bool) → i < length ranks → IsVector d v → (rank first count v ≡ slice_index ranks i) ↔
-    (bits first count v ≡ slice_index examples i)
 
 -- What is built for a part: its distinct contractions on the nodes that it shares, each with its least
 -- position as bits, and the steps that lead each vector to one of them.

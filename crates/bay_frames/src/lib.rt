@@ -2,6 +2,7 @@
 //! damaged frame is never taken for another.
 #![tactic(auto)]
 
+mod coding;
 mod frame;
 mod laws;
 mod list;

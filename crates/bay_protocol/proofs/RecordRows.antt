@@ -9,7 +9,11 @@ use Rattle.bay_protocol.specs.declared.values.Lock.{Lock}
 use Rattle.bay_protocol.specs.declared.values.Grant.{Grant}
 use Rattle.bay_protocol.specs.declared.values.Kept.{Kept}
 use Rattle.bay_protocol.specs.KeptRow.{lock_row, grant_row, kept_row, LockInRow, GrantInRow, InRow}
-use Rattle.bay_protocol.specs.KeptFields.{number_at, lock_at, grant_at, kept_at}
+use Rattle.bay_protocol.specs.KeptFields.{number_at, lock_at, grant_at}
+
+-- All fields.
+abbrev pub kept_at : List ℕ → Kept
+kept_at bytes = record { highest = number_at bytes 0; lock = lock_at bytes; granted = grant_at bytes }
 
 highest_back : (n : ℕ) (l : Option Lock) (g : Option Grant) → n < 2 ^ 32 →
     number_at (to_be_bytes w32 n ++ lock_row l ++ grant_row g) 0 ≡ n

@@ -1,14 +1,11 @@
 -- The fields of a kept record, each at its place.
-use Rattle.std.specs.Prelude.{◌==◌, ◌+◌, ℕ, List, [], ◌∷◌, drop, if◌then◌else◌, slice_index, Option, Some, None}
+use Rattle.std.specs.Prelude.{◌==◌, ◌+◌, ℕ, List, [], ◌∷◌, if◌then◌else◌, slice_index, Option, Some, None}
 use Rattle.std.specs.Int.{w16, w32, from_be_bytes}
-use Rattle.ilk_base.specs.declared.words.BayId.{BayId}
-use Rattle.ilk_base.specs.declared.words.SwitchId.{SwitchId}
 use Rattle.ilk_base.specs.declared.words.Op.{Op}
 use Rattle.ilk_base.specs.declared.words.Direction.{Direction}
 use Rattle.ilk_base.specs.declared.words.Direction.TheVariants.{ToOff, ToOn}
 use Rattle.bay_protocol.specs.declared.values.Lock.{Lock}
 use Rattle.bay_protocol.specs.declared.values.Grant.{Grant}
-use Rattle.bay_protocol.specs.declared.values.Kept.{Kept}
 
 -- The number in the four bytes from a place on.
 abbrev pub number_at : List ℕ → ℕ → ℕ
@@ -38,7 +35,3 @@ abbrev pub grant_at : List ℕ → Option Grant
 grant_at bytes =
     if slice_index bytes 10 == 0 then None
     else Some (record { round = number_at bytes 11; op = operation_at bytes })
-
--- All fields.
-abbrev pub kept_at : List ℕ → Kept
-kept_at bytes = record { highest = number_at bytes 0; lock = lock_at bytes; granted = grant_at bytes }

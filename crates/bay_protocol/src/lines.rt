@@ -10,7 +10,6 @@ ghost use Rattle.station_graph.specs.Diagram.{switch_path};
 use crate::values::Outcome;
 use central_rules::{direction_name, rule_name};
 use ilk_base::{BayId, Memory, Op, Rule, SwitchId, Text};
-use itoa::Buffer;
 use station_graph::{Station, Vector};
 use std::alloc::Global;
 
@@ -23,20 +22,12 @@ fn path_of(station: &Station, id: SwitchId) -> &[u8]
     station.switch_path(id).as_bytes()
 }
 
-// Appends some words and a number.
-fn push_number(text: &mut Text, words: &[u8], number: u32) -> Result<(), Memory>
-    ensures { OnOk result (text.new ≡ text.old ++ words.now ++ decimal number) }
-{
-    let mut digits = Buffer::new();
-    text.push(words)?;
-    text.push(digits.format(number).as_bytes())
-}
-
 // Appends some words and the number of a bay.
 fn push_bay(text: &mut Text, words: &[u8], bay: BayId) -> Result<(), Memory>
     ensures { OnOk result (text.new ≡ text.old ++ words.now ++ decimal bay.0) }
 {
-    push_number(text, words, u32::from(bay.0))
+    text.push(words)?;
+    text.push_decimal(usize::from(bay.0))
 }
 
 // Appends a line of words alone.
@@ -53,7 +44,8 @@ fn push_round(text: &mut Text, prefix: &[u8], words: &[u8], round: u32) -> Resul
     ensures { OnOk result (text.new ≡ text.old ++ line prefix.now (words.now ++ decimal round)) }
 {
     text.push(prefix)?;
-    push_number(text, words, round)?;
+    text.push(words)?;
+    text.push_decimal(round as usize)?;
     text.push(b"\n")
 }
 
@@ -79,7 +71,8 @@ fn push_granted(
         ++ line prefix.now (codes "granted " ++ decimal round ++ codes " " ++ operation station.now op)) }
 {
     text.push(prefix)?;
-    push_number(text, b"granted ", round)?;
+    text.push(b"granted ")?;
+    text.push_decimal(round as usize)?;
     text.push(b" ")?;
     push_operation(text, station, op)?;
     text.push(b"\n")
@@ -90,7 +83,8 @@ fn push_rule(text: &mut Text, round: u32, rule: Rule) -> Result<(), Memory>
     ensures { OnOk result (text.new ≡ text.old
         ++ (codes "denied " ++ decimal round ++ codes " " ++ rule_name rule ++ codes " ")) }
 {
-    push_number(text, b"denied ", round)?;
+    text.push(b"denied ")?;
+    text.push_decimal(round as usize)?;
     text.push(b" ")?;
     text.push(rule_name(rule))?;
     text.push(b" ")
@@ -165,7 +159,8 @@ fn push_holder(text: &mut Text, words: &[u8], bay: BayId, round: u32) -> Result<
     ensures { OnOk result (text.new ≡ text.old ++ (words.now ++ decimal bay.0 ++ codes " round " ++ decimal round)) }
 {
     push_bay(text, words, bay)?;
-    push_number(text, b" round ", round)
+    text.push(b" round ")?;
+    text.push_decimal(round as usize)
 }
 
 fn push_held(text: &mut Text, prefix: &[u8], bay: BayId, round: u32) -> Result<(), Memory>
@@ -190,7 +185,8 @@ fn push_busy(
         ++ decimal holder.0 ++ codes " round " ++ decimal holder_round)) }
 {
     text.push(prefix)?;
-    push_number(text, b"busy ", round)?;
+    text.push(b"busy ")?;
+    text.push_decimal(round as usize)?;
     push_bay(text, b" from ", bay)?;
     push_holder(text, b" holder ", holder, holder_round)?;
     text.push(b"\n")

@@ -1,13 +1,15 @@
 //! The words of a command.
 
 // The commands, each with how many words follow its name.
-pub(crate) const ROWS: [(&str, usize); 13] = [
+pub(crate) const ROWS: [(&str, usize); 15] = [
     // STATION POSITIONS
     ("check", 2),
     // STATION
     ("compile", 1),
     // STATION
     ("plan", 1),
+    // STATION
+    ("program", 1),
     // STATION LOG
     ("replay", 2),
     // STATION POSITIONS open SWITCH, or close
@@ -28,6 +30,8 @@ pub(crate) const ROWS: [(&str, usize); 13] = [
     ("order", 3),
     // STATION BAY FILE
     ("stored", 3),
+    // STATION
+    ("station", 1),
 ];
 
 /// The words of a command that are of the written form.

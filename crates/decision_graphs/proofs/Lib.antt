@@ -18,6 +18,7 @@ pub mod ReducedLemmas
 pub mod FoldLemmas
 pub mod RowIndexLemmas
 pub mod StackLemmas
+pub mod AlikeLemmas
 pub mod AssembleLemmas
 pub mod ReduceLemmas
 pub mod DependLemmas
@@ -27,3 +28,4 @@ pub mod LawLemmas
 pub mod SetLemmas
 pub mod RenameLemmas
 pub mod FinishedLemmas
+pub mod TwinLemmas

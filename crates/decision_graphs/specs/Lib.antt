@@ -1,5 +1,6 @@
 pub mod Label
 pub mod Rows
+pub mod Same
 pub mod Drafting
 pub mod Shapes
 pub mod Whole
@@ -17,3 +18,4 @@ pub mod Depending
 pub mod Renaming
 pub mod Finished
 pub mod Made
+pub mod Twins

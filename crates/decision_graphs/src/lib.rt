@@ -7,6 +7,7 @@
 //! Edges stand in one list of 4 bytes each, beside 2 bytes a node for its layer.
 #![tactic(auto)]
 
+mod alike;
 mod arrival;
 mod assemble;
 mod builder;
@@ -26,6 +27,7 @@ mod rename;
 mod same;
 mod sets;
 mod shape;
+mod twins;
 
 pub use builder::{GraphBuilder, Unfinished};
 pub use choices::ChoiceList;
@@ -35,3 +37,4 @@ pub use laws::{reduced_nodes_are_apart, renamed_labels_lead_alike};
 pub use limits::{GRAPH_NODES, LABELS, LAYERS};
 pub use marks::Marks;
 pub use sets::ChoiceSets;
+pub use twins::Twin;

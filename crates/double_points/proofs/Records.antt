@@ -11,9 +11,16 @@ use Rattle.csv.specs.Records.{field_at}
 use Rattle.ilk_base.specs.declared.words.Dbpos.{Dbpos}
 use Rattle.double_points.specs.Paths.{IsDistinct, place_of}
 use Rattle.double_points.specs.Words.{word_of}
-use Rattle.double_points.specs.Positions.{Row, form_fault, fault_at, names, given, HaveWords, IsFirstRowFault, Accepts}
+use Rattle.double_points.specs.Positions.{Row, form_fault, fault_at, names, given, IsFirstRowFault, Accepts}
 use Rattle.double_points.specs.Positions.{words_of}
 use Rattle.ilk_base.specs.declared.words.Dbpos.TheVariants.{Lost}
+use Rattle.std.specs.Prelude.{⊤}
+use Rattle.std.specs.Prelude.{slice_index_or}
+
+-- Each record has a word.
+abbrev pub HaveWords : List Row → Type 0
+HaveWords [] = ⊤
+HaveWords (row ∷ rows) = (is_some (word_of (slice_index_or row 1 [])) ≡ true) × HaveWords rows
 
 pub no_first : (f : List (List ℕ)) → field_at f 0 ≡ None → length f ≢ 2
 unfolding field_at

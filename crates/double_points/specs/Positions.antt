@@ -1,5 +1,5 @@
 -- What a file of positions says.
-use Rattle.std.specs.Prelude.{◌≡◌, ◌<◌, ◌≤◌, ◌-◌, ◌&&◌, ◌⊎◌, ⊤, ℕ, Bool, true, not, List, [], ◌∷◌, length, take}
+use Rattle.std.specs.Prelude.{◌≡◌, ◌<◌, ◌≤◌, ◌-◌, ◌&&◌, ◌⊎◌, ℕ, Bool, not, List, [], ◌∷◌, length, take}
 use Rattle.std.specs.Prelude.{map, Option, Some, None, is_some, unwrap_or, if◌then◌else◌, slice_index_or}
 use Rattle.std.specs.List.{list_any}
 use Rattle.std.specs.Str.{bytes_eq, is_utf8}
@@ -70,8 +70,3 @@ IsAccepted paths bytes words = (length bytes ≤ FILE_BYTES) × Accepts paths (r
 abbrev pub IsRefusedWith : List (List ℕ) → List ℕ → InputRefusal → Type 0
 IsRefusedWith paths bytes r = ((FILE_BYTES < length bytes) × (r ≡ record { number = 5; line = 0 }))
     ⊎ ((length bytes ≤ FILE_BYTES) × IsFirstRowFault paths (rows_of bytes) r)
-
--- Each record has a word.
-abbrev pub HaveWords : List Row → Type 0
-HaveWords [] = ⊤
-HaveWords (row ∷ rows) = (is_some (word_of (slice_index_or row 1 [])) ≡ true) × HaveWords rows

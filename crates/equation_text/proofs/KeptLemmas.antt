@@ -13,10 +13,14 @@ use Rattle.equation_text.specs.declared.entries.Step.{Step}
 use Rattle.equation_text.specs.declared.entries.Entries.{Entries}
 use Rattle.equation_text.specs.Words.{Lacks}
 use Rattle.equation_text.specs.Faults.{Entry, step_of, node_of, head_of, HasLine, IsDefined}
-use Rattle.equation_text.specs.Entries.{step_order, has_entry, IsEntry32, Defines, DefinesNone, AddsLine, AreDefined}
+use Rattle.equation_text.specs.Entries.{step_order, has_entry, IsEntry32, Defines, AddsLine, AreDefined}
 use Rattle.equation_text.proofs.WordLemmas.{true_false}
 use Rattle.equation_text.proofs.LineLemmas.{line_here, line_later, line_split, last_here, last_only}
 use Rattle.equation_text.proofs.EntryLemmas.{head_lacks, head_once}
+
+-- The line defines no entry.
+abbrev pub DefinesNone : List ℕ → Type 0
+DefinesNone line = (x : Entry) (rest : List ℕ) → IsEntry32 x → line ≢ head_of x ++ rest
 
 -- a line that defines no step and no node defines nothing
 pub no_entry : (line : List ℕ) → ((p m : ℕ) (rest : List ℕ) → IsEntry32 (step_of p m) → line ≢ head_of

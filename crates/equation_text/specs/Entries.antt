@@ -1,5 +1,5 @@
 -- What lines define, and whether what lines name is there.
-use Rattle.std.specs.Prelude.{◌≡◌, ◌≢◌, ◌<◌, ◌≤◌, ◌^◌, ◌↔◌, ◌++◌, ◌⊎◌, ℕ, Bool, false, List, IsTrue}
+use Rattle.std.specs.Prelude.{◌≡◌, ◌<◌, ◌≤◌, ◌^◌, ◌↔◌, ◌++◌, ◌⊎◌, ℕ, Bool, false, List, IsTrue}
 use Rattle.std.specs.declared.cmp.Ordering.{Ordering}
 use Rattle.std.specs.Ordering.{nat_cmp, ordering_then}
 use Rattle.std.specs.BTreeSet.{contains}
@@ -36,10 +36,6 @@ pub record Defines (line : List ℕ) (entry : Entry) : Type 0 where
   pub small : IsEntry32 entry
   pub rest : List ℕ
   pub is : line ≡ head_of entry ++ rest
-
--- The line defines no entry.
-abbrev pub DefinesNone : List ℕ → Type 0
-DefinesNone line = (x : Entry) (rest : List ℕ) → IsEntry32 x → line ≢ head_of x ++ rest
 
 -- What is there now was there before, or the line defines it.
 abbrev pub AddsLine : List ℕ → (Entry → Bool) → (Entry → Bool) → Type 0

@@ -1,20 +1,12 @@
 -- What is read of a text.
-use Rattle.std.specs.Prelude.{◌≡◌, ⊤, ℕ, List, length, map, slice_get, Some}
-use Rattle.ilk_base.specs.declared.words.InputRefusal.{InputRefusal}
+use Rattle.std.specs.Prelude.{◌≡◌, ℕ, List, length, map, slice_get, Some}
 use Rattle.station_graph.specs.Diagram.{Diagram, part_count}
 use Rattle.station_equations.specs.declared.goal.SwitchGoals.{SwitchGoals}
 use Rattle.station_equations.specs.declared.goal.TheConstants.{NUMBERS}
-use Rattle.equation_text.specs.declared.read.EquationsFault.{EquationsFault}
-use Rattle.equation_text.specs.declared.read.EquationsFault.TheVariants.{Memory, Refused}
 use Rattle.station_equations.specs.EquationLines.{PartLines, NodeLine, EquationLines, goal_count}
 use Rattle.station_equations.specs.EquationForm.{IsTarget}
 use Rattle.station_equations.specs.EquationText.{IsTextOf, lines_of, text_of}
 use Rattle.equation_text.specs.Reading.{MayBeSteps, MayBeOps, MayBeNodes}
-
--- Where the fault is a refusal, this holds of it.
-abbrev pub ForRefused : EquationsFault → (InputRefusal → Type 0) → Type 0
-ForRefused Memory P = ⊤
-ForRefused (Refused r) P = P r
 
 -- Parts that begin at targets that can be written, and have steps that they may have.
 pub record MayBeParts (d : Diagram) (parts : List PartLines) : Type 0 where

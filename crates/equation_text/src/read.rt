@@ -6,46 +6,21 @@ ghost use Rattle.station_equations.specs.EquationLines.{EquationLines};
 ghost use Rattle.station_equations.specs.EquationText.{IsTextOf};
 ghost use Rattle.equation_text.specs.Defined.{PartsMay, AreThere};
 ghost use Rattle.equation_text.specs.Faults.{IsFirstFault};
-ghost use Rattle.equation_text.specs.ReadText.{AreLines, ForRefused};
+ghost use Rattle.ilk_base.specs.Inputs.{ForRefused};
+ghost use Rattle.equation_text.specs.ReadText.{AreLines};
 ghost use Rattle.equation_text.specs.Stops.{StopsWrong};
 
 use crate::defined::{index_counts, nodes_there, ops_there, parts_there};
 use crate::front::read_front;
 use crate::reading::{Left, read_all_steps, read_nodes, read_ops, read_starts};
 use crate::undefined::{line_behind, undefined_line};
-use ilk_base::{InputRefusal, Memory};
+use ilk_base::Memory;
 use station_equations::{Equations, Node, PartSteps, SwitchGoals};
 use station_graph::Station;
-use std::alloc::{AllocFailed, Global};
+use std::alloc::Global;
 
 /// Why a text gave no equations.
-#[derive(Clone, Copy, PartialEq, Eq)]
-pub enum EquationsFault {
-    /// There was not enough memory.
-    Memory,
-    /// The text is refused at a line.
-    Refused(InputRefusal),
-}
-
-impl<T: Drop> From<AllocFailed<T>> for EquationsFault {
-    ghost use Rattle.equation_text.specs.declared.read.EquationsFault.TheVariants.{Memory};
-
-    ghost from_gives = { λ _ e. e ≡ Memory };
-
-    fn from(_: AllocFailed<T>) -> Self {
-        EquationsFault::Memory
-    }
-}
-
-impl From<Memory> for EquationsFault {
-    ghost use Rattle.equation_text.specs.declared.read.EquationsFault.TheVariants.{Memory};
-
-    ghost from_gives = { λ _ e. e ≡ Memory };
-
-    fn from(_: Memory) -> Self {
-        EquationsFault::Memory
-    }
-}
+pub use ilk_base::InputFault as EquationsFault;
 
 // The lines of a text but for those that name the switches.
 #[derive(Drop)]
@@ -117,13 +92,6 @@ fn line_of(undefined: Option<u32>) -> u32
     undefined.unwrap_or(0)
 }
 
-// The refusal in this line.
-fn refused(line: u32) -> EquationsFault
-    ensures { result ≡ EquationsFault.Refused (record { number = 10; line = line }) }
-{
-    EquationsFault::Refused(InputRefusal { number: 10, line })
-}
-
 /// Reads the text of a station's equations (docs/FORMATS.md). Accepted are exactly the texts of the form, each
 /// as the lines that it says; so what `Equations::text` writes is read again as the same lines. Any other text
 /// is refused with 10, at its first line with a fault: the one that cannot stand where it does, or the line
@@ -147,11 +115,11 @@ pub fn read_equations(
     let Some(lines) = read else {
         let wrong = line_behind(&bytes[..bytes.len() - left.text.len()]);
         let undefined = undefined_line(alloc, station, bytes)?;
-        return Err(refused(least(wrong, undefined)));
+        return Err(EquationsFault::refused(10, least(wrong, undefined)));
     };
     if !are_there(&lines) {
         let undefined = undefined_line(alloc, station, bytes)?;
-        return Err(refused(line_of(undefined)));
+        return Err(EquationsFault::refused(10, line_of(undefined)));
     }
     Ok(Equations::new(lines.parts, lines.ops, lines.nodes))
 }

@@ -10,6 +10,8 @@ use Rattle.ilk_base.specs.declared.words.Op.{Op}
 use Rattle.station_graph.specs.Diagram.{Diagram}
 use Rattle.ssd_read.specs.declared.refusal.SsdRefusal.{SsdRefusal}
 use Rattle.ssd_read.specs.StandsFor.{Stands}
+use Rattle.ssd_read.specs.Elements.{Element}
+use Rattle.ssd_read.specs.Whole.{IsDrawing}
 use Rattle.double_points.specs.Positions.{IsAccepted, IsRefusedWith}
 use Rattle.switching_orders.specs.OrderLines.{IsOrder, IsOrderFault}
 use Rattle.release_compile.specs.declared.refusal.BuildRefusal.{BuildRefusal}
@@ -21,8 +23,9 @@ use Rattle.log_replay.specs.Log.{IsLog, IsLogFault}
 use Rattle.interlock_cli.specs.declared.end.End.{End}
 use Rattle.interlock_cli.specs.declared.end.End.TheVariants as e
 use Rattle.trip_replay.specs.TripLogs.{IsTripLog, IsTripLogFault}
-use Rattle.trip_replay.specs.declared.log.TripLogEvent.{TripLogEvent}
-use Rattle.interlock_cli.specs.Formats.{Format, Drawing, Positions, CertainPositions, OrderOf, LogOf, TripLogOf}
+use Rattle.trip_replay.specs.declared.event.TripLogEvent.{TripLogEvent}
+use Rattle.interlock_cli.specs.Formats.{Format, Drawing, Elements, Positions, CertainPositions, OrderOf, LogOf}
+use Rattle.interlock_cli.specs.Formats.{TripLogOf}
 use Rattle.interlock_cli.specs.Formats.{BlocksOf, SwitchOf, BayOf, Value, AcceptsAs, Refuses, PassesLimit}
 use Rattle.interlock_cli.specs.Judging.{JudgeFails}
 use Rattle.interlock_cli.specs.Form.{File, Given, Fails}
@@ -158,6 +161,23 @@ refuses_trip_log : (d : Diagram) (b v : List ℕ) (end : End) → v ≡ take (FI
 refuses_trip_log d b v (e.Input refusal) h r = cut_trip_log_fault d (FILE_BYTES + 1) b v refusal refl h r
 refuses_trip_log d b v _ h r = r
 
+cut_drawing : (n : ℕ) (b v : List ℕ) (all : List Element) → n ≡ FILE_BYTES + 1 → v ≡ take n b → IsDrawing v all →
+    IsDrawing b all
+cut_drawing n b v all e h drawing =
+    let whole : v ≡ b = h ∙ take_short n b (omega (arith, e, ap length h, drawing.few)) in
+    subst (λ (x : List ℕ). IsDrawing x all) whole drawing
+
+refuses_elements : (b v : List ℕ) (end : End) → v ≡ take (FILE_BYTES + 1) b → Refuses Elements v end →
+    Refuses Elements b end
+refuses_elements b v (e.Station refusal) h r = cut_stands (FILE_BYTES + 1) b v (Err refusal) refl h r
+refuses_elements b v _ h r = r
+
+pub elements : Cuts Elements
+elements = record {
+  accepts = λ b v all h a. cut_drawing (FILE_BYTES + 1) b v all refl h a;
+  refuses = refuses_elements;
+}
+
 pub drawing : Cuts Drawing
 drawing = record {
   accepts = λ b v d h a. (cut_stands (FILE_BYTES + 1) b v (Ok d) refl h a.0, a.1);
@@ -205,6 +225,7 @@ trip_log d = record {
 -- no content is refused by a fault of its read
 pub no_fault : (f : Format) (v : List ℕ) → Refuses f v e.ReadFault → ⊥
 no_fault Drawing v r = r
+no_fault Elements v r = r
 no_fault (Positions d) v r = r
 no_fault (CertainPositions d) v r = r
 no_fault (OrderOf d) v r = r

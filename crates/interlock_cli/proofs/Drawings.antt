@@ -3,7 +3,10 @@ use Rattle.std.proofs.Common.{◌≡◌, ◌+◌, ℕ, List, take, Option, Some,
 use Rattle.std.specs.Prelude.{IfSome, IfOk}
 use Rattle.ilk_base.specs.declared.limits.TheConstants.{FILE_BYTES}
 use Rattle.station_graph.specs.Diagram.{Diagram}
-use Rattle.ssd_read.specs.StandsFor.{Stands}
+use Rattle.ssd_read.specs.declared.refusal.SsdRefusal.{SsdRefusal}
+use Rattle.ssd_read.specs.declared.refusal.SsdRefusal.TheVariants.{Memory}
+use Rattle.ssd_read.specs.Shown.{number}
+use Rattle.ssd_read.specs.StandsFor.{Stands, TellsStation}
 use Rattle.release_compile.specs.Judging.{KeepsLimits}
 use Rattle.interlock_cli.specs.Formats.{Drawing}
 use Rattle.interlock_cli.specs.Form.{Origin, File, Given, Fails}
@@ -11,6 +14,12 @@ use Rattle.interlock_cli.specs.Judging.{Drawn, BuildFails}
 use Rattle.interlock_cli.specs.declared.end.End.{End}
 use Rattle.interlock_cli.specs.declared.end.End.TheVariants as e
 use Rattle.interlock_cli.proofs.Cuts.{cut_stands}
+
+-- a refusal with a number is the fault of the drawing
+pub refused : (bytes : List ℕ) (fault : SsdRefusal) (n : ℕ) → TellsStation bytes (Err fault) → number fault ≡ Some n →
+    Stands bytes (Err fault)
+refused bytes Memory n tells is = absurd (cc is)
+refused bytes fault n tells is = tells
 
 module _ (held : List ℕ → Option (List ℕ)) where
   -- the drawing whose first bytes were read

@@ -21,7 +21,7 @@ rose_later : (a b c : ℕ) → a ≤ b → Rose b c → Rose a c
 rose_later a b c le (inl lt) = inl (omega (arith, le, lt))
 rose_later a b c le (inr top) = inr top
 
-keeps_both : (a b c : Option (List ℕ)) → Keeps a b → Keeps b c → Keeps a c
+pub keeps_both : (a b c : Option (List ℕ)) → Keeps a b → Keeps b c → Keeps a c
 keeps_both None b c first second = tt
 keeps_both (Some x) None c first second = absurd first
 keeps_both (Some x) (Some y) None first second = absurd second

@@ -1,4 +1,5 @@
 pub mod AllLines
+pub mod Asked
 pub mod Cuts
 pub mod Drawings
 pub mod Later

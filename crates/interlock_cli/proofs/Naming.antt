@@ -10,7 +10,7 @@ use Rattle.command_words.specs.Rows.{is_plain, is_row, row_of, written}
 use Rattle.interlock_cli.specs.Commands.{Command, one_word, two_words, three_words, four_words, named_command}
 use Rattle.interlock_cli.specs.Commands.{command_of}
 use Rattle.interlock_cli.specs.Commands.{check_of, explain_of, state_of, order_of, replay_of, audit_of, node_of}
-use Rattle.interlock_cli.specs.Commands.{make_of, trips_of, plan_of, compile_of, work_of}
+use Rattle.interlock_cli.specs.Commands.{make_of, trips_of, plan_of, program_of, compile_of, work_of, station_of}
 
 abbrev Text : Type 0
 Text = List ℕ
@@ -73,8 +73,10 @@ module _ (name : Text) (rest : List Text) (none : is_row (name ∷ rest) ≡ fal
       (row (codes "compile") 1 compile_of _ refl (one _)
       (row (codes "trips") 2 trips_of _ refl (two _)
       (row (codes "plan") 1 plan_of _ refl (one _)
+      (row (codes "program") 1 program_of _ refl (one _)
       (row (codes "work") 1 work_of _ refl (one _)
-      refl)))))))))))
+      (row (codes "station") 1 station_of _ refl (one _)
+      refl)))))))))))))
 
 unnamed : (words : List Text) → is_row words ≡ false → named_command words ≡ None
 unnamed [] none = refl

@@ -2,7 +2,7 @@
 use Rattle.std.proofs.Common.{ℕ, List, [], Option, Some, None, inl, inr, refl, sym, subst}
 use Rattle.std.specs.Io.KnownBytes.{Appends, Keeps}
 use Rattle.std.proofs.lemmas.List.{append-nil}
-use Rattle.interlock_cli.specs.Formats.{Format, Drawing, Positions, CertainPositions, OrderOf, LogOf, TripLogOf}
+use Rattle.interlock_cli.specs.Formats.{Format, Drawing, Elements, Positions, CertainPositions, OrderOf, LogOf, TripLogOf}
 use Rattle.interlock_cli.specs.Formats.{BlocksOf, SwitchOf, BayOf, Refuses}
 use Rattle.interlock_cli.specs.Form.{Form, Write, Take, Serve, FormSays, Gives, FormStops}
 use Rattle.interlock_cli.specs.Commands.{Command, Make, form_of}
@@ -14,6 +14,7 @@ use Rattle.interlock_cli.specs.declared.end.End.TheVariants as e
 
 not_written : (f : Format) (v : List ℕ) (outcome : Outcome) → Refuses f v (e.Written outcome) → ⊥
 not_written Drawing v outcome r = r
+not_written Elements v outcome r = r
 not_written (Positions d) v outcome r = r
 not_written (CertainPositions d) v outcome r = r
 not_written (OrderOf d) v outcome r = r
@@ -25,6 +26,7 @@ not_written (BayOf d) v outcome r = r
 
 not_failed : (f : Format) (v : List ℕ) → Refuses f v e.WriteFault → ⊥
 not_failed Drawing v r = r
+not_failed Elements v r = r
 not_failed (Positions d) v r = r
 not_failed (CertainPositions d) v r = r
 not_failed (OrderOf d) v r = r
@@ -36,6 +38,7 @@ not_failed (BayOf d) v r = r
 
 not_usage : (f : Format) (v : List ℕ) → Refuses f v e.Usage → ⊥
 not_usage Drawing v r = r
+not_usage Elements v r = r
 not_usage (Positions d) v r = r
 not_usage (CertainPositions d) v r = r
 not_usage (OrderOf d) v r = r

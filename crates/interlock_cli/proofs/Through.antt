@@ -9,7 +9,8 @@ use Rattle.ssd_read.specs.declared.refusal.SsdRefusal.{SsdRefusal}
 use Rattle.ssd_read.specs.StandsFor.{Stands}
 use Rattle.ssd_read.proofs.Once.{one_station}
 use Rattle.double_points.specs.Positions.{IsAccepted, IsRefusedWith}
-use Rattle.interlock_cli.specs.Formats.{Format, Drawing, Positions, CertainPositions, OrderOf, LogOf, TripLogOf}
+use Rattle.interlock_cli.specs.Formats.{Format, Drawing, Elements, Positions, CertainPositions, OrderOf, LogOf}
+use Rattle.interlock_cli.specs.Formats.{TripLogOf}
 use Rattle.interlock_cli.specs.Formats.{BlocksOf, SwitchOf, BayOf, Value, AcceptsAs, Refuses, PassesLimit}
 use Rattle.interlock_cli.specs.Form.{Form, Write, Take, Serve, Origin, File, Word, IsContent, Given, Fails, FormStops}
 use Rattle.interlock_cli.specs.Form.{ReadRose}
@@ -28,6 +29,7 @@ use Rattle.interlock_cli.specs.Lines.{status_of}
 use Rattle.interlock_cli.specs.Ends.{Call, FormEnds, Serves, Ends}
 use Rattle.interlock_cli.specs.Complete.{OriginTells, IsAnswered, ReadsCalm, Completes}
 use Rattle.switching_orders.specs.Certain.{IsUnsure}
+use Rattle.station_lines.proofs.DrawingLemmas.{drawing_stands}
 use Rattle.equation_audit.proofs.OneOutcome.{blocks_not_refused}
 use Rattle.log_replay.proofs.OneOutcome.{log_not_refused}
 use Rattle.trip_replay.proofs.OneTripOutcome.{trip_log_not_refused}
@@ -72,6 +74,8 @@ one_verdict Drawing content a (e.Station refusal) p r = not_refused content a re
 one_verdict Drawing content a (e.Many part step) p r =
     absurd (many_some part step (within_limits content a (Many part step) p.0 p.1 r))
 one_verdict Drawing content a (e.Wide bay) p r = absurd (wide_some bay (within_limits content a (Wide bay) p.0 p.1 r))
+one_verdict Elements content all (e.Station refusal) p r =
+    not_refused content p.reads.station.diagram refusal (drawing_stands content all p) r
 one_verdict (Positions d) content a (e.Input refusal) p r = not_both d.switch_paths content a refusal p r
 one_verdict (CertainPositions d) content v (e.Input refusal) (words, accepted, are) (inl fault) =
     not_both d.switch_paths content words refusal accepted fault

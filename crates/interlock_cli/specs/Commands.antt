@@ -12,7 +12,8 @@ use Rattle.station_make.specs.DrawingText.{station_text}
 use Rattle.station_make.specs.EventsText.{events_text}
 use Rattle.station_make.specs.PositionsText.{positions_text}
 use Rattle.station_make.specs.Words.{feeders_of, made_text, text_named}
-use Rattle.interlock_cli.specs.Formats.{Drawing, Positions, CertainPositions, OrderOf, LogOf, TripLogOf, BlocksOf}
+use Rattle.interlock_cli.specs.Formats.{Drawing, Elements, Positions, CertainPositions, OrderOf, LogOf, TripLogOf}
+use Rattle.interlock_cli.specs.Formats.{BlocksOf}
 use Rattle.interlock_cli.specs.Formats.{SwitchOf, BayOf}
 use Rattle.interlock_cli.specs.Form.{Form, Write, Take, Serve, File, Word}
 use Rattle.interlock_cli.specs.CheckText.{IsCheckText}
@@ -23,7 +24,9 @@ use Rattle.interlock_cli.specs.TripsWrites.{TripsWrites}
 use Rattle.interlock_cli.specs.AuditWrites.{AuditWrites}
 use Rattle.station_equations.specs.CompileText.{IsCompileText}
 use Rattle.exchange_plan.specs.PlanText.{IsPlanText}
+use Rattle.program_text.specs.ProgramText.{IsProgramText}
 use Rattle.interlock_cli.specs.WorkWrites.{WorkWrites}
+use Rattle.interlock_cli.specs.StationWrites.{StationWrites}
 use Rattle.interlock_cli.specs.declared.end.Outcome.{Outcome}
 use Rattle.interlock_cli.specs.declared.end.Outcome.TheVariants.{Done}
 
@@ -49,10 +52,14 @@ pub data Command : Type 0 where
   Trips : List ℕ → List ℕ → Command
   -- `plan STATION`
   Plan : List ℕ → Command
+  -- `program STATION`
+  Program : List ℕ → Command
   -- `make NUMBER station`, or `positions`, or `log`
   Make : ℕ → MadeText → Command
   -- `work NUMBER`
   Work : ℕ → Command
+  -- `station STATION`
+  Station : List ℕ → Command
 
 -- The direction that a word names.
 abbrev pub direction_of : List ℕ → Option Direction
@@ -121,6 +128,10 @@ trips_of = two_words (λ station log. Some (Trips station log))
 abbrev pub plan_of : List (List ℕ) → Option Command
 plan_of = one_word (λ station. Some (Plan station))
 
+-- The words behind `program`.
+abbrev pub program_of : List (List ℕ) → Option Command
+program_of = one_word (λ station. Some (Program station))
+
 -- The words behind `make`.
 abbrev pub make_of : List (List ℕ) → Option Command
 make_of =
@@ -129,6 +140,10 @@ make_of =
 -- The words behind `work`.
 abbrev pub work_of : List (List ℕ) → Option Command
 work_of = one_word (λ number. option_map (λ n. Work n) (feeders_of number))
+
+-- The words behind `station`.
+abbrev pub station_of : List (List ℕ) → Option Command
+station_of = one_word (λ station. Some (Station station))
 
 -- What the words name, the command's name first.
 abbrev pub named_command : List (List ℕ) → Option Command
@@ -145,12 +160,36 @@ named_command (name ∷ rest) =
     else if bytes_eq name (codes "compile") then compile_of rest
     else if bytes_eq name (codes "trips") then trips_of rest
     else if bytes_eq name (codes "plan") then plan_of rest
+    else if bytes_eq name (codes "program") then program_of rest
     else if bytes_eq name (codes "work") then work_of rest
+    else if bytes_eq name (codes "station") then station_of rest
     else None
 
 -- What the words name, where no word is empty or begins with `-`.
 abbrev pub command_of : List (List ℕ) → Option Command
 command_of words = if list_all is_plain words then named_command words else None
+
+-- The files that the words name, in their order.
+abbrev pub files_of : Command → List (List ℕ)
+files_of (Check station positions) = station ∷ positions ∷ []
+files_of (Explain station positions direction switch) = station ∷ positions ∷ []
+files_of (State station positions) = station ∷ positions ∷ []
+files_of (Order station positions order) = station ∷ positions ∷ order ∷ []
+files_of (Replay station log) = station ∷ log ∷ []
+files_of (Audit station equations) = station ∷ equations ∷ []
+files_of (Node station bay) = station ∷ []
+files_of (Compile station) = station ∷ []
+files_of (Trips station log) = station ∷ log ∷ []
+files_of (Plan station) = station ∷ []
+files_of (Program station) = station ∷ []
+files_of (Make number text) = []
+files_of (Work number) = []
+files_of (Station station) = station ∷ []
+
+-- The files of the command that the words name, if they name one.
+abbrev pub files_named : Option Command → List (List ℕ)
+files_named None = []
+files_named (Some command) = files_of command
 
 -- A text with which the call ends Done.
 abbrev pub IsDoneWith : (List ℕ → Type 0) → Outcome → List ℕ → Type 0
@@ -182,7 +221,10 @@ form_of (Trips station log) =
     Take (File station) Drawing (λ d. Take (File log) (TripLogOf d) (λ events. Write (TripsWrites d events)))
 form_of (Plan station) =
     Take (File station) Drawing (λ d. Write (IsDoneWith (IsPlanText d)))
+form_of (Program station) =
+    Take (File station) Drawing (λ d. Write (IsDoneWith (IsProgramText d)))
 form_of (Make number text) = Write (IsDoneWith (λ written. written ≡ made_text text number))
 form_of (Work number) =
     Take (Word (station_text number)) Drawing (λ d. Take (Word (positions_text number)) (Positions d) (λ words.
     Take (Word (events_text number)) (LogOf d) (λ events. Write (WorkWrites d words events))))
+form_of (Station station) = Take (File station) Elements (λ all. Write (StationWrites all))

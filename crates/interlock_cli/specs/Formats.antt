@@ -6,6 +6,8 @@ use Rattle.ilk_base.specs.declared.words.InputRefusal.{InputRefusal}
 use Rattle.ilk_base.specs.declared.words.Op.{Op}
 use Rattle.station_graph.specs.Diagram.{Diagram, Differ, IsStation}
 use Rattle.ssd_read.specs.StandsFor.{Stands}
+use Rattle.ssd_read.specs.Elements.{Element}
+use Rattle.ssd_read.specs.Whole.{IsDrawing}
 use Rattle.central_rules.specs.Meaning.{IsBay}
 use Rattle.release_compile.specs.Judging.{KeepsLimits, IsBuildRefusal}
 use Rattle.release_compile.specs.declared.refusal.BuildRefusal.{BuildRefusal}
@@ -18,7 +20,7 @@ use Rattle.equation_audit.specs.BlockLines.{AreBlocks, IsBlocksFault}
 use Rattle.reservation_core.specs.declared.values.LogEvent.{LogEvent}
 use Rattle.log_replay.specs.Log.{IsLog, IsLogFault}
 use Rattle.trip_replay.specs.TripLogs.{IsTripLog, IsTripLogFault}
-use Rattle.trip_replay.specs.declared.log.TripLogEvent.{TripLogEvent}
+use Rattle.trip_replay.specs.declared.event.TripLogEvent.{TripLogEvent}
 use Rattle.interlock_cli.specs.declared.end.End.{End}
 use Rattle.interlock_cli.specs.declared.end.End.TheVariants as e
 
@@ -26,6 +28,8 @@ use Rattle.interlock_cli.specs.declared.end.End.TheVariants as e
 pub data Format : Type 0 where
   -- a drawing
   Drawing : Format
+  -- a drawing, taken as its elements, whatever the graphs of its station
+  Elements : Format
   -- the positions of the station's switches
   Positions : Diagram → Format
   -- positions that leave no switch's position open
@@ -43,10 +47,11 @@ pub data Format : Type 0 where
   -- the path of a bay of the station
   BayOf : Diagram → Format
 
--- What a content is accepted as: a station, a word or a position for each of its switches, the steps of
--- an order, equations, the path itself, or the number of the bay.
+-- What a content is accepted as: a station, the elements of a drawing, a word or a position for each of its
+-- switches, the steps of an order, equations, the path itself, or the number of the bay.
 abbrev pub Value : Format → Type 0
 Value Drawing = Diagram
+Value Elements = List Element
 Value (Positions d) = List Dbpos
 Value (CertainPositions d) = List Bool
 Value (OrderOf d) = List Op
@@ -64,6 +69,7 @@ NamesBay d path b = (slice_get d.part_paths b ≡ Some path) × IsBay d b
 -- blocks name the switches of a station, of which no two have one path.
 abbrev pub AcceptsAs : (f : Format) → List ℕ → Value f → Type 0
 AcceptsAs Drawing content d = Stands content (Ok d) × KeepsLimits d
+AcceptsAs Elements content all = IsDrawing content all
 AcceptsAs (Positions d) content words = IsAccepted d.switch_paths content words
 AcceptsAs (CertainPositions d) content v =
     (words : List Dbpos) × IsAccepted d.switch_paths content words × SayPositions v words
@@ -92,6 +98,7 @@ abbrev pub Refuses : Format → List ℕ → End → Type 0
 Refuses Drawing content (e.Station refusal) = Stands content (Err refusal)
 Refuses Drawing content (e.Many part step) = PassesLimit content (Many part step)
 Refuses Drawing content (e.Wide bay) = PassesLimit content (Wide bay)
+Refuses Elements content (e.Station refusal) = Stands content (Err refusal)
 Refuses (Positions d) content (e.Input refusal) = IsRefusedWith d.switch_paths content refusal
 Refuses (CertainPositions d) content (e.Input refusal) =
     IsRefusedWith d.switch_paths content refusal ⊎ IsUnsureRefusal d content refusal

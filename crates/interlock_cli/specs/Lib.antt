@@ -1,5 +1,6 @@
 pub mod Formats
 pub mod Form
+pub mod Files
 pub mod Judging
 pub mod CheckText
 pub mod ExplainText
@@ -8,6 +9,7 @@ pub mod ReplayWrites
 pub mod TripsWrites
 pub mod AuditWrites
 pub mod WorkWrites
+pub mod StationWrites
 pub mod Commands
 pub mod Seen
 pub mod Lines

@@ -19,8 +19,8 @@ replay_outcome None = Done
 replay_outcome (Some broken) = Premise (number broken.1) broken.0
 
 -- The report is that of one run of the log, by the graph judge of the station. The headline: over the lines of
--- the log, with what is shown at each, every decision is exact, and every movement obeys the rules on the true
--- positions throughout.
+-- the log, with what is shown at each, every decision is exact, and every movement was granted and obeys the
+-- rules on the true positions throughout.
 pub record Replays (d : Diagram) (log : List LogEvent) (r : Replayed) : Type 0 where
   pub judging : Judging
   pub of_station : judging.diagram ≡ d

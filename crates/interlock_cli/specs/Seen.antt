@@ -2,7 +2,7 @@
 use Rattle.interlock_cli.specs.Commands as c
 use Rattle.interlock_cli.specs.declared.words.Command.{Command}
 use Rattle.interlock_cli.specs.declared.words.Command.TheVariants.{Check, Explain, State, Order, Replay, Audit, Node}
-use Rattle.interlock_cli.specs.declared.words.Command.TheVariants.{Compile, Trips, Plan, Make, Work}
+use Rattle.interlock_cli.specs.declared.words.Command.TheVariants.{Compile, Trips, Plan, Program, Make, Work, Station}
 
 -- A command, as the definitions name it.
 abbrev pub seen_command : Command → c.Command
@@ -16,5 +16,7 @@ seen_command (Node station bay) = c.Node station.now bay.now
 seen_command (Compile station) = c.Compile station.now
 seen_command (Trips station log) = c.Trips station.now log.now
 seen_command (Plan station) = c.Plan station.now
+seen_command (Program station) = c.Program station.now
 seen_command (Make feeders text) = c.Make feeders.number text
 seen_command (Work feeders) = c.Work feeders.number
+seen_command (Station station) = c.Station station.now

@@ -8,13 +8,14 @@ use Rattle.log_replay.specs.Replay.{Replayed, report_text}
 use Rattle.trip_core.specs.TripRuns.{TripHeadline}
 use Rattle.trip_replay.specs.TripLogLines.{trip_start_of, trip_lines_of}
 use Rattle.trip_replay.specs.TripReplays.{IsTripReplay}
-use Rattle.trip_replay.specs.declared.log.TripLogEvent.{TripLogEvent}
+use Rattle.trip_replay.specs.declared.event.TripLogEvent.{TripLogEvent}
 use Rattle.interlock_cli.specs.ReplayWrites.{replay_outcome}
 use Rattle.interlock_cli.specs.declared.end.Outcome.{Outcome}
 
 -- The report is that of one run of the log, by the graph judge of the station. Over the lines of the log, with what
--- is shown at each, every decision is exact; every movement obeys the first two rules on the true positions
--- throughout, and the third as long as no breaker has tripped that its grant used; and a sound start stays sound.
+-- is shown at each, every decision is exact; every movement was granted and obeys the first two rules on the true
+-- positions throughout, and the third as long as no breaker has tripped that its grant used; and a sound start stays
+-- sound.
 pub record ReplaysTrips (d : Diagram) (log : List TripLogEvent) (r : Replayed) : Type 0 where
   pub judging : Judging
   pub of_station : judging.diagram ≡ d

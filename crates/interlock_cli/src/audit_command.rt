@@ -1,7 +1,8 @@
 //! The command `audit`.
-ghost use Rattle.std.specs.Prelude.{◌≡◌, IfOk, IfErr};
+ghost use Rattle.std.specs.Prelude.{[], ◌∷◌, ◌≡◌, IfOk, IfErr};
 ghost use Rattle.equation_audit.specs.Equations.{AreOfStation};
 ghost use Rattle.interlock_cli.specs.Commands.{Audit, form_of};
+ghost use Rattle.interlock_cli.specs.Files.{files, Reads};
 ghost use Rattle.interlock_cli.specs.Form.{Gives, FormStops};
 ghost use Rattle.interlock_cli.specs.AuditWrites.{AuditWrites};
 
@@ -34,7 +35,7 @@ fn audit_output<J: Judge>(
 }
 
 // What `audit STATION EQUATIONS` has to write.
-#[tactic(auto, using(crate::proofs::Later::fails_later, crate::proofs::Drawings::drawn_given, crate::proofs::Drawings::drawn_fails))]
+#[tactic(auto, using(crate::proofs::Asked::reads_begun, crate::proofs::Asked::reads_first, crate::proofs::Asked::reads_on, crate::proofs::Later::fails_later, crate::proofs::Drawings::drawn_given, crate::proofs::Drawings::drawn_fails))]
 pub(crate) fn audit<F: Shelf>(
     alloc: Global,
     station: &str,
@@ -44,6 +45,9 @@ pub(crate) fn audit<F: Shelf>(
     ensures ok { IfOk result (Gives (form_of (Audit station.now equations.now)) (F.held shelf.old)) }
     ensures err { IfErr result (FormStops (form_of (Audit station.now equations.now)) (F.held shelf.old)
         (F.faults shelf.old) (F.faults shelf.new)) }
+    ensures reads { Reads (station.now ∷ equations.now ∷ [])
+        (files (F.held shelf.old) (F.faults shelf.old) (F.asked shelf.old))
+        (files (F.held shelf.new) (F.faults shelf.new) (F.asked shelf.new)) }
 {
     let station = match load_drawing(alloc, station, shelf) {
         Ok(station) => station,

@@ -1,6 +1,7 @@
 //! The command `check`.
-ghost use Rattle.std.specs.Prelude.{IfOk, IfErr};
+ghost use Rattle.std.specs.Prelude.{[], ◌∷◌, IfOk, IfErr};
 ghost use Rattle.interlock_cli.specs.Commands.{Check, form_of};
+ghost use Rattle.interlock_cli.specs.Files.{files, Reads};
 ghost use Rattle.interlock_cli.specs.Form.{Gives, FormStops};
 
 use crate::check::check_text;
@@ -10,7 +11,7 @@ use ilk_base::Shelf;
 use std::alloc::Global;
 
 // What `check STATION POSITIONS` has to write.
-#[tactic(auto, using(crate::proofs::Later::fails_later, crate::proofs::Drawings::drawn_given, crate::proofs::Drawings::drawn_fails))]
+#[tactic(auto, using(crate::proofs::Asked::reads_begun, crate::proofs::Asked::reads_first, crate::proofs::Asked::reads_on, crate::proofs::Later::fails_later, crate::proofs::Drawings::drawn_given, crate::proofs::Drawings::drawn_fails))]
 pub(crate) fn check<F: Shelf>(
     alloc: Global,
     station: &str,
@@ -20,6 +21,9 @@ pub(crate) fn check<F: Shelf>(
     ensures ok { IfOk result (Gives (form_of (Check station.now positions.now)) (F.held shelf.old)) }
     ensures err { IfErr result (FormStops (form_of (Check station.now positions.now)) (F.held shelf.old)
         (F.faults shelf.old) (F.faults shelf.new)) }
+    ensures reads { Reads (station.now ∷ positions.now ∷ [])
+        (files (F.held shelf.old) (F.faults shelf.old) (F.asked shelf.old))
+        (files (F.held shelf.new) (F.faults shelf.new) (F.asked shelf.new)) }
 {
     let station = match load_drawing(alloc, station, shelf) {
         Ok(station) => station,

@@ -1,6 +1,7 @@
 //! The command `explain`.
-ghost use Rattle.std.specs.Prelude.{IfOk, IfErr};
+ghost use Rattle.std.specs.Prelude.{[], ◌∷◌, IfOk, IfErr};
 ghost use Rattle.interlock_cli.specs.Commands.{Explain, form_of};
+ghost use Rattle.interlock_cli.specs.Files.{files, Reads};
 ghost use Rattle.interlock_cli.specs.Form.{Gives, FormStops};
 
 use crate::end::{End, Outcome, Output};
@@ -10,7 +11,7 @@ use ilk_base::{Direction, Op, Shelf};
 use std::alloc::Global;
 
 // What `explain STATION POSITIONS open SWITCH`, or `close`, has to write.
-#[tactic(auto, using(crate::proofs::Later::fails_later, crate::proofs::Drawings::drawn_given, crate::proofs::Drawings::drawn_fails))]
+#[tactic(auto, using(crate::proofs::Asked::reads_begun, crate::proofs::Asked::reads_first, crate::proofs::Asked::reads_on, crate::proofs::Later::fails_later, crate::proofs::Drawings::drawn_given, crate::proofs::Drawings::drawn_fails))]
 pub(crate) fn explain<F: Shelf>(
     alloc: Global,
     station: &str,
@@ -23,6 +24,9 @@ pub(crate) fn explain<F: Shelf>(
         (F.held shelf.old)) }
     ensures err { IfErr result (FormStops (form_of (Explain station.now positions.now direction path.now))
         (F.held shelf.old) (F.faults shelf.old) (F.faults shelf.new)) }
+    ensures reads { Reads (station.now ∷ positions.now ∷ [])
+        (files (F.held shelf.old) (F.faults shelf.old) (F.asked shelf.old))
+        (files (F.held shelf.new) (F.faults shelf.new) (F.asked shelf.new)) }
 {
     let station = match load_drawing(alloc, station, shelf) {
         Ok(station) => station,

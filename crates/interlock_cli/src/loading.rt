@@ -1,5 +1,5 @@
 //! What a command is given, read and judged.
-ghost use Rattle.std.specs.Prelude.{◌≡◌, ◌+◌, ◌<◌, length, take, slice_get, Some, Ok, IfOk, IfErr, IfSome};
+ghost use Rattle.std.specs.Prelude.{◌≡◌, ◌∷◌, [], OnOk, ◌+◌, ◌<◌, length, take, slice_get, Some, Ok, IfOk, IfErr, IfSome};
 ghost use Rattle.ilk_base.specs.Outside.{Rose};
 ghost use Rattle.ilk_base.specs.declared.limits.TheConstants.{FILE_BYTES};
 ghost use Rattle.ssd_read.specs.StandsFor.{Stands};
@@ -12,6 +12,7 @@ ghost use Rattle.double_points.specs.Words.{AreWords};
 ghost use Rattle.central_rules.specs.Meaning.{IsBay};
 ghost use Rattle.interlock_cli.specs.Formats.{AcceptsAs, Drawing, Positions, CertainPositions, OrderOf, BlocksOf};
 ghost use Rattle.interlock_cli.specs.Formats.{SwitchOf, BayOf};
+ghost use Rattle.interlock_cli.specs.Files.{files, ReadsAll, Reads};
 ghost use Rattle.interlock_cli.specs.Form.{Given, Fails, File};
 ghost use Rattle.interlock_cli.specs.Judging.{Drawn, BuildFails, ReadFails, JudgeFails, Onward};
 
@@ -33,6 +34,12 @@ pub(crate) fn read_file<F: Shelf>(name: &str, shelf: &mut F) -> Result<Vec<u8>, 
     ensures ok { IfOk result (λ v. IfSome (F.held shelf.old name.now) (λ b. v.items ≡ take (FILE_BYTES + 1) b)) }
     ensures err { IfErr result (ReadFails (Rose (F.faults shelf.old name.now) (F.faults shelf.new name.now))) }
     ensures onward { Onward (F.held shelf.old) (F.held shelf.new) (F.faults shelf.old) (F.faults shelf.new) }
+    ensures read { OnOk result (ReadsAll (name.now ∷ [])
+        (files (F.held shelf.old) (F.faults shelf.old) (F.asked shelf.old))
+        (files (F.held shelf.new) (F.faults shelf.new) (F.asked shelf.new))) }
+    ensures reads { Reads (name.now ∷ [])
+        (files (F.held shelf.old) (F.faults shelf.old) (F.asked shelf.old))
+        (files (F.held shelf.new) (F.faults shelf.new) (F.asked shelf.new)) }
 {
     match shelf.read(name, MOST) {
         Ok(bytes) => Ok(bytes),
@@ -134,6 +141,12 @@ pub(crate) fn load_drawing<F: Shelf>(
     ensures err { IfErr result (Fails (F.held shelf.old) (F.faults shelf.old) (F.faults shelf.new)
         (File name.now) Drawing) }
     ensures onward { Onward (F.held shelf.old) (F.held shelf.new) (F.faults shelf.old) (F.faults shelf.new) }
+    ensures read { OnOk result (ReadsAll (name.now ∷ [])
+        (files (F.held shelf.old) (F.faults shelf.old) (F.asked shelf.old))
+        (files (F.held shelf.new) (F.faults shelf.new) (F.asked shelf.new))) }
+    ensures reads { Reads (name.now ∷ [])
+        (files (F.held shelf.old) (F.faults shelf.old) (F.asked shelf.old))
+        (files (F.held shelf.new) (F.faults shelf.new) (F.asked shelf.new)) }
 {
     let bytes = match read_file(name, shelf) {
         Ok(bytes) => bytes,
@@ -153,6 +166,12 @@ pub(crate) fn load_station<F: Shelf>(
     ensures err { IfErr result (Fails (F.held shelf.old) (F.faults shelf.old) (F.faults shelf.new)
         (File name.now) Drawing) }
     ensures onward { Onward (F.held shelf.old) (F.held shelf.new) (F.faults shelf.old) (F.faults shelf.new) }
+    ensures read { OnOk result (ReadsAll (name.now ∷ [])
+        (files (F.held shelf.old) (F.faults shelf.old) (F.asked shelf.old))
+        (files (F.held shelf.new) (F.faults shelf.new) (F.asked shelf.new))) }
+    ensures reads { Reads (name.now ∷ [])
+        (files (F.held shelf.old) (F.faults shelf.old) (F.asked shelf.old))
+        (files (F.held shelf.new) (F.faults shelf.new) (F.asked shelf.new)) }
 {
     let station = match load_drawing(alloc, name, shelf) {
         Ok(station) => station,
@@ -176,6 +195,12 @@ pub(crate) fn load_readings<F: Shelf>(
     ensures err { IfErr result (Fails (F.held shelf.old) (F.faults shelf.old) (F.faults shelf.new) (File name.now)
         (Positions station.now)) }
     ensures onward { Onward (F.held shelf.old) (F.held shelf.new) (F.faults shelf.old) (F.faults shelf.new) }
+    ensures read { OnOk result (ReadsAll (name.now ∷ [])
+        (files (F.held shelf.old) (F.faults shelf.old) (F.asked shelf.old))
+        (files (F.held shelf.new) (F.faults shelf.new) (F.asked shelf.new))) }
+    ensures reads { Reads (name.now ∷ [])
+        (files (F.held shelf.old) (F.faults shelf.old) (F.asked shelf.old))
+        (files (F.held shelf.new) (F.faults shelf.new) (F.asked shelf.new)) }
 {
     let bytes = match read_file(name, shelf) {
         Ok(bytes) => bytes,
@@ -196,6 +221,12 @@ pub(crate) fn load_start<F: Shelf>(
     ensures err { IfErr result (Fails (F.held shelf.old) (F.faults shelf.old) (F.faults shelf.new) (File name.now)
         (CertainPositions station.now)) }
     ensures onward { Onward (F.held shelf.old) (F.held shelf.new) (F.faults shelf.old) (F.faults shelf.new) }
+    ensures read { OnOk result (ReadsAll (name.now ∷ [])
+        (files (F.held shelf.old) (F.faults shelf.old) (F.asked shelf.old))
+        (files (F.held shelf.new) (F.faults shelf.new) (F.asked shelf.new))) }
+    ensures reads { Reads (name.now ∷ [])
+        (files (F.held shelf.old) (F.faults shelf.old) (F.asked shelf.old))
+        (files (F.held shelf.new) (F.faults shelf.new) (F.asked shelf.new)) }
 {
     let bytes = match read_file(name, shelf) {
         Ok(bytes) => bytes,
@@ -216,6 +247,12 @@ pub(crate) fn load_order<F: Shelf>(
     ensures err { IfErr result (Fails (F.held shelf.old) (F.faults shelf.old) (F.faults shelf.new) (File name.now)
         (OrderOf station.now)) }
     ensures onward { Onward (F.held shelf.old) (F.held shelf.new) (F.faults shelf.old) (F.faults shelf.new) }
+    ensures read { OnOk result (ReadsAll (name.now ∷ [])
+        (files (F.held shelf.old) (F.faults shelf.old) (F.asked shelf.old))
+        (files (F.held shelf.new) (F.faults shelf.new) (F.asked shelf.new))) }
+    ensures reads { Reads (name.now ∷ [])
+        (files (F.held shelf.old) (F.faults shelf.old) (F.asked shelf.old))
+        (files (F.held shelf.new) (F.faults shelf.new) (F.asked shelf.new)) }
 {
     let bytes = match read_file(name, shelf) {
         Ok(bytes) => bytes,
@@ -236,6 +273,12 @@ pub(crate) fn load_blocks<F: Shelf>(
     ensures err { IfErr result (Fails (F.held shelf.old) (F.faults shelf.old) (F.faults shelf.new) (File name.now)
         (BlocksOf station.now)) }
     ensures onward { Onward (F.held shelf.old) (F.held shelf.new) (F.faults shelf.old) (F.faults shelf.new) }
+    ensures read { OnOk result (ReadsAll (name.now ∷ [])
+        (files (F.held shelf.old) (F.faults shelf.old) (F.asked shelf.old))
+        (files (F.held shelf.new) (F.faults shelf.new) (F.asked shelf.new))) }
+    ensures reads { Reads (name.now ∷ [])
+        (files (F.held shelf.old) (F.faults shelf.old) (F.asked shelf.old))
+        (files (F.held shelf.new) (F.faults shelf.new) (F.asked shelf.new)) }
 {
     let bytes = match read_file(name, shelf) {
         Ok(bytes) => bytes,

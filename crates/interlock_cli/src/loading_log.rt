@@ -1,8 +1,9 @@
 //! A log that a command is given, read and judged.
-ghost use Rattle.std.specs.Prelude.{◌≡◌, All, IfOk, IfErr};
+ghost use Rattle.std.specs.Prelude.{◌≡◌, ◌∷◌, [], OnOk, All, IfOk, IfErr};
 ghost use Rattle.log_replay.specs.Records.{MayBeTold};
 ghost use Rattle.trip_replay.specs.TripRecords.{TripMayBeTold};
 ghost use Rattle.interlock_cli.specs.Formats.{AcceptsAs, LogOf, TripLogOf};
+ghost use Rattle.interlock_cli.specs.Files.{files, ReadsAll, Reads};
 ghost use Rattle.interlock_cli.specs.Form.{Given, Fails, File};
 ghost use Rattle.interlock_cli.specs.Judging.{JudgeFails, Onward};
 
@@ -48,6 +49,12 @@ pub(crate) fn load_log<F: Shelf>(
     ensures err { IfErr result (Fails (F.held shelf.old) (F.faults shelf.old) (F.faults shelf.new) (File name.now)
         (LogOf station.now)) }
     ensures onward { Onward (F.held shelf.old) (F.held shelf.new) (F.faults shelf.old) (F.faults shelf.new) }
+    ensures read { OnOk result (ReadsAll (name.now ∷ [])
+        (files (F.held shelf.old) (F.faults shelf.old) (F.asked shelf.old))
+        (files (F.held shelf.new) (F.faults shelf.new) (F.asked shelf.new))) }
+    ensures reads { Reads (name.now ∷ [])
+        (files (F.held shelf.old) (F.faults shelf.old) (F.asked shelf.old))
+        (files (F.held shelf.new) (F.faults shelf.new) (F.asked shelf.new)) }
 {
     let bytes = match read_file(name, shelf) {
         Ok(bytes) => bytes,
@@ -68,6 +75,12 @@ pub(crate) fn load_trip_log<F: Shelf>(
     ensures err { IfErr result (Fails (F.held shelf.old) (F.faults shelf.old) (F.faults shelf.new) (File name.now)
         (TripLogOf station.now)) }
     ensures onward { Onward (F.held shelf.old) (F.held shelf.new) (F.faults shelf.old) (F.faults shelf.new) }
+    ensures read { OnOk result (ReadsAll (name.now ∷ [])
+        (files (F.held shelf.old) (F.faults shelf.old) (F.asked shelf.old))
+        (files (F.held shelf.new) (F.faults shelf.new) (F.asked shelf.new))) }
+    ensures reads { Reads (name.now ∷ [])
+        (files (F.held shelf.old) (F.faults shelf.old) (F.asked shelf.old))
+        (files (F.held shelf.new) (F.faults shelf.new) (F.asked shelf.new)) }
 {
     let bytes = match read_file(name, shelf) {
         Ok(bytes) => bytes,

@@ -1,6 +1,7 @@
 //! The command `node`.
-ghost use Rattle.std.specs.Prelude.{◌≡◌, IfOk, IfErr, OnErr};
+ghost use Rattle.std.specs.Prelude.{[], ◌∷◌, ◌≡◌, IfOk, IfErr, OnErr};
 ghost use Rattle.interlock_cli.specs.Commands.{Node, form_of};
+ghost use Rattle.interlock_cli.specs.Files.{files, Reads};
 ghost use Rattle.interlock_cli.specs.Form.{FormStops};
 ghost use Rattle.interlock_cli.specs.Ends.{Serves, called};
 ghost use Rattle.node_session.specs.SessionEnds.{streams};
@@ -38,12 +39,15 @@ pub(crate) fn node<F: Shelf, I: Source, O: Sink>(
 ) -> Result<End, End>
     ensures ok { IfOk result (Serves (form_of (Node station.now bay.now))
         (called (F.held shelf.old) (F.faults shelf.old) (F.faults shelf.new)
-        (streams (I.left input.old) (I.faults input.old) (O.took out.old) (O.faults out.old))
-        (streams (I.left input.new) (I.faults input.new) (O.took out.new) (O.faults out.new)))) }
+        (streams (I.left input.old) (I.left_before input.old) (I.faults input.old) (O.took out.old) (O.faults out.old))
+        (streams (I.left input.new) (I.left_before input.new) (I.faults input.new) (O.took out.new) (O.faults out.new)))) }
     ensures err { IfErr result (FormStops (form_of (Node station.now bay.now)) (F.held shelf.old) (F.faults shelf.old)
         (F.faults shelf.new)) }
     ensures unasked { OnErr result (input.new ≡ input.old) }
     ensures unwritten { OnErr result (out.new ≡ out.old) }
+    ensures reads { Reads (station.now ∷ [])
+        (files (F.held shelf.old) (F.faults shelf.old) (F.asked shelf.old))
+        (files (F.held shelf.new) (F.faults shelf.new) (F.asked shelf.new)) }
 {
     let station = match load_drawing(alloc, station, shelf) {
         Ok(station) => station,

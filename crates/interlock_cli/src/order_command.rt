@@ -1,6 +1,7 @@
 //! The command `order`.
-ghost use Rattle.std.specs.Prelude.{◌≡◌, IfOk, IfErr};
+ghost use Rattle.std.specs.Prelude.{[], ◌∷◌, ◌≡◌, IfOk, IfErr};
 ghost use Rattle.interlock_cli.specs.Commands.{Order, form_of};
+ghost use Rattle.interlock_cli.specs.Files.{files, Reads};
 ghost use Rattle.interlock_cli.specs.Form.{Gives, FormStops};
 ghost use Rattle.interlock_cli.specs.OrderWrites.{done_or_differs};
 
@@ -21,7 +22,7 @@ pub(crate) fn outcome_of(differs: bool) -> Outcome
 }
 
 // What `order STATION POSITIONS ORDER` has to write.
-#[tactic(auto, using(crate::proofs::Later::fails_later))]
+#[tactic(auto, using(crate::proofs::Asked::reads_begun, crate::proofs::Asked::reads_first, crate::proofs::Asked::reads_on, crate::proofs::Later::fails_later))]
 pub(crate) fn order<F: Shelf>(
     alloc: Global,
     station: &str,
@@ -32,6 +33,9 @@ pub(crate) fn order<F: Shelf>(
     ensures ok { IfOk result (Gives (form_of (Order station.now positions.now steps.now)) (F.held shelf.old)) }
     ensures err { IfErr result (FormStops (form_of (Order station.now positions.now steps.now)) (F.held shelf.old)
         (F.faults shelf.old) (F.faults shelf.new)) }
+    ensures reads { Reads (station.now ∷ positions.now ∷ steps.now ∷ [])
+        (files (F.held shelf.old) (F.faults shelf.old) (F.asked shelf.old))
+        (files (F.held shelf.new) (F.faults shelf.new) (F.asked shelf.new)) }
 {
     let station = match load_station(alloc, station, shelf) {
         Ok(station) => station,

@@ -1,6 +1,7 @@
 //! The command `plan`.
-ghost use Rattle.std.specs.Prelude.{IfOk, IfErr};
+ghost use Rattle.std.specs.Prelude.{[], ◌∷◌, IfOk, IfErr};
 ghost use Rattle.interlock_cli.specs.Commands.{Plan, form_of};
+ghost use Rattle.interlock_cli.specs.Files.{files, Reads};
 ghost use Rattle.interlock_cli.specs.Form.{Gives, FormStops};
 
 use crate::end::{End, Outcome, Output};
@@ -15,6 +16,9 @@ pub(crate) fn plan<F: Shelf>(alloc: Global, station: &str, shelf: &mut F) -> Res
     ensures ok { IfOk result (Gives (form_of (Plan station.now)) (F.held shelf.old)) }
     ensures err { IfErr result (FormStops (form_of (Plan station.now)) (F.held shelf.old) (F.faults shelf.old)
         (F.faults shelf.new)) }
+    ensures reads { Reads (station.now ∷ [])
+        (files (F.held shelf.old) (F.faults shelf.old) (F.asked shelf.old))
+        (files (F.held shelf.new) (F.faults shelf.new) (F.asked shelf.new)) }
 {
     let station = match load_drawing(alloc, station, shelf) {
         Ok(station) => station,

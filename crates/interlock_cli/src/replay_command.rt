@@ -1,8 +1,9 @@
 //! The command `replay`.
-ghost use Rattle.std.specs.Prelude.{◌≡◌, All, IfOk, IfErr};
+ghost use Rattle.std.specs.Prelude.{[], ◌∷◌, ◌≡◌, All, IfOk, IfErr};
 ghost use Rattle.bay_contract.specs.Alphabets.{AreAlphabets};
 ghost use Rattle.log_replay.specs.Records.{MayBeTold};
 ghost use Rattle.interlock_cli.specs.Commands.{Replay, form_of};
+ghost use Rattle.interlock_cli.specs.Files.{files, Reads};
 ghost use Rattle.interlock_cli.specs.Form.{Gives, FormStops};
 ghost use Rattle.interlock_cli.specs.ReplayWrites.{replay_outcome, ReplayWrites};
 
@@ -50,7 +51,7 @@ fn replay_output(
 }
 
 // What `replay STATION LOG` has to write.
-#[tactic(auto, using(crate::proofs::Later::fails_later, crate::proofs::Drawings::drawn_given, crate::proofs::Drawings::drawn_fails))]
+#[tactic(auto, using(crate::proofs::Asked::reads_begun, crate::proofs::Asked::reads_first, crate::proofs::Asked::reads_on, crate::proofs::Later::fails_later, crate::proofs::Drawings::drawn_given, crate::proofs::Drawings::drawn_fails))]
 pub(crate) fn replay<F: Shelf>(
     alloc: Global,
     station: &str,
@@ -60,6 +61,9 @@ pub(crate) fn replay<F: Shelf>(
     ensures ok { IfOk result (Gives (form_of (Replay station.now log.now)) (F.held shelf.old)) }
     ensures err { IfErr result (FormStops (form_of (Replay station.now log.now)) (F.held shelf.old) (F.faults shelf.old)
         (F.faults shelf.new)) }
+    ensures reads { Reads (station.now ∷ log.now ∷ [])
+        (files (F.held shelf.old) (F.faults shelf.old) (F.asked shelf.old))
+        (files (F.held shelf.new) (F.faults shelf.new) (F.asked shelf.new)) }
 {
     let station = match load_drawing(alloc, station, shelf) {
         Ok(station) => station,

@@ -1,5 +1,6 @@
 //! The command `stored`.
-ghost use Rattle.std.specs.Prelude.{◌≡◌};
+ghost use Rattle.std.specs.Prelude.{◌≡◌, ◌∷◌, []};
+ghost use Rattle.interlock_cli.specs.Files.{files, Reads};
 ghost use Rattle.stored_session.specs.View.{view};
 ghost use Rattle.node_session.specs.SessionEnds.{streams};
 ghost use Rattle.interlock_cli.specs.Ends.{called};
@@ -42,13 +43,16 @@ pub(crate) fn stored<F: Shelf, I: Source, O: Sink, D: Device>(
     out: &mut O,
     device: &mut D,
 ) -> End
-    ensures { EndsStored
+    ensures ends { EndsStored
         (view D.content D.moment D.left_between D.left_since D.read_faults D.write_faults D.calls)
         record { station = station.now; bay = bay.now }
         (called (F.held shelf.old) (F.faults shelf.old) (F.faults shelf.new)
-        (streams (I.left input.old) (I.faults input.old) (O.took out.old) (O.faults out.old))
-        (streams (I.left input.new) (I.faults input.new) (O.took out.new) (O.faults out.new)))
+        (streams (I.left input.old) (I.left_before input.old) (I.faults input.old) (O.took out.old) (O.faults out.old))
+        (streams (I.left input.new) (I.left_before input.new) (I.faults input.new) (O.took out.new) (O.faults out.new)))
         device.old device.new result }
+    ensures reads { Reads (station.now ∷ [])
+        (files (F.held shelf.old) (F.faults shelf.old) (F.asked shelf.old))
+        (files (F.held shelf.new) (F.faults shelf.new) (F.asked shelf.new)) }
 {
     let station = match load_drawing(alloc, station, shelf) {
         Ok(station) => station,

@@ -1,11 +1,12 @@
 //! The top call with a device.
-ghost use Rattle.std.specs.Prelude.{◌≡◌, map, string_bytes, None, IfSome};
+ghost use Rattle.std.specs.Prelude.{◌≡◌, ◌∷◌, [], map, string_bytes, None, IfSome};
 ghost use Rattle.stored_session.specs.View.{view};
 ghost use Rattle.node_session.specs.SessionEnds.{streams};
-ghost use Rattle.interlock_cli.specs.Commands.{command_of};
+ghost use Rattle.interlock_cli.specs.Commands.{command_of, files_named};
 ghost use Rattle.interlock_cli.specs.Ends.{CommandAsks, WroteLine, called};
 ghost use Rattle.interlock_cli.specs.Lines.{line_of};
 ghost use Rattle.interlock_cli.specs.StoredWords.{seen_words, stored_of};
+ghost use Rattle.interlock_cli.specs.Files.{files, Reads};
 ghost use Rattle.interlock_cli.specs.StoredEnding.{AnswersWords, CompletesStored, SaysAsRun};
 
 use crate::end::{End, make_status};
@@ -32,16 +33,19 @@ fn answer_stored<F: Shelf, I: Source, O: Sink, E: Sink, D: Device>(
         (view D.content D.moment D.left_between D.left_since D.read_faults D.write_faults D.calls)
         result (seen_words words.entry)
         (called (F.held shelf.old) (F.faults shelf.old) (F.faults shelf.new)
-        (streams (I.left input.old) (I.faults input.old) (O.took out.old) (O.faults out.old))
-        (streams (I.left input.new) (I.faults input.new) (O.took out.new) (O.faults out.new)))
+        (streams (I.left input.old) (I.left_before input.old) (I.faults input.old) (O.took out.old) (O.faults out.old))
+        (streams (I.left input.new) (I.left_before input.new) (I.faults input.new) (O.took out.new) (O.faults out.new)))
         device.old device.new (E.took err.old) (E.took err.new) (E.faults err.old) (E.faults err.new) }
     ensures complete { CompletesStored
         (view D.content D.moment D.left_between D.left_since D.read_faults D.write_faults D.calls)
         result (seen_words words.entry)
         (called (F.held shelf.old) (F.faults shelf.old) (F.faults shelf.new)
-        (streams (I.left input.old) (I.faults input.old) (O.took out.old) (O.faults out.old))
-        (streams (I.left input.new) (I.faults input.new) (O.took out.new) (O.faults out.new)))
+        (streams (I.left input.old) (I.left_before input.old) (I.faults input.old) (O.took out.old) (O.faults out.old))
+        (streams (I.left input.new) (I.left_before input.new) (I.faults input.new) (O.took out.new) (O.faults out.new)))
         device.old device.new }
+    ensures reads { Reads (words.entry.station.now ∷ [])
+        (files (F.held shelf.old) (F.faults shelf.old) (F.asked shelf.old))
+        (files (F.held shelf.new) (F.faults shelf.new) (F.asked shelf.new)) }
 {
     let end = stored(alloc, words.station, words.bay, shelf, input, out, device);
     let _ = tell(err, &end);
@@ -82,8 +86,8 @@ pub fn run_stored<F: Shelf, I: Source, O: Sink, E: Sink, D: Device>(
     ensures others { stored_of (map string_bytes words.now) ≡ None → SaysAsRun result
         (command_of (map string_bytes words.now))
         (called (F.held shelf.old) (F.faults shelf.old) (F.faults shelf.new)
-        (streams (I.left input.old) (I.faults input.old) (O.took out.old) (O.faults out.old))
-        (streams (I.left input.new) (I.faults input.new) (O.took out.new) (O.faults out.new)))
+        (streams (I.left input.old) (I.left_before input.old) (I.faults input.old) (O.took out.old) (O.faults out.old))
+        (streams (I.left input.new) (I.left_before input.new) (I.faults input.new) (O.took out.new) (O.faults out.new)))
         (E.took err.old) (E.took err.new) (E.faults err.old) (E.faults err.new) }
     ensures untouched { stored_of (map string_bytes words.now) ≡ None → device.new ≡ device.old }
     ensures unread { stored_of (map string_bytes words.now) ≡ None → command_of (map string_bytes words.now) ≡ None
@@ -94,15 +98,22 @@ pub fn run_stored<F: Shelf, I: Source, O: Sink, E: Sink, D: Device>(
     ensures stored { IfSome (stored_of (map string_bytes words.now)) (λ w. AnswersWords
         (view D.content D.moment D.left_between D.left_since D.read_faults D.write_faults D.calls) result w
         (called (F.held shelf.old) (F.faults shelf.old) (F.faults shelf.new)
-        (streams (I.left input.old) (I.faults input.old) (O.took out.old) (O.faults out.old))
-        (streams (I.left input.new) (I.faults input.new) (O.took out.new) (O.faults out.new)))
+        (streams (I.left input.old) (I.left_before input.old) (I.faults input.old) (O.took out.old) (O.faults out.old))
+        (streams (I.left input.new) (I.left_before input.new) (I.faults input.new) (O.took out.new) (O.faults out.new)))
         device.old device.new (E.took err.old) (E.took err.new) (E.faults err.old) (E.faults err.new)) }
     ensures stored_complete { IfSome (stored_of (map string_bytes words.now)) (λ w. CompletesStored
         (view D.content D.moment D.left_between D.left_since D.read_faults D.write_faults D.calls) result w
         (called (F.held shelf.old) (F.faults shelf.old) (F.faults shelf.new)
-        (streams (I.left input.old) (I.faults input.old) (O.took out.old) (O.faults out.old))
-        (streams (I.left input.new) (I.faults input.new) (O.took out.new) (O.faults out.new)))
+        (streams (I.left input.old) (I.left_before input.old) (I.faults input.old) (O.took out.old) (O.faults out.old))
+        (streams (I.left input.new) (I.left_before input.new) (I.faults input.new) (O.took out.new) (O.faults out.new)))
         device.old device.new) }
+    ensures reads { stored_of (map string_bytes words.now) ≡ None
+        → Reads (files_named (command_of (map string_bytes words.now)))
+        (files (F.held shelf.old) (F.faults shelf.old) (F.asked shelf.old))
+        (files (F.held shelf.new) (F.faults shelf.new) (F.asked shelf.new)) }
+    ensures stored_reads { IfSome (stored_of (map string_bytes words.now)) (λ w. Reads (w.station ∷ [])
+        (files (F.held shelf.old) (F.faults shelf.old) (F.asked shelf.old))
+        (files (F.held shelf.new) (F.faults shelf.new) (F.asked shelf.new))) }
 {
     let named = match read_stored(alloc, words) {
         Ok(named) => named,

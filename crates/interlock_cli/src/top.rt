@@ -1,6 +1,7 @@
 //! The top call.
 ghost use Rattle.std.specs.Prelude.{◌≡◌, ◌⊎◌, map, string_bytes, None, IfOk, IfErr};
-ghost use Rattle.interlock_cli.specs.Commands.{command_of, form_of};
+ghost use Rattle.interlock_cli.specs.Commands.{command_of, files_named, files_of, form_of};
+ghost use Rattle.interlock_cli.specs.Files.{files, Reads};
 ghost use Rattle.interlock_cli.specs.Seen.{seen_command};
 ghost use Rattle.interlock_cli.specs.Form.{AsksInput, Gives, FormStops};
 ghost use Rattle.interlock_cli.specs.Ends.{AnswersCall, CommandAsks, Ends, Wrote, called};
@@ -16,8 +17,10 @@ use crate::make_command::make;
 use crate::node_command::node;
 use crate::order_command::order;
 use crate::plan_command::plan;
+use crate::program_command::program;
 use crate::replay_command::replay;
 use crate::state_command::state;
+use crate::station_command::station;
 use crate::status::Status;
 use crate::tell::tell;
 use crate::trips_command::trips;
@@ -32,6 +35,9 @@ fn output_of<F: Shelf>(alloc: Global, command: &Command, shelf: &mut F) -> Resul
     ensures ok { IfOk result (Gives (form_of (seen_command command.now)) (F.held shelf.old)) }
     ensures err { IfErr result (FormStops (form_of (seen_command command.now)) (F.held shelf.old) (F.faults shelf.old)
         (F.faults shelf.new)) }
+    ensures reads { Reads (files_of (seen_command command.now))
+        (files (F.held shelf.old) (F.faults shelf.old) (F.asked shelf.old))
+        (files (F.held shelf.new) (F.faults shelf.new) (F.asked shelf.new)) }
 {
     match *command {
         Command::Check { station, positions } => check(alloc, station, positions, shelf),
@@ -51,9 +57,11 @@ fn output_of<F: Shelf>(alloc: Global, command: &Command, shelf: &mut F) -> Resul
         Command::Compile { station } => compile(alloc, station, shelf),
         Command::Trips { station, log } => trips(alloc, station, log, shelf),
         Command::Plan { station } => plan(alloc, station, shelf),
+        Command::Program { station } => program(alloc, station, shelf),
         Command::Make { feeders, text } => make(alloc, feeders, text),
         Command::Work { feeders } => work(alloc, feeders),
         Command::Replay { station, log } => replay(alloc, station, log, shelf),
+        Command::Station { station: name } => station(alloc, name, shelf),
         Command::Node { .. } => unreachable!(),
     }
 }
@@ -78,10 +86,13 @@ fn call<F: Shelf, I: Source, O: Sink>(
 ) -> End
     ensures ends { Ends (command_of (map string_bytes words.now))
         (called (F.held shelf.old) (F.faults shelf.old) (F.faults shelf.new)
-        (streams (I.left input.old) (I.faults input.old) (O.took out.old) (O.faults out.old))
-        (streams (I.left input.new) (I.faults input.new) (O.took out.new) (O.faults out.new)))
+        (streams (I.left input.old) (I.left_before input.old) (I.faults input.old) (O.took out.old) (O.faults out.old))
+        (streams (I.left input.new) (I.left_before input.new) (I.faults input.new) (O.took out.new) (O.faults out.new)))
         result }
     ensures unread { command_of (map string_bytes words.now) ≡ None → shelf.new ≡ shelf.old }
+    ensures reads { Reads (files_named (command_of (map string_bytes words.now)))
+        (files (F.held shelf.old) (F.faults shelf.old) (F.asked shelf.old))
+        (files (F.held shelf.new) (F.faults shelf.new) (F.asked shelf.new)) }
     ensures input { ¬ CommandAsks (command_of (map string_bytes words.now)) → input.new ≡ input.old }
 {
     let command = match read_command(alloc, words) {
@@ -105,8 +116,8 @@ fn call<F: Shelf, I: Source, O: Sink>(
 /// The words are those of the command line, without the program's name. Where no word is empty or begins
 /// with `-`, and they are `check STATION POSITIONS`, `explain STATION POSITIONS open SWITCH` (or `close`),
 /// `state STATION POSITIONS`, `order STATION POSITIONS ORDER`, `replay STATION LOG`, `trips STATION LOG`,
-/// `audit STATION EQUATIONS`, `plan STATION`, `compile STATION`, `node STATION BAY`, `make NUMBER station` (or
-/// `positions`, or `log`) or `work NUMBER`, they name that command;
+/// `audit STATION EQUATIONS`, `plan STATION`, `program STATION`, `compile STATION`, `station STATION`,
+/// `node STATION BAY`, `make NUMBER station` (or `positions`, or `log`) or `work NUMBER`, they name that command;
 /// all else is `Usage`. What a command is given is judged in the order of the words, but for a switch or bay
 /// that they name, which comes last. Each file is judged before the next is read, and nothing is written, nor
 /// asked of the input, before all is accepted. On every status but `Done` and `Differs` one line goes to
@@ -119,7 +130,8 @@ fn call<F: Shelf, I: Source, O: Sink>(
 /// says the same of some content. Of `node` it says what `serve` of `node_session` does: which lines are
 /// answered, what `out` took of their texts, and how much of the input was taken. The call is `Usage` only where
 /// the words name no command (`usage`); where they name none it is `Usage` or wants memory (`unnamed`), and reads
-/// no file (`unread`). `complete` says that a call whose files are told and accepted, and in which no count rose,
+/// no file (`unread`). The files that the words name are asked for in their order, each once, and no other file is;
+/// the count of every other name is left, and what is held under each (`reads`). `complete` says that a call whose files are told and accepted, and in which no count rose,
 /// ends as its text says, or has served the whole input, or wants memory. No other command than `node` asks for the
 /// input (`input`).
 pub fn run<F: Shelf, I: Source, O: Sink, E: Sink>(
@@ -132,17 +144,20 @@ pub fn run<F: Shelf, I: Source, O: Sink, E: Sink>(
 ) -> Status
     ensures answers { AnswersCall result (command_of (map string_bytes words.now))
         (called (F.held shelf.old) (F.faults shelf.old) (F.faults shelf.new)
-        (streams (I.left input.old) (I.faults input.old) (O.took out.old) (O.faults out.old))
-        (streams (I.left input.new) (I.faults input.new) (O.took out.new) (O.faults out.new)))
+        (streams (I.left input.old) (I.left_before input.old) (I.faults input.old) (O.took out.old) (O.faults out.old))
+        (streams (I.left input.new) (I.left_before input.new) (I.faults input.new) (O.took out.new) (O.faults out.new)))
         (E.took err.old) (E.took err.new) (E.faults err.old) (E.faults err.new) }
     ensures usage { result ≡ Status.Usage → command_of (map string_bytes words.now) ≡ None }
     ensures unnamed { command_of (map string_bytes words.now) ≡ None →
         (result ≡ Status.Usage) ⊎ (result ≡ Status.Memory) }
     ensures unread { command_of (map string_bytes words.now) ≡ None → shelf.new ≡ shelf.old }
+    ensures reads { Reads (files_named (command_of (map string_bytes words.now)))
+        (files (F.held shelf.old) (F.faults shelf.old) (F.asked shelf.old))
+        (files (F.held shelf.new) (F.faults shelf.new) (F.asked shelf.new)) }
     ensures complete { Completes result (command_of (map string_bytes words.now))
         (called (F.held shelf.old) (F.faults shelf.old) (F.faults shelf.new)
-        (streams (I.left input.old) (I.faults input.old) (O.took out.old) (O.faults out.old))
-        (streams (I.left input.new) (I.faults input.new) (O.took out.new) (O.faults out.new))) }
+        (streams (I.left input.old) (I.left_before input.old) (I.faults input.old) (O.took out.old) (O.faults out.old))
+        (streams (I.left input.new) (I.left_before input.new) (I.faults input.new) (O.took out.new) (O.faults out.new))) }
     ensures input { ¬ CommandAsks (command_of (map string_bytes words.now)) → input.new ≡ input.old }
 {
     let end = call(alloc, words, shelf, input, out);

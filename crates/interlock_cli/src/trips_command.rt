@@ -1,8 +1,9 @@
 //! The command `trips`.
-ghost use Rattle.std.specs.Prelude.{◌≡◌, All, IfOk, IfErr};
+ghost use Rattle.std.specs.Prelude.{[], ◌∷◌, ◌≡◌, All, IfOk, IfErr};
 ghost use Rattle.bay_contract.specs.Alphabets.{AreAlphabets};
 ghost use Rattle.trip_replay.specs.TripRecords.{TripMayBeTold};
 ghost use Rattle.interlock_cli.specs.Commands.{Trips, form_of};
+ghost use Rattle.interlock_cli.specs.Files.{files, Reads};
 ghost use Rattle.interlock_cli.specs.Form.{Gives, FormStops};
 ghost use Rattle.interlock_cli.specs.TripsWrites.{TripsWrites};
 
@@ -37,7 +38,7 @@ fn trips_output(
 }
 
 // What `trips STATION LOG` has to write.
-#[tactic(auto, using(crate::proofs::Later::fails_later, crate::proofs::Drawings::drawn_given, crate::proofs::Drawings::drawn_fails))]
+#[tactic(auto, using(crate::proofs::Asked::reads_begun, crate::proofs::Asked::reads_first, crate::proofs::Asked::reads_on, crate::proofs::Later::fails_later, crate::proofs::Drawings::drawn_given, crate::proofs::Drawings::drawn_fails))]
 pub(crate) fn trips<F: Shelf>(
     alloc: Global,
     station: &str,
@@ -47,6 +48,9 @@ pub(crate) fn trips<F: Shelf>(
     ensures ok { IfOk result (Gives (form_of (Trips station.now log.now)) (F.held shelf.old)) }
     ensures err { IfErr result (FormStops (form_of (Trips station.now log.now)) (F.held shelf.old) (F.faults shelf.old)
         (F.faults shelf.new)) }
+    ensures reads { Reads (station.now ∷ log.now ∷ [])
+        (files (F.held shelf.old) (F.faults shelf.old) (F.asked shelf.old))
+        (files (F.held shelf.new) (F.faults shelf.new) (F.asked shelf.new)) }
 {
     let station = match load_drawing(alloc, station, shelf) {
         Ok(station) => station,

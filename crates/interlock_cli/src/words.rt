@@ -1,8 +1,8 @@
 //! What the words name.
 ghost use Rattle.std.specs.Prelude.{◌≡◌, ◌∷◌, map, option_map, string_bytes, Some, IfOk, IfErr};
 ghost use Rattle.interlock_cli.specs.Commands.{replay_of, audit_of, check_of, command_of, direction_of, explain_of};
-ghost use Rattle.interlock_cli.specs.Commands.{make_of, named_command, node_of};
-ghost use Rattle.interlock_cli.specs.Commands.{plan_of, trips_of, compile_of, order_of, state_of, work_of};
+ghost use Rattle.interlock_cli.specs.Commands.{make_of, named_command, node_of, program_of};
+ghost use Rattle.interlock_cli.specs.Commands.{plan_of, trips_of, compile_of, order_of, state_of, station_of, work_of};
 ghost use Rattle.interlock_cli.specs.Ends.{WordsUnread};
 ghost use Rattle.interlock_cli.specs.Seen.{seen_command};
 
@@ -56,12 +56,18 @@ pub enum Command<'a> {
     Plan {
         station: &'a str,
     },
+    Program {
+        station: &'a str,
+    },
     Make {
         feeders: Feeders,
         text: MadeText,
     },
     Work {
         feeders: Feeders,
+    },
+    Station {
+        station: &'a str,
     },
 }
 
@@ -188,6 +194,16 @@ fn plan_words<'a>(rest: &[&'a str]) -> Option<Command<'a>>
     Some(Command::Plan { station })
 }
 
+// `program STATION`.
+fn program_words<'a>(rest: &[&'a str]) -> Option<Command<'a>>
+    ensures { program_of (map (λ w. w.now) rest.now) ≡ option_map seen_command result }
+{
+    let &[station] = rest else {
+        return None;
+    };
+    Some(Command::Program { station })
+}
+
 // `make NUMBER station`, or `positions`, or `log`.
 fn make_words<'a>(rest: &[&'a str]) -> Option<Command<'a>>
     ensures { make_of (map (λ w. w.now) rest.now) ≡ option_map seen_command result }
@@ -217,6 +233,16 @@ fn work_words<'a>(rest: &[&'a str]) -> Option<Command<'a>>
     }
 }
 
+// `station STATION`.
+fn station_words<'a>(rest: &[&'a str]) -> Option<Command<'a>>
+    ensures { station_of (map (λ w. w.now) rest.now) ≡ option_map seen_command result }
+{
+    let &[station] = rest else {
+        return None;
+    };
+    Some(Command::Station { station })
+}
+
 // The command of a name and the words after it.
 fn named<'a>(name: &str, rest: &[&'a str]) -> Option<Command<'a>>
     ensures { named_command (name.now ∷ map (λ w. w.now) rest.now) ≡ option_map seen_command result }
@@ -232,8 +258,10 @@ fn named<'a>(name: &str, rest: &[&'a str]) -> Option<Command<'a>>
         "compile" => compile_words(rest),
         "trips" => trips_words(rest),
         "plan" => plan_words(rest),
+        "program" => program_words(rest),
         "make" => make_words(rest),
         "work" => work_words(rest),
+        "station" => station_words(rest),
         _ => None,
     }
 }

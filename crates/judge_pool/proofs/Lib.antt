@@ -1,4 +1,5 @@
 pub mod LayerLemmas
+pub mod PastLemmas
 pub mod ErrorLemmas
 pub mod StepLemmas
 pub mod CountLemmas

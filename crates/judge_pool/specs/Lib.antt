@@ -9,3 +9,4 @@ pub mod Plans
 pub mod Pooling
 pub mod Places
 pub mod Layering
+pub mod Past

@@ -13,6 +13,7 @@ ghost use Rattle.judge_pool.specs.Plans.{Plan, PlanFits, PlanHas, PlanPasses, Ar
 ghost use Rattle.judge_pool.specs.Plans.{items_of, NeededBy, layers_of};
 ghost use Rattle.judge_pool.specs.declared.limits.TheConstants.{ALL_EDGES};
 
+use crate::past::step_from;
 use crate::pool::Pool;
 use decision_graphs::FinishedLayer;
 use ilk_base::Memory;
@@ -218,6 +219,7 @@ pub fn fold_layers(
         i < length pool.new.values.items) }
 {
     let mut layers = Vec::new(alloc);
+    let mut lists = Vec::new(alloc);
     let mut states = list_of(alloc, start)?;
     let mut left = budget;
     'layers: for j in 0..letters.len() {
@@ -230,13 +232,25 @@ pub fn fold_layers(
         }
         left -= nodes * choices;
         let most = most_nodes(letters, j + 1, left);
-        let step = next_layer(alloc, pool, held, row, keeps[j + 1], most)?;
+        let step = step_from(
+            alloc,
+            pool,
+            &lists,
+            &layers,
+            letters,
+            keeps,
+            held,
+            row,
+            keeps[j + 1],
+            most,
+        )?;
         let layer = FinishedLayer {
             choices: choices as u32,
             nodes: nodes as u32,
             edges: step.edges,
         };
         layers.push(layer)?;
+        lists.push(states)?;
         states = step.next;
     }
     Ok(Drafts {

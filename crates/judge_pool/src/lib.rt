@@ -5,6 +5,7 @@
 mod batches;
 mod layer;
 mod limits;
+mod past;
 mod pool;
 mod view;
 

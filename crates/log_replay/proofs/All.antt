@@ -12,7 +12,7 @@ use Rattle.log_replay.proofs.Stops.{stops_well}
 use Rattle.log_replay.proofs.Senders.{own_messages}
 use Rattle.log_replay.proofs.Obeying.{run_sound}
 use Rattle.log_replay.proofs.Apart.{run_apart}
-use Rattle.log_replay.proofs.Since.{run_obeys}
+use Rattle.log_replay.proofs.Since.{run_obeys, run_granted}
 
 run_decides : (m : Meaning) (start : List Bool) (lines : List Line) (w : Scene) → IsStation m.diagram → Laws m →
     Run m start lines w → AtEach (Decisions m.diagram start) lines
@@ -32,6 +32,7 @@ pub run_headline : (m : Meaning) (start : List Bool) (lines : List Line) (w : Sc
     Run m start lines w → Headline m.diagram start lines
 run_headline m start lines w station laws run = record {
   decisions = run_decides m start lines w station laws run;
+  granted = run_granted m start lines w station laws run;
   obeys = run_obeys m start lines w station laws run;
   sound = run_sound m start lines w station laws run;
   apart = run_apart m start lines w station laws run;

@@ -25,11 +25,12 @@ use Rattle.reservation_core.proofs.Ways.{Way, way}
 use Rattle.reservation_core.specs.Lines.{MessageKind, Line, of_bay, message, kind_of}
 use Rattle.reservation_core.specs.History.{Sending, sending, round_shown, last_round}
 use Rattle.reservation_core.specs.Hearing.{words_at, answers, words_told, delivered, heard_after, heard}
-use Rattle.reservation_core.specs.Runs.{Run}
+use Rattle.reservation_core.specs.RoundFacts.{RoundFacts}
+use Rattle.reservation_core.specs.Runs.{Leads, Run}
 use Rattle.reservation_core.specs.Headline.{IsUnderWay, HearNothing, AtEach}
 use Rattle.log_replay.proofs.Basic.{IsAnswer, answer_tells, in_or_past}
 use Rattle.log_replay.proofs.Linked.{opened}
-use Rattle.log_replay.proofs.Links.{Linked}
+use Rattle.log_replay.proofs.Links.{Spoken}
 use Rattle.log_replay.proofs.Leading.{run_is}
 use Rattle.log_replay.proofs.Others.{is_other, other_of}
 
@@ -91,10 +92,10 @@ record SentFrame (m : Meaning) (w : Scene) (s : Sending) : Type 0 where
   words : (summary : List ℕ) → frame.body ≡ Answer summary →
       Summarises m frame.from.0 frame.to.0 (words_at m.diagram s.lines) summary
 
-sending_frame : (m : Meaning) (start : List Bool) (lines : List Line) (w : Scene) (n : ℕ) (s : Sending) →
-    Linked m start lines w → sending lines n ≡ Some s → SentFrame m w s
-sending_frame m start lines w zero s links is = let none = links.unsent zero (inl refl) in absurd (cc (is, none))
-sending_frame m start lines w (suc n) s links is = elim (in_or_past n (length w.sent)) [
+sending_frame : (m : Meaning) (lines : List Line) (w : Scene) (n : ℕ) (s : Sending) →
+    Spoken m lines w → sending lines n ≡ Some s → SentFrame m w s
+sending_frame m lines w zero s links is = let none = links.unsent zero (inl refl) in absurd (cc (is, none))
+sending_frame m lines w (suc n) s links is = elim (in_or_past n (length w.sent)) [
   | inl lt ↦
       let it = got_at w.sent n lt in
       let b = links.sent n it.0 it.1 in
@@ -113,18 +114,18 @@ sending_frame m start lines w (suc n) s links is = elim (in_or_past n (length w.
   | inr past ↦ let none = links.unsent (suc n) (inr (omega (arith, past))) in absurd (cc (is, none))
 ]
 
-delivered_frame : (m : Meaning) (start : List Bool) (lines : List Line) (w : Scene) (e : WorldEvent) (s : Sending) →
-    Linked m start lines w → delivered e lines ≡ Some s → SentFrame m w s
-delivered_frame m start lines w (Deliver n) s links is = sending_frame m start lines w n s links is
-delivered_frame m start lines w (Command op) s links is = absurd (cc is)
-delivered_frame m start lines w (Sense i word) s links is = absurd (cc is)
-delivered_frame m start lines w (Tick b) s links is = absurd (cc is)
-delivered_frame m start lines w (Withdraw b) s links is = absurd (cc is)
-delivered_frame m start lines w (Restart b) s links is = absurd (cc is)
-delivered_frame m start lines w (Begin i) s links is = absurd (cc is)
-delivered_frame m start lines w (End i) s links is = absurd (cc is)
-delivered_frame m start lines w (Part k bytes) s links is = absurd (cc is)
-delivered_frame m start lines w (Cut i) s links is = absurd (cc is)
+delivered_frame : (m : Meaning) (lines : List Line) (w : Scene) (e : WorldEvent) (s : Sending) →
+    Spoken m lines w → delivered e lines ≡ Some s → SentFrame m w s
+delivered_frame m lines w (Deliver n) s links is = sending_frame m lines w n s links is
+delivered_frame m lines w (Command op) s links is = absurd (cc is)
+delivered_frame m lines w (Sense i word) s links is = absurd (cc is)
+delivered_frame m lines w (Tick b) s links is = absurd (cc is)
+delivered_frame m lines w (Withdraw b) s links is = absurd (cc is)
+delivered_frame m lines w (Restart b) s links is = absurd (cc is)
+delivered_frame m lines w (Begin i) s links is = absurd (cc is)
+delivered_frame m lines w (End i) s links is = absurd (cc is)
+delivered_frame m lines w (Part k bytes) s links is = absurd (cc is)
+delivered_frame m lines w (Cut i) s links is = absurd (cc is)
 
 -- what a message tells
 record TellsIt (d : Diagram) (b c : ℕ) (r : Option ℕ) (message_is : Option Sending) (words : List Dbpos) : Type 0 where
@@ -151,18 +152,18 @@ heard_cases (Collecting r) new was ws is = absurd (cc is)
 heard_cases o None was ws is = (refl, inr is)
 heard_cases o (Some new) was ws is = (refl, inl is)
 
-heard_step : (m : Meaning) (start : List Bool) (before : List Line) (l : Line) (old : Scene) (b c : ℕ)
-    (words : List Dbpos) → Linked m start before old → (heard m.diagram before c b ≡ Some words →
+heard_step : (m : Meaning) (before : List Line) (l : Line) (old : Scene) (b c : ℕ)
+    (words : List Dbpos) → Spoken m before old → (heard m.diagram before c b ≡ Some words →
     AnswerTo m old b c (last_round before c) words) → heard m.diagram (l ∷ before) c b ≡ Some words →
     (round_shown (of_bay l.shown c) ≡ None) × AnswerTo m old b c (last_round before c) words
-heard_step m start before l old b c words links earlier is =
+heard_step m before l old b c words links earlier is =
     let p = heard_cases (of_bay l.shown c) (words_told m.diagram (delivered l.event before) b c (last_round before c))
     (heard m.diagram before c b) words is in (
       p.0,
       elim p.1 [
         | inl new ↦
             let t = told_answer m.diagram b c (last_round before c) (delivered l.event before) words new in
-            let f = delivered_frame m start before old l.event t.sending links t.is in
+            let f = delivered_frame m before old l.event t.sending links t.is in
             let a : IsAnswer (message f.number f.frame) b c (last_round before c) =
             subst (λ x. IsAnswer x b c (last_round before c)) f.is t.answer in
             let body = answer_body f.frame.body a.kind in
@@ -183,22 +184,20 @@ heard_step m start before l old b c words links earlier is =
       ],
     )
 
-heard_sent : (m : Meaning) (start : List Bool) (lines : List Line) (w : Scene) (b c : ℕ) (words : List Dbpos) →
-    IsStation m.diagram → Laws m → Run m start lines w → heard m.diagram lines c b ≡ Some words →
-    AnswerTo m w b c (last_round lines c) words
-heard_sent m start [] w b c words station laws run is = absurd (cc is)
-heard_sent m start (l ∷ before) w b c words station laws (old, run, leads) is =
-    let p = heard_step m start before l old b c words (run_is m start before old station laws run).links
-    (heard_sent m start before old b c words station laws run) is in
+-- what is heard after a line was sent, if what was heard before it was
+pub heard_next : (m : Meaning) (before : List Line) (l : Line) (old w : Scene) (b c : ℕ) (words : List Dbpos) →
+    IsStation m.diagram → RoundFacts m old → Spoken m before old → Leads m old l w →
+    (heard m.diagram before c b ≡ Some words → AnswerTo m old b c (last_round before c) words) →
+    heard m.diagram (l ∷ before) c b ≡ Some words → AnswerTo m w b c (last_round (l ∷ before) c) words
+heard_next m before l old w b c words station facts said leads earlier is =
+    let p = heard_step m before l old b c words said earlier is in
     let same : last_round (l ∷ before) c ≡ last_round before c = rw p.0 refl in
     let a = p.1 in
     record {
       frame = a.frame;
       summary = a.summary;
       there = way_sent m old w l.event leads.outcome a.frame
-          (way m station old w leads.outcome (run_is m start before old station laws run).facts.rounds
-          l.event leads.range
-          leads.happens) a.there;
+          (way m station old w leads.outcome facts l.event leads.range leads.happens) a.there;
       from = a.from;
       to = a.to;
       round = same ∙ a.round;
@@ -206,12 +205,21 @@ heard_sent m start (l ∷ before) w b c words station laws (old, run, leads) is 
       sums = a.sums;
     }
 
+heard_sent : (m : Meaning) (start : List Bool) (lines : List Line) (w : Scene) (b c : ℕ) (words : List Dbpos) →
+    IsStation m.diagram → Laws m → Run m start lines w → heard m.diagram lines c b ≡ Some words →
+    AnswerTo m w b c (last_round lines c) words
+heard_sent m start [] w b c words station laws run is = absurd (cc is)
+heard_sent m start (l ∷ before) w b c words station laws (old, run, leads) is =
+    let was = run_is m start before old station laws run in
+    heard_next m before l old w b c words station was.facts.rounds was.links.said leads
+    (heard_sent m start before old b c words station laws run) is
+
 -- what is heard at a line was sent before it
 pub heard_old : (m : Meaning) (start : List Bool) (before : List Line) (l : Line) (old : Scene) (b c : ℕ)
     (words : List Dbpos) → IsStation m.diagram → Laws m → Run m start before old →
     heard m.diagram (l ∷ before) c b ≡ Some words → AnswerTo m old b c (last_round before c) words
 heard_old m start before l old b c words station laws run is =
-    (heard_step m start before l old b c words (run_is m start before old station laws run).links
+    (heard_step m before l old b c words (run_is m start before old station laws run).links.said
     (heard_sent m start before old b c words station laws run) is).1
 
 -- ---- two rounds at once
@@ -223,11 +231,11 @@ under_some None (Some g) some = (g.round, refl)
 under_some None None (inl some) = absurd (some refl)
 under_some None None (inr some) = absurd (some refl)
 
-node_under_way : (m : Meaning) (start : List Bool) (lines : List Line) (w : Scene) (c : ℕ) → Linked m start lines w →
+node_under_way : (m : Meaning) (lines : List Line) (w : Scene) (c : ℕ) → Spoken m lines w →
     IsUnderWay lines c → (q : ℕ) × (under_way (node m.diagram w c) ≡ Some q)
-node_under_way m start lines w c links (inl some) = under_some (node m.diagram w c).collecting
+node_under_way m lines w c links (inl some) = under_some (node m.diagram w c).collecting
     (node m.diagram w c).granted (inl (λ none. some (sym (links.nodes c).collecting ∙ ap opened none)))
-node_under_way m start lines w c links (inr some) = under_some (node m.diagram w c).collecting
+node_under_way m lines w c links (inr some) = under_some (node m.diagram w c).collecting
     (node m.diagram w c).granted (inr (λ none. some (sym (links.nodes c).granted ∙ none)))
 
 no_round_locked : (x : Option Collection) (y : Option Grant) (q : ℕ) → x ≡ None → y ≡ None → under_way_of x y ≢ Some q
@@ -242,25 +250,26 @@ none_of : (h : Option (List Dbpos)) → ((words : List Dbpos) → h ≢ Some wor
 none_of None never = refl
 none_of (Some x) never = absurd (never x refl)
 
-hear_nothing : (m : Meaning) (start : List Bool) (lines : List Line) (w : Scene) → IsStation m.diagram → Laws m →
-    Run m start lines w → HearNothing m.diagram lines
-hear_nothing m start lines w station laws run c d differ first second = elim (cases_Bool (is_another m.diagram c d)) [
+-- by what is sent: of two bays whose rounds are under way neither hears the other
+pub hear_now : (m : Meaning) (lines : List Line) (w : Scene) → IsStation m.diagram → RoundFacts m w →
+    Spoken m lines w → ((b c : ℕ) (words : List Dbpos) → heard m.diagram lines c b ≡ Some words →
+    AnswerTo m w b c (last_round lines c) words) → HearNothing m.diagram lines
+hear_now m lines w station facts said sent c d differ first second = elim (cases_Bool (is_another m.diagram c d)) [
   | inr stranger ↦ rw stranger refl
   | inl other ↦ rw other (none_of (heard m.diagram lines c d) (λ words got.
-      let is = run_is m start lines w station laws run in
-      let a = heard_sent m start lines w d c words station laws run got in
-      let mine = node_under_way m start lines w c is.links first in
-      let theirs = node_under_way m start lines w d is.links second in
+      let a = sent d c words got in
+      let mine = node_under_way m lines w c said first in
+      let theirs = node_under_way m lines w d said second in
       let another = is_other m.diagram c d station other in
-      let last = (is.links.nodes c).round mine.0 mine.1 (other_of m.diagram c d another) in
+      let last = (said.nodes c).round mine.0 mine.1 (other_of m.diagram c d another) in
       let same : Some mine.0 ≡ Some a.frame.round = sym last ∙ a.round in
       let running : under_way (node m.diagram w a.frame.to.0) ≡ Some a.frame.round =
       subst (λ (x : ℕ). under_way (node m.diagram w x) ≡ Some a.frame.round) (sym a.to) (mine.1 ∙ same) in
       let locked = subst (λ (x : ℕ). (node m.diagram w x).lock ≡ Some (record {
         holder = a.frame.to;
         round = a.frame.round;
-      })) a.from (is.facts.rounds.locks a.frame a.summary a.there a.body running) in
-      let ok = is.facts.rounds.rounds d another.0 in
+      })) a.from (facts.locks a.frame a.summary a.there a.body running) in
+      let ok = facts.rounds d another.0 in
       let fits = ok.kept.lock (record { holder = a.frame.to; round = a.frame.round }) locked in
       no_round_locked (node m.diagram w d).collecting (node m.diagram w d).granted theirs.0
       (none_collected (node m.diagram w d).collecting (node m.diagram w d).lock (record {
@@ -268,6 +277,13 @@ hear_nothing m start lines w station laws run c d differ first second = elim (ca
         round = a.frame.round;
       }) (λ g has. (ok.collecting g has).no_lock) locked) fits.alone theirs.1))
 ]
+
+hear_nothing : (m : Meaning) (start : List Bool) (lines : List Line) (w : Scene) → IsStation m.diagram → Laws m →
+    Run m start lines w → HearNothing m.diagram lines
+hear_nothing m start lines w station laws run =
+    let is = run_is m start lines w station laws run in
+    hear_now m lines w station is.facts.rounds is.links.said
+    (λ b c words got. heard_sent m start lines w b c words station laws run got)
 
 -- two rounds at once hear nothing of each other
 pub run_apart : (m : Meaning) (start : List Bool) (lines : List Line) (w : Scene) → IsStation m.diagram → Laws m →

@@ -13,7 +13,7 @@ use Rattle.reservation_core.specs.declared.values.WorldEvent.TheVariants as even
 use Rattle.log_replay.specs.declared.kinds.RecordKind.{RecordKind}
 use Rattle.log_replay.specs.declared.kinds.RecordKind.TheVariants.{At, Command, Sense, Begin, End, Deliver, Tick}
 use Rattle.log_replay.specs.declared.kinds.RecordKind.TheVariants.{Withdraw, Restart, Part, Cut}
-use Rattle.log_replay.specs.declared.log.TheConstants.{MOST_RECORDS}
+use Rattle.log_replay.specs.declared.limits.TheConstants.{MOST_RECORDS}
 use Rattle.log_replay.specs.Records.{RecordSays, MayBeTold, event_row, is_step, is_told_of, has_step, tell_of}
 use Rattle.log_replay.specs.RecordFaults.{kind_name, field, HasForm, IsLate, IsKnown, IsWord, IsAgain, AreNumbers}
 use Rattle.log_replay.specs.RecordFaults.{KindFault, RecordFault}

@@ -8,7 +8,7 @@ use Rattle.reservation_core.specs.declared.values.LogEvent.TheVariants.{At as Te
 use Rattle.log_replay.specs.declared.kinds.RecordKind.{RecordKind}
 use Rattle.log_replay.specs.declared.kinds.RecordKind.TheVariants.{At, Command, Sense, Begin, End, Deliver, Tick}
 use Rattle.log_replay.specs.declared.kinds.RecordKind.TheVariants.{Withdraw, Restart, Part, Cut}
-use Rattle.log_replay.specs.declared.log.TheConstants.{MOST_RECORDS}
+use Rattle.log_replay.specs.declared.limits.TheConstants.{MOST_RECORDS}
 use Rattle.log_replay.specs.Records.{RecordSays, event_row, is_again}
 use Rattle.log_replay.specs.RecordFaults.{kind_name, record_row, IsOfKind, IsKnown, IsWord, IsAgain, KindFault}
 use Rattle.log_replay.specs.RecordFaults.{RecordFault}

@@ -22,17 +22,18 @@ use Rattle.log_replay.proofs.Replaying.{Replaying, lines_none, start_replaying}
 
 -- ---- the headline
 
+pub nothing_under_way : (c : ℕ) → IsUnderWay [] c → ⊥
+nothing_under_way c (inl some) = some refl
+nothing_under_way c (inr some) = some refl
+
 nothing_headline : (d : Diagram) (start : List Bool) → Headline d start []
 nothing_headline d start = record {
   decisions = tt;
+  granted = λ i lt on. absurd cc;
   obeys = λ c r op v opened may. absurd opened;
   sound = λ is. is;
   apart = λ c b differ one other. absurd (nothing_under_way c one);
 }
-  where
-    nothing_under_way : (c : ℕ) → IsUnderWay [] c → ⊥
-    nothing_under_way c (inl some) = some refl
-    nothing_under_way c (inr some) = some refl
 
 run_of_headline : (m : Meaning) (log : List LogEvent) (out : List Shown) (w : Scene) → IsStation m.diagram → Laws m
     → IsRunOf m log out w → Headline m.diagram (start_of m.diagram log) (lines_of log out [])

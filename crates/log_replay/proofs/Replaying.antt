@@ -20,7 +20,7 @@ use Rattle.reservation_core.specs.Lines.{Line, Shown}
 use Rattle.reservation_core.specs.Runs.{Run, Leads, Shows, MayHappen, IsBrokenBy, PremiseExact, PremisesHold}
 use Rattle.reservation_core.specs.Runs.{nothing_shown, shown_of}
 use Rattle.reservation_core.specs.LogLines.{HasStart, start_of, lines_of}
-use Rattle.log_replay.specs.declared.log.TheConstants.{MOST_RECORDS}
+use Rattle.log_replay.specs.declared.limits.TheConstants.{MOST_RECORDS}
 use Rattle.log_replay.specs.Records.{MayBeTold}
 use Rattle.log_replay.specs.Following.{LineHappens, FitsAt, IsBroken}
 use Rattle.log_replay.specs.Replay.{Replayed, IsRunOf, IsReplay, ShownFits, shown_at}

@@ -22,7 +22,7 @@ use Rattle.bay_protocol.specs.Step.{BusyStep, QueryStep, OverStep, FrameStep, Ti
 use Rattle.bay_protocol.specs.Step.{CutStep}
 use Rattle.reservation_core.specs.Scene.{Scene, node}
 use Rattle.reservation_core.specs.Lines.{Message, Line, Shown, messages}
-use Rattle.reservation_core.specs.Runs.{Run}
+use Rattle.reservation_core.specs.Runs.{Leads, Run}
 use Rattle.reservation_core.specs.Headline.{OwnMessages}
 use Rattle.log_replay.proofs.Basic.{no_frame, one_frame}
 use Rattle.log_replay.proofs.Leading.{run_is}
@@ -169,8 +169,12 @@ shown_from m old s named (Who.steps b e turn step shows) x there =
     messages_from b (length old.sent + 1) turn.frames (λ f is. step_from m (node m.diagram old b) e turn step f is
     ∙ named b) x (subst (λ (xs : List Message). Contains xs x) shows.messages there) ∙ sym shows.bay
 
+pub own_at : (m : Meaning) (old w : Scene) (l : Line) → ((b : ℕ) → (node m.diagram old b).bay ≡ b) → Leads m old l w →
+    OwnMessages l
+own_at m old w l named leads =
+    shown_from m old l.shown named (who m old w leads.outcome l.shown leads.shows l.event leads.happens)
+
 pub own_messages : (m : Meaning) (start : List Bool) (before : List Line) (l : Line) (w : Scene) → IsStation m.diagram →
     Laws m → Run m start (l ∷ before) w → OwnMessages l
 own_messages m start before l w station laws (old, run, leads) =
-    shown_from m old l.shown (run_is m start before old station laws run).facts.rounds.shape.named
-    (who m old w leads.outcome l.shown leads.shows l.event leads.happens)
+    own_at m old w l (run_is m start before old station laws run).facts.rounds.shape.named leads

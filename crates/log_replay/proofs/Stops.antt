@@ -31,9 +31,10 @@ use Rattle.reservation_core.specs.Lines.{Line, Shown, of_bay, shown}
 use Rattle.reservation_core.specs.History.{Opened, collecting_after, forgotten, collecting}
 use Rattle.reservation_core.specs.Hearing.{IsVerdictOn, DecidesRound}
 use Rattle.reservation_core.specs.Runs.{Leads, Run}
-use Rattle.reservation_core.specs.Headline.{Verdict, StopsCollecting, StopsWell, IsBusy, IsWithdrawal}
+use Rattle.reservation_core.specs.Headline.{DecidesWell, Verdict, StopsCollecting, StopsWell, IsBusy, IsWithdrawal}
 use Rattle.log_replay.proofs.Basic.{eqb_same, of_own, of_other, of_quiet}
 use Rattle.log_replay.proofs.Linked.{opened}
+use Rattle.log_replay.proofs.Links.{Spoken}
 use Rattle.log_replay.proofs.Others.{missing_some}
 use Rattle.log_replay.proofs.Leading.{run_is}
 use Rattle.log_replay.proofs.Who.{Who, who}
@@ -202,46 +203,6 @@ collection_of (Some g) before c o is has =
     let same : record { round = g.round; op = g.op } ≡ o = cc e in
     (g, refl, ap (λ (y : Opened). y.round) same)
 
--- while a round is collected, no bay decides but that round
-same_round : (m : Meaning) (start : List Bool) (before : List Line) (l : Line) (old : Scene) (c : ℕ) (o p : Opened) →
-    IsStation m.diagram → Laws m → Run m start before old → collecting before c ≡ Some o →
-    DecidesRound m.diagram before l c p → p ≡ o
-same_round m start before l old c o p station laws run has (DecidesRound.at_tick is e) =
-    let x : Some p ≡ Some o = sym is
-    ∙ has in cc x
-same_round m start before l old c o p station laws run has (DecidesRound.all_heard n is e all) =
-    let x : Some p ≡ Some o =
-    sym is ∙ has in cc x
-same_round m start before l old c o p station laws run has (DecidesRound.alone e at none d) =
-    let links = (run_is m start before old station laws run).links in
-    let g = collection_of (node m.diagram old c).collecting before c o (links.nodes c).collecting has in
-    absurd (missing_some m.diagram c g.0.heard ((links.nodes c).missing g.0 g.1) none)
-
-else_case : (m : Meaning) (start : List Bool) (before : List Line) (l : Line) (old w : Scene) (c : ℕ) (o : Opened) →
-    IsStation m.diagram → Laws m → Run m start before old → Leads m old l w → collecting before c ≡ Some o →
-    (StopsCollecting m.diagram before l c o) ⊎ (collecting (l ∷ before) c ≡ Some o)
-else_case m start before l old w c o station laws run leads has =
-    let links = (run_is m start before old station laws run).links in
-    let g = collection_of (node m.diagram old c).collecting before c o (links.nodes c).collecting has in
-    let ok = line_ok m old l.shown c g.0 g.1 (who m old w leads.outcome l.shown leads.shows l.event leads.happens) in
-    elim (restart_tells l.event c (collecting_after (of_bay l.shown c) l.event (collecting before c))) [
-      | inl again ↦ inl (StopsCollecting.restarted again)
-      | inr same ↦ elim (after_outcome (of_bay l.shown c) l.event g.0 o g.2 ok) [
-        | inl d ↦
-            let it = (decides_well m start l before w station laws (old, run, leads)).no_other c d.0 d.1 in
-            inl (StopsCollecting.decided (subst (λ (x : Opened). DecidesRound m.diagram before l c x)
-            (same_round m start before l old c o d.0 station laws run has it) it))
-        | inr rest ↦ elim rest [
-          | inl busy ↦ inl (StopsCollecting.busy busy)
-          | inr more ↦ elim more [
-            | inl gone ↦ inl (StopsCollecting.withdrawn gone)
-            | inr stays ↦ inr (same ∙ ap (λ (x : Option Opened). collecting_after (of_bay l.shown c) l.event x)
-                has ∙ stays)
-          ]
-        ]
-      ]
-    ]
-
 verdict_stops : (d : Diagram) (k : Known) (o : Opened) (x : Outcome) (e : WorldEvent) (was : Option Opened) →
     Verdict d k o x → collecting_after x e was ≡ None
 verdict_stops d k o x e was (Verdict.grants is holds) = rw is refl
@@ -259,23 +220,58 @@ withdrawn_stops x r e was is = absurd is
 forgotten_none : (e : WorldEvent) (c : ℕ) (x : Option Opened) → x ≡ None → forgotten e c x ≡ None
 forgotten_none e c x is = subst (λ (y : Option Opened). forgotten e c y ≡ None) (sym is) (forgets_none e c)
 
-stop_case : (m : Meaning) (start : List Bool) (before : List Line) (l : Line) (w : Scene) (c : ℕ) (o : Opened) →
-    IsStation m.diagram → Laws m → Run m start (l ∷ before) w → StopsCollecting m.diagram before l c o →
-    collecting (l ∷ before) c ≡ None
-stop_case m start before l w c o station laws run (StopsCollecting.decided d) =
-    forgotten_none l.event c _ (verdict_stops m.diagram _ o (of_bay l.shown c) l.event (collecting before c)
-    ((decides_well m start l before w station laws run).shows c o d))
-stop_case m start before l w c o station laws run (StopsCollecting.busy is) =
-    forgotten_none l.event c _ (busy_stops (of_bay l.shown c) o.round l.event (collecting before c) is)
-stop_case m start before l w c o station laws run (StopsCollecting.withdrawn is) =
-    forgotten_none l.event c _ (withdrawn_stops (of_bay l.shown c) o.round l.event (collecting before c) is)
-stop_case m start before l w c o station laws run (StopsCollecting.restarted is) =
-    subst (λ (e : WorldEvent). forgotten e c (collecting_after (of_bay l.shown c) l.event (collecting before c)) ≡ None)
-    (sym is) (rw (eqb_same c) refl)
+-- ---- at one line
+
+module _ (m : Meaning) (before : List Line) (l : Line) (old w : Scene) (said : Spoken m before old)
+    (well : DecidesWell m.diagram before l) (leads : Leads m old l w) where
+  -- while a round is collected, no bay decides but that round
+  same_round : (c : ℕ) (o p : Opened) → collecting before c ≡ Some o → DecidesRound m.diagram before l c p → p ≡ o
+  same_round c o p has (DecidesRound.at_tick is e) = let x : Some p ≡ Some o = sym is ∙ has in cc x
+  same_round c o p has (DecidesRound.all_heard n is e all) = let x : Some p ≡ Some o = sym is ∙ has in cc x
+  same_round c o p has (DecidesRound.alone e at none d) =
+      let g = collection_of (node m.diagram old c).collecting before c o (said.nodes c).collecting has in
+      absurd (missing_some m.diagram c g.0.heard ((said.nodes c).missing g.0 g.1) none)
+
+  else_case : (c : ℕ) (o : Opened) → collecting before c ≡ Some o →
+      (StopsCollecting m.diagram before l c o) ⊎ (collecting (l ∷ before) c ≡ Some o)
+  else_case c o has =
+      let g = collection_of (node m.diagram old c).collecting before c o (said.nodes c).collecting has in
+      let ok = line_ok m old l.shown c g.0 g.1 (who m old w leads.outcome l.shown leads.shows l.event leads.happens) in
+      elim (restart_tells l.event c (collecting_after (of_bay l.shown c) l.event (collecting before c))) [
+        | inl again ↦ inl (StopsCollecting.restarted again)
+        | inr same ↦ elim (after_outcome (of_bay l.shown c) l.event g.0 o g.2 ok) [
+          | inl d ↦
+              let it = well.no_other c d.0 d.1 in
+              inl (StopsCollecting.decided (subst (λ (x : Opened). DecidesRound m.diagram before l c x)
+              (same_round c o d.0 has it) it))
+          | inr rest ↦ elim rest [
+            | inl busy ↦ inl (StopsCollecting.busy busy)
+            | inr more ↦ elim more [
+              | inl gone ↦ inl (StopsCollecting.withdrawn gone)
+              | inr stays ↦ inr (same ∙ ap (λ (x : Option Opened). collecting_after (of_bay l.shown c) l.event x)
+                  has ∙ stays)
+            ]
+          ]
+        ]
+      ]
+
+  stop_case : (c : ℕ) (o : Opened) → StopsCollecting m.diagram before l c o → collecting (l ∷ before) c ≡ None
+  stop_case c o (StopsCollecting.decided d) =
+      forgotten_none l.event c _ (verdict_stops m.diagram _ o (of_bay l.shown c) l.event (collecting before c)
+      (well.shows c o d))
+  stop_case c o (StopsCollecting.busy is) =
+      forgotten_none l.event c _ (busy_stops (of_bay l.shown c) o.round l.event (collecting before c) is)
+  stop_case c o (StopsCollecting.withdrawn is) =
+      forgotten_none l.event c _ (withdrawn_stops (of_bay l.shown c) o.round l.event (collecting before c) is)
+  stop_case c o (StopsCollecting.restarted is) =
+      subst (λ (e : WorldEvent). forgotten e c (collecting_after (of_bay l.shown c) l.event (collecting before c)) ≡ None)
+      (sym is) (rw (eqb_same c) refl)
+
+  pub stops_at : StopsWell m.diagram before l
+  stops_at = record { stops = λ c o has is. stop_case c o is; else_stays = else_case }
 
 pub stops_well : (m : Meaning) (start : List Bool) (before : List Line) (l : Line) (w : Scene) → IsStation m.diagram →
     Laws m → Run m start (l ∷ before) w → StopsWell m.diagram before l
-stops_well m start before l w station laws run = record {
-  stops = λ c o has is. stop_case m start before l w c o station laws run is;
-  else_stays = λ c o has. else_case m start before l run.0 w c o station laws run.1 run.2 has;
-}
+stops_well m start before l w station laws run =
+    stops_at m before l run.0 w (run_is m start before run.0 station laws run.1).links.said
+    (decides_well m start l before w station laws run) run.2

@@ -9,7 +9,7 @@ use Rattle.reservation_core.specs.declared.values.LogEvent.{LogEvent}
 use Rattle.reservation_core.specs.declared.values.LogEvent.TheVariants.{At, Step}
 use Rattle.log_replay.specs.Records.{RecordSays, has_step, tell_of}
 use Rattle.log_replay.specs.RecordFaults.{RecordFault}
-use Rattle.log_replay.specs.declared.log.TheConstants.{MOST_RECORDS}
+use Rattle.log_replay.specs.declared.limits.TheConstants.{MOST_RECORDS}
 use Rattle.ilk_base.specs.declared.limits.TheConstants.{FILE_BYTES}
 
 -- The event may come after these: where a switch stands at first is told before anything happens, and once.

@@ -12,7 +12,7 @@ use Rattle.log_replay.specs.declared.kinds.RecordKind.{RecordKind}
 use Rattle.log_replay.specs.declared.kinds.RecordKind.TheVariants.{At, Command, Sense, Begin, End, Deliver, Tick}
 use Rattle.log_replay.specs.declared.kinds.RecordKind.TheVariants.{Withdraw, Restart, Part, Cut}
 use Rattle.log_replay.specs.declared.numbers.TheConstants.{LAST_MESSAGE, MOST_CUT_BYTES}
-use Rattle.log_replay.specs.declared.log.TheConstants.{MOST_RECORDS}
+use Rattle.log_replay.specs.declared.limits.TheConstants.{MOST_RECORDS}
 
 -- The first field of the records of a kind.
 abbrev pub kind_name : RecordKind → List ℕ

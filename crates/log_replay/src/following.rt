@@ -98,7 +98,7 @@ pub fn replay<J: Judge>(
     // The report is that of one run of the log.
     ensures replay { IfOk result (IsReplay (J.meaning judge.now) log.now) }
     ensures count { IfOk result (λ r. r.count ≡ length log.now) }
-    // Every decision is exact, and every movement obeys the rules on the true positions throughout.
+    // Every decision is exact, and every movement was granted and obeys the rules on the true positions throughout.
     ensures headline { IfOk result (λ r. Headline station.now (start_of station.now log.now)
         (lines_of log.now r.out [])) }
     ensures fits { IfOk result (ReportFits station.now) }

@@ -8,15 +8,15 @@ ghost use Rattle.reservation_core.specs.Lines.{Line};
 ghost use Rattle.reservation_core.specs.Runs.{Run, PremiseExact};
 ghost use Rattle.log_replay.specs.Replay.{Replayed, report_text};
 ghost use Rattle.log_replay.specs.Telling.{PathsAreLines, IsShowable, TellSame};
-ghost use Rattle.log_replay.specs.declared.log.TheConstants.{MOST_RECORDS};
+ghost use Rattle.log_replay.specs.declared.limits.TheConstants.{MOST_RECORDS};
 ghost use Rattle.reservation_core.specs.Headline.{Headline};
 
 use central_rules::Judge;
 use station_graph::Station;
 
 /// The lines of every run meet the headline, whatever is lost, repeated, reordered or restarted: every
-/// decision is exact, every movement obeys the rules on the true positions throughout, a sound start stays
-/// sound, and two rounds at once hear nothing of each other.
+/// decision is exact, every movement was granted and obeys the rules on the true positions throughout, a
+/// sound start stays sound, and two rounds at once hear nothing of each other.
 pub fn headline_holds<J: Judge>(judge: &J)
     ensures { (start : List Bool) (lines : List Line) (w : Scene) → let m = J.meaning judge.now in
         Run m start lines w → Headline m.diagram start lines }

@@ -3,8 +3,9 @@ ghost use Rattle.std.specs.Prelude.{◌≡◌, ◌≤◌, ◌<◌, length, slice
 ghost use Rattle.log_replay.specs.Records.{MayBeTold};
 ghost use Rattle.log_replay.specs.Log.{IsLog, IsLogFault};
 ghost use Rattle.ilk_base.specs.Inputs.{ForRefused};
-ghost use Rattle.log_replay.specs.declared.log.TheConstants.{MOST_RECORDS};
+ghost use Rattle.log_replay.specs.declared.limits.TheConstants.{MOST_RECORDS};
 
+use crate::limits::MOST_RECORDS;
 use crate::record::read_record;
 use csv::ByteRecord;
 use double_points::Rows;
@@ -13,9 +14,6 @@ use reservation_core::LogEvent;
 use station_graph::Station;
 use std::alloc::Global;
 use std::marker::Model;
-
-/// The most records of a log.
-pub const MOST_RECORDS: usize = 20_000;
 
 /// Why bytes gave no log.
 pub use ilk_base::InputFault as LogFault;
@@ -30,7 +28,7 @@ pub struct Log {
 impl Model for Log {
     ghost use Rattle.std.specs.Prelude.{List, length, ◌≤◌};
     ghost use Rattle.reservation_core.specs.declared.values.LogEvent.{LogEvent};
-    ghost use Rattle.log_replay.specs.declared.log.TheConstants.{MOST_RECORDS};
+    ghost use Rattle.log_replay.specs.declared.limits.TheConstants.{MOST_RECORDS};
 
     ghost Value = { List LogEvent };
 

@@ -3,7 +3,7 @@ ghost use Rattle.std.specs.Prelude.{◌≡◌, ◌<◌, ◌↔◌, length, IfOk,
 ghost use Rattle.csv.specs.Records.{fields_of};
 ghost use Rattle.log_replay.specs.Records.{RecordSays, has_step, is_told_of, tell_of, is_again};
 ghost use Rattle.log_replay.specs.RecordFaults.{record_row, FieldFault, KindFault, RecordFault, IsOfKind, IsLate};
-ghost use Rattle.log_replay.specs.declared.log.TheConstants.{MOST_RECORDS};
+ghost use Rattle.log_replay.specs.declared.limits.TheConstants.{MOST_RECORDS};
 ghost use Rattle.log_replay.specs.Log.{IsText, MayFollow};
 ghost use Rattle.log_replay.specs.declared.kinds.RecordKind.TheVariants as kind;
 
@@ -11,7 +11,7 @@ use crate::fields::{
     bay_at, bytes_at, direction_at, field, message_at, position_at, switch_at, texts, word_at,
 };
 use crate::kinds::{RecordKind, kind_named};
-use crate::log::MOST_RECORDS;
+use crate::limits::MOST_RECORDS;
 use csv::ByteRecord;
 use ilk_base::{Op, SwitchId};
 use reservation_core::{LogEvent, WorldEvent};

@@ -2,9 +2,9 @@
 ghost use Rattle.std.specs.Prelude.{◌≡◌, ◌≤◌, length, map, IfOk};
 ghost use Rattle.log_replay.specs.Replay.{shown_at, ReportFits, report_text, is_granted, is_denied, is_finished};
 ghost use Rattle.log_replay.specs.Replay.{how_many};
-ghost use Rattle.log_replay.specs.declared.log.TheConstants.{MOST_RECORDS};
+ghost use Rattle.log_replay.specs.declared.limits.TheConstants.{MOST_RECORDS};
 
-use crate::log::MOST_RECORDS;
+use crate::limits::MOST_RECORDS;
 use crate::report_lines::{push_all, push_bays, push_last};
 use ilk_base::{Memory, Text};
 use reservation_core::{Outcome, Which, WorldOutcome};
@@ -24,7 +24,7 @@ pub struct Report {
 impl Model for Report {
     ghost use Rattle.std.specs.Prelude.{◌≤◌, length, map};
     ghost use Rattle.log_replay.specs.Replay.{Replayed, shown_at};
-    ghost use Rattle.log_replay.specs.declared.log.TheConstants.{MOST_RECORDS};
+    ghost use Rattle.log_replay.specs.declared.limits.TheConstants.{MOST_RECORDS};
 
     ghost Value = { Replayed };
 

@@ -5,32 +5,23 @@ ghost use Rattle.reservation_core.specs.Lines.{Message, messages, message, kind_
 ghost use Rattle.reservation_core.specs.ReportLines.{bay_line, bay_lines, message_name, line_prefix, message_line};
 ghost use Rattle.reservation_core.specs.ReportLines.{shown_lines, all_lines};
 ghost use Rattle.log_replay.specs.Replay.{shown_at, ShownFits, last_line};
-ghost use Rattle.log_replay.specs.declared.log.TheConstants.{MOST_RECORDS};
+ghost use Rattle.log_replay.specs.declared.limits.TheConstants.{MOST_RECORDS};
 
-use crate::log::MOST_RECORDS;
+use crate::limits::MOST_RECORDS;
 use bay_frames::{Body, Frame};
 use bay_protocol::is_bay;
 use ilk_base::{BayId, Memory, Text};
-use itoa::Buffer;
 use reservation_core::{NodeOutput, Which, WorldOutcome};
 use station_graph::Station;
 use std::alloc::Global;
-
-// Appends some words and a number.
-fn push_number(text: &mut Text, words: &[u8], number: u32) -> Result<(), Memory>
-    ensures { OnOk result (text.new ≡ text.old ++ words.now ++ decimal number) }
-{
-    let mut digits = Buffer::new();
-    text.push(words)?;
-    text.push(digits.format(number).as_bytes())
-}
 
 // Appends `bay`, its number and its path, and the end of the line.
 fn push_bay_line(text: &mut Text, bay: BayId, path: &str) -> Result<(), Memory>
     ensures { OnOk result (text.new ≡ text.old ++ (codes "bay " ++ decimal bay.0 ++ codes " " ++ path.now
         ++ codes "\n")) }
 {
-    push_number(text, b"bay ", u32::from(bay.0))?;
+    text.push(b"bay ")?;
+    text.push_decimal(usize::from(bay.0))?;
     text.push(b" ")?;
     text.push(path.as_bytes())?;
     text.push(b"\n")
@@ -75,8 +66,9 @@ fn prefix(alloc: Global, line: u32, bay: BayId) -> Result<Text, Memory>
     ensures { IfOk result (λ t. t ≡ line_prefix line bay.0) }
 {
     let mut text = Text::new(alloc);
-    push_number(&mut text, b"", line)?;
-    push_number(&mut text, b" ", u32::from(bay.0))?;
+    text.push_decimal(line as usize)?;
+    text.push(b" ")?;
+    text.push_decimal(usize::from(bay.0))?;
     text.push(b" ")?;
     Ok(text)
 }
@@ -87,11 +79,14 @@ fn push_sent(text: &mut Text, number: u32, frame: &Frame) -> Result<(), Memory>
         (kind_of frame.now.body) ++ codes " " ++ decimal frame.now.to.0 ++ codes " " ++ decimal frame.now.round)
         ++ codes "\n") }
 {
-    push_number(text, b"send ", number)?;
+    text.push(b"send ")?;
+    text.push_decimal(number as usize)?;
     text.push(b" ")?;
     text.push(message_name(&frame.body))?;
-    push_number(text, b" ", u32::from(frame.to.0))?;
-    push_number(text, b" ", frame.round)?;
+    text.push(b" ")?;
+    text.push_decimal(usize::from(frame.to.0))?;
+    text.push(b" ")?;
+    text.push_decimal(frame.round as usize)?;
     text.push(b"\n")
 }
 
@@ -194,6 +189,7 @@ pub(crate) fn push_last(
     if broken.is_some() {
         return Ok(());
     }
-    push_number(text, b"done ", count)?;
+    text.push(b"done ")?;
+    text.push_decimal(count as usize)?;
     text.push(b"\n")
 }

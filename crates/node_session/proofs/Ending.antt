@@ -11,6 +11,7 @@ use Rattle.central_rules.specs.Meaning.{Meaning}
 use Rattle.bay_protocol.specs.State.{State}
 use Rattle.node_session.specs.declared.end.TheConstants.{MOST_LINES}
 use Rattle.node_session.specs.SessionEnds.{Streams, Takes, Answered, IsDone, IsLong, IsReadFault, IsWriteFault, IsWant}
+use Rattle.node_session.specs.SessionEnds.{LastAsked}
 use Rattle.node_session.specs.Reading.{is_feed, HasNoFeed, BeginsLine}
 use Rattle.node_session.specs.Progress.{AnswersLine, TellsFront, HasServed}
 use Rattle.node_session.proofs.Feeds.{feeds-append, lines-line, lines-no_end, some_line}
@@ -96,10 +97,11 @@ module _ (m : Meaning) (d : Diagram) (b : ℕ) (before now : Streams) (held : Li
     }
 
     -- the text of a whole line was not written, or a front of it
-    pub write_fault_line : (line past : List ℕ) → BeginsLine held line past → Rose before.writes after.writes →
+    pub write_fault_line : (line past : List ℕ) → BeginsLine held line past →
+        LastAsked before.input after.asked count → Rose before.writes after.writes →
         TellsFront m d (count == 0) state (strip_carriage_return line) now.out after.out →
         IsWriteFault m d b before after
-    write_fault_line line past begins rose tells =
+    write_fault_line line past begins asked rose tells =
         let (rest, takes) = takes_some at in
         let content = (at.taken ++ held) ++ rest in
         let parts : lines content ≡ at.done ++ strip_carriage_return line ∷ lines (past ++ rest) =
@@ -131,15 +133,17 @@ module _ (m : Meaning) (d : Diagram) (b : ℕ) (before now : Streams) (held : Li
                 ∙ taken_one_more at.done (strip_carriage_return line) (lines (past ++ rest)));
             near = begins.near;
           };
+          asked = asked;
           front = front;
           proper = proper;
           wrote = appends_both before.out now.out after.out at.text (take front tells.text) at.wrote wrote;
         }
 
     -- the same of the last line, which has no end
-    pub write_fault_last : HasNoFeed held → 0 < length held → IsAtEnd now.input → Rose before.writes after.writes →
+    pub write_fault_last : HasNoFeed held → 0 < length held → IsAtEnd now.input →
+        LastAsked before.input after.asked count → Rose before.writes after.writes →
         TellsFront m d (count == 0) state held now.out after.out → IsWriteFault m d b before after
-    write_fault_last none some at_end rose tells =
+    write_fault_last none some at_end asked rose tells =
         let content = at.taken ++ held in
         let parts : lines content ≡ at.done ++ held ∷ [] =
         cut_all at ∙ ap (λ l. at.done ++ l) (lines-no_end held none some) in
@@ -164,6 +168,7 @@ module _ (m : Meaning) (d : Diagram) (b : ℕ) (before now : Streams) (held : Li
                 ∙ taken_one_more at.done held []);
             near = omega arith;
           };
+          asked = asked;
           front = front;
           proper = proper;
           wrote = appends_both before.out now.out after.out at.text (take front tells.text) at.wrote wrote;

@@ -1,6 +1,7 @@
 -- What is known of the front of what is held.
 use Rattle.std.proofs.Common.{◌≡◌, ◌∙◌, refl, sym, ap, subst, arith, ℕ, ◌+◌, ◌≤◌, Bool, true, false, List, [], ◌++◌}
 use Rattle.std.proofs.Common.{length, take, drop, position, Option, Some, None}
+use Rattle.std.specs.Prelude.{IfSome}
 use Rattle.std.specs.List.{position_or_len}
 use Rattle.std.specs.Io.KnownBytes.{Consumes, Keeps}
 use Rattle.std.proofs.lemmas.List.{append-nil, append_assoc, length-append, length-drop, length-take-le}
@@ -9,8 +10,8 @@ use Rattle.node_session.specs.declared.reader.TheConstants.{CHUNK}
 use Rattle.node_session.specs.declared.reader.Front.TheVariants.{Line, TooLong, Last}
 use Rattle.node_session.specs.declared.reader.InputTrouble.{InputTrouble}
 use Rattle.node_session.specs.declared.reader.InputTrouble.TheVariants.{Memory, Failed}
-use Rattle.node_session.specs.Reading.{is_feed, is_long, HasNoFeed, Grows, TakesPiece, BeginsLine, Fills, MoreFails}
-use Rattle.node_session.specs.Reading.{FillFails}
+use Rattle.node_session.specs.Reading.{is_feed, is_long, HasNoFeed, AskedBehind, Grows, TakesPiece, BeginsLine, Fills}
+use Rattle.node_session.specs.Reading.{MoreFails, FillFails}
 use Rattle.node_session.proofs.Feeds.{first-behind, no_feed-before, no_feed-none, few_unless_long, split-at_feed}
 
 -- all but a piece of what is held is known to have no feed
@@ -55,6 +56,21 @@ grows_more held mid held_new left between left_new more grows takes = record {
   parts = takes.parts ∙ ap (λ l. l ++ takes.piece) grows.parts ∙ append_assoc held grows.piece takes.piece;
   consumed = consumes_both left between left_new grows.piece takes.piece grows.consumed takes.consumed;
 }
+
+is_called : (left between asked : Option (List ℕ)) (piece : List ℕ) → Consumes left between piece →
+    IfSome asked (λ b. between ≡ Some b) → IfSome asked (λ rest. Consumes left (Some rest) piece)
+is_called left between None piece consumed called = tt
+is_called left between (Some rest) piece consumed called =
+    subst (λ (o : Option (List ℕ)). Consumes left o piece) called consumed
+
+-- one more call was needed
+pub asked_more : (held mid : List ℕ) (left between asked : Option (List ℕ)) → Grows held mid left between →
+    position is_feed mid ≡ None → IfSome asked (λ b. between ≡ Some b) → AskedBehind held left asked
+asked_more held mid left between asked grows none called = (
+  grows.piece,
+  is_called left between asked grows.piece grows.consumed called,
+  subst HasNoFeed grows.parts (no_feed-none mid none),
+)
 
 -- a line that is found is at the front, and little follows it
 begins : (held : List ℕ) (n : ℕ) → position is_feed held ≡ Some n → Recent held →

@@ -2,6 +2,7 @@ pub mod Feeds
 pub mod Filling
 pub mod Going
 pub mod AnsweredLines
+pub mod Asking
 pub mod Ending
 pub mod Stopping
 pub mod Next

@@ -17,9 +17,12 @@ use Rattle.node_session.specs.declared.end.SessionEnd.{SessionEnd}
 use Rattle.node_session.specs.declared.end.SessionEnd.TheVariants as e
 use Rattle.node_session.specs.Requests.{IsRequest}
 use Rattle.node_session.specs.SessionEnds.{Streams, SessionEnds, IsDone, IsStopped, IsLong, IsReadFault, IsWant}
-use Rattle.node_session.specs.Reading.{HasNoFeed, Grows, TakesPiece, BeginsLine, Fills, MoreFails, FillFails}
-use Rattle.node_session.specs.Progress.{AnswersLine, LineFails, HasServed}
+use Rattle.node_session.specs.SessionEnds.{LastAsked}
+use Rattle.node_session.specs.Reading.{HasNoFeed, AsksNeeded, Grows, TakesPiece, BeginsLine, Fills, MoreFails}
+use Rattle.node_session.specs.Reading.{FillFails}
+use Rattle.node_session.specs.Progress.{AnswersLine, LineFails, HasServed, HasAsked, Stands}
 use Rattle.node_session.proofs.Going.{appends_nothing, appends_both, stands_more, stands_past}
+use Rattle.node_session.proofs.Asking.{asks_needed, asked_line}
 use Rattle.node_session.proofs.Ending.{want, read_fault, done_empty, long}
 use Rattle.node_session.proofs.Stopping.{stopped_line, stopped_long, stopped_last}
 use Rattle.node_session.proofs.Ending.{write_fault_line, write_fault_last, done_last}
@@ -38,6 +41,7 @@ pub record Asked (now after : Streams) : Type 0 where
 -- only `out` was
 pub record Written (now after : Streams) : Type 0 where
   pub input : after.input ≡ now.input
+  pub asked : after.asked ≡ now.asked
   pub reads : now.reads ≤ after.reads
   pub writes : now.writes ≤ after.writes
 
@@ -47,6 +51,12 @@ module _ (m : Meaning) (d : Diagram) (b : ℕ) (before now : Streams) (held : Li
     filled : Grows held held_new now.input mid.input → HasServed m d b before mid held_new count state
     filled grows =
         stands_more m d b before now mid held held_new count state at grows asked.out asked.reads asked.writes
+
+    pub next_asked : HasAsked before now held count → AsksNeeded held held_new now.input now.asked mid.asked →
+        HasAsked before mid held_new count
+    next_asked earlier needed =
+        asks_needed before.input now.input now.asked mid.asked at.taken held held_new count at.feeds at.consumed earlier
+        needed
 
     pub next_read_fault : FillFails held held_new now.input mid.input (Rose now.reads mid.reads) Failed →
         IsReadFault m d b before mid
@@ -122,47 +132,64 @@ module _ (m : Meaning) (d : Diagram) (b : ℕ) (before now : Streams) (held : Li
             ∙ drop-append-add line (10 ∷ past) 1,
       )
 
-      pub next_line : (n : ℕ) (next : State) → Fills held held_new now.input mid.input (Line n) →
+      asked_there : HasAsked before mid held_new count → 0 < length held_new → LastAsked before.input after.asked count
+      asked_there asks some =
+          subst (λ (a : Option (List ℕ)). LastAsked before.input a count) (sym written.asked)
+          (asks (omega (arith, some)))
+
+      is_some : (line past : List ℕ) → held_new ≡ line ++ 10 ∷ past → 0 < length held_new
+      is_some line past parts = omega (arith, ap length parts, length-append line (10 ∷ past))
+
+      pub next_line : (n : ℕ) (next : State) → HasAsked before mid held_new count →
+          Fills held held_new now.input mid.input (Line n) →
           AnswersLine m d (count == 0) state (strip_carriage_return (take n held_new)) next mid.out after.out →
           next.bay ≡ b
-          → HasServed m d b before after (drop (n + 1) held_new) (count + 1) next
-      next_line n next fills answered bay =
+          → Stands m d b before after (drop (n + 1) held_new) (count + 1) next
+      next_line n next asks fills answered bay =
           let (line, past, len, begins) = fills.is in
           let there = at_line n line past len begins.parts in
-          subst (λ (l : List ℕ). HasServed m d b before after l (count + 1) next) (sym there.1)
-          (stands_past m d b before mid after held_new past count state line next (filled fills.grows) begins
-          (subst (λ (l : List ℕ). AnswersLine m d (count == 0) state (strip_carriage_return l) next mid.out after.out)
-          there.0 answered) bay written.input written.reads written.writes)
+          record {
+            served =
+                subst (λ (l : List ℕ). HasServed m d b before after l (count + 1) next) (sym there.1)
+                (stands_past m d b before mid after held_new past count state line next (filled fills.grows) begins
+                (subst (λ (l : List ℕ). AnswersLine m d (count == 0) state (strip_carriage_return l) next mid.out
+                after.out) there.0 answered) bay written.input written.reads written.writes);
+            asked = λ some.
+                asked_line before.input after.asked count
+                (asked_there asks (is_some line past begins.parts));
+          }
 
-      line_fails : (line past : List ℕ) (end : SessionEnd) →
+      line_fails : (line past : List ℕ) (end : SessionEnd) → HasAsked before mid held_new count →
           Fills held held_new now.input mid.input (Line (length line)) → BeginsLine held_new line past →
           count < MOST_LINES
           → LineFails m d count state (strip_carriage_return line) mid.out after.out (Rose mid.writes after.writes)
           end → SessionEnds m d b before after end
-      line_fails line past e.Done fills begins few fails = absurd fails
-      line_fails line past (e.Refused number) fills begins few (is, refused, nothing) = (
+      line_fails line past e.Done asks fills begins few fails = absurd fails
+      line_fails line past (e.Refused number) asks fills begins few (is, refused, nothing) = (
         count,
         is,
         stopped_line m d b before after held_new count state (unwritten (filled fills.grows) nothing) line past begins
             (subst (λ (k : ℕ). ¬ IsRequest d k (count == 0) (strip_carriage_return line)) at.bay refused) few fills.few,
       )
-      line_fails line past e.Long fills begins few fails = absurd fails
-      line_fails line past e.ReadFault fills begins few fails = absurd fails
-      line_fails line past e.WriteFault fills begins few (rose, tells) =
+      line_fails line past e.Long asks fills begins few fails = absurd fails
+      line_fails line past e.ReadFault asks fills begins few fails = absurd fails
+      line_fails line past e.WriteFault asks fills begins few (rose, tells) =
           let there = filled fills.grows in
           write_fault_line m d b before mid held_new count state there after written.input line past begins
+          (asked_there asks (is_some line past begins.parts))
           (rose_earlier _ _ _ there.writes rose) tells
-      line_fails line past e.Memory fills begins few nothing =
+      line_fails line past e.Memory asks fills begins few nothing =
           want m d b before after held_new count state (unwritten (filled fills.grows) nothing)
 
-      pub next_line_fails : (n : ℕ) (end : SessionEnd) → Fills held held_new now.input mid.input (Line n) →
+      pub next_line_fails : (n : ℕ) (end : SessionEnd) → HasAsked before mid held_new count →
+          Fills held held_new now.input mid.input (Line n) →
           count < MOST_LINES
           → LineFails m d count state (strip_carriage_return (take n held_new)) mid.out after.out
           (Rose mid.writes after.writes) end → SessionEnds m d b before after end
-      next_line_fails n end fills few fails =
+      next_line_fails n end asks fills few fails =
           let (line, past, len, begins) = fills.is in
           let there = at_line n line past len begins.parts in
-          line_fails line past end (subst (λ (k : ℕ). Fills held held_new now.input mid.input (Line k)) (sym len) fills)
+          line_fails line past end asks (subst (λ (k : ℕ). Fills held held_new now.input mid.input (Line k)) (sym len) fills)
           begins few
           (subst (λ (l : List ℕ). LineFails m d count state (strip_carriage_return l) mid.out after.out
           (Rose mid.writes after.writes) end) there.0 fails)
@@ -174,25 +201,27 @@ module _ (m : Meaning) (d : Diagram) (b : ℕ) (before now : Streams) (held : Li
           done_last m d b before mid held_new count state (filled fills.grows) after written.input next fills.is.0 some
           fills.is.1 answered few
 
-      pub next_last_fails : (end : SessionEnd) → Fills held held_new now.input mid.input Last → 0 < length held_new →
+      pub next_last_fails : (end : SessionEnd) → HasAsked before mid held_new count →
+          Fills held held_new now.input mid.input Last → 0 < length held_new →
           count < MOST_LINES
           → LineFails m d count state held_new mid.out after.out (Rose mid.writes after.writes) end →
           SessionEnds m d b before after end
-      next_last_fails e.Done fills some few fails = absurd fails
-      next_last_fails (e.Refused number) fills some few (is, refused, nothing) = (
+      next_last_fails e.Done asks fills some few fails = absurd fails
+      next_last_fails (e.Refused number) asks fills some few (is, refused, nothing) = (
         count,
         is,
         stopped_last m d b before after held_new count state (unwritten (filled fills.grows) nothing) fills.is.0 some
             (subst IsAtEnd (sym written.input) fills.is.1)
             (subst (λ (k : ℕ). ¬ IsRequest d k (count == 0) held_new) at.bay refused) few fills.few,
       )
-      next_last_fails e.Long fills some few fails = absurd fails
-      next_last_fails e.ReadFault fills some few fails = absurd fails
-      next_last_fails e.WriteFault fills some few (rose, tells) =
+      next_last_fails e.Long asks fills some few fails = absurd fails
+      next_last_fails e.ReadFault asks fills some few fails = absurd fails
+      next_last_fails e.WriteFault asks fills some few (rose, tells) =
           let there = filled fills.grows in
           write_fault_last m d b before mid held_new count state there after written.input fills.is.0 some fills.is.1
+          (asked_there asks some)
           (rose_earlier _ _ _ there.writes rose) tells
-      next_last_fails e.Memory fills some few nothing =
+      next_last_fails e.Memory asks fills some few nothing =
           want m d b before after held_new count state (unwritten (filled fills.grows) nothing)
 
   -- what was read is lost

@@ -1,5 +1,5 @@
 -- Where a session stands, and how one line of it goes.
-use Rattle.std.specs.Prelude.{◌≡◌, ◌==◌, ◌≤◌, ◌+◌, ◌++◌, ℕ, Bool, true, false, List, [], length, count_by, Option}
+use Rattle.std.specs.Prelude.{◌≡◌, ◌==◌, ◌≤◌, ◌<◌, ◌+◌, ◌++◌, ℕ, Bool, true, false, List, [], length, count_by, Option}
 use Rattle.std.specs.Prelude.{Result, Ok, Err}
 use Rattle.std.specs.Str.Lines.{lines}
 use Rattle.std.specs.Io.KnownBytes.{Appends, Consumes}
@@ -11,7 +11,7 @@ use Rattle.node_session.specs.declared.end.SessionEnd.{SessionEnd}
 use Rattle.node_session.specs.declared.end.SessionEnd.TheVariants.{Refused, WriteFault, Memory}
 use Rattle.node_session.specs.Requests.{IsRequest}
 use Rattle.node_session.specs.Session.{AnswersWith, Session}
-use Rattle.node_session.specs.SessionEnds.{Streams, SessionEnds, IsDone}
+use Rattle.node_session.specs.SessionEnds.{Streams, SessionEnds, IsDone, LastAsked}
 use Rattle.node_session.specs.Reading.{is_feed}
 
 -- The line is answered, and its text written.
@@ -55,8 +55,18 @@ pub record HasServed (m : Meaning) (d : Diagram) (b : ℕ) (before now : Streams
   pub reads : before.reads ≤ now.reads
   pub writes : before.writes ≤ now.writes
 
+-- Where anything was read, the last call of the input was needed.
+abbrev pub HasAsked : Streams → Streams → List ℕ → ℕ → Type 0
+HasAsked before now held count = 0 < count + length held → LastAsked before.input now.asked count
+
+-- Both, of what was served and of what was asked for it.
+pub record Stands (m : Meaning) (d : Diagram) (b : ℕ) (before now : Streams) (held : List ℕ) (count : ℕ)
+    (state : State) : Type 0 where
+  pub served : HasServed m d b before now held count state
+  pub asked : HasAsked before now held count
+
 -- How one more line goes: it is answered and little is held, or the session ends.
 abbrev pub Goes : Meaning → Diagram → ℕ → Streams → Streams → List ℕ → ℕ → State → Result Bool SessionEnd → Type 0
-Goes m d b before now held count state (Ok true) = HasServed m d b before now held (count + 1) state
+Goes m d b before now held count state (Ok true) = Stands m d b before now held (count + 1) state
 Goes m d b before now held count state (Ok false) = IsDone m d b before now
 Goes m d b before now held count state (Err end) = SessionEnds m d b before now end

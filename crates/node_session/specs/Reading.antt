@@ -1,6 +1,6 @@
 -- Reading the lines of an input, a piece at a time.
 use Rattle.std.specs.Prelude.{◌≡◌, ◌==◌, ◌≤◌, ◌<◌, ◌+◌, ◌++◌, ℕ, Bool, true, false, nat_lt, List, [], ◌∷◌, length}
-use Rattle.std.specs.Prelude.{count_by, Option}
+use Rattle.std.specs.Prelude.{count_by, Option, Some, IfSome, ◌⊎◌}
 use Rattle.std.specs.Str.Lines.{strip_carriage_return}
 use Rattle.std.specs.Io.KnownBytes.{Consumes, Keeps, IsAtEnd}
 use Rattle.node_session.specs.declared.request.TheConstants.{MOST_LINE}
@@ -27,6 +27,16 @@ pub record Grows (held held_new : List ℕ) (left left_new : Option (List ℕ)) 
   pub piece : List ℕ
   pub parts : held_new ≡ held ++ piece
   pub consumed : Consumes left left_new piece
+
+-- The last call of the input began behind this piece, and until then no line ended in what was held.
+abbrev pub AskedBehind : List ℕ → Option (List ℕ) → Option (List ℕ) → Type 0
+AskedBehind held left asked =
+    (piece : List ℕ) × IfSome asked (λ rest. Consumes left (Some rest) piece) × HasNoFeed (held ++ piece)
+
+-- The input was not asked; or its last call was needed for what is at the front of what is held.
+abbrev pub AsksNeeded : List ℕ → List ℕ → Option (List ℕ) → Option (List ℕ) → Option (List ℕ) → Type 0
+AsksNeeded held held_new left asked asked_new =
+    ((held_new ≡ held) × (asked_new ≡ asked)) ⊎ AskedBehind held left asked_new
 
 -- A piece was taken, or the input is at its end.
 pub record TakesPiece (held held_new : List ℕ) (left left_new : Option (List ℕ)) (more : Bool) : Type 0 where

@@ -14,17 +14,19 @@ use Rattle.node_session.specs.declared.end.SessionEnd.TheVariants.{Done, Refused
 use Rattle.node_session.specs.Requests.{IsRequest}
 use Rattle.node_session.specs.Session.{IsSession}
 
--- Where the input and `out` stand at a moment: what is left of the input and what `out` took, where that is
--- told, and the counts of faults of both.
+-- Where the input and `out` stand at a moment: what is left of the input, what was left when its last call began,
+-- and what `out` took, where that is told, and the counts of faults of both.
 pub record Streams : Type 0 where
   pub input : Option (List ℕ)
+  pub asked : Option (List ℕ)
   pub reads : ℕ
   pub out : Option (List ℕ)
   pub writes : ℕ
 
 -- The streams by these parts.
-abbrev pub streams : Option (List ℕ) → ℕ → Option (List ℕ) → ℕ → Streams
-streams input reads out writes = record { input = input; reads = reads; out = out; writes = writes }
+abbrev pub streams : Option (List ℕ) → Option (List ℕ) → ℕ → Option (List ℕ) → ℕ → Streams
+streams input asked reads out writes =
+    record { input = input; asked = asked; reads = reads; out = out; writes = writes }
 
 -- The input is this, where it is told, and these first bytes of it were taken.
 pub record Takes (before after : Streams) (content taken : List ℕ) : Type 0 where
@@ -45,6 +47,12 @@ pub record EndsNear (content taken : List ℕ) (count most : ℕ) : Type 0 where
   pub parts : taken ≡ through ++ past
   pub ended : lines through ≡ take count (lines content)
   pub near : length past ≤ most
+
+-- When the last call of the input began, no more than so many lines of it were ended: the call was needed for the
+-- next line.
+abbrev pub LastAsked : Option (List ℕ) → Option (List ℕ) → ℕ → Type 0
+LastAsked input asked count = IfSome input (λ content. IfSome asked (λ rest.
+    (earlier : List ℕ) × (content ≡ earlier ++ rest) × (count_by (λ byte. byte == 10) earlier ≤ count)))
 
 -- The line at this place, counted from 0, is not one of an input.
 pub record IsRefusedLine (d : Diagram) (b : ℕ) (content : List ℕ) (count : ℕ) : Type 0 where
@@ -94,7 +102,7 @@ pub record IsReadFault (m : Meaning) (d : Diagram) (b : ℕ) (before after : Str
   pub wrote : Appends before.out after.out text
 
 -- `out` failed: it took the text of the lines before, and of the next line's a front that is not all. Little of
--- the input was taken past the end of that line.
+-- the input was taken past the end of that line, and after that end was read the input was not asked again.
 pub record IsWriteFault (m : Meaning) (d : Diagram) (b : ℕ) (before after : Streams) : Type 0 where
   pub rose : Rose before.writes after.writes
   pub content : List ℕ
@@ -106,6 +114,7 @@ pub record IsWriteFault (m : Meaning) (d : Diagram) (b : ℕ) (before after : St
   pub answer : List ℕ
   pub answered : Answered m d b content (count + 1) (text ++ answer)
   pub near : EndsNear content taken (count + 1) CHUNK
+  pub asked : LastAsked before.input after.asked count
   pub front : ℕ
   pub proper : front < length answer
   pub wrote : Appends before.out after.out (text ++ take front answer)

@@ -1,8 +1,8 @@
 //! A reader of lines, which takes no more of the input than it must.
-ghost use Rattle.std.specs.Prelude.{◌≡◌, ◌≤◌, ◌++◌, [], length, drop, position, IfOk, IfErr, OnOk};
+ghost use Rattle.std.specs.Prelude.{◌≡◌, ◌≤◌, ◌++◌, [], length, drop, position, Some, IfSome, IfOk, IfErr, OnOk};
 ghost use Rattle.std.specs.Str.Lines.{strip_carriage_return};
 ghost use Rattle.ilk_base.specs.Outside.{Rose};
-ghost use Rattle.node_session.specs.Reading.{is_feed, is_long, TakesPiece, Fills, MoreFails, FillFails};
+ghost use Rattle.node_session.specs.Reading.{is_feed, is_long, TakesPiece, Fills, AsksNeeded, MoreFails, FillFails};
 ghost use Rattle.node_session.specs.declared.reader.TheConstants.{CHUNK};
 
 use crate::request::MOST_LINE;
@@ -126,6 +126,7 @@ impl Reader {
         ensures ok { IfOk result (TakesPiece self.old self.new (I.left input.old) (I.left input.new)) }
         ensures err { IfErr result (MoreFails self.old self.new (I.left input.old) (I.left input.new)
             (Rose (I.faults input.old) (I.faults input.new))) }
+        ensures asked { IfSome (I.left_before input.new) (λ b. I.left input.old ≡ Some b) }
         ensures grows { I.faults input.old ≤ I.faults input.new }
     {
         let mut chunk = [0; CHUNK];
@@ -146,6 +147,8 @@ impl Reader {
         ensures ok { IfOk result (Fills self.old self.new (I.left input.old) (I.left input.new)) }
         ensures err { IfErr result (FillFails self.old self.new (I.left input.old) (I.left input.new)
             (Rose (I.faults input.old) (I.faults input.new))) }
+        ensures asked { IfOk result (λ _. AsksNeeded self.old self.new (I.left input.old) (I.left_before input.old)
+            (I.left_before input.new)) }
         ensures grows { I.faults input.old ≤ I.faults input.new }
     {
         loop {

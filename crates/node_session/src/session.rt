@@ -5,8 +5,8 @@ ghost use Rattle.central_rules.specs.Meaning.{IsBay};
 ghost use Rattle.bay_protocol.specs.Fits.{IsNode, FitsHeard};
 ghost use Rattle.node_session.specs.Requests.{RequestFits};
 ghost use Rattle.node_session.specs.Session.{Does};
-ghost use Rattle.node_session.specs.SessionEnds.{Streams, SessionEnds, IsInput};
-ghost use Rattle.node_session.specs.Progress.{AnswersLine, LineFails, HasServed, Goes};
+ghost use Rattle.node_session.specs.SessionEnds.{Streams, streams, SessionEnds, IsInput};
+ghost use Rattle.node_session.specs.Progress.{AnswersLine, LineFails, Stands, Goes};
 ghost use Rattle.node_session.specs.declared.end.TheConstants.{MOST_LINES};
 ghost use Rattle.node_session.specs.declared.reader.TheConstants.{CHUNK};
 
@@ -115,11 +115,11 @@ fn answer_next<J: Judge, I: Source, O: Sink>(
     requires near { length reader.old ≤ CHUNK }
     // Wherever the session stood, it goes on so.
     ensures goes { (before : Streams)
-        → HasServed (J.meaning judge.now) station.now bay.0 before
-        record { input = I.left input.old; reads = I.faults input.old; out = O.took out.old; writes = O.faults out.old }
+        → Stands (J.meaning judge.now) station.now bay.0 before
+        (streams (I.left input.old) (I.left_before input.old) (I.faults input.old) (O.took out.old) (O.faults out.old))
         reader.old count node.old
         → Goes (J.meaning judge.now) station.now bay.0 before
-        record { input = I.left input.new; reads = I.faults input.new; out = O.took out.new; writes = O.faults out.new }
+        (streams (I.left input.new) (I.left_before input.new) (I.faults input.new) (O.took out.new) (O.faults out.new))
         reader.new count node.new result }
     ensures near { IfOk result (λ more. more ≡ true → length reader.new ≤ CHUNK) }
     ensures node { IsNode station.now node.new }
@@ -164,8 +164,8 @@ fn run<J: Judge, I: Source, O: Sink>(
     requires same { (J.meaning judge.now).diagram ≡ station.now }
     requires bay { IsBay station.now bay.0 }
     ensures { SessionEnds (J.meaning judge.now) station.now bay.0
-        record { input = I.left input.old; reads = I.faults input.old; out = O.took out.old; writes = O.faults out.old }
-        record { input = I.left input.new; reads = I.faults input.new; out = O.took out.new; writes = O.faults out.new }
+        (streams (I.left input.old) (I.left_before input.old) (I.faults input.old) (O.took out.old) (O.faults out.old))
+        (streams (I.left input.new) (I.left_before input.new) (I.faults input.new) (O.took out.new) (O.faults out.new))
         result }
 {
     let Ok(mut node) = Node::new(alloc, station, bay) else {
@@ -223,8 +223,8 @@ pub fn serve<J: Judge, I: Source, O: Sink>(
     requires same { (J.meaning judge.now).diagram ≡ station.now }
     requires bay { IsBay station.now bay.0 }
     ensures ends { SessionEnds (J.meaning judge.now) station.now bay.0
-        record { input = I.left input.old; reads = I.faults input.old; out = O.took out.old; writes = O.faults out.old }
-        record { input = I.left input.new; reads = I.faults input.new; out = O.took out.new; writes = O.faults out.new }
+        (streams (I.left input.old) (I.left_before input.old) (I.faults input.old) (O.took out.old) (O.faults out.old))
+        (streams (I.left input.new) (I.left_before input.new) (I.faults input.new) (O.took out.new) (O.faults out.new))
         result }
     ensures complete { (content : List ℕ) → I.left input.old ≡ Some content → IsInput station.now bay.0 content
         → ¬ Rose (I.faults input.old) (I.faults input.new) → ¬ Rose (O.faults out.old) (O.faults out.new)

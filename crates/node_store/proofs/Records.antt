@@ -5,7 +5,7 @@ use Rattle.std.proofs.lemmas.Bool.{cases_eq}
 use Rattle.std.specs.Prelude.{IsTrue}
 use Rattle.bay_protocol.specs.declared.values.Kept.{Kept}
 use Rattle.bay_protocol.specs.State.{nothing_kept}
-use Rattle.bay_protocol.specs.KeptFields.{kept_at}
+use Rattle.bay_protocol.proofs.RecordRows.{kept_at}
 use Rattle.bay_protocol.proofs.RecordRows.{kept_back}
 use Rattle.node_store.specs.declared.store.TheConstants.{LAST_SEQUENCE}
 use Rattle.node_store.specs.declared.slots.Slot.{Slot}

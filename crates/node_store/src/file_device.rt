@@ -8,16 +8,35 @@ use crate::sizes::DEVICE_BYTES;
 use ilk_base::{Failed, Memory};
 use std::alloc::Global;
 use std::fs;
-use std::fs::{OpenFile, OpenOptions};
-use std::io::{ErrorKind, Read, Result as IoResult, Seek, SeekFrom, Write};
+use std::fs::{File, OpenFile, OpenOptions};
+use std::io::{Error, ErrorKind, Read, Result as IoResult, Seek, SeekFrom, Write};
 use std::rt::Files;
 
-/// A file of `DEVICE_BYTES` bytes. It is opened at the first call, and made of zeros where it is missing; a
-/// failure to do this is a fault of that call. A missing file is made whole under its name with
-/// `.new` behind it, and then renamed, so that a stop in between leaves no short file. A file of
-/// fewer bytes is left as it is, and a read past its end is a fault.
+/// A file that a process can have for itself.
+pub trait OwnFile {
+    /// Takes the file for this handle until it is closed; false where another handle has it, or where
+    /// that is not known. At once.
+    fn claim(&self) -> bool;
+}
+
+impl OwnFile for File {
+    fn claim(&self) -> bool {
+        self.try_lock().is_ok()
+    }
+}
+
+/// A file of `DEVICE_BYTES` bytes. It is opened at the first call, and locked while it is open; it is
+/// made of zeros where it is missing. A failure to do this is a fault of that call, and so it is where
+/// another process has the file open, or where it is of any other length: such a file is left as it is.
+///
+/// A missing file is made whole under its name with `.new` behind it, and then renamed, so that a stop
+/// in between leaves no short file. Its folder is synced at the opening, so that its name is there after
+/// a crash.
 #[derive(Drop)]
-pub struct FileDevice<'a, R: Files> {
+pub struct FileDevice<'a, R: Files>
+where
+    R::File: OwnFile,
+{
     rt: R,
     name: &'a str,
     beside: String,
@@ -31,24 +50,68 @@ fn open_file<R: Files>(rt: &R, name: &str) -> IoResult<R::File> {
     OpenOptions::new().read(true).write(true).open(rt, name)
 }
 
-// Makes the file whole beside its place, and puts it there.
-fn make_file<R: Files>(rt: &R, name: &str, beside: &str) -> IoResult<()> {
-    let mut file = fs::create(rt, beside)?;
-    file.write_all(&[0; DEVICE_BYTES])?;
-    file.sync_all()?;
-    fs::rename(rt, beside, name)
+// Takes the file for this process.
+fn claim_file<F: OwnFile + Drop>(file: F) -> IoResult<F> {
+    if file.claim() {
+        return Ok(file);
+    }
+    Err(Error::from(ErrorKind::WouldBlock))
 }
 
-// The file, made where it is missing.
-fn open_or_make<R: Files>(rt: &R, name: &str, beside: &str) -> IoResult<R::File> {
-    match open_file(rt, name) {
-        Ok(file) => Ok(file),
-        Err(e) if e.kind() == ErrorKind::NotFound => {
-            make_file(rt, name, beside)?;
-            open_file(rt, name)
-        }
-        Err(e) => Err(e),
+// Makes the file whole beside its place, and puts it there, unless another process has done so meanwhile: the
+// file beside is locked until it is in its place.
+fn make_file<R: Files>(rt: &R, name: &str, beside: &str) -> IoResult<R::File>
+where
+    R::File: OwnFile,
+{
+    let file = OpenOptions::new()
+        .read(true)
+        .write(true)
+        .create(true)
+        .open(rt, beside)?;
+    let mut file = claim_file(file)?;
+    if fs::exists(rt, name)? {
+        return Err(Error::from(ErrorKind::AlreadyExists));
     }
+    file.write_all(&[0; DEVICE_BYTES])?;
+    file.set_len(DEVICE_BYTES as u64)?;
+    file.sync_all()?;
+    fs::rename(rt, beside, name)?;
+    Ok(file)
+}
+
+// The file that is there, if it is a device.
+fn take_file<R: Files>(rt: &R, name: &str) -> IoResult<R::File>
+where
+    R::File: OwnFile,
+{
+    let file = claim_file(open_file(rt, name)?)?;
+    if file.metadata()?.len() == DEVICE_BYTES as u64 {
+        return Ok(file);
+    }
+    Err(Error::from(ErrorKind::InvalidData))
+}
+
+// The folder in which a file lies.
+fn folder_of(name: &str) -> &str {
+    match name.rsplit_once('/') {
+        None => ".",
+        Some(("", _)) => "/",
+        Some((folder, _)) => folder,
+    }
+}
+
+// The file, made where it is missing, with its name on the disk.
+fn open_or_make<R: Files>(rt: &R, name: &str, beside: &str) -> IoResult<R::File>
+where
+    R::File: OwnFile,
+{
+    let file = match take_file(rt, name) {
+        Err(e) if e.kind() == ErrorKind::NotFound => make_file(rt, name, beside)?,
+        taken => taken?,
+    };
+    fs::open(rt, folder_of(name))?.sync_all()?;
+    Ok(file)
 }
 
 fn read_at<F: Read + Seek>(file: &mut F, at: u8, into: &mut [u8]) -> IoResult<()> {
@@ -62,7 +125,10 @@ fn write_at<F: Write + Seek>(file: &mut F, at: u8, piece: &[u8]) -> IoResult<()>
     file.flush()
 }
 
-impl<'a, R: Files> FileDevice<'a, R> {
+impl<'a, R: Files> FileDevice<'a, R>
+where
+    R::File: OwnFile,
+{
     /// The file of that name. Nothing is opened yet; memory is taken for the name under which a missing
     /// file is made.
     pub fn new(alloc: Global, rt: R, name: &'a str) -> Result<FileDevice<'a, R>, Memory>
@@ -94,7 +160,10 @@ impl<'a, R: Files> FileDevice<'a, R> {
     }
 }
 
-impl<'a, R: Files> Device for FileDevice<'a, R> {
+impl<'a, R: Files> Device for FileDevice<'a, R>
+where
+    R::File: OwnFile,
+{
     ghost content = { λ _. None };
 
     ghost moment = { λ _. 0 };

@@ -11,7 +11,7 @@ mod store;
 mod writing;
 
 pub use device::Device;
-pub use file_device::FileDevice;
+pub use file_device::{FileDevice, OwnFile};
 pub use laws::{image_is_of_one, stop_is_restart};
 pub use mem_device::MemDevice;
 pub use sizes::{DEVICE_BYTES, RECORD_BYTES, SEQUENCE_BYTES, SLOT_BYTES};

@@ -1,6 +1,7 @@
 -- What is promised of a run, by its lines alone: a command is granted exactly where the rules hold in each
 -- reading of what its bay knows, and each granted operation obeys the rules on the true positions.
-use Rattle.std.specs.Prelude.{◌≡◌, ◌≢◌, ◌⊎◌, ℕ, Bool, List, [], ◌∷◌, Some, None, slice_get, Contains, ⊤}
+use Rattle.std.specs.Prelude.{◌≡◌, ◌≢◌, ◌⊎◌, ◌<◌, ℕ, Bool, true, List, [], ◌∷◌, length, Some, None, slice_get, Contains}
+use Rattle.std.specs.Prelude.{⊤}
 use Rattle.ilk_base.specs.declared.words.Op.{Op}
 use Rattle.ilk_base.specs.declared.words.Rule.{Rule}
 use Rattle.station_graph.specs.Diagram.{Diagram}
@@ -8,6 +9,7 @@ use Rattle.station_graph.specs.Alike.{IsVector}
 use Rattle.station_graph.specs.CentralRules.{Breaks}
 use Rattle.station_graph.specs.Supply.{Apart}
 use Rattle.central_rules.specs.Knowledge.{Known, IsReadingOf, Holds, IsFull}
+use Rattle.central_rules.specs.Meaning.{bay_of}
 use Rattle.bay_protocol.specs.declared.values.Grant.{Grant}
 use Rattle.bay_protocol.specs.declared.values.Outcome.{Outcome}
 use Rattle.bay_protocol.specs.declared.values.Outcome.TheVariants.{Granted, Denied, BusyBy, Finished, Withdrawn}
@@ -15,7 +17,7 @@ use Rattle.bay_protocol.specs.declared.values.Outcome.TheVariants.{Stopped}
 use Rattle.reservation_core.specs.Scene.{ReadsAs}
 use Rattle.reservation_core.specs.declared.values.WorldEvent.TheVariants.{Restart}
 use Rattle.reservation_core.specs.Lines.{Message, Line, of_bay, shown}
-use Rattle.reservation_core.specs.History.{open_of, true_after, Opened, collecting}
+use Rattle.reservation_core.specs.History.{open_of, true_after, drive_runs, Opened, collecting}
 use Rattle.reservation_core.specs.Hearing.{IsVerdictOn, DecidesRound, known_at, heard_of}
 
 -- ---- the first half: decisions
@@ -57,6 +59,12 @@ OpenSince (l ∷ before) c r op =
 abbrev pub ObeysSince : Diagram → List Bool → List Line → Type 0
 ObeysSince d start lines =
     (c r : ℕ) (op : Op) (v : List Bool) → OpenSince lines c r op → MayBeTrue d start lines v → Breaks d v op None
+
+-- Each drive that runs moves its switch by an operation that its bay was granted and that has not ended.
+abbrev pub DrivesAreGranted : Diagram → List Line → Type 0
+DrivesAreGranted d lines =
+    (i : ℕ) → i < length d.switches → drive_runs lines i ≡ true →
+    (r : ℕ) × (op : Op) × (op.switch.0 ≡ i) × OpenSince lines (bay_of d i) r op
 
 -- ---- consequences
 
@@ -131,10 +139,11 @@ Decisions d start [] = ⊤
 Decisions d start (l ∷ before) =
     DecidesWell d before l × TruthDecides d start before l × StopsWell d before l × OwnMessages l
 
--- The headline: every decision is exact, every movement obeys the rules on the true positions throughout, a
--- sound start stays sound, and two rounds at once hear nothing of each other.
+-- The headline: every decision is exact, every movement was granted and obeys the rules on the true positions
+-- throughout, a sound start stays sound, and two rounds at once hear nothing of each other.
 pub record Headline (d : Diagram) (start : List Bool) (lines : List Line) : Type 0 where
   pub decisions : AtEach (Decisions d start) lines
+  pub granted : AtEach (DrivesAreGranted d) lines
   pub obeys : AtEach (ObeysSince d start) lines
   pub sound : IsSound d start [] → AtEach (IsSound d start) lines
   pub apart : AtEach (HearNothing d) lines

@@ -58,7 +58,7 @@ rest_at front before (e ∷ es) (suc j) h =
 pub drawn_len : (tree : List Entry) → length (elements_of tree) ≡ length tree
 drawn_len tree = ap length (after_rest (front_of_tree tree) [] tree) ∙ rest_len (front_of_tree tree) [] tree
 
-drawn_at : (tree : List Entry) (i : ℕ) → i < length tree → element_at (elements_of tree) i ≡ element_after
+pub drawn_at : (tree : List Entry) (i : ℕ) → i < length tree → element_at (elements_of tree) i ≡ element_after
     (front_of_tree tree) (take i (elements_of tree)) (entry_at tree i)
 drawn_at tree i h =
     let whole : elements_of tree ≡ rest_after (front_of_tree tree) [] tree = after_rest (front_of_tree tree) [] tree in
@@ -209,14 +209,14 @@ may_stand Skipped front e = tt
 -- ---- within a bay
 
 -- What may stand in a bay, or deeper.
-abbrev IsInner : Role → Type 0
+abbrev pub IsInner : Role → Type 0
 IsInner Root = ⊥
 IsInner Substation = ⊥
 IsInner VoltageLevel = ⊥
 IsInner Bay = ⊥
 IsInner _ = Unit {0}
 
-abbrev IsBayOrInner : Role → Type 0
+abbrev pub IsBayOrInner : Role → Type 0
 IsBayOrInner Bay = Unit {0}
 IsBayOrInner r = IsInner r
 
@@ -232,7 +232,7 @@ inner_step outer TransformerWinding h i = tt
 inner_step outer Terminal h i = tt
 inner_step outer Skipped h i = tt
 
-or_inner : (r : Role) → IsInner r → IsBayOrInner r
+pub or_inner : (r : Role) → IsInner r → IsBayOrInner r
 or_inner Root h = h
 or_inner Substation h = h
 or_inner VoltageLevel h = h
@@ -244,13 +244,13 @@ or_inner TransformerWinding h = tt
 or_inner Terminal h = tt
 or_inner Skipped h = tt
 
-inner_of : (all : List Element) (i p : ℕ) (front : List ℕ) → StandsIn all i p front →
+pub inner_of : (all : List Element) (i p : ℕ) (front : List ℕ) → StandsIn all i p front →
     IsBayOrInner (element_at all p).role → IsInner (element_at all i).role
 inner_of all i p front s h = subst IsInner (sym s.role) (inner_step (element_at all p).role
     (unless_grounded (element_at all i).entry (role_in (element_at all p).role front (element_at all i).entry))
     (may_stand (element_at all p).role front (element_at all i).entry) h)
 
-parent_of : (tree : List Entry) (i : ℕ) (o : Option ℕ) → i < length tree → (entry_at tree i).parent ≡ o →
+pub parent_of : (tree : List Entry) (i : ℕ) (o : Option ℕ) → i < length tree → (entry_at tree i).parent ≡ o →
     (element_at (elements_of tree) i).entry.parent ≡ o
 parent_of tree i o h e = ap (λ (x : Entry). x.parent) (drawn_entry tree i h) ∙ e
 
@@ -261,11 +261,11 @@ reached tree p q b least deeper true t = let same : p ≡ q = eqb-true p q t in
     subst (λ q. IsBayOrInner (element_at (elements_of tree) q).role) same (subst IsBayOrInner (sym b) tt)
 reached tree p q b least deeper false t = let apart : p ≡ q → ⊥ = eqb-false p q t in deeper (omega arith)
 
-some_and : (o : Option ℕ) (p : ℕ) → IsSomeAnd o (λ q. p ≤ q) → (q : ℕ) × (o ≡ Some q) × (p ≤ q)
+pub some_and : (o : Option ℕ) (p : ℕ) → IsSomeAnd o (λ q. p ≤ q) → (q : ℕ) × (o ≡ Some q) × (p ≤ q)
 some_and None p h = absurd h
 some_and (Some q) p h = (q, refl, h)
 
-all_inner : (tree : List Entry) (j p n k : ℕ) → IsInOrder tree → j < length tree → (entry_at tree j).parent ≡ Some p →
+pub all_inner : (tree : List Entry) (j p n k : ℕ) → IsInOrder tree → j < length tree → (entry_at tree j).parent ≡ Some p →
     (element_at (elements_of tree) p).role ≡ Bay → k ≤ n → p < k → k < j →
     IsInner (element_at (elements_of tree) k).role
 all_inner tree j p zero k o h e b l a z = absurd (omega arith)

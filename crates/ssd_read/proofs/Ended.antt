@@ -12,7 +12,7 @@ use Rattle.std.proofs.Common.{◌&&◌, ◌==◌, get_or-set_same, get_or-set_ot
 use Rattle.ssd_read.specs.declared.role.Role.TheVariants.{Terminal, TransformerWinding}
 use Rattle.ssd_read.specs.Ends.{is_number}
 use Rattle.ssd_read.specs.Steps.{is_winding_terminal_of}
-use Rattle.ssd_read.specs.declared.ends.TerminalPlace.{TerminalPlace}
+use Rattle.ssd_read.specs.declared.terminal_place.TerminalPlace.{TerminalPlace}
 use Rattle.ssd_read.specs.Elements.{Element, element_at, nowhere, same_role}
 use Rattle.ssd_read.specs.Names.{keys_of, key_of, is_node}
 

@@ -11,7 +11,7 @@ use Rattle.ssd_read.specs.Elements.{Element, element_at, nowhere}
 use Rattle.ssd_read.specs.Names.{FaultAfter, first_fault}
 use Rattle.ssd_read.specs.Seen.{IsErrorOf}
 use Rattle.std.proofs.lemmas.List.{length-take-le}
-use Rattle.ssd_read.specs.declared.ends.TerminalPlace.{TerminalPlace}
+use Rattle.ssd_read.specs.declared.terminal_place.TerminalPlace.{TerminalPlace}
 use Rattle.ssd_read.specs.Ends.{ends_of, fault_of_ends, end_fault}
 
 first_more : (f : FaultAfter) (before : List Element) (x : Element) (xs : List Element) →

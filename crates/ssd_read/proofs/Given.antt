@@ -4,15 +4,16 @@ use Rattle.std.proofs.Common.{refl, arith, zero, suc, subst}
 use Rattle.std.specs.List.{filter_map, flat_map, slice_get, range_with_len}
 use Rattle.station_graph.specs.declared.items.Switch.{Switch}
 use Rattle.ssd_text.specs.Nesting.{Entry}
-use Rattle.ssd_read.specs.declared.ends.Use.{Use}
-use Rattle.ssd_read.specs.declared.ends.Use.TheVariants as uses
+use Rattle.ssd_read.specs.declared.types.Use.{Use}
+use Rattle.ssd_read.specs.declared.types.Use.TheVariants as uses
 use Rattle.ssd_read.specs.declared.role.Role.TheVariants.{ConductingEquipment, PowerTransformer}
 use Rattle.ssd_read.specs.Elements.{Element, element_at, same_role, element_name}
 use Rattle.ssd_read.specs.Ends.{ends_of, nodes_at, use_of}
 use Rattle.ssd_read.specs.Steps.{Step, a_part, a_node, a_switch, a_link, a_tap, part_of, tap_step}
 use Rattle.ssd_read.specs.Steps.{tap_steps, link_step, links_after, links_along, lone_tap, is_tapless, is_bond}
 use Rattle.ssd_read.specs.Steps.{use_steps, transformer_steps, winding_ends_of, item_steps_at}
-use Rattle.ssd_read.specs.Lists.{part_path, added_node, switch_in}
+use Rattle.ssd_read.specs.Lists.{part_path, switch_in}
+use Rattle.ssd_read.proofs.AddedPaths.{added_node}
 
 -- ---- what holds of the steps of a list holds of them all
 

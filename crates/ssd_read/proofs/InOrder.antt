@@ -12,7 +12,8 @@ use Rattle.ssd_read.specs.Elements.{Element, element_at, elements_of, element_na
 use Rattle.ssd_read.specs.Names.{is_node, root_fault}
 use Rattle.ssd_read.specs.Steps.{Step, a_part, a_node, a_switch, a_link, a_tap, built, is_part, naming_step}
 use Rattle.ssd_read.specs.Steps.{item_steps_at, steps_of}
-use Rattle.ssd_read.specs.Lists.{switch_in, link_in, tap_in, switch_path_in}
+use Rattle.ssd_read.specs.Lists.{switch_in, link_in, tap_in}
+use Rattle.ssd_read.proofs.AddedPaths.{switch_path_in}
 use Rattle.ssd_read.specs.Laws.{HasInOrder, switch_paths_at, numbers_of}
 use Rattle.ssd_read.specs.StandsFor.{outcome_of, station_of, fault_of}
 use Rattle.ssd_read.proofs.Laid.{switches_built, links_built, taps_built}
@@ -21,7 +22,7 @@ use Rattle.ssd_read.proofs.SwitchPaths.{laid_paths, own_path}
 use Rattle.ssd_read.proofs.NewPaths.{laid_parts, laid_nodes, is_equipment}
 use Rattle.ssd_read.proofs.Drawn.{drawn_len}
 
-none_step : {X : Type 0} (w : Step → Option X) (b c : Bool) (x : Element) (ss : List Step) →
+pub none_step : {X : Type 0} (w : Step → Option X) (b c : Bool) (x : Element) (ss : List Step) →
     ((path : List ℕ) → w (a_part path) ≡ None) → ((path : List ℕ) → w (a_node path) ≡ None)
     → filter_map w (cond b (a_part x.path ∷ []) (cond c (a_node x.path ∷ []) []) ++ ss) ≡ filter_map w ss
 none_step w true c x ss h g = ap (λ o. cons_option o (filter_map w ss)) (h x.path)
@@ -33,7 +34,7 @@ none_named : {X : Type 0} (w : Step → Option X) (xs : List Element) → ((path
 none_named w [] h g = refl
 none_named w (x ∷ xs) h g = none_step w (is_part x) (is_node x) x (flat_map naming_step xs) h g ∙ none_named w xs h g
 
-each_apart : {X : Type 0} (w : Step → Option X) (f : ℕ → List Step) (is : List ℕ) →
+pub each_apart : {X : Type 0} (w : Step → Option X) (f : ℕ → List Step) (is : List ℕ) →
     filter_map w (flat_map f is) ≡ flat_map (λ i. filter_map w (f i)) is
 each_apart w f [] = refl
 each_apart w f (i ∷ is) = filter_map-append w (f i) (flat_map f is) ∙ ap (λ l. filter_map w (f i) ++ l)
@@ -49,7 +50,7 @@ items_alone w all h g =
 
 -- ---- paths of switches
 
-one_path : (parts : List (List ℕ)) (p : List ℕ) (ss : List Step) →
+pub one_path : (parts : List (List ℕ)) (p : List ℕ) (ss : List Step) →
     AllSwitches (λ name x. get_or parts x.bay.0 [] ++ 47 ∷ name ≡ p) ss → filter_map (switch_path_in parts) ss
     ≡ map (λ (x : Switch). p) (filter_map switch_in ss)
 one_path parts p [] h = refl
@@ -60,7 +61,7 @@ one_path parts p (a_switch name x ∷ ss) h = ap (λ (q : List ℕ). q ∷ filte
 one_path parts p (a_link x ∷ ss) h = one_path parts p ss h
 one_path parts p (a_tap x ∷ ss) h = one_path parts p ss h
 
-same_rows : (f g : ℕ → List (List ℕ)) (a n : ℕ) → ((k : ℕ) → k < a + n → f k ≡ g k) →
+pub same_rows : (f g : ℕ → List (List ℕ)) (a n : ℕ) → ((k : ℕ) → k < a + n → f k ≡ g k) →
     flat_map f (range_with_len a n) ≡ flat_map g (range_with_len a n)
 same_rows f g a zero h = refl
 same_rows f g a (suc n) h =
@@ -92,12 +93,12 @@ all_paths tree d o h =
 
 -- ---- the whole
 
-no_root_fault : (o : Option SsdRefusal) (r : Result Diagram SsdRefusal) (d : Diagram) →
+pub no_root_fault : (o : Option SsdRefusal) (r : Result Diagram SsdRefusal) (d : Diagram) →
     option_map_or Err o r ≡ Ok d → r ≡ Ok d
 no_root_fault None r d h = h
 no_root_fault (Some e) r d h = absurd (cc)
 
-accepted_builds : (tree : List Entry) (d : Diagram) → outcome_of tree ≡ Ok d →
+pub accepted_builds : (tree : List Entry) (d : Diagram) → outcome_of tree ≡ Ok d →
     built empty (steps_of (elements_of tree)) ≡ Ok d
 accepted_builds tree d h =
     no_root_fault (fault_of (elements_of tree)) (built empty (steps_of (elements_of tree))) d

@@ -9,7 +9,7 @@ use borrow.Author.Tests.{eqb-true}
 use Rattle.ilk_base.specs.declared.words.Kind.TheVariants.{Infeed}
 use Rattle.station_graph.specs.Diagram.{Diagram, empty, node_count, part_count}
 use Rattle.ssd_read.specs.declared.refusal.SsdRefusal.{SsdRefusal}
-use Rattle.ssd_read.specs.declared.ends.TerminalPlace.{TerminalPlace}
+use Rattle.ssd_read.specs.declared.terminal_place.TerminalPlace.{TerminalPlace}
 use Rattle.ssd_read.specs.declared.role.Role.{Role}
 use Rattle.ssd_read.specs.declared.role.Role.TheVariants.{Root, Substation, VoltageLevel, Bay, ConnectivityNode}
 use Rattle.ssd_read.specs.declared.role.Role.TheVariants.{ConductingEquipment, PowerTransformer, TransformerWinding}

@@ -11,7 +11,8 @@ use Rattle.ssd_read.specs.Elements.{Element, same_role}
 use Rattle.ssd_read.specs.Names.{is_node}
 use Rattle.ssd_read.specs.Steps.{Step, a_part, a_node, a_switch, a_link, a_tap, built, added, limit_at, is_part}
 use Rattle.ssd_read.specs.Steps.{naming_step}
-use Rattle.ssd_read.specs.Lists.{part_path, added_node, switch_in, link_in, tap_in, switch_path_in}
+use Rattle.ssd_read.specs.Lists.{part_path, switch_in, link_in, tap_in}
+use Rattle.ssd_read.proofs.AddedPaths.{added_node, switch_path_in}
 use Rattle.ssd_read.proofs.Taken.{append_none}
 use Rattle.ssd_read.proofs.Stepped.{then_case}
 

@@ -19,3 +19,4 @@ pub mod SwitchPaths
 pub mod Ready
 pub mod Items
 pub mod InOrder
+pub mod AddedPaths

@@ -16,14 +16,14 @@ abbrev pub last_of : ℕ → List ℕ → ℕ
 last_of a [] = a
 last_of a (b ∷ ns) = last_of b ns
 
-links_split : (bond : Bool) (part a : ℕ) (xs ys : List ℕ) → links_after bond part a (xs ++ ys) ≡ links_after bond part a
+pub links_split : (bond : Bool) (part a : ℕ) (xs ys : List ℕ) → links_after bond part a (xs ++ ys) ≡ links_after bond part a
     xs ++ links_after bond part (last_of a xs) ys
 links_split bond part a [] ys = refl
 links_split bond part a (x ∷ xs) ys = ap (λ l. link_step bond part a x ++ l) (links_split bond part x xs ys)
     ∙ sym (append_assoc (link_step bond part a x) (links_after bond part x xs)
     (links_after bond part (last_of x xs) ys))
 
-last_end : (a : ℕ) (xs : List ℕ) (b : ℕ) → last_of a (xs ++ b ∷ []) ≡ b
+pub last_end : (a : ℕ) (xs : List ℕ) (b : ℕ) → last_of a (xs ++ b ∷ []) ≡ b
 last_end a [] b = refl
 last_end a (x ∷ xs) b = last_end x xs b
 

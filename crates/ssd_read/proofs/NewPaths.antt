@@ -18,7 +18,8 @@ use Rattle.ssd_read.specs.Elements.{Element, element_at, same_role, counted_as}
 use Rattle.ssd_read.specs.Names.{FaultAfter, first_fault, name_fault, is_nameless, is_taken, is_node, keys_of}
 use Rattle.ssd_read.specs.Names.{same_path, same_key, counted_path}
 use Rattle.ssd_read.specs.Steps.{built, is_part, naming_step, item_steps_at, steps_before}
-use Rattle.ssd_read.specs.Lists.{part_path, added_node}
+use Rattle.ssd_read.specs.Lists.{part_path}
+use Rattle.ssd_read.proofs.AddedPaths.{added_node}
 use Rattle.ssd_read.proofs.Taken.{append_none}
 use Rattle.ssd_read.proofs.Faults.{first_at}
 use Rattle.ssd_read.proofs.Ended.{map_keys_len}

@@ -12,7 +12,7 @@ use Rattle.ssd_read.specs.declared.role.Role.{Role}
 use Rattle.ssd_read.specs.declared.role.Role.TheVariants.{Root, Substation, VoltageLevel, Bay, ConnectivityNode}
 use Rattle.ssd_read.specs.declared.role.Role.TheVariants.{ConductingEquipment, PowerTransformer, TransformerWinding}
 use Rattle.ssd_read.specs.declared.role.Role.TheVariants.{Terminal, Skipped}
-use Rattle.ssd_read.specs.declared.ends.TerminalPlace.TheVariants.{Earth, Node, Missing}
+use Rattle.ssd_read.specs.declared.terminal_place.TerminalPlace.TheVariants.{Earth, Node, Missing}
 use Rattle.ssd_read.specs.Elements.{Element, element_at, nowhere, front_of_tree, elements_of, same_role, element_name}
 use Rattle.ssd_read.specs.Elements.{path_in}
 use Rattle.ssd_text.specs.Nesting.{entry_at}
@@ -30,7 +30,7 @@ more_first : {X : Type 0} (b : Bool) (x : X) (xs ys : List X) → length xs ≤ 
 more_first true x xs ys h = omega arith
 more_first false x xs ys h = omega arith
 
-fewer : {X : Type 0} (p : X → Bool) (xs : List X) (i j : ℕ) → i ≤ j →
+pub fewer : {X : Type 0} (p : X → Bool) (xs : List X) (i j : ℕ) → i ≤ j →
     length (filter p (take i xs)) ≤ length (filter p (take j xs))
 fewer p [] zero zero h = omega arith
 fewer p [] zero (suc j) h = omega arith
@@ -105,10 +105,10 @@ pub in_bay : (tree : List Entry) (i : ℕ) → IsInOrder tree → i < length tre
     ≡ ConductingEquipment → (p : ℕ) × InBay (elements_of tree) i p
 in_bay tree i o h r = in_bay_of tree i (element_at (elements_of tree) i).entry.parent o h r refl
 
-bay_is_part : (x : Element) → x.role ≡ Bay → is_part x ≡ true
+pub bay_is_part : (x : Element) → x.role ≡ Bay → is_part x ≡ true
 bay_is_part x h = rw h refl
 
-is_bay : (r : Role) → same_role r Bay ≡ true → r ≡ Bay
+pub is_bay : (r : Role) → same_role r Bay ≡ true → r ≡ Bay
 is_bay Root h = absurd (cc)
 is_bay Substation h = absurd (cc)
 is_bay VoltageLevel h = absurd (cc)
@@ -169,14 +169,14 @@ equipment_in tree i o h r =
     subst (λ (n : ℕ). n < length (filter is_part (elements_of tree))) (sym x.part)
     (part_below (elements_of tree) b.0 inside (bay_is_part (element_at (elements_of tree) b.0) x.bay))
 
-own_part : (all : List Element) (i : ℕ) (x : Element) → is_part x ≡ true → part_of all i x ≡ part_number all i
+pub own_part : (all : List Element) (i : ℕ) (x : Element) → is_part x ≡ true → part_of all i x ≡ part_number all i
 own_part all i x h = rw h refl
 
 pub outer_part : (all : List Element) (i p : ℕ) (x : Element) → is_part x ≡ false → x.entry.parent ≡ Some p →
     part_of all i x ≡ part_number all p
 outer_part all i p x h e = rw (h, e) refl
 
-not_own : (x : Element) (b : Bool) → x.role ≡ PowerTransformer → is_part x ≡ false →
+pub not_own : (x : Element) (b : Bool) → x.role ≡ PowerTransformer → is_part x ≡ false →
     same_role x.within Bay ≡ b → b ≡ true
 not_own x true r f e = refl
 not_own x false r f e = let bad : is_part x ≡ true = rw (r, e) refl in let wrong : true ≡ false = sym bad ∙ f in
@@ -185,7 +185,7 @@ not_own x false r f e = let bad : is_part x ≡ true = rw (r, e) refl in let wro
     wrong_end : true ≡ false → false ≡ true
     wrong_end w = sym w
 
-root_is_no_transformer : (r : Role) → r ≡ Root → r ≡ PowerTransformer → ⊥
+pub root_is_no_transformer : (r : Role) → r ≡ Root → r ≡ PowerTransformer → ⊥
 root_is_no_transformer r h g = let bad : Root ≡ PowerTransformer = sym h ∙ g in cc
 
 transformer_case : (tree : List Entry) (i : ℕ) (b : Bool) (q : Option ℕ) → IsInOrder tree → i < length tree →

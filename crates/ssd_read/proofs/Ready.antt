@@ -7,7 +7,7 @@ use Rattle.station_graph.specs.Diagram.{Diagram, empty, part_count}
 use Rattle.station_graph.specs.Building.{FollowsLast, path_in_part}
 use Rattle.station_graph.specs.declared.items.Switch.{Switch}
 use Rattle.ssd_text.specs.Nesting.{Entry, IsInOrder}
-use Rattle.ssd_read.specs.declared.ends.TerminalPlace.{TerminalPlace}
+use Rattle.ssd_read.specs.declared.terminal_place.TerminalPlace.{TerminalPlace}
 use Rattle.ssd_read.specs.declared.role.Role.TheVariants.{ConductingEquipment, PowerTransformer}
 use Rattle.ssd_read.specs.Drawn.{IsDrawn}
 use Rattle.ssd_read.specs.Elements.{Element, element_at, elements_of, element_name}

@@ -13,7 +13,7 @@ use Rattle.ssd_read.specs.Elements.{Element, element_at, elements_of, nowhere, e
 use Rattle.ssd_read.specs.Names.{first_fault, name_fault, is_node, same_path}
 use Rattle.ssd_read.specs.Steps.{Step, a_part, a_node, a_switch, a_link, a_tap, built, added, limit_at, limit_fault}
 use Rattle.ssd_read.specs.Steps.{is_part, naming_step, part_number, part_of, item_steps_at, steps_before}
-use Rattle.ssd_read.specs.Lists.{switch_path_in}
+use Rattle.ssd_read.proofs.AddedPaths.{switch_path_in}
 use Rattle.ssd_read.proofs.Stepped.{then_case}
 use Rattle.ssd_read.proofs.Laid.{part_paths_built, paths_built, parts_named}
 use Rattle.ssd_read.proofs.Given.{AllSwitches, all_before, all_items, no_parts, flat_all}

@@ -7,8 +7,8 @@ use Rattle.station_graph.specs.Diagram.{Diagram, InfeedsTapped, empty}
 use Rattle.station_graph.specs.declared.items.Switch.{Switch}
 use Rattle.station_graph.specs.declared.items.Tap.{Tap}
 use Rattle.ssd_text.specs.Nesting.{Entry}
-use Rattle.ssd_read.specs.declared.ends.Use.{Use}
-use Rattle.ssd_read.specs.declared.ends.Use.TheVariants as uses
+use Rattle.ssd_read.specs.declared.types.Use.{Use}
+use Rattle.ssd_read.specs.declared.types.Use.TheVariants as uses
 use Rattle.ssd_read.specs.Elements.{Element, element_at}
 use Rattle.ssd_read.specs.Steps.{Step, built, naming_step, part_of, links_along, lone_tap, is_bond, use_steps}
 use Rattle.ssd_read.specs.Steps.{item_steps_at}

@@ -6,10 +6,10 @@ use Rattle.std.specs.Option.{option_map, option_or, option_map_or, option_and_th
 use Rattle.std.specs.Str.{bytes_eq}
 use Rattle.ssd_text.specs.Nesting.{Entry}
 use Rattle.ssd_read.specs.declared.role.Role.TheVariants.{ConductingEquipment, TransformerWinding, Terminal}
-use Rattle.ssd_read.specs.declared.ends.TerminalPlace.{TerminalPlace}
-use Rattle.ssd_read.specs.declared.ends.TerminalPlace.TheVariants.{Earth, Node, Missing}
-use Rattle.ssd_read.specs.declared.ends.Use.{Use}
-use Rattle.ssd_read.specs.declared.ends.Use.TheVariants as uses
+use Rattle.ssd_read.specs.declared.terminal_place.TerminalPlace.{TerminalPlace}
+use Rattle.ssd_read.specs.declared.terminal_place.TerminalPlace.TheVariants.{Earth, Node, Missing}
+use Rattle.ssd_read.specs.declared.types.Use.{Use}
+use Rattle.ssd_read.specs.declared.types.Use.TheVariants as uses
 use Rattle.ssd_read.specs.declared.refusal.SsdRefusal.{SsdRefusal}
 use Rattle.ssd_read.specs.declared.refusal.SsdRefusal.TheVariants.{NodeMissing, Terminals, Grounded, Loop}
 use Rattle.ssd_read.specs.Elements.{Element, attribute_value, same_role}

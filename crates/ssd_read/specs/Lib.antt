@@ -11,3 +11,4 @@ pub mod Seen
 pub mod Decoded
 pub mod SeenPaths
 pub mod Shown
+pub mod Whole

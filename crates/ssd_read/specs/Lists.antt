@@ -1,19 +1,14 @@
 -- What steps add, list by list.
-use Rattle.std.specs.Prelude.{ℕ, List, [], ◌∷◌, ◌++◌, Option, Some, None, slice_index_or}
+use Rattle.std.specs.Prelude.{ℕ, List, Option, Some, None}
 use Rattle.station_graph.specs.declared.items.Switch.{Switch}
 use Rattle.station_graph.specs.declared.items.Link.{Link}
 use Rattle.station_graph.specs.declared.items.Tap.{Tap}
-use Rattle.ssd_read.specs.Steps.{Step, a_part, a_node, a_switch, a_link, a_tap}
+use Rattle.ssd_read.specs.Steps.{Step, a_part, a_switch, a_link, a_tap}
 
 -- The path, switch, link or tap that a step adds to the list of that kind.
 abbrev pub part_path : Step → Option (List ℕ)
 part_path (a_part path) = Some path
 part_path _ = None
-
--- The path of the node that a step adds.
-abbrev pub added_node : Step → Option (List ℕ)
-added_node (a_node path) = Some path
-added_node _ = None
 
 -- The switch that a step adds.
 abbrev pub switch_in : Step → Option Switch
@@ -29,8 +24,3 @@ link_in _ = None
 abbrev pub tap_in : Step → Option Tap
 tap_in (a_tap x) = Some x
 tap_in _ = None
-
--- The path of a switch among these parts.
-abbrev pub switch_path_in : List (List ℕ) → Step → Option (List ℕ)
-switch_path_in parts (a_switch name x) = Some (slice_index_or parts x.bay.0 [] ++ 47 ∷ name)
-switch_path_in parts _ = None

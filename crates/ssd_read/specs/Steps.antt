@@ -18,9 +18,9 @@ use Rattle.ssd_read.specs.declared.refusal.SsdRefusal.{SsdRefusal}
 use Rattle.ssd_read.specs.declared.refusal.SsdRefusal.TheVariants.{Limit}
 use Rattle.ssd_read.specs.Elements.{Element, element_at, element_name, same_role}
 use Rattle.ssd_read.specs.Types.{type_of, is_bond_type, is_tapless_type}
-use Rattle.ssd_read.specs.declared.ends.TerminalPlace.{TerminalPlace}
-use Rattle.ssd_read.specs.declared.ends.Use.{Use}
-use Rattle.ssd_read.specs.declared.ends.Use.TheVariants as uses
+use Rattle.ssd_read.specs.declared.terminal_place.TerminalPlace.{TerminalPlace}
+use Rattle.ssd_read.specs.declared.types.Use.{Use}
+use Rattle.ssd_read.specs.declared.types.Use.TheVariants as uses
 use Rattle.ssd_read.specs.Ends.{end_of, ends_of, nodes_at, is_number, use_of}
 
 -- One thing that is added to a station.

@@ -3,8 +3,8 @@ use Rattle.std.specs.Prelude.{ℕ, Bool, true, false, List, Option, Some, if◌t
 use Rattle.std.specs.Option.{option_map}
 use Rattle.std.specs.Str.{bytes_eq}
 use Rattle.ssd_text.specs.Nesting.{Entry}
-use Rattle.ssd_read.specs.declared.ends.Use.{Use}
-use Rattle.ssd_read.specs.declared.ends.Use.TheVariants as uses
+use Rattle.ssd_read.specs.declared.types.Use.{Use}
+use Rattle.ssd_read.specs.declared.types.Use.TheVariants as uses
 use Rattle.ssd_read.specs.declared.types.EquipmentType.{EquipmentType}
 use Rattle.ssd_read.specs.declared.types.EquipmentType.TheVariants.{CircuitBreaker, Disconnector, InfeedingLine}
 use Rattle.ssd_read.specs.declared.types.EquipmentType.TheVariants.{Generator, CurrentTransformer, VoltageTransformer}

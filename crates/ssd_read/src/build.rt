@@ -12,22 +12,11 @@ ghost use Rattle.ssd_read.specs.Seen.{Builds, AnswersRefusal};
 use crate::drawing::Drawing;
 use crate::end_lists::EndLists;
 use crate::equipment::add_items;
+use crate::parts::is_part;
 use crate::refusal::SsdRefusal;
 use crate::role::Role;
 use station_graph::{Builder, Station};
 use std::alloc::Global;
-
-// Whether an element is a part.
-pub(crate) fn is_part(drawing: &Drawing<'_>, i: u32) -> bool
-    requires { i < length drawing.now }
-    ensures { result ≡ is_part (element_at drawing.now i) }
-{
-    match drawing.role(i) {
-        Role::Bay => true,
-        Role::PowerTransformer => drawing.within(i) != Role::Bay,
-        _ => false,
-    }
-}
 
 // Adds the part or the node that an element is.
 fn add_name(drawing: &Drawing<'_>, i: u32, builder: &mut Builder) -> Result<(), SsdRefusal>

@@ -2,7 +2,7 @@
 
 ghost use Rattle.std.specs.Prelude.{◌≡◌, ℕ, ◌<◌, ◌≤◌, ◌++◌, List, [], ◌∷◌, length, IfOk, OnOk, Option, Some, None};
 ghost use Rattle.std.specs.Prelude.{slice_index_or};
-ghost use Rattle.ssd_read.specs.declared.ends.TerminalPlace.{TerminalPlace as AnEnd};
+ghost use Rattle.ssd_read.specs.declared.terminal_place.TerminalPlace.{TerminalPlace as AnEnd};
 ghost use Rattle.ssd_read.specs.Elements.{Element, element_at};
 ghost use Rattle.ssd_read.specs.Names.{first_fault};
 ghost use Rattle.ssd_read.specs.Ends.{nodes_at, missing_fault, are_apart, breaker_fault, disconnector_fault};
@@ -12,10 +12,11 @@ ghost use Rattle.ssd_text.specs.declared.limits.TheConstants.{ELEMENTS};
 
 use crate::drawing::Drawing;
 use crate::end_lists::EndLists;
-use crate::ends::{TerminalPlace, Use, nodes_at};
+use crate::ends::nodes_at;
 use crate::refusal::SsdRefusal;
 use crate::role::Role;
-use crate::types::use_of;
+use crate::terminal_place::TerminalPlace;
+use crate::types::{Use, use_of};
 use ilk_base::Memory;
 use std::alloc::Global;
 

@@ -55,9 +55,9 @@ fn path_in(alloc: Global, role: Role, outer: &str, name: &str) -> Result<String,
     }
 }
 
-// The elements of a drawing.
+/// The elements of a drawing, seen as their list: what each is, what it stands in, its path, and what it says.
 #[derive(Drop)]
-pub(crate) struct Drawing<'a> {
+pub struct Drawing<'a> {
     tree: Tree<'a>,
     places: Vec<DrawnElement>,
 }
@@ -169,7 +169,8 @@ impl<'a> Drawing<'a> {
         Ok(Drawing { tree, places })
     }
 
-    pub(crate) fn count(&self) -> u32
+    /// How many elements there are, at once. They are those of a tree, in document order.
+    pub fn count(&self) -> u32
         ensures count { result ≡ length self.now }
         ensures few { result ≤ ELEMENTS }
         ensures drawn { IsDrawn self.now }
@@ -177,48 +178,57 @@ impl<'a> Drawing<'a> {
         self.tree.count()
     }
 
-    pub(crate) fn role(&self, i: u32) -> Role
+    /// What the element of this number is, at once.
+    pub fn role(&self, i: u32) -> Role
         requires { i < length self.now }
         ensures { result ≡ (element_at self.now i).role }
     {
         self.places[i as usize].role
     }
 
-    pub(crate) fn within(&self, i: u32) -> Role
+    /// What the element is in which it stands, at once.
+    pub fn within(&self, i: u32) -> Role
         requires { i < length self.now }
         ensures { result ≡ (element_at self.now i).within }
     {
         self.places[i as usize].within
     }
 
-    pub(crate) fn path(&self, i: u32) -> &str
+    /// Its path, where it is named, at once.
+    pub fn path(&self, i: u32) -> &str
         requires { i < length self.now }
         ensures { result.now ≡ (element_at self.now i).path }
     {
         self.places[i as usize].path.as_str()
     }
 
-    pub(crate) fn at(&self, i: u32) -> u32
+    /// How many bytes stand before its start tag, at once.
+    pub fn at(&self, i: u32) -> u32
         requires { i < length self.now }
         ensures { result ≡ (element_at self.now i).entry.at }
     {
         entry(&self.tree, i).at
     }
 
-    pub(crate) fn parent(&self, i: u32) -> Option<u32>
+    /// The number of the element in which it stands; none for the root. At once.
+    pub fn parent(&self, i: u32) -> Option<u32>
         requires { i < length self.now }
         ensures { result ≡ (element_at self.now i).entry.parent }
     {
         entry(&self.tree, i).parent
     }
 
-    // The decoded value of an attribute of an element.
-    pub(crate) fn attribute(
-        &self,
-        alloc: Global,
-        i: u32,
-        word: &str,
-    ) -> Result<Option<String>, Memory>
+    /// The name of its tag, with its prefix, at once.
+    pub fn tag(&self, i: u32) -> &str
+        requires { i < length self.now }
+        ensures { result.now ≡ (element_at self.now i).entry.name }
+    {
+        entry(&self.tree, i).name
+    }
+
+    /// The decoded value of its attribute of this name; none where it has none. Time: its attributes, and the
+    /// value; memory: the value.
+    pub fn attribute(&self, alloc: Global, i: u32, word: &str) -> Result<Option<String>, Memory>
         requires { i < length self.now }
         ensures { IfOk result (λ v. option_map string_bytes v
             ≡ attribute_value (element_at self.now i).entry word.now) }
@@ -226,8 +236,8 @@ impl<'a> Drawing<'a> {
         attribute(alloc, &self.tree, i, word)
     }
 
-    // The name of an element that is counted by it, where it has one.
-    pub(crate) fn name(&self, i: u32) -> Option<&str>
+    /// The name of an element that is counted by it, where it has one. At once.
+    pub fn name(&self, i: u32) -> Option<&str>
         requires within { i < length self.now }
         requires counted { is_some (counted_as (element_at self.now i).role) ≡ true }
         ensures { option_map (λ s. s.now) result ≡ attribute_value (element_at self.now i).entry (codes "name") }
@@ -235,8 +245,8 @@ impl<'a> Drawing<'a> {
         text_of(&self.places[i as usize].name)
     }
 
-    // The type of equipment, where it says one.
-    pub(crate) fn kind(&self, i: u32) -> Option<EquipmentType>
+    /// The type of equipment, where it says one. At once.
+    pub fn kind(&self, i: u32) -> Option<EquipmentType>
         requires within { i < length self.now }
         requires role { (element_at self.now i).role ≡ ConductingEquipment }
         ensures { result ≡ type_of (element_at self.now i).entry }

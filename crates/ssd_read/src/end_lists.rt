@@ -3,7 +3,7 @@
 ghost use Rattle.std.specs.Prelude.{◌≡◌, ℕ, ◌<◌, ◌≤◌, ◌++◌, List, [], ◌∷◌, length, IfOk, OnOk, slice_set};
 ghost use Rattle.std.specs.Prelude.{slice_index_or, replicate};
 
-use crate::ends::TerminalPlace;
+use crate::terminal_place::TerminalPlace;
 use ilk_base::Memory;
 use std::alloc::Global;
 use std::marker::Model;
@@ -16,7 +16,7 @@ pub(crate) struct EndLists {
 
 impl Model for EndLists {
     ghost use Rattle.std.specs.Prelude.{List, map};
-    ghost use Rattle.ssd_read.specs.declared.ends.TerminalPlace.{TerminalPlace as AnEnd};
+    ghost use Rattle.ssd_read.specs.declared.terminal_place.TerminalPlace.{TerminalPlace as AnEnd};
 
     ghost Value = { List (List AnEnd) };
 

@@ -18,35 +18,13 @@ use crate::drawing::Drawing;
 use crate::end_lists::EndLists;
 use crate::paths::Names;
 use crate::role::Role;
+use crate::terminal_place::TerminalPlace;
+use crate::types::Use;
 use ilk_base::Memory;
 use std::alloc::Global;
 
-/// Where a terminal stands. The definitions speak of it.
-#[derive(Clone, Copy, PartialEq, Eq)]
-pub enum TerminalPlace {
-    /// on earth
-    Earth,
-    /// on the node of this number in document order
-    Node(u32),
-    /// on no node of the drawing; the place is where the terminal begins in the text
-    Missing(u32),
-}
-
-/// What equipment is to a station, by its type. The definitions speak of it.
-#[derive(Clone, Copy, PartialEq, Eq)]
-pub enum Use {
-    /// `CBR`
-    Breaker,
-    /// `DIS`: a disconnector, or an earthing switch where one terminal is grounded
-    Disconnector,
-    /// `IFL` and `GEN`
-    Infeed,
-    /// every other type
-    Other,
-}
-
-// What follows the last slash, or all.
-fn after_slash(name: &[u8]) -> &[u8]
+/// What follows the last slash of a name, or all. Time: the name.
+pub fn after_slash(name: &[u8]) -> &[u8]
     ensures { result.now ≡ after_slash name.now }
 {
     let mut start = 0;
@@ -268,8 +246,8 @@ fn node_at(end: TerminalPlace) -> Option<u32>
     }
 }
 
-// The nodes of the ends that are not grounded.
-pub(crate) fn nodes_at(alloc: Global, ends: &[TerminalPlace]) -> Result<Vec<u32>, Memory>
+/// The nodes of the ends that are not grounded, in their order. Time and memory: the ends.
+pub fn nodes_at(alloc: Global, ends: &[TerminalPlace]) -> Result<Vec<u32>, Memory>
     ensures { IfOk result (λ v. v.items ≡ nodes_at ends.now) }
 {
     let nodes = ends.iter().filter_map(|end| node_at(*end)).collect(alloc)?;

@@ -14,15 +14,16 @@ ghost use Rattle.ssd_read.specs.Steps.{use_steps, winding_ends_of, built, steps_
 ghost use Rattle.ssd_read.specs.Seen.{Builds, AreNodes, KeepsSwitches, MayTakeSwitch};
 
 use crate::attributes::name_or_nothing;
-use crate::build::is_part;
 use crate::drawing::Drawing;
 use crate::end_lists::EndLists;
-use crate::ends::{TerminalPlace, Use, nodes_at};
+use crate::ends::nodes_at;
 use crate::links::{add_links, add_lone_tap, add_transformer};
+use crate::parts::is_part;
 use crate::refusal::SsdRefusal;
 use crate::role::Role;
 use crate::switches::{add_breaker, add_disconnector, add_infeed};
-use crate::types::{EquipmentType, is_bond, use_of};
+use crate::terminal_place::TerminalPlace;
+use crate::types::{EquipmentType, Use, is_bond, use_of};
 use ilk_base::BayId;
 use station_graph::Builder;
 use std::alloc::Global;

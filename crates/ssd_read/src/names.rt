@@ -17,8 +17,8 @@ use crate::role::{Role, counted_as};
 use ilk_base::Memory;
 use std::alloc::Global;
 
-// Whether a name is not empty and holds neither control characters nor U+007F.
-fn is_good_name(name: &[u8]) -> bool
+/// Whether a name is not empty and holds neither control characters nor U+007F. Time: the name.
+pub fn is_good_name(name: &[u8]) -> bool
     ensures { result ≡ is_good_name name.now }
 {
     !name.is_empty() && has_shown(name)

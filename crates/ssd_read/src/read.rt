@@ -56,7 +56,7 @@ fn station_of(alloc: Global, tree: Tree<'_>) -> Result<Station, SsdRefusal>
 }
 
 // The fault of the root's name.
-fn root_fault(tree: &Tree<'_>) -> Option<SsdRefusal>
+pub(crate) fn root_fault(tree: &Tree<'_>) -> Option<SsdRefusal>
     ensures { result ≡ root_fault tree.now }
 {
     if tree.count() == 0 {

@@ -5,7 +5,6 @@ ghost use Rattle.ssd_read.specs.Types.{type_named, use_of_type, is_bond_type, is
 ghost use Rattle.ssd_read.specs.Decoded.{IsTypeOf};
 
 use crate::attributes::attribute;
-use crate::ends::Use;
 use crate::role::Role;
 use ilk_base::Memory;
 use ssd_text::Tree;
@@ -35,6 +34,19 @@ pub enum EquipmentType {
     PowerLine,
     /// `GIL`
     GasInsulatedLine,
+    /// every other type
+    Other,
+}
+
+/// What equipment is to a station, by its type. The definitions speak of it.
+#[derive(Clone, Copy, PartialEq, Eq)]
+pub enum Use {
+    /// `CBR`
+    Breaker,
+    /// `DIS`: a disconnector, or an earthing switch where one terminal is grounded
+    Disconnector,
+    /// `IFL` and `GEN`
+    Infeed,
     /// every other type
     Other,
 }
@@ -77,8 +89,8 @@ pub(crate) fn type_in(
     }
 }
 
-// What equipment of a type is to a station.
-pub(crate) fn use_of(kind: Option<EquipmentType>) -> Use
+/// What equipment of a type is to a station.
+pub fn use_of(kind: Option<EquipmentType>) -> Use
     ensures { result ≡ use_of_type kind }
 {
     match kind {
@@ -89,8 +101,8 @@ pub(crate) fn use_of(kind: Option<EquipmentType>) -> Use
     }
 }
 
-// Whether the links of equipment of a type are bonds.
-pub(crate) fn is_bond(kind: Option<EquipmentType>) -> bool
+/// Whether the links of equipment of a type are bonds.
+pub fn is_bond(kind: Option<EquipmentType>) -> bool
     ensures { result ≡ is_bond_type kind }
 {
     matches!(
@@ -104,8 +116,8 @@ pub(crate) fn is_bond(kind: Option<EquipmentType>) -> bool
     )
 }
 
-// Whether equipment of a type is no load.
-pub(crate) fn is_tapless(kind: Option<EquipmentType>) -> bool
+/// Whether equipment of a type is no load.
+pub fn is_tapless(kind: Option<EquipmentType>) -> bool
     ensures { result ≡ is_tapless_type kind }
 {
     matches!(

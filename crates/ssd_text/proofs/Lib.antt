@@ -18,3 +18,4 @@ pub mod Grammatical
 pub mod Accepted
 pub mod Marks
 pub mod RefLemmas
+pub mod Escapes

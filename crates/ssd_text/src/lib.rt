@@ -7,6 +7,7 @@
 
 mod bytes;
 mod distinct;
+mod laws;
 pub mod limits;
 mod nest;
 mod pieces;
@@ -16,6 +17,9 @@ mod refusal;
 mod tree;
 mod value;
 
-pub use read::{accepted_is_document, document_is_accepted, one_outcome, read_in_order, read_text};
+pub use laws::{
+    accepted_is_document, document_is_accepted, escaped_is_read_back, one_outcome, read_in_order,
+};
+pub use read::read_text;
 pub use refusal::TextRefusal;
 pub use tree::{Attr, Element, Tree};

@@ -1,10 +1,9 @@
 //! A whole text.
 
-ghost use Rattle.std.specs.Prelude.{◌≡◌, ◌+◌, ◌<◌, ◌≤◌, List, length, IsUtf8, ℕ, Result};
+ghost use Rattle.std.specs.Prelude.{◌≡◌, ◌+◌, ◌<◌, ◌≤◌, List, ℕ, length, IsUtf8};
 ghost use Rattle.ssd_text.specs.declared.refusal.TextRefusal.{TextRefusal as Refusal};
 ghost use Rattle.ssd_text.specs.Grammar.{Piece as GrammarPiece};
-ghost use Rattle.ssd_text.specs.Nesting.{no_piece, Next, Goes, nothing, Spells, mark_len, Entry, IsInOrder};
-ghost use Rattle.ssd_text.specs.Document.{SpellsDocument};
+ghost use Rattle.ssd_text.specs.Nesting.{no_piece, Next, Goes, nothing, Spells, mark_len};
 ghost use Rattle.ilk_base.specs.declared.limits.TheConstants.{FILE_BYTES};
 ghost use Rattle.ssd_text.specs.Seen.{entries_of, nest_of, TellsOutcome};
 
@@ -112,26 +111,3 @@ pub fn read_text<'a>(alloc: Global, bytes: &'a [u8]) -> Result<Tree<'a>, TextRef
         Err(fault) => Err(fault),
     }
 }
-
-/// No text has two outcomes: it spells one tree, or it has one first fault.
-pub fn one_outcome()
-    ensures { (text : List ℕ) (o w : Result (List Entry) Refusal) → Spells text o → Spells text w → o ≡ w }
-{}
-
-/// What is read spells a document: UTF-8, and behind a byte order mark one root element in which
-/// elements stand in one another, each with a start and an end tag of one name, 64 deep at most and
-/// 200,000 at most. Beside the root only comments, instructions and white space stand.
-pub fn accepted_is_document()
-    ensures { (text : List ℕ) (tree : List Entry) → Spells text (Ok tree) → SpellsDocument text }
-{}
-
-/// Each text that spells a document is read.
-pub fn document_is_accepted()
-    ensures { (text : List ℕ) → SpellsDocument text → (tree : List Entry) × Spells text (Ok tree) }
-{}
-
-/// The elements that are read stand in order: each parent comes before its children, and what
-/// stands between the two stands below that parent.
-pub fn read_in_order()
-    ensures { (text : List ℕ) (tree : List Entry) → Spells text (Ok tree) → IsInOrder tree }
-{}

@@ -62,15 +62,6 @@ pub triple_from : (lo : ℕ) (free : Goal) (a b : Option Rule) → IsFrom lo fre
 triple_from lo free a b is zero g at = subst (λ (h : Goal). IsFrom lo h) (same_Some free g at) is
 triple_from lo free a b is (suc i) g at = pair_from lo a b i g at
 
--- a switch's two goals, taken from the list of its goals
-pub both_goals : (lo : ℕ) (goals : List Goal) (off on : Goal) → slice_get goals 0 ≡ Some off →
-    slice_get goals 1 ≡ Some on → AreFrom lo goals → AreFrom lo (off ∷ on ∷ [])
-both_goals lo goals off on first second are zero g at =
-    subst (λ (h : Goal). IsFrom lo h) (same_Some off g at) (are 0 off first)
-both_goals lo goals off on first second are (suc zero) g at =
-    subst (λ (h : Goal). IsFrom lo h) (same_Some on g at) (are 1 on second)
-both_goals lo goals off on first second are (suc (suc i)) g at = absurd (cc)
-
 -- where no node stands, all do
 pub none_from : (nodes : List NodeLine) → AllFrom (length nodes) nodes
 none_from nodes = λ n x le at. absurd (omega (arith, le, slice_get_within nodes n x at))

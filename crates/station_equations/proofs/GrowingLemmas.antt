@@ -1,5 +1,5 @@
 -- Nodes that grow, and the goals that lead through them.
-use Rattle.std.proofs.Common.{◌≡◌, ◌∙◌, ◌⊎◌, ℕ, ◌+◌, ◌<◌, ◌≤◌, zero, suc, Bool, true, false, List, [], ◌∷◌, ◌++◌}
+use Rattle.std.proofs.Common.{◌≡◌, ◌∙◌, ◌⊎◌, ℕ, ◌+◌, ◌<◌, ◌≤◌, zero, suc, Bool, List, [], ◌∷◌, ◌++◌}
 use Rattle.std.proofs.Common.{length, drop, refl, sym, ap, subst, inl, inr, arith, Some, Option}
 use Rattle.std.specs.Prelude.{slice_get}
 use Rattle.std.proofs.lemmas.Option.{same_Some, slice_get_within, slice_get_cases}
@@ -10,10 +10,10 @@ use Rattle.station_equations.specs.declared.goal.Goal.{Goal}
 use Rattle.station_equations.specs.declared.goal.Goal.TheVariants.{Node, Answer}
 use Rattle.station_equations.specs.declared.subject.Subject.{Subject}
 use Rattle.station_equations.specs.declared.subject.Subjects.{Subjects}
-use Rattle.station_equations.specs.EquationLines.{PartLines, NodeLine, part_node, switch_node}
+use Rattle.station_equations.specs.EquationLines.{PartLines, NodeLine, part_node}
 use Rattle.station_equations.specs.EquationMeaning.{LineLeads, NextGoal}
 use Rattle.station_equations.specs.EquationForm.{IsGoal}
-use Rattle.station_equations.specs.Subjects.{subject_at, IsIndexBy, IsPositionOf, IsChosen, HasIndices, AreChosenFrom}
+use Rattle.station_equations.specs.Subjects.{subject_at, IsIndexBy, IsChosen, AreChosenFrom}
 use Rattle.station_equations.specs.Growing.{AreGoals, GrewFrom, AllGrew, LeadToGoals, LayerLeads, LeadsToEnd, AllLead}
 use Rattle.judge_pool.specs.Pooling.{Extends}
 use Rattle.station_equations.proofs.LeadsLemmas.{leads_here, leads_on, leads_all, leads_stay}
@@ -205,38 +205,6 @@ part_leads parts v part c goals g chosen at = record {
   leads = chosen.leads;
   to = at;
 }
-
-pub switch_leads : (parts : List PartLines) (v : List Bool) (switch c : ℕ) (goals : List Goal) (off on g : Goal) →
-    slice_get goals 0 ≡ Some off → slice_get goals 1 ≡ Some on → IsPositionOf v switch c → slice_get goals c ≡ Some g →
-    LineLeads parts v (switch_node switch off on) g
-switch_leads parts v switch zero goals off on g first second chosen at = record {
-  position = false;
-  stands = chosen.stands;
-  to = same_Some off g (sym first ∙ at);
-}
-switch_leads parts v switch (suc zero) goals off on g first second chosen at = record {
-  position = true;
-  stands = chosen.stands;
-  to = same_Some on g (sym second ∙ at);
-}
-switch_leads parts v switch (suc (suc k)) goals off on g first second chosen at = absurd (omega (arith, chosen.small))
-
-pub part_grew : (switches n : ℕ) (parts : List PartLines) (part : ℕ) (goals : List Goal) →
-    HasIndices parts part (length goals) → AreGoals n goals → GrewFrom switches parts n (part_node part goals)
-part_grew switches n parts part goals has are = record {
-  by = record { lines = has.lines; listed = has.listed; count = sym has.count };
-  goals = are;
-}
-
-pub switch_grew : (switches n : ℕ) (parts : List PartLines) (switch : ℕ) (goals : List Goal) (off on : Goal) →
-    slice_get goals 0 ≡ Some off → slice_get goals 1 ≡ Some on → switch < switches → AreGoals n goals →
-    GrewFrom switches parts n (switch_node switch off on)
-switch_grew switches n parts switch goals off on first second lt are = record { by = lt; goals = each }
-  where
-    each : (i : ℕ) (g : Goal) → slice_get (off ∷ on ∷ []) i ≡ Some g → IsGoal n g
-    each zero g at = subst (λ (h : Goal). IsGoal n h) (same_Some off g at) (are 0 off first)
-    each (suc zero) g at = subst (λ (h : Goal). IsGoal n h) (same_Some on g at) (are 1 on second)
-    each (suc (suc i)) g at = absurd (cc)
 
 -- layers of a graph that have been done
 pub leads_through : (parts : List PartLines) (nodes more : List NodeLine) (others own : Subjects) (g h : Layered)

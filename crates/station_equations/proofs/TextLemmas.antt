@@ -1,10 +1,9 @@
 -- A text that grows line by line.
-use Rattle.std.proofs.Common.{◌≡◌, ◌∙◌, sym, ap, append_assoc, ℕ, ◌+◌, ◌<◌, ◌≤◌, zero, suc, List, [], ◌∷◌, ◌++◌}
+use Rattle.std.proofs.Common.{◌≡◌, ◌∙◌, sym, ap, append_assoc, ℕ, ◌+◌, ◌<◌, zero, suc, List, [], ◌∷◌, ◌++◌}
 use Rattle.std.proofs.Common.{length, take, arith, append-nil, Some, add-one}
 use Rattle.std.specs.Prelude.{slice_get, codes}
 use Rattle.std.specs.List.{enumerate_from, flat_map}
 use Rattle.std.proofs.lemmas.Grind.{flat_map-append, common_steps}
-use Rattle.std.proofs.lemmas.List.{take_all}
 use Rattle.std.proofs.lemmas.Option.{slice_get_within}
 use Rattle.ilk_base.specs.declared.words.Direction.TheVariants.{ToOff, ToOn}
 use Rattle.station_graph.specs.Diagram.{Diagram}
@@ -69,11 +68,6 @@ two_more {X} first second xs k x old now new at is next =
     written_more (λ n (y : X). first n y ∷ second n y ∷ []) xs k x old now new at is (next ∙ append_assoc now
     (first k x ++ codes "\n") (second k x ++ codes "\n") ∙ ap (λ t. now ++ ((first k x ++ codes "\n") ++ t)) (sym
     (append-nil (second k x ++ codes "\n"))))
-
--- and all entries
-pub written_all : {X : Type 0} (lines : ℕ → X → List (List ℕ)) (xs : List X) (k : ℕ) (old now : List ℕ)
-    → length xs ≤ k → now ≡ old ++ text_of (numbered lines (take k xs)) → now ≡ old ++ text_of (numbered lines xs)
-written_all lines xs k old now past is = is ∙ ap (λ ys. old ++ text_of (numbered lines ys)) (take_all k xs past)
 
 grown : (old now new : List ℕ) (xs ys : List (List ℕ)) → now ≡ old ++ text_of xs → new ≡ now ++ text_of ys
     → new ≡ old ++ text_of (xs ++ ys)

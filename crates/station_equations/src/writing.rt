@@ -14,16 +14,14 @@ use crate::part::PartSteps;
 use bay_contract::{PartStep, Target};
 use central_rules::{direction_name, rule_name};
 use ilk_base::{Direction, Memory, SwitchId, Text};
-use itoa::Buffer;
 use station_graph::Station;
 
 // Appends a blank and a number.
-fn push_number(text: &mut Text, number: usize) -> Result<(), Memory>
+fn push_then_number(text: &mut Text, number: usize) -> Result<(), Memory>
     ensures { OnOk result (text.new ≡ text.old ++ then_number number) }
 {
-    let mut digits = Buffer::new();
     text.push(b" ")?;
-    text.push(digits.format(number).as_bytes())
+    text.push_decimal(number)
 }
 
 // Appends a blank and a target.
@@ -31,11 +29,10 @@ fn push_target(text: &mut Text, target: Target) -> Result<(), Memory>
     ensures { OnOk result (text.new ≡ text.old ++ then_word (target_text target)) }
 {
     match target {
-        Target::Step(n) => push_number(text, n as usize),
+        Target::Step(n) => push_then_number(text, n as usize),
         Target::Index(index) => {
-            let mut digits = Buffer::new();
             text.push(b" =")?;
-            text.push(digits.format(index).as_bytes())
+            text.push_decimal(usize::from(index))
         }
     }
 }
@@ -45,7 +42,7 @@ fn push_goal(text: &mut Text, goal: Goal) -> Result<(), Memory>
     ensures { OnOk result (text.new ≡ text.old ++ then_word (goal_text goal)) }
 {
     match goal {
-        Goal::Node(n) => push_number(text, n as usize),
+        Goal::Node(n) => push_then_number(text, n as usize),
         Goal::Answer(None) => text.push(b" ok"),
         Goal::Answer(Some(rule)) => {
             text.push(b" ")?;
@@ -69,7 +66,7 @@ fn push_switch(text: &mut Text, number: usize, path: &str) -> Result<(), Memory>
     ensures { OnOk result (text.new ≡ text.old ++ (switch_line number path.now ++ codes "\n")) }
 {
     text.push(b"switch")?;
-    push_number(text, number)?;
+    push_then_number(text, number)?;
     text.push(b" ")?;
     text.push(path.as_bytes())?;
     text.push(b"\n")
@@ -80,7 +77,7 @@ fn push_part(text: &mut Text, number: usize, part: &PartSteps) -> Result<(), Mem
     ensures { OnOk result (text.new ≡ text.old ++ (part_line number part.now ++ codes "\n")) }
 {
     text.push(b"part")?;
-    push_number(text, number)?;
+    push_then_number(text, number)?;
     push_target(text, part.start)?;
     text.push(b"\n")
 }
@@ -90,9 +87,9 @@ fn push_step(text: &mut Text, part: usize, number: usize, step: PartStep) -> Res
     ensures { OnOk result (text.new ≡ text.old ++ (step_line part number step ++ codes "\n")) }
 {
     text.push(b"step")?;
-    push_number(text, part)?;
-    push_number(text, number)?;
-    push_number(text, step.switch.0 as usize)?;
+    push_then_number(text, part)?;
+    push_then_number(text, number)?;
+    push_then_number(text, step.switch.0 as usize)?;
     push_target(text, step.off)?;
     push_target(text, step.on)?;
     text.push(b"\n")
@@ -108,7 +105,7 @@ fn push_op(
     ensures { OnOk result (text.new ≡ text.old ++ (op_line direction number goals ++ codes "\n")) }
 {
     text.push(b"op")?;
-    push_number(text, number)?;
+    push_then_number(text, number)?;
     text.push(b" ")?;
     text.push(direction_name(direction))?;
     push_goal(text, goal_towards(goals, direction))?;
@@ -131,12 +128,12 @@ fn push_lead(text: &mut Text, node: &Node) -> Result<(), Memory>
     match &node.lead {
         Lead::Part { part, goals } => {
             text.push(b" part")?;
-            push_number(text, part.0 as usize)?;
+            push_then_number(text, part.0 as usize)?;
             push_goals(text, goals)
         }
         Lead::Switch { switch, off, on } => {
             text.push(b" switch")?;
-            push_number(text, switch.0 as usize)?;
+            push_then_number(text, switch.0 as usize)?;
             push_goal(text, *off)?;
             push_goal(text, *on)
         }
@@ -148,7 +145,7 @@ fn push_node(text: &mut Text, number: usize, node: &Node) -> Result<(), Memory>
     ensures { OnOk result (text.new ≡ text.old ++ (node_line number node.now ++ codes "\n")) }
 {
     text.push(b"node")?;
-    push_number(text, number)?;
+    push_then_number(text, number)?;
     push_lead(text, node)?;
     text.push(b"\n")
 }

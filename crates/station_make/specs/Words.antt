@@ -2,7 +2,7 @@
 use Rattle.std.specs.Prelude.{◌≡◌, ◌≤◌, ◌+◌, ◌-◌, ℕ, List, find, Option, Some, None, codes, decimal, if◌then◌else◌}
 use Rattle.std.specs.List.{range_with_len}
 use Rattle.std.specs.Str.{bytes_eq}
-use Rattle.station_make.specs.declared.making.TheConstants.{LEAST_FEEDERS, MOST_FEEDERS}
+use Rattle.station_make.specs.declared.limits.TheConstants.{LEAST_FEEDERS, MOST_FEEDERS}
 use Rattle.station_make.specs.declared.words.MadeText.{MadeText}
 use Rattle.station_make.specs.declared.words.MadeText.TheVariants.{Station, Positions, Log}
 use Rattle.station_make.specs.DrawingText.{station_text}

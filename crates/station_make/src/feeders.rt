@@ -1,6 +1,6 @@
 //! A number of feeders.
 ghost use Rattle.std.specs.Prelude.{◌≤◌};
-ghost use Rattle.station_make.specs.declared.making.TheConstants.{LEAST_FEEDERS, MOST_FEEDERS};
+ghost use Rattle.station_make.specs.declared.limits.TheConstants.{LEAST_FEEDERS, MOST_FEEDERS};
 
 /// A number of feeders that can be made: from `LEAST_FEEDERS` to `MOST_FEEDERS`.
 #[derive(Clone, Copy)]

@@ -6,6 +6,7 @@ mod drawing;
 mod equipment;
 mod feeders;
 mod laws;
+mod limits;
 mod making;
 mod names;
 mod records;
@@ -13,5 +14,6 @@ mod words;
 
 pub use feeders::Feeders;
 pub use laws::made_counts;
-pub use making::{LEAST_FEEDERS, MOST_FEEDERS, Made, make};
+pub use limits::{LEAST_FEEDERS, MOST_FEEDERS};
+pub use making::{Made, make};
 pub use words::{MadeText, feeders_named, make_text, text_named};

@@ -6,15 +6,10 @@ ghost use Rattle.station_make.specs.EventsText.{events_text};
 
 use crate::drawing::drawing;
 use crate::equipment::{all_switches, bays};
+use crate::limits::{LEAST_FEEDERS, MOST_FEEDERS};
 use crate::records::{events, positions};
 use ilk_base::{Memory, Text};
 use std::alloc::Global;
-
-/// The fewest feeders of a station that is made.
-pub const LEAST_FEEDERS: u8 = 2;
-
-/// The most feeders of a station that is made.
-pub const MOST_FEEDERS: u8 = 60;
 
 /// The texts of a station.
 #[derive(Drop)]

@@ -5,7 +5,6 @@ ghost use Rattle.station_make.specs.Names.{switch_name, switch_type};
 
 use crate::equipment::{Bay, Designation, Node, Terminal};
 use ilk_base::{Memory, Text};
-use itoa::Buffer;
 
 // The name of a node.
 pub(crate) fn node_name(node: Node) -> &'static [u8]
@@ -54,14 +53,6 @@ pub(crate) fn position_word(is_on: bool) -> &'static [u8]
     if is_on { b"on" } else { b"off" }
 }
 
-// Appends a number.
-pub(crate) fn push_number(text: &mut Text, number: u8) -> Result<(), Memory>
-    ensures { OnOk result (text.new ≡ text.old ++ decimal number) }
-{
-    let mut digits = Buffer::new();
-    text.push(digits.format(number).as_bytes())
-}
-
 // Appends the name of a bay.
 pub(crate) fn push_bay_name(text: &mut Text, bay: Bay) -> Result<(), Memory>
     ensures { OnOk result (text.new ≡ text.old ++ bay_name bay) }
@@ -72,7 +63,7 @@ pub(crate) fn push_bay_name(text: &mut Text, bay: Bay) -> Result<(), Memory>
         Bay::Coupler => text.push(b"K0"),
         Bay::Feeder(number) => {
             text.push(b"Q")?;
-            push_number(text, number)
+            text.push_decimal(usize::from(number))
         }
     }
 }

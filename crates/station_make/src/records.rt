@@ -5,8 +5,8 @@ ghost use Rattle.station_make.specs.PositionsText.{lines_text, position_record};
 ghost use Rattle.station_make.specs.EventsText.{deliver_record, events_of, moved_record};
 
 use crate::equipment::{Bay, Designation, Switch};
-use crate::making::MOST_FEEDERS;
-use crate::names::{position_word, push_number, push_path_in};
+use crate::limits::MOST_FEEDERS;
+use crate::names::{position_word, push_path_in};
 use ilk_base::{Memory, Text};
 use std::alloc::Global;
 
@@ -36,7 +36,7 @@ fn push_deliver(text: &mut Text, number: u8) -> Result<(), Memory>
     ensures { OnOk result (text.new ≡ text.old ++ deliver_record number ++ codes "\n") }
 {
     text.push(b"deliver,")?;
-    push_number(text, number)?;
+    text.push_decimal(usize::from(number))?;
     text.push(b"\n")
 }
 

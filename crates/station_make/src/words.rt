@@ -3,10 +3,11 @@ ghost use Rattle.std.specs.Prelude.{◌≡◌, ℕ, option_map, IfOk, IfSome, If
 ghost use Rattle.station_make.specs.Words.{NamesFeeders, feeders_of, made_text, text_named};
 
 use crate::feeders::Feeders;
-use crate::making::{LEAST_FEEDERS, MOST_FEEDERS, Made, make};
+use crate::limits::{LEAST_FEEDERS, MOST_FEEDERS};
+use crate::making::{Made, make};
 use ilk_base::{Memory, Text};
-use itoa::Buffer;
 use std::alloc::Global;
+use text_lines::decimal_number;
 
 /// A text of the station.
 #[derive(Clone, Copy, PartialEq, Eq)]
@@ -17,18 +18,18 @@ pub enum MadeText {
 }
 
 // The number of feeders that a word names, if it names one.
+#[tactic(auto, using(crate::proofs::NumberLemmas::is_decimal, crate::proofs::NumberLemmas::out_of_range))]
 fn number_of(word: &str) -> Option<u8>
     ensures some { IfSome result (NamesFeeders word.now) }
     ensures none { IfNone result ((n : ℕ) → ¬ NamesFeeders word.now n) }
 {
-    let Ok(number) = word.parse::<u8>() else {
+    let Some(number) = decimal_number(word.as_bytes()) else {
         return None;
     };
-    let mut digits = Buffer::new();
-    if number < LEAST_FEEDERS || number > MOST_FEEDERS || digits.format(number) != word {
+    if number < u32::from(LEAST_FEEDERS) || number > u32::from(MOST_FEEDERS) {
         return None;
     }
-    Some(number)
+    Some(number as u8)
 }
 
 /// The number of feeders that a word names: decimal, without sign or leading zeros, from `LEAST_FEEDERS`

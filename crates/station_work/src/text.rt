@@ -8,7 +8,6 @@ use crate::tally::{Sight, Tally, tally_operations};
 use central_rules::Judge;
 use double_points::Readings;
 use ilk_base::{BayId, Memory, Text};
-use itoa::Buffer;
 use log_replay::Report;
 use station_graph::Station;
 use std::alloc::Global;
@@ -27,15 +26,6 @@ fn bay_count(station: &Station) -> u32
     count
 }
 
-// Appends some words and a number.
-fn push_number(text: &mut Text, words: &[u8], number: u32) -> Result<(), Memory>
-    ensures { OnOk result (text.new ≡ text.old ++ words.now ++ decimal number) }
-{
-    let mut digits = Buffer::new();
-    text.push(words)?;
-    text.push(digits.format(number).as_bytes())
-}
-
 // Appends the line of so many bays, switches and nodes.
 fn push_sizes(
     text: &mut Text,
@@ -47,9 +37,12 @@ fn push_sizes(
     ensures { OnOk result (text.new ≡ text.old ++ sizes_line name.now bays switches nodes) }
 {
     text.push(name)?;
-    push_number(text, b" bays ", bays)?;
-    push_number(text, b" switches ", switches)?;
-    push_number(text, b" nodes ", nodes)?;
+    text.push(b" bays ")?;
+    text.push_decimal(bays as usize)?;
+    text.push(b" switches ")?;
+    text.push_decimal(switches as usize)?;
+    text.push(b" nodes ")?;
+    text.push_decimal(nodes as usize)?;
     text.push(b"\n")
 }
 
@@ -67,8 +60,10 @@ fn push_tally(text: &mut Text, name: &[u8], tally: Tally) -> Result<(), Memory>
     ensures { OnOk result (text.new ≡ text.old ++ tally_line name.now tally) }
 {
     text.push(name)?;
-    push_number(text, b" released ", tally.released)?;
-    push_number(text, b" denied ", tally.denied)?;
+    text.push(b" released ")?;
+    text.push_decimal(tally.released as usize)?;
+    text.push(b" denied ")?;
+    text.push_decimal(tally.denied as usize)?;
     text.push(b"\n")
 }
 
@@ -77,10 +72,14 @@ fn push_log(text: &mut Text, report: &Report) -> Result<(), Memory>
     ensures { OnOk result (text.new ≡ text.old ++ log_line report.now) }
 {
     let (granted, denied, finished) = report.outcomes();
-    push_number(text, b"log lines ", report.count())?;
-    push_number(text, b" granted ", granted)?;
-    push_number(text, b" denied ", denied)?;
-    push_number(text, b" finished ", finished)?;
+    text.push(b"log lines ")?;
+    text.push_decimal(report.count() as usize)?;
+    text.push(b" granted ")?;
+    text.push_decimal(granted as usize)?;
+    text.push(b" denied ")?;
+    text.push_decimal(denied as usize)?;
+    text.push(b" finished ")?;
+    text.push_decimal(finished as usize)?;
     text.push(b"\n")
 }
 

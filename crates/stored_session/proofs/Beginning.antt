@@ -9,7 +9,8 @@ use Rattle.node_session.specs.SessionEnds.{Streams}
 use Rattle.node_store.specs.Device.{Told, LeavesFrom, KeepsPast, RisesBy}
 use Rattle.node_store.specs.Image.{IsImageOf}
 use Rattle.node_store.proofs.Runs.{one_call, then_more, stays_settled}
-use Rattle.stored_session.specs.View.{View, KeepsTime}
+use Rattle.stored_session.specs.View.{View}
+use Rattle.stored_session.proofs.Time.{KeepsTime}
 use Rattle.stored_session.specs.Along.{StandsAlong}
 use Rattle.stored_session.specs.Ends.{EndsSo, BegunEnds}
 use Rattle.stored_session.specs.declared.end.StoredEnd.{StoredEnd}
@@ -37,6 +38,7 @@ so_earlier m d b start before now part whole lines text low WriteFault rose (beg
     texts = stops.texts;
     state = stops.state;
     session = stops.session;
+    asked = stops.asked;
     front = stops.front;
     wrote = stops.wrote;
     cause = ⊎_elim (λ h. inl (rose h.0, h.1, h.2)) (λ h. inr h) stops.cause;

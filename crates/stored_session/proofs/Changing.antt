@@ -1,5 +1,6 @@
 -- What is left on the device where a changed record is put.
 use Rattle.std.proofs.Common.{◌≡◌, ◌⊎◌, ℕ, List, Option, Some, None, sym, subst}
+use Rattle.std.specs.Prelude.{IfNone}
 use Rattle.bay_protocol.specs.declared.values.Kept.{Kept}
 use Rattle.bay_protocol.specs.Output.{IsKeep}
 use Rattle.node_store.specs.declared.store.Store.{Store}
@@ -15,6 +16,12 @@ is_new old new kept keep is changed = (subst (λ (k : Option Kept). IsKeep old n
 -- nothing is to be kept
 pub is_old : (old new : Kept) (keep : Option Kept) → keep ≡ None → IsKeep old new keep → new ≡ old
 is_old old new keep is changed = subst (λ (k : Option Kept). IsKeep old new k) is changed
+
+-- what is left alone where nothing is to be kept is so where nothing has changed
+pub left_alone : (old new : Kept) (keep : Option Kept) (Alone : Type 0) → IsKeep old new keep → IfNone keep Alone
+    → new ≡ old → Alone
+left_alone old new None Alone changed alone same = alone
+left_alone old new (Some kept) Alone changed alone same = absurd (changed.1 same)
 
 module _ {D : Type 0} (moment : D → ℕ) (between : D → ℕ → ℕ → List ℕ → Type 0) (since : D → ℕ → List ℕ → Type 0) where
   -- a put that may be cut short

@@ -8,12 +8,13 @@ use Rattle.station_graph.specs.Diagram.{Diagram}
 use Rattle.central_rules.specs.Meaning.{Meaning}
 use Rattle.bay_protocol.specs.State.{State, kept_of}
 use Rattle.node_session.specs.declared.end.TheConstants.{MOST_LINES}
-use Rattle.node_session.specs.SessionEnds.{Streams}
+use Rattle.node_session.specs.SessionEnds.{Streams, LastAsked}
 use Rattle.node_session.proofs.Going.{appends_both}
 use Rattle.node_store.specs.declared.store.Store.{Store}
 use Rattle.node_store.specs.Device.{Told, RisesBy}
 use Rattle.node_store.proofs.Runs.{is_since}
-use Rattle.stored_session.specs.View.{View, KeepsTime}
+use Rattle.stored_session.specs.View.{View}
+use Rattle.stored_session.proofs.Time.{KeepsTime}
 use Rattle.stored_session.specs.Kept.{LeavesNow}
 use Rattle.stored_session.specs.Stored.{AnswersStored, WritesFront, StoredLineFails}
 use Rattle.stored_session.specs.Through.{HasNext, TakesNear}
@@ -77,11 +78,11 @@ module _ {D : Type 0} (v : View D) (time : KeepsTime v) (m : Meaning) (d : Diagr
   ends_unstored : (now after : Streams) (device new : D) (done : List (List ℕ)) (store : Store) (state : State)
       → (line answer : List ℕ) (next : State) → Now v time m d b start before old now device done store state
       → HasNext before.input done line → TakesNear before.input after.input (done ++ line ∷ [])
-      → LeavesEither v device new state next
+      → LastAsked before.input after.asked (length done) → LeavesEither v device new state next
       → AnswersStored m d b state line answer next
       → Appends now.out after.out [] → Rose (v.writes device) (v.writes new) → RisesBy 6 (v.calls device) (v.calls new)
       → EndsNow after new e.WriteFault
-  ends_unstored now after device new done store state line answer next at comes near in_it answers nothing rose called =
+  ends_unstored now after device new done store state line answer next at comes near asked in_it answers nothing rose called =
       let lines : List (List ℕ) = done ++ line ∷ [] in
       let crash = crash_more v time m d b start before old device new done at.text store state line answer next
       at.session answers at.kept at.crash in_it in
@@ -103,6 +104,7 @@ module _ {D : Type 0} (v : View D) (time : KeepsTime v) (m : Meaning) (d : Diagr
             texts = refl;
             state = state;
             session = at.session;
+            asked = asked;
             front = 0;
             wrote = appends_both before.out now.out after.out at.text [] at.wrote nothing;
             cause = inl (rose_earlier _ _ _ at.stores_grow rose, refl, refl);
@@ -122,11 +124,11 @@ module _ {D : Type 0} (v : View D) (time : KeepsTime v) (m : Meaning) (d : Diagr
   ends_unwritten : (now after : Streams) (device new : D) (done : List (List ℕ)) (store : Store) (state : State)
       → (line : List ℕ) (next : State) → Now v time m d b start before old now device done store state
       → HasNext before.input done line → TakesNear before.input after.input (done ++ line ∷ [])
-      → LeavesEither v device new state next
+      → LastAsked before.input after.asked (length done) → LeavesEither v device new state next
       → Told (v.content device) (λ _. LeavesNow v.moment v.since new (kept_of next))
       → WritesFront m d b state line next now.out after.out → Rose now.writes after.writes
       → RisesBy 6 (v.calls device) (v.calls new) → EndsNow after new e.WriteFault
-  ends_unwritten now after device new done store state line next at comes near in_it leaves tells rose called =
+  ends_unwritten now after device new done store state line next at comes near asked in_it leaves tells rose called =
       let lines : List (List ℕ) = done ++ line ∷ [] in
       let answer = tells.text in
       let session = session_more m d b start done at.text state line answer next at.session tells.answers in
@@ -150,6 +152,7 @@ module _ {D : Type 0} (v : View D) (time : KeepsTime v) (m : Meaning) (d : Diagr
             texts = refl;
             state = state;
             session = at.session;
+            asked = asked;
             front = tells.wrote.0;
             wrote = appends_both before.out now.out after.out at.text
                 (take tells.wrote.0 answer) at.wrote tells.wrote.2;
@@ -169,21 +172,22 @@ module _ {D : Type 0} (v : View D) (time : KeepsTime v) (m : Meaning) (d : Diagr
       → (line : List ℕ) (next : State) (count : ℕ) (end : LineEnd) (result : StoredEnd) → length done ≡ count
       → count < MOST_LINES
       → Now v time m d b start before old now device done store state → HasNext before.input done line
-      → TakesNear before.input after.input (done ++ line ∷ []) → LeavesEither v device new state next
+      → TakesNear before.input after.input (done ++ line ∷ []) → LastAsked before.input after.asked (length done)
+      → LeavesEither v device new state next
       → (end ≡ l.OutFailed → Told (v.content device) (λ _. LeavesNow v.moment v.since new (kept_of next)))
       → ((end ≡ l.Memory) ⊎ (end ≡ l.Refused) → new ≡ device)
       → RisesBy 6 (v.calls device) (v.calls new) → now.reads ≤ after.reads → now.writes ≤ after.writes
       → StoredLineFails m d b state line next now.out after.out (Rose (v.writes device) (v.writes new))
       (Rose now.writes after.writes) end
       → IsEndAt count end result → EndsNow after new result
-  ends_line now after device new done store state line next count l.Memory result counted few at comes near in_it
+  ends_line now after device new done store state line next count l.Memory result counted few at comes near asked in_it
       stored quiet called reads writes nothing is =
       let still = stands_still v time m d b start before old now after device new done store state at (quiet
       (inl refl)) nothing reads writes in
       subst (λ (r : StoredEnd). EndsNow after new r) (sym is)
       (ends_here after new done store state e.Memory still (λ text wrote.
       (has_long before.input done line comes, wrote)))
-  ends_line now after device new done store state line next count l.Refused result counted few at comes near in_it
+  ends_line now after device new done store state line next count l.Refused result counted few at comes near asked in_it
       stored quiet called reads writes (refused, nothing) is =
       let still = stands_still v time m d b start before old now after device new done store state at (quiet
       (inr refl)) nothing reads writes in
@@ -192,13 +196,13 @@ module _ {D : Type 0} (v : View D) (time : KeepsTime v) (m : Meaning) (d : Diagr
       subst (λ (r : StoredEnd). EndsNow after new r) (sym is)
       (ends_here after new done store state (e.Refused (count + 1)) still
       (λ text wrote. (number, fewer, (line, comes, refused), wrote)))
-  ends_line now after device new done store state line next count l.StoreFailed result counted few at comes near in_it
+  ends_line now after device new done store state line next count l.StoreFailed result counted few at comes near asked in_it
       stored quiet called reads writes (stores, (answer, answers), nothing) is =
       subst (λ (r : StoredEnd). EndsNow after new r) (sym is)
-      (ends_unstored now after device new done store state line answer next at comes near in_it answers nothing stores
+      (ends_unstored now after device new done store state line answer next at comes near asked in_it answers nothing stores
       called)
-  ends_line now after device new done store state line next count l.OutFailed result counted few at comes near in_it
+  ends_line now after device new done store state line next count l.OutFailed result counted few at comes near asked in_it
       stored quiet called reads writes (rose, tells) is =
       subst (λ (r : StoredEnd). EndsNow after new r) (sym is)
-      (ends_unwritten now after device new done store state line next at comes near in_it (stored refl) tells
+      (ends_unwritten now after device new done store state line next at comes near asked in_it (stored refl) tells
       rose called)

@@ -12,7 +12,8 @@ use Rattle.node_store.specs.declared.store.Store.{Store}
 use Rattle.node_store.specs.Device.{Told, Becomes, RisesBy}
 use Rattle.node_store.specs.Image.{IsImageOf}
 use Rattle.node_store.proofs.Runs.{one_content, weaker, then_more, begins as start_run}
-use Rattle.stored_session.specs.View.{View, KeepsTime, Leaves}
+use Rattle.stored_session.specs.View.{View, Leaves}
+use Rattle.stored_session.proofs.Time.{KeepsTime}
 use Rattle.stored_session.specs.Kept.{IsKept}
 use Rattle.stored_session.specs.Stored.{AnswersStored, StoredSession, WritesLine}
 use Rattle.stored_session.specs.Along.{StandsAlong}

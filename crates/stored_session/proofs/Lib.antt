@@ -5,3 +5,4 @@ pub mod Ending
 pub mod Going
 pub mod Lines
 pub mod Whole
+pub mod Time

@@ -5,15 +5,17 @@ use Rattle.std.proofs.Common.{true, refl, sym, ap, subst, arith}
 use Rattle.std.specs.Prelude.{IfSome}
 use Rattle.std.specs.Str.Lines.{lines, strip_carriage_return}
 use Rattle.std.specs.Io.KnownBytes.{Consumes, IsAtEnd}
-use Rattle.std.proofs.lemmas.List.{append-nil, append_assoc}
+use Rattle.std.proofs.lemmas.List.{append-nil, append_assoc, length-append}
 use Rattle.std.proofs.Math.Seq.{take-append_seam, drop-append-add}
 use Rattle.node_session.specs.declared.request.TheConstants.{MOST_LINE}
 use Rattle.node_session.specs.declared.reader.TheConstants.{CHUNK}
 use Rattle.node_session.specs.declared.reader.Front.TheVariants.{Line, TooLong, Last}
 use Rattle.node_session.specs.declared.reader.InputTrouble.{InputTrouble}
 use Rattle.node_session.specs.declared.reader.InputTrouble.TheVariants.{Memory, Failed}
-use Rattle.node_session.specs.Reading.{HasNoFeed, is_long, Grows, BeginsLine, Fills, FillFails}
-use Rattle.node_session.proofs.Feeds.{lines-line, lines-no_end, long_line}
+use Rattle.node_session.specs.Reading.{HasNoFeed, is_long, AsksNeeded, Grows, BeginsLine, Fills, FillFails}
+use Rattle.node_session.specs.SessionEnds.{LastAsked}
+use Rattle.node_session.proofs.Feeds.{feeds-append, lines-line, lines-no_end, long_line}
+use Rattle.node_session.proofs.Asking.{asks_needed}
 use Rattle.node_session.proofs.Filling.{consumes_both}
 use Rattle.stored_session.specs.Through.{ReadsThrough, TakesNear, BeginsStored, IsAll, HasNext, GoesOn}
 
@@ -43,7 +45,7 @@ at_line n held line past len parts = (
 module _ (before : Option (List ℕ)) (done : List (List ℕ)) where
   -- nothing is read yet
   pub reads_none : ReadsThrough before before [] []
-  reads_none = record { taken = []; consumed = consumes_none before; ends = λ rest. refl }
+  reads_none = record { taken = []; consumed = consumes_none before; ends = λ rest. refl; feeds = refl }
 
   -- more is held
   reads_more : (now after : Option (List ℕ)) (held held_new : List ℕ) → ReadsThrough before now held done
@@ -54,6 +56,7 @@ module _ (before : Option (List ℕ)) (done : List (List ℕ)) where
         (λ l. at.taken ++ l) (sym grows.parts))
         (consumes_both before now after (at.taken ++ held) grows.piece at.consumed grows.consumed);
     ends = at.ends;
+    feeds = at.feeds;
   }
 
   module _ (now : Option (List ℕ)) (held : List ℕ) (at : ReadsThrough before now held done) where
@@ -109,6 +112,14 @@ module _ (before : Option (List ℕ)) (done : List (List ℕ)) where
           ∙ at.ends ((line ++ 10 ∷ []) ++ rest)
           ∙ ap (λ l. done ++ l) (ap lines (append_assoc line (10 ∷ []) rest) ∙ lines-line line rest first.whole)
           ∙ sym (append_assoc done (strip_carriage_return line ∷ []) (lines rest));
+      feeds = omega (
+        arith,
+        feeds-append at.taken (line ++ 10 ∷ []),
+        feeds-append line (10 ∷ []),
+        first.whole,
+        at.feeds,
+        length-append done (strip_carriage_return line ∷ []),
+      );
     }
 
   -- little is held past lines that were read
@@ -171,6 +182,30 @@ module _ (before : Option (List ℕ)) (done : List (List ℕ)) where
 
 module _ (before : Option (List ℕ)) (done : List (List ℕ)) (now after : Option (List ℕ)) (held held_new : List ℕ)
     (at : ReadsThrough before now held done) where
+  -- the last call of the input was needed for what is at the front
+  asked_for : (asked asked_new : Option (List ℕ)) → (0 < length done + length held → LastAsked before asked
+      (length done))
+      → AsksNeeded held held_new now asked asked_new → 0 < length held_new → LastAsked before asked_new (length done)
+  asked_for asked asked_new earlier needed some =
+      asks_needed before now asked asked_new at.taken held held_new (length done) at.feeds at.consumed earlier needed
+      (omega (arith, some))
+
+  -- for a line with an end
+  pub line_asked : (asked asked_new : Option (List ℕ)) (n : ℕ)
+      → (0 < length done + length held → LastAsked before asked (length done))
+      → AsksNeeded held held_new now asked asked_new → Fills held held_new now after (Line n)
+      → LastAsked before asked_new (length done)
+  line_asked asked asked_new n earlier needed fills =
+      let (line, past, len, first) = fills.is in
+      asked_for asked asked_new earlier needed
+      (omega (arith, ap length first.parts, length-append line (10 ∷ past)))
+
+  -- for the last one, without an end
+  pub last_asked : (asked asked_new : Option (List ℕ))
+      → (0 < length done + length held → LastAsked before asked (length done))
+      → AsksNeeded held held_new now asked asked_new → 0 < length held_new → LastAsked before asked_new (length done)
+  last_asked asked asked_new earlier needed some = asked_for asked asked_new earlier needed some
+
   -- a line with an end comes next
   pub line_comes : (n : ℕ) (text : List ℕ) → Fills held held_new now after (Line n)
       → text ≡ strip_carriage_return (take n held_new) → ReadsThrough before after (drop (n + 1) held_new)

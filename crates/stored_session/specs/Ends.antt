@@ -11,7 +11,7 @@ use Rattle.bay_protocol.specs.Fits.{KeptFits}
 use Rattle.bay_protocol.specs.State.{State, kept_of, resumed}
 use Rattle.node_session.specs.declared.end.TheConstants.{MOST_LINES}
 use Rattle.node_session.specs.Requests.{IsRequest}
-use Rattle.node_session.specs.SessionEnds.{Streams}
+use Rattle.node_session.specs.SessionEnds.{Streams, LastAsked}
 use Rattle.node_store.specs.Device.{Told, Becomes, RisesBy}
 use Rattle.node_store.specs.Image.{IsImageOf}
 use Rattle.stored_session.specs.View.{View, Leaves, Settled}
@@ -24,7 +24,8 @@ use Rattle.stored_session.specs.declared.end.StoredEnd.TheVariants.{Done, Unfit,
 use Rattle.stored_session.specs.declared.end.StoredEnd.TheVariants.{ReadFault, WriteFault, Memory}
 
 -- Of the last line: its text was not written, since a write or a sync of the device failed; or the device has its
--- record, and a front of its text was written that is not all. `stores` is that the device's count of writes and
+-- record, and a front of its text was written that is not all. After its end was read the input was not asked again.
+-- `stores` is that the device's count of writes and
 -- syncs rose.
 pub record StopsWriting (m : Meaning) (d : Diagram) (b : ℕ) (start : State) (before now : Streams) (stores : Type 0)
     (lines : List (List ℕ)) (text : List ℕ) (low : ℕ) : Type 0 where
@@ -36,6 +37,7 @@ pub record StopsWriting (m : Meaning) (d : Diagram) (b : ℕ) (start : State) (b
   pub texts : text ≡ text_done ++ answer
   pub state : State
   pub session : StoredSession m d b start done text_done state
+  pub asked : LastAsked before.input now.asked (length done)
   pub front : ℕ
   pub wrote : Appends before.out now.out (text_done ++ take front answer)
   pub cause : (stores × (front ≡ 0) × (low ≡ length done))

@@ -5,6 +5,7 @@ use Rattle.station_graph.specs.Diagram.{Diagram}
 use Rattle.central_rules.specs.Meaning.{Meaning}
 use Rattle.bay_protocol.specs.State.{State, kept_of}
 use Rattle.node_session.specs.SessionEnds.{Streams}
+use Rattle.node_session.specs.Progress.{HasAsked}
 use Rattle.node_store.specs.declared.store.Store.{Store}
 use Rattle.node_store.specs.Device.{Told, Becomes, RisesBy}
 use Rattle.stored_session.specs.View.{View, Leaves}
@@ -39,6 +40,7 @@ pub record StoredStands {D : Type 0} (v : View D) (m : Meaning) (d : Diagram) (b
   pub done : List (List ℕ)
   pub counted : length done ≡ count
   pub reads : ReadsThrough before.input now.input held done
+  pub asked : HasAsked before now held count
   pub after : StandsAfter v m d b start before now old device done store state
 
 -- How one more line goes: it is answered, or the session ends.

@@ -1,8 +1,8 @@
 -- How far an input is read, line by line.
-use Rattle.std.specs.Prelude.{◌≡◌, ◌≤◌, ◌<◌, ◌++◌, ◌∷◌, ⊤, ℕ, List, [], length, Option, Result, Ok, Err, IfSome}
+use Rattle.std.specs.Prelude.{◌≡◌, ◌≤◌, ◌<◌, ◌++◌, ◌∷◌, ⊤, ℕ, List, [], length, Option, Result, Ok, Err, IfSome, count_by}
 use Rattle.std.specs.Str.Lines.{lines}
 use Rattle.std.specs.Io.KnownBytes.{Consumes}
-use Rattle.node_session.specs.Reading.{HasNoFeed}
+use Rattle.node_session.specs.Reading.{is_feed, HasNoFeed}
 use Rattle.node_session.specs.declared.request.TheConstants.{MOST_LINE}
 use Rattle.node_session.specs.declared.reader.TheConstants.{CHUNK}
 use Rattle.node_session.specs.declared.reader.InputTrouble.{InputTrouble}
@@ -15,6 +15,7 @@ pub record ReadsThrough (before now : Option (List ℕ)) (held : List ℕ) (done
   pub taken : List ℕ
   pub consumed : Consumes before now (taken ++ held)
   pub ends : (rest : List ℕ) → lines (taken ++ rest) ≡ done ++ lines rest
+  pub feeds : count_by is_feed taken ≡ length done
 
 -- The input is these bytes, where it is told, and these are its lines.
 pub record HasLines (input : Option (List ℕ)) (content : List ℕ) (all : List (List ℕ)) : Type 0 where
@@ -54,6 +55,13 @@ ComesNext input now held done (Line line) = ReadsThrough input now held (done ++
 ComesNext input now held done (Last line) = IsAll input now (done ++ line ∷ [])
 ComesNext input now held done TooLong = (line : List ℕ) × HasNext input done line × (MOST_LINE < length line)
 ComesNext input now held done End = IsAll input now done
+
+-- It is a line that is not too long.
+abbrev pub IsLine : NextLine → Type 0
+IsLine (Line line) = ⊤
+IsLine (Last line) = ⊤
+IsLine TooLong = ⊥
+IsLine End = ⊥
 
 -- It is a line with an end.
 abbrev pub HasEnd : NextLine → Type 0

@@ -1,6 +1,5 @@
 -- How a device is seen, as one value.
-use Rattle.std.specs.Prelude.{◌≤◌, ◌⊎◌, ◌↔◌, ℕ, List, Option}
-use Rattle.node_session.specs.SessionEnds.{Streams}
+use Rattle.std.specs.Prelude.{ℕ, List, Option}
 use Rattle.node_store.specs.Device.{IsSettled, LeavesOnly}
 
 -- What `Device` says of a device: its content, where that is told; its clock; what a crash may have left between two
@@ -26,10 +25,6 @@ view content moment between since reads writes calls = record {
   writes = writes;
   calls = calls;
 }
-
--- Its law on time.
-abbrev pub KeepsTime : {D : Type 0} → View D → Type 0
-KeepsTime {D} v = (d : D) (t u : ℕ) (c : List ℕ) → t ≤ u → (v.since d t c ↔ (v.between d t u c ⊎ v.since d u c))
 
 -- A crash at any moment from old to new leaves an image that has P.
 abbrev pub Leaves : {D : Type 0} → View D → D → D → (List ℕ → Type 0) → Type 0

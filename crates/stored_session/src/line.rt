@@ -114,7 +114,8 @@ pub fn take_line<J: Judge, D: Device, O: Sink>(
     ensures fails { IfErr result (StoredLineFails (J.meaning judge.now) station.now bay.0 node.old line.now node.new
         (O.took out.old) (O.took out.new)
         (Rose (D.write_faults device.old) (D.write_faults device.new)) (Rose (O.faults out.old) (O.faults out.new))) }
-    // Where no step was made the device is as it was.
+    // Where the record is unchanged, or no step was made, the device is as it was.
+    ensures unchanged { kept_of node.new ≡ kept_of node.old → device.new ≡ device.old }
     ensures quiet { (IsErrOf result LineEnd.Memory ⊎ IsErrOf result LineEnd.Refused) → device.new ≡ device.old }
     ensures sequence { IfOk result (λ s. store_sequence s ≤ store_sequence store + 1) }
     ensures counted { RisesBy 6 (D.calls device.old) (D.calls device.new) }

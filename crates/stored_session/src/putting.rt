@@ -1,5 +1,5 @@
 //! Putting a record that has changed.
-ghost use Rattle.std.specs.Prelude.{◌≡◌, ◌≤◌, ◌<◌, ◌⊎◌, ◌+◌, ◌^◌, ℕ, List, IfOk, OnErr};
+ghost use Rattle.std.specs.Prelude.{◌≡◌, ◌≤◌, ◌<◌, ◌⊎◌, ◌+◌, ◌^◌, ℕ, List, IfOk, IfNone, OnErr};
 ghost use Rattle.ilk_base.specs.Outside.{Rose};
 ghost use Rattle.bay_protocol.specs.Output.{IsKeep};
 ghost use Rattle.bay_protocol.specs.declared.values.Kept.{Kept as AnyRecord};
@@ -28,6 +28,7 @@ pub(crate) fn put_changed<D: Device>(
     ensures kept { IfOk result (λ s. Becomes (D.content device.old) (D.content device.new) (λ image after.
         (old new : AnyRecord) → IsImageOf image old → IsKeep old new keep
         → IsKept D.moment D.left_since device.new s after new)) }
+    ensures unchanged { IfNone keep (device.new ≡ device.old) }
     ensures sequence { IfOk result (λ s. store_sequence s ≤ store_sequence store + 1) }
     ensures counted { RisesBy 6 (D.calls device.old) (D.calls device.new) }
     ensures reads { D.read_faults device.new ≡ D.read_faults device.old }

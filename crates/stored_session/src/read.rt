@@ -1,8 +1,9 @@
 //! The lines of an input, one after another.
-ghost use Rattle.std.specs.Prelude.{◌≡◌, ◌≤◌, ◌<◌, ℕ, List, Option, IfOk, length};
+ghost use Rattle.std.specs.Prelude.{◌≡◌, ◌≤◌, ◌<◌, ◌+◌, ℕ, List, Option, IfOk, length};
 ghost use Rattle.ilk_base.specs.Outside.{Rose};
+ghost use Rattle.node_session.specs.SessionEnds.{LastAsked};
 ghost use Rattle.node_session.specs.declared.reader.TheConstants.{CHUNK};
-ghost use Rattle.stored_session.specs.Through.{ReadsThrough, HasEnd, GoesOn};
+ghost use Rattle.stored_session.specs.Through.{ReadsThrough, IsLine, HasEnd, GoesOn};
 
 use ilk_base::{Memory, Source, Text};
 use node_session::{Front, InputTrouble, Reader, without_return};
@@ -41,6 +42,11 @@ pub(crate) fn next_line<I: Source>(
     ensures goes { (before : Option (List ℕ)) (done : List (List ℕ))
         → ReadsThrough before (I.left input.old) reader.old done
         → GoesOn before (I.left input.new) reader.new done (Rose (I.faults input.old) (I.faults input.new)) result }
+    // Where it comes to a line, the last call of the input was needed for it.
+    ensures asks { (before : Option (List ℕ)) (done : List (List ℕ))
+        → ReadsThrough before (I.left input.old) reader.old done
+        → (0 < length done + length reader.old → LastAsked before (I.left_before input.old) (length done))
+        → IfOk result (λ next. IsLine next → LastAsked before (I.left_before input.new) (length done)) }
     ensures near { IfOk result (λ next. HasEnd next → length reader.new ≤ CHUNK) }
     ensures grows { I.faults input.old ≤ I.faults input.new }
 {

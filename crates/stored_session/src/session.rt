@@ -55,11 +55,11 @@ fn answer_next<J: Judge, I: Source, O: Sink, D: Device>(
     ensures goes { (start : State) (before : Streams) (from : D)
         → StoredStands (view D.content D.moment D.left_between D.left_since D.read_faults D.write_faults D.calls)
         (J.meaning judge.now) station.now bay.0 start before
-        (streams (I.left input.old) (I.faults input.old) (O.took out.old) (O.faults out.old))
+        (streams (I.left input.old) (I.left_before input.old) (I.faults input.old) (O.took out.old) (O.faults out.old))
         from device.old reader.old count store node.old
         → StoredGoes (view D.content D.moment D.left_between D.left_since D.read_faults D.write_faults D.calls)
         (J.meaning judge.now) station.now bay.0 start before
-        (streams (I.left input.new) (I.faults input.new) (O.took out.new) (O.faults out.new))
+        (streams (I.left input.new) (I.left_before input.new) (I.faults input.new) (O.took out.new) (O.faults out.new))
         from device.new reader.new count node.new result }
     ensures near { IfOk result (λ _. length reader.new ≤ CHUNK) }
     ensures sequence { IfOk result (λ s. store_sequence s ≤ store_sequence store + 1) }
@@ -110,8 +110,8 @@ fn run<J: Judge, I: Source, O: Sink, D: Device>(
         IsKept D.moment D.left_since device.old store image (kept_of node.old)) }
     ensures ends { BegunEnds (view D.content D.moment D.left_between D.left_since D.read_faults D.write_faults D.calls)
         (J.meaning judge.now) station.now bay.0 0 node.old
-        (streams (I.left input.old) (I.faults input.old) (O.took out.old) (O.faults out.old))
-        (streams (I.left input.new) (I.faults input.new) (O.took out.new) (O.faults out.new))
+        (streams (I.left input.old) (I.left_before input.old) (I.faults input.old) (O.took out.old) (O.faults out.old))
+        (streams (I.left input.new) (I.left_before input.new) (I.faults input.new) (O.took out.new) (O.faults out.new))
         device.old device.new result }
 {
     let mut now = store;
@@ -159,8 +159,8 @@ fn serve<J: Judge, I: Source, O: Sink, D: Device>(
     requires bay { IsBay station.now bay.0 }
     ensures { StoredEnds (view D.content D.moment D.left_between D.left_since D.read_faults D.write_faults D.calls)
         (J.meaning judge.now) station.now bay.0
-        (streams (I.left input.old) (I.faults input.old) (O.took out.old) (O.faults out.old))
-        (streams (I.left input.new) (I.faults input.new) (O.took out.new) (O.faults out.new))
+        (streams (I.left input.old) (I.left_before input.old) (I.faults input.old) (O.took out.old) (O.faults out.old))
+        (streams (I.left input.new) (I.left_before input.new) (I.faults input.new) (O.took out.new) (O.faults out.new))
         device.old device.new result }
 {
     let opened = match open_for_bay(station, bay, device) {
@@ -206,8 +206,8 @@ pub fn serve_stored<J: Judge, I: Source, O: Sink, D: Device>(
     requires bay { IsBay station.now bay.0 }
     ensures ends { StoredEnds (view D.content D.moment D.left_between D.left_since D.read_faults D.write_faults D.calls)
         (J.meaning judge.now) station.now bay.0
-        (streams (I.left input.old) (I.faults input.old) (O.took out.old) (O.faults out.old))
-        (streams (I.left input.new) (I.faults input.new) (O.took out.new) (O.faults out.new))
+        (streams (I.left input.old) (I.left_before input.old) (I.faults input.old) (O.took out.old) (O.faults out.old))
+        (streams (I.left input.new) (I.left_before input.new) (I.faults input.new) (O.took out.new) (O.faults out.new))
         device.old device.new result }
     ensures complete { (content image : List ℕ) → I.left input.old ≡ Some content
         → IsStoredInput station.now bay.0 content

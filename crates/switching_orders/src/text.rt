@@ -12,7 +12,6 @@ use crate::ruling::{Ruling, Step};
 use central_rules::rule_name;
 use denial_explain::operation_text;
 use ilk_base::{Memory, Op, Text};
-use itoa::Buffer;
 use station_graph::{Station, Vector};
 use std::alloc::Global;
 
@@ -23,14 +22,6 @@ pub struct OrderReport {
     pub text: Text,
     /// whether a step of the order is denied or idle
     pub differs: bool,
-}
-
-// Appends a number.
-fn push_number(text: &mut Text, number: u32) -> Result<(), Memory>
-    ensures { OnOk result (text.new ≡ text.old ++ decimal number) }
-{
-    let mut digits = Buffer::new();
-    text.push(digits.format(number).as_bytes())
 }
 
 // Appends what is written of a ruling.
@@ -60,7 +51,7 @@ fn push_step(
     requires { IsOperation station.now op }
     ensures { OnOk result (text.new ≡ text.old ++ step_line station.now number step op) }
 {
-    push_number(text, number)?;
+    text.push_decimal(number as usize)?;
     push_ruling(text, step)?;
     text.push(operation_text(alloc, station, op)?.bytes())
 }
@@ -133,7 +124,7 @@ fn push_accepted(text: &mut Text, count: u32) -> Result<(), Memory>
     ensures { OnOk result (text.new ≡ text.old ++ codes "accepted " ++ decimal count ++ codes "\n") }
 {
     text.push(b"accepted ")?;
-    push_number(text, count)?;
+    text.push_decimal(count as usize)?;
     text.push(b"\n")
 }
 

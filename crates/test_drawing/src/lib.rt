@@ -10,6 +10,8 @@ mod refusals;
 #[cfg(test)]
 mod refused_rows;
 #[cfg(test)]
+mod remarks;
+#[cfg(test)]
 mod stations;
 #[cfg(test)]
 mod trees;

@@ -2,6 +2,8 @@
 #![tactic(auto)]
 
 #[cfg(test)]
+mod as_read;
+#[cfg(test)]
 mod audits;
 #[cfg(test)]
 mod drawings;

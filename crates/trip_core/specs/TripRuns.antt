@@ -1,15 +1,16 @@
 -- Runs with trips, and what is promised of them by their lines.
-use Rattle.std.specs.Prelude.{◌≡◌, ◌≢◌, ◌⊎◌, ⊤, ℕ, Bool, true, false, List, [], ◌∷◌, slice_get, Option, Some, None}
+use Rattle.std.specs.Prelude.{◌≡◌, ◌≢◌, ◌⊎◌, ◌<◌, ⊤, ℕ, Bool, true, false, List, [], ◌∷◌, length, slice_get, Option, Some}
+use Rattle.std.specs.Prelude.{None}
 use Rattle.ilk_base.specs.declared.words.Op.{Op}
 use Rattle.station_graph.specs.Diagram.{Diagram}
 use Rattle.station_graph.specs.Alike.{IsVector}
 use Rattle.station_graph.specs.CentralRules.{GapBreaks, LoadBreaks}
 use Rattle.station_graph.specs.Supply.{Apart}
-use Rattle.central_rules.specs.Meaning.{Meaning}
+use Rattle.central_rules.specs.Meaning.{Meaning, bay_of}
 use Rattle.reservation_core.specs.Scene.{ReadsAs}
 use Rattle.reservation_core.specs.Lines.{Line, Shown}
 use Rattle.reservation_core.specs.Runs.{Shows, MayHappenBy, IsPremiseOf}
-use Rattle.reservation_core.specs.Headline.{DecidesWell, OpenSince}
+use Rattle.reservation_core.specs.Headline.{DecidesWell, OpenSince, StopsWell, OwnMessages, HearNothing}
 use Rattle.reservation_core.specs.declared.values.Which.{Which}
 use Rattle.reservation_core.specs.declared.values.WorldEvent.{WorldEvent}
 use Rattle.reservation_core.specs.declared.values.WorldOutcome.{WorldOutcome}
@@ -58,15 +59,27 @@ pub record TripMayBeTrue (d : Diagram) (start : List Bool) (lines : List TripLin
   pub whole : IsVector d v
   pub each : (i : ℕ) (closed : Bool) → slice_get v i ≡ Some closed → ReadsAs (trip_true d start lines i) closed
 
--- The first half of the headline, at a line that is no trip.
+-- The first half of the headline, at a line that is no trip, and what it says of rounds and messages.
 abbrev pub TripDecides : Diagram → TripEvent → Shown → List Line → Type 0
-TripDecides d (Step e) s before = DecidesWell d before (record { event = e; shown = s })
+TripDecides d (Step e) s before =
+    DecidesWell d before (record { event = e; shown = s }) × StopsWell d before (record { event = e; shown = s })
+    × OwnMessages (record { event = e; shown = s })
 TripDecides d (Trip i) s before = ⊤
 
 -- The last line decides as it must.
 abbrev pub TripDecisions : Diagram → List TripLine → Type 0
 TripDecisions d [] = ⊤
 TripDecisions d (l ∷ before) = TripDecides d l.event l.shown (plain before)
+
+-- Each drive that runs moves its switch by an operation that its bay was granted and that has not ended.
+abbrev pub TripDrivesAreGranted : Diagram → List TripLine → Type 0
+TripDrivesAreGranted d lines =
+    (i : ℕ) → i < length d.switches → trip_drives lines i ≡ true →
+    (r : ℕ) × (op : Op) × (op.switch.0 ≡ i) × OpenSince (plain lines) (bay_of d i) r op
+
+-- Of two bays whose rounds are under way at once, neither has heard the other in its round.
+abbrev pub TripsHearNothing : Diagram → List TripLine → Type 0
+TripsHearNothing d lines = HearNothing d (plain lines)
 
 -- To no operation that was granted and has not ended do the first two rules apply, in any vector that resolves the
 -- truth, whatever has tripped.
@@ -89,11 +102,13 @@ abbrev pub AtEachTrip : (List TripLine → Type 0) → List TripLine → Type 0
 AtEachTrip P [] = P []
 AtEachTrip P (l ∷ before) = P (l ∷ before) × AtEachTrip P before
 
--- What is promised of a run with trips: every decision is exact, every movement obeys the first two rules on the true
--- positions throughout, and the third as long as no breaker has tripped that its grant used; and a sound start stays
--- sound.
+-- What is promised of a run with trips: every decision is exact, every movement was granted and obeys the first two
+-- rules on the true positions throughout, and the third as long as no breaker has tripped that its grant used; a sound
+-- start stays sound, and two rounds at once hear nothing of each other.
 pub record TripHeadline (d : Diagram) (start : List Bool) (lines : List TripLine) : Type 0 where
   pub decisions : AtEachTrip (TripDecisions d) lines
+  pub granted : AtEachTrip (TripDrivesAreGranted d) lines
   pub first_two : AtEachTrip (ObeysGapSince d start) lines
   pub third : AtEachTrip (ObeysLoadSince d start) lines
   pub sound : IsTripSound d start [] → AtEachTrip (IsTripSound d start) lines
+  pub apart : AtEachTrip (TripsHearNothing d) lines

@@ -2,18 +2,19 @@
 use Rattle.std.proofs.Common.{◌⊎◌, ◌≡◌, ◌≢◌, ◌<◌, ◌==◌, ℕ, Bool, false, cond, List, [], ◌∷◌, length, Option, Some}
 use Rattle.std.proofs.Common.{None, refl, sym, subst, ap, ◌∙◌, inl, inr, arith}
 use Rattle.std.proofs.lemmas.Option.{slice_get_within}
+use Rattle.ilk_base.specs.declared.words.Dbpos.{Dbpos}
 use Rattle.ilk_base.specs.declared.words.Op.{Op}
 use Rattle.station_graph.specs.Diagram.{Diagram, IsStation}
 use Rattle.station_graph.specs.Alike.{IsVector}
 use Rattle.station_graph.specs.CentralRules.{GapBreaks}
-use Rattle.central_rules.specs.Meaning.{Meaning, Laws}
+use Rattle.central_rules.specs.Meaning.{Meaning, Laws, bay_of}
 use Rattle.bay_protocol.specs.declared.values.Grant.{Grant}
 use Rattle.bay_protocol.specs.declared.values.Outcome.{Outcome}
 use Rattle.reservation_core.specs.Scene.{Scene, true_at, runs, ReadsAs, Resolves}
 use Rattle.reservation_core.specs.Facts.{IsSoundTruth}
 use Rattle.reservation_core.specs.Lines.{Line, Shown, of_bay}
-use Rattle.reservation_core.specs.History.{open_after, open_of, Opened}
-use Rattle.reservation_core.specs.Hearing.{IsVerdictOn, DecidesRound}
+use Rattle.reservation_core.specs.History.{open_after, open_of, last_round, Opened}
+use Rattle.reservation_core.specs.Hearing.{IsVerdictOn, DecidesRound, heard}
 use Rattle.reservation_core.specs.Runs.{ShowsNothing, Shows, Leads}
 use Rattle.reservation_core.specs.Headline.{DecidesWell, EndsIt, OpenSince}
 use Rattle.reservation_core.specs.declared.values.Position.{Position}
@@ -26,7 +27,10 @@ use Rattle.log_replay.proofs.DriveMoves.{happens_moves}
 use Rattle.log_replay.proofs.LineDecisions.{lead_bays}
 use Rattle.log_replay.proofs.RestingBays.{shows_it, decides_it}
 use Rattle.log_replay.proofs.Truth.{idle_at}
-use Rattle.log_replay.proofs.Since.{grant, stays_open}
+use Rattle.log_replay.proofs.Since.{grant, stays_open, opens_since}
+use Rattle.log_replay.proofs.Stops.{stops_at}
+use Rattle.log_replay.proofs.Senders.{own_at}
+use Rattle.log_replay.proofs.Apart.{AnswerTo, heard_next, hear_now}
 use Rattle.trip_core.specs.declared.values.TripEvent.{TripEvent}
 use Rattle.trip_core.specs.declared.values.TripEvent.TheVariants.{Step, Trip}
 use Rattle.trip_core.specs.Trips.{TripScene}
@@ -34,7 +38,7 @@ use Rattle.trip_core.specs.Happens.{TripHappens, TripInRange}
 use Rattle.trip_core.specs.Facts.{TripFacts}
 use Rattle.trip_core.specs.TripLines.{TripLine, plain, plain_line, trip_true, trip_drives}
 use Rattle.trip_core.specs.TripRuns.{TripRun, TripLeads, TripMayBeTrue, TripDecides, TripDecisions, ObeysGapSince}
-use Rattle.trip_core.specs.TripRuns.{IsTripSound, AtEachTrip}
+use Rattle.trip_core.specs.TripRuns.{IsTripSound, AtEachTrip, TripDrivesAreGranted, TripsHearNothing}
 use Rattle.trip_core.proofs.Starting.{trip_starts}
 use Rattle.trip_core.proofs.Keeping.{trip_happens_keeps, breaker_within}
 use Rattle.trip_core.proofs.Obeying.{gap, trip_sound}
@@ -105,7 +109,14 @@ module _ (m : Meaning) (start : List Bool) (before : List TripLine) (old new : T
 
     decides_at : (e : TripEvent) → TripInRange m.diagram e → TripHappens m old e new outcome
         → TripDecides m.diagram e s (plain before)
-    decides_at (Step e) range happens = well_at e range happens
+    decides_at (Step e) range happens =
+        let leads = plain_leads e range happens in
+        let well = well_at e range happens in (
+          well,
+          stops_at m (plain before) (record { event = e; shown = s }) old.world.scene new.world.scene was.said well leads,
+          own_at m old.world.scene new.world.scene (record { event = e; shown = s })
+              was.facts.rounds.rounds.shape.named leads,
+        )
     decides_at (Trip i) range happens = tt
 
     -- a verdict is shown for no bay with an open operation
@@ -189,6 +200,73 @@ module _ (m : Meaning) (start : List Bool) (station : IsStation m.diagram) (laws
       → AtEachTrip (ObeysGapSince m.diagram start) lines
   trip_obeys [] s run = gap_since [] s run
   trip_obeys (l ∷ before) s run = (gap_since (l ∷ before) s run, trip_obeys before run.0 run.1)
+
+  -- ---- movements
+
+  granted_now : (lines : List TripLine) (s : TripScene) → TripRun m start lines s
+      → TripDrivesAreGranted m.diagram lines
+  granted_now lines s run i lt on =
+      let is = trip_is lines s run in
+      let driven = is.facts.rounds.rounds.drives i lt (is.drives i lt ∙ on) in
+      let opened = sym (is.said.nodes (bay_of m.diagram i)).granted ∙ driven.granted in (
+        driven.grant.round,
+        driven.grant.op,
+        driven.switch,
+        opens_since (plain lines) (bay_of m.diagram i) driven.grant opened,
+      )
+
+  pub trip_granted : (lines : List TripLine) (s : TripScene) → TripRun m start lines s
+      → AtEachTrip (TripDrivesAreGranted m.diagram) lines
+  trip_granted [] s run = granted_now [] s run
+  trip_granted (l ∷ before) s run = (granted_now (l ∷ before) s run, trip_granted before run.0 run.1)
+
+  -- ---- two rounds at once
+
+  -- what is heard after a line was sent, if what was heard before it was: a trip sends and takes back nothing
+  heard_line : (before : List TripLine) (old new : TripScene) (s : Shown) (outcome : WorldOutcome) (b c : ℕ)
+      (words : List Dbpos) → TripIs m start before old → Shows outcome s
+      → (heard m.diagram (plain before) c b ≡ Some words
+      → AnswerTo m old.world.scene b c (last_round (plain before) c) words)
+      → (e : TripEvent) → TripInRange m.diagram e → TripHappens m old e new outcome
+      → heard m.diagram (plain (trip_line e s ∷ before)) c b ≡ Some words
+      → AnswerTo m new.world.scene b c (last_round (plain (trip_line e s ∷ before)) c) words
+  heard_line before old new s outcome b c words was shows earlier (Step e) range happens got =
+      heard_next m (plain before) (record { event = e; shown = s }) old.world.scene new.world.scene b c words
+      station was.facts.rounds.rounds was.said
+      (record { range = range; outcome = outcome; happens = happens.happens; shows = shows }) earlier got
+  heard_line before old new s outcome b c words was shows earlier (Trip i) range happens got =
+      let a = earlier got in
+      subst (λ (t : TripScene). AnswerTo m t.world.scene b c (last_round (plain before) c) words) (sym happens.scene)
+      (record {
+        frame = a.frame;
+        summary = a.summary;
+        there = a.there;
+        from = a.from;
+        to = a.to;
+        round = a.round;
+        body = a.body;
+        sums = a.sums;
+      })
+
+  -- what is heard was sent: a trip sends and takes back nothing
+  trip_heard : (lines : List TripLine) (s : TripScene) (b c : ℕ) (words : List Dbpos) → TripRun m start lines s
+      → heard m.diagram (plain lines) c b ≡ Some words
+      → AnswerTo m s.world.scene b c (last_round (plain lines) c) words
+  trip_heard [] s b c words run is = absurd (cc is)
+  trip_heard (l ∷ before) s b c words (old, run, leads) is =
+      heard_line before old s l.shown leads.outcome b c words (trip_is before old run) leads.shows
+      (λ got. trip_heard before old b c words run got) l.event leads.range leads.happens is
+
+  hears_nothing : (lines : List TripLine) (s : TripScene) → TripRun m start lines s → TripsHearNothing m.diagram lines
+  hears_nothing lines s run =
+      let is = trip_is lines s run in
+      hear_now m (plain lines) s.world.scene station is.facts.rounds.rounds is.said
+      (λ b c words got. trip_heard lines s b c words run got)
+
+  pub trip_apart : (lines : List TripLine) (s : TripScene) → TripRun m start lines s
+      → AtEachTrip (TripsHearNothing m.diagram) lines
+  trip_apart [] s run = hears_nothing [] s run
+  trip_apart (l ∷ before) s run = (hears_nothing (l ∷ before) s run, trip_apart before run.0 run.1)
 
   -- ---- soundness
 

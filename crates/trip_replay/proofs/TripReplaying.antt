@@ -17,13 +17,13 @@ use Rattle.reservation_core.specs.Happens.{InRange}
 use Rattle.reservation_core.specs.World.{OutputFits}
 use Rattle.reservation_core.specs.Lines.{Shown}
 use Rattle.reservation_core.specs.Runs.{Shows, nothing_shown, shown_of}
-use Rattle.log_replay.specs.declared.log.TheConstants.{MOST_RECORDS}
+use Rattle.log_replay.specs.declared.limits.TheConstants.{MOST_RECORDS}
 use Rattle.log_replay.specs.Following.{FitsAt, IsBroken}
 use Rattle.log_replay.specs.Replay.{Replayed, ShownFits, shown_at}
 use Rattle.log_replay.proofs.Premises.{Exactly, happens_exact}
 use Rattle.log_replay.proofs.ReportLemmas.{all_more, each_at}
 use Rattle.log_replay.proofs.Replaying.{shows_so, shown_more, report_is}
-use Rattle.log_replay.proofs.ReplayHeadline.{start_is_vector}
+use Rattle.log_replay.proofs.ReplayHeadline.{start_is_vector, nothing_under_way}
 use Rattle.log_replay.proofs.ShownOutcomes.{nothing_fits, shown_of_fits}
 use Rattle.trip_core.specs.declared.values.TripEvent.{TripEvent}
 use Rattle.trip_core.specs.declared.values.TripEvent.TheVariants.{Step as Happening, Trip}
@@ -33,8 +33,8 @@ use Rattle.trip_core.specs.Happens.{TripHappens, TripInRange}
 use Rattle.trip_core.specs.Facts.{TripFacts}
 use Rattle.trip_core.specs.TripLines.{TripLine, plain, trip_true, trip_drives}
 use Rattle.trip_core.specs.TripRuns.{TripRun, TripLeads, TripMayHappen, TripPremisesHold, IsTripBroken, TripHeadline}
-use Rattle.trip_replay.specs.declared.log.TripLogEvent.{TripLogEvent}
-use Rattle.trip_replay.specs.declared.log.TripLogEvent.TheVariants.{At, Step}
+use Rattle.trip_replay.specs.declared.event.TripLogEvent.{TripLogEvent}
+use Rattle.trip_replay.specs.declared.event.TripLogEvent.TheVariants.{At, Step}
 use Rattle.trip_replay.specs.TripRecords.{as_log, TripMayBeTold}
 use Rattle.trip_replay.specs.TripLogLines.{trip_start_of, TripHasStart, trip_at_count, trip_lines_of}
 use Rattle.trip_replay.specs.TripReplays.{TripLineHappens, IsTripRunOf, IsTripReplay}
@@ -236,9 +236,11 @@ run_headline m log out s station laws is = trip_headline m (trip_start_of m.diag
 nothing_headline : (d : Diagram) (start : List Bool) → TripHeadline d start []
 nothing_headline d start = record {
   decisions = tt;
+  granted = λ i lt on. absurd cc;
   first_two = λ c r op v opened may. absurd opened;
   third = λ c r op v l before at none may. absurd at;
   sound = λ is. is;
+  apart = λ c b differ one other. absurd (nothing_under_way c one);
 }
 
 replay_headline : (m : Meaning) (log : List TripLogEvent) (r : Replayed) → IsStation m.diagram → Laws m

@@ -8,15 +8,15 @@ use Rattle.std.proofs.lemmas.List.{length-append, map-append, length-map}
 use Rattle.std.proofs.lemmas.Str.{is_utf8-from_IsUtf8}
 use Rattle.station_graph.specs.Diagram.{Diagram}
 use Rattle.reservation_core.specs.declared.values.LogEvent.{LogEvent}
-use Rattle.log_replay.specs.declared.log.TheConstants.{MOST_RECORDS}
+use Rattle.log_replay.specs.declared.limits.TheConstants.{MOST_RECORDS}
 use Rattle.log_replay.specs.RecordFaults.{field}
 use Rattle.log_replay.specs.Log.{MayFollow, AreInOrder, IsText}
 use Rattle.log_replay.proofs.FieldLemmas.{same_default}
 use Rattle.log_replay.proofs.LogLemmas.{next, AllZip-push, order_more}
 use Rattle.log_replay.proofs.ReportLemmas.{all_more}
 use Rattle.trip_core.specs.declared.values.TripEvent.TheVariants.{Step as Happening}
-use Rattle.trip_replay.specs.declared.log.TripLogEvent.{TripLogEvent}
-use Rattle.trip_replay.specs.declared.log.TripLogEvent.TheVariants.{At}
+use Rattle.trip_replay.specs.declared.event.TripLogEvent.{TripLogEvent}
+use Rattle.trip_replay.specs.declared.event.TripLogEvent.TheVariants.{At}
 use Rattle.trip_replay.specs.TripRecords.{as_log, TripMayBeTold, TripSays, IsTripRow, TripForm}
 use Rattle.trip_replay.specs.TripLogs.{TripTell}
 

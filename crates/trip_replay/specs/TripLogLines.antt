@@ -5,8 +5,8 @@ use Rattle.reservation_core.specs.Lines.{Shown}
 use Rattle.reservation_core.specs.LogLines.{HasStart, start_of, at_count}
 use Rattle.trip_core.specs.TripLines.{TripLine}
 use Rattle.trip_replay.specs.TripRecords.{as_log}
-use Rattle.trip_replay.specs.declared.log.TripLogEvent.{TripLogEvent}
-use Rattle.trip_replay.specs.declared.log.TripLogEvent.TheVariants.{At, Step}
+use Rattle.trip_replay.specs.declared.event.TripLogEvent.{TripLogEvent}
+use Rattle.trip_replay.specs.declared.event.TripLogEvent.TheVariants.{At, Step}
 
 -- The positions at the start.
 abbrev pub trip_start_of : Diagram → List TripLogEvent → List Bool

@@ -6,9 +6,9 @@ use Rattle.ilk_base.specs.declared.limits.TheConstants.{FILE_BYTES}
 use Rattle.station_graph.specs.Diagram.{Diagram}
 use Rattle.double_points.specs.Rows.{rows_of}
 use Rattle.log_replay.specs.Log.{AreInOrder, IsText}
-use Rattle.log_replay.specs.declared.log.TheConstants.{MOST_RECORDS}
+use Rattle.log_replay.specs.declared.limits.TheConstants.{MOST_RECORDS}
 use Rattle.trip_replay.specs.TripRecords.{as_log, TripSays, TripRecordFault}
-use Rattle.trip_replay.specs.declared.log.TripLogEvent.{TripLogEvent}
+use Rattle.trip_replay.specs.declared.event.TripLogEvent.{TripLogEvent}
 
 -- The records say these events, each one, in an order that may be.
 pub record TripTell (d : Diagram) (rows : List (List (List ℕ))) (events : List TripLogEvent) : Type 0 where

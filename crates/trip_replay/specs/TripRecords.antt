@@ -9,12 +9,12 @@ use Rattle.reservation_core.specs.declared.values.WorldEvent.{WorldEvent}
 use Rattle.reservation_core.specs.declared.values.WorldEvent.TheVariants.{Begin}
 use Rattle.log_replay.specs.Records.{event_row, step_row, NumbersFit}
 use Rattle.log_replay.specs.RecordFaults.{field, RecordFault}
-use Rattle.log_replay.specs.declared.log.TheConstants.{MOST_RECORDS}
+use Rattle.log_replay.specs.declared.limits.TheConstants.{MOST_RECORDS}
 use Rattle.trip_core.specs.Trips.{IsBreaker}
 use Rattle.trip_core.specs.declared.values.TripEvent.{TripEvent}
 use Rattle.trip_core.specs.declared.values.TripEvent.TheVariants.{Step as Happening, Trip}
-use Rattle.trip_replay.specs.declared.log.TripLogEvent.{TripLogEvent}
-use Rattle.trip_replay.specs.declared.log.TripLogEvent.TheVariants.{At, Step}
+use Rattle.trip_replay.specs.declared.event.TripLogEvent.{TripLogEvent}
+use Rattle.trip_replay.specs.declared.event.TripLogEvent.TheVariants.{At, Step}
 
 -- An event as one of a log without trips. In the order and the start of a log a trip is what the begin of a drive
 -- is: something that happens.

@@ -12,8 +12,8 @@ use Rattle.trip_core.specs.Happens.{TripHappens}
 use Rattle.trip_core.specs.TripRuns.{TripRun, TripPremisesHold, IsTripBroken}
 use Rattle.trip_core.specs.declared.values.TripEvent.TheVariants.{Step as Happening}
 use Rattle.trip_replay.specs.TripLogLines.{trip_start_of, TripHasStart, trip_at_count, trip_lines_of}
-use Rattle.trip_replay.specs.declared.log.TripLogEvent.{TripLogEvent}
-use Rattle.trip_replay.specs.declared.log.TripLogEvent.TheVariants.{At, Step}
+use Rattle.trip_replay.specs.declared.event.TripLogEvent.{TripLogEvent}
+use Rattle.trip_replay.specs.declared.event.TripLogEvent.TheVariants.{At, Step}
 
 -- The event leads from the old scene to the new one, with this outcome; one that tells where a switch stands at
 -- first changes nothing, and nothing comes of it.

@@ -11,7 +11,8 @@ ghost use Rattle.trip_replay.specs.TripRecords.{TripMayBeTold};
 ghost use Rattle.trip_replay.specs.TripLogLines.{trip_start_of, TripHasStart, trip_lines_of};
 ghost use Rattle.trip_replay.specs.TripReplays.{TripLineHappens, IsTripReplay};
 
-use crate::log::{TripLog, TripLogEvent};
+use crate::event::TripLogEvent;
+use crate::log::TripLog;
 use central_rules::Judge;
 use ilk_base::Memory;
 use log_replay::{at_count, broken, start_of};
@@ -93,8 +94,8 @@ pub fn replay_trips<J: Judge>(
     // The report is that of one run of the log, in which a trip is a step of no node.
     ensures replay { IfOk result (IsTripReplay (J.meaning judge.now) log.now) }
     ensures count { IfOk result (λ r. r.count ≡ length log.now) }
-    // Every decision is exact; every movement obeys the first two rules on the true positions throughout, and the
-    // third as long as no breaker has tripped that its grant used; and a sound start stays sound.
+    // Every decision is exact; every movement was granted and obeys the first two rules on the true positions
+    // throughout, and the third as long as no breaker has tripped that its grant used; a sound start stays sound.
     ensures headline { IfOk result (λ r. TripHeadline station.now (trip_start_of station.now log.now)
         (trip_lines_of log.now r.out [])) }
     ensures fits { IfOk result (ReportFits station.now) }

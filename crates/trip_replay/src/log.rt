@@ -1,10 +1,11 @@
 //! A log with trips.
 ghost use Rattle.std.specs.Prelude.{◌≡◌, ◌≤◌, ◌<◌, length, map, slice_get, Some, All, IfOk, IfErr};
 ghost use Rattle.ilk_base.specs.Inputs.{ForRefused};
-ghost use Rattle.log_replay.specs.declared.log.TheConstants.{MOST_RECORDS};
+ghost use Rattle.log_replay.specs.declared.limits.TheConstants.{MOST_RECORDS};
 ghost use Rattle.trip_replay.specs.TripRecords.{as_log, TripMayBeTold};
 ghost use Rattle.trip_replay.specs.TripLogs.{IsTripLog, IsTripLogFault};
 
+use crate::event::TripLogEvent;
 use crate::record::read_trip_record;
 use csv::ByteRecord;
 use double_points::Rows;
@@ -19,20 +20,6 @@ use trip_core::TripEvent;
 /// Why bytes gave no log with trips.
 pub use ilk_base::InputFault as TripLogFault;
 
-/// What a log with trips may tell: where a switch stands at first, or what happens next.
-#[derive(Clone, Copy, PartialEq, Eq)]
-pub enum TripLogEvent {
-    /// where a switch stands before anything happens
-    At {
-        /// the switch
-        switch: SwitchId,
-        /// whether it is closed
-        closed: bool,
-    },
-    /// what happens next
-    Step(TripEvent),
-}
-
 /// A log with trips, seen as the list of its events. It is made by `read_trip_log`, and has at most
 /// `MOST_RECORDS`.
 #[derive(Drop)]
@@ -44,8 +31,8 @@ pub struct TripLog {
 
 impl Model for TripLog {
     ghost use Rattle.std.specs.Prelude.{◌≡◌, ◌≤◌, List, length, map};
-    ghost use Rattle.log_replay.specs.declared.log.TheConstants.{MOST_RECORDS};
-    ghost use Rattle.trip_replay.specs.declared.log.TripLogEvent.{TripLogEvent};
+    ghost use Rattle.log_replay.specs.declared.limits.TheConstants.{MOST_RECORDS};
+    ghost use Rattle.trip_replay.specs.declared.event.TripLogEvent.{TripLogEvent};
     ghost use Rattle.trip_replay.specs.TripRecords.{as_log};
 
     ghost Value = { List TripLogEvent };

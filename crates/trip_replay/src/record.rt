@@ -5,12 +5,12 @@ ghost use Rattle.csv.specs.Records.{fields_of};
 ghost use Rattle.station_graph.specs.Diagram.{switch_path};
 ghost use Rattle.log_replay.specs.Log.{IsText, MayFollow};
 ghost use Rattle.log_replay.specs.RecordFaults.{field as field_at};
-ghost use Rattle.log_replay.specs.declared.log.TheConstants.{MOST_RECORDS};
+ghost use Rattle.log_replay.specs.declared.limits.TheConstants.{MOST_RECORDS};
 ghost use Rattle.trip_core.specs.Trips.{IsBreaker};
 ghost use Rattle.trip_replay.specs.TripRecords.{as_log, as_trip, TripSays, IsTripRow, TripForm, TripFault};
 ghost use Rattle.trip_replay.specs.TripRecords.{TripRecordFault};
 
-use crate::log::TripLogEvent;
+use crate::event::TripLogEvent;
 use csv::ByteRecord;
 use double_points::text_of;
 use ilk_base::{Kind, SwitchId};

@@ -1,7 +1,8 @@
 use Rattle.std.proofs.Common.{◌≡◌, ◌<◌, ◌≤◌, ℕ, length, map, take, drop, None}
 use Rattle.ilk_base.specs.declared.limits.TheConstants.{FILE_BYTES}
 use Rattle.double_points.specs.Rows.{rows_of}
-use Rattle.double_points.specs.Positions.{given, fault_at, HaveWords}
+use Rattle.double_points.specs.Positions.{given, fault_at}
+use Rattle.double_points.proofs.Records.{HaveWords}
 use Rattle.double_points.proofs.positions.read_positions.Given as goal
 
 abbrev pub invariant-loop-found : goal.invariant-loop-found

@@ -1,9 +1,9 @@
 use Rattle.std.proofs.Common.{◌≡◌, ◌∙◌, suc, List, ℕ, refl, sym, ap, subst}
-use Rattle.equation_text.specs.declared.read.EquationsFault.{EquationsFault}
+use Rattle.ilk_base.specs.declared.input_fault.InputFault.{InputFault}
 use Rattle.station_equations.specs.EquationLines.{EquationLines}
 use Rattle.station_equations.specs.EquationText.{IsTextOf}
 use Rattle.equation_text.specs.Defined.{AreThere}
-use Rattle.equation_text.specs.ReadText.{ForRefused}
+use Rattle.ilk_base.specs.Inputs.{ForRefused}
 use Rattle.equation_text.specs.Faults.{feeds, AreFormed, IsFirstFault}
 use Rattle.equation_text.proofs.WordLemmas.{none_told, some_told, true_false}
 use Rattle.equation_text.proofs.WholeLemmas.{there_of, parts_writable, equations_of}
@@ -20,7 +20,7 @@ are_there-requires c =
 pub returns-then-not-are_there-clause-none : goal.returns-then-not-are_there-clause-none
 returns-then-not-are_there-clause-none c =
     let told = some_told c.in_ok-read.read _ _ c.in-Some.lines c.in-Some.is c.in_ok-read.ensures in
-    subst (λ (f : EquationsFault). ForRefused f (λ r. (e : EquationLines)
+    subst (λ (f : InputFault). ForRefused f (λ r. (e : EquationLines)
     → ¬ IsTextOf c.args.station.now c.args.bytes.now e)) (sym c.refused-then-not-are_there.ensures) (λ e h.
     let there = subst (λ (x : EquationLines). AreThere x.parts x.ops x.nodes) (told.once e h)
     (there_of e h.are.whole) in
@@ -45,7 +45,7 @@ returns-clause-ok c =
 pub returns-in_default-clause-none : goal.returns-in_default-clause-none
 returns-in_default-clause-none c =
     let stop = none_told c.in_ok-read.read _ _ c.in_default.is c.in_ok-read.ensures in
-    subst (λ (f : EquationsFault). ForRefused f (λ r. (e : EquationLines)
+    subst (λ (f : InputFault). ForRefused f (λ r. (e : EquationLines)
     → ¬ IsTextOf c.args.station.now c.args.bytes.now e)) (sym c.refused.ensures) (λ e h.
     let of_form = formed c.args.station.now c.part_count-parts.ensures.station e h.are c.args.bytes.now
     h.is c.requires in
@@ -57,7 +57,7 @@ returns-in_default-clause-line c =
     let front = take_front c.args.bytes.now stop.before c.read_lines.new.left.text.now _ stop.is refl in
     let wrong : c.line_behind-wrong.result ≡ suc (feeds stop.before) = c.line_behind-wrong.ensures ∙ ap (λ
     (z : List ℕ). suc (feeds z)) front in
-    subst (λ (f : EquationsFault). ForRefused f (λ r. IsFirstFault c.args.station.now c.args.bytes.now r.line))
+    subst (λ (f : InputFault). ForRefused f (λ r. IsFirstFault c.args.station.now c.args.bytes.now r.line))
     (sym c.refused.ensures) (first_of c.args.station.now c.args.bytes.now c.read_lines.new.left.text.now stop
     c.line_behind-wrong.result c.least.result c.in_ok-undefined.undefined wrong c.in_ok-undefined.ensures
     c.least.ensures)
@@ -75,7 +75,7 @@ returns-then-not-are_there-clause-line c =
       ops = told.ops_may;
       nodes = told.nodes_may;
     } in
-    subst (λ (f : EquationsFault). ForRefused f (λ r. IsFirstFault c.args.station.now c.args.bytes.now r.line))
+    subst (λ (f : InputFault). ForRefused f (λ r. IsFirstFault c.args.station.now c.args.bytes.now r.line))
     (sym c.refused-then-not-are_there.ensures) (first_named c.args.station.now c.args.bytes.now lines of_form told.is
     c.line_of.result c.in_ok-undefined-2.undefined c.in_ok-undefined-2.ensures (λ none.
     let there = all_there c.args.station.now c.part_count-parts.ensures.station lines of_form c.args.bytes.now told.is

@@ -1,4 +1,5 @@
 use Rattle.interlock_cli.specs.Formats.{Drawing}
+use Rattle.interlock_cli.proofs.Asked.{on_ok}
 use Rattle.interlock_cli.proofs.Cuts.{drawing, failed}
 use Rattle.interlock_cli.proofs.Drawings.{drawn}
 use Rattle.interlock_cli.proofs.loading.load_drawing.Goals as goal
@@ -14,3 +15,6 @@ returns-clause-err g c =
     (g.F.Shelf.faults c.read_file.new.shelf) c.args.name.now c.in-Ok.bytes.items c.judge_drawing.result
     c.in-Ok.ensures.ok
     (rw c.deref.ensures.value at c.judge_drawing.ensures.err)
+
+pub returns-clause-read : goal.returns-clause-read
+returns-clause-read g c = on_ok c.judge_drawing.result c.in-Ok.ensures.read

@@ -1,4 +1,5 @@
 use Rattle.interlock_cli.specs.Formats.{Positions}
+use Rattle.interlock_cli.proofs.Asked.{on_ok}
 use Rattle.interlock_cli.proofs.Cuts.{positions, given, failed}
 use Rattle.interlock_cli.proofs.loading.load_readings.Goals as goal
 
@@ -15,3 +16,6 @@ returns-clause-err g c =
     (g.F.Shelf.faults c.read_file.new.shelf) c.args.name.now c.in-Ok.bytes.items c.judge_positions.result
     c.in-Ok.ensures.ok
     (rw c.deref.ensures.value at c.judge_positions.ensures.err)
+
+pub returns-clause-read : goal.returns-clause-read
+returns-clause-read g c = on_ok c.judge_positions.result c.in-Ok.ensures.read

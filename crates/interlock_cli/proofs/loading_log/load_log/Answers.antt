@@ -1,4 +1,5 @@
 use Rattle.interlock_cli.specs.Formats.{LogOf}
+use Rattle.interlock_cli.proofs.Asked.{on_ok}
 use Rattle.interlock_cli.proofs.Cuts.{log, given, failed}
 use Rattle.interlock_cli.proofs.loading_log.load_log.Goals as goal
 
@@ -14,3 +15,6 @@ returns-clause-err g c =
     failed (LogOf d) (log d) (g.F.Shelf.held c.args.shelf.now) (g.F.Shelf.faults c.args.shelf.now)
     (g.F.Shelf.faults c.read_file.new.shelf) c.args.name.now c.in-Ok.bytes.items c.judge_log.result c.in-Ok.ensures.ok
     (rw c.deref.ensures.value at c.judge_log.ensures.err)
+
+pub returns-clause-read : goal.returns-clause-read
+returns-clause-read g c = on_ok c.judge_log.result c.in-Ok.ensures.read

@@ -1,6 +1,7 @@
 use Rattle.std.proofs.Common.{inl, inr, rules}
 use Rattle.interlock_cli.specs.Formats.{CertainPositions, OrderOf}
 use Rattle.interlock_cli.specs.Form.{File}
+use Rattle.interlock_cli.proofs.Asked.{reads_begun, reads_on}
 use Rattle.interlock_cli.proofs.Later.{onward_both, given_later, fails_later}
 use Rattle.interlock_cli.proofs.order_command.order.Goals as goal
 
@@ -40,3 +41,19 @@ returns-in-Ok-order_text-clause-ok g c =
         ),
       ),
     )
+
+pub returns-in-Err-load_start-clause-reads : goal.returns-in-Err-load_start-clause-reads
+returns-in-Err-load_start-clause-reads g c =
+    reads_on c.in-Ok.ensures.read (reads_begun c.in-Err-load_start.ensures.reads)
+
+pub returns-in-Err-load_order-clause-reads : goal.returns-in-Err-load_order-clause-reads
+returns-in-Err-load_order-clause-reads g c =
+    reads_on c.in-Ok.ensures.read (reads_on c.in-Ok-load_start.ensures.read c.in-Err-load_order.ensures.reads)
+
+pub returns-in-Ok-order_text-clause-reads : goal.returns-in-Ok-order_text-clause-reads
+returns-in-Ok-order_text-clause-reads g c =
+    reads_on c.in-Ok.ensures.read (reads_on c.in-Ok-load_start.ensures.read c.in-Ok-load_order.ensures.reads)
+
+pub returns-clause-reads : goal.returns-clause-reads
+returns-clause-reads g c =
+    reads_on c.in-Ok.ensures.read (reads_on c.in-Ok-load_start.ensures.read c.in-Ok-load_order.ensures.reads)

@@ -1,16 +1,17 @@
 use Rattle.std.proofs.Common.{refl, inl, inr}
 use Rattle.interlock_cli.specs.Form.{File}
 use Rattle.interlock_cli.specs.Formats.{BayOf}
+use Rattle.interlock_cli.proofs.Asked.{reads_first}
 use Rattle.interlock_cli.proofs.Drawings.{drawn_given, drawn_fails}
 use Rattle.interlock_cli.proofs.Later.{word_fails}
 use Rattle.interlock_cli.proofs.Storing.{stops_before}
 use Rattle.interlock_cli.proofs.stored_command.stored.Goals as goal
 
-pub returns-in-Err : goal.returns-in-Err
-returns-in-Err g c = stops_before _ _ _ _ c.in-Err.end (inl c.in-Err.ensures.err) refl
+pub returns-in-Err-clause-ends : goal.returns-in-Err-clause-ends
+returns-in-Err-clause-ends g c = stops_before _ _ _ _ c.in-Err.end (inl c.in-Err.ensures.err) refl
 
-pub returns-in-Err-build_judge : goal.returns-in-Err-build_judge
-returns-in-Err-build_judge g c =
+pub returns-in-Err-build_judge-clause-ends : goal.returns-in-Err-build_judge-clause-ends
+returns-in-Err-build_judge-clause-ends g c =
     let held = g.F.Shelf.held c.args.shelf.now in
     let before = g.F.Shelf.faults c.args.shelf.now in
     let after = g.F.Shelf.faults c.load_drawing.new.shelf in
@@ -19,8 +20,8 @@ returns-in-Err-build_judge g c =
     (File c.args.station.now) c.in-Ok.station c.in-Err-build_judge.end c.in-Ok.ensures.ok
     c.in-Err-build_judge.ensures.err)) refl
 
-pub returns-in-Err-named_bay : goal.returns-in-Err-named_bay
-returns-in-Err-named_bay g c =
+pub returns-in-Err-named_bay-clause-ends : goal.returns-in-Err-named_bay-clause-ends
+returns-in-Err-named_bay-clause-ends g c =
     let held = g.F.Shelf.held c.args.shelf.now in
     let before = g.F.Shelf.faults c.args.shelf.now in
     let after = g.F.Shelf.faults c.load_drawing.new.shelf in
@@ -32,8 +33,8 @@ returns-in-Err-named_bay g c =
       inl (word_fails held before after (BayOf d) c.args.bay.now c.in-Err-named_bay.end c.in-Err-named_bay.ensures.err),
     )) refl
 
-pub returns : goal.returns
-returns g c =
+pub returns-clause-ends : goal.returns-clause-ends
+returns-clause-ends g c =
     let held = g.F.Shelf.held c.args.shelf.now in
     let d = c.in-Ok.station in
     inr (record {
@@ -50,3 +51,12 @@ returns g c =
         ends = c.serve_stored.ensures.ends;
       };
     })
+
+pub returns-in-Err-build_judge-clause-reads : goal.returns-in-Err-build_judge-clause-reads
+returns-in-Err-build_judge-clause-reads g c = reads_first c.in-Ok.ensures.read
+
+pub returns-in-Err-named_bay-clause-reads : goal.returns-in-Err-named_bay-clause-reads
+returns-in-Err-named_bay-clause-reads g c = reads_first c.in-Ok.ensures.read
+
+pub returns-clause-reads : goal.returns-clause-reads
+returns-clause-reads g c = reads_first c.in-Ok.ensures.read

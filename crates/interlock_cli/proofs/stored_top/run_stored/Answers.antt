@@ -1,3 +1,4 @@
+use Rattle.interlock_cli.proofs.Asked.{reads_none}
 use Rattle.interlock_cli.proofs.Storing.{want, wants_as_run, of_some}
 use Rattle.std.proofs.Common.{refl, inr, map, string_bytes}
 use Rattle.interlock_cli.specs.StoredWords.{stored_of}
@@ -22,3 +23,13 @@ returns-in-Err-clause-stored g c = of_some (stored_of (map string_bytes c.args.w
 pub returns-in-Err-clause-stored_complete : goal.returns-in-Err-clause-stored_complete
 returns-in-Err-clause-stored_complete g c = of_some (stored_of (map string_bytes c.args.words.now)) _
     (λ w answered calm. inr c.answer_want.ensures.status)
+
+pub returns-in-Err-clause-reads : goal.returns-in-Err-clause-reads
+returns-in-Err-clause-reads g c = λ _. reads_none _ _
+
+pub returns-in-Err-clause-stored_reads : goal.returns-in-Err-clause-stored_reads
+returns-in-Err-clause-stored_reads g c = of_some (stored_of (map string_bytes c.args.words.now)) _
+    (λ w. reads_none _ _)
+
+pub returns-in-None-clause-reads : goal.returns-in-None-clause-reads
+returns-in-None-clause-reads g c = λ _. c.run.ensures.reads

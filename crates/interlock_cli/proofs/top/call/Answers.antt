@@ -3,6 +3,7 @@ use Rattle.station_graph.specs.Diagram.{empty}
 use Rattle.interlock_cli.specs.Commands.{command_of, form_of, Node}
 use Rattle.interlock_cli.specs.Seen.{seen_command}
 use Rattle.interlock_cli.specs.Ends.{Call, Ends}
+use Rattle.interlock_cli.proofs.Asked.{reads_none}
 use Rattle.interlock_cli.proofs.Stopping.{appends_nothing, keeps_same, stops_end, unread_ends, wrote_end}
 use Rattle.interlock_cli.proofs.top.call.Goals as goal
 
@@ -14,12 +15,14 @@ returns-in-Err-clause-ends g c =
       reads_after = g.F.Shelf.faults c.args.shelf.now;
       before = record {
         input = g.I.Source.left c.args.input.now;
+        asked = g.I.Source.left_before c.args.input.now;
         reads = g.I.Source.faults c.args.input.now;
         out = g.O.Sink.took c.args.out.now;
         writes = g.O.Sink.faults c.args.out.now;
       };
       after = record {
         input = g.I.Source.left c.args.input.now;
+        asked = g.I.Source.left_before c.args.input.now;
         reads = g.I.Source.faults c.args.input.now;
         out = g.O.Sink.took c.args.out.now;
         writes = g.O.Sink.faults c.args.out.now;
@@ -47,12 +50,14 @@ returns-in-Err-node-clause-ends g c =
       reads_after = g.F.Shelf.faults c.node.new.shelf;
       before = record {
         input = g.I.Source.left c.args.input.now;
+        asked = g.I.Source.left_before c.args.input.now;
         reads = g.I.Source.faults c.args.input.now;
         out = g.O.Sink.took c.args.out.now;
         writes = g.O.Sink.faults c.args.out.now;
       };
       after = record {
         input = g.I.Source.left c.node.new.input;
+        asked = g.I.Source.left_before c.node.new.input;
         reads = g.I.Source.faults c.node.new.input;
         out = g.O.Sink.took c.node.new.out;
         writes = g.O.Sink.faults c.node.new.out;
@@ -79,12 +84,14 @@ returns-in-Ok-output_of g c =
       reads_after = g.F.Shelf.faults c.output_of.new.shelf;
       before = record {
         input = g.I.Source.left c.args.input.now;
+        asked = g.I.Source.left_before c.args.input.now;
         reads = g.I.Source.faults c.args.input.now;
         out = g.O.Sink.took c.args.out.now;
         writes = g.O.Sink.faults c.args.out.now;
       };
       after = record {
         input = g.I.Source.left c.args.input.now;
+        asked = g.I.Source.left_before c.args.input.now;
         reads = g.I.Source.faults c.args.input.now;
         out = g.O.Sink.took c.write_output.new.out;
         writes = g.O.Sink.faults c.write_output.new.out;
@@ -98,6 +105,7 @@ returns-in-Ok-output_of g c =
             record { left = keeps_same (g.I.Source.left c.args.input.now); reads = refl },
           ));
       unread = λ none. cc (named, none);
+      reads = rw named c.output_of.ensures.reads;
       input = λ other. refl;
     }
 
@@ -111,12 +119,14 @@ returns-in-Err-output_of g c =
       reads_after = g.F.Shelf.faults c.output_of.new.shelf;
       before = record {
         input = g.I.Source.left c.args.input.now;
+        asked = g.I.Source.left_before c.args.input.now;
         reads = g.I.Source.faults c.args.input.now;
         out = g.O.Sink.took c.args.out.now;
         writes = g.O.Sink.faults c.args.out.now;
       };
       after = record {
         input = g.I.Source.left c.args.input.now;
+        asked = g.I.Source.left_before c.args.input.now;
         reads = g.I.Source.faults c.args.input.now;
         out = g.O.Sink.took c.args.out.now;
         writes = g.O.Sink.faults c.args.out.now;
@@ -130,5 +140,21 @@ returns-in-Err-output_of g c =
             record { left = keeps_same (g.I.Source.left c.args.input.now); reads = refl },
           ));
       unread = λ none. cc (named, none);
+      reads = rw named c.output_of.ensures.reads;
       input = λ other. refl;
     }
+
+pub returns-in-Err-clause-reads : goal.returns-in-Err-clause-reads
+returns-in-Err-clause-reads g c = reads_none _ _
+
+pub returns-in-Ok-node-clause-reads : goal.returns-in-Ok-node-clause-reads
+returns-in-Ok-node-clause-reads g c =
+    let named : command_of (map string_bytes c.args.words.now) ≡ Some (seen_command c.in-Ok.command) =
+    c.in-Ok.ensures.ok in
+    rw (named, c.in-Node.is) c.node.ensures.reads
+
+pub returns-in-Err-node-clause-reads : goal.returns-in-Err-node-clause-reads
+returns-in-Err-node-clause-reads g c =
+    let named : command_of (map string_bytes c.args.words.now) ≡ Some (seen_command c.in-Ok.command) =
+    c.in-Ok.ensures.ok in
+    rw (named, c.in-Node.is) c.node.ensures.reads

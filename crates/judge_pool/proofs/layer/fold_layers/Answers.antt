@@ -3,7 +3,7 @@ use Rattle.std.proofs.Common.{slice_get, Some, Vec, Global, refl, sym, ap, ◌�
 use Rattle.std.specs.Prelude.{option_map, Contains, ◌↔◌}
 use Rattle.contraction.specs.Answers.{Answers, Keeps}
 use Rattle.bay_contract.specs.Counting.{AreSoMany}
-use Rattle.std.proofs.lemmas.List.{map-append, length-map, take_more, take_all}
+use Rattle.std.proofs.lemmas.List.{map-append, length-map, length_push, take_more, take_all}
 use Rattle.std.proofs.lemmas.Option.{slice_get-get_or, slice_get_read, slice_get-map, same_Some, get_or_from_slice_get}
 use Rattle.decision_graphs.specs.declared.finished.FinishedLayer.{FinishedLayer}
 use Rattle.decision_graphs.specs.Finished.{finished, AreFinished, IsFinished}
@@ -13,6 +13,7 @@ use Rattle.std.proofs.lemmas.List.Sums.{sum_by_push}
 use Rattle.contraction.specs.Renaming.{mapped}
 use Rattle.judge_pool.specs.Places.{pool_on}
 use Rattle.judge_pool.specs.Layering.{AreEdges, values_at, no_answers}
+use Rattle.judge_pool.specs.Past.{ArePast}
 use Rattle.judge_pool.specs.Counted.{Spends, AreAtLeast}
 use Rattle.judge_pool.specs.Folding.{IsExact, ReachesMore}
 use Rattle.decision_graphs.specs.Finished.{layer_with}
@@ -24,9 +25,16 @@ use Rattle.judge_pool.proofs.PlanLemmas.{either_here, one_in, start_kept_at}
 use Rattle.judge_pool.proofs.CountLemmas.{at_least_of}
 use Rattle.judge_pool.proofs.PassLemmas.{plan_none, plan_spends, plan_passes, states_count, reached_at_least}
 use Rattle.judge_pool.proofs.PassLemmas.{passes_next}
+use Rattle.judge_pool.proofs.PastLemmas.{past_more}
 use Rattle.judge_pool.proofs.ErrorLemmas.{passed_on}
 use Rattle.judge_pool.proofs.layer.fold_layers.Goals as goal
 use Rattle.judge_pool.specs.declared.limits.TheConstants.{ALL_EDGES}
+
+abbrev items_in : Vec ℕ Global → List ℕ
+items_in v = v.items
+
+abbrev edges_of : FinishedLayer → List ℕ
+edges_of l = l.edges.items
 
 pub layers-init : goal.layers-init
 layers-init c =
@@ -50,6 +58,12 @@ layers-init c =
       finished =
           subst (λ ls. AreFinished (length c.in_ok-states.states.items) ls) (sym c.new-layers.ensures.items)
           (omega (arith, ap length is));
+      made = omega (arith, ap length c.new-layers.ensures.items);
+      listed = omega (arith, ap length c.new-lists.ensures.items);
+      past = λ i k row states next edges at_row at_keep at_list at_next at_edges. absurd
+          (let h : slice_get {X = List ℕ} [] i ≡ Some edges =
+          ap (λ (ls : List FinishedLayer). slice_get (map edges_of ls) i) (sym c.new-layers.ensures.items) ∙ at_edges in
+          cc);
       kept =
           λ t i m x nodes at_i at_x at_m at_nodes n. start_kept_at p c.args.start letters c.args.keeps.now
           c.requires.linked t i m x nodes (ap (λ xs. slice_get xs t) (sym is) ∙ at_i) at_x at_m at_nodes n;
@@ -64,12 +78,12 @@ layers-init c =
           (linked_on f p c.args.start letters c.args.keeps.now c.requires.linked) fits));
     }
 
-pub next_layer-requires-clause-states : goal.next_layer-requires-clause-states
-next_layer-requires-clause-states c t i at =
+pub step_from-requires-clause-states : goal.step_from-requires-clause-states
+step_from-requires-clause-states c t i at =
     c.layers.invariant.states_in t i (ap (λ xs. slice_get xs t) (sym c.as_slice-held.ensures.value) ∙ at)
 
-pub next_layer-requires-clause-letters : goal.next_layer-requires-clause-letters
-next_layer-requires-clause-letters c t i at =
+pub step_from-requires-clause-letters : goal.step_from-requires-clause-letters
+step_from-requires-clause-letters c t i at =
     let p = c.args.pool.now in
     let letters : List (List ℕ) = map (λ (v : Vec ℕ Global). v.items) c.args.letters.now in
     let row : List ℕ = c.as_slice-row.result.now in
@@ -82,8 +96,8 @@ next_layer-requires-clause-letters c t i at =
     grew_in p c.layers.pool i no_answers c.layers.invariant.grew
     (c.requires.linked.letters_in c.layers.j t i row at_j at)
 
-pub next_layer-requires-clause-some : goal.next_layer-requires-clause-some
-next_layer-requires-clause-some c =
+pub step_from-requires-clause-some : goal.step_from-requires-clause-some
+step_from-requires-clause-some c =
     let letters : List (List ℕ) = map (λ (v : Vec ℕ Global). v.items) c.args.letters.now in
     let row : List ℕ = c.as_slice-row.result.now in
     let at0 : slice_get c.args.letters.now c.layers.j ≡ Some c.index-letters-j.result =
@@ -94,8 +108,8 @@ next_layer-requires-clause-some c =
     ∙ (ap (option_map (λ (v : Vec ℕ Global). v.items)) at0 ∙ ap Some (sym c.as_slice-row.ensures.value)) in
     c.requires.linked.some c.layers.j row at_j
 
-pub next_layer-requires-clause-keep : goal.next_layer-requires-clause-keep
-next_layer-requires-clause-keep c =
+pub step_from-requires-clause-keep : goal.step_from-requires-clause-keep
+step_from-requires-clause-keep c =
     let keeps = c.args.keeps.now in
     let k : ℕ = get_or keeps (c.layers.j + 1) 0 in
     let at_k : slice_get keeps (c.layers.j + 1) ≡ Some k =
@@ -108,8 +122,8 @@ next_layer-requires-clause-keep c =
     length-letters [] = refl
     length-letters (x ∷ xs) = ap suc (length-letters xs)
 
-pub next_layer-requires-clause-nodes : goal.next_layer-requires-clause-nodes
-next_layer-requires-clause-nodes c t m i l at_i at_l =
+pub step_from-requires-clause-nodes : goal.step_from-requires-clause-nodes
+step_from-requires-clause-nodes c t m i l at_i at_l =
     let p = c.args.pool.now in
     let keeps = c.args.keeps.now in
     let letters : List (List ℕ) = map (λ (v : Vec ℕ Global). v.items) c.args.letters.now in
@@ -137,7 +151,7 @@ pub layers-preserved : goal.layers-preserved
 layers-preserved c =
     let p = c.args.pool.now in
     let q = c.layers.pool in
-    let r = c.next_layer.new.pool in
+    let r = c.step_from.new.pool in
     let keeps = c.args.keeps.now in
     let j = c.layers.j in
     let letters : List (List ℕ) = map (λ (v : Vec ℕ Global). v.items) c.args.letters.now in
@@ -241,6 +255,37 @@ layers-preserved c =
           (AreFinished-push (length states) (length next) c.layers.layers.items layer c.layers.invariant.finished count
           fits_layer (next_some p q r c.args.start letters keeps c.requires.linked gg hh holds j k row nodes at_j at_k
           at_nodes states next edges c.layers.invariant.states_in c.layers.invariant.some e));
+      made = omega (
+        arith,
+        ap length c.in_ok-push.ensures.items,
+        length_push c.layers.layers.items layer,
+        c.layers.invariant.made,
+      );
+      listed = omega (
+        arith,
+        ap length c.in_ok-push-2.ensures.items,
+        length_push c.layers.lists.items c.layers.states,
+        c.layers.invariant.listed,
+      );
+      past =
+          let lists : List (Vec ℕ Global) = c.layers.lists.items in
+          let layers : List FinishedLayer = c.layers.layers.items in
+          let on = past_more q r letters keeps (map items_in lists) (map edges_of layers) h states row next edges j k
+          c.layers.invariant.past (length-map lists items_in ∙ c.layers.invariant.listed)
+          (length-map layers edges_of ∙ c.layers.invariant.made) at_j at_k (record {
+            nodes = nodes;
+            kept = h.keeps k nodes at_q;
+            few = few_next;
+            edges_lead = e;
+          }) in
+          subst (λ ls. ArePast r letters keeps (map items_in ls ++ next ∷ []) (map edges_of c.push.new.self.items))
+          (sym c.in_ok-push-2.ensures.items)
+          (subst (λ ls. ArePast r letters keeps (map items_in (lists ++ c.layers.states ∷ []) ++ next ∷ [])
+          (map edges_of ls)) (sym c.in_ok-push.ensures.items)
+          (subst (λ xs. ArePast r letters keeps (xs ++ next ∷ []) (map edges_of (layers ++ layer ∷ [])))
+          (sym (map-append items_in lists (c.layers.states ∷ [])))
+          (subst (λ xs. ArePast r letters keeps ((map items_in lists ++ states ∷ []) ++ next ∷ []) xs)
+          (sym (map-append edges_of layers (layer ∷ []))) on)));
       kept = λ t i m x ns at_i at_x at_m at_ns n.
           let same_k : k ≡ m = same_Some k m (sym at_k1 ∙ at_m) in
           let same_nodes : nodes ≡ ns =
@@ -274,6 +319,21 @@ layers-preserved c =
     length-letters : (xs : List (Vec ℕ Global)) → length (map (λ (v : Vec ℕ Global). v.items) xs) ≡ length xs
     length-letters [] = refl
     length-letters (x ∷ xs) = ap suc (length-letters xs)
+
+pub step_from-requires-clause-past : goal.step_from-requires-clause-past
+step_from-requires-clause-past c i k row states next edges at_row at_keep at_list at_next at_edges =
+    c.layers.invariant.past i k row states next edges at_row at_keep (same i ∙ at_list) (same (suc i) ∙ at_next)
+    (ap (λ (ls : List FinishedLayer). slice_get (map (λ (l : FinishedLayer). l.edges.items) ls) i)
+    (sym c.deref-in-layers.ensures.value) ∙ at_edges)
+  where
+    same : (t : ℕ) →
+        slice_get (map (λ (v : Vec ℕ Global). v.items) c.layers.lists.items ++ c.layers.states.items ∷ []) t
+        ≡ slice_get (map (λ (v : Vec ℕ Global). v.items) c.deref.result.now ++ c.as_slice-held.result.now ∷ []) t
+    same t =
+        ap (λ (ls : List (Vec ℕ Global)).
+        slice_get (map (λ (v : Vec ℕ Global). v.items) ls ++ c.layers.states.items ∷ []) t) (sym c.deref.ensures.value)
+        ∙ ap (λ xs. slice_get (map (λ (v : Vec ℕ Global). v.items) c.deref.result.now ++ xs ∷ []) t)
+        (sym c.as_slice-held.ensures.value)
 
 pub returns-clause-choices : goal.returns-clause-choices
 returns-clause-choices c =

@@ -2,7 +2,7 @@ use Rattle.std.proofs.Common.{◌<◌, ◌+◌, ◌∙◌, sym, ap, inr, subst, 
 use Rattle.csv.specs.Records.{fields_of}
 use Rattle.double_points.specs.Rows.{rows_of}
 use Rattle.reservation_core.specs.declared.values.LogEvent.{LogEvent}
-use Rattle.log_replay.specs.declared.log.TheConstants.{MOST_RECORDS}
+use Rattle.log_replay.specs.declared.limits.TheConstants.{MOST_RECORDS}
 use Rattle.log_replay.specs.Log.{Tell, MayFollow}
 use Rattle.log_replay.specs.RecordFaults.{RecordFault}
 use Rattle.log_replay.proofs.LogLemmas.{next, nothing_left, tell_more, told_each}

@@ -1,6 +1,6 @@
 use Rattle.std.proofs.Common.{◌≡◌, ◌∙◌, ◌++◌, ℕ, List, ap, sym, subst}
-use Rattle.ssd_read.specs.declared.ends.Use.{Use}
-use Rattle.ssd_read.specs.declared.ends.Use.TheVariants as uses
+use Rattle.ssd_read.specs.declared.types.Use.{Use}
+use Rattle.ssd_read.specs.declared.types.Use.TheVariants as uses
 use Rattle.ssd_read.specs.Elements.{element_at}
 use Rattle.ssd_read.specs.Ends.{nodes_at, use_of}
 use Rattle.ssd_read.specs.Types.{use_of_type}

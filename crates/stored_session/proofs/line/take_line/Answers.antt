@@ -2,7 +2,7 @@ use Rattle.std.proofs.Common.{◌⊎◌, List, ℕ, inl}
 use Rattle.bay_protocol.specs.State.{kept_of}
 use Rattle.node_store.specs.Image.{IsImageOf}
 use Rattle.node_store.proofs.Runs.{begins}
-use Rattle.stored_session.proofs.Changing.{leaves_now}
+use Rattle.stored_session.proofs.Changing.{left_alone, leaves_now}
 use Rattle.stored_session.proofs.line.take_line.Goals as goal
 
 pub returns-in_default-clause-crash : goal.returns-in_default-clause-crash
@@ -56,3 +56,18 @@ returns-clause-kept g c = record {
       (done.0, done.1, done.2 (kept_of c.args.node.now) (kept_of c.act.new.node) kept.stands c.in-Ok.ensures.keep);
   untold = c.in-Ok-put_changed.ensures.kept.untold;
 }
+
+pub returns-in_default-put_changed-clause-unchanged : goal.returns-in_default-put_changed-clause-unchanged
+returns-in_default-put_changed-clause-unchanged g c = λ same.
+    left_alone (kept_of c.args.node.now) (kept_of c.act.new.node) _ _ c.in-Ok.ensures.keep
+    c.put_changed.ensures.unchanged same
+
+pub returns-in_default-write_all-clause-unchanged : goal.returns-in_default-write_all-clause-unchanged
+returns-in_default-write_all-clause-unchanged g c = λ same.
+    left_alone (kept_of c.args.node.now) (kept_of c.act.new.node) _ _ c.in-Ok.ensures.keep
+    c.put_changed.ensures.unchanged same
+
+pub returns-clause-unchanged : goal.returns-clause-unchanged
+returns-clause-unchanged g c = λ same.
+    left_alone (kept_of c.args.node.now) (kept_of c.act.new.node) _ _ c.in-Ok.ensures.keep
+    c.put_changed.ensures.unchanged same

@@ -1,7 +1,7 @@
 use Rattle.std.proofs.Common.{◌≡◌, ◌∙◌, ap, take}
 use Rattle.std.specs.Str.Lines.{strip_carriage_return}
 use Rattle.node_session.proofs.Next.{held_some}
-use Rattle.stored_session.proofs.Lines.{begins, line_comes, long_comes, last_comes, fails_so}
+use Rattle.stored_session.proofs.Lines.{begins, line_comes, line_asked, long_comes, last_comes, last_asked, fails_so}
 use Rattle.stored_session.proofs.read.next_line.Goals as goal
 
 pub returns-in_default-clause-goes : goal.returns-in_default-clause-goes
@@ -32,3 +32,14 @@ returns-in-Ok-text_of-clause-goes g c = λ before done at.
 pub returns-in-Err-clause-goes : goal.returns-in-Err-clause-goes
 returns-in-Err-clause-goes g c =
     λ before done at. fails_so before done _ _ _ c.fill.new.self at _ c.in-Err.trouble c.in-Err.ensures.err
+
+pub returns-in-Ok-clause-asks : goal.returns-in-Ok-clause-asks
+returns-in-Ok-clause-asks g c = λ before done at earlier line.
+    line_asked before done _ _ _ c.fill.new.self at _ _ c.in-Ok-Line.len earlier c.in-Ok-Line.ensures.asked
+    (rw c.in-Ok-Line.field-0-is at c.in-Ok-Line.ensures.ok)
+
+pub returns-in-Ok-text_of-clause-asks : goal.returns-in-Ok-text_of-clause-asks
+returns-in-Ok-text_of-clause-asks g c = λ before done at earlier line.
+    last_asked before done _ (g.I.Source.left c.fill.new.input) _ c.fill.new.self at _ _ earlier c.in-Ok-Last.ensures.asked
+    (held_some c.fill.new.self c.held-in-Ok-Last.result.now c.is_empty.result c.held-in-Ok-Last.ensures
+    c.is_empty.ensures c.if-is_empty.false)

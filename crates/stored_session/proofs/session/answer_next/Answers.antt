@@ -3,7 +3,8 @@ use Rattle.std.proofs.Common.{ap, subst, arith}
 use Rattle.std.proofs.lemmas.List.{length-append}
 use Rattle.ilk_base.proofs.Fronts.{rose_earlier}
 use Rattle.node_session.specs.declared.end.TheConstants.{MOST_LINES}
-use Rattle.node_session.specs.SessionEnds.{Streams}
+use Rattle.node_session.specs.SessionEnds.{Streams, LastAsked}
+use Rattle.node_session.proofs.Asking.{asked_line}
 use Rattle.stored_session.specs.Through.{ReadsThrough, IsAll, HasNext}
 use Rattle.stored_session.specs.declared.end.StoredEnd.TheVariants as e
 use Rattle.stored_session.proofs.Lines.{has_next, has_last, near_line, near_last}
@@ -16,6 +17,7 @@ returns-in-Ok-TooLong-clause-goes g c = λ start before from at.
     let comes = (rw c.in-Ok-TooLong.field-0-is at c.in-Ok-TooLong.ensures.goes) before.input at.done at.reads in
     let mid : Streams = record {
       input = g.I.Source.left c.next_line.new.input;
+      asked = g.I.Source.left_before c.next_line.new.input;
       reads =
           g.I.Source.faults c.next_line.new.input;
       out = g.O.Sink.took c.args.out.now;
@@ -44,6 +46,7 @@ returns-in-Ok-End-clause-goes g c = λ start before from at.
     let comes = (rw c.in-Ok-End.field-0-is at c.in-Ok-End.ensures.goes) before.input at.done at.reads in
     let mid : Streams = record {
       input = g.I.Source.left c.next_line.new.input;
+      asked = g.I.Source.left_before c.next_line.new.input;
       reads =
           g.I.Source.faults c.next_line.new.input;
       out = g.O.Sink.took c.args.out.now;
@@ -61,6 +64,7 @@ returns-in-Err-Failed-clause-goes g c = λ start before from at.
     let comes = (rw c.in-Err-Failed.field-0-is at c.in-Err-Failed.ensures.goes) before.input at.done at.reads in
     let mid : Streams = record {
       input = g.I.Source.left c.next_line.new.input;
+      asked = g.I.Source.left_before c.next_line.new.input;
       reads =
           g.I.Source.faults c.next_line.new.input;
       out = g.O.Sink.took c.args.out.now;
@@ -76,6 +80,7 @@ returns-clause-goes g c = λ start before from at.
     let comes = (rw c.in-Err-Memory.field-0-is at c.in-Err-Memory.ensures.goes) before.input at.done at.reads in
     let mid : Streams = record {
       input = g.I.Source.left c.next_line.new.input;
+      asked = g.I.Source.left_before c.next_line.new.input;
       reads =
           g.I.Source.faults c.next_line.new.input;
       out = g.O.Sink.took c.args.out.now;
@@ -97,6 +102,7 @@ returns-in-Ok-Line-clause-goes g c = λ start before from at.
     let near = near_line before.input (at.done ++ c.bytes-line.result.now ∷ []) _ _ few reads in
     let mid : Streams = record {
       input = g.I.Source.left c.next_line.new.input;
+      asked = g.I.Source.left_before c.next_line.new.input;
       reads =
           g.I.Source.faults c.next_line.new.input;
       out = g.O.Sink.took c.args.out.now;
@@ -104,9 +110,12 @@ returns-in-Ok-Line-clause-goes g c = λ start before from at.
     } in
     let now = stands_read _ g.met.D.Device.time _ _ _ start before from _ mid _ at.done _ _ at.after refl
     c.next_line.ensures.grows (omega arith) in
+    let asked = (rw c.in-Ok-Line.field-0-is at c.in-Ok-Line.ensures.asks) before.input at.done at.reads (λ some. subst
+    (λ (n : ℕ). LastAsked before.input (g.I.Source.left_before c.args.input.now) n) (sym at.counted)
+    (at.asked (omega (arith, some, at.counted)))) tt in
     ends_line _ g.met.D.Device.time _ _ _ start before from mid _ _ _ at.done _ _ c.bytes-line.result.now
     c.take_line.new.node c.args.count c.in-Err.end _
-    at.counted c.requires.few now next near c.in-Err.ensures.crash (λ is. c.in-Err.ensures.stored (ap Err is))
+    at.counted c.requires.few now next near asked c.in-Err.ensures.crash (λ is. c.in-Err.ensures.stored (ap Err is))
     (λ is. c.in-Err.ensures.quiet (⊎_elim (λ h. inl (ap Err h)) (λ h. inr (ap Err h)) is)) c.in-Err.ensures.counted
     (omega arith) c.in-Err.ensures.out_grows c.in-Err.ensures.fails c.end_at.ensures
 
@@ -120,6 +129,7 @@ returns-in-Ok-Last-clause-goes g c = λ start before from at.
     let near = near_last before.input (at.done ++ c.bytes-line-in-Ok-Last.result.now ∷ []) _ all in
     let mid : Streams = record {
       input = g.I.Source.left c.next_line.new.input;
+      asked = g.I.Source.left_before c.next_line.new.input;
       reads =
           g.I.Source.faults c.next_line.new.input;
       out = g.O.Sink.took c.args.out.now;
@@ -127,9 +137,12 @@ returns-in-Ok-Last-clause-goes g c = λ start before from at.
     } in
     let now = stands_read _ g.met.D.Device.time _ _ _ start before from _ mid _ at.done _ _ at.after refl
     c.next_line.ensures.grows (omega arith) in
+    let asked = (rw c.in-Ok-Last.field-0-is at c.in-Ok-Last.ensures.asks) before.input at.done at.reads (λ some. subst
+    (λ (n : ℕ). LastAsked before.input (g.I.Source.left_before c.args.input.now) n) (sym at.counted)
+    (at.asked (omega (arith, some, at.counted)))) tt in
     ends_line _ g.met.D.Device.time _ _ _ start before from mid _ _ _ at.done _ _ c.bytes-line-in-Ok-Last.result.now
     c.take_line-in-Ok-Last.new.node c.args.count c.in-Err-take_line.end _
-    at.counted c.requires.few now next near c.in-Err-take_line.ensures.crash (λ is. c.in-Err-take_line.ensures.stored
+    at.counted c.requires.few now next near asked c.in-Err-take_line.ensures.crash (λ is. c.in-Err-take_line.ensures.stored
     (ap Err is))
     (λ is. c.in-Err-take_line.ensures.quiet (⊎_elim (λ h. inl (ap Err h)) (λ h. inr
     (ap Err h)) is)) c.in-Err-take_line.ensures.counted
@@ -144,6 +157,7 @@ returns-in-Ok-clause-goes g c = λ start before from at.
     (sym c.bytes-line.ensures) comes in
     let mid : Streams = record {
       input = g.I.Source.left c.next_line.new.input;
+      asked = g.I.Source.left_before c.next_line.new.input;
       reads =
           g.I.Source.faults c.next_line.new.input;
       out = g.O.Sink.took c.args.out.now;
@@ -151,10 +165,15 @@ returns-in-Ok-clause-goes g c = λ start before from at.
     } in
     let now = stands_read _ g.met.D.Device.time _ _ _ start before from _ mid _ at.done _ _ at.after refl
     c.next_line.ensures.grows (omega arith) in
+    let asked = (rw c.in-Ok-Line.field-0-is at c.in-Ok-Line.ensures.asks) before.input at.done at.reads (λ some. subst
+    (λ (n : ℕ). LastAsked before.input (g.I.Source.left_before c.args.input.now) n) (sym at.counted)
+    (at.asked (omega (arith, some, at.counted)))) tt in
     record {
       done = at.done ++ c.bytes-line.result.now ∷ [];
       counted = omega (arith, at.counted, length-append at.done (c.bytes-line.result.now ∷ []));
       reads = reads;
+      asked = λ some. asked_line before.input (g.I.Source.left_before c.next_line.new.input) c.args.count
+          (subst (λ (n : ℕ). LastAsked before.input (g.I.Source.left_before c.next_line.new.input) n) at.counted asked);
       after = stands_more _ g.met.D.Device.time _ _ _ start before from mid _ _ _ at.done _ c.in-Ok.next _
           c.bytes-line.result.now c.take_line.new.node now
           c.in-Ok.ensures.crash c.in-Ok.ensures.kept c.in-Ok.ensures.answers c.in-Ok.ensures.counted
@@ -168,6 +187,7 @@ returns-in-Ok-take_line-clause-goes g c = λ start before from at.
     (sym c.bytes-line-in-Ok-Last.ensures) comes in
     let mid : Streams = record {
       input = g.I.Source.left c.next_line.new.input;
+      asked = g.I.Source.left_before c.next_line.new.input;
       reads =
           g.I.Source.faults c.next_line.new.input;
       out = g.O.Sink.took c.args.out.now;

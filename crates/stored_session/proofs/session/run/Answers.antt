@@ -16,6 +16,7 @@ loop-count-init g c = record {
     counted = refl;
     reads = subst (λ (r : List ℕ). ReadsThrough (g.I.Source.left c.args.input.now)
         (g.I.Source.left c.args.input.now) r []) (sym c.new-reader.ensures) (reads_none _ []);
+    asked = λ some. absurd (omega (arith, some, ap length c.new-reader.ensures));
     after = stands_first _ g.met.D.Device.time _ _ _ _ _ _ c.args.store c.requires.kept;
   };
   node = c.requires.node;
@@ -35,6 +36,7 @@ returns-in-Ok-End g c =
     let comes = (rw c.in-Ok-End.field-0-is at c.in-Ok-End.ensures.goes) _ at.done at.reads in
     let mid : Streams = record {
       input = g.I.Source.left c.next_line.new.input;
+      asked = g.I.Source.left_before c.next_line.new.input;
       reads =
           g.I.Source.faults c.next_line.new.input;
       out = g.O.Sink.took c.loop-count.out;
@@ -54,6 +56,7 @@ returns-in-Ok-Line g c =
     let comes = (rw c.in-Ok-Line.field-0-is at c.in-Ok-Line.ensures.goes) _ at.done at.reads in
     let mid : Streams = record {
       input = g.I.Source.left c.next_line.new.input;
+      asked = g.I.Source.left_before c.next_line.new.input;
       reads =
           g.I.Source.faults c.next_line.new.input;
       out = g.O.Sink.took c.loop-count.out;
@@ -77,6 +80,7 @@ returns-in-Ok-Last g c =
     let comes = (rw c.in-Ok-Last.field-0-is at c.in-Ok-Last.ensures.goes) _ at.done at.reads in
     let mid : Streams = record {
       input = g.I.Source.left c.next_line.new.input;
+      asked = g.I.Source.left_before c.next_line.new.input;
       reads =
           g.I.Source.faults c.next_line.new.input;
       out = g.O.Sink.took c.loop-count.out;
@@ -100,6 +104,7 @@ returns-in-Ok-TooLong g c =
     let comes = (rw c.in-Ok-TooLong.field-0-is at c.in-Ok-TooLong.ensures.goes) _ at.done at.reads in
     let mid : Streams = record {
       input = g.I.Source.left c.next_line.new.input;
+      asked = g.I.Source.left_before c.next_line.new.input;
       reads =
           g.I.Source.faults c.next_line.new.input;
       out = g.O.Sink.took c.loop-count.out;
@@ -123,6 +128,7 @@ returns-in-Err-Failed g c =
     let comes = (rw c.in-Err-Failed.field-0-is at c.in-Err-Failed.ensures.goes) _ at.done at.reads in
     let mid : Streams = record {
       input = g.I.Source.left c.next_line.new.input;
+      asked = g.I.Source.left_before c.next_line.new.input;
       reads =
           g.I.Source.faults c.next_line.new.input;
       out = g.O.Sink.took c.loop-count.out;
@@ -141,6 +147,7 @@ returns g c =
     let comes = (rw c.in-Err-Memory.field-0-is at c.in-Err-Memory.ensures.goes) _ at.done at.reads in
     let mid : Streams = record {
       input = g.I.Source.left c.next_line.new.input;
+      asked = g.I.Source.left_before c.next_line.new.input;
       reads =
           g.I.Source.faults c.next_line.new.input;
       out = g.O.Sink.took c.loop-count.out;

@@ -18,12 +18,14 @@ invariant-loop-count g l = record {
   }) (g.J.Judge.meaning l.judge) l.station l.bay.0 l.fn.node
       (record {
         input = g.I.Source.left l.fn.input;
+        asked = g.I.Source.left_before l.fn.input;
         reads = g.I.Source.faults l.fn.input;
         out = g.O.Sink.took l.fn.out;
         writes = g.O.Sink.faults l.fn.out;
       })
       (record {
         input = g.I.Source.left l.input;
+        asked = g.I.Source.left_before l.input;
         reads = g.I.Source.faults l.input;
         out = g.O.Sink.took l.out;
         writes = g.O.Sink.faults l.out;

@@ -3,7 +3,7 @@ use Rattle.std.proofs.lemmas.List.{length-map}
 use Rattle.csv.specs.Records.{fields_of}
 use Rattle.double_points.specs.Rows.{rows_of}
 use Rattle.reservation_core.specs.declared.values.LogEvent.{LogEvent}
-use Rattle.log_replay.specs.declared.log.TheConstants.{MOST_RECORDS}
+use Rattle.log_replay.specs.declared.limits.TheConstants.{MOST_RECORDS}
 use Rattle.log_replay.specs.Log.{MayFollow}
 use Rattle.log_replay.proofs.LogLemmas.{next, nothing_left}
 use Rattle.trip_replay.specs.TripRecords.{as_log, TripRecordFault}

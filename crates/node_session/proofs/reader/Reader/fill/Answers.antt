@@ -1,7 +1,7 @@
-use Rattle.std.proofs.Common.{◌∙◌, sym, ap, position, arith}
+use Rattle.std.proofs.Common.{◌∙◌, sym, ap, position, arith, inr}
 use Rattle.ilk_base.proofs.Fronts.{rose_earlier}
 use Rattle.node_session.specs.Reading.{is_feed, is_long}
-use Rattle.node_session.proofs.Filling.{grows_more, recent_more, few_more, fills_line, fills_long, fills_last}
+use Rattle.node_session.proofs.Filling.{grows_more, recent_more, few_more, asked_more, fills_line, fills_long, fills_last}
 use Rattle.node_session.proofs.Filling.{fill_fails}
 use Rattle.node_session.proofs.reader.Reader.fill.Goals as goal
 
@@ -40,8 +40,18 @@ loop-len-preserved g c =
       recent =
           recent_more _ _ _ _ (ap (position is_feed) (sym c.held.ensures) ∙ sym c.first_feed.ensures ∙ c.in_default.is)
           takes;
+      asked = inr (asked_more _ _ _ _ _ found.grows
+          (ap (position is_feed) (sym c.held.ensures) ∙ sym c.first_feed.ensures ∙ c.in_default.is)
+          c.in-Ok-true.ensures.asked);
       few =
           few_more _ _ _ _ (ap is_long (sym c.held-in-loop-len.ensures) ∙ sym c.is_long.ensures ∙ c.if-is_long.false)
           takes;
       faults = omega (arith, found.faults, c.in-Ok-true.ensures.grows);
     }
+
+pub returns-in-Ok-false-clause-asked : goal.returns-in-Ok-false-clause-asked
+returns-in-Ok-false-clause-asked g c =
+    let found = c.loop-len.invariant in
+    inr (asked_more _ _ _ _ _ found.grows
+    (ap (position is_feed) (sym c.held.ensures) ∙ sym c.first_feed.ensures ∙ c.in_default.is)
+    c.in-Ok-false.ensures.asked)

@@ -1,0 +1,7 @@
+use Rattle.std.proofs.Common.{◌≡◌, take}
+use Rattle.std.specs.List.{list_any}
+use Rattle.drawing_remarks.specs.Station.{is_tap_at}
+use Rattle.drawing_remarks.proofs.nodes.has_tap.Given as goal
+
+abbrev pub invariant-loop-i : goal.invariant-loop-i
+invariant-loop-i l = l.found ≡ list_any (is_tap_at l.node) (take l.i l.station.taps)

@@ -1,0 +1,17 @@
+use Rattle.std.proofs.Common.{ℕ, ◌+◌, Bool, cond, take, ap, ◌∙◌, sym, arith}
+use Rattle.std.specs.List.{count_by}
+use Rattle.drawing_remarks.specs.Station.{is_of_kind}
+use Rattle.drawing_remarks.proofs.Loops.{count_next}
+use Rattle.drawing_remarks.proofs.nodes.of_kind.Goals as goal
+
+pub loop-i-preserved : goal.loop-i-preserved
+loop-i-preserved c =
+    let p = is_of_kind c.args.kind in
+    let xs = c.args.station.now.switches in
+    record {
+      count = ap (λ (n : ℕ). n + c.one_if-count.result) c.loop-i.invariant.count
+          ∙ (ap (λ (n : ℕ). count_by p (take c.loop-i.i xs) + n) c.one_if-count.ensures.value
+          ∙ (ap (λ (b : Bool). count_by p (take c.loop-i.i xs) + cond b 1 0) (c.is_of_kind.ensures)
+          ∙ sym (count_next p xs c.loop-i.i c.switch.result c.switch.ensures.value)));
+      few = omega arith;
+    }

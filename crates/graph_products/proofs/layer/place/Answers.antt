@@ -1,0 +1,7 @@
+use Rattle.graph_products.proofs.PlaceLemmas.{placed}
+use Rattle.graph_products.proofs.layer.place.Goals as goal
+
+pub returns : goal.returns
+returns c =
+    placed c.args.ids.now.keys c.insert_full.new.self.keys c.args.id c.in_ok-place.place c.in_ok-place.ensures.keys
+    c.in_ok-place.ensures.stored

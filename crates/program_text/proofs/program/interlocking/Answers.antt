@@ -1,0 +1,49 @@
+use Rattle.std.proofs.Common.{◌≡◌, length, subst, sym, ap, ◌∙◌}
+use Rattle.short_equations.specs.declared.pair.TermPair.{TermPair}
+use Rattle.short_equations.specs.declared.view.View.TheVariants.{Gap, Load, Bond}
+use Rattle.short_equations.specs.Pairs.{AreExactPairs}
+use Rattle.program_text.specs.declared.term_lines.Reading.TheVariants.{May as AsClosed, Sure as AsOpen}
+use Rattle.structured_text.specs.Within.{LinesWithin}
+use Rattle.program_text.specs.TermLines.{MeansTerms}
+use Rattle.program_text.specs.Releases.{MeansReleases}
+use Rattle.program_text.proofs.InterlockingLemmas.{interlocks, pairs_grew}
+use Rattle.program_text.proofs.program.interlocking.Goals as goal
+
+pub returns-clause-interlocks : goal.returns-clause-interlocks
+returns-clause-interlocks c =
+    let d = c.args.station.now in
+    let count = c.switch_count-count.result in
+    let counted = c.switch_count-count.ensures.count in
+    let one = c.view_pairs.new.terms in
+    let may = c.view_pairs-2.new.terms in
+    let sure = c.view_pairs-3.new.terms in
+    let gap = c.in_ok-gap.gap.items in
+    let load = c.in_ok-load.load.items in
+    let bond = c.in_ok-bond.bond.items in
+    let first = c.in_ok-may.may.items in
+    let second = c.in_ok-sure.sure.items in
+    let third = c.in_ok-releases.releases.items in
+    let first_means : MeansTerms AsClosed (length d.switches) may (length may) first =
+    subst (λ n. MeansTerms AsClosed n may (length may) first) counted c.in_ok-may.ensures.means in
+    let second_means : MeansTerms AsOpen (length d.switches) sure (length sure) second =
+    subst (λ n. MeansTerms AsOpen n sure (length sure) second) counted c.in_ok-sure.ensures.means in
+    let third_means : MeansReleases d (length may) (length sure) gap load bond (length d.switches) third =
+    subst (λ n. MeansReleases d n (length sure) gap load bond (length d.switches) third) c.len.ensures.count
+    (subst (λ n. MeansReleases d c.len.result n gap load bond (length d.switches) third) c.len-2.ensures.count
+    (subst (λ ps. MeansReleases d c.len.result c.len-2.result ps load bond (length d.switches) third) c.deref.ensures.value
+    (subst (λ ps. MeansReleases d c.len.result c.len-2.result c.deref.result.now ps bond (length d.switches) third)
+    c.deref-2.ensures.value
+    (subst (λ ps. MeansReleases d c.len.result c.len-2.result c.deref.result.now c.deref-2.result.now ps
+    (length d.switches) third) c.deref-3.ensures.value c.in_ok-releases.ensures.means)))) in
+    interlocks d c.switch_count-count.ensures.station may sure c.len.ensures.ordered c.len-2.ensures.ordered gap load bond
+    c.in_ok-gap.ensures.len c.in_ok-load.ensures.len c.in_ok-bond.ensures.len
+    (pairs_grew Gap d one may gap c.in_ok-load.ensures.grew c.in_ok-gap.ensures.exact) c.in_ok-load.ensures.exact
+    c.in_ok-bond.ensures.exact first second third first_means second_means third_means
+
+pub returns-clause-may : goal.returns-clause-may
+returns-clause-may c =
+    subst (λ n. LinesWithin n c.in_ok-may.may.items) c.switch_count-count.ensures.count c.in_ok-may.ensures.within
+
+pub returns-clause-sure : goal.returns-clause-sure
+returns-clause-sure c =
+    subst (λ n. LinesWithin n c.in_ok-sure.sure.items) c.switch_count-count.ensures.count c.in_ok-sure.ensures.within

@@ -1,0 +1,7 @@
+use Rattle.structured_text.specs.Within.{LinesWithin}
+use Rattle.program_text.specs.TermLines.{MeansTerms}
+use Rattle.program_text.proofs.term_lines.term_lines.Given as goal
+
+abbrev pub invariant-loop-k : goal.invariant-loop-k
+invariant-loop-k l =
+    MeansTerms l.reading l.count l.terms l.k l.lines.items × LinesWithin l.count l.lines.items

@@ -1,0 +1,4 @@
+pub mod TermLines
+pub mod Releases
+pub mod Interlocking
+pub mod ProgramText

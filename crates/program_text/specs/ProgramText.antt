@@ -1,0 +1,61 @@
+-- The text of an interlocking: a function block of IEC 61131-3.
+use Rattle.std.specs.Prelude.{◌≡◌, ◌++◌, ℕ, zero, suc, List, [], length, codes}
+use Rattle.std.specs.List.{flat_map}
+use Rattle.station_graph.specs.Diagram.{Diagram}
+use Rattle.structured_text.specs.declared.name.Name.TheVariants.{Off, On, Opens, Closes}
+use Rattle.structured_text.specs.declared.line.Line.{Line}
+use Rattle.structured_text.specs.Spelling.{declared_text, line_text}
+use Rattle.program_text.specs.declared.text.TheConstants.{HEAD}
+use Rattle.program_text.specs.Interlocking.{IsInterlocking}
+
+-- The declarations of the contacts of n switches from number k on.
+abbrev pub inputs_text : List (List ℕ) → ℕ → ℕ → List ℕ
+inputs_text paths k zero = []
+inputs_text paths k (suc n) =
+    declared_text paths (Off (record { 0 = k }))
+    ++ (declared_text paths (On (record { 0 = k })) ++ inputs_text paths (suc k) n)
+
+-- The declarations of their releases.
+abbrev pub outputs_text : List (List ℕ) → ℕ → ℕ → List ℕ
+outputs_text paths k zero = []
+outputs_text paths k (suc n) =
+    declared_text paths (Opens (record { 0 = k }))
+    ++ (declared_text paths (Closes (record { 0 = k })) ++ outputs_text paths (suc k) n)
+
+-- The declarations of the variables that lines set.
+abbrev pub locals_text : List (List ℕ) → List Line → List ℕ
+locals_text paths lines = flat_map (λ (x : Line). declared_text paths x.name) lines
+
+-- The lines.
+abbrev pub lines_text : List (List ℕ) → List Line → List ℕ
+lines_text paths lines = flat_map (λ (x : Line). line_text paths x) lines
+
+-- What the text says of itself, and its inputs and outputs.
+abbrev pub contacts_text : Diagram → List ℕ
+contacts_text d =
+    HEAD.now
+    ++ (inputs_text d.switch_paths 0 (length d.switches)
+    ++ (codes "END_VAR\nVAR_OUTPUT\n" ++ (outputs_text d.switch_paths 0 (length d.switches) ++ codes "END_VAR\n")))
+
+-- The declarations of the formulas, for what may be and for what is certain.
+abbrev pub variables_text : Diagram → List Line → List Line → List ℕ
+variables_text d may sure =
+    codes "VAR\n" ++ (locals_text d.switch_paths may ++ (locals_text d.switch_paths sure ++ codes "END_VAR\n"))
+
+-- The lines, for what may be, for what is certain, and for the releases.
+abbrev pub body_text : Diagram → List Line → List Line → List Line → List ℕ
+body_text d may sure releases =
+    lines_text d.switch_paths may
+    ++ (lines_text d.switch_paths sure ++ (lines_text d.switch_paths releases ++ codes "END_FUNCTION_BLOCK\n"))
+
+-- The whole text.
+abbrev pub block_text : Diagram → List Line → List Line → List Line → List ℕ
+block_text d may sure releases = contacts_text d ++ (variables_text d may sure ++ body_text d may sure releases)
+
+-- The text is that of lines that are an interlocking of the station.
+pub record IsProgramText (d : Diagram) (text : List ℕ) : Type 0 where
+  pub may : List Line
+  pub sure : List Line
+  pub releases : List Line
+  pub interlocks : IsInterlocking d (may ++ (sure ++ releases))
+  pub spelled : text ≡ block_text d may sure releases

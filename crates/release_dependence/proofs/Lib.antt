@@ -1,0 +1,3 @@
+pub mod TurnLemmas
+pub mod DependLemmas
+pub mod ExchangeLemmas

@@ -1,5 +1,0 @@
-use Rattle.ssd_text.proofs.Accepted.{read_ok}
-use Rattle.ssd_text.proofs.read.document_is_accepted.Goals as goal
-
-pub returns : goal.returns
-returns c = read_ok

@@ -1,0 +1,5 @@
+pub mod LoadLemmas
+pub mod AloneLemmas
+pub mod EndLemmas
+pub mod ArrangeLemmas
+pub mod MirrorLemmas

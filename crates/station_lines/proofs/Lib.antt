@@ -1,0 +1,13 @@
+pub mod CutLemmas
+pub mod StepsText
+pub mod Ranges
+pub mod NodeLemmas
+pub mod ItemLemmas
+pub mod NumberLemmas
+pub mod FitLemmas
+pub mod SaidLemmas
+pub mod PartLemmas
+pub mod GatherLemmas
+pub mod WholeLemmas
+pub mod ShownLemmas
+pub mod DrawingLemmas

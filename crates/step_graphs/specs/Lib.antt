@@ -1,0 +1,6 @@
+pub mod Steps
+pub mod Letters
+pub mod Needing
+pub mod Moved
+pub mod Ready
+pub mod Ending

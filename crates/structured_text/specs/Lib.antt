@@ -1,0 +1,3 @@
+pub mod Meaning
+pub mod Spelling
+pub mod Within

@@ -1,0 +1,14 @@
+//! Structured text of IEC 61131-3 that has assignments alone: its names, its lines, what they mean and how they are
+//! spelled.
+#![tactic(auto)]
+
+mod laws;
+mod line;
+mod name;
+mod readable;
+mod writing;
+
+pub use laws::names_differ;
+pub use line::{Formula, GapDenial, Line, LoadDenial};
+pub use name::Name;
+pub use writing::{write_declaration, write_line, write_lines};

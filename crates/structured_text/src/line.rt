@@ -1,0 +1,53 @@
+//! The lines of a text.
+use crate::name::Name;
+use ilk_base::SwitchId;
+
+/// What denies that a switch is closed: what it would join may be live and may be earthed.
+#[derive(Clone, Copy, PartialEq, Eq)]
+pub enum GapDenial {
+    /// this
+    One(Name),
+    /// both
+    Two(Name, Name),
+}
+
+/// What denies that a disconnector is moved: its gap carries load.
+#[derive(Clone, Copy, PartialEq, Eq)]
+pub enum LoadDenial {
+    /// both
+    Loaded(Name, Name),
+    /// the first two, and not the third
+    Unbonded(Name, Name, Name),
+}
+
+/// The right side of an assignment.
+#[derive(Clone, Copy, PartialEq, Eq)]
+pub enum Formula {
+    /// TRUE
+    Always,
+    /// FALSE
+    Never,
+    /// the switch may be closed: the contact of its closed position is made, or that of its open position is not
+    MayBeClosed(SwitchId),
+    /// it is closed for certain: the contact of its closed position is made, and that of its open position is not
+    IsClosed(SwitchId),
+    /// one AND another
+    Both(Name, Name),
+    /// one OR another
+    Either(Name, Name),
+    /// the denial does not hold
+    Apart(GapDenial),
+    /// the denial does not hold
+    Unloaded(LoadDenial),
+    /// neither denial holds
+    Released(GapDenial, LoadDenial),
+}
+
+/// An assignment.
+#[derive(Clone, Copy, PartialEq, Eq)]
+pub struct Line {
+    /// what is set
+    pub name: Name,
+    /// to what
+    pub formula: Formula,
+}

@@ -1,0 +1,382 @@
+//! What is remarked of small drawings, and the text of `station`. Each line is worked out by hand from the drawing.
+use drawing_remarks::station_text;
+use ilk_base::{Memory, Text};
+use ssd_read::read_whole;
+use std::alloc::Global;
+use std::process::Abort;
+use std::test::Fail;
+use text_lines::Lines;
+
+// A busbar in a bay of its own, and a bay with a busbar disconnector, a breaker, a line disconnector, an earthing
+// switch and an infeed.
+const START: &str = "<SCL><Substation name=\"S\"><VoltageLevel name=\"V\">";
+
+const BUS: &str = "<Bay name=\"W\"><ConnectivityNode name=\"b\"/></Bay>";
+
+const BAY: &str = "<Bay name=\"Q\"><ConnectivityNode name=\"n1\"/><ConnectivityNode name=\"n2\"/>\
+<ConnectivityNode name=\"n3\"/>";
+
+const QB1: &str =
+    "<ConductingEquipment name=\"QB1\" type=\"DIS\"><Terminal connectivityNode=\"S/V/W/b\"/>\
+<Terminal connectivityNode=\"S/V/Q/n1\"/></ConductingEquipment>";
+
+const QA1: &str =
+    "<ConductingEquipment name=\"QA1\" type=\"CBR\"><Terminal connectivityNode=\"S/V/Q/n1\"/>\
+<Terminal connectivityNode=\"S/V/Q/n2\"/></ConductingEquipment>";
+
+const QB9: &str =
+    "<ConductingEquipment name=\"QB9\" type=\"DIS\"><Terminal connectivityNode=\"S/V/Q/n2\"/>\
+<Terminal connectivityNode=\"S/V/Q/n3\"/></ConductingEquipment>";
+
+const QC9: &str =
+    "<ConductingEquipment name=\"QC9\" type=\"DIS\"><Terminal connectivityNode=\"S/V/Q/n3\"/>\
+<Terminal connectivityNode=\"S/V/Q/grounded\"/></ConductingEquipment>";
+
+const E1: &str =
+    "<ConductingEquipment name=\"E1\" type=\"IFL\"><Terminal connectivityNode=\"S/V/Q/n3\"/>\
+</ConductingEquipment>";
+
+const END: &str = "</Bay></VoltageLevel></Substation></SCL>";
+
+const RIGHT: &[&str] = &[START, BUS, BAY, QB1, QA1, QB9, QC9, E1, END];
+
+// A drawing in pieces, and what is remarked of it.
+const ROWS: &[(&[&str], &str)] = &[
+    (RIGHT, ""),
+    // the line as a line, in lower case, as a battery
+    (
+        &[
+            START,
+            BUS,
+            BAY,
+            QB1,
+            QA1,
+            QB9,
+            QC9,
+            "<ConductingEquipment name=\"E1\" type=\"LIN\"><Terminal connectivityNode=\"S/V/Q/n3\"/></ConductingEquipment>",
+            END,
+        ],
+        "remark\tno-infeed\t-\n",
+    ),
+    (
+        &[
+            START,
+            BUS,
+            BAY,
+            QB1,
+            QA1,
+            QB9,
+            QC9,
+            "<ConductingEquipment name=\"E1\" type=\"ifl\"><Terminal connectivityNode=\"S/V/Q/n3\"/></ConductingEquipment>",
+            END,
+        ],
+        "remark\tno-infeed\t-\nremark\ttype-case\tS/V/Q/E1\n",
+    ),
+    (
+        &[
+            START,
+            BUS,
+            BAY,
+            QB1,
+            QA1,
+            QB9,
+            QC9,
+            "<ConductingEquipment name=\"E1\" type=\"BAT\"><Terminal connectivityNode=\"S/V/Q/n3\"/></ConductingEquipment>",
+            END,
+        ],
+        "remark\tno-infeed\t-\n",
+    ),
+    // an earthing switch with a type of the tool's own, and one in lower case
+    (
+        &[
+            START,
+            BUS,
+            BAY,
+            QB1,
+            QA1,
+            QB9,
+            "<ConductingEquipment name=\"QC9\" type=\"ESW\"><Terminal connectivityNode=\"S/V/Q/n3\"/>\
+<Terminal connectivityNode=\"S/V/Q/grounded\"/></ConductingEquipment>",
+            E1,
+            END,
+        ],
+        "remark\tunknown-type\tS/V/Q/QC9\nremark\tgrounded\tS/V/Q/QC9\n",
+    ),
+    (
+        &[
+            START,
+            BUS,
+            BAY,
+            QB1,
+            QA1,
+            QB9,
+            "<ConductingEquipment name=\"QC9\" type=\"dis\"><Terminal connectivityNode=\"S/V/Q/n3\"/>\
+<Terminal connectivityNode=\"S/V/Q/grounded\"/></ConductingEquipment>",
+            E1,
+            END,
+        ],
+        "remark\ttype-case\tS/V/Q/QC9\nremark\tgrounded\tS/V/Q/QC9\n",
+    ),
+    // an arrester stands at earth by its nature
+    (
+        &[
+            START,
+            BUS,
+            BAY,
+            QB1,
+            QA1,
+            QB9,
+            QC9,
+            "<ConductingEquipment name=\"F1\" type=\"SAR\"><Terminal connectivityNode=\"S/V/Q/n3\"/>\
+<Terminal connectivityNode=\"S/V/Q/grounded\"/></ConductingEquipment>",
+            E1,
+            END,
+        ],
+        "",
+    ),
+    // the earth node in capitals, drawn as a node: the earthing switch is a disconnector to nowhere
+    (
+        &[
+            START,
+            BUS,
+            BAY,
+            "<ConnectivityNode name=\"GROUNDED\"/>",
+            QB1,
+            QA1,
+            QB9,
+            "<ConductingEquipment name=\"QC9\" type=\"DIS\"><Terminal connectivityNode=\"S/V/Q/n3\"/>\
+<Terminal connectivityNode=\"S/V/Q/GROUNDED\"/></ConductingEquipment>",
+            E1,
+            END,
+        ],
+        "remark\tearth-name\tS/V/Q/GROUNDED\nremark\tloose-end\tS/V/Q/GROUNDED\n",
+    ),
+    // a terminal that says a node and earth: the line disconnector is an earthing switch, and the line is parted
+    (
+        &[
+            START,
+            BUS,
+            BAY,
+            QB1,
+            QA1,
+            "<ConductingEquipment name=\"QB9\" type=\"DIS\"><Terminal connectivityNode=\"S/V/Q/n2\"/>\
+<Terminal connectivityNode=\"S/V/Q/n3\" cNodeName=\"grounded\"/></ConductingEquipment>",
+            QC9,
+            E1,
+            END,
+        ],
+        "remark\tapart\tS/V/Q/n3\nremark\ttwo-nodes\tS/V/Q/QB9\nremark\tlone-infeed\tS/V/Q/E1\n",
+    ),
+    // all of it in a process; the breaker in a function; no substation; children without the root's prefix
+    (
+        &[
+            "<SCL><Process name=\"P\"><Substation name=\"S\"><VoltageLevel name=\"V\">",
+            BUS,
+            BAY,
+            QB1,
+            QA1,
+            QB9,
+            QC9,
+            E1,
+            "</Bay></VoltageLevel></Substation></Process></SCL>",
+        ],
+        "remark\tno-switch\t-\nremark\tno-infeed\t-\nremark\tpassed-over\tS\n",
+    ),
+    (
+        &[
+            START,
+            BUS,
+            BAY,
+            QB1,
+            "<Function name=\"F\">",
+            QA1,
+            "</Function>",
+            QB9,
+            QC9,
+            E1,
+            END,
+        ],
+        "remark\tloose-end\tS/V/Q/n1\nremark\tloose-end\tS/V/Q/n2\nremark\tapart\tS/V/Q/n2\n\
+remark\tpassed-over\tS/V/Q/QA1\n",
+    ),
+    (
+        &["<SCL><IED name=\"A\"/></SCL>"],
+        "remark\tno-switch\t-\nremark\tno-infeed\t-\n",
+    ),
+    (
+        &["<scl:SCL><Substation name=\"S\"/></scl:SCL>"],
+        "remark\tno-switch\t-\nremark\tno-infeed\t-\nremark\tpassed-over\tS\n",
+    ),
+    // a breaker with a type of the tool's own; a bushing in the way
+    (
+        &[
+            START,
+            BUS,
+            BAY,
+            QB1,
+            "<ConductingEquipment name=\"QA1\" type=\"LBS\"><Terminal connectivityNode=\"S/V/Q/n1\"/>\
+<Terminal connectivityNode=\"S/V/Q/n2\"/></ConductingEquipment>",
+            QB9,
+            QC9,
+            E1,
+            END,
+        ],
+        "remark\tunknown-type\tS/V/Q/QA1\n",
+    ),
+    (
+        &[
+            START,
+            BUS,
+            BAY,
+            QB1,
+            "<ConductingEquipment name=\"QA1\" type=\"BSH\"><Terminal connectivityNode=\"S/V/Q/n1\"/>\
+<Terminal connectivityNode=\"S/V/Q/n2\"/></ConductingEquipment>",
+            QB9,
+            QC9,
+            E1,
+            END,
+        ],
+        "remark\tno-bond\tS/V/Q/QA1\n",
+    ),
+    // a transformer's neutral as a second terminal of its winding, with a neutral earthing switch
+    (
+        &[
+            START,
+            BUS,
+            BAY,
+            "<ConnectivityNode name=\"n4\"/>",
+            QB1,
+            QA1,
+            QB9,
+            QC9,
+            E1,
+            "<ConductingEquipment name=\"QC8\" type=\"DIS\"><Terminal connectivityNode=\"S/V/Q/n4\"/>\
+<Terminal connectivityNode=\"S/V/Q/grounded\"/></ConductingEquipment>\
+<PowerTransformer name=\"T1\" type=\"PTR\"><TransformerWinding name=\"A\"><Terminal connectivityNode=\"S/V/W/b\"/>\
+<Terminal connectivityNode=\"S/V/Q/n4\"/></TransformerWinding></PowerTransformer>",
+            END,
+        ],
+        "remark\twinding\tS/V/Q/T1\n",
+    ),
+];
+
+// The pieces as one text.
+fn joined(alloc: Global, pieces: &[&str]) -> Result<Text, Memory> {
+    let mut text = Text::new(alloc);
+    for piece in pieces {
+        text.push(piece.as_bytes())?;
+    }
+    Ok(text)
+}
+
+// The lines of a text that are remarks.
+fn remarks_in(alloc: Global, text: &[u8]) -> Result<Text, Memory> {
+    let mut found = Text::new(alloc);
+    if text.len() > 10_000 {
+        return Ok(found);
+    }
+    let mut lines = Lines::new(text);
+    for _ in 0..200 {
+        let Some((_, line)) = lines.next_filled() else {
+            return Ok(found);
+        };
+        if line.starts_with(b"remark\t") {
+            found.push(line)?;
+            found.push(b"\n")?;
+        }
+    }
+    Ok(found)
+}
+
+fn expect_remarks(rt: &impl Abort, alloc: Global, pieces: &[&str], want: &str) -> Result<(), Fail> {
+    let drawing = joined(alloc, pieces)?;
+    let whole = read_whole(alloc, drawing.bytes()).ok().ok_or("a refusal")?;
+    let report = station_text(alloc, &whole)?;
+    let found = remarks_in(alloc, report.text.bytes())?;
+    assert!(rt; found.bytes() == want.as_bytes());
+    Ok(())
+}
+
+#[test]
+fn remarks(rt: HostRuntime) -> Result<(), Fail> {
+    for (pieces, want) in ROWS {
+        expect_remarks(&rt, rt.alloc(), pieces, want)?;
+    }
+    Ok(())
+}
+
+// The text of the right drawing.
+const RIGHT_TEXT: &str = "part\tS/V/W
+node\tS/V/W/b
+part\tS/V/Q
+node\tS/V/Q/n1
+node\tS/V/Q/n2
+node\tS/V/Q/n3
+disconnector\tS/V/Q/QB1\tS/V/W/b\tS/V/Q/n1
+breaker\tS/V/Q/QA1\tS/V/Q/n1\tS/V/Q/n2
+disconnector\tS/V/Q/QB9\tS/V/Q/n2\tS/V/Q/n3
+earthing\tS/V/Q/QC9\tS/V/Q/n3
+infeed\tS/V/Q/E1\tS/V/Q/n3
+tap\tIFL\tS/V/Q/E1\tS/V/Q/n3
+count\tparts\t2
+count\tnodes\t4
+count\tbreakers\t1
+count\tdisconnectors\t2
+count\tearthings\t1
+count\tinfeeds\t1
+count\tlinks\t0
+count\tbonds\t0
+count\ttaps\t1
+count\tremarks\t0
+";
+
+// A transformer outside the bays between two nodes of one bay, where a current transformer stands beside it, and
+// equipment whose type is empty.
+const TRANSFORMER: &str = "<SCL><Substation name=\"S\"><PowerTransformer name=\"T1\">\
+<TransformerWinding name=\"A\"><Terminal connectivityNode=\"S/V/Q/a\"/></TransformerWinding>\
+<TransformerWinding name=\"B\"><Terminal connectivityNode=\"S/V/Q/b\"/></TransformerWinding></PowerTransformer>\
+<VoltageLevel name=\"V\"><Bay name=\"Q\"><ConnectivityNode name=\"a\"/><ConnectivityNode name=\"b\"/>\
+<ConductingEquipment name=\"BI1\" type=\"CTR\"><Terminal connectivityNode=\"S/V/Q/a\"/>\
+<Terminal connectivityNode=\"S/V/Q/b\"/></ConductingEquipment>\
+<ConductingEquipment name=\"X\" type=\"\"><Terminal connectivityNode=\"S/V/Q/b\"/></ConductingEquipment>\
+</Bay></VoltageLevel></Substation></SCL>";
+
+const TRANSFORMER_TEXT: &str = "part\tS/T1
+link\tPTR\tS/T1\tS/V/Q/a\tS/V/Q/b
+tap\tPTR\tS/T1\tS/V/Q/a
+tap\tPTR\tS/T1\tS/V/Q/b
+part\tS/V/Q
+node\tS/V/Q/a
+node\tS/V/Q/b
+bond\tCTR\tS/V/Q/BI1\tS/V/Q/a\tS/V/Q/b
+tap\t-\tS/V/Q/X\tS/V/Q/b
+remark\tno-switch\t-
+remark\tno-infeed\t-
+remark\tunknown-type\tS/V/Q/X
+count\tparts\t2
+count\tnodes\t2
+count\tbreakers\t0
+count\tdisconnectors\t0
+count\tearthings\t0
+count\tinfeeds\t0
+count\tlinks\t1
+count\tbonds\t1
+count\ttaps\t3
+count\tremarks\t3
+";
+
+#[test]
+fn whole_texts(rt: HostRuntime) -> Result<(), Fail> {
+    let alloc = rt.alloc();
+    for (pieces, want, remarks) in [
+        (RIGHT, RIGHT_TEXT, 0),
+        ([TRANSFORMER].as_slice(), TRANSFORMER_TEXT, 3),
+    ] {
+        let drawing = joined(alloc, pieces)?;
+        let whole = read_whole(alloc, drawing.bytes()).ok().ok_or("a refusal")?;
+        let report = station_text(alloc, &whole)?;
+        assert!(rt; report.text.bytes() == want.as_bytes());
+        assert!(rt; report.remarks == remarks);
+    }
+    Ok(())
+}
