@@ -28,7 +28,7 @@ fn finished(
     Ok(builder.finish())
 }
 
-fn graph_of(
+pub(crate) fn graph_of(
     alloc: Global,
     labels: u32,
     choices: &[u32],

@@ -16,6 +16,8 @@ mod ends;
 #[cfg(test)]
 mod graphs;
 #[cfg(test)]
+mod pairs;
+#[cfg(test)]
 mod questions;
 #[cfg(test)]
 mod renamed;
