@@ -14,6 +14,8 @@ mod orders;
 #[cfg(test)]
 mod plans;
 #[cfg(test)]
+mod programs;
+#[cfg(test)]
 mod taken;
 #[cfg(test)]
 mod words;

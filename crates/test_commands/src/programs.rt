@@ -1,0 +1,30 @@
+//! The structured text of a bay with an earthing switch and an infeed at one node, worked by hand.
+use program_text::program_text;
+use std::alloc::Global;
+use std::process::Abort;
+use std::test::Fail;
+use test_stations::{Example, built};
+
+// The earthing switch may be closed where the infeed is known to be off, and the infeed set on where the earthing switch
+// is known to be off; opening is always released. The third formula says that the node has a tap.
+const LINES: &[u8] = b"VAR\n  m0 : BOOL;\n  m1 : BOOL;\n  m2 : BOOL;\nEND_VAR\n\
+    \x20 m0 := sw0_S_V1_Q1_QC9_on OR NOT sw0_S_V1_Q1_QC9_off;\n\
+    \x20 m1 := sw1_S_V1_Q1_E1_on OR NOT sw1_S_V1_Q1_E1_off;\n\
+    \x20 m2 := TRUE;\n\
+    \x20 sw0_S_V1_Q1_QC9_EnaOpn := TRUE;\n\
+    \x20 sw0_S_V1_Q1_QC9_EnaCls := NOT m1;\n\
+    \x20 sw1_S_V1_Q1_E1_EnaOpn := TRUE;\n\
+    \x20 sw1_S_V1_Q1_E1_EnaCls := NOT m0;\n\
+    END_FUNCTION_BLOCK\n";
+
+fn expect_end(rt: &impl Abort, alloc: Global, example: Example, lines: &[u8]) -> Result<(), Fail> {
+    let station = built(alloc, example)?;
+    let text = program_text(alloc, &station)?;
+    assert!(rt; text.bytes().ends_with(lines));
+    Ok(())
+}
+
+#[test]
+fn programs(rt: HostRuntime) -> Result<(), Fail> {
+    expect_end(&rt, rt.alloc(), Example::EarthedLine, LINES)
+}
