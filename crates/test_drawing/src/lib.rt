@@ -6,11 +6,15 @@ mod drawings;
 #[cfg(test)]
 mod exported;
 #[cfg(test)]
+mod pieces;
+#[cfg(test)]
 mod refusals;
 #[cfg(test)]
 mod refused_rows;
 #[cfg(test)]
 mod remarks;
+#[cfg(test)]
+mod station_texts;
 #[cfg(test)]
 mod stations;
 #[cfg(test)]

@@ -1,4 +1,5 @@
-//! What is remarked of small drawings, and the text of `station`. Each line is worked out by hand from the drawing.
+//! What is remarked of small drawings. Each line is worked out by hand from the drawing.
+use crate::pieces::{BAY, BUS, E1, END, QA1, QB1, QB9, QC9, RIGHT, START, joined};
 use drawing_remarks::station_text;
 use ilk_base::{Memory, Text};
 use ssd_read::read_whole;
@@ -6,39 +7,6 @@ use std::alloc::Global;
 use std::process::Abort;
 use std::test::Fail;
 use text_lines::Lines;
-
-// A busbar in a bay of its own, and a bay with a busbar disconnector, a breaker, a line disconnector, an earthing
-// switch and an infeed.
-const START: &str = "<SCL><Substation name=\"S\"><VoltageLevel name=\"V\">";
-
-const BUS: &str = "<Bay name=\"W\"><ConnectivityNode name=\"b\"/></Bay>";
-
-const BAY: &str = "<Bay name=\"Q\"><ConnectivityNode name=\"n1\"/><ConnectivityNode name=\"n2\"/>\
-<ConnectivityNode name=\"n3\"/>";
-
-const QB1: &str =
-    "<ConductingEquipment name=\"QB1\" type=\"DIS\"><Terminal connectivityNode=\"S/V/W/b\"/>\
-<Terminal connectivityNode=\"S/V/Q/n1\"/></ConductingEquipment>";
-
-const QA1: &str =
-    "<ConductingEquipment name=\"QA1\" type=\"CBR\"><Terminal connectivityNode=\"S/V/Q/n1\"/>\
-<Terminal connectivityNode=\"S/V/Q/n2\"/></ConductingEquipment>";
-
-const QB9: &str =
-    "<ConductingEquipment name=\"QB9\" type=\"DIS\"><Terminal connectivityNode=\"S/V/Q/n2\"/>\
-<Terminal connectivityNode=\"S/V/Q/n3\"/></ConductingEquipment>";
-
-const QC9: &str =
-    "<ConductingEquipment name=\"QC9\" type=\"DIS\"><Terminal connectivityNode=\"S/V/Q/n3\"/>\
-<Terminal connectivityNode=\"S/V/Q/grounded\"/></ConductingEquipment>";
-
-const E1: &str =
-    "<ConductingEquipment name=\"E1\" type=\"IFL\"><Terminal connectivityNode=\"S/V/Q/n3\"/>\
-</ConductingEquipment>";
-
-const END: &str = "</Bay></VoltageLevel></Substation></SCL>";
-
-const RIGHT: &[&str] = &[START, BUS, BAY, QB1, QA1, QB9, QC9, E1, END];
 
 // A drawing in pieces, and what is remarked of it.
 const ROWS: &[(&[&str], &str)] = &[
@@ -259,16 +227,6 @@ remark\tpassed-over\tS/V/Q/QA1\n",
         "remark\twinding\tS/V/Q/T1\n",
     ),
 ];
-
-// The pieces as one text.
-fn joined(alloc: Global, pieces: &[&str]) -> Result<Text, Memory> {
-    let mut text = Text::new(alloc);
-    for piece in pieces {
-        text.push(piece.as_bytes())?;
-    }
-    Ok(text)
-}
-
 // The lines of a text that are remarks.
 fn remarks_in(alloc: Global, text: &[u8]) -> Result<Text, Memory> {
     let mut found = Text::new(alloc);
@@ -301,82 +259,6 @@ fn expect_remarks(rt: &impl Abort, alloc: Global, pieces: &[&str], want: &str) -
 fn remarks(rt: HostRuntime) -> Result<(), Fail> {
     for (pieces, want) in ROWS {
         expect_remarks(&rt, rt.alloc(), pieces, want)?;
-    }
-    Ok(())
-}
-
-// The text of the right drawing.
-const RIGHT_TEXT: &str = "part\tS/V/W
-node\tS/V/W/b
-part\tS/V/Q
-node\tS/V/Q/n1
-node\tS/V/Q/n2
-node\tS/V/Q/n3
-disconnector\tS/V/Q/QB1\tS/V/W/b\tS/V/Q/n1
-breaker\tS/V/Q/QA1\tS/V/Q/n1\tS/V/Q/n2
-disconnector\tS/V/Q/QB9\tS/V/Q/n2\tS/V/Q/n3
-earthing\tS/V/Q/QC9\tS/V/Q/n3
-infeed\tS/V/Q/E1\tS/V/Q/n3
-tap\tIFL\tS/V/Q/E1\tS/V/Q/n3
-count\tparts\t2
-count\tnodes\t4
-count\tbreakers\t1
-count\tdisconnectors\t2
-count\tearthings\t1
-count\tinfeeds\t1
-count\tlinks\t0
-count\tbonds\t0
-count\ttaps\t1
-count\tremarks\t0
-";
-
-// A transformer outside the bays between two nodes of one bay, where a current transformer stands beside it, and
-// equipment whose type is empty.
-const TRANSFORMER: &str = "<SCL><Substation name=\"S\"><PowerTransformer name=\"T1\">\
-<TransformerWinding name=\"A\"><Terminal connectivityNode=\"S/V/Q/a\"/></TransformerWinding>\
-<TransformerWinding name=\"B\"><Terminal connectivityNode=\"S/V/Q/b\"/></TransformerWinding></PowerTransformer>\
-<VoltageLevel name=\"V\"><Bay name=\"Q\"><ConnectivityNode name=\"a\"/><ConnectivityNode name=\"b\"/>\
-<ConductingEquipment name=\"BI1\" type=\"CTR\"><Terminal connectivityNode=\"S/V/Q/a\"/>\
-<Terminal connectivityNode=\"S/V/Q/b\"/></ConductingEquipment>\
-<ConductingEquipment name=\"X\" type=\"\"><Terminal connectivityNode=\"S/V/Q/b\"/></ConductingEquipment>\
-</Bay></VoltageLevel></Substation></SCL>";
-
-const TRANSFORMER_TEXT: &str = "part\tS/T1
-link\tPTR\tS/T1\tS/V/Q/a\tS/V/Q/b
-tap\tPTR\tS/T1\tS/V/Q/a
-tap\tPTR\tS/T1\tS/V/Q/b
-part\tS/V/Q
-node\tS/V/Q/a
-node\tS/V/Q/b
-bond\tCTR\tS/V/Q/BI1\tS/V/Q/a\tS/V/Q/b
-tap\t-\tS/V/Q/X\tS/V/Q/b
-remark\tno-switch\t-
-remark\tno-infeed\t-
-remark\tunknown-type\tS/V/Q/X
-count\tparts\t2
-count\tnodes\t2
-count\tbreakers\t0
-count\tdisconnectors\t0
-count\tearthings\t0
-count\tinfeeds\t0
-count\tlinks\t1
-count\tbonds\t1
-count\ttaps\t3
-count\tremarks\t3
-";
-
-#[test]
-fn whole_texts(rt: HostRuntime) -> Result<(), Fail> {
-    let alloc = rt.alloc();
-    for (pieces, want, remarks) in [
-        (RIGHT, RIGHT_TEXT, 0),
-        ([TRANSFORMER].as_slice(), TRANSFORMER_TEXT, 3),
-    ] {
-        let drawing = joined(alloc, pieces)?;
-        let whole = read_whole(alloc, drawing.bytes()).ok().ok_or("a refusal")?;
-        let report = station_text(alloc, &whole)?;
-        assert!(rt; report.text.bytes() == want.as_bytes());
-        assert!(rt; report.remarks == remarks);
     }
     Ok(())
 }
