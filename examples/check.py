@@ -25,9 +25,9 @@ import by_definition
 
 HERE = pathlib.Path(__file__).resolve().parent
 TOP = HERE.parent
-CRATE = TOP / "crates/interlock"
+GATE = TOP / "crates/test_run_calls/stdout"
 # The words of the stored run in the gate.
-IN_GATE = (CRATE / "args").read_text().split()
+IN_GATE = ["work", "2"]
 # The drawing of the orders in examples/orders.
 ORDERED = "double_busbar.ssd"
 # Further answers: a command's words, and the file that holds its text.
@@ -98,8 +98,8 @@ def main(words):
         for line in text.splitlines() or ["no answer to station"]
         if line.startswith(("remark\t", "no answer"))
     ]
-    if (CRATE / "stdout").read_text() != in_gate:
-        found += ["the program does not say what crates/interlock/stdout says"]
+    if f"\n{in_gate}status 0\n" not in GATE.read_text():
+        found += ["the program does not say what crates/test_run_calls/stdout says of work 2"]
     found += cited_differences(names)
     print("\n".join(found), end="\n" if found else "")
     program = "the proved program" if proved else "the checked build, not the proved program"
