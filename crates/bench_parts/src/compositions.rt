@@ -47,7 +47,29 @@ fn compose_often(
     Ok(last)
 }
 
-// Composes two values, and prints how many bytes the row of the composition has.
+// Prints how many bytes the row of the composition has.
+fn tell_row(rt: &HostRuntime, name: &str, last: &Contraction) -> Result<()> {
+    let row = last.row(rt.alloc())?;
+    println!(rt; "{name}: {} bytes", row.bytes().len())?;
+    Ok(())
+}
+
+// Composes two values so often, prints how many bytes the row of the composition has, and gives the nanoseconds.
+fn compose_pair(
+    rt: &HostRuntime,
+    name: &str,
+    first: &Contraction,
+    second: &Contraction,
+    calls: u32,
+) -> Result<u128> {
+    let start = Instant::now(rt)?;
+    let last = compose_often(rt.alloc(), first, second, calls)?;
+    let spent = start.elapsed(rt)?.as_nanos();
+    tell_row(rt, name, &last)?;
+    Ok(spent)
+}
+
+// Composes two values, and prints what is told of it.
 fn measure_pair(
     rt: &HostRuntime,
     name: &str,
@@ -56,22 +78,39 @@ fn measure_pair(
     calls: u32,
     timed: bool,
 ) -> Result<()> {
-    let start = Instant::now(rt)?;
-    let last = compose_often(rt.alloc(), first, second, calls)?;
-    let spent = start.elapsed(rt)?.as_nanos();
-    let row = last.row(rt.alloc())?;
-    println!(rt; "{name}: {} bytes", row.bytes().len())?;
+    let spent = compose_pair(rt, name, first, second, calls)?;
     if timed {
         println!(rt; "{name}: {spent} ns in all")?;
     }
     Ok(())
 }
 
-/// Composes the closed switches of every second part with those of the others, and the taps with themselves.
-pub fn measure(rt: &HostRuntime, station: &Station, calls: u32, timed: bool) -> Result<()> {
-    let first = switches(rt.alloc(), station, 0)?;
+// Composes the closed switches of every second part with those of the others, which are the first value.
+fn measure_joined(
+    rt: &HostRuntime,
+    station: &Station,
+    first: &Contraction,
+    calls: u32,
+    timed: bool,
+) -> Result<()> {
     let second = switches(rt.alloc(), station, 1)?;
-    measure_pair(rt, "joined", &first, &second, calls, timed)?;
+    measure_pair(rt, "joined", first, &second, calls, timed)
+}
+
+// Composes the taps with themselves.
+fn measure_alone(rt: &HostRuntime, station: &Station, calls: u32, timed: bool) -> Result<()> {
     let alone = taps(rt.alloc(), station)?;
     measure_pair(rt, "alone", &alone, &alone, calls, timed)
+}
+
+// Composes the switches, of which the first value is made here.
+fn measure_switches(rt: &HostRuntime, station: &Station, calls: u32, timed: bool) -> Result<()> {
+    let first = switches(rt.alloc(), station, 0)?;
+    measure_joined(rt, station, &first, calls, timed)
+}
+
+/// Composes the closed switches of every second part with those of the others, and the taps with themselves.
+pub fn measure(rt: &HostRuntime, station: &Station, calls: u32, timed: bool) -> Result<()> {
+    measure_switches(rt, station, calls, timed)?;
+    measure_alone(rt, station, calls, timed)
 }

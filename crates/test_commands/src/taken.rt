@@ -7,40 +7,50 @@ use ssd_read::read_ssd;
 use station_graph::Station;
 use station_make::{LEAST_FEEDERS, MOST_FEEDERS, Made, make};
 use std::alloc::Global;
-use std::process::Abort;
-use std::test::Fail;
 
-// What was read has as much of each kind as was made, counted by hand.
-fn expect_read(
-    rt: &impl Abort,
-    alloc: Global,
-    station: &Station,
-    made: &Made,
-    feeders: u16,
-) -> Result<(), Fail>
+// Whether the log is read, with so many records: fifteen for each feeder and ten more.
+fn has_events(alloc: Global, station: &Station, made: &Made, feeders: u16) -> bool
     requires { feeders ≤ MOST_FEEDERS }
 {
-    assert!(rt; station.switch_count() == 6 * feeders + 3);
-    assert!(rt; station.node_count() == 3 * feeders + 4);
-    assert!(rt; read_positions(alloc, station, made.positions.bytes()).is_ok());
-    let log = read_log(alloc, station, made.events.bytes())?;
-    assert!(rt; log.count() == 15 * u32::from(feeders) + 10);
-    Ok(())
+    match read_log(alloc, station, made.events.bytes()) {
+        Ok(log) => log.count() == 15 * u32::from(feeders) + 10,
+        Err(_) => false,
+    }
 }
 
-fn expect_taken(rt: &impl Abort, alloc: Global, feeders: u8) -> Result<(), Fail>
+// Whether what was read has as much of each kind as was made, counted by hand.
+fn is_read(alloc: Global, station: &Station, made: &Made, feeders: u16) -> bool
+    requires { feeders ≤ MOST_FEEDERS }
+{
+    station.switch_count() == 6 * feeders + 3
+        && station.node_count() == 3 * feeders + 4
+        && read_positions(alloc, station, made.positions.bytes()).is_ok()
+        && has_events(alloc, station, made, feeders)
+}
+
+// Whether the drawing that was made is read so.
+fn is_drawn(alloc: Global, made: &Made, feeders: u16) -> bool
+    requires { feeders ≤ MOST_FEEDERS }
+{
+    match read_ssd(alloc, made.station.bytes()) {
+        Ok(station) => is_read(alloc, &station, made, feeders),
+        Err(_) => false,
+    }
+}
+
+fn is_taken(alloc: Global, feeders: u8) -> bool
     requires least { LEAST_FEEDERS ≤ feeders }
     requires most { feeders ≤ MOST_FEEDERS }
 {
-    let made = make(alloc, feeders)?;
-    let station = read_ssd(alloc, made.station.bytes())?;
-    expect_read(rt, alloc, &station, &made, u16::from(feeders))
+    match make(alloc, feeders) {
+        Ok(made) => is_drawn(alloc, &made, u16::from(feeders)),
+        Err(_) => false,
+    }
 }
 
 #[test]
-fn each_number_of_feeders(rt: HostRuntime) -> Result<(), Fail> {
+fn each_number_of_feeders(rt: HostRuntime) {
     for feeders in LEAST_FEEDERS..MOST_FEEDERS + 1 {
-        expect_taken(&rt, rt.alloc(), feeders)?;
+        assert!(rt; is_taken(rt.alloc(), feeders));
     }
-    Ok(())
 }

@@ -12,10 +12,18 @@ fn owned(alloc: Global, words: &[&str]) -> Result<Vec<String>, Fail> {
     Ok(all)
 }
 
-// Whether the words are refused.
+// Whether the words are of no command.
+fn are_refused(alloc: Global, words: &[String]) -> bool {
+    match read_words(alloc, words) {
+        Ok(row) => row.is_none(),
+        Err(_) => false,
+    }
+}
+
+// Whether these words are refused.
 fn refuses(alloc: Global, words: &[&str]) -> Result<bool, Fail> {
     let words = owned(alloc, words)?;
-    Ok(read_words(alloc, &words)?.is_none())
+    Ok(are_refused(alloc, &words))
 }
 
 #[test]
@@ -32,19 +40,23 @@ fn words_of_a_command(rt: HostRuntime) -> Result<(), Fail> {
     Ok(())
 }
 
+// Nothing, no command, the word help; a word too few, a word too many; an empty word, a flag, the end of flags.
+const OTHERS: &[&[&str]] = &[
+    &[],
+    &["chek", "a", "b"],
+    &["help", "check"],
+    &["check", "a"],
+    &["check", "a", "b", "c"],
+    &["check", "a", ""],
+    &["check", "a", "-b"],
+    &["check", "--", "a", "b"],
+];
+
 #[test]
 fn other_words(rt: HostRuntime) -> Result<(), Fail> {
-    // nothing, no command, the word help
-    assert!(rt; refuses(rt.alloc(), &[])?);
-    assert!(rt; refuses(rt.alloc(), &["chek", "a", "b"])?);
-    assert!(rt; refuses(rt.alloc(), &["help", "check"])?);
-    // a word too few, a word too many
-    assert!(rt; refuses(rt.alloc(), &["check", "a"])?);
-    assert!(rt; refuses(rt.alloc(), &["check", "a", "b", "c"])?);
-    // an empty word, a flag, the end of flags
-    assert!(rt; refuses(rt.alloc(), &["check", "a", ""])?);
-    assert!(rt; refuses(rt.alloc(), &["check", "a", "-b"])?);
-    assert!(rt; refuses(rt.alloc(), &["check", "--", "a", "b"])?);
+    for words in OTHERS {
+        assert!(rt; refuses(rt.alloc(), words)?);
+    }
     // three words where three are due
     assert!(rt; !refuses(rt.alloc(), &["order", "a", "b", "c"])?);
     Ok(())

@@ -1,7 +1,8 @@
 //! The whole text of `station` for two small drawings, worked out by hand.
 use crate::pieces::{RIGHT, joined};
 use drawing_remarks::station_text;
-use ssd_read::read_whole;
+use ssd_read::{WholeDrawing, read_whole};
+use std::alloc::Global;
 use std::test::Fail;
 
 // The text of the right drawing.
@@ -64,18 +65,30 @@ count\ttaps\t3
 count\tremarks\t3
 ";
 
-#[test]
-fn whole_texts(rt: HostRuntime) -> Result<(), Fail> {
-    let alloc = rt.alloc();
-    for (pieces, want, remarks) in [
-        (RIGHT, RIGHT_TEXT, 0),
-        ([TRANSFORMER].as_slice(), TRANSFORMER_TEXT, 3),
-    ] {
-        let drawing = joined(alloc, pieces)?;
-        let whole = read_whole(alloc, drawing.bytes()).ok().ok_or("a refusal")?;
-        let report = station_text(alloc, &whole)?;
-        assert!(rt; report.text.bytes() == want.as_bytes());
-        assert!(rt; report.remarks == remarks);
+// Whether this is told of a whole drawing, with so many remarks.
+fn says(alloc: Global, whole: &WholeDrawing, want: &str, remarks: u32) -> bool {
+    match station_text(alloc, whole) {
+        Ok(report) => report.remarks == remarks && report.text.bytes() == want.as_bytes(),
+        Err(_) => false,
     }
+}
+
+// Whether the drawing is accepted, and this is told of it.
+fn is_told(alloc: Global, drawing: &[u8], want: &str, remarks: u32) -> bool {
+    match read_whole(alloc, drawing) {
+        Ok(whole) => says(alloc, &whole, want, remarks),
+        Err(_) => false,
+    }
+}
+
+#[test]
+fn text_of_a_right_drawing(rt: HostRuntime) -> Result<(), Fail> {
+    let drawing = joined(rt.alloc(), RIGHT)?;
+    assert!(rt; is_told(rt.alloc(), drawing.bytes(), RIGHT_TEXT, 0));
     Ok(())
+}
+
+#[test]
+fn text_of_a_transformer(rt: HostRuntime) {
+    assert!(rt; is_told(rt.alloc(), TRANSFORMER.as_bytes(), TRANSFORMER_TEXT, 3));
 }

@@ -85,11 +85,19 @@ const DRAWINGS: &[Drawn] = &[
     EXPORTED,
 ];
 
+// Whether each text stands for its station.
+fn are_drawn(alloc: Global, rows: &[Drawn]) -> bool {
+    for drawn in rows {
+        if !is_drawn(alloc, drawn.text, drawn) {
+            return false;
+        }
+    }
+    true
+}
+
 #[test]
 fn stations(rt: HostRuntime) {
-    for drawn in DRAWINGS {
-        assert!(rt; is_drawn(rt.alloc(), drawn.text, drawn));
-    }
+    assert!(rt; are_drawn(rt.alloc(), DRAWINGS));
 }
 
 // The same file with the line ends of another system.
