@@ -47,7 +47,7 @@ LAYERS = [
     Layer("two stations",
           "Begin with `station_changes/specs/Compare.antt`, what an extension changes, and then `step_graphs/specs/Moved.antt`. "
           "No command stands on these crates yet.",
-          "station_changes release_dependence graph_products graph_walks step_graphs"),
+          "station_changes release_dependence graph_products graph_walks step_graphs station_joints change_search"),
     Layer("bay",
           "Begin with `bay_protocol/specs/Step.antt`: each constructor is one rule of what a bay does at an event.",
           "bay_frames bay_protocol bay_node node_session node_store stored_session"),
@@ -63,7 +63,7 @@ LAYERS = [
           "interlock_cli program_edge interlock"),
     Layer("tests and benches",
           "Begin with `test_stations`, the stations that the tests are worked on.",
-          "test_stations test_texts test_drawing test_station test_judge test_bay test_world test_commands test_program bench_parts"),
+          "test_stations test_texts test_drawing test_station test_judge test_compare test_bay test_world test_commands test_program bench_parts"),
 ]
 FIRST = ("# NAME: what it stands on. Layer by layer from the bottom, by tools/crates_map.py; crates/README.md says what each "
          "crate is.")

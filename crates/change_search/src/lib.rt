@@ -1,0 +1,11 @@
+//! What of an operation changes between two stations, found in a walk of the graphs of its switch in both: the labels of
+//! a walk tell exactly which rules the operation breaks, and choices that show a change are found wherever there are any.
+#![tactic(auto)]
+
+mod law;
+mod search;
+mod telling;
+
+pub use law::labels_tell_changes;
+pub use search::find_change;
+pub use telling::{answer, tells};

@@ -1,0 +1,5 @@
+use Rattle.std.proofs.Common.{◌≡◌, take, map}
+use Rattle.station_joints.proofs.joint.seconds.Given as goal
+
+abbrev pub invariant-loop-pair : goal.invariant-loop-pair
+invariant-loop-pair l = l.steps.items ≡ map (λ x. x.second) (take l.pair-index l.pairs)

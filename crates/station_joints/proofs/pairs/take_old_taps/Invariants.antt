@@ -1,0 +1,7 @@
+use Rattle.std.proofs.Common.{◌+◌, length}
+use Rattle.station_joints.specs.Taking.{Olds, News, ArePairs}
+use Rattle.station_joints.proofs.pairs.take_old_taps.Given as goal
+
+abbrev pub invariant-loop-i : goal.invariant-loop-i
+invariant-loop-i l =
+    ArePairs l.old l.new (Olds l.old l.new (length l.new.switches) (length l.old.switches) (length l.old.links) l.i) (News (length l.new.switches) (length l.new.links) (length l.new.taps)) (length l.new.switches + length l.old.switches + length l.new.links + length l.new.taps + length l.old.links + l.i) l.pairs.items

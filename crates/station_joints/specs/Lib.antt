@@ -1,0 +1,4 @@
+pub mod Together
+pub mod Taking
+pub mod Joined
+pub mod Chosen

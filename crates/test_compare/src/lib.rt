@@ -1,0 +1,5 @@
+//! Tests of what stands on two stations, on small ones worked by hand.
+#![tactic(auto)]
+
+#[cfg(test)]
+mod steps;
