@@ -1,8 +1,7 @@
 -- The labels tell which rule is broken.
-use Rattle.std.proofs.Common.{◌≡◌, ◌⊎◌, ℕ, suc, Bool, true, false, eqb, List, length, Option, Some, None, slice_get, refl, sym, ap, ◌∙◌}
+use Rattle.std.proofs.Common.{◌≡◌, ℕ, Bool, true, false, eqb, List, Option, Some, None, slice_get, refl, sym, ap, ◌∙◌}
 use Rattle.std.proofs.Common.{subst, inl, inr, arith}
 use Rattle.std.specs.Prelude.{◌↔◌, if◌then◌else◌}
-use Rattle.std.proofs.lemmas.Bool.{cases_Bool}
 use Rattle.std.proofs.lemmas.Option.{same_Some}
 use Rattle.ilk_base.specs.declared.words.Direction.{Direction}
 use Rattle.ilk_base.specs.declared.words.Direction.TheVariants.{ToOff, ToOn}
@@ -10,21 +9,19 @@ use Rattle.ilk_base.specs.declared.words.Op.{Op}
 use Rattle.ilk_base.specs.declared.words.Rule.{Rule}
 use Rattle.ilk_base.specs.declared.words.Rule.TheVariants.{R1, R2, R3}
 use Rattle.station_graph.specs.Diagram.{Diagram}
-use Rattle.station_graph.specs.Alike.{IsVector}
-use Rattle.station_graph.specs.CentralRules.{Applies, Breaks, GapBreaks, BreaksEarthing, BreaksClosing, BreaksFeeding}
+use Rattle.station_graph.specs.CentralRules.{Applies, Breaks, GapBreaks}
 use Rattle.station_graph.proofs.AnswerLemmas.{same_answer}
 use Rattle.station_changes.specs.declared.change.Change.{Change}
 use Rattle.station_changes.specs.declared.change.Change.TheVariants.{Stricter, Looser}
 use Rattle.station_changes.specs.Compare.{IsCommon, IsJoint, IsChange}
 use Rattle.decision_graphs.specs.Label.{Layered, label_of}
 use Rattle.graph_walks.specs.declared.codes.Codes.{Codes}
-use Rattle.graph_walks.specs.Walks.{codes_of, AreTwos}
-use Rattle.judge_pool.specs.declared.view.View.{View}
+use Rattle.graph_walks.specs.Walks.{codes_of}
 use Rattle.judge_pool.specs.declared.view.View.TheVariants.{Gap, Load}
 use Rattle.judge_pool.specs.Graphs.{gap_rule, LabelSays}
 use Rattle.step_graphs.specs.declared.step.Step.{Step}
 use Rattle.station_joints.specs.Together.{AreJointlyGiven}
-use Rattle.change_search.specs.Telling.{load_rule, first_rule, answer_of, Tells, IsSwitchWalk}
+use Rattle.change_search.specs.Telling.{first_rule, answer_of, Tells, IsSwitchWalk}
 use Rattle.change_search.specs.Searching.{LeadsToChange}
 
 module _ (d : Diagram) (v : List Bool) (op : Op) where

@@ -3,9 +3,11 @@
 #![tactic(auto)]
 
 mod law;
+mod part;
 mod search;
 mod telling;
 
 pub use law::labels_tell_changes;
+pub use part::{Reached, Shown, find_part};
 pub use search::find_change;
 pub use telling::{answer, tells};
