@@ -2,11 +2,13 @@
 //! a walk tell exactly which rules the operation breaks, and choices that show a change are found wherever there are any.
 #![tactic(auto)]
 
+mod allow;
 mod law;
 mod part;
 mod search;
 mod telling;
 
+pub use allow::free_steps_allow;
 pub use law::labels_tell_changes;
 pub use part::{Reached, Shown, find_part};
 pub use search::find_change;
