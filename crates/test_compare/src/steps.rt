@@ -5,6 +5,7 @@ use std::test::Fail;
 use test_stations::{Example, built};
 
 const OLD_PLACES: &[u16] = &[0, 1, 2, 3, 4, 7, 8, 9, 10, 11];
+
 const NEW_PLACES: &[u16] = &[0, 1, 2, 3, 4, 7, 8, 9, 10, 11, 14];
 
 // The third bay is new. Each feeder has five switches of both stations, then the tap of the new one and that of the old
