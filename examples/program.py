@@ -34,8 +34,10 @@ ROUNDS, UNKNOWN = 40, 4
 
 def parts_of(text):
     """The inputs, the outputs, the other variables, and the assignments of a text."""
+    text = re.sub(r"\(\*.*?\*\)", "", text, flags=re.S)
     blocks = re.findall(r"^(VAR_INPUT|VAR_OUTPUT|VAR)\n(.*?)^END_VAR$", text, re.M | re.S)
-    names = {kind: re.findall(r"^  (\w+) : BOOL;$", body, re.M) for kind, body in blocks}
+    lists = {kind: re.findall(r"([\w,\s]+) : BOOL;", body) for kind, body in blocks}
+    names = {kind: [name for names in found for name in re.findall(r"\w+", names)] for kind, found in lists.items()}
     return names["VAR_INPUT"], names["VAR_OUTPUT"], names["VAR"], re.findall(r"^  (\w+) := (.*);$", text, re.M)
 
 

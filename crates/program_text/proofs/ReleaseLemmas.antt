@@ -16,6 +16,7 @@ use Rattle.structured_text.specs.declared.line.GapDenial.TheVariants.{One, Two}
 use Rattle.structured_text.specs.declared.line.LoadDenial.{LoadDenial}
 use Rattle.structured_text.specs.declared.line.LoadDenial.TheVariants.{Loaded, Unbonded}
 use Rattle.structured_text.specs.declared.line.Formula.{Formula}
+use Rattle.structured_text.specs.declared.line.Heading.{Heading}
 use Rattle.structured_text.specs.declared.line.Line.{Line}
 use Rattle.structured_text.specs.Meaning.{Store, value, gap_denied, load_denied, b_not, same_name, after}
 use Rattle.program_text.specs.Releases.{two_of, one_of, gap_denial_in, loaded_of, load_denial_in, release_in, IsRelease}
@@ -118,7 +119,7 @@ closes_apart i (Sure a) ne = refl
 closes_apart i (Opens a) ne = absurd (ne tt)
 closes_apart i (Closes a) ne = absurd (ne tt)
 
-module _ (d : Diagram) (may sure : ℕ) (gap load bond : List TermPair) (k : ℕ) (lines : List Line)
+module _ (hd : Option Heading) (d : Diagram) (may sure : ℕ) (gap load bond : List TermPair) (k : ℕ) (lines : List Line)
     (h : MeansReleases d may sure gap load bond k lines) (x : Switch) (listed : slice_get d.switches k ≡ Some x)
     (g l b : TermPair) (g_at : slice_get gap k ≡ Some g) (l_at : slice_get load k ≡ Some l)
     (b_at : slice_get bond k ≡ Some b) where
@@ -132,45 +133,45 @@ module _ (d : Diagram) (may sure : ℕ) (gap load bond : List TermPair) (k : ℕ
   closing = release_in (gap_denial_in x.kind (pair_in may g)) (load_denial_in x.kind (pair_in may l) (pair_in sure b))
 
   abbrev one : List Line
-  one = lines ++ (record { name = Opens id; formula = opening }) ∷ []
+  one = lines ++ (record { heading = hd; name = Opens id; formula = opening }) ∷ []
 
   abbrev two : List Line
-  two = one ++ (record { name = Closes id; formula = closing }) ∷ []
+  two = one ++ (record { heading = None; name = Closes id; formula = closing }) ∷ []
 
   one_keeps : (s : Store) (m : Name) → ¬ IsRelease m → after one s m ≡ s m
   one_keeps s m ne =
-      not_set lines (record { name = Opens id; formula = opening }) s m (opens_apart id m ne) ∙ h.others s m ne
+      not_set lines (record { heading = hd; name = Opens id; formula = opening }) s m (opens_apart id m ne) ∙ h.others s m ne
 
   two_keeps : (s : Store) (m : Name) → ¬ IsRelease m → after two s m ≡ s m
   two_keeps s m ne =
-      not_set one (record { name = Closes id; formula = closing }) s m (closes_apart id m ne) ∙ one_keeps s m ne
+      not_set one (record { heading = None; name = Closes id; formula = closing }) s m (closes_apart id m ne) ∙ one_keeps s m ne
 
   opens_here : (s : Store) → after two s (Opens id) ≡ value s opening
   opens_here s =
-      not_set one (record { name = Closes id; formula = closing }) s (Opens id) refl
-      ∙ (is_set lines (record { name = Opens id; formula = opening }) s (eq_true k k refl)
+      not_set one (record { heading = None; name = Closes id; formula = closing }) s (Opens id) refl
+      ∙ (is_set lines (record { heading = hd; name = Opens id; formula = opening }) s (eq_true k k refl)
       ∙ opening_same (after lines s) s (λ n. h.others s (May n) (λ e. e)) (λ n. h.others s (Sure n) (λ e. e)) x.kind
       (pair_in may l) (pair_in sure b))
 
   closes_here : (s : Store) → after two s (Closes id) ≡ value s closing
   closes_here s =
-      is_set one (record { name = Closes id; formula = closing }) s (eq_true k k refl)
+      is_set one (record { heading = None; name = Closes id; formula = closing }) s (eq_true k k refl)
       ∙ closing_same (after one s) s (λ n. one_keeps s (May n) (λ e. e)) (λ n. one_keeps s (Sure n) (λ e. e)) x.kind
       (pair_in may g) (pair_in may l) (pair_in sure b)
 
   opens_before : (s : Store) (i : ℕ) → i ≢ k → after two s (Opens (record { 0 = i }))
       ≡ after lines s (Opens (record { 0 = i }))
   opens_before s i ne =
-      not_set one (record { name = Closes id; formula = closing }) s (Opens (record { 0 = i })) refl
-      ∙ not_set lines (record { name = Opens id; formula = opening }) s (Opens (record { 0 = i }))
+      not_set one (record { heading = None; name = Closes id; formula = closing }) s (Opens (record { 0 = i })) refl
+      ∙ not_set lines (record { heading = hd; name = Opens id; formula = opening }) s (Opens (record { 0 = i }))
       (eq_false k i (λ e. ne (sym e)))
 
   closes_before : (s : Store) (i : ℕ) → i ≢ k → after two s (Closes (record { 0 = i }))
       ≡ after lines s (Closes (record { 0 = i }))
   closes_before s i ne =
-      not_set one (record { name = Closes id; formula = closing }) s (Closes (record { 0 = i }))
+      not_set one (record { heading = None; name = Closes id; formula = closing }) s (Closes (record { 0 = i }))
       (eq_false k i (λ e. ne (sym e)))
-      ∙ not_set lines (record { name = Opens id; formula = opening }) s (Closes (record { 0 = i })) refl
+      ∙ not_set lines (record { heading = hd; name = Opens id; formula = opening }) s (Closes (record { 0 = i })) refl
 
   -- the releases of one switch more
   pub releases_more : MeansReleases d may sure gap load bond (k + 1) two
@@ -208,22 +209,23 @@ module _ (d : Diagram) (may sure : ℕ) (gap load bond : List TermPair) (k : ℕ
     ];
   }
 
-pub releases_push : (d : Diagram) (may sure : ℕ) (gap load bond : List TermPair) (k : ℕ) (lines : List Line) →
+pub releases_push : (hd : Option Heading) (d : Diagram) (may sure : ℕ) (gap load bond : List TermPair) (k : ℕ) (lines : List Line) →
     MeansReleases d may sure gap load bond k lines → (x : Switch) → slice_get d.switches k ≡ Some x → (g l b : TermPair) →
     slice_get gap k ≡ Some g → slice_get load k ≡ Some l → slice_get bond k ≡ Some b → (opens closes : Formula) →
     opens ≡ release_in None (load_denial_in x.kind (pair_in may l) (pair_in sure b)) →
     closes ≡ release_in (gap_denial_in x.kind (pair_in may g)) (load_denial_in x.kind (pair_in may l) (pair_in sure b)) →
     MeansReleases d may sure gap load bond (k + 1)
-    ((lines ++ (record { name = Opens (record { 0 = k }); formula = opens }) ∷ [])
-    ++ (record { name = Closes (record { 0 = k }); formula = closes }) ∷ [])
-releases_push d may sure gap load bond k lines h x listed g l b g_at l_at b_at opens closes e f =
+    ((lines ++ (record { heading = hd; name = Opens (record { 0 = k }); formula = opens }) ∷ [])
+    ++ (record { heading = None; name = Closes (record { 0 = k }); formula = closes }) ∷ [])
+releases_push hd d may sure gap load bond k lines h x listed g l b g_at l_at b_at opens closes e f =
     subst (λ (o : Formula). MeansReleases d may sure gap load bond (k + 1)
-    ((lines ++ (record { name = Opens (record { 0 = k }); formula = o }) ∷ [])
-    ++ (record { name = Closes (record { 0 = k }); formula = closes }) ∷ [])) (sym e)
+    ((lines ++ (record { heading = hd; name = Opens (record { 0 = k }); formula = o }) ∷ [])
+    ++ (record { heading = None; name = Closes (record { 0 = k }); formula = closes }) ∷ [])) (sym e)
     (subst (λ (o : Formula). MeansReleases d may sure gap load bond (k + 1)
     ((lines ++ (record {
+      heading = hd;
       name = Opens (record { 0 = k });
       formula = release_in None (load_denial_in x.kind (pair_in may l) (pair_in sure b));
     }) ∷ [])
-    ++ (record { name = Closes (record { 0 = k }); formula = o }) ∷ [])) (sym f)
-    (releases_more d may sure gap load bond k lines h x listed g l b g_at l_at b_at))
+    ++ (record { heading = None; name = Closes (record { 0 = k }); formula = o }) ∷ [])) (sym f)
+    (releases_more hd d may sure gap load bond k lines h x listed g l b g_at l_at b_at))

@@ -1,7 +1,7 @@
 -- The lines of formulas, one after another.
 use Rattle.std.proofs.Common.{◌≡◌, ◌≢◌, ◌↔◌, ◌⊎◌, ◌++◌, ◌∙◌, ◌<◌, ◌+◌, ◌&&◌, ◌||◌, ℕ, zero, suc, List, [], ◌∷◌, Bool, true}
 use Rattle.std.proofs.Common.{false, length, slice_get, Some, refl, sym, ap, subst, inl, inr, arith}
-use Rattle.std.specs.Prelude.{◌==◌, nat_lt, if◌then◌else◌}
+use Rattle.std.specs.Prelude.{◌==◌, nat_lt, if◌then◌else◌, Option}
 use Rattle.std.proofs.lemmas.Bool.{cases_eq, cases_lt, false≢true}
 use Rattle.std.proofs.lemmas.Bool.Decides.{nat_tests}
 use Rattle.std.proofs.lemmas.Option.{slice_get_within}
@@ -12,6 +12,7 @@ use Rattle.interlock_terms.specs.Terms.{Values, IsTrueAt, Says, RefersBelow, Are
 use Rattle.interlock_terms.proofs.SolveLemmas.{evaluated_solves}
 use Rattle.structured_text.specs.declared.name.Name.{Name}
 use Rattle.structured_text.specs.declared.name.Name.TheVariants.{Off, On, May, Sure, Opens, Closes}
+use Rattle.structured_text.specs.declared.line.Heading.{Heading}
 use Rattle.structured_text.specs.declared.line.Line.{Line}
 use Rattle.structured_text.specs.Meaning.{Store, value, same_name, after}
 use Rattle.program_text.specs.declared.term_lines.Reading.{Reading}
@@ -97,7 +98,7 @@ means_none r count terms = record {
   values = λ s j low. absurd (omega (arith, low));
 }
 
-module _ (r : Reading) (count : ℕ) (terms : List Term) (k : ℕ) (lines : List Line)
+module _ (hd : Option Heading) (r : Reading) (count : ℕ) (terms : List Term) (k : ℕ) (lines : List Line)
     (h : MeansTerms r count terms k lines) where
   value_leaf : (q : Reading) (t : Store) (i : SwitchId) → value t (position_in q i) ≡ counts_in q (t (Off i)) (t (On i))
   value_leaf AsClosed t i = refl
@@ -155,7 +156,7 @@ module _ (r : Reading) (count : ℕ) (terms : List Term) (k : ℕ) (lines : List
         )
 
   abbrev line_of : Term → Line
-  line_of t = record { name = name_in r k; formula = formula_in r count t }
+  line_of t = record { heading = hd; name = name_in r k; formula = formula_in r count t }
 
   others_more : (t : Term) (s : Store) (m : Name) → ¬ IsOfReading r m → after (lines ++ line_of t ∷ []) s m ≡ s m
   others_more t s m ne = by (same_name (name_in r k) m) refl
@@ -184,8 +185,9 @@ module _ (r : Reading) (count : ℕ) (terms : List Term) (k : ℕ) (lines : List
   }
 
 pub means_push : (r : Reading) (count : ℕ) (terms : List Term) (k : ℕ) (lines : List Line) →
-    MeansTerms r count terms k lines → AreOrdered terms → (t : Term) → slice_get terms k ≡ Some t → (l : Line) →
-    l ≡ record { name = name_in r k; formula = formula_in r count t } → MeansTerms r count terms (k + 1) (lines ++ l ∷ [])
-means_push r count terms k lines h ordered t at l e =
+    MeansTerms r count terms k lines → AreOrdered terms → (t : Term) → slice_get terms k ≡ Some t →
+    (hd : Option Heading) → (l : Line) → l ≡ record { heading = hd; name = name_in r k; formula = formula_in r count t } →
+    MeansTerms r count terms (k + 1) (lines ++ l ∷ [])
+means_push r count terms k lines h ordered t at hd l e =
     subst (λ (x : Line). MeansTerms r count terms (k + 1) (lines ++ x ∷ [])) (sym e)
-    (means_more r count terms k lines h ordered t at)
+    (means_more hd r count terms k lines h ordered t at)

@@ -1,5 +1,6 @@
 -- The lines name switches of the station alone.
-use Rattle.std.proofs.Common.{◌≡◌, ◌<◌, ◌++◌, ℕ, List, [], ◌∷◌, Bool, true, false, slice_get, Some, None, refl, sym, ap, subst, inl, inr, arith}
+use Rattle.std.proofs.Common.{◌≡◌, ◌<◌, ◌++◌, ℕ, List, [], ◌∷◌, Bool, true, false, length, slice_get, Some, None, refl}
+use Rattle.std.proofs.Common.{sym, ap, subst, inl, inr, arith}
 use Rattle.std.specs.Prelude.{Option, nat_lt, if◌then◌else◌}
 use Rattle.std.proofs.lemmas.Bool.Decides.{nat_tests}
 use Rattle.ilk_base.specs.declared.words.Kind.{Kind}
@@ -12,8 +13,10 @@ use Rattle.short_equations.specs.declared.pair.TermPair.{TermPair}
 use Rattle.structured_text.specs.declared.line.GapDenial.{GapDenial}
 use Rattle.structured_text.specs.declared.line.LoadDenial.{LoadDenial}
 use Rattle.structured_text.specs.declared.line.Formula.TheVariants.{Never}
+use Rattle.structured_text.specs.declared.line.Heading.{Heading}
 use Rattle.structured_text.specs.declared.line.Line.{Line}
-use Rattle.structured_text.specs.Within.{NameWithin, GapWithin, LoadWithin, FormulaWithin, LineWithin, LinesWithin}
+use Rattle.station_graph.specs.Diagram.{Diagram, part_count}
+use Rattle.structured_text.specs.Within.{NameWithin, GapWithin, LoadWithin, FormulaWithin, HeadingWithin, LineWithin, LinesWithin}
 use Rattle.program_text.specs.declared.term_lines.Reading.{Reading}
 use Rattle.program_text.specs.declared.term_lines.Reading.TheVariants.{May as AsClosed, Sure as AsOpen}
 use Rattle.program_text.specs.TermLines.{name_in, position_in, leaf_in, formula_in}
@@ -22,11 +25,11 @@ use Rattle.program_text.specs.Releases.{two_of, one_of, gap_denial_in, loaded_of
 lt_from : (a b : ℕ) → nat_lt a b ≡ true → a < b
 lt_from a b e = grind (arith, nat_tests)
 
-pub within_pushed : (count : ℕ) (lines : List Line) (l : Line) → LinesWithin count lines → LineWithin count l →
-    LinesWithin count (lines ++ l ∷ [])
-within_pushed count lines l h k i x at = elim (push_cases lines l x i at) [
+pub within_pushed : (d : Diagram) (lines : List Line) (l : Line) → LinesWithin d lines → LineWithin d l →
+    LinesWithin d (lines ++ l ∷ [])
+within_pushed d lines l h k i x at = elim (push_cases lines l x i at) [
   | inl old ↦ h i x old
-  | inr new ↦ subst (LineWithin count) new.1 k
+  | inr new ↦ subst (LineWithin d) new.1 k
 ]
 
 name_within : (count : ℕ) (r : Reading) (k : ℕ) → NameWithin count (name_in r k)
@@ -52,9 +55,14 @@ formula_within count r (Closed i) = leaf_within count r i
 formula_within count r (Both a b) = (name_within count r a, name_within count r b)
 formula_within count r (Either a b) = (name_within count r a, name_within count r b)
 
-pub term_within : (count : ℕ) (r : Reading) (k : ℕ) (t : Term) →
-    LineWithin count (record { name = name_in r k; formula = formula_in r count t })
-term_within count r k t = (name_within count r k, formula_within count r t)
+pub term_within : (d : Diagram) (count : ℕ) → length d.switches ≡ count → (hd : Option Heading) →
+    HeadingWithin (part_count d) hd → (r : Reading) (k : ℕ) (t : Term) →
+    LineWithin d (record { heading = hd; name = name_in r k; formula = formula_in r count t })
+term_within d count counted hd above r k t = record {
+  heading = above;
+  name = name_within (length d.switches) r k;
+  formula = subst (λ n. FormulaWithin n (formula_in r count t)) (sym counted) (formula_within count r t);
+}
 
 abbrev GapIn : ℕ → Option GapDenial → Type 0
 GapIn count None = Unit {0}

@@ -2,33 +2,24 @@
 use Rattle.std.specs.Prelude.{◌≡◌, ◌++◌, ℕ, zero, suc, List, [], length, codes}
 use Rattle.std.specs.List.{flat_map}
 use Rattle.station_graph.specs.Diagram.{Diagram}
-use Rattle.structured_text.specs.declared.name.Name.TheVariants.{Off, On, Opens, Closes}
 use Rattle.structured_text.specs.declared.line.Line.{Line}
-use Rattle.structured_text.specs.Spelling.{declared_text, line_text}
+use Rattle.structured_text.specs.Spelling.{input_text, output_text, locals_text, line_text}
 use Rattle.program_text.specs.declared.text.TheConstants.{HEAD}
 use Rattle.program_text.specs.Interlocking.{IsInterlocking}
 
 -- The declarations of the contacts of n switches from number k on.
 abbrev pub inputs_text : List (List ℕ) → ℕ → ℕ → List ℕ
 inputs_text paths k zero = []
-inputs_text paths k (suc n) =
-    declared_text paths (Off (record { 0 = k }))
-    ++ (declared_text paths (On (record { 0 = k })) ++ inputs_text paths (suc k) n)
+inputs_text paths k (suc n) = input_text paths (record { 0 = k }) ++ inputs_text paths (suc k) n
 
 -- The declarations of their releases.
 abbrev pub outputs_text : List (List ℕ) → ℕ → ℕ → List ℕ
 outputs_text paths k zero = []
-outputs_text paths k (suc n) =
-    declared_text paths (Opens (record { 0 = k }))
-    ++ (declared_text paths (Closes (record { 0 = k })) ++ outputs_text paths (suc k) n)
-
--- The declarations of the variables that lines set.
-abbrev pub locals_text : List (List ℕ) → List Line → List ℕ
-locals_text paths lines = flat_map (λ (x : Line). declared_text paths x.name) lines
+outputs_text paths k (suc n) = output_text paths (record { 0 = k }) ++ outputs_text paths (suc k) n
 
 -- The lines.
-abbrev pub lines_text : List (List ℕ) → List Line → List ℕ
-lines_text paths lines = flat_map (λ (x : Line). line_text paths x) lines
+abbrev pub lines_text : Diagram → List Line → List ℕ
+lines_text d lines = flat_map (λ (x : Line). line_text d x) lines
 
 -- What the text says of itself, and its inputs and outputs.
 abbrev pub contacts_text : Diagram → List ℕ
@@ -45,8 +36,7 @@ variables_text d may sure =
 -- The lines, for what may be, for what is certain, and for the releases.
 abbrev pub body_text : Diagram → List Line → List Line → List Line → List ℕ
 body_text d may sure releases =
-    lines_text d.switch_paths may
-    ++ (lines_text d.switch_paths sure ++ (lines_text d.switch_paths releases ++ codes "END_FUNCTION_BLOCK\n"))
+    lines_text d may ++ (lines_text d sure ++ (lines_text d releases ++ codes "END_FUNCTION_BLOCK\n"))
 
 -- The whole text.
 abbrev pub block_text : Diagram → List Line → List Line → List Line → List ℕ

@@ -1,5 +1,5 @@
 //! The interlocking of a station as lines.
-ghost use Rattle.std.specs.Prelude.{◌++◌, length, IfOk};
+ghost use Rattle.std.specs.Prelude.{◌++◌, IfOk};
 ghost use Rattle.structured_text.specs.Within.{LinesWithin};
 ghost use Rattle.program_text.specs.Interlocking.{IsInterlocking};
 
@@ -27,9 +27,9 @@ pub struct Program {
 pub fn interlocking(alloc: Global, station: &Station) -> Result<Program, Memory>
     ensures interlocks { IfOk result (λ p. IsInterlocking station.now
         (p.may.items ++ (p.sure.items ++ p.releases.items))) }
-    ensures may { IfOk result (λ p. LinesWithin (length station.now.switches) p.may.items) }
-    ensures sure { IfOk result (λ p. LinesWithin (length station.now.switches) p.sure.items) }
-    ensures releases { IfOk result (λ p. LinesWithin (length station.now.switches) p.releases.items) }
+    ensures may { IfOk result (λ p. LinesWithin station.now p.may.items) }
+    ensures sure { IfOk result (λ p. LinesWithin station.now p.sure.items) }
+    ensures releases { IfOk result (λ p. LinesWithin station.now p.releases.items) }
 {
     let mut terms = Terms::new(alloc);
     let gap = view_pairs(alloc, &mut terms, station, View::Gap)?;

@@ -1,13 +1,14 @@
 //! The lines of releases.
 ghost use Rattle.std.specs.Prelude.{◌≡◌, ◌<◌, ◌≤◌, length, IfOk, OnOk};
-ghost use Rattle.structured_text.specs.Within.{LinesWithin};
+ghost use Rattle.station_graph.specs.Diagram.{part_count};
+ghost use Rattle.structured_text.specs.Within.{HeadingWithin, LinesWithin};
 ghost use Rattle.program_text.specs.Releases.{known_in, pair_in, gap_denial_in, load_denial_in, release_in, MeansReleases};
 
 use ilk_base::{Kind, Memory, SwitchId};
 use short_equations::TermPair;
 use station_graph::Station;
 use std::alloc::Global;
-use structured_text::{Formula, GapDenial, Line, LoadDenial, Name};
+use structured_text::{Formula, GapDenial, Heading, Line, LoadDenial, Name};
 
 // What denies that a switch of this kind is closed.
 fn gap_denial(kind: Kind, pair: TermPair) -> Option<GapDenial>
@@ -81,6 +82,18 @@ fn known_pair(pair: TermPair, count: usize) -> TermPair
     }
 }
 
+// The comment above the lines of a switch: the first of a bay has one.
+fn heading_of(station: &Station, id: SwitchId) -> Option<Heading>
+    requires { id.0 < length station.now.switches }
+    ensures { HeadingWithin (part_count station.now) result }
+{
+    let bay = station.switch(id).bay;
+    if id.0 > 0 && station.switch(SwitchId(id.0 - 1)).bay == bay {
+        return None;
+    }
+    Some(Heading::Releases(bay))
+}
+
 /// Two lines for each switch, in order: that opening it is released, and that closing it is.
 pub(crate) fn release_lines(
     alloc: Global,
@@ -96,7 +109,7 @@ pub(crate) fn release_lines(
     requires bond { length bond.now ≡ length station.now.switches }
     ensures means { IfOk result (λ r. MeansReleases station.now may sure gap.now load.now bond.now
         (length station.now.switches) r.items) }
-    ensures within { IfOk result (λ r. LinesWithin (length station.now.switches) r.items) }
+    ensures within { IfOk result (λ r. LinesWithin station.now r.items) }
 {
     let mut lines = Vec::new(alloc);
     for i in 0..station.switch_count() {
@@ -109,11 +122,14 @@ pub(crate) fn release_lines(
         let closed = gap_denial(kind, coupled);
         let opens = release(None, moved);
         let closes = release(closed, moved);
+        let heading = heading_of(station, id);
         lines.push(Line {
+            heading,
             name: Name::Opens(id),
             formula: opens,
         })?;
         lines.push(Line {
+            heading: None,
             name: Name::Closes(id),
             formula: closes,
         })?;

@@ -1,13 +1,14 @@
 //! The lines of formulas.
-ghost use Rattle.std.specs.Prelude.{◌≡◌, ◌<◌, length, slice_get, Some, IfOk};
+ghost use Rattle.std.specs.Prelude.{◌≡◌, ◌<◌, ℕ, length, slice_get, Some, IfOk};
 ghost use Rattle.interlock_terms.specs.Terms.{AreOrdered};
-ghost use Rattle.structured_text.specs.Within.{LinesWithin};
+ghost use Rattle.station_graph.specs.Diagram.{Diagram};
+ghost use Rattle.structured_text.specs.Within.{HeadingWithin, LinesWithin};
 ghost use Rattle.program_text.specs.TermLines.{name_in, leaf_in, formula_in, MeansTerms};
 
 use ilk_base::{Memory, SwitchId};
 use interlock_terms::{Term, Terms};
 use std::alloc::Global;
-use structured_text::{Formula, Line, Name};
+use structured_text::{Formula, Heading, Line, Name};
 
 /// How positions that are not known count.
 #[derive(Clone, Copy, PartialEq, Eq)]
@@ -54,6 +55,19 @@ fn formula_of(reading: Reading, count: u16, term: Term) -> Formula
     }
 }
 
+// The comment above the line of a formula: the first alone has one.
+fn heading_at(reading: Reading, number: usize) -> Option<Heading>
+    ensures { (parts : ℕ) → HeadingWithin parts result }
+{
+    if number > 0 {
+        return None;
+    }
+    match reading {
+        Reading::May => Some(Heading::May),
+        Reading::Sure => Some(Heading::Sure),
+    }
+}
+
 /// A line for each formula, in order.
 pub(crate) fn term_lines(
     alloc: Global,
@@ -62,14 +76,19 @@ pub(crate) fn term_lines(
     count: u16,
 ) -> Result<Vec<Line>, Memory>
     ensures means { IfOk result (λ r. MeansTerms reading count terms.now (length terms.now) r.items) }
-    ensures within { IfOk result (λ r. LinesWithin count r.items) }
+    ensures within { IfOk result (λ r. (d : Diagram) → length d.switches ≡ count → LinesWithin d r.items) }
 {
     let mut lines = Vec::new(alloc);
     for k in 0..terms.len() {
         let term = terms.get(k);
+        let heading = heading_at(reading, k);
         let name = name_of(reading, k);
         let formula = formula_of(reading, count, term);
-        lines.push(Line { name, formula })?;
+        lines.push(Line {
+            heading,
+            name,
+            formula,
+        })?;
     }
     Ok(lines)
 }

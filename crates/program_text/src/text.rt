@@ -1,21 +1,22 @@
 //! The text of an interlocking.
 ghost use Rattle.std.specs.Prelude.{◌≡◌, ◌++◌, length, codes, OnOk, IfOk};
 ghost use Rattle.structured_text.specs.Within.{LinesWithin};
-ghost use Rattle.program_text.specs.ProgramText.{inputs_text, outputs_text, locals_text, contacts_text, variables_text};
+ghost use Rattle.program_text.specs.ProgramText.{inputs_text, outputs_text, contacts_text, variables_text};
 ghost use Rattle.program_text.specs.ProgramText.{body_text, block_text, IsProgramText};
 
 use crate::program::{Program, interlocking};
 use ilk_base::{Memory, SwitchId, Text};
 use station_graph::Station;
 use std::alloc::Global;
-use structured_text::{Line, Name, write_declaration, write_lines};
+use structured_text::{write_input, write_lines, write_locals, write_output};
 
 // What the text says of itself, and the begin of its inputs.
 const HEAD: &[u8] =
     b"(* The releases EnaOpn and EnaCls of each switch, derived from the single-line diagram.\n\
-    \x20  sw.._off, sw.._on  the contacts of the open and of the closed position: 10 off, 01 on; 00 and 11 say nothing\n\
-    \x20  m..                what holds where each switch that is not known to be off is closed\n\
-    \x20  c..                what holds where each switch that is not known to be on is open\n\
+    \x20  sw1_QB1_off, sw1_QB1_on  contacts of switch 1, whose last name is QB1, in its open and its closed position:\n\
+    \x20                           10 off, 01 on; 00 and 11 say nothing. Its path stands where they are declared.\n\
+    \x20  m..  what holds where each switch that is not known to be off is closed: coupled, joined, live, earthed, tapped\n\
+    \x20  c..  what holds where each switch that is not known to be on is open: bonded\n\
     \x20  An input that does not come counts as FALSE. The releases hold at one moment: two controllers that both see one\n\
     \x20  may both move, which this text does not forbid. *)\n\
     FUNCTION_BLOCK INTERLOCKING\n\
@@ -27,8 +28,7 @@ fn write_inputs(text: &mut Text, station: &Station) -> Result<(), Memory>
         ++ inputs_text station.now.switch_paths 0 (length station.now.switches)) }
 {
     for i in 0..station.switch_count() {
-        write_declaration(text, station, Name::Off(SwitchId(i)))?;
-        write_declaration(text, station, Name::On(SwitchId(i)))?;
+        write_input(text, station, SwitchId(i))?;
     }
     Ok(())
 }
@@ -39,19 +39,7 @@ fn write_outputs(text: &mut Text, station: &Station) -> Result<(), Memory>
         ++ outputs_text station.now.switch_paths 0 (length station.now.switches)) }
 {
     for i in 0..station.switch_count() {
-        write_declaration(text, station, Name::Opens(SwitchId(i)))?;
-        write_declaration(text, station, Name::Closes(SwitchId(i)))?;
-    }
-    Ok(())
-}
-
-// Appends the declarations of what lines set.
-fn write_locals(text: &mut Text, station: &Station, lines: &[Line]) -> Result<(), Memory>
-    requires { LinesWithin (length station.now.switches) lines.now }
-    ensures { OnOk result (text.new ≡ text.old ++ locals_text station.now.switch_paths lines.now) }
-{
-    for line in lines {
-        write_declaration(text, station, line.name)?;
+        write_output(text, station, SwitchId(i))?;
     }
     Ok(())
 }
@@ -69,8 +57,8 @@ fn write_contacts(text: &mut Text, station: &Station) -> Result<(), Memory>
 
 // Appends the declarations of the formulas.
 fn write_variables(text: &mut Text, station: &Station, program: &Program) -> Result<(), Memory>
-    requires may { LinesWithin (length station.now.switches) program.now.may.items }
-    requires sure { LinesWithin (length station.now.switches) program.now.sure.items }
+    requires may { LinesWithin station.now program.now.may.items }
+    requires sure { LinesWithin station.now program.now.sure.items }
     ensures { OnOk result (text.new ≡ text.old
         ++ variables_text station.now program.now.may.items program.now.sure.items) }
 {
@@ -82,9 +70,9 @@ fn write_variables(text: &mut Text, station: &Station, program: &Program) -> Res
 
 // Appends the lines.
 fn write_body(text: &mut Text, station: &Station, program: &Program) -> Result<(), Memory>
-    requires may { LinesWithin (length station.now.switches) program.now.may.items }
-    requires sure { LinesWithin (length station.now.switches) program.now.sure.items }
-    requires releases { LinesWithin (length station.now.switches) program.now.releases.items }
+    requires may { LinesWithin station.now program.now.may.items }
+    requires sure { LinesWithin station.now program.now.sure.items }
+    requires releases { LinesWithin station.now program.now.releases.items }
     ensures { OnOk result (text.new ≡ text.old
         ++ body_text station.now program.now.may.items program.now.sure.items program.now.releases.items) }
 {
@@ -97,9 +85,9 @@ fn write_body(text: &mut Text, station: &Station, program: &Program) -> Result<(
 
 // Appends the function block.
 fn write_program(text: &mut Text, station: &Station, program: &Program) -> Result<(), Memory>
-    requires may { LinesWithin (length station.now.switches) program.now.may.items }
-    requires sure { LinesWithin (length station.now.switches) program.now.sure.items }
-    requires releases { LinesWithin (length station.now.switches) program.now.releases.items }
+    requires may { LinesWithin station.now program.now.may.items }
+    requires sure { LinesWithin station.now program.now.sure.items }
+    requires releases { LinesWithin station.now program.now.releases.items }
     ensures { OnOk result (text.new ≡ text.old
         ++ block_text station.now program.now.may.items program.now.sure.items program.now.releases.items) }
 {

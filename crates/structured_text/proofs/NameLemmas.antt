@@ -10,7 +10,7 @@ use Rattle.std.proofs.lemmas.Slice.Eq.{bytes_eq-Decides}
 use Rattle.ilk_base.specs.declared.words.SwitchId.{SwitchId}
 use Rattle.structured_text.specs.declared.name.Name.{Name}
 use Rattle.structured_text.specs.declared.name.Name.TheVariants.{Off, On, May, Sure, Opens, Closes}
-use Rattle.structured_text.specs.Spelling.{is_word, word_byte, readable, switch_text, name_text, lower, folded}
+use Rattle.structured_text.specs.Spelling.{is_word, word_byte, readable, last_name, switch_text, name_text, lower, folded}
 use Rattle.structured_text.specs.Within.{IsNumbered}
 
 lt_true : (a b : ℕ) → a < b → nat_lt a b ≡ true
@@ -82,7 +82,7 @@ begins (b ∷ bs) rest = by (is_word b) refl (begins bs rest)
 
 module _ (paths : List (List ℕ)) (i j : ℕ) (i_small : i < 2 ^ 64) (j_small : j < 2 ^ 64) where
   abbrev path : ℕ → List ℕ
-  path k = readable true (slice_index_or paths k [])
+  path k = readable true (last_name (slice_index_or paths k []))
 
   unfold_text : (k : ℕ) → k < 2 ^ 64 → (rest : List ℕ) →
       folded (switch_text paths k (95 ∷ rest)) ≡ 115 ∷ 119 ∷ (decimal k ++ folded (path k ++ 95 ∷ rest))
@@ -92,7 +92,7 @@ module _ (paths : List (List ℕ)) (i j : ℕ) (i_small : i < 2 ^ 64) (j_small :
 
   behind : (k : ℕ) (rest : List ℕ) → (r : List ℕ) × (folded (path k ++ 95 ∷ rest) ≡ 95 ∷ r)
   behind k rest =
-      let (r, same) = begins (slice_index_or paths k []) rest in (folded r, ap (λ zs. folded zs) same)
+      let (r, same) = begins (last_name (slice_index_or paths k [])) rest in (folded r, ap (λ zs. folded zs) same)
 
   -- names that are the same are of one switch, and end alike
   one_switch : (v w : List ℕ) → folded (switch_text paths i (95 ∷ v)) ≡ folded (switch_text paths j (95 ∷ w)) →
@@ -129,42 +129,62 @@ apart xs ys same differ = let told : bytes_eq xs ys ≡ true = (bytes_eq-Decides
 -- the names of two variables differ, without regard to case
 pub names_once : (paths : List (List ℕ)) (m n : Name) → IsNumbered m → IsNumbered n →
     folded (name_text paths m) ≡ folded (name_text paths n) → m ≡ n
-names_once paths (Off a) (Off b) p q e = ap Off (switch_same a b (one_switch paths a.0 b.0 p q (codes "off") (codes "off") e).0)
+names_once paths (Off a) (Off b) p q e =
+    ap Off (switch_same a b (one_switch paths a.0 b.0 p q (codes "off") (codes "off") e).0)
 names_once paths (Off a) (On b) p q e =
     absurd (apart _ _ (one_switch paths a.0 b.0 p q (codes "off") (codes "on") e).1 refl)
-names_once paths (Off a) (May k) p q e = absurd (apart _ _ e refl)
-names_once paths (Off a) (Sure k) p q e = absurd (apart _ _ e refl)
+names_once paths (Off a) (May k) p q e =
+    absurd (apart _ _ e refl)
+names_once paths (Off a) (Sure k) p q e =
+    absurd (apart _ _ e refl)
 names_once paths (Off a) (Opens b) p q e =
     absurd (apart _ _ (one_switch paths a.0 b.0 p q (codes "off") (codes "EnaOpn") e).1 refl)
 names_once paths (Off a) (Closes b) p q e =
     absurd (apart _ _ (one_switch paths a.0 b.0 p q (codes "off") (codes "EnaCls") e).1 refl)
 names_once paths (On a) (Off b) p q e =
     absurd (apart _ _ (one_switch paths a.0 b.0 p q (codes "on") (codes "off") e).1 refl)
-names_once paths (On a) (On b) p q e = ap On (switch_same a b (one_switch paths a.0 b.0 p q (codes "on") (codes "on") e).0)
-names_once paths (On a) (May k) p q e = absurd (apart _ _ e refl)
-names_once paths (On a) (Sure k) p q e = absurd (apart _ _ e refl)
+names_once paths (On a) (On b) p q e =
+    ap On (switch_same a b (one_switch paths a.0 b.0 p q (codes "on") (codes "on") e).0)
+names_once paths (On a) (May k) p q e =
+    absurd (apart _ _ e refl)
+names_once paths (On a) (Sure k) p q e =
+    absurd (apart _ _ e refl)
 names_once paths (On a) (Opens b) p q e =
     absurd (apart _ _ (one_switch paths a.0 b.0 p q (codes "on") (codes "EnaOpn") e).1 refl)
 names_once paths (On a) (Closes b) p q e =
     absurd (apart _ _ (one_switch paths a.0 b.0 p q (codes "on") (codes "EnaCls") e).1 refl)
-names_once paths (May k) (Off b) p q e = absurd (apart _ _ e refl)
-names_once paths (May k) (On b) p q e = absurd (apart _ _ e refl)
-names_once paths (May k) (May n) p q e = ap May (formula_same 109 k n p q e)
-names_once paths (May k) (Sure n) p q e = absurd (apart _ _ e refl)
-names_once paths (May k) (Opens b) p q e = absurd (apart _ _ e refl)
-names_once paths (May k) (Closes b) p q e = absurd (apart _ _ e refl)
-names_once paths (Sure k) (Off b) p q e = absurd (apart _ _ e refl)
-names_once paths (Sure k) (On b) p q e = absurd (apart _ _ e refl)
-names_once paths (Sure k) (May n) p q e = absurd (apart _ _ e refl)
-names_once paths (Sure k) (Sure n) p q e = ap Sure (formula_same 99 k n p q e)
-names_once paths (Sure k) (Opens b) p q e = absurd (apart _ _ e refl)
-names_once paths (Sure k) (Closes b) p q e = absurd (apart _ _ e refl)
+names_once paths (May k) (Off b) p q e =
+    absurd (apart _ _ e refl)
+names_once paths (May k) (On b) p q e =
+    absurd (apart _ _ e refl)
+names_once paths (May k) (May n) p q e =
+    ap May (formula_same 109 k n p q e)
+names_once paths (May k) (Sure n) p q e =
+    absurd (apart _ _ e refl)
+names_once paths (May k) (Opens b) p q e =
+    absurd (apart _ _ e refl)
+names_once paths (May k) (Closes b) p q e =
+    absurd (apart _ _ e refl)
+names_once paths (Sure k) (Off b) p q e =
+    absurd (apart _ _ e refl)
+names_once paths (Sure k) (On b) p q e =
+    absurd (apart _ _ e refl)
+names_once paths (Sure k) (May n) p q e =
+    absurd (apart _ _ e refl)
+names_once paths (Sure k) (Sure n) p q e =
+    ap Sure (formula_same 99 k n p q e)
+names_once paths (Sure k) (Opens b) p q e =
+    absurd (apart _ _ e refl)
+names_once paths (Sure k) (Closes b) p q e =
+    absurd (apart _ _ e refl)
 names_once paths (Opens a) (Off b) p q e =
     absurd (apart _ _ (one_switch paths a.0 b.0 p q (codes "EnaOpn") (codes "off") e).1 refl)
 names_once paths (Opens a) (On b) p q e =
     absurd (apart _ _ (one_switch paths a.0 b.0 p q (codes "EnaOpn") (codes "on") e).1 refl)
-names_once paths (Opens a) (May k) p q e = absurd (apart _ _ e refl)
-names_once paths (Opens a) (Sure k) p q e = absurd (apart _ _ e refl)
+names_once paths (Opens a) (May k) p q e =
+    absurd (apart _ _ e refl)
+names_once paths (Opens a) (Sure k) p q e =
+    absurd (apart _ _ e refl)
 names_once paths (Opens a) (Opens b) p q e =
     ap Opens (switch_same a b (one_switch paths a.0 b.0 p q (codes "EnaOpn") (codes "EnaOpn") e).0)
 names_once paths (Opens a) (Closes b) p q e =
@@ -173,8 +193,10 @@ names_once paths (Closes a) (Off b) p q e =
     absurd (apart _ _ (one_switch paths a.0 b.0 p q (codes "EnaCls") (codes "off") e).1 refl)
 names_once paths (Closes a) (On b) p q e =
     absurd (apart _ _ (one_switch paths a.0 b.0 p q (codes "EnaCls") (codes "on") e).1 refl)
-names_once paths (Closes a) (May k) p q e = absurd (apart _ _ e refl)
-names_once paths (Closes a) (Sure k) p q e = absurd (apart _ _ e refl)
+names_once paths (Closes a) (May k) p q e =
+    absurd (apart _ _ e refl)
+names_once paths (Closes a) (Sure k) p q e =
+    absurd (apart _ _ e refl)
 names_once paths (Closes a) (Opens b) p q e =
     absurd (apart _ _ (one_switch paths a.0 b.0 p q (codes "EnaCls") (codes "EnaOpn") e).1 refl)
 names_once paths (Closes a) (Closes b) p q e =

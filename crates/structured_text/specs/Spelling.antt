@@ -1,13 +1,18 @@
 -- How a text is spelled. `paths` has the path of each switch.
-use Rattle.std.specs.Prelude.{◌++◌, ◌+◌, ℕ, zero, suc, Bool, true, false, List, [], ◌∷◌, codes, decimal, slice_index_or, nat_lt}
+use Rattle.std.specs.Prelude.{◌++◌, ◌+◌, ◌%◌, ◌==◌, ◌&&◌, ◌||◌, ℕ, zero, suc, Bool, true, false, List, [], ◌∷◌, length}
+use Rattle.std.specs.Prelude.{codes, decimal, slice_index_or, nat_lt, Option, Some, None}
 use Rattle.std.specs.Prelude.{if◌then◌else◌}
-use Rattle.std.specs.List.{flat_map}
+use Rattle.ilk_base.specs.declared.words.SwitchId.{SwitchId}
+use Rattle.station_graph.specs.Diagram.{Diagram}
+use Rattle.structured_text.specs.Meaning.{b_not}
 use Rattle.structured_text.specs.declared.name.Name.{Name}
 use Rattle.structured_text.specs.declared.name.Name.TheVariants.{Off, On, May, Sure, Opens, Closes}
 use Rattle.structured_text.specs.declared.line.GapDenial.{GapDenial}
 use Rattle.structured_text.specs.declared.line.GapDenial.TheVariants.{One, Two}
 use Rattle.structured_text.specs.declared.line.LoadDenial.{LoadDenial}
 use Rattle.structured_text.specs.declared.line.LoadDenial.TheVariants.{Loaded, Unbonded}
+use Rattle.structured_text.specs.declared.line.Heading.{Heading}
+use Rattle.structured_text.specs.declared.line.Heading.TheVariants.{May as MayHeading, Sure as SureHeading, Releases}
 use Rattle.structured_text.specs.declared.line.Formula.{Formula}
 use Rattle.structured_text.specs.declared.line.Formula.TheVariants.{Always, Never, MayBeClosed, IsClosed, Both, Either, Apart, Unloaded, Released}
 use Rattle.structured_text.specs.declared.line.Line.{Line}
@@ -30,9 +35,31 @@ abbrev pub readable : Bool → List ℕ → List ℕ
 readable gap [] = []
 readable gap (b ∷ bs) = if is_word b then word_byte gap b (readable false bs) else readable true bs
 
--- The identifier of a variable of a switch: `sw`, its number, its path, and which variable it is.
+-- Whether there is a `/`.
+abbrev pub has_slash : List ℕ → Bool
+has_slash [] = false
+has_slash (b ∷ bs) = (b == 47) || has_slash bs
+
+-- The longest end of a path without a `/`, of at most 13 bytes.
+abbrev pub is_short : List ℕ → Bool
+is_short path = nat_lt (length path) 14 && b_not (has_slash path)
+
+abbrev pub last_name : List ℕ → List ℕ
+last_name [] = []
+last_name (b ∷ bs) = if is_short (b ∷ bs) then b ∷ bs else last_name bs
+
+-- A path in a comment: `_` stands for what would end it.
+abbrev pub shown_byte : ℕ → ℕ
+shown_byte b = if nat_lt b 32 then 95 else if b == 42 then 95 else b
+
+abbrev pub shown : List ℕ → List ℕ
+shown [] = []
+shown (b ∷ bs) = shown_byte b ∷ shown bs
+
+-- The identifier of a variable of a switch: `sw`, its number, its last name, and which variable it is.
 abbrev pub switch_text : List (List ℕ) → ℕ → List ℕ → List ℕ
-switch_text paths i which = codes "sw" ++ (decimal i ++ (readable true (slice_index_or paths i []) ++ which))
+switch_text paths i which =
+    codes "sw" ++ (decimal i ++ (readable true (last_name (slice_index_or paths i [])) ++ which))
 
 -- The identifier of a variable.
 abbrev pub name_text : List (List ℕ) → Name → List ℕ
@@ -70,24 +97,53 @@ formula_text paths (Apart gap) = gap_text paths gap
 formula_text paths (Unloaded load) = load_text paths load
 formula_text paths (Released gap load) = gap_text paths gap ++ (codes " AND " ++ load_text paths load)
 
--- `  NAME := FORMULA;` and the end of the line.
-abbrev pub line_text : List (List ℕ) → Line → List ℕ
-line_text paths line =
-    codes "  " ++ (name_text paths line.name ++ (codes " := " ++ (formula_text paths line.formula ++ codes ";\n")))
+-- A blank line and a comment: what stands below.
+abbrev pub comment_text : List ℕ → List ℕ → List ℕ
+comment_text path what = codes "\n  (* " ++ (shown path ++ (what ++ codes " *)\n"))
 
--- `  NAME : BOOL;` and the end of the line.
-abbrev pub declared_text : List (List ℕ) → Name → List ℕ
-declared_text paths name = codes "  " ++ (name_text paths name ++ codes " : BOOL;\n")
+abbrev pub heading_text : Diagram → Option Heading → List ℕ
+heading_text d None = []
+heading_text d (Some MayHeading) = comment_text [] (codes "what holds where each switch that may be closed is")
+heading_text d (Some SureHeading) = comment_text [] (codes "what holds where each switch that may be open is")
+heading_text d (Some (Releases p)) = comment_text (slice_index_or d.part_paths p.0 []) (codes ": the releases")
 
--- Variables of a kind, between these words.
-abbrev pub declarations_text : List (List ℕ) → List ℕ → List Name → List ℕ
-declarations_text paths head names =
-    head ++ (flat_map (λ (n : Name). declared_text paths n) names ++ codes "END_VAR\n")
+-- `  NAME := FORMULA;` and the end of the line, below its comment.
+abbrev pub line_text : Diagram → Line → List ℕ
+line_text d line =
+    heading_text d line.heading
+    ++ (codes "  "
+    ++ (name_text d.switch_paths line.name
+    ++ (codes " := " ++ (formula_text d.switch_paths line.formula ++ codes ";\n"))))
 
--- The variables that lines set.
-abbrev pub set_names : List Line → List Name
-set_names [] = []
-set_names (line ∷ rest) = line.name ∷ set_names rest
+-- `  A, B : BOOL;`
+abbrev pub declared_text : List (List ℕ) → Name → Name → List ℕ
+declared_text paths a b = codes "  " ++ (pair_text paths a (codes ", ") b ++ codes " : BOOL;")
+
+-- A path in a comment at the end of a line.
+abbrev pub remark_text : List ℕ → List ℕ
+remark_text path = codes " (* " ++ (shown path ++ codes " *)\n")
+
+-- The contacts of a switch, and which switch it is.
+abbrev pub input_text : List (List ℕ) → SwitchId → List ℕ
+input_text paths i = declared_text paths (Off i) (On i) ++ remark_text (slice_index_or paths i.0 [])
+
+-- The releases of a switch.
+abbrev pub output_text : List (List ℕ) → SwitchId → List ℕ
+output_text paths i = declared_text paths (Opens i) (Closes i) ++ codes "\n"
+
+-- What stands between names: six are on a line.
+abbrev pub between_names : ℕ → List ℕ
+between_names k = if k % 6 == 0 then codes ",\n  " else codes ", "
+
+-- The variables that more lines set, from number k on, up to the end of the declaration.
+abbrev pub more_names : List (List ℕ) → ℕ → List Line → List ℕ
+more_names paths k [] = codes " : BOOL;\n"
+more_names paths k (x ∷ xs) = between_names k ++ (name_text paths x.name ++ more_names paths (suc k) xs)
+
+-- The declaration of the variables that lines set.
+abbrev pub locals_text : List (List ℕ) → List Line → List ℕ
+locals_text paths [] = []
+locals_text paths (x ∷ xs) = codes "  " ++ (name_text paths x.name ++ more_names paths 1 xs)
 
 -- A letter as a small one, and a text with its letters so.
 abbrev pub lower : ℕ → ℕ

@@ -1,11 +1,14 @@
 -- Names of switches that there are.
-use Rattle.std.specs.Prelude.{◌≡◌, ◌<◌, ◌^◌, ℕ, List, slice_get, Some}
+use Rattle.std.specs.Prelude.{◌≡◌, ◌<◌, ◌^◌, ℕ, List, length, slice_get, Option, Some, None}
+use Rattle.station_graph.specs.Diagram.{Diagram, part_count}
 use Rattle.structured_text.specs.declared.name.Name.{Name}
 use Rattle.structured_text.specs.declared.name.Name.TheVariants.{Off, On, May, Sure, Opens, Closes}
 use Rattle.structured_text.specs.declared.line.GapDenial.{GapDenial}
 use Rattle.structured_text.specs.declared.line.GapDenial.TheVariants.{One, Two}
 use Rattle.structured_text.specs.declared.line.LoadDenial.{LoadDenial}
 use Rattle.structured_text.specs.declared.line.LoadDenial.TheVariants.{Loaded, Unbonded}
+use Rattle.structured_text.specs.declared.line.Heading.{Heading}
+use Rattle.structured_text.specs.declared.line.Heading.TheVariants.{May as MayHeading, Sure as SureHeading, Releases}
 use Rattle.structured_text.specs.declared.line.Formula.{Formula}
 use Rattle.structured_text.specs.declared.line.Formula.TheVariants.{Always, Never, MayBeClosed, IsClosed, Both, Either, Apart, Unloaded, Released}
 use Rattle.structured_text.specs.declared.line.Line.{Line}
@@ -47,10 +50,19 @@ FormulaWithin count (Apart gap) = GapWithin count gap
 FormulaWithin count (Unloaded load) = LoadWithin count load
 FormulaWithin count (Released gap load) = GapWithin count gap × LoadWithin count load
 
--- The line names switches of so many alone.
-abbrev pub LineWithin : ℕ → Line → Type 0
-LineWithin count line = NameWithin count line.name × FormulaWithin count line.formula
+-- A heading names a part of so many.
+abbrev pub HeadingWithin : ℕ → Option Heading → Type 0
+HeadingWithin parts None = Unit {0}
+HeadingWithin parts (Some MayHeading) = Unit {0}
+HeadingWithin parts (Some SureHeading) = Unit {0}
+HeadingWithin parts (Some (Releases p)) = p.0 < parts
+
+-- The line names parts and switches of the station alone.
+pub record LineWithin (d : Diagram) (line : Line) : Type 0 where
+  pub heading : HeadingWithin (part_count d) line.heading
+  pub name : NameWithin (length d.switches) line.name
+  pub formula : FormulaWithin (length d.switches) line.formula
 
 -- Each of the lines does.
-abbrev pub LinesWithin : ℕ → List Line → Type 0
-LinesWithin count lines = (i : ℕ) (x : Line) → slice_get lines i ≡ Some x → LineWithin count x
+abbrev pub LinesWithin : Diagram → List Line → Type 0
+LinesWithin d lines = (i : ℕ) (x : Line) → slice_get lines i ≡ Some x → LineWithin d x

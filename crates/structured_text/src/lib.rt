@@ -9,6 +9,6 @@ mod readable;
 mod writing;
 
 pub use laws::names_differ;
-pub use line::{Formula, GapDenial, Line, LoadDenial};
+pub use line::{Formula, GapDenial, Heading, Line, LoadDenial};
 pub use name::Name;
-pub use writing::{write_declaration, write_line, write_lines};
+pub use writing::{write_input, write_line, write_lines, write_locals, write_output};

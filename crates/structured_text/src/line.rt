@@ -1,6 +1,6 @@
 //! The lines of a text.
 use crate::name::Name;
-use ilk_base::SwitchId;
+use ilk_base::{BayId, SwitchId};
 
 /// What denies that a switch is closed: what it would join may be live and may be earthed.
 #[derive(Clone, Copy, PartialEq, Eq)]
@@ -43,9 +43,22 @@ pub enum Formula {
     Released(GapDenial, LoadDenial),
 }
 
+/// A comment above a line.
+#[derive(Clone, Copy, PartialEq, Eq)]
+pub enum Heading {
+    /// what may be
+    May,
+    /// what is certain
+    Sure,
+    /// the releases of a bay
+    Releases(BayId),
+}
+
 /// An assignment.
 #[derive(Clone, Copy, PartialEq, Eq)]
 pub struct Line {
+    /// the comment above it
+    pub heading: Option<Heading>,
     /// what is set
     pub name: Name,
     /// to what

@@ -1,6 +1,6 @@
-//! A path as the middle of an identifier.
-ghost use Rattle.std.specs.Prelude.{◌≡◌, ◌++◌, true, OnOk};
-ghost use Rattle.structured_text.specs.Spelling.{is_word, readable};
+//! A path as the middle of an identifier, and in a comment.
+ghost use Rattle.std.specs.Prelude.{◌≡◌, ◌++◌, ◌≤◌, true, drop, length, OnOk};
+ghost use Rattle.structured_text.specs.Spelling.{is_word, readable, has_slash, is_short, last_name, shown, shown_byte};
 
 use ilk_base::{Memory, Text};
 
@@ -26,12 +26,13 @@ fn is_word_byte(byte: u8) -> bool
     byte < 123
 }
 
-/// Appends the runs of ASCII letters and digits of a path, each behind one `_`.
-pub(crate) fn push_readable(text: &mut Text, path: &[u8]) -> Result<(), Memory>
-    ensures { OnOk result (text.new ≡ text.old ++ readable true path.now) }
+/// Appends the runs of ASCII letters and digits of a path from a place on, each behind one `_`.
+pub(crate) fn push_readable(text: &mut Text, path: &[u8], start: usize) -> Result<(), Memory>
+    requires { start ≤ length path.now }
+    ensures { OnOk result (text.new ≡ text.old ++ readable true (drop start path.now)) }
 {
     let mut gap = true;
-    for i in 0..path.len() {
+    for i in start..path.len() {
         let byte = path[i];
         if is_word_byte(byte) {
             if gap {
@@ -42,6 +43,60 @@ pub(crate) fn push_readable(text: &mut Text, path: &[u8]) -> Result<(), Memory>
         } else {
             gap = true;
         }
+    }
+    Ok(())
+}
+
+// Whether there is a `/` from a place on.
+fn slash_from(path: &[u8], start: usize) -> bool
+    requires { start ≤ length path.now }
+    ensures { result ≡ has_slash (drop start path.now) }
+{
+    for i in start..path.len() {
+        if path[i] == 47 {
+            return true;
+        }
+    }
+    false
+}
+
+// Whether what is from a place on is short, and has no `/`.
+fn is_short_from(path: &[u8], start: usize) -> bool
+    requires { start ≤ length path.now }
+    ensures { result ≡ is_short (drop start path.now) }
+{
+    path.len() - start < 14 && !slash_from(path, start)
+}
+
+/// Where the last name of a path begins.
+pub(crate) fn last_name_start(path: &[u8]) -> usize
+    ensures within { result ≤ length path.now }
+    ensures value { drop result path.now ≡ last_name path.now }
+{
+    for i in 0..path.len() {
+        if is_short_from(path, i) {
+            return i;
+        }
+    }
+    path.len()
+}
+
+// The byte as a comment shows it.
+fn shown_of(byte: u8) -> u8
+    ensures { result ≡ shown_byte byte }
+{
+    if byte < 32 {
+        return 95;
+    }
+    if byte == 42 { 95 } else { byte }
+}
+
+/// Appends a path, with `_` for what would end a comment.
+pub(crate) fn push_shown(text: &mut Text, path: &[u8]) -> Result<(), Memory>
+    ensures { OnOk result (text.new ≡ text.old ++ shown path.now) }
+{
+    for i in 0..path.len() {
+        text.push(&[shown_of(path[i])])?;
     }
     Ok(())
 }

@@ -1,14 +1,17 @@
 //! The writer of a text.
-ghost use Rattle.std.specs.Prelude.{◌≡◌, ◌++◌, ◌<◌, codes, decimal, length, OnOk};
+ghost use Rattle.std.specs.Prelude.{◌≡◌, ◌++◌, ◌<◌, [], codes, decimal, length, slice_index_or, OnOk};
 ghost use Rattle.std.specs.List.{flat_map};
+ghost use Rattle.station_graph.specs.Diagram.{part_count};
 ghost use Rattle.structured_text.specs.declared.line.Line.{Line as OfLine};
-ghost use Rattle.structured_text.specs.Spelling.{readable, switch_text, name_text, pair_text, gap_text, load_text, formula_text};
-ghost use Rattle.structured_text.specs.Spelling.{line_text, declared_text, declarations_text};
-ghost use Rattle.structured_text.specs.Within.{NameWithin, GapWithin, LoadWithin, FormulaWithin, LineWithin, LinesWithin};
+ghost use Rattle.structured_text.specs.Spelling.{switch_text, name_text, pair_text, gap_text, load_text, formula_text};
+ghost use Rattle.structured_text.specs.Spelling.{comment_text, heading_text, line_text, declared_text, remark_text, input_text};
+ghost use Rattle.structured_text.specs.Spelling.{output_text, between_names, locals_text};
+ghost use Rattle.structured_text.specs.Within.{NameWithin, GapWithin, LoadWithin, FormulaWithin, HeadingWithin};
+ghost use Rattle.structured_text.specs.Within.{LineWithin, LinesWithin};
 
-use crate::line::{Formula, GapDenial, Line, LoadDenial};
+use crate::line::{Formula, GapDenial, Heading, Line, LoadDenial};
 use crate::name::Name;
-use crate::readable::push_readable;
+use crate::readable::{last_name_start, push_readable, push_shown};
 use ilk_base::{Memory, SwitchId, Text};
 use itoa::Buffer;
 use station_graph::Station;
@@ -28,7 +31,8 @@ fn push_switch(text: &mut Text, station: &Station, id: SwitchId, which: &[u8]) -
 {
     text.push(b"sw")?;
     push_number(text, id.0 as usize)?;
-    push_readable(text, station.switch_path(id).as_bytes())?;
+    let path = station.switch_path(id).as_bytes();
+    push_readable(text, path, last_name_start(path))?;
     text.push(which)
 }
 
@@ -135,11 +139,49 @@ fn push_formula(text: &mut Text, station: &Station, formula: Formula) -> Result<
     }
 }
 
-/// Appends an assignment, on a line of its own.
-pub fn write_line(text: &mut Text, station: &Station, line: Line) -> Result<(), Memory>
-    requires { LineWithin (length station.now.switches) line }
-    ensures { OnOk result (text.new ≡ text.old ++ line_text station.now.switch_paths line) }
+// Appends a blank line and a comment.
+fn push_comment(text: &mut Text, path: &[u8], what: &[u8]) -> Result<(), Memory>
+    ensures { OnOk result (text.new ≡ text.old ++ comment_text path.now what.now) }
 {
+    text.push(b"\n  (* ")?;
+    push_shown(text, path)?;
+    text.push(what)?;
+    text.push(b" *)\n")
+}
+
+// Appends the comment above a line.
+fn push_heading(text: &mut Text, station: &Station, heading: Option<Heading>) -> Result<(), Memory>
+    requires { HeadingWithin (part_count station.now) heading }
+    ensures { OnOk result (text.new ≡ text.old ++ heading_text station.now heading) }
+{
+    match heading {
+        None => Ok(()),
+        Some(Heading::May) => {
+            push_comment(
+                text,
+                b"",
+                b"what holds where each switch that may be closed is",
+            )
+        }
+        Some(Heading::Sure) => {
+            push_comment(
+                text,
+                b"",
+                b"what holds where each switch that may be open is",
+            )
+        }
+        Some(Heading::Releases(part)) => {
+            push_comment(text, station.part_path(part).as_bytes(), b": the releases")
+        }
+    }
+}
+
+/// Appends an assignment, on a line of its own, below its comment.
+pub fn write_line(text: &mut Text, station: &Station, line: Line) -> Result<(), Memory>
+    requires { LineWithin station.now line }
+    ensures { OnOk result (text.new ≡ text.old ++ line_text station.now line) }
+{
+    push_heading(text, station, line.heading)?;
     text.push(b"  ")?;
     push_name(text, station, line.name)?;
     text.push(b" := ")?;
@@ -147,24 +189,94 @@ pub fn write_line(text: &mut Text, station: &Station, line: Line) -> Result<(), 
     text.push(b";\n")
 }
 
-/// Appends the declaration of a variable, on a line of its own.
-pub fn write_declaration(text: &mut Text, station: &Station, name: Name) -> Result<(), Memory>
-    requires { NameWithin (length station.now.switches) name }
-    ensures { OnOk result (text.new ≡ text.old ++ declared_text station.now.switch_paths name) }
-{
-    text.push(b"  ")?;
-    push_name(text, station, name)?;
-    text.push(b" : BOOL;\n")
-}
-
 /// Appends assignments, in order.
 pub fn write_lines(text: &mut Text, station: &Station, lines: &[Line]) -> Result<(), Memory>
-    requires { LinesWithin (length station.now.switches) lines.now }
+    requires { LinesWithin station.now lines.now }
     ensures { OnOk result
-        (text.new ≡ text.old ++ flat_map (λ (x : OfLine). line_text station.now.switch_paths x) lines.now) }
+        (text.new ≡ text.old ++ flat_map (λ (x : OfLine). line_text station.now x) lines.now) }
 {
     for line in lines {
         write_line(text, station, *line)?;
     }
     Ok(())
+}
+
+// Appends the declaration of two variables.
+fn push_declared(
+    text: &mut Text,
+    station: &Station,
+    first: Name,
+    second: Name,
+) -> Result<(), Memory>
+    requires first { NameWithin (length station.now.switches) first }
+    requires second { NameWithin (length station.now.switches) second }
+    ensures { OnOk result (text.new ≡ text.old ++ declared_text station.now.switch_paths first second) }
+{
+    text.push(b"  ")?;
+    push_pair(text, station, first, b", ", second)?;
+    text.push(b" : BOOL;")
+}
+
+// Appends a path in a comment, and the end of the line.
+fn push_remark(text: &mut Text, path: &[u8]) -> Result<(), Memory>
+    ensures { OnOk result (text.new ≡ text.old ++ remark_text path.now) }
+{
+    text.push(b" (* ")?;
+    push_shown(text, path)?;
+    text.push(b" *)\n")
+}
+
+// Appends the path of a switch in a comment, and the end of the line.
+fn push_switch_remark(text: &mut Text, station: &Station, id: SwitchId) -> Result<(), Memory>
+    requires { id.0 < length station.now.switches }
+    ensures { OnOk result
+        (text.new ≡ text.old ++ remark_text (slice_index_or station.now.switch_paths id.0 [])) }
+{
+    push_remark(text, station.switch_path(id).as_bytes())
+}
+
+/// Appends the declaration of the contacts of a switch, with its path in a comment, on a line of its own.
+pub fn write_input(text: &mut Text, station: &Station, id: SwitchId) -> Result<(), Memory>
+    requires { id.0 < length station.now.switches }
+    ensures { OnOk result (text.new ≡ text.old ++ input_text station.now.switch_paths id) }
+{
+    push_declared(text, station, Name::Off(id), Name::On(id))?;
+    push_switch_remark(text, station, id)?;
+    Ok(())
+}
+
+/// Appends the declaration of the releases of a switch, on a line of its own.
+pub fn write_output(text: &mut Text, station: &Station, id: SwitchId) -> Result<(), Memory>
+    requires { id.0 < length station.now.switches }
+    ensures { OnOk result (text.new ≡ text.old ++ output_text station.now.switch_paths id) }
+{
+    push_declared(text, station, Name::Opens(id), Name::Closes(id))?;
+    text.push(b"\n")
+}
+
+// Appends what stands before a name but the first.
+fn push_between(text: &mut Text, number: usize) -> Result<(), Memory>
+    ensures { OnOk result (text.new ≡ text.old ++ between_names number) }
+{
+    if number % 6 == 0 {
+        return text.push(b",\n  ");
+    }
+    text.push(b", ")
+}
+
+/// Appends the declaration of the variables that lines set, six on a line; nothing where there are none.
+pub fn write_locals(text: &mut Text, station: &Station, lines: &[Line]) -> Result<(), Memory>
+    requires { LinesWithin station.now lines.now }
+    ensures { OnOk result (text.new ≡ text.old ++ locals_text station.now.switch_paths lines.now) }
+{
+    if lines.is_empty() {
+        return Ok(());
+    }
+    text.push(b"  ")?;
+    push_name(text, station, lines[0].name)?;
+    for i in 1..lines.len() {
+        push_between(text, i)?;
+        push_name(text, station, lines[i].name)?;
+    }
+    text.push(b" : BOOL;\n")
 }

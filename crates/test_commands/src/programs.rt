@@ -7,14 +7,26 @@ use test_stations::{Example, built};
 
 // The earthing switch may be closed where the infeed is known to be off, and the infeed set on where the earthing switch
 // is known to be off; opening is always released. The third formula says that the node has a tap.
-const LINES: &[u8] = b"VAR\n  m0 : BOOL;\n  m1 : BOOL;\n  m2 : BOOL;\nEND_VAR\n\
-    \x20 m0 := sw0_S_V1_Q1_QC9_on OR NOT sw0_S_V1_Q1_QC9_off;\n\
-    \x20 m1 := sw1_S_V1_Q1_E1_on OR NOT sw1_S_V1_Q1_E1_off;\n\
+const LINES: &[u8] = b"VAR_INPUT\n\
+    \x20 sw0_QC9_off, sw0_QC9_on : BOOL; (* S/V1/Q1/QC9 *)\n\
+    \x20 sw1_E1_off, sw1_E1_on : BOOL; (* S/V1/Q1/E1 *)\n\
+    END_VAR\nVAR_OUTPUT\n\
+    \x20 sw0_QC9_EnaOpn, sw0_QC9_EnaCls : BOOL;\n\
+    \x20 sw1_E1_EnaOpn, sw1_E1_EnaCls : BOOL;\n\
+    END_VAR\nVAR\n\
+    \x20 m0, m1, m2 : BOOL;\n\
+    END_VAR\n\
+    \n\
+    \x20 (* what holds where each switch that may be closed is *)\n\
+    \x20 m0 := sw0_QC9_on OR NOT sw0_QC9_off;\n\
+    \x20 m1 := sw1_E1_on OR NOT sw1_E1_off;\n\
     \x20 m2 := TRUE;\n\
-    \x20 sw0_S_V1_Q1_QC9_EnaOpn := TRUE;\n\
-    \x20 sw0_S_V1_Q1_QC9_EnaCls := NOT m1;\n\
-    \x20 sw1_S_V1_Q1_E1_EnaOpn := TRUE;\n\
-    \x20 sw1_S_V1_Q1_E1_EnaCls := NOT m0;\n\
+    \n\
+    \x20 (* S/V1/Q1: the releases *)\n\
+    \x20 sw0_QC9_EnaOpn := TRUE;\n\
+    \x20 sw0_QC9_EnaCls := NOT m1;\n\
+    \x20 sw1_E1_EnaOpn := TRUE;\n\
+    \x20 sw1_E1_EnaCls := NOT m0;\n\
     END_FUNCTION_BLOCK\n";
 
 fn expect_end(rt: &impl Abort, alloc: Global, example: Example, lines: &[u8]) -> Result<(), Fail> {

@@ -3,7 +3,6 @@ use Rattle.short_equations.specs.declared.pair.TermPair.{TermPair}
 use Rattle.short_equations.specs.declared.view.View.TheVariants.{Gap, Load, Bond}
 use Rattle.short_equations.specs.Pairs.{AreExactPairs}
 use Rattle.program_text.specs.declared.term_lines.Reading.TheVariants.{May as AsClosed, Sure as AsOpen}
-use Rattle.structured_text.specs.Within.{LinesWithin}
 use Rattle.program_text.specs.TermLines.{MeansTerms}
 use Rattle.program_text.specs.Releases.{MeansReleases}
 use Rattle.program_text.proofs.InterlockingLemmas.{interlocks, pairs_grew}
@@ -41,9 +40,7 @@ returns-clause-interlocks c =
     c.in_ok-bond.ensures.exact first second third first_means second_means third_means
 
 pub returns-clause-may : goal.returns-clause-may
-returns-clause-may c =
-    subst (λ n. LinesWithin n c.in_ok-may.may.items) c.switch_count-count.ensures.count c.in_ok-may.ensures.within
+returns-clause-may c = c.in_ok-may.ensures.within c.args.station.now (sym c.switch_count-count.ensures.count)
 
 pub returns-clause-sure : goal.returns-clause-sure
-returns-clause-sure c =
-    subst (λ n. LinesWithin n c.in_ok-sure.sure.items) c.switch_count-count.ensures.count c.in_ok-sure.ensures.within
+returns-clause-sure c = c.in_ok-sure.ensures.within c.args.station.now (sym c.switch_count-count.ensures.count)

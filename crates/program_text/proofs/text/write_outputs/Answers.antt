@@ -9,6 +9,6 @@ loop-i-preserved c =
     let count = c.switch_count-i-end.ensures.count in
     let test = c.loop-i-test.true in
     let low : c.loop-i.i < length d.switches = omega (arith, count, test) in
-    outputs_more d.switch_paths c.loop-i.i (length d.switches) c.args.text.now
-    (c.args.text.now ++ outputs_text d.switch_paths 0 (length d.switches)) c.loop-i.text _ _ low
-    c.in_ok-write_declaration.ensures c.in_ok-write_declaration-2.ensures c.loop-i.invariant
+    outputs_more d.switch_paths c.loop-i.i (length d.switches)
+    (c.args.text.now ++ outputs_text d.switch_paths 0 (length d.switches)) c.loop-i.text _ low c.in_ok-write_output.ensures
+    c.loop-i.invariant

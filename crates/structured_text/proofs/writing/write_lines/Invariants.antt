@@ -6,4 +6,4 @@ use Rattle.structured_text.proofs.writing.write_lines.Given as goal
 
 abbrev pub invariant-loop-line : goal.invariant-loop-line
 invariant-loop-line l =
-    l.text ≡ l.fn.text ++ flat_map (λ (x : Line). line_text l.station.switch_paths x) (take l.line-index l.lines)
+    l.text ≡ l.fn.text ++ flat_map (λ (x : Line). line_text l.station x) (take l.line-index l.lines)
