@@ -7,9 +7,10 @@
                                  - the lines that README.md here and at the top cite, with the stored texts
                                  and what `order` says of each order in examples/orders, `replay` of the log
                                  two_feeders and `audit` of the equations double_busbar, with the stored texts,
-                                 which were worked by hand; and that `station` has no remark on any drawing
+                                 which were worked by hand; that `station` has no remark on any drawing; and that the
+                 picture of each example is the stored one, NAME.svg, byte for byte
     examples/check.py --store    writes what the program says as the stored texts, where the definitions
-                                 allow it; look at each difference by hand before you commit it
+                                 allow it, and the pictures; look at each difference by hand before you commit it
 
 It takes the proved program where that stands and its sources are those that were proved, and else the checked
 build, which is made once for all examples, in a minute or two. Status 1 where anything differs.
@@ -37,12 +38,32 @@ OTHERS = [
 ]
 
 
-def interlock_script():
-    """The script `interlock` at the top, as a module."""
-    loader = importlib.machinery.SourceFileLoader("interlock", str(TOP / "interlock"))
-    module = importlib.util.module_from_spec(importlib.util.spec_from_loader("interlock", loader))
+def script_of(file):
+    """A script as a module."""
+    loader = importlib.machinery.SourceFileLoader(file.name, str(file))
+    module = importlib.util.module_from_spec(importlib.util.spec_from_loader(file.name, loader))
     loader.exec_module(module)
     return module
+
+
+def interlock_script():
+    """The script `interlock` at the top, as a module."""
+    return script_of(TOP / "interlock")
+
+
+def picture_differences(names, checked, looks, ask, store):
+    """Pictures that are not the stored ones, or that an engineer would not print."""
+    pictures = script_of(TOP / "tools/picture")
+    files = [(str(HERE / f"{name}.ssd"), str(HERE / f"{name}.csv")) for name in names]
+    states = ask([["state", *both] for both in files])
+    for name, both, answer, state in zip(names, files, checked, states):
+        drawn, svg = pictures.picture(*both, [(0, answer), state, (0, looks[f"{name}.ssd"])])
+        stored = HERE / f"{name}.svg"
+        yield from (f"the picture of {name}: {fault}" for fault in drawn.faults())
+        if store:
+            stored.write_text(svg)
+        if not stored.exists() or stored.read_text() != svg:
+            yield f"{name}: the picture is not examples/{name}.svg"
 
 
 def cited_differences(names):
@@ -100,6 +121,8 @@ def main(words):
     ]
     if f"\n{in_gate}status 0\n" not in GATE.read_text():
         found += ["the program does not say what crates/test_run_calls/stdout says of work 2"]
+    seen = {drawing.name: text for drawing, text in zip(drawings, looks)}
+    found += picture_differences(names, answers, seen, script.answers, words == ["--store"])
     found += cited_differences(names)
     print("\n".join(found), end="\n" if found else "")
     program = "the proved program" if proved else "the checked build, not the proved program"

@@ -45,10 +45,11 @@ class Item:
 
 
 class Drawing:
-    """`bays` names each bay, in document order, with its description; `horizontal` those drawn as a busbar."""
+    """`bays` names each bay, in document order, with its description, `levels` each voltage level by its path, with its
+    voltage where one is given; `horizontal` has the bays drawn as a busbar."""
 
     def __init__(self, file):
-        self.nodes, self.items, self.bays, self.horizontal = {}, [], {}, set()
+        self.nodes, self.items, self.bays, self.levels, self.horizontal = {}, [], {}, {}, set()
         root = ET.parse(file).getroot()
         self.scl = root.tag[: root.tag.index("}") + 1] if "}" in root.tag else ""
         self.title = ""
@@ -65,6 +66,7 @@ class Drawing:
             inner = f"{path}/{child.get('name')}"
             place = place_of(child, origin)
             if name == "VoltageLevel":
+                self.levels[inner] = " ".join([child.get("name") or "", *self.voltage(child)]).strip()
                 self.read(child, inner, place or origin, inner, None)
             elif name == "Bay":
                 self.bays[inner] = child.get("desc") or ""
@@ -79,6 +81,12 @@ class Drawing:
             elif name == "PowerTransformer":
                 windings = self.children(child, "TransformerWinding")
                 self.add(child, "PTR", inner, [n for w in windings for n in self.terminals(w)], place, level, bay)
+
+    def voltage(self, level):
+        """A level's voltage as one word, such as 110 kV, if it is given."""
+        for voltage in self.children(level, "Voltage"):
+            if (voltage.text or "").strip():
+                yield f"{voltage.text.strip()} {voltage.get('multiplier') or ''}{voltage.get('unit') or 'V'}"
 
     def add(self, element, kind, path, nodes, place, level, bay):
         upright = element.get(COORDINATES + "dir") != "horizontal"

@@ -5,6 +5,7 @@ form too: live is thick, unknown dashed. Nothing in it runs.
 """
 from html import escape
 
+import wires
 from layout import UNIT
 
 TEXT = "#767676"
@@ -90,7 +91,7 @@ class Picture:
 
     def reach_bars(self):
         """Each bar, once for each row of bays: its node, and from where to where it goes over all terminals on it."""
-        touched = {(bar, self.layout.nodes[bar]): [] for bar in self.layout.bars}
+        touched = {(bar, place): [] for bar, place in self.layout.nodes.items() if bar in self.layout.bars}
         for item in self.drawing.items:
             for end, (x, _) in zip(item.ends, self.ports(item)):
                 if end in self.layout.bars:
@@ -115,9 +116,25 @@ class Picture:
         else:
             points = [port, (nx, y), (nx, ny)]
         points = [p for i, p in enumerate(points) if i == 0 or p != points[i - 1]]
+        points = self.round_symbols(item, end, points)
         if len(points) > 1:
             self.line(points, style)
             self.wires += [(item, end, a, b) for a, b in zip(points, points[1:])]
+
+    def bodies(self, item):
+        """What a wire of the item must not go through: every other symbol, and the middle of its own."""
+        for other, place in self.layout.items.items():
+            (x, y), half = self.at(place), 21 if other.kind == "PTR" else 18
+            half = 10 if other is item else half
+            yield (x - half, y - half, x + half, y + half)
+
+    def round_symbols(self, item, end, points):
+        """The wire as it is, or where it would go through a symbol another that goes round."""
+        bodies = list(self.bodies(item))
+        if end in self.layout.bars or not wires.crosses(points, bodies):
+            return points
+        taken = [(a, b) for _, other, a, b in self.wires if other != end]
+        return wires.way(points[0], points[-1], bodies, taken, (10, 10, self.width - 10, self.bottom - 10)) or points
 
     def dots(self):
         """Where the lines of a node meet from three sides or more."""
@@ -128,7 +145,7 @@ class Picture:
             for end, port in zip(item.ends, self.ports(item)):
                 lines.setdefault(end, []).append((port, self.at(self.layout.items[item])))
         for end, pieces in lines.items():
-            for x, y in {point for piece in pieces for point in piece}:
+            for x, y in dict.fromkeys(point for piece in pieces for point in piece):
                 sides = set()
                 for (a, b), (c, d) in pieces:
                     if min(a, c) <= x <= max(a, c) and min(b, d) <= y <= max(b, d):
@@ -154,12 +171,25 @@ class Picture:
         for (bar, place), (low, high) in spans.items():
             node = self.drawing.nodes[bar]
             name = f"{node.bay.rsplit('/', 1)[-1]}/{node.name}" if node.bay else node.name
+            name += " (continued)" if place != self.layout.nodes[bar] else ""
             y = self.at(place)[1]
             self.label([(low - 6, y + 4, "end"), (high + 6, y + 4, "start"), (low, y - 8, "start"), (high, y - 8, "end")], name, 12, "bold")
         for item in self.drawing.items:
             self.name(item)
         self.bay_names()
+        self.level_names()
         return self.page()
+
+    def level_names(self):
+        """Each voltage level's name and voltage, above what belongs to it."""
+        for level, words in self.drawing.levels.items():
+            own = [place for item, place in self.layout.items.items() if item.level == level and item.kind != "PTR"]
+            own += [place for key, place in self.layout.nodes.items() if self.drawing.nodes[key].level == level]
+            if not own:
+                continue
+            x, y = self.at((min(p[0] for p in own), min(p[1] for p in own)))
+            left = max(8, x - 60)
+            self.label([(left, y + dy, "start") for dy in (-22, -34, -10, -46, 14, 26)] + [(8, y - 22, "start"), (left, y - 22, "start")], words, 11, "bold")
 
     def symbol(self, item):
         x, y = self.at(self.layout.items[item])
@@ -168,18 +198,23 @@ class Picture:
         other = self.style_of(item.ends[1]) if len(item.ends) > 1 else style
         px, py = ports[0] if ports else (x, y - REACH)
         turn = 0 if (px, py) == (x, y - REACH) or py < y else 180 if py > y else 270 if px < x else 90
+        is_many = item.kind == "PTR" and len(ports) > 2
+        turn = 0 if is_many else turn
         long = 12 if len(item.ends) > 1 else 17
         half = (10, long) if turn in (0, 180) else (long, 10)
         if item.kind == "PTR":
-            half = (14, 20)
+            half = (20 if is_many else 14, 20)
         left, top = half
         if item.kind in ("CBR", "DIS") and self.words.get(item.path) not in ("on", "off"):
             left, top = (left + 9, top) if turn in (0, 180) else (left, top + 9)
         self.boxes.append((item, x - left, y - top, x + half[0], y + half[1]))
         self.add(f'<g transform="translate({x:.1f} {y:.1f}) rotate({turn})"><title>{escape(self.title(item))}</title>')
         self.add('<rect x="-13" y="-16" width="26" height="32" fill="none" stroke="none" pointer-events="all"/>')
-        draw = {"CBR": contact, "DIS": contact, "IFL": infeed, "GEN": machine, "MOT": machine, "PTR": windings, "CTR": current_transformer, "VTR": voltage_transformer, "SAR": arrester, "CAB": cable, "LIN": line_end, "CAP": capacitor}.get(item.kind, box)
-        for part in draw(item, self.words.get(item.path), style[0], other[0], turn):
+        if is_many:
+            parts = many_windings(ports, (x, y), [self.style_of(end)[0] for end in item.ends])
+        else:
+            parts = SYMBOLS.get(item.kind, box)(item, self.words.get(item.path), style[0], other[0], turn)
+        for part in parts:
             self.add(part)
         self.add("</g>")
 
@@ -206,6 +241,7 @@ class Picture:
             (x - wide / 2, y + 15, "middle"), (x - wide / 2, y - 15 - tall, "middle"),
             (x + 10, y + 9, "start"), (x + 10, y - 9 - tall, "start"), (x - 10 - wide, y + 9, "end"), (x - 10 - wide, y - 9 - tall, "end"),
             (x + reach + 10, y - tall / 2, "start"), (x - reach - wide - 10, y - tall / 2, "end"),
+            *((side, y - tall / 2 + dy, "start") for dy in (-16, 16, -28, 28) for side in (x + reach, x - reach - wide)),
         ]
         if not self.layout.upright[item]:
             places = places[2:4] + places[:2] + places[4:]
@@ -218,14 +254,14 @@ class Picture:
             self.mark(left + 14, top + 14, "C", closes)
 
     def mark(self, x, y, letter, released):
-        """A release is a full box, a denial an empty one that is struck out."""
+        """A release is a full box, a denial an empty one that is struck out, both in the colour of text, which is no state's."""
         if released:
-            self.add(f'<rect x="{x:.1f}" y="{y:.1f}" width="12" height="11" rx="2" fill="#16874a" stroke="#16874a"/>')
+            self.add(f'<rect x="{x:.1f}" y="{y:.1f}" width="12" height="11" rx="2" fill="{TEXT}" stroke="{TEXT}"/>')
             self.add(f'<text x="{x + 6:.1f}" y="{y + 9:.1f}" font-size="9" text-anchor="middle" font-weight="bold" fill="#ffffff">{letter}</text>')
         else:
-            self.add(f'<rect x="{x:.1f}" y="{y:.1f}" width="12" height="11" rx="2" fill="none" stroke="#dd2f36"/>')
+            self.add(f'<rect x="{x:.1f}" y="{y:.1f}" width="12" height="11" rx="2" fill="none" stroke="{TEXT}"/>')
             self.add(f'<text x="{x + 6:.1f}" y="{y + 9:.1f}" font-size="9" text-anchor="middle" fill="{TEXT}">{letter}</text>')
-            self.add(f'<path d="M{x:.1f} {y + 11:.1f}l12 -11" stroke="#dd2f36" fill="none"/>')
+            self.add(f'<path d="M{x:.1f} {y + 11:.1f}l12 -11" stroke="{TEXT}" stroke-width="1.5" fill="none"/>')
 
     def is_free(self, left, top, wide, tall, item):
         right, bottom = left + wide, top + tall
@@ -270,7 +306,18 @@ class Picture:
     def page(self):
         y = self.bottom + 14
         self.text(20, y, self.drawing.title, 13, weight="bold")
-        y += 20
+        y = self.legend(y + 20)
+        for kind, path in self.remarks:
+            self.text(20, y, f"remark {kind} {path}", weight="bold")
+            y += 17
+        width = max(self.width, 300, *(40 + 7 * len(kind + path) for kind, path in self.remarks))
+        head = f'<svg xmlns="http://www.w3.org/2000/svg" width="{width:.0f}" height="{y + 6:.0f}" viewBox="0 0 {width:.0f} {y + 6:.0f}" font-family="DejaVu Sans, Arial, sans-serif">'
+        # a printed picture is as large as the page
+        head += "<style>@media print { svg:root { width: 100%; height: 100%; } }</style>"
+        return "\n".join([head, f"<title>{escape(self.drawing.title)}</title>", *self.parts, "</svg>"]) + "\n"
+
+    def legend(self, y):
+        """What the colours and the marks mean, from there down; where it ends."""
         for state, words in LEGEND:
             if state in self.used:
                 self.line([(20, y - 4), (60, y - 4)], STATES[state])
@@ -281,12 +328,7 @@ class Picture:
             self.mark(36, y - 10, "C", False)
             self.text(68, y, "opening released; closing denied")
             y += 17
-        for kind, path in self.remarks:
-            self.text(20, y, f"remark {kind} {path}", weight="bold")
-            y += 17
-        width = max(self.width, 300, *(40 + 7 * len(kind + path) for kind, path in self.remarks))
-        head = f'<svg xmlns="http://www.w3.org/2000/svg" width="{width:.0f}" height="{y + 6:.0f}" viewBox="0 0 {width:.0f} {y + 6:.0f}" font-family="DejaVu Sans, Arial, sans-serif">'
-        return "\n".join([head, f"<title>{escape(self.drawing.title)}</title>", *self.parts, "</svg>"]) + "\n"
+        return y
 
     # ---- what an engineer would not print
 
@@ -370,6 +412,12 @@ def windings(item, word, colour, other, turn):
     yield f'<circle cx="0" cy="-7" r="11" {stroke(colour)}/><circle cx="0" cy="7" r="11" {stroke(other)}/>'
 
 
+def many_windings(ports, place, colours):
+    """A circle for each winding, towards its terminal."""
+    for (x, y), colour in zip(ports, colours):
+        yield f'<circle cx="{(x - place[0]) * 0.4:.1f}" cy="{(y - place[1]) * 0.4:.1f}" r="11" {stroke(colour)}/>'
+
+
 def current_transformer(item, word, colour, other, turn):
     yield f'<path d="M0 -12V12" {stroke(colour)}/><circle cx="0" cy="0" r="6" {stroke(colour)}/>'
 
@@ -400,3 +448,9 @@ def capacitor(item, word, colour, other, turn):
 def box(item, word, colour, other, turn):
     yield f'<path d="M0 -12V-8M-9 -8H9V8H-9ZM0 8V{12 if len(item.ends) > 1 else 8}" {stroke(colour)}/>'
     yield f'<text x="0" y="3" font-size="8" text-anchor="middle" fill="{TEXT}"{upright(turn, 0, 0)}>{escape(item.kind[:3])}</text>'
+
+
+SYMBOLS = {
+    "CBR": contact, "DIS": contact, "IFL": infeed, "GEN": machine, "MOT": machine, "PTR": windings, "CTR": current_transformer,
+    "VTR": voltage_transformer, "SAR": arrester, "CAB": cable, "LIN": line_end, "CAP": capacitor,
+}
