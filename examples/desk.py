@@ -1,0 +1,323 @@
+#!/usr/bin/env python3
+"""Goes through stories on the page of `tools/desk` by real clicks in headless Chromium, and compares.
+
+    examples/desk.py [FOLDER]      each answer that the page was given is held against the program's, and each story
+                                   against what it says here; screenshots go to FOLDER
+
+It wants Debian's packages chromium and chromium-driver. Without them it runs the module alone under node, on random
+positions of the examples. Status 1 where anything differs.
+"""
+import importlib.machinery
+import importlib.util
+import json
+import pathlib
+import random
+import shutil
+import subprocess
+import sys
+import tempfile
+import time
+
+sys.dont_write_bytecode = True
+HERE = pathlib.Path(__file__).resolve().parent
+TOP = HERE.parent
+sys.path[:0] = [str(HERE), str(TOP / "tools")]
+import page_module
+from webdriver import Browser
+
+# Keeps each question and its answer.
+LISTEN = "if (!window.heard) { window.heard = []; const real = ask; ask = async (q) => { const a = await real(q); heard.push([q, a]); return a; }; }"
+DONE = "return Number(document.body.dataset.done || 0)"
+DOUBLE = HERE / "double_busbar.ssd"
+
+
+def script_of(file):
+    """A script as a module."""
+    loader = importlib.machinery.SourceFileLoader(file.name, str(file))
+    module = importlib.util.module_from_spec(importlib.util.spec_from_loader(file.name, loader))
+    loader.exec_module(module)
+    return module
+
+
+class Page:
+    """A page of a station in a browser, and what its stories found wrong."""
+
+    def __init__(self, station, positions, folder, **more):
+        self.station, self.folder, self.wrong, self.heard = station, folder, [], []
+        file = folder / f"{station.stem}.html"
+        made = subprocess.run([TOP / "tools/desk", station, *([positions] if positions else [])], stdout=subprocess.PIPE)
+        file.write_bytes(made.stdout)
+        self.browser = Browser(**more)
+        self.browser.open(file.as_uri())
+        self.browser.wait("return document.body.dataset.done || document.body.dataset.failed")
+        self.browser.run(LISTEN)
+
+    def does(self, act, *words):
+        """Does something, and waits until the page is done with it; the milliseconds."""
+        before, start = self.browser.run(DONE), time.monotonic()
+        act(*words)
+        self.browser.wait(f"return Number(document.body.dataset.done) > {before}")
+        return (time.monotonic() - start) * 1000
+
+    def click(self, path):
+        return self.does(self.browser.click, f'#picture .switch[data-path="{path}"]')
+
+    def button(self, name):
+        return self.does(self.browser.click, f"#{name}")
+
+    def menu(self, path, item):
+        self.browser.click(f'#picture .switch[data-path="{path}"]', 2)
+        place = self.browser.run("return [...document.querySelectorAll('#menu button')].findIndex((e) => e.textContent.startsWith(arguments[0])) + 1", item)
+        return self.does(self.browser.run, "document.querySelectorAll('#menu button')[arguments[0] - 1].click()", place)
+
+    def text(self, name):
+        return self.browser.run("return document.getElementById(arguments[0]).innerText", name)
+
+    def word(self, path):
+        return self.browser.run("return now()[arguments[0]]", path)
+
+    def holds(self, what, is_so):
+        print(f"{'ok   ' if is_so else 'WRONG'} {self.station.stem}: {what}", flush=True)
+        if not is_so:
+            self.wrong.append(what)
+            print("      " + self.text("answer").replace("\n", "\n      "))
+
+    def shot(self, name):
+        self.browser.shot(self.folder / f"{name}.png")
+
+    def end(self):
+        self.heard = self.browser.run("return window.heard")
+        said = [line for line in self.browser.log() if "favicon" not in line]
+        self.holds(f"nothing in the browser's log {said}", not said)
+        self.browser.close()
+        return self.wrong
+
+
+# ---- the stories; each path is of the double busbar
+
+def earth_a_line(page):
+    page.click("S/V1/Q1/QC9")
+    page.holds("earthing a live line is denied by R1", "denied by R1" in page.text("answer") and page.word("S/V1/Q1/QC9") == "off")
+    page.holds("the way to its own infeed is named and shown", "by Q1/E1" in page.text("answer") and page.browser.run("return document.querySelectorAll('.halo').length") > 0)
+    for path in ("S/V1/Q1/QA1", "S/V1/Q1/QB9", "S/V1/Q1/QB1", "S/V1/Q1/E1"):
+        page.click(path)
+    page.click("S/V1/Q1/QC9")
+    page.holds("after four steps the line is earthed", page.word("S/V1/Q1/QC9") == "on")
+    page.holds("what the step denied is told", "denied by this:" in page.text("answer") and "close S/V1/Q1/E1" in page.text("answer"))
+    page.shot("earthed")
+
+
+def take_as_an_order(page):
+    page.button("taken")
+    page.button("whole")
+    stored = (HERE / "orders/earth_line_1.txt").read_text()
+    page.holds("the steps are an order, judged as the stored one", page.browser.run("return document.getElementById('judged').textContent") == stored)
+    page.button("sheets")
+    page.holds("the sheet has five steps with pictures", page.browser.run("return document.querySelectorAll('#sheet .step svg').length") == 5)
+    page.shot("sheet")
+    page.browser.run("document.getElementById('back').click()")
+
+
+def undo_and_redo(page):
+    while not page.browser.run("return document.getElementById('undo').disabled"):
+        page.button("undo")
+    page.holds("undo leads back to the start", page.word("S/V1/Q1/QA1") == "on" and page.word("S/V1/Q1/QC9") == "off")
+    page.button("redo")
+    page.holds("redo leads on", page.word("S/V1/Q1/QA1") == "off")
+    page.button("undo")
+
+
+def through_an_open_breaker(page):
+    page.click("S/V1/Q1/E1")
+    page.click("S/V1/Q1/QC9")
+    page.holds("with its own infeed off the line is live from the busbar", all(f"over {name}" in page.text("answer") for name in ("Q1/QB9", "Q1/QA1", "Q1/QB1", "K0/QA1")) and "by Q2/E1" in page.text("answer"))
+    page.shot("denied")
+    page.click("S/V1/Q1/QA1")
+    page.click("S/V1/Q1/QC9")
+    page.holds("an open breaker counts as closed, and the page says so", "over open Q1/QA1 (an open breaker counts as closed)" in page.text("answer"))
+    page.button("undo")
+    page.button("undo")
+
+
+def change_the_busbar(page):
+    page.click("S/V1/Q1/QB2")
+    page.holds("with the coupler closed the second disconnector may be closed", page.word("S/V1/Q1/QB2") == "on")
+    page.click("S/V1/Q1/QB1")
+    page.holds("and the first opened", page.word("S/V1/Q1/QB1") == "off")
+    page.click("S/V1/Q1/QB1")
+    page.click("S/V1/Q1/QB2")
+
+
+def unknown_coupler(page):
+    page.menu("S/V1/K0/QA1", "is intermediate")
+    page.click("S/V1/Q1/QB1")
+    page.holds("with the coupler not known the disconnector is denied, for example if it is on", "for example if K0/QA1 is on" in page.text("answer"))
+    page.shot("coupler")
+    page.click("S/V1/Q1/QC9")
+    page.holds("earthing is denied whatever the coupler is", "denied whatever K0/QA1 is" in page.text("answer"))
+    page.menu("S/V1/K0/QA1", "is lost")
+    page.holds("a lost position is shown", page.browser.run("return [...document.querySelectorAll('.said.word')].map((e) => e.textContent).join()") == "lost")
+    page.browser.run("document.getElementById('order').value = 'open S/V1/Q1/QA1\\n'; orderStart = now()")
+    page.button("whole")
+    page.holds("an order wants all positions known", "number 14" in page.text("judged"))
+
+
+def files_of_positions(page):
+    page.does(page.browser.type, "#file", str(HERE / "double_busbar.csv"))
+    page.holds("a file is taken over", page.word("S/V1/K0/QA1") == "intermediate" and "taken over" in page.text("answer"))
+    bad = page.folder / "bad.csv"
+    bad.write_text("S/V1/Q1/QA1,on\nS/V1/Q9/QA1,on\n")
+    page.does(page.browser.type, "#file", str(bad))
+    page.holds("one with an unknown path is refused, with its line", "number 2, line 2" in page.text("answer"))
+    page.button("alloff")
+    page.holds("all off", page.word("S/V1/Q1/QA1") == "off")
+
+
+def replay_an_order(page):
+    page.does(page.browser.type, "#file", str(HERE / "orders/earth_line_1.csv"))
+    page.browser.run("document.getElementById('order').value = arguments[0]", "open S/V1/Q1/QA1\nclose S/V1/Q1/QC9\n")
+    page.button("step")
+    page.holds("a step of an order is done", "done: open S/V1/Q1/QA1" in page.text("judged") and page.word("S/V1/Q1/QA1") == "off")
+    page.button("step")
+    page.holds("the next is denied, and stays", "denied: close S/V1/Q1/QC9" in page.text("judged") and "close S/V1/Q1/QC9" in page.browser.run("return document.getElementById('order').value"))
+
+
+def list_and_keys(page):
+    page.browser.type("#filter", "Q2 qb")
+    rows = "return [...document.querySelectorAll('#switches tr')].filter((e) => !e.hidden).length"
+    page.holds("the list is filtered", page.browser.run(rows) == 3)
+    page.browser.run("document.getElementById('filter').blur(); document.querySelector('.switch[data-path=\"S/V1/Q2/QA1\"]').focus()")
+    page.does(page.browser.keys, "o")
+    page.holds("the key o opens the switch that has the focus", page.word("S/V1/Q2/QA1") == "off")
+    page.does(page.browser.keys, "u")
+    page.holds("the key u undoes it", page.word("S/V1/Q2/QA1") == "on")
+    before = page.browser.run("return view.w")
+    page.browser.keys("+")
+    page.holds("the key + makes the picture larger", page.browser.run("return view.w") < before)
+    page.browser.keys("0")
+
+
+STORIES = [earth_a_line, take_as_an_order, undo_and_redo, through_an_open_breaker, change_the_busbar, unknown_coupler,
+           files_of_positions, replay_an_order, list_and_keys]
+
+
+def large_station(page, feeder="Q7"):
+    switches = [path for path in page.browser.run("return switches") if f"/{feeder}/" in path]
+    times = [page.click(path) for path in switches[:4]]
+    own = page.browser.run("return document.getElementById('took').textContent")
+    page.holds(f"clicks of {feeder} took {', '.join(f'{t:.0f}' for t in times)} ms with the driver; {own}", True)
+    page.shot("large")
+
+
+# ---- the program's answers to the same questions
+
+def words_of(question, folder, number):
+    """The commands whose texts the answer has, over files of these contents."""
+    positions = folder / f"{number}.csv"
+    given = question["positions"]
+    positions.write_bytes(given.encode() if isinstance(given, str) else bytes(given.values() if isinstance(given, dict) else given))
+    if question["asks"] == "check":
+        return [["check", "STATION", positions], ["state", "STATION", positions]]
+    if question["asks"] == "order":
+        steps = folder / f"{number}.order"
+        steps.write_text(question["steps"])
+        return [["order", "STATION", positions, steps]]
+    return [["explain", "STATION", positions, "close" if question["closes"] else "open", question["path"]]]
+
+
+def compared(station, heard, folder):
+    """How many answers were held against the program's, and those that differ."""
+    asked, owners = [], []
+    for number, (question, answer) in enumerate(heard):
+        for place, words in enumerate(words_of(question, folder, number)):
+            asked.append([str(station) if word == "STATION" else str(word) for word in words])
+            owners.append((answer, place))
+    answers = script_of(TOP / "interlock").answers(asked)
+    for words, (answer, place), (status, text) in zip(asked, owners, answers):
+        said = answer["texts"][place] if answer["texts"] else ""
+        if answer["code"] != status or said != text:
+            yield f"the program says otherwise of {' '.join(words)}: {status} {text[:200]!r}, the page {answer['code']} {said[:200]!r}"
+
+
+def in_browser(folder):
+    wrong = []
+    page = Page(DOUBLE, HERE / "orders/earth_line_1.csv", folder)
+    for story in STORIES:
+        story(page)
+    wrong += page.end()
+    made = folder / "forty.ssd"
+    (status, text), = script_of(TOP / "interlock").answers([["make", "40", "station"]])
+    made.write_text(text)
+    large = Page(made, None, folder)
+    large_station(large)
+    wrong += large.end()
+    for one in (page, large):
+        differ = list(compared(one.station, one.heard, folder))
+        print(f"{one.station.stem}: {len(one.heard)} questions of the page held against the program, {len(differ)} differ")
+        wrong += differ
+    return wrong
+
+
+# ---- the module alone, under node
+
+def node():
+    """The words that run node with a 64-bit memory; from version 24 on it needs no flag."""
+    flagged = ["node", "--experimental-wasm-memory64"]
+    return flagged if subprocess.run([*flagged, "-e", "0"], capture_output=True).returncode == 0 else ["node"]
+
+
+
+RUN = """
+const fs = require("fs"), { Judge } = require(process.argv[2]);
+(async () => {
+  const judge = new Judge(await WebAssembly.compile(fs.readFileSync(process.argv[3])), new Uint8Array(fs.readFileSync(process.argv[4])));
+  await judge.start();
+  const heard = [];
+  for (const question of JSON.parse(fs.readFileSync(0, "utf8"))) heard.push([question, await judge.answer(question)]);
+  process.stdout.write(JSON.stringify(heard));
+})();
+"""
+
+
+def questions_of(station, count, seed):
+    """Random positions of a station, each with `check`, an explanation and an order."""
+    from drawing import Drawing
+
+    chance, paths = random.Random(seed), [item.path for item in Drawing(station).items if item.is_switch]
+    for _ in range(count):
+        words = {path: chance.choice(["off", "on"] * 5 + ["intermediate", "bad", "lost"]) for path in paths}
+        positions = "".join(f"{path},{word}\n" for path, word in words.items())
+        path = chance.choice(paths)
+        yield {"asks": "check", "positions": positions}
+        yield {"asks": "explain", "positions": positions, "closes": chance.random() < 0.5, "path": path}
+        yield {"asks": "order", "positions": positions, "steps": f"{'close' if words[path] == 'off' else 'open'} {path}\n"}
+
+
+def under_node(folder):
+    module, _ = page_module.made()
+    wrong = []
+    for station in sorted(HERE.glob("*.ssd")):
+        given = json.dumps(list(questions_of(station, 4, station.stem)))
+        done = subprocess.run([*node(), "-e", RUN, "-", str(TOP / "tools/desk_page/judge.js"), str(module), str(station)], input=given, capture_output=True, text=True)
+        if done.returncode != 0:
+            sys.exit(f"desk.py: node cannot run the module: {done.stderr[-600:]}")
+        heard = json.loads(done.stdout)
+        differ = list(compared(station, heard, folder))
+        print(f"{station.stem}: {len(heard)} questions held against the program, {len(differ)} differ")
+        wrong += differ
+    return wrong
+
+
+def main(words):
+    with tempfile.TemporaryDirectory() as room:
+        folder = pathlib.Path(words[0] if words else room).resolve()
+        folder.mkdir(parents=True, exist_ok=True)
+        has_browser = shutil.which("chromium") and shutil.which("chromedriver")
+        wrong = in_browser(folder) if has_browser else under_node(folder)
+    for line in wrong:
+        print(line)
+    sys.exit(1 if wrong else 0)
+
+
+if __name__ == "__main__":
+    main(sys.argv[1:])
