@@ -1,8 +1,9 @@
 #!/usr/bin/env python3
 """Goes through stories on the page of `tools/desk` by real clicks in headless Chromium, and compares.
 
-    examples/desk.py [FOLDER]      each answer that the page was given is held against the program's, and each story
-                                   against what it says here; screenshots go to FOLDER
+    examples/desk.py [FOLDER]            each answer that the page was given is held against the program's, and each
+                                         story against what it says here; screenshots go to FOLDER
+    examples/desk.py --serve [FOLDER]    the same stories on the page of `tools/desk --serve`, which asks the program
 
 It wants Debian's packages chromium and chromium-driver. Without them it runs the module alone under node, on random
 positions of the examples. Status 1 where anything differs.
@@ -42,13 +43,18 @@ def script_of(file):
 class Page:
     """A page of a station in a browser, and what its stories found wrong."""
 
-    def __init__(self, station, positions, folder, **more):
-        self.station, self.folder, self.wrong, self.heard = station, folder, [], []
-        file = folder / f"{station.stem}.html"
-        made = subprocess.run([TOP / "tools/desk", station, *([positions] if positions else [])], stdout=subprocess.PIPE)
-        file.write_bytes(made.stdout)
+    def __init__(self, station, positions, folder, serves, **more):
+        self.station, self.folder, self.wrong, self.heard, self.server = station, folder, [], [], None
+        files = [station, *([positions] if positions else [])]
+        if serves:
+            self.server = subprocess.Popen([TOP / "tools/desk", "--serve", *files], stdout=subprocess.PIPE, text=True)
+            address = self.server.stdout.readline().strip()
+        else:
+            file = folder / f"{station.stem}.html"
+            file.write_bytes(subprocess.run([TOP / "tools/desk", *files], stdout=subprocess.PIPE).stdout)
+            address = file.as_uri()
         self.browser = Browser(**more)
-        self.browser.open(file.as_uri())
+        self.browser.open(address)
         self.browser.wait("return document.body.dataset.done || document.body.dataset.failed")
         self.browser.run(LISTEN)
 
@@ -90,6 +96,9 @@ class Page:
         said = [line for line in self.browser.log() if "favicon" not in line]
         self.holds(f"nothing in the browser's log {said}", not said)
         self.browser.close()
+        if self.server:
+            self.server.terminate()
+            self.server.wait()
         return self.wrong
 
 
@@ -239,16 +248,16 @@ def compared(station, heard, folder):
             yield f"the program says otherwise of {' '.join(words)}: {status} {text[:200]!r}, the page {answer['code']} {said[:200]!r}"
 
 
-def in_browser(folder):
+def in_browser(folder, serves):
     wrong = []
-    page = Page(DOUBLE, HERE / "orders/earth_line_1.csv", folder)
+    page = Page(DOUBLE, HERE / "orders/earth_line_1.csv", folder, serves)
     for story in STORIES:
         story(page)
     wrong += page.end()
     made = folder / "forty.ssd"
     (status, text), = script_of(TOP / "interlock").answers([["make", "40", "station"]])
     made.write_text(text)
-    large = Page(made, None, folder)
+    large = Page(made, None, folder, serves)
     large_station(large)
     wrong += large.end()
     for one in (page, large):
@@ -309,11 +318,12 @@ def under_node(folder):
 
 
 def main(words):
+    serves, words = "--serve" in words, [word for word in words if word != "--serve"]
     with tempfile.TemporaryDirectory() as room:
         folder = pathlib.Path(words[0] if words else room).resolve()
         folder.mkdir(parents=True, exist_ok=True)
         has_browser = shutil.which("chromium") and shutil.which("chromedriver")
-        wrong = in_browser(folder) if has_browser else under_node(folder)
+        wrong = in_browser(folder, serves) if has_browser else under_node(folder)
     for line in wrong:
         print(line)
     sys.exit(1 if wrong else 0)

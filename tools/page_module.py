@@ -127,6 +127,8 @@ def linked(kit, built, wasm, room):
 
 def made():
     """The module, made where none stands that was made of the sources as they are, and what the page's foot says of it."""
+    if CRATE not in repository.crates():
+        sys.exit(f"desk: there is no crate {CRATE}, of which the module is made; --serve needs none")
     found = sums()
     head = f"sources {sum_of(found)}\n"
     if MODULE.exists() and SUMS.exists():
