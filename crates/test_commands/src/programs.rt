@@ -1,7 +1,7 @@
 //! The structured text of a bay with an earthing switch and an infeed at one node, worked by hand.
 use program_text::program_text;
+use station_graph::Station;
 use std::alloc::Global;
-use std::process::Abort;
 use std::test::Fail;
 use test_stations::{Example, built};
 
@@ -29,14 +29,17 @@ const LINES: &[u8] = b"VAR_INPUT\n\
     \x20 sw1_E1_EnaCls := NOT m0;\n\
     END_FUNCTION_BLOCK\n";
 
-fn expect_end(rt: &impl Abort, alloc: Global, example: Example, lines: &[u8]) -> Result<(), Fail> {
-    let station = built(alloc, example)?;
-    let text = program_text(alloc, &station)?;
-    assert!(rt; text.bytes().ends_with(lines));
-    Ok(())
+// Whether the text of the station's program ends with these lines.
+fn ends_with(alloc: Global, station: &Station, lines: &[u8]) -> bool {
+    match program_text(alloc, station) {
+        Ok(text) => text.bytes().ends_with(lines),
+        Err(_) => false,
+    }
 }
 
 #[test]
 fn programs(rt: HostRuntime) -> Result<(), Fail> {
-    expect_end(&rt, rt.alloc(), Example::EarthedLine, LINES)
+    let station = built(rt.alloc(), Example::EarthedLine)?;
+    assert!(rt; ends_with(rt.alloc(), &station, LINES));
+    Ok(())
 }
