@@ -1,15 +1,14 @@
 -- Which choices sets of one or two choices allow.
-use Rattle.std.proofs.Common.{◌≡◌, ◌⊎◌, ℕ, ◌+◌, ◌<◌, zero, suc, Bool, true, false, List, [], ◌∷◌, length, map, replicate, get_or}
+use Rattle.std.proofs.Common.{◌≡◌, ℕ, ◌+◌, ◌<◌, zero, suc, Bool, true, false, List, [], ◌∷◌, length, map, replicate, get_or}
 use Rattle.std.proofs.Common.{slice_get, Some, refl, sym, ap, ◌∙◌, ◌++◌, subst, inl, inr, not, arith}
 use Rattle.std.specs.Prelude.{◌↔◌}
-use Rattle.std.proofs.lemmas.Bool.{cases_Bool}
-use Rattle.std.proofs.lemmas.Option.{slice_get_within, same_Some}
+use Rattle.std.proofs.lemmas.Option.{slice_get_within, same_Some, slice_get-get_or}
 use Rattle.decision_graphs.specs.Label.{AreAllowed}
 use Rattle.graph_walks.specs.Walks.{set_for, AreTwos}
 use Rattle.judge_pool.specs.Graphs.{other_of}
 use Rattle.judge_intake.proofs.OtherLemmas.{element, other_in}
 use Rattle.step_graphs.specs.declared.step.Step.{Step}
-use Rattle.station_joints.specs.Together.{AreIsolating, IsAlone}
+use Rattle.station_joints.specs.Together.{IsAlone}
 use Rattle.station_graph.proofs.PathLemmas.{slice_get-push}
 use Rattle.std.proofs.lemmas.List.{length_push}
 use Rattle.change_search.specs.Showing.{AreFree, AllowIsolating, AllowAll}
@@ -107,7 +106,7 @@ pub record FreeUpto (ss ts : List Step) (b : ℕ) (free : List Bool) (n : ℕ) :
   pub each : (j : ℕ) (f : Bool) (s t : Step) → slice_get free j ≡ Some f → slice_get ss (other_of 0 b j) ≡ Some s →
       slice_get ts (other_of 0 b j) ≡ Some t → (f ≡ false) ↔ IsAlone s t
 
-pub free_more : (ss ts : List Step) (b : ℕ) (free : List Bool) (n : ℕ) (s t : Step) (f : Bool) →
+free_more : (ss ts : List Step) (b : ℕ) (free : List Bool) (n : ℕ) (s t : Step) (f : Bool) →
     FreeUpto ss ts b free n → slice_get ss (other_of 0 b n) ≡ Some s → slice_get ts (other_of 0 b n) ≡ Some t →
     ((f ≡ false) ↔ IsAlone s t) → FreeUpto ss ts b (free ++ f ∷ []) (n + 1)
 free_more ss ts b free n s t f h at_s at_t is = record {
@@ -127,10 +126,15 @@ free_more ss ts b free n s t f h at_s at_t is = record {
         (subst (λ (z : Step). (g ≡ false) ↔ IsAlone s z) t_is
         (subst (λ (z : Bool). (z ≡ false) ↔ IsAlone s t) g_is is))
 
-pub all_free : (ss ts : List Step) (b : ℕ) (free : List Bool) (n : ℕ) → suc n ≡ length ss → FreeUpto ss ts b free n →
-    AreFree ss ts b free
-all_free ss ts b free n count h = record { count = omega (arith, h.len, count); each = h.each }
-
-pub negated : (c : Bool) (P : Type 0) → ((c ≡ true) ↔ P) → ((not c) ≡ false) ↔ P
+negated : (c : Bool) (P : Type 0) → ((c ≡ true) ↔ P) → ((not c) ≡ false) ↔ P
 negated true P h = (λ e. h.0 refl, λ p. refl)
 negated false P h = (λ e. let x : true ≡ false = e in cc, λ p. let x : false ≡ true = h.1 p in cc)
+
+pub free_next : (ss ts : List Step) (b n at : ℕ) (free : List Bool) (d e : Step) (c : Bool) → FreeUpto ss ts b free n →
+    at ≡ other_of 0 b n → at < length ss → at < length ts → ((c ≡ true) ↔ IsAlone (get_or ss at d) (get_or ts at e)) →
+    FreeUpto ss ts b (free ++ not c ∷ []) (n + 1)
+free_next ss ts b n at free d e c h is old_in new_in alone =
+    free_more ss ts b free n (get_or ss at d) (get_or ts at e) (not c) h
+    (subst (λ (k : ℕ). slice_get ss k ≡ Some (get_or ss at d)) is (slice_get-get_or ss at d old_in))
+    (subst (λ (k : ℕ). slice_get ts k ≡ Some (get_or ts at e)) is (slice_get-get_or ts at e new_in))
+    (negated c (IsAlone (get_or ss at d) (get_or ts at e)) alone)

@@ -3,12 +3,14 @@
 #![tactic(auto)]
 
 mod allow;
+mod free;
 mod law;
 mod part;
 mod search;
 mod telling;
 
 pub use allow::free_steps_allow;
+pub use free::free_steps;
 pub use law::labels_tell_changes;
 pub use part::{Reached, Shown, find_part};
 pub use search::find_change;

@@ -2,4 +2,6 @@
 #![tactic(auto)]
 
 #[cfg(test)]
+mod labels;
+#[cfg(test)]
 mod steps;
