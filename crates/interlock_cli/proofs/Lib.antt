@@ -1,4 +1,3 @@
-pub mod AllLines
 pub mod Asked
 pub mod Cuts
 pub mod Drawings

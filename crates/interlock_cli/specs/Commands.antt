@@ -16,8 +16,8 @@ use Rattle.interlock_cli.specs.Formats.{Drawing, Elements, Positions, CertainPos
 use Rattle.interlock_cli.specs.Formats.{BlocksOf}
 use Rattle.interlock_cli.specs.Formats.{SwitchOf, BayOf}
 use Rattle.interlock_cli.specs.Form.{Form, Write, Take, Serve, File, Word}
-use Rattle.interlock_cli.specs.CheckText.{IsCheckText}
-use Rattle.interlock_cli.specs.ExplainText.{IsExplainText}
+use Rattle.release_texts.specs.CheckText.{IsCheckText}
+use Rattle.release_texts.specs.ExplainText.{IsExplainText}
 use Rattle.interlock_cli.specs.OrderWrites.{OrderWrites}
 use Rattle.interlock_cli.specs.ReplayWrites.{ReplayWrites}
 use Rattle.interlock_cli.specs.TripsWrites.{TripsWrites}

@@ -2,8 +2,6 @@ pub mod Formats
 pub mod Form
 pub mod Files
 pub mod Judging
-pub mod CheckText
-pub mod ExplainText
 pub mod OrderWrites
 pub mod ReplayWrites
 pub mod TripsWrites

@@ -4,10 +4,10 @@ ghost use Rattle.interlock_cli.specs.Commands.{Check, form_of};
 ghost use Rattle.interlock_cli.specs.Files.{files, Reads};
 ghost use Rattle.interlock_cli.specs.Form.{Gives, FormStops};
 
-use crate::check::check_text;
 use crate::end::{End, Outcome, Output};
 use crate::loading::{build_judge, load_drawing, load_readings};
 use ilk_base::Shelf;
+use release_texts::check_text;
 use std::alloc::Global;
 
 // What `check STATION POSITIONS` has to write.

@@ -5,9 +5,9 @@ ghost use Rattle.interlock_cli.specs.Files.{files, Reads};
 ghost use Rattle.interlock_cli.specs.Form.{Gives, FormStops};
 
 use crate::end::{End, Outcome, Output};
-use crate::explain::explain_text;
 use crate::loading::{build_judge, load_drawing, load_readings, named_switch};
 use ilk_base::{Direction, Op, Shelf};
+use release_texts::explain_text;
 use std::alloc::Global;
 
 // What `explain STATION POSITIONS open SWITCH`, or `close`, has to write.

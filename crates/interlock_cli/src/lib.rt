@@ -2,11 +2,9 @@
 #![tactic(auto)]
 
 mod audit_command;
-mod check;
 mod check_command;
 mod compile_command;
 mod end;
-mod explain;
 mod explain_command;
 mod loading;
 mod loading_log;

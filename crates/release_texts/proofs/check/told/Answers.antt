@@ -7,8 +7,8 @@ use Rattle.double_points.specs.Words.{AreWords}
 use Rattle.central_rules.specs.declared.verdict.Verdict.{Verdict}
 use Rattle.central_rules.specs.declared.verdict.Verdict.TheVariants.{Release, Denied}
 use Rattle.central_rules.specs.Readings.{Decides, IsReading}
-use Rattle.interlock_cli.specs.CheckText.{ShowsVector}
-use Rattle.interlock_cli.proofs.check.told.Goals as goal
+use Rattle.release_texts.specs.CheckText.{ShowsVector}
+use Rattle.release_texts.proofs.check.told.Goals as goal
 
 -- a denial shows a vector
 shown_of : (d : Diagram) (words : List Dbpos) (op : Op) (verdict : Verdict) → AreWords d words →
