@@ -1,17 +1,13 @@
 -- One file after another.
-use Rattle.std.proofs.Common.{◌≡◌, ◌≢◌, ◌∙◌, ◌⊎◌, ℕ, List, [], ◌∷◌, ◌++◌, take, Option, Some, None, refl, sym, ap, arith}
+use Rattle.std.proofs.Common.{◌≡◌, ◌≢◌, ◌∙◌, ◌⊎◌, ℕ, List, [], ◌∷◌, ◌++◌, take, refl, sym, ap, arith}
 use Rattle.std.proofs.Common.{zero, suc, inl, inr}
-use Rattle.std.specs.Prelude.{Contains, Result, Ok, Err, OnOk}
+use Rattle.std.specs.Prelude.{Result, Ok, Err, OnOk}
 use Rattle.std.specs.Io.KnownBytes.{Keeps}
 use Rattle.std.proofs.Math.Seq.{take-nil}
 use Rattle.std.proofs.lemmas.List.{append-nil, append_assoc}
 use Rattle.std.proofs.lemmas.List.Elements.{Contains-append_left, Contains-append_right}
 use Rattle.interlock_cli.specs.Files.{Files, LeavesOthers, ReadsAll, Reads}
-use Rattle.interlock_cli.proofs.Later.{keeps_both}
-
-keeps_itself : (a : Option (List ℕ)) → Keeps a a
-keeps_itself None = tt
-keeps_itself (Some x) = refl
+use Rattle.interlock_cli.proofs.Later.{keeps_both, keeps_itself}
 
 -- no file is read
 pub reads_none : (names : List (List ℕ)) (f : Files) → Reads names f f

@@ -3,6 +3,7 @@ use Rattle.std.proofs.Common.{◌≡◌, ◌+◌, ◌<◌, ℕ, List, length, ta
 use Rattle.std.proofs.Common.{inl, inr, subst, refl}
 use Rattle.std.specs.Prelude.{IfSome, IfOk, IfErr}
 use Rattle.std.proofs.lemmas.List.{take_all, length-take}
+use Rattle.std.proofs.lemmas.Result.{IfOk-weaker, IfErr-weaker}
 use Rattle.ilk_base.specs.declared.limits.TheConstants.{FILE_BYTES}
 use Rattle.ilk_base.specs.declared.words.Dbpos.{Dbpos}
 use Rattle.ilk_base.specs.declared.words.InputRefusal.{InputRefusal}
@@ -26,7 +27,7 @@ use Rattle.trip_replay.specs.TripLogs.{IsTripLog, IsTripLogFault}
 use Rattle.trip_replay.specs.declared.event.TripLogEvent.{TripLogEvent}
 use Rattle.interlock_cli.specs.Formats.{Format, Drawing, Elements, Positions, CertainPositions, OrderOf, LogOf}
 use Rattle.interlock_cli.specs.Formats.{TripLogOf}
-use Rattle.interlock_cli.specs.Formats.{BlocksOf, SwitchOf, BayOf, Value, AcceptsAs, Refuses, PassesLimit}
+use Rattle.interlock_cli.specs.Formats.{BlocksOf, SwitchOf, BayOf, Value, AcceptsAs, Refuses, PassesLimit, IsOfFile}
 use Rattle.interlock_cli.specs.Judging.{JudgeFails}
 use Rattle.interlock_cli.specs.Form.{File, Given, Fails}
 
@@ -172,25 +173,25 @@ refuses_elements : (b v : List ℕ) (end : End) → v ≡ take (FILE_BYTES + 1) 
 refuses_elements b v (e.Station refusal) h r = cut_stands (FILE_BYTES + 1) b v (Err refusal) refl h r
 refuses_elements b v _ h r = r
 
-pub elements : Cuts Elements
+elements : Cuts Elements
 elements = record {
   accepts = λ b v all h a. cut_drawing (FILE_BYTES + 1) b v all refl h a;
   refuses = refuses_elements;
 }
 
-pub drawing : Cuts Drawing
+drawing : Cuts Drawing
 drawing = record {
   accepts = λ b v d h a. (cut_stands (FILE_BYTES + 1) b v (Ok d) refl h a.0, a.1);
   refuses = refuses_drawing;
 }
 
-pub positions : (d : Diagram) → Cuts (Positions d)
+positions : (d : Diagram) → Cuts (Positions d)
 positions d = record {
   accepts = λ b v words h a. cut_accepted (FILE_BYTES + 1) b v d.switch_paths words refl h a;
   refuses = refuses_positions d;
 }
 
-pub certain_positions : (d : Diagram) → Cuts (CertainPositions d)
+certain_positions : (d : Diagram) → Cuts (CertainPositions d)
 certain_positions d = record {
   accepts =
       λ b v start h (words, accepted, are).
@@ -198,25 +199,25 @@ certain_positions d = record {
   refuses = refuses_certain d;
 }
 
-pub order : (d : Diagram) → Cuts (OrderOf d)
+order : (d : Diagram) → Cuts (OrderOf d)
 order d = record {
   accepts = λ b v steps h a. cut_order d (FILE_BYTES + 1) b v steps refl h a;
   refuses = refuses_order d;
 }
 
-pub blocks : (d : Diagram) → Cuts (BlocksOf d)
+blocks : (d : Diagram) → Cuts (BlocksOf d)
 blocks d = record {
   accepts = λ b v es h a. (a.0, cut_blocks d (FILE_BYTES + 1) b v es refl h a.1);
   refuses = refuses_blocks d;
 }
 
-pub log : (d : Diagram) → Cuts (LogOf d)
+log : (d : Diagram) → Cuts (LogOf d)
 log d = record {
   accepts = λ b v events h a. (a.0, cut_log d (FILE_BYTES + 1) b v events refl h a.1);
   refuses = refuses_log d;
 }
 
-pub trip_log : (d : Diagram) → Cuts (TripLogOf d)
+trip_log : (d : Diagram) → Cuts (TripLogOf d)
 trip_log d = record {
   accepts = λ b v events h a. (a.0, cut_trip_log d (FILE_BYTES + 1) b v events refl h a.1);
   refuses = refuses_trip_log d;
@@ -235,31 +236,47 @@ no_fault (BlocksOf d) v r = r
 no_fault (SwitchOf d) v r = r
 no_fault (BayOf d) v r = r
 
-module _ (f : Format) (cuts : Cuts f) where
+-- a content of a file is told by as many bytes
+cuts : (f : Format) → IsOfFile f → Cuts f
+cuts Drawing is = drawing
+cuts Elements is = elements
+cuts (Positions d) is = positions d
+cuts (CertainPositions d) is = certain_positions d
+cuts (OrderOf d) is = order d
+cuts (LogOf d) is = log d
+cuts (TripLogOf d) is = trip_log d
+cuts (BlocksOf d) is = blocks d
+cuts (SwitchOf d) is = absurd is
+cuts (BayOf d) is = absurd is
+
+module _ (f : Format) (is : IsOfFile f) where
   whole : (known : Option (List ℕ)) (v : List ℕ) (value : Value f) → IfSome known (λ b. v ≡ take (FILE_BYTES + 1) b) →
       AcceptsAs f v value → (content : List ℕ) × IfSome known (λ h. h ≡ content) × AcceptsAs f content value
   whole None v value h a = (v, tt, a)
-  whole (Some b) v value h a = (b, refl, cuts.accepts b v value h a)
+  whole (Some b) v value h a = (b, refl, (cuts f is).accepts b v value h a)
 
   whole_refused : (known : Option (List ℕ)) (v : List ℕ) (end : End) → IfSome known (λ b. v ≡ take (FILE_BYTES + 1) b) →
       Refuses f v end → (content : List ℕ) × IfSome known (λ h. h ≡ content) × Refuses f content end
   whole_refused None v end h a = (v, tt, a)
-  whole_refused (Some b) v end h a = (b, refl, cuts.refuses b v end h a)
+  whole_refused (Some b) v end h a = (b, refl, (cuts f is).refuses b v end h a)
 
-  pub given : (held : List ℕ → Option (List ℕ)) (name v : List ℕ) (r : Result (Value f) End) →
-      IfSome (held name) (λ b. v ≡ take (FILE_BYTES + 1) b) → IfOk r (AcceptsAs f v) → IfOk r (Given held (File name) f)
-  given held name v (Ok value) h a = whole (held name) v value h a
-  given held name v (Err end) h a = tt
+  -- a value, as it is seen, of the bytes is one of the file
+  pub given : {V : Type 0} (seen : V → Value f) (held : List ℕ → Option (List ℕ)) (name v : List ℕ) (r : Result V End)
+      → IfSome (held name) (λ b. v ≡ take (FILE_BYTES + 1) b) → IfOk r (λ x. AcceptsAs f v (seen x)) →
+      IfOk r (λ x. Given held (File name) f (seen x))
+  given seen held name v r h =
+      IfOk-weaker r (λ x. AcceptsAs f v (seen x)) (λ x. Given held (File name) f (seen x))
+      (λ x a. whole (held name) v (seen x) h a)
 
-  fails : (held : List ℕ → Option (List ℕ)) (before after : List ℕ → ℕ) (name v : List ℕ) (end : End) →
-      IfSome (held name) (λ b. v ≡ take (FILE_BYTES + 1) b) → JudgeFails f v end →
+  fails : (held : List ℕ → Option (List ℕ)) (before after : List ℕ → ℕ) (name v : List ℕ) →
+      IfSome (held name) (λ b. v ≡ take (FILE_BYTES + 1) b) → (end : End) → JudgeFails f v end →
       Fails held before after (File name) f end
-  fails held before after name v e.Memory h a = tt
-  fails held before after name v e.ReadFault h a = absurd (no_fault f v a)
-  fails held before after name v end h a = whole_refused (held name) v end h a
+  fails held before after name v h e.Memory a = tt
+  fails held before after name v h e.ReadFault a = absurd (no_fault f v a)
+  fails held before after name v h end a = whole_refused (held name) v end h a
 
-  pub failed : (held : List ℕ → Option (List ℕ)) (before after : List ℕ → ℕ) (name v : List ℕ)
-      (r : Result (Value f) End) → IfSome (held name) (λ b. v ≡ take (FILE_BYTES + 1) b) → IfErr r (JudgeFails f v) →
+  pub failed : {V : Type 0} (held : List ℕ → Option (List ℕ)) (before after : List ℕ → ℕ) (name v : List ℕ)
+      (r : Result V End) → IfSome (held name) (λ b. v ≡ take (FILE_BYTES + 1) b) → IfErr r (JudgeFails f v) →
       IfErr r (Fails held before after (File name) f)
-  failed held before after name v (Ok value) h a = tt
-  failed held before after name v (Err end) h a = fails held before after name v end h a
+  failed held before after name v r h =
+      IfErr-weaker r (JudgeFails f v) (Fails held before after (File name) f) (fails held before after name v h)

@@ -1,12 +1,13 @@
 -- What is found after a first read holds of what stood there before it.
-use Rattle.std.proofs.Common.{◌≡◌, ◌≤◌, ℕ, List, Option, Some, None, Result, Ok, Err, refl, sym, ◌∙◌, arith, inl, inr}
-use Rattle.std.specs.Prelude.{IfSome, IfOk, IfErr}
+use Rattle.std.proofs.Common.{◌≡◌, ◌≤◌, ℕ, List, Option, Some, None, refl, sym, ◌∙◌, arith, inl, inr}
+use Rattle.std.specs.Prelude.{IfSome}
 use Rattle.std.specs.Io.KnownBytes.{Keeps}
 use Rattle.ilk_base.specs.Outside.{Rose}
 use Rattle.interlock_cli.specs.Formats.{Format, Value}
 use Rattle.interlock_cli.specs.Judging.{JudgeFails, Onward}
-use Rattle.interlock_cli.specs.Form.{Form, Origin, File, Word, IsContent, Given, ReadRose, Fails, Gives, FormStops}
-use Rattle.interlock_cli.specs.declared.end.Output.{Output}
+use Rattle.interlock_cli.specs.Form.{Form, Write, Take, Serve, Origin, File, Word, IsContent, Given, ReadRose, Fails}
+use Rattle.interlock_cli.specs.Form.{FormSays, FormStops}
+use Rattle.interlock_cli.specs.declared.end.Outcome.{Outcome}
 use Rattle.interlock_cli.specs.declared.end.End.{End}
 use Rattle.interlock_cli.specs.declared.end.End.TheVariants as e
 use Rattle.interlock_cli.proofs.Cuts.{no_fault}
@@ -27,7 +28,14 @@ keeps_both (Some x) None c first second = absurd first
 keeps_both (Some x) (Some y) None first second = absurd second
 keeps_both (Some x) (Some y) (Some z) first second = second ∙ first
 
--- after two reads
+pub keeps_itself : (a : Option (List ℕ)) → Keeps a a
+keeps_itself None = tt
+keeps_itself (Some x) = refl
+
+-- after no read, and after two
+pub onward_same : {held : List ℕ → Option (List ℕ)} {before : List ℕ → ℕ} → Onward held held before before
+onward_same {held} = record { keeps = λ n. keeps_itself (held n); grows = λ n. omega arith }
+
 pub onward_both : {held later last : List ℕ → Option (List ℕ)} {before between after : List ℕ → ℕ} →
     Onward held later before between → Onward later last between after → Onward held last before after
 onward_both first second = record {
@@ -56,21 +64,28 @@ module _ {held later : List ℕ → Option (List ℕ)} {before between : List �
     fails_later origin f e.ReadFault fails = read_later origin fails
     fails_later origin f end (content, is, refuses) = (content, content_later origin content is, refuses)
 
+-- what a form says of what is found later it says of what stood there before
+pub says_later : {held later : List ℕ → Option (List ℕ)} {before between : List ℕ → ℕ} →
+    Onward held later before between → (form : Form) (outcome : Outcome) (text : List ℕ) →
+    FormSays form later outcome text → FormSays form held outcome text
+says_later onward (Write writes) outcome text says = says
+says_later onward (Serve d b) outcome text says = says
+says_later onward (Take origin f next) outcome text (value, given, says) =
+    (value, given_later onward origin f value given, says_later onward (next value) outcome text says)
+
+-- and so it stops
+pub stops_later : {held later : List ℕ → Option (List ℕ)} {before between : List ℕ → ℕ} →
+    Onward held later before between → (after : List ℕ → ℕ) (form : Form) (end : End) →
+    FormStops form later between after end → FormStops form held before after end
+stops_later onward after (Write writes) end stops = stops
+stops_later onward after (Serve d b) end stops = stops
+stops_later onward after (Take origin f next) end (inl fails) = inl (fails_later onward after origin f end fails)
+stops_later onward after (Take origin f next) end (inr (value, given, stops)) =
+    inr (value, given_later onward origin f value given, stops_later onward after (next value) end stops)
+
 -- a word that is not accepted
 pub word_fails : (held : List ℕ → Option (List ℕ)) (before after : List ℕ → ℕ) (f : Format) (word : List ℕ)
     (end : End) → JudgeFails f word end → Fails held before after (Word word) f end
 word_fails held before after f word e.Memory fails = tt
 word_fails held before after f word e.ReadFault fails = absurd (no_fault f word fails)
 word_fails held before after f word end fails = (word, refl, fails)
-
--- what holds whatever the files hold holds of what they hold
-pub at_held : (held : List ℕ → Option (List ℕ)) (form : Form) (r : Result Output End) →
-    IfOk r (λ o. (h : List ℕ → Option (List ℕ)) → Gives form h o) → IfOk r (Gives form held)
-at_held held form (Ok o) gives = gives held
-at_held held form (Err end) gives = tt
-
-pub stops_at : (held : List ℕ → Option (List ℕ)) (before after : List ℕ → ℕ) (form : Form) (r : Result Output End)
-    → IfErr r (λ end. (h : List ℕ → Option (List ℕ)) (b a : List ℕ → ℕ) → FormStops form h b a end) →
-    IfErr r (FormStops form held before after)
-stops_at held before after form (Ok o) stops = tt
-stops_at held before after form (Err end) stops = stops held before after

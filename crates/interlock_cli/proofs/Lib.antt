@@ -3,7 +3,10 @@ pub mod Cuts
 pub mod Drawings
 pub mod Later
 pub mod Orders
+pub mod Passing
 pub mod Pieces
+pub mod Resting
+pub mod Serving
 pub mod Stopping
 pub mod Through
 pub mod Naming

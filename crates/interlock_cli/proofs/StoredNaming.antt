@@ -1,12 +1,12 @@
 -- Words that are of no row name no stored session, so that what is read is what the words name.
-use Rattle.std.proofs.Common.{◌≡◌, ◌∙◌, ap, sym, refl, ℕ, true, false, List, [], ◌∷◌, codes, Option, Some, None, inl}
+use Rattle.std.proofs.Common.{◌≡◌, ◌∙◌, ap, sym, refl, ℕ, true, false, List, [], ◌∷◌, codes, Some, None, inl}
 use Rattle.std.proofs.Common.{inr}
 use Rattle.std.specs.List.{list_all}
 use Rattle.std.specs.Str.{bytes_eq}
 use Rattle.std.proofs.lemmas.Bool.{cases_Bool}
 use Rattle.std.proofs.lemmas.Slice.Eq.{bytes_eq-Decides}
 use Rattle.command_words.specs.Rows.{is_plain, is_row, row_of, written}
-use Rattle.interlock_cli.specs.StoredWords.{StoredWords, stored_named, stored_of}
+use Rattle.interlock_cli.specs.StoredWords.{stored_named, stored_of}
 
 unnamed : (words : List (List ℕ)) → is_row words ≡ false → stored_named words ≡ None
 unnamed [] none = refl

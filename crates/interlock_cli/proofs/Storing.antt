@@ -5,13 +5,12 @@ use Rattle.std.specs.Io.KnownBytes.{Appends, Keeps}
 use Rattle.node_session.specs.SessionEnds.{Streams}
 use Rattle.release_compile.specs.Summaries.{judges}
 use Rattle.stored_session.specs.View.{View}
-use Rattle.stored_session.specs.declared.end.StoredEnd.{StoredEnd}
 use Rattle.stored_session.specs.declared.end.StoredEnd.TheVariants as s
 use Rattle.stored_session.proofs.Whole.{goes_through}
 use Rattle.interlock_cli.specs.Formats.{Drawing, BayOf}
 use Rattle.interlock_cli.specs.Form.{File, Word, FormStops}
 use Rattle.interlock_cli.specs.Commands.{Command, Node, form_of}
-use Rattle.interlock_cli.specs.Ends.{Call, Ends, WroteLine}
+use Rattle.interlock_cli.specs.Ends.{Call, Ends, WroteLine, called}
 use Rattle.interlock_cli.specs.Lines.{line_of, status_of}
 use Rattle.interlock_cli.specs.StoredWords.{StoredWords}
 use Rattle.interlock_cli.specs.StoredEnding.{stored_end, Stores, EndsStored, AnswersWords, IsAnsweredStored, IsCalm}
@@ -27,16 +26,17 @@ use Rattle.interlock_cli.proofs.Through.{completes, fails_memory, found_told}
 
 module _ {D : Type 0} (v : View D) (w : StoredWords) (c : Call) (old : D) where
   -- the station or the bay is not accepted
-  pub stops_before : (end : End) → FormStops (form_of (Node w.station w.bay)) c.held c.reads_before c.reads_after end
-      → c.after ≡ c.before → EndsStored v w c old old end
-  stops_before end stops same = inl (record {
+  pub stops_before : (new : D) (end : End) →
+      FormStops (form_of (Node w.station w.bay)) c.held c.reads_before c.reads_after end
+      → c.after ≡ c.before → new ≡ old → EndsStored v w c old new end
+  stops_before new end stops same untouched = inl (record {
     stops = stops;
     unwritten = subst (λ (s : Streams). Appends c.before.out s.out []) (sym same) (appends_nothing c.before.out);
     unasked = record {
       left = subst (λ (s : Streams). Keeps c.before.input s.input) (sym same) (keeps_same c.before.input);
       reads = ap (λ (s : Streams). s.reads) same;
     };
-    untouched = refl;
+    untouched = untouched;
   })
 
   -- there is no memory for the words
@@ -46,7 +46,7 @@ module _ {D : Type 0} (v : View D) (w : StoredWords) (c : Call) (old : D) where
   want err_old err_new err_before err_after same line = record {
     end = e.Memory;
     status_is = refl;
-    ends = stops_before e.Memory (inl tt) same;
+    ends = stops_before old e.Memory (inl tt) same refl;
     line = line;
   }
 
@@ -87,6 +87,17 @@ module _ {D : Type 0} (v : View D) (w : StoredWords) (c : Call) (old : D) where
       inl (subst (λ (x : End). Stores v w c old new x) written stores, is ∙ ap status_of written))
       (λ (memory : stores.session ≡ s.Memory). inr (is ∙ ap status_of (stores.end_is ∙ ap stored_end memory)))
       (session_through new answered calm end stores)
+
+-- a call that stops before it asks for any of the input or the device
+pub stops_unasked : {D I O : Type 0} (v : View D) (w : StoredWords) (held : List ℕ → Option (List ℕ))
+    (before after : List ℕ → ℕ) (old new : D) (input new_input : I) (out new_out : O) (at : I → O → Streams)
+    (end : End) →
+    FormStops (form_of (Node w.station w.bay)) held before after end →
+    new_input ≡ input → new_out ≡ out → new ≡ old →
+    EndsStored v w (called held before after (at input out) (at new_input new_out)) old new end
+stops_unasked v w held before after old new input new_input out new_out at end stops unasked unwritten untouched =
+    stops_before v w (called held before after (at input out) (at new_input new_out)) old new end stops
+    (ap (λ i. at i new_out) unasked ∙ ap (λ o. at input o) unwritten) untouched
 
 memory_used : t.Memory ≡ t.Usage → ⊥
 memory_used is = cc is

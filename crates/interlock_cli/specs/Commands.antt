@@ -6,29 +6,17 @@ use Rattle.std.specs.Str.{bytes_eq}
 use Rattle.ilk_base.specs.declared.words.Direction.{Direction}
 use Rattle.ilk_base.specs.declared.words.Direction.TheVariants.{ToOff, ToOn}
 use Rattle.command_words.specs.Rows.{is_plain}
-use Rattle.station_state.specs.StateText.{IsStateText}
 use Rattle.station_make.specs.declared.words.MadeText.{MadeText}
 use Rattle.station_make.specs.DrawingText.{station_text}
 use Rattle.station_make.specs.EventsText.{events_text}
 use Rattle.station_make.specs.PositionsText.{positions_text}
 use Rattle.station_make.specs.Words.{feeders_of, made_text, text_named}
-use Rattle.interlock_cli.specs.Formats.{Drawing, Elements, Positions, CertainPositions, OrderOf, LogOf, TripLogOf}
-use Rattle.interlock_cli.specs.Formats.{BlocksOf}
-use Rattle.interlock_cli.specs.Formats.{SwitchOf, BayOf}
-use Rattle.interlock_cli.specs.Form.{Form, Write, Take, Serve, File, Word}
-use Rattle.release_texts.specs.CheckText.{IsCheckText}
-use Rattle.release_texts.specs.ExplainText.{IsExplainText}
-use Rattle.interlock_cli.specs.OrderWrites.{OrderWrites}
-use Rattle.interlock_cli.specs.ReplayWrites.{ReplayWrites}
-use Rattle.interlock_cli.specs.TripsWrites.{TripsWrites}
-use Rattle.interlock_cli.specs.AuditWrites.{AuditWrites}
-use Rattle.station_equations.specs.CompileText.{IsCompileText}
-use Rattle.exchange_plan.specs.PlanText.{IsPlanText}
-use Rattle.program_text.specs.ProgramText.{IsProgramText}
-use Rattle.interlock_cli.specs.WorkWrites.{WorkWrites}
+use Rattle.interlock_cli.specs.Formats.{Drawing, Elements}
+use Rattle.interlock_cli.specs.Form.{Form, Write, Take, File, Word}
+use Rattle.interlock_cli.specs.Rests.{IsDoneWith, check_rest, explain_rest, state_rest, order_rest, replay_rest}
+use Rattle.interlock_cli.specs.Rests.{audit_rest, node_rest, compile_rest, trips_rest, plan_rest, program_rest}
+use Rattle.interlock_cli.specs.Rests.{work_rest}
 use Rattle.interlock_cli.specs.StationWrites.{StationWrites}
-use Rattle.interlock_cli.specs.declared.end.Outcome.{Outcome}
-use Rattle.interlock_cli.specs.declared.end.Outcome.TheVariants.{Done}
 
 -- What the words may name.
 pub data Command : Type 0 where
@@ -191,40 +179,22 @@ abbrev pub files_named : Option Command → List (List ℕ)
 files_named None = []
 files_named (Some command) = files_of command
 
--- A text with which the call ends Done.
-abbrev pub IsDoneWith : (List ℕ → Type 0) → Outcome → List ℕ → Type 0
-IsDoneWith IsText outcome text = (outcome ≡ Done) × IsText text
-
--- What each command is given, in the order in which it is judged, and what it writes.
+-- What each command is given, in the order in which it is judged, and what it writes: for most the drawing of a file,
+-- and then the rest.
 abbrev pub form_of : Command → Form
-form_of (Check station positions) =
-    Take (File station) Drawing
-    (λ d. Take (File positions) (Positions d) (λ words. Write (IsDoneWith (IsCheckText d words))))
+form_of (Check station positions) = Take (File station) Drawing (check_rest positions)
 form_of (Explain station positions direction switch) =
-    Take (File station) Drawing (λ d. Take (File positions) (Positions d) (λ words.
-    Take (Word switch) (SwitchOf d) (λ path. Write (IsDoneWith (IsExplainText d words direction path)))))
-form_of (State station positions) =
-    Take (File station) Drawing
-    (λ d. Take (File positions) (Positions d) (λ words. Write (IsDoneWith (IsStateText d words))))
-form_of (Order station positions order) =
-    Take (File station) Drawing (λ d. Take (File positions) (CertainPositions d) (λ start.
-    Take (File order) (OrderOf d) (λ steps. Write (OrderWrites d start steps))))
-form_of (Replay station log) =
-    Take (File station) Drawing (λ d. Take (File log) (LogOf d) (λ events. Write (ReplayWrites d events)))
-form_of (Audit station equations) =
-    Take (File station) Drawing (λ d. Take (File equations) (BlocksOf d) (λ es. Write (AuditWrites d es)))
-form_of (Node station bay) =
-    Take (File station) Drawing (λ d. Take (Word bay) (BayOf d) (λ b. Serve d b))
-form_of (Compile station) =
-    Take (File station) Drawing (λ d. Write (IsDoneWith (IsCompileText d)))
-form_of (Trips station log) =
-    Take (File station) Drawing (λ d. Take (File log) (TripLogOf d) (λ events. Write (TripsWrites d events)))
-form_of (Plan station) =
-    Take (File station) Drawing (λ d. Write (IsDoneWith (IsPlanText d)))
-form_of (Program station) =
-    Take (File station) Drawing (λ d. Write (IsDoneWith (IsProgramText d)))
+    Take (File station) Drawing (explain_rest positions direction switch)
+form_of (State station positions) = Take (File station) Drawing (state_rest positions)
+form_of (Order station positions order) = Take (File station) Drawing (order_rest positions order)
+form_of (Replay station log) = Take (File station) Drawing (replay_rest log)
+form_of (Audit station equations) = Take (File station) Drawing (audit_rest equations)
+form_of (Node station bay) = Take (File station) Drawing (node_rest bay)
+form_of (Compile station) = Take (File station) Drawing compile_rest
+form_of (Trips station log) = Take (File station) Drawing (trips_rest log)
+form_of (Plan station) = Take (File station) Drawing plan_rest
+form_of (Program station) = Take (File station) Drawing program_rest
 form_of (Make number text) = Write (IsDoneWith (λ written. written ≡ made_text text number))
 form_of (Work number) =
-    Take (Word (station_text number)) Drawing (λ d. Take (Word (positions_text number)) (Positions d) (λ words.
-    Take (Word (events_text number)) (LogOf d) (λ events. Write (WorkWrites d words events))))
+    Take (Word (station_text number)) Drawing (work_rest (positions_text number) (events_text number))
 form_of (Station station) = Take (File station) Elements (λ all. Write (StationWrites all))

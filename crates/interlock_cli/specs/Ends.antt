@@ -3,10 +3,9 @@ use Rattle.std.specs.Prelude.{◌≡◌, ◌⊎◌, ⊤, ℕ, List, [], Option, 
 use Rattle.std.specs.Io.KnownBytes.{Appends, Keeps}
 use Rattle.ilk_base.specs.Outside.{Rose, AppendsFront}
 use Rattle.node_session.specs.SessionEnds.{Streams}
-use Rattle.node_session.specs.declared.end.SessionEnd.{SessionEnd}
 use Rattle.interlock_cli.specs.Formats.{Value}
 use Rattle.interlock_cli.specs.Form.{Form, Write, Take, Serve, Given, FormSays, FormStops, AsksInput}
-use Rattle.interlock_cli.specs.Serving.{session_end, ServesBay}
+use Rattle.interlock_cli.specs.Serving.{EndsSession}
 use Rattle.interlock_cli.specs.Commands.{Command, form_of}
 use Rattle.interlock_cli.specs.Lines.{line_of, status_of}
 use Rattle.interlock_cli.specs.declared.end.Outcome.{Outcome}
@@ -55,7 +54,7 @@ pub record Unasked (c : Call) : Type 0 where
 -- All that the form names is accepted, and the input is served so.
 abbrev pub Serves : Form → Call → End → Type 0
 Serves (Write writes) c end = ⊥
-Serves (Serve d b) c end = (s : SessionEnd) × (end ≡ session_end s) × ServesBay d b c.before c.after s
+Serves (Serve d b) c end = EndsSession d b c.before c.after end
 Serves (Take origin f next) c end = (value : Value f) × Given c.held origin f value × Serves (next value) c end
 
 -- The words name a command that asks for the input.

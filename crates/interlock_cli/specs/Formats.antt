@@ -1,6 +1,6 @@
 -- The formats of what a command is given: which content is accepted, and as what, and how the call ends
 -- where one is not. A new format adds a constructor and its equations.
-use Rattle.std.specs.Prelude.{◌≡◌, ◌⊎◌, ℕ, Bool, List, slice_get, Some, Ok, Err, Contains}
+use Rattle.std.specs.Prelude.{◌≡◌, ◌⊎◌, ⊤, ℕ, Bool, List, slice_get, Some, Ok, Err, Contains}
 use Rattle.ilk_base.specs.declared.words.Dbpos.{Dbpos}
 use Rattle.ilk_base.specs.declared.words.InputRefusal.{InputRefusal}
 use Rattle.ilk_base.specs.declared.words.Op.{Op}
@@ -60,6 +60,12 @@ Value (TripLogOf d) = List TripLogEvent
 Value (BlocksOf d) = List Equation
 Value (SwitchOf d) = List ℕ
 Value (BayOf d) = ℕ
+
+-- A content of the format stands in a file, or might; switches and bays are named by words alone.
+abbrev pub IsOfFile : Format → Type 0
+IsOfFile (SwitchOf d) = ⊥
+IsOfFile (BayOf d) = ⊥
+IsOfFile _ = ⊤
 
 -- The path is that of this part, which is a bay.
 abbrev pub NamesBay : Diagram → List ℕ → ℕ → Type 0

@@ -26,3 +26,7 @@ pub record ServesBay (d : Diagram) (b : ℕ) (before after : Streams) (end : Ses
   pub of_station : judging.diagram ≡ d
   pub alphabets : AreAlphabets judging.diagram judging.alphabets
   pub ends : SessionEnds (judges judging) d b before after end
+
+-- The call ends as a session of the bay does.
+abbrev pub EndsSession : Diagram → ℕ → Streams → Streams → End → Type 0
+EndsSession d b before after end = (s : SessionEnd) × (end ≡ session_end s) × ServesBay d b before after s

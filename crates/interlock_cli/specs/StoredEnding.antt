@@ -45,6 +45,11 @@ pub record StoresBay {D : Type 0} (v : View D) (d : Diagram) (b : ℕ) (before a
   pub alphabets : AreAlphabets judging.diagram judging.alphabets
   pub ends : StoredEnds v (judges judging) d b before after old new end
 
+-- The call ends as a session of the bay does.
+abbrev pub EndsStoredSession : {D : Type 0} → View D → Diagram → ℕ → Streams → Streams → D → D → End → Type 0
+EndsStoredSession v d b before after old new end =
+    (session : StoredEnd) × (end ≡ stored_end session) × StoresBay v d b before after old new session
+
 -- STATION is accepted as this station, and BAY as this bay of it; its session ends so.
 pub record Stores {D : Type 0} (v : View D) (w : StoredWords) (c : Call) (old new : D) (end : End) : Type 0 where
   pub diagram : Diagram

@@ -1,17 +1,16 @@
 //! The command `audit`.
-ghost use Rattle.std.specs.Prelude.{[], ◌∷◌, ◌≡◌, IfOk, IfErr};
+ghost use Rattle.std.specs.Prelude.{◌≡◌, IfOk};
 ghost use Rattle.equation_audit.specs.Equations.{AreOfStation};
-ghost use Rattle.interlock_cli.specs.Commands.{Audit, form_of};
-ghost use Rattle.interlock_cli.specs.Files.{files, Reads};
-ghost use Rattle.interlock_cli.specs.Form.{Gives, FormStops};
 ghost use Rattle.interlock_cli.specs.AuditWrites.{AuditWrites};
 
+use crate::answer::Answer;
+use crate::content::load;
 use crate::end::{End, Output};
-use crate::loading::{build_judge, load_blocks, load_drawing};
 use crate::order_command::outcome_of;
 use central_rules::Judge;
 use equation_audit::Blocks;
 use ilk_base::{Memory, Shelf};
+use release_compile::GraphJudge;
 use station_graph::Station;
 use std::alloc::Global;
 
@@ -34,35 +33,28 @@ fn audit_output<J: Judge>(
     })
 }
 
-// What `audit STATION EQUATIONS` has to write.
-#[tactic(auto, using(crate::proofs::Asked::reads_begun, crate::proofs::Asked::reads_first, crate::proofs::Asked::reads_on, crate::proofs::Later::fails_later, crate::proofs::Drawings::drawn_given, crate::proofs::Drawings::drawn_fails))]
-pub(crate) fn audit<F: Shelf>(
-    alloc: Global,
-    station: &str,
-    equations: &str,
-    shelf: &mut F,
-) -> Result<Output, End>
-    ensures ok { IfOk result (Gives (form_of (Audit station.now equations.now)) (F.held shelf.old)) }
-    ensures err { IfErr result (FormStops (form_of (Audit station.now equations.now)) (F.held shelf.old)
-        (F.faults shelf.old) (F.faults shelf.new)) }
-    ensures reads { Reads (station.now ∷ equations.now ∷ [])
-        (files (F.held shelf.old) (F.faults shelf.old) (F.asked shelf.old))
-        (files (F.held shelf.new) (F.faults shelf.new) (F.asked shelf.new)) }
-{
-    let station = match load_drawing(alloc, station, shelf) {
-        Ok(station) => station,
-        Err(end) => return Err(end),
-    };
-    let judge = match build_judge(alloc, &station) {
-        Ok(judge) => judge,
-        Err(end) => return Err(end),
-    };
-    let blocks = match load_blocks(alloc, &station, equations, shelf) {
-        Ok(blocks) => blocks,
-        Err(end) => return Err(end),
-    };
-    match audit_output(alloc, &station, &blocks, &judge) {
-        Ok(output) => Ok(output),
-        Err(_) => Err(End::Memory),
+// `audit STATION EQUATIONS`
+#[derive(Clone, Copy)]
+pub(crate) struct Audit<'a> {
+    pub equations: &'a str,
+}
+
+impl<'a> Answer for Audit<'a> {
+    ghost use Rattle.std.specs.Prelude.{[], ◌∷◌};
+    ghost use Rattle.interlock_cli.specs.Rests.{audit_rest};
+
+    ghost rest = { λ command. audit_rest command.equations.now };
+
+    ghost names = { λ command. command.equations.now ∷ [] };
+
+    fn answer<F: Shelf>(
+        &self,
+        alloc: Global,
+        station: &Station,
+        judge: &GraphJudge<'_>,
+        shelf: &mut F,
+    ) -> Result<Output, End> {
+        let blocks: Blocks = load(alloc, station, self.equations, shelf)?;
+        Ok(audit_output(alloc, station, &blocks, judge)?)
     }
 }

@@ -1,47 +1,40 @@
 //! The command `check`.
-ghost use Rattle.std.specs.Prelude.{[], ◌∷◌, IfOk, IfErr};
-ghost use Rattle.interlock_cli.specs.Commands.{Check, form_of};
-ghost use Rattle.interlock_cli.specs.Files.{files, Reads};
-ghost use Rattle.interlock_cli.specs.Form.{Gives, FormStops};
-
+use crate::answer::Answer;
+use crate::content::load;
 use crate::end::{End, Outcome, Output};
-use crate::loading::{build_judge, load_drawing, load_readings};
+use double_points::Readings;
 use ilk_base::Shelf;
+use release_compile::GraphJudge;
 use release_texts::check_text;
+use station_graph::Station;
 use std::alloc::Global;
 
-// What `check STATION POSITIONS` has to write.
-#[tactic(auto, using(crate::proofs::Asked::reads_begun, crate::proofs::Asked::reads_first, crate::proofs::Asked::reads_on, crate::proofs::Later::fails_later, crate::proofs::Drawings::drawn_given, crate::proofs::Drawings::drawn_fails))]
-pub(crate) fn check<F: Shelf>(
-    alloc: Global,
-    station: &str,
-    positions: &str,
-    shelf: &mut F,
-) -> Result<Output, End>
-    ensures ok { IfOk result (Gives (form_of (Check station.now positions.now)) (F.held shelf.old)) }
-    ensures err { IfErr result (FormStops (form_of (Check station.now positions.now)) (F.held shelf.old)
-        (F.faults shelf.old) (F.faults shelf.new)) }
-    ensures reads { Reads (station.now ∷ positions.now ∷ [])
-        (files (F.held shelf.old) (F.faults shelf.old) (F.asked shelf.old))
-        (files (F.held shelf.new) (F.faults shelf.new) (F.asked shelf.new)) }
-{
-    let station = match load_drawing(alloc, station, shelf) {
-        Ok(station) => station,
-        Err(end) => return Err(end),
-    };
-    let judge = match build_judge(alloc, &station) {
-        Ok(judge) => judge,
-        Err(end) => return Err(end),
-    };
-    let readings = match load_readings(alloc, &station, positions, shelf) {
-        Ok(readings) => readings,
-        Err(end) => return Err(end),
-    };
-    match check_text(alloc, &station, &judge, &readings) {
-        Ok(text) => Ok(Output {
+// `check STATION POSITIONS`
+#[derive(Clone, Copy)]
+pub(crate) struct Check<'a> {
+    pub positions: &'a str,
+}
+
+impl<'a> Answer for Check<'a> {
+    ghost use Rattle.std.specs.Prelude.{[], ◌∷◌};
+    ghost use Rattle.interlock_cli.specs.Rests.{check_rest};
+
+    ghost rest = { λ command. check_rest command.positions.now };
+
+    ghost names = { λ command. command.positions.now ∷ [] };
+
+    fn answer<F: Shelf>(
+        &self,
+        alloc: Global,
+        station: &Station,
+        judge: &GraphJudge<'_>,
+        shelf: &mut F,
+    ) -> Result<Output, End> {
+        let readings: Readings = load(alloc, station, self.positions, shelf)?;
+        let text = check_text(alloc, station, judge, &readings)?;
+        Ok(Output {
             outcome: Outcome::Done,
             text,
-        }),
-        Err(_) => Err(End::Memory),
+        })
     }
 }

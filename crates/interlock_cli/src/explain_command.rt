@@ -1,54 +1,47 @@
 //! The command `explain`.
-ghost use Rattle.std.specs.Prelude.{[], ◌∷◌, IfOk, IfErr};
-ghost use Rattle.interlock_cli.specs.Commands.{Explain, form_of};
-ghost use Rattle.interlock_cli.specs.Files.{files, Reads};
-ghost use Rattle.interlock_cli.specs.Form.{Gives, FormStops};
-
+use crate::answer::Answer;
+use crate::content::load;
 use crate::end::{End, Outcome, Output};
-use crate::loading::{build_judge, load_drawing, load_readings, named_switch};
+use crate::loading::named_switch;
+use double_points::Readings;
 use ilk_base::{Direction, Op, Shelf};
+use release_compile::GraphJudge;
 use release_texts::explain_text;
+use station_graph::Station;
 use std::alloc::Global;
 
-// What `explain STATION POSITIONS open SWITCH`, or `close`, has to write.
-#[tactic(auto, using(crate::proofs::Asked::reads_begun, crate::proofs::Asked::reads_first, crate::proofs::Asked::reads_on, crate::proofs::Later::fails_later, crate::proofs::Drawings::drawn_given, crate::proofs::Drawings::drawn_fails))]
-pub(crate) fn explain<F: Shelf>(
-    alloc: Global,
-    station: &str,
-    positions: &str,
-    direction: Direction,
-    path: &str,
-    shelf: &mut F,
-) -> Result<Output, End>
-    ensures ok { IfOk result (Gives (form_of (Explain station.now positions.now direction path.now))
-        (F.held shelf.old)) }
-    ensures err { IfErr result (FormStops (form_of (Explain station.now positions.now direction path.now))
-        (F.held shelf.old) (F.faults shelf.old) (F.faults shelf.new)) }
-    ensures reads { Reads (station.now ∷ positions.now ∷ [])
-        (files (F.held shelf.old) (F.faults shelf.old) (F.asked shelf.old))
-        (files (F.held shelf.new) (F.faults shelf.new) (F.asked shelf.new)) }
-{
-    let station = match load_drawing(alloc, station, shelf) {
-        Ok(station) => station,
-        Err(end) => return Err(end),
-    };
-    let judge = match build_judge(alloc, &station) {
-        Ok(judge) => judge,
-        Err(end) => return Err(end),
-    };
-    let readings = match load_readings(alloc, &station, positions, shelf) {
-        Ok(readings) => readings,
-        Err(end) => return Err(end),
-    };
-    let switch = match named_switch(&station, path) {
-        Ok(switch) => switch,
-        Err(end) => return Err(end),
-    };
-    match explain_text(alloc, &station, &judge, &readings, Op { switch, direction }) {
-        Ok(text) => Ok(Output {
+// `explain STATION POSITIONS open SWITCH`, or `close`
+#[derive(Clone, Copy)]
+pub(crate) struct Explain<'a> {
+    pub positions: &'a str,
+    pub direction: Direction,
+    pub switch: &'a str,
+}
+
+impl<'a> Answer for Explain<'a> {
+    ghost use Rattle.std.specs.Prelude.{[], ◌∷◌};
+    ghost use Rattle.interlock_cli.specs.Rests.{explain_rest};
+
+    ghost rest = { λ command. explain_rest command.positions.now command.direction command.switch.now };
+
+    ghost names = { λ command. command.positions.now ∷ [] };
+
+    fn answer<F: Shelf>(
+        &self,
+        alloc: Global,
+        station: &Station,
+        judge: &GraphJudge<'_>,
+        shelf: &mut F,
+    ) -> Result<Output, End> {
+        let readings: Readings = load(alloc, station, self.positions, shelf)?;
+        let op = Op {
+            switch: named_switch(station, self.switch)?,
+            direction: self.direction,
+        };
+        let text = explain_text(alloc, station, judge, &readings, op)?;
+        Ok(Output {
             outcome: Outcome::Done,
             text,
-        }),
-        Err(_) => Err(End::Memory),
+        })
     }
 }

@@ -1,13 +1,15 @@
 //! The top call: what the program does with its words, its files and its streams.
 #![tactic(auto)]
 
+mod answer;
 mod audit_command;
 mod check_command;
 mod compile_command;
+mod content;
 mod end;
 mod explain_command;
+mod formats;
 mod loading;
-mod loading_log;
 mod make_command;
 mod node_command;
 mod order_command;

@@ -11,11 +11,9 @@ pub(crate) fn make(alloc: Global, feeders: Feeders, text: MadeText) -> Result<Ou
     ensures ok { IfOk result (λ o. (o.outcome ≡ Outcome.Done) × (o.text ≡ made_text text feeders.number)) }
     ensures err { IfErr result (λ end. end ≡ End.Memory) }
 {
-    match make_text(alloc, text, feeders) {
-        Ok(text) => Ok(Output {
-            outcome: Outcome::Done,
-            text,
-        }),
-        Err(_) => Err(End::Memory),
-    }
+    let text = make_text(alloc, text, feeders)?;
+    Ok(Output {
+        outcome: Outcome::Done,
+        text,
+    })
 }

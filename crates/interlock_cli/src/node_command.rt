@@ -1,16 +1,21 @@
 //! The command `node`.
-ghost use Rattle.std.specs.Prelude.{[], ◌∷◌, ◌≡◌, IfOk, IfErr, OnErr};
+ghost use Rattle.std.specs.Prelude.{[], ◌∷◌, ◌≡◌, ℕ, IfOk, IfErr, OnErr};
+ghost use Rattle.bay_contract.specs.Alphabets.{AreAlphabets};
+ghost use Rattle.interlock_cli.specs.Formats.{AcceptsAs, BayOf};
+ghost use Rattle.interlock_cli.specs.Judging.{JudgeFails};
 ghost use Rattle.interlock_cli.specs.Commands.{Node, form_of};
 ghost use Rattle.interlock_cli.specs.Files.{files, Reads};
 ghost use Rattle.interlock_cli.specs.Form.{FormStops};
 ghost use Rattle.interlock_cli.specs.Ends.{Serves, called};
 ghost use Rattle.node_session.specs.SessionEnds.{streams};
-ghost use Rattle.interlock_cli.specs.Serving.{session_end};
+ghost use Rattle.interlock_cli.specs.Serving.{EndsSession, session_end};
 
 use crate::end::{End, Outcome};
 use crate::loading::{build_judge, load_drawing, named_bay};
 use ilk_base::{InputRefusal, Shelf, Sink, Source};
 use node_session::{SessionEnd, serve};
+use release_compile::GraphJudge;
+use station_graph::Station;
 use std::alloc::Global;
 
 // The end of a call whose session ends so.
@@ -27,8 +32,31 @@ fn end_of(end: SessionEnd) -> End
     }
 }
 
+// Serves the input for the bay of this path, over a station and its judge.
+fn serve_bay<I: Source, O: Sink>(
+    alloc: Global,
+    station: &Station,
+    judge: &GraphJudge<'_>,
+    path: &str,
+    input: &mut I,
+    out: &mut O,
+) -> Result<End, End>
+    requires same { judge.now.diagram ≡ station.now }
+    requires alphabets { AreAlphabets judge.now.diagram judge.now.alphabets }
+    ensures ok { IfOk result (λ end. (b : ℕ) × AcceptsAs (BayOf station.now) path.now b × EndsSession station.now b
+        (streams (I.left input.old) (I.left_before input.old) (I.faults input.old) (O.took out.old) (O.faults out.old))
+        (streams (I.left input.new) (I.left_before input.new) (I.faults input.new) (O.took out.new) (O.faults out.new))
+        end) }
+    ensures err { IfErr result (JudgeFails (BayOf station.now) path.now) }
+    ensures unasked { OnErr result (input.new ≡ input.old) }
+    ensures unwritten { OnErr result (out.new ≡ out.old) }
+{
+    let bay = named_bay(station, path)?;
+    Ok(end_of(serve(alloc, station, bay, judge, input, out)))
+}
+
 // Serves the input as `node STATION BAY`; or how the call ends before it asks for any of it.
-#[tactic(auto, using(crate::proofs::Drawings::drawn_given, crate::proofs::Drawings::drawn_fails))]
+#[tactic(auto, using(crate::proofs::Asked::reads_first, crate::proofs::Drawings::drawn_fails))]
 pub(crate) fn node<F: Shelf, I: Source, O: Sink>(
     alloc: Global,
     station: &str,
@@ -49,17 +77,7 @@ pub(crate) fn node<F: Shelf, I: Source, O: Sink>(
         (files (F.held shelf.old) (F.faults shelf.old) (F.asked shelf.old))
         (files (F.held shelf.new) (F.faults shelf.new) (F.asked shelf.new)) }
 {
-    let station = match load_drawing(alloc, station, shelf) {
-        Ok(station) => station,
-        Err(end) => return Err(end),
-    };
-    let judge = match build_judge(alloc, &station) {
-        Ok(judge) => judge,
-        Err(end) => return Err(end),
-    };
-    let bay = match named_bay(&station, bay) {
-        Ok(bay) => bay,
-        Err(end) => return Err(end),
-    };
-    Ok(end_of(serve(alloc, &station, bay, &judge, input, out)))
+    let station = load_drawing(alloc, station, shelf)?;
+    let judge = build_judge(alloc, &station)?;
+    serve_bay(alloc, &station, &judge, bay, input, out)
 }

@@ -1,15 +1,15 @@
 //! The command `order`.
-ghost use Rattle.std.specs.Prelude.{[], ◌∷◌, ◌≡◌, IfOk, IfErr};
-ghost use Rattle.interlock_cli.specs.Commands.{Order, form_of};
-ghost use Rattle.interlock_cli.specs.Files.{files, Reads};
-ghost use Rattle.interlock_cli.specs.Form.{Gives, FormStops};
+ghost use Rattle.std.specs.Prelude.{◌≡◌};
 ghost use Rattle.interlock_cli.specs.OrderWrites.{done_or_differs};
 
+use crate::answer::Answer;
+use crate::content::load;
 use crate::end::{End, Outcome, Output};
-use crate::loading::{load_order, load_start, load_station};
 use ilk_base::Shelf;
+use release_compile::GraphJudge;
+use station_graph::{Station, Vector};
 use std::alloc::Global;
-use switching_orders::order_text;
+use switching_orders::{Order as Steps, order_text};
 
 // How a call ends that has found a difference from the rules, or none.
 pub(crate) fn outcome_of(differs: bool) -> Outcome
@@ -21,39 +21,34 @@ pub(crate) fn outcome_of(differs: bool) -> Outcome
     }
 }
 
-// What `order STATION POSITIONS ORDER` has to write.
-#[tactic(auto, using(crate::proofs::Asked::reads_begun, crate::proofs::Asked::reads_first, crate::proofs::Asked::reads_on, crate::proofs::Later::fails_later))]
-pub(crate) fn order<F: Shelf>(
-    alloc: Global,
-    station: &str,
-    positions: &str,
-    steps: &str,
-    shelf: &mut F,
-) -> Result<Output, End>
-    ensures ok { IfOk result (Gives (form_of (Order station.now positions.now steps.now)) (F.held shelf.old)) }
-    ensures err { IfErr result (FormStops (form_of (Order station.now positions.now steps.now)) (F.held shelf.old)
-        (F.faults shelf.old) (F.faults shelf.new)) }
-    ensures reads { Reads (station.now ∷ positions.now ∷ steps.now ∷ [])
-        (files (F.held shelf.old) (F.faults shelf.old) (F.asked shelf.old))
-        (files (F.held shelf.new) (F.faults shelf.new) (F.asked shelf.new)) }
-{
-    let station = match load_station(alloc, station, shelf) {
-        Ok(station) => station,
-        Err(end) => return Err(end),
-    };
-    let start = match load_start(alloc, &station, positions, shelf) {
-        Ok(start) => start,
-        Err(end) => return Err(end),
-    };
-    let steps = match load_order(alloc, &station, steps, shelf) {
-        Ok(steps) => steps,
-        Err(end) => return Err(end),
-    };
-    match order_text(alloc, &station, &start, &steps) {
-        Ok(report) => Ok(Output {
+// `order STATION POSITIONS ORDER`
+#[derive(Clone, Copy)]
+pub(crate) struct Order<'a> {
+    pub positions: &'a str,
+    pub order: &'a str,
+}
+
+impl<'a> Answer for Order<'a> {
+    ghost use Rattle.std.specs.Prelude.{[], ◌∷◌};
+    ghost use Rattle.interlock_cli.specs.Rests.{order_rest};
+
+    ghost rest = { λ command. order_rest command.positions.now command.order.now };
+
+    ghost names = { λ command. command.positions.now ∷ command.order.now ∷ [] };
+
+    fn answer<F: Shelf>(
+        &self,
+        alloc: Global,
+        station: &Station,
+        _judge: &GraphJudge<'_>,
+        shelf: &mut F,
+    ) -> Result<Output, End> {
+        let start: Vector = load(alloc, station, self.positions, shelf)?;
+        let steps: Steps = load(alloc, station, self.order, shelf)?;
+        let report = order_text(alloc, station, &start, &steps)?;
+        Ok(Output {
             outcome: outcome_of(report.differs),
             text: report.text,
-        }),
-        Err(_) => Err(End::Memory),
+        })
     }
 }

@@ -1,38 +1,36 @@
 //! The command `plan`.
-ghost use Rattle.std.specs.Prelude.{[], ◌∷◌, IfOk, IfErr};
-ghost use Rattle.interlock_cli.specs.Commands.{Plan, form_of};
-ghost use Rattle.interlock_cli.specs.Files.{files, Reads};
-ghost use Rattle.interlock_cli.specs.Form.{Gives, FormStops};
-
+use crate::answer::Answer;
 use crate::end::{End, Outcome, Output};
-use crate::loading::{build_judge, load_drawing};
 use exchange_plan::plan_text;
 use ilk_base::Shelf;
+use release_compile::GraphJudge;
+use station_graph::Station;
 use std::alloc::Global;
 
-// What `plan STATION` has to write.
-#[tactic(auto, using(crate::proofs::Later::fails_later, crate::proofs::Drawings::drawn_given, crate::proofs::Drawings::drawn_fails))]
-pub(crate) fn plan<F: Shelf>(alloc: Global, station: &str, shelf: &mut F) -> Result<Output, End>
-    ensures ok { IfOk result (Gives (form_of (Plan station.now)) (F.held shelf.old)) }
-    ensures err { IfErr result (FormStops (form_of (Plan station.now)) (F.held shelf.old) (F.faults shelf.old)
-        (F.faults shelf.new)) }
-    ensures reads { Reads (station.now ∷ [])
-        (files (F.held shelf.old) (F.faults shelf.old) (F.asked shelf.old))
-        (files (F.held shelf.new) (F.faults shelf.new) (F.asked shelf.new)) }
-{
-    let station = match load_drawing(alloc, station, shelf) {
-        Ok(station) => station,
-        Err(end) => return Err(end),
-    };
-    let judge = match build_judge(alloc, &station) {
-        Ok(judge) => judge,
-        Err(end) => return Err(end),
-    };
-    match plan_text(alloc, &station, &judge) {
-        Ok(text) => Ok(Output {
+// `plan STATION`
+#[derive(Clone, Copy)]
+pub(crate) struct Plan;
+
+impl Answer for Plan {
+    ghost use Rattle.std.specs.Prelude.{[]};
+    ghost use Rattle.interlock_cli.specs.Rests.{plan_rest};
+
+    ghost rest = { λ _. plan_rest };
+
+    ghost names = { λ _. [] };
+
+    #[tactic(auto, using(crate::proofs::Asked::reads_none))]
+    fn answer<F: Shelf>(
+        &self,
+        alloc: Global,
+        station: &Station,
+        judge: &GraphJudge<'_>,
+        _shelf: &mut F,
+    ) -> Result<Output, End> {
+        let text = plan_text(alloc, station, judge)?;
+        Ok(Output {
             outcome: Outcome::Done,
             text,
-        }),
-        Err(_) => Err(End::Memory),
+        })
     }
 }

@@ -46,14 +46,8 @@ fn judge_elements(alloc: Global, bytes: &[u8]) -> Result<StationReport, End>
         × IsStationReport all report) }
     ensures err { IfErr result (JudgeFails Elements bytes.now) }
 {
-    let whole = match read_elements(alloc, bytes) {
-        Ok(whole) => whole,
-        Err(end) => return Err(end),
-    };
-    match station_text(alloc, &whole) {
-        Ok(report) => Ok(report),
-        Err(_) => Err(End::Memory),
-    }
+    let whole = read_elements(alloc, bytes)?;
+    Ok(station_text(alloc, &whole)?)
 }
 
 // What `station STATION` has to write.
@@ -65,14 +59,8 @@ pub(crate) fn station<F: Shelf>(alloc: Global, name: &str, shelf: &mut F) -> Res
         (files (F.held shelf.old) (F.faults shelf.old) (F.asked shelf.old))
         (files (F.held shelf.new) (F.faults shelf.new) (F.asked shelf.new)) }
 {
-    let bytes = match read_file(name, shelf) {
-        Ok(bytes) => bytes,
-        Err(end) => return Err(end),
-    };
-    let report = match judge_elements(alloc, &bytes) {
-        Ok(report) => report,
-        Err(end) => return Err(end),
-    };
+    let bytes = read_file(name, shelf)?;
+    let report = judge_elements(alloc, &bytes)?;
     Ok(Output {
         outcome: outcome_of(report.remarks > 0),
         text: report.text,

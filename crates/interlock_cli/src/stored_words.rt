@@ -45,11 +45,7 @@ pub(crate) fn read_stored<'a>(
 ) -> Result<Option<StoredWords<'a>>, Memory>
     ensures { IfOk result (λ named. stored_of (map string_bytes words.entry.now) ≡ option_map seen_words named) }
 {
-    let row = match read_words(alloc, words) {
-        Ok(row) => row,
-        Err(_) => return Err(Memory),
-    };
-    match row {
+    match read_words(alloc, words)? {
         Some(row) => Ok(stored_named(row.name, &row.words)),
         None => Ok(None),
     }

@@ -8,22 +8,23 @@ ghost use Rattle.interlock_cli.specs.Ends.{AnswersCall, CommandAsks, Ends, Wrote
 ghost use Rattle.node_session.specs.SessionEnds.{streams};
 ghost use Rattle.interlock_cli.specs.Complete.{Completes};
 
-use crate::audit_command::audit;
-use crate::check_command::check;
-use crate::compile_command::compile;
+use crate::answer::answer_drawing;
+use crate::audit_command::Audit;
+use crate::check_command::Check;
+use crate::compile_command::Compile;
 use crate::end::{End, Output, make_status};
-use crate::explain_command::explain;
+use crate::explain_command::Explain;
 use crate::make_command::make;
 use crate::node_command::node;
-use crate::order_command::order;
-use crate::plan_command::plan;
-use crate::program_command::program;
-use crate::replay_command::replay;
-use crate::state_command::state;
+use crate::order_command::Order;
+use crate::plan_command::Plan;
+use crate::program_command::Program;
+use crate::replay_command::Replay;
+use crate::state_command::State;
 use crate::station_command::station;
 use crate::status::Status;
 use crate::tell::tell;
-use crate::trips_command::trips;
+use crate::trips_command::Trips;
 use crate::words::{Command, read_command};
 use crate::work_command::work;
 use ilk_base::{Shelf, Sink, Source, write_all};
@@ -40,27 +41,40 @@ fn output_of<F: Shelf>(alloc: Global, command: &Command, shelf: &mut F) -> Resul
         (files (F.held shelf.new) (F.faults shelf.new) (F.asked shelf.new)) }
 {
     match *command {
-        Command::Check { station, positions } => check(alloc, station, positions, shelf),
+        Command::Check { station, positions } => {
+            answer_drawing(alloc, station, &Check { positions }, shelf)
+        }
         Command::Explain {
             station,
             positions,
             direction,
             switch,
-        } => explain(alloc, station, positions, direction, switch, shelf),
-        Command::State { station, positions } => state(alloc, station, positions, shelf),
+        } => {
+            let explain = Explain {
+                positions,
+                direction,
+                switch,
+            };
+            answer_drawing(alloc, station, &explain, shelf)
+        }
+        Command::State { station, positions } => {
+            answer_drawing(alloc, station, &State { positions }, shelf)
+        }
         Command::Order {
             station,
             positions,
-            order: steps,
-        } => order(alloc, station, positions, steps, shelf),
-        Command::Audit { station, equations } => audit(alloc, station, equations, shelf),
-        Command::Compile { station } => compile(alloc, station, shelf),
-        Command::Trips { station, log } => trips(alloc, station, log, shelf),
-        Command::Plan { station } => plan(alloc, station, shelf),
-        Command::Program { station } => program(alloc, station, shelf),
+            order,
+        } => answer_drawing(alloc, station, &Order { positions, order }, shelf),
+        Command::Audit { station, equations } => {
+            answer_drawing(alloc, station, &Audit { equations }, shelf)
+        }
+        Command::Compile { station } => answer_drawing(alloc, station, &Compile, shelf),
+        Command::Trips { station, log } => answer_drawing(alloc, station, &Trips { log }, shelf),
+        Command::Plan { station } => answer_drawing(alloc, station, &Plan, shelf),
+        Command::Program { station } => answer_drawing(alloc, station, &Program, shelf),
+        Command::Replay { station, log } => answer_drawing(alloc, station, &Replay { log }, shelf),
         Command::Make { feeders, text } => make(alloc, feeders, text),
-        Command::Work { feeders } => work(alloc, feeders),
-        Command::Replay { station, log } => replay(alloc, station, log, shelf),
+        Command::Work { feeders } => work(alloc, feeders, shelf),
         Command::Station { station: name } => station(alloc, name, shelf),
         Command::Node { .. } => unreachable!(),
     }

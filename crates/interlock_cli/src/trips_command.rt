@@ -1,15 +1,12 @@
 //! The command `trips`.
-ghost use Rattle.std.specs.Prelude.{[], ◌∷◌, ◌≡◌, All, IfOk, IfErr};
+ghost use Rattle.std.specs.Prelude.{◌≡◌, All, IfOk};
 ghost use Rattle.bay_contract.specs.Alphabets.{AreAlphabets};
 ghost use Rattle.trip_replay.specs.TripRecords.{TripMayBeTold};
-ghost use Rattle.interlock_cli.specs.Commands.{Trips, form_of};
-ghost use Rattle.interlock_cli.specs.Files.{files, Reads};
-ghost use Rattle.interlock_cli.specs.Form.{Gives, FormStops};
 ghost use Rattle.interlock_cli.specs.TripsWrites.{TripsWrites};
 
+use crate::answer::Answer;
+use crate::content::load;
 use crate::end::{End, Output};
-use crate::loading::{build_judge, load_drawing};
-use crate::loading_log::load_trip_log;
 use crate::replay_command::ended;
 use ilk_base::{Memory, Shelf};
 use release_compile::GraphJudge;
@@ -37,35 +34,28 @@ fn trips_output(
     })
 }
 
-// What `trips STATION LOG` has to write.
-#[tactic(auto, using(crate::proofs::Asked::reads_begun, crate::proofs::Asked::reads_first, crate::proofs::Asked::reads_on, crate::proofs::Later::fails_later, crate::proofs::Drawings::drawn_given, crate::proofs::Drawings::drawn_fails))]
-pub(crate) fn trips<F: Shelf>(
-    alloc: Global,
-    station: &str,
-    log: &str,
-    shelf: &mut F,
-) -> Result<Output, End>
-    ensures ok { IfOk result (Gives (form_of (Trips station.now log.now)) (F.held shelf.old)) }
-    ensures err { IfErr result (FormStops (form_of (Trips station.now log.now)) (F.held shelf.old) (F.faults shelf.old)
-        (F.faults shelf.new)) }
-    ensures reads { Reads (station.now ∷ log.now ∷ [])
-        (files (F.held shelf.old) (F.faults shelf.old) (F.asked shelf.old))
-        (files (F.held shelf.new) (F.faults shelf.new) (F.asked shelf.new)) }
-{
-    let station = match load_drawing(alloc, station, shelf) {
-        Ok(station) => station,
-        Err(end) => return Err(end),
-    };
-    let judge = match build_judge(alloc, &station) {
-        Ok(judge) => judge,
-        Err(end) => return Err(end),
-    };
-    let log = match load_trip_log(alloc, &station, log, shelf) {
-        Ok(log) => log,
-        Err(end) => return Err(end),
-    };
-    match trips_output(alloc, &station, &log, &judge) {
-        Ok(output) => Ok(output),
-        Err(_) => Err(End::Memory),
+// `trips STATION LOG`
+#[derive(Clone, Copy)]
+pub(crate) struct Trips<'a> {
+    pub log: &'a str,
+}
+
+impl<'a> Answer for Trips<'a> {
+    ghost use Rattle.std.specs.Prelude.{[], ◌∷◌};
+    ghost use Rattle.interlock_cli.specs.Rests.{trips_rest};
+
+    ghost rest = { λ command. trips_rest command.log.now };
+
+    ghost names = { λ command. command.log.now ∷ [] };
+
+    fn answer<F: Shelf>(
+        &self,
+        alloc: Global,
+        station: &Station,
+        judge: &GraphJudge<'_>,
+        shelf: &mut F,
+    ) -> Result<Output, End> {
+        let log: TripLog = load(alloc, station, self.log, shelf)?;
+        Ok(trips_output(alloc, station, &log, judge)?)
     }
 }

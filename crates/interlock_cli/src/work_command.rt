@@ -1,18 +1,20 @@
 //! The command `work`.
-ghost use Rattle.std.specs.Prelude.{◌≡◌, ℕ, List, Option, All, IfOk, IfErr};
+ghost use Rattle.std.specs.Prelude.{◌≡◌, [], All, IfOk, IfErr};
 ghost use Rattle.bay_contract.specs.Alphabets.{AreAlphabets};
 ghost use Rattle.double_points.specs.Words.{AreWords};
 ghost use Rattle.log_replay.specs.Records.{MayBeTold};
 ghost use Rattle.interlock_cli.specs.Commands.{Work, form_of};
+ghost use Rattle.interlock_cli.specs.Files.{files, Reads};
 ghost use Rattle.interlock_cli.specs.Form.{Gives, FormStops};
 ghost use Rattle.interlock_cli.specs.WorkWrites.{WorkWrites};
 
+use crate::answer::{Answer, answer_station};
+use crate::content::Content;
 use crate::end::{End, Output};
-use crate::loading::{build_judge, judge_drawing, judge_positions};
-use crate::loading_log::judge_log;
+use crate::loading::judge_drawing;
 use crate::replay_command::ended;
 use double_points::Readings;
-use ilk_base::Memory;
+use ilk_base::{Memory, Shelf};
 use log_replay::Log;
 use release_compile::GraphJudge;
 use station_graph::Station;
@@ -42,34 +44,49 @@ fn work_output(
     })
 }
 
-// What `work NUMBER` has to write. It is given no file: its texts are made, and then read as those of files are.
-pub(crate) fn work(alloc: Global, feeders: Feeders) -> Result<Output, End>
-    ensures ok { IfOk result (λ o. (held : List ℕ → Option (List ℕ)) → Gives (form_of (Work feeders.number)) held o) }
-    ensures err { IfErr result (λ end. (held : List ℕ → Option (List ℕ)) (before after : List ℕ → ℕ) →
-        FormStops (form_of (Work feeders.number)) held before after end) }
-{
-    let made = match make(alloc, feeders.number) {
-        Ok(made) => made,
-        Err(_) => return Err(End::Memory),
-    };
-    let station = match judge_drawing(alloc, made.station.bytes()) {
-        Ok(station) => station,
-        Err(end) => return Err(end),
-    };
-    let judge = match build_judge(alloc, &station) {
-        Ok(judge) => judge,
-        Err(end) => return Err(end),
-    };
-    let readings = match judge_positions(alloc, &station, made.positions.bytes()) {
-        Ok(readings) => readings,
-        Err(end) => return Err(end),
-    };
-    let log = match judge_log(alloc, &station, made.events.bytes()) {
-        Ok(log) => log,
-        Err(end) => return Err(end),
-    };
-    match work_output(alloc, &station, &judge, &readings, &log) {
-        Ok(output) => Ok(output),
-        Err(_) => Err(End::Memory),
+// The texts that `work` reads beside its drawing.
+#[derive(Clone, Copy)]
+struct MadeFiles<'a> {
+    positions: &'a [u8],
+    log: &'a [u8],
+}
+
+impl<'a> Answer for MadeFiles<'a> {
+    ghost use Rattle.std.specs.Prelude.{[]};
+    ghost use Rattle.interlock_cli.specs.Rests.{work_rest};
+
+    ghost rest = { λ made. work_rest made.positions.now made.log.now };
+
+    ghost names = { λ _. [] };
+
+    #[tactic(auto, using(crate::proofs::Asked::reads_none))]
+    fn answer<F: Shelf>(
+        &self,
+        alloc: Global,
+        station: &Station,
+        judge: &GraphJudge<'_>,
+        _shelf: &mut F,
+    ) -> Result<Output, End> {
+        let readings = Readings::judge(alloc, station, self.positions)?;
+        let log = Log::judge(alloc, station, self.log)?;
+        Ok(work_output(alloc, station, judge, &readings, &log)?)
     }
+}
+
+// What `work NUMBER` has to write. It is given no file: its texts are made, and then read as those of files are.
+pub(crate) fn work<F: Shelf>(alloc: Global, feeders: Feeders, shelf: &mut F) -> Result<Output, End>
+    ensures ok { IfOk result (Gives (form_of (Work feeders.number)) (F.held shelf.old)) }
+    ensures err { IfErr result (FormStops (form_of (Work feeders.number)) (F.held shelf.old) (F.faults shelf.old)
+        (F.faults shelf.new)) }
+    ensures reads { Reads []
+        (files (F.held shelf.old) (F.faults shelf.old) (F.asked shelf.old))
+        (files (F.held shelf.new) (F.faults shelf.new) (F.asked shelf.new)) }
+{
+    let made = make(alloc, feeders.number)?;
+    let station = judge_drawing(alloc, made.station.bytes())?;
+    let files = MadeFiles {
+        positions: made.positions.bytes(),
+        log: made.events.bytes(),
+    };
+    answer_station(alloc, station, &files, shelf)
 }

@@ -102,11 +102,14 @@ returns-in-Ok-output_of g c =
           (inl (
             wrote_end (form_of (seen_command c.in-Ok.command)) x c.in-Ok-output_of.output c.write_output.result
                 c.in-Ok-output_of.ensures.ok c.write_output.ensures,
-            record { left = keeps_same (g.I.Source.left c.args.input.now); reads = refl },
+            record {
+              left = keeps_same (g.I.Source.left c.args.input.now);
+              reads = refl {a = g.I.Source.faults c.args.input.now};
+            },
           ));
       unread = λ none. cc (named, none);
       reads = rw named c.output_of.ensures.reads;
-      input = λ other. refl;
+      input = λ other. refl {a = c.args.input.now};
     }
 
 pub returns-in-Err-output_of : goal.returns-in-Err-output_of
@@ -137,11 +140,14 @@ returns-in-Err-output_of g c =
           (inl (
             stops_end (form_of (seen_command c.in-Ok.command)) x c.in-Err-output_of.end
                 (appends_nothing (g.O.Sink.took c.args.out.now)) c.in-Err-output_of.ensures.err,
-            record { left = keeps_same (g.I.Source.left c.args.input.now); reads = refl },
+            record {
+              left = keeps_same (g.I.Source.left c.args.input.now);
+              reads = refl {a = g.I.Source.faults c.args.input.now};
+            },
           ));
       unread = λ none. cc (named, none);
       reads = rw named c.output_of.ensures.reads;
-      input = λ other. refl;
+      input = λ other. refl {a = c.args.input.now};
     }
 
 pub returns-in-Err-clause-reads : goal.returns-in-Err-clause-reads

@@ -1,4 +1,4 @@
-use Rattle.std.proofs.Common.{sym, ap, ◌∙◌}
+use Rattle.std.proofs.Common.{ap, ◌∙◌}
 use Rattle.interlock_cli.specs.ReplayWrites.{replay_outcome}
 use Rattle.interlock_cli.proofs.trips_command.trips_output.Goals as goal
 

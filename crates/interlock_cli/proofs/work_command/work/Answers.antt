@@ -1,80 +1,42 @@
-use Rattle.std.proofs.Common.{refl, inl, inr, Ok}
+use Rattle.std.proofs.Common.{◌∙◌, inl, Ok}
 use Rattle.ssd_read.specs.StandsFor.{Stands}
 use Rattle.station_make.specs.DrawingText.{station_text}
 use Rattle.station_make.specs.EventsText.{events_text}
 use Rattle.station_make.specs.PositionsText.{positions_text}
-use Rattle.interlock_cli.specs.Formats.{Drawing, Positions, LogOf, AcceptsAs}
-use Rattle.interlock_cli.specs.Form.{Word}
-use Rattle.interlock_cli.proofs.Drawings.{drawn_fails}
+use Rattle.interlock_cli.specs.Formats.{Drawing}
 use Rattle.interlock_cli.proofs.Later.{word_fails}
+use Rattle.interlock_cli.proofs.Passing.{passed}
+use Rattle.interlock_cli.proofs.Resting.{made_gives, made_stops}
 use Rattle.interlock_cli.proofs.work_command.work.Goals as goal
 
-pub returns-in-Err-judge_drawing-clause-err : goal.returns-in-Err-judge_drawing-clause-err
-returns-in-Err-judge_drawing-clause-err c = λ held before after.
-    let refused = c.in-Err-judge_drawing in
-    let refuses = rw (c.bytes.ensures, c.in-Ok.ensures.station) at refused.ensures.err in
-    inl (word_fails held before after Drawing (station_text c.args.feeders.number) refused.end refuses)
+pub returns-in_err-station-clause-err : goal.returns-in_err-station-clause-err
+returns-in_err-station-clause-err g c =
+    let end = c.in_err-station.field-0.0 in
+    let answer = c.from_residual-in_err-station in
+    passed _ end answer.result answer.ensures.1
+    (inl (word_fails (g.F.Shelf.held c.args.shelf.now) (g.F.Shelf.faults c.args.shelf.now)
+    (g.F.Shelf.faults c.args.shelf.now) Drawing (station_text c.args.feeders.number) end
+    (rw (c.bytes.ensures, c.in_ok-made.ensures.station) at c.in_err-station.ensures.err)))
 
-pub returns-in-Err-build_judge-clause-err : goal.returns-in-Err-build_judge-clause-err
-returns-in-Err-build_judge-clause-err c = λ held before after.
-    let d = c.in-Ok-judge_drawing.station in
-    let text = station_text c.args.feeders.number in
-    let stands : Stands text (Ok d) =
-    rw (c.bytes.ensures, c.in-Ok.ensures.station) at c.in-Ok-judge_drawing.ensures.ok in
-    let refused = c.in-Err-build_judge in
-    inl (drawn_fails held before after (Word text) d refused.end (text, refl, stands) refused.ensures.err)
+pub returns-clause-ok : goal.returns-clause-ok
+returns-clause-ok g c =
+    let n = c.args.feeders.number in
+    let made = c.in_ok-made.ensures in
+    let d = c.in_ok-station.station in
+    let stands : Stands (station_text n) (Ok d) = rw (c.bytes.ensures, made.station) at c.in_ok-station.ensures.ok in
+    made_gives (g.F.Shelf.held c.args.shelf.now) d (station_text n) (positions_text n) (events_text n)
+    c.bytes-2.result.now c.bytes-3.result.now stands (c.bytes-2.ensures ∙ made.positions)
+    (c.bytes-3.ensures ∙ made.events)
+    c.answer_station.result c.answer_station.ensures.ok
 
-pub returns-in-Err-judge_positions-clause-err : goal.returns-in-Err-judge_positions-clause-err
-returns-in-Err-judge_positions-clause-err c = λ held before after.
-    let d = c.in-Ok-judge_drawing.station in
-    let text = station_text c.args.feeders.number in
-    let stands : Stands text (Ok d) =
-    rw (c.bytes.ensures, c.in-Ok.ensures.station) at c.in-Ok-judge_drawing.ensures.ok in
-    let refused = c.in-Err-judge_positions in
-    let refuses = rw (c.bytes-2.ensures, c.in-Ok.ensures.positions) at refused.ensures.err in
-    inr (
-      d,
-      (text, refl, (stands, c.in-Ok-build_judge.ensures.ok)),
-      inl (word_fails held before after (Positions d) (positions_text c.args.feeders.number) refused.end refuses),
-    )
-
-pub returns-in-Err-judge_log-clause-err : goal.returns-in-Err-judge_log-clause-err
-returns-in-Err-judge_log-clause-err c = λ held before after.
-    let d = c.in-Ok-judge_drawing.station in
-    let words = c.in-Ok-judge_positions.readings in
-    let text = station_text c.args.feeders.number in
-    let positions = positions_text c.args.feeders.number in
-    let stands : Stands text (Ok d) =
-    rw (c.bytes.ensures, c.in-Ok.ensures.station) at c.in-Ok-judge_drawing.ensures.ok in
-    let accepted : AcceptsAs (Positions d) positions words =
-    rw (c.bytes-2.ensures, c.in-Ok.ensures.positions) at c.in-Ok-judge_positions.ensures.ok in
-    let refused = c.in-Err-judge_log in
-    let refuses = rw (c.bytes-3.ensures, c.in-Ok.ensures.events) at refused.ensures.err in
-    inr (
-      d,
-      (text, refl, (stands, c.in-Ok-build_judge.ensures.ok)),
-      inr (
-        words,
-        (positions, refl, accepted),
-        inl (word_fails held before after (LogOf d) (events_text c.args.feeders.number) refused.end refuses),
-      ),
-    )
-
-pub returns-in-Ok-work_output-clause-ok : goal.returns-in-Ok-work_output-clause-ok
-returns-in-Ok-work_output-clause-ok c = λ held.
-    let d = c.in-Ok-judge_drawing.station in
-    let words = c.in-Ok-judge_positions.readings in
-    let events = c.in-Ok-judge_log.log in
-    let text = station_text c.args.feeders.number in
-    let positions = positions_text c.args.feeders.number in
-    let log = events_text c.args.feeders.number in
-    let stands : Stands text (Ok d) =
-    rw (c.bytes.ensures, c.in-Ok.ensures.station) at c.in-Ok-judge_drawing.ensures.ok in
-    let accepted : AcceptsAs (Positions d) positions words =
-    rw (c.bytes-2.ensures, c.in-Ok.ensures.positions) at c.in-Ok-judge_positions.ensures.ok in
-    let logged : AcceptsAs (LogOf d) log events =
-    rw (c.bytes-3.ensures, c.in-Ok.ensures.events) at c.in-Ok-judge_log.ensures.ok in (
-      d,
-      (text, refl, (stands, c.in-Ok-build_judge.ensures.ok)),
-      (words, (positions, refl, accepted), (events, (log, refl, logged), c.in-Ok-work_output.ensures)),
-    )
+pub returns-clause-err : goal.returns-clause-err
+returns-clause-err g c =
+    let n = c.args.feeders.number in
+    let made = c.in_ok-made.ensures in
+    let d = c.in_ok-station.station in
+    let stands : Stands (station_text n) (Ok d) = rw (c.bytes.ensures, made.station) at c.in_ok-station.ensures.ok in
+    made_stops (g.F.Shelf.held c.args.shelf.now) d (station_text n) (positions_text n) (events_text n)
+    c.bytes-2.result.now c.bytes-3.result.now stands (c.bytes-2.ensures ∙ made.positions)
+    (c.bytes-3.ensures ∙ made.events)
+    (g.F.Shelf.faults c.args.shelf.now) (g.F.Shelf.faults c.answer_station.new.shelf) c.answer_station.result
+    c.answer_station.ensures.err

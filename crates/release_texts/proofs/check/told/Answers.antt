@@ -1,4 +1,4 @@
-use Rattle.std.proofs.Common.{◌≡◌, List, refl, ◌∙◌}
+use Rattle.std.proofs.Common.{List, refl, ◌∙◌}
 use Rattle.ilk_base.specs.declared.words.Dbpos.{Dbpos}
 use Rattle.ilk_base.specs.declared.words.Op.{Op}
 use Rattle.ilk_base.specs.declared.words.Direction.TheVariants.{ToOff, ToOn}
