@@ -1,7 +1,14 @@
+pub mod PlaceLemmas
+pub mod ReadLemmas
+pub mod SettleLemmas
 pub mod StoreLemmas
+pub mod AgreeLemmas
 pub mod TermLineLemmas
 pub mod ReleaseLemmas
 pub mod ReleasedLemmas
+pub mod ContactLemmas
+pub mod FullStore
 pub mod InterlockingLemmas
-pub mod WithinLemmas
 pub mod TextLemmas
+pub mod BlockWidth
+pub mod WithinLemmas

@@ -1,5 +1,5 @@
 -- The lines of releases, one switch after another.
-use Rattle.std.proofs.Common.{◌≡◌, ◌≢◌, ◌++◌, ◌∙◌, ◌<◌, ◌+◌, ◌&&◌, ◌≤◌, ℕ, List, [], ◌∷◌, Bool, true, false, length, slice_get}
+use Rattle.std.proofs.Common.{◌≡◌, ◌≢◌, ◌++◌, ◌∙◌, ◌+◌, ◌&&◌, ℕ, List, [], ◌∷◌, Bool, false, slice_get}
 use Rattle.std.proofs.Common.{Some, None, refl, sym, ap, subst, inl, inr, arith}
 use Rattle.std.specs.Prelude.{Option}
 use Rattle.std.proofs.lemmas.Bool.{cases_eq}
@@ -12,7 +12,7 @@ use Rattle.short_equations.specs.declared.pair.TermPair.{TermPair}
 use Rattle.structured_text.specs.declared.name.Name.{Name}
 use Rattle.structured_text.specs.declared.name.Name.TheVariants.{Off, On, May, Sure, Opens, Closes}
 use Rattle.structured_text.specs.declared.line.GapDenial.{GapDenial}
-use Rattle.structured_text.specs.declared.line.GapDenial.TheVariants.{One, Two}
+use Rattle.structured_text.specs.declared.line.GapDenial.TheVariants.{Two}
 use Rattle.structured_text.specs.declared.line.LoadDenial.{LoadDenial}
 use Rattle.structured_text.specs.declared.line.LoadDenial.TheVariants.{Loaded, Unbonded}
 use Rattle.structured_text.specs.declared.line.Formula.{Formula}

@@ -1,13 +1,12 @@
 -- A release is TRUE exactly where the signals of the switch release the operation.
-use Rattle.std.proofs.Common.{◌≡◌, ◌≢◌, ◌↔◌, ◌∙◌, ◌<◌, ◌&&◌, ℕ, Bool, true, false, List, get_or, slice_get, Some, None, refl}
-use Rattle.std.proofs.Common.{sym, ap, subst, inl, inr, arith, zero, suc, [], ◌∷◌}
+use Rattle.std.proofs.Common.{◌≡◌, ◌↔◌, ◌∙◌, ◌<◌, ◌&&◌, ℕ, Bool, true, false, List, get_or, slice_get, Some, None, refl}
+use Rattle.std.proofs.Common.{sym, ap, subst, arith, zero, suc, [], ◌∷◌}
 use Rattle.std.specs.Prelude.{Option, nat_lt, if◌then◌else◌}
 use Rattle.std.proofs.lemmas.Bool.{false≢true}
 use Rattle.std.proofs.lemmas.Bool.Decides.{nat_tests}
 use Rattle.std.proofs.lemmas.Option.{get_or_from_slice_get}
 use Rattle.ilk_base.specs.declared.words.Kind.{Kind}
 use Rattle.ilk_base.specs.declared.words.Kind.TheVariants.{Breaker, Disconnector, Earthing, Infeed}
-use Rattle.ilk_base.specs.declared.words.Direction.{Direction}
 use Rattle.ilk_base.specs.declared.words.Direction.TheVariants.{ToOff, ToOn}
 use Rattle.interlock_terms.specs.Terms.{Values, IsTrueAt}
 use Rattle.short_equations.specs.declared.pair.TermPair.{TermPair}
@@ -31,7 +30,7 @@ chosen {X} q x y is = ap (λ p. if p then x else y) is
 passed : {X : Type 0} (q : Bool) (x y : X) → q ≡ false → (if q then x else y) ≡ y
 passed {X} q x y is = ap (λ p. if p then x else y) is
 
-true_read : (xs : List Bool) (n : ℕ) → get_or xs n false ≡ true → slice_get xs n ≡ Some true
+pub true_read : (xs : List Bool) (n : ℕ) → get_or xs n false ≡ true → slice_get xs n ≡ Some true
 true_read [] n e = absurd (false≢true e)
 true_read (x ∷ xs) zero e = ap Some e
 true_read (x ∷ xs) (suc n) e = true_read xs n e

@@ -1,3 +1,5 @@
+pub mod Names
+pub mod Places
 pub mod TermLines
 pub mod Releases
 pub mod Interlocking

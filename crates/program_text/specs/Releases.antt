@@ -1,5 +1,5 @@
 -- The lines of releases, and what they mean.
-use Rattle.std.specs.Prelude.{◌≡◌, ◌<◌, ℕ, Bool, List, slice_get, Option, Some, None, nat_lt, if◌then◌else◌}
+use Rattle.std.specs.Prelude.{◌≡◌, ◌<◌, ℕ, List, slice_get, Option, Some, None, nat_lt, if◌then◌else◌}
 use Rattle.ilk_base.specs.declared.words.Kind.{Kind}
 use Rattle.ilk_base.specs.declared.words.Kind.TheVariants.{Breaker, Disconnector, Earthing, Infeed}
 use Rattle.station_graph.specs.declared.items.Switch.{Switch}

@@ -1,3 +1,5 @@
 pub mod Meaning
+pub mod Reads
+pub mod Width
 pub mod Spelling
 pub mod Within

@@ -6,6 +6,8 @@ use Rattle.structured_text.specs.declared.line.GapDenial.{GapDenial}
 use Rattle.structured_text.specs.declared.line.GapDenial.TheVariants.{One, Two}
 use Rattle.structured_text.specs.declared.line.LoadDenial.{LoadDenial}
 use Rattle.structured_text.specs.declared.line.LoadDenial.TheVariants.{Loaded, Unbonded}
+use Rattle.structured_text.specs.declared.line.Operand.{Operand}
+use Rattle.structured_text.specs.declared.line.Operand.TheVariants.{Variable, Product, Sum}
 use Rattle.structured_text.specs.declared.line.Formula.{Formula}
 use Rattle.structured_text.specs.declared.line.Formula.TheVariants.{Always, Never, MayBeClosed, IsClosed, Both, Either, Apart, Unloaded, Released}
 use Rattle.structured_text.specs.declared.line.Line.{Line}
@@ -35,14 +37,20 @@ abbrev pub load_denied : Store → LoadDenial → Bool
 load_denied s (Loaded a b) = s a && s b
 load_denied s (Unbonded a b c) = s a && (s b && b_not (s c))
 
+-- The value of one side of AND or OR.
+abbrev pub operand_value : Store → Operand → Bool
+operand_value s (Variable a) = s a
+operand_value s (Product a b) = s a && s b
+operand_value s (Sum a b) = s a || s b
+
 -- The value of a formula.
 abbrev pub value : Store → Formula → Bool
 value s Always = true
 value s Never = false
 value s (MayBeClosed i) = may_be_closed (s (Off i)) (s (On i))
 value s (IsClosed i) = is_closed (s (Off i)) (s (On i))
-value s (Both a b) = s a && s b
-value s (Either a b) = s a || s b
+value s (Both a b) = operand_value s a && operand_value s b
+value s (Either a b) = operand_value s a || operand_value s b
 value s (Apart gap) = b_not (gap_denied s gap)
 value s (Unloaded load) = b_not (load_denied s load)
 value s (Released gap load) = b_not (gap_denied s gap) && b_not (load_denied s load)

@@ -1,16 +1,19 @@
 -- How a text is spelled. `paths` has the path of each switch.
-use Rattle.std.specs.Prelude.{◌++◌, ◌+◌, ◌%◌, ◌==◌, ◌&&◌, ◌||◌, ℕ, zero, suc, Bool, true, false, List, [], ◌∷◌, length}
+use Rattle.std.specs.Prelude.{◌++◌, ◌+◌, ◌%◌, ◌==◌, ◌&&◌, ◌||◌, ℕ, suc, Bool, true, false, List, [], ◌∷◌, length}
 use Rattle.std.specs.Prelude.{codes, decimal, slice_index_or, nat_lt, Option, Some, None}
 use Rattle.std.specs.Prelude.{if◌then◌else◌}
 use Rattle.ilk_base.specs.declared.words.SwitchId.{SwitchId}
 use Rattle.station_graph.specs.Diagram.{Diagram}
 use Rattle.structured_text.specs.Meaning.{b_not}
+use Rattle.structured_text.specs.Width.{continues}
 use Rattle.structured_text.specs.declared.name.Name.{Name}
 use Rattle.structured_text.specs.declared.name.Name.TheVariants.{Off, On, May, Sure, Opens, Closes}
 use Rattle.structured_text.specs.declared.line.GapDenial.{GapDenial}
 use Rattle.structured_text.specs.declared.line.GapDenial.TheVariants.{One, Two}
 use Rattle.structured_text.specs.declared.line.LoadDenial.{LoadDenial}
 use Rattle.structured_text.specs.declared.line.LoadDenial.TheVariants.{Loaded, Unbonded}
+use Rattle.structured_text.specs.declared.line.Operand.{Operand}
+use Rattle.structured_text.specs.declared.line.Operand.TheVariants.{Variable, Product, Sum}
 use Rattle.structured_text.specs.declared.line.Heading.{Heading}
 use Rattle.structured_text.specs.declared.line.Heading.TheVariants.{May as MayHeading, Sure as SureHeading, Releases}
 use Rattle.structured_text.specs.declared.line.Formula.{Formula}
@@ -52,9 +55,20 @@ last_name (b ∷ bs) = if is_short (b ∷ bs) then b ∷ bs else last_name bs
 abbrev pub shown_byte : ℕ → ℕ
 shown_byte b = if nat_lt b 32 then 95 else if b == 42 then 95 else b
 
+-- It stands in rows of at most 80 characters. What stands before a byte behind so many characters of a row, and how many
+-- characters the row has then.
+abbrev pub row_break : ℕ → ℕ → List ℕ
+row_break k b = if continues b then [] else if nat_lt k 80 then [] else codes "\n     "
+
+abbrev pub row_length : ℕ → ℕ → ℕ
+row_length k b = if continues b then k else if nat_lt k 80 then k + 1 else 1
+
+abbrev pub shown_from : ℕ → List ℕ → List ℕ
+shown_from k [] = []
+shown_from k (b ∷ bs) = row_break k b ++ (shown_byte b ∷ shown_from (row_length k b) bs)
+
 abbrev pub shown : List ℕ → List ℕ
-shown [] = []
-shown (b ∷ bs) = shown_byte b ∷ shown bs
+shown path = shown_from 0 path
 
 -- The identifier of a variable of a switch: `sw`, its number, its last name, and which variable it is.
 abbrev pub switch_text : List (List ℕ) → ℕ → List ℕ → List ℕ
@@ -85,14 +99,20 @@ load_text paths (Loaded a b) = codes "NOT (" ++ (pair_text paths a (codes " AND 
 load_text paths (Unbonded a b c) =
     codes "NOT (" ++ (pair_text paths a (codes " AND ") b ++ (codes " AND NOT " ++ (name_text paths c ++ codes ")")))
 
+-- One side of AND or OR: in brackets where it is no variable.
+abbrev pub operand_text : List (List ℕ) → Operand → List ℕ
+operand_text paths (Variable a) = name_text paths a
+operand_text paths (Product a b) = codes "(" ++ (pair_text paths a (codes " AND ") b ++ codes ")")
+operand_text paths (Sum a b) = codes "(" ++ (pair_text paths a (codes " OR ") b ++ codes ")")
+
 -- The right side of an assignment.
 abbrev pub formula_text : List (List ℕ) → Formula → List ℕ
 formula_text paths Always = codes "TRUE"
 formula_text paths Never = codes "FALSE"
 formula_text paths (MayBeClosed i) = pair_text paths (On i) (codes " OR NOT ") (Off i)
 formula_text paths (IsClosed i) = pair_text paths (On i) (codes " AND NOT ") (Off i)
-formula_text paths (Both a b) = pair_text paths a (codes " AND ") b
-formula_text paths (Either a b) = pair_text paths a (codes " OR ") b
+formula_text paths (Both a b) = operand_text paths a ++ (codes " AND " ++ operand_text paths b)
+formula_text paths (Either a b) = operand_text paths a ++ (codes " OR " ++ operand_text paths b)
 formula_text paths (Apart gap) = gap_text paths gap
 formula_text paths (Unloaded load) = load_text paths load
 formula_text paths (Released gap load) = gap_text paths gap ++ (codes " AND " ++ load_text paths load)
@@ -131,9 +151,9 @@ input_text paths i = declared_text paths (Off i) (On i) ++ remark_text (slice_in
 abbrev pub output_text : List (List ℕ) → SwitchId → List ℕ
 output_text paths i = declared_text paths (Opens i) (Closes i) ++ codes "\n"
 
--- What stands between names: six are on a line.
+-- What stands between names: four are on a line.
 abbrev pub between_names : ℕ → List ℕ
-between_names k = if k % 6 == 0 then codes ",\n  " else codes ", "
+between_names k = if k % 4 == 0 then codes ",\n  " else codes ", "
 
 -- The variables that more lines set, from number k on, up to the end of the declaration.
 abbrev pub more_names : List (List ℕ) → ℕ → List Line → List ℕ

@@ -1,4 +1,4 @@
--- Names of switches that there are.
+-- Names of switches that there are, and of formulas.
 use Rattle.std.specs.Prelude.{◌≡◌, ◌<◌, ◌^◌, ℕ, List, length, slice_get, Option, Some, None}
 use Rattle.station_graph.specs.Diagram.{Diagram, part_count}
 use Rattle.structured_text.specs.declared.name.Name.{Name}
@@ -7,6 +7,8 @@ use Rattle.structured_text.specs.declared.line.GapDenial.{GapDenial}
 use Rattle.structured_text.specs.declared.line.GapDenial.TheVariants.{One, Two}
 use Rattle.structured_text.specs.declared.line.LoadDenial.{LoadDenial}
 use Rattle.structured_text.specs.declared.line.LoadDenial.TheVariants.{Loaded, Unbonded}
+use Rattle.structured_text.specs.declared.line.Operand.{Operand}
+use Rattle.structured_text.specs.declared.line.Operand.TheVariants.{Variable, Product, Sum}
 use Rattle.structured_text.specs.declared.line.Heading.{Heading}
 use Rattle.structured_text.specs.declared.line.Heading.TheVariants.{May as MayHeading, Sure as SureHeading, Releases}
 use Rattle.structured_text.specs.declared.line.Formula.{Formula}
@@ -22,33 +24,49 @@ IsNumbered (Sure k) = k < 2 ^ 64
 IsNumbered (Opens i) = i.0 < 2 ^ 64
 IsNumbered (Closes i) = i.0 < 2 ^ 64
 
--- A name of a switch is that of one of so many.
+-- A name of a switch is that of one of so many; the number of a formula has at most 64 bits.
 abbrev pub NameWithin : ℕ → Name → Type 0
 NameWithin count (Off i) = i.0 < count
 NameWithin count (On i) = i.0 < count
-NameWithin count (May k) = Unit {0}
-NameWithin count (Sure k) = Unit {0}
+NameWithin count (May k) = k < 2 ^ 64
+NameWithin count (Sure k) = k < 2 ^ 64
 NameWithin count (Opens i) = i.0 < count
 NameWithin count (Closes i) = i.0 < count
 
-abbrev pub GapWithin : ℕ → GapDenial → Type 0
-GapWithin count (One a) = NameWithin count a
-GapWithin count (Two a b) = NameWithin count a × NameWithin count b
+-- The variable is that of a formula, whose number has at most 64 bits.
+abbrev pub IsOfFormula : Name → Type 0
+IsOfFormula (Off i) = ⊥
+IsOfFormula (On i) = ⊥
+IsOfFormula (May k) = k < 2 ^ 64
+IsOfFormula (Sure k) = k < 2 ^ 64
+IsOfFormula (Opens i) = ⊥
+IsOfFormula (Closes i) = ⊥
 
-abbrev pub LoadWithin : ℕ → LoadDenial → Type 0
-LoadWithin count (Loaded a b) = NameWithin count a × NameWithin count b
-LoadWithin count (Unbonded a b c) = NameWithin count a × NameWithin count b × NameWithin count c
+-- What denies reads formulas.
+abbrev pub GapWithin : GapDenial → Type 0
+GapWithin (One a) = IsOfFormula a
+GapWithin (Two a b) = IsOfFormula a × IsOfFormula b
+
+abbrev pub LoadWithin : LoadDenial → Type 0
+LoadWithin (Loaded a b) = IsOfFormula a × IsOfFormula b
+LoadWithin (Unbonded a b c) = IsOfFormula a × IsOfFormula b × IsOfFormula c
+
+-- So does a side of AND or OR.
+abbrev pub OperandWithin : Operand → Type 0
+OperandWithin (Variable a) = IsOfFormula a
+OperandWithin (Product a b) = IsOfFormula a × IsOfFormula b
+OperandWithin (Sum a b) = IsOfFormula a × IsOfFormula b
 
 abbrev pub FormulaWithin : ℕ → Formula → Type 0
 FormulaWithin count Always = Unit {0}
 FormulaWithin count Never = Unit {0}
 FormulaWithin count (MayBeClosed i) = i.0 < count
 FormulaWithin count (IsClosed i) = i.0 < count
-FormulaWithin count (Both a b) = NameWithin count a × NameWithin count b
-FormulaWithin count (Either a b) = NameWithin count a × NameWithin count b
-FormulaWithin count (Apart gap) = GapWithin count gap
-FormulaWithin count (Unloaded load) = LoadWithin count load
-FormulaWithin count (Released gap load) = GapWithin count gap × LoadWithin count load
+FormulaWithin count (Both a b) = OperandWithin a × OperandWithin b
+FormulaWithin count (Either a b) = OperandWithin a × OperandWithin b
+FormulaWithin count (Apart gap) = GapWithin gap
+FormulaWithin count (Unloaded load) = LoadWithin load
+FormulaWithin count (Released gap load) = GapWithin gap × LoadWithin load
 
 -- A heading names a part of so many.
 abbrev pub HeadingWithin : ℕ → Option Heading → Type 0

@@ -2,6 +2,7 @@
 //! spelled.
 #![tactic(auto)]
 
+mod formula;
 mod laws;
 mod line;
 mod name;
@@ -9,6 +10,6 @@ mod readable;
 mod writing;
 
 pub use laws::names_differ;
-pub use line::{Formula, GapDenial, Heading, Line, LoadDenial};
+pub use line::{Formula, GapDenial, Heading, Line, LoadDenial, Operand};
 pub use name::Name;
 pub use writing::{write_input, write_line, write_lines, write_locals, write_output};

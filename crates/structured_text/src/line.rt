@@ -20,6 +20,17 @@ pub enum LoadDenial {
     Unbonded(Name, Name, Name),
 }
 
+/// One side of AND or OR.
+#[derive(Clone, Copy, PartialEq, Eq)]
+pub enum Operand {
+    /// a variable
+    Variable(Name),
+    /// one AND another
+    Product(Name, Name),
+    /// one OR another
+    Sum(Name, Name),
+}
+
 /// The right side of an assignment.
 #[derive(Clone, Copy, PartialEq, Eq)]
 pub enum Formula {
@@ -32,9 +43,9 @@ pub enum Formula {
     /// it is closed for certain: the contact of its closed position is made, and that of its open position is not
     IsClosed(SwitchId),
     /// one AND another
-    Both(Name, Name),
+    Both(Operand, Operand),
     /// one OR another
-    Either(Name, Name),
+    Either(Operand, Operand),
     /// the denial does not hold
     Apart(GapDenial),
     /// the denial does not hold

@@ -1,8 +1,13 @@
 //! A path as the middle of an identifier, and in a comment.
 ghost use Rattle.std.specs.Prelude.{◌≡◌, ◌++◌, ◌≤◌, true, drop, length, OnOk};
 ghost use Rattle.structured_text.specs.Spelling.{is_word, readable, has_slash, is_short, last_name, shown, shown_byte};
+ghost use Rattle.structured_text.specs.Spelling.{row_break, row_length};
+ghost use Rattle.structured_text.specs.Width.{continues};
 
 use ilk_base::{Memory, Text};
+
+// The most characters of a path in a row.
+const ROW: usize = 80;
 
 // Whether the byte is an ASCII letter or digit.
 fn is_word_byte(byte: u8) -> bool
@@ -91,12 +96,45 @@ fn shown_of(byte: u8) -> u8
     if byte == 42 { 95 } else { byte }
 }
 
-/// Appends a path, with `_` for what would end a comment.
+// Whether the byte continues a character of UTF-8.
+fn is_continued(byte: u8) -> bool
+    ensures { result ≡ continues byte }
+{
+    if 127 < byte { byte < 192 } else { false }
+}
+
+// Appends what stands before a byte behind so many characters of a row.
+fn push_break(text: &mut Text, count: usize, byte: u8) -> Result<(), Memory>
+    ensures { OnOk result (text.new ≡ text.old ++ row_break count byte) }
+{
+    if is_continued(byte) {
+        return Ok(());
+    }
+    if count < ROW {
+        return Ok(());
+    }
+    text.push(b"\n     ")
+}
+
+// How many characters the row has behind the byte.
+fn next_length(count: usize, byte: u8) -> usize
+    ensures { result ≡ row_length count byte }
+{
+    if is_continued(byte) {
+        return count;
+    }
+    if count < ROW { count + 1 } else { 1 }
+}
+
+/// Appends a path, in rows that are not long, with `_` for what would end a comment.
 pub(crate) fn push_shown(text: &mut Text, path: &[u8]) -> Result<(), Memory>
     ensures { OnOk result (text.new ≡ text.old ++ shown path.now) }
 {
+    let mut count = 0;
     for i in 0..path.len() {
+        push_break(text, count, path[i])?;
         text.push(&[shown_of(path[i])])?;
+        count = next_length(count, path[i]);
     }
     Ok(())
 }

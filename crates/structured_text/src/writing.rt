@@ -1,143 +1,18 @@
 //! The writer of a text.
-ghost use Rattle.std.specs.Prelude.{◌≡◌, ◌++◌, ◌<◌, [], codes, decimal, length, slice_index_or, OnOk};
+ghost use Rattle.std.specs.Prelude.{◌≡◌, ◌++◌, ◌<◌, [], codes, length, slice_index_or, OnOk};
 ghost use Rattle.std.specs.List.{flat_map};
 ghost use Rattle.station_graph.specs.Diagram.{part_count};
 ghost use Rattle.structured_text.specs.declared.line.Line.{Line as OfLine};
-ghost use Rattle.structured_text.specs.Spelling.{switch_text, name_text, pair_text, gap_text, load_text, formula_text};
 ghost use Rattle.structured_text.specs.Spelling.{comment_text, heading_text, line_text, declared_text, remark_text, input_text};
 ghost use Rattle.structured_text.specs.Spelling.{output_text, between_names, locals_text};
-ghost use Rattle.structured_text.specs.Within.{NameWithin, GapWithin, LoadWithin, FormulaWithin, HeadingWithin};
-ghost use Rattle.structured_text.specs.Within.{LineWithin, LinesWithin};
+ghost use Rattle.structured_text.specs.Within.{NameWithin, HeadingWithin, LineWithin, LinesWithin};
 
-use crate::line::{Formula, GapDenial, Heading, Line, LoadDenial};
+use crate::formula::{push_formula, push_name, push_pair};
+use crate::line::{Heading, Line};
 use crate::name::Name;
-use crate::readable::{last_name_start, push_readable, push_shown};
+use crate::readable::push_shown;
 use ilk_base::{Memory, SwitchId, Text};
-use itoa::Buffer;
 use station_graph::Station;
-
-// Appends a number.
-fn push_number(text: &mut Text, number: usize) -> Result<(), Memory>
-    ensures { OnOk result (text.new ≡ text.old ++ decimal number) }
-{
-    let mut digits = Buffer::new();
-    text.push(digits.format(number).as_bytes())
-}
-
-// Appends the identifier of a variable of a switch.
-fn push_switch(text: &mut Text, station: &Station, id: SwitchId, which: &[u8]) -> Result<(), Memory>
-    requires { id.0 < length station.now.switches }
-    ensures { OnOk result (text.new ≡ text.old ++ switch_text station.now.switch_paths id.0 which.now) }
-{
-    text.push(b"sw")?;
-    push_number(text, id.0 as usize)?;
-    let path = station.switch_path(id).as_bytes();
-    push_readable(text, path, last_name_start(path))?;
-    text.push(which)
-}
-
-// Appends the identifier of a variable.
-fn push_name(text: &mut Text, station: &Station, name: Name) -> Result<(), Memory>
-    requires { NameWithin (length station.now.switches) name }
-    ensures { OnOk result (text.new ≡ text.old ++ name_text station.now.switch_paths name) }
-{
-    match name {
-        Name::Off(id) => push_switch(text, station, id, b"_off"),
-        Name::On(id) => push_switch(text, station, id, b"_on"),
-        Name::May(number) => {
-            text.push(b"m")?;
-            push_number(text, number)
-        }
-        Name::Sure(number) => {
-            text.push(b"c")?;
-            push_number(text, number)
-        }
-        Name::Opens(id) => push_switch(text, station, id, b"_EnaOpn"),
-        Name::Closes(id) => push_switch(text, station, id, b"_EnaCls"),
-    }
-}
-
-// Appends `A WORD B`.
-fn push_pair(
-    text: &mut Text,
-    station: &Station,
-    first: Name,
-    word: &[u8],
-    second: Name,
-) -> Result<(), Memory>
-    requires first { NameWithin (length station.now.switches) first }
-    requires second { NameWithin (length station.now.switches) second }
-    ensures { OnOk result (text.new ≡ text.old ++ pair_text station.now.switch_paths first word.now second) }
-{
-    push_name(text, station, first)?;
-    text.push(word)?;
-    push_name(text, station, second)
-}
-
-// Appends that nothing makes what may be live meet what may be earthed.
-fn push_gap(text: &mut Text, station: &Station, gap: GapDenial) -> Result<(), Memory>
-    requires { GapWithin (length station.now.switches) gap }
-    ensures { OnOk result (text.new ≡ text.old ++ gap_text station.now.switch_paths gap) }
-{
-    match gap {
-        GapDenial::One(first) => {
-            text.push(b"NOT ")?;
-            push_name(text, station, first)
-        }
-        GapDenial::Two(first, second) => {
-            text.push(b"NOT (")?;
-            push_pair(text, station, first, b" AND ", second)?;
-            text.push(b")")
-        }
-    }
-}
-
-// Appends that the gap carries no load.
-fn push_load(text: &mut Text, station: &Station, load: LoadDenial) -> Result<(), Memory>
-    requires { LoadWithin (length station.now.switches) load }
-    ensures { OnOk result (text.new ≡ text.old ++ load_text station.now.switch_paths load) }
-{
-    match load {
-        LoadDenial::Loaded(first, second) => {
-            text.push(b"NOT (")?;
-            push_pair(text, station, first, b" AND ", second)?;
-            text.push(b")")
-        }
-        LoadDenial::Unbonded(first, second, third) => {
-            text.push(b"NOT (")?;
-            push_pair(text, station, first, b" AND ", second)?;
-            text.push(b" AND NOT ")?;
-            push_name(text, station, third)?;
-            text.push(b")")
-        }
-    }
-}
-
-// Appends the right side of an assignment.
-fn push_formula(text: &mut Text, station: &Station, formula: Formula) -> Result<(), Memory>
-    requires { FormulaWithin (length station.now.switches) formula }
-    ensures { OnOk result (text.new ≡ text.old ++ formula_text station.now.switch_paths formula) }
-{
-    match formula {
-        Formula::Always => text.push(b"TRUE"),
-        Formula::Never => text.push(b"FALSE"),
-        Formula::MayBeClosed(id) => {
-            push_pair(text, station, Name::On(id), b" OR NOT ", Name::Off(id))
-        }
-        Formula::IsClosed(id) => {
-            push_pair(text, station, Name::On(id), b" AND NOT ", Name::Off(id))
-        }
-        Formula::Both(first, second) => push_pair(text, station, first, b" AND ", second),
-        Formula::Either(first, second) => push_pair(text, station, first, b" OR ", second),
-        Formula::Apart(gap) => push_gap(text, station, gap),
-        Formula::Unloaded(load) => push_load(text, station, load),
-        Formula::Released(gap, load) => {
-            push_gap(text, station, gap)?;
-            text.push(b" AND ")?;
-            push_load(text, station, load)
-        }
-    }
-}
 
 // Appends a blank line and a comment.
 fn push_comment(text: &mut Text, path: &[u8], what: &[u8]) -> Result<(), Memory>
@@ -258,13 +133,13 @@ pub fn write_output(text: &mut Text, station: &Station, id: SwitchId) -> Result<
 fn push_between(text: &mut Text, number: usize) -> Result<(), Memory>
     ensures { OnOk result (text.new ≡ text.old ++ between_names number) }
 {
-    if number % 6 == 0 {
+    if number % 4 == 0 {
         return text.push(b",\n  ");
     }
     text.push(b", ")
 }
 
-/// Appends the declaration of the variables that lines set, six on a line; nothing where there are none.
+/// Appends the declaration of the variables that lines set, four on a line; nothing where there are none.
 pub fn write_locals(text: &mut Text, station: &Station, lines: &[Line]) -> Result<(), Memory>
     requires { LinesWithin station.now lines.now }
     ensures { OnOk result (text.new ≡ text.old ++ locals_text station.now.switch_paths lines.now) }

@@ -6,7 +6,7 @@ use std::test::Fail;
 use test_stations::{Example, built};
 
 // The earthing switch may be closed where the infeed is known to be off, and the infeed set on where the earthing switch
-// is known to be off; opening is always released. The third formula says that the node has a tap.
+// is known to be off; opening is always released. That the node has a tap is read by no line, so no line says it.
 const LINES: &[u8] = b"VAR_INPUT\n\
     \x20 sw0_QC9_off, sw0_QC9_on : BOOL; (* S/V1/Q1/QC9 *)\n\
     \x20 sw1_E1_off, sw1_E1_on : BOOL; (* S/V1/Q1/E1 *)\n\
@@ -14,13 +14,12 @@ const LINES: &[u8] = b"VAR_INPUT\n\
     \x20 sw0_QC9_EnaOpn, sw0_QC9_EnaCls : BOOL;\n\
     \x20 sw1_E1_EnaOpn, sw1_E1_EnaCls : BOOL;\n\
     END_VAR\nVAR\n\
-    \x20 m0, m1, m2 : BOOL;\n\
+    \x20 m0, m1 : BOOL;\n\
     END_VAR\n\
     \n\
     \x20 (* what holds where each switch that may be closed is *)\n\
     \x20 m0 := sw0_QC9_on OR NOT sw0_QC9_off;\n\
     \x20 m1 := sw1_E1_on OR NOT sw1_E1_off;\n\
-    \x20 m2 := TRUE;\n\
     \n\
     \x20 (* S/V1/Q1: the releases *)\n\
     \x20 sw0_QC9_EnaOpn := TRUE;\n\

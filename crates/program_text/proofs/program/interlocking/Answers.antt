@@ -1,9 +1,7 @@
-use Rattle.std.proofs.Common.{◌≡◌, length, subst, sym, ap, ◌∙◌}
-use Rattle.short_equations.specs.declared.pair.TermPair.{TermPair}
-use Rattle.short_equations.specs.declared.view.View.TheVariants.{Gap, Load, Bond}
-use Rattle.short_equations.specs.Pairs.{AreExactPairs}
-use Rattle.program_text.specs.declared.term_lines.Reading.TheVariants.{May as AsClosed, Sure as AsOpen}
-use Rattle.program_text.specs.TermLines.{MeansTerms}
+use Rattle.std.proofs.Common.{length, subst, sym}
+use Rattle.short_equations.specs.declared.view.View.TheVariants.{Gap}
+use Rattle.program_text.specs.declared.reading.Reading.TheVariants.{May as AsClosed, Sure as AsOpen}
+use Rattle.program_text.specs.TermLines.{ServesReleases}
 use Rattle.program_text.specs.Releases.{MeansReleases}
 use Rattle.program_text.proofs.InterlockingLemmas.{interlocks, pairs_grew}
 use Rattle.program_text.proofs.program.interlocking.Goals as goal
@@ -22,10 +20,12 @@ returns-clause-interlocks c =
     let first = c.in_ok-may.may.items in
     let second = c.in_ok-sure.sure.items in
     let third = c.in_ok-releases.releases.items in
-    let first_means : MeansTerms AsClosed (length d.switches) may (length may) first =
-    subst (λ n. MeansTerms AsClosed n may (length may) first) counted c.in_ok-may.ensures.means in
-    let second_means : MeansTerms AsOpen (length d.switches) sure (length sure) second =
-    subst (λ n. MeansTerms AsOpen n sure (length sure) second) counted c.in_ok-sure.ensures.means in
+    let first_serves : ServesReleases AsClosed (length d.switches) may third first =
+    subst (λ n. ServesReleases AsClosed n may third first) counted
+    (subst (λ ls. ServesReleases AsClosed count may ls first) c.deref-4.ensures.value c.in_ok-may.ensures.serves) in
+    let second_serves : ServesReleases AsOpen (length d.switches) sure third second =
+    subst (λ n. ServesReleases AsOpen n sure third second) counted
+    (subst (λ ls. ServesReleases AsOpen count sure ls second) c.deref-5.ensures.value c.in_ok-sure.ensures.serves) in
     let third_means : MeansReleases d (length may) (length sure) gap load bond (length d.switches) third =
     subst (λ n. MeansReleases d n (length sure) gap load bond (length d.switches) third) c.len.ensures.count
     (subst (λ n. MeansReleases d c.len.result n gap load bond (length d.switches) third) c.len-2.ensures.count
@@ -37,7 +37,7 @@ returns-clause-interlocks c =
     interlocks d c.switch_count-count.ensures.station may sure c.len.ensures.ordered c.len-2.ensures.ordered gap load bond
     c.in_ok-gap.ensures.len c.in_ok-load.ensures.len c.in_ok-bond.ensures.len
     (pairs_grew Gap d one may gap c.in_ok-load.ensures.grew c.in_ok-gap.ensures.exact) c.in_ok-load.ensures.exact
-    c.in_ok-bond.ensures.exact first second third first_means second_means third_means
+    c.in_ok-bond.ensures.exact first second third first_serves second_serves third_means
 
 pub returns-clause-may : goal.returns-clause-may
 returns-clause-may c = c.in_ok-may.ensures.within c.args.station.now (sym c.switch_count-count.ensures.count)

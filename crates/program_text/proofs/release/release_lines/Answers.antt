@@ -1,11 +1,9 @@
-use Rattle.std.proofs.Common.{◌≡◌, ◌<◌, ◌∙◌, length, slice_get, get_or, Some, None, ap, subst, sym, arith}
+use Rattle.std.proofs.Common.{◌≡◌, ◌<◌, ◌≤◌, ◌^◌, ◌∙◌, length, get_or, None, ap, subst, sym, arith}
 use Rattle.std.specs.Prelude.{Option}
 use Rattle.std.proofs.lemmas.Option.{slice_get-get_or}
-use Rattle.ilk_base.specs.declared.words.Kind.{Kind}
 use Rattle.short_equations.specs.declared.pair.TermPair.{TermPair}
 use Rattle.structured_text.specs.declared.line.GapDenial.{GapDenial}
 use Rattle.structured_text.specs.declared.line.LoadDenial.{LoadDenial}
-use Rattle.structured_text.specs.declared.line.Formula.{Formula}
 use Rattle.structured_text.specs.Within.{FormulaWithin}
 use Rattle.program_text.specs.Releases.{gap_denial_in, load_denial_in, release_in, pair_in}
 use Rattle.program_text.proofs.ReleaseLemmas.{releases_push}
@@ -25,6 +23,10 @@ loop-i-preserved c =
     let kind = x.kind in
     let count = c.switch_count-i-end.ensures.count in
     let test = c.loop-i-test.true in
+    let may_fits = c.ranges.may.fits in
+    let sure_fits = c.ranges.sure.fits in
+    let few : may ≤ 2 ^ 64 = omega (arith, may_fits) in
+    let rare : sure ≤ 2 ^ 64 = omega (arith, sure_fits) in
     let gap_room = c.requires.gap in
     let load_room = c.requires.load in
     let bond_room = c.requires.bond in
@@ -56,11 +58,11 @@ loop-i-preserved c =
             heading = c.heading_of-heading.ensures;
             name = low;
             formula = subst (FormulaWithin (length d.switches)) (sym opens)
-                (opening_within (length d.switches) kind (pair_in may l) (pair_in sure b));
+                (opening_within (length d.switches) may sure few rare kind l b);
           })) (record {
             heading = tt;
             name = low;
             formula = subst (FormulaWithin (length d.switches)) (sym closes)
-                (closing_within (length d.switches) kind (pair_in may g) (pair_in may l) (pair_in sure b));
+                (closing_within (length d.switches) may sure few rare kind g l b);
           }),
     )

@@ -1,4 +1,3 @@
-use Rattle.std.proofs.Common.{length}
 use Rattle.structured_text.specs.Within.{LinesWithin}
 use Rattle.program_text.specs.Releases.{MeansReleases}
 use Rattle.program_text.proofs.release.release_lines.Given as goal
