@@ -13,7 +13,7 @@ use Rattle.program_text.specs.declared.reading.Reading.{Reading}
 use Rattle.program_text.specs.declared.reading.Reading.TheVariants.{May as AsClosed, Sure as AsOpen}
 use Rattle.program_text.specs.TermLines.{counts_in, positions, positions_from}
 use Rattle.program_text.specs.Interlocking.{shown_by, word_in, IsReadingOf, AreKnown}
-use Rattle.program_text.proofs.TermLineLemmas.{position_of, positions_length}
+use Rattle.program_text.proofs.PositionValues.{position_of, positions_length}
 
 -- ---- lists of positions
 entry : (xs : List Bool) (i : ℕ) → i < length xs → (b : Bool) × (slice_get xs i ≡ Some b)

@@ -7,7 +7,7 @@ use Rattle.std.proofs.lemmas.Option.{get_or_from_slice_get}
 use Rattle.interlock_terms.specs.Terms.{Values}
 use Rattle.structured_text.specs.declared.name.Name.TheVariants.{Off as OffOf, On as OnOf, May, Sure, Opens, Closes}
 use Rattle.structured_text.specs.Meaning.{Store}
-use Rattle.program_text.proofs.StoreLemmas.{chosen, passed}
+use Rattle.structured_text.proofs.StoreLemmas.{chosen, passed}
 use Rattle.program_text.proofs.ReleasedLemmas.{true_read}
 
 abbrev pub full_of : Store → Values → Values → ℕ → ℕ → Store

@@ -30,9 +30,9 @@ use Rattle.program_text.specs.Places.{IsSet}
 use Rattle.program_text.specs.TermLines.{positions, values_in, ServesReleases}
 use Rattle.program_text.specs.Releases.{MeansReleases}
 use Rattle.program_text.specs.Interlocking.{IsReadingOf, AreKnown, release_name, towards, IsInterlocking}
-use Rattle.program_text.proofs.StoreLemmas.{in_a_row}
-use Rattle.program_text.proofs.AgreeLemmas.{Agree, after_same}
-use Rattle.program_text.proofs.TermLineLemmas.{positions_length}
+use Rattle.structured_text.proofs.StoreLemmas.{in_a_row}
+use Rattle.structured_text.proofs.AgreeLemmas.{Agree, after_same}
+use Rattle.program_text.proofs.PositionValues.{positions_length}
 use Rattle.program_text.proofs.ReleasedLemmas.{bit_is, signals_of, opening_released, closing_released, not_false}
 use Rattle.program_text.proofs.ContactLemmas.{positions_same, high, low, high_reads, below_high, above_low, high_is, low_is}
 use Rattle.program_text.proofs.FullStore.{full_of, same_bits, full_means, full_else}

@@ -21,7 +21,10 @@ use Rattle.structured_text.specs.declared.line.Line.{Line}
 use Rattle.structured_text.specs.Meaning.{Store, value, gap_denied, load_denied, b_not, same_name, after}
 use Rattle.program_text.specs.Releases.{two_of, one_of, gap_denial_in, loaded_of, load_denial_in, release_in, IsRelease}
 use Rattle.program_text.specs.Releases.{MeansReleases, pair_in}
-use Rattle.program_text.proofs.StoreLemmas.{eq_true, eq_false, is_set, not_set}
+use Rattle.structured_text.proofs.OrderLemmas.{none_in_order}
+use Rattle.program_text.specs.Releases.{IsFormula}
+use Rattle.program_text.proofs.ReleaseOrder.{opening_reads, closing_reads, two_order, two_sets}
+use Rattle.structured_text.proofs.StoreLemmas.{eq_true, eq_false, is_set, not_set}
 
 -- what denies reads formulas alone, so in two stores that agree on them it is the same
 module _ (s t : Store) (may : (k : ℕ) → s (May k) ≡ t (May k)) (sure : (k : ℕ) → s (Sure k) ≡ t (Sure k)) where
@@ -101,7 +104,12 @@ releases_none d may sure gap load bond = record {
   others = λ s m ne. refl;
   opens = λ s i x l b low. absurd (omega (arith, low));
   closes = λ s i x g l b low. absurd (omega (arith, low));
+  order = none_in_order (IsFormula may sure);
+  sets = λ m (j, y, at, is). absurd (nothing j y at);
 }
+  where
+    nothing : (j : ℕ) (y : Line) → slice_get [] j ≡ Some y → ⊥
+    nothing j y at = cc at
 
 opens_apart : (i : SwitchId) (m : Name) → ¬ IsRelease m → same_name (Opens i) m ≡ false
 opens_apart i (Off a) ne = refl
@@ -207,6 +215,12 @@ module _ (hd : Option Heading) (d : Diagram) (may sure : ℕ) (gap load bond : L
           (load_denial_in y.kind (pair_in may m) (pair_in sure w)))) b_is))))
       | inr far ↦ closes_before s i far ∙ h.closes s i y f m c (omega (arith, low, far)) at f_at m_at c_at
     ];
+    order = two_order may sure k lines h.order h.sets (record { heading = hd; name = Opens id; formula = opening })
+        (record { heading = None; name = Closes id; formula = closing }) refl refl (opening_reads may sure x.kind l b)
+        (closing_reads may sure x.kind g l b);
+    sets = two_sets may sure k lines h.order h.sets (record { heading = hd; name = Opens id; formula = opening })
+        (record { heading = None; name = Closes id; formula = closing }) refl refl (opening_reads may sure x.kind l b)
+        (closing_reads may sure x.kind g l b);
   }
 
 pub releases_push : (hd : Option Heading) (d : Diagram) (may sure : ℕ) (gap load bond : List TermPair) (k : ℕ) (lines : List Line) →

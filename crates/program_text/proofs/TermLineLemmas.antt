@@ -1,6 +1,6 @@
 -- The lines of formulas, one after another.
-use Rattle.std.proofs.Common.{◌≡◌, ◌≢◌, ◌↔◌, ◌⊎◌, ◌++◌, ◌∙◌, ◌<◌, ◌+◌, ◌&&◌, ◌||◌, ℕ, zero, suc, List, [], ◌∷◌, Bool, true}
-use Rattle.std.proofs.Common.{false, length, slice_get, get_or, Some, refl, sym, ap, subst, inl, inr, arith}
+use Rattle.std.proofs.Common.{◌≡◌, ◌≢◌, ◌↔◌, ◌⊎◌, ◌++◌, ◌∙◌, ◌<◌, ◌+◌, ◌&&◌, ◌||◌, ℕ, List, [], ◌∷◌, Bool, true}
+use Rattle.std.proofs.Common.{false, slice_get, get_or, Some, refl, sym, ap, subst, inl, inr, arith}
 use Rattle.std.specs.Prelude.{nat_lt, Option}
 use Rattle.std.proofs.lemmas.Bool.{cases_eq, false≢true}
 use Rattle.std.proofs.lemmas.Bool.Decides.{nat_tests}
@@ -22,9 +22,13 @@ use Rattle.program_text.specs.declared.place.Place.TheVariants.{Inside, Named}
 use Rattle.program_text.specs.Names.{name_in}
 use Rattle.program_text.specs.Places.{IsNamed, IsRead, EachNamed, IsOfTwo, ArePlaced}
 use Rattle.program_text.specs.TermLines.{leaf_in, position_in, inside_in, operand_in, side_in, formula_in, counts_in}
-use Rattle.program_text.specs.TermLines.{positions_from, positions, values_in, IsSetBy, MeansTerms}
+use Rattle.program_text.specs.TermLines.{positions, values_in, IsSetBy, MeansTerms}
+use Rattle.program_text.proofs.PositionValues.{position_of, positions_length}
 use Rattle.program_text.proofs.PlaceLemmas.{place_is}
-use Rattle.program_text.proofs.StoreLemmas.{eq_true, eq_false, chosen, passed, same_true, is_set, not_set}
+use Rattle.program_text.proofs.TermOrder.{formula_reads, no_input, name_once}
+use Rattle.structured_text.specs.Order.{IsInput, IsSetIn}
+use Rattle.structured_text.proofs.OrderLemmas.{none_in_order, set_last, last_set, set_left, one_more_in_order}
+use Rattle.structured_text.proofs.StoreLemmas.{eq_true, eq_false, chosen, passed, same_true, is_set, not_set}
 
 lt_true : (a b : ℕ) → a < b → nat_lt a b ≡ true
 lt_true a b low = grind (arith, nat_tests)
@@ -58,29 +62,6 @@ true_second false b e = e
 same_bit : (a b : Bool) → Some a ≡ Some b → a ≡ b
 same_bit a b e = cc
 
--- ---- positions
-pub position_at : (r : Reading) (s : Store) (k n i : ℕ) → i < n →
-    slice_get (positions_from r s k n) i
-    ≡ Some (counts_in r (s (Off (record { 0 = k + i }))) (s (On (record { 0 = k + i }))))
-position_at r s k zero i low = absurd (omega (arith, low))
-position_at r s k (suc n) zero low =
-    let e : k ≡ k + 0 = omega arith in
-    ap (λ j. Some (counts_in r (s (Off (record { 0 = j }))) (s (On (record { 0 = j }))))) e
-position_at r s k (suc n) (suc i) low =
-    let e : suc k + i ≡ k + suc i = omega arith in
-    position_at r s (suc k) n i (omega (arith, low))
-    ∙ ap (λ j. Some (counts_in r (s (Off (record { 0 = j }))) (s (On (record { 0 = j }))))) e
-
-pub position_of : (r : Reading) (s : Store) (n i : ℕ) → i < n →
-    slice_get (positions r s n) i ≡ Some (counts_in r (s (Off (record { 0 = i }))) (s (On (record { 0 = i }))))
-position_of r s n i low =
-    let e : 0 + i ≡ i = omega arith in
-    position_at r s 0 n i low ∙ ap (λ j. Some (counts_in r (s (Off (record { 0 = j }))) (s (On (record { 0 = j }))))) e
-
-pub positions_length : (r : Reading) (s : Store) (k n : ℕ) → length (positions_from r s k n) ≡ n
-positions_length r s k zero = refl
-positions_length r s k (suc n) = ap suc (positions_length r s (suc k) n)
-
 same_self : (r : Reading) (k : ℕ) → same_name (name_in r k) (name_in r k) ≡ true
 same_self AsClosed k = eq_true k k refl
 same_self AsOpen k = eq_true k k refl
@@ -101,7 +82,12 @@ pub means_none : (r : Reading) (count : ℕ) (terms : List Term) (places : List 
 means_none r count terms places = record {
   others = λ s m ne. refl;
   values = λ s j low. absurd (omega (arith, low));
+  order = none_in_order IsInput;
+  sets = λ m. (λ (j, y, at, is). absurd (nothing j y at), λ (j, low, named, e). absurd (omega (arith, low)));
 }
+  where
+    nothing : (j : ℕ) (y : Line) → slice_get [] j ≡ Some y → ⊥
+    nothing j y at = cc at
 
 -- a formula that has no line
 pub means_skip : (r : Reading) (count : ℕ) (terms : List Term) (places : List Place) (k : ℕ) (lines : List Line) →
@@ -112,6 +98,19 @@ means_skip r count terms places k lines h none = record {
     | inl e ↦ absurd (none (subst (IsNamed places) e named))
     | inr far ↦ h.values s j (omega (arith, low, far)) named
   ];
+  order = h.order;
+  sets = λ m. (
+    λ set. let (j, low, named, e) = (h.sets m).0 set in (j, omega (arith, low), named, e),
+    λ (j, low, named, e). (h.sets m).1 (
+      j,
+      elim (cases_eq j k) [
+        | inl same ↦ absurd (none (subst (IsNamed places) same named))
+        | inr far ↦ omega (arith, low, far)
+      ],
+      named,
+      e,
+    ),
+  );
 }
 
 -- ---- what stands for a formula
@@ -256,6 +255,24 @@ module _ (hd : Option Heading) (r : Reading) (count : ℕ) (terms : List Term) (
           let w = h.values s j (omega (arith, low, far)) line in
           (λ b. w.0 (sym same ∙ b), λ b. same ∙ w.1 b)
     ];
+    order = one_more_in_order IsInput lines (line_of t) h.order
+        (formula_reads r count terms places placed ordered k (λ m. IsInput m ⊎ IsSetIn lines m) (λ m i. inl i)
+        (λ j low line. inr ((h.sets (name_in r j)).1 (j, low, line, refl))) t (ordered k t at) (placed.named k t at named))
+        (no_input r k) (λ set.
+        let (j, low, line, e) = (h.sets (name_in r k)).0 set in
+        let same = name_once r k j e in omega (arith, low, same));
+    sets = λ m. (
+      λ set. elim (set_last lines (line_of t) m set) [
+        | inl old ↦ let (j, low, line, e) = (h.sets m).0 old in (j, omega (arith, low), line, e)
+        | inr e ↦ (k, omega arith, named, sym e)
+      ],
+      λ (j, low, line, e). elim (cases_eq j k) [
+        | inl same ↦
+            subst (IsSetIn (lines ++ line_of t ∷ [])) (ap (name_in r) (sym same) ∙ sym e) (last_set lines (line_of t))
+        | inr far ↦
+            set_left lines (line_of t ∷ []) m ((h.sets m).1 (j, omega (arith, low, far), line, e))
+      ],
+    );
   }
 
 pub means_push : (r : Reading) (count : ℕ) (terms : List Term) (places : List Place) → ArePlaced terms places → (k : ℕ)

@@ -3,6 +3,7 @@ use Rattle.std.specs.Prelude.{◌≡◌, ◌++◌, ℕ, zero, suc, List, [], len
 use Rattle.std.specs.List.{flat_map}
 use Rattle.station_graph.specs.Diagram.{Diagram}
 use Rattle.structured_text.specs.declared.line.Line.{Line}
+use Rattle.structured_text.specs.Order.{IsInput, AreInOrder}
 use Rattle.structured_text.specs.Width.{AreLinesShort}
 use Rattle.structured_text.specs.Spelling.{input_text, output_text, locals_text, line_text}
 use Rattle.program_text.specs.declared.text.TheConstants.{HEAD}
@@ -43,11 +44,13 @@ body_text d may sure releases =
 abbrev pub block_text : Diagram → List Line → List Line → List Line → List ℕ
 block_text d may sure releases = contacts_text d ++ (variables_text d may sure ++ body_text d may sure releases)
 
--- The text is that of lines that are an interlocking of the station, and has no line of more than 200 characters.
+-- The text is that of lines that are an interlocking of the station: each variable is set once, and before it is read. No
+-- line has more than 200 characters.
 pub record IsProgramText (d : Diagram) (text : List ℕ) : Type 0 where
   pub may : List Line
   pub sure : List Line
   pub releases : List Line
   pub interlocks : IsInterlocking d (may ++ (sure ++ releases))
+  pub order : AreInOrder IsInput (may ++ (sure ++ releases))
   pub spelled : text ≡ block_text d may sure releases
   pub short : AreLinesShort text

@@ -15,6 +15,7 @@ use Rattle.structured_text.specs.declared.line.Formula.{Formula}
 use Rattle.structured_text.specs.declared.line.Formula.TheVariants.{Always, Apart, Unloaded, Released}
 use Rattle.structured_text.specs.declared.line.Line.{Line}
 use Rattle.structured_text.specs.Meaning.{Store, value, after}
+use Rattle.structured_text.specs.Order.{IsSetIn, AreInOrder}
 
 -- The formula, if it is one of so many.
 abbrev pub known_in : ℕ → Option ℕ → Option ℕ
@@ -71,8 +72,26 @@ IsRelease (Sure k) = ⊥
 IsRelease (Opens i) = Unit {0}
 IsRelease (Closes i) = Unit {0}
 
+-- The variable is that of a formula, of so many of each reading.
+abbrev pub IsFormula : ℕ → ℕ → Name → Type 0
+IsFormula may sure (Off i) = ⊥
+IsFormula may sure (On i) = ⊥
+IsFormula may sure (May n) = n < may
+IsFormula may sure (Sure n) = n < sure
+IsFormula may sure (Opens i) = ⊥
+IsFormula may sure (Closes i) = ⊥
+
+-- The variable is a release of one of the first k switches.
+abbrev pub IsReleaseBelow : ℕ → Name → Type 0
+IsReleaseBelow k (Off i) = ⊥
+IsReleaseBelow k (On i) = ⊥
+IsReleaseBelow k (May n) = ⊥
+IsReleaseBelow k (Sure n) = ⊥
+IsReleaseBelow k (Opens i) = i.0 < k
+IsReleaseBelow k (Closes i) = i.0 < k
+
 -- The lines give the releases of the first k switches their values, and change nothing but releases. There are so many
--- formulas of what may be, and of what is certain.
+-- formulas of what may be, and of what is certain, which the lines read; they are in order, and set releases of those switches.
 pub record MeansReleases (d : Diagram) (may sure : ℕ) (gap load bond : List TermPair) (k : ℕ) (lines : List Line) : Type 0 where
   pub others : (s : Store) (m : Name) → ¬ IsRelease m → after lines s m ≡ s m
   pub opens : (s : Store) (i : ℕ) (x : Switch) (l b : TermPair) → i < k → slice_get d.switches i ≡ Some x →
@@ -82,3 +101,5 @@ pub record MeansReleases (d : Diagram) (may sure : ℕ) (gap load bond : List Te
       slice_get gap i ≡ Some g → slice_get load i ≡ Some l → slice_get bond i ≡ Some b →
       after lines s (Closes (record { 0 = i }))
       ≡ value s (release_in (gap_denial_in x.kind (pair_in may g)) (load_denial_in x.kind (pair_in may l) (pair_in sure b)))
+  pub order : AreInOrder (IsFormula may sure) lines
+  pub sets : (m : Name) → IsSetIn lines m → IsReleaseBelow k m

@@ -13,6 +13,7 @@ use Rattle.structured_text.specs.declared.line.Formula.TheVariants.{Always as Tr
 use Rattle.structured_text.specs.declared.line.Formula.TheVariants.{Both as BothOf, Either as EitherOf}
 use Rattle.structured_text.specs.declared.line.Line.{Line}
 use Rattle.structured_text.specs.Meaning.{Store, may_be_closed, is_closed, after}
+use Rattle.structured_text.specs.Order.{IsInput, IsSetIn, AreInOrder}
 use Rattle.program_text.specs.declared.reading.Reading.{Reading}
 use Rattle.program_text.specs.declared.reading.Reading.TheVariants.{May as AsClosed, Sure as AsOpen}
 use Rattle.program_text.specs.declared.place.Place.{Place}
@@ -77,10 +78,13 @@ abbrev pub IsSetBy : Reading → List Place → ℕ → Name → Type 0
 IsSetBy reading places k m = (j : ℕ) × (j < k) × IsNamed places j × (m ≡ name_in reading j)
 
 -- The lines give the variables of the first k formulas, of those that have lines, their values, and change no other variable.
+-- They are in order, and set those variables.
 pub record MeansTerms (reading : Reading) (count : ℕ) (terms : List Term) (places : List Place) (k : ℕ) (lines : List Line) : Type 0 where
   pub others : (s : Store) (m : Name) → ¬ IsSetBy reading places k m → after lines s m ≡ s m
   pub values : (s : Store) (j : ℕ) → j < k → IsNamed places j →
       (after lines s (name_in reading j) ≡ true) ↔ IsTrueAt (values_in reading count s terms) j
+  pub order : AreInOrder IsInput lines
+  pub sets : (m : Name) → IsSetIn lines m ↔ IsSetBy reading places k m
 
 -- The lines serve those of the releases: these read variables of formulas that have lines, which the lines give their values.
 pub record ServesReleases (reading : Reading) (count : ℕ) (terms : List Term) (releases lines : List Line) : Type 0 where

@@ -1,6 +1,7 @@
 //! The interlocking of a station as lines.
 ghost use Rattle.std.specs.Prelude.{◌≡◌, ◌<◌, ◌^◌, ◌++◌, length, IfOk, OnOk};
 ghost use Rattle.station_graph.specs.Diagram.{Diagram};
+ghost use Rattle.structured_text.specs.Order.{IsInput, AreInOrder};
 ghost use Rattle.structured_text.specs.Within.{LinesWithin};
 ghost use Rattle.program_text.specs.TermLines.{ServesReleases};
 ghost use Rattle.program_text.specs.Interlocking.{IsInterlocking};
@@ -50,6 +51,7 @@ pub fn interlocking(alloc: Global, station: &Station) -> Result<Program, Memory>
     ensures may { IfOk result (λ p. LinesWithin station.now p.may.items) }
     ensures sure { IfOk result (λ p. LinesWithin station.now p.sure.items) }
     ensures releases { IfOk result (λ p. LinesWithin station.now p.releases.items) }
+    ensures order { IfOk result (λ p. AreInOrder IsInput (p.may.items ++ (p.sure.items ++ p.releases.items))) }
     ensures few { OnOk result (length station.now.switches < 2 ^ 16) }
 {
     let mut terms = Terms::new(alloc);

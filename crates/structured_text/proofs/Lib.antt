@@ -1,6 +1,10 @@
 pub mod NameLemmas
 pub mod PathLemmas
 pub mod FormulaNames
+pub mod StoreLemmas
+pub mod AgreeLemmas
+pub mod OrderLemmas
+pub mod OrderLaws
 pub mod WidthLemmas
 pub mod PieceWidths
 pub mod LineWidths

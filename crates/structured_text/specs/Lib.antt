@@ -1,5 +1,6 @@
 pub mod Meaning
 pub mod Reads
+pub mod Order
 pub mod Width
 pub mod Spelling
 pub mod Within

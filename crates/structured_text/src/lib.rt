@@ -9,7 +9,7 @@ mod name;
 mod readable;
 mod writing;
 
-pub use laws::names_differ;
+pub use laws::{inputs_decide, names_differ, order_is_free};
 pub use line::{Formula, GapDenial, Heading, Line, LoadDenial, Operand};
 pub use name::Name;
 pub use writing::{write_input, write_line, write_lines, write_locals, write_output};

@@ -4,6 +4,7 @@ use Rattle.program_text.specs.declared.reading.Reading.TheVariants.{May as AsClo
 use Rattle.program_text.specs.TermLines.{ServesReleases}
 use Rattle.program_text.specs.Releases.{MeansReleases}
 use Rattle.program_text.proofs.InterlockingLemmas.{interlocks, pairs_grew}
+use Rattle.program_text.proofs.ProgramOrder.{all_in_order}
 use Rattle.program_text.proofs.program.interlocking.Goals as goal
 
 pub returns-clause-interlocks : goal.returns-clause-interlocks
@@ -44,3 +45,18 @@ returns-clause-may c = c.in_ok-may.ensures.within c.args.station.now (sym c.swit
 
 pub returns-clause-sure : goal.returns-clause-sure
 returns-clause-sure c = c.in_ok-sure.ensures.within c.args.station.now (sym c.switch_count-count.ensures.count)
+
+pub returns-clause-order : goal.returns-clause-order
+returns-clause-order c =
+    let d = c.args.station.now in
+    let count = c.switch_count-count.result in
+    let may = c.view_pairs-2.new.terms in
+    let sure = c.view_pairs-3.new.terms in
+    let first = c.in_ok-may.may.items in
+    let second = c.in_ok-sure.sure.items in
+    let third = c.in_ok-releases.releases.items in
+    all_in_order d count (length d.switches) may sure c.len.result c.len-2.result c.deref.result.now c.deref-2.result.now
+    c.deref-3.result.now first second third
+    (subst (λ ls. ServesReleases AsClosed count may ls first) c.deref-4.ensures.value c.in_ok-may.ensures.serves)
+    (subst (λ ls. ServesReleases AsOpen count sure ls second) c.deref-5.ensures.value c.in_ok-sure.ensures.serves)
+    c.len.ensures.count c.len-2.ensures.count c.in_ok-releases.ensures.means

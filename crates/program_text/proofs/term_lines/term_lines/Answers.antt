@@ -19,9 +19,8 @@ loop-k-preserved c =
     let k = c.loop-k.k in
     let test = c.loop-k-test.true in
     let ends = c.len-k-end.ensures.count in
-    let fits = c.len-k-end.auto in
     let within : k < length terms = omega (arith, test, ends) in
-    let small : k < 2 ^ 64 = omega (arith, test, fits) in
+    let small : k < 2 ^ 64 = omega (arith, test) in
     elim c.if-is_named.branch [
       | then-is_named+in_ok-push w ↦
           let t = w.get-term.result in

@@ -17,6 +17,7 @@ returns c =
       sure = sure;
       releases = releases;
       interlocks = c.in_ok-program.ensures.interlocks;
+      order = c.in_ok-program.ensures.order;
       spelled = same;
       short = subst AreLinesShort (sym same)
           (block_short d few may sure releases c.in_ok-program.ensures.may c.in_ok-program.ensures.sure

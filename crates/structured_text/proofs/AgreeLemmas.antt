@@ -44,7 +44,7 @@ module _ (P Q : Name → Type 0) where
     operand_same (Product a b) p q = and_same (s a) (t a) (s b) (t b) (agree a p.0 q.0) (agree b p.1 q.1)
     operand_same (Sum a b) p q = or_same (s a) (t a) (s b) (t b) (agree a p.0 q.0) (agree b p.1 q.1)
 
-    value_same : (f : Formula) → FormulaReads P f → FormulaReads Q f → value s f ≡ value t f
+    pub value_same : (f : Formula) → FormulaReads P f → FormulaReads Q f → value s f ≡ value t f
     value_same Always p q = refl
     value_same Never p q = refl
     value_same (MayBeClosed i) p q =
