@@ -49,19 +49,14 @@ module _ (d : Diagram) (few : length d.switches ≤ 2 ^ 64) where
       (goes_on 0 (locals_text paths sure) 0 (codes "END_VAR\n") 0 (locals_fit d few sure s)
       (tested 0 (codes "END_VAR\n") 0 refl)))
 
-  body_fits : (may sure releases : List Line) → LinesWithin d may → LinesWithin d sure → LinesWithin d releases →
-      Fits 0 (body_text d may sure releases) 0
-  body_fits may sure releases m s r =
-      goes_on 0 (lines_text d may) 0 (lines_text d sure ++ (lines_text d releases ++ codes "END_FUNCTION_BLOCK\n")) 0
-      (lines_fit d few may m)
-      (goes_on 0 (lines_text d sure) 0 (lines_text d releases ++ codes "END_FUNCTION_BLOCK\n") 0 (lines_fit d few sure s)
-      (goes_on 0 (lines_text d releases) 0 (codes "END_FUNCTION_BLOCK\n") 0 (lines_fit d few releases r)
-      (tested 0 (codes "END_FUNCTION_BLOCK\n") 0 refl)))
+  body_fits : (lines : List Line) → LinesWithin d lines → Fits 0 (body_text d lines) 0
+  body_fits lines h =
+      goes_on 0 (lines_text d lines) 0 (codes "END_FUNCTION_BLOCK\n") 0 (lines_fit d few lines h)
+      (tested 0 (codes "END_FUNCTION_BLOCK\n") 0 refl)
 
-  pub block_short : (may sure releases : List Line) → LinesWithin d may → LinesWithin d sure → LinesWithin d releases →
-      AreLinesShort (block_text d may sure releases)
-  block_short may sure releases m s r =
-      short_lines (block_text d may sure releases) 0
-      (goes_on 0 (contacts_text d) 0 (variables_text d may sure ++ body_text d may sure releases) 0 contacts_fit
-      (goes_on 0 (variables_text d may sure) 0 (body_text d may sure releases) 0 (variables_fit may sure m s)
-      (body_fits may sure releases m s r)))
+  pub block_short : (may sure lines : List Line) → LinesWithin d may → LinesWithin d sure → LinesWithin d lines →
+      AreLinesShort (block_text d may sure lines)
+  block_short may sure lines m s h =
+      short_lines (block_text d may sure lines) 0
+      (goes_on 0 (contacts_text d) 0 (variables_text d may sure ++ body_text d lines) 0 contacts_fit
+      (goes_on 0 (variables_text d may sure) 0 (body_text d lines) 0 (variables_fit may sure m s) (body_fits lines h)))

@@ -14,3 +14,6 @@ pub mod ProgramOrder
 pub mod TextLemmas
 pub mod BlockWidth
 pub mod WithinLemmas
+pub mod RisingLemmas
+pub mod SortLemmas
+pub mod ReorderedLemmas

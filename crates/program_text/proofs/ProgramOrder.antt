@@ -1,5 +1,8 @@
 -- All lines together are in order.
-use Rattle.std.proofs.Common.{◌≡◌, ◌≢◌, ◌⊎◌, ◌++◌, ℕ, List, length, slice_get, Some, refl, subst, inl, inr, arith, append_assoc}
+use Rattle.std.proofs.Common.{◌<◌, ◌≡◌, ◌≢◌, ◌⊎◌, ◌++◌, ℕ, List, length, slice_get, Some, refl, subst, inl, inr, arith, append_assoc}
+use Rattle.ilk_base.specs.declared.words.Direction.{Direction}
+use Rattle.ilk_base.specs.declared.words.Direction.TheVariants.{ToOff, ToOn}
+use Rattle.ilk_base.specs.declared.words.SwitchId.{SwitchId}
 use Rattle.station_graph.specs.Diagram.{Diagram}
 use Rattle.interlock_terms.specs.declared.term.Term.{Term}
 use Rattle.short_equations.specs.declared.pair.TermPair.{TermPair}
@@ -14,6 +17,11 @@ use Rattle.program_text.specs.Names.{name_in}
 use Rattle.program_text.specs.Places.{IsSet}
 use Rattle.program_text.specs.TermLines.{ServesReleases}
 use Rattle.program_text.specs.Releases.{IsFormula, IsReleaseBelow, MeansReleases}
+use Rattle.program_text.specs.Interlocking.{towards}
+
+pub towards_below : (k : ℕ) (i : SwitchId) (direction : Direction) → i.0 < k → IsReleaseBelow k (towards i direction)
+towards_below k i ToOff low = low
+towards_below k i ToOn low = low
 
 release_no_input : (k : ℕ) (m : Name) → IsReleaseBelow k m → ¬ IsInput m
 release_no_input k (Off i) h n = h
@@ -91,7 +99,7 @@ module _ (d : Diagram) (count k : ℕ) (may sure : List Term) (may_count sure_co
   covers (Closes i) h = absurd h.0.0
 
   is_release : (n : ℕ) (y : Line) → slice_get third n ≡ Some y → IsReleaseBelow k y.name
-  is_release n y at = third_means.sets y.name (n, y, at, refl)
+  is_release n y at = (third_means.sets y.name).0 (n, y, at, refl)
 
   apart_three : (n : ℕ) (y : Line) → slice_get third n ≡ Some y → ¬ IsSetIn front y.name
   apart_three n y at h = elim (set_cases first second y.name h) [
@@ -106,3 +114,8 @@ module _ (d : Diagram) (count k : ℕ) (may sure : List Term) (may_count sure_co
       subst (AreInOrder IsInput) (append_assoc first second third)
       (two_in_order IsInput H front third front_order third_order covers
       (λ n y at. release_no_input k y.name (is_release n y at)) apart_three)
+
+  -- each release of the first switches is set
+  pub release_set : (m : Name) → IsReleaseBelow k m → IsSetIn (first ++ (second ++ third)) m
+  release_set m h =
+      set_right first (second ++ third) m (set_right second third m ((third_means.sets m).1 h))

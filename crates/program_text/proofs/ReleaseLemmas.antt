@@ -22,7 +22,8 @@ use Rattle.structured_text.specs.Meaning.{Store, value, gap_denied, load_denied,
 use Rattle.program_text.specs.Releases.{two_of, one_of, gap_denial_in, loaded_of, load_denial_in, release_in, IsRelease}
 use Rattle.program_text.specs.Releases.{MeansReleases, pair_in}
 use Rattle.structured_text.proofs.OrderLemmas.{none_in_order}
-use Rattle.program_text.specs.Releases.{IsFormula}
+use Rattle.structured_text.specs.Order.{IsSetIn}
+use Rattle.program_text.specs.Releases.{IsFormula, IsReleaseBelow}
 use Rattle.program_text.proofs.ReleaseOrder.{opening_reads, closing_reads, two_order, two_sets}
 use Rattle.structured_text.proofs.StoreLemmas.{eq_true, eq_false, is_set, not_set}
 
@@ -105,11 +106,19 @@ releases_none d may sure gap load bond = record {
   opens = λ s i x l b low. absurd (omega (arith, low));
   closes = λ s i x g l b low. absurd (omega (arith, low));
   order = none_in_order (IsFormula may sure);
-  sets = λ m (j, y, at, is). absurd (nothing j y at);
+  sets = λ m. (λ (j, y, at, is). absurd (nothing j y at), none m);
 }
   where
     nothing : (j : ℕ) (y : Line) → slice_get [] j ≡ Some y → ⊥
     nothing j y at = cc at
+
+    none : (m : Name) → IsReleaseBelow 0 m → IsSetIn [] m
+    none (Off i) h = absurd h
+    none (On i) h = absurd h
+    none (May n) h = absurd h
+    none (Sure n) h = absurd h
+    none (Opens i) h = absurd (omega (arith, h))
+    none (Closes i) h = absurd (omega (arith, h))
 
 opens_apart : (i : SwitchId) (m : Name) → ¬ IsRelease m → same_name (Opens i) m ≡ false
 opens_apart i (Off a) ne = refl

@@ -1,6 +1,7 @@
 -- The lines of releases read formulas that there are, and set each release once.
-use Rattle.std.proofs.Common.{◌≡◌, ◌⊎◌, ◌++◌, ◌∙◌, ◌<◌, ◌+◌, ℕ, List, [], ◌∷◌, Bool, true, false, Some, None, refl, sym, subst, inl, inr}
-use Rattle.std.proofs.Common.{arith}
+use Rattle.std.proofs.Common.{◌≡◌, ◌⊎◌, ◌++◌, ◌∙◌, ◌↔◌, ◌<◌, ◌+◌, ℕ, List, [], ◌∷◌, Bool, true, false, Some, None, refl, sym, subst, inl, inr}
+use Rattle.std.proofs.Common.{arith, ap}
+use Rattle.std.proofs.lemmas.Bool.{cases_eq}
 use Rattle.std.specs.Prelude.{Option, nat_lt, if◌then◌else◌}
 use Rattle.std.proofs.lemmas.Bool.Decides.{nat_tests}
 use Rattle.ilk_base.specs.declared.words.Kind.{Kind}
@@ -13,7 +14,7 @@ use Rattle.structured_text.specs.declared.line.LoadDenial.{LoadDenial}
 use Rattle.structured_text.specs.declared.line.Line.{Line}
 use Rattle.structured_text.specs.Reads.{GapReads, LoadReads, FormulaReads}
 use Rattle.structured_text.specs.Order.{IsSetIn, AreInOrder}
-use Rattle.structured_text.proofs.OrderLemmas.{reads_more, set_last, one_more_in_order}
+use Rattle.structured_text.proofs.OrderLemmas.{reads_more, set_left, set_last, last_set, one_more_in_order}
 use Rattle.program_text.specs.Releases.{known_in, pair_in, two_of, one_of, gap_denial_in, loaded_of, load_denial_in, release_in}
 use Rattle.program_text.specs.Releases.{IsFormula, IsReleaseBelow}
 
@@ -100,7 +101,7 @@ module _ (may sure : ℕ) where
   more_below k (Closes i) h = omega (arith, h)
 
   -- two lines more, for one switch more
-  module _ (k : ℕ) (lines : List Line) (order : AreInOrder F lines) (sets : (m : Name) → IsSetIn lines m → IsReleaseBelow k m)
+  module _ (k : ℕ) (lines : List Line) (order : AreInOrder F lines) (sets : (m : Name) → IsSetIn lines m ↔ IsReleaseBelow k m)
       (x y : Line) (opens : x.name ≡ Opens (record { 0 = k })) (closes : y.name ≡ Closes (record { 0 = k }))
       (x_reads : FormulaReads F x.formula) (y_reads : FormulaReads F y.formula) where
     abbrev one : List Line
@@ -111,11 +112,11 @@ module _ (may sure : ℕ) where
 
     opens_new : ¬ IsSetIn lines x.name
     opens_new h =
-        let low : k < k = subst (IsReleaseBelow k) opens (sets x.name h) in omega (arith, low)
+        let low : k < k = subst (IsReleaseBelow k) opens ((sets x.name).0 h) in omega (arith, low)
 
     closes_new : ¬ IsSetIn one y.name
     closes_new h = elim (set_last lines x y.name h) [
-      | inl old ↦ let low : k < k = subst (IsReleaseBelow k) closes (sets y.name old) in omega (arith, low)
+      | inl old ↦ let low : k < k = subst (IsReleaseBelow k) closes ((sets y.name).0 old) in omega (arith, low)
       | inr e ↦ cc (opens, closes, e)
     ]
 
@@ -126,11 +127,33 @@ module _ (may sure : ℕ) where
         (λ h. subst F opens h) opens_new)
         (reads_more F (λ m. F m ⊎ IsSetIn one m) (λ m h. inl h) y.formula y_reads) (λ h. subst F closes h) closes_new
 
-    pub two_sets : (m : Name) → IsSetIn two m → IsReleaseBelow (k + 1) m
-    two_sets m h = elim (set_last one y m h) [
-      | inl a ↦ elim (set_last lines x m a) [
-        | inl b ↦ more_below k m (sets m b)
-        | inr e ↦ let low : k < k + 1 = omega arith in subst (IsReleaseBelow (k + 1)) (sym opens ∙ e) low
-      ]
-      | inr e ↦ let low : k < k + 1 = omega arith in subst (IsReleaseBelow (k + 1)) (sym closes ∙ e) low
-    ]
+    pub two_sets : (m : Name) → IsSetIn two m ↔ IsReleaseBelow (k + 1) m
+    two_sets m = (
+      λ h. elim (set_last one y m h) [
+        | inl a ↦ elim (set_last lines x m a) [
+          | inl b ↦ more_below k m ((sets m).0 b)
+          | inr e ↦ let low : k < k + 1 = omega arith in subst (IsReleaseBelow (k + 1)) (sym opens ∙ e) low
+        ]
+        | inr e ↦ let low : k < k + 1 = omega arith in subst (IsReleaseBelow (k + 1)) (sym closes ∙ e) low
+      ],
+      below m,
+    )
+      where
+        old : (m : Name) → IsReleaseBelow k m → IsSetIn two m
+        old m h = set_left one (y ∷ []) m (set_left lines (x ∷ []) m ((sets m).1 h))
+
+        below : (m : Name) → IsReleaseBelow (k + 1) m → IsSetIn two m
+        below (Off i) h = absurd h
+        below (On i) h = absurd h
+        below (May n) h = absurd h
+        below (Sure n) h = absurd h
+        below (Opens i) h = elim (cases_eq i.0 k) [
+          | inl e ↦
+              subst (IsSetIn two) (opens ∙ ap (λ j. Opens (record { 0 = j })) (sym e))
+              (set_left one (y ∷ []) x.name (last_set lines x))
+          | inr far ↦ old (Opens i) (omega (arith, h, far))
+        ]
+        below (Closes i) h = elim (cases_eq i.0 k) [
+          | inl e ↦ subst (IsSetIn two) (closes ∙ ap (λ j. Closes (record { 0 = j })) (sym e)) (last_set one y)
+          | inr far ↦ old (Closes i) (omega (arith, h, far))
+        ]

@@ -1,5 +1,5 @@
 -- The lines name switches of the station alone.
-use Rattle.std.proofs.Common.{◌≡◌, ◌<◌, ◌≤◌, ◌^◌, ◌++◌, ℕ, List, [], ◌∷◌, Bool, true, false, length, get_or, Some, None, refl}
+use Rattle.std.proofs.Common.{◌≡◌, ◌<◌, ◌≤◌, ◌^◌, ◌++◌, ℕ, zero, suc, List, [], ◌∷◌, Bool, true, false, length, get_or, Some, None, refl}
 use Rattle.std.proofs.Common.{sym, subst, inl, inr, arith}
 use Rattle.std.specs.Prelude.{Option, nat_lt, if◌then◌else◌}
 use Rattle.std.proofs.lemmas.Bool.Decides.{nat_tests}
@@ -38,6 +38,11 @@ within_pushed d lines l h k i x at = elim (push_cases lines l x i at) [
   | inl old ↦ h i x old
   | inr new ↦ subst (LineWithin d) new.1 k
 ]
+
+pub within_both : (d : Diagram) (xs ys : List Line) → LinesWithin d xs → LinesWithin d ys → LinesWithin d (xs ++ ys)
+within_both d [] ys h k i x at = k i x at
+within_both d (z ∷ zs) ys h k zero x at = h 0 x at
+within_both d (z ∷ zs) ys h k (suc i) x at = within_both d zs ys (λ j y at_j. h (suc j) y at_j) k i x at
 
 name_small : (r : Reading) (k : ℕ) → k < 2 ^ 64 → IsOfFormula (name_in r k)
 name_small AsClosed k small = small

@@ -17,6 +17,7 @@ use Rattle.structured_text.specs.declared.name.Name.{Name}
 use Rattle.structured_text.specs.declared.name.Name.TheVariants.{Off as OffOf, On as OnOf, Opens, Closes}
 use Rattle.structured_text.specs.declared.line.Line.{Line}
 use Rattle.structured_text.specs.Meaning.{Store, after}
+use Rattle.structured_text.specs.Order.{IsSetIn}
 
 -- The word that the contacts of the open and of the closed position show: both or neither made say nothing.
 abbrev pub shown_by : Bool → Bool → Dbpos
@@ -45,6 +46,10 @@ towards i ToOn = Closes i
 
 abbrev pub release_name : Op → Name
 release_name op = towards op.switch op.direction
+
+-- The lines set each release.
+abbrev pub SetsReleases : Diagram → List Line → Type 0
+SetsReleases d lines = (op : Op) (x : Switch) → Moves d op x → IsSetIn lines (release_name op)
 
 -- The lines are an interlocking of the station. Safe: whatever the inputs show, what is released breaks no rule in any
 -- reading. Exact: where each switch is known to be off or on, what breaks no rule is released, and nothing else. Tight:

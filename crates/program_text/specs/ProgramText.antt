@@ -3,10 +3,10 @@ use Rattle.std.specs.Prelude.{◌≡◌, ◌++◌, ℕ, zero, suc, List, [], len
 use Rattle.std.specs.List.{flat_map}
 use Rattle.station_graph.specs.Diagram.{Diagram}
 use Rattle.structured_text.specs.declared.line.Line.{Line}
-use Rattle.structured_text.specs.Order.{IsInput, AreInOrder}
 use Rattle.structured_text.specs.Width.{AreLinesShort}
 use Rattle.structured_text.specs.Spelling.{input_text, output_text, locals_text, line_text}
 use Rattle.program_text.specs.declared.text.TheConstants.{HEAD}
+use Rattle.program_text.specs.Sections.{AreReordered}
 use Rattle.program_text.specs.Interlocking.{IsInterlocking}
 
 -- The declarations of the contacts of n switches from number k on.
@@ -35,22 +35,22 @@ abbrev pub variables_text : Diagram → List Line → List Line → List ℕ
 variables_text d may sure =
     codes "VAR\n" ++ (locals_text d.switch_paths may ++ (locals_text d.switch_paths sure ++ codes "END_VAR\n"))
 
--- The lines, for what may be, for what is certain, and for the releases.
-abbrev pub body_text : Diagram → List Line → List Line → List Line → List ℕ
-body_text d may sure releases =
-    lines_text d may ++ (lines_text d sure ++ (lines_text d releases ++ codes "END_FUNCTION_BLOCK\n"))
+-- The lines, and the end of the block.
+abbrev pub body_text : Diagram → List Line → List ℕ
+body_text d lines = lines_text d lines ++ codes "END_FUNCTION_BLOCK\n"
 
 -- The whole text.
 abbrev pub block_text : Diagram → List Line → List Line → List Line → List ℕ
-block_text d may sure releases = contacts_text d ++ (variables_text d may sure ++ body_text d may sure releases)
+block_text d may sure lines = contacts_text d ++ (variables_text d may sure ++ body_text d lines)
 
--- The text is that of lines that are an interlocking of the station: each variable is set once, and before it is read. No
--- line has more than 200 characters.
+-- The text is that of lines that are an interlocking of the station: those of what may be, of what is certain and of the
+-- releases, in an order in which each variable is set before it is read. No line has more than 200 characters.
 pub record IsProgramText (d : Diagram) (text : List ℕ) : Type 0 where
   pub may : List Line
   pub sure : List Line
   pub releases : List Line
-  pub interlocks : IsInterlocking d (may ++ (sure ++ releases))
-  pub order : AreInOrder IsInput (may ++ (sure ++ releases))
-  pub spelled : text ≡ block_text d may sure releases
+  pub lines : List Line
+  pub same : AreReordered (may ++ (sure ++ releases)) lines
+  pub interlocks : IsInterlocking d lines
+  pub spelled : text ≡ block_text d may sure lines
   pub short : AreLinesShort text

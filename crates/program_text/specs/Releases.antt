@@ -1,5 +1,5 @@
 -- The lines of releases, and what they mean.
-use Rattle.std.specs.Prelude.{◌≡◌, ◌<◌, ℕ, List, slice_get, Option, Some, None, nat_lt, if◌then◌else◌}
+use Rattle.std.specs.Prelude.{◌≡◌, ◌↔◌, ◌<◌, ℕ, List, slice_get, Option, Some, None, nat_lt, if◌then◌else◌}
 use Rattle.ilk_base.specs.declared.words.Kind.{Kind}
 use Rattle.ilk_base.specs.declared.words.Kind.TheVariants.{Breaker, Disconnector, Earthing, Infeed}
 use Rattle.station_graph.specs.declared.items.Switch.{Switch}
@@ -102,4 +102,4 @@ pub record MeansReleases (d : Diagram) (may sure : ℕ) (gap load bond : List Te
       after lines s (Closes (record { 0 = i }))
       ≡ value s (release_in (gap_denial_in x.kind (pair_in may g)) (load_denial_in x.kind (pair_in may l) (pair_in sure b)))
   pub order : AreInOrder (IsFormula may sure) lines
-  pub sets : (m : Name) → IsSetIn lines m → IsReleaseBelow k m
+  pub sets : (m : Name) → IsSetIn lines m ↔ IsReleaseBelow k m

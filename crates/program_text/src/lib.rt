@@ -1,12 +1,16 @@
 //! The interlocking of a station as structured text that a bay controller takes.
 #![tactic(auto)]
 
+mod bay_masks;
 mod place;
 mod places;
 mod program;
+mod read_names;
 mod reading;
 mod reads;
 mod release;
+mod section_keys;
+mod sections;
 mod term_lines;
 mod text;
 

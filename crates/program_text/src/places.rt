@@ -164,7 +164,7 @@ pub(crate) fn places_of(
     ensures set { IfOk result (λ r. ReadWhatIsSet reading r.items releases.now) }
 {
     let mut places = vec![in alloc; Place::Nowhere; terms.len()]?;
-    set_reads(reading, &mut places, releases);
+    set_reads(alloc, reading, &mut places, releases)?;
     read_all(terms, &mut places);
     settle(terms, &mut places);
     Ok(places)

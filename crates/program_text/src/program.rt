@@ -4,11 +4,14 @@ ghost use Rattle.station_graph.specs.Diagram.{Diagram};
 ghost use Rattle.structured_text.specs.Order.{IsInput, AreInOrder};
 ghost use Rattle.structured_text.specs.Within.{LinesWithin};
 ghost use Rattle.program_text.specs.TermLines.{ServesReleases};
-ghost use Rattle.program_text.specs.Interlocking.{IsInterlocking};
+ghost use Rattle.program_text.specs.Sections.{AreReordered};
+ghost use Rattle.program_text.specs.Interlocking.{IsInterlocking, SetsReleases};
 
 use crate::places::places_of;
 use crate::reading::Reading;
 use crate::release::release_lines;
+use crate::section_keys::section_keys;
+use crate::sections::in_sections;
 use crate::term_lines::term_lines;
 use ilk_base::Memory;
 use interlock_terms::Terms;
@@ -17,7 +20,7 @@ use station_graph::Station;
 use std::alloc::Global;
 use structured_text::Line;
 
-/// The lines of an interlocking, in order.
+/// The lines of an interlocking, by what they say.
 #[derive(Drop)]
 pub struct Program {
     /// what may be coupled, joined, live, earthed and tapped
@@ -26,6 +29,10 @@ pub struct Program {
     pub sure: Vec<Line>,
     /// the releases
     pub releases: Vec<Line>,
+    /// how many formulas there are of what may be
+    pub may_count: usize,
+    /// how many there are of what is certain
+    pub sure_count: usize,
 }
 
 // The lines of formulas of a reading that the lines of the releases need.
@@ -48,10 +55,12 @@ fn reading_lines(
 pub fn interlocking(alloc: Global, station: &Station) -> Result<Program, Memory>
     ensures interlocks { IfOk result (λ p. IsInterlocking station.now
         (p.may.items ++ (p.sure.items ++ p.releases.items))) }
+    ensures order { IfOk result (λ p. AreInOrder IsInput (p.may.items ++ (p.sure.items ++ p.releases.items))) }
+    ensures sets { IfOk result (λ p. SetsReleases station.now
+        (p.may.items ++ (p.sure.items ++ p.releases.items))) }
     ensures may { IfOk result (λ p. LinesWithin station.now p.may.items) }
     ensures sure { IfOk result (λ p. LinesWithin station.now p.sure.items) }
     ensures releases { IfOk result (λ p. LinesWithin station.now p.releases.items) }
-    ensures order { IfOk result (λ p. AreInOrder IsInput (p.may.items ++ (p.sure.items ++ p.releases.items))) }
     ensures few { OnOk result (length station.now.switches < 2 ^ 16) }
 {
     let mut terms = Terms::new(alloc);
@@ -60,20 +69,53 @@ pub fn interlocking(alloc: Global, station: &Station) -> Result<Program, Memory>
     let mut certain = Terms::new(alloc);
     let bond = view_pairs(alloc, &mut certain, station, View::Bond)?;
     let count = station.switch_count();
-    let releases = release_lines(
-        alloc,
-        station,
-        &gap,
-        &load,
-        &bond,
-        terms.len(),
-        certain.len(),
-    )?;
+    let may_count = terms.len();
+    let sure_count = certain.len();
+    let releases = release_lines(alloc, station, &gap, &load, &bond, may_count, sure_count)?;
     let may = reading_lines(alloc, &terms, Reading::May, count, &releases)?;
     let sure = reading_lines(alloc, &certain, Reading::Sure, count, &releases)?;
     Ok(Program {
         may,
         sure,
         releases,
+        may_count,
+        sure_count,
     })
+}
+
+// The lines, one list behind the other.
+fn all_lines(alloc: Global, program: &Program) -> Result<Vec<Line>, Memory>
+    ensures { IfOk result (λ r. r.items
+        ≡ program.now.may.items ++ (program.now.sure.items ++ program.now.releases.items)) }
+{
+    let mut lines = Vec::from_slice(alloc, &program.may)?;
+    lines.extend_from_slice(&program.sure)?;
+    lines.extend_from_slice(&program.releases)?;
+    Ok(lines)
+}
+
+/// The lines as the text has them: the signals of each bay, what bays are together, and the releases of each bay.
+pub fn lines_by_bays(
+    alloc: Global,
+    station: &Station,
+    program: &Program,
+) -> Result<Vec<Line>, Memory>
+    requires order { AreInOrder IsInput
+        (program.now.may.items ++ (program.now.sure.items ++ program.now.releases.items)) }
+    requires within { LinesWithin station.now
+        (program.now.may.items ++ (program.now.sure.items ++ program.now.releases.items)) }
+    ensures reordered { IfOk result (λ r. AreReordered
+        (program.now.may.items ++ (program.now.sure.items ++ program.now.releases.items)) r.items) }
+    ensures within { IfOk result (λ r. LinesWithin station.now r.items) }
+{
+    let lines = all_lines(alloc, program)?;
+    let keys = section_keys(
+        alloc,
+        station,
+        &lines,
+        program.may_count,
+        program.sure_count,
+    )?;
+    let sorted = in_sections(alloc, station, &lines, &keys)?;
+    Ok(sorted)
 }

@@ -1,14 +1,13 @@
 //! The lines of releases.
 ghost use Rattle.std.specs.Prelude.{◌≡◌, ◌<◌, ◌≤◌, length, IfOk, OnOk};
-ghost use Rattle.station_graph.specs.Diagram.{part_count};
-ghost use Rattle.structured_text.specs.Within.{HeadingWithin, LinesWithin};
+ghost use Rattle.structured_text.specs.Within.{LinesWithin};
 ghost use Rattle.program_text.specs.Releases.{known_in, pair_in, gap_denial_in, load_denial_in, release_in, MeansReleases};
 
 use ilk_base::{Kind, Memory, SwitchId};
 use short_equations::TermPair;
 use station_graph::Station;
 use std::alloc::Global;
-use structured_text::{Formula, GapDenial, Heading, Line, LoadDenial, Name};
+use structured_text::{Formula, GapDenial, Line, LoadDenial, Name};
 
 // What denies that a switch of this kind is closed.
 fn gap_denial(kind: Kind, pair: TermPair) -> Option<GapDenial>
@@ -82,18 +81,6 @@ fn known_pair(pair: TermPair, count: usize) -> TermPair
     }
 }
 
-// The comment above the lines of a switch: the first of a bay has one.
-fn heading_of(station: &Station, id: SwitchId) -> Option<Heading>
-    requires { id.0 < length station.now.switches }
-    ensures { HeadingWithin (part_count station.now) result }
-{
-    let bay = station.switch(id).bay;
-    if id.0 > 0 && station.switch(SwitchId(id.0 - 1)).bay == bay {
-        return None;
-    }
-    Some(Heading::Releases(bay))
-}
-
 /// Two lines for each switch, in order: that opening it is released, and that closing it is.
 pub(crate) fn release_lines(
     alloc: Global,
@@ -122,9 +109,8 @@ pub(crate) fn release_lines(
         let closed = gap_denial(kind, coupled);
         let opens = release(None, moved);
         let closes = release(closed, moved);
-        let heading = heading_of(station, id);
         lines.push(Line {
-            heading,
+            heading: None,
             name: Name::Opens(id),
             formula: opens,
         })?;

@@ -1,7 +1,7 @@
 //! The lines of formulas.
-ghost use Rattle.std.specs.Prelude.{◌≡◌, ◌<◌, ℕ, length, slice_get, Some, IfOk};
+ghost use Rattle.std.specs.Prelude.{◌≡◌, length, IfOk};
 ghost use Rattle.station_graph.specs.Diagram.{Diagram};
-ghost use Rattle.structured_text.specs.Within.{HeadingWithin, LinesWithin};
+ghost use Rattle.structured_text.specs.Within.{LinesWithin};
 ghost use Rattle.program_text.specs.Places.{ArePlaced};
 ghost use Rattle.program_text.specs.TermLines.{leaf_in, inside_in, operand_in, side_in, formula_in, MeansTerms};
 
@@ -11,7 +11,7 @@ use crate::reading::{Reading, name_of};
 use ilk_base::{Memory, SwitchId};
 use interlock_terms::{Term, Terms};
 use std::alloc::Global;
-use structured_text::{Formula, Heading, Line, Operand};
+use structured_text::{Formula, Line, Operand};
 
 // That the switch counts as closed; never where there is no such switch.
 fn leaf_of(reading: Reading, count: u16, switch: SwitchId) -> Formula
@@ -74,19 +74,6 @@ fn formula_of(reading: Reading, count: u16, terms: &Terms, places: &[Place], ter
     }
 }
 
-// The comment above a line that has so many before it: the first alone has one.
-fn heading_at(reading: Reading, before: usize) -> Option<Heading>
-    ensures { (parts : ℕ) → HeadingWithin parts result }
-{
-    if before > 0 {
-        return None;
-    }
-    match reading {
-        Reading::May => Some(Heading::May),
-        Reading::Sure => Some(Heading::Sure),
-    }
-}
-
 /// A line for each formula that has one, in order.
 pub(crate) fn term_lines(
     alloc: Global,
@@ -103,11 +90,10 @@ pub(crate) fn term_lines(
     for k in 0..terms.len() {
         if is_named(places, k) {
             let term = terms.get(k);
-            let heading = heading_at(reading, lines.len());
             let name = name_of(reading, k);
             let formula = formula_of(reading, count, terms, places, term);
             lines.push(Line {
-                heading,
+                heading: None,
                 name,
                 formula,
             })?;

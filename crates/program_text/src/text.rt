@@ -4,11 +4,11 @@ ghost use Rattle.structured_text.specs.Within.{LinesWithin};
 ghost use Rattle.program_text.specs.ProgramText.{inputs_text, outputs_text, contacts_text, variables_text};
 ghost use Rattle.program_text.specs.ProgramText.{body_text, block_text, IsProgramText};
 
-use crate::program::{Program, interlocking};
+use crate::program::{Program, interlocking, lines_by_bays};
 use ilk_base::{Memory, SwitchId, Text};
 use station_graph::Station;
 use std::alloc::Global;
-use structured_text::{write_input, write_lines, write_locals, write_output};
+use structured_text::{Line, write_input, write_lines, write_locals, write_output};
 
 // What the text says of itself, and the begin of its inputs.
 const HEAD: &[u8] =
@@ -17,6 +17,7 @@ const HEAD: &[u8] =
     \x20                           10 off, 01 on; 00 and 11 say nothing. Its path stands where they are declared.\n\
     \x20  m..  what holds where each switch that is not known to be off is closed: coupled, joined, live, earthed, tapped\n\
     \x20  c..  what holds where each switch that is not known to be on is open: bonded\n\
+    \x20  The lines stand bay by bay: what each bay is to the others, what bays are together, each bay's releases.\n\
     \x20  An input that does not come counts as FALSE. The releases hold at one moment: two controllers that both see one\n\
     \x20  may both move, which this text does not forbid. *)\n\
     FUNCTION_BLOCK INTERLOCKING\n\
@@ -69,31 +70,30 @@ fn write_variables(text: &mut Text, station: &Station, program: &Program) -> Res
 }
 
 // Appends the lines.
-fn write_body(text: &mut Text, station: &Station, program: &Program) -> Result<(), Memory>
-    requires may { LinesWithin station.now program.now.may.items }
-    requires sure { LinesWithin station.now program.now.sure.items }
-    requires releases { LinesWithin station.now program.now.releases.items }
-    ensures { OnOk result (text.new ≡ text.old
-        ++ body_text station.now program.now.may.items program.now.sure.items program.now.releases.items) }
+fn write_body(text: &mut Text, station: &Station, lines: &[Line]) -> Result<(), Memory>
+    requires { LinesWithin station.now lines.now }
+    ensures { OnOk result (text.new ≡ text.old ++ body_text station.now lines.now) }
 {
-    write_lines(text, station, &program.may)?;
-    write_lines(text, station, &program.sure)?;
-    write_lines(text, station, &program.releases)?;
-    text.push(b"END_FUNCTION_BLOCK\n")?;
-    Ok(())
+    write_lines(text, station, lines)?;
+    text.push(b"END_FUNCTION_BLOCK\n")
 }
 
 // Appends the function block.
-fn write_program(text: &mut Text, station: &Station, program: &Program) -> Result<(), Memory>
+fn write_program(
+    text: &mut Text,
+    station: &Station,
+    program: &Program,
+    lines: &[Line],
+) -> Result<(), Memory>
     requires may { LinesWithin station.now program.now.may.items }
     requires sure { LinesWithin station.now program.now.sure.items }
-    requires releases { LinesWithin station.now program.now.releases.items }
+    requires lines { LinesWithin station.now lines.now }
     ensures { OnOk result (text.new ≡ text.old
-        ++ block_text station.now program.now.may.items program.now.sure.items program.now.releases.items) }
+        ++ block_text station.now program.now.may.items program.now.sure.items lines.now) }
 {
     write_contacts(text, station)?;
     write_variables(text, station, program)?;
-    write_body(text, station, program)
+    write_body(text, station, lines)
 }
 
 /// The interlocking of a station as a function block of structured text (IEC 61131-3): assignments of AND, OR and NOT
@@ -102,7 +102,8 @@ pub fn program_text(alloc: Global, station: &Station) -> Result<Text, Memory>
     ensures { IfOk result (IsProgramText station.now) }
 {
     let program = interlocking(alloc, station)?;
+    let lines = lines_by_bays(alloc, station, &program)?;
     let mut text = Text::new(alloc);
-    write_program(&mut text, station, &program)?;
+    write_program(&mut text, station, &program, &lines)?;
     Ok(text)
 }

@@ -10,7 +10,7 @@ use Rattle.station_graph.specs.Diagram.{Diagram}
 use Rattle.structured_text.specs.declared.name.Name.{Name}
 use Rattle.structured_text.specs.declared.name.Name.TheVariants.{Off, On, Opens, Closes}
 use Rattle.structured_text.specs.declared.line.Heading.{Heading}
-use Rattle.structured_text.specs.declared.line.Heading.TheVariants.{May as MayHeading, Sure as SureHeading, Releases}
+use Rattle.structured_text.specs.declared.line.Heading.TheVariants.{Signals, Together, Releases}
 use Rattle.structured_text.specs.declared.line.Line.{Line}
 use Rattle.structured_text.specs.Width.{continues}
 use Rattle.structured_text.specs.Spelling.{shown_byte, row_break, row_length, shown_from, shown, name_text, pair_text, formula_text}
@@ -106,12 +106,11 @@ comment_fits path what h =
 
 heading_fits : (d : Diagram) (h : Option Heading) → Fits 0 (heading_text d h) 0
 heading_fits d None = omega arith
-heading_fits d (Some MayHeading) =
-    comment_fits [] (codes "what holds where each switch that may be closed is")
-    (tested 85 (codes "what holds where each switch that may be closed is") 150 refl)
-heading_fits d (Some SureHeading) =
-    comment_fits [] (codes "what holds where each switch that may be open is")
-    (tested 85 (codes "what holds where each switch that may be open is") 150 refl)
+heading_fits d (Some (Signals p)) =
+    comment_fits (slice_index_or d.part_paths p.0 []) (codes ": what it is to the other bays")
+    (tested 85 (codes ": what it is to the other bays") 150 refl)
+heading_fits d (Some Together) =
+    comment_fits [] (codes "what bays are together") (tested 85 (codes "what bays are together") 150 refl)
 heading_fits d (Some (Releases p)) =
     comment_fits (slice_index_or d.part_paths p.0 []) (codes ": the releases") (tested 85 (codes ": the releases") 150 refl)
 

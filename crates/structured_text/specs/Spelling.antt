@@ -15,7 +15,7 @@ use Rattle.structured_text.specs.declared.line.LoadDenial.TheVariants.{Loaded, U
 use Rattle.structured_text.specs.declared.line.Operand.{Operand}
 use Rattle.structured_text.specs.declared.line.Operand.TheVariants.{Variable, Product, Sum}
 use Rattle.structured_text.specs.declared.line.Heading.{Heading}
-use Rattle.structured_text.specs.declared.line.Heading.TheVariants.{May as MayHeading, Sure as SureHeading, Releases}
+use Rattle.structured_text.specs.declared.line.Heading.TheVariants.{Signals, Together, Releases}
 use Rattle.structured_text.specs.declared.line.Formula.{Formula}
 use Rattle.structured_text.specs.declared.line.Formula.TheVariants.{Always, Never, MayBeClosed, IsClosed, Both, Either, Apart, Unloaded, Released}
 use Rattle.structured_text.specs.declared.line.Line.{Line}
@@ -123,8 +123,8 @@ comment_text path what = codes "\n  (* " ++ (shown path ++ (what ++ codes " *)\n
 
 abbrev pub heading_text : Diagram → Option Heading → List ℕ
 heading_text d None = []
-heading_text d (Some MayHeading) = comment_text [] (codes "what holds where each switch that may be closed is")
-heading_text d (Some SureHeading) = comment_text [] (codes "what holds where each switch that may be open is")
+heading_text d (Some (Signals p)) = comment_text (slice_index_or d.part_paths p.0 []) (codes ": what it is to the other bays")
+heading_text d (Some Together) = comment_text [] (codes "what bays are together")
 heading_text d (Some (Releases p)) = comment_text (slice_index_or d.part_paths p.0 []) (codes ": the releases")
 
 -- `  NAME := FORMULA;` and the end of the line, below its comment.

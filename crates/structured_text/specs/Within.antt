@@ -10,7 +10,7 @@ use Rattle.structured_text.specs.declared.line.LoadDenial.TheVariants.{Loaded, U
 use Rattle.structured_text.specs.declared.line.Operand.{Operand}
 use Rattle.structured_text.specs.declared.line.Operand.TheVariants.{Variable, Product, Sum}
 use Rattle.structured_text.specs.declared.line.Heading.{Heading}
-use Rattle.structured_text.specs.declared.line.Heading.TheVariants.{May as MayHeading, Sure as SureHeading, Releases}
+use Rattle.structured_text.specs.declared.line.Heading.TheVariants.{Signals, Together, Releases}
 use Rattle.structured_text.specs.declared.line.Formula.{Formula}
 use Rattle.structured_text.specs.declared.line.Formula.TheVariants.{Always, Never, MayBeClosed, IsClosed, Both, Either, Apart, Unloaded, Released}
 use Rattle.structured_text.specs.declared.line.Line.{Line}
@@ -71,8 +71,8 @@ FormulaWithin count (Released gap load) = GapWithin gap × LoadWithin load
 -- A heading names a part of so many.
 abbrev pub HeadingWithin : ℕ → Option Heading → Type 0
 HeadingWithin parts None = Unit {0}
-HeadingWithin parts (Some MayHeading) = Unit {0}
-HeadingWithin parts (Some SureHeading) = Unit {0}
+HeadingWithin parts (Some (Signals p)) = p.0 < parts
+HeadingWithin parts (Some Together) = Unit {0}
 HeadingWithin parts (Some (Releases p)) = p.0 < parts
 
 -- The line names parts and switches of the station alone.

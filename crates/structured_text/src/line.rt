@@ -57,10 +57,10 @@ pub enum Formula {
 /// A comment above a line.
 #[derive(Clone, Copy, PartialEq, Eq)]
 pub enum Heading {
-    /// what may be
-    May,
-    /// what is certain
-    Sure,
+    /// what a bay is to the others
+    Signals(BayId),
+    /// what bays are together
+    Together,
     /// the releases of a bay
     Releases(BayId),
 }

@@ -31,20 +31,14 @@ fn push_heading(text: &mut Text, station: &Station, heading: Option<Heading>) ->
 {
     match heading {
         None => Ok(()),
-        Some(Heading::May) => {
+        Some(Heading::Signals(part)) => {
             push_comment(
                 text,
-                b"",
-                b"what holds where each switch that may be closed is",
+                station.part_path(part).as_bytes(),
+                b": what it is to the other bays",
             )
         }
-        Some(Heading::Sure) => {
-            push_comment(
-                text,
-                b"",
-                b"what holds where each switch that may be open is",
-            )
-        }
+        Some(Heading::Together) => push_comment(text, b"", b"what bays are together"),
         Some(Heading::Releases(part)) => {
             push_comment(text, station.part_path(part).as_bytes(), b": the releases")
         }

@@ -6,7 +6,8 @@ use std::test::Fail;
 use test_stations::{Example, built};
 
 // The earthing switch may be closed where the infeed is known to be off, and the infeed set on where the earthing switch
-// is known to be off; opening is always released. That the node has a tap is read by no line, so no line says it.
+// is known to be off; opening is always released. That the node has a tap is read by no line, so no line says it;
+// and all lines are for the releases of this one bay.
 const LINES: &[u8] = b"VAR_INPUT\n\
     \x20 sw0_QC9_off, sw0_QC9_on : BOOL; (* S/V1/Q1/QC9 *)\n\
     \x20 sw1_E1_off, sw1_E1_on : BOOL; (* S/V1/Q1/E1 *)\n\
@@ -17,11 +18,9 @@ const LINES: &[u8] = b"VAR_INPUT\n\
     \x20 m0, m1 : BOOL;\n\
     END_VAR\n\
     \n\
-    \x20 (* what holds where each switch that may be closed is *)\n\
+    \x20 (* S/V1/Q1: the releases *)\n\
     \x20 m0 := sw0_QC9_on OR NOT sw0_QC9_off;\n\
     \x20 m1 := sw1_E1_on OR NOT sw1_E1_off;\n\
-    \n\
-    \x20 (* S/V1/Q1: the releases *)\n\
     \x20 sw0_QC9_EnaOpn := TRUE;\n\
     \x20 sw0_QC9_EnaCls := NOT m1;\n\
     \x20 sw1_E1_EnaOpn := TRUE;\n\

@@ -48,14 +48,14 @@ loop-i-preserved c =
     ∙ (ap (λ (m : Option GapDenial). release_in m c.load_denial-moved.result) closed
     ∙ ap (λ (m : Option LoadDenial). release_in (gap_denial_in kind (pair_in may g)) m) moved) in
     rw (c.in_ok-push-2.ensures.items, c.in_ok-push.ensures.items) (
-      releases_push c.heading_of-heading.result d may sure c.args.gap.now c.args.load.now c.args.bond.now k c.loop-i.lines.items c.loop-i.invariant.0 x
+      releases_push None d may sure c.args.gap.now c.args.load.now c.args.bond.now k c.loop-i.lines.items c.loop-i.invariant.0 x
           c.switch-kind.ensures.value g l b (slice_get-get_or c.args.gap.now k none (omega (arith, low, gap_room)))
           (slice_get-get_or c.args.load.now k none (omega (arith, low, load_room)))
           (slice_get-get_or c.args.bond.now k none (omega (arith, low, bond_room))) c.release-opens.result
           c.release-closes.result opens closes,
       within_pushed d _ _
           (within_pushed d c.loop-i.lines.items _ c.loop-i.invariant.1 (record {
-            heading = c.heading_of-heading.ensures;
+            heading = tt;
             name = low;
             formula = subst (FormulaWithin (length d.switches)) (sym opens)
                 (opening_within (length d.switches) may sure few rare kind l b);

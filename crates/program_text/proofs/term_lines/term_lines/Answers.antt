@@ -1,5 +1,4 @@
-use Rattle.std.proofs.Common.{◌≡◌, ◌∙◌, ◌<◌, ◌^◌, length, ap, subst, sym, arith}
-use Rattle.station_graph.specs.Diagram.{part_count}
+use Rattle.std.proofs.Common.{None, ◌≡◌, ◌∙◌, ◌<◌, ◌^◌, length, ap, subst, sym, arith}
 use Rattle.structured_text.specs.declared.line.Line.{Line}
 use Rattle.structured_text.specs.declared.line.Formula.{Formula}
 use Rattle.structured_text.specs.Within.{LineWithin}
@@ -24,18 +23,16 @@ loop-k-preserved c =
     elim c.if-is_named.branch [
       | then-is_named+in_ok-push w ↦
           let t = w.get-term.result in
-          let hd = w.heading_at-heading.result in
-          let l : Line = record { heading = hd; name = w.name_of-name.result; formula = w.formula_of-formula.result } in
-          let same : l ≡ record { heading = hd; name = name_in r k; formula = formula_in r count terms places t } =
-          ap (λ n. record { heading = hd; name = n; formula = w.formula_of-formula.result }) w.name_of-name.ensures
-          ∙ ap (λ (f : Formula). record { heading = hd; name = name_in r k; formula = f }) w.formula_of-formula.ensures in
+          let l : Line = record { heading = None; name = w.name_of-name.result; formula = w.formula_of-formula.result } in
+          let same : l ≡ record { heading = None; name = name_in r k; formula = formula_in r count terms places t } =
+          ap (λ n. record { heading = None; name = n; formula = w.formula_of-formula.result }) w.name_of-name.ensures
+          ∙ ap (λ (f : Formula). record { heading = None; name = name_in r k; formula = f }) w.formula_of-formula.ensures in
           rw (w.lines-is, w.in_ok-push.ensures.items) (
             means_push r count terms places c.requires k c.loop-k.lines.items c.loop-k.invariant.0
-                w.get-term.ensures.ordered t w.get-term.ensures.value (c.is_named.ensures.yes w.if-is_named.true) hd l same,
+                w.get-term.ensures.ordered t w.get-term.ensures.value (c.is_named.ensures.yes w.if-is_named.true) None l same,
             λ d counted. within_pushed d c.loop-k.lines.items l (c.loop-k.invariant.1 d counted)
                 (subst (LineWithin d) (sym same)
-                (term_within r terms places w.get-term.ensures.ordered k within small d count counted hd
-                (w.heading_at-heading.ensures (part_count d)) t (w.get-term.ensures.ordered k t w.get-term.ensures.value))),
+                (term_within r terms places w.get-term.ensures.ordered k within small d count counted None tt t (w.get-term.ensures.ordered k t w.get-term.ensures.value))),
           )
       | else-is_named w ↦
           rw (w.lines-is) (
