@@ -95,7 +95,7 @@ fn all_lines(alloc: Global, program: &Program) -> Result<Vec<Line>, Memory>
 }
 
 /// The lines as the text has them: the signals of each bay, what bays are together, and the releases of each bay.
-pub fn lines_by_bays(
+pub(crate) fn lines_by_bays(
     alloc: Global,
     station: &Station,
     program: &Program,

@@ -1,9 +1,11 @@
-//! The structured text of a bay with an earthing switch and an infeed at one node, worked by hand.
+//! Structured texts worked by hand: of a bay with an earthing switch and an infeed at one node, of one with two
+//! disconnectors in parallel, and of one with a long name.
+use ilk_base::Kind;
 use program_text::program_text;
 use station_graph::Station;
 use std::alloc::Global;
 use std::test::Fail;
-use test_stations::{Example, built};
+use test_stations::{Drawing, Example, built, station_of};
 
 // The earthing switch may be closed where the infeed is known to be off, and the infeed set on where the earthing switch
 // is known to be off; opening is always released. That the node has a tap is read by no line, so no line says it;
@@ -27,6 +29,65 @@ const LINES: &[u8] = b"VAR_INPUT\n\
     \x20 sw1_E1_EnaCls := NOT m0;\n\
     END_FUNCTION_BLOCK\n";
 
+// A busbar that an infeed feeds, and a node behind two disconnectors in parallel. Each of them carries the load that the
+// other one bonds: so it may move unless the infeed may be on, and the other one may be closed but is not for certain. The
+// third formula of what may be is that one of the disconnectors is closed; no release reads it. No earth can meet what is
+// live, so nothing else denies that they close.
+const STUB: &[u8] = b"VAR_INPUT\n\
+    \x20 sw0_QB1_off, sw0_QB1_on : BOOL; (* S/V1/Q1/QB1 *)\n\
+    \x20 sw1_QB2_off, sw1_QB2_on : BOOL; (* S/V1/Q1/QB2 *)\n\
+    \x20 sw2_E1_off, sw2_E1_on : BOOL; (* S/V1/Q1/E1 *)\n\
+    END_VAR\nVAR_OUTPUT\n\
+    \x20 sw0_QB1_EnaOpn, sw0_QB1_EnaCls : BOOL;\n\
+    \x20 sw1_QB2_EnaOpn, sw1_QB2_EnaCls : BOOL;\n\
+    \x20 sw2_E1_EnaOpn, sw2_E1_EnaCls : BOOL;\n\
+    END_VAR\nVAR\n\
+    \x20 m0, m1, m3 : BOOL;\n\
+    \x20 c0, c1 : BOOL;\n\
+    END_VAR\n\
+    \n\
+    \x20 (* S/V1/Q1: the releases *)\n\
+    \x20 m0 := sw0_QB1_on OR NOT sw0_QB1_off;\n\
+    \x20 m1 := sw1_QB2_on OR NOT sw1_QB2_off;\n\
+    \x20 m3 := sw2_E1_on OR NOT sw2_E1_off;\n\
+    \x20 c0 := sw0_QB1_on AND NOT sw0_QB1_off;\n\
+    \x20 c1 := sw1_QB2_on AND NOT sw1_QB2_off;\n\
+    \x20 sw0_QB1_EnaOpn := NOT (m3 AND m1 AND NOT c1);\n\
+    \x20 sw0_QB1_EnaCls := NOT (m3 AND m1 AND NOT c1);\n\
+    \x20 sw1_QB2_EnaOpn := NOT (m3 AND m0 AND NOT c0);\n\
+    \x20 sw1_QB2_EnaCls := NOT (m3 AND m0 AND NOT c0);\n\
+    \x20 sw2_E1_EnaOpn := TRUE;\n\
+    \x20 sw2_E1_EnaCls := TRUE;\n\
+    END_FUNCTION_BLOCK\n";
+
+// An earthing switch whose path has 92 characters: the first row of the comment has 80 of them, and the identifier the last
+// 13. Nothing denies that it moves, so no formula is read.
+const LONG: Drawing = Drawing {
+    parts: &["S"],
+    nodes: &["S/n"],
+    switches: &[(
+        "aaaaaaaaaaaaaaaaaaaaaaaaaaaaaaaaaaaaaaaaaaaaaaaaaaaaaaaaaaaaaaaaaaaaaaaaaaaaaaaaaaaaaaaaaa",
+        Kind::Earthing,
+        0,
+        0,
+        None,
+    )],
+    links: &[],
+    taps: &[],
+};
+
+const LONG_LINES: &[u8] = b"VAR_INPUT\n\
+    \x20 sw0_aaaaaaaaaaaaa_off, sw0_aaaaaaaaaaaaa_on : BOOL; (* S/aaaaaaaaaaaaaaaaaaaaaaaaaaaaaaaaaaaaaaaaaaaaaaaaaaaaaaaaaaaaaaaaaaaaaaaaaaaaaa\n\
+    \x20    aaaaaaaaaaaa *)\n\
+    END_VAR\nVAR_OUTPUT\n\
+    \x20 sw0_aaaaaaaaaaaaa_EnaOpn, sw0_aaaaaaaaaaaaa_EnaCls : BOOL;\n\
+    END_VAR\nVAR\nEND_VAR\n\
+    \n\
+    \x20 (* S: the releases *)\n\
+    \x20 sw0_aaaaaaaaaaaaa_EnaOpn := TRUE;\n\
+    \x20 sw0_aaaaaaaaaaaaa_EnaCls := TRUE;\n\
+    END_FUNCTION_BLOCK\n";
+
 // Whether the text of the station's program ends with these lines.
 fn ends_with(alloc: Global, station: &Station, lines: &[u8]) -> bool {
     match program_text(alloc, station) {
@@ -39,5 +100,19 @@ fn ends_with(alloc: Global, station: &Station, lines: &[u8]) -> bool {
 fn programs(rt: HostRuntime) -> Result<(), Fail> {
     let station = built(rt.alloc(), Example::EarthedLine)?;
     assert!(rt; ends_with(rt.alloc(), &station, LINES));
+    Ok(())
+}
+
+#[test]
+fn two_ways(rt: HostRuntime) -> Result<(), Fail> {
+    let station = built(rt.alloc(), Example::BareStub)?;
+    assert!(rt; ends_with(rt.alloc(), &station, STUB));
+    Ok(())
+}
+
+#[test]
+fn long_path(rt: HostRuntime) -> Result<(), Fail> {
+    let station = station_of(rt.alloc(), LONG)?;
+    assert!(rt; ends_with(rt.alloc(), &station, LONG_LINES));
     Ok(())
 }
