@@ -11,9 +11,7 @@ use double_points::Readings;
 use ilk_base::{BayId, Dbpos, Direction, HeardList, Memory, Op, Summary, SwitchId};
 use station_graph::Station;
 use std::alloc::Global;
-use std::process::Abort;
-use std::test::Fail;
-use test_stations::{Example, built};
+use test_stations::{Example, StationRow, rows_hold};
 
 // What a sign of a row of words stands for.
 fn word_of(sign: u8) -> Dbpos {
@@ -27,11 +25,11 @@ fn word_of(sign: u8) -> Dbpos {
 }
 
 // The words of all switches, a sign for each.
-fn words(rt: &impl Abort, alloc: Global, station: &Station, signs: &[u8]) -> Result<Readings, Fail>
+fn words(alloc: Global, station: &Station, signs: &[u8]) -> Result<Readings, Memory>
+    requires { length signs.now ≡ length station.now.switches }
     ensures { IfOk result (λ r. AreWords station.now r) }
 {
     let mut readings = Readings::lost(alloc, station)?;
-    assert!(rt; signs.len() == station.switch_count() as usize);
     for i in 0..station.switch_count() {
         readings.sense(SwitchId(i), word_of(signs[i as usize]));
     }
@@ -56,22 +54,21 @@ fn is_other(station: &Station, part: BayId, bay: BayId) -> bool
 
 // What the bay of a switch hears where each bay tells it of its words, or where none does.
 fn hear(
-    rt: &impl Abort,
     alloc: Global,
     judge: &PlainJudge<'_>,
     station: &Station,
     id: SwitchId,
     readings: &Readings,
     tell: bool,
-) -> Result<HeardList, Fail>
+) -> Result<HeardList, Memory>
     requires station { judge.now ≡ station.now }
     requires switch { id.0 < length station.now.switches }
+    requires bay { IsBay station.now (bay_of station.now id.0) }
     requires all { AreWords station.now readings.now }
     ensures count { IfOk result (λ h. length h ≡ part_count station.now) }
     ensures fits { IfOk result (HeardFit (by_rows station.now) (bay_of station.now id.0)) }
 {
     let to = station.switch(id).bay;
-    assert!(rt; is_bay(station, to));
     let mut heard = HeardList::none(alloc, station.part_count() as u8)?;
     for i in 0..station.part_count() as u8 {
         if tell && is_other(station, BayId(i), to) {
@@ -89,16 +86,16 @@ fn releases(
     op: Op,
     readings: &Readings,
     heard: &HeardList,
-) -> Result<u32, Memory>
+) -> u32
     requires station { judge.now ≡ station.now }
     requires op { IsOperation station.now op }
     requires all { AreWords station.now readings.now }
     requires count { length heard.now ≡ part_count station.now }
     requires fits { HeardFit (by_rows station.now) (bay_of station.now op.switch.0) heard.now }
 {
-    match judge.judge(alloc, op, readings, heard)? {
-        Verdict::Release => Ok(1),
-        Verdict::Denied { .. } => Ok(0),
+    match judge.judge(alloc, op, readings, heard) {
+        Ok(Verdict::Release) => 1,
+        _ => 0,
     }
 }
 
@@ -110,7 +107,7 @@ fn releases_both(
     switch: SwitchId,
     readings: &Readings,
     heard: &HeardList,
-) -> Result<u32, Memory>
+) -> u32
     requires station { judge.now ≡ station.now }
     requires switch { switch.0 < length station.now.switches }
     requires all { AreWords station.now readings.now }
@@ -125,153 +122,142 @@ fn releases_both(
         switch,
         direction: Direction::ToOn,
     };
-    let opened = releases(alloc, judge, station, open, readings, heard)?;
-    let closed = releases(alloc, judge, station, close, readings, heard)?;
-    Ok(opened.saturating_add(closed))
+    let opened = releases(alloc, judge, station, open, readings, heard);
+    opened.saturating_add(releases(alloc, judge, station, close, readings, heard))
 }
 
 fn releases_of(
-    rt: &impl Abort,
     alloc: Global,
     judge: &PlainJudge<'_>,
     station: &Station,
     switch: SwitchId,
     readings: &Readings,
     tell: bool,
-) -> Result<u32, Fail>
+) -> u32
     requires station { judge.now ≡ station.now }
     requires switch { switch.0 < length station.now.switches }
     requires all { AreWords station.now readings.now }
 {
-    let heard = hear(rt, alloc, judge, station, switch, readings, tell)?;
-    Ok(releases_both(alloc, judge, station, switch, readings, &heard)?)
+    if !is_bay(station, station.switch(switch).bay) {
+        return 0;
+    }
+    match hear(alloc, judge, station, switch, readings, tell) {
+        Ok(heard) => releases_both(alloc, judge, station, switch, readings, &heard),
+        Err(_) => 0,
+    }
 }
 
 // How many operations are released by what each bay knows.
-fn released(
-    rt: &impl Abort,
-    alloc: Global,
-    judge: &PlainJudge<'_>,
-    station: &Station,
-    readings: &Readings,
-    tell: bool,
-) -> Result<u32, Fail>
-    requires station { judge.now ≡ station.now }
+fn released(alloc: Global, station: &Station, readings: &Readings, tell: bool) -> u32
     requires all { AreWords station.now readings.now }
 {
+    if !fits_plain(station) {
+        return 0;
+    }
+    let judge = PlainJudge::new(station);
     let mut count = 0u32;
     for i in 0..station.switch_count() {
-        let more = releases_of(rt, alloc, judge, station, SwitchId(i), readings, tell)?;
+        let more = releases_of(alloc, &judge, station, SwitchId(i), readings, tell);
         count = count.saturating_add(more);
     }
-    Ok(count)
+    count
 }
 
-fn expect_released(
-    rt: &impl Abort,
-    alloc: Global,
-    station: &Station,
-    readings: &Readings,
-    tell: bool,
-    wanted: u32,
-) -> Result<(), Fail>
-    requires { AreWords station.now readings.now }
-{
-    assert!(rt; fits_plain(station));
-    let judge = PlainJudge::new(station);
-    let count = released(rt, alloc, &judge, station, readings, tell)?;
-    assert!(rt; count == wanted);
-    Ok(())
-}
-
-// Whether the row fits from the bay to another.
-fn fits(
-    rt: &impl Abort,
-    judge: &PlainJudge<'_>,
-    station: &Station,
-    bay: u8,
-    to: u8,
-    row: &[u8],
-) -> bool
+// Whether the row fits from the bay to another; none where the one tells the other no such row.
+fn row_fits(judge: &PlainJudge<'_>, station: &Station, bay: u8, to: u8, row: &[u8]) -> Option<bool>
     requires { judge.now ≡ station.now }
 {
-    assert!(rt; is_other(station, BayId(bay), BayId(to)));
-    assert!(rt; is_bay(station, BayId(to)));
-    assert!(rt; judge.tells(BayId(bay), BayId(to)));
-    assert!(rt; row.len() <= 32);
-    let summary = Summary::new(row).unwrap();
-    judge.fits(BayId(bay), BayId(to), &summary)
+    let (bay, to) = (BayId(bay), BayId(to));
+    if !is_other(station, bay, to) || !is_bay(station, to) || !judge.tells(bay, to) {
+        return None;
+    }
+    let summary = Summary::new(row)?;
+    Some(judge.fits(bay, to, &summary))
 }
 
-// Which rows fit.
-fn expect_fits(
-    rt: &impl Abort,
-    judge: &PlainJudge<'_>,
-    station: &Station,
-    row: &[u8],
-) -> Result<(), Fail>
+// Whether the row is that of the words of bay 3, and which rows fit.
+fn are_fitting(judge: &PlainJudge<'_>, station: &Station, row: &[u8]) -> bool
     requires { judge.now ≡ station.now }
 {
-    assert!(rt; row == b"\x02\x01\x00\x04\x03\x02".as_slice());
-    assert!(rt; fits(rt, judge, station, 3, 2, row));
-    assert!(rt; !fits(rt, judge, station, 2, 3, row));
-    assert!(rt; fits(rt, judge, station, 2, 3, b"\x02\x01\x04"));
-    assert!(rt; !fits(rt, judge, station, 2, 3, b"\x02\x01\x05"));
-    Ok(())
+    row == b"\x02\x01\x00\x04\x03\x02".as_slice()
+        && row_fits(judge, station, 3, 2, row) == Some(true)
+        && row_fits(judge, station, 2, 3, row) == Some(false)
+        && row_fits(judge, station, 2, 3, b"\x02\x01\x04") == Some(true)
+        && row_fits(judge, station, 2, 3, b"\x02\x01\x05") == Some(false)
 }
 
 // The row of a bay's words, and which rows fit.
-fn expect_rows(
-    rt: &impl Abort,
-    alloc: Global,
-    station: &Station,
-    readings: &Readings,
-) -> Result<(), Fail>
+fn tells_rows(alloc: Global, station: &Station, readings: &Readings) -> bool
     requires { AreWords station.now readings.now }
 {
-    assert!(rt; fits_plain(station));
+    let (bay, to) = (BayId(3), BayId(2));
+    if !fits_plain(station) || !is_other(station, bay, to) || !is_bay(station, to) {
+        return false;
+    }
     let judge = PlainJudge::new(station);
-    assert!(rt; is_other(station, BayId(3), BayId(2)));
-    assert!(rt; is_bay(station, BayId(2)));
-    let summary = judge.summarise(alloc, BayId(3), BayId(2), readings)?;
-    expect_fits(rt, &judge, station, summary.bytes())
+    match judge.summarise(alloc, bay, to, readings) {
+        Ok(summary) => are_fitting(&judge, station, summary.bytes()),
+        Err(_) => false,
+    }
 }
 
-fn expect_told(rt: &impl Abort, alloc: Global, station: &Station) -> Result<(), Fail> {
-    let readings = words(rt, alloc, station, b"11110ilb1011101")?;
-    expect_rows(rt, alloc, station, &readings)
+// What is asked of the bays of the two busbars.
+#[derive(Clone, Copy)]
+enum Asked {
+    // what a bay tells another
+    Rows,
+    // how many operations are released where they tell each other, and where they do not
+    Released(u32, u32),
 }
 
-fn expect_counts(
-    rt: &impl Abort,
-    alloc: Global,
-    station: &Station,
-    readings: &Readings,
-) -> Result<(), Fail>
+fn is_answered(alloc: Global, station: &Station, readings: &Readings, asked: Asked) -> bool
     requires { AreWords station.now readings.now }
 {
-    expect_released(rt, alloc, station, readings, true, 16)?;
-    expect_released(rt, alloc, station, readings, false, 7)
+    match asked {
+        Asked::Rows => tells_rows(alloc, station, readings),
+        Asked::Released(told, alone) => {
+            released(alloc, station, readings, true) == told
+                && released(alloc, station, readings, false) == alone
+        }
+    }
 }
 
-fn expect_heard(rt: &impl Abort, alloc: Global, station: &Station) -> Result<(), Fail> {
-    let readings = words(rt, alloc, station, b"111101101011101")?;
-    expect_counts(rt, alloc, station, &readings)
+// A sign for the word of each switch, and what is asked.
+struct Row {
+    signs: &'static [u8],
+    asked: Asked,
 }
 
-fn expect_busbars(rt: &impl Abort, alloc: Global, station: &Station) -> Result<(), Fail> {
-    expect_told(rt, alloc, station)?;
-    expect_heard(rt, alloc, station)
-}
+impl StationRow for Row {
+    fn example(&self) -> Example {
+        Example::TwoBusbars
+    }
 
-fn expect_two_busbars(rt: &impl Abort, alloc: Global) -> Result<(), Fail> {
-    let station = built(alloc, Example::TwoBusbars)?;
-    expect_busbars(rt, alloc, &station)
+    fn holds(&self, alloc: Global, station: &Station) -> bool {
+        if self.signs.len() != usize::from(station.switch_count()) {
+            return false;
+        }
+        match words(alloc, station, self.signs) {
+            Ok(readings) => is_answered(alloc, station, &readings, self.asked),
+            Err(_) => false,
+        }
+    }
 }
 
 // By what the bays tell each other as much is released as by the words of all switches, and by their own
 // words alone little is.
+const ROWS: &[Row] = &[
+    Row {
+        signs: b"11110ilb1011101",
+        asked: Asked::Rows,
+    },
+    Row {
+        signs: b"111101101011101",
+        asked: Asked::Released(16, 7),
+    },
+];
+
 #[test]
-fn what_is_heard(rt: HostRuntime) -> Result<(), Fail> {
-    expect_two_busbars(&rt, rt.alloc())
+fn what_is_heard(rt: HostRuntime) {
+    assert!(rt; rows_hold(rt.alloc(), ROWS));
 }

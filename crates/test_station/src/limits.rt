@@ -1,32 +1,23 @@
 //! Each limit of a builder reached, and passed by one item: what is answered, and that the builder is as
 //! it was before.
+ghost use Rattle.station_graph.specs.Diagram.{InfeedsTapped};
+
 use ilk_base::{BayId, Kind, NodeId};
-use station_graph::{BuildFault, Builder, Link, Switch, Tap, What};
+use station_graph::{BuildFault, Builder, Link, Station, Switch, Tap, What};
 use std::alloc::Global;
 use std::process::Abort;
-use std::test::Fail;
 
-fn add_part(
-    rt: &impl Abort,
-    alloc: Global,
-    builder: &mut Builder,
-    number: u32,
-) -> Result<(), BuildFault> {
-    let path = format!(in alloc; "P{number}")?;
-    assert!(rt; builder.accepts_part(path.as_str()));
-    builder.part(path.as_str())?;
+// Adds a part of this path.
+fn add_part(rt: &impl Abort, builder: &mut Builder, path: &str) -> Result<(), BuildFault> {
+    assert!(rt; builder.accepts_part(path));
+    builder.part(path)?;
     Ok(())
 }
 
-fn add_node(
-    rt: &impl Abort,
-    alloc: Global,
-    builder: &mut Builder,
-    number: u32,
-) -> Result<(), BuildFault> {
-    let path = format!(in alloc; "n{number}")?;
-    assert!(rt; builder.accepts_node(path.as_str()));
-    builder.node(path.as_str())?;
+// Adds a node of this path.
+fn add_node(rt: &impl Abort, builder: &mut Builder, path: &str) -> Result<(), BuildFault> {
+    assert!(rt; builder.accepts_node(path));
+    builder.node(path)?;
     Ok(())
 }
 
@@ -36,17 +27,16 @@ fn add_switch(
     alloc: Global,
     builder: &mut Builder,
     part: u8,
-    number: u32,
+    name: &str,
 ) -> Result<(), BuildFault> {
-    let name = format!(in alloc; "Q{number}")?;
     let item = Switch {
         kind: Kind::Earthing,
         first: NodeId(0),
         second: None,
         bay: BayId(part),
     };
-    assert!(rt; builder.accepts_switch(alloc, name.as_str(), item)?);
-    builder.switch(name.as_str(), item)?;
+    assert!(rt; builder.accepts_switch(alloc, name, item)?);
+    builder.switch(name, item)?;
     Ok(())
 }
 
@@ -72,29 +62,47 @@ fn add_tap(rt: &impl Abort, builder: &mut Builder) -> Result<(), BuildFault> {
     builder.tap(item)
 }
 
-// The part of the switch of this number, where each part has so many.
-fn part_of(number: u32, each: u32) -> u8 {
-    u8::try_from(number / each.max(1)).unwrap_or(0)
+// What is added, and of switches how many go to a part.
+#[derive(Clone, Copy)]
+enum Added {
+    Parts,
+    Nodes,
+    Switches(u32),
+    Links,
+    Taps,
 }
 
-// Adds one more of what is counted: switches 24 to a part, those of one bay to the first part, and for
-// the bays one switch to each part.
+// Adds one more of what is counted, by this name.
+fn add_named(
+    rt: &impl Abort,
+    alloc: Global,
+    builder: &mut Builder,
+    added: Added,
+    number: u32,
+    name: &str,
+) -> Result<(), BuildFault> {
+    match added {
+        Added::Parts => add_part(rt, builder, name),
+        Added::Nodes => add_node(rt, builder, name),
+        Added::Switches(each) => {
+            let part = u8::try_from(number / each.max(1)).unwrap_or(0);
+            add_switch(rt, alloc, builder, part, name)
+        }
+        Added::Links => add_link(rt, builder),
+        Added::Taps => add_tap(rt, builder),
+    }
+}
+
+// Adds one more of what is counted.
 fn add(
     rt: &impl Abort,
     alloc: Global,
     builder: &mut Builder,
-    what: What,
+    added: Added,
     number: u32,
 ) -> Result<(), BuildFault> {
-    match what {
-        What::Parts => add_part(rt, alloc, builder, number),
-        What::Nodes => add_node(rt, alloc, builder, number),
-        What::Links => add_link(rt, builder),
-        What::Taps => add_tap(rt, builder),
-        What::Switches => add_switch(rt, alloc, builder, part_of(number, 24), number),
-        What::Bays => add_switch(rt, alloc, builder, part_of(number, 1), number),
-        _ => add_switch(rt, alloc, builder, 0, number),
-    }
+    let name = format!(in alloc; "n{number}")?;
+    add_named(rt, alloc, builder, added, number, name.as_str())
 }
 
 // Adds those of these numbers.
@@ -102,12 +110,12 @@ fn add_all(
     rt: &impl Abort,
     alloc: Global,
     builder: &mut Builder,
-    what: What,
+    added: Added,
     first: u32,
     end: u32,
 ) -> Result<(), BuildFault> {
     for number in first..end {
-        add(rt, alloc, builder, what, number)?;
+        add(rt, alloc, builder, added, number)?;
     }
     Ok(())
 }
@@ -132,27 +140,15 @@ const FEW: Counts = Counts {
 };
 
 fn add_few(rt: &impl Abort, alloc: Global, builder: &mut Builder) -> Result<(), BuildFault> {
-    for number in 0..65 {
-        add_part(rt, alloc, builder, number)?;
-    }
-    add_node(rt, alloc, builder, 0)?;
-    add_node(rt, alloc, builder, 1)?;
-    add_switch(rt, alloc, builder, 0, 0)?;
+    add_all(rt, alloc, builder, Added::Parts, 0, 65)?;
+    add_all(rt, alloc, builder, Added::Nodes, 0, 2)?;
+    add_all(rt, alloc, builder, Added::Switches(1), 0, 1)?;
     add_link(rt, builder)?;
     add_tap(rt, builder)
 }
 
-// A builder with few items.
-fn with_few(rt: &impl Abort, alloc: Global) -> Result<Builder, BuildFault> {
-    let mut builder = Builder::new(alloc);
-    add_few(rt, alloc, &mut builder)?;
-    Ok(builder)
-}
-
-// Whether the builder holds so many of each.
-fn expect_counts(rt: &impl Abort, builder: Builder, wanted: Counts) {
-    assert!(rt; builder.is_complete());
-    let station = builder.finish();
+// Whether the station has so many of each.
+fn has_counts(station: &Station, wanted: Counts) -> bool {
     let counts = Counts {
         parts: station.part_count(),
         nodes: station.node_count(),
@@ -160,130 +156,136 @@ fn expect_counts(rt: &impl Abort, builder: Builder, wanted: Counts) {
         links: station.link_count(),
         taps: station.tap_count(),
     };
-    assert!(rt; counts == wanted);
+    counts == wanted
 }
 
-// A limit: what it counts, how many of it there are among the few items, how many there may be, one more,
-// and the counts at the limit.
+// Whether the builder holds so many of each.
+fn is_finished_with(builder: Builder, wanted: Counts) -> bool
+    requires { InfeedsTapped builder }
+{
+    has_counts(&builder.finish(), wanted)
+}
+
+// Whether the builder is complete, and holds so many of each.
+fn has_ended_with(builder: Builder, wanted: Counts) -> bool {
+    if builder.is_complete() {
+        is_finished_with(builder, wanted)
+    } else {
+        false
+    }
+}
+
+// A limit: what is added, which limit it reaches, how many of it there are among the few items, how many there may
+// be, and the counts at the limit.
 struct Case {
+    added: Added,
     what: What,
     few: u32,
     limit: u32,
-    past: u32,
     counts: Counts,
 }
 
+// Switches go 24 to a part where those of the station are counted, one to a part where the bays are, and all to the
+// first part where those of a bay are. Where they go eight to a part, the last one is of a further bay, and is refused
+// by the limit of switches too: the bays, which it would make more of, come last.
 const CASES: &[Case] = &[
     Case {
+        added: Added::Parts,
         what: What::Parts,
         few: 65,
         limit: 200,
-        past: 201,
         counts: Counts { parts: 200, ..FEW },
     },
     Case {
+        added: Added::Nodes,
         what: What::Nodes,
         few: 2,
         limit: 1024,
-        past: 1025,
         counts: Counts { nodes: 1024, ..FEW },
     },
     Case {
+        added: Added::Switches(1),
         what: What::Bays,
         few: 1,
         limit: 64,
-        past: 65,
         counts: Counts {
             switches: 64,
             ..FEW
         },
     },
     Case {
+        added: Added::Switches(24),
         what: What::Switches,
         few: 1,
         limit: 512,
-        past: 513,
         counts: Counts {
             switches: 512,
             ..FEW
         },
     },
     Case {
+        added: Added::Switches(8),
+        what: What::Switches,
+        few: 1,
+        limit: 512,
+        counts: Counts {
+            switches: 512,
+            ..FEW
+        },
+    },
+    Case {
+        added: Added::Switches(1000),
         what: What::BaySwitches,
         few: 1,
         limit: 24,
-        past: 25,
         counts: Counts {
             switches: 24,
             ..FEW
         },
     },
     Case {
+        added: Added::Links,
         what: What::Links,
         few: 1,
         limit: 2048,
-        past: 2049,
         counts: Counts { links: 2048, ..FEW },
     },
     Case {
+        added: Added::Taps,
         what: What::Taps,
         few: 1,
         limit: 2048,
-        past: 2049,
         counts: Counts { taps: 2048, ..FEW },
     },
 ];
 
-// The fault of a limit.
-fn past(what: What, count: u32) -> Result<(), BuildFault> {
-    Err(BuildFault::Limit { what, count })
+// Whether one more than the limit is refused, and refused once more, since its path is still new.
+fn refuses_twice(rt: &impl Abort, alloc: Global, builder: &mut Builder, case: &Case) -> bool {
+    let refused = Err(BuildFault::Limit {
+        what: case.what,
+        count: case.limit.saturating_add(1),
+    });
+    add(rt, alloc, builder, case.added, case.limit) == refused
+        && add(rt, alloc, builder, case.added, case.limit) == refused
 }
 
-// The limit is reached and not passed; what is refused is refused once more, since its path is still new.
-fn expect_refused(
-    rt: &impl Abort,
-    alloc: Global,
-    builder: &mut Builder,
-    case: &Case,
-) -> Result<(), BuildFault> {
-    add_all(rt, alloc, builder, case.what, case.few, case.limit)?;
-    for _ in 0..2 {
-        let answer = add(rt, alloc, builder, case.what, case.limit);
-        assert!(rt; answer == past(case.what, case.past));
-    }
-    Ok(())
+// Whether the limit is reached and not passed.
+fn reaches(rt: &impl Abort, alloc: Global, builder: &mut Builder, case: &Case) -> bool {
+    add_few(rt, alloc, builder).is_ok()
+        && add_all(rt, alloc, builder, case.added, case.few, case.limit).is_ok()
+        && refuses_twice(rt, alloc, builder, case)
 }
 
-fn expect_limit(rt: &impl Abort, alloc: Global, case: &Case) -> Result<(), Fail> {
-    let mut builder = with_few(rt, alloc)?;
-    expect_refused(rt, alloc, &mut builder, case)?;
-    expect_counts(rt, builder, case.counts);
-    Ok(())
+// The same, and whether the builder then has what it had at the limit.
+fn is_kept(rt: &impl Abort, alloc: Global, case: &Case) -> bool {
+    let mut builder = Builder::new(alloc);
+    let reached = reaches(rt, alloc, &mut builder, case);
+    has_ended_with(builder, case.counts) && reached
 }
 
 #[test]
-fn one_past_each_limit(rt: HostRuntime) -> Result<(), Fail> {
+fn one_past_each_limit(rt: HostRuntime) {
     for case in CASES {
-        expect_limit(&rt, rt.alloc(), case)?;
+        assert!(rt; is_kept(&rt, rt.alloc(), case));
     }
-    Ok(())
-}
-
-// At the limit of switches a switch of a further bay is refused by that limit too: the bays, which it
-// would make more of, come last.
-#[test]
-fn switches_before_bays(rt: HostRuntime) -> Result<(), Fail> {
-    let alloc = rt.alloc();
-    let mut builder = with_few(&rt, alloc)?;
-    for number in 1..512 {
-        add_switch(&rt, alloc, &mut builder, part_of(number, 8), number)?;
-    }
-    let answer = add_switch(&rt, alloc, &mut builder, 64, 0);
-    assert!(rt; answer == past(What::Switches, 513));
-    let counts = Counts {
-        switches: 512,
-        ..FEW
-    };
-    expect_counts(&rt, builder, counts);
-    Ok(())
 }

@@ -1,10 +1,8 @@
 //! What the readers of a station answer.
-use ilk_base::{BayId, Kind, Memory, NodeId, SwitchId};
+use ilk_base::{BayId, Kind, NodeId, SwitchId};
 use station_graph::{Classes, Link, Station, Switch, Tap};
 use std::alloc::Global;
-use std::process::Abort;
-use std::test::Fail;
-use test_stations::{Example, built, drawing_of};
+use test_stations::{Example, StationRow, drawing_of, rows_hold};
 
 // A part, its first switch and how many it has, and the nodes that it shares.
 struct PartRow {
@@ -79,38 +77,40 @@ const PARTS: &[PartRow] = &[
     },
 ];
 
-fn expect_part(
-    rt: &impl Abort,
-    alloc: Global,
-    station: &Station,
-    row: &PartRow,
-) -> Result<(), Memory> {
-    let (first, count) = station.switches_of(BayId(row.part));
-    assert!(rt; (first.0, count) == row.switches);
-    let shared = station.shared_nodes(alloc, BayId(row.part))?;
-    assert!(rt; shared.numbers() == row.shared);
-    assert!(rt; shared.is_empty() == row.shared.is_empty());
-    Ok(())
+// Whether the part shares these nodes.
+fn shares(alloc: Global, station: &Station, part: u8, numbers: &[u16]) -> bool {
+    match station.shared_nodes(alloc, BayId(part)) {
+        Ok(nodes) => nodes.numbers() == numbers && nodes.is_empty() == numbers.is_empty(),
+        Err(_) => false,
+    }
 }
 
-fn expect_part_row(rt: &impl Abort, alloc: Global, row: &PartRow) -> Result<(), Fail> {
-    let station = built(alloc, row.drawing)?;
-    Ok(expect_part(rt, alloc, &station, row)?)
+impl StationRow for PartRow {
+    fn example(&self) -> Example {
+        self.drawing
+    }
+
+    fn holds(&self, alloc: Global, station: &Station) -> bool {
+        let (first, count) = station.switches_of(BayId(self.part));
+        (first.0, count) == self.switches && shares(alloc, station, self.part, self.shared)
+    }
 }
 
 #[test]
-fn parts_have_their_switches_and_nodes(rt: HostRuntime) -> Result<(), Fail> {
-    for row in PARTS {
-        expect_part_row(&rt, rt.alloc(), row)?;
-    }
-    Ok(())
+fn parts_have_their_switches_and_nodes(rt: HostRuntime) {
+    assert!(rt; rows_hold(rt.alloc(), PARTS));
 }
 
-// The paths of the switches of each drawing, in order.
-const SWITCH_PATHS: &[(Example, &[&str])] = &[
-    (
-        Example::TwoFeeders,
-        &[
+// The paths of the switches of a drawing, in order.
+struct SwitchPaths {
+    drawing: Example,
+    paths: &'static [&'static str],
+}
+
+const SWITCH_PATHS: &[SwitchPaths] = &[
+    SwitchPaths {
+        drawing: Example::TwoFeeders,
+        paths: &[
             "S/V1/Q1/QB1",
             "S/V1/Q1/QA1",
             "S/V1/Q1/QB9",
@@ -122,174 +122,230 @@ const SWITCH_PATHS: &[(Example, &[&str])] = &[
             "S/V1/Q2/QC9",
             "S/V1/Q2/E1",
         ],
-    ),
-    (
-        Example::BareStub,
-        &["S/V1/Q1/QB1", "S/V1/Q1/QB2", "S/V1/Q1/E1"],
-    ),
-    (Example::TwoTransformers, &["S/V1/Q1/QB1", "S/V1/Q1/E1"]),
+    },
+    SwitchPaths {
+        drawing: Example::BareStub,
+        paths: &["S/V1/Q1/QB1", "S/V1/Q1/QB2", "S/V1/Q1/E1"],
+    },
+    SwitchPaths {
+        drawing: Example::TwoTransformers,
+        paths: &["S/V1/Q1/QB1", "S/V1/Q1/E1"],
+    },
 ];
 
-// Each switch has its path and is found by it.
-fn expect_switches(rt: &impl Abort, station: &Station, paths: &[&str]) {
-    assert!(rt; paths.len() == station.switch_count() as usize);
+// Whether each switch has its path and is found by it.
+fn has_switches(station: &Station, paths: &[&str]) -> bool {
+    if paths.len() != usize::from(station.switch_count()) {
+        return false;
+    }
     for i in 0..station.switch_count() {
         let path = paths[i as usize];
-        assert!(rt; station.switch_path(SwitchId(i)) == path);
-        assert!(rt; station.find_switch(path) == Some(SwitchId(i)));
+        if station.switch_path(SwitchId(i)) != path
+            || station.find_switch(path) != Some(SwitchId(i))
+        {
+            return false;
+        }
     }
+    true
 }
 
-// Each node has the path with which it was added.
-fn expect_nodes(rt: &impl Abort, station: &Station, paths: &[&str]) {
-    assert!(rt; paths.len() == station.node_count() as usize);
+// Whether each node has the path with which it was added.
+fn has_nodes(station: &Station, paths: &[&str]) -> bool {
+    if paths.len() != usize::from(station.node_count()) {
+        return false;
+    }
     for i in 0..station.node_count() {
-        assert!(rt; station.node_path(NodeId(i)) == paths[i as usize]);
+        if station.node_path(NodeId(i)) != paths[i as usize] {
+            return false;
+        }
     }
+    true
 }
 
-// Each part has the path with which it was added.
-fn expect_parts(rt: &impl Abort, station: &Station, paths: &[&str]) {
-    assert!(rt; paths.len() == station.part_count() as usize);
+// Whether each part has the path with which it was added.
+fn has_parts(station: &Station, paths: &[&str]) -> bool {
+    if paths.len() != usize::from(station.part_count()) {
+        return false;
+    }
     for i in 0..station.part_count() {
-        assert!(rt; station.part_path(BayId(i as u8)) == paths[i as usize]);
+        if station.part_path(BayId(i as u8)) != paths[i as usize] {
+            return false;
+        }
+    }
+    true
+}
+
+impl StationRow for SwitchPaths {
+    fn example(&self) -> Example {
+        self.drawing
+    }
+
+    fn holds(&self, _alloc: Global, station: &Station) -> bool {
+        let drawing = drawing_of(self.drawing);
+        has_switches(station, self.paths)
+            && has_nodes(station, drawing.nodes)
+            && has_parts(station, drawing.parts)
     }
 }
 
 #[test]
-fn paths_are_given_back(rt: HostRuntime) -> Result<(), Fail> {
-    for (example, paths) in SWITCH_PATHS {
-        let station = built(rt.alloc(), *example)?;
-        let drawing = drawing_of(*example);
-        expect_switches(&rt, &station, paths);
-        expect_nodes(&rt, &station, drawing.nodes);
-        expect_parts(&rt, &station, drawing.parts);
-    }
-    Ok(())
+fn paths_are_given_back(rt: HostRuntime) {
+    assert!(rt; rows_hold(rt.alloc(), SWITCH_PATHS));
 }
 
-// A path, and the switch and the bay that have it.
+// A path on a drawing, and the switch and the bay that have it.
 struct PathRow {
+    drawing: Example,
     path: &'static str,
     switch: Option<u16>,
     bay: Option<u8>,
 }
 
 // On the two feeders: both bays, the busbar, which is a part without switches, a switch, and paths of
-// nothing, of a node, of a front of a part and of a switch without its part.
+// nothing, of a node, of a front of a part and of a switch without its part. On the bare stub: the busbar, and the bay.
 const PATHS: &[PathRow] = &[
     PathRow {
+        drawing: Example::TwoFeeders,
         path: "S/V1/Q1",
         switch: None,
         bay: Some(1),
     },
     PathRow {
+        drawing: Example::TwoFeeders,
         path: "S/V1/Q2",
         switch: None,
         bay: Some(2),
     },
     PathRow {
+        drawing: Example::TwoFeeders,
         path: "S/V1/W1",
         switch: None,
         bay: None,
     },
     PathRow {
+        drawing: Example::TwoFeeders,
         path: "S/V1/Q2/QC9",
         switch: Some(8),
         bay: None,
     },
     PathRow {
+        drawing: Example::TwoFeeders,
         path: "S/V1/Q3",
         switch: None,
         bay: None,
     },
     PathRow {
+        drawing: Example::TwoFeeders,
         path: "S/V1/Q1/n1",
         switch: None,
         bay: None,
     },
     PathRow {
+        drawing: Example::TwoFeeders,
         path: "S/V1/Q",
         switch: None,
         bay: None,
     },
     PathRow {
+        drawing: Example::TwoFeeders,
         path: "QB1",
         switch: None,
         bay: None,
     },
     PathRow {
+        drawing: Example::TwoFeeders,
         path: "",
         switch: None,
         bay: None,
     },
+    PathRow {
+        drawing: Example::BareStub,
+        path: "S/V1/W1",
+        switch: None,
+        bay: None,
+    },
+    PathRow {
+        drawing: Example::BareStub,
+        path: "S/V1/Q1",
+        switch: None,
+        bay: Some(1),
+    },
 ];
 
-#[test]
-fn paths_are_found(rt: HostRuntime) -> Result<(), Fail> {
-    let station = built(rt.alloc(), Example::TwoFeeders)?;
-    for row in PATHS {
-        assert!(rt; station.find_switch(row.path) == row.switch.map(SwitchId));
-        assert!(rt; station.find_bay(row.path) == row.bay.map(BayId));
+impl StationRow for PathRow {
+    fn example(&self) -> Example {
+        self.drawing
     }
-    Ok(())
+
+    fn holds(&self, _alloc: Global, station: &Station) -> bool {
+        station.find_switch(self.path) == self.switch.map(SwitchId)
+            && station.find_bay(self.path) == self.bay.map(BayId)
+    }
 }
 
 #[test]
-fn a_busbar_is_no_bay(rt: HostRuntime) -> Result<(), Fail> {
-    let station = built(rt.alloc(), Example::BareStub)?;
-    assert!(rt; station.find_bay("S/V1/W1") == None);
-    assert!(rt; station.find_bay("S/V1/Q1") == Some(BayId(1)));
-    Ok(())
+fn paths_are_found(rt: HostRuntime) {
+    assert!(rt; rows_hold(rt.alloc(), PATHS));
 }
 
-fn expect_switch(rt: &impl Abort, station: &Station) {
-    assert!(rt; station.switch_count() == 2);
-    let switch = Switch {
+// The first switch, and the last link and tap, of the two transformers.
+enum Item {
+    FirstSwitch(Switch),
+    LastLink(Link),
+    LastTap(Tap),
+}
+
+impl StationRow for Item {
+    fn example(&self) -> Example {
+        Example::TwoTransformers
+    }
+
+    fn holds(&self, _alloc: Global, station: &Station) -> bool {
+        match self {
+            Item::FirstSwitch(item) => {
+                station.switch_count() == 2 && station.switch(SwitchId(0)) == *item
+            }
+            Item::LastLink(item) => station.link_count() == 2 && station.link(1) == *item,
+            Item::LastTap(item) => station.tap_count() == 5 && station.tap(4) == *item,
+        }
+    }
+}
+
+const ITEMS: &[Item] = &[
+    Item::FirstSwitch(Switch {
         kind: Kind::Disconnector,
         first: NodeId(0),
         second: Some(NodeId(1)),
         bay: BayId(4),
-    };
-    assert!(rt; station.switch(SwitchId(0)) == switch);
-}
-
-fn expect_link(rt: &impl Abort, station: &Station) {
-    assert!(rt; station.link_count() == 2);
-    let link = Link {
+    }),
+    Item::LastLink(Link {
         first: NodeId(1),
         second: NodeId(2),
         bond: false,
         part: BayId(1),
-    };
-    assert!(rt; station.link(1) == link);
-}
-
-fn expect_tap(rt: &impl Abort, station: &Station) {
-    assert!(rt; station.tap_count() == 5);
-    let tap = Tap {
+    }),
+    Item::LastTap(Tap {
         node: NodeId(0),
         part: BayId(4),
+    }),
+];
+
+#[test]
+fn items_are_given_back(rt: HostRuntime) {
+    assert!(rt; rows_hold(rt.alloc(), ITEMS));
+}
+
+// Whether a class is labelled by its least number.
+fn are_labelled(alloc: Global) -> bool {
+    let Ok(mut classes) = Classes::alone(alloc, 3) else {
+        return false;
     };
-    assert!(rt; station.tap(4) == tap);
-}
-
-// The first switch, and the last link and tap, of the two transformers.
-#[test]
-fn items_are_given_back(rt: HostRuntime) -> Result<(), Fail> {
-    let station = built(rt.alloc(), Example::TwoTransformers)?;
-    expect_switch(&rt, &station);
-    expect_link(&rt, &station);
-    expect_tap(&rt, &station);
-    Ok(())
-}
-
-// A class is labelled by its least number.
-#[test]
-fn classes_are_labelled(rt: HostRuntime) -> Result<(), Fail> {
-    let mut classes = Classes::alone(rt.alloc(), 3)?;
-    assert!(rt; classes.label(2) == 2);
+    let alone = classes.label(2);
     classes.merge(2, 1);
-    assert!(rt; classes.into_labels().numbers() == [0, 1, 1].as_slice());
-    Ok(())
+    classes.into_labels().numbers() == [0, 1, 1].as_slice() && alone == 2
+}
+
+#[test]
+fn classes_are_labelled(rt: HostRuntime) {
+    assert!(rt; are_labelled(rt.alloc()));
 }

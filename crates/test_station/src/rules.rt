@@ -4,24 +4,17 @@ ghost use Rattle.station_graph.specs.Alike.{IsVector};
 ghost use Rattle.station_graph.specs.CentralRules.{IsOperation};
 
 use central_rules::{breaks, labels};
-use ilk_base::{Direction, Op, Rule, SwitchId};
-use station_graph::{NodeList, Station, Vector};
+use ilk_base::{Direction, Memory, Op, Rule, SwitchId};
+use station_graph::{Station, Vector};
 use std::alloc::Global;
-use std::process::Abort;
-use std::test::Fail;
-use test_stations::{Example, built};
+use test_stations::{Example, StationRow, rows_hold};
 
 // The vector of these positions, a sign for each switch: 1 is closed.
-fn positions(
-    rt: &impl Abort,
-    alloc: Global,
-    station: &Station,
-    closed: &[u8],
-) -> Result<Vector, Fail>
+fn positions(alloc: Global, station: &Station, closed: &[u8]) -> Result<Vector, Memory>
+    requires { length closed.now ≡ length station.now.switches }
     ensures { IfOk result (λ v. IsVector station.now v) }
 {
     let mut vector = Vector::all_open(alloc, station)?;
-    assert!(rt; closed.len() == station.switch_count() as usize);
     for i in 0..station.switch_count() {
         vector.set(SwitchId(i), closed[i as usize] == b'1');
     }
@@ -47,9 +40,8 @@ struct Row {
 }
 
 // The switches of a feeder are in order QB1, QA1, QB9, QC9, E1. The rows are: earthed behind an open breaker on the
-// busbar, and fed
-// from the other feeder; both feeders through; the path through
-// transformers, which is no bond; the bare stub with the other disconnector closed.
+// busbar, and fed from the other feeder; both feeders through; the path through transformers, which is no bond; the
+// bare stub with the other disconnector closed.
 const ROWS: &[Row] = &[
     Row {
         drawing: Example::TwoFeeders,
@@ -77,106 +69,111 @@ const ROWS: &[Row] = &[
     },
 ];
 
-// The rule that one operation breaks.
-fn expect_rule(
-    rt: &impl Abort,
-    alloc: Global,
-    station: &Station,
-    vector: &Vector,
-    op: Op,
-    sign: u8,
-) -> Result<(), Fail>
+// Whether the operation breaks the rule of the sign.
+fn is_rule(alloc: Global, station: &Station, vector: &Vector, op: Op, sign: u8) -> bool
     requires vector { IsVector station.now vector.now }
     requires op { IsOperation station.now op }
 {
-    let answer = breaks(alloc, station, vector, op)?;
-    assert!(rt; answer == rule_of(sign));
-    Ok(())
+    match breaks(alloc, station, vector, op) {
+        Ok(rule) => rule == rule_of(sign),
+        Err(_) => false,
+    }
 }
 
-// The rules that the operations of all switches in this direction break, a sign for each.
-fn expect_rules(
-    rt: &impl Abort,
+// Whether the operations of all switches in this direction break these rules, a sign for each.
+fn are_rules(
     alloc: Global,
     station: &Station,
     vector: &Vector,
     direction: Direction,
     signs: &[u8],
-) -> Result<(), Fail>
+) -> bool
     requires { IsVector station.now vector.now }
 {
-    assert!(rt; signs.len() == station.switch_count() as usize);
+    if signs.len() != usize::from(station.switch_count()) {
+        return false;
+    }
     for i in 0..station.switch_count() {
         let op = Op {
             switch: SwitchId(i),
             direction,
         };
-        expect_rule(rt, alloc, station, vector, op, signs[i as usize])?;
+        if !is_rule(alloc, station, vector, op, signs[i as usize]) {
+            return false;
+        }
     }
-    Ok(())
+    true
 }
 
-fn expect_both(
-    rt: &impl Abort,
-    alloc: Global,
-    station: &Station,
-    vector: &Vector,
-    row: &Row,
-) -> Result<(), Fail>
+impl StationRow for Row {
+    fn example(&self) -> Example {
+        self.drawing
+    }
+
+    fn holds(&self, alloc: Global, station: &Station) -> bool {
+        if self.closed.len() != usize::from(station.switch_count()) {
+            return false;
+        }
+        match positions(alloc, station, self.closed) {
+            Ok(vector) => {
+                are_rules(alloc, station, &vector, Direction::ToOff, self.opening)
+                    && are_rules(alloc, station, &vector, Direction::ToOn, self.closing)
+            }
+            Err(_) => false,
+        }
+    }
+}
+
+#[test]
+fn worked_rows(rt: HostRuntime) {
+    assert!(rt; rows_hold(rt.alloc(), ROWS));
+}
+
+// The least nodes to which the nodes are joined, or bonded, where two transformers join three busbars.
+struct Least {
+    bonds_only: bool,
+    numbers: &'static [u16],
+}
+
+// Whether these are the least nodes.
+fn are_least(alloc: Global, station: &Station, vector: &Vector, least: &Least) -> bool
     requires { IsVector station.now vector.now }
 {
-    expect_rules(rt, alloc, station, vector, Direction::ToOff, row.opening)?;
-    expect_rules(rt, alloc, station, vector, Direction::ToOn, row.closing)
-}
-
-fn expect_row(rt: &impl Abort, alloc: Global, station: &Station, row: &Row) -> Result<(), Fail> {
-    let vector = positions(rt, alloc, station, row.closed)?;
-    expect_both(rt, alloc, station, &vector, row)
-}
-
-fn expect_drawn(rt: &impl Abort, alloc: Global, row: &Row) -> Result<(), Fail> {
-    let station = built(alloc, row.drawing)?;
-    expect_row(rt, alloc, &station, row)
-}
-
-#[test]
-fn worked_rows(rt: HostRuntime) -> Result<(), Fail> {
-    for row in ROWS {
-        expect_drawn(&rt, rt.alloc(), row)?;
+    match labels(alloc, station, vector, least.bonds_only) {
+        Ok(nodes) => nodes.numbers() == least.numbers,
+        Err(_) => false,
     }
-    Ok(())
 }
 
-fn expect_numbers(rt: &impl Abort, nodes: &NodeList, numbers: &[u16]) -> Result<(), Fail> {
-    assert!(rt; nodes.numbers() == numbers);
-    Ok(())
+impl StationRow for Least {
+    fn example(&self) -> Example {
+        Example::TwoTransformers
+    }
+
+    fn holds(&self, alloc: Global, station: &Station) -> bool {
+        if station.switch_count() != 2 {
+            return false;
+        }
+        match positions(alloc, station, b"10") {
+            Ok(vector) => are_least(alloc, station, &vector, self),
+            Err(_) => false,
+        }
+    }
 }
 
-// The least nodes to which the nodes are joined, or bonded.
-fn expect_labels(
-    rt: &impl Abort,
-    alloc: Global,
-    station: &Station,
-    bonds_only: bool,
-    numbers: &[u16],
-) -> Result<(), Fail> {
-    let vector = positions(rt, alloc, station, b"10")?;
-    let least = labels(alloc, station, &vector, bonds_only)?;
-    expect_numbers(rt, &least, numbers)
-}
+const LEAST: &[Least] = &[
+    Least {
+        bonds_only: false,
+        numbers: &[0, 0, 0],
+    },
+    Least {
+        bonds_only: true,
+        numbers: &[0, 0, 2],
+    },
+];
 
-fn expect_least(rt: &impl Abort, alloc: Global, station: &Station) -> Result<(), Fail> {
-    expect_labels(rt, alloc, station, false, &[0, 0, 0])?;
-    expect_labels(rt, alloc, station, true, &[0, 0, 2])
-}
-
-fn expect_transformers(rt: &impl Abort, alloc: Global) -> Result<(), Fail> {
-    let station = built(alloc, Example::TwoTransformers)?;
-    expect_least(rt, alloc, &station)
-}
-
-// What is joined and what is bonded, where two transformers join three busbars.
+// What is joined and what is bonded.
 #[test]
-fn least_nodes(rt: HostRuntime) -> Result<(), Fail> {
-    expect_transformers(&rt, rt.alloc())
+fn least_nodes(rt: HostRuntime) {
+    assert!(rt; rows_hold(rt.alloc(), LEAST));
 }

@@ -6,7 +6,7 @@ use Rattle.test_station.proofs.judging.hear.Goals.{then-tell+then-is_other+in_ok
 use Rattle.test_station.proofs.judging.hear.Goals as goal
 
 pub loop-i-preserved : goal.loop-i-preserved
-loop-i-preserved g c =
+loop-i-preserved c =
     let d = c.args.station.now in
     let before = c.loop-i.invariant in
     elim c.if-tell.branch [
