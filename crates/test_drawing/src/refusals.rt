@@ -1,23 +1,11 @@
 //! What is refused, and where.
-use crate::refused_rows::{A, E, N, P, REFUSED, Z};
+use crate::pieces::joined;
+use crate::refused_rows::{A, E, N, P, REFUSED, Row, Z};
+use ilk_base::{Memory, Text};
 use ssd_read::{SsdRefusal, read_ssd};
 use station_graph::What;
 use std::alloc::Global;
 use std::test::Fail;
-
-// Adds pieces to a text.
-fn push(text: &mut String, pieces: &[&str]) -> Result<(), Fail> {
-    for piece in pieces {
-        text.push_str(*piece)?;
-    }
-    Ok(())
-}
-
-fn joined(alloc: Global, pieces: &[&str]) -> Result<String, Fail> {
-    let mut text = String::new(alloc);
-    push(&mut text, pieces)?;
-    Ok(text)
-}
 
 fn number_of(what: What) -> u32 {
     match what {
@@ -62,50 +50,73 @@ fn outcome(alloc: Global, bytes: &[u8]) -> (u8, u32, u32) {
     }
 }
 
-#[test]
-fn refused(rt: HostRuntime) -> Result<(), Fail> {
-    let a = rt.alloc();
-    for (pieces, want) in REFUSED {
-        let text = joined(a, pieces)?;
-        let got = outcome(a, text.as_bytes());
-        assert!(rt; got == *want);
+// Whether the pieces are refused so.
+fn is_refused(alloc: Global, pieces: &[&str], want: (u8, u32, u32)) -> bool {
+    match joined(alloc, pieces) {
+        Ok(text) => outcome(alloc, text.bytes()) == want,
+        Err(_) => false,
     }
-    assert!(rt; outcome(a, b"\xFF\xFE<\x00") == (1, 0, 0));
+}
+
+// Whether each row is refused as it says.
+fn are_refused(alloc: Global, rows: &[Row]) -> bool {
+    for (pieces, want) in rows {
+        if !is_refused(alloc, pieces, *want) {
+            return false;
+        }
+    }
+    true
+}
+
+#[test]
+fn refused(rt: HostRuntime) {
+    assert!(rt; are_refused(rt.alloc(), REFUSED));
+    assert!(rt; outcome(rt.alloc(), b"\xFF\xFE<\x00") == (1, 0, 0));
+}
+
+// Adds an infeed of this name.
+fn push_infeed(text: &mut Text, name: &str) -> Result<(), Memory> {
+    for piece in [
+        "<ConductingEquipment name=\"E",
+        name,
+        "\" type=\"IFL\">",
+        A,
+        E,
+    ] {
+        text.push(piece.as_bytes())?;
+    }
     Ok(())
 }
 
-// An infeed of this number.
-fn infeed(alloc: Global, number: u32) -> Result<String, Fail> {
-    let name = number.to_string(alloc)?;
-    joined(
-        alloc,
-        &[
-            "<ConductingEquipment name=\"E",
-            name.as_str(),
-            "\" type=\"IFL\">",
-            A,
-            E,
-        ],
-    )
+// Adds 25 infeeds.
+fn push_infeeds(alloc: Global, text: &mut Text) -> Result<(), Memory> {
+    for number in 1..26u32 {
+        let name = number.to_string(alloc)?;
+        push_infeed(text, name.as_str())?;
+    }
+    Ok(())
 }
 
 // A text with 25 infeeds in one bay.
-fn infeeds(alloc: Global) -> Result<String, Fail> {
+fn infeeds(alloc: Global) -> Result<Text, Memory> {
     let mut text = joined(alloc, &[P, N])?;
-    for i in 1..26u32 {
-        let one = infeed(alloc, i)?;
-        text.push_str(one.as_str())?;
-    }
-    text.push_str(Z)?;
+    push_infeeds(alloc, &mut text)?;
+    text.push(Z.as_bytes())?;
     Ok(text)
 }
 
+// A text of one byte too many.
 #[test]
-fn too_much(rt: HostRuntime) -> Result<(), Fail> {
-    let a = rt.alloc();
-    let bytes = vec![in a; b' '; 8_388_609]?;
-    assert!(rt; outcome(a, &bytes) == (15, 1, 8_388_609));
-    let text = infeeds(a)?;
-    assert!(rt; outcome(a, text.as_bytes()) == (15, 6, 25));
+fn too_large(rt: HostRuntime) -> Result<(), Fail> {
+    let bytes = vec![in rt.alloc(); b' '; 8_388_609]?;
+    assert!(rt; outcome(rt.alloc(), &bytes) == (15, 1, 8_388_609));
+    Ok(())
+}
+
+// More switches in a bay than it may have.
+#[test]
+fn too_many(rt: HostRuntime) -> Result<(), Fail> {
+    let text = infeeds(rt.alloc())?;
+    assert!(rt; outcome(rt.alloc(), text.bytes()) == (15, 6, 25));
     Ok(())
 }

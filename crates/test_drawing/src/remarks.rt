@@ -2,10 +2,8 @@
 use crate::pieces::{BAY, BUS, E1, END, QA1, QB1, QB9, QC9, RIGHT, START, joined};
 use drawing_remarks::station_text;
 use ilk_base::{Memory, Text};
-use ssd_read::read_whole;
+use ssd_read::{WholeDrawing, read_whole};
 use std::alloc::Global;
-use std::process::Abort;
-use std::test::Fail;
 use text_lines::Lines;
 
 // A drawing in pieces, and what is remarked of it.
@@ -227,38 +225,71 @@ remark\tpassed-over\tS/V/Q/QA1\n",
         "remark\twinding\tS/V/Q/T1\n",
     ),
 ];
-// The lines of a text that are remarks.
-fn remarks_in(alloc: Global, text: &[u8]) -> Result<Text, Memory> {
-    let mut found = Text::new(alloc);
+
+// Adds a line, where it is a remark.
+fn push_remark(found: &mut Text, line: &[u8]) -> Result<(), Memory> {
+    if line.starts_with(b"remark\t") {
+        found.push(line)?;
+        found.push(b"\n")?;
+    }
+    Ok(())
+}
+
+// Adds the lines of a text that are remarks.
+fn push_remarks(found: &mut Text, text: &[u8]) -> Result<(), Memory> {
     if text.len() > 10_000 {
-        return Ok(found);
+        return Ok(());
     }
     let mut lines = Lines::new(text);
     for _ in 0..200 {
         let Some((_, line)) = lines.next_filled() else {
-            return Ok(found);
+            return Ok(());
         };
-        if line.starts_with(b"remark\t") {
-            found.push(line)?;
-            found.push(b"\n")?;
-        }
+        push_remark(found, line)?;
     }
-    Ok(found)
+    Ok(())
 }
 
-fn expect_remarks(rt: &impl Abort, alloc: Global, pieces: &[&str], want: &str) -> Result<(), Fail> {
-    let drawing = joined(alloc, pieces)?;
-    let whole = read_whole(alloc, drawing.bytes()).ok().ok_or("a refusal")?;
-    let report = station_text(alloc, &whole)?;
-    let found = remarks_in(alloc, report.text.bytes())?;
-    assert!(rt; found.bytes() == want.as_bytes());
-    Ok(())
+// Whether these are the lines of a text that are remarks.
+fn has_remarks(alloc: Global, text: &[u8], want: &str) -> bool {
+    let mut found = Text::new(alloc);
+    push_remarks(&mut found, text).is_ok() && found.bytes() == want.as_bytes()
+}
+
+// Whether this is remarked of a whole drawing.
+fn says(alloc: Global, whole: &WholeDrawing, want: &str) -> bool {
+    match station_text(alloc, whole) {
+        Ok(report) => has_remarks(alloc, report.text.bytes(), want),
+        Err(_) => false,
+    }
+}
+
+// Whether the drawing is accepted, and this is remarked of it.
+fn is_remarked(alloc: Global, drawing: &[u8], want: &str) -> bool {
+    match read_whole(alloc, drawing) {
+        Ok(whole) => says(alloc, &whole, want),
+        Err(_) => false,
+    }
+}
+
+fn is_row(alloc: Global, pieces: &[&str], want: &str) -> bool {
+    match joined(alloc, pieces) {
+        Ok(drawing) => is_remarked(alloc, drawing.bytes(), want),
+        Err(_) => false,
+    }
+}
+
+// Whether of each drawing is remarked what its row says.
+fn are_rows(alloc: Global, rows: &[(&[&str], &str)]) -> bool {
+    for (pieces, want) in rows {
+        if !is_row(alloc, pieces, want) {
+            return false;
+        }
+    }
+    true
 }
 
 #[test]
-fn remarks(rt: HostRuntime) -> Result<(), Fail> {
-    for (pieces, want) in ROWS {
-        expect_remarks(&rt, rt.alloc(), pieces, want)?;
-    }
-    Ok(())
+fn remarks(rt: HostRuntime) {
+    assert!(rt; are_rows(rt.alloc(), ROWS));
 }

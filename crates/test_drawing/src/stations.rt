@@ -120,11 +120,16 @@ fn paths_of(station: &Station) -> Option<(&str, &str)> {
     Some((station.part_path(BayId(0)), station.node_path(NodeId(0))))
 }
 
+// Whether the only part and the only node of a drawing have these paths.
+fn has_paths(alloc: Global, text: &str, part: &str, node: &str) -> bool {
+    match read_ssd(alloc, text.as_bytes()) {
+        Ok(station) => paths_of(&station) == Some((part, node)),
+        Err(_) => false,
+    }
+}
+
 // The paths of parts and nodes are those of their elements, and not their keys.
 #[test]
 fn paths(rt: HostRuntime) {
-    match read_ssd(rt.alloc(), KEYED.as_bytes()) {
-        Ok(station) => assert!(rt; paths_of(&station) == Some(("S/V/Q", "S/V/Q/a"))),
-        Err(_) => assert!(rt; false),
-    }
+    assert!(rt; has_paths(rt.alloc(), KEYED, "S/V/Q", "S/V/Q/a"));
 }

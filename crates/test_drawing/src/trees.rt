@@ -1,7 +1,8 @@
 //! Texts and the trees that they spell.
+use crate::pieces::joined;
+use ilk_base::{Memory, Text};
 use ssd_text::{TextRefusal, Tree, read_text};
 use std::alloc::Global;
-use std::test::Fail;
 
 // Number and place of the refusal, or 0 and the count of elements.
 fn outcome(alloc: Global, bytes: &[u8]) -> (u8, u32) {
@@ -47,172 +48,230 @@ const BAY: &str = r#"<?xml version="1.0" encoding="utf-8"?>
 "#;
 
 // Texts with the number and the place of their refusal, or 0 and the count of their elements.
+const TEXTS: &[(&[u8], (u8, u32))] = &[
+    (b"", (2, 0)),
+    (b"<SCL><Substation name=\"S\"", (2, 5)),
+    (b"<SCL><Substation name=\"S\">", (6, 5)),
+    (b"\xFF\xFE<\x00", (1, 0)),
+    (b"<!DOCTYPE SCL><SCL/>", (3, 0)),
+    (b"<SCL></SLC>", (5, 5)),
+    (b"<SCL/>", (0, 1)),
+    (b"<SCL></scl>", (5, 5)),
+    (b"</a>", (5, 0)),
+    (b"<a/></a>", (5, 4)),
+    (b"<a><b></a></b>", (5, 6)),
+    (b"<a/><a/>", (2, 4)),
+    (b"<a/> x", (2, 4)),
+    (b"x<a/>", (2, 0)),
+    (b"<a/><!DOCTYPE a>", (3, 4)),
+    (b"<!doctype a><a/>", (2, 0)),
+    (b"<![CDATA[x]]><a/>", (2, 0)),
+    (b"<a><b>", (6, 3)),
+    (b" \t\r\n", (2, 4)),
+    (b"<!-- -->", (2, 8)),
+    (b"\xEF\xBB\xBF", (2, 3)),
+    (b"\xEF\xBB\xBF<a></b>", (5, 6)),
+    (
+        b"\xEF\xBB\xBF<?xml version=\"1.0\"?>\r\n<a x = '1'\ty=\">\"><b/>t&<![CDATA[ ]] ]]></a >\n",
+        (0, 2),
+    ),
+    (b"<a/>\xEF\xBB\xBF", (2, 4)),
+    (b"<a>\xC0\xAF</a>", (1, 3)),
+    (b"<a>\xED\xA0\x80</a>", (1, 3)),
+    (b"<a/>\xE2\x82", (1, 4)),
+    (b"<!DOCTYPE \xFF", (1, 10)),
+    (b"<a\x00/>", (2, 0)),
+    (b"\x00<a/>", (2, 0)),
+    (b"<a>\x00</a>", (0, 1)),
+    (b"<a/><", (2, 4)),
+    (b"<a>]]></a>", (0, 1)),
+    (b"<!-- a -- b --><a/>", (0, 1)),
+    (b"<!----><a/>", (0, 1)),
+    (b"<!--><a/>", (2, 0)),
+    (b"<!---><a/>", (2, 0)),
+    (b"<?><a/>", (2, 0)),
+    (b"<a><![CDATA[]]></a>", (0, 1)),
+    (b"<a><![CDATA[]></a>", (2, 3)),
+    (b"<!-- --><a/> -->", (2, 12)),
+    (b"< a/>", (2, 0)),
+    (b"</ a>", (2, 0)),
+    (b"<a/ >", (2, 0)),
+    (b"<1/>", (2, 0)),
+    (b"<a x='1'y='2'/>", (2, 0)),
+    (b"<a x='1' x='2'/>", (2, 0)),
+    (b"<a x='1' X='2'/>", (0, 1)),
+    (b"<\xC3\xA4 \xE2\x82\xAC='1'/>", (0, 1)),
+    (b"<a x='<'/>", (2, 0)),
+    (b"<a x='1\"/>", (2, 0)),
+    (b"<a x='&#0;'/>", (2, 0)),
+    (b"<a x='&#xD800;'/>", (2, 0)),
+    (b"<a x='&#1114112;'/>", (2, 0)),
+    (b"<a x='&#X41;'/>", (2, 0)),
+    (b"<a x='&nbsp;'/>", (2, 0)),
+    (b"<a>&nbsp; &</a>", (0, 1)),
+];
+
+// Whether each text has its outcome.
+fn have_outcomes(alloc: Global, rows: &[(&[u8], (u8, u32))]) -> bool {
+    for (text, want) in rows {
+        if outcome(alloc, text) != *want {
+            return false;
+        }
+    }
+    true
+}
+
 #[test]
 fn texts(rt: HostRuntime) {
-    let a = rt.alloc();
-    let table: [(&[u8], (u8, u32)); 57] = [
-        (b"", (2, 0)),
-        (b"<SCL><Substation name=\"S\"", (2, 5)),
-        (b"<SCL><Substation name=\"S\">", (6, 5)),
-        (b"\xFF\xFE<\x00", (1, 0)),
-        (b"<!DOCTYPE SCL><SCL/>", (3, 0)),
-        (b"<SCL></SLC>", (5, 5)),
-        (b"<SCL/>", (0, 1)),
-        (b"<SCL></scl>", (5, 5)),
-        (b"</a>", (5, 0)),
-        (b"<a/></a>", (5, 4)),
-        (b"<a><b></a></b>", (5, 6)),
-        (b"<a/><a/>", (2, 4)),
-        (b"<a/> x", (2, 4)),
-        (b"x<a/>", (2, 0)),
-        (b"<a/><!DOCTYPE a>", (3, 4)),
-        (b"<!doctype a><a/>", (2, 0)),
-        (b"<![CDATA[x]]><a/>", (2, 0)),
-        (b"<a><b>", (6, 3)),
-        (b" \t\r\n", (2, 4)),
-        (b"<!-- -->", (2, 8)),
-        (b"\xEF\xBB\xBF", (2, 3)),
-        (b"\xEF\xBB\xBF<a></b>", (5, 6)),
-        (
-            b"\xEF\xBB\xBF<?xml version=\"1.0\"?>\r\n<a x = '1'\ty=\">\"><b/>t&<![CDATA[ ]] ]]></a >\n",
-            (0, 2),
-        ),
-        (b"<a/>\xEF\xBB\xBF", (2, 4)),
-        (b"<a>\xC0\xAF</a>", (1, 3)),
-        (b"<a>\xED\xA0\x80</a>", (1, 3)),
-        (b"<a/>\xE2\x82", (1, 4)),
-        (b"<!DOCTYPE \xFF", (1, 10)),
-        (b"<a\x00/>", (2, 0)),
-        (b"\x00<a/>", (2, 0)),
-        (b"<a>\x00</a>", (0, 1)),
-        (b"<a/><", (2, 4)),
-        (b"<a>]]></a>", (0, 1)),
-        (b"<!-- a -- b --><a/>", (0, 1)),
-        (b"<!----><a/>", (0, 1)),
-        (b"<!--><a/>", (2, 0)),
-        (b"<!---><a/>", (2, 0)),
-        (b"<?><a/>", (2, 0)),
-        (b"<a><![CDATA[]]></a>", (0, 1)),
-        (b"<a><![CDATA[]></a>", (2, 3)),
-        (b"<!-- --><a/> -->", (2, 12)),
-        (b"< a/>", (2, 0)),
-        (b"</ a>", (2, 0)),
-        (b"<a/ >", (2, 0)),
-        (b"<1/>", (2, 0)),
-        (b"<a x='1'y='2'/>", (2, 0)),
-        (b"<a x='1' x='2'/>", (2, 0)),
-        (b"<a x='1' X='2'/>", (0, 1)),
-        (b"<\xC3\xA4 \xE2\x82\xAC='1'/>", (0, 1)),
-        (b"<a x='<'/>", (2, 0)),
-        (b"<a x='1\"/>", (2, 0)),
-        (b"<a x='&#0;'/>", (2, 0)),
-        (b"<a x='&#xD800;'/>", (2, 0)),
-        (b"<a x='&#1114112;'/>", (2, 0)),
-        (b"<a x='&#X41;'/>", (2, 0)),
-        (b"<a x='&nbsp;'/>", (2, 0)),
-        (b"<a>&nbsp; &</a>", (0, 1)),
-    ];
-    for (text, want) in table {
-        assert!(rt; outcome(a, text) == want);
-    }
+    assert!(rt; have_outcomes(rt.alloc(), TEXTS));
+    assert!(rt; outcome(rt.alloc(), BAY.as_bytes()) == (0, 15));
 }
 
-// A drawing that is cut off before its last `>` ends in a tag or in an element.
+// Whether each front of a drawing, cut off before its last `>`, ends in a tag or in an element.
+fn are_cut(alloc: Global, text: &[u8]) -> bool {
+    for i in 0..text.len().saturating_sub(1) {
+        let (front, _) = text.split_at(i);
+        let (number, _) = outcome(alloc, front);
+        if number != 2 && number != 6 {
+            return false;
+        }
+    }
+    true
+}
+
 #[test]
 fn fronts(rt: HostRuntime) {
-    let a = rt.alloc();
-    for i in 0..BAY.len() - 1 {
-        let (front, _) = BAY.as_bytes().split_at(i);
-        let (number, _) = outcome(a, front);
-        assert!(rt; number == 2 || number == 6);
-    }
-    assert!(rt; outcome(a, BAY.as_bytes()) == (0, 15));
+    assert!(rt; are_cut(rt.alloc(), BAY.as_bytes()));
 }
 
-// A piece many times, between a front and a back.
-fn repeated(alloc: Global, front: &str, piece: &str, n: u32, back: &str) -> Result<String, Fail> {
-    let mut text = String::from_str(alloc, front)?;
-    for _ in 0..n {
-        text.push_str(piece)?;
+// Pieces of a text, each with how often it stands there.
+type Pieces = &'static [(&'static str, u32)];
+
+fn push_often(text: &mut Text, piece: &str, times: u32) -> Result<(), Memory> {
+    for _ in 0..times {
+        text.push(piece.as_bytes())?;
     }
-    text.push_str(back)?;
+    Ok(())
+}
+
+fn repeated(alloc: Global, pieces: &[(&str, u32)]) -> Result<Text, Memory> {
+    let mut text = Text::new(alloc);
+    for (piece, times) in pieces {
+        push_often(&mut text, piece, *times)?;
+    }
     Ok(text)
 }
 
-// Texts of one piece many times, with their outcomes.
-#[test]
-fn limits(rt: HostRuntime) -> Result<(), Fail> {
-    let a = rt.alloc();
-    let table = [
-        ("<SCL>", "<a>", 64, "", (4, 194)),
-        ("", "<a>", 64, "", (6, 189)),
-        ("<a x='&#", "0", 5_000, "65;'/>", (0, 1)),
-        ("<a x='&#", "9", 5_000, ";'/>", (2, 0)),
-    ];
-    for (front, piece, n, back, want) in table {
-        let text = repeated(a, front, piece, n, back)?;
-        assert!(rt; outcome(a, text.as_bytes()) == want);
+// Texts with their outcomes: too deep, and just not too deep; not ended; long references; one element past the limit,
+// and as many as there may be.
+const LIMITS: &[(Pieces, (u8, u32))] = &[
+    (&[("<SCL>", 1), ("<a>", 64)], (4, 194)),
+    (&[("<a>", 64)], (6, 189)),
+    (&[("<a x='&#", 1), ("0", 5_000), ("65;'/>", 1)], (0, 1)),
+    (&[("<a x='&#", 1), ("9", 5_000), (";'/>", 1)], (2, 0)),
+    (
+        &[("<SCL>", 1), ("<a>", 63), ("</a>", 63), ("</SCL>", 1)],
+        (0, 64),
+    ),
+    (
+        &[("<SCL>", 1), ("<a/>", 200_000), ("</SCL>", 1)],
+        (7, 800_001),
+    ),
+    (
+        &[("<SCL>", 1), ("<a/>", 199_999), ("</SCL>", 1)],
+        (0, 200_000),
+    ),
+];
+
+fn has_outcome(alloc: Global, pieces: &[(&str, u32)], want: (u8, u32)) -> bool {
+    match repeated(alloc, pieces) {
+        Ok(text) => outcome(alloc, text.bytes()) == want,
+        Err(_) => false,
     }
-    let opened = repeated(a, "<SCL>", "<a>", 63, "")?;
-    let whole = repeated(a, opened.as_str(), "</a>", 63, "</SCL>")?;
-    assert!(rt; outcome(a, whole.as_bytes()) == (0, 64));
-    Ok(())
 }
 
-// One element past the limit, and as many as there may be.
-#[test]
-fn many_elements(rt: HostRuntime) -> Result<(), Fail> {
-    let past = repeated(rt.alloc(), "<SCL>", "<a/>", 200_000, "</SCL>")?;
-    assert!(rt; outcome(rt.alloc(), past.as_bytes()) == (7, 800_001));
-    let most = repeated(rt.alloc(), "<SCL>", "<a/>", 199_999, "</SCL>")?;
-    assert!(rt; outcome(rt.alloc(), most.as_bytes()) == (0, 200_000));
-    Ok(())
-}
-
-// The value of the attribute of a text, or `-`.
-fn value_in(alloc: Global, raw: &str) -> Result<String, Fail> {
-    let text = repeated(alloc, "<a x=\"", raw, 1, "\" y='7'/>")?;
-    if text.len() <= 8_388_608 {
-        if let Ok(tree) = read_text(alloc, text.as_bytes()) {
-            if let Some(attr) = tree.attr(0, "x") {
-                if let Ok(value) = attr.value(alloc) {
-                    return Ok(value);
-                }
-            }
+// Whether each of the texts has its outcome.
+fn keep_limits(alloc: Global, rows: &[(Pieces, (u8, u32))]) -> bool {
+    for (pieces, want) in rows {
+        if !has_outcome(alloc, pieces, *want) {
+            return false;
         }
     }
-    let none = String::from_str(alloc, "-")?;
-    Ok(none)
+    true
+}
+
+#[test]
+fn limits(rt: HostRuntime) {
+    assert!(rt; keep_limits(rt.alloc(), LIMITS));
+}
+
+// Whether this is the value of the attribute of the first element, or it has none.
+fn is_value(alloc: Global, tree: &Tree<'_>, want: Option<&str>) -> bool {
+    if tree.count() == 0 {
+        return false;
+    }
+    match tree.attr(0, "x") {
+        Some(attribute) => match attribute.value(alloc) {
+            Ok(value) => want == Some(value.as_str()),
+            Err(_) => want.is_none(),
+        },
+        None => want.is_none(),
+    }
+}
+
+// Whether this is the value of the attribute of a text, or it has none.
+fn has_value(alloc: Global, text: &[u8], want: Option<&str>) -> bool {
+    if text.len() > 8_388_608 {
+        return false;
+    }
+    match read_text(alloc, text) {
+        Ok(tree) => is_value(alloc, &tree, want),
+        Err(_) => want.is_none(),
+    }
+}
+
+// Whether the attribute that is written so stands for this, or for nothing.
+fn stands_for(alloc: Global, raw: &str, want: Option<&str>) -> bool {
+    match joined(alloc, &["<a x=\"", raw, "\" y='7'/>"]) {
+        Ok(text) => has_value(alloc, text.bytes(), want),
+        Err(_) => false,
+    }
 }
 
 // Values as they are written, and what they stand for.
-#[test]
-fn values(rt: HostRuntime) -> Result<(), Fail> {
-    let a = rt.alloc();
-    let table = [
-        ("", ""),
-        ("S/V1/Q1", "S/V1/Q1"),
-        ("Q&#49;", "Q1"),
-        ("a&lt;b&gt;c&amp;d&apos;e&quot;f", "a<b>c&d'e\"f"),
-        ("&#x41;&#0000066;&#x1F600;", "AB\u{1F600}"),
-        ("&#1114111;", "\u{10FFFF}"),
-        ("&amp;lt;", "&lt;"),
-        ("a\r\nb\rc\nd\te", "a b c d e"),
-        ("\r\n\r\n\n\r", "    "),
-        ("&#13;&#10;&#9;", "\r\n\t"),
-        ("\u{E4}'\u{20AC}>", "\u{E4}'\u{20AC}>"),
-        ("&apos", "-"),
-        ("&#xD800;", "-"),
-    ];
-    for (raw, want) in table {
-        let value = value_in(a, raw)?;
-        assert!(rt; value.as_str() == want);
+const VALUES: &[(&str, Option<&str>)] = &[
+    ("", Some("")),
+    ("S/V1/Q1", Some("S/V1/Q1")),
+    ("Q&#49;", Some("Q1")),
+    ("a&lt;b&gt;c&amp;d&apos;e&quot;f", Some("a<b>c&d'e\"f")),
+    ("&#x41;&#0000066;&#x1F600;", Some("AB\u{1F600}")),
+    ("&#1114111;", Some("\u{10FFFF}")),
+    ("&amp;lt;", Some("&lt;")),
+    ("a\r\nb\rc\nd\te", Some("a b c d e")),
+    ("\r\n\r\n\n\r", Some("    ")),
+    ("&#13;&#10;&#9;", Some("\r\n\t")),
+    ("\u{E4}'\u{20AC}>", Some("\u{E4}'\u{20AC}>")),
+    ("&apos", None),
+    ("&#xD800;", None),
+];
+
+// Whether each value stands for what is said.
+fn stand_for(alloc: Global, rows: &[(&str, Option<&str>)]) -> bool {
+    for (raw, want) in rows {
+        if !stands_for(alloc, raw, *want) {
+            return false;
+        }
     }
-    Ok(())
+    true
+}
+
+#[test]
+fn values(rt: HostRuntime) {
+    assert!(rt; stand_for(rt.alloc(), VALUES));
 }
 
 // The elements of the bay, each with its place, the element around it and its name.
-const ELEMENTS: [(u32, Option<u32>, &str); 15] = [
+const ELEMENTS: &[(u32, Option<u32>, &str)] = &[
     (61, None, "SCL"),
     (146, Some(0), "Header"),
     (168, Some(0), "Substation"),
@@ -248,17 +307,36 @@ fn has_attribute(tree: &Tree<'_>, i: u32, name: &str, raw: &str) -> bool {
     }
 }
 
+// Whether the tree has these elements.
+fn has_elements(tree: &Tree<'_>, rows: &[(u32, Option<u32>, &str)]) -> bool {
+    if tree.count() as usize != rows.len() {
+        return false;
+    }
+    for i in 0..tree.count() {
+        if !is_element(tree, i, rows[i as usize]) {
+            return false;
+        }
+    }
+    true
+}
+
+// Whether a text has these elements, and the type of the first equipment.
+fn is_bay(alloc: Global, text: &str, rows: &[(u32, Option<u32>, &str)]) -> bool {
+    if text.len() > 8_388_608 {
+        return false;
+    }
+    match read_text(alloc, text.as_bytes()) {
+        Ok(tree) => {
+            has_elements(&tree, rows)
+                && has_attribute(&tree, 8, "type", "DIS")
+                && tree.count() > 8
+                && tree.attr(8, "Type").is_none()
+        }
+        Err(_) => false,
+    }
+}
+
 #[test]
 fn elements(rt: HostRuntime) {
-    let a = rt.alloc();
-    let Ok(tree) = read_text(a, BAY.as_bytes()) else {
-        assert!(rt; false);
-        return;
-    };
-    assert!(rt; tree.count() == 15);
-    for i in 0..15 {
-        assert!(rt; is_element(&tree, i, ELEMENTS[i as usize]));
-    }
-    assert!(rt; has_attribute(&tree, 8, "type", "DIS"));
-    assert!(rt; tree.attr(8, "Type").is_none());
+    assert!(rt; is_bay(rt.alloc(), BAY, ELEMENTS));
 }
