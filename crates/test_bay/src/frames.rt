@@ -15,55 +15,73 @@ fn frame(from: u8, to: u8, round: u32, body: Body) -> Frame {
     }
 }
 
+// Bytes that are no frame, and why.
+const REFUSED: &[(&[u8], FrameRefusal)] = &[
+    (&[], FrameRefusal::Short { have: 0, want: 9 }),
+    (
+        &[6, 1, 2, 0, 0, 0, 1, 0, 0],
+        FrameRefusal::Kind { found: 6 },
+    ),
+    (
+        &[1, 1, 2, 0, 0, 0, 1, 0, 1],
+        FrameRefusal::Length { length: 1 },
+    ),
+    (
+        &[2, 2, 1, 0, 0, 0, 1, 0, 1],
+        FrameRefusal::Short { have: 9, want: 10 },
+    ),
+    (
+        &[1, 1, 2, 0, 0, 0, 1, 0, 0, 0],
+        FrameRefusal::Long { have: 10, want: 9 },
+    ),
+    (
+        &[1, 1, 1, 0, 0, 0, 1, 0, 0],
+        FrameRefusal::Field { place: 2 },
+    ),
+    (
+        &[1, 1, 2, 0, 0, 0, 0, 0, 0],
+        FrameRefusal::Field { place: 3 },
+    ),
+];
+
+// Whether each row is refused so.
+fn are_refused(rows: &[(&[u8], FrameRefusal)]) -> bool {
+    for (bytes, refusal) in rows {
+        if Frame::decode(bytes) != Err(*refusal) {
+            return false;
+        }
+    }
+    true
+}
+
 #[test]
-fn reads_the_table(rt: HostRuntime) -> Result<(), Fail> {
+fn refuses_the_table(rt: HostRuntime) {
+    assert!(rt; are_refused(REFUSED));
+}
+
+// Whether the row is read as one that bay 2 sends to bay 1 in its first round.
+fn is_read(bytes: &[u8], body: Body) -> bool {
+    Frame::decode(bytes) == Ok(frame(2, 1, 1, body))
+}
+
+// The answer of one byte.
+fn answer(byte: u8) -> Body {
+    Body::Answer(Summary::new(&[byte]).unwrap_or(Summary::empty()))
+}
+
+#[test]
+fn reads_the_table(rt: HostRuntime) {
     let held = Body::Busy {
         holder: BayId(2),
         holder_round: 10,
     };
-    let summary = Summary::new(&[0x04]).unwrap_or(Summary::empty());
-    let table: [(&[u8], Result<Frame, FrameRefusal>); 10] = [
-        (&[], Err(FrameRefusal::Short { have: 0, want: 9 })),
-        (
-            &[6, 1, 2, 0, 0, 0, 1, 0, 0],
-            Err(FrameRefusal::Kind { found: 6 }),
-        ),
-        (
-            &[1, 1, 2, 0, 0, 0, 1, 0, 1],
-            Err(FrameRefusal::Length { length: 1 }),
-        ),
-        (
-            &[2, 2, 1, 0, 0, 0, 1, 0, 1],
-            Err(FrameRefusal::Short { have: 9, want: 10 }),
-        ),
-        (
-            &[1, 1, 2, 0, 0, 0, 1, 0, 0, 0],
-            Err(FrameRefusal::Long { have: 10, want: 9 }),
-        ),
-        (
-            &[1, 1, 1, 0, 0, 0, 1, 0, 0],
-            Err(FrameRefusal::Field { place: 2 }),
-        ),
-        (
-            &[1, 1, 2, 0, 0, 0, 0, 0, 0],
-            Err(FrameRefusal::Field { place: 3 }),
-        ),
-        (
-            &[3, 2, 1, 0, 0, 0, 1, 0, 5, 2, 0, 0, 0, 10],
-            Ok(frame(2, 1, 1, held)),
-        ),
-        (
-            &[2, 2, 1, 0, 0, 0, 1, 0, 1, 4],
-            Ok(frame(2, 1, 1, Body::Answer(summary))),
-        ),
-        (
-            &[4, 2, 1, 0, 0, 0, 1, 0, 0],
-            Ok(frame(2, 1, 1, Body::Query)),
-        ),
-    ];
-    for (bytes, want) in table {
-        assert!(rt; Frame::decode(bytes) == want);
-    }
+    assert!(rt; is_read(&[3, 2, 1, 0, 0, 0, 1, 0, 5, 2, 0, 0, 0, 10], held));
+    assert!(rt; is_read(&[2, 2, 1, 0, 0, 0, 1, 0, 1, 4], answer(4)));
+    assert!(rt; is_read(&[4, 2, 1, 0, 0, 0, 1, 0, 0], Body::Query));
+}
+
+#[test]
+fn tells_a_refusal(rt: HostRuntime) -> Result<(), Fail> {
     let refusal = FrameRefusal::Short { have: 8, want: 9 };
     let text = format!(in rt.alloc(); "{refusal}")?;
     assert!(rt; text.as_str() == "8 bytes, 9 wanted");

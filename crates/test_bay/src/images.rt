@@ -1,8 +1,9 @@
-//! What no clause says: that each call succeeds where memory is ample, and that files of the system
-//! are there.
+//! What no clause says: that each call succeeds where memory is ample.
+ghost use Rattle.std.specs.Prelude.{◌+◌, ◌≤◌, length};
+ghost use Rattle.node_store.specs.declared.sizes.TheConstants.{DEVICE_BYTES};
+
 use bay_protocol::Kept;
-use node_store::{Device, FileDevice, MemDevice, OpenTrouble, Store};
-use std::fs;
+use node_store::{Device, MemDevice, OpenTrouble, Store};
 use std::test::Fail;
 
 // The record of a bay that has opened so many rounds.
@@ -36,97 +37,129 @@ fn one_round_more(device: &mut MemDevice) -> SessionEnd {
     }
 }
 
+// Whether so many sessions put a round each.
+fn puts(device: &mut MemDevice, sessions: u32) -> bool {
+    for _ in 0..sessions {
+        if one_round_more(device) != SessionEnd::Put {
+            return false;
+        }
+    }
+    true
+}
+
+// The bytes of a device whose slots have these sequences, with as many rounds, and neither a lock nor a grant. A slot
+// is its gate, eight bytes of its sequence, and then the record; the second may be closed.
+fn image(first: u8, second: Option<u8>) -> [u8; 64] {
+    let mut bytes = [0; 64];
+    bytes[0] = 1;
+    bytes[8] = first;
+    bytes[12] = first;
+    if let Some(second) = second {
+        bytes[32] = 1;
+        bytes[40] = second;
+        bytes[44] = second;
+    }
+    bytes
+}
+
+// Whether the device has these bytes.
+fn has_bytes(device: &MemDevice, bytes: &[u8]) -> bool {
+    device.bytes() == bytes
+}
+
+// One round is put, and three more, for which the slots take turns; the next is past the room of the device.
+fn takes_turns(device: &mut MemDevice) -> bool {
+    puts(device, 1)
+        && has_bytes(device, &image(1, None))
+        && puts(device, 3)
+        && has_bytes(device, &image(3, Some(4)))
+        && one_round_more(device) == SessionEnd::NotPut
+}
+
 #[test]
 fn a_stored_round(rt: HostRuntime) -> Result<(), Fail> {
     let mut device = MemDevice::new(rt.alloc(), 40)?;
-    assert!(rt; one_round_more(&mut device) == SessionEnd::Put);
-    // the gate, the sequence, the highest round, and neither a lock nor a grant
-    let mut want = [0; 64];
-    want[0] = 1;
-    want[8] = 1;
-    want[12] = 1;
-    assert!(rt; device.bytes() == want.as_slice());
-    // the slots take turns
-    for _ in 0..3 {
-        assert!(rt; one_round_more(&mut device) == SessionEnd::Put);
-    }
-    want[8] = 3;
-    want[12] = 3;
-    want[32] = 1;
-    want[40] = 4;
-    want[44] = 4;
-    assert!(rt; device.bytes() == want.as_slice());
-    // past the room of the device
-    assert!(rt; one_round_more(&mut device) == SessionEnd::NotPut);
+    assert!(rt; takes_turns(&mut device));
     Ok(())
+}
+
+const NOT_SYNCED: SessionEnd = SessionEnd::NotOpened(OpenTrouble::SyncFailed);
+
+const NOT_READ: SessionEnd = SessionEnd::NotOpened(OpenTrouble::ReadFailed);
+
+// From which call on each fails, how the session ends, and the highest round after it. At the seventh only the last
+// sync fails.
+const FAILING: &[(u32, SessionEnd, u32)] = &[
+    (1, NOT_SYNCED, 0),
+    (2, NOT_READ, 0),
+    (3, NOT_READ, 0),
+    (4, SessionEnd::NotPut, 0),
+    (5, SessionEnd::NotPut, 0),
+    (6, SessionEnd::NotPut, 0),
+    (7, SessionEnd::NotPut, 1),
+    (8, SessionEnd::Put, 1),
+];
+
+// Whether the device stands for the record of so many rounds.
+fn stands_for(device: &mut MemDevice, highest: u32) -> bool {
+    match Store::open(device) {
+        Ok(opened) => opened.kept == after_rounds(highest),
+        Err(_) => false,
+    }
+}
+
+// Whether a session on the device, which fails from that call on, ends so, and what it then stands for.
+fn ends_so(device: &mut MemDevice, call: u32, end: SessionEnd, highest: u32) -> bool {
+    device.fail_from(call);
+    let ended = one_round_more(device);
+    device.mend();
+    ended == end && stands_for(device, highest)
 }
 
 #[test]
 fn a_failing_device(rt: HostRuntime) -> Result<(), Fail> {
-    let not_synced = SessionEnd::NotOpened(OpenTrouble::SyncFailed);
-    let not_read = SessionEnd::NotOpened(OpenTrouble::ReadFailed);
-    // from which call on each fails, how the session ends, and the highest round after it
-    for (call, end, highest) in [
-        (1, not_synced, 0),
-        (2, not_read, 0),
-        (3, not_read, 0),
-        (4, SessionEnd::NotPut, 0),
-        (5, SessionEnd::NotPut, 0),
-        (6, SessionEnd::NotPut, 0),
-        // only the last sync failed
-        (7, SessionEnd::NotPut, 1),
-        (8, SessionEnd::Put, 1),
-    ] {
+    for (call, end, highest) in FAILING {
         let mut device = MemDevice::new(rt.alloc(), 40)?;
-        device.fail_from(call);
-        assert!(rt; one_round_more(&mut device) == end);
-        device.mend();
-        let kept = Store::open(&mut device).map(|opened| opened.kept);
-        assert!(rt; kept == Ok(after_rounds(highest)));
+        assert!(rt; ends_so(&mut device, *call, *end, *highest));
     }
     Ok(())
+}
+
+// Whether these bytes are written.
+fn writes(device: &mut MemDevice, at: u8, piece: &[u8]) -> bool
+    requires { at + length piece.now ≤ DEVICE_BYTES }
+{
+    device.write(at, piece).is_ok()
+}
+
+// Whether the record of this slot is refused.
+fn is_refused(device: &mut MemDevice, slot: u8) -> bool {
+    one_round_more(device) == SessionEnd::NotOpened(OpenTrouble::Record { slot })
+}
+
+// Whether a slot that holds no record is refused.
+fn refuses_first(device: &mut MemDevice) -> bool {
+    writes(device, 0, &[1])
+        && writes(device, 8, &[1])
+        && writes(device, 9, &[0xff; 18])
+        && is_refused(device, 0)
+}
+
+// Whether that slot is not read where a newer one is beside it, which is refused where its sequence is too great.
+fn refuses_second(device: &mut MemDevice) -> bool {
+    writes(
+        device,
+        32,
+        &[1, 0x7f, 0xff, 0xff, 0xff, 0xff, 0xff, 0xff, 0xff],
+    ) && stands_for(device, 0)
+        && writes(device, 33, &[0x80, 0, 0, 0, 0, 0, 0, 0])
+        && is_refused(device, 1)
 }
 
 #[test]
 fn an_unfit_record(rt: HostRuntime) -> Result<(), Fail> {
     let mut device = MemDevice::new(rt.alloc(), 40)?;
-    assert!(rt; device.write(0, &[1]).is_ok());
-    assert!(rt; device.write(8, &[1]).is_ok());
-    assert!(rt; device.write(9, &[0xff; 18]).is_ok());
-    let refused = SessionEnd::NotOpened(OpenTrouble::Record { slot: 0 });
-    assert!(rt; one_round_more(&mut device) == refused);
-    // with a newer slot beside it, it is not read; with a sequence that is too great that one is refused
-    assert!(rt;
-        device
-            .write(32, &[1, 0x7f, 0xff, 0xff, 0xff, 0xff, 0xff, 0xff, 0xff])
-            .is_ok()
-    );
-    let kept = Store::open(&mut device).map(|opened| opened.kept);
-    assert!(rt; kept == Ok(after_rounds(0)));
-    assert!(rt; device.write(33, &[0x80, 0, 0, 0, 0, 0, 0, 0]).is_ok());
-    let refused = SessionEnd::NotOpened(OpenTrouble::Record { slot: 1 });
-    assert!(rt; one_round_more(&mut device) == refused);
-    Ok(())
-}
-
-#[test]
-fn keeps_a_file(rt: HostRuntime) -> Result<(), Fail> {
-    let name = "node_store_test.bin";
-    let mut device = FileDevice::new(rt.alloc(), &rt, name)?;
-    let mut into = [7; 32];
-    // a missing file is made of zeros
-    assert!(rt; device.sync().is_ok());
-    assert!(rt; device.read(32, &mut into).is_ok());
-    assert!(rt; into == [0; 32]);
-    assert!(rt; device.write(33, &[1, 2, 3]).is_ok());
-    assert!(rt; device.sync().is_ok());
-    // once it is closed, it is there for the next one
-    drop(device);
-    let mut again = FileDevice::new(rt.alloc(), &rt, name)?;
-    assert!(rt; again.read(32, &mut into).is_ok());
-    assert!(rt; &into[..5] == [0, 1, 2, 3, 0].as_slice());
-    fs::remove_file(&rt, name)?;
-    let mut nowhere = FileDevice::new(rt.alloc(), &rt, "no_folder/node_store_test.bin")?;
-    assert!(rt; nowhere.sync().is_err());
+    assert!(rt; refuses_first(&mut device));
+    assert!(rt; refuses_second(&mut device));
     Ok(())
 }

@@ -1,7 +1,6 @@
 //! Streams that fail, that are interrupted, and that give or take a part.
 use ilk_base::{Failed, Sink, Source, StdIn, StdOut, write_all};
 use std::io::{Error, ErrorKind, Read, Result as IoResult, Write};
-use std::test::Fail;
 
 // What a stream does at one call.
 #[derive(Clone, Copy)]
@@ -78,33 +77,38 @@ fn next<S: Source>(source: &mut S) -> Option<usize> {
     source.read(&mut into).ok()
 }
 
-// A byte at a time, with a signal before each; a fault in between is no end, and what comes after it is given.
-#[test]
-fn an_input_that_fails(rt: HostRuntime) -> Result<(), Fail> {
-    let acts = [
-        Act::Moves(1),
-        Act::Interrupted,
-        Act::Moves(1),
-        Act::Fails,
-        Act::Interrupted,
-        Act::Interrupted,
-        Act::Moves(3),
-    ];
-    let mut input = StdIn::new(Gives { acts: &acts });
-    for want in [Some(1), Some(1), None, Some(3), Some(0)] {
-        assert!(rt; next(&mut input) == want);
+// Whether the source gives so many bytes, read by read.
+fn gives_counts<S: Source>(source: &mut S, counts: &[Option<usize>]) -> bool {
+    for count in counts {
+        if next(source) != *count {
+            return false;
+        }
     }
-    Ok(())
+    true
+}
+
+// A byte at a time, with a signal before each; a fault in between is no end, and what comes after it is given.
+const GIVEN: &[Act] = &[
+    Act::Moves(1),
+    Act::Interrupted,
+    Act::Moves(1),
+    Act::Fails,
+    Act::Interrupted,
+    Act::Interrupted,
+    Act::Moves(3),
+];
+
+#[test]
+fn an_input_that_fails(rt: HostRuntime) {
+    let mut input = StdIn::new(Gives { acts: GIVEN });
+    assert!(rt; gives_counts(&mut input, &[Some(1), Some(1), None, Some(3), Some(0)]));
 }
 
 // A reader in memory tells what is left of it, and is read to its end.
 #[test]
-fn an_input_in_memory(rt: HostRuntime) -> Result<(), Fail> {
+fn an_input_in_memory(rt: HostRuntime) {
     let mut input = StdIn::new(b"ten bytes.".as_slice());
-    for want in [Some(8), Some(2), Some(0)] {
-        assert!(rt; next(&mut input) == want);
-    }
-    Ok(())
+    assert!(rt; gives_counts(&mut input, &[Some(8), Some(2), Some(0)]));
 }
 
 // Whether ten bytes are written, by these acts and flushes, and how many are then shown.
@@ -120,38 +124,88 @@ fn written(acts: &[Act], flushes: &[Act]) -> (Result<(), Failed>, usize) {
     (result, shown)
 }
 
+// What a writer does: how it takes bytes, how it flushes, how the writing of ten bytes ends, and how many are shown.
+struct Row {
+    acts: &'static [Act],
+    flushes: &'static [Act],
+    ends: Result<(), Failed>,
+    shown: usize,
+}
+
+// Whether each row is written so.
+fn are_written(rows: &[Row]) -> bool {
+    for row in rows {
+        if written(row.acts, row.flushes) != (row.ends, row.shown) {
+            return false;
+        }
+    }
+    true
+}
+
 // All that is written is shown, whatever parts it is taken in.
+const IN_PARTS: &[Row] = &[
+    Row {
+        acts: &[Act::Moves(20)],
+        flushes: &[],
+        ends: Ok(()),
+        shown: 10,
+    },
+    Row {
+        acts: &[
+            Act::Moves(3),
+            Act::Interrupted,
+            Act::Moves(1),
+            Act::Moves(20),
+        ],
+        flushes: &[Act::Interrupted, Act::Moves(0)],
+        ends: Ok(()),
+        shown: 10,
+    },
+];
+
 #[test]
-fn an_output_that_takes_parts(rt: HostRuntime) -> Result<(), Fail> {
-    assert!(rt; written(&[Act::Moves(20)], &[]) == (Ok(()), 10));
-    let parts = [
-        Act::Moves(3),
-        Act::Interrupted,
-        Act::Moves(1),
-        Act::Moves(20),
-    ];
-    assert!(rt; written(&parts, &[Act::Interrupted, Act::Moves(0)]) == (Ok(()), 10));
-    Ok(())
+fn an_output_that_takes_parts(rt: HostRuntime) {
+    assert!(rt; are_written(IN_PARTS));
 }
 
 // A fault of a write or of a flush is one of the output, and so it is where nothing is taken.
+const FAILING: &[Row] = &[
+    Row {
+        acts: &[Act::Moves(4), Act::Fails],
+        flushes: &[],
+        ends: Err(Failed),
+        shown: 4,
+    },
+    Row {
+        acts: &[Act::Moves(4), Act::Moves(0)],
+        flushes: &[],
+        ends: Err(Failed),
+        shown: 4,
+    },
+    Row {
+        acts: &[Act::Moves(20)],
+        flushes: &[Act::Fails],
+        ends: Err(Failed),
+        shown: 0,
+    },
+    Row {
+        acts: &[Act::Moves(4), Act::Moves(20)],
+        flushes: &[Act::Moves(0), Act::Fails],
+        ends: Err(Failed),
+        shown: 4,
+    },
+];
+
 #[test]
-fn an_output_that_fails(rt: HostRuntime) -> Result<(), Fail> {
-    assert!(rt; written(&[Act::Moves(4), Act::Fails], &[]) == (Err(Failed), 4));
-    assert!(rt; written(&[Act::Moves(4), Act::Moves(0)], &[]) == (Err(Failed), 4));
-    assert!(rt; written(&[Act::Moves(20)], &[Act::Fails]) == (Err(Failed), 0));
-    let parts = [Act::Moves(4), Act::Moves(20)];
-    assert!(rt; written(&parts, &[Act::Moves(0), Act::Fails]) == (Err(Failed), 4));
-    Ok(())
+fn an_output_that_fails(rt: HostRuntime) {
+    assert!(rt; are_written(FAILING));
 }
 
 // A stream that is interrupted for ever is a fault.
 #[test]
-fn a_stream_that_never_goes_on(rt: HostRuntime) -> Result<(), Fail> {
-    let mut input = StdIn::new(Gives {
-        acts: &[Act::Interrupted; 1_000],
-    });
+fn a_stream_that_never_goes_on(rt: HostRuntime) {
+    let acts = [Act::Interrupted; 1_000];
+    let mut input = StdIn::new(Gives { acts: &acts });
     assert!(rt; next(&mut input) == None);
-    assert!(rt; written(&[Act::Interrupted; 1_000], &[]) == (Err(Failed), 0));
-    Ok(())
+    assert!(rt; written(&acts, &[]) == (Err(Failed), 0));
 }
