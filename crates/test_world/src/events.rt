@@ -1,5 +1,5 @@
 //! Stories of two bays: what happens one thing after the other, and what comes of each.
-ghost use Rattle.std.specs.Prelude.{◌≡◌, ◌<◌, IfOk, IsTrue, length};
+ghost use Rattle.std.specs.Prelude.{◌≡◌, ◌<◌, IfSome, IsTrue, length};
 ghost use Rattle.std.specs.List.{All};
 ghost use Rattle.station_graph.specs.Alike.{IsVector};
 ghost use Rattle.bay_frames.specs.Row.{IsLawful};
@@ -19,9 +19,7 @@ use ilk_base::{BayId, Dbpos, Direction, Memory, Op, SwitchId};
 use reservation_core::{World, WorldEvent, WorldOutcome, facts_hold_at_the_start};
 use station_graph::{Station, Vector};
 use std::alloc::Global;
-use std::process::Abort;
-use std::test::Fail;
-use test_stations::{Example, built};
+use test_stations::{Example, StationRow, rows_hold};
 
 // What happens, as an event of a world.
 fn event_of(happens: Happens) -> WorldEvent {
@@ -67,29 +65,29 @@ fn fits(station: &Station, event: &WorldEvent) -> bool
 }
 
 // One step, and once more after want of memory, which leaves the world as it was: so the tables hold also where
-// any one allocation of a step is refused.
+// any one allocation of a step is refused. None where the event is not of the station, or too many frames were sent.
 fn step(
-    rt: &impl Abort,
     alloc: Global,
     station: &Station,
     judge: &PlainJudge<'_>,
     world: &mut World,
     happens: Happens,
-) -> Result<WorldOutcome, Memory>
+) -> Option<WorldOutcome>
     requires same { judge.now ≡ station.now }
     requires facts { WorldFacts (by_rows station.now) world.old }
     requires few { length world.old.scene.sent < 2000 }
     ensures facts { WorldFacts (by_rows station.now) world.new }
     ensures few { length world.new.scene.sent < 2000 }
-    ensures output { IfOk result (OutputFits station.now) }
+    ensures output { IfSome result (OutputFits station.now) }
 {
     let event = event_of(happens);
-    assert!(rt; fits(station, &event));
-    assert!(rt; world.sent() < 1000);
-    if let Ok(outcome) = world.step(alloc, station, event, judge) {
-        return Ok(outcome);
+    if !fits(station, &event) || world.sent() >= 1000 {
+        return None;
     }
-    world.step(alloc, station, event, judge)
+    if let Ok(outcome) = world.step(alloc, station, event, judge) {
+        return Some(outcome);
+    }
+    world.step(alloc, station, event, judge).ok()
 }
 
 // Whether the frames are these rows.
@@ -109,70 +107,86 @@ fn are_sent(frames: &FrameList, rows: &[&[u8]]) -> bool
     true
 }
 
-// The step of a bay shows and sends what the line says.
-fn expect_node(
-    rt: &impl Abort,
+// Whether the step of a bay shows these lines.
+fn shows(alloc: Global, station: &Station, output: &NodeOutput, shown: &[u8]) -> bool
+    requires { OutcomeFits station.now output.now.outcome }
+{
+    match output.outcome.lines(alloc, station, b"") {
+        Ok(lines) => lines.bytes() == shown,
+        Err(_) => false,
+    }
+}
+
+// Whether the step of a bay shows and sends what the line says.
+fn is_output(
     alloc: Global,
     station: &Station,
     says: Says,
     bay: BayId,
     first: u32,
     output: &NodeOutput,
-) -> Result<(), Fail>
+) -> bool
     requires outcome { OutcomeFits station.now output.now.outcome }
     requires lawful { All IsLawful output.now.frames }
 {
-    let lines = output.outcome.lines(alloc, station, b"")?;
     match says {
         Says::Quiet(at, next) => {
-            assert!(rt; (bay.0, first) == (at, next));
-            assert!(rt; lines.bytes().is_empty());
-            assert!(rt; are_sent(&output.frames, &[]));
+            (bay.0, first) == (at, next)
+                && shows(alloc, station, output, b"")
+                && are_sent(&output.frames, &[])
         }
         Says::Shows(at, next, shown, sent) => {
-            assert!(rt; (bay.0, first) == (at, next));
-            assert!(rt; lines.bytes() == shown);
-            assert!(rt; are_sent(&output.frames, sent));
+            (bay.0, first) == (at, next)
+                && shows(alloc, station, output, shown)
+                && are_sent(&output.frames, sent)
         }
-        Says::Premise(_) | Says::Drive => assert!(rt; false),
+        Says::Premise(_) | Says::Drive => false,
     }
-    Ok(())
 }
 
-// What comes of the event is what the line says.
-fn expect_line(
-    rt: &impl Abort,
-    alloc: Global,
-    station: &Station,
-    says: Says,
-    outcome: &WorldOutcome,
-) -> Result<(), Fail>
+// Whether what comes of the event is what the line says.
+fn is_outcome(alloc: Global, station: &Station, says: Says, outcome: &WorldOutcome) -> bool
     requires { OutputFits station.now outcome.now }
 {
     match outcome {
         WorldOutcome::Premise(which) => {
-            assert!(rt; matches!(says, Says::Premise(number) if number == which.number()));
-            Ok(())
+            matches!(says, Says::Premise(number) if number == which.number())
         }
-        WorldOutcome::Drive => {
-            assert!(rt; matches!(says, Says::Drive));
-            Ok(())
-        }
+        WorldOutcome::Drive => matches!(says, Says::Drive),
         WorldOutcome::Node { bay, first, output } => {
-            expect_node(rt, alloc, station, says, *bay, *first, output)
+            is_output(alloc, station, says, *bay, *first, output)
         }
     }
 }
 
-// One line after the other.
-fn play(
-    rt: &impl Abort,
+// Whether a line is as it says.
+fn plays_line(
+    alloc: Global,
+    station: &Station,
+    judge: &PlainJudge<'_>,
+    world: &mut World,
+    line: &Line,
+) -> bool
+    requires same { judge.now ≡ station.now }
+    requires facts { WorldFacts (by_rows station.now) world.old }
+    requires few { length world.old.scene.sent < 2000 }
+    ensures facts { WorldFacts (by_rows station.now) world.new }
+    ensures few { length world.new.scene.sent < 2000 }
+{
+    match step(alloc, station, judge, world, line.0) {
+        Some(outcome) => is_outcome(alloc, station, line.1, &outcome),
+        None => false,
+    }
+}
+
+// Whether one line after the other is.
+fn plays(
     alloc: Global,
     station: &Station,
     judge: &PlainJudge<'_>,
     world: &mut World,
     lines: &[Line],
-) -> Result<(), Fail>
+) -> bool
     requires same { judge.now ≡ station.now }
     requires facts { WorldFacts (by_rows station.now) world.old }
     requires few { length world.old.scene.sent < 2000 }
@@ -180,21 +194,21 @@ fn play(
     ensures few { length world.new.scene.sent < 2000 }
 {
     for line in lines {
-        let outcome = step(rt, alloc, station, judge, world, line.0)?;
-        expect_line(rt, alloc, station, line.1, &outcome)?;
+        if !plays_line(alloc, station, judge, world, line) {
+            return false;
+        }
     }
-    Ok(())
+    true
 }
 
-// Each switch is read as it stands.
-fn sense_all(
-    rt: &impl Abort,
+// Whether each switch is read as it stands.
+fn senses_all(
     alloc: Global,
     station: &Station,
     judge: &PlainJudge<'_>,
     world: &mut World,
     start: &Vector,
-) -> Result<(), Fail>
+) -> bool
     requires same { judge.now ≡ station.now }
     requires start { IsVector station.now start.now }
     requires facts { WorldFacts (by_rows station.now) world.old }
@@ -208,86 +222,106 @@ fn sense_all(
         } else {
             Dbpos::Off
         };
-        let outcome = step(rt, alloc, station, judge, world, Happens::Sense(i, word))?;
         let bay = station.switch(SwitchId(i)).bay.0;
-        expect_line(rt, alloc, station, Says::Quiet(bay, 1), &outcome)?;
+        let line = Line(Happens::Sense(i, word), Says::Quiet(bay, 1));
+        if !plays_line(alloc, station, judge, world, &line) {
+            return false;
+        }
     }
-    Ok(())
+    true
 }
 
-// The parts of a story, from the start on.
-fn expect_parts(
-    rt: &impl Abort,
+// Whether the parts of a story are as they say.
+fn plays_parts(
+    alloc: Global,
+    station: &Station,
+    judge: &PlainJudge<'_>,
+    world: &mut World,
+    parts: &[&[Line]],
+) -> bool
+    requires same { judge.now ≡ station.now }
+    requires facts { WorldFacts (by_rows station.now) world.old }
+    requires few { length world.old.scene.sent < 2000 }
+{
+    for part in parts {
+        if !plays(alloc, station, judge, world, part) {
+            return false;
+        }
+    }
+    true
+}
+
+// Whether a story is, from the start on.
+fn plays_story(
     alloc: Global,
     station: &Station,
     judge: &PlainJudge<'_>,
     start: &Vector,
     story: &Story,
-) -> Result<(), Fail>
+) -> Result<bool, Memory>
     requires same { judge.now ≡ station.now }
     requires start { IsVector station.now start.now }
 {
     // Its clause says that the facts hold at the start; it does nothing.
     facts_hold_at_the_start(judge);
     let mut world = World::new(alloc, station, start)?;
-    sense_all(rt, alloc, station, judge, &mut world, start)?;
-    for part in story.parts {
-        play(rt, alloc, station, judge, &mut world, part)?;
-    }
-    Ok(())
+    let sensed = senses_all(alloc, station, judge, &mut world, start);
+    Ok(sensed && plays_parts(alloc, station, judge, &mut world, story.parts))
 }
 
-// Where each switch stands at first.
-fn start_of(
-    rt: &impl Abort,
-    alloc: Global,
-    station: &Station,
-    closed: &[u16],
-) -> Result<Vector, Fail>
-    ensures { IfOk result (λ v. IsVector station.now v) }
+// Where each switch stands at first; none where one of those that are closed is not of the station.
+pub(crate) fn start_of(alloc: Global, station: &Station, closed: &[u16]) -> Option<Vector>
+    ensures { IfSome result (λ v. IsVector station.now v) }
 {
-    let mut start = Vector::all_open(alloc, station)?;
+    let Ok(mut start) = Vector::all_open(alloc, station) else {
+        return None;
+    };
     for switch in closed {
-        assert!(rt; *switch < station.switch_count());
+        if *switch >= station.switch_count() {
+            return None;
+        }
         start.set(SwitchId(*switch), true);
     }
-    Ok(start)
+    Some(start)
 }
 
-fn expect_story(
-    rt: &impl Abort,
-    alloc: Global,
-    station: &Station,
-    story: &Story,
-) -> Result<(), Fail> {
-    let start = start_of(rt, alloc, station, story.closed)?;
-    assert!(rt; fits_plain(station));
-    expect_parts(rt, alloc, station, &PlainJudge::new(station), &start, story)
-}
-
-fn try_story(rt: &impl Abort, alloc: Global, story: &Story) -> Result<(), Fail> {
-    let station = built(alloc, Example::TwoFeeders)?;
-    expect_story(rt, alloc, &station, story)
-}
-
-fn try_stories(rt: &impl Abort, alloc: Global, stories: &[Story]) -> Result<(), Fail> {
-    for story in stories {
-        try_story(rt, alloc, story)?;
+// Whether the story is as it says from there on.
+fn is_story(alloc: Global, station: &Station, start: &Vector, story: &Story) -> bool
+    requires { IsVector station.now start.now }
+{
+    if !fits_plain(station) {
+        return false;
     }
-    Ok(())
+    matches!(
+        plays_story(alloc, station, &PlainJudge::new(station), start, story),
+        Ok(true)
+    )
+}
+
+impl StationRow for Story {
+    fn example(&self) -> Example {
+        Example::TwoFeeders
+    }
+
+    fn holds(&self, alloc: Global, station: &Station) -> bool {
+        match start_of(alloc, station, self.closed) {
+            Some(start) => is_story(alloc, station, &start, self),
+            None => false,
+        }
+    }
 }
 
 #[test]
-fn whole_operations(rt: HostRuntime) -> Result<(), Fail> {
-    try_stories(&rt, rt.alloc(), OPERATIONS)
+fn whole_operations(rt: HostRuntime) {
+    assert!(rt; rows_hold(rt.alloc(), OPERATIONS));
 }
 
 #[test]
-fn losses_and_restarts(rt: HostRuntime) -> Result<(), Fail> {
-    try_stories(&rt, rt.alloc(), INTERRUPTIONS)
+fn losses_and_restarts(rt: HostRuntime) {
+    assert!(rt; rows_hold(rt.alloc(), INTERRUPTIONS));
 }
 
 #[test]
-fn broken_premises(rt: HostRuntime) -> Result<(), Fail> {
-    try_stories(&rt, rt.alloc(), PREMISES)
+fn broken_premises(rt: HostRuntime) {
+    assert!(rt; rows_hold(rt.alloc(), PREMISES));
 }

@@ -1,12 +1,10 @@
 //! Log files and what they give; the expected events and refusals are those of the format.
-use ilk_base::{BayId, Dbpos, Direction, InputRefusal, Op, SwitchId, Text};
+use ilk_base::{BayId, Dbpos, Direction, InputRefusal, Memory, Op, SwitchId, Text};
 use log_replay::{LogFault, read_log};
 use reservation_core::{LogEvent, WorldEvent};
 use station_graph::Station;
 use std::alloc::Global;
-use std::process::Abort;
-use std::test::Fail;
-use test_stations::{Example, built};
+use test_stations::{Example, StationRow, row_holds, rows_hold};
 
 // The last event of a log, if it has one, or why the bytes are none.
 fn last_event(
@@ -92,20 +90,6 @@ const EVENTS: &[(&[u8], LogEvent)] = &[
     ),
 ];
 
-fn expect_events(rt: &impl Abort, alloc: Global, station: &Station) {
-    for (bytes, want) in EVENTS {
-        assert!(rt; last_event(alloc, station, bytes) == Ok(Some(*want)));
-    }
-    assert!(rt; last_event(alloc, station, b"\n\r\n") == Ok(None));
-}
-
-#[test]
-fn reads_each_kind(rt: HostRuntime) -> Result<(), Fail> {
-    let station = built(rt.alloc(), Example::OneEarthed)?;
-    expect_events(&rt, rt.alloc(), &station);
-    Ok(())
-}
-
 // Logs, and the number and the line with which each is refused.
 const REFUSED: &[(&[u8], u8, u32)] = &[
     (b"tick", 1, 1),
@@ -130,53 +114,99 @@ const REFUSED: &[(&[u8], u8, u32)] = &[
     (b"deliver,1\ntack\ndeliver,0", 6, 2),
 ];
 
-fn expect_refused(
-    rt: &impl Abort,
-    alloc: Global,
-    station: &Station,
-    bytes: &[u8],
-    number: u8,
-    line: u32,
-) {
-    let want = LogFault::Refused(InputRefusal { number, line });
-    assert!(rt; last_event(alloc, station, bytes) == Err(want));
-}
-
-fn expect_all_refused(rt: &impl Abort, alloc: Global, station: &Station) {
-    for (bytes, number, line) in REFUSED {
-        expect_refused(rt, alloc, station, bytes, *number, *line);
+// Whether this is the last event of each log.
+fn are_events(alloc: Global, station: &Station, rows: &[(&[u8], LogEvent)]) -> bool {
+    for (bytes, want) in rows {
+        if last_event(alloc, station, bytes) != Ok(Some(*want)) {
+            return false;
+        }
     }
+    true
 }
 
-#[test]
-fn refuses_at_the_first_fault(rt: HostRuntime) -> Result<(), Fail> {
-    let station = built(rt.alloc(), Example::OneEarthed)?;
-    expect_all_refused(&rt, rt.alloc(), &station);
-    Ok(())
+// Whether the log is refused so.
+fn is_refused(alloc: Global, station: &Station, bytes: &[u8], number: u8, line: u32) -> bool {
+    let want = LogFault::Refused(InputRefusal { number, line });
+    last_event(alloc, station, bytes) == Err(want)
 }
 
-// A log of the most records.
-fn long_log(alloc: Global) -> Result<Text, Fail> {
-    let mut text = Text::new(alloc);
+// Whether each log is refused so.
+fn are_refused(alloc: Global, station: &Station, rows: &[(&[u8], u8, u32)]) -> bool {
+    for (bytes, number, line) in rows {
+        if !is_refused(alloc, station, bytes, *number, *line) {
+            return false;
+        }
+    }
+    true
+}
+
+// Adds the most records.
+fn push_records(text: &mut Text) -> Result<(), Memory> {
     for _ in 0..20_000 {
         text.push(b"tick,S/V1/Q1\n")?;
     }
-    Ok(text)
-}
-
-fn expect_limits(rt: &impl Abort, alloc: Global, station: &Station) -> Result<(), Fail> {
-    let mut text = long_log(alloc)?;
-    let tick = LogEvent::Step(WorldEvent::Tick(BayId(0)));
-    assert!(rt; last_event(alloc, station, text.bytes()) == Ok(Some(tick)));
-    text.push(b"tack\n")?;
-    expect_refused(rt, alloc, station, text.bytes(), 9, 20_001);
-    let large = vec![in alloc; b'x'; 8_388_609]?;
-    expect_refused(rt, alloc, station, &large, 5, 0);
     Ok(())
 }
 
+// Whether a log of the most records is read, and refused with one record more.
+fn has_most(alloc: Global, station: &Station) -> bool {
+    let tick = LogEvent::Step(WorldEvent::Tick(BayId(0)));
+    let mut text = Text::new(alloc);
+    push_records(&mut text).is_ok()
+        && last_event(alloc, station, text.bytes()) == Ok(Some(tick))
+        && text.push(b"tack\n").is_ok()
+        && is_refused(alloc, station, text.bytes(), 9, 20_001)
+}
+
+// Whether a log of one byte too many is refused.
+fn is_too_large(alloc: Global, station: &Station) -> bool {
+    match vec![in alloc; b'x'; 8_388_609] {
+        Ok(large) => is_refused(alloc, station, &large, 5, 0),
+        Err(_) => false,
+    }
+}
+
+// What is asked of logs on the one switch.
+enum Asked {
+    // whether each is read to this last event
+    Events(&'static [(&'static [u8], LogEvent)]),
+    // whether one of empty lines has no event
+    NoEvent,
+    // whether each is refused so
+    Refused(&'static [(&'static [u8], u8, u32)]),
+    // whether one may have so many records
+    Records,
+    // whether one may have so many bytes
+    Bytes,
+}
+
+impl StationRow for Asked {
+    fn example(&self) -> Example {
+        Example::OneEarthed
+    }
+
+    fn holds(&self, alloc: Global, station: &Station) -> bool {
+        match self {
+            Asked::Events(rows) => are_events(alloc, station, rows),
+            Asked::NoEvent => last_event(alloc, station, b"\n\r\n") == Ok(None),
+            Asked::Refused(rows) => are_refused(alloc, station, rows),
+            Asked::Records => has_most(alloc, station),
+            Asked::Bytes => is_too_large(alloc, station),
+        }
+    }
+}
+
 #[test]
-fn keeps_the_limits(rt: HostRuntime) -> Result<(), Fail> {
-    let station = built(rt.alloc(), Example::OneEarthed)?;
-    expect_limits(&rt, rt.alloc(), &station)
+fn reads_each_kind(rt: HostRuntime) {
+    assert!(rt; rows_hold(rt.alloc(), &[Asked::Events(EVENTS), Asked::NoEvent]));
+}
+
+#[test]
+fn refuses_at_the_first_fault(rt: HostRuntime) {
+    assert!(rt; row_holds(rt.alloc(), &Asked::Refused(REFUSED)));
+}
+
+#[test]
+fn keeps_the_limits(rt: HostRuntime) {
+    assert!(rt; rows_hold(rt.alloc(), &[Asked::Records, Asked::Bytes]));
 }

@@ -29,6 +29,7 @@ pub(crate) enum Says {
     Shows(u8, u32, &'static [u8], &'static [&'static [u8]]),
 }
 
+#[derive(Clone, Copy)]
 pub(crate) struct Line(pub(crate) Happens, pub(crate) Says);
 
 // The switches that are closed at first, and what happens then, in parts. Before it each switch is read as it

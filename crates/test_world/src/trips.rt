@@ -1,13 +1,18 @@
 //! Logs with trips, and their reports and refusals.
+ghost use Rattle.std.specs.Prelude.{◌<◌, length};
+ghost use Rattle.std.specs.List.{All};
+ghost use Rattle.station_graph.specs.Alike.{IsVector};
+ghost use Rattle.log_replay.specs.Replay.{ReportFits};
+ghost use Rattle.trip_replay.specs.TripRecords.{TripMayBeTold};
+
+use crate::events::start_of;
 use central_rules::{PlainJudge, breaks, fits_plain};
-use ilk_base::{Direction, Op, Rule, SwitchId, Text};
+use ilk_base::{Direction, Memory, Op, Rule, SwitchId, Text};
 use reservation_core::Which;
 use station_graph::{Station, Vector};
 use std::alloc::Global;
-use std::process::Abort;
-use std::test::Fail;
-use test_stations::{Example, built};
-use trip_replay::{TripLogFault, read_trip_log, replay_trips};
+use test_stations::{Example, StationRow, row_holds, rows_hold};
+use trip_replay::{TripLog, TripLogFault, TripReport, read_trip_log, replay_trips};
 
 // Where the switches of the two feeders stand at first, and the words that are read of them.
 const STANDS: &[&[u8]] = &[
@@ -22,10 +27,11 @@ const READ: &[&[u8]] = &[
     b"sense,S/V1/Q2/QA1,on\nsense,S/V1/Q2/QB9,on\nsense,S/V1/Q2/QC9,off\nsense,S/V1/Q2/E1,on\n",
 ];
 
-const BAYS: &[&[u8]] = &[b"bay 1 S/V1/Q1\nbay 2 S/V1/Q2\n"];
+const BAYS: &[u8] = b"bay 1 S/V1/Q1\nbay 2 S/V1/Q2\n";
 
-// What a log says, and what its report says after the lines of the bays.
+// What a log says, and what its report says.
 struct Story {
+    drawing: Example,
     parts: &'static [&'static [&'static [u8]]],
     report: &'static [&'static [u8]],
     premise: Option<(u32, Which)>,
@@ -34,6 +40,7 @@ struct Story {
 const STORIES: &[Story] = &[
     // a trip during an operation: the other feeder is switched off, and the operation goes on
     Story {
+        drawing: Example::TwoFeeders,
         parts: &[
             STANDS,
             READ,
@@ -43,6 +50,7 @@ const STORIES: &[Story] = &[
             ],
         ],
         report: &[
+            BAYS,
             b"21 1 collecting 1\n21 1 send 1 reserve 2 1\n22 2 send 2 answer 1 1\n",
             b"23 1 granted 1 close S/V1/Q1/QB1\n27 1 finished 1\n27 1 send 3 over 2 1\ndone 28\n",
         ],
@@ -50,12 +58,14 @@ const STORIES: &[Story] = &[
     },
     // a word against a trip: what has tripped is read as on
     Story {
+        drawing: Example::TwoFeeders,
         parts: &[STANDS, &[b"trip,S/V1/Q2/QA1\nsense,S/V1/Q2/QA1,on\n"]],
-        report: &[],
+        report: &[BAYS],
         premise: Some((12, Which::Sensed)),
     },
     // a trip while the drive of the breaker runs stops it, so that it has no end
     Story {
+        drawing: Example::TwoFeeders,
         parts: &[
             STANDS,
             READ,
@@ -65,6 +75,7 @@ const STORIES: &[Story] = &[
             ],
         ],
         report: &[
+            BAYS,
             b"21 1 collecting 1\n21 1 send 1 reserve 2 1\n22 2 send 2 answer 1 1\n",
             b"23 1 granted 1 close S/V1/Q1/QA1\n",
         ],
@@ -72,100 +83,179 @@ const STORIES: &[Story] = &[
     },
     // an open breaker that trips stays open, and nothing is shown
     Story {
+        drawing: Example::TwoFeeders,
         parts: &[STANDS, &[b"trip,S/V1/Q1/QA1\nsense,S/V1/Q1/QA1,off\n"]],
-        report: &[b"done 12\n"],
+        report: &[BAYS, b"done 12\n"],
         premise: None,
     },
 ];
 
-fn push_lines(text: &mut Text, lines: &[&[u8]]) -> Result<(), Fail> {
+fn push_lines(text: &mut Text, lines: &[&[u8]]) -> Result<(), Memory> {
     for line in lines {
         text.push(line)?;
     }
     Ok(())
 }
 
-// The parts one after the other.
-fn joined(alloc: Global, parts: &[&[&[u8]]]) -> Result<Text, Fail> {
-    let mut text = Text::new(alloc);
+// Adds the parts one after the other.
+fn push_parts(text: &mut Text, parts: &[&[&[u8]]]) -> Result<(), Memory> {
     for part in parts {
-        push_lines(&mut text, part)?;
+        push_lines(text, part)?;
     }
-    Ok(text)
+    Ok(())
 }
 
-fn expect_report(
-    rt: &impl Abort,
+// What comes after a front of the text, where it begins so.
+fn behind<'a>(text: &'a [u8], front: &[u8]) -> Option<&'a [u8]> {
+    if text.len() < front.len() {
+        return None;
+    }
+    let (begin, rest) = text.split_at(front.len());
+    if begin == front { Some(rest) } else { None }
+}
+
+// Whether the text is these pieces.
+fn is_joined(text: &[u8], pieces: &[&[u8]]) -> bool {
+    let mut rest = text;
+    for piece in pieces {
+        let Some(after) = behind(rest, piece) else {
+            return false;
+        };
+        rest = after;
+    }
+    rest.is_empty()
+}
+
+// Whether this is the text of the report.
+fn has_text(alloc: Global, station: &Station, report: &TripReport, pieces: &[&[u8]]) -> bool
+    requires { ReportFits station.now report.now }
+{
+    match report.text(alloc, station) {
+        Ok(text) => is_joined(text.bytes(), pieces),
+        Err(_) => false,
+    }
+}
+
+// Whether the report of a log of so many records is that of the story.
+fn is_report(
     alloc: Global,
     station: &Station,
-    bays: &[&[u8]],
+    report: &TripReport,
     story: &Story,
-) -> Result<(), Fail> {
-    let bytes = joined(alloc, story.parts)?;
-    let Ok(log) = read_trip_log(alloc, station, bytes.bytes()) else {
-        assert!(rt; false, "the log is refused");
-        return Ok(());
-    };
-    assert!(rt; fits_plain(station));
-    let judge = PlainJudge::new(station);
-    let report = replay_trips(alloc, station, &log, &judge)?;
-    let mut want = Text::new(alloc);
-    push_lines(&mut want, bays)?;
-    push_lines(&mut want, story.report)?;
-    let text = report.text(alloc, station)?;
-    assert!(rt; text.bytes() == want.bytes());
-    assert!(rt; report.premise() == story.premise);
-    assert!(rt; report.count() == log.count());
-    Ok(())
+    records: u32,
+) -> bool
+    requires { ReportFits station.now report.now }
+{
+    has_text(alloc, station, report, story.report)
+        && report.premise() == story.premise
+        && report.count() == records
 }
 
-fn expect_reports(rt: &impl Abort, alloc: Global, station: &Station) -> Result<(), Fail> {
-    for story in STORIES {
-        expect_report(rt, alloc, station, BAYS, story)?;
+// Whether the log is replayed as the story says.
+fn is_replayed(alloc: Global, station: &Station, log: &TripLog, story: &Story) -> bool
+    requires { All (TripMayBeTold station.now) log.now }
+{
+    if !fits_plain(station) {
+        return false;
     }
-    Ok(())
+    match replay_trips(alloc, station, log, &PlainJudge::new(station)) {
+        Ok(report) => is_report(alloc, station, &report, story, log.count()),
+        Err(_) => false,
+    }
+}
+
+// Whether the bytes are a log that is replayed as the story says.
+fn is_log(alloc: Global, station: &Station, bytes: &[u8], story: &Story) -> bool {
+    match read_trip_log(alloc, station, bytes) {
+        Ok(log) => is_replayed(alloc, station, &log, story),
+        Err(_) => false,
+    }
+}
+
+impl StationRow for Story {
+    fn example(&self) -> Example {
+        self.drawing
+    }
+
+    fn holds(&self, alloc: Global, station: &Station) -> bool {
+        let mut bytes = Text::new(alloc);
+        push_parts(&mut bytes, self.parts).is_ok() && is_log(alloc, station, bytes.bytes(), self)
+    }
 }
 
 #[test]
-fn replays_trips(rt: HostRuntime) -> Result<(), Fail> {
-    let station = built(rt.alloc(), Example::TwoFeeders)?;
-    expect_reports(&rt, rt.alloc(), &station)
+fn replays_trips(rt: HostRuntime) {
+    assert!(rt; rows_hold(rt.alloc(), STORIES));
 }
 
 // What follows the ten lines of the start, and the number of the refusal and its line.
-const REFUSED: &[(&[&[u8]], u8, u32)] = &[
+struct Refused {
+    rest: &'static [u8],
+    number: u8,
+    line: u32,
+}
+
+const REFUSED: &[Refused] = &[
     // a trip of no breaker, and of no switch
-    (&[b"trip,S/V1/Q1/QB1\n"], 2, 11),
-    (&[b"trip,S/V1/Q3/QA1\n"], 2, 11),
+    Refused {
+        rest: b"trip,S/V1/Q1/QB1\n",
+        number: 2,
+        line: 11,
+    },
+    Refused {
+        rest: b"trip,S/V1/Q3/QA1\n",
+        number: 2,
+        line: 11,
+    },
     // one field too many
-    (&[b"trip,S/V1/Q1/QA1,off\n"], 1, 11),
+    Refused {
+        rest: b"trip,S/V1/Q1/QA1,off\n",
+        number: 1,
+        line: 11,
+    },
     // it is too late to tell where a switch stands, and other kinds are refused as ever
-    (&[b"trip,S/V1/Q1/QA1\nat,S/V1/Q1/QA1,off\n"], 7, 12),
-    (&[b"trips,S/V1/Q1/QA1\n"], 6, 11),
+    Refused {
+        rest: b"trip,S/V1/Q1/QA1\nat,S/V1/Q1/QA1,off\n",
+        number: 7,
+        line: 12,
+    },
+    Refused {
+        rest: b"trips,S/V1/Q1/QA1\n",
+        number: 6,
+        line: 11,
+    },
 ];
 
-fn expect_refusals(rt: &impl Abort, alloc: Global, station: &Station) -> Result<(), Fail> {
-    for (rest, number, line) in REFUSED {
-        let bytes = joined(alloc, &[STANDS, *rest])?;
-        match read_trip_log(alloc, station, bytes.bytes()) {
-            Err(TripLogFault::Refused(refusal)) => {
-                assert!(rt; (refusal.number, refusal.line) == (*number, *line));
-            }
-            _ => assert!(rt; false, "the log is not refused"),
-        }
+// Whether the log is refused so.
+fn is_refused(alloc: Global, station: &Station, bytes: &[u8], number: u8, line: u32) -> bool {
+    match read_trip_log(alloc, station, bytes) {
+        Err(TripLogFault::Refused(refusal)) => (refusal.number, refusal.line) == (number, line),
+        _ => false,
     }
-    Ok(())
+}
+
+impl StationRow for Refused {
+    fn example(&self) -> Example {
+        Example::TwoFeeders
+    }
+
+    fn holds(&self, alloc: Global, station: &Station) -> bool {
+        let mut bytes = Text::new(alloc);
+        push_lines(&mut bytes, STANDS).is_ok()
+            && bytes.push(self.rest).is_ok()
+            && is_refused(alloc, station, bytes.bytes(), self.number, self.line)
+    }
 }
 
 #[test]
-fn refuses_trips(rt: HostRuntime) -> Result<(), Fail> {
-    let station = built(rt.alloc(), Example::TwoFeeders)?;
-    expect_refusals(&rt, rt.alloc(), &station)
+fn refuses_trips(rt: HostRuntime) {
+    assert!(rt; rows_hold(rt.alloc(), REFUSED));
 }
 
 // A disconnector is closed in parallel to another while the coupler bonds their busbars. The coupler trips before the
 // drive begins: nobody is told, and the drive closes the gap under load.
 const AFTER_A_TRIP: Story = Story {
+    drawing: Example::TwoBusbars,
     parts: &[
         &[
             b"at,S/V1/K0/QB1,on\nat,S/V1/K0/QA1,on\nat,S/V1/K0/QB2,on\nat,S/V1/Q1/QB1,on\n",
@@ -186,6 +276,7 @@ const AFTER_A_TRIP: Story = Story {
         ],
     ],
     report: &[
+        COUPLED,
         b"31 3 collecting 1\n31 3 send 1 reserve 2 1\n31 3 send 2 reserve 4 1\n",
         b"32 2 send 3 answer 3 1\n33 4 send 4 answer 3 1\n35 3 granted 1 close S/V1/Q1/QB2\n",
         b"39 3 finished 1\n39 3 send 5 over 2 1\n39 3 send 6 over 4 1\ndone 39\n",
@@ -193,33 +284,62 @@ const AFTER_A_TRIP: Story = Story {
     premise: None,
 };
 
-const COUPLED: &[&[u8]] = &[b"bay 2 S/V1/K0\nbay 3 S/V1/Q1\nbay 4 S/V1/Q2\n"];
+const COUPLED: &[u8] = b"bay 2 S/V1/K0\nbay 3 S/V1/Q1\nbay 4 S/V1/Q2\n";
 
-const CLOSED: &[u16] = &[0, 1, 2, 3, 5, 6, 8, 10, 11, 12, 14];
+// The switches that are closed before the trip.
+struct BeforeATrip {
+    closed: &'static [u16],
+}
 
-// What the disconnector breaks before the trip, and after it.
-fn expect_third(rt: &impl Abort, alloc: Global, station: &Station) -> Result<(), Fail> {
-    expect_report(rt, alloc, station, COUPLED, &AFTER_A_TRIP)?;
-    let mut truth = Vector::all_open(alloc, station)?;
-    for closed in CLOSED {
-        assert!(rt; *closed < station.switch_count());
-        truth.set(SwitchId(*closed), true);
-    }
-    assert!(rt; station.switch_count() > 4);
+const BEFORE_A_TRIP: BeforeATrip = BeforeATrip {
+    closed: &[0, 1, 2, 3, 5, 6, 8, 10, 11, 12, 14],
+};
+
+// Whether closing the disconnector breaks this rule.
+fn closing_breaks(alloc: Global, station: &Station, truth: &Vector, rule: Option<Rule>) -> bool
+    requires truth { IsVector station.now truth.now }
+    requires switch { 4 < length station.now.switches }
+{
     let op = Op {
         switch: SwitchId(4),
         direction: Direction::ToOn,
     };
-    assert!(rt; breaks(alloc, station, &truth, op)? == None);
+    match breaks(alloc, station, truth, op) {
+        Ok(found) => found == rule,
+        Err(_) => false,
+    }
+}
+
+// Whether it breaks no rule before the coupler's breaker trips, and the third after it.
+fn breaks_the_third(alloc: Global, station: &Station, truth: &mut Vector) -> bool
+    requires truth { IsVector station.now truth.old }
+    requires switch { 4 < length station.now.switches }
+{
+    let before = closing_breaks(alloc, station, truth, None);
     truth.set(SwitchId(1), false);
-    assert!(rt; breaks(alloc, station, &truth, op)? == Some(Rule::R3));
-    Ok(())
+    before && closing_breaks(alloc, station, truth, Some(Rule::R3))
+}
+
+impl StationRow for BeforeATrip {
+    fn example(&self) -> Example {
+        Example::TwoBusbars
+    }
+
+    fn holds(&self, alloc: Global, station: &Station) -> bool {
+        if station.switch_count() <= 4 {
+            return false;
+        }
+        let Some(mut truth) = start_of(alloc, station, self.closed) else {
+            return false;
+        };
+        breaks_the_third(alloc, station, &mut truth)
+    }
 }
 
 // The third rule is promised no longer where a breaker has tripped that the grant used: on the true positions of
 // that log it is broken.
 #[test]
-fn third_rule_after_a_trip(rt: HostRuntime) -> Result<(), Fail> {
-    let station = built(rt.alloc(), Example::TwoBusbars)?;
-    expect_third(&rt, rt.alloc(), &station)
+fn third_rule_after_a_trip(rt: HostRuntime) {
+    assert!(rt; row_holds(rt.alloc(), &AFTER_A_TRIP));
+    assert!(rt; row_holds(rt.alloc(), &BEFORE_A_TRIP));
 }

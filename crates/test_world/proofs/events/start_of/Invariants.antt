@@ -2,4 +2,4 @@ use Rattle.station_graph.specs.Alike.{IsVector}
 use Rattle.test_world.proofs.events.start_of.Given as goal
 
 abbrev pub invariant-loop-switch : goal.invariant-loop-switch
-invariant-loop-switch g l = IsVector l.station l.start
+invariant-loop-switch l = IsVector l.station l.start

@@ -1,10 +1,10 @@
 use Rattle.std.proofs.Common.{◌<◌, length}
 use Rattle.central_rules.specs.WordRows.{by_rows}
 use Rattle.reservation_core.specs.World.{WorldFacts}
-use Rattle.test_world.proofs.events.sense_all.Given as goal
+use Rattle.test_world.proofs.events.senses_all.Given as goal
 
 abbrev pub invariant-loop-i : goal.invariant-loop-i
-invariant-loop-i g l = record {
+invariant-loop-i l = record {
   facts : WorldFacts (by_rows l.station) l.world;
   few : length l.world.scene.sent < 2000;
 }
