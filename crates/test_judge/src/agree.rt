@@ -6,15 +6,13 @@ ghost use Rattle.double_points.specs.Words.{AreWords};
 use central_rules::{Judge, PLAIN_SWITCHES, PlainJudge, Verdict};
 use double_points::Readings;
 use ilk_base::{Dbpos, Direction, Memory, Op, SwitchId};
-use release_compile::GraphJudge;
+use release_compile::{GraphJudge, SwitchVerdicts};
 use station_graph::Station;
 use std::alloc::Global;
-use std::process::Abort;
-use std::test::Fail;
-use test_stations::{Example, built};
+use test_stations::{Example, StationRow, rows_hold};
 
 // Rows of words, each repeated over the switches in document order: a sign for each.
-const ROWS: [&[u8]; 12] = [
+const ROWS: &[&[u8]] = &[
     b"1", b"0", b"10", b"01", b"110", b"1110", b"?0", b"1?1", b"0?1b", b"11?0i1", b"b10?1", b"?",
 ];
 
@@ -55,19 +53,20 @@ fn is_release(verdict: &Verdict) -> bool {
     }
 }
 
-// Whether a judge releases the operation.
-fn releases<J: Judge>(alloc: Global, judge: &J, op: Op, readings: &Readings) -> Result<bool, Memory>
+// Whether a judge releases the operation; none where memory is wanted.
+fn releases<J: Judge>(alloc: Global, judge: &J, op: Op, readings: &Readings) -> Option<bool>
     requires op { IsOperation (J.meaning judge.now).diagram op }
     requires words { AreWords (J.meaning judge.now).diagram readings.now }
 {
-    let verdict = judge.judge_all(alloc, op, readings)?;
-    Ok(is_release(&verdict))
+    match judge.judge_all(alloc, op, readings) {
+        Ok(verdict) => Some(is_release(&verdict)),
+        Err(_) => None,
+    }
 }
 
-// Both judges rule alike on the operation. Where several readings break a rule, each may show another, and so another
-// rule.
-fn expect_operation(
-    rt: &impl Abort,
+// Whether both judges rule on the operation as was found. Where several readings break a rule, each may show another,
+// and so another rule.
+fn rule_operation(
     alloc: Global,
     station: &Station,
     graphs: &GraphJudge,
@@ -75,111 +74,180 @@ fn expect_operation(
     op: Op,
     readings: &Readings,
     found: &Verdict,
-) -> Result<(), Fail>
+) -> bool
     requires graphs { graphs.now.diagram ≡ station.now }
     requires plain { plain.now ≡ station.now }
     requires op { IsOperation station.now op }
     requires words { AreWords station.now readings.now }
 {
-    let want = releases(alloc, plain, op, readings)?;
-    assert!(rt; releases(alloc, graphs, op, readings)? == want);
-    assert!(rt; is_release(found) == want);
-    Ok(())
+    let want = Some(is_release(found));
+    releases(alloc, plain, op, readings) == want && releases(alloc, graphs, op, readings) == want
 }
 
-// Both judges rule alike on both operations of each switch, one by one and at once.
-fn expect_row(
-    rt: &impl Abort,
+// Whether they rule so on both operations of a switch.
+fn rule_switch(
+    alloc: Global,
+    station: &Station,
+    graphs: &GraphJudge,
+    plain: &PlainJudge,
+    switch: SwitchId,
+    readings: &Readings,
+    found: &SwitchVerdicts,
+) -> bool
+    requires graphs { graphs.now.diagram ≡ station.now }
+    requires plain { plain.now ≡ station.now }
+    requires switch { switch.0 < length station.now.switches }
+    requires words { AreWords station.now readings.now }
+{
+    let open = Op {
+        switch,
+        direction: Direction::ToOff,
+    };
+    let close = Op {
+        switch,
+        direction: Direction::ToOn,
+    };
+    rule_operation(
+        alloc,
+        station,
+        graphs,
+        plain,
+        open,
+        readings,
+        &found.opening,
+    ) && rule_operation(
+        alloc,
+        station,
+        graphs,
+        plain,
+        close,
+        readings,
+        &found.closing,
+    )
+}
+
+// Whether they rule so on each switch.
+fn rule_switches(
+    alloc: Global,
+    station: &Station,
+    graphs: &GraphJudge,
+    plain: &PlainJudge,
+    readings: &Readings,
+    all: &[SwitchVerdicts],
+) -> bool
+    requires graphs { graphs.now.diagram ≡ station.now }
+    requires plain { plain.now ≡ station.now }
+    requires words { AreWords station.now readings.now }
+{
+    if all.len() != usize::from(station.switch_count()) {
+        return false;
+    }
+    for i in 0..station.switch_count() {
+        let found = &all[usize::from(i)];
+        if !rule_switch(alloc, station, graphs, plain, SwitchId(i), readings, found) {
+            return false;
+        }
+    }
+    true
+}
+
+// Whether both judges rule alike on these words, one by one and at once.
+fn rule_alike(
+    alloc: Global,
+    station: &Station,
+    graphs: &GraphJudge,
+    plain: &PlainJudge,
+    readings: &Readings,
+) -> bool
+    requires graphs { graphs.now.diagram ≡ station.now }
+    requires plain { plain.now ≡ station.now }
+    requires words { AreWords station.now readings.now }
+{
+    match graphs.judge_station(alloc, readings) {
+        Ok(all) => rule_switches(alloc, station, graphs, plain, readings, &all),
+        Err(_) => false,
+    }
+}
+
+// The same, on the words of a row.
+fn rule_row(
     alloc: Global,
     station: &Station,
     graphs: &GraphJudge,
     plain: &PlainJudge,
     row: &[u8],
-) -> Result<(), Fail>
+) -> bool
     requires graphs { graphs.now.diagram ≡ station.now }
     requires plain { plain.now ≡ station.now }
 {
-    let readings = words(alloc, station, row)?;
-    let all = graphs.judge_station(alloc, &readings)?;
-    assert!(rt; all.len() == usize::from(station.switch_count()));
-    for i in 0..station.switch_count() {
-        let switch = SwitchId(i);
-        let open = Op {
-            switch,
-            direction: Direction::ToOff,
-        };
-        let close = Op {
-            switch,
-            direction: Direction::ToOn,
-        };
-        let verdicts = &all[usize::from(i)];
-        expect_operation(
-            rt,
-            alloc,
-            station,
-            graphs,
-            plain,
-            open,
-            &readings,
-            &verdicts.opening,
-        )?;
-        expect_operation(
-            rt,
-            alloc,
-            station,
-            graphs,
-            plain,
-            close,
-            &readings,
-            &verdicts.closing,
-        )?;
+    match words(alloc, station, row) {
+        Ok(readings) => rule_alike(alloc, station, graphs, plain, &readings),
+        Err(_) => false,
     }
-    Ok(())
 }
 
-// Both judges rule alike whatever the words.
-fn expect_rows(
-    rt: &impl Abort,
+// The same, on the words of each row.
+fn rule_rows(
     alloc: Global,
     station: &Station,
     graphs: &GraphJudge,
     plain: &PlainJudge,
-) -> Result<(), Fail>
+    rows: &[&[u8]],
+) -> bool
     requires graphs { graphs.now.diagram ≡ station.now }
     requires plain { plain.now ≡ station.now }
 {
-    for row in &ROWS {
-        expect_row(rt, alloc, station, graphs, plain, row)?;
+    for row in rows {
+        if !rule_row(alloc, station, graphs, plain, row) {
+            return false;
+        }
     }
-    Ok(())
+    true
 }
 
-// Both judges rule alike on the station.
-fn expect_station(rt: &impl Abort, alloc: Global, station: &Station) -> Result<(), Fail> {
-    assert!(rt; station.switch_count() <= PLAIN_SWITCHES);
-    let graphs = GraphJudge::build(alloc, station)?;
-    let plain = PlainJudge::new(station);
-    expect_rows(rt, alloc, station, &graphs, &plain)
+// Both judges rule alike on the station, whatever the words.
+struct Agrees {
+    drawing: Example,
+    rows: &'static [&'static [u8]],
 }
 
-fn expect_example(rt: &impl Abort, alloc: Global, example: Example) -> Result<(), Fail> {
-    let station = built(alloc, example)?;
-    expect_station(rt, alloc, &station)
+impl StationRow for Agrees {
+    fn example(&self) -> Example {
+        self.drawing
+    }
+
+    fn holds(&self, alloc: Global, station: &Station) -> bool {
+        if station.switch_count() > PLAIN_SWITCHES {
+            return false;
+        }
+        let plain = PlainJudge::new(station);
+        match GraphJudge::build(alloc, station) {
+            Ok(graphs) => rule_rows(alloc, station, &graphs, &plain, self.rows),
+            Err(_) => false,
+        }
+    }
 }
+
+const STATIONS: &[Agrees] = &[
+    Agrees {
+        drawing: Example::BareStub,
+        rows: ROWS,
+    },
+    Agrees {
+        drawing: Example::TwoTransformers,
+        rows: ROWS,
+    },
+    Agrees {
+        drawing: Example::TwoFeeders,
+        rows: ROWS,
+    },
+    Agrees {
+        drawing: Example::TwoBusbars,
+        rows: ROWS,
+    },
+];
 
 #[test]
-fn small_stations(rt: HostRuntime) -> Result<(), Fail> {
-    for example in [
-        Example::BareStub,
-        Example::TwoTransformers,
-        Example::TwoFeeders,
-    ] {
-        expect_example(&rt, rt.alloc(), example)?;
-    }
-    Ok(())
-}
-
-#[test]
-fn two_busbars(rt: HostRuntime) -> Result<(), Fail> {
-    expect_example(&rt, rt.alloc(), Example::TwoBusbars)
+fn small_stations(rt: HostRuntime) {
+    assert!(rt; rows_hold(rt.alloc(), STATIONS));
 }

@@ -1,12 +1,12 @@
 //! Which positions are alike: the rows of their contractions are equal or not.
-use crate::composed::{Items, kept_of};
+ghost use Rattle.std.specs.Prelude.{◌≡◌, length};
+
+use crate::composed::{Items, is_whole, kept_of};
 use contraction::Contraction;
-use ilk_base::Memory;
+use ilk_base::{Memory, Text};
 use station_graph::Station;
 use std::alloc::Global;
-use std::process::Abort;
-use std::test::Fail;
-use test_stations::{Example, built};
+use test_stations::{Example, StationRow, rows_hold};
 
 // Two positions of some items, each on its nodes, and whether they have one gap view and one load view.
 struct Row {
@@ -188,67 +188,89 @@ const TRANSFORMERS: &[Row] = &[
     },
 ];
 
+// Of which view a row is.
+#[derive(Clone, Copy)]
+enum View {
+    Gap,
+    Load,
+    Both,
+}
+
+fn row_of(alloc: Global, value: &Contraction, view: View) -> Result<Text, Memory> {
+    match view {
+        View::Gap => value.gap_row(alloc),
+        View::Load => value.load_row(alloc),
+        View::Both => value.row(alloc),
+    }
+}
+
+// Whether this is the row of the value.
+fn has_row(alloc: Global, value: &Contraction, view: View, row: &[u8]) -> Option<bool> {
+    match row_of(alloc, value, view) {
+        Ok(own) => Some(own.bytes() == row),
+        Err(_) => None,
+    }
+}
+
+// Whether the two have one row.
+fn share_row(alloc: Global, first: &Contraction, second: &Contraction, view: View) -> Option<bool> {
+    match row_of(alloc, first, view) {
+        Ok(row) => has_row(alloc, second, view, row.bytes()),
+        Err(_) => None,
+    }
+}
+
 // Whether the rows of two contractions are equal where they should be: those of the gap views, of the load
 // views, and of both.
-fn expect_rows(
-    rt: &impl Abort,
-    alloc: Global,
-    first: &Contraction,
-    second: &Contraction,
-    gap: bool,
-    load: bool,
-) -> Result<(), Memory> {
-    let same_gap = first.gap_row(alloc)? == second.gap_row(alloc)?;
-    assert!(rt; same_gap == gap);
-    let same_load = first.load_row(alloc)? == second.load_row(alloc)?;
-    assert!(rt; same_load == load);
-    let same = first.row(alloc)? == second.row(alloc)?;
-    assert!(rt; same == (gap && load));
-    Ok(())
+fn are_as_said(alloc: Global, first: &Contraction, second: &Contraction, row: &Row) -> bool {
+    share_row(alloc, first, second, View::Gap) == Some(row.gap)
+        && share_row(alloc, first, second, View::Load) == Some(row.load)
+        && share_row(alloc, first, second, View::Both) == Some(row.gap && row.load)
 }
 
 // The second position against the contraction of the first.
-fn expect_second(
-    rt: &impl Abort,
+fn is_second(
     alloc: Global,
     station: &Station,
     row: &Row,
+    closed: &[u8],
     first: &Contraction,
-) -> Result<(), Memory> {
-    let second = kept_of(rt, alloc, station, row.items, row.second, row.second_kept)?;
-    expect_rows(rt, alloc, first, &second, row.gap, row.load)
+) -> bool
+    requires { length closed.now ≡ length station.now.switches }
+{
+    match kept_of(alloc, station, row.items, closed, row.second_kept) {
+        Some(second) => are_as_said(alloc, first, &second, row),
+        None => false,
+    }
 }
 
-fn expect_on(rt: &impl Abort, alloc: Global, station: &Station, row: &Row) -> Result<(), Memory> {
-    let first = kept_of(rt, alloc, station, row.items, row.first, row.kept)?;
-    expect_second(rt, alloc, station, row, &first)
-}
+impl StationRow for Row {
+    fn example(&self) -> Example {
+        self.drawing
+    }
 
-fn expect_alike(rt: &impl Abort, alloc: Global, row: &Row) -> Result<(), Fail> {
-    let station = built(alloc, row.drawing)?;
-    Ok(expect_on(rt, alloc, &station, row)?)
+    fn holds(&self, alloc: Global, station: &Station) -> bool {
+        if !is_whole(station, self.first) || !is_whole(station, self.second) {
+            return false;
+        }
+        match kept_of(alloc, station, self.items, self.first, self.kept) {
+            Some(first) => is_second(alloc, station, self, self.second, &first),
+            None => false,
+        }
+    }
 }
 
 #[test]
-fn feeders(rt: HostRuntime) -> Result<(), Fail> {
-    for row in FEEDERS {
-        expect_alike(&rt, rt.alloc(), row)?;
-    }
-    Ok(())
+fn feeders(rt: HostRuntime) {
+    assert!(rt; rows_hold(rt.alloc(), FEEDERS));
 }
 
 #[test]
-fn bare_stub(rt: HostRuntime) -> Result<(), Fail> {
-    for row in STUB {
-        expect_alike(&rt, rt.alloc(), row)?;
-    }
-    Ok(())
+fn bare_stub(rt: HostRuntime) {
+    assert!(rt; rows_hold(rt.alloc(), STUB));
 }
 
 #[test]
-fn transformers(rt: HostRuntime) -> Result<(), Fail> {
-    for row in TRANSFORMERS {
-        expect_alike(&rt, rt.alloc(), row)?;
-    }
-    Ok(())
+fn transformers(rt: HostRuntime) {
+    assert!(rt; rows_hold(rt.alloc(), TRANSFORMERS));
 }

@@ -2,15 +2,14 @@
 //! and a part with too many contractions.
 ghost use Rattle.std.specs.Prelude.{◌≡◌, ◌<◌, length, IfOk};
 ghost use Rattle.bay_contract.specs.Alphabets.{AreAlphabets};
+ghost use Rattle.bay_contract.specs.PartAlphabets.{size_of};
 
 use bay_contract::{IndexSet, Parts, PartsRefusal, Target};
 use double_points::Readings;
 use ilk_base::{BayId, Dbpos, Memory, SwitchId};
 use station_graph::{Station, Vector};
 use std::alloc::Global;
-use std::process::Abort;
-use std::test::Fail;
-use test_stations::{Example, built};
+use test_stations::{Example, StationRow, row_holds};
 
 // The least positions of a feeder, index by index. The lowest digit is the busbar disconnector, then come
 // the breaker, the line disconnector, the earthing switch and the infeed.
@@ -86,40 +85,30 @@ const WORDS: &[Row] = &[
     },
 ];
 
-fn parts_of(alloc: Global, station: &Station) -> Result<Parts, Fail>
-    ensures { IfOk result (AreAlphabets station.now) }
-{
-    Ok(Parts::new(alloc, station)?)
-}
-
-fn expect_least(rt: &impl Abort, parts: &Parts, part: BayId)
+// Whether these are the least positions of the part.
+fn are_least(parts: &Parts, part: BayId, rows: &[u32]) -> bool
     requires { part.0 < length parts.now.parts }
 {
-    assert!(rt; parts.size(part) as usize == LEAST.len());
-    for index in 0..parts.size(part) {
-        assert!(rt; parts.example(part, index) == LEAST[index as usize]);
+    if usize::from(parts.size(part)) != rows.len() {
+        return false;
     }
+    for index in 0..parts.size(part) {
+        if parts.example(part, index) != rows[index as usize] {
+            return false;
+        }
+    }
+    true
 }
 
-// Both feeders, and the busbar, which has no items and one contraction.
-fn expect_parts(rt: &impl Abort, alloc: Global, station: &Station) -> Result<(), Fail> {
-    assert!(rt; station.part_count() == 3);
-    let parts = parts_of(alloc, station)?;
-    expect_least(rt, &parts, BayId(1));
-    expect_least(rt, &parts, BayId(2));
-    assert!(rt; parts.size(BayId(0)) == 1);
-    assert!(rt; parts.start(BayId(0)) == Target::Index(0));
-    Ok(())
-}
-
-#[test]
-fn least_positions(rt: HostRuntime) -> Result<(), Fail> {
-    let station = built(rt.alloc(), Example::TwoFeeders)?;
-    expect_parts(&rt, rt.alloc(), &station)
+// Whether the part has no steps, and one contraction.
+fn is_alone(parts: &Parts, part: BayId) -> bool
+    requires { part.0 < length parts.now.parts }
+{
+    parts.size(part) == 1 && parts.start(part) == Target::Index(0)
 }
 
 // The index to which the steps of a part lead.
-fn led(rt: &impl Abort, parts: &Parts, part: BayId, vector: &Vector) -> Option<u8>
+fn led(parts: &Parts, part: BayId, vector: &Vector) -> Option<u8>
     requires part { part.0 < length parts.now.parts }
     requires ten { length vector.now ≡ 10 }
 {
@@ -130,9 +119,13 @@ fn led(rt: &impl Abort, parts: &Parts, part: BayId, vector: &Vector) -> Option<u
                 return Some(index);
             }
             Target::Step(i) => {
-                assert!(rt; i < parts.steps(part));
+                if i >= parts.steps(part) {
+                    return None;
+                }
                 let step = parts.step(part, i);
-                assert!(rt; step.switch.0 < 10);
+                if step.switch.0 >= 10 {
+                    return None;
+                }
                 at = if vector.closed(step.switch) {
                     step.on
                 } else {
@@ -154,56 +147,30 @@ fn put_all(vector: &mut Vector, signs: &[u8; 10])
     }
 }
 
-// The index of the first feeder in these positions, and where its steps lead.
-fn expect_index(
-    rt: &impl Abort,
-    alloc: Global,
-    station: &Station,
-    parts: &Parts,
-    signs: &[u8; 10],
-    index: u8,
-) -> Result<(), Memory>
+// Whether this is the index of the first feeder in these positions, and its steps lead there.
+fn is_index(alloc: Global, station: &Station, parts: &Parts, signs: &[u8; 10], index: u8) -> bool
     requires part { 1 < length parts.now.parts }
     requires switches { length station.now.switches ≡ 10 }
     requires ten { parts.now.switches ≡ 10 }
 {
-    let mut vector = Vector::all_open(alloc, station)?;
+    let Ok(mut vector) = Vector::all_open(alloc, station) else {
+        return false;
+    };
     put_all(&mut vector, signs);
-    assert!(rt; parts.index_of(BayId(1), &vector) == index);
-    assert!(rt; led(rt, parts, BayId(1), &vector) == Some(index));
-    Ok(())
+    parts.index_of(BayId(1), &vector) == index && led(parts, BayId(1), &vector) == Some(index)
 }
 
-fn expect_indices(
-    rt: &impl Abort,
-    alloc: Global,
-    station: &Station,
-    parts: &Parts,
-) -> Result<(), Memory>
+fn are_indices(alloc: Global, station: &Station, parts: &Parts, rows: &[(&[u8; 10], u8)]) -> bool
     requires part { 1 < length parts.now.parts }
     requires switches { length station.now.switches ≡ 10 }
     requires ten { parts.now.switches ≡ 10 }
 {
-    for (signs, index) in INDICES {
-        expect_index(rt, alloc, station, parts, signs, *index)?;
+    for (signs, index) in rows {
+        if !is_index(alloc, station, parts, signs, *index) {
+            return false;
+        }
     }
-    Ok(())
-}
-
-fn expect_ways(rt: &impl Abort, alloc: Global, station: &Station) -> Result<(), Fail> {
-    assert!(rt; station.switch_count() == 10);
-    assert!(rt; station.part_count() == 3);
-    let parts = parts_of(alloc, station)?;
-    expect_indices(rt, alloc, station, &parts)?;
-    // what comes before each of the five switches is one, two, three, three and six
-    assert!(rt; parts.steps(BayId(1)) == 15);
-    Ok(())
-}
-
-#[test]
-fn ways_to_indices(rt: HostRuntime) -> Result<(), Fail> {
-    let station = built(rt.alloc(), Example::TwoFeeders)?;
-    expect_ways(&rt, rt.alloc(), &station)
+    true
 }
 
 // The words of the first feeder, and lost ones for the other.
@@ -218,68 +185,149 @@ fn readings_of(alloc: Global, station: &Station, words: &[Dbpos; 5]) -> Result<R
     Ok(readings)
 }
 
-// The position of each open index, where it has only one.
-fn expect_only(rt: &impl Abort, open: &IndexSet, row: &Row) {
+// Whether each open index has this position, where it has only one.
+fn has_only(open: &IndexSet, row: &Row) -> bool {
     for (index, position) in row.open.iter().zip(row.only) {
-        assert!(rt; open.position(*index) == Some(*position));
+        if open.position(*index) != Some(*position) {
+            return false;
+        }
+    }
+    true
+}
+
+// Whether an index agrees with the words; none where memory is wanted.
+fn agrees(alloc: Global, parts: &Parts, readings: &Readings, index: u8) -> Option<bool>
+    requires part { 1 < length parts.now.parts }
+    requires readings { length readings.now ≡ parts.now.switches }
+    requires index { index < size_of parts.now 1 }
+{
+    match parts.agreeing(alloc, BayId(1), readings, index) {
+        Ok(position) => Some(position.is_some()),
+        Err(_) => None,
     }
 }
 
-fn expect_open(
-    rt: &impl Abort,
-    alloc: Global,
-    parts: &Parts,
-    readings: &Readings,
-    row: &Row,
-) -> Result<(), Memory>
+// Whether the open indices are those of the row.
+fn are_open(alloc: Global, parts: &Parts, readings: &Readings, open: &IndexSet, row: &Row) -> bool
     requires part { 1 < length parts.now.parts }
     requires readings { length readings.now ≡ parts.now.switches }
 {
-    let open = parts.possible(alloc, BayId(1), readings)?;
-    expect_only(rt, &open, row);
     for index in 0..parts.size(BayId(1)) {
         let wanted = row.open.contains(&index);
-        assert!(rt; open.holds(index) == wanted);
-        let position = parts.agreeing(alloc, BayId(1), readings, index)?;
-        assert!(rt; position.is_some() == wanted);
+        if open.holds(index) != wanted || agrees(alloc, parts, readings, index) != Some(wanted) {
+            return false;
+        }
     }
-    Ok(())
+    true
 }
 
-fn expect_words(rt: &impl Abort, alloc: Global, station: &Station, row: &Row) -> Result<(), Fail> {
-    assert!(rt; station.switch_count() == 10);
-    assert!(rt; station.part_count() == 3);
-    let parts = parts_of(alloc, station)?;
-    let readings = readings_of(alloc, station, &row.words)?;
-    Ok(expect_open(rt, alloc, &parts, &readings, row)?)
+// Whether the words leave open what the row says.
+fn leave_open(alloc: Global, parts: &Parts, readings: &Readings, row: &Row) -> bool
+    requires part { 1 < length parts.now.parts }
+    requires readings { length readings.now ≡ parts.now.switches }
+{
+    match parts.possible(alloc, BayId(1), readings) {
+        Ok(open) => has_only(&open, row) && are_open(alloc, parts, readings, &open, row),
+        Err(_) => false,
+    }
 }
 
-fn expect_row(rt: &impl Abort, alloc: Global, row: &Row) -> Result<(), Fail> {
-    let station = built(alloc, Example::TwoFeeders)?;
-    expect_words(rt, alloc, &station, row)
+fn is_row(alloc: Global, station: &Station, parts: &Parts, row: &Row) -> bool
+    requires part { 1 < length parts.now.parts }
+    requires switches { length station.now.switches ≡ 10 }
+    requires ten { parts.now.switches ≡ 10 }
+{
+    match readings_of(alloc, station, &row.words) {
+        Ok(readings) => leave_open(alloc, parts, &readings, row),
+        Err(_) => false,
+    }
+}
+
+fn are_rows(alloc: Global, station: &Station, parts: &Parts, rows: &[Row]) -> bool
+    requires part { 1 < length parts.now.parts }
+    requires switches { length station.now.switches ≡ 10 }
+    requires ten { parts.now.switches ≡ 10 }
+{
+    for row in rows {
+        if !is_row(alloc, station, parts, row) {
+            return false;
+        }
+    }
+    true
+}
+
+// What is asked of the alphabets of a station.
+enum Asked {
+    // the least positions of both feeders; the busbar has no items and one contraction
+    Least(&'static [u32]),
+    // where the steps of the first feeder lead, and that there are fifteen: what comes before each of the five
+    // switches is one, two, three, three and six
+    Ways(&'static [(&'static [u8; 10], u8)]),
+    // what words of the first feeder leave open
+    Words(&'static [Row]),
+    // why there are none of two bays with eight earthing switches on shared nodes
+    Refused(PartsRefusal),
+}
+
+// Whether the alphabets of the two feeders are as is asked.
+fn is_answered(alloc: Global, station: &Station, parts: &Parts, asked: &Asked) -> bool
+    requires { AreAlphabets station.now parts.now }
+{
+    if station.switch_count() != 10 || station.part_count() != 3 {
+        return false;
+    }
+    match asked {
+        Asked::Least(rows) => {
+            are_least(parts, BayId(1), rows)
+                && are_least(parts, BayId(2), rows)
+                && is_alone(parts, BayId(0))
+        }
+        Asked::Ways(rows) => {
+            are_indices(alloc, station, parts, rows) && parts.steps(BayId(1)) == 15
+        }
+        Asked::Words(rows) => are_rows(alloc, station, parts, rows),
+        Asked::Refused(_) => false,
+    }
+}
+
+impl StationRow for Asked {
+    fn example(&self) -> Example {
+        match self {
+            Asked::Refused(_) => Example::EightEarthed,
+            _ => Example::TwoFeeders,
+        }
+    }
+
+    fn holds(&self, alloc: Global, station: &Station) -> bool {
+        match Parts::new(alloc, station) {
+            Ok(parts) => is_answered(alloc, station, &parts, self),
+            Err(refusal) => matches!(self, Asked::Refused(wanted) if *wanted == refusal),
+        }
+    }
 }
 
 #[test]
-fn words_of_a_feeder(rt: HostRuntime) -> Result<(), Fail> {
-    for row in WORDS {
-        expect_row(&rt, rt.alloc(), row)?;
-    }
-    Ok(())
+fn least_positions(rt: HostRuntime) {
+    assert!(rt; row_holds(rt.alloc(), &Asked::Least(LEAST)));
 }
 
-fn refusal_of(alloc: Global, station: &Station) -> Option<PartsRefusal> {
-    Parts::new(alloc, station).err()
+#[test]
+fn ways_to_indices(rt: HostRuntime) {
+    assert!(rt; row_holds(rt.alloc(), &Asked::Ways(INDICES)));
+}
+
+#[test]
+fn words_of_a_feeder(rt: HostRuntime) {
+    assert!(rt; row_holds(rt.alloc(), &Asked::Words(WORDS)));
 }
 
 // Eight earthing switches on shared nodes: 256 contractions after the last.
+const TOO_MANY: Asked = Asked::Refused(PartsRefusal::Many {
+    part: BayId(0),
+    step: 8,
+});
+
 #[test]
-fn too_many_contractions(rt: HostRuntime) -> Result<(), Fail> {
-    let station = built(rt.alloc(), Example::EightEarthed)?;
-    let refusal = refusal_of(rt.alloc(), &station);
-    let wanted = PartsRefusal::Many {
-        part: BayId(0),
-        step: 8,
-    };
-    assert!(rt; refusal == Some(wanted));
-    Ok(())
+fn too_many_contractions(rt: HostRuntime) {
+    assert!(rt; row_holds(rt.alloc(), &TOO_MANY));
 }

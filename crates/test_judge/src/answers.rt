@@ -1,12 +1,13 @@
 //! What contractions answer on their kept nodes.
-use crate::composed::{Items, first_nodes, kept_of};
+ghost use Rattle.contraction.specs.Answers.{AreNodes};
+
+use crate::composed::{Items, first_nodes, is_whole, kept_of};
 use contraction::{Contraction, Supply};
 use ilk_base::NodeId;
-use station_graph::Station;
+use station_graph::{NodeList, Station};
 use std::alloc::Global;
-use std::process::Abort;
 use std::test::Fail;
-use test_stations::{Example, built};
+use test_stations::{Example, StationRow, rows_hold};
 
 // Two kept nodes, and whether they are coupled, joined and bonded.
 type Pair = (u16, u16, bool, bool, bool);
@@ -237,84 +238,95 @@ const TRANSFORMERS: &[Row] = &[
     },
 ];
 
-fn expect_pair(rt: &impl Abort, value: &Contraction, pair: Pair) {
+fn is_pair(value: &Contraction, pair: Pair) -> bool {
     let (first, second, coupled, joined, bonded) = pair;
-    let a = NodeId(first);
-    let b = NodeId(second);
-    assert!(rt; value.keeps(a) && value.keeps(b));
-    assert!(rt; value.coupled(a, b) == coupled);
-    assert!(rt; value.joined(a, b) == joined);
-    assert!(rt; value.bonded(a, b) == bonded);
+    let (a, b) = (NodeId(first), NodeId(second));
+    value.keeps(a)
+        && value.keeps(b)
+        && value.coupled(a, b) == coupled
+        && value.joined(a, b) == joined
+        && value.bonded(a, b) == bonded
 }
 
-fn expect_single(rt: &impl Abort, value: &Contraction, single: Single) {
+fn is_single(value: &Contraction, single: Single) -> bool {
     let (node, energisable, earthable, supply) = single;
     let a = NodeId(node);
-    assert!(rt; value.keeps(a));
-    assert!(rt; value.energisable(a) == energisable);
-    assert!(rt; value.earthable(a) == earthable);
-    assert!(rt; value.supply(a) == supply);
+    value.keeps(a)
+        && value.energisable(a) == energisable
+        && value.earthable(a) == earthable
+        && value.supply(a) == supply
 }
 
-fn expect_pairs(rt: &impl Abort, value: &Contraction, pairs: &[Pair]) {
+fn are_pairs(value: &Contraction, pairs: &[Pair]) -> bool {
     for pair in pairs {
-        expect_pair(rt, value, *pair);
+        if !is_pair(value, *pair) {
+            return false;
+        }
     }
+    true
 }
 
-fn expect_singles(rt: &impl Abort, value: &Contraction, singles: &[Single]) {
+fn are_singles(value: &Contraction, singles: &[Single]) -> bool {
     for single in singles {
-        expect_single(rt, value, *single);
+        if !is_single(value, *single) {
+            return false;
+        }
     }
+    true
 }
 
-fn expect_answers(rt: &impl Abort, value: &Contraction, row: &Row) {
-    expect_pairs(rt, value, row.pairs);
-    expect_singles(rt, value, row.singles);
-}
+impl StationRow for Row {
+    fn example(&self) -> Example {
+        self.drawing
+    }
 
-fn expect_on(rt: &impl Abort, alloc: Global, station: &Station, row: &Row) -> Result<(), Fail> {
-    let value = kept_of(rt, alloc, station, row.items, row.closed, row.kept)?;
-    expect_answers(rt, &value, row);
-    Ok(())
-}
-
-fn expect_row(rt: &impl Abort, alloc: Global, row: &Row) -> Result<(), Fail> {
-    let station = built(alloc, row.drawing)?;
-    expect_on(rt, alloc, &station, row)
+    fn holds(&self, alloc: Global, station: &Station) -> bool {
+        if !is_whole(station, self.closed) {
+            return false;
+        }
+        match kept_of(alloc, station, self.items, self.closed, self.kept) {
+            Some(value) => are_pairs(&value, self.pairs) && are_singles(&value, self.singles),
+            None => false,
+        }
+    }
 }
 
 #[test]
-fn feeders(rt: HostRuntime) -> Result<(), Fail> {
-    for row in FEEDERS {
-        expect_row(&rt, rt.alloc(), row)?;
-    }
-    Ok(())
+fn feeders(rt: HostRuntime) {
+    assert!(rt; rows_hold(rt.alloc(), FEEDERS));
 }
 
 #[test]
-fn bare_stub(rt: HostRuntime) -> Result<(), Fail> {
-    for row in STUB {
-        expect_row(&rt, rt.alloc(), row)?;
-    }
-    Ok(())
+fn bare_stub(rt: HostRuntime) {
+    assert!(rt; rows_hold(rt.alloc(), STUB));
 }
 
 #[test]
-fn transformers(rt: HostRuntime) -> Result<(), Fail> {
-    for row in TRANSFORMERS {
-        expect_row(&rt, rt.alloc(), row)?;
-    }
-    Ok(())
+fn transformers(rt: HostRuntime) {
+    assert!(rt; rows_hold(rt.alloc(), TRANSFORMERS));
 }
 
-// No item: each node is alone and bare.
+// Whether each of three nodes is alone and bare.
+fn are_alone(value: &Contraction) -> bool {
+    !value.keeps(NodeId(3))
+        && is_pair(value, (0, 2, false, false, false))
+        && is_pair(value, (1, 1, true, true, true))
+        && is_single(value, (2, false, false, Supply::Bare))
+}
+
+// Whether they are so in the contraction of no item on these nodes.
+fn is_nothing(alloc: Global, nodes: &NodeList) -> bool
+    requires { AreNodes nodes.now }
+{
+    match Contraction::empty(alloc, nodes) {
+        Ok(value) => are_alone(&value),
+        Err(_) => false,
+    }
+}
+
 #[test]
 fn no_item(rt: HostRuntime) -> Result<(), Fail> {
-    let value = Contraction::empty(rt.alloc(), &first_nodes(rt.alloc(), 3)?)?;
-    assert!(rt; !value.keeps(NodeId(3)));
-    expect_pair(&rt, &value, (0, 2, false, false, false));
-    expect_pair(&rt, &value, (1, 1, true, true, true));
-    expect_single(&rt, &value, (2, false, false, Supply::Bare));
+    let nodes = first_nodes(rt.alloc(), 3)?;
+    assert!(rt; is_nothing(rt.alloc(), &nodes));
     Ok(())
 }

@@ -1,12 +1,11 @@
 //! The contractions of the items of a part and of more, composed item by item.
-ghost use Rattle.std.specs.Prelude.{◌<◌, ◌≤◌, length, IfOk};
+ghost use Rattle.std.specs.Prelude.{◌≡◌, ◌<◌, ◌≤◌, length, IfOk, IsTrue};
 ghost use Rattle.contraction.specs.Answers.{AreNodes};
 
 use contraction::Contraction;
 use ilk_base::{BayId, Memory, NodeId, SwitchId};
 use station_graph::{NodeList, Station};
 use std::alloc::Global;
-use std::process::Abort;
 
 // Of which items a contraction is: of those of a part, of all but a switch, or of all.
 #[derive(Clone, Copy)]
@@ -33,116 +32,118 @@ fn has_switch(items: Items, id: u16, part: BayId) -> bool {
     }
 }
 
-// Both together.
-fn both(alloc: Global, value: Contraction, one: Contraction) -> Result<Contraction, Memory> {
-    value.compose(alloc, &one)
+// Adds one to all.
+fn add(alloc: Global, all: &mut Contraction, one: &Contraction) -> Result<(), Memory> {
+    *all = all.compose(alloc, one)?;
+    Ok(())
 }
 
-// The value together with a switch in a position.
-fn with_switch(
+// Adds a switch in a position.
+fn add_switch(
     alloc: Global,
     station: &Station,
     id: SwitchId,
     closed: bool,
-    value: Contraction,
-) -> Result<Contraction, Memory>
+    all: &mut Contraction,
+) -> Result<(), Memory>
     requires { id.0 < length station.now.switches }
 {
-    both(
-        alloc,
-        value,
-        Contraction::of_switch(alloc, station, id, closed)?,
-    )
+    let one = Contraction::of_switch(alloc, station, id, closed)?;
+    add(alloc, all, &one)
 }
 
-// The value together with those of these items that are switches, in these positions, a sign for each
-// switch of the station: 1 is closed.
-fn with_switches(
-    rt: &impl Abort,
+// Adds those of these items that are switches, in these positions, a sign for each switch of the station: 1 is closed.
+fn add_switches(
     alloc: Global,
     station: &Station,
     items: Items,
     closed: &[u8],
-    value: Contraction,
-) -> Result<Contraction, Memory> {
-    assert!(rt; closed.len() == station.switch_count() as usize);
-    let mut all = value;
+    all: &mut Contraction,
+) -> Result<(), Memory>
+    requires { length closed.now ≡ length station.now.switches }
+{
     for i in 0..station.switch_count() {
-        if has_switch(items, i, station.switch(SwitchId(i)).bay) {
-            all = with_switch(alloc, station, SwitchId(i), closed[i as usize] == b'1', all)?;
+        let id = SwitchId(i);
+        if has_switch(items, i, station.switch(id).bay) {
+            add_switch(alloc, station, id, closed[i as usize] == b'1', all)?;
         }
     }
-    Ok(all)
+    Ok(())
 }
 
-// The value together with a link.
-fn with_link(
-    alloc: Global,
-    station: &Station,
-    i: u16,
-    value: Contraction,
-) -> Result<Contraction, Memory>
+// Adds a link.
+fn add_link(alloc: Global, station: &Station, i: u16, all: &mut Contraction) -> Result<(), Memory>
     requires { i < length station.now.links }
 {
-    both(alloc, value, Contraction::of_link(alloc, station, i)?)
+    let one = Contraction::of_link(alloc, station, i)?;
+    add(alloc, all, &one)
 }
 
-// The value together with those of these items that are links.
-fn with_links(
+// Adds those of these items that are links.
+fn add_links(
     alloc: Global,
     station: &Station,
     items: Items,
-    value: Contraction,
-) -> Result<Contraction, Memory> {
-    let mut all = value;
+    all: &mut Contraction,
+) -> Result<(), Memory> {
     for i in 0..station.link_count() {
         if has_part(items, station.link(i).part) {
-            all = with_link(alloc, station, i, all)?;
+            add_link(alloc, station, i, all)?;
         }
     }
-    Ok(all)
+    Ok(())
 }
 
-// The value together with a tap.
-fn with_tap(
-    alloc: Global,
-    station: &Station,
-    i: u16,
-    value: Contraction,
-) -> Result<Contraction, Memory>
+// Adds a tap.
+fn add_tap(alloc: Global, station: &Station, i: u16, all: &mut Contraction) -> Result<(), Memory>
     requires { i < length station.now.taps }
 {
-    both(alloc, value, Contraction::of_tap(alloc, station, i)?)
+    let one = Contraction::of_tap(alloc, station, i)?;
+    add(alloc, all, &one)
 }
 
-// The value together with those of these items that are taps.
-fn with_taps(
+// Adds those of these items that are taps.
+fn add_taps(
     alloc: Global,
     station: &Station,
     items: Items,
-    value: Contraction,
-) -> Result<Contraction, Memory> {
-    let mut all = value;
+    all: &mut Contraction,
+) -> Result<(), Memory> {
     for i in 0..station.tap_count() {
         if has_part(items, station.tap(i).part) {
-            all = with_tap(alloc, station, i, all)?;
+            add_tap(alloc, station, i, all)?;
         }
     }
-    Ok(all)
+    Ok(())
+}
+
+// Adds these items in these positions.
+fn add_items(
+    alloc: Global,
+    station: &Station,
+    items: Items,
+    closed: &[u8],
+    all: &mut Contraction,
+) -> Result<(), Memory>
+    requires { length closed.now ≡ length station.now.switches }
+{
+    add_switches(alloc, station, items, closed, all)?;
+    add_links(alloc, station, items, all)?;
+    add_taps(alloc, station, items, all)
 }
 
 // The contraction of these items in these positions, on all nodes that they touch.
 pub(crate) fn contraction_of(
-    rt: &impl Abort,
     alloc: Global,
     station: &Station,
     items: Items,
     closed: &[u8],
-) -> Result<Contraction, Memory> {
-    let nothing = Contraction::empty(alloc, &first_nodes(alloc, 0)?)?;
-    let switches = with_switches(rt, alloc, station, items, closed, nothing)?;
-    let links = with_links(alloc, station, items, switches)?;
-    with_taps(alloc, station, items, links)
+) -> Result<Contraction, Memory>
+    requires { length closed.now ≡ length station.now.switches }
+{
+    let mut all = Contraction::empty(alloc, &NodeList::new(alloc))?;
+    add_items(alloc, station, items, closed, &mut all)?;
+    Ok(all)
 }
 
 // The nodes of these numbers.
@@ -154,29 +155,44 @@ pub(crate) fn nodes_of(alloc: Global, numbers: &[u16]) -> Result<NodeList, Memor
     Ok(list)
 }
 
-// The contraction of the same items on these nodes.
-fn on_nodes(
-    rt: &impl Abort,
-    alloc: Global,
-    value: &Contraction,
-    nodes: &[u16],
-) -> Result<Contraction, Memory> {
-    let list = nodes_of(alloc, nodes)?;
-    assert!(rt; value.keeps_all(&list));
-    value.keep_only(alloc, &list)
+// The contraction of the same items on these nodes, where it has them.
+fn on_nodes(alloc: Global, value: &Contraction, nodes: &NodeList) -> Option<Contraction> {
+    if !value.keeps_all(nodes) {
+        return None;
+    }
+    value.keep_only(alloc, nodes).ok()
 }
 
-// The contraction of these items in these positions, on these nodes.
+// The same, on the nodes of these numbers.
+fn on_numbers(alloc: Global, value: &Contraction, numbers: &[u16]) -> Option<Contraction> {
+    match nodes_of(alloc, numbers) {
+        Ok(nodes) => on_nodes(alloc, value, &nodes),
+        Err(_) => None,
+    }
+}
+
+// The contraction of these items in these positions, on these nodes; none where it has not all of them, or memory is
+// wanted.
 pub(crate) fn kept_of(
-    rt: &impl Abort,
     alloc: Global,
     station: &Station,
     items: Items,
     closed: &[u8],
     nodes: &[u16],
-) -> Result<Contraction, Memory> {
-    let whole = contraction_of(rt, alloc, station, items, closed)?;
-    on_nodes(rt, alloc, &whole, nodes)
+) -> Option<Contraction>
+    requires { length closed.now ≡ length station.now.switches }
+{
+    match contraction_of(alloc, station, items, closed) {
+        Ok(whole) => on_numbers(alloc, &whole, nodes),
+        Err(_) => None,
+    }
+}
+
+// Whether there is a sign for each switch of the station.
+pub(crate) fn is_whole(station: &Station, closed: &[u8]) -> bool
+    ensures { IsTrue result → length closed.now ≡ length station.now.switches }
+{
+    closed.len() == usize::from(station.switch_count())
 }
 
 // So many nodes from 0 on.

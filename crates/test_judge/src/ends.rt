@@ -1,12 +1,13 @@
 //! What the contraction of all other items says of an operation: the rule that it breaks.
-use crate::composed::{Items, contraction_of};
+ghost use Rattle.std.specs.Prelude.{◌≡◌, length};
+ghost use Rattle.station_graph.specs.CentralRules.{IsOperation};
+
+use crate::composed::{Items, contraction_of, is_whole};
 use contraction::Contraction;
-use ilk_base::{Direction, Memory, Op, Rule, SwitchId};
+use ilk_base::{Direction, Op, Rule, SwitchId};
 use station_graph::Station;
 use std::alloc::Global;
-use std::process::Abort;
-use std::test::Fail;
-use test_stations::{Example, built};
+use test_stations::{Example, StationRow, rows_hold};
 
 // The positions, and for each switch the rule that opening it breaks and that closing it breaks.
 struct Row {
@@ -80,68 +81,66 @@ fn rule_of(sign: u8) -> Option<Rule> {
     }
 }
 
-// The rule that the operation breaks, where this is the contraction of all other items.
-fn rule_by_ends(rt: &impl Abort, others: &Contraction, station: &Station, op: Op) -> Option<Rule> {
-    assert!(rt; op.switch.0 < station.switch_count());
+// Whether the operation breaks this rule, where this is the contraction of all other items.
+fn is_rule_by_ends(others: &Contraction, station: &Station, op: Op, rule: Option<Rule>) -> bool
+    requires { IsOperation station.now op }
+{
     let kept = others.keeps_ends(station, op.switch);
-    assert!(rt; kept);
-    others.ends_break(station, op)
+    if !kept {
+        return false;
+    }
+    others.ends_break(station, op) == rule
 }
 
-// The rule that the operation breaks in these positions.
-fn rule_in(
-    rt: &impl Abort,
-    alloc: Global,
-    station: &Station,
-    closed: &[u8],
-    op: Op,
-) -> Result<Option<Rule>, Memory> {
-    let others = contraction_of(rt, alloc, station, Items::AllBut(op.switch.0), closed)?;
-    Ok(rule_by_ends(rt, &others, station, op))
+// Whether the operation breaks this rule in these positions.
+fn is_rule_in(alloc: Global, station: &Station, closed: &[u8], op: Op, rule: Option<Rule>) -> bool
+    requires op { IsOperation station.now op }
+    requires closed { length closed.now ≡ length station.now.switches }
+{
+    match contraction_of(alloc, station, Items::AllBut(op.switch.0), closed) {
+        Ok(others) => is_rule_by_ends(&others, station, op, rule),
+        Err(_) => false,
+    }
 }
 
-// The operations of all switches in this direction.
-fn expect_rules(
-    rt: &impl Abort,
+// Whether the operations of all switches in this direction break these rules, a sign for each.
+fn are_rules(
     alloc: Global,
     station: &Station,
     closed: &[u8],
     direction: Direction,
-    wanted: &[u8],
-) -> Result<(), Memory> {
-    assert!(rt; wanted.len() == station.switch_count() as usize);
+    signs: &[u8],
+) -> bool
+    requires { length closed.now ≡ length station.now.switches }
+{
+    if !is_whole(station, signs) {
+        return false;
+    }
     for i in 0..station.switch_count() {
         let op = Op {
             switch: SwitchId(i),
             direction,
         };
-        let answer = rule_in(rt, alloc, station, closed, op)?;
-        assert!(rt; answer == rule_of(wanted[i as usize]), "switch {i}");
+        if !is_rule_in(alloc, station, closed, op, rule_of(signs[i as usize])) {
+            return false;
+        }
     }
-    Ok(())
+    true
 }
 
-fn expect_on(rt: &impl Abort, alloc: Global, station: &Station, row: &Row) -> Result<(), Memory> {
-    expect_rules(
-        rt,
-        alloc,
-        station,
-        row.closed,
-        Direction::ToOff,
-        row.opening,
-    )?;
-    expect_rules(rt, alloc, station, row.closed, Direction::ToOn, row.closing)
-}
+impl StationRow for Row {
+    fn example(&self) -> Example {
+        self.drawing
+    }
 
-fn expect_row(rt: &impl Abort, alloc: Global, row: &Row) -> Result<(), Fail> {
-    let station = built(alloc, row.drawing)?;
-    Ok(expect_on(rt, alloc, &station, row)?)
+    fn holds(&self, alloc: Global, station: &Station) -> bool {
+        is_whole(station, self.closed)
+            && are_rules(alloc, station, self.closed, Direction::ToOff, self.opening)
+            && are_rules(alloc, station, self.closed, Direction::ToOn, self.closing)
+    }
 }
 
 #[test]
-fn all_operations(rt: HostRuntime) -> Result<(), Fail> {
-    for row in ROWS {
-        expect_row(&rt, rt.alloc(), row)?;
-    }
-    Ok(())
+fn all_operations(rt: HostRuntime) {
+    assert!(rt; rows_hold(rt.alloc(), ROWS));
 }

@@ -1,12 +1,12 @@
 //! Values of like items on other nodes.
-use crate::composed::{Items, first_nodes, kept_of};
+ghost use Rattle.std.specs.Prelude.{◌≡◌, length};
+ghost use Rattle.contraction.specs.Answers.{AreNodes};
+
+use crate::composed::{Items, first_nodes, is_whole, kept_of};
 use contraction::Contraction;
-use ilk_base::Memory;
-use station_graph::Station;
+use station_graph::{NodeList, Station};
 use std::alloc::Global;
-use std::process::Abort;
-use std::test::Fail;
-use test_stations::{Example, built};
+use test_stations::{Example, StationRow, rows_hold};
 
 // Positions of both feeders, and whether the second looks from the busbar and its first node as the first does.
 struct Row {
@@ -55,50 +55,75 @@ fn keeps_exactly(value: &Contraction, nodes: &[u16]) -> bool {
     value.nodes() == nodes
 }
 
+// The value on these nodes in place of its own, where they are as many.
+fn on_nodes(alloc: Global, value: &Contraction, nodes: &NodeList) -> Option<Contraction>
+    requires { AreNodes nodes.now }
+{
+    if nodes.len() != value.nodes().len() {
+        return None;
+    }
+    value.renamed(alloc, nodes).ok()
+}
+
 // The value on the nodes 0 and 1 in place of its own two.
-fn on_first_two(
-    rt: &impl Abort,
+fn on_first_two(alloc: Global, value: &Contraction) -> Option<Contraction> {
+    match first_nodes(alloc, 2) {
+        Ok(nodes) => on_nodes(alloc, value, &nodes),
+        Err(_) => None,
+    }
+}
+
+// Whether the second value answers as before on other nodes, and there as the first does or not.
+fn are_as_said(first: &Contraction, second: &Contraction, moved: &Contraction, same: bool) -> bool {
+    keeps_exactly(first, &[0, 1])
+        && keeps_exactly(second, &[0, 4])
+        && keeps_exactly(moved, &[0, 1])
+        && moved.answers_as(second)
+        && moved.answers_as(first) == same
+        && first.answers_as(second) == same
+}
+
+// The two values, of which the second is moved.
+fn are_values(alloc: Global, first: &Contraction, second: &Contraction, same: bool) -> bool {
+    match on_first_two(alloc, second) {
+        Some(moved) => are_as_said(first, second, &moved, same),
+        None => false,
+    }
+}
+
+// The second feeder in these positions against the value of the first.
+fn is_second(
     alloc: Global,
-    value: &Contraction,
-) -> Result<Contraction, Memory> {
-    let nodes = first_nodes(alloc, 2)?;
-    assert!(rt; nodes.len() == value.nodes().len());
-    value.renamed(alloc, &nodes)
-}
-
-// Whether both answer the same.
-fn are_alike(value: &Contraction, other: &Contraction) -> bool {
-    value.answers_as(other)
-}
-
-fn expect_values(
-    rt: &impl Abort,
+    station: &Station,
+    closed: &[u8],
     first: &Contraction,
-    second: &Contraction,
-    moved: &Contraction,
     same: bool,
-) {
-    assert!(rt; keeps_exactly(first, &[0, 1]));
-    assert!(rt; keeps_exactly(second, &[0, 4]));
-    assert!(rt; keeps_exactly(moved, &[0, 1]));
-    assert!(rt; are_alike(moved, second));
-    assert!(rt; are_alike(moved, first) == same);
-    assert!(rt; are_alike(first, second) == same);
+) -> bool
+    requires { length closed.now ≡ length station.now.switches }
+{
+    match kept_of(alloc, station, Items::Part(2), closed, &[0, 4]) {
+        Some(second) => are_values(alloc, first, &second, same),
+        None => false,
+    }
 }
 
-fn expect_row(rt: &impl Abort, alloc: Global, station: &Station, row: &Row) -> Result<(), Fail> {
-    let first = kept_of(rt, alloc, station, Items::Part(1), row.first, &[0, 1])?;
-    let second = kept_of(rt, alloc, station, Items::Part(2), row.second, &[0, 4])?;
-    let moved = on_first_two(rt, alloc, &second)?;
-    expect_values(rt, &first, &second, &moved, row.same);
-    Ok(())
+impl StationRow for Row {
+    fn example(&self) -> Example {
+        Example::TwoFeeders
+    }
+
+    fn holds(&self, alloc: Global, station: &Station) -> bool {
+        if !is_whole(station, self.first) || !is_whole(station, self.second) {
+            return false;
+        }
+        match kept_of(alloc, station, Items::Part(1), self.first, &[0, 1]) {
+            Some(first) => is_second(alloc, station, self.second, &first, self.same),
+            None => false,
+        }
+    }
 }
 
 #[test]
-fn like_feeders(rt: HostRuntime) -> Result<(), Fail> {
-    let station = built(rt.alloc(), Example::TwoFeeders)?;
-    for row in ROWS {
-        expect_row(&rt, rt.alloc(), &station, row)?;
-    }
-    Ok(())
+fn like_feeders(rt: HostRuntime) {
+    assert!(rt; rows_hold(rt.alloc(), ROWS));
 }

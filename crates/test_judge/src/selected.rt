@@ -1,15 +1,13 @@
 //! Two contractions together on some of their nodes, in one view alone.
-ghost use Rattle.std.specs.Prelude.{◌≡◌, ◌⊎◌, ℕ, IsTrue, Contains};
+ghost use Rattle.std.specs.Prelude.{◌≡◌, ◌⊎◌, ℕ, IsTrue, Contains, length};
 ghost use Rattle.contraction.specs.Answers.{Keeps};
 
-use crate::composed::{Items, kept_of, nodes_of};
+use crate::composed::{Items, is_whole, kept_of, nodes_of};
 use contraction::{Contraction, Selection};
 use ilk_base::{Memory, Text};
 use station_graph::{NodeList, Station};
 use std::alloc::Global;
-use std::process::Abort;
-use std::test::Fail;
-use test_stations::{Example, built};
+use test_stations::{Example, StationRow, rows_hold};
 
 // Which part of the station, and the nodes on which it is told.
 type Told = (u8, &'static [u16]);
@@ -85,9 +83,12 @@ const ROWS: &[Row] = &[
     },
 ];
 
-// Whether these are the bytes of the text.
-fn is_text(text: &Text, bytes: &[u8]) -> bool {
-    text.bytes() == bytes
+// Whether these are the bytes of the row that was made.
+fn is_row(made: Result<Text, Memory>, bytes: &[u8]) -> bool {
+    match made {
+        Ok(text) => text.bytes() == bytes,
+        Err(_) => false,
+    }
 }
 
 // Whether each of the nodes is kept by one of the two.
@@ -156,18 +157,10 @@ fn load_row_on(
 }
 
 // Whether both rows on these nodes are those of the table.
-fn has_rows(
-    alloc: Global,
-    x: &Contraction,
-    y: &Contraction,
-    nodes: &NodeList,
-    row: &Row,
-) -> Result<bool, Memory>
+fn has_rows(alloc: Global, x: &Contraction, y: &Contraction, nodes: &NodeList, row: &Row) -> bool
     requires { (n : ℕ) → Contains nodes.now n → Keeps x.now.kept n ⊎ Keeps y.now.kept n }
 {
-    let gap = is_text(&gap_row(alloc, x, y, nodes)?, row.gap);
-    let load = is_text(&load_row(alloc, x, y, nodes)?, row.load);
-    Ok(gap && load)
+    is_row(gap_row(alloc, x, y, nodes), row.gap) && is_row(load_row(alloc, x, y, nodes), row.load)
 }
 
 // Whether both rows on a selection are those of the table, of the value and without it.
@@ -177,16 +170,15 @@ fn has_rows_on(
     y: &Contraction,
     selection: &Selection,
     row: &Row,
-) -> Result<bool, Memory>
+) -> bool
     requires first { selection.now.first ≡ x.now.kept }
     requires second { selection.now.second ≡ y.now.kept }
     requires nodes { (n : ℕ) → Contains selection.now.nodes n → Keeps x.now.kept n ⊎ Keeps y.now.kept n }
 {
-    let gap = is_text(&gap_row_on(alloc, x, y, selection)?, row.gap);
-    let load = is_text(&load_row_on(alloc, x, y, selection)?, row.load);
-    let gap_alone = is_text(&x.composed_gap_row(alloc, y, selection)?, row.gap);
-    let load_alone = is_text(&x.composed_load_row(alloc, y, selection)?, row.load);
-    Ok(gap && load && gap_alone && load_alone)
+    is_row(gap_row_on(alloc, x, y, selection), row.gap)
+        && is_row(load_row_on(alloc, x, y, selection), row.load)
+        && is_row(x.composed_gap_row(alloc, y, selection), row.gap)
+        && is_row(x.composed_load_row(alloc, y, selection), row.load)
 }
 
 // Whether both rows on the selection of these nodes are those of the table.
@@ -200,24 +192,24 @@ fn has_rows_selected(
     requires { (n : ℕ) → Contains nodes.now n → Keeps x.now.kept n ⊎ Keeps y.now.kept n }
 {
     let selection = Selection::of(alloc, x.nodes(), y.nodes(), nodes)?;
-    has_rows_on(alloc, x, y, &selection, row)
+    Ok(has_rows_on(alloc, x, y, &selection, row))
 }
 
-fn expect_rows(
-    rt: &impl Abort,
-    alloc: Global,
+// Whether the selection is that of the two and these nodes, and of no other two and no other nodes.
+fn is_only_of(
+    selection: &Selection,
     x: &Contraction,
     y: &Contraction,
     nodes: &NodeList,
-    row: &Row,
-) -> Result<(), Fail> {
-    assert!(rt; either_keeps(x, y, nodes));
-    assert!(rt; has_rows(alloc, x, y, nodes, row)?);
-    assert!(rt; has_rows_selected(alloc, x, y, nodes, row)?);
-    Ok(())
+    none: &NodeList,
+) -> bool {
+    selection.is_of(x.nodes(), y.nodes(), nodes)
+        && !selection.is_of(y.nodes(), x.nodes(), nodes)
+        && !selection.is_of(x.nodes(), x.nodes(), nodes)
+        && !selection.is_of(x.nodes(), y.nodes(), none)
 }
 
-// Whether the selection of these nodes is that of the two, and of no other two and no other nodes.
+// Whether the selection of these nodes is so.
 fn is_its_own(
     alloc: Global,
     x: &Contraction,
@@ -225,46 +217,60 @@ fn is_its_own(
     nodes: &NodeList,
 ) -> Result<bool, Memory> {
     let selection = Selection::of(alloc, x.nodes(), y.nodes(), nodes)?;
-    let own = selection.is_of(x.nodes(), y.nodes(), nodes);
-    let turned = selection.is_of(y.nodes(), x.nodes(), nodes);
-    let first_twice = selection.is_of(x.nodes(), x.nodes(), nodes);
-    let nowhere = selection.is_of(x.nodes(), y.nodes(), &NodeList::new(alloc));
-    Ok(own && !turned && !first_twice && !nowhere)
+    Ok(is_only_of(&selection, x, y, nodes, &NodeList::new(alloc)))
 }
 
-fn expect_on(rt: &impl Abort, alloc: Global, station: &Station, row: &Row) -> Result<(), Fail> {
-    let (first, first_kept) = row.first;
-    let (second, second_kept) = row.second;
-    let x = kept_of(
-        rt,
-        alloc,
-        station,
-        Items::Part(first),
-        row.closed,
-        first_kept,
-    )?;
-    let y = kept_of(
-        rt,
-        alloc,
-        station,
-        Items::Part(second),
-        row.closed,
-        second_kept,
-    )?;
-    let nodes = nodes_of(alloc, row.nodes)?;
-    assert!(rt; is_its_own(alloc, &x, &y, &nodes)?);
-    expect_rows(rt, alloc, &x, &y, &nodes, row)
+// Whether the two together on these nodes are as the table says.
+fn is_on_nodes(
+    alloc: Global,
+    x: &Contraction,
+    y: &Contraction,
+    nodes: &NodeList,
+    row: &Row,
+) -> bool {
+    either_keeps(x, y, nodes)
+        && matches!(is_its_own(alloc, x, y, nodes), Ok(true))
+        && has_rows(alloc, x, y, nodes, row)
+        && matches!(has_rows_selected(alloc, x, y, nodes, row), Ok(true))
 }
 
-fn expect_row(rt: &impl Abort, alloc: Global, row: &Row) -> Result<(), Fail> {
-    let station = built(alloc, row.drawing)?;
-    expect_on(rt, alloc, &station, row)
+// The same, on the nodes of the row.
+fn are_as_said(alloc: Global, x: &Contraction, y: &Contraction, row: &Row) -> bool {
+    match nodes_of(alloc, row.nodes) {
+        Ok(nodes) => is_on_nodes(alloc, x, y, &nodes, row),
+        Err(_) => false,
+    }
+}
+
+// The second part in these positions together with the first.
+fn is_second(alloc: Global, station: &Station, closed: &[u8], x: &Contraction, row: &Row) -> bool
+    requires { length closed.now ≡ length station.now.switches }
+{
+    let (part, kept) = row.second;
+    match kept_of(alloc, station, Items::Part(part), closed, kept) {
+        Some(y) => are_as_said(alloc, x, &y, row),
+        None => false,
+    }
+}
+
+impl StationRow for Row {
+    fn example(&self) -> Example {
+        self.drawing
+    }
+
+    fn holds(&self, alloc: Global, station: &Station) -> bool {
+        if !is_whole(station, self.closed) {
+            return false;
+        }
+        let (part, kept) = self.first;
+        match kept_of(alloc, station, Items::Part(part), self.closed, kept) {
+            Some(x) => is_second(alloc, station, self.closed, &x, self),
+            None => false,
+        }
+    }
 }
 
 #[test]
-fn parts_in_one_view(rt: HostRuntime) -> Result<(), Fail> {
-    for row in ROWS {
-        expect_row(&rt, rt.alloc(), row)?;
-    }
-    Ok(())
+fn parts_in_one_view(rt: HostRuntime) {
+    assert!(rt; rows_hold(rt.alloc(), ROWS));
 }

@@ -1,5 +1,0 @@
-use Rattle.decision_graphs.specs.Reaching.{AreSetsOf}
-use Rattle.test_judge.proofs.questions.allow_all.Given as goal
-
-abbrev pub invariant-loop-choice : goal.invariant-loop-choice
-invariant-loop-choice l = AreSetsOf l.graph.layers l.sets
