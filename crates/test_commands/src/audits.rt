@@ -2,15 +2,13 @@
 //! texts are worked by hand from the rules.
 ghost use Rattle.std.specs.Prelude.{◌≡◌};
 ghost use Rattle.equation_audit.specs.Equations.{AreOfStation};
+ghost use Rattle.equation_audit.specs.Findings.{AreShown};
 
 use central_rules::{PlainJudge, fits_plain};
-use equation_audit::{Blocks, BlocksFault, audit, read_blocks};
-use ilk_base::InputRefusal;
+use equation_audit::{Audit, Blocks, BlocksFault, audit, read_blocks};
 use station_graph::Station;
 use std::alloc::Global;
-use std::process::Abort;
-use std::test::Fail;
-use test_stations::{Example, built};
+use test_stations::{Example, StationRow, row_holds, rows_hold};
 
 // Blocks, what is written of them, and whether one is loose or strict.
 struct Row {
@@ -61,43 +59,47 @@ const ROWS: &[Row] = &[
     },
 ];
 
-#[test]
-fn texts(rt: HostRuntime) -> Result<(), Fail> {
-    let station = built(rt.alloc(), Example::EarthedLine)?;
-    expect_texts(&rt, rt.alloc(), &station)
-}
-
-fn expect_texts(rt: &impl Abort, alloc: Global, station: &Station) -> Result<(), Fail> {
-    for row in ROWS {
-        expect_text(rt, alloc, station, row)?;
+// Whether this is the text of what was found.
+fn has_text(alloc: Global, station: &Station, found: &Audit, text: &str) -> bool
+    requires { AreShown station.now found.now }
+{
+    match found.text(alloc, station) {
+        Ok(written) => written.bytes() == text.as_bytes(),
+        Err(_) => false,
     }
-    Ok(())
 }
 
-fn expect_text(rt: &impl Abort, alloc: Global, station: &Station, row: &Row) -> Result<(), Fail> {
-    let Ok(blocks) = read_blocks(alloc, station, row.blocks.as_bytes()) else {
-        assert!(rt; false, "the blocks are refused");
-        return Ok(());
-    };
-    expect_found(rt, alloc, station, &blocks, row)
-}
-
-fn expect_found(
-    rt: &impl Abort,
-    alloc: Global,
-    station: &Station,
-    blocks: &Blocks,
-    row: &Row,
-) -> Result<(), Fail>
+// Whether this is found of the blocks.
+fn is_found(alloc: Global, station: &Station, blocks: &Blocks, row: &Row) -> bool
     requires { AreOfStation station.now blocks.now }
 {
-    assert!(rt; fits_plain(station));
-    let judge = PlainJudge::new(station);
-    let found = audit(alloc, station, blocks, &judge)?;
-    let text = found.text(alloc, station)?;
-    assert!(rt; text.bytes() == row.text.as_bytes());
-    assert!(rt; found.differs() == row.differs);
-    Ok(())
+    if !fits_plain(station) {
+        return false;
+    }
+    match audit(alloc, station, blocks, &PlainJudge::new(station)) {
+        Ok(found) => {
+            found.differs() == row.differs && has_text(alloc, station, &found, row.text)
+        }
+        Err(_) => false,
+    }
+}
+
+impl StationRow for Row {
+    fn example(&self) -> Example {
+        Example::EarthedLine
+    }
+
+    fn holds(&self, alloc: Global, station: &Station) -> bool {
+        match read_blocks(alloc, station, self.blocks.as_bytes()) {
+            Ok(blocks) => is_found(alloc, station, &blocks, self),
+            Err(_) => false,
+        }
+    }
+}
+
+#[test]
+fn texts(rt: HostRuntime) {
+    assert!(rt; rows_hold(rt.alloc(), ROWS));
 }
 
 // Texts that are no blocks, with the number and the line of their refusals: a block without its end; a
@@ -120,34 +122,6 @@ const REFUSED: &[(&str, u8, u32)] = &[
     ("open S/V1/Q1/E1\nend\r", 10, 2),
 ];
 
-#[test]
-fn refusals(rt: HostRuntime) -> Result<(), Fail> {
-    let station = built(rt.alloc(), Example::EarthedLine)?;
-    expect_all_refused(&rt, rt.alloc(), &station);
-    Ok(())
-}
-
-fn expect_all_refused(rt: &impl Abort, alloc: Global, station: &Station) {
-    for (text, number, line) in REFUSED {
-        expect_refused(rt, alloc, station, text, *number, *line);
-    }
-}
-
-fn expect_refused(
-    rt: &impl Abort,
-    alloc: Global,
-    station: &Station,
-    text: &str,
-    number: u8,
-    line: u32,
-) {
-    let want = BlocksFault::Refused(InputRefusal { number, line });
-    match read_blocks(alloc, station, text.as_bytes()) {
-        Ok(_) => assert!(rt; false, "it is blocks"),
-        Err(fault) => assert!(rt; fault == want),
-    }
-}
-
 // Twelve of thirteen lines at one node in two blocks, named twice in the second; and all thirteen in one.
 const TWELVE: &str = "open S/V1/Q1/E1\nwhen on S/V1/Q1/E13\nend\n\
     close S/V1/Q1/E1\nwhen on S/V1/Q1/E1\nwhen on S/V1/Q1/E2\nwhen on S/V1/Q1/E3\nwhen on S/V1/Q1/E4\nwhen on S/V1/Q1/E5\n\
@@ -159,15 +133,58 @@ const THIRTEEN: &str =
     when on S/V1/Q1/E5\nwhen on S/V1/Q1/E6\nwhen on S/V1/Q1/E7\nwhen on S/V1/Q1/E8\nwhen on S/V1/Q1/E9\nwhen on S/V1/Q1/E10\n\
     when on S/V1/Q1/E11\nwhen on S/V1/Q1/E12\nwhen off S/V1/Q1/E1\nwhen on S/V1/Q1/E13\nend\n";
 
-// A thirteenth switch in one block is refused, and counts for no other block.
-#[test]
-fn many_switches(rt: HostRuntime) -> Result<(), Fail> {
-    let station = built(rt.alloc(), Example::ThirteenLines)?;
-    expect_at_most_twelve(&rt, rt.alloc(), &station);
-    Ok(())
+// Whether the text is refused so, or is blocks.
+fn is_read(alloc: Global, station: &Station, text: &str, refused: Option<(u8, u32)>) -> bool {
+    match read_blocks(alloc, station, text.as_bytes()) {
+        Ok(_) => refused == None,
+        Err(BlocksFault::Refused(refusal)) => refused == Some((refusal.number, refusal.line)),
+        Err(_) => false,
+    }
 }
 
-fn expect_at_most_twelve(rt: &impl Abort, alloc: Global, station: &Station) {
-    assert!(rt; read_blocks(alloc, station, TWELVE.as_bytes()).is_ok());
-    expect_refused(rt, alloc, station, THIRTEEN, 13, 15);
+// Whether each text is refused so.
+fn are_refused(alloc: Global, station: &Station, rows: &[(&str, u8, u32)]) -> bool {
+    for (text, number, line) in rows {
+        if !is_read(alloc, station, text, Some((*number, *line))) {
+            return false;
+        }
+    }
+    true
+}
+
+// What is asked of texts.
+enum Asked {
+    // whether these are refused so on the line with an earthing switch
+    Refused(&'static [(&'static str, u8, u32)]),
+    // whether on thirteen lines at one node the first is blocks, and the second refused so
+    AtMost(&'static str, (&'static str, u8, u32)),
+}
+
+impl StationRow for Asked {
+    fn example(&self) -> Example {
+        match self {
+            Asked::Refused(_) => Example::EarthedLine,
+            Asked::AtMost(..) => Example::ThirteenLines,
+        }
+    }
+
+    fn holds(&self, alloc: Global, station: &Station) -> bool {
+        match self {
+            Asked::Refused(rows) => are_refused(alloc, station, rows),
+            Asked::AtMost(most, more) => {
+                is_read(alloc, station, most, None) && are_refused(alloc, station, &[*more])
+            }
+        }
+    }
+}
+
+#[test]
+fn refusals(rt: HostRuntime) {
+    assert!(rt; row_holds(rt.alloc(), &Asked::Refused(REFUSED)));
+}
+
+// A thirteenth switch in one block is refused, and counts for no other block.
+#[test]
+fn many_switches(rt: HostRuntime) {
+    assert!(rt; row_holds(rt.alloc(), &Asked::AtMost(TWELVE, (THIRTEEN, 13, 15))));
 }

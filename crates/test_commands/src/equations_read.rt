@@ -2,9 +2,7 @@
 use equation_text::{EquationsFault, read_equations};
 use station_graph::Station;
 use std::alloc::Global;
-use std::process::Abort;
-use std::test::Fail;
-use test_stations::{Example, built};
+use test_stations::{Example, StationRow, row_holds};
 use text_lines::MOST_BYTES;
 
 // The equations of a bay with an earthing switch and an infeed at one node.
@@ -119,34 +117,47 @@ const REFUSED: &[(&[u8], u32)] = &[
     ),
 ];
 
-// The line at which a text is refused.
-fn refused_at(
-    rt: &impl Abort,
-    alloc: Global,
-    station: &Station,
-    text: &[u8],
-) -> Result<Option<u32>, Fail> {
-    assert!(rt; text.len() <= MOST_BYTES);
+// Whether the text is refused at this line, or is read where there is none.
+fn is_read(alloc: Global, station: &Station, text: &[u8], refused: Option<u32>) -> bool {
+    if text.len() > MOST_BYTES {
+        return false;
+    }
     match read_equations(alloc, station, text) {
-        Ok(_) => Ok(None),
+        Ok(_) => refused == None,
         Err(EquationsFault::Refused(refusal)) => {
-            assert!(rt; refusal.number == 10);
-            Ok(Some(refusal.line))
+            refusal.number == 10 && refused == Some(refusal.line)
         }
-        Err(EquationsFault::Memory) => Err(Fail::from("memory")),
+        Err(EquationsFault::Memory) => false,
     }
 }
 
-fn all_refused(rt: &impl Abort, alloc: Global, station: &Station) -> Result<(), Fail> {
-    assert!(rt; refused_at(rt, alloc, station, WHOLE)? == None);
-    for (text, line) in REFUSED {
-        assert!(rt; refused_at(rt, alloc, station, text)? == Some(*line));
-    }
-    Ok(())
+// A text that is read, and others that are refused.
+struct Texts {
+    whole: &'static [u8],
+    refused: &'static [(&'static [u8], u32)],
 }
+
+impl StationRow for Texts {
+    fn example(&self) -> Example {
+        Example::EarthedLine
+    }
+
+    fn holds(&self, alloc: Global, station: &Station) -> bool {
+        for (text, line) in self.refused {
+            if !is_read(alloc, station, text, Some(*line)) {
+                return false;
+            }
+        }
+        is_read(alloc, station, self.whole, None)
+    }
+}
+
+const TEXTS: Texts = Texts {
+    whole: WHOLE,
+    refused: REFUSED,
+};
 
 #[test]
-fn texts_that_are_refused(rt: HostRuntime) -> Result<(), Fail> {
-    let station = built(rt.alloc(), Example::EarthedLine)?;
-    all_refused(&rt, rt.alloc(), &station)
+fn texts_that_are_refused(rt: HostRuntime) {
+    assert!(rt; row_holds(rt.alloc(), &TEXTS));
 }

@@ -8,6 +8,8 @@ mod equations;
 #[cfg(test)]
 mod equations_read;
 #[cfg(test)]
+mod judged;
+#[cfg(test)]
 mod makes;
 #[cfg(test)]
 mod orders;

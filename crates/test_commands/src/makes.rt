@@ -1,7 +1,11 @@
 //! The texts of the smallest station, and the words that name a number and a text. The texts are worked by
 //! hand from the rules of docs/FORMATS.md.
-use station_make::{MadeText, feeders_named, make, make_text, text_named};
-use std::test::Fail;
+ghost use Rattle.std.specs.Prelude.{◌≤◌};
+
+use station_make::{
+    LEAST_FEEDERS, MOST_FEEDERS, MadeText, feeders_named, make, make_text, text_named,
+};
+use std::alloc::Global;
 
 // The positions of the switches for two feeders.
 const POSITIONS: &str = "S/V1/K0/QB1,on
@@ -21,22 +25,47 @@ S/V1/Q2/QC9,off
 S/V1/Q2/E1,on
 ";
 
-#[test]
-fn positions_of_two_feeders(rt: HostRuntime) -> Result<(), Fail> {
-    let made = make(rt.alloc(), 2)?;
-    assert!(rt; made.positions.bytes() == POSITIONS.as_bytes());
-    Ok(())
+// Whether the positions of so many feeders are these.
+fn has_positions(alloc: Global, feeders: u8, positions: &str) -> bool
+    requires least { LEAST_FEEDERS ≤ feeders }
+    requires most { feeders ≤ MOST_FEEDERS }
+{
+    match make(alloc, feeders) {
+        Ok(made) => made.positions.bytes() == positions.as_bytes(),
+        Err(_) => false,
+    }
 }
 
 #[test]
-fn texts_alone(rt: HostRuntime) -> Result<(), Fail> {
-    let three = feeders_named("3").ok_or("a number")?;
-    let made = make(rt.alloc(), 3)?;
-    let station = make_text(rt.alloc(), MadeText::Station, three)?;
-    assert!(rt; station == made.station);
-    let log = make_text(rt.alloc(), MadeText::Log, three)?;
-    assert!(rt; log == made.events);
-    Ok(())
+fn positions_of_two_feeders(rt: HostRuntime) {
+    assert!(rt; has_positions(rt.alloc(), 2, POSITIONS));
+}
+
+// Whether this is the text where it is made alone.
+fn is_alone(alloc: Global, which: MadeText, word: &str, text: &[u8]) -> bool {
+    let Some(feeders) = feeders_named(word) else {
+        return false;
+    };
+    match make_text(alloc, which, feeders) {
+        Ok(alone) => alone.bytes() == text,
+        Err(_) => false,
+    }
+}
+
+// Whether the drawing and the log of three feeders are the same made alone.
+fn are_alone(alloc: Global) -> bool {
+    match make(alloc, 3) {
+        Ok(made) => {
+            is_alone(alloc, MadeText::Station, "3", made.station.bytes())
+                && is_alone(alloc, MadeText::Log, "3", made.events.bytes())
+        }
+        Err(_) => false,
+    }
+}
+
+#[test]
+fn texts_alone(rt: HostRuntime) {
+    assert!(rt; are_alone(rt.alloc()));
 }
 
 // Words, and the numbers of feeders that they are.
@@ -61,11 +90,18 @@ fn number_named(word: &str) -> Option<u8> {
     }
 }
 
+fn are_named(rows: &[(&str, Option<u8>)]) -> bool {
+    for (word, number) in rows {
+        if number_named(word) != *number {
+            return false;
+        }
+    }
+    true
+}
+
 #[test]
 fn numbers(rt: HostRuntime) {
-    for (word, number) in NUMBERS {
-        assert!(rt; number_named(word) == *number);
-    }
+    assert!(rt; are_named(NUMBERS));
 }
 
 #[test]

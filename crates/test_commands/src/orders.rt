@@ -3,20 +3,18 @@ ghost use Rattle.std.specs.Prelude.{◌≡◌, length, IfOk};
 ghost use Rattle.switching_orders.specs.OrderRuling.{AreOperations};
 
 use double_points::Readings;
-use ilk_base::{Dbpos, InputRefusal, SwitchId};
+use ilk_base::{Dbpos, InputRefusal, Memory, SwitchId, Text};
 use station_graph::{Station, Vector};
 use std::alloc::Global;
-use std::process::Abort;
-use std::test::Fail;
 use switching_orders::{Order, OrderFault, certain_positions, order_text, read_order};
-use test_stations::{Example, built};
+use test_stations::{Example, StationRow, row_holds, rows_hold};
 
 // The words of the switches, a sign for each: 0 off, 1 on, and lost for all else.
-fn words(rt: &impl Abort, alloc: Global, station: &Station, signs: &[u8]) -> Result<Readings, Fail>
+fn words(alloc: Global, station: &Station, signs: &[u8]) -> Result<Readings, Memory>
+    requires { length signs.now ≡ length station.now.switches }
     ensures { IfOk result (λ words. length words ≡ length station.now.switches) }
 {
     let mut words = Readings::lost(alloc, station)?;
-    assert!(rt; signs.len() == station.switch_count() as usize);
     for i in 0..station.switch_count() {
         match signs[i as usize] {
             b'0' => words.sense(SwitchId(i), Dbpos::Off),
@@ -78,72 +76,59 @@ const ROWS: &[Row] = &[
     },
 ];
 
-#[test]
-fn texts(rt: HostRuntime) -> Result<(), Fail> {
-    let station = built(rt.alloc(), Example::TwoFeeders)?;
-    expect_texts(&rt, rt.alloc(), &station)
-}
-
-fn expect_texts(rt: &impl Abort, alloc: Global, station: &Station) -> Result<(), Fail> {
-    for row in ROWS {
-        expect_text(rt, alloc, station, row)?;
-    }
-    Ok(())
-}
-
-fn expect_text(rt: &impl Abort, alloc: Global, station: &Station, row: &Row) -> Result<(), Fail> {
-    let signs = row.words;
-    let words = words(rt, alloc, station, signs)?;
-    expect_from_words(rt, alloc, station, &words, row)
-}
-
-fn expect_from_words(
-    rt: &impl Abort,
-    alloc: Global,
-    station: &Station,
-    words: &Readings,
-    row: &Row,
-) -> Result<(), Fail>
-    requires { length words.now ≡ length station.now.switches }
-{
-    let Some(start) = certain_positions(alloc, station, words)? else {
-        assert!(rt; false, "a word is unsure");
-        return Ok(());
-    };
-    expect_from_start(rt, alloc, station, &start, row)
-}
-
-fn expect_from_start(
-    rt: &impl Abort,
-    alloc: Global,
-    station: &Station,
-    start: &Vector,
-    row: &Row,
-) -> Result<(), Fail>
-    requires { length start.now ≡ length station.now.switches }
-{
-    let Ok(order) = read_order(alloc, station, row.order.as_bytes()) else {
-        assert!(rt; false, "the order is refused");
-        return Ok(());
-    };
-    expect_report(rt, alloc, station, start, &order, row)
-}
-
-fn expect_report(
-    rt: &impl Abort,
-    alloc: Global,
-    station: &Station,
-    start: &Vector,
-    order: &Order,
-    row: &Row,
-) -> Result<(), Fail>
+// Whether this is told of the order.
+fn is_told(alloc: Global, station: &Station, start: &Vector, order: &Order, row: &Row) -> bool
     requires start { length start.now ≡ length station.now.switches }
     requires order { AreOperations station.now order.now }
 {
-    let report = order_text(alloc, station, start, order)?;
-    assert!(rt; report.text.bytes() == row.text.as_bytes());
-    assert!(rt; report.differs == row.differs);
-    Ok(())
+    match order_text(alloc, station, start, order) {
+        Ok(report) => {
+            report.text.bytes() == row.text.as_bytes() && report.differs == row.differs
+        }
+        Err(_) => false,
+    }
+}
+
+// Whether it is told from these positions on.
+fn is_told_from(alloc: Global, station: &Station, start: &Vector, row: &Row) -> bool
+    requires { length start.now ≡ length station.now.switches }
+{
+    match read_order(alloc, station, row.order.as_bytes()) {
+        Ok(order) => is_told(alloc, station, start, &order, row),
+        Err(_) => false,
+    }
+}
+
+// Whether it is told of the positions that the words say.
+fn is_told_of(alloc: Global, station: &Station, words: &Readings, row: &Row) -> bool
+    requires { length words.now ≡ length station.now.switches }
+{
+    match certain_positions(alloc, station, words) {
+        Ok(Some(start)) => is_told_from(alloc, station, &start, row),
+        _ => false,
+    }
+}
+
+impl StationRow for Row {
+    fn example(&self) -> Example {
+        Example::TwoFeeders
+    }
+
+    fn holds(&self, alloc: Global, station: &Station) -> bool {
+        if station.switch_count() != 10 {
+            return false;
+        }
+        let signs = self.words;
+        match words(alloc, station, signs) {
+            Ok(words) => is_told_of(alloc, station, &words, self),
+            Err(_) => false,
+        }
+    }
+}
+
+#[test]
+fn texts(rt: HostRuntime) {
+    assert!(rt; rows_hold(rt.alloc(), ROWS));
 }
 
 // Texts that are no order, with the number and the line of their refusals.
@@ -156,50 +141,94 @@ const REFUSED: &[(&[u8], u8, u32)] = &[
     (b"\r", 10, 1),
 ];
 
-#[test]
-fn refusals(rt: HostRuntime) -> Result<(), Fail> {
-    let station = built(rt.alloc(), Example::TwoFeeders)?;
-    expect_all_refused(&rt, rt.alloc(), &station)
+// Whether the text is refused so.
+fn is_refused(alloc: Global, station: &Station, text: &[u8], number: u8, line: u32) -> bool {
+    match read_order(alloc, station, text) {
+        Ok(_) => false,
+        Err(fault) => fault == OrderFault::Refused(InputRefusal { number, line }),
+    }
 }
 
-fn expect_all_refused(rt: &impl Abort, alloc: Global, station: &Station) -> Result<(), Fail> {
-    for (text, number, line) in REFUSED {
-        expect_refused(rt, alloc, station, text, *number, *line);
+// Whether each text is refused so.
+fn are_refused(alloc: Global, station: &Station, rows: &[(&[u8], u8, u32)]) -> bool {
+    for (text, number, line) in rows {
+        if !is_refused(alloc, station, text, *number, *line) {
+            return false;
+        }
     }
-    let mut long = Vec::new(alloc);
+    true
+}
+
+// Adds the most lines.
+fn push_lines(long: &mut Text) -> Result<(), Memory> {
     for _ in 0..20_000 {
-        long.extend_from_slice(b"open S/V1/Q1/QB1\n")?;
+        long.push(b"open S/V1/Q1/QB1\n")?;
     }
-    assert!(rt; read_order(alloc, station, &long).is_ok());
-    long.extend_from_slice(b"\nshut\n")?;
-    expect_refused(rt, alloc, station, &long, 9, 20_002);
     Ok(())
+}
+
+// Whether an order of the most lines is read, and refused with one line more.
+fn has_most(alloc: Global, station: &Station) -> bool {
+    let mut long = Text::new(alloc);
+    push_lines(&mut long).is_ok()
+        && read_order(alloc, station, long.bytes()).is_ok()
+        && long.push(b"\nshut\n").is_ok()
+        && is_refused(alloc, station, long.bytes(), 9, 20_002)
+}
+
+// Whether these words leave no certain positions.
+fn is_unsure(alloc: Global, station: &Station, words: &Readings) -> bool
+    requires { length words.now ≡ length station.now.switches }
+{
+    match certain_positions(alloc, station, words) {
+        Ok(positions) => positions.is_none(),
+        Err(_) => false,
+    }
+}
+
+// The same, by their signs.
+fn are_unsure(alloc: Global, station: &Station, signs: &[u8; 10]) -> bool {
+    if station.switch_count() != 10 {
+        return false;
+    }
+    match words(alloc, station, signs) {
+        Ok(words) => is_unsure(alloc, station, &words),
+        Err(_) => false,
+    }
+}
+
+// What is asked of inputs on the two feeders.
+enum Asked {
+    // whether each text is refused so
+    Refused(&'static [(&'static [u8], u8, u32)]),
+    // whether an order may have so many lines
+    Lines,
+    // whether these words leave no certain positions
+    Unsure(&'static [u8; 10]),
+}
+
+impl StationRow for Asked {
+    fn example(&self) -> Example {
+        Example::TwoFeeders
+    }
+
+    fn holds(&self, alloc: Global, station: &Station) -> bool {
+        match self {
+            Asked::Refused(rows) => are_refused(alloc, station, rows),
+            Asked::Lines => has_most(alloc, station),
+            Asked::Unsure(signs) => are_unsure(alloc, station, signs),
+        }
+    }
+}
+
+#[test]
+fn refusals(rt: HostRuntime) {
+    assert!(rt; row_holds(rt.alloc(), &Asked::Refused(REFUSED)));
+    assert!(rt; row_holds(rt.alloc(), &Asked::Lines));
 }
 
 // A word that is lost leaves no certain positions.
 #[test]
-fn unsure_words(rt: HostRuntime) -> Result<(), Fail> {
-    let station = built(rt.alloc(), Example::TwoFeeders)?;
-    expect_unsure(&rt, rt.alloc(), &station)
-}
-
-fn expect_unsure(rt: &impl Abort, alloc: Global, station: &Station) -> Result<(), Fail> {
-    let words = words(rt, alloc, station, b"000?000000")?;
-    assert!(rt; certain_positions(alloc, station, &words)?.is_none());
-    Ok(())
-}
-
-fn expect_refused(
-    rt: &impl Abort,
-    alloc: Global,
-    station: &Station,
-    text: &[u8],
-    number: u8,
-    line: u32,
-) {
-    let want = OrderFault::Refused(InputRefusal { number, line });
-    match read_order(alloc, station, text) {
-        Ok(_) => assert!(rt; false, "it is an order"),
-        Err(fault) => assert!(rt; fault == want),
-    }
+fn unsure_words(rt: HostRuntime) {
+    assert!(rt; row_holds(rt.alloc(), &Asked::Unsure(b"000?000000")));
 }

@@ -5,7 +5,7 @@ use program_text::program_text;
 use station_graph::Station;
 use std::alloc::Global;
 use std::test::Fail;
-use test_stations::{Drawing, Example, built, station_of};
+use test_stations::{Drawing, Example, StationRow, built, row_holds, station_of};
 
 // The earthing switch may be closed where the infeed is known to be off, and the infeed set on where the earthing switch
 // is known to be off; opening is always released. That the node has a tap is read by no line, so no line says it;
@@ -96,11 +96,24 @@ fn ends_with(alloc: Global, station: &Station, lines: &[u8]) -> bool {
     }
 }
 
+// The last lines of the program of the earthed line.
+struct Ends {
+    lines: &'static [u8],
+}
+
+impl StationRow for Ends {
+    fn example(&self) -> Example {
+        Example::EarthedLine
+    }
+
+    fn holds(&self, alloc: Global, station: &Station) -> bool {
+        ends_with(alloc, station, self.lines)
+    }
+}
+
 #[test]
-fn programs(rt: HostRuntime) -> Result<(), Fail> {
-    let station = built(rt.alloc(), Example::EarthedLine)?;
-    assert!(rt; ends_with(rt.alloc(), &station, LINES));
-    Ok(())
+fn programs(rt: HostRuntime) {
+    assert!(rt; row_holds(rt.alloc(), &Ends { lines: LINES }));
 }
 
 #[test]

@@ -1,10 +1,10 @@
 //! Which words are of the written form.
 use command_words::read_words;
+use ilk_base::Memory;
 use std::alloc::Global;
-use std::test::Fail;
 
 // The words, owned.
-fn owned(alloc: Global, words: &[&str]) -> Result<Vec<String>, Fail> {
+fn owned(alloc: Global, words: &[&str]) -> Result<Vec<String>, Memory> {
     let mut all = Vec::new(alloc);
     for word in words {
         all.push(String::from_str(alloc, *word)?)?;
@@ -12,36 +12,51 @@ fn owned(alloc: Global, words: &[&str]) -> Result<Vec<String>, Fail> {
     Ok(all)
 }
 
-// Whether the words are of no command.
-fn are_refused(alloc: Global, words: &[String]) -> bool {
+// Whether the words behind the name of a command are these.
+fn are_words(words: &[&str], wanted: &[&str]) -> bool {
+    if words.len() != wanted.len() {
+        return false;
+    }
+    for i in 0..words.len() {
+        if words[i] != wanted[i] {
+            return false;
+        }
+    }
+    true
+}
+
+// A command and the words behind its name; none where words are refused.
+type Command = (&'static str, &'static [&'static str]);
+
+// Whether the words are of this command.
+fn are_of(alloc: Global, words: &[String], command: Option<Command>) -> bool {
     match read_words(alloc, words) {
-        Ok(row) => row.is_none(),
+        Ok(Some(row)) => match command {
+            Some((name, behind)) => row.name == name && are_words(&row.words, behind),
+            None => false,
+        },
+        Ok(None) => command.is_none(),
         Err(_) => false,
     }
 }
 
-// Whether these words are refused.
-fn refuses(alloc: Global, words: &[&str]) -> Result<bool, Fail> {
-    let words = owned(alloc, words)?;
-    Ok(are_refused(alloc, &words))
+// The same, of words that are not owned yet.
+fn is_read(alloc: Global, words: &[&str], command: Option<Command>) -> bool {
+    match owned(alloc, words) {
+        Ok(words) => are_of(alloc, &words, command),
+        Err(_) => false,
+    }
 }
 
 #[test]
-fn words_of_a_command(rt: HostRuntime) -> Result<(), Fail> {
-    let words = owned(
-        rt.alloc(),
-        &["explain", "a.ssd", "p.csv", "open", "S/V1/Q1/QA1"],
-    )?;
-    let row = read_words(rt.alloc(), &words)?.ok_or("of the form")?;
-    assert!(rt; row.name == "explain");
-    assert!(rt; row.words.len() == 4);
-    assert!(rt; row.words[0] == "a.ssd");
-    assert!(rt; row.words[3] == "S/V1/Q1/QA1");
-    Ok(())
+fn words_of_a_command(rt: HostRuntime) {
+    let words = ["explain", "a.ssd", "p.csv", "open", "S/V1/Q1/QA1"];
+    let behind = &["a.ssd", "p.csv", "open", "S/V1/Q1/QA1"];
+    assert!(rt; is_read(rt.alloc(), &words, Some(("explain", behind))));
 }
 
 // Nothing, no command, the word help; a word too few, a word too many; an empty word, a flag, the end of flags.
-const OTHERS: &[&[&str]] = &[
+const REFUSED: &[&[&str]] = &[
     &[],
     &["chek", "a", "b"],
     &["help", "check"],
@@ -52,12 +67,26 @@ const OTHERS: &[&[&str]] = &[
     &["check", "--", "a", "b"],
 ];
 
-#[test]
-fn other_words(rt: HostRuntime) -> Result<(), Fail> {
-    for words in OTHERS {
-        assert!(rt; refuses(rt.alloc(), words)?);
+// Whether all of these are refused.
+fn are_refused(alloc: Global, rows: &[&[&str]]) -> bool {
+    for words in rows {
+        if !is_read(alloc, words, None) {
+            return false;
+        }
     }
+    true
+}
+
+#[test]
+fn other_words(rt: HostRuntime) {
+    assert!(rt; are_refused(rt.alloc(), REFUSED));
     // three words where three are due
-    assert!(rt; !refuses(rt.alloc(), &["order", "a", "b", "c"])?);
-    Ok(())
+    let behind = &["a", "b", "c"];
+    assert!(rt;
+        is_read(
+            rt.alloc(),
+            &["order", "a", "b", "c"],
+            Some(("order", behind))
+        )
+    );
 }
