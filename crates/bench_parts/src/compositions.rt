@@ -1,4 +1,6 @@
 //! Compositions of two contractions, which keep the same nodes where the drawing is made so.
+ghost use Rattle.std.specs.Prelude.{◌<◌, length};
+
 use anyhow::Result;
 use contraction::Contraction;
 use ilk_base::SwitchId;
@@ -11,26 +13,83 @@ fn nothing(alloc: Global) -> Result<Contraction> {
     Ok(Contraction::empty(alloc, &NodeList::new(alloc))?)
 }
 
+// Adds one to all.
+fn add(alloc: Global, all: &mut Contraction, one: &Contraction) -> Result<()> {
+    *all = all.compose(alloc, one)?;
+    Ok(())
+}
+
+// Adds a closed switch.
+fn add_switch(alloc: Global, station: &Station, id: SwitchId, all: &mut Contraction) -> Result<()>
+    requires { id.0 < length station.now.switches }
+{
+    let one = Contraction::of_switch(alloc, station, id, true)?;
+    add(alloc, all, &one)
+}
+
+// Adds all switches of every second part, from this one on, closed.
+fn add_switches(alloc: Global, station: &Station, first: u8, all: &mut Contraction) -> Result<()> {
+    for i in 0..station.switch_count() {
+        if station.switch(SwitchId(i)).bay.0 % 2 == first {
+            add_switch(alloc, station, SwitchId(i), all)?;
+        }
+    }
+    Ok(())
+}
+
 // All switches of every second part, from this one on, closed.
 fn switches(alloc: Global, station: &Station, first: u8) -> Result<Contraction> {
     let mut all = nothing(alloc)?;
-    for i in 0..station.switch_count() {
-        if station.switch(SwitchId(i)).bay.0 % 2 == first {
-            let one = Contraction::of_switch(alloc, station, SwitchId(i), true)?;
-            all = all.compose(alloc, &one)?;
-        }
-    }
+    add_switches(alloc, station, first, &mut all)?;
     Ok(all)
+}
+
+// Adds a tap.
+fn add_tap(alloc: Global, station: &Station, i: u16, all: &mut Contraction) -> Result<()>
+    requires { i < length station.now.taps }
+{
+    let one = Contraction::of_tap(alloc, station, i)?;
+    add(alloc, all, &one)
+}
+
+// Adds all taps.
+fn add_taps(alloc: Global, station: &Station, all: &mut Contraction) -> Result<()> {
+    for i in 0..station.tap_count() {
+        add_tap(alloc, station, i, all)?;
+    }
+    Ok(())
 }
 
 // All taps.
 fn taps(alloc: Global, station: &Station) -> Result<Contraction> {
     let mut all = nothing(alloc)?;
-    for i in 0..station.tap_count() {
-        let one = Contraction::of_tap(alloc, station, i)?;
-        all = all.compose(alloc, &one)?;
-    }
+    add_taps(alloc, station, &mut all)?;
     Ok(all)
+}
+
+// Composes once more, and puts the composition in place of the last.
+fn compose_again(
+    alloc: Global,
+    first: &Contraction,
+    second: &Contraction,
+    last: &mut Contraction,
+) -> Result<()> {
+    *last = first.compose(alloc, second)?;
+    Ok(())
+}
+
+// Composes so often more.
+fn compose_more(
+    alloc: Global,
+    first: &Contraction,
+    second: &Contraction,
+    calls: u32,
+    last: &mut Contraction,
+) -> Result<()> {
+    for _ in 1..calls {
+        compose_again(alloc, first, second, last)?;
+    }
+    Ok(())
 }
 
 // Composes so often, and gives the last composition.
@@ -41,9 +100,7 @@ fn compose_often(
     calls: u32,
 ) -> Result<Contraction> {
     let mut last = first.compose(alloc, second)?;
-    for _ in 1..calls {
-        last = first.compose(alloc, second)?;
-    }
+    compose_more(alloc, first, second, calls, &mut last)?;
     Ok(last)
 }
 

@@ -43,19 +43,26 @@ fn measure_elements(rt: &HostRuntime, timed: bool) -> Result<()> {
     elements::measure(rt, &bytes, timed)
 }
 
-fn measure_alphabets(rt: &HostRuntime, timed: bool) -> Result<()> {
-    let station = read_station(rt)?;
-    alphabets::measure(rt, &station, timed)
+// What is measured of a station.
+#[derive(Clone, Copy)]
+enum Part {
+    Alphabets,
+    // so many of each
+    Compositions(u32),
+    Verdicts,
 }
 
-fn measure_compositions(rt: &HostRuntime, calls: u32, timed: bool) -> Result<()> {
-    let station = read_station(rt)?;
-    compositions::measure(rt, &station, calls, timed)
+fn measure_part(rt: &HostRuntime, station: &Station, part: Part, timed: bool) -> Result<()> {
+    match part {
+        Part::Alphabets => alphabets::measure(rt, station, timed),
+        Part::Compositions(calls) => compositions::measure(rt, station, calls, timed),
+        Part::Verdicts => verdicts::measure(rt, station, timed),
+    }
 }
 
-fn measure_verdicts(rt: &HostRuntime, timed: bool) -> Result<()> {
+fn measure_station(rt: &HostRuntime, part: Part, timed: bool) -> Result<()> {
     let station = read_station(rt)?;
-    verdicts::measure(rt, &station, timed)
+    measure_part(rt, &station, part, timed)
 }
 
 // What is left in memory by the reading of the file alone.
@@ -72,17 +79,20 @@ fn measure_all(rt: &HostRuntime) -> Result<()> {
         labels: 4,
     };
     measure_elements(rt, false)?;
-    measure_compositions(rt, 2, false)?;
-    measure_alphabets(rt, false)?;
+    measure_station(rt, Part::Compositions(2), false)?;
+    measure_station(rt, Part::Alphabets, false)?;
     graphs::measure(rt, sizes, false)?;
-    measure_verdicts(rt, false)
+    measure_station(rt, Part::Verdicts, false)
 }
 
 fn measure(rt: &HostRuntime, which: &str, words: &[String], timed: bool) -> Result<()> {
     match which {
         "all" => measure_all(rt),
-        "alphabets" => measure_alphabets(rt, timed),
-        "compositions" => measure_compositions(rt, number(words, 1)?, timed),
+        "alphabets" => measure_station(rt, Part::Alphabets, timed),
+        "compositions" => {
+            let calls = number(words, 1)?;
+            measure_station(rt, Part::Compositions(calls), timed)
+        }
         "elements" => measure_elements(rt, timed),
         "graphs" => {
             let sizes = Sizes {
@@ -94,20 +104,32 @@ fn measure(rt: &HostRuntime, which: &str, words: &[String], timed: bool) -> Resu
             graphs::measure(rt, sizes, timed)
         }
         "load" => measure_load(rt),
-        "verdicts" => measure_verdicts(rt, timed),
+        "verdicts" => measure_station(rt, Part::Verdicts, timed),
         _ => bail!("of the parts there is none of this name"),
+    }
+}
+
+// Adds the words of the command line behind the name of the program.
+fn push_words(rt: &HostRuntime, words: &mut Vec<String>) -> Result<()> {
+    for word in env::args(rt)?.skip(1) {
+        words.push(word)?;
+    }
+    Ok(())
+}
+
+// Whether the last word asks for the times.
+fn is_timed(words: &[String]) -> bool {
+    match words.last() {
+        Some(word) => word.as_str() == "time",
+        None => false,
     }
 }
 
 fn main(rt: HostRuntime) -> Result<()> {
     let mut words = Vec::new(rt.alloc());
-    let mut timed = false;
-    for word in env::args(&rt)?.skip(1) {
-        timed = word.as_str() == "time";
-        words.push(word)?;
-    }
+    push_words(&rt, &mut words)?;
     match words.first() {
-        Some(which) => measure(&rt, which.as_str(), &words, timed),
+        Some(which) => measure(&rt, which.as_str(), &words, is_timed(&words)),
         None => bail!(
             "usage: all | load | elements | alphabets | compositions CALLS | verdicts | graphs SIZES"
         ),
