@@ -24,7 +24,7 @@ FOLDER = repository.TOP / "crates" / CRATE
 MODULE = FOLDER / "out/page_judge.wasm"
 SUMS = FOLDER / "out/page_judge.sums"
 HEAP = HERE / "desk_page/heap.c"
-EXPORTS = ("page_check", "page_explain", "page_order", "desk_alloc", "desk_free")
+EXPORTS = ("page_open", "page_check", "page_state", "page_explain", "page_order", "page_close", "desk_alloc", "desk_free")
 WASM = ["--target=wasm64-unknown-unknown", "-mcpu=lime1", "-mllvm", "-expand-div-rem-bits=64", "-mllvm",
         "-expand-fp-convert-bits=64", "--no-default-config", "-ffunction-sections", "-fdata-sections", "-mllvm",
         "-trap-unreachable"]
@@ -60,10 +60,11 @@ def sum_of(found):
     return hashlib.sha256("".join(f"{value}  {name}\n" for name, value in sorted(found.items())).encode()).hexdigest()
 
 
-def library_words(crates, folder=repository.TOP / "crates"):
+def library_words(kit, crates, folder=repository.TOP / "crates"):
     """The libraries of this repository and of the kit, as a build of the crate is told of them."""
     below = [name for name in repository.standing_below(crates, CRATE) if name != CRATE]
-    words = []
+    of_kit = ["std", *(name for name in crates[CRATE].line.split(":")[1].split() if name not in crates)]
+    words = ["-L", f"dependency={kit}/rlibs", *(word for name in of_kit for word in ("--extern", f"{name}={kit}/rlibs/{name}.rlib"))]
     for name in below:
         rlib = folder / name / "out/rlib" / f"{name}.rlib"
         words += ["-L", f"dependency={rlib.parent}"]
@@ -85,7 +86,7 @@ def lowered(kit, libraries, room):
     (room / "work").mkdir()
     kept = FOLDER / "out/incremental"
     said = run(kit / "bin/rattle", "build", "--crate-name", CRATE, "src/lib.rt", "--crate-type", "staticlib",
-               "--extern", f"std={kit}/rlibs/std.rlib", "-L", f"dependency={kit}/rlibs", *libraries,
+               *libraries,
                "--antt-project", kit / "rattle/logic/antt-project.json", "--logic-built", kit / "logic_built",
                "--links", f"{CRATE}=", "--jobs", "1", *(["--incremental", kept] if kept.is_dir() else []),
                "--toolchain", tools, "-o", room / "library.a", cwd=FOLDER)
@@ -139,7 +140,7 @@ def made():
     run("rt", "lib", cwd=FOLDER)
     with tempfile.TemporaryDirectory() as folder:
         place, room = kit(), pathlib.Path(folder)
-        built, verdict = lowered(place, library_words(repository.crates()), room)
+        built, verdict = lowered(place, library_words(place, repository.crates()), room)
         linked(place, built, room / "page_judge.wasm", room)
         shutil.copy(room / "page_judge.wasm", MODULE)
     line = run("rt", "version").strip()

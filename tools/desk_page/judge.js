@@ -1,19 +1,28 @@
 "use strict";
-// The module: bytes in, bytes out. It runs in a worker of the page, and under node for the tests. What the codes mean is
-// said at the exports of crates/page_judge.
-const ROOM = 10, TOLD = 24n;
+// The module: bytes in, bytes out. It runs in a worker of the page, and under node for the tests. A station is opened
+// once and kept; then each question goes to the export of its name. What the codes mean is said at the exports of
+// crates/page_judge. Their contracts hold for a caller who keeps to this: a desk is all zeros before page_open, is read
+// and written by nobody else, and is asked only after page_open has answered 0.
+const ROOM = 10, DESK = 16, TOLD = 16, FIRST_ROOM = 1 << 18;
 
 class Judge {
-  constructor(compiled, station) {
+  constructor(compiled, drawing) {
     this.compiled = compiled;
-    this.given = station;
-    this.rooms = [1 << 18, 1 << 18];
+    this.drawing = drawing;
   }
 
-  // A fresh instance with the drawing in its memory; nothing is left of what an earlier one did.
+  // A fresh instance in which the drawing is opened; nothing is left of what an earlier one did. The answer of page_open.
   async start() {
     this.run = (await WebAssembly.instantiate(this.compiled, {})).exports;
-    this.drawing = this.put(this.given);
+    this.desk = this.zeros(DESK);
+    this.told = this.zeros(TOLD);
+    this.room = null;
+    this.widen(FIRST_ROOM);
+    this.opened = { code: -1, texts: [] };
+    const drawing = this.put(this.drawing);
+    this.opened = this.answered(this.run.page_open(this.desk, ...drawing, this.told), false);
+    this.run.desk_free(drawing[0]);
+    return this.opened;
   }
 
   alloc(n) {
@@ -22,47 +31,65 @@ class Judge {
     return at;
   }
 
+  bytes(at, n) {
+    return new Uint8Array(this.run.memory.buffer, Number(at), n);
+  }
+
+  zeros(n) {
+    const at = this.alloc(n);
+    this.bytes(at, n).fill(0);
+    return at;
+  }
+
   put(bytes) {
     const at = this.alloc(bytes.length);
-    new Uint8Array(this.run.memory.buffer, Number(at), bytes.length).set(bytes);
+    this.bytes(at, bytes.length).set(bytes);
     return [at, BigInt(bytes.length)];
   }
 
-  text(at, length) {
-    return new TextDecoder().decode(new Uint8Array(this.run.memory.buffer, Number(at), length).slice());
+  widen(size) {
+    if (this.room) this.run.desk_free(this.room[0]);
+    this.room = null;
+    this.room = [this.alloc(size), BigInt(size)];
   }
 
-  // Calls an export: after the drawing come the words, then a room for each text, then what is told.
-  call(name, words, texts) {
+  length() {
+    return Number(new DataView(this.run.memory.buffer, Number(this.told), TOLD).getBigUint64(0, true));
+  }
+
+  // What a code says, with what is told beside it.
+  answered(code, hasText) {
+    const told = new DataView(this.run.memory.buffer, Number(this.told), TOLD);
+    if (code === 5 || code === 6) return { code, texts: [], number: told.getUint32(8, true), place: told.getUint32(12, true) };
+    if (code > 1 || !hasText) return { code, texts: [] };
+    return { code, texts: [new TextDecoder().decode(this.bytes(this.room[0], this.length()).slice())] };
+  }
+
+  // Asks an export about the station; where the room is too small, again with room enough.
+  call(name, words) {
     const held = words.map((word) => (word instanceof Uint8Array ? this.put(word) : [word]));
-    const told = this.alloc(Number(TOLD));
-    let rooms = [];
     try {
       for (;;) {
-        rooms = this.rooms.slice(0, texts).map((size) => [this.alloc(size), BigInt(size)]);
-        const code = this.run[name](...this.drawing, ...held.flat(), ...rooms.flat(), told);
-        const seen = new DataView(this.run.memory.buffer, Number(told), Number(TOLD));
-        const lengths = [0, 8].map((at) => Number(seen.getBigUint64(at, true)));
-        const number = seen.getUint32(16, true), place = seen.getUint32(20, true);
-        if (code !== ROOM) {
-          const said = code < 2 ? rooms.map(([at], i) => this.text(at, lengths[i])) : [];
-          return code === 5 || code === 6 ? { code, texts: said, number, place } : { code, texts: said };
-        }
-        rooms.forEach(([at]) => this.run.desk_free(at));
-        rooms = [];
-        this.rooms = this.rooms.map((size, i) => (i < texts ? Math.max(size, 2 * lengths[i]) : size));
+        const code = this.run[name](this.desk, ...held.flat(), ...this.room, this.told);
+        if (code !== ROOM) return this.answered(code, true);
+        this.widen(2 * this.length());
       }
     } finally {
-      for (const [at] of [...rooms, ...held.filter((word) => word.length > 1), [told]]) this.run.desk_free(at);
+      for (const word of held) if (word.length > 1) this.run.desk_free(word[0]);
     }
   }
 
+  // The texts of `check` and of `state`; or of `explain`; or of `order`.
   ask(question) {
+    if (this.opened.code !== 0) return this.opened;
     const bytes = (text) => (text instanceof Uint8Array ? text : new TextEncoder().encode(text));
     const positions = bytes(question.positions);
-    if (question.asks === "check") return this.call("page_check", [positions], 2);
-    if (question.asks === "order") return this.call("page_order", [positions, bytes(question.steps)], 1);
-    return this.call("page_explain", [positions, Number(question.closes), bytes(question.path)], 1);
+    if (question.asks === "order") return this.call("page_order", [positions, bytes(question.steps)]);
+    if (question.asks === "explain") return this.call("page_explain", [positions, Number(question.closes), bytes(question.path)]);
+    const check = this.call("page_check", [positions]);
+    if (check.code !== 0) return check;
+    const state = this.call("page_state", [positions]);
+    return state.code === 0 ? { code: 0, texts: [...check.texts, ...state.texts] } : state;
   }
 
   // After a trap the instance is dropped.

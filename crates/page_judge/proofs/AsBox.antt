@@ -1,0 +1,21 @@
+-- A desk that holds a box, and the parts of it, own what the box owns.
+use mir.Syntax.{impl, tnil, dnil}
+use mathlib.Core.List.{[]}
+use denote.Signature.{Slot, plain}
+use Rattle.std_alloc.proofs.BoxSteps.Form.{Bx}
+use Rattle.std_heap.specs.contracts.Global as Heap
+use Rattle.std_heap.specs.contracts.GlobalAllocator.TheImpl.{ghosts, dict}
+use Rattle.std_heap.proofs.Global.TheLaws as heap
+use Rattle.page_judge.specs.contracts.kept.Kept as Kept
+use Rattle.page_judge.proofs.kept.Kept.TheLaws as kept
+use Rattle.page_judge.specs.contracts.parts.Parts as Parts
+use Rattle.page_judge.specs.contracts.desk.Desk as Desk
+
+abbrev pub E : Bx
+E = record { row = Kept.the_row; laws = kept.the_row_laws; al = record { row = Heap.the_row; laws = heap.the_row_laws; g = ghosts; d = dict; drops = impl [] tnil dnil } }
+
+abbrev pub FromParts : Slot 0
+FromParts = plain (λ _. Parts.the_row Kept.the_row Heap.the_row ghosts)
+
+abbrev pub FromDesk : Slot 0
+FromDesk = plain (λ _. Desk.the_row)

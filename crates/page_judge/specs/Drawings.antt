@@ -1,0 +1,58 @@
+-- What a drawing is opened as, and why it is refused.
+use Rattle.std.specs.Prelude.{◌≡◌, ◌⊎◌, ⊤, ℕ, List, Option, Ok, Err, unwrap_or}
+use Rattle.station_graph.specs.Diagram.{Diagram, IsStation}
+use Rattle.ssd_read.specs.StandsFor.{Stands}
+use Rattle.ssd_read.specs.Shown as shown
+use Rattle.ssd_read.specs.declared.refusal.SsdRefusal.{SsdRefusal}
+use Rattle.release_compile.specs.Judging.{KeepsLimits, IsBuildRefusal}
+use Rattle.release_compile.specs.declared.refusal.BuildRefusal.{BuildRefusal}
+use Rattle.release_compile.specs.declared.refusal.BuildRefusal.TheVariants as b
+use Rattle.page_judge.specs.Desk.{Keeps}
+use Rattle.page_judge.specs.declared.kept.Kept.{Kept}
+use Rattle.page_judge.specs.declared.told.Told.{Told}
+use Rattle.page_judge.specs.declared.told.TheConstants.{DONE, DRAWING, MEMORY}
+use Rattle.page_judge.specs.declared.opening.DrawingFault.{DrawingFault}
+use Rattle.page_judge.specs.declared.opening.DrawingFault.TheVariants as f
+
+-- The drawing is that of this station, which keeps the limits of its graphs.
+abbrev pub IsDrawingOf : List ℕ → Diagram → Type 0
+IsDrawingOf drawing d = Stands drawing (Ok d) × KeepsLimits d
+
+-- What is shown of a limit of the graphs that is passed: 16 and the part, or 17 and the bay.
+abbrev pub ShowsLimit : BuildRefusal → ℕ → ℕ → Type 0
+ShowsLimit b.Memory number place = ⊥
+ShowsLimit (b.Many part step) number place = (number ≡ 16) × (place ≡ part.0)
+ShowsLimit (b.Wide bay) number place = (number ≡ 17) × (place ≡ bay.0)
+
+-- The station has no judge, which is shown so.
+pub record IsPastLimits (d : Diagram) (number place : ℕ) : Type 0 where
+  pub station : IsStation d
+  pub refusal : BuildRefusal
+  pub past : IsBuildRefusal d refusal
+  pub shows : ShowsLimit refusal number place
+
+-- The text stands for no station: the number of its fault, and the place where it has one.
+pub record IsNoStation (drawing : List ℕ) (number place : ℕ) : Type 0 where
+  pub refusal : SsdRefusal
+  pub stands : Stands drawing (Err refusal)
+  pub number_is : number ≡ unwrap_or (shown.number refusal) 0
+  pub place_is : place ≡ unwrap_or (shown.place refusal) 0
+
+-- The drawing is refused, and this number and place are shown of that.
+abbrev pub RefusesDrawing : List ℕ → ℕ → ℕ → Type 0
+RefusesDrawing drawing number place =
+    IsNoStation drawing number place
+    ⊎ ((d : Diagram) × Stands drawing (Ok d) × IsPastLimits d number place)
+
+-- A drawing is opened: its station is kept from now on; or it is refused, or memory is wanting, and what was kept
+-- before still is.
+abbrev pub Opens : List ℕ → Option Kept → Option Kept → ℕ → Told → Type 0
+Opens drawing before after code told =
+    ((code ≡ DONE) × Keeps after (IsDrawingOf drawing))
+    ⊎ ((code ≡ DRAWING) × (after ≡ before) × RefusesDrawing drawing told.number told.place)
+    ⊎ ((code ≡ MEMORY) × (after ≡ before))
+
+-- Of a fault that is no want of memory, this holds of what is shown.
+abbrev pub ForShown : DrawingFault → (ℕ → ℕ → Type 0) → Type 0
+ForShown f.Memory P = ⊤
+ForShown (f.Refused number place) P = P number place

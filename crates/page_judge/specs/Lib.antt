@@ -1,0 +1,4 @@
+pub mod Told
+pub mod Questions
+pub mod Drawings
+pub mod Desk
