@@ -1,18 +1,24 @@
 #!/usr/bin/env python3
-"""Goes through stories on the page of `tools/desk` by real clicks in headless Chromium, and compares.
+"""Compares the page of `tools/desk`, and the judge inside it, with the program.
 
-    examples/desk.py [FOLDER]            each answer that the page was given is held against the program's, and each
-                                         story against what it says here; screenshots go to FOLDER
-    examples/desk.py --serve [FOLDER]    the same stories on the page of `tools/desk --serve`, which asks the program
+    examples/desk.py [FOLDER]            first the module alone, under node: random questions about each example and about
+                                         a station of 40 feeders, good ones and bad ones, and the times of a click with 60
+                                         feeders; then stories on the page by real clicks in headless Chromium. Each answer
+                                         is held against the program's, and each story against what it says here;
+                                         screenshots go to FOLDER
+    examples/desk.py --node              the module alone
+    examples/desk.py --serve [FOLDER]    the stories on the page of `tools/desk --serve`, which asks the program
 
-It wants Debian's packages chromium and chromium-driver. Without them it runs the module alone under node, on random
-positions of the examples. Status 1 where anything differs.
+It wants node from version 20, and for the stories Debian's packages chromium and chromium-driver. DESK_PROGRAM names
+another program than the proved one to compare with. Status 1 where anything differs.
 """
 import importlib.machinery
 import importlib.util
 import json
+import os
 import pathlib
 import random
+import re
 import shutil
 import subprocess
 import sys
@@ -220,6 +226,25 @@ def large_station(page, feeder="Q7"):
 
 # ---- the program's answers to the same questions
 
+# The line of a refusal: its number, and the byte, line, part or bay that is told.
+LINE = re.compile(r"interlock: (?:station|input) refused (\d+)(?:.*? (?:at|line|part|bay) (\d+))?")
+
+
+def program():
+    """The program to compare with, as a path; none where only the checked build can be asked."""
+    script = script_of(TOP / "interlock")
+    return os.environ.get("DESK_PROGRAM") or (script.PROGRAM if script.is_proved() else None)
+
+
+def answers(questions):
+    """For each question, as a list of words, the status, the text, and the number and place of a refusal, where told."""
+    if program() is None:
+        return [(*answer, None) for answer in script_of(TOP / "interlock").answers(questions)]
+    runs = [subprocess.run([program(), *words], stdin=subprocess.DEVNULL, capture_output=True, text=True) for words in questions]
+    lines = [LINE.match(run.stderr) for run in runs]
+    return [(run.returncode, run.stdout, line and (int(line[1]), int(line[2] or 0))) for run, line in zip(runs, lines)]
+
+
 def words_of(question, folder, number):
     """The commands whose texts the answer has, over files of these contents."""
     positions = folder / f"{number}.csv"
@@ -234,37 +259,51 @@ def words_of(question, folder, number):
     return [["explain", "STATION", positions, "close" if question["closes"] else "open", question["path"]]]
 
 
-def compared(station, heard, folder):
-    """How many answers were held against the program's, and those that differ."""
-    asked, owners = [], []
-    for number, (question, answer) in enumerate(heard):
-        for place, words in enumerate(words_of(question, folder, number)):
-            asked.append([str(station) if word == "STATION" else str(word) for word in words])
-            owners.append((answer, place))
-    answers = script_of(TOP / "interlock").answers(asked)
-    for words, (answer, place), (status, text) in zip(asked, owners, answers):
+def compared(runs, folder, refused=()):
+    """Says for each station how many of its answers were held against the program's, and gives those that differ. `runs`
+    has each station with its questions and answers, `refused` drawings with what opening them answered; the program is
+    asked for all of them at once."""
+    asked = [["state", str(station), str(HERE / "double_busbar.csv")] for station, _ in refused]
+    owners = [(station, opened, 0) for station, opened in refused]
+    for station, heard in runs:
+        for question, answer in heard:
+            for place, words in enumerate(words_of(question, folder, len(asked))):
+                asked.append([str(station) if word == "STATION" else str(word) for word in words])
+                owners.append((station, answer, place))
+    wrong = {station: [] for station, _ in [*runs, *refused]}
+    for words, (station, answer, place), (status, text, line) in zip(asked, owners, answers(asked)):
         said = answer["texts"][place] if answer["texts"] else ""
-        if answer["code"] != status or said != text:
-            yield f"the program says otherwise of {' '.join(words)}: {status} {text[:200]!r}, the page {answer['code']} {said[:200]!r}"
+        told = (answer.get("number"), answer.get("place"))
+        if answer["code"] != status or said != text or (line and line != told):
+            wrong[station].append(f"the program says otherwise of {' '.join(words)}: {status} {line} {text[:200]!r}, the page {answer['code']} {told} {said[:200]!r}")
+    for station, heard in runs:
+        print(f"{station.stem}: {len(heard)} questions held against the program, {len(wrong[station])} texts differ", flush=True)
+    if refused:
+        print(f"{len(refused)} drawings that are refused, {sum(len(wrong[station]) for station, _ in refused)} of them otherwise")
+    return [line for lines in wrong.values() for line in lines]
 
 
-def in_browser(folder, serves):
+def made_stations(folder, sizes=(40, 60)):
+    """The stations of so many feeders that the program makes, as files."""
+    made = {}
+    for feeders, (status, text, _) in zip(sizes, answers([["make", str(feeders), "station"] for feeders in sizes])):
+        if status != 0:
+            sys.exit("desk.py: the program made no station")
+        made[feeders] = folder / f"feeders_{feeders}.ssd"
+        made[feeders].write_text(text)
+    return made
+
+
+def in_browser(folder, serves, station):
     wrong = []
     page = Page(DOUBLE, HERE / "orders/earth_line_1.csv", folder, serves)
     for story in STORIES:
         story(page)
     wrong += page.end()
-    made = folder / "forty.ssd"
-    (status, text), = script_of(TOP / "interlock").answers([["make", "40", "station"]])
-    made.write_text(text)
-    large = Page(made, None, folder, serves)
+    large = Page(station, None, folder, serves)
     large_station(large)
     wrong += large.end()
-    for one in (page, large):
-        differ = list(compared(one.station, one.heard, folder))
-        print(f"{one.station.stem}: {len(one.heard)} questions of the page held against the program, {len(differ)} differ")
-        wrong += differ
-    return wrong
+    return wrong + compared([(one.station, one.heard) for one in (page, large)], folder)
 
 
 # ---- the module alone, under node
@@ -275,55 +314,110 @@ def node():
     return flagged if subprocess.run([*flagged, "-e", "0"], capture_output=True).returncode == 0 else ["node"]
 
 
-
+# Asks the questions of its input, as often as the last word says, and writes each with its answer and the shortest time.
 RUN = """
 const fs = require("fs"), { Judge } = require(process.argv[2]);
 (async () => {
   const judge = new Judge(await WebAssembly.compile(fs.readFileSync(process.argv[3])), new Uint8Array(fs.readFileSync(process.argv[4])));
-  await judge.start();
+  const from = performance.now(), opened = await judge.start(), open = performance.now() - from;
   const heard = [];
-  for (const question of JSON.parse(fs.readFileSync(0, "utf8"))) heard.push([question, await judge.answer(question)]);
-  process.stdout.write(JSON.stringify(heard));
+  for (const question of JSON.parse(fs.readFileSync(0, "utf8"))) {
+    let answer, least = Infinity;
+    for (let i = 0; i < Number(process.argv[5]); i++) {
+      const start = performance.now();
+      answer = await judge.answer(question);
+      least = Math.min(least, performance.now() - start);
+    }
+    heard.push([question, answer, least]);
+  }
+  process.stdout.write(JSON.stringify({ opened, open, heard }));
 })();
 """
 
 
-def questions_of(station, count, seed):
-    """Random positions of a station, each with `check`, an explanation and an order."""
+def asked_module(station, questions, times=1):
+    """How the drawing was opened, in how many milliseconds, and each question with its answer and the time of it."""
+    module, _ = page_module.made()
+    words = [*node(), "-e", RUN, "-", str(TOP / "tools/desk_page/judge.js"), str(module), str(station), str(times)]
+    done = subprocess.run(words, input=json.dumps(questions), capture_output=True, text=True)
+    if done.returncode != 0:
+        sys.exit(f"desk.py: node cannot run the module: {done.stderr[-600:]}")
+    return json.loads(done.stdout)
+
+
+def paths_of(station):
     from drawing import Drawing
 
-    chance, paths = random.Random(seed), [item.path for item in Drawing(station).items if item.is_switch]
-    for _ in range(count):
-        words = {path: chance.choice(["off", "on"] * 5 + ["intermediate", "bad", "lost"]) for path in paths}
-        positions = "".join(f"{path},{word}\n" for path, word in words.items())
+    return [item.path for item in Drawing(station).items if item.is_switch]
+
+
+def text_of(words):
+    return "".join(f"{path},{word}\n" for path, word in words.items())
+
+
+def questions_of(station, count, seed):
+    """Random positions of a station, each with `check`, an explanation and an order."""
+    chance, paths = random.Random(seed), paths_of(station)
+    for number in range(count):
+        known = ["off", "on"] * 5
+        words = {path: chance.choice(known if number % 2 else known + ["intermediate", "bad", "lost"]) for path in paths}
         path = chance.choice(paths)
+        yield {"asks": "check", "positions": text_of(words)}
+        yield {"asks": "explain", "positions": text_of(words), "closes": chance.random() < 0.5, "path": path}
+        step = f"{'close' if words[path] == 'off' else 'open'} {path}\n"
+        yield {"asks": "order", "positions": text_of(words), "steps": step + step.replace("close", "open")}
+
+
+def bad_questions_of(station):
+    """Questions that are refused, each in another way; the first has a room that is too small for its text."""
+    paths = paths_of(station)
+    off = text_of({path: "off" for path in paths})
+    for positions in ["", off, off + off, "S,on\n", f"{paths[0]},up\n", f"{paths[0]}\n", "\n" * 9 + f"{paths[0]},on,\n"]:
         yield {"asks": "check", "positions": positions}
-        yield {"asks": "explain", "positions": positions, "closes": chance.random() < 0.5, "path": path}
-        yield {"asks": "order", "positions": positions, "steps": f"{'close' if words[path] == 'off' else 'open'} {path}\n"}
+        yield {"asks": "explain", "positions": positions, "closes": True, "path": "S/nowhere"}
+        yield {"asks": "order", "positions": positions, "steps": f"close {paths[0]}\n\nshut {paths[0]}\n"}
+    for steps in ["", "close S/nowhere\n", f"open {paths[0]}\n", f"close {paths[0]}\nclose {paths[0]}\n"]:
+        yield {"asks": "order", "positions": off, "steps": steps}
 
 
-def under_node(folder):
-    module, _ = page_module.made()
-    wrong = []
-    for station in sorted(HERE.glob("*.ssd")):
-        given = json.dumps(list(questions_of(station, 4, station.stem)))
-        done = subprocess.run([*node(), "-e", RUN, "-", str(TOP / "tools/desk_page/judge.js"), str(module), str(station)], input=given, capture_output=True, text=True)
-        if done.returncode != 0:
-            sys.exit(f"desk.py: node cannot run the module: {done.stderr[-600:]}")
-        heard = json.loads(done.stdout)
-        differ = list(compared(station, heard, folder))
-        print(f"{station.stem}: {len(heard)} questions held against the program, {len(differ)} differ")
-        wrong += differ
-    return wrong
+def refused_drawings(folder):
+    """Drawings that are refused, as files."""
+    text = DOUBLE.read_text()
+    for number, bad in enumerate(["", "<SCL>", text.replace("</SCL>", ""), text[:-200], text.replace('name="QB1"', "", 1), text.replace('name="QB2"', 'name="QB1"', 1)]):
+        (folder / f"bad_{number}.ssd").write_text(bad)
+        yield folder / f"bad_{number}.ssd"
+
+
+def under_node(folder, stations):
+    runs = []
+    for station in [*sorted(HERE.glob("*.ssd")), stations[40]]:
+        questions = [*questions_of(station, 6, station.stem), *bad_questions_of(station)]
+        runs.append((station, [pair[:2] for pair in asked_module(station, questions)["heard"]]))
+    refused = [(station, asked_module(station, [])["opened"]) for station in refused_drawings(folder)]
+    return compared(runs, folder, refused) + times(stations[60])
+
+
+def times(station, wanted=50):
+    """A click asks for `check` and `state`; where it is denied, for `explain` too."""
+    questions = list(questions_of(station, 4, "times"))
+    run = asked_module(station, questions, times=5)
+    clicks = [run["heard"][i][2] + run["heard"][i + 1][2] for i in range(0, len(questions), 3)]
+    print(f"{station.stem}: opened in {run['open']:.0f} ms; a click with its way {', '.join(f'{t:.1f}' for t in clicks)} ms")
+    return [f"a click takes {max(clicks):.0f} ms, more than {wanted}"] if max(clicks) > wanted else []
 
 
 def main(words):
-    serves, words = "--serve" in words, [word for word in words if word != "--serve"]
+    flags, words = [word for word in words if word.startswith("--")], [word for word in words if not word.startswith("--")]
     with tempfile.TemporaryDirectory() as room:
         folder = pathlib.Path(words[0] if words else room).resolve()
         folder.mkdir(parents=True, exist_ok=True)
         has_browser = shutil.which("chromium") and shutil.which("chromedriver")
-        wrong = in_browser(folder, serves) if has_browser else under_node(folder)
+        stations = made_stations(folder)
+        wrong = [] if "--serve" in flags else under_node(folder, stations)
+        if has_browser and "--node" not in flags:
+            wrong += in_browser(folder, "--serve" in flags, stations[40])
+        elif "--node" not in flags:
+            print("no stories: there is no chromium with its driver")
     for line in wrong:
         print(line)
     sys.exit(1 if wrong else 0)

@@ -4,6 +4,10 @@ A place is a pair of units; a unit is UNIT pixels. By coordinates, each item sta
 topology, each node that bays share is a horizontal bar at the top of its voltage level, each bay a group of columns
 below it from the shared nodes outwards, and transformers stand between the levels.
 """
+import math
+
+from spines import spines_of
+
 UNIT = 40
 
 
@@ -164,7 +168,20 @@ class BayLayout:
         self.take(item, (self.column(), 1), True)
 
 
-def by_topology(drawing, widest=44):
+# How wide a row of bays may be, and how much wider than tall a picture of several rows is best.
+WIDEST, SHAPE = (44, 60, 80, 100, 120, 150, 180), 1.5
+
+
+def by_topology(drawing):
+    """The layout whose shape is best for a screen and for paper; where all bays stand in one row it is the first."""
+    def badness(layout):
+        left, top, right, bottom = layout.size()
+        return abs(math.log(max(right - left, 1) / max(bottom - top, 1) / SHAPE))
+
+    return min((laid_out(drawing, widest) for widest in WIDEST), key=badness)
+
+
+def laid_out(drawing, widest):
     layout = Layout(drawing)
     layout.bars = shared_nodes(drawing)
     transformers = [i for i in drawing.items if i.kind == "PTR"]
@@ -199,7 +216,12 @@ def place_level(layout, level, index, top, transformers, to_transformers, widest
         if not any(e in layout.stubs for e in t.ends):
             layout.bends.add(t)
     base = top + (3 if above else 0)
-    groups = {bay: BayLayout(items, layout.bars, to_transformers) for bay, items in bays_of(drawing, level).items()}
+    bays = bays_of(drawing, level)
+    spines = spines_of(bays, bars) if not above else {}
+    if spines:
+        others = [BayLayout(items, layout.bars, to_transformers) for bay, items in bays.items() if bay not in spines]
+        return place_spines(layout, bars, list(spines.values()), others, base) + 2
+    groups = {bay: BayLayout(items, layout.bars, to_transformers) for bay, items in bays.items()}
     fed = {e: layout.items[t][0] for t in above for e in t.ends}
     up = [g for g in groups.values() if bars and any(n in fed for n in g.nodes)]
     height = max([max([p[1] for p in [*g.items.values(), *g.nodes.values()]]) for g in up], default=0)
@@ -210,6 +232,29 @@ def place_level(layout, level, index, top, transformers, to_transformers, widest
     place_groups(layout, up, fed, lambda y: bar_top - y)
     down = [g for g in groups.values() if g not in up]
     return place_rows(layout, down, fed, bar_foot if bars else base, widest, bars) + 2
+
+
+def place_spines(layout, bars, spines, others, top):
+    """Bays between two bars, side by side; then the bays of one bar, below it."""
+    foot, right = top + max(spine.height for spine in spines), 0
+    layout.nodes[bars[0]], layout.nodes[bars[1]] = (0, top), (0, foot)
+    for spine in spines:
+        stretched(spine, foot - top)
+        copy(layout, spine, right, lambda y: top + y)
+        right += spine.width + 1
+    deepest = foot
+    for group in others:
+        below = foot if any(bars[1] in item.ends for item in group.items) else top
+        copy(layout, group, right, lambda y: below + y)
+        deepest = max([deepest] + [below + p[1] for p in [*group.items.values(), *group.nodes.values()]])
+        right += group.width + 1
+    return deepest + 1
+
+
+def stretched(spine, height):
+    """Puts the last item of a spine right above the lower bar, where other spines are longer."""
+    last = max((item for item in spine.items if spine.upright[item] and spine.items[item][0] == spine.x), key=lambda item: spine.items[item][1])
+    spine.items[last] = (spine.x, height - 1)
 
 
 def place_groups(layout, groups, fed, to_y):

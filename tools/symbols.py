@@ -310,7 +310,7 @@ class Picture:
         for kind, path in self.remarks:
             self.text(20, y, f"remark {kind} {path}", weight="bold")
             y += 17
-        width = max(self.width, 300, *(40 + 7 * len(kind + path) for kind, path in self.remarks))
+        width = max(self.width, 300, *(right + 8 for _, _, right, _, _ in self.labels), *(40 + 7 * len(kind + path) for kind, path in self.remarks))
         head = f'<svg xmlns="http://www.w3.org/2000/svg" width="{width:.0f}" height="{y + 6:.0f}" viewBox="0 0 {width:.0f} {y + 6:.0f}" font-family="DejaVu Sans, Arial, sans-serif">'
         # a printed picture is as large as the page
         head += "<style>@media print { svg:root { width: 100%; height: 100%; } }</style>"

@@ -12,8 +12,7 @@ onmessage = ({ data: { id, code, station, question } }) => {
     try {
       if (!code) return postMessage({ id, answer: await judge.answer(question) });
       judge = new Judge(await WebAssembly.compile(code), station);
-      await judge.start();
-      postMessage({ id, answer: { code: 0 } });
+      postMessage({ id, answer: await judge.start() });
     } catch (error) { postMessage({ id, answer: { code: -1, texts: [], error: String(error) } }); }
   });
 };`;
@@ -27,7 +26,8 @@ async function startWorker() {
   worker.onmessage = ({ data: { id, answer } }) => { waiting.get(id)(answer); waiting.delete(id); };
   const send = (message) => new Promise((done) => { waiting.set(++last, done); worker.postMessage({ id: last, ...message }); });
   const started = await send({ code, station: bytesOf(data.station) });
-  if (started.code !== 0) {
+  if (started.code > 0) throw new Error(refusal(started));
+  if (started.code < 0) {
     throw new Error("this browser cannot run the judge, which wants WebAssembly with a 64-bit memory (Chrome from 133, Firefox from 134); "
       + `tools/desk --serve needs none. It says: ${started.error}`);
   }
@@ -44,7 +44,10 @@ let ask;
 
 // What a code above 1 says, in words.
 function refusal(answer) {
-  if (answer.code === 5) return `The drawing is refused: number ${answer.number}` + (answer.place ? `, at byte ${answer.place}` : "");
+  if (answer.code === 5) {
+    const where = { 16: "part", 17: "bay" }[answer.number] || "byte";
+    return `The drawing is refused: number ${answer.number}` + (answer.place ? `, at ${where} ${answer.place}` : "");
+  }
   if (answer.code === 6) return `The input is refused: number ${answer.number}` + (answer.place ? `, line ${answer.place}` : "");
   if (answer.code === 8) return "There was not enough memory.";
   return `The judge gave no answer (${answer.code}): ${answer.error || ""}`;

@@ -50,22 +50,45 @@ function paintSteps() {
   if (last) $("steps").scrollTop = last.offsetTop - $("steps").offsetTop - 40;
 }
 
-function paintSwitches() {
-  const wanted = $("filter").value.toLowerCase();
-  const rows = switches.map((path) => {
-    const told = releases[path] || { rules: {} }, row = document.createElement("tr");
-    const text = [path, now()[path], told.rules.open, told.rules.close].join(" ").toLowerCase();
+// The rows of the list, by path; each is made once.
+const rows = new Map();
+
+function rowOf(path) {
+  if (!rows.has(path)) {
+    const row = document.createElement("tr");
     row.dataset.path = path;
-    row.hidden = !wanted.split(" ").every((word) => text.includes(word));
-    row.className = path === chosen ? "chosen" : "";
     added(row, "td", path.split("/").slice(1).join("/"));
-    added(row, "td", now()[path]);
-    for (const direction of ["open", "close"]) added(row, "td", told[direction] ? "1" : `0 ${told.rules[direction] || ""}`, told[direction] ? "yes" : "no");
+    for (let i = 0; i < 3; i++) added(row, "td", "");
     row.onclick = doing(() => { centre(path); return tell(path); });
     row.oncontextmenu = (event) => openMenu(event, path);
-    return row;
+    $("switches").append(row);
+    rows.set(path, { row, shows: null });
+  }
+  return rows.get(path);
+}
+
+function paintRow({ row, shows: { word, told } }) {
+  const cells = row.children;
+  cells[1].textContent = word;
+  ["open", "close"].forEach((direction, i) => {
+    cells[2 + i].textContent = told[direction] ? "1" : `0 ${told.rules[direction] || ""}`;
+    cells[2 + i].className = told[direction] ? "yes" : "no";
   });
-  $("switches").replaceChildren(...rows);
+}
+
+function paintSwitches() {
+  const wanted = $("filter").value.toLowerCase().split(" ");
+  for (const path of switches) {
+    const told = releases[path] || { rules: {} }, part = rowOf(path);
+    const text = [path, now()[path], told.rules.open, told.rules.close].join(" ").toLowerCase();
+    const hidden = !wanted.every((word) => text.includes(word));
+    if (part.row.hidden !== hidden) part.row.hidden = hidden;
+    part.row.classList.toggle("chosen", path === chosen);
+    const { shows } = part;
+    if (shows && shows.text === text && shows.told.open === told.open && shows.told.close === told.close) continue;
+    part.shows = { text, word: now()[path], told };
+    paintRow(part);
+  }
 }
 
 // The words that the picture cannot show beside its symbol.

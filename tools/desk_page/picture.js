@@ -3,30 +3,55 @@
 const GREY = ["#767676", 2, ""];
 const shownWord = (word) => (word === "on" || word === "off" ? word : "intermediate");
 
+// The parts of a picture that change, each with what it shows now: a picture is looked through once.
+const parts = new WeakMap();
+
+function partsOf(svg) {
+  if (!parts.has(svg)) {
+    const all = (selector, more = () => ({})) => [...svg.querySelectorAll(selector)].map((e) => ({ e, shows: null, ...more(e) }));
+    parts.set(svg, {
+      lines: all("[data-stroke]"), fills: all("[data-fill]"), words: all("[data-word]", (e) => ({ path: e.parentNode.dataset.path })),
+      switches: all(".switch", (e) => ({ titles: [...e.querySelectorAll("title")] })), marks: all("[data-mark]"),
+    });
+  }
+  return parts.get(svg);
+}
+
+// Shows something else where it does not show this already.
+function show(part, what, act) {
+  if (part.shows === what) return;
+  part.shows = what;
+  act(part);
+}
+
+function paintLine({ e, shows: [colour, width, dashes] }) {
+  e.setAttribute("stroke", colour);
+  if (e.tagName !== "polyline") return;
+  e.setAttribute("stroke-width", width + (e.hasAttribute("stroke-linecap") ? 2 : 0));
+  e.setAttribute("stroke-dasharray", dashes);
+}
+
+function paintTitle({ e, shows, titles }) {
+  titles.forEach((title) => { title.textContent = shows; });
+  e.setAttribute("aria-label", shows.replace(/\n/g, ", "));
+}
+
+const paintShown = ({ e, shows }) => { e.style.display = shows ? "" : "none"; };
+
 // Paints a picture by the words, the states of the nodes and the releases.
 function paint(svg, words, states, releases) {
-  const style = (number) => data.states[states[data.nodes[number]]] || GREY;
-  const all = (selector, act) => svg.querySelectorAll(selector).forEach(act);
-  all("[data-stroke]", (e) => {
-    const [colour, width, dashes] = style(e.dataset.stroke);
-    e.setAttribute("stroke", colour);
-    if (e.tagName === "polyline") {
-      e.setAttribute("stroke-width", width + (e.hasAttribute("stroke-linecap") ? 2 : 0));
-      e.setAttribute("stroke-dasharray", dashes);
-    }
-  });
-  all("[data-fill]", (e) => e.setAttribute("fill", style(e.dataset.fill)[0]));
-  all("[data-word]", (e) => { e.style.display = shownWord(words[e.parentNode.dataset.path]) === e.dataset.word ? "" : "none"; });
-  all(".switch", (e) => {
-    const path = e.dataset.path, told = releases[path], said = (d) => (told[d] ? "1" : `0, ${told.rules[d]}`);
-    const text = `${path}\nword: ${words[path]}` + (told ? `\nEnaOpn: ${said("open")}\nEnaCls: ${said("close")}` : "");
-    e.querySelectorAll("title").forEach((title) => { title.textContent = text; });
-    e.setAttribute("aria-label", text.replace(/\n/g, ", "));
-  });
-  all("[data-mark]", (e) => {
-    const told = releases[e.dataset.of];
-    e.style.display = told && told[e.dataset.mark] === (e.dataset.free === "1") ? "" : "none";
-  });
+  const all = partsOf(svg), styles = data.nodes.map((path) => data.states[states[path]] || GREY);
+  for (const part of all.lines) show(part, styles[part.e.dataset.stroke], paintLine);
+  for (const part of all.fills) show(part, styles[part.e.dataset.fill][0], ({ e, shows }) => e.setAttribute("fill", shows));
+  for (const part of all.words) show(part, shownWord(words[part.path]) === part.e.dataset.word, paintShown);
+  for (const part of all.switches) {
+    const path = part.e.dataset.path, told = releases[path], said = (d) => (told[d] ? "1" : `0, ${told.rules[d]}`);
+    show(part, `${path}\nword: ${words[path]}` + (told ? `\nEnaOpn: ${said("open")}\nEnaCls: ${said("close")}` : ""), paintTitle);
+  }
+  for (const part of all.marks) {
+    const told = releases[part.e.dataset.of];
+    show(part, Boolean(told) && told[part.e.dataset.mark] === (part.e.dataset.free === "1"), paintShown);
+  }
 }
 
 // The colours that occur, and what they mean.
