@@ -245,41 +245,69 @@ def answers(questions):
     return [(run.returncode, run.stdout, line and (int(line[1]), int(line[2] or 0))) for run, line in zip(runs, lines)]
 
 
-def words_of(question, folder, number):
-    """The commands whose texts the answer has, over files of these contents."""
-    positions = folder / f"{number}.csv"
-    given = question["positions"]
-    positions.write_bytes(given.encode() if isinstance(given, str) else bytes(given.values() if isinstance(given, dict) else given))
+def unknown_of(question):
+    """The rows of a question's positions, and the paths of the other switches whose positions are not known."""
+    rows = [line.rpartition(",") for line in question["positions"].splitlines()]
+    return rows, [path for path, _, word in rows if word not in ("off", "on") and path != question["path"]]
+
+
+def commands_of(question, folder, number):
+    """The commands whose texts the answer has, over files of these contents. What does not matter alone is no command: it
+    is asked by `explain` with each unknown switch off, and with it on."""
+    given, operation = question["positions"], ["close" if question.get("closes") else "open", question.get("path", "")]
+    given = given.encode() if isinstance(given, str) else bytes(given.values() if isinstance(given, dict) else given)
+
+    def file(name, content):
+        (folder / name).write_bytes(content)
+        return str(folder / name)
+
+    if question["asks"] == "whatever":
+        rows, unknown = unknown_of(question)
+        for number_of, path in enumerate(unknown):
+            for word in ("off", "on"):
+                text = "".join(f"{p},{word if p == path else w}\n" for p, _, w in rows)
+                yield ["explain", "STATION", file(f"{number}_{number_of}_{word}.csv", text.encode()), *operation]
+        return
+    positions = file(f"{number}.csv", given)
     if question["asks"] == "check":
-        return [["check", "STATION", positions], ["state", "STATION", positions]]
-    if question["asks"] == "order":
-        steps = folder / f"{number}.order"
-        steps.write_text(question["steps"])
-        return [["order", "STATION", positions, steps]]
-    return [["explain", "STATION", positions, "close" if question["closes"] else "open", question["path"]]]
+        yield ["check", "STATION", positions]
+        yield ["state", "STATION", positions]
+    elif question["asks"] == "order":
+        yield ["order", "STATION", positions, file(f"{number}.order", question["steps"].encode())]
+    else:
+        yield ["explain", "STATION", positions, *operation]
+
+
+def expected(question, given):
+    """The code, the texts and the refusal that the module is to answer where the program gives these answers."""
+    if question["asks"] == "whatever":
+        _, unknown = unknown_of(question)
+        denied = [text.startswith("denied") for _, text, _ in given]
+        lines = [f"whatever {path}\n" for path, off, on in zip(unknown, denied[::2], denied[1::2]) if off and on]
+        return 0, ["".join(lines)], None
+    status = max(-1 if answer[0] is None else answer[0] for answer in given)
+    return status, [text for _, text, _ in given] if status < 2 else [], given[0][2]
 
 
 def compared(runs, folder, refused=()):
     """Says for each station how many of its answers were held against the program's, and gives those that differ. `runs`
     has each station with its questions and answers, `refused` drawings with what opening them answered; the program is
     asked for all of them at once."""
-    asked = [["state", str(station), str(HERE / "double_busbar.csv")] for station, _ in refused]
-    owners = [(station, opened, 0) for station, opened in refused]
-    for station, heard in runs:
-        for question, answer in heard:
-            for place, words in enumerate(words_of(question, folder, len(asked))):
-                asked.append([str(station) if word == "STATION" else str(word) for word in words])
-                owners.append((station, answer, place))
-    wrong = {station: [] for station, _ in [*runs, *refused]}
-    for words, (station, answer, place), (status, text, line) in zip(asked, owners, answers(asked)):
-        said = answer["texts"][place] if answer["texts"] else ""
+    opened = [(station, {"asks": "opened"}, answer, [["state", "STATION", str(HERE / "double_busbar.csv")]]) for station, answer in refused]
+    pairs = [(station, question, answer) for station, heard in runs for question, answer in heard]
+    held = opened + [(*pair, list(commands_of(pair[1], folder, number))) for number, pair in enumerate(pairs)]
+    asked = [[str(station) if word == "STATION" else word for word in words] for station, _, _, commands in held for words in commands]
+    given, wrong = iter(answers(asked)), {}
+    for station, question, answer, commands in held:
+        code, texts, line = expected(question, [next(given) for _ in commands])
         told = (answer.get("number"), answer.get("place"))
-        if answer["code"] != status or said != text or (line and line != told):
-            wrong[station].append(f"the program says otherwise of {' '.join(words)}: {status} {line} {text[:200]!r}, the page {answer['code']} {told} {said[:200]!r}")
+        if answer["code"] != code or answer["texts"] != texts or (line and line != told):
+            said = f"the program says {code} {line} {str(texts)[:200]}, the page {answer['code']} {told} {str(answer['texts'])[:200]}"
+            wrong.setdefault(station, []).append(f"{station.name}: {question['asks']} {question.get('path', '')}: {said}")
     for station, heard in runs:
-        print(f"{station.stem}: {len(heard)} questions held against the program, {len(wrong[station])} texts differ", flush=True)
+        print(f"{station.stem}: {len(heard)} questions held against the program, {len(wrong.get(station, []))} differ", flush=True)
     if refused:
-        print(f"{len(refused)} drawings that are refused, {sum(len(wrong[station]) for station, _ in refused)} of them otherwise")
+        print(f"{len(refused)} drawings that are refused, {sum(len(wrong.get(station, [])) for station, _ in refused)} of them otherwise")
     return [line for lines in wrong.values() for line in lines]
 
 
@@ -363,7 +391,10 @@ def questions_of(station, count, seed):
         words = {path: chance.choice(known if number % 2 else known + ["intermediate", "bad", "lost"]) for path in paths}
         path = chance.choice(paths)
         yield {"asks": "check", "positions": text_of(words)}
-        yield {"asks": "explain", "positions": text_of(words), "closes": chance.random() < 0.5, "path": path}
+        closes = chance.random() < 0.5
+        yield {"asks": "explain", "positions": text_of(words), "closes": closes, "path": path}
+        if len(paths) < 50:
+            yield {"asks": "whatever", "positions": text_of(words), "closes": closes, "path": path}
         step = f"{'close' if words[path] == 'off' else 'open'} {path}\n"
         yield {"asks": "order", "positions": text_of(words), "steps": step + step.replace("close", "open")}
 

@@ -80,13 +80,19 @@ function wayLines(part, words) {
   return lines;
 }
 
-// The switches of the reading that alone do not change the answer: it is denied with each of them off, and with it on.
+// The unknown switches that alone do not change the answer: it is denied with each of them off, and with it on. The module
+// says which; the program is asked for both, of some of them.
 async function whatever(reading, direction, path) {
+  const asks = { positions: csv(now()), closes: direction === "close", path };
+  if (data.module) {
+    const answer = await ask({ ...asks, asks: "whatever" });
+    return answer.code === 0 ? linesOf(answer.texts[0]).map((line) => line.slice("whatever ".length)) : [];
+  }
   const found = [];
   for (const { path: open } of reading.slice(0, MOST_ASKED)) {
     let always = true;
     for (const word of ["off", "on"]) {
-      const answer = await ask({ asks: "explain", positions: csv({ ...now(), [open]: word }), closes: direction === "close", path });
+      const answer = await ask({ ...asks, asks: "explain", positions: csv({ ...now(), [open]: word }) });
       always = always && answer.code === 0 && denialOf(answer.texts[0]) !== null;
       if (!always) break;
     }

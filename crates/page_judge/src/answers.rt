@@ -3,7 +3,7 @@ ghost use Rattle.std.specs.Prelude.{◌≡◌, false, IfOk, IfErr};
 ghost use Rattle.ilk_base.specs.Inputs.{ForRefused};
 ghost use Rattle.station_graph.specs.Alike.{IsVector};
 ghost use Rattle.switching_orders.specs.OrderRuling.{AreOperations};
-ghost use Rattle.page_judge.specs.Questions.{IsStart, SaysCheck, SaysState, SaysExplain, SaysOrder};
+ghost use Rattle.page_judge.specs.Questions.{IsStart, SaysCheck, SaysState, SaysExplain, SaysWhatever, SaysOrder};
 ghost use Rattle.page_judge.specs.Questions.{RefusesPositions, RefusesExplain, RefusesStart, RefusesOrder};
 
 use double_points::read_positions;
@@ -15,6 +15,7 @@ use station_graph::{Station, Vector};
 use station_state::state_text;
 use std::alloc::Global;
 use switching_orders::{certain_positions, order_text, read_order};
+use whatever_text::whatever_text;
 
 /// A text, and whether what was judged differs from the rules.
 #[derive(Drop)]
@@ -76,6 +77,25 @@ pub(crate) fn explain_answer(
     };
     let op = Op { switch, direction };
     Ok(plain(explain_text(alloc, judge.station(), judge, &readings, op)?))
+}
+
+// What does not matter alone to moving the switch of this path.
+pub(crate) fn whatever_answer(
+    alloc: Global,
+    judge: &GraphJudge,
+    positions: &[u8],
+    direction: Direction,
+    path: &[u8],
+) -> Result<Answer, InputFault>
+    ensures ok { IfOk result (λ a. SaysWhatever judge.now.diagram positions.now direction path.now a.differs a.text) }
+    ensures err { IfErr result (λ e. ForRefused e (RefusesExplain judge.now.diagram positions.now path.now)) }
+{
+    let readings = read_positions(alloc, judge.station(), positions)?;
+    let Some(switch) = switch_of_path(judge.station(), path) else {
+        return Err(InputFault::refused(11, 0));
+    };
+    let op = Op { switch, direction };
+    Ok(plain(whatever_text(alloc, judge.station(), judge, &readings, op)?))
 }
 
 // The vector that these positions say.

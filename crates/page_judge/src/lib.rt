@@ -16,7 +16,7 @@ mod parts;
 mod told;
 
 pub use answers::Answer;
-pub use asked::{page_check, page_explain, page_order, page_state};
+pub use asked::{page_check, page_explain, page_order, page_state, page_whatever};
 pub use desk::Desk;
 pub use kept::Kept;
 pub use opening::{page_close, page_open};
