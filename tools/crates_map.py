@@ -45,9 +45,10 @@ LAYERS = [
           "`release_compile/src/judge.rt`.",
           "contraction bay_contract decision_graphs judge_pool judge_intake judge_graphs release_compile"),
     Layer("two stations",
-          "Begin with `station_changes/specs/Compare.antt`, what an extension changes, and then `step_graphs/specs/Moved.antt`. "
-          "No command stands on these crates yet.",
-          "station_changes release_dependence graph_products graph_walks step_graphs station_joints change_search"),
+          "Begin with `station_changes/specs/Compare.antt`, what an extension changes, and then "
+          "`station_compare/src/compare.rt`; and `commissioning_tests`, what is tested of a bay.",
+          "station_changes release_dependence graph_products graph_walks step_graphs station_joints change_search "
+          "station_compare dependence_search commissioning_tests"),
     Layer("bay",
           "Begin with `bay_protocol/specs/Step.antt`: each constructor is one rule of what a bay does at an event.",
           "bay_frames bay_protocol bay_node node_session node_store stored_session"),
@@ -57,7 +58,7 @@ LAYERS = [
     Layer("commands",
           "Begin with the command that you know; each has its definitions in `specs` and one public call.",
           "command_words release_texts whatever_text exchange_plan station_equations equation_text station_make station_work interlock_terms "
-          "short_equations structured_text program_text station_lines drawing_remarks"),
+          "short_equations structured_text program_text station_lines drawing_remarks compare_text tests_text"),
     Layer("top",
           "Begin with `interlock_cli/src/top.rt`, where the words of a command become its work.",
           "interlock_cli program_edge interlock page_judge"),

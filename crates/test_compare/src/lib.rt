@@ -2,6 +2,12 @@
 #![tactic(auto)]
 
 #[cfg(test)]
+mod drawn;
+#[cfg(test)]
 mod labels;
 #[cfg(test)]
 mod steps;
+#[cfg(test)]
+mod texts;
+#[cfg(test)]
+mod words;

@@ -1,0 +1,7 @@
+mod WordLemmas
+mod LoneLemmas
+mod TwinLemmas
+mod ExtendLemmas
+mod BayLemmas
+mod ListLemmas
+mod MirrorLemmas

@@ -1,0 +1,22 @@
+use Rattle.std.proofs.Common.{List, subst}
+use Rattle.judge_pool.specs.declared.view.View.TheVariants.{Gap, Load}
+use Rattle.step_graphs.specs.declared.step.Step.{Step}
+use Rattle.station_compare.specs.Walking.{IsStockIn}
+use Rattle.station_compare.proofs.stocks.stocks_of.Goals as goal
+
+pub returns : goal.returns
+returns c =
+    let o = c.args.old.now in
+    let n = c.args.new.now in
+    let olds = c.as_slice-olds.ensures.value in
+    let news = c.as_slice-news.ensures.value in
+    record {
+      old_gap =
+          subst (λ (xs : List Step). IsStockIn Gap o xs c.in_ok-old_gap.old_gap) olds c.in_ok-old_gap.ensures;
+      new_gap =
+          subst (λ (xs : List Step). IsStockIn Gap n xs c.in_ok-new_gap.new_gap) news c.in_ok-new_gap.ensures;
+      old_load =
+          subst (λ (xs : List Step). IsStockIn Load o xs c.in_ok-old_load.old_load) olds c.in_ok-old_load.ensures;
+      new_load =
+          subst (λ (xs : List Step). IsStockIn Load n xs c.in_ok-new_load.new_load) news c.in_ok-new_load.ensures;
+    }

@@ -1,0 +1,36 @@
+-- What the walks of two stations are made of, and what is reached in them.
+use Rattle.std.specs.Prelude.{◌≡◌, ℕ}
+use Rattle.station_graph.specs.Diagram.{Diagram}
+use Rattle.judge_pool.specs.declared.view.View.{View}
+use Rattle.judge_pool.specs.declared.view.View.TheVariants.{Gap, Load}
+use Rattle.step_graphs.specs.declared.graph.StepStock.{StepStock}
+use Rattle.step_graphs.specs.Ready.{IsStepStock}
+use Rattle.std.specs.Prelude.{List}
+use Rattle.step_graphs.specs.declared.step.Step.{Step}
+use Rattle.station_joints.specs.declared.joint.JointSteps.{JointSteps}
+use Rattle.change_search.specs.Telling.{IsSwitchWalk}
+use Rattle.change_search.specs.Searching.{HaveReached}
+use Rattle.change_search.specs.Showing.{AllowIsolating, AllowAll}
+use Rattle.station_compare.specs.declared.stocks.Stocks.{Stocks}
+use Rattle.station_compare.specs.declared.walked.Walked.{Walked}
+
+-- The stock is that of these steps in this view.
+pub record IsStockIn (view : View) (d : Diagram) (steps : List Step) (s : StepStock) : Type 0 where
+  pub stock : IsStepStock d steps s
+  pub seen : s.pool.view ≡ view
+
+-- The stocks are those of both stations in both views.
+pub record AreStocks (o n : Diagram) (j : JointSteps) (s : Stocks) : Type 0 where
+  pub old_gap : IsStockIn Gap o j.old_steps.items s.old_gap
+  pub new_gap : IsStockIn Gap n j.new_steps.items s.new_gap
+  pub old_load : IsStockIn Load o j.old_steps.items s.old_load
+  pub new_load : IsStockIn Load n j.new_steps.items s.new_load
+
+-- The walk of switch i of the old station and switch k of the new one, whose steps stand at place b, and what isolating
+-- choices and all choices reach in it.
+pub record IsWalked (o n : Diagram) (j : JointSteps) (b i k : ℕ) (w : Walked) : Type 0 where
+  pub walk : IsSwitchWalk o n j.old_steps.items j.new_steps.items b i k w.walk.graph w.walk.codes.items
+  pub isolated : HaveReached w.walk.graph w.isolated.sets w.isolated.marks
+  pub isolating : AllowIsolating j.old_steps.items j.new_steps.items b w.isolated.sets
+  pub all : HaveReached w.walk.graph w.all.sets w.all.marks
+  pub allowed : AllowAll j.old_steps.items w.all.sets

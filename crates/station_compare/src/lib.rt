@@ -1,0 +1,21 @@
+//! Two stations compared: for each operation that both have, what the new station judges otherwise, and in which positions
+//! of all switches; and whether the new one extends the old one.
+#![tactic(auto)]
+
+mod bays;
+mod compare;
+mod extends;
+mod found;
+mod laws;
+mod operation;
+mod stocks;
+mod switch;
+mod walked;
+mod word;
+
+pub use bays::{BayWord, BayWords};
+pub use compare::{CompareRefusal, compare_stations};
+pub use found::{Comparison, Found, OperationChanges, RuleChanges, SwitchChanges};
+pub use laws::comparison_turned_round;
+pub use walked::WALK_EDGES;
+pub use word::{Word, word_says};

@@ -1,0 +1,171 @@
+//! The walk of a switch that two stations have, and what is reached in it.
+ghost use Rattle.std.specs.Prelude.{◌≡◌, ◌+◌, ◌<◌, ◌^◌, suc, true, length, map, replicate, IfOk, OnOk};
+ghost use Rattle.station_graph.specs.Connection.{a_switch};
+ghost use Rattle.station_changes.specs.Compare.{SameSwitch};
+ghost use Rattle.decision_graphs.specs.Label.{Layer};
+ghost use Rattle.graph_walks.specs.Walks.{HasTwos, IsWalkOf, set_for};
+ghost use Rattle.step_graphs.specs.Steps.{TakesIn};
+ghost use Rattle.station_joints.specs.Joined.{HaveJointSteps};
+ghost use Rattle.change_search.specs.Telling.{IsSwitchWalk};
+ghost use Rattle.change_search.specs.Searching.{HaveReached};
+ghost use Rattle.station_compare.specs.Walking.{AreStocks, IsWalked};
+
+use crate::stocks::Stocks;
+use change_search::{Reached, free_steps, free_steps_allow};
+use decision_graphs::{Graph, Marks};
+use graph_products::ProductTrouble;
+use graph_walks::{Walk, allowed_sets, walk_of};
+use ilk_base::{Memory, SwitchId};
+use judge_pool::Trouble;
+use station_graph::Station;
+use station_joints::JointSteps;
+use std::alloc::Global;
+use step_graphs::moved_graph;
+
+/// How many edges a walk may have, and each graph that is walked before it is reduced.
+pub const WALK_EDGES: usize = 8_000_000;
+
+// The walk of a switch, and what isolating choices and all choices reach in it.
+#[derive(Drop)]
+pub(crate) struct Walked {
+    pub(crate) walk: Walk,
+    pub(crate) isolated: Reached,
+    pub(crate) all: Reached,
+}
+
+// The four graphs of this many layers, walked together.
+fn walk_together(
+    alloc: Global,
+    old_gap: &Graph,
+    new_gap: &Graph,
+    old_load: &Graph,
+    new_load: &Graph,
+    others: u16,
+) -> Result<Walk, Trouble>
+    requires old_gap { HasTwos others old_gap.now }
+    requires new_gap { HasTwos others new_gap.now }
+    requires old_load { HasTwos others old_load.now }
+    requires new_load { HasTwos others new_load.now }
+    ensures { IfOk result (λ w. IsWalkOf old_gap.now new_gap.now old_load.now new_load.now others w.graph
+        w.codes.items) }
+{
+    match walk_of(
+        alloc, old_gap, new_gap, old_load, new_load, others, WALK_EDGES,
+    ) {
+        Ok(walk) => Ok(walk),
+        Err(ProductTrouble::Memory) => Err(Trouble::Memory),
+        Err(ProductTrouble::Wide) => Err(Trouble::Wide),
+    }
+}
+
+// The walk of a switch that both stations have, whose steps stand at this place.
+fn switch_walk(
+    alloc: Global,
+    stocks: &mut Stocks,
+    old: &Station,
+    new: &Station,
+    steps: &JointSteps,
+    place: u16,
+    id: SwitchId,
+    new_id: SwitchId,
+) -> Result<Walk, Trouble>
+    requires stocks { AreStocks old.now new.now steps.now stocks.old }
+    requires steps { HaveJointSteps old.now new.now steps.now }
+    requires old_at { TakesIn steps.now.old_steps.items place (a_switch id.0) }
+    requires new_at { TakesIn steps.now.new_steps.items place (a_switch new_id.0) }
+    requires some { 1 < length steps.now.old_steps.items }
+    ensures stocks { OnOk result (AreStocks old.now new.now steps.now stocks.new) }
+    ensures walk { IfOk result (λ w. IsSwitchWalk old.now new.now steps.now.old_steps.items steps.now.new_steps.items
+        place id.0 new_id.0 w.graph w.codes.items) }
+{
+    let olds = steps.old_steps.as_slice();
+    let news = steps.new_steps.as_slice();
+    let others = (olds.len() - 1) as u16;
+    let old_gap = moved_graph(alloc, &mut stocks.old_gap, old, olds, place, id, WALK_EDGES)?;
+    let new_gap = moved_graph(
+        alloc,
+        &mut stocks.new_gap,
+        new,
+        news,
+        place,
+        new_id,
+        WALK_EDGES,
+    )?;
+    let old_load = moved_graph(
+        alloc,
+        &mut stocks.old_load,
+        old,
+        olds,
+        place,
+        id,
+        WALK_EDGES,
+    )?;
+    let new_load = moved_graph(
+        alloc,
+        &mut stocks.new_load,
+        new,
+        news,
+        place,
+        new_id,
+        WALK_EDGES,
+    )?;
+    let walk = walk_together(alloc, &old_gap, &new_gap, &old_load, &new_load, others)?;
+    Ok(walk)
+}
+
+// What is reached in a walk where these layers are free.
+fn reached(alloc: Global, walk: &Walk, free: &[bool]) -> Result<Reached, Memory>
+    requires { map (λ (x : Layer). x.choices) walk.now.graph.layers ≡ replicate (length free.now) 2 }
+    ensures reached { IfOk result (λ r. HaveReached walk.now.graph r.sets r.marks) }
+    ensures sets { IfOk result (λ r. r.sets ≡ map set_for free.now) }
+{
+    let sets = allowed_sets(alloc, &walk.graph, free)?;
+    let mut marks = Marks::new(alloc, &walk.graph)?;
+    walk.graph.reach(&sets, &mut marks);
+    Ok(Reached { sets, marks })
+}
+
+// So many free layers.
+fn all_free(alloc: Global, others: u16) -> Result<Vec<bool>, Memory>
+    ensures { IfOk result (λ v. v.items ≡ replicate others true) }
+{
+    let mut free = Vec::new(alloc);
+    free.resize(usize::from(others), true)?;
+    Ok(free)
+}
+
+// The walk of a switch that both stations have, and what is reached in it.
+pub(crate) fn walk_switch(
+    alloc: Global,
+    stocks: &mut Stocks,
+    old: &Station,
+    new: &Station,
+    steps: &JointSteps,
+    place: u16,
+    id: SwitchId,
+    new_id: SwitchId,
+) -> Result<Walked, Trouble>
+    requires stocks { AreStocks old.now new.now steps.now stocks.old }
+    requires steps { HaveJointSteps old.now new.now steps.now }
+    requires same { SameSwitch old.now new.now id.0 new_id.0 }
+    requires old_at { TakesIn steps.now.old_steps.items place (a_switch id.0) }
+    requires some { 1 < length steps.now.old_steps.items }
+    ensures stocks { OnOk result (AreStocks old.now new.now steps.now stocks.new) }
+    ensures walked { IfOk result (IsWalked old.now new.now steps.now place id.0 new_id.0) }
+{
+    new.is_station();
+    // what the free layers allow
+    free_steps_allow();
+    let olds = steps.old_steps.as_slice();
+    let news = steps.new_steps.as_slice();
+    let walk = switch_walk(alloc, stocks, old, new, steps, place, id, new_id)?;
+    let free = free_steps(alloc, olds, news, place)?;
+    let isolated = reached(alloc, &walk, &free)?;
+    let open = all_free(alloc, (olds.len() - 1) as u16)?;
+    let all = reached(alloc, &walk, &open)?;
+    Ok(Walked {
+        walk,
+        isolated,
+        all,
+    })
+}
