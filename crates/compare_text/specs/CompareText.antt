@@ -52,7 +52,8 @@ with_line side path = codes "with " ++ side ++ codes " " ++ path ++ codes "\n"
 
 -- That of switch k of the new station, where it is closed and is not the moved one.
 abbrev pub new_with : Diagram → ℕ → Found → Bool → ℕ → List ℕ
-new_with n moved f closed k = if k == moved then [] else (if closed then with_line (side_name f) (switch_path n k) else [])
+new_with n moved f closed k =
+    if k == moved then [] else (if closed then with_line (side_name f) (switch_path n k) else [])
 
 -- The same, of what is found of switch k.
 abbrev pub new_with_of : Diagram → ℕ → Option Found → Bool → ℕ → List ℕ

@@ -152,7 +152,9 @@ module _ (o n : Diagram) (is_o : IsStation o) (k : ℕ) where
     either_word : (a b : Op) (x : Word) → IsCommonOf o n Only a b → IsWord o n a b x → (d : Direction) →
         a.direction ≡ d → worse x (switch_word s) ≡ switch_word s
     either_word a b x c is ToOff e =
-        let old = one_same o n a.switch.0 s.old.0 k is_o (subst (λ j. SameSwitch o n a.switch.0 j) c.among c.common.switch) are.same in
+        let old =
+        one_same o n a.switch.0 s.old.0 k is_o
+        (subst (λ j. SameSwitch o n a.switch.0 j) c.among c.common.switch) are.same in
         let there : IsWord o n (opening s.old.0) (opening k) x =
         subst (λ (y : Op). IsWord o n y (opening k) x) (sym (opened a e) ∙ ap opening old)
         (subst (λ (y : Op). IsWord o n a y x) (sym (opened b (sym c.common.direction ∙ e)) ∙ ap opening c.among) is) in
@@ -160,7 +162,9 @@ module _ (o n : Diagram) (is_o : IsStation o) (k : ℕ) where
         (one_word o n (opening s.old.0) (opening k) (word_of s.opening) x open_word there)
         (worse_first (word_of s.opening) (word_of s.closing))
     either_word a b x c is ToOn e =
-        let old = one_same o n a.switch.0 s.old.0 k is_o (subst (λ j. SameSwitch o n a.switch.0 j) c.among c.common.switch) are.same in
+        let old =
+        one_same o n a.switch.0 s.old.0 k is_o
+        (subst (λ j. SameSwitch o n a.switch.0 j) c.among c.common.switch) are.same in
         let there : IsWord o n (closing s.old.0) (closing k) x =
         subst (λ (y : Op). IsWord o n y (closing k) x) (sym (closed a e) ∙ ap closing old)
         (subst (λ (y : Op). IsWord o n a y x) (sym (closed b (sym c.common.direction ∙ e)) ∙ ap closing c.among) is) in

@@ -5,3 +5,4 @@ mod ExtendLemmas
 mod BayLemmas
 mod ListLemmas
 mod MirrorLemmas
+mod WideLemmas

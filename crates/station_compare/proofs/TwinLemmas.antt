@@ -4,7 +4,8 @@ use Rattle.std.proofs.lemmas.Option.{slice_get_within, slice_get-get_or, same_So
 use Rattle.station_graph.specs.declared.items.Switch.{Switch}
 use Rattle.station_graph.specs.Diagram.{Diagram, IsStation, switch_path}
 use Rattle.station_changes.specs.Compare.{SameSwitch}
-use Rattle.station_compare.specs.Comparing.{HasTwin, HasCommon}
+use Rattle.station_compare.specs.Width.{IsWideSwitch}
+use Rattle.station_compare.specs.Comparing.{IsWideBay}
 
 path_at : (d : Diagram) (i : ℕ) → IsStation d → i < length d.switches →
     slice_get d.switch_paths i ≡ Some (switch_path d i)
@@ -15,12 +16,12 @@ one_same o n i j k is a b =
     is.paths_differ.switches i j (switch_path o i) (path_at o i is (slice_get_within o.switches i a.old a.old_at))
     (path_at o j is (slice_get_within o.switches j b.old b.old_at) ∙ ap Some (b.path ∙ sym a.path))
 
--- the bay of a switch that both stations have
-pub common_bay : (o n : Diagram) (k : ℕ) (x : Switch) → HasTwin o n k → slice_get n.switches k ≡ Some x →
-    HasCommon o n x.bay.0
-common_bay o n k x (i, same) at = record {
+-- the bay of a switch whose walk is too wide
+pub wide_bay : (o n : Diagram) (k : ℕ) (x : Switch) → IsWideSwitch o n k → slice_get n.switches k ≡ Some x →
+    IsWideBay o n x.bay.0
+wide_bay o n k x (i, wide) at = record {
   old = i;
   new = k;
-  same = same;
-  of_bay = ap (λ (y : Switch). y.bay.0) (same_Some same.new x (sym same.new_at ∙ at));
+  too_wide = wide;
+  of_bay = ap (λ (y : Switch). y.bay.0) (same_Some wide.same.new x (sym wide.same.new_at ∙ at));
 }

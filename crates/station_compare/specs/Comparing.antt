@@ -9,6 +9,7 @@ use Rattle.station_changes.specs.declared.change.Change.TheVariants.{Stricter, L
 use Rattle.station_changes.specs.Compare.{SameSwitch, IsPart}
 use Rattle.change_search.specs.Showing.{witness_of}
 use Rattle.station_compare.specs.Each.{AreEach}
+use Rattle.station_compare.specs.Width.{IsTooWide}
 use Rattle.station_compare.specs.declared.compare.CompareRefusal.{CompareRefusal}
 use Rattle.station_compare.specs.declared.compare.CompareRefusal.TheVariants.{Memory, Wide}
 use Rattle.station_compare.specs.declared.found.RuleChanges.{RuleChanges}
@@ -42,10 +43,6 @@ pub record AreSwitchChanges (o n : Diagram) (k : ℕ) (c : SwitchChanges) : Type
   pub opened : AreChanges o n (opening c.old.0) (opening k) c.opening
   pub closed : AreChanges o n (closing c.old.0) (closing k) c.closing
 
--- The old station has switch k of the new one too.
-abbrev pub HasTwin : Diagram → Diagram → ℕ → Type 0
-HasTwin o n k = (i : ℕ) × SameSwitch o n i k
-
 -- What is found of switch k of the new station.
 abbrev pub IsFound : Diagram → Diagram → ℕ → Found → Type 0
 IsFound o n k OnlyNew = (i : ℕ) → ¬ SameSwitch o n i k
@@ -69,17 +66,17 @@ pub record IsComparison (o n : Diagram) (c : Comparison) : Type 0 where
   pub here : AreHere o n c.here.items
   pub gone : AreGone o n c.gone.items
 
--- The bay has a switch that both stations have.
-pub record HasCommon (o n : Diagram) (bay : ℕ) : Type 0 where
+-- The walk of a switch of this bay is too wide.
+pub record IsWideBay (o n : Diagram) (bay : ℕ) : Type 0 where
   pub old : ℕ
   pub new : ℕ
-  pub same : SameSwitch o n old new
-  pub of_bay : same.new.bay.0 ≡ bay
+  pub too_wide : IsTooWide o n old new
+  pub of_bay : too_wide.same.new.bay.0 ≡ bay
 
 -- Why two stations are not compared: the walk of a switch of this bay is too wide.
 abbrev pub IsRefusal : Diagram → Diagram → CompareRefusal → Type 0
 IsRefusal o n Memory = ⊤
-IsRefusal o n (Wide bay) = HasCommon o n bay.0
+IsRefusal o n (Wide bay) = IsWideBay o n bay.0
 
 -- No position shows a change of the operation.
 abbrev pub no_rule_changes : RuleChanges

@@ -1,4 +1,5 @@
 pub mod Each
+pub mod Width
 pub mod Words
 pub mod Comparing
 pub mod Bays

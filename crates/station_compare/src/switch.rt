@@ -5,8 +5,9 @@ ghost use Rattle.station_graph.specs.Connection.{a_switch};
 ghost use Rattle.station_changes.specs.Compare.{SameSwitch};
 ghost use Rattle.step_graphs.specs.Steps.{TakesIn};
 ghost use Rattle.station_joints.specs.Joined.{HaveJointSteps};
-ghost use Rattle.station_compare.specs.Comparing.{AreSwitchChanges, HasTwin, IsFound, no_changes};
+ghost use Rattle.station_compare.specs.Comparing.{AreSwitchChanges, IsFound, no_changes};
 ghost use Rattle.station_compare.specs.Walking.{AreStocks};
+ghost use Rattle.station_compare.specs.Width.{IsTooWide, IsWideSwitch};
 
 use crate::found::{Found, OperationChanges, RuleChanges, SwitchChanges};
 use crate::operation::operation_changes;
@@ -78,6 +79,7 @@ fn moved_switch(
     requires some { 1 < length steps.now.old_steps.items }
     ensures stocks { OnOk result (AreStocks old.now new.now steps.now stocks.new) }
     ensures changes { IfOk result (AreSwitchChanges old.now new.now new_id.0) }
+    ensures wide { IfErr result (λ e. e ≡ Wide → IsTooWide old.now new.now id.0 new_id.0) }
 {
     let walked = walk_switch(alloc, stocks, old, new, steps, place, id, new_id)?;
     let open = Op {
@@ -120,6 +122,7 @@ fn switch_changes(
     requires same { SameSwitch old.now new.now id.0 new_id.0 }
     ensures stocks { OnOk result (AreStocks old.now new.now steps.now stocks.new) }
     ensures changes { IfOk result (AreSwitchChanges old.now new.now new_id.0) }
+    ensures wide { IfErr result (λ e. e ≡ Wide → IsTooWide old.now new.now id.0 new_id.0) }
 {
     if steps.old_steps.len() == 1 {
         return Ok(lone_switch(old, new, steps, id, new_id));
@@ -142,7 +145,7 @@ pub(crate) fn found_of(
     requires within { new_id.0 < length new.now.switches }
     ensures stocks { OnOk result (AreStocks old.now new.now steps.now stocks.new) }
     ensures found { IfOk result (IsFound old.now new.now new_id.0) }
-    ensures wide { IfErr result (λ e. e ≡ Wide → HasTwin old.now new.now new_id.0) }
+    ensures wide { IfErr result (λ e. e ≡ Wide → IsWideSwitch old.now new.now new_id.0) }
 {
     match same_switch(new, old, new_id) {
         None => Ok(Found::OnlyNew),

@@ -1,14 +1,16 @@
 //! The walk of a switch that two stations have, and what is reached in it.
-ghost use Rattle.std.specs.Prelude.{◌≡◌, ◌+◌, ◌<◌, ◌^◌, suc, true, length, map, replicate, IfOk, OnOk};
+ghost use Rattle.std.specs.Prelude.{◌≡◌, ◌+◌, ◌<◌, ◌^◌, suc, true, length, map, replicate, IfOk, IfErr, OnOk};
 ghost use Rattle.station_graph.specs.Connection.{a_switch};
 ghost use Rattle.station_changes.specs.Compare.{SameSwitch};
 ghost use Rattle.decision_graphs.specs.Label.{Layer};
-ghost use Rattle.graph_walks.specs.Walks.{HasTwos, IsWalkOf, set_for};
+ghost use Rattle.graph_walks.specs.Walks.{HasTwos, IsWalkOf, IsWideWalk, set_for};
 ghost use Rattle.step_graphs.specs.Steps.{TakesIn};
 ghost use Rattle.station_joints.specs.Joined.{HaveJointSteps};
 ghost use Rattle.change_search.specs.Telling.{IsSwitchWalk};
 ghost use Rattle.change_search.specs.Searching.{HaveReached};
 ghost use Rattle.station_compare.specs.Walking.{AreStocks, IsWalked};
+ghost use Rattle.judge_pool.specs.declared.layer.Trouble.TheVariants.{Wide};
+ghost use Rattle.station_compare.specs.Width.{IsWideAt, IsTooWide};
 
 use crate::stocks::Stocks;
 use change_search::{Reached, free_steps, free_steps_allow};
@@ -46,8 +48,10 @@ fn walk_together(
     requires new_gap { HasTwos others new_gap.now }
     requires old_load { HasTwos others old_load.now }
     requires new_load { HasTwos others new_load.now }
-    ensures { IfOk result (λ w. IsWalkOf old_gap.now new_gap.now old_load.now new_load.now others w.graph
+    ensures walk { IfOk result (λ w. IsWalkOf old_gap.now new_gap.now old_load.now new_load.now others w.graph
         w.codes.items) }
+    ensures wide { IfErr result (λ e. e ≡ Wide →
+        IsWideWalk old_gap.now new_gap.now old_load.now new_load.now others WALK_EDGES) }
 {
     match walk_of(
         alloc, old_gap, new_gap, old_load, new_load, others, WALK_EDGES,
@@ -77,6 +81,8 @@ fn switch_walk(
     ensures stocks { OnOk result (AreStocks old.now new.now steps.now stocks.new) }
     ensures walk { IfOk result (λ w. IsSwitchWalk old.now new.now steps.now.old_steps.items steps.now.new_steps.items
         place id.0 new_id.0 w.graph w.codes.items) }
+    ensures wide { IfErr result (λ e. e ≡ Wide → IsWideAt old.now new.now steps.now.old_steps.items
+        steps.now.new_steps.items place id.0 new_id.0) }
 {
     let olds = steps.old_steps.as_slice();
     let news = steps.new_steps.as_slice();
@@ -152,6 +158,7 @@ pub(crate) fn walk_switch(
     requires some { 1 < length steps.now.old_steps.items }
     ensures stocks { OnOk result (AreStocks old.now new.now steps.now stocks.new) }
     ensures walked { IfOk result (IsWalked old.now new.now steps.now place id.0 new_id.0) }
+    ensures wide { IfErr result (λ e. e ≡ Wide → IsTooWide old.now new.now id.0 new_id.0) }
 {
     new.is_station();
     // what the free layers allow

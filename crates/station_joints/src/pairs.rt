@@ -168,7 +168,8 @@ pub(crate) fn take_new_taps(
     ensures { OnOk result (ArePairs old.now new.now (Olds old.now new.now (length new.now.switches)
         (length old.now.switches) 0 0)
         (News (length new.now.switches) (length new.now.links) (length new.now.taps))
-        (length new.now.switches + length old.now.switches + length new.now.links + length new.now.taps) pairs.new.items) }
+        (length new.now.switches + length old.now.switches + length new.now.links + length new.now.taps)
+        pairs.new.items) }
 {
     let _old = old.switch_count();
     for i in 0..new.tap_count() {
@@ -193,11 +194,13 @@ pub(crate) fn take_old_links(
     requires pairs { ArePairs old.now new.now (Olds old.now new.now (length new.now.switches)
         (length old.now.switches) 0 0)
         (News (length new.now.switches) (length new.now.links) (length new.now.taps))
-        (length new.now.switches + length old.now.switches + length new.now.links + length new.now.taps) pairs.old.items }
+        (length new.now.switches + length old.now.switches + length new.now.links + length new.now.taps)
+        pairs.old.items }
     ensures { OnOk result (ArePairs old.now new.now (Olds old.now new.now (length new.now.switches)
         (length old.now.switches) (length old.now.links) 0)
         (News (length new.now.switches) (length new.now.links) (length new.now.taps))
-        (length new.now.switches + length old.now.switches + length new.now.links + length new.now.taps + length old.now.links) pairs.new.items) }
+        (length new.now.switches + length old.now.switches + length new.now.links + length new.now.taps
+        + length old.now.links) pairs.new.items) }
 {
     let _new = new.switch_count();
     for i in 0..old.link_count() {
@@ -222,11 +225,13 @@ pub(crate) fn take_old_taps(
     requires pairs { ArePairs old.now new.now (Olds old.now new.now (length new.now.switches)
         (length old.now.switches) (length old.now.links) 0)
         (News (length new.now.switches) (length new.now.links) (length new.now.taps))
-        (length new.now.switches + length old.now.switches + length new.now.links + length new.now.taps + length old.now.links) pairs.old.items }
+        (length new.now.switches + length old.now.switches + length new.now.links + length new.now.taps
+        + length old.now.links) pairs.old.items }
     ensures { OnOk result (ArePairs old.now new.now (Olds old.now new.now (length new.now.switches)
         (length old.now.switches) (length old.now.links) (length old.now.taps))
         (News (length new.now.switches) (length new.now.links) (length new.now.taps))
-        (length new.now.switches + length old.now.switches + length new.now.links + length new.now.taps + length old.now.links + length old.now.taps) pairs.new.items) }
+        (length new.now.switches + length old.now.switches + length new.now.links + length new.now.taps
+        + length old.now.links + length old.now.taps) pairs.new.items) }
 {
     let _new = new.switch_count();
     for i in 0..old.tap_count() {

@@ -2,6 +2,8 @@ pub mod Spread
 pub mod SpreadViews
 pub mod SpreadParts
 pub mod StepLemmas
+pub mod ViewTransfer
 pub mod StepFits
+pub mod StepEdges
 pub mod StepSays
 pub mod EndLemmas

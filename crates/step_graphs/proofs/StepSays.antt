@@ -1,16 +1,14 @@
 -- The labels of a moved switch's graph say what holds of the switch.
-use Rattle.std.proofs.Common.{◌≡◌, ◌≢◌, ℕ, ◌+◌, ◌<◌, ◌↔◌, suc, Bool, List, [], ◌∷◌, length, map, eqb, slice_get}
-use Rattle.std.proofs.Common.{Some, refl, sym, ap, ◌∙◌, subst, inl, inr, arith}
-use Rattle.std.proofs.lemmas.Bool.{cases_eq}
+use Rattle.std.proofs.Common.{◌≡◌, ◌≢◌, ℕ, ◌<◌, suc, Bool, List, [], ◌∷◌, length, map, slice_get}
+use Rattle.std.proofs.Common.{refl, sym, ap, ◌∙◌, subst, inl, inr, arith}
 use Rattle.std.proofs.lemmas.Option.{slice_get_within, same_Some}
 use Rattle.station_graph.specs.Diagram.{Diagram}
 use Rattle.station_graph.specs.Connection.{Item, a_switch}
 use Rattle.station_graph.specs.Sharing.{Touches, TouchedBy}
 use Rattle.station_graph.specs.Alike.{IsVector}
-use Rattle.contraction.specs.Answers.{Answers, Keeps}
+use Rattle.contraction.specs.Answers.{Answers}
 use Rattle.contraction.specs.Stands.{Among, AllBut, IsItem}
-use Rattle.decision_graphs.specs.Label.{Layer, Layered, layer_at, leads, label_of, AreChoices}
-use Rattle.judge_pool.specs.declared.view.View.{View}
+use Rattle.decision_graphs.specs.Label.{Layer, Layered, layer_at, leads, label_of}
 use Rattle.judge_pool.specs.declared.pool.Pool.{Pool}
 use Rattle.judge_pool.specs.Seen.{SeenFor}
 use Rattle.judge_pool.specs.Folding.{IsExact}
@@ -18,7 +16,7 @@ use Rattle.judge_pool.specs.Graphs.{other_of, LabelSays}
 use Rattle.judge_pool.specs.Listing.{parts_before}
 use Rattle.judge_pool.specs.Needing.{IsNeededOuter}
 use Rattle.judge_pool.specs.Plans.{Plan, PlanFits, AreLinked, outer_plan, plan_diagram, ChosenBy, items_of, NeededBy}
-use Rattle.judge_pool.specs.Plans.{layers_of}
+use Rattle.judge_pool.specs.Plans.{layers_of, PlanPasses}
 use Rattle.judge_pool.specs.Places.{pool_on}
 use Rattle.judge_pool.specs.Layering.{values_at}
 use Rattle.judge_pool.proofs.MappedPools.{order_self, values_at_self, grows_self}
@@ -34,14 +32,16 @@ use Rattle.judge_intake.proofs.OuterFits.{before_to, place_of_part, outer_items}
 use Rattle.step_graphs.specs.declared.step.Step.{Step}
 use Rattle.step_graphs.specs.declared.step.Step.TheVariants.{OfSwitch, OfLink, OfTap, OfNothing}
 use Rattle.step_graphs.specs.Steps.{items_in, TakesIn, AreSteps}
-use Rattle.step_graphs.specs.Needing.{TouchedAt, IsNeeded}
+use Rattle.step_graphs.specs.Needing.{IsNeeded}
+use Rattle.step_graphs.specs.Edges.{StepsPass}
 use Rattle.step_graphs.specs.Ready.{IsStepReady}
 use Rattle.step_graphs.specs.Ending.{AreAllBut, AreEndCodes}
 use Rattle.step_graphs.specs.Moved.{AreGiven, IsMovedGraph, IsLabelledFrom}
 use Rattle.step_graphs.proofs.Spread.{spread, spread_has, has_spread, spread_switches}
 use Rattle.step_graphs.proofs.SpreadViews.{seen_on, touches_on, touched_on}
-use Rattle.step_graphs.proofs.SpreadParts.{taken_item, place_has, has_place, needed_same}
+use Rattle.step_graphs.proofs.SpreadParts.{place_has, has_place}
 use Rattle.step_graphs.proofs.StepFits.{step_letters, step_fits, step_linked, given_chosen, two_each}
+use Rattle.step_graphs.proofs.StepEdges.{steps_pass}
 
 one_item : (s : Step) (x y : Item) → Among (items_in s) x → Among (items_in s) y → x ≡ y
 one_item (OfSwitch id) x y (inl e) (inl f) = e ∙ sym f
@@ -218,3 +218,10 @@ module _ (d : Diagram) (steps : List Step) (are : AreSteps d steps) (b others m 
       (subst (λ w. AreEndCodes w d m (values_at q.values.items states) codes) view are_codes) g
       (subst (λ k. IsLabelledFrom k codes (layers_of fs) g) (so_many ∙ ap labels_of view) labelled)
       (finished_choices fs ∙ (choices ∙ ap (map length) same)) (omega (arith, some, ready.count))
+
+  pub passes_of : (limit : ℕ) →
+      ((f : ℕ → ℕ) (plan : Plan) → KeepsOrder f → PlanFits plan (pool_on f p) start held held_keeps →
+      PlanPasses p.view plan held limit) → StepsPass p.view d steps b limit
+  passes_of limit wide =
+      steps_pass d steps are b others (pool_on (λ i. i) p) start letters keeps self_ready held same p.view limit
+      (wide (λ i. i) the_plan order_self held_fits)

@@ -1,6 +1,6 @@
 //! The graph of a moved switch.
 ghost use Rattle.std.specs.Prelude.{◌≡◌, ℕ, suc, ◌+◌, ◌<◌, ◌≤◌, ◌^◌, length, map, slice_index};
-ghost use Rattle.std.specs.Prelude.{IfOk, OnOk, sum_by};
+ghost use Rattle.std.specs.Prelude.{IfOk, IfErr, OnOk, sum_by};
 ghost use Rattle.decision_graphs.specs.declared.finished.FinishedLayer.{FinishedLayer as Finished};
 ghost use Rattle.station_graph.specs.Connection.{a_switch};
 ghost use Rattle.decision_graphs.specs.Finished.{AreFinished, finished};
@@ -9,6 +9,8 @@ ghost use Rattle.judge_pool.specs.declared.limits.TheConstants.{BAY_EDGES};
 ghost use Rattle.step_graphs.specs.Steps.{AreSteps, AllFit, TakesIn};
 ghost use Rattle.step_graphs.specs.Ready.{IsStepStock, IsStepReady};
 ghost use Rattle.step_graphs.specs.Moved.{IsMovedGraph, IsLabelledFrom};
+ghost use Rattle.step_graphs.specs.Edges.{StepsPass};
+ghost use Rattle.judge_pool.specs.declared.layer.Trouble.TheVariants.{Wide};
 
 use crate::ends::end_codes;
 use crate::letters::step_rows;
@@ -107,7 +109,7 @@ fn labelled(
 }
 
 /// The graph of the switch at a place of the steps. It is too wide where it has more edges than the budget before it is
-/// reduced. Time and memory: those of the edges, and of the compositions that the stock has not got.
+/// reduced: before each layer each distinct view of the items so far counts two edges. Time and memory: those of the edges, and of the compositions that the stock has not got.
 pub fn moved_graph(
     alloc: Global,
     stock: &mut StepStock,
@@ -126,6 +128,8 @@ pub fn moved_graph(
     ensures stock { OnOk result (IsStepStock station.now steps.now stock.new) }
     ensures view { OnOk result (stock.new.pool.view ≡ stock.old.pool.view) }
     ensures graph { IfOk result (IsMovedGraph stock.old.pool.view station.now steps.now place id.0) }
+    ensures wide { IfErr result (λ e. e ≡ Wide →
+        StepsPass stock.old.pool.view station.now steps.now place budget) }
 {
     let others = (steps.len() - 1) as u16;
     let taken = intake(alloc, stock, station, steps, place, others)?;

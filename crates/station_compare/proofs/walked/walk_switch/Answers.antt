@@ -2,6 +2,7 @@ use Rattle.std.proofs.Common.{◌≡◌, ◌-◌, Bool, true, List, length, map,
 use Rattle.std.proofs.Math.ListN.{replicate}
 use Rattle.std.proofs.lemmas.List.{length-replicate}
 use Rattle.std.proofs.lemmas.Option.{slice_get_within}
+use Rattle.judge_pool.proofs.ErrorLemmas.{passed_on}
 use Rattle.graph_walks.specs.Walks.{set_for}
 use Rattle.step_graphs.specs.declared.step.Step.{Step}
 use Rattle.station_joints.proofs.ChoiceLemmas.{one_place}
@@ -63,3 +64,19 @@ returns-clause-walked c =
           ∙ ap (λ k. replicate k true) count))))
           (c.free_steps_allow.ensures.all ss w.others w.count);
     }
+
+pub returns-in_err-walk-clause-wide : goal.returns-in_err-walk-clause-wide
+returns-in_err-walk-clause-wide c =
+    passed_on _ _ c.from_residual.result c.from_residual.ensures.1 (λ trouble same is. record {
+      same = c.requires.same;
+      old_steps = c.args.steps.now.old_steps.items;
+      new_steps = c.args.steps.now.new_steps.items;
+      place = c.args.place;
+      joint = c.requires.steps.steps;
+      old_at = c.requires.old_at;
+      new_at =
+          one_place c.args.old.now c.args.new.now c.args.steps.now.old_steps.items c.args.steps.now.new_steps.items
+          c.args.place c.args.id.0 c.args.new_id.0 c.is_station.ensures c.requires.steps.steps c.requires.same
+          c.requires.old_at;
+      wide = c.in_err-walk.ensures.wide (sym same ∙ is);
+    })

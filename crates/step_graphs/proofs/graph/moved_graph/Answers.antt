@@ -1,16 +1,18 @@
-use Rattle.std.proofs.Common.{◌≡◌, ℕ, List, Vec, Global, length, map, sym, ap, ◌∙◌, subst, arith}
+use Rattle.std.proofs.Common.{ℕ, List, Vec, Global, length, map, sym, ap, ◌∙◌, subst}
 use Rattle.std.proofs.lemmas.List.{length-map}
 use Rattle.station_graph.specs.Connection.{a_switch}
 use Rattle.decision_graphs.specs.declared.finished.FinishedLayer.{FinishedLayer}
 use Rattle.decision_graphs.specs.Finished.{finished}
 use Rattle.judge_pool.specs.declared.pool.Pool.{Pool}
 use Rattle.judge_pool.specs.Layering.{values_at}
+use Rattle.judge_pool.proofs.ErrorLemmas.{passed_on}
 use Rattle.judge_pool.proofs.LayeringLemmas.{grows}
 use Rattle.step_graphs.specs.Ending.{AreEndCodes}
 use Rattle.step_graphs.specs.Moved.{IsMovedGraph, IsLabelledFrom}
 use Rattle.step_graphs.proofs.SpreadParts.{taken_item}
 use Rattle.step_graphs.proofs.StepLemmas.{step_rows_stay}
-use Rattle.step_graphs.proofs.StepSays.{held_linked, moved_of}
+use Rattle.step_graphs.specs.Edges.{StepsPass}
+use Rattle.step_graphs.proofs.StepSays.{held_linked, moved_of, passes_of}
 use Rattle.step_graphs.proofs.graph.moved_graph.Goals as goal
 
 abbrev ids_of : List (Vec ℕ Global) → List (List ℕ)
@@ -64,3 +66,14 @@ returns-clause-graph c =
     (sym (length-map c.deref.result.now (λ (v : Vec ℕ Global). v.items))) fs states c.in_ok-drafts.ensures.exact
     c.in_ok-drafts.ensures.choices codes are c.in_ok-graph.graph c.label_count-count.result c.label_count-count.ensures
     labelled c.requires.some)
+
+pub returns-in_err-drafts-clause-wide : goal.returns-in_err-drafts-clause-wide
+returns-in_err-drafts-clause-wide c =
+    passed_on _ _ c.from_residual-in_err-drafts.result c.from_residual-in_err-drafts.ensures.1 (λ trouble same is.
+    let d = c.args.station.now in
+    let p : Pool = c.intake.new.stock.pool in
+    subst (λ w. StepsPass w d c.args.steps.now c.args.place c.args.budget) c.in_ok-taken.ensures.view
+    (passes_of d c.args.steps.now c.requires.steps c.args.place _ c.args.id.0 c.requires.moved p
+    c.in_ok-taken.taken.start (ids_of c.in_ok-taken.taken.letters.items) c.in_ok-taken.taken.keeps.items
+    c.in_ok-taken.ensures.ready (ids_of c.deref.result.now) c.deref-2.result.now (ap ids_of c.deref.ensures.value)
+    c.deref-2.ensures.value c.args.budget (c.in_err-drafts.ensures.wide (sym same ∙ is))))
