@@ -1,3 +1,3 @@
-mod TellingLemmas
+pub mod TellingLemmas
 mod PartLemmas
-mod AllowLemmas
+pub mod AllowLemmas

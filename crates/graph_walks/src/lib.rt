@@ -8,4 +8,4 @@ mod walk;
 
 pub use codes::Codes;
 pub use sets::allowed_sets;
-pub use walk::{Walk, walk_of};
+pub use walk::{Walk, same_steps, walk_of};

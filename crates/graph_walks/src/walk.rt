@@ -35,8 +35,9 @@ fn one_step(alloc: Global) -> Result<Vec<Row>, Memory>
     Ok(rows)
 }
 
-// So at each of n steps.
-fn all_steps(alloc: Global, n: u16) -> Result<Vec<Vec<Row>>, Memory>
+/// The steps by which two graphs of n layers of two choices each take the same choices: the rows of a product. Time and
+/// memory: the steps.
+pub fn same_steps(alloc: Global, n: u16) -> Result<Vec<Vec<Row>>, Memory>
     ensures { IfOk result (λ v. map (λ r. r.items) v.items ≡ same_steps n) }
 {
     let mut steps = Vec::new(alloc);
@@ -114,7 +115,7 @@ pub fn walk_of(
     ensures wide { IfErr result (λ e. e ≡ Wide →
         IsWideWalk first.now second.now third.now fourth.now n budget) }
 {
-    let steps = all_steps(alloc, n)?;
+    let steps = same_steps(alloc, n)?;
     let one = product_of(alloc, first, second, &steps, budget)?;
     let other = product_of(alloc, third, fourth, &steps, budget)?;
     let all = product_of(alloc, &one.graph, &other.graph, &steps, budget)?;

@@ -3,7 +3,7 @@ use Rattle.std.proofs.lemmas.List.{map-append}
 use Rattle.graph_products.specs.declared.row.Row.{Row}
 use Rattle.graph_walks.specs.Walks.{same_rows, same_steps}
 use Rattle.graph_walks.proofs.WalkLemmas.{replicate_more}
-use Rattle.graph_walks.proofs.walk.all_steps.Goals as goal
+use Rattle.graph_walks.proofs.walk.same_steps.Goals as goal
 
 pub loop-j-preserved : goal.loop-j-preserved
 loop-j-preserved c =

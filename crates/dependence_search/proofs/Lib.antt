@@ -1,0 +1,7 @@
+mod GivenLemmas
+mod TurnedLemmas
+pub mod LoneLemmas
+pub mod ToldLemmas
+mod WantedLemmas
+mod LabelLemmas
+pub mod DependLemmas

@@ -1,0 +1,12 @@
+//! On which switches the release of an operation depends, and which rules it can break, found in the walk of the graphs of
+//! its switch: positions of all switches that show it are found wherever there are any.
+#![tactic(auto)]
+
+mod breach;
+mod label;
+mod turn;
+mod walk;
+
+pub use breach::find_breach;
+pub use turn::{find_turn, one_is_none, turning_depends};
+pub use walk::{RuleStocks, rule_stocks, rule_walk, trouble_of, walks_answer};
