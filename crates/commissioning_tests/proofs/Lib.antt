@@ -1,0 +1,6 @@
+mod ListLemmas
+mod AnswerLemmas
+mod ShownLemmas
+mod MoveLemmas
+mod CoverLemmas
+mod ListedLemmas

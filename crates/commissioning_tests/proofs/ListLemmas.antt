@@ -1,0 +1,88 @@
+-- Lists, in order.
+use Rattle.std.proofs.Common.{◌≡◌, ℕ, ◌+◌, ◌*◌, ◌<◌, zero, suc, List, [], ◌∷◌, ◌++◌, length, slice_get, Some, refl, ap, ◌∙◌}
+use Rattle.std.proofs.Common.{inl, inr, arith}
+use Rattle.std.proofs.lemmas.Option.{same_Some}
+use Rattle.ilk_base.specs.declared.words.Op.{Op}
+use Rattle.commissioning_tests.specs.Listed.{opening, closing, operations_from, AreThose}
+
+-- lists with the same entries are one
+pub same_list : {X : Type 0} (xs ys : List X) → length xs ≡ length ys →
+    ((j : ℕ) → j < length xs → slice_get xs j ≡ slice_get ys j) → xs ≡ ys
+same_list [] [] l h = refl
+same_list [] (y ∷ ys) l h = absurd (omega (arith, l))
+same_list (x ∷ xs) [] l h = absurd (omega (arith, l))
+same_list (x ∷ xs) (y ∷ ys) l h =
+    ap (λ z. z ∷ xs) (same_Some x y (h 0 (omega arith)))
+    ∙ ap (λ zs. y ∷ zs) (same_list xs ys (omega (arith, l)) (λ j lt. h (suc j) (omega (arith, lt))))
+
+-- the operations of one more switch
+more : (first n : ℕ) →
+    operations_from first (suc n) ≡ operations_from first n ++ opening (first + n) ∷ closing (first + n) ∷ []
+more first zero =
+    let e : first ≡ first + 0 = omega arith in
+    ap (λ k. opening k ∷ closing k ∷ []) e
+more first (suc n) =
+    let e : suc first + n ≡ first + suc n = omega arith in
+    ap (λ os. opening first ∷ closing first ∷ os)
+    (more (suc first) n ∙ ap (λ k. operations_from (suc first) n ++ opening k ∷ closing k ∷ []) e)
+
+pub operations_more : (first n : ℕ) →
+    operations_from first (n + 1) ≡ operations_from first n ++ opening (first + n) ∷ closing (first + n) ∷ []
+operations_more first n =
+    let e : n + 1 ≡ suc n = omega arith in
+    ap (λ k. operations_from first k) e ∙ more first n
+
+-- one more for which it holds, and one for which it does not
+pub those_more : {X : Type 0} (P : X → Type 0) (xs chosen : List X) (x : X) → AreThose P xs chosen → P x →
+    AreThose P (xs ++ x ∷ []) (chosen ++ x ∷ [])
+those_more P [] chosen x h p = inl ([], ap (λ l. l ++ x ∷ []) h, p, refl)
+those_more P (y ∷ ys) chosen x (inl h) p =
+    inl (h.0 ++ x ∷ [], ap (λ l. l ++ x ∷ []) h.1, h.2, those_more P ys h.0 x h.3 p)
+those_more P (y ∷ ys) chosen x (inr h) p = inr (h.0, those_more P ys chosen x h.1 p)
+
+pub those_less : {X : Type 0} (P : X → Type 0) (xs chosen : List X) (x : X) → AreThose P xs chosen → ¬ P x →
+    AreThose P (xs ++ x ∷ []) chosen
+those_less P [] chosen x h never = inr (never, h)
+those_less P (y ∷ ys) chosen x (inl h) never = inl (h.0, h.1, h.2, those_less P ys h.0 x h.3 never)
+those_less P (y ∷ ys) chosen x (inr h) never = inr (h.0, those_less P ys chosen x h.1 never)
+
+-- ---- where an operation stands
+
+pub operations_long : (first n : ℕ) → length (operations_from first n) ≡ 2 * n
+operations_long first zero = refl
+operations_long first (suc n) = omega (arith, operations_long (suc first) n)
+
+pub opening_at : (first n i : ℕ) → i < n → slice_get (operations_from first n) (2 * i) ≡ Some (opening (first + i))
+opening_at first zero i lt = absurd (omega (arith, lt))
+opening_at first (suc n) zero lt =
+    let e : first ≡ first + 0 = omega arith in
+    ap (λ k. Some (opening k)) e
+opening_at first (suc n) (suc i) lt =
+    let place : 2 * suc i ≡ suc (suc (2 * i)) = omega arith in
+    let number : suc first + i ≡ first + suc i = omega arith in
+    ap (λ k. slice_get (operations_from first (suc n)) k) place
+    ∙ (opening_at (suc first) n i (omega (arith, lt)) ∙ ap (λ k. Some (opening k)) number)
+
+pub closing_at : (first n i : ℕ) → i < n →
+    slice_get (operations_from first n) (2 * i + 1) ≡ Some (closing (first + i))
+closing_at first zero i lt = absurd (omega (arith, lt))
+closing_at first (suc n) zero lt =
+    let e : first ≡ first + 0 = omega arith in
+    ap (λ k. Some (closing k)) e
+closing_at first (suc n) (suc i) lt =
+    let place : 2 * suc i + 1 ≡ suc (suc (2 * i + 1)) = omega arith in
+    let number : suc first + i ≡ first + suc i = omega arith in
+    ap (λ k. slice_get (operations_from first (suc n)) k) place
+    ∙ (closing_at (suc first) n i (omega (arith, lt)) ∙ ap (λ k. Some (closing k)) number)
+
+-- the operations are of these switches
+pub operations_in : (first n k : ℕ) (op : Op) → slice_get (operations_from first n) k ≡ Some op →
+    op.switch.0 < first + n
+operations_in first zero k op at = cc
+operations_in first (suc n) zero op at =
+    let is : first ≡ op.switch.0 = ap (λ (x : Op). x.switch.0) (same_Some (opening first) op at) in
+    omega (arith, is)
+operations_in first (suc n) (suc zero) op at =
+    let is : first ≡ op.switch.0 = ap (λ (x : Op). x.switch.0) (same_Some (closing first) op at) in
+    omega (arith, is)
+operations_in first (suc n) (suc (suc k)) op at = omega (arith, operations_in (suc first) n k op at)

@@ -1,0 +1,21 @@
+use Rattle.std.proofs.Common.{List, length, slice_get, ap, ◌∙◌, sym, arith}
+use Rattle.ilk_base.specs.declared.words.Op.{Op}
+use Rattle.commissioning_tests.proofs.ListLemmas.{operations_long, operations_in}
+use Rattle.commissioning_tests.proofs.CoverLemmas.{lone_covered}
+use Rattle.commissioning_tests.proofs.bay.positions_of.Goals as goal
+
+pub returns-then-len-lt2-clause-covered : goal.returns-then-len-lt2-clause-covered
+returns-then-len-lt2-clause-covered c k lt =
+    lone_covered c.args.station.now c.args.operations.now c.in_ok-steps.steps.old_steps.items
+    c.in_ok-steps.steps.new_steps.items c.in_ok-steps.ensures.steps (omega (arith, c.if-len-lt2.true, c.len.ensures))
+    (λ k op at. omega (
+      arith,
+      operations_in c.args.first.0 c.args.count k op
+          (ap (λ (l : List Op). slice_get l k) (sym c.requires.operations) ∙ at),
+      c.requires.within,
+    )) c.new.result.items k
+
+pub returns-clause-covered : goal.returns-clause-covered
+returns-clause-covered c k lt =
+    c.in_ok-positions.ensures.covered k
+    (omega (arith, lt, ap length c.requires.operations, operations_long c.args.first.0 c.args.count))

@@ -1,0 +1,4 @@
+pub mod Listed
+pub mod Answering
+pub mod Covering
+pub mod Growing

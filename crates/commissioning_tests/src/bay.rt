@@ -1,0 +1,76 @@
+//! The tests of a bay.
+ghost use Rattle.std.specs.Prelude.{◌≡◌, ◌+◌, ◌*◌, ◌^◌, ◌<◌, ◌≤◌, length, IfOk};
+ghost use Rattle.commissioning_tests.specs.Answering.{ArePositions};
+ghost use Rattle.commissioning_tests.specs.Covering.{AreTestsOf, TestSwitches};
+ghost use Rattle.commissioning_tests.specs.Growing.{AreCovered};
+ghost use Rattle.commissioning_tests.specs.Listed.{operations_from};
+
+use crate::cover_bay::cover_switches;
+use crate::lists::{always_of, needs_of};
+use crate::operations::operations_of;
+use crate::values::{BayTests, TestPosition};
+use ilk_base::{BayId, Memory, Op, SwitchId};
+use judge_pool::Trouble;
+use station_graph::Station;
+use station_joints::joint_steps;
+use std::alloc::Global;
+
+// Positions that show all of the operations of so many switches, from this one on; none where the station has one item
+// alone, of which nothing is live.
+fn positions_of(
+    alloc: Global,
+    station: &Station,
+    operations: &[Op],
+    first: SwitchId,
+    count: u16,
+) -> Result<Vec<TestPosition>, Trouble>
+    requires operations { operations.now ≡ operations_from first.0 count }
+    requires within { first.0 + count ≤ length station.now.switches }
+    requires few { first.0 + count < 2 ^ 16 }
+    ensures positions { IfOk result (λ ps. ArePositions station.now operations.now ps.items) }
+    ensures covered { IfOk result (λ ps. AreCovered station.now operations.now ps.items (length operations.now)) }
+{
+    let steps = joint_steps(alloc, station, station)?;
+    if steps.old_steps.len() < 2 {
+        return Ok(Vec::new(alloc));
+    }
+    let positions = cover_switches(alloc, station, &steps, operations, first, count)?;
+    Ok(positions)
+}
+
+// The tests of so many switches, from this one on.
+fn tests_of(
+    alloc: Global,
+    station: &Station,
+    first: SwitchId,
+    count: u16,
+) -> Result<BayTests, Trouble>
+    requires within { first.0 + count ≤ length station.now.switches }
+    requires few { first.0 + count < 2 ^ 16 }
+    ensures { IfOk result (TestSwitches station.now first.0 count) }
+{
+    let operations = operations_of(alloc, first, count)?;
+    let positions = positions_of(alloc, station, &operations, first, count)?;
+    let always = always_of(alloc, station, &operations, &positions)?;
+    let needs = needs_of(alloc, station, &operations, first, count, &positions)?;
+    Ok(BayTests {
+        operations,
+        always,
+        needs,
+        positions,
+    })
+}
+
+/// The tests of a bay: for each of its operations and each switch on which its release depends a position and a move that
+/// turn it, for each rule that an operation can break a position in which it does, what the bay needs of other bays, and
+/// what is released in every position. They are exact: no line is idle, and none is left out. It is `Wide` where a graph
+/// of a switch, or a walk of them, has more than `judge_pool::BAY_EDGES` edges. Time: for each operation that some
+/// position denies and each switch on which it is not seen to depend already a walk of its graphs, and for each position
+/// the rules for each switch that may show more. Memory: a walk, and for each move the answers of the operations.
+pub fn bay_tests(alloc: Global, station: &Station, bay: BayId) -> Result<BayTests, Trouble>
+    ensures { IfOk result (AreTestsOf station.now bay.0) }
+{
+    station.is_station();
+    let (first, count) = station.switches_of(bay);
+    tests_of(alloc, station, first, count)
+}

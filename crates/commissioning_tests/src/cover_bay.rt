@@ -1,0 +1,142 @@
+//! The positions that show all of a bay's operations.
+ghost use Rattle.std.specs.Prelude.{◌≡◌, ◌+◌, ◌*◌, ◌^◌, ◌<◌, ◌≤◌, length, slice_get, Some, IfOk, OnOk};
+ghost use Rattle.station_graph.specs.Connection.{a_switch};
+ghost use Rattle.step_graphs.specs.Steps.{TakesIn};
+ghost use Rattle.station_joints.specs.Joined.{HaveJointSteps};
+ghost use Rattle.dependence_search.specs.RuleWalks.{AreRuleStocks, IsRuleWalk};
+ghost use Rattle.commissioning_tests.specs.Answering.{ArePositions};
+ghost use Rattle.commissioning_tests.specs.Growing.{AreOperations, AreMore, AreCovered, IsCovered};
+ghost use Rattle.commissioning_tests.specs.Listed.{opening, closing, operations_from};
+
+use crate::cover::cover_operation;
+use crate::values::TestPosition;
+use crate::walked::OperationWalk;
+use dependence_search::{RuleStocks, rule_stocks, rule_walk};
+use graph_walks::Walk;
+use ilk_base::{Op, SwitchId};
+use judge_pool::{BAY_EDGES, Trouble};
+use station_graph::Station;
+use station_joints::JointSteps;
+use std::alloc::Global;
+
+// Adds positions that show all of the two operations of a switch, by its walk.
+fn cover_both(
+    alloc: Global,
+    station: &Station,
+    steps: &JointSteps,
+    operations: &[Op],
+    walk: &Walk,
+    place: u16,
+    switch: SwitchId,
+    number: usize,
+    positions: &mut Vec<TestPosition>,
+) -> Result<(), Trouble>
+    requires steps { HaveJointSteps station.now station.now steps.now }
+    requires all { AreOperations station.now operations.now }
+    requires room { number + 1 < length operations.now }
+    requires opening { slice_get operations.now number ≡ Some (opening switch.0) }
+    requires closing { slice_get operations.now (number + 1) ≡ Some (closing switch.0) }
+    requires moved { TakesIn steps.now.old_steps.items place (a_switch switch.0) }
+    requires walk { IsRuleWalk station.now steps.now.old_steps.items place switch.0 walk.now.graph walk.now.codes.items }
+    requires positions { ArePositions station.now operations.now positions.old.items }
+    ensures more { OnOk result (AreMore station.now operations.now positions.old.items positions.new.items) }
+    ensures opening { OnOk result (IsCovered station.now operations.now positions.new.items number) }
+    ensures closing { OnOk result (IsCovered station.now operations.now positions.new.items (number + 1)) }
+{
+    let open = OperationWalk {
+        station,
+        steps,
+        operations,
+        walk,
+        place,
+        number,
+    };
+    cover_operation(alloc, &open, positions)?;
+    let close = OperationWalk {
+        station,
+        steps,
+        operations,
+        walk,
+        place,
+        number: number + 1,
+    };
+    cover_operation(alloc, &close, positions)?;
+    Ok(())
+}
+
+// Adds positions that show all of the two operations of a switch, the first of which has this number.
+fn cover_switch(
+    alloc: Global,
+    stocks: &mut RuleStocks,
+    station: &Station,
+    steps: &JointSteps,
+    operations: &[Op],
+    switch: SwitchId,
+    number: usize,
+    positions: &mut Vec<TestPosition>,
+) -> Result<(), Trouble>
+    requires steps { HaveJointSteps station.now station.now steps.now }
+    requires some { 1 < length steps.now.old_steps.items }
+    requires stocks { AreRuleStocks station.now steps.now.old_steps.items stocks.old }
+    requires all { AreOperations station.now operations.now }
+    requires room { number + 1 < length operations.now }
+    requires opening { slice_get operations.now number ≡ Some (opening switch.0) }
+    requires closing { slice_get operations.now (number + 1) ≡ Some (closing switch.0) }
+    requires switch { switch.0 < length station.now.switches }
+    requires positions { ArePositions station.now operations.now positions.old.items }
+    ensures stocks { OnOk result (AreRuleStocks station.now steps.now.old_steps.items stocks.new) }
+    ensures more { OnOk result (AreMore station.now operations.now positions.old.items positions.new.items) }
+    ensures opening { OnOk result (IsCovered station.now operations.now positions.new.items number) }
+    ensures closing { OnOk result (IsCovered station.now operations.now positions.new.items (number + 1)) }
+{
+    let place = steps.old_places[usize::from(switch.0)];
+    let walk = rule_walk(
+        alloc,
+        stocks,
+        station,
+        &steps.old_steps,
+        place,
+        switch,
+        BAY_EDGES,
+    )?;
+    cover_both(
+        alloc, station, steps, operations, &walk, place, switch, number, positions,
+    )?;
+    Ok(())
+}
+
+// Positions that show all of the operations of so many switches, from this one on.
+pub(crate) fn cover_switches(
+    alloc: Global,
+    station: &Station,
+    steps: &JointSteps,
+    operations: &[Op],
+    first: SwitchId,
+    count: u16,
+) -> Result<Vec<TestPosition>, Trouble>
+    requires steps { HaveJointSteps station.now station.now steps.now }
+    requires some { 1 < length steps.now.old_steps.items }
+    requires operations { operations.now ≡ operations_from first.0 count }
+    requires within { first.0 + count ≤ length station.now.switches }
+    requires few { first.0 + count < 2 ^ 16 }
+    ensures positions { IfOk result (λ ps. ArePositions station.now operations.now ps.items) }
+    ensures covered { IfOk result (λ ps. AreCovered station.now operations.now ps.items (2 * count)) }
+{
+    let mut stocks = rule_stocks(alloc, station, &steps.old_steps)?;
+    let mut positions = Vec::new(alloc);
+    for i in 0..count {
+        let switch = SwitchId(first.0 + i);
+        let number = 2 * usize::from(i);
+        cover_switch(
+            alloc,
+            &mut stocks,
+            station,
+            steps,
+            operations,
+            switch,
+            number,
+            &mut positions,
+        )?;
+    }
+    Ok(positions)
+}
