@@ -1,8 +1,10 @@
-//! Tests of what each command works out: words, blocks, equations, plans, orders and stations that are made.
+//! Tests of what each command works out: words, blocks, equations, plans, orders, tests and stations that are made.
 #![tactic(auto)]
 
 #[cfg(test)]
 mod audits;
+#[cfg(test)]
+mod bay_tests;
 #[cfg(test)]
 mod equations;
 #[cfg(test)]

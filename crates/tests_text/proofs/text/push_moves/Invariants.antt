@@ -1,0 +1,9 @@
+use Rattle.std.proofs.Common.{◌≡◌, ◌++◌, take}
+use Rattle.std.specs.List.{flat_map}
+use Rattle.tests_text.specs.TestsText.{move_lines}
+use Rattle.tests_text.proofs.text.push_moves.Given as goal
+
+abbrev pub invariant-loop-turn : goal.invariant-loop-turn
+invariant-loop-turn l =
+    l.text
+    ≡ l.fn.text ++ flat_map (move_lines l.station l.ops l.position) (take l.turn-index l.position.moves.items)

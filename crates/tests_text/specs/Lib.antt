@@ -1,0 +1,2 @@
+pub mod TestsText
+pub mod Fitting

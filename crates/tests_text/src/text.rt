@@ -1,0 +1,208 @@
+//! The text of the tests of a bay.
+ghost use Rattle.std.specs.Prelude.{◌≡◌, ◌<◌, ◌++◌, All, [], length, slice_index_or, codes, decimal, flat_map};
+ghost use Rattle.std.specs.Prelude.{IfOk, OnOk};
+ghost use Rattle.station_graph.specs.Alike.{IsVector};
+ghost use Rattle.station_graph.specs.CentralRules.{IsOperation};
+ghost use Rattle.station_graph.specs.Diagram.{part_count};
+ghost use Rattle.tests_text.specs.Fitting.{MoveFits, PositionFits, TestsFit};
+ghost use Rattle.tests_text.specs.TestsText.{path_line, always_lines, needs_lines, with_lines, denied_lines};
+ghost use Rattle.tests_text.specs.TestsText.{turned_lines, move_lines, position_lines, positions_lines, tests_lines};
+
+use crate::lines::{push_denied, push_operation, push_path, push_switch, push_turned, push_with};
+use commissioning_tests::{BayTests, TestMove, TestPosition};
+use ilk_base::{BayId, Memory, Op, Rule, SwitchId, Text};
+use station_graph::Station;
+use std::alloc::Global;
+
+// Appends the line of the bay.
+#[tactic(auto, using(std::proofs::lemmas::Option::get_or_from_slice_get))]
+fn push_bay(text: &mut Text, station: &Station, bay: BayId) -> Result<(), Memory>
+    requires { bay.0 < part_count station.now }
+    ensures { OnOk result (text.new ≡ text.old
+        ++ path_line (codes "bay ") (slice_index_or station.now.part_paths bay.0 [])) }
+{
+    push_path(text, b"bay ", station.part_path(bay).as_bytes())
+}
+
+// Appends the lines of the operations that are always released.
+fn push_always(alloc: Global, text: &mut Text, station: &Station, ops: &[Op]) -> Result<(), Memory>
+    requires { All (IsOperation station.now) ops.now }
+    ensures { OnOk result (text.new ≡ text.old ++ always_lines station.now ops.now) }
+{
+    for op in ops {
+        push_operation(alloc, text, b"always ", station, *op)?;
+    }
+    Ok(())
+}
+
+// Appends the lines of the switches that the bay needs.
+fn push_needs(text: &mut Text, station: &Station, switches: &[SwitchId]) -> Result<(), Memory>
+    requires { All (λ s. s.0 < length station.now.switches) switches.now }
+    ensures { OnOk result (text.new ≡ text.old ++ needs_lines station.now switches.now) }
+{
+    for id in switches {
+        push_switch(text, b"needs ", station, *id)?;
+    }
+    Ok(())
+}
+
+// Appends the lines of the closed switches.
+fn push_closed(text: &mut Text, station: &Station, closed: &[bool]) -> Result<(), Memory>
+    requires { IsVector station.now closed.now }
+    ensures { OnOk result (text.new ≡ text.old ++ with_lines station.now closed.now) }
+{
+    for i in 0..station.switch_count() {
+        push_with(text, station, SwitchId(i), closed[i as usize])?;
+    }
+    Ok(())
+}
+
+// Appends the lines of the operations that break a rule.
+fn push_all_denied(
+    alloc: Global,
+    text: &mut Text,
+    station: &Station,
+    ops: &[Op],
+    answers: &[Option<Rule>],
+) -> Result<(), Memory>
+    requires ops { All (IsOperation station.now) ops.now }
+    requires answers { length answers.now ≡ length ops.now }
+    ensures { OnOk result (text.new ≡ text.old ++ denied_lines station.now ops.now answers.now) }
+{
+    for (k, op) in ops.iter().enumerate() {
+        push_denied(alloc, text, station, *op, answers[k])?;
+    }
+    Ok(())
+}
+
+// Appends the lines of the operations that a move turns.
+fn push_all_turned(
+    alloc: Global,
+    text: &mut Text,
+    station: &Station,
+    ops: &[Op],
+    before: &[Option<Rule>],
+    after: &[Option<Rule>],
+) -> Result<(), Memory>
+    requires ops { All (IsOperation station.now) ops.now }
+    requires before { length before.now ≡ length ops.now }
+    requires after { length after.now ≡ length ops.now }
+    ensures { OnOk result (text.new ≡ text.old ++ turned_lines station.now ops.now before.now after.now) }
+{
+    for (k, op) in ops.iter().enumerate() {
+        push_turned(alloc, text, station, *op, before[k], after[k])?;
+    }
+    Ok(())
+}
+
+// Appends the lines of a move.
+fn push_move(
+    alloc: Global,
+    text: &mut Text,
+    station: &Station,
+    ops: &[Op],
+    position: &TestPosition,
+    turn: &TestMove,
+) -> Result<(), Memory>
+    requires ops { All (IsOperation station.now) ops.now }
+    requires position { PositionFits station.now ops.now position.now }
+    requires turn { MoveFits station.now ops.now turn.now }
+    ensures { OnOk result (text.new ≡ text.old ++ move_lines station.now ops.now position.now turn.now) }
+{
+    let word: &[u8] = if position.closed[turn.switch.0 as usize] {
+        b"opened "
+    } else {
+        b"closed "
+    };
+    push_switch(text, word, station, turn.switch)?;
+    push_all_turned(alloc, text, station, ops, &position.answers, &turn.answers)
+}
+
+// Appends the lines of the moves from a position.
+fn push_moves(
+    alloc: Global,
+    text: &mut Text,
+    station: &Station,
+    ops: &[Op],
+    position: &TestPosition,
+) -> Result<(), Memory>
+    requires ops { All (IsOperation station.now) ops.now }
+    requires position { PositionFits station.now ops.now position.now }
+    ensures { OnOk result (text.new ≡ text.old
+        ++ flat_map (move_lines station.now ops.now position.now) position.now.moves.items) }
+{
+    for turn in &position.moves {
+        push_move(alloc, text, station, ops, position, turn)?;
+    }
+    Ok(())
+}
+
+// Appends the lines of a position and of its moves.
+fn push_position(
+    alloc: Global,
+    text: &mut Text,
+    station: &Station,
+    ops: &[Op],
+    number: usize,
+    position: &TestPosition,
+) -> Result<(), Memory>
+    requires ops { All (IsOperation station.now) ops.now }
+    requires position { PositionFits station.now ops.now position.now }
+    ensures { OnOk result (text.new ≡ text.old ++ position_lines station.now ops.now number position.now) }
+{
+    text.push(b"position ")?;
+    text.push_decimal(number)?;
+    text.push(b"\n")?;
+    push_closed(text, station, &position.closed)?;
+    push_all_denied(alloc, text, station, ops, &position.answers)?;
+    push_moves(alloc, text, station, ops, position)
+}
+
+// Appends the lines of all positions.
+fn push_positions(
+    alloc: Global,
+    text: &mut Text,
+    station: &Station,
+    ops: &[Op],
+    positions: &[TestPosition],
+) -> Result<(), Memory>
+    requires ops { All (IsOperation station.now) ops.now }
+    requires positions { All (PositionFits station.now ops.now) positions.now }
+    ensures { OnOk result (text.new ≡ text.old ++ positions_lines station.now ops.now positions.now) }
+{
+    for (i, position) in positions.iter().enumerate() {
+        push_position(alloc, text, station, ops, i + 1, position)?;
+    }
+    Ok(())
+}
+
+/// The text of the tests of a bay of the station: `bay PATH`; `always open PATH` (or `close`) for each operation that
+/// is always released; `needs PATH` for each switch of another bay on which an operation of the bay depends; and the
+/// positions, numbered from 1. A position is the line `position K`, `with PATH` for each closed switch, `denied RULE
+/// open PATH` for each operation that breaks a rule there, and its moves: `closed PATH` or `opened PATH`, and `denied
+/// RULE open PATH` or `released open PATH` for each operation whose release the move turns. Tests of a bay fit, by
+/// `tests_fit`. Time: the text, and for each position the switches, and for it and each of its moves the operations.
+/// Memory: the text's, and a line's.
+pub fn tests_text(
+    alloc: Global,
+    station: &Station,
+    bay: BayId,
+    tests: &BayTests,
+) -> Result<Text, Memory>
+    requires bay { bay.0 < part_count station.now }
+    requires fits { TestsFit station.now tests.now }
+    ensures { IfOk result (λ t. t ≡ tests_lines station.now bay.0 tests.now) }
+{
+    let mut text = Text::new(alloc);
+    push_bay(&mut text, station, bay)?;
+    push_always(alloc, &mut text, station, &tests.always)?;
+    push_needs(&mut text, station, &tests.needs)?;
+    push_positions(
+        alloc,
+        &mut text,
+        station,
+        &tests.operations,
+        &tests.positions,
+    )?;
+    Ok(text)
+}
