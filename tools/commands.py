@@ -4,7 +4,8 @@ from typing import NamedTuple
 
 STATUSES = {
     0: "all is written",
-    1: "all is written, and a step was found that is denied or idle, an equation that is loose or strict, or a remark",
+    1: "all is written, and a step was found that is denied or idle, an equation that is loose or strict, a remark, or a "
+       "new station that does not extend the old one",
     2: "the words are not those of a command",
     3: "a file, the input or the device could not be read",
     4: "the output or the device could not be written",
@@ -47,52 +48,58 @@ ROWS = [
     Command("`check STATION POSITIONS`", "both releases of each switch",
             "for each switch both releases, and a reading for each denial", {3, 5, 6}, (1, 2)),
     Command("`explain STATION POSITIONS open SWITCH`, or `close`", "why one operation is released or denied",
-            "that one operation is released, or why not: the ways by which a node is live and earthed, or the "
-            "load on both sides and what bonds them", {3, 5, 6}, (1, 2),
+            "that one operation is released, or by which ways it is not", {3, 5, 6}, (1, 2),
             "that one operation is released, or why not: the way by which a node is energised (`live`), the way "
             "by which it is earthed (`earthed`), or the load on both sides (`tap`) and all that is bonded to the "
             "first side (`bonded`), among which the second is not"),
     Command("`state STATION POSITIONS`", "which nodes are live and which earthed",
-            "for each node whether it is `live`, `dead` or `unknown`, and `earthed`, `free` or `unknown`, over "
-            "every reading of the positions", {3, 5, 6}, (1, 2),
+            "for each node whether it is live and earthed, over every reading of the positions", {3, 5, 6}, (1, 2),
             "for each node a line `VOLTAGE EARTH PATH`: `live`, `dead` or `unknown`, and `earthed`, `free` or "
             "`unknown`, over every reading of the positions"),
     Command("`order STATION POSITIONS ORDER`", "a switching order, judged in advance",
-            "each step of a switching order: `ok`, `denied` with its rule, or `idle`; where all are ok, also "
-            "whether the order can be undone", {1, 3, 5, 6}, (1, 2, 3),
+            "each step of a switching order: `ok`, `denied` or `idle`; and whether it can be undone", {1, 3, 5, 6}, (1, 2, 3),
             "each step of a switching order, judged from the positions after those before it: `ok`, `denied` with"
             " its rule, or `idle`; where all are ok, also whether the order can be undone"),
     Command("`replay STATION LOG`", "what every bay does over a log",
-            "what every bay does over a log of commands, readings, drives and messages: who was granted what, in "
-            "which line", {3, 5, 6, 7}, (1, 2),
+            "what every bay does over a log of commands, readings, drives and messages", {3, 5, 6, 7}, (1, 2),
             "what every bay of the station does over a log of commands, readings, drives, and messages that are "
             "delivered, lost, repeated or cut: who was granted what, in which line"),
     Command("`trips STATION LOG`", "the same of a log in which breakers may trip",
-            "the same of a log in which protection may open breakers at any moment (`trip` records)", {3, 5, 6, 7}, (1, 2)),
+            "the same, where protection may open breakers at any moment (`trip` records)", {3, 5, 6, 7}, (1, 2)),
     Command("`plan STATION`", "who must talk to whom, as JSON",
             "who must talk to whom, as JSON: for each bay the bays whose positions can change an answer for it", {3, 5}, (1,),
             "who must talk to whom, as JSON: for each bay exactly the bays whose positions can change an answer "
             "for one of its operations"),
     Command("`program STATION`", "the interlocking as structured text for a controller",
-            "the releases of every switch as structured text of IEC 61131-3, from the two contacts of each switch",
+            "the releases of every switch as structured text of IEC 61131-3",
             {3, 5}, (1,),
             "the releases of every switch as a function block of structured text (IEC 61131-3): assignments of AND, OR "
             "and NOT alone, from the two contacts of each switch"),
     Command("`compile STATION`", "the release equations of the whole station",
             "the release equations of the whole station as one text, whose meaning is the rules", {3, 5}, (1,)),
     Command("`audit STATION EQUATIONS`", "hand-written equations held against the rules",
-            "each hand-written equation held against the rules: `same`, `loose` or `strict`, with a vector that "
-            "shows it", {1, 3, 5, 6}, (1, 2),
+            "each hand-written equation held against the rules: `same`, `loose` or `strict`", {1, 3, 5, 6}, (1, 2),
             "each hand-written equation held against the rules: `same`, `loose` with a vector in which it "
             "releases what they forbid, or `strict` with a position in which it denies what they allow"),
+    Command("`compare OLD NEW`", "what an extension changes",
+            "for each operation whether NEW judges it as OLD does, with a position that shows each change",
+            {1, 3, 5}, (1, 2),
+            "for each operation of both stations whether NEW judges it as OLD does: `same`; `kept`, where it differs, but "
+            "not while every switch that only one of them has is open; `changed`; `new` or `gone`. Below, `stricter R` "
+            "(OLD releases what rule R of NEW forbids: an equation left as it was is dangerous) and `looser R`, each with "
+            "the switches that are closed in one such position. Then each bay with its worst word"),
+    Command("`tests STATION BAY`", "a test protocol for a bay's commissioning",
+            "positions and single moves that test a bay's releases, and leave no dependence out", {3, 5, 6}, (1,),
+            "what is always released, which switches of other bays the bay needs, and then positions with single moves: for "
+            "each operation and each switch on which its release depends a move that turns it, and for each rule that the "
+            "operation can break a position that shows it; none is left out"),
     Command("`node STATION BAY`", "one bay's controller, over lines",
-            "one bay's controller: commands, readings and messages come in as lines, outcomes and messages go out", {3, 5, 6, 9}, (1,),
+            "one bay's controller: commands, readings and messages in, outcomes and messages out, as lines", {3, 5, 6, 9}, (1,),
             "one bay's controller: commands, readings and messages come in as lines, outcomes and messages go "
             "out, each line answered before the next is asked for"),
     # The file of `stored` is written, so that only the proved program runs it.
     Command("`stored STATION BAY FILE`", "the same, with its record kept in a file",
-            "the same, with what the bay must not forget kept in FILE: it may be switched off at any moment, and "
-            "goes on from there", {3, 5, 6, 9}, (),
+            "the same, with its record in FILE: it may be switched off at any moment, and goes on from there", {3, 5, 6, 9}, (),
             "the same, with what the bay must not forget kept in FILE: before a line's text is written, what it "
             "changed is there. It may be switched off at any moment, and goes on from FILE"),
     Command("`make NUMBER station`, `positions` or `log`", "a generated station, its positions or its log",

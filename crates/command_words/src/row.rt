@@ -1,7 +1,7 @@
 //! The words of a command.
 
 // The commands, each with how many words follow its name.
-pub(crate) const ROWS: [(&str, usize); 15] = [
+pub(crate) const ROWS: [(&str, usize); 17] = [
     // STATION POSITIONS
     ("check", 2),
     // STATION
@@ -32,6 +32,10 @@ pub(crate) const ROWS: [(&str, usize); 15] = [
     ("stored", 3),
     // STATION
     ("station", 1),
+    // OLD NEW
+    ("compare", 2),
+    // STATION BAY
+    ("tests", 2),
 ];
 
 /// The words of a command that are of the written form.

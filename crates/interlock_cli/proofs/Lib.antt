@@ -12,3 +12,4 @@ pub mod Through
 pub mod Naming
 pub mod Storing
 pub mod StoredNaming
+mod Comparing

@@ -11,6 +11,7 @@ use Rattle.interlock_cli.specs.Commands.{Command, one_word, two_words, three_wor
 use Rattle.interlock_cli.specs.Commands.{command_of}
 use Rattle.interlock_cli.specs.Commands.{check_of, explain_of, state_of, order_of, replay_of, audit_of, node_of}
 use Rattle.interlock_cli.specs.Commands.{make_of, trips_of, plan_of, program_of, compile_of, work_of, station_of}
+use Rattle.interlock_cli.specs.Commands.{compare_of, tests_of}
 
 abbrev Text : Type 0
 Text = List ℕ
@@ -76,7 +77,9 @@ module _ (name : Text) (rest : List Text) (none : is_row (name ∷ rest) ≡ fal
       (row (codes "program") 1 program_of _ refl (one _)
       (row (codes "work") 1 work_of _ refl (one _)
       (row (codes "station") 1 station_of _ refl (one _)
-      refl)))))))))))))
+      (row (codes "compare") 2 compare_of _ refl (two _)
+      (row (codes "tests") 2 tests_of _ refl (two _)
+      refl)))))))))))))))
 
 unnamed : (words : List Text) → is_row words ≡ false → named_command words ≡ None
 unnamed [] none = refl

@@ -15,7 +15,7 @@ use Rattle.interlock_cli.specs.Formats.{Drawing, Elements}
 use Rattle.interlock_cli.specs.Form.{Form, Write, Take, File, Word}
 use Rattle.interlock_cli.specs.Rests.{IsDoneWith, check_rest, explain_rest, state_rest, order_rest, replay_rest}
 use Rattle.interlock_cli.specs.Rests.{audit_rest, node_rest, compile_rest, trips_rest, plan_rest, program_rest}
-use Rattle.interlock_cli.specs.Rests.{work_rest}
+use Rattle.interlock_cli.specs.Rests.{work_rest, compare_rest, tests_rest}
 use Rattle.interlock_cli.specs.StationWrites.{StationWrites}
 
 -- What the words may name.
@@ -48,6 +48,10 @@ pub data Command : Type 0 where
   Work : ℕ → Command
   -- `station STATION`
   Station : List ℕ → Command
+  -- `compare OLD NEW`
+  Compare : List ℕ → List ℕ → Command
+  -- `tests STATION BAY`
+  Tests : List ℕ → List ℕ → Command
 
 -- The direction that a word names.
 abbrev pub direction_of : List ℕ → Option Direction
@@ -133,6 +137,14 @@ work_of = one_word (λ number. option_map (λ n. Work n) (feeders_of number))
 abbrev pub station_of : List (List ℕ) → Option Command
 station_of = one_word (λ station. Some (Station station))
 
+-- The words behind `compare`.
+abbrev pub compare_of : List (List ℕ) → Option Command
+compare_of = two_words (λ old new. Some (Compare old new))
+
+-- The words behind `tests`.
+abbrev pub tests_of : List (List ℕ) → Option Command
+tests_of = two_words (λ station bay. Some (Tests station bay))
+
 -- What the words name, the command's name first.
 abbrev pub named_command : List (List ℕ) → Option Command
 named_command [] = None
@@ -151,6 +163,8 @@ named_command (name ∷ rest) =
     else if bytes_eq name (codes "program") then program_of rest
     else if bytes_eq name (codes "work") then work_of rest
     else if bytes_eq name (codes "station") then station_of rest
+    else if bytes_eq name (codes "compare") then compare_of rest
+    else if bytes_eq name (codes "tests") then tests_of rest
     else None
 
 -- What the words name, where no word is empty or begins with `-`.
@@ -173,6 +187,8 @@ files_of (Program station) = station ∷ []
 files_of (Make number text) = []
 files_of (Work number) = []
 files_of (Station station) = station ∷ []
+files_of (Compare old new) = old ∷ new ∷ []
+files_of (Tests station bay) = station ∷ []
 
 -- The files of the command that the words name, if they name one.
 abbrev pub files_named : Option Command → List (List ℕ)
@@ -198,3 +214,5 @@ form_of (Make number text) = Write (IsDoneWith (λ written. written ≡ made_tex
 form_of (Work number) =
     Take (Word (station_text number)) Drawing (work_rest (positions_text number) (events_text number))
 form_of (Station station) = Take (File station) Elements (λ all. Write (StationWrites all))
+form_of (Compare old new) = Take (File old) Drawing (compare_rest new)
+form_of (Tests station bay) = Take (File station) Drawing (tests_rest bay)

@@ -8,6 +8,7 @@ pub mod TripsWrites
 pub mod AuditWrites
 pub mod WorkWrites
 pub mod StationWrites
+pub mod CompareWrites
 pub mod Rests
 pub mod Commands
 pub mod Seen

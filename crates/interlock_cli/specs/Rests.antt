@@ -7,9 +7,10 @@ use Rattle.station_state.specs.StateText.{IsStateText}
 use Rattle.station_equations.specs.CompileText.{IsCompileText}
 use Rattle.exchange_plan.specs.PlanText.{IsPlanText}
 use Rattle.program_text.specs.ProgramText.{IsProgramText}
+use Rattle.tests_text.specs.TestsText.{IsTestsText}
 use Rattle.release_texts.specs.CheckText.{IsCheckText}
 use Rattle.release_texts.specs.ExplainText.{IsExplainText}
-use Rattle.interlock_cli.specs.Formats.{Positions, CertainPositions, OrderOf, LogOf, TripLogOf, BlocksOf}
+use Rattle.interlock_cli.specs.Formats.{Drawing, Positions, CertainPositions, OrderOf, LogOf, TripLogOf, BlocksOf}
 use Rattle.interlock_cli.specs.Formats.{SwitchOf, BayOf}
 use Rattle.interlock_cli.specs.Form.{Form, Write, Take, Serve, File, Word}
 use Rattle.interlock_cli.specs.OrderWrites.{OrderWrites}
@@ -17,6 +18,7 @@ use Rattle.interlock_cli.specs.ReplayWrites.{ReplayWrites}
 use Rattle.interlock_cli.specs.TripsWrites.{TripsWrites}
 use Rattle.interlock_cli.specs.AuditWrites.{AuditWrites}
 use Rattle.interlock_cli.specs.WorkWrites.{WorkWrites}
+use Rattle.interlock_cli.specs.CompareWrites.{CompareWrites}
 use Rattle.interlock_cli.specs.declared.end.Outcome.{Outcome}
 use Rattle.interlock_cli.specs.declared.end.Outcome.TheVariants.{Done}
 
@@ -71,6 +73,14 @@ plan_rest d = Write (IsDoneWith (IsPlanText d))
 -- `program`: nothing more.
 abbrev pub program_rest : Diagram → Form
 program_rest d = Write (IsDoneWith (IsProgramText d))
+
+-- `compare`: the new drawing, held against the old one.
+abbrev pub compare_rest : List ℕ → Diagram → Form
+compare_rest new d = Take (File new) Drawing (λ e. Write (CompareWrites d e))
+
+-- `tests`: the path of the bay.
+abbrev pub tests_rest : List ℕ → Diagram → Form
+tests_rest bay d = Take (Word bay) (BayOf d) (λ b. Write (IsDoneWith (IsTestsText d b)))
 
 -- `work`: the texts of the positions and of the log, which the program makes.
 abbrev pub work_rest : List ℕ → List ℕ → Diagram → Form

@@ -3,6 +3,7 @@ use Rattle.interlock_cli.specs.Commands as c
 use Rattle.interlock_cli.specs.declared.words.Command.{Command}
 use Rattle.interlock_cli.specs.declared.words.Command.TheVariants.{Check, Explain, State, Order, Replay, Audit, Node}
 use Rattle.interlock_cli.specs.declared.words.Command.TheVariants.{Compile, Trips, Plan, Program, Make, Work, Station}
+use Rattle.interlock_cli.specs.declared.words.Command.TheVariants.{Compare, Tests}
 
 -- A command, as the definitions name it.
 abbrev pub seen_command : Command → c.Command
@@ -20,3 +21,5 @@ seen_command (Program station) = c.Program station.now
 seen_command (Make feeders text) = c.Make feeders.number text
 seen_command (Work feeders) = c.Work feeders.number
 seen_command (Station station) = c.Station station.now
+seen_command (Compare old new) = c.Compare old.now new.now
+seen_command (Tests station bay) = c.Tests station.now bay.now

@@ -4,6 +4,7 @@
 mod answer;
 mod audit_command;
 mod check_command;
+mod compare_command;
 mod compile_command;
 mod content;
 mod end;
@@ -23,6 +24,7 @@ mod stored_command;
 mod stored_top;
 mod stored_words;
 mod tell;
+mod tests_command;
 mod top;
 mod trips_command;
 mod words;

@@ -11,6 +11,7 @@ ghost use Rattle.interlock_cli.specs.Complete.{Completes};
 use crate::answer::answer_drawing;
 use crate::audit_command::Audit;
 use crate::check_command::Check;
+use crate::compare_command::Compare;
 use crate::compile_command::Compile;
 use crate::end::{End, Output, make_status};
 use crate::explain_command::Explain;
@@ -24,6 +25,7 @@ use crate::state_command::State;
 use crate::station_command::station;
 use crate::status::Status;
 use crate::tell::tell;
+use crate::tests_command::Tests;
 use crate::trips_command::Trips;
 use crate::words::{Command, read_command};
 use crate::work_command::work;
@@ -76,6 +78,8 @@ fn output_of<F: Shelf>(alloc: Global, command: &Command, shelf: &mut F) -> Resul
         Command::Make { feeders, text } => make(alloc, feeders, text),
         Command::Work { feeders } => work(alloc, feeders, shelf),
         Command::Station { station: name } => station(alloc, name, shelf),
+        Command::Compare { old, new } => answer_drawing(alloc, old, &Compare { new }, shelf),
+        Command::Tests { station, bay } => answer_drawing(alloc, station, &Tests { bay }, shelf),
         Command::Node { .. } => unreachable!(),
     }
 }
@@ -131,8 +135,8 @@ fn call<F: Shelf, I: Source, O: Sink>(
 /// with `-`, and they are `check STATION POSITIONS`, `explain STATION POSITIONS open SWITCH` (or `close`),
 /// `state STATION POSITIONS`, `order STATION POSITIONS ORDER`, `replay STATION LOG`, `trips STATION LOG`,
 /// `audit STATION EQUATIONS`, `plan STATION`, `program STATION`, `compile STATION`, `station STATION`,
-/// `node STATION BAY`, `make NUMBER station` (or `positions`, or `log`) or `work NUMBER`, they name that command;
-/// all else is `Usage`. What a command is given is judged in the order of the words, but for a switch or bay
+/// `compare OLD NEW`, `tests STATION BAY`, `node STATION BAY`, `make NUMBER station` (or `positions`, or `log`) or
+/// `work NUMBER`, they name that command; all else is `Usage`. What a command is given is judged in the order of the words, but for a switch or bay
 /// that they name, which comes last. Each file is judged before the next is read, and nothing is written, nor
 /// asked of the input, before all is accepted. On every status but `Done` and `Differs` one line goes to
 /// `err`, made without memory.

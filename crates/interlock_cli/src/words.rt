@@ -1,7 +1,7 @@
 //! What the words name.
 ghost use Rattle.std.specs.Prelude.{◌≡◌, ◌∷◌, map, option_map, string_bytes, Some, IfOk, IfErr};
 ghost use Rattle.interlock_cli.specs.Commands.{replay_of, audit_of, check_of, command_of, direction_of, explain_of};
-ghost use Rattle.interlock_cli.specs.Commands.{make_of, named_command, node_of, program_of};
+ghost use Rattle.interlock_cli.specs.Commands.{compare_of, make_of, named_command, node_of, program_of, tests_of};
 ghost use Rattle.interlock_cli.specs.Commands.{plan_of, trips_of, compile_of, order_of, state_of, station_of, work_of};
 ghost use Rattle.interlock_cli.specs.Ends.{WordsUnread};
 ghost use Rattle.interlock_cli.specs.Seen.{seen_command};
@@ -68,6 +68,14 @@ pub enum Command<'a> {
     },
     Station {
         station: &'a str,
+    },
+    Compare {
+        old: &'a str,
+        new: &'a str,
+    },
+    Tests {
+        station: &'a str,
+        bay: &'a str,
     },
 }
 
@@ -243,6 +251,26 @@ fn station_words<'a>(rest: &[&'a str]) -> Option<Command<'a>>
     Some(Command::Station { station })
 }
 
+// `compare OLD NEW`.
+fn compare_words<'a>(rest: &[&'a str]) -> Option<Command<'a>>
+    ensures { compare_of (map (λ w. w.now) rest.now) ≡ option_map seen_command result }
+{
+    let &[old, new] = rest else {
+        return None;
+    };
+    Some(Command::Compare { old, new })
+}
+
+// `tests STATION BAY`.
+fn tests_words<'a>(rest: &[&'a str]) -> Option<Command<'a>>
+    ensures { tests_of (map (λ w. w.now) rest.now) ≡ option_map seen_command result }
+{
+    let &[station, bay] = rest else {
+        return None;
+    };
+    Some(Command::Tests { station, bay })
+}
+
 // The command of a name and the words after it.
 fn named<'a>(name: &str, rest: &[&'a str]) -> Option<Command<'a>>
     ensures { named_command (name.now ∷ map (λ w. w.now) rest.now) ≡ option_map seen_command result }
@@ -262,6 +290,8 @@ fn named<'a>(name: &str, rest: &[&'a str]) -> Option<Command<'a>>
         "make" => make_words(rest),
         "work" => work_words(rest),
         "station" => station_words(rest),
+        "compare" => compare_words(rest),
+        "tests" => tests_words(rest),
         _ => None,
     }
 }

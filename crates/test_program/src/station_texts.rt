@@ -1,4 +1,4 @@
-//! What `compile` and `plan` write of a station.
+//! What `compile`, `plan`, `tests` and `compare` write of a station, and of two.
 use crate::drawings::{AS_A_TOOL_WRITES, FEEDERS_APART, TWO_FEEDERS};
 use crate::rows::expect;
 use interlock_cli::Status;
@@ -62,6 +62,89 @@ fn plans(rt: HostRuntime) -> Result<(), Fail> {
             drawing.as_bytes(),
             b"",
             (Status::Done, want.as_bytes(), ""),
+        )?;
+    }
+    Ok(())
+}
+
+// The line with an earthing switch and an infeed at one node. With the infeed on, closing the earthing switch breaks R1;
+// then closing the earthing switch makes the infeed's closing break R2, and opening the infeed releases the earthing
+// switch. That closing the infeed breaks R2 is shown where the earthing switch is closed.
+const TESTS: &str = "bay S/V1/Q1
+always open S/V1/Q1/QC9
+always open S/V1/Q1/E1
+position 1
+with S/V1/Q1/E1
+denied R1 close S/V1/Q1/QC9
+closed S/V1/Q1/QC9
+denied R2 close S/V1/Q1/E1
+opened S/V1/Q1/E1
+released close S/V1/Q1/QC9
+position 2
+with S/V1/Q1/QC9
+denied R2 close S/V1/Q1/E1
+";
+
+#[test]
+fn tests_of_a_bay(rt: HostRuntime) -> Result<(), Fail> {
+    expect(
+        &rt,
+        rt.alloc(),
+        "tests a.ssd S/V1/Q1",
+        AS_A_TOOL_WRITES.as_bytes(),
+        b"",
+        (Status::Done, TESTS.as_bytes(), ""),
+    )
+}
+
+#[test]
+fn tests_of_no_bay(rt: HostRuntime) -> Result<(), Fail> {
+    expect(
+        &rt,
+        rt.alloc(),
+        "tests a.ssd S/V1/Q2",
+        AS_A_TOOL_WRITES.as_bytes(),
+        b"",
+        (
+            Status::InputRefused,
+            b"",
+            "interlock: input refused 11 line 0\n",
+        ),
+    )
+}
+
+// A station held against itself.
+const SAME: &str = "same open S/V1/Q1/QC9
+same close S/V1/Q1/QC9
+same open S/V1/Q1/E1
+same close S/V1/Q1/E1
+bay same S/V1/Q1
+";
+
+// And an empty one held against it.
+const GONE: &str = "gone open S/V1/Q1/QC9
+gone close S/V1/Q1/QC9
+gone open S/V1/Q1/E1
+gone close S/V1/Q1/E1
+bay gone S/V1/Q1
+";
+
+#[test]
+fn comparisons(rt: HostRuntime) -> Result<(), Fail> {
+    let alloc = rt.alloc();
+    let line = AS_A_TOOL_WRITES.as_bytes();
+    for (new, want) in [
+        (line, (Status::Done, SAME)),
+        (b"<SCL/>".as_slice(), (Status::Differs, GONE)),
+    ] {
+        let (status, text) = want;
+        expect(
+            &rt,
+            alloc,
+            "compare a.ssd a.csv",
+            line,
+            new,
+            (status, text.as_bytes(), ""),
         )?;
     }
     Ok(())

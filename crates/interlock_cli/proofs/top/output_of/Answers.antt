@@ -31,3 +31,9 @@ returns-in-Make-clause-err g c = rw c.in-Make.is c.make.ensures.err
 
 pub returns-in-Make-clause-reads : goal.returns-in-Make-clause-reads
 returns-in-Make-clause-reads g c = reads_none _ _
+
+pub returns-in-Compare-clause-err : goal.returns-in-Compare-clause-err
+returns-in-Compare-clause-err g c = rw c.in-Compare.is c.answer_drawing-in-Compare.ensures.err
+
+pub returns-in-Tests-clause-err : goal.returns-in-Tests-clause-err
+returns-in-Tests-clause-err g c = rw c.in-Tests.is c.answer_drawing-in-Tests.ensures.err
