@@ -2,6 +2,8 @@
 #![tactic(auto)]
 
 #[cfg(test)]
+mod attribute_values;
+#[cfg(test)]
 mod drawings;
 #[cfg(test)]
 mod exported;

@@ -6,6 +6,8 @@ mod judging;
 #[cfg(test)]
 mod limits;
 #[cfg(test)]
+mod paths;
+#[cfg(test)]
 mod positions;
 #[cfg(test)]
 mod readers;

@@ -10,7 +10,11 @@ mod logs;
 #[cfg(test)]
 mod operations;
 #[cfg(test)]
+mod outcomes;
+#[cfg(test)]
 mod premises;
+#[cfg(test)]
+mod refused_trips;
 #[cfg(test)]
 mod replays;
 #[cfg(test)]

@@ -1,4 +1,4 @@
-//! Logs with trips, and their reports and refusals.
+//! Logs with trips, and their reports.
 ghost use Rattle.std.specs.Prelude.{◌<◌, length};
 ghost use Rattle.std.specs.List.{All};
 ghost use Rattle.station_graph.specs.Alike.{IsVector};
@@ -12,10 +12,10 @@ use reservation_core::Which;
 use station_graph::{Station, Vector};
 use std::alloc::Global;
 use test_stations::{Example, StationRow, row_holds, rows_hold};
-use trip_replay::{TripLog, TripLogFault, TripReport, read_trip_log, replay_trips};
+use trip_replay::{TripLog, TripReport, read_trip_log, replay_trips};
 
 // Where the switches of the two feeders stand at first, and the words that are read of them.
-const STANDS: &[&[u8]] = &[
+pub(crate) const STANDS: &[&[u8]] = &[
     b"at,S/V1/Q1/QB1,off\nat,S/V1/Q1/QA1,off\nat,S/V1/Q1/QB9,on\nat,S/V1/Q1/QC9,off\n",
     b"at,S/V1/Q1/E1,off\nat,S/V1/Q2/QB1,on\nat,S/V1/Q2/QA1,on\nat,S/V1/Q2/QB9,on\n",
     b"at,S/V1/Q2/QC9,off\nat,S/V1/Q2/E1,on\n",
@@ -90,7 +90,7 @@ const STORIES: &[Story] = &[
     },
 ];
 
-fn push_lines(text: &mut Text, lines: &[&[u8]]) -> Result<(), Memory> {
+pub(crate) fn push_lines(text: &mut Text, lines: &[&[u8]]) -> Result<(), Memory> {
     for line in lines {
         text.push(line)?;
     }
@@ -186,70 +186,6 @@ impl StationRow for Story {
 #[test]
 fn replays_trips(rt: HostRuntime) {
     assert!(rt; rows_hold(rt.alloc(), STORIES));
-}
-
-// What follows the ten lines of the start, and the number of the refusal and its line.
-struct Refused {
-    rest: &'static [u8],
-    number: u8,
-    line: u32,
-}
-
-const REFUSED: &[Refused] = &[
-    // a trip of no breaker, and of no switch
-    Refused {
-        rest: b"trip,S/V1/Q1/QB1\n",
-        number: 2,
-        line: 11,
-    },
-    Refused {
-        rest: b"trip,S/V1/Q3/QA1\n",
-        number: 2,
-        line: 11,
-    },
-    // one field too many
-    Refused {
-        rest: b"trip,S/V1/Q1/QA1,off\n",
-        number: 1,
-        line: 11,
-    },
-    // it is too late to tell where a switch stands, and other kinds are refused as ever
-    Refused {
-        rest: b"trip,S/V1/Q1/QA1\nat,S/V1/Q1/QA1,off\n",
-        number: 7,
-        line: 12,
-    },
-    Refused {
-        rest: b"trips,S/V1/Q1/QA1\n",
-        number: 6,
-        line: 11,
-    },
-];
-
-// Whether the log is refused so.
-fn is_refused(alloc: Global, station: &Station, bytes: &[u8], number: u8, line: u32) -> bool {
-    match read_trip_log(alloc, station, bytes) {
-        Err(TripLogFault::Refused(refusal)) => (refusal.number, refusal.line) == (number, line),
-        _ => false,
-    }
-}
-
-impl StationRow for Refused {
-    fn example(&self) -> Example {
-        Example::TwoFeeders
-    }
-
-    fn holds(&self, alloc: Global, station: &Station) -> bool {
-        let mut bytes = Text::new(alloc);
-        push_lines(&mut bytes, STANDS).is_ok()
-            && bytes.push(self.rest).is_ok()
-            && is_refused(alloc, station, bytes.bytes(), self.number, self.line)
-    }
-}
-
-#[test]
-fn refuses_trips(rt: HostRuntime) {
-    assert!(rt; rows_hold(rt.alloc(), REFUSED));
 }
 
 // A disconnector is closed in parallel to another while the coupler bonds their busbars. The coupler trips before the

@@ -1,7 +1,7 @@
 use Rattle.std.proofs.Common.{subst}
 use Rattle.std.proofs.lemmas.Option.{get_or_from_slice_get, slice_get_within}
 use Rattle.bay_frames.specs.Row.{IsLawful}
-use Rattle.test_world.proofs.events.are_sent.Goals as goal
+use Rattle.test_world.proofs.outcomes.are_sent.Goals as goal
 
 pub encode-len-requires : goal.encode-len-requires
 encode-len-requires c =
