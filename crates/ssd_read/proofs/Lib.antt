@@ -15,6 +15,8 @@ pub mod Laid
 pub mod Given
 pub mod Tapped
 pub mod NewPaths
+mod TextTables
+mod KeyTables
 pub mod SwitchPaths
 pub mod Ready
 pub mod Items

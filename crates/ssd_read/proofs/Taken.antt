@@ -1,6 +1,6 @@
 -- Names that are taken after a list of elements.
 use Rattle.std.proofs.Common.{◌≡◌, ℕ, List, [], ◌∷◌, ◌++◌, map, Option, Some, None, Bool, true, false, not, ◌||◌, ◌&&◌}
-use Rattle.std.proofs.Common.{cond, refl, ap, ◌∙◌, sym}
+use Rattle.std.proofs.Common.{cond, refl, ap, ◌∙◌, sym, subst}
 use Rattle.std.specs.List.{list_any, filter, cons_option}
 use Rattle.std.specs.Option.{option_map, option_to_list}
 use Rattle.std.specs.Str.{bytes_eq}
@@ -9,6 +9,8 @@ use Rattle.ssd_read.specs.Elements.{Element, counted_as}
 use Rattle.ssd_read.specs.Names.{counted_path, counted_paths, same_pair, same_counted, same_path, same_key, is_node}
 use Rattle.ssd_read.specs.Names.{key_of, keys_of, name_fault, is_nameless}
 use Rattle.ssd_read.specs.declared.refusal.SsdRefusal.TheVariants.{NoName, Twice}
+use Rattle.ssd_read.specs.declared.paths.Names.{Names}
+use Rattle.ssd_read.specs.SeenPaths.{AreNumbered, HaveSame, AddsPair}
 use Rattle.ssd_read.proofs.Lists.{not_true, not_false}
 
 none_any : {X : Type 0} (xs : List X) → list_any (λ x. false) xs ≡ false
@@ -55,29 +57,42 @@ pub uncounted_new : (x : Element) (before : List Element) → None ≡ counted_a
 uncounted_new x before h = sym (ap (λ o. not (list_any (λ y. same_counted o (counted_path y)) before))
     (path_of_none x h) ∙ ap not (none_any before))
 
+any_last : {X : Type 0} (p : X → Bool) (xs : List X) (y : X) → (list_any p xs || p y) ≡ list_any p (xs ++ y ∷ [])
+any_last p [] y = last_alone (p y)
+  where
+    last_alone : (b : Bool) → b ≡ (b || false)
+    last_alone true = refl
+    last_alone false = refl
+any_last p (x ∷ xs) y = one_end (p x) (list_any p xs) (p y) ∙ ap (λ b. p x || b) (any_last p xs y)
+  where
+    one_end : (a b c : Bool) → ((a || b) || c) ≡ (a || (b || c))
+    one_end true b c = refl
+    one_end false b c = refl
+
 pub uncounted_added : (x : Element) (before : List Element) (paths : List (Role × List ℕ)) → None ≡ counted_as x.role →
-    paths ≡ counted_paths before → paths ≡ counted_paths (before ++ x ∷ [])
-uncounted_added x before paths h e =
-    e ∙ sym (counted_push before x ∙ (ap (λ o. counted_paths before ++ option_to_list o) (path_of_none x h)
-    ∙ append_none (counted_paths before)))
+    HaveSame paths (counted_paths before) → HaveSame paths (counted_paths (before ++ x ∷ []))
+uncounted_added x before paths h same p =
+    same p ∙ ap (list_any (same_pair p)) (sym (counted_push before x
+    ∙ (ap (λ o. counted_paths before ++ option_to_list o) (path_of_none x h) ∙ append_none (counted_paths before))))
 
 pub counted_new : (x : Element) (before : List Element) (paths : List (Role × List ℕ)) (kind : Role) (path : List ℕ)
     (b : Bool) → Some kind ≡ counted_as x.role → path ≡ x.path → b ≡ not (list_any (same_pair (kind, path)) paths) →
-    paths ≡ counted_paths before
+    HaveSame paths (counted_paths before)
     → b ≡ not (list_any (same_path x) before)
-counted_new x before paths kind path b h p new e =
+counted_new x before paths kind path b h p new same =
     let found : counted_path x ≡ Some (kind, path) = rw p (path_of_some x kind h) in
-    new ∙ ap not (ap (list_any (same_pair (kind, path))) e ∙ (any_counted (kind, path) before
+    new ∙ ap not (same (kind, path) ∙ (any_counted (kind, path) before
     ∙ ap (λ o. list_any (λ y. same_counted o (counted_path y)) before) (sym found)))
 
 pub counted_added : (x : Element) (before : List Element) (paths news : List (Role × List ℕ)) (kind : Role)
-    (path : List ℕ) → Some kind ≡ counted_as x.role → path ≡ x.path → news ≡ paths ++ (kind, path) ∷ [] →
-    paths ≡ counted_paths before
-    → news ≡ counted_paths (before ++ x ∷ [])
-counted_added x before paths news kind path h p new e =
+    (path : List ℕ) → Some kind ≡ counted_as x.role → path ≡ x.path → AddsPair (kind, path) paths news →
+    HaveSame paths (counted_paths before) → HaveSame news (counted_paths (before ++ x ∷ []))
+counted_added x before paths news kind path h p adds same q =
     let found : counted_path x ≡ Some (kind, path) = rw p (path_of_some x kind h) in
-    new ∙ (ap (λ l. l ++ (kind, path) ∷ []) e
-    ∙ sym (counted_push before x ∙ ap (λ o. counted_paths before ++ option_to_list o) found))
+    let pushed : counted_paths (before ++ x ∷ []) ≡ counted_paths before ++ (kind, path) ∷ [] =
+    counted_push before x ∙ ap (λ o. counted_paths before ++ option_to_list o) found in
+    adds q ∙ (ap (λ b. b || same_pair q (kind, path)) (same q) ∙ (any_last (same_pair q) (counted_paths before)
+    (kind, path) ∙ ap (list_any (same_pair q)) (sym pushed)))
 
 -- ---- keys
 
@@ -97,13 +112,11 @@ pub unkeyed_new : (x : Element) (before : List Element) → is_node x ≡ false 
 unkeyed_new x before h = sym (ap (λ b. not (list_any (λ y. b && is_node y && bytes_eq (key_of x) (key_of y)) before)) h
     ∙ ap not (none_any before))
 
-pub keyed_new : (x : Element) (before : List Element) (keys : List (List ℕ)) (key : List ℕ) (b : Bool) →
-    is_node x ≡ true → key ≡ key_of x → b ≡ not (list_any (bytes_eq key) keys) → keys ≡ keys_of before →
-    b ≡ not (list_any (same_key x) before)
-keyed_new x before keys key b h k new e =
-    new ∙ ap not (ap (list_any (bytes_eq key)) e
-    ∙ (any_key key before ∙ (ap (λ k. list_any (λ y. is_node y && bytes_eq k (key_of y)) before) k
-    ∙ ap (λ b. list_any (λ y. b && is_node y && bytes_eq (key_of x) (key_of y)) before) (sym h))))
+pub keyed_new : (x : Element) (before : List Element) (key : List ℕ) (b : Bool) → is_node x ≡ true → key ≡ key_of x →
+    b ≡ not (list_any (bytes_eq key) (keys_of before)) → b ≡ not (list_any (same_key x) before)
+keyed_new x before key b h k new =
+    new ∙ ap not (any_key key before ∙ (ap (λ k. list_any (λ y. is_node y && bytes_eq k (key_of y)) before) k
+    ∙ ap (λ b. list_any (λ y. b && is_node y && bytes_eq (key_of x) (key_of y)) before) (sym h)))
 
 cond_end : {X : Type 0} (b : Bool) (y : X) (xs ys : List X) → cond b (y ∷ (xs ++ ys)) (xs ++ ys) ≡ cond b
     (y ∷ xs) xs ++ ys
@@ -125,17 +138,16 @@ keys_push : (before : List Element) (x : Element) → keys_of (before ++ x ∷ [
 keys_push before x = ap (map key_of) (filter_push is_node before x) ∙ map_end key_of (filter is_node before)
     (cond (is_node x) (x ∷ []) [])
 
-pub unkeyed_added : (x : Element) (before : List Element) (keys : List (List ℕ)) → is_node x ≡ false →
-    keys ≡ keys_of before → keys ≡ keys_of (before ++ x ∷ [])
-unkeyed_added x before keys h e =
-    e ∙ sym (keys_push before x ∙ (ap (λ b. keys_of before ++ map key_of (cond b (x ∷ []) [])) h
-    ∙ append_none (keys_of before)))
+pub unkeyed_added : (x : Element) (before : List Element) (names : Names) → is_node x ≡ false →
+    AreNumbered names (keys_of before) → AreNumbered names (keys_of (before ++ x ∷ []))
+unkeyed_added x before names h numbered = subst (AreNumbered names)
+    (sym (keys_push before x ∙ (ap (λ b. keys_of before ++ map key_of (cond b (x ∷ []) [])) h
+    ∙ append_none (keys_of before)))) numbered
 
-pub keyed_added : (x : Element) (before : List Element) (keys news : List (List ℕ)) (key : List ℕ) → is_node x ≡ true →
-    key ≡ key_of x → news ≡ keys ++ key ∷ [] → keys ≡ keys_of before → news ≡ keys_of (before ++ x ∷ [])
-keyed_added x before keys news key h k new e =
-    new ∙ (ap (λ l. l ++ key ∷ []) e ∙ (ap (λ k. keys_of before ++ k ∷ []) k
-    ∙ sym (keys_push before x ∙ ap (λ b. keys_of before ++ map key_of (cond b (x ∷ []) [])) h)))
+pub keyed_added : (x : Element) (before : List Element) (names : Names) (key : List ℕ) → is_node x ≡ true →
+    key ≡ key_of x → AreNumbered names (keys_of before ++ key ∷ []) → AreNumbered names (keys_of (before ++ x ∷ []))
+keyed_added x before names key h k numbered = subst (AreNumbered names) (ap (λ k. keys_of before ++ k ∷ []) k
+    ∙ sym (keys_push before x ∙ ap (λ b. keys_of before ++ map key_of (cond b (x ∷ []) [])) h)) numbered
 
 -- ---- the fault of an element
 

@@ -10,5 +10,6 @@ pub mod Laws
 pub mod Seen
 pub mod Decoded
 pub mod SeenPaths
+pub mod SeenKeys
 pub mod Shown
 pub mod Whole

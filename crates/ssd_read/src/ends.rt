@@ -9,6 +9,7 @@ ghost use Rattle.ssd_read.specs.Elements.{Element, element_at, same_role, attrib
 ghost use Rattle.ssd_read.specs.Decoded.{AreNamesOf};
 ghost use Rattle.ssd_text.specs.Nesting.{Entry};
 ghost use Rattle.ssd_read.specs.Names.{keys_of};
+ghost use Rattle.ssd_read.specs.SeenPaths.{AreNumbered};
 ghost use Rattle.ssd_read.specs.Ends.{after_slash, is_grounded, with_slash, joined_names, wanted_key, end_of};
 ghost use Rattle.ssd_read.specs.Ends.{is_terminal_of, ends_of, node_at, nodes_at};
 ghost use Rattle.ssd_read.specs.Steps.{is_winding_terminal_of, winding_ends_of};
@@ -130,7 +131,7 @@ fn end_of(
     i: u32,
 ) -> Result<TerminalPlace, Memory>
     requires within { i < length drawing.now }
-    requires keys { keys.now ≡ keys_of drawing.now }
+    requires keys { AreNumbered keys.now (keys_of drawing.now) }
     requires few { length drawing.now ≤ ELEMENTS }
     ensures { IfOk result (λ e. e ≡ end_of drawing.now (element_at drawing.now i)) }
 {
@@ -188,7 +189,7 @@ fn add_end(
     windings: &mut EndLists,
 ) -> Result<(), Memory>
     requires within { i < length drawing.now }
-    requires keys { keys.now ≡ keys_of drawing.now }
+    requires keys { AreNumbered keys.now (keys_of drawing.now) }
     requires own { length own.old ≡ length drawing.now }
     requires windings { length windings.old ≡ length drawing.now }
     ensures own_len { length own.new ≡ length own.old }
@@ -220,7 +221,7 @@ pub(crate) fn all_ends(
     drawing: &Drawing<'_>,
     keys: &Names,
 ) -> Result<(EndLists, EndLists), Memory>
-    requires { keys.now ≡ keys_of drawing.now }
+    requires { AreNumbered keys.now (keys_of drawing.now) }
     ensures own_len { IfOk result (λ r. length r.0 ≡ length drawing.now) }
     ensures windings_len { IfOk result (λ r. length r.1 ≡ length drawing.now) }
     ensures own { IfOk result (λ r. (j : ℕ) → j < length drawing.now →

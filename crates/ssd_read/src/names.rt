@@ -9,6 +9,7 @@ ghost use Rattle.ssd_read.specs.Elements.{Element, element_at, attribute_value};
 ghost use Rattle.ssd_read.specs.Names.{is_shown, is_good_name, lacks_name, is_nameless, key_of, same_path, same_key};
 ghost use Rattle.ssd_read.specs.Names.{counted_paths, keys_of, name_fault, first_fault};
 ghost use Rattle.ssd_read.specs.Seen.{Finds};
+ghost use Rattle.ssd_read.specs.SeenPaths.{AreNumbered, HaveSame};
 
 use crate::drawing::Drawing;
 use crate::paths::{Names, Paths};
@@ -74,18 +75,17 @@ fn key_of(alloc: Global, drawing: &Drawing<'_>, i: u32) -> Result<String, Memory
 }
 
 // Adds the path of an element, and says whether no element of its kind had it.
-fn add_path(alloc: Global, drawing: &Drawing<'_>, i: u32, paths: &mut Paths) -> Result<bool, Memory>
+fn add_path<'d>(drawing: &'d Drawing<'_>, i: u32, paths: &mut Paths<'d>) -> Result<bool, Memory>
     requires { i < length drawing.now }
-    ensures new { IfOk result (λ b. (before : List Element) → paths.old ≡ counted_paths before →
+    ensures new { IfOk result (λ b. (before : List Element) → HaveSame paths.old (counted_paths before) →
         b ≡ not (list_any (same_path (element_at drawing.now i)) before)) }
-    ensures added { IfOk result (λ b. IsTrue b → (before : List Element) → paths.old ≡ counted_paths before →
-        paths.new ≡ counted_paths (before ++ element_at drawing.now i ∷ [])) }
+    ensures added { IfOk result (λ _. (before : List Element) → HaveSame paths.old (counted_paths before) →
+        HaveSame paths.new (counted_paths (before ++ element_at drawing.now i ∷ []))) }
 {
     match counted_as(drawing.role(i)) {
         None => Ok(true),
         Some(kind) => {
-            let path = String::from_str(alloc, drawing.path(i))?;
-            let new = paths.add(kind, path)?;
+            let new = paths.add(kind, drawing.path(i))?;
             Ok(new)
         }
     }
@@ -94,10 +94,10 @@ fn add_path(alloc: Global, drawing: &Drawing<'_>, i: u32, paths: &mut Paths) -> 
 // Adds the key of a node, and says whether no node had it.
 fn add_key(alloc: Global, drawing: &Drawing<'_>, i: u32, keys: &mut Names) -> Result<bool, Memory>
     requires { i < length drawing.now }
-    ensures new { IfOk result (λ b. (before : List Element) → keys.old ≡ keys_of before →
+    ensures new { IfOk result (λ b. (before : List Element) → AreNumbered keys.old (keys_of before) →
         b ≡ not (list_any (same_key (element_at drawing.now i)) before)) }
-    ensures added { IfOk result (λ b. IsTrue b → (before : List Element) → keys.old ≡ keys_of before →
-        keys.new ≡ keys_of (before ++ element_at drawing.now i ∷ [])) }
+    ensures added { IfOk result (λ b. IsTrue b → (before : List Element) → AreNumbered keys.old (keys_of before) →
+        AreNumbered keys.new (keys_of (before ++ element_at drawing.now i ∷ []))) }
 {
     if drawing.role(i) != Role::ConnectivityNode {
         return Ok(true);
@@ -108,25 +108,25 @@ fn add_key(alloc: Global, drawing: &Drawing<'_>, i: u32, keys: &mut Names) -> Re
 }
 
 // Adds the names of an element, or finds its fault.
-fn check_name(
+fn check_name<'d>(
     alloc: Global,
-    drawing: &Drawing<'_>,
+    drawing: &'d Drawing<'_>,
     i: u32,
-    paths: &mut Paths,
+    paths: &mut Paths<'d>,
     keys: &mut Names,
 ) -> Result<(), SsdRefusal>
     requires { i < length drawing.now }
-    ensures fault { (before : List Element) → paths.old ≡ counted_paths before → keys.old ≡ keys_of before →
-        Finds result (name_fault before (element_at drawing.now i)) }
-    ensures paths { OnOk result ((before : List Element) → paths.old ≡ counted_paths before →
-        paths.new ≡ counted_paths (before ++ element_at drawing.now i ∷ [])) }
-    ensures keys { OnOk result ((before : List Element) → keys.old ≡ keys_of before →
-        keys.new ≡ keys_of (before ++ element_at drawing.now i ∷ [])) }
+    ensures fault { (before : List Element) → HaveSame paths.old (counted_paths before) → AreNumbered keys.old
+        (keys_of before) → Finds result (name_fault before (element_at drawing.now i)) }
+    ensures paths { OnOk result ((before : List Element) → HaveSame paths.old (counted_paths before) →
+        HaveSame paths.new (counted_paths (before ++ element_at drawing.now i ∷ []))) }
+    ensures keys { OnOk result ((before : List Element) → AreNumbered keys.old (keys_of before) →
+        AreNumbered keys.new (keys_of (before ++ element_at drawing.now i ∷ []))) }
 {
     if is_nameless(drawing, i) {
         return Err(SsdRefusal::NoName { at: drawing.at(i) });
     }
-    if !add_path(alloc, drawing, i, paths)? {
+    if !add_path(drawing, i, paths)? {
         return Err(SsdRefusal::Twice { at: drawing.at(i) });
     }
     if !add_key(alloc, drawing, i, keys)? {
@@ -138,7 +138,7 @@ fn check_name(
 // The keys of all nodes, or the first fault of names.
 pub(crate) fn check_names(alloc: Global, drawing: &Drawing<'_>) -> Result<Names, SsdRefusal>
     ensures fault { Finds result (first_fault name_fault [] drawing.now) }
-    ensures keys { IfOk result (λ keys. keys ≡ keys_of drawing.now) }
+    ensures keys { IfOk result (λ keys. AreNumbered keys (keys_of drawing.now)) }
 {
     let mut paths = Paths::new(alloc);
     let mut keys = Names::new(alloc);

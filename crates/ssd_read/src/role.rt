@@ -7,7 +7,7 @@ ghost use Rattle.std.specs.Option.{option_map};
 ghost use Rattle.ssd_read.specs.Decoded.{IsNameOf};
 
 /// What an element of a drawing is, by its name and where it stands. The definitions speak of it.
-#[derive(Clone, Copy, PartialEq, Eq, Hash)]
+#[derive(Clone, Copy, PartialEq, Eq, PartialOrd, Ord)]
 pub enum Role {
     /// the element in which all others stand
     Root,

@@ -1,6 +1,7 @@
-use Rattle.std.proofs.Common.{◌≡◌, ◌≤◌, ◌<◌, ◌+◌, ◌++◌, ◌∷◌, [], sym, ap, ◌∙◌, take, length, arith}
+use Rattle.std.proofs.Common.{◌≡◌, ◌≤◌, ◌<◌, ◌+◌, ◌++◌, ◌∷◌, [], sym, subst, List, take, length, arith}
 use Rattle.std.proofs.lemmas.List.{take_more}
-use Rattle.ssd_read.specs.Elements.{element_at, nowhere}
+use Rattle.ssd_read.specs.Elements.{Element, element_at, nowhere}
+use Rattle.ssd_read.specs.SeenPaths.{AreNumbered, HaveSame}
 use Rattle.ssd_read.specs.Names.{counted_paths, keys_of, first_fault, name_fault}
 use Rattle.ssd_read.proofs.Faults.{fault_next, fault_here, fault_none, finds_err}
 use Rattle.ssd_read.proofs.names.check_names.Goals as goal
@@ -13,8 +14,10 @@ loop-i-preserved c =
     let before = take l.i all in
     let more : take (l.i + 1) all ≡ before ++ element_at all l.i ∷ [] = take_more all l.i nowhere inside in
     record {
-      paths = c.in-Ok.ensures.paths before l.invariant.paths ∙ ap counted_paths (sym more);
-      keys = c.in-Ok.ensures.keys before l.invariant.keys ∙ ap keys_of (sym more);
+      paths = subst (λ (xs : List Element). HaveSame c.check_name.new.paths (counted_paths xs)) (sym more)
+          (c.in-Ok.ensures.paths before l.invariant.paths);
+      keys = subst (λ (xs : List Element). AreNumbered c.check_name.new.keys (keys_of xs)) (sym more)
+          (c.in-Ok.ensures.keys before l.invariant.keys);
       fault = fault_next name_fault all l.i (first_fault name_fault [] all) inside l.invariant.fault
           (c.in-Ok.ensures.fault before l.invariant.paths l.invariant.keys);
     }
