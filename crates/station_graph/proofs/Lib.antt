@@ -1,4 +1,5 @@
 pub mod PathLemmas
+pub mod TextPlaces
 pub mod LinkedLemmas
 pub mod ClassesLemmas
 pub mod BreakerLemmas

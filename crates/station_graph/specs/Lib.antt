@@ -12,3 +12,4 @@ pub mod Inside
 pub mod Building
 pub mod DraftInside
 pub mod Limits
+pub mod Placing

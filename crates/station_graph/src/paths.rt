@@ -1,25 +1,31 @@
 //! The paths of one kind: of the nodes, of the parts or of the switches of a station.
-ghost use Rattle.std.specs.Prelude.{◌≡◌, ◌<◌, ◌++◌, [], ◌∷◌, List, ℕ, length, slice_get, Some, OnOk, OnErr, IfSome};
+ghost use Rattle.std.specs.Prelude.{◌≡◌, ◌<◌, ◌++◌, [], ◌∷◌, length, slice_get, Some, OnOk, OnErr, IfSome};
 ghost use Rattle.std.specs.Prelude.{IfNone, IsTrue, ◌↔◌, Contains, string_bytes};
 
-use indexmap::IndexSet;
-use std::alloc::{AllocFailed, Global};
+use ilk_base::Memory;
+use std::alloc::Global;
+use std::collections::BTreeMap;
 use std::marker::Model;
+use std::rc::RcStr;
 
-// Paths in the order in which they were added, seen as their list. A path is found by a hash, in
-// time of its own length.
+// Paths in the order in which they were added, seen as their list. A path is found in time of its own
+// length and of the logarithm of the others, whoever chose them.
 #[derive(Drop)]
 pub(crate) struct Paths {
-    paths: IndexSet<String>,
+    paths: Vec<RcStr>,
+    places: BTreeMap<RcStr, usize>,
 }
 
 impl Model for Paths {
     ghost use Rattle.std.specs.Prelude.{List, ℕ, map};
-    ghost use Rattle.std.specs.String.{string_bytes};
+    ghost use Rattle.std.specs.Rc.{rc_str_bytes};
+    ghost use Rattle.station_graph.specs.Placing.{ArePlaces};
 
     ghost Value = { List (List ℕ) };
 
-    ghost view = { λ p. map string_bytes p.paths.keys };
+    ghost view = { λ p. map rc_str_bytes p.paths.items };
+
+    ghost invariant = { λ p. ArePlaces p.places (map rc_str_bytes p.paths.items) };
 }
 
 impl Paths {
@@ -27,7 +33,8 @@ impl Paths {
         ensures { result ≡ [] }
     {
         Paths {
-            paths: IndexSet::new(alloc),
+            paths: Vec::new(alloc),
+            places: BTreeMap::new(alloc),
         }
     }
 
@@ -42,12 +49,16 @@ impl Paths {
     }
 
     // Adds a path that is not there.
-    pub(crate) fn push(&mut self, path: String) -> Result<(), AllocFailed<String>>
+    pub(crate) fn push(&mut self, path: String) -> Result<(), Memory>
         requires new { ¬ Contains self.old (string_bytes path) }
         ensures ok { OnOk result (self.new ≡ self.old ++ string_bytes path ∷ []) }
         ensures err { OnErr result (self.new ≡ self.old) }
     {
-        self.paths.insert(path)?;
+        let path = RcStr::from_string(path)?;
+        let place = self.paths.len();
+        self.paths.reserve(1)?;
+        self.places.insert(path.clone()?, place)?;
+        self.paths.push_reserved(path);
         Ok(())
     }
 
@@ -63,7 +74,7 @@ impl Paths {
         ensures found { IfSome result (λ i. slice_get self.now i ≡ Some path.now) }
         ensures none { IfNone result (¬ Contains self.now path.now) }
     {
-        self.paths.get_index_of(path)
+        self.places.get(path).copied()
     }
 
     pub(crate) fn is_new(&self, path: &str) -> bool

@@ -152,8 +152,8 @@ impl Station {
         (SwitchId(first as u16), (next - first) as u16)
     }
 
-    /// The switch with this path; none where there is none. Time: the length of the path, by a hash.
-    /// Takes no memory.
+    /// The switch with this path; none where there is none. Time: the length of the path, and the
+    /// logarithm of the switches. Takes no memory.
     pub fn find_switch(&self, path: &str) -> Option<SwitchId>
         ensures found { IfSome result (λ id. slice_get self.now.switch_paths id.0 ≡ Some path.now) }
         ensures within { IfSome result (λ id. id.0 < length self.now.switches) }
@@ -167,7 +167,7 @@ impl Station {
     }
 
     /// The part with this path that has switches; none where there is none. Time: the length of the
-    /// path, by a hash, and the logarithm of the switches. Takes no memory.
+    /// path, and the logarithm of the parts and the switches. Takes no memory.
     pub fn find_bay(&self, path: &str) -> Option<BayId>
         ensures found { IfSome result (λ id. slice_get self.now.part_paths id.0 ≡ Some path.now) }
         ensures within { IfSome result (λ id. id.0 < part_count self.now) }

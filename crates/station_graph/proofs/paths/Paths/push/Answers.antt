@@ -1,14 +1,11 @@
-use Rattle.std.proofs.Common.{ℕ, map, ◌++◌, ◌∷◌, [], List, ap, ◌∙◌}
+use Rattle.std.proofs.Common.{◌∙◌, ◌++◌, ◌∷◌, [], ap, rules}
 use Rattle.std.specs.String.{string_bytes}
-use Rattle.std.proofs.lemmas.List.{map-append}
-use Rattle.station_graph.proofs.PathLemmas.{insert_key-new}
+use Rattle.station_graph.proofs.PathLemmas.{places_push}
 use Rattle.station_graph.proofs.paths.Paths.push.Goals as goal
 
-pub returns-clause-ok : goal.returns-clause-ok
-returns-clause-ok c =
-    let keys = c.self.inside.paths.keys in
-    let path = c.args.path in
-    ap (map string_bytes) (c.in_ok-insert.ensures.keys ∙ insert_key-new keys c.args.self.now c.self.view_is path
-    c.requires.new)
-    ∙ (map-append string_bytes keys (path ∷ []) ∙ ap (λ (ps : List (List ℕ)). ps ++ string_bytes path ∷ [])
-    c.self.view_is)
+pub invariant_of-self-2 : goal.invariant_of-self-2
+invariant_of-self-2 c = places_push c.self.inside.places c.insert.new.self c.args.self.now c.self.inside.paths.items
+    c.push_reserved.new.self.items c.in_ok-path.path c.in_ok-clone.field-0 (string_bytes c.args.path)
+    c.len-place.result c.self.view_is c.self.invariant c.requires.new c.in_ok-path.ensures.ok
+    c.in_ok-clone.ensures.cases (search rules) c.in_ok-insert.ensures.updates
+    (c.push_reserved.ensures.items ∙ ap (λ xs. xs ++ c.in_ok-path.path ∷ []) c.in_ok-reserve.ensures.items)
