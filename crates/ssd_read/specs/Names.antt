@@ -29,7 +29,7 @@ is_shown b = not (nat_lt b 32) && not (b == 127)
 abbrev pub is_good_name : List ℕ → Bool
 is_good_name name = nat_lt 0 (length name) && list_all is_shown name
 
--- The element has no name, or one that is empty or holds a slash.
+-- The element has no name, or one that is not good.
 abbrev pub lacks_name : Entry → Bool
 lacks_name e = not (option_map_or is_good_name (attribute_value e (codes "name")) false)
 
