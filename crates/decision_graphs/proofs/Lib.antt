@@ -28,4 +28,3 @@ pub mod LawLemmas
 pub mod SetLemmas
 pub mod RenameLemmas
 pub mod FinishedLemmas
-pub mod TwinLemmas

@@ -18,4 +18,3 @@ pub mod Depending
 pub mod Renaming
 pub mod Finished
 pub mod Made
-pub mod Twins

@@ -1,4 +1,4 @@
-//! Layered graphs, and what is asked of them.
+//! Layered graphs: what they are, and what is made of them.
 ghost use Rattle.std.specs.Prelude.{◌≡◌, ℕ, ◌+◌, ◌<◌, ◌≤◌, ◌↔◌, length, sum_by, List, map, slice_index, slice_index_or};
 ghost use Rattle.std.specs.Prelude.{true, false, IfOk, MatchOption, IsTrue};
 ghost use Rattle.decision_graphs.specs.Label.{DependsOn, layer_at, first_at, HasEdge, IsNode, Reaches};
@@ -15,15 +15,12 @@ ghost use Rattle.decision_graphs.specs.declared.limits.TheConstants.{LAYERS, GRA
 
 use crate::arrival::Arrival;
 use crate::assemble::reduced;
-use crate::choices::ChoiceList;
 use crate::depend::{label_depends_on, layers_depended};
 use crate::finished::{FinishedLayer, joined};
 use crate::layout::{GraphParts, Layout};
-use crate::marks::Marks;
 use crate::reach::mark_labels;
 use crate::rename::renamed;
 use crate::same::{same_edges, same_shapes};
-use crate::sets::ChoiceSets;
 use ilk_base::Memory;
 use std::alloc::Global;
 use std::marker::Model;
@@ -167,20 +164,6 @@ impl Graph {
         self.parts.layout()
     }
 
-    /// Marks exactly the labels to which some list of allowed choices leads, whatever was marked before, and
-    /// notes such a list for each of them. Where a layer has no allowed choice there is no such list, and no
-    /// label is marked. The sets and the marks were made for this graph. Linear in edges and nodes; takes no
-    /// memory.
-    pub fn reach(&self, sets: &ChoiceSets, marks: &mut Marks)
-        requires sets { AreSetsOf self.now.layers sets.now }
-        requires marks { AreMarksOf self.now marks.old }
-        ensures same { AreMarksOf self.now marks.new }
-        ensures exact { MarksReached self.now sets.now marks.new.labels }
-        ensures paths { PathsLead self.now sets.now marks.new }
-    {
-        marks.mark(self, sets);
-    }
-
     // Marks the nodes that are reached, and behind them the labels, and notes by which edges.
     pub(crate) fn mark(&self, sets: &[Vec<bool>], seen: &mut [bool], arrivals: &mut [Arrival])
         requires sets { AreSetsOf self.now.layers (map (λ v. v.items) sets.now) }
@@ -195,29 +178,6 @@ impl Graph {
         ensures within { AreWithin (length seen.new) arrivals.new }
     {
         mark_labels(&self.layout(), sets, seen, arrivals);
-    }
-
-    /// A list of allowed choices that leads to the label, None exactly where no such list does. The sets
-    /// were made for this graph. Linear in edges and nodes, with nine bytes for each node and label. Where
-    /// paths to more than one label are wanted, `reach` finds all of them at once.
-    pub fn path_to(
-        &self,
-        alloc: Global,
-        sets: &ChoiceSets,
-        label: u32,
-    ) -> Result<Option<ChoiceList>, Memory>
-        requires sets { AreSetsOf self.now.layers sets.now }
-        requires label { label < self.now.labels }
-        ensures { IfOk result (λ o. MatchOption o (Reaches self.now sets.now label → ⊥)
-            (λ p. IsPathTo self.now sets.now label p)) }
-    {
-        let mut marks = Marks::new(alloc, self)?;
-        self.reach(sets, &mut marks);
-        if !marks.marked(label) {
-            return Ok(None);
-        }
-        let path = marks.path_to(alloc, label)?;
-        Ok(Some(path))
     }
 
     /// The graph in which nodes of equal edges are one: each list of choices leads to the label it led to,

@@ -23,11 +23,11 @@ mod layout;
 mod limits;
 mod marks;
 mod reach;
+mod reached;
 mod rename;
 mod same;
 mod sets;
 mod shape;
-mod twins;
 
 pub use builder::{GraphBuilder, Unfinished};
 pub use choices::ChoiceList;
@@ -37,4 +37,3 @@ pub use laws::{reduced_nodes_are_apart, renamed_labels_lead_alike};
 pub use limits::{GRAPH_NODES, LABELS, LAYERS};
 pub use marks::Marks;
 pub use sets::ChoiceSets;
-pub use twins::Twin;

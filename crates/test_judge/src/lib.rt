@@ -16,8 +16,6 @@ mod ends;
 #[cfg(test)]
 mod graphs;
 #[cfg(test)]
-mod pairs;
-#[cfg(test)]
 mod questions;
 #[cfg(test)]
 mod renamed;
