@@ -6,6 +6,7 @@ ghost use Rattle.decision_graphs.specs.Marked.{AreMarksOf};
 use decision_graphs::{ChoiceSets, Graph, Marks};
 use ilk_base::Memory;
 use std::alloc::Global;
+use test_graphs::allow_one;
 
 /// Sets that allow every choice.
 pub fn all_choices(alloc: Global, graph: &Graph) -> Result<ChoiceSets, Memory>
@@ -29,16 +30,6 @@ fn allow_all(graph: &Graph, layer: u16, sets: &mut ChoiceSets)
     }
 }
 
-// Allows a choice, where the graph has it.
-fn allow_one(graph: &Graph, layer: u16, choice: u32, sets: &mut ChoiceSets)
-    requires { AreSetsOf graph.now.layers sets.old }
-    ensures { AreSetsOf graph.now.layers sets.new }
-{
-    if layer < graph.layers() && choice < graph.choices(layer) {
-        sets.allow(layer, choice);
-    }
-}
-
 /// How many labels are marked.
 pub fn marked_labels(graph: &Graph, marks: &Marks) -> u32
     requires { AreMarksOf graph.now marks.now }
@@ -50,13 +41,4 @@ pub fn marked_labels(graph: &Graph, marks: &Marks) -> u32
         }
     }
     count
-}
-
-/// How many nodes the graph has.
-pub fn node_total(graph: &Graph) -> u64 {
-    let mut total = 0u64;
-    for layer in 0..graph.layers() {
-        total = total.saturating_add(graph.nodes(layer).1 as u64);
-    }
-    total
 }

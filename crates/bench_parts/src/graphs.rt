@@ -2,14 +2,14 @@
 ghost use Rattle.decision_graphs.specs.Drafting.{IsShaped};
 ghost use Rattle.decision_graphs.specs.Reaching.{AreSetsOf};
 ghost use Rattle.decision_graphs.specs.Marked.{AreMarksOf};
-ghost use Rattle.bench_parts.specs.Sizes.{AreSizes};
+ghost use Rattle.test_graphs.specs.Sizes.{AreSizes};
 
-use crate::graph_questions::{all_choices, marked_labels, node_total};
-use crate::graph_table::{are_sizes, bare, fill};
+use crate::graph_questions::{all_choices, marked_labels};
 use anyhow::{Result, bail};
 use decision_graphs::{ChoiceSets, Graph, GraphBuilder, Marks};
 use std::alloc::Global;
 use std::time::Instant;
+use test_graphs::{are_sizes, bare, fill, node_total};
 
 /// The sizes of the graph: all layers have the same.
 #[derive(Clone, Copy)]

@@ -6,7 +6,6 @@ mod alphabets;
 mod compositions;
 mod elements;
 mod graph_questions;
-mod graph_table;
 mod graphs;
 mod verdicts;
 

@@ -3,7 +3,7 @@ use Rattle.std.proofs.Common.{◌≡◌, ℕ, ◌+◌, ◌-◌, ◌<◌, zero, s
 use Rattle.std.proofs.Common.{None, map, refl, sym, ap, ◌∙◌, subst, inl, inr, arith}
 use Rattle.std.proofs.lemmas.List.{length_push}
 use Rattle.std.proofs.lemmas.Option.{slice_get-get_or, slice_get-map}
-use Rattle.station_graph.specs.Diagram.{Diagram, IsStation, AreSwitchesOf, part_count}
+use Rattle.station_graph.specs.Diagram.{IsStation, part_count}
 use Rattle.station_graph.proofs.PathLemmas.{slice_get-push}
 use Rattle.contraction.specs.Answers.{Answers}
 use Rattle.decision_graphs.specs.Label.{Layered}
@@ -12,22 +12,12 @@ use Rattle.judge_pool.specs.Lettered.{Lettered}
 use Rattle.judge_pool.specs.declared.pool.Pool.{Pool}
 use Rattle.judge_pool.specs.Layering.{values_at}
 use Rattle.judge_intake.specs.Inputs.{AreCopies}
-use Rattle.judge_graphs.specs.declared.bay.BayGraphs.{BayGraphs}
+use Rattle.judge_graphs.specs.declared.graphs.BayGraphs.{BayGraphs}
 use Rattle.judge_graphs.specs.BuiltView.{seen_bay, seen_part}
-use Rattle.judge_pool.specs.Graphs.{IsOwn}
 use Rattle.judge_pool.proofs.BridgeLemmas.{from_map}
 use Rattle.judge_intake.proofs.PlacesLemmas.{inner_for}
 use Rattle.central_rules.specs.Meaning.{IsBay}
 use Rattle.judge_graphs.specs.Built.{BayOf, IsInnerAt, AreInner, AreBayGraphs, AreGraphsOf, AreBays}
-
--- one of so many switches of the bay
-pub own_of : (d : Diagram) (b first count i : ℕ) → AreSwitchesOf d b first count → i < count →
-    IsOwn d b (first + i) first (count - 1)
-own_of d b first count i are lt = (let e : count ≡ suc (count - 1) = omega (arith, lt) in record {
-  those = subst (λ n. AreSwitchesOf d b first n) e are;
-  from = omega arith;
-  below = omega (arith, lt);
-})
 
 pub inner_none : (view : View) (a : Lettered) (b first count : ℕ) (names : List Answers) →
     AreInner view a b first count names [] 0

@@ -3,8 +3,8 @@ use Rattle.std.proofs.Common.{◌≡◌, ℕ, suc, Bool, List, [], ◌∷◌, �
 use Rattle.std.proofs.Common.{◌∙◌, subst, inl, inr, arith}
 use Rattle.station_graph.proofs.PathLemmas.{slice_get-push}
 use Rattle.decision_graphs.specs.Label.{Layered}
-use Rattle.judge_graphs.specs.declared.bay.BayGraphs.{BayGraphs}
-use Rattle.judge_graphs.specs.declared.bay.ViewGraphs.{ViewGraphs}
+use Rattle.judge_graphs.specs.declared.graphs.BayGraphs.{BayGraphs}
+use Rattle.judge_graphs.specs.declared.graphs.ViewGraphs.{ViewGraphs}
 use Rattle.judge_graphs.specs.Built.{ViewOf}
 use Rattle.judge_graphs.specs.BuiltView.{view_of}
 use Rattle.judge_graphs.specs.Telling.{IsToldBy, HasTold, HaveTold, AreThese}

@@ -1,7 +1,7 @@
 -- How the graphs of a bay are seen.
 use Rattle.std.specs.Prelude.{Option, option_map}
-use Rattle.judge_graphs.specs.declared.bay.ViewGraphs.{ViewGraphs}
-use Rattle.judge_graphs.specs.declared.bay.BayGraphs.{BayGraphs}
+use Rattle.judge_graphs.specs.declared.graphs.ViewGraphs.{ViewGraphs}
+use Rattle.judge_graphs.specs.declared.graphs.BayGraphs.{BayGraphs}
 use Rattle.judge_graphs.specs.Built.{ViewOf, BayOf}
 
 -- The graphs of one view, as a contract sees them.

@@ -1,7 +1,7 @@
 -- Of which layers the graphs of a bay tell, as a list.
 use Rattle.std.specs.Prelude.{◌≡◌, ◌⊎◌, ◌↔◌, ◌<◌, ℕ, Bool, true, false, List, length, slice_get, slice_index_or, Option}
 use Rattle.std.specs.Prelude.{Some, None}
-use Rattle.judge_graphs.specs.declared.bay.BayGraphs.{BayGraphs}
+use Rattle.judge_graphs.specs.declared.graphs.BayGraphs.{BayGraphs}
 use Rattle.judge_graphs.specs.Built.{ViewOf}
 use Rattle.judge_graphs.specs.BuiltView.{view_of}
 use Rattle.judge_graphs.specs.PartnerLabels.{TellsOf}

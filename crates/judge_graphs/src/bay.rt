@@ -1,8 +1,6 @@
-//! The graphs of the bays.
+//! The graphs of a bay are made.
 ghost use Rattle.std.specs.Prelude.{◌≡◌, ◌+◌, ◌<◌, ◌≤◌, ◌↔◌, ℕ, suc, length, map, IfOk, IfErr, OnOk};
-ghost use Rattle.std.specs.Prelude.{Contains};
-ghost use Rattle.station_graph.specs.Diagram.{part_count, AreSwitchesOf};
-ghost use Rattle.contraction.specs.Answers.{AreNodes};
+ghost use Rattle.station_graph.specs.Diagram.{part_count};
 ghost use Rattle.contraction.specs.Renaming.{mapped};
 ghost use Rattle.bay_contract.specs.PartAlphabets.{Alphabets};
 ghost use Rattle.bay_contract.specs.Alphabets.{AreAlphabets};
@@ -10,8 +8,8 @@ ghost use Rattle.judge_pool.specs.Lettered.{lettered};
 ghost use Rattle.judge_pool.specs.Pooling.{IsPool, GrewTo};
 ghost use Rattle.judge_pool.specs.Layering.{values_at};
 ghost use Rattle.judge_intake.specs.SharedNodes.{IsSharing};
-ghost use Rattle.judge_pool.specs.Needing.{BayNeeds};
 ghost use Rattle.judge_intake.specs.Inputs.{AreNames, IsBayIntake};
+ghost use Rattle.judge_intake.specs.OwnBays.{IsOwnBay};
 ghost use Rattle.judge_pool.specs.Places.{node_listed, pool_on};
 ghost use Rattle.judge_graphs.specs.Built.{AreInner, AreViewGraphs, AreBayGraphs};
 ghost use Rattle.judge_pool.specs.Counted.{SwitchesHave, ViewHas, BayHas, Spends, Passes};
@@ -23,6 +21,7 @@ ghost use Rattle.judge_pool.specs.declared.layer.Trouble.TheVariants.{Wide};
 ghost use Rattle.judge_graphs.specs.BuiltView.{view_of, seen_bay};
 ghost use Rattle.judge_pool.specs.declared.limits.TheConstants.{BAY_EDGES};
 
+use crate::graphs::{BayGraphs, ViewGraphs};
 use crate::inner::inner_graph;
 use crate::labelled::InnerNotes;
 use crate::outer::outer_graph;
@@ -31,35 +30,10 @@ use crate::stock::Stock;
 use bay_contract::Parts;
 use decision_graphs::Graph;
 use ilk_base::BayId;
-use judge_intake::{BayIntake, Sharing, bay_intake, bay_nodes};
+use judge_intake::{BayIntake, OwnBay, Sharing, bay_intake, own_bay};
 use judge_pool::{Pool, Trouble, View};
-use station_graph::{NodeList, Station};
+use station_graph::Station;
 use std::alloc::Global;
-use std::rc::Rc;
-
-/// The graphs of one view of a bay.
-#[derive(Drop)]
-pub struct ViewGraphs {
-    /// the outer one, which bays that look the same hold together
-    pub outer: Rc<Graph>,
-    /// an inner one for each of its switches
-    pub inner: Vec<Graph>,
-}
-
-/// The graphs of a bay.
-#[derive(Drop)]
-pub struct BayGraphs {
-    /// its first switch
-    pub first: u16,
-    /// how many switches it has
-    pub count: u16,
-    /// the graphs of the gap view
-    pub gap: ViewGraphs,
-    /// the graphs of the load view
-    pub load: ViewGraphs,
-    /// for each other part, in document order, whether it is a partner
-    pub told: Vec<bool>,
-}
 
 // Inner graphs, and how many edges are left of those that may be made.
 #[derive(Drop)]
@@ -90,42 +64,37 @@ fn own_graphs(
     pool: &mut Pool,
     notes: &mut InnerNotes,
     station: &Station,
-    bay: BayId,
-    list: &NodeList,
-    own: &BayIntake,
-    first: u16,
-    count: u16,
+    own: &OwnBay,
+    common: &BayIntake,
     left: usize,
 ) -> Result<Inners, Trouble>
     requires pool { IsPool pool.old }
     requires notes { AreInnerNotes pool.old notes.old }
-    requires bay { bay.0 < part_count station.now }
-    requires switches { AreSwitchesOf station.now bay.0 first count }
-    requires nodes { AreNodes list.now }
-    requires list { (n : ℕ) → Contains list.now n ↔ BayNeeds station.now bay.0 first count n }
-    requires intake { IsBayIntake (pool_on (node_listed list.now) pool.old) station.now bay.0 first count own.now }
-    requires few { length own.now.names.items ≤ BAY_EDGES + 1 }
+    requires own { IsOwnBay station.now own.now }
+    requires common { IsBayIntake (pool_on (node_listed own.now.nodes) pool.old) station.now own.now.bay.0
+        own.now.first own.now.count common.now }
+    requires few { length common.now.names.items ≤ BAY_EDGES + 1 }
     requires left { left ≤ BAY_EDGES }
     ensures grew { OnOk result (GrewTo pool.old pool.new) }
     ensures notes { OnOk result (AreInnerNotes pool.new notes.new) }
     ensures inner { IfOk result
-        (λ r. (a : Alphabets) → AreInner pool.old.view (lettered station.now a) bay.0 first count
-        (values_at (map (mapped (node_listed list.now)) pool.old.values.items) own.now.names.items) r.graphs.items
-        count) }
+        (λ r. (a : Alphabets) → AreInner pool.old.view (lettered station.now a) own.now.bay.0 own.now.first
+        own.now.count (values_at (map (mapped (node_listed own.now.nodes)) pool.old.values.items)
+        common.now.names.items) r.graphs.items own.now.count) }
     ensures wide { IfErr result (λ e. e ≡ Wide →
-        Passes (SwitchesHave pool.old.view station.now bay.0 first count count) station.now left) }
-    ensures spent { IfOk result (λ r. Spends (SwitchesHave pool.old.view station.now bay.0 first count count)
+        Passes (SwitchesHave pool.old.view station.now own.now.bay.0 own.now.first own.now.count own.now.count) station.now left) }
+    ensures spent { IfOk result (λ r. Spends (SwitchesHave pool.old.view station.now own.now.bay.0 own.now.first own.now.count own.now.count)
         station.now left r.left) }
     ensures left { IfOk result (λ r. r.left ≤ left) }
 {
     let _count = station.switch_count();
     let mut graphs = Vec::new(alloc);
     let mut rest = left;
-    for i in 0..count {
-        let others = count - 1;
-        let moved = first + i;
+    for i in 0..own.count {
+        let others = own.count - 1;
+        let moved = own.first + i;
         let made = inner_graph(
-            alloc, pool, notes, station, bay, list, own, first, moved, others, rest,
+            alloc, pool, notes, station, own, common, moved, others, rest,
         )?;
         rest = made.left;
         graphs.push(made.graph)?;
@@ -139,38 +108,30 @@ fn inner_graphs(
     pool: &mut Pool,
     notes: &mut InnerNotes,
     station: &Station,
-    bay: BayId,
-    list: &NodeList,
-    first: u16,
-    count: u16,
+    own: &OwnBay,
     names: &[usize],
     left: usize,
 ) -> Result<Inners, Trouble>
     requires pool { IsPool pool.old }
     requires notes { AreInnerNotes pool.old notes.old }
-    requires bay { bay.0 < part_count station.now }
-    requires switches { AreSwitchesOf station.now bay.0 first count }
-    requires nodes { AreNodes list.now }
-    requires list { (n : ℕ) → Contains list.now n ↔ BayNeeds station.now bay.0 first count n }
-    requires names { AreNames pool.old station.now bay.0 names.now }
+    requires own { IsOwnBay station.now own.now }
+    requires names { AreNames pool.old station.now own.now.bay.0 names.now }
     requires few { length names.now ≤ BAY_EDGES + 1 }
     requires left { left ≤ BAY_EDGES }
     ensures grew { OnOk result (GrewTo pool.old pool.new) }
     ensures notes { OnOk result (AreInnerNotes pool.new notes.new) }
     ensures inner { IfOk result (λ r. (a : Alphabets) →
-        AreInner pool.old.view (lettered station.now a) bay.0 first count (values_at pool.old.values.items names.now)
-        r.graphs.items count) }
+        AreInner pool.old.view (lettered station.now a) own.now.bay.0 own.now.first own.now.count
+        (values_at pool.old.values.items names.now) r.graphs.items own.now.count) }
     ensures wide { IfErr result (λ e. e ≡ Wide →
-        Passes (SwitchesHave pool.old.view station.now bay.0 first count count) station.now left) }
-    ensures spent { IfOk result (λ r. Spends (SwitchesHave pool.old.view station.now bay.0 first count count)
+        Passes (SwitchesHave pool.old.view station.now own.now.bay.0 own.now.first own.now.count own.now.count) station.now left) }
+    ensures spent { IfOk result (λ r. Spends (SwitchesHave pool.old.view station.now own.now.bay.0 own.now.first own.now.count own.now.count)
         station.now left r.left) }
     ensures left { IfOk result (λ r. r.left ≤ left) }
 {
     let _count = station.switch_count();
-    let own = bay_intake(alloc, pool, station, bay, list, first, count, names)?;
-    let inners = own_graphs(
-        alloc, pool, notes, station, bay, list, &own, first, count, left,
-    )?;
+    let common = bay_intake(alloc, pool, station, own, names)?;
+    let inners = own_graphs(alloc, pool, notes, station, own, &common, left)?;
     Ok(inners)
 }
 
@@ -182,25 +143,21 @@ fn view_graphs(
     parts: &Parts,
     stock: &mut Stock,
     sharing: &Sharing,
-    list: &NodeList,
-    bay: BayId,
-    first: u16,
-    count: u16,
+    own: &OwnBay,
     left: usize,
 ) -> Result<Viewed, Trouble>
     requires lettered { AreAlphabets station.now parts.now }
     requires stock { IsStock (lettered station.now parts.now) view stock.old }
     requires sharing { IsSharing station.now sharing.now }
-    requires nodes { AreNodes list.now }
-    requires list { (n : ℕ) → Contains list.now n ↔ BayNeeds station.now bay.0 first count n }
-    requires bay { bay.0 < part_count station.now }
-    requires switches { AreSwitchesOf station.now bay.0 first count }
+    requires own { IsOwnBay station.now own.now }
     requires left { left ≤ BAY_EDGES }
     ensures stock { OnOk result (IsStock (lettered station.now parts.now) view stock.new) }
-    ensures graphs { IfOk result (λ r. AreViewGraphs view (lettered station.now parts.now) bay.0 first count
-        (view_of r.graphs)) }
-    ensures wide { IfErr result (λ e. e ≡ Wide → Passes (ViewHas view station.now bay.0 first count) station.now left) }
-    ensures spent { IfOk result (λ r. Spends (ViewHas view station.now bay.0 first count) station.now left r.left) }
+    ensures graphs { IfOk result (λ r. AreViewGraphs view (lettered station.now parts.now) own.now.bay.0
+        own.now.first own.now.count (view_of r.graphs)) }
+    ensures wide { IfErr result (λ e. e ≡ Wide →
+        Passes (ViewHas view station.now own.now.bay.0 own.now.first own.now.count) station.now left) }
+    ensures spent { IfOk result (λ r. Spends (ViewHas view station.now own.now.bay.0 own.now.first own.now.count)
+        station.now left r.left) }
     ensures left { IfOk result (λ r. r.left ≤ left) }
 {
     let _ = view;
@@ -213,7 +170,7 @@ fn view_graphs(
         station,
         parts,
         sharing,
-        bay,
+        own.bay,
         others,
         left,
     )?;
@@ -222,10 +179,7 @@ fn view_graphs(
         &mut stock.pool,
         &mut stock.inner,
         station,
-        bay,
-        list,
-        first,
-        count,
+        own,
         &outer.names,
         outer.left,
     )?;
@@ -266,9 +220,8 @@ pub fn bay_graphs(
     ensures spent { IfOk result (λ r. Spends (BayHas station.now bay.0) station.now left r.left) }
     ensures left { IfOk result (λ r. r.left ≤ left) }
 {
-    let (id, count) = station.switches_of(bay);
-    let first = id.0;
-    let list = bay_nodes(alloc, station, &sharing.parts, bay, first, count)?;
+    station.is_station();
+    let own = own_bay(alloc, station, &sharing.parts, bay)?;
     let gap = view_graphs(
         alloc,
         View::Gap,
@@ -276,10 +229,7 @@ pub fn bay_graphs(
         parts,
         gap_stock,
         sharing,
-        &list,
-        bay,
-        first,
-        count,
+        &own,
         left,
     )?;
     let load = view_graphs(
@@ -289,17 +239,14 @@ pub fn bay_graphs(
         parts,
         load_stock,
         sharing,
-        &list,
-        bay,
-        first,
-        count,
+        &own,
         gap.left,
     )?;
     let told = told_like(alloc, bays, &gap.graphs, &load.graphs)?;
     Ok(Bay {
         graphs: BayGraphs {
-            first,
-            count,
+            first: own.first,
+            count: own.count,
             gap: gap.graphs,
             load: load.graphs,
             told,

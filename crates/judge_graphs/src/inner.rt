@@ -1,17 +1,15 @@
 //! The inner graphs of the switches of a bay.
-ghost use Rattle.std.specs.Prelude.{◌≡◌, ◌+◌, ◌<◌, ◌≤◌, ℕ, suc, length, map, IfOk, IfErr, OnOk, Contains, ◌↔◌};
-ghost use Rattle.station_graph.specs.Diagram.{part_count};
-ghost use Rattle.contraction.specs.Answers.{AreNodes};
+ghost use Rattle.std.specs.Prelude.{◌≡◌, ◌+◌, ◌≤◌, length, map, IfOk, IfErr, OnOk};
 ghost use Rattle.contraction.specs.Renaming.{mapped};
 ghost use Rattle.bay_contract.specs.PartAlphabets.{Alphabets};
 ghost use Rattle.decision_graphs.specs.Label.{AreReduced};
 ghost use Rattle.judge_pool.specs.Lettered.{lettered};
 ghost use Rattle.judge_pool.specs.Pooling.{IsPool, GrewTo};
 ghost use Rattle.judge_pool.specs.Layering.{values_at};
-ghost use Rattle.judge_pool.specs.Graphs.{IsOwn, IsInner};
+ghost use Rattle.judge_pool.specs.Graphs.{IsInner};
 ghost use Rattle.judge_intake.specs.Coding.{labels_of};
 ghost use Rattle.judge_intake.specs.Inputs.{IsBayIntake};
-ghost use Rattle.judge_pool.specs.Needing.{BayNeeds};
+ghost use Rattle.judge_intake.specs.OwnBays.{IsOwnBay, IsOwnSwitch};
 ghost use Rattle.judge_graphs.specs.Noting.{letter_rows};
 ghost use Rattle.judge_graphs.specs.Labelling.{AreInnerNotes};
 ghost use Rattle.judge_pool.specs.Places.{node_listed, pool_on};
@@ -23,11 +21,11 @@ ghost use Rattle.judge_pool.specs.declared.limits.TheConstants.{BAY_EDGES};
 use crate::labelled::{InnerNotes, labelled_graph};
 use crate::noted::{Intake, taken_again};
 use decision_graphs::Graph;
-use ilk_base::{BayId, Memory, SwitchId};
+use ilk_base::{Memory, SwitchId};
 use judge_intake::codes::{codes, label_count};
-use judge_intake::{BayIntake, inner_keeps, inner_letters};
+use judge_intake::{BayIntake, OwnBay, inner_keeps, inner_letters};
 use judge_pool::{Pool, Trouble};
-use station_graph::{NodeList, Station};
+use station_graph::Station;
 use std::alloc::Global;
 
 // An inner graph, and how many edges are left of those that may be made.
@@ -42,31 +40,26 @@ fn inner_intake(
     alloc: Global,
     pool: &mut Pool,
     station: &Station,
-    bay: BayId,
-    list: &NodeList,
-    own: &BayIntake,
-    first: u16,
+    own: &OwnBay,
+    common: &BayIntake,
     moved: u16,
     others: u16,
 ) -> Result<Intake, Memory>
     requires pool { IsPool pool.old }
-    requires bay { bay.0 < part_count station.now }
-    requires own { IsOwn station.now bay.0 moved first others }
-    requires nodes { AreNodes list.now }
-    requires list { (n : ℕ) → Contains list.now n ↔ BayNeeds station.now bay.0 first (suc others) n }
-    requires intake { IsBayIntake (pool_on (node_listed list.now) pool.old) station.now bay.0 first (suc others)
-        own.now }
+    requires own { IsOwnBay station.now own.now }
+    requires moved { IsOwnSwitch own.now moved others }
+    requires common { IsBayIntake (pool_on (node_listed own.now.nodes) pool.old) station.now own.now.bay.0
+        own.now.first own.now.count common.now }
     ensures grew { OnOk result (GrewTo pool.old pool.new) }
-    ensures ready { IfOk result (λ i. (a : Alphabets) → IsInnerReady (lettered station.now a) bay.0 moved first others
-        (pool_on (node_listed list.now) pool.new) i.start own.now.names.items (letter_rows i) i.keeps.items) }
+    ensures ready { IfOk result (λ i. (a : Alphabets) → IsInnerReady (lettered station.now a) own.now.bay.0 moved
+        own.now.first others (pool_on (node_listed own.now.nodes) pool.new) i.start common.now.names.items
+        (letter_rows i) i.keeps.items) }
 {
     let _count = station.switch_count();
-    let keeps = inner_keeps(
-        alloc, pool, station, bay, list, own.keep, first, moved, others,
-    )?;
-    let letters = inner_letters(alloc, own, moved - first, others)?;
+    let keeps = inner_keeps(alloc, pool, station, own, common.keep, moved, others)?;
+    let letters = inner_letters(alloc, common, moved - own.first, others)?;
     Ok(Intake {
-        start: own.start,
+        start: common.start,
         letters,
         keeps,
     })
@@ -78,45 +71,41 @@ pub(crate) fn inner_graph(
     pool: &mut Pool,
     notes: &mut InnerNotes,
     station: &Station,
-    bay: BayId,
-    list: &NodeList,
-    own: &BayIntake,
-    first: u16,
+    own: &OwnBay,
+    common: &BayIntake,
     moved: u16,
     others: u16,
     left: usize,
 ) -> Result<Inner, Trouble>
     requires pool { IsPool pool.old }
     requires notes { AreInnerNotes pool.old notes.old }
-    requires bay { bay.0 < part_count station.now }
-    requires own { IsOwn station.now bay.0 moved first others }
-    requires nodes { AreNodes list.now }
-    requires list { (n : ℕ) → Contains list.now n ↔ BayNeeds station.now bay.0 first (suc others) n }
-    requires intake { IsBayIntake (pool_on (node_listed list.now) pool.old) station.now bay.0 first (suc others)
-        own.now }
-    requires few { length own.now.names.items ≤ BAY_EDGES + 1 }
+    requires own { IsOwnBay station.now own.now }
+    requires moved { IsOwnSwitch own.now moved others }
+    requires common { IsBayIntake (pool_on (node_listed own.now.nodes) pool.old) station.now own.now.bay.0
+        own.now.first own.now.count common.now }
+    requires few { length common.now.names.items ≤ BAY_EDGES + 1 }
     requires left { left ≤ BAY_EDGES }
     ensures grew { OnOk result (GrewTo pool.old pool.new) }
     ensures notes { OnOk result (AreInnerNotes pool.new notes.new) }
     ensures wide { IfErr result (λ e. e ≡ Wide →
-        Passes (InnerHas pool.old.view station.now bay.0 moved first others others) station.now left) }
-    ensures spent { IfOk result (λ r. Spends (InnerHas pool.old.view station.now bay.0 moved first others others)
+        Passes (InnerHas pool.old.view station.now own.now.bay.0 moved own.now.first others others) station.now left) }
+    ensures spent { IfOk result (λ r. Spends (InnerHas pool.old.view station.now own.now.bay.0 moved own.now.first others others)
         station.now left r.left) }
-    ensures small { IfOk result (λ r. InnerIsSmall pool.old.view station.now bay.0 moved first others r.graph) }
+    ensures small { IfOk result (λ r. InnerIsSmall pool.old.view station.now own.now.bay.0 moved own.now.first others r.graph) }
     ensures inner { IfOk result (λ r. (a : Alphabets) →
-        IsInner pool.old.view (lettered station.now a) bay.0 moved first others
-        (values_at (map (mapped (node_listed list.now)) pool.old.values.items) own.now.names.items) r.graph) }
+        IsInner pool.old.view (lettered station.now a) own.now.bay.0 moved own.now.first others
+        (values_at (map (mapped (node_listed own.now.nodes)) pool.old.values.items) common.now.names.items) r.graph) }
     ensures labels { IfOk result (λ r. r.graph.labels ≡ labels_of pool.old.view) }
     ensures reduced { IfOk result (λ r. AreReduced r.graph.layers) }
     ensures left { IfOk result (λ r. r.left ≤ left) }
 {
     let _count = station.switch_count();
-    let intake = inner_intake(alloc, pool, station, bay, list, own, first, moved, others)?;
-    let budget = left + own.names.len();
+    let intake = inner_intake(alloc, pool, station, own, common, moved, others)?;
+    let budget = left + common.names.len();
     let taken = taken_again(alloc, pool, &mut notes.graphs, intake, budget)?;
     let held = notes.graphs.as_slice();
     let names = held[taken.place].names.as_slice();
-    let labels = codes(alloc, pool, station, SwitchId(moved), list, names)?;
+    let labels = codes(alloc, pool, station, SwitchId(moved), &own.nodes, names)?;
     let count = label_count(pool.view);
     let graph = labelled_graph(alloc, held, &mut notes.labelled, taken.place, count, labels)?;
     Ok(Inner {

@@ -3,6 +3,7 @@
 #![tactic(auto)]
 
 mod bay;
+mod graphs;
 mod inner;
 mod label_names;
 mod labelled;
@@ -12,5 +13,6 @@ mod outer;
 mod partners;
 mod stock;
 
-pub use bay::{Bay, BayGraphs, ViewGraphs, bay_graphs};
+pub use bay::{Bay, bay_graphs};
+pub use graphs::{BayGraphs, ViewGraphs};
 pub use stock::{Stock, stock_of};

@@ -7,7 +7,7 @@ ghost use Rattle.judge_graphs.specs.BuiltView.{view_of};
 ghost use Rattle.judge_graphs.specs.PartnerLabels.{AreInnersOf, TellsOf};
 ghost use Rattle.judge_graphs.specs.Telling.{IsToldBy, HaveTold, AreThese};
 
-use crate::bay::{BayGraphs, ViewGraphs};
+use crate::graphs::{BayGraphs, ViewGraphs};
 use crate::layers_told::tells_of;
 use decision_graphs::Graph;
 use ilk_base::Memory;

@@ -6,3 +6,4 @@ pub mod InputsLemmas
 pub mod PlacesLemmas
 pub mod CodeLemmas
 pub mod MoveLemmas
+pub mod OwnBayLemmas

@@ -2,19 +2,20 @@
 ghost use Rattle.std.specs.Prelude.{◌≡◌, ℕ, suc, ◌+◌, ◌<◌, ◌≤◌, ◌↔◌, ◌∷◌, List, length, map, slice_get, Some, OnOk};
 ghost use Rattle.std.specs.Prelude.{IfOk, Contains};
 ghost use Rattle.station_graph.specs.Diagram.{part_count};
-ghost use Rattle.contraction.specs.Answers.{Answers, Keeps, AreNodes};
+ghost use Rattle.contraction.specs.Answers.{Answers, Keeps};
 ghost use Rattle.bay_contract.specs.Alphabets.{AreAlphabets};
 ghost use Rattle.judge_pool.specs.Lettered.{lettered};
 ghost use Rattle.judge_pool.specs.Pooling.{IsPool, GrewTo};
 ghost use Rattle.judge_pool.specs.Places.{node_listed, pool_on};
-ghost use Rattle.judge_pool.specs.Graphs.{IsOwn};
 ghost use Rattle.judge_intake.specs.SharedNodes.{AreShared, IsSharing};
 ghost use Rattle.judge_pool.specs.Needing.{IsNeededOuter, BayNeeds, InnerNeeds};
+ghost use Rattle.judge_intake.specs.OwnBays.{IsOwnBay, IsOwnSwitch};
 ghost use Rattle.judge_intake.specs.Inputs.{HasNodes, AreKeeps, AreCopies, AreLetters, AreOtherRows, HasNothing};
 
 use crate::needed::{Sharing, inner_places, outer_nodes};
 use crate::others::other_number;
 use crate::own::BayIntake;
+use crate::own_bays::OwnBay;
 use bay_contract::Parts;
 use contraction::Contraction;
 use ilk_base::{BayId, Memory};
@@ -136,30 +137,25 @@ pub fn inner_keeps(
     alloc: Global,
     pool: &mut Pool,
     station: &Station,
-    bay: BayId,
-    list: &NodeList,
+    own: &OwnBay,
     keep: usize,
-    first: u16,
     moved: u16,
     others: u16,
 ) -> Result<Vec<usize>, Memory>
     requires pool { IsPool pool.old }
-    requires own { IsOwn station.now bay.0 moved first others }
-    requires nodes { AreNodes list.now }
-    requires list { (n : ℕ) → Contains list.now n ↔ BayNeeds station.now bay.0 first (suc others) n }
-    requires keep { HasNodes (BayNeeds station.now bay.0 first (suc others)) (pool_on (node_listed list.now) pool.old)
-        keep }
+    requires own { IsOwnBay station.now own.now }
+    requires moved { IsOwnSwitch own.now moved others }
+    requires keep { HasNodes (BayNeeds station.now own.now.bay.0 own.now.first own.now.count)
+        (pool_on (node_listed own.now.nodes) pool.old) keep }
     ensures grew { OnOk result (GrewTo pool.old pool.new) }
-    ensures keeps { IfOk result (λ v. AreKeeps (InnerNeeds station.now bay.0 moved first others)
-        (pool_on (node_listed list.now) pool.new) v.items (suc (suc others))) }
+    ensures keeps { IfOk result (λ v. AreKeeps (InnerNeeds station.now own.now.bay.0 moved own.now.first others)
+        (pool_on (node_listed own.now.nodes) pool.new) v.items (suc (suc others))) }
 {
     let _count = station.switch_count();
-    let _ = bay;
     let mut keeps = Vec::new(alloc);
     keeps.push(keep)?;
-    let count = others + 1;
-    for from in 0..count {
-        let places = inner_places(alloc, station, list, first, moved, from, others)?;
+    for from in 0..own.count {
+        let places = inner_places(alloc, station, &own.nodes, own.first, moved, from, others)?;
         let id = pool.keep(places)?;
         keeps.push(id)?;
     }

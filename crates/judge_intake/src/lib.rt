@@ -7,9 +7,11 @@ mod inputs;
 mod needed;
 mod others;
 mod own;
+mod own_bays;
 mod places;
 
 pub use inputs::{inner_keeps, inner_letters, letter_rows, nothing, other_rows, outer_keeps};
-pub use needed::{Sharing, bay_nodes, sharing_of};
+pub use needed::{Sharing, sharing_of};
 pub use others::other_number;
 pub use own::{BayIntake, bay_intake};
+pub use own_bays::{OwnBay, own_bay};

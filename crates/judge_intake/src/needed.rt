@@ -134,8 +134,8 @@ fn is_needed_own(
     shared[usize::from(bay.0)].numbers().contains(&node) || own_touches(station, first, count, node)
 }
 
-/// The nodes that the bay shares, and those that its switches touch, rising.
-pub fn bay_nodes(
+// The nodes that the bay shares, and those that its switches touch, rising.
+pub(crate) fn bay_nodes(
     alloc: Global,
     station: &Station,
     shared: &[NodeList],

@@ -1,17 +1,18 @@
 //! What the inner graphs of a bay take in whichever switch is moved: values and lists of nodes, by their numbers in a
 //! pool and by places of a list of nodes.
-ghost use Rattle.std.specs.Prelude.{◌≡◌, ℕ, ◌+◌, ◌<◌, ◌≤◌, ◌↔◌, length, map, OnOk, IfOk, Contains};
-ghost use Rattle.station_graph.specs.Diagram.{part_count};
+ghost use Rattle.std.specs.Prelude.{◌≡◌, ℕ, ◌+◌, ◌<◌, ◌≤◌, length, map, OnOk, IfOk, Contains};
 ghost use Rattle.station_graph.specs.Connection.{a_switch};
 ghost use Rattle.station_graph.specs.Sharing.{Touches};
 ghost use Rattle.contraction.specs.Answers.{AreNodes};
 ghost use Rattle.judge_pool.specs.Pooling.{IsPool, GrewTo};
 ghost use Rattle.judge_pool.specs.Places.{node_listed, pool_on};
 ghost use Rattle.judge_pool.specs.Layering.{values_at};
-ghost use Rattle.judge_pool.specs.Needing.{TouchesOwn, BayNeeds};
+ghost use Rattle.judge_pool.specs.Needing.{TouchesOwn};
+ghost use Rattle.judge_intake.specs.OwnBays.{IsOwnBay};
 ghost use Rattle.judge_intake.specs.Inputs.{AreCopies, HasNodes, HasLinks, HasSwitch, HasPair, ArePairs, AreNames};
 ghost use Rattle.judge_intake.specs.Inputs.{IsBayIntake};
 
+use crate::own_bays::OwnBay;
 use crate::places::{intern_in_places, names_in_places, places_of};
 use bay_contract::base;
 use contraction::Contraction;
@@ -142,28 +143,24 @@ pub fn bay_intake(
     alloc: Global,
     pool: &mut Pool,
     station: &Station,
-    bay: BayId,
-    list: &NodeList,
-    first: u16,
-    count: u16,
+    own: &OwnBay,
     names: &[usize],
 ) -> Result<BayIntake, Memory>
     requires pool { IsPool pool.old }
-    requires bay { bay.0 < part_count station.now }
-    requires those { first + count ≤ length station.now.switches }
-    requires nodes { AreNodes list.now }
-    requires list { (n : ℕ) → Contains list.now n ↔ BayNeeds station.now bay.0 first count n }
-    requires names { AreNames pool.old station.now bay.0 names.now }
+    requires own { IsOwnBay station.now own.now }
+    requires names { AreNames pool.old station.now own.now.bay.0 names.now }
     ensures grew { OnOk result (GrewTo pool.old pool.new) }
     ensures intake { IfOk result
-        (IsBayIntake (pool_on (node_listed list.now) pool.new) station.now bay.0 first count) }
-    ensures copies { IfOk result (λ i. AreCopies (pool_on (node_listed list.now) pool.new)
+        (IsBayIntake (pool_on (node_listed own.now.nodes) pool.new) station.now own.now.bay.0 own.now.first
+        own.now.count) }
+    ensures copies { IfOk result (λ i. AreCopies (pool_on (node_listed own.now.nodes) pool.new)
         (values_at pool.old.values.items names.now) i.names.items) }
 {
     let _count = station.switch_count();
+    let list = &own.nodes;
     let copies = names_in_places(alloc, pool, list, names)?;
-    let start = links(alloc, pool, station, bay, list)?;
-    let pairs = switch_pairs(alloc, pool, station, list, first, count)?;
+    let start = links(alloc, pool, station, own.bay, list)?;
+    let pairs = switch_pairs(alloc, pool, station, list, own.first, own.count)?;
     let keep = all_places(alloc, pool, list)?;
     Ok(BayIntake {
         start,

@@ -10,8 +10,8 @@ use Rattle.std.proofs.lemmas.List.{get_or-take, get_or-drop, same_lists}
 use Rattle.std.proofs.lemmas.Option.{slice_get_within, slice_get-get_or, get_or_from_slice_get, same_Some}
 use Rattle.station_graph.proofs.PathLemmas.{slice_get-push}
 use Rattle.contraction.specs.Selecting.{Selected}
-use Rattle.judge_pool.specs.declared.batches.Made.{Made}
-use Rattle.judge_pool.specs.declared.batches.Batch.{Batch}
+use Rattle.judge_pool.specs.declared.batch.Made.{Made}
+use Rattle.judge_pool.specs.declared.batch.Batch.{Batch}
 use Rattle.judge_pool.specs.declared.pool.Pool.{Pool}
 use Rattle.judge_pool.specs.Pooling.{WasMade, MakesEach, HasBatch, NotesAreRight, composition, same_batch}
 use Rattle.judge_pool.specs.Pooling.{letter_lists, IsPool, GrewTo, CanCompose}

@@ -9,8 +9,8 @@ use Rattle.contraction.specs.Answers.{Answers, Keeps, IsContraction}
 use Rattle.contraction.specs.Selecting.{Selected}
 use Rattle.contraction.specs.Stands.{Among}
 use Rattle.judge_pool.specs.declared.view.View.{View}
-use Rattle.judge_pool.specs.declared.batches.Made.{Made}
-use Rattle.judge_pool.specs.declared.batches.Batch.{Batch}
+use Rattle.judge_pool.specs.declared.batch.Made.{Made}
+use Rattle.judge_pool.specs.declared.batch.Batch.{Batch}
 use Rattle.judge_pool.specs.declared.pool.Pool.{Pool}
 use Rattle.judge_pool.specs.Seen.{SeenFor, SameSeen, ComposesIn, seen_row}
 use Rattle.judge_pool.specs.Folding.{AreApartIn, AreWell}

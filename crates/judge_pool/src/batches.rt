@@ -7,6 +7,7 @@ ghost use Rattle.judge_pool.specs.Seen.{ComposesIn};
 ghost use Rattle.judge_pool.specs.Pooling.{IsPool, GrewTo, Selects, SelectsFor, IsRowOfBoth, CanCompose, LettersFit};
 ghost use Rattle.judge_pool.specs.Pooling.{WasMade, MakesEach, HasBatch, NotesAreRight, letter_lists};
 
+use crate::batch::{Batch, Made};
 use crate::pool::{Pool, find_row};
 use crate::view::View;
 use contraction::{Contraction, Selection};
@@ -14,22 +15,6 @@ use ilk_base::{Memory, Text};
 use station_graph::NodeList;
 use std::alloc::Global;
 use std::collections::HashMap;
-
-// Of which two values, on which nodes, a value was made.
-#[derive(Clone, Copy)]
-pub(crate) struct Made {
-    pub(crate) first: usize,
-    pub(crate) second: usize,
-    pub(crate) keep: usize,
-}
-
-// The compositions of one value with each letter of a list, on the same nodes.
-#[derive(Clone, Copy, PartialEq, Eq, Hash)]
-pub(crate) struct Batch {
-    pub(crate) first: usize,
-    pub(crate) letters: usize,
-    pub(crate) keep: usize,
-}
 
 // The selection of these of the nodes that two values keep: the one at hand where it is that, else a new one.
 fn selection_for(

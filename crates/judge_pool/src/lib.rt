@@ -2,14 +2,17 @@
 //! them; and, in `specs/`, what the labels and edges of the graphs are.
 #![tactic(auto)]
 
+mod batch;
 mod batches;
+mod fold;
 mod layer;
 mod limits;
 mod past;
 mod pool;
 mod view;
 
-pub use layer::{Drafts, Trouble, fold_layers};
+pub use fold::{Drafts, fold_layers};
+pub use layer::Trouble;
 pub use limits::{ALL_EDGES, BAY_EDGES};
 pub use pool::Pool;
 pub use view::View;

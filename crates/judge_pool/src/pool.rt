@@ -6,7 +6,7 @@ ghost use Rattle.judge_pool.specs.declared.view.View.{View as Seen};
 ghost use Rattle.judge_pool.specs.Seen.{seen_row};
 ghost use Rattle.judge_pool.specs.Pooling.{IsRowIndex, IsPool, GrewTo, HasSame, HasCopy};
 
-use crate::batches::Batch;
+use crate::batch::Batch;
 use crate::view::{View, row_in};
 use contraction::{Contraction, Selection};
 use ilk_base::{Memory, Text};

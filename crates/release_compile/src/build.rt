@@ -6,7 +6,7 @@ ghost use Rattle.station_graph.specs.Connection.{a_switch};
 ghost use Rattle.station_graph.specs.Sharing.{OfPart};
 ghost use Rattle.bay_contract.specs.Alphabets.{AreAlphabets};
 ghost use Rattle.central_rules.specs.Meaning.{IsBay, bay_of};
-ghost use Rattle.judge_graphs.specs.declared.bay.BayGraphs.{BayGraphs as Graphs};
+ghost use Rattle.judge_graphs.specs.declared.graphs.BayGraphs.{BayGraphs as Graphs};
 ghost use Rattle.judge_pool.specs.declared.limits.TheConstants.{BAY_EDGES as BAY, ALL_EDGES as ALL};
 ghost use Rattle.judge_pool.specs.declared.layer.Trouble.TheVariants.{Wide as IsWide};
 ghost use Rattle.judge_pool.specs.Lettered.{lettered};

@@ -22,3 +22,4 @@ pub mod Ready
 pub mod Items
 pub mod InOrder
 pub mod AddedPaths
+pub mod Counted

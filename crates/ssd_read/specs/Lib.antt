@@ -13,3 +13,4 @@ pub mod SeenPaths
 pub mod SeenKeys
 pub mod Shown
 pub mod Whole
+pub mod Counts

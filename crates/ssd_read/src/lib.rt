@@ -28,7 +28,7 @@ mod whole;
 
 pub use drawing::Drawing;
 pub use ends::{after_slash, nodes_at};
-pub use laws::{has_in_order, one_station, stands_in_order};
+pub use laws::{has_in_order, limit_is_a_count, one_station, stands_in_order};
 pub use names::is_good_name;
 pub use parts::is_part;
 pub use read::read_ssd;

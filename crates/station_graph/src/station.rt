@@ -1,17 +1,12 @@
 //! The station.
-ghost use Rattle.std.specs.Prelude.{◌≡◌, ℕ, ◌<◌, ◌↔◌, List, length, slice_get, Some, slice_index, IfOk, IfSome, IfNone};
+ghost use Rattle.std.specs.Prelude.{◌≡◌, ℕ, ◌<◌, ◌≤◌, ◌↔◌, length, slice_get, Some, IfSome, IfNone};
 ghost use Rattle.std.specs.Prelude.{Contains};
 ghost use Rattle.station_graph.specs.Diagram.{Diagram, node_count, part_count, switches_in, AreSwitchesOf, IsStation};
-ghost use Rattle.station_graph.specs.Diagram.{SwitchFits, LinkFits, TapFits};
-ghost use Rattle.station_graph.specs.Sharing.{IsShared};
-ghost use Rattle.station_graph.specs.Nodes.{Rises};
+ghost use Rattle.station_graph.specs.Diagram.{SwitchFits, LinkFits, TapFits, IsOrdered};
 
 use crate::items::{Link, Switch, Tap};
-use crate::nodes::NodeList;
-use crate::parts::{first_from, shared};
 use crate::paths::Paths;
-use ilk_base::{BayId, Memory, NodeId, SwitchId};
-use std::alloc::Global;
+use ilk_base::{BayId, NodeId, SwitchId};
 use std::marker::Model;
 
 /// A station, seen as its diagram: the paths of its nodes, parts and switches, its switches, links
@@ -36,6 +31,16 @@ impl Model for Station {
     ghost view = { diagram_of };
 
     ghost invariant = { λ s. IsStation (diagram_of s) × IsOrdered (diagram_of s).switches };
+}
+
+// How many switches are of a part before this one.
+fn first_from(switches: &[Switch], part: u16) -> usize
+    requires ordered { IsOrdered switches.now }
+    ensures within { result ≤ length switches.now }
+    ensures before { (i : ℕ) (x : Switch) → slice_get switches.now i ≡ Some x
+        → (i < result) ↔ (x.bay.0 < part) }
+{
+    switches.partition_point(|switch| u16::from(switch.bay.0) < part)
 }
 
 impl Station {
@@ -185,17 +190,5 @@ impl Station {
             return None;
         }
         Some(part)
-    }
-
-    /// The nodes on which both this part and another part have an end or a tap, rising. Time: the
-    /// nodes and all items; memory: the nodes.
-    pub fn shared_nodes(&self, alloc: Global, part: BayId) -> Result<NodeList, Memory>
-        ensures exact { IfOk result (λ l. (n : ℕ) → Contains l n ↔ IsShared self.now part.0 n) }
-        ensures rises { IfOk result Rises }
-        ensures within { IfOk result (λ l. (n : ℕ) → Contains l n → n < node_count self.now) }
-        ensures station { IsStation self.now }
-    {
-        let _ = &self.taps;
-        shared(alloc, self, part)
     }
 }

@@ -1,7 +1,7 @@
 //! The equations of small stations, worked by hand from the rules.
 ghost use Rattle.std.specs.Prelude.{◌≡◌, ◌<◌, length};
 
-use crate::judged::{Asked, Row};
+use crate::asked::{Answer, Asked, Row};
 use equation_text::{Equations, compile_equations, compile_text};
 use ilk_base::{Direction, Memory, Op, Rule, SwitchId};
 use release_compile::GraphJudge;
@@ -40,9 +40,6 @@ const TEXTS: &[Row] = &[
 fn texts_of_stations(rt: HostRuntime) {
     assert!(rt; rows_hold(rt.alloc(), TEXTS));
 }
-
-// A switch of the earthed line, whether the other one is closed, and the answer of closing it.
-pub(crate) type Answer = (u16, bool, Option<Rule>);
 
 const ANSWERS: &[Answer] = &[
     (0, false, None),

@@ -2,16 +2,13 @@
 ghost use Rattle.std.specs.Prelude.{◌≡◌};
 ghost use Rattle.exchange_plan.specs.Planning.{IsPlan};
 
-use crate::judged::{Asked, Row};
+use crate::asked::{Asked, Bits, Row};
 use exchange_plan::{Plan, plan};
 use ilk_base::BayId;
 use release_compile::GraphJudge;
 use station_graph::Station;
 use std::alloc::Global;
 use test_stations::{Example, row_holds};
-
-// Two parts, and the size that the first is told of the second.
-pub(crate) type Bits = (u8, u8, Option<u8>);
 
 // Two feeders on one busbar. Each can put voltage or earth on the busbar, in eight ways that its own nodes do not tell
 // apart. Neither is a partner of itself, and the busbar has no switches.

@@ -1,2 +1,1 @@
 pub mod FirstNodes
-pub mod SizesLemmas

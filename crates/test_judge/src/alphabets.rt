@@ -1,12 +1,11 @@
 //! The alphabets of parts: least positions, where the positions of a bay lead, what its words leave open,
 //! and a part with too many contractions.
-ghost use Rattle.std.specs.Prelude.{◌≡◌, ◌<◌, length, IfOk};
+ghost use Rattle.std.specs.Prelude.{◌≡◌, ◌<◌, length};
 ghost use Rattle.bay_contract.specs.Alphabets.{AreAlphabets};
-ghost use Rattle.bay_contract.specs.PartAlphabets.{size_of};
 
-use bay_contract::{IndexSet, Parts, PartsRefusal, Target};
-use double_points::Readings;
-use ilk_base::{BayId, Dbpos, Memory, SwitchId};
+use crate::words::{WORDS, WordsRow, are_words};
+use bay_contract::{Parts, PartsRefusal, Target};
+use ilk_base::{BayId, SwitchId};
 use station_graph::{Station, Vector};
 use std::alloc::Global;
 use test_stations::{Example, StationRow, row_holds};
@@ -29,60 +28,6 @@ const INDICES: &[(&[u8; 10], u8)] = &[
     (b"1011000000", 2),
     (b"1110100000", 5),
     (b"1111111111", 7),
-];
-
-// The words of a feeder, which indices they leave open, and the positions of those where each has only one.
-struct Row {
-    words: [Dbpos; 5],
-    open: &'static [u8],
-    only: &'static [u32],
-}
-
-// The busbar disconnector is lost, so the feeder may be away; the breaker is between its ends or bad; the
-// feeder is away whatever its other words are; nothing is known; all is known.
-const WORDS: &[Row] = &[
-    Row {
-        words: [Dbpos::Lost, Dbpos::Off, Dbpos::On, Dbpos::Off, Dbpos::On],
-        open: &[0, 1],
-        only: &[0b10100, 0b10101],
-    },
-    Row {
-        words: [
-            Dbpos::On,
-            Dbpos::Intermediate,
-            Dbpos::On,
-            Dbpos::Off,
-            Dbpos::On,
-        ],
-        open: &[1, 5],
-        only: &[0b10101, 0b10111],
-    },
-    Row {
-        words: [Dbpos::On, Dbpos::Bad, Dbpos::On, Dbpos::On, Dbpos::Lost],
-        open: &[2, 3, 6, 7],
-        only: &[0b01101, 0b11101, 0b01111, 0b11111],
-    },
-    Row {
-        words: [Dbpos::Off, Dbpos::Lost, Dbpos::On, Dbpos::Bad, Dbpos::Lost],
-        open: &[0],
-        only: &[],
-    },
-    Row {
-        words: [
-            Dbpos::Lost,
-            Dbpos::Lost,
-            Dbpos::Lost,
-            Dbpos::Lost,
-            Dbpos::Lost,
-        ],
-        open: &[0, 1, 2, 3, 4, 5, 6, 7],
-        only: &[],
-    },
-    Row {
-        words: [Dbpos::On, Dbpos::On, Dbpos::On, Dbpos::Off, Dbpos::Off],
-        open: &[4],
-        only: &[0b00111],
-    },
 ];
 
 // Whether these are the least positions of the part.
@@ -173,89 +118,6 @@ fn are_indices(alloc: Global, station: &Station, parts: &Parts, rows: &[(&[u8; 1
     true
 }
 
-// The words of the first feeder, and lost ones for the other.
-fn readings_of(alloc: Global, station: &Station, words: &[Dbpos; 5]) -> Result<Readings, Memory>
-    requires { length station.now.switches ≡ 10 }
-    ensures { IfOk result (λ r. length r ≡ 10) }
-{
-    let mut readings = Readings::lost(alloc, station)?;
-    for i in 0..5u16 {
-        readings.sense(SwitchId(i), words[i as usize]);
-    }
-    Ok(readings)
-}
-
-// Whether each open index has this position, where it has only one.
-fn has_only(open: &IndexSet, row: &Row) -> bool {
-    for (index, position) in row.open.iter().zip(row.only) {
-        if open.position(*index) != Some(*position) {
-            return false;
-        }
-    }
-    true
-}
-
-// Whether an index agrees with the words; none where memory is wanted.
-fn agrees(alloc: Global, parts: &Parts, readings: &Readings, index: u8) -> Option<bool>
-    requires part { 1 < length parts.now.parts }
-    requires readings { length readings.now ≡ parts.now.switches }
-    requires index { index < size_of parts.now 1 }
-{
-    match parts.agreeing(alloc, BayId(1), readings, index) {
-        Ok(position) => Some(position.is_some()),
-        Err(_) => None,
-    }
-}
-
-// Whether the open indices are those of the row.
-fn are_open(alloc: Global, parts: &Parts, readings: &Readings, open: &IndexSet, row: &Row) -> bool
-    requires part { 1 < length parts.now.parts }
-    requires readings { length readings.now ≡ parts.now.switches }
-{
-    for index in 0..parts.size(BayId(1)) {
-        let wanted = row.open.contains(&index);
-        if open.holds(index) != wanted || agrees(alloc, parts, readings, index) != Some(wanted) {
-            return false;
-        }
-    }
-    true
-}
-
-// Whether the words leave open what the row says.
-fn leave_open(alloc: Global, parts: &Parts, readings: &Readings, row: &Row) -> bool
-    requires part { 1 < length parts.now.parts }
-    requires readings { length readings.now ≡ parts.now.switches }
-{
-    match parts.possible(alloc, BayId(1), readings) {
-        Ok(open) => has_only(&open, row) && are_open(alloc, parts, readings, &open, row),
-        Err(_) => false,
-    }
-}
-
-fn is_row(alloc: Global, station: &Station, parts: &Parts, row: &Row) -> bool
-    requires part { 1 < length parts.now.parts }
-    requires switches { length station.now.switches ≡ 10 }
-    requires ten { parts.now.switches ≡ 10 }
-{
-    match readings_of(alloc, station, &row.words) {
-        Ok(readings) => leave_open(alloc, parts, &readings, row),
-        Err(_) => false,
-    }
-}
-
-fn are_rows(alloc: Global, station: &Station, parts: &Parts, rows: &[Row]) -> bool
-    requires part { 1 < length parts.now.parts }
-    requires switches { length station.now.switches ≡ 10 }
-    requires ten { parts.now.switches ≡ 10 }
-{
-    for row in rows {
-        if !is_row(alloc, station, parts, row) {
-            return false;
-        }
-    }
-    true
-}
-
 // What is asked of the alphabets of a station.
 enum Asked {
     // the least positions of both feeders; the busbar has no items and one contraction
@@ -264,7 +126,7 @@ enum Asked {
     // switches is one, two, three, three and six
     Ways(&'static [(&'static [u8; 10], u8)]),
     // what words of the first feeder leave open
-    Words(&'static [Row]),
+    Words(&'static [WordsRow]),
     // why there are none of two bays with eight earthing switches on shared nodes
     Refused(PartsRefusal),
 }
@@ -285,7 +147,7 @@ fn is_answered(alloc: Global, station: &Station, parts: &Parts, asked: &Asked) -
         Asked::Ways(rows) => {
             are_indices(alloc, station, parts, rows) && parts.steps(BayId(1)) == 15
         }
-        Asked::Words(rows) => are_rows(alloc, station, parts, rows),
+        Asked::Words(rows) => are_words(alloc, station, parts, rows),
         Asked::Refused(_) => false,
     }
 }

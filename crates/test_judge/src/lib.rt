@@ -8,18 +8,24 @@ mod alike;
 #[cfg(test)]
 mod alphabets;
 #[cfg(test)]
+mod answer_rows;
+#[cfg(test)]
 mod answers;
 #[cfg(test)]
 mod composed;
 #[cfg(test)]
 mod ends;
 #[cfg(test)]
+mod finished;
+#[cfg(test)]
+mod graph_edges;
+#[cfg(test)]
 mod graphs;
 #[cfg(test)]
-mod questions;
+mod reached;
 #[cfg(test)]
 mod renamed;
 #[cfg(test)]
 mod selected;
 #[cfg(test)]
-mod table;
+mod words;

@@ -1,6 +1,10 @@
-use Rattle.std.proofs.Common.{◌∙◌, sym}
+use Rattle.std.proofs.Common.{◌∙◌, sym, subst}
+use Rattle.station_graph.specs.Diagram.{AreSwitchesOf}
+use Rattle.ilk_base.specs.declared.words.BayId.{BayId}
 use Rattle.judge_pool.specs.declared.view.View.TheVariants.{Gap, Load}
+use Rattle.judge_pool.specs.Counted.{BayHas, Spends, Passes}
 use Rattle.judge_pool.specs.Lettered.{lettered}
+use Rattle.judge_graphs.specs.Built.{AreViewGraphs}
 use Rattle.judge_graphs.specs.BuiltView.{view_of}
 use Rattle.judge_graphs.proofs.PartnerLemmas.{inners_of, are_told}
 use Rattle.judge_pool.proofs.ErrorLemmas.{passed_on}
@@ -10,43 +14,63 @@ use Rattle.judge_graphs.proofs.bay.bay_graphs.Goals as goal
 pub returns-in_err-gap-clause-wide : goal.returns-in_err-gap-clause-wide
 returns-in_err-gap-clause-wide c =
     passed_on _ _ c.from_residual-in_err-gap.result c.from_residual-in_err-gap.ensures.1 (λ trouble same is.
-    gap_passes c.args.station.now c.args.parts.now c.requires.lettered c.args.bay.0 c.switches_of-count.result.0.0
-    c.switches_of-count.result.1 c.requires.bay c.switches_of-count.ensures.value c.args.left
-    (c.in_err-gap.ensures.wide (sym same ∙ is)))
+    let d = c.args.station.now in
+    let own = c.in_ok-own.own in
+    let mine = c.in_ok-own.ensures.own in
+    subst (λ (b : BayId). Passes (BayHas d b.0) d c.args.left) c.in_ok-own.ensures.bay
+    (gap_passes d c.args.parts.now c.requires.lettered own.bay.0 own.first own.count mine.bay mine.switches c.args.left
+    (c.in_err-gap.ensures.wide (sym same ∙ is))))
 
 pub returns-in_err-load-clause-wide : goal.returns-in_err-load-clause-wide
 returns-in_err-load-clause-wide c =
     passed_on _ _ c.from_residual-in_err-load.result c.from_residual-in_err-load.ensures.1 (λ trouble same is.
-    load_passes c.args.station.now c.args.parts.now c.requires.lettered c.args.bay.0 c.switches_of-count.result.0.0
-    c.switches_of-count.result.1 c.requires.bay c.switches_of-count.ensures.value c.args.left c.in_ok-gap.gap.left
-    c.in_ok-gap.ensures.spent (c.in_err-load.ensures.wide (sym same ∙ is)))
+    let d = c.args.station.now in
+    let own = c.in_ok-own.own in
+    let mine = c.in_ok-own.ensures.own in
+    subst (λ (b : BayId). Passes (BayHas d b.0) d c.args.left) c.in_ok-own.ensures.bay
+    (load_passes d c.args.parts.now c.requires.lettered own.bay.0 own.first own.count mine.bay mine.switches c.args.left
+    c.in_ok-gap.gap.left c.in_ok-gap.ensures.spent (c.in_err-load.ensures.wide (sym same ∙ is))))
 
 pub returns-clause-spent : goal.returns-clause-spent
 returns-clause-spent c =
-    bay_spends c.args.station.now c.args.parts.now c.requires.lettered c.args.bay.0 c.switches_of-count.result.0.0
-    c.switches_of-count.result.1 c.requires.bay c.switches_of-count.ensures.value c.args.left c.in_ok-gap.gap.left
-    c.in_ok-load.load.left c.in_ok-gap.ensures.spent c.in_ok-load.ensures.spent
+    let d = c.args.station.now in
+    let own = c.in_ok-own.own in
+    let mine = c.in_ok-own.ensures.own in
+    subst (λ (b : BayId). Spends (BayHas d b.0) d c.args.left c.in_ok-load.load.left) c.in_ok-own.ensures.bay
+    (bay_spends d c.args.parts.now c.requires.lettered own.bay.0 own.first own.count mine.bay mine.switches c.args.left
+    c.in_ok-gap.gap.left c.in_ok-load.load.left c.in_ok-gap.ensures.spent c.in_ok-load.ensures.spent)
 
 pub told_like-requires-clause-gap_inners : goal.told_like-requires-clause-gap_inners
 told_like-requires-clause-gap_inners c =
-    inners_of Gap (lettered c.args.station.now c.args.parts.now) c.args.bay.0 c.switches_of-count.result.0.0
-    c.switches_of-count.result.1 (view_of c.in_ok-gap.gap.graphs) c.in_ok-gap.ensures.graphs
+    let own = c.in_ok-own.own in
+    inners_of Gap (lettered c.args.station.now c.args.parts.now) own.bay.0 own.first own.count
+    (view_of c.in_ok-gap.gap.graphs) c.in_ok-gap.ensures.graphs
 
 pub told_like-requires-clause-load_inners : goal.told_like-requires-clause-load_inners
 told_like-requires-clause-load_inners c =
-    inners_of Load (lettered c.args.station.now c.args.parts.now) c.args.bay.0 c.switches_of-count.result.0.0
-    c.switches_of-count.result.1 (view_of c.in_ok-load.load.graphs) c.in_ok-load.ensures.graphs
+    let own = c.in_ok-own.own in
+    inners_of Load (lettered c.args.station.now c.args.parts.now) own.bay.0 own.first own.count
+    (view_of c.in_ok-load.load.graphs) c.in_ok-load.ensures.graphs
 
 pub returns-clause-graphs : goal.returns-clause-graphs
 returns-clause-graphs c =
-    let of = c.switches_of-count in
+    let d = c.args.station.now in
+    let a = lettered d c.args.parts.now in
+    let own = c.in_ok-own.own in
+    let same = c.in_ok-own.ensures.bay in
+    let switches = subst (λ (b : BayId). AreSwitchesOf d b.0 own.first own.count) same
+    c.in_ok-own.ensures.own.switches in
+    let gap = subst (λ (b : BayId). AreViewGraphs Gap a b.0 own.first own.count (view_of c.in_ok-gap.gap.graphs)) same
+    c.in_ok-gap.ensures.graphs in
+    let load = subst (λ (b : BayId). AreViewGraphs Load a b.0 own.first own.count (view_of c.in_ok-load.load.graphs)) same
+    c.in_ok-load.ensures.graphs in
     record {
-      switches = of.ensures.value;
-      gap = c.in_ok-gap.ensures.graphs;
-      load = c.in_ok-load.ensures.graphs;
+      switches = switches;
+      gap = gap;
+      load = load;
       told =
-          are_told (lettered c.args.station.now c.args.parts.now) c.args.bay.0 of.result.0.0 of.result.1
-          (view_of c.in_ok-gap.gap.graphs) (view_of c.in_ok-load.load.graphs) c.in_ok-told.told.items
-          (record { station = of.ensures.station; alphabets = c.requires.lettered }) of.ensures.value
-          c.in_ok-gap.ensures.graphs c.in_ok-load.ensures.graphs c.in_ok-told.ensures.count c.in_ok-told.ensures.tells;
+          are_told a c.args.bay.0 own.first own.count (view_of c.in_ok-gap.gap.graphs)
+          (view_of c.in_ok-load.load.graphs) c.in_ok-told.told.items
+          (record { station = c.is_station.ensures; alphabets = c.requires.lettered }) switches gap load
+          c.in_ok-told.ensures.count c.in_ok-told.ensures.tells;
     }

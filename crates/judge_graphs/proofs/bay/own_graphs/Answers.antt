@@ -1,14 +1,10 @@
-use Rattle.std.proofs.Common.{◌≡◌, ◌+◌, ◌-◌, ◌∙◌, ℕ, List, suc, map, sym, ap, subst, arith}
-use Rattle.std.specs.Prelude.{Contains, ◌↔◌}
+use Rattle.std.proofs.Common.{◌≡◌, ◌+◌, ◌-◌, ◌∙◌, ℕ, List, map, sym, ap, subst, arith}
 use Rattle.contraction.specs.Answers.{Answers}
 use Rattle.contraction.specs.Renaming.{mapped}
 use Rattle.decision_graphs.specs.Label.{Layered}
 use Rattle.judge_pool.specs.Lettered.{lettered}
 use Rattle.judge_pool.specs.Layering.{values_at}
-use Rattle.judge_pool.specs.Needing.{BayNeeds}
 use Rattle.judge_pool.specs.Places.{node_listed, pool_on}
-use Rattle.judge_intake.specs.Inputs.{IsBayIntake}
-use Rattle.judge_intake.specs.declared.own.BayIntake.{BayIntake}
 use Rattle.judge_pool.specs.Graphs.{IsInner}
 use Rattle.judge_intake.specs.Coding.{labels_of}
 use Rattle.judge_graphs.specs.Built.{IsInnerAt, AreInner}
@@ -20,7 +16,7 @@ use Rattle.judge_pool.proofs.LayeringLemmas.{grew_same, grew_more, grows}
 use Rattle.judge_pool.proofs.PlanLemmas.{values_more}
 use Rattle.judge_intake.proofs.InputsLemmas.{bay_intake_stays}
 use Rattle.judge_pool.proofs.MappedPools.{grows_on}
-use Rattle.judge_graphs.proofs.BayLemmas.{own_of, inner_none, inner_more}
+use Rattle.judge_graphs.proofs.BayLemmas.{inner_none, inner_more}
 use Rattle.judge_pool.proofs.ErrorLemmas.{passed_on}
 use Rattle.judge_graphs.proofs.bay.own_graphs.Goals as goal
 
@@ -32,44 +28,36 @@ loop-i-init c = record {
   spends = record {
     edges = 0;
     has =
-        switches_none c.args.pool.now.view c.args.station.now c.args.bay.0 (AreSoMany c.args.station.now)
-        c.args.first c.args.count;
+        switches_none c.args.pool.now.view c.args.station.now c.args.own.now.bay.0 (AreSoMany c.args.station.now)
+        c.args.own.now.first c.args.own.now.count;
     all = omega arith;
   };
   inner =
-      λ a. subst (λ (gs : List Layered). AreInner c.args.pool.now.view (lettered c.args.station.now a) c.args.bay.0
-      c.args.first c.args.count
-      (values_at (map (mapped (node_listed c.args.list.now)) c.args.pool.now.values.items)
-      c.args.own.now.names.items) gs 0)
-      (sym c.new-graphs.ensures.items) (inner_none c.args.pool.now.view (lettered c.args.station.now a) c.args.bay.0
-      c.args.first c.args.count
-      (values_at (map (mapped (node_listed c.args.list.now)) c.args.pool.now.values.items)
-      c.args.own.now.names.items));
+      λ a. subst (λ (gs : List Layered). AreInner c.args.pool.now.view (lettered c.args.station.now a) c.args.own.now.bay.0
+      c.args.own.now.first c.args.own.now.count
+      (values_at (map (mapped (node_listed c.args.own.now.nodes)) c.args.pool.now.values.items)
+      c.args.common.now.names.items) gs 0)
+      (sym c.new-graphs.ensures.items) (inner_none c.args.pool.now.view (lettered c.args.station.now a) c.args.own.now.bay.0
+      c.args.own.now.first c.args.own.now.count
+      (values_at (map (mapped (node_listed c.args.own.now.nodes)) c.args.pool.now.values.items)
+      c.args.common.now.names.items));
 }
 
-pub inner_graph-requires-clause-own : goal.inner_graph-requires-clause-own
-inner_graph-requires-clause-own c =
-    own_of c.args.station.now c.args.bay.0 c.args.first c.args.count c.loop-i.i c.requires.switches c.loop-i-test.true
+pub inner_graph-requires-clause-moved : goal.inner_graph-requires-clause-moved
+inner_graph-requires-clause-moved c = record {
+  one_more = omega (arith, c.loop-i-test.true);
+  from = omega arith;
+  below = omega (arith, c.loop-i-test.true);
+}
 
-pub inner_graph-requires-clause-list : goal.inner_graph-requires-clause-list
-inner_graph-requires-clause-list c n =
-    let e : c.args.count ≡ suc (c.args.count - 1) = omega (arith, c.loop-i-test.true) in
-    subst (λ k. Contains c.args.list.now n ↔ BayNeeds c.args.station.now c.args.bay.0 c.args.first k n) e
-    (c.requires.list n)
-
-pub inner_graph-requires-clause-intake : goal.inner_graph-requires-clause-intake
-inner_graph-requires-clause-intake c =
-    let d = c.args.station.now in
-    let b = c.args.bay.0 in
-    let first = c.args.first in
-    let own : BayIntake = c.args.own.now in
-    let f : ℕ → ℕ = node_listed c.args.list.now in
+pub inner_graph-requires-clause-common : goal.inner_graph-requires-clause-common
+inner_graph-requires-clause-common c =
+    let f : ℕ → ℕ = node_listed c.args.own.now.nodes in
     let p0 = c.args.pool.now in
     let p = c.loop-i.pool in
-    let e : c.args.count ≡ suc (c.args.count - 1) = omega (arith, c.loop-i-test.true) in
-    subst (λ k. IsBayIntake (pool_on f p) d b first k own) e
-    (bay_intake_stays (pool_on f p0) (pool_on f p) (grows_on f p0 p (grows p0 p c.loop-i.invariant.grew)) d b first
-    c.args.count own c.requires.intake)
+    bay_intake_stays (pool_on f p0) (pool_on f p) (grows_on f p0 p (grows p0 p c.loop-i.invariant.grew))
+    c.args.station.now c.args.own.now.bay.0 c.args.own.now.first c.args.own.now.count c.args.common.now
+    c.requires.common
 
 pub loop-i-preserved : goal.loop-i-preserved
 loop-i-preserved c =
@@ -79,65 +67,65 @@ loop-i-preserved c =
     let g = c.in_ok-made.ensures.grew in
     let i = c.loop-i.i in
     let made : Layered = c.in_ok-made.made.graph in
-    let f : ℕ → ℕ = node_listed c.args.list.now in
-    let names : List ℕ = c.args.own.now.names.items in
+    let f : ℕ → ℕ = node_listed c.args.own.now.nodes in
+    let names : List ℕ = c.args.common.now.names.items in
     let old : List Answers = values_at (map (mapped f) p0.values.items) names in
     let same = values_more (map (mapped f) p0.values.items) (map (mapped f) p.values.items) names
-    (grows_on f p0 p (grows p0 p c.loop-i.invariant.grew)).values c.requires.intake.named.within in
+    (grows_on f p0 p (grows p0 p c.loop-i.invariant.grew)).values c.requires.common.named.within in
     record {
       grew = grew_more p0 p q c.loop-i.invariant.grew g;
       notes = c.in_ok-made.ensures.notes;
       left = omega (arith, c.in_ok-made.ensures.left, c.loop-i.invariant.left);
       spends =
-          switches_spend p0.view c.args.station.now c.args.bay.0 c.args.first c.args.count i c.args.left c.loop-i.rest
+          switches_spend p0.view c.args.station.now c.args.own.now.bay.0 c.args.own.now.first c.args.own.now.count i c.args.left c.loop-i.rest
           c.in_ok-made.made.left c.loop-i-test.true c.loop-i.invariant.spends
           (subst
-          (λ w. Spends (InnerHas w c.args.station.now c.args.bay.0 (c.args.first + i) c.args.first (c.args.count - 1)
-          (c.args.count - 1)) c.args.station.now c.loop-i.rest c.in_ok-made.made.left) c.loop-i.invariant.grew.view
+          (λ w. Spends (InnerHas w c.args.station.now c.args.own.now.bay.0 (c.args.own.now.first + i) c.args.own.now.first (c.args.own.now.count - 1)
+          (c.args.own.now.count - 1)) c.args.station.now c.loop-i.rest c.in_ok-made.made.left) c.loop-i.invariant.grew.view
           c.in_ok-made.ensures.spent);
       inner = λ a.
-          let here : IsInner p0.view (lettered c.args.station.now a) c.args.bay.0 (c.args.first + i) c.args.first
-          (c.args.count - 1) old made =
-          subst (λ w. IsInner w (lettered c.args.station.now a) c.args.bay.0 (c.args.first + i) c.args.first
-          (c.args.count - 1) old made) c.loop-i.invariant.grew.view
-          (subst (λ xs. IsInner p.view (lettered c.args.station.now a) c.args.bay.0 (c.args.first + i) c.args.first
-          (c.args.count - 1) xs made) same (c.in_ok-made.ensures.inner a)) in
-          let new : IsInnerAt p0.view (lettered c.args.station.now a) c.args.bay.0 c.args.first c.args.count old i
+          let here : IsInner p0.view (lettered c.args.station.now a) c.args.own.now.bay.0 (c.args.own.now.first + i) c.args.own.now.first
+          (c.args.own.now.count - 1) old made =
+          subst (λ w. IsInner w (lettered c.args.station.now a) c.args.own.now.bay.0 (c.args.own.now.first + i) c.args.own.now.first
+          (c.args.own.now.count - 1) old made) c.loop-i.invariant.grew.view
+          (subst (λ xs. IsInner p.view (lettered c.args.station.now a) c.args.own.now.bay.0 (c.args.own.now.first + i) c.args.own.now.first
+          (c.args.own.now.count - 1) xs made) same (c.in_ok-made.ensures.inner a)) in
+          let new : IsInnerAt p0.view (lettered c.args.station.now a) c.args.own.now.bay.0 c.args.own.now.first c.args.own.now.count old i
           made = record {
-            others = c.args.count - 1;
+            others = c.args.own.now.count - 1;
             one_more = omega (arith, c.loop-i-test.true);
             graph = here;
             labels = c.in_ok-made.ensures.labels ∙ ap labels_of c.loop-i.invariant.grew.view;
             reduced = c.in_ok-made.ensures.reduced;
             small =
-                subst (λ w. InnerIsSmall w c.args.station.now c.args.bay.0 (c.args.first + i) c.args.first
-                (c.args.count - 1) made) c.loop-i.invariant.grew.view c.in_ok-made.ensures.small;
+                subst (λ w. InnerIsSmall w c.args.station.now c.args.own.now.bay.0 (c.args.own.now.first + i) c.args.own.now.first
+                (c.args.own.now.count - 1) made) c.loop-i.invariant.grew.view c.in_ok-made.ensures.small;
           } in
-          subst (λ (gs : List Layered). AreInner p0.view (lettered c.args.station.now a) c.args.bay.0 c.args.first
-          c.args.count old gs (i + 1)) (sym c.in_ok-push.ensures.items)
-          (inner_more p0.view (lettered c.args.station.now a) c.args.bay.0 c.args.first c.args.count old
+          subst (λ (gs : List Layered). AreInner p0.view (lettered c.args.station.now a) c.args.own.now.bay.0 c.args.own.now.first
+          c.args.own.now.count old gs (i + 1)) (sym c.in_ok-push.ensures.items)
+          (inner_more p0.view (lettered c.args.station.now a) c.args.own.now.bay.0 c.args.own.now.first c.args.own.now.count old
           c.loop-i.graphs.items i made (c.loop-i.invariant.inner a) new);
     }
 
 pub returns-clause-inner : goal.returns-clause-inner
 returns-clause-inner c a =
-    let done : c.loop-i.i ≡ c.args.count = omega (arith, c.loop-i.auto.i-end, c.loop-i-test.false) in
-    subst (λ n. AreInner c.args.pool.now.view (lettered c.args.station.now a) c.args.bay.0 c.args.first c.args.count
-    (values_at (map (mapped (node_listed c.args.list.now)) c.args.pool.now.values.items) c.args.own.now.names.items)
+    let done : c.loop-i.i ≡ c.args.own.now.count = omega (arith, c.loop-i.auto.i-end, c.loop-i-test.false) in
+    subst (λ n. AreInner c.args.pool.now.view (lettered c.args.station.now a) c.args.own.now.bay.0 c.args.own.now.first c.args.own.now.count
+    (values_at (map (mapped (node_listed c.args.own.now.nodes)) c.args.pool.now.values.items) c.args.common.now.names.items)
     c.loop-i.graphs.items n) done (c.loop-i.invariant.inner a)
 
 pub returns-clause-spent : goal.returns-clause-spent
 returns-clause-spent c =
-    let done : c.loop-i.i ≡ c.args.count = omega (arith, c.loop-i.auto.i-end, c.loop-i-test.false) in
-    subst (λ n. Spends (SwitchesHave c.args.pool.now.view c.args.station.now c.args.bay.0 c.args.first c.args.count n)
+    let done : c.loop-i.i ≡ c.args.own.now.count = omega (arith, c.loop-i.auto.i-end, c.loop-i-test.false) in
+    subst (λ n. Spends (SwitchesHave c.args.pool.now.view c.args.station.now c.args.own.now.bay.0 c.args.own.now.first c.args.own.now.count n)
     c.args.station.now c.args.left c.loop-i.rest) done c.loop-i.invariant.spends
 
 pub returns-in_err-made-clause-wide : goal.returns-in_err-made-clause-wide
 returns-in_err-made-clause-wide c = passed_on _ _ c.from_residual.result c.from_residual.ensures.1 (λ trouble same is.
     let d = c.args.station.now in
-    let b = c.args.bay.0 in
-    let first = c.args.first in
-    let count = c.args.count in
+    let b = c.args.own.now.bay.0 in
+    let first = c.args.own.now.first in
+    let count = c.args.own.now.count in
     let i = c.loop-i.i in
     switches_pass c.args.pool.now.view d b first count i c.args.left c.loop-i.rest c.loop-i-test.true
     c.loop-i.invariant.spends

@@ -15,8 +15,8 @@ invariant-loop-i l = record {
   grew : GrewTo l.fn.pool l.pool;
   notes : AreInnerNotes l.pool l.notes;
   left : l.rest ≤ l.left;
-  spends : Spends (SwitchesHave l.fn.pool.view l.station l.bay.0 l.first l.count l.i) l.station l.left l.rest;
+  spends : Spends (SwitchesHave l.fn.pool.view l.station l.own.bay.0 l.own.first l.own.count l.i) l.station l.left l.rest;
   inner : (a : Alphabets) →
-      AreInner l.fn.pool.view (lettered l.station a) l.bay.0 l.first l.count
-      (values_at (map (mapped (node_listed l.list)) l.fn.pool.values.items) l.own.names.items) l.graphs.items l.i;
+      AreInner l.fn.pool.view (lettered l.station a) l.own.bay.0 l.own.first l.own.count
+      (values_at (map (mapped (node_listed l.own.nodes)) l.fn.pool.values.items) l.common.names.items) l.graphs.items l.i;
 }

@@ -48,9 +48,9 @@ pub returns-clause-graphs : goal.returns-clause-graphs
 returns-clause-graphs c =
     let d = c.args.station.now in
     let a : Lettered = lettered d c.args.parts.now in
-    let b = c.args.bay.0 in
-    let first = c.args.first in
-    let count = c.args.count in
+    let b = c.args.own.now.bay.0 in
+    let first = c.args.own.now.first in
+    let count = c.args.own.now.count in
     let p1 : Pool = c.outer_graph.new.pool in
     let names : List Answers = values_at p1.values.items c.in_ok-outer.outer.names.items in
     let view0 = c.requires.stock.of_view in
@@ -68,12 +68,12 @@ returns-clause-graphs c =
 pub returns-clause-spent : goal.returns-clause-spent
 returns-clause-spent c =
     let d = c.args.station.now in
-    let b = c.args.bay.0 in
-    let first = c.args.first in
-    let count = c.args.count in
+    let b = c.args.own.now.bay.0 in
+    let first = c.args.own.now.first in
+    let count = c.args.own.now.count in
     let view0 = c.requires.stock.of_view in
     let others : ℕ = c.part_count-others.result - 1 in
-    let e : suc others ≡ part_count d = omega (arith, c.requires.bay, c.part_count-others.ensures.count) in
+    let e : suc others ≡ part_count d = omega (arith, c.requires.own.bay, c.part_count-others.ensures.count) in
     let outer = subst (λ w. Spends (OuterHas w d b others) d c.args.left c.in_ok-outer.outer.left) view0
     c.in_ok-outer.ensures.spent in
     let inner = subst
@@ -85,10 +85,10 @@ returns-clause-spent c =
 pub returns-in_err-outer-clause-wide : goal.returns-in_err-outer-clause-wide
 returns-in_err-outer-clause-wide c = passed_on _ _ c.from_residual.result c.from_residual.ensures.1 (λ trouble same is.
     let d = c.args.station.now in
-    let b = c.args.bay.0 in
+    let b = c.args.own.now.bay.0 in
     let others : ℕ = c.part_count-others.result - 1 in
-    let e : suc others ≡ part_count d = omega (arith, c.requires.bay, c.part_count-others.ensures.count) in
-    outer_view_passes c.args.view d b c.args.first c.args.count others e c.args.left (subst
+    let e : suc others ≡ part_count d = omega (arith, c.requires.own.bay, c.part_count-others.ensures.count) in
+    outer_view_passes c.args.view d b c.args.own.now.first c.args.own.now.count others e c.args.left (subst
     (λ w. Passes (OuterHas w d b others) d c.args.left) c.requires.stock.of_view
     (c.in_err-outer.ensures.wide (sym same ∙ is))))
 
@@ -96,12 +96,12 @@ pub returns-in_err-inners-clause-wide : goal.returns-in_err-inners-clause-wide
 returns-in_err-inners-clause-wide c =
     passed_on _ _ c.from_residual-in_err-inners.result c.from_residual-in_err-inners.ensures.1 (λ trouble same is.
     let d = c.args.station.now in
-    let b = c.args.bay.0 in
-    let first = c.args.first in
-    let count = c.args.count in
+    let b = c.args.own.now.bay.0 in
+    let first = c.args.own.now.first in
+    let count = c.args.own.now.count in
     let view0 = c.requires.stock.of_view in
     let others : ℕ = c.part_count-others.result - 1 in
-    let e : suc others ≡ part_count d = omega (arith, c.requires.bay, c.part_count-others.ensures.count) in
+    let e : suc others ≡ part_count d = omega (arith, c.requires.own.bay, c.part_count-others.ensures.count) in
     let outer = subst (λ w. Spends (OuterHas w d b others) d c.args.left c.in_ok-outer.outer.left) view0
     c.in_ok-outer.ensures.spent in
     let inner = subst (λ w. Passes (SwitchesHave w d b first count count) d c.in_ok-outer.outer.left)

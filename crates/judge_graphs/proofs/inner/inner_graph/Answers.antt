@@ -21,6 +21,7 @@ use Rattle.judge_pool.proofs.LayeringLemmas.{grew_more, grows}
 use Rattle.judge_pool.proofs.MappedPools.{grows_on}
 use Rattle.judge_graphs.proofs.NotingLemmas.{all_right_stay}
 use Rattle.judge_graphs.proofs.LabellingLemmas.{taken_of_note, found_taken, same_note, labelled_stay}
+use Rattle.judge_intake.proofs.OwnBayLemmas.{needs_so}
 use Rattle.judge_intake.proofs.PlacesLemmas.{places_rise}
 use Rattle.judge_intake.proofs.CodeLemmas.{labels_some}
 use Rattle.judge_graphs.proofs.InnerTaken.{plan_on, fits_on, taken_linked, taken_passes}
@@ -38,17 +39,17 @@ abbrev note : After-as_slice-names → Noted
 note c = c.in_ok-taken.ensures.taken.0
 
 note_of : (c : After-as_slice-names) (letters : Alphabets) →
-    IsNoteOf (lettered c.args.station.now letters) c.args.bay.0 c.args.moved c.args.first c.args.others c.args.list.now
-    c.inner_intake.new.pool c.taken_again.new.pool c.args.own.now.names.items c.args.left c.in_ok-taken.taken.left
+    IsNoteOf (lettered c.args.station.now letters) c.args.own.now.bay.0 c.args.moved c.args.own.now.first c.args.others c.args.own.now.nodes
+    c.inner_intake.new.pool c.taken_again.new.pool c.args.common.now.names.items c.args.left c.in_ok-taken.taken.left
     (note c)
 note_of c letters =
     let w = c.in_ok-taken.ensures.taken in
     let q : Pool = c.taken_again.new.pool in
-    let budget : c.args.left + c.len.result ≡ c.args.left + length c.args.own.now.names.items =
-    omega (arith, c.len.ensures, c.args.own.now.names.ok.0) in
+    let budget : c.args.left + c.len.result ≡ c.args.left + length c.args.common.now.names.items =
+    omega (arith, c.len.ensures, c.args.common.now.names.ok.0) in
     record {
       intake = c.in_ok-intake.intake;
-      nodes = c.requires.nodes;
+      nodes = c.requires.own.nodes;
       ready = c.in_ok-intake.ensures.ready letters;
       grown = grows c.inner_intake.new.pool q c.in_ok-taken.ensures.grew;
       taken =
@@ -90,9 +91,9 @@ taken_again-requires-clause-notes c =
 
 pub taken_again-requires-clause-linked : goal.taken_again-requires-clause-linked
 taken_again-requires-clause-linked c =
-    taken_linked (lettered c.args.station.now none) c.args.bay.0 c.args.moved c.args.first c.args.others
-    (node_listed c.args.list.now) (places_rise c.args.list.now c.requires.nodes) c.inner_intake.new.pool
-    c.in_ok-intake.intake c.args.own.now.names.items (c.in_ok-intake.ensures.ready none)
+    taken_linked (lettered c.args.station.now none) c.args.own.now.bay.0 c.args.moved c.args.own.now.first c.args.others
+    (node_listed c.args.own.now.nodes) (places_rise c.args.own.now.nodes c.requires.own.nodes) c.inner_intake.new.pool
+    c.in_ok-intake.intake c.args.common.now.names.items (c.in_ok-intake.ensures.ready none)
 
 pub taken_again-requires-clause-few : goal.taken_again-requires-clause-few
 taken_again-requires-clause-few c =
@@ -100,7 +101,8 @@ taken_again-requires-clause-few c =
     omega (
       arith,
       ready.rows.len,
-      c.requires.own.those.within,
+      c.requires.own.switches.within,
+      c.requires.moved.one_more,
       c.switch_count-count.ensures.station.items.switches_few,
     )
 
@@ -112,13 +114,14 @@ codes-requires-clause-within c k j at =
 pub codes-requires-clause-places : goal.codes-requires-clause-places
 codes-requires-clause-places c k place x at kept =
     let s = (goal.at.codes-requires-clause-places c).After-as_slice-names in
-    place_within (note_of s none) c.requires.list k place x
+    place_within (note_of s none)
+    (needs_so c.args.station.now c.args.own.now c.requires.own c.args.moved c.args.others c.requires.moved) k place x
     (ap (λ (xs : List ℕ). slice_get (values_at c.taken_again.new.pool.values.items xs) k) (sym (its_names s)) ∙ at) kept
 
 pub codes-requires-clause-ends : goal.codes-requires-clause-ends
 codes-requires-clause-ends c k x at =
     let s = (goal.at.codes-requires-clause-ends c).After-as_slice-names in
-    let values : List Answers = map (mapped (node_listed c.args.list.now)) c.taken_again.new.pool.values.items in
+    let values : List Answers = map (mapped (node_listed c.args.own.now.nodes)) c.taken_again.new.pool.values.items in
     state_ends (note_of s none) k x
     (ap (λ (xs : List ℕ). slice_get (values_at values xs) k) (sym (its_names s)) ∙ at)
 
@@ -146,7 +149,7 @@ labelled_graph-requires-clause-some c =
 pub labelled_graph-requires-clause-len : goal.labelled_graph-requires-clause-len
 labelled_graph-requires-clause-len c other at_o =
     let s = (goal.at.labelled_graph-requires-clause-len c).After-as_slice-names in
-    let values : List Answers = map (mapped (node_listed c.args.list.now)) c.taken_again.new.pool.values.items in
+    let values : List Answers = map (mapped (node_listed c.args.own.now.nodes)) c.taken_again.new.pool.values.items in
     let one : note s ≡ other = same_Some (note s) other (sym (at_held s) ∙ at_o) in
     subst (λ (k : Noted). length c.in_ok-labels.labels.items ≡ k.graph.value.labels) one
     (c.in_ok-labels.ensures.len
@@ -186,34 +189,34 @@ returns-clause-reduced c = (labelled_of (goal.at.returns-clause-reduced c).In_ok
 pub returns-clause-inner : goal.returns-clause-inner
 returns-clause-inner c letters =
     let s = (goal.at.returns-clause-inner c).After-as_slice-names in
-    let f : ℕ → ℕ = node_listed c.args.list.now in
+    let f : ℕ → ℕ = node_listed c.args.own.now.nodes in
     let p0 : Pool = c.args.pool.now in
     let p : Pool = c.inner_intake.new.pool in
     let q : Pool = c.taken_again.new.pool in
-    let names : List ℕ = c.args.own.now.names.items in
+    let names : List ℕ = c.args.common.now.names.items in
     let before : List Answers = map (mapped f) p0.values.items in
     let same = values_more before (map (mapped f) p.values.items) names
-    (grows_on f p0 p (grows p0 p c.in_ok-intake.ensures.grew)).values c.requires.intake.named.within in
+    (grows_on f p0 p (grows p0 p c.in_ok-intake.ensures.grew)).values c.requires.common.named.within in
     let are : AreCodes q.view c.args.station.now c.args.moved
     (values_at (map (mapped f) q.values.items) (note s).names.items) c.in_ok-labels.labels.items =
     subst (λ (xs : List ℕ). AreCodes q.view c.args.station.now c.args.moved
     (values_at (map (mapped f) q.values.items) xs) c.in_ok-labels.labels.items) (its_names s) c.in_ok-labels.ensures in
-    subst (λ v. IsInner v (lettered c.args.station.now letters) c.args.bay.0 c.args.moved c.args.first c.args.others
+    subst (λ v. IsInner v (lettered c.args.station.now letters) c.args.own.now.bay.0 c.args.moved c.args.own.now.first c.args.others
     (values_at before names) c.in_ok-graph.graph) c.in_ok-intake.ensures.grew.view
-    (subst (λ xs. IsInner p.view (lettered c.args.station.now letters) c.args.bay.0 c.args.moved c.args.first
+    (subst (λ xs. IsInner p.view (lettered c.args.station.now letters) c.args.own.now.bay.0 c.args.moved c.args.own.now.first
     c.args.others xs c.in_ok-graph.graph) same
     (labelled_inner (note_of s letters) (labelled_of (goal.at.returns-clause-inner c).In_ok-graph) are))
 
 pub returns-clause-small : goal.returns-clause-small
 returns-clause-small c =
-    subst (λ v. InnerIsSmall v c.args.station.now c.args.bay.0 c.args.moved c.args.first c.args.others
+    subst (λ v. InnerIsSmall v c.args.station.now c.args.own.now.bay.0 c.args.moved c.args.own.now.first c.args.others
     c.in_ok-graph.graph) c.in_ok-intake.ensures.grew.view
     (labelled_small (note_of (goal.at.returns-clause-small c).After-as_slice-names none)
     (labelled_of (goal.at.returns-clause-small c).In_ok-graph))
 
 pub returns-clause-spent : goal.returns-clause-spent
 returns-clause-spent c =
-    subst (λ v. Spends (InnerHas v c.args.station.now c.args.bay.0 c.args.moved c.args.first c.args.others
+    subst (λ v. Spends (InnerHas v c.args.station.now c.args.own.now.bay.0 c.args.moved c.args.own.now.first c.args.others
     c.args.others) c.args.station.now c.args.left c.in_ok-taken.taken.left) c.in_ok-intake.ensures.grew.view
     (note_spends (note_of (goal.at.returns-clause-spent c).After-as_slice-names none))
 
@@ -227,18 +230,18 @@ returns-in_err-taken-clause-wide c =
     passed_on _ _ c.from_residual-in_err-taken.result c.from_residual-in_err-taken.ensures.1 (λ trouble same is.
     let d = c.args.station.now in
     let a = lettered d none in
-    let b = c.args.bay.0 in
+    let b = c.args.own.now.bay.0 in
     let m = c.args.moved in
-    let first = c.args.first in
+    let first = c.args.own.now.first in
     let others = c.args.others in
-    let f : ℕ → ℕ = node_listed c.args.list.now in
-    let order = places_rise c.args.list.now c.requires.nodes in
+    let f : ℕ → ℕ = node_listed c.args.own.now.nodes in
+    let order = places_rise c.args.own.now.nodes c.requires.own.nodes in
     let p : Pool = c.inner_intake.new.pool in
     let i = c.in_ok-intake.intake in
-    let names : List ℕ = c.args.own.now.names.items in
+    let names : List ℕ = c.args.common.now.names.items in
     let ready = c.in_ok-intake.ensures.ready none in
     let e : c.args.left + c.len.result ≡ c.args.left + length names =
-    omega (arith, c.len.ensures, c.args.own.now.names.ok.0) in
+    omega (arith, c.len.ensures, c.args.common.now.names.ok.0) in
     let plan = plan_on a b m first others f order p i names ready in
     let past = c.in_err-taken.ensures.wide (sym same ∙ is) f plan order
     (fits_on a b m first others f order p i names ready) in

@@ -1,12 +1,13 @@
 use Rattle.std.proofs.Common.{◌≡◌, ◌+◌, ◌++◌, ◌∷◌, [], ℕ, List, map, suc, sym, ap, ◌∙◌, subst, inr, add-one, arith}
 use Rattle.std.specs.Prelude.{Contains, ◌↔◌}
-use Rattle.judge_pool.specs.Needing.{InnerNeeds}
+use Rattle.judge_pool.specs.Needing.{InnerNeeds, BayNeeds}
 use Rattle.judge_pool.specs.Places.{node_listed, pool_on}
 use Rattle.judge_intake.specs.Inputs.{AreKeeps, HasNodes}
 use Rattle.judge_pool.proofs.LayeringLemmas.{grew_same, grew_more, grows}
 use Rattle.judge_pool.proofs.MappedPools.{at_mapped, grows_on}
 use Rattle.judge_intake.proofs.NodesLemmas.{bay_inner}
 use Rattle.judge_intake.proofs.PlacesLemmas.{needed_later}
+use Rattle.judge_intake.proofs.OwnBayLemmas.{is_own, needs_so}
 use Rattle.judge_intake.proofs.InputsLemmas.{keeps_none, keeps_more}
 use Rattle.judge_intake.proofs.inputs.inner_keeps.Goals as goal
 
@@ -14,20 +15,20 @@ pub inner_places-requires-clause-has : goal.inner_places-requires-clause-has
 inner_places-requires-clause-has c n need =
     let d = c.args.station.now in
     let m = c.args.moved in
-    let first = c.args.first in
+    let first = c.args.own.now.first in
     let others = c.args.others in
-    (c.requires.list n).1
-    ((bay_inner d c.args.bay.0 m first others c.requires.own n).1
+    (needs_so d c.args.own.now c.requires.own m others c.requires.moved n).1
+    ((bay_inner d c.args.own.now.bay.0 m first others (is_own d c.args.own.now c.requires.own m others c.requires.moved) n).1
     (inr (needed_later d m first others c.loop-from.from n need)))
 
 pub loop-from-init : goal.loop-from-init
 loop-from-init c =
     let d = c.args.station.now in
-    let f : ℕ → ℕ = node_listed c.args.list.now in
-    let N : ℕ → ℕ → Type 0 = InnerNeeds d c.args.bay.0 c.args.moved c.args.first c.args.others in
+    let f : ℕ → ℕ = node_listed c.args.own.now.nodes in
+    let N : ℕ → ℕ → Type 0 = InnerNeeds d c.args.own.now.bay.0 c.args.moved c.args.own.now.first c.args.others in
     let p = pool_on f c.args.pool.now in
-    let needs = bay_inner d c.args.bay.0 c.args.moved c.args.first c.args.others c.requires.own in
-    let h = c.requires.keep in
+    let needs = bay_inner d c.args.own.now.bay.0 c.args.moved c.args.own.now.first c.args.others (is_own d c.args.own.now c.requires.own c.args.moved c.args.others c.requires.moved) in
+    let h = subst (λ k. HasNodes (BayNeeds d c.args.own.now.bay.0 c.args.own.now.first k) p c.args.keep) c.requires.moved.one_more c.requires.keep in
     let start : HasNodes (N 0) p c.args.keep = record {
       nodes = h.nodes;
       listed = h.listed;
@@ -45,8 +46,8 @@ loop-from-init c =
 
 pub loop-from-preserved : goal.loop-from-preserved
 loop-from-preserved c =
-    let f : ℕ → ℕ = node_listed c.args.list.now in
-    let N : ℕ → ℕ → Type 0 = InnerNeeds c.args.station.now c.args.bay.0 c.args.moved c.args.first c.args.others in
+    let f : ℕ → ℕ = node_listed c.args.own.now.nodes in
+    let N : ℕ → ℕ → Type 0 = InnerNeeds c.args.station.now c.args.own.now.bay.0 c.args.moved c.args.own.now.first c.args.others in
     let p = c.loop-from.pool in
     let q = c.keep.new.self in
     let g = c.in_ok-id.ensures.grew in
@@ -66,8 +67,8 @@ loop-from-preserved c =
 
 pub returns-clause-keeps : goal.returns-clause-keeps
 returns-clause-keeps c =
-    let N : ℕ → ℕ → Type 0 = InnerNeeds c.args.station.now c.args.bay.0 c.args.moved c.args.first c.args.others in
+    let N : ℕ → ℕ → Type 0 = InnerNeeds c.args.station.now c.args.own.now.bay.0 c.args.moved c.args.own.now.first c.args.others in
     let done : c.loop-from.from + 1 ≡ suc (suc c.args.others) =
-    omega (arith, c.loop-from.auto.from-end, c.loop-from-test.false) in
-    subst (λ n. AreKeeps N (pool_on (node_listed c.args.list.now) c.loop-from.pool) c.loop-from.keeps.items n) done
+    omega (arith, c.loop-from.auto.from-end, c.loop-from-test.false, c.requires.moved.one_more) in
+    subst (λ n. AreKeeps N (pool_on (node_listed c.args.own.now.nodes) c.loop-from.pool) c.loop-from.keeps.items n) done
     c.loop-from.invariant.keeps

@@ -8,6 +8,6 @@ use Rattle.judge_intake.proofs.inputs.inner_keeps.Given as goal
 abbrev pub invariant-loop-from : goal.invariant-loop-from
 invariant-loop-from l = record {
   grew : GrewTo l.fn.pool l.pool;
-  keeps : AreKeeps (InnerNeeds l.station l.fn.bay.0 l.moved l.first l.others) (pool_on (node_listed l.list) l.pool)
+  keeps : AreKeeps (InnerNeeds l.station l.own.bay.0 l.moved l.own.first l.others) (pool_on (node_listed l.own.nodes) l.pool)
       l.keeps.items (l.from + 1);
 }

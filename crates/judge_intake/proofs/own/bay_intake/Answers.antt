@@ -19,12 +19,12 @@ pub names_in_places-requires-clause-has : goal.names_in_places-requires-clause-h
 names_in_places-requires-clause-has c t x at n kept =
     let none : Alphabets = record { switches = 0; parts = [] } in
     let a : Lettered = lettered c.args.station.now none in
-    (c.requires.list n).1
-    (inl (named_shared a c.args.bay.0 n c.switch_count-count.ensures.station c.requires.bay
+    (c.requires.own.needed n).1
+    (inl (named_shared a c.args.own.now.bay.0 n c.switch_count-count.ensures.station c.requires.own.bay
     ((c.requires.names.kept t x at n).0 kept)))
 
 pub switch_pairs-requires-clause-has : goal.switch_pairs-requires-clause-has
-switch_pairs-requires-clause-has c n t = (c.requires.list n).1 (inr t)
+switch_pairs-requires-clause-has c n t = (c.requires.own.needed n).1 (inr t)
 
 pub returns-clause-grew : goal.returns-clause-grew
 returns-clause-grew c =
@@ -38,7 +38,7 @@ returns-clause-grew c =
 
 pub returns-clause-copies : goal.returns-clause-copies
 returns-clause-copies c =
-    let f : ℕ → ℕ = node_listed c.args.list.now in
+    let f : ℕ → ℕ = node_listed c.args.own.now.nodes in
     let p1 : Pool = c.names_in_places.new.pool in
     let p2 : Pool = c.links.new.pool in
     let p3 : Pool = c.switch_pairs.new.pool in
@@ -53,10 +53,10 @@ returns-clause-intake c =
     let none : Alphabets = record { switches = 0; parts = [] } in
     let d = c.args.station.now in
     let a : Lettered = lettered d none in
-    let b = c.args.bay.0 in
-    let first = c.args.first in
-    let count = c.args.count in
-    let f : ℕ → ℕ = node_listed c.args.list.now in
+    let b = c.args.own.now.bay.0 in
+    let first = c.args.own.now.first in
+    let count = c.args.own.now.count in
+    let f : ℕ → ℕ = node_listed c.args.own.now.nodes in
     let p0 : Pool = c.args.pool.now in
     let p1 : Pool = c.names_in_places.new.pool in
     let p2 : Pool = c.links.new.pool in
@@ -69,7 +69,7 @@ returns-clause-intake c =
     let g234 = grows_on f p1 p4 (grows p1 p4 (grew_more p1 p2 p4 g2 (grew_more p2 p3 p4 g3 g4))) in
     let values : List Answers = values_at p0.values.items c.args.names.now in
     let names : List ℕ = c.in_ok-copies.copies.items in
-    let links = links_stay (pool_on f p2) (pool_on f p4) g34 d b (Contains c.args.list.now) c.in_ok-start.start
+    let links = links_stay (pool_on f p2) (pool_on f p4) g34 d b (Contains c.args.own.now.nodes) c.in_ok-start.start
     c.in_ok-start.ensures.links in
     let keep = c.in_ok-keep.ensures.keep in
     record {
@@ -77,18 +77,18 @@ returns-clause-intake c =
         value = links.value;
         listed = links.listed;
         kept =
-            λ n. (λ h. (c.requires.list n).0 ((links.kept n).0 h), λ h. (links.kept n).1 ((c.requires.list n).1 h));
+            λ n. (λ h. (c.requires.own.needed n).0 ((links.kept n).0 h), λ h. (links.kept n).1 ((c.requires.own.needed n).1 h));
         stands = links.stands;
       };
       keep = record {
         nodes = keep.nodes;
         listed = keep.listed;
         exact =
-            λ n. (λ h. (c.requires.list n).0 ((keep.exact n).0 h), λ h. (keep.exact n).1 ((c.requires.list n).1 h));
+            λ n. (λ h. (c.requires.own.needed n).0 ((keep.exact n).0 h), λ h. (keep.exact n).1 ((c.requires.own.needed n).1 h));
       };
       named =
           names_stay (pool_on f p1) (pool_on f p4) g234 d b names
-          (names_copied a b c.switch_count-count.ensures.station c.requires.bay (pool_on f p1) values names
+          (names_copied a b c.switch_count-count.ensures.station c.requires.own.bay (pool_on f p1) values names
           c.in_ok-copies.ensures.copies p0 c.args.names.now c.in_ok-copies.ensures.grew.view refl c.requires.names);
       pairs =
           pairs_stay (pool_on f p3) (pool_on f p4) (grows_on f p3 p4 (grows p3 p4 g4)) d first

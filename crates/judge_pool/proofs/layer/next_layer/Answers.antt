@@ -2,7 +2,7 @@ use Rattle.std.proofs.Common.{◌≡◌, ◌<◌, ◌≤◌, ◌+◌, ◌-◌, �
 use Rattle.std.proofs.Common.{drop, arith, ap, ◌∙◌, subst, sym}
 use Rattle.std.proofs.lemmas.Option.{slice_get-get_or}
 use Rattle.std.proofs.Math.Nat.{suc-mul, zero-mul, mul-le-mul_right}
-use Rattle.judge_pool.specs.declared.batches.Batch.{Batch}
+use Rattle.judge_pool.specs.declared.batch.Batch.{Batch}
 use Rattle.judge_pool.specs.declared.pool.Pool.{Pool}
 use Rattle.judge_pool.specs.Pooling.{MakesEach, HasBatch, letter_lists}
 use Rattle.judge_pool.specs.Layering.{AreEdges}

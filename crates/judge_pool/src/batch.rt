@@ -1,0 +1,17 @@
+//! Batches of compositions.
+
+// Of which two values, on which nodes, a value was made.
+#[derive(Clone, Copy)]
+pub(crate) struct Made {
+    pub(crate) first: usize,
+    pub(crate) second: usize,
+    pub(crate) keep: usize,
+}
+
+// The compositions of one value with each letter of a list, on the same nodes.
+#[derive(Clone, Copy, PartialEq, Eq, Hash)]
+pub(crate) struct Batch {
+    pub(crate) first: usize,
+    pub(crate) letters: usize,
+    pub(crate) keep: usize,
+}

@@ -1,5 +1,0 @@
-use Rattle.decision_graphs.specs.Reaching.{AreSetsOf}
-use Rattle.test_judge.proofs.graphs.sets_of.Given as goal
-
-abbrev pub invariant-loop-layer : goal.invariant-loop-layer
-invariant-loop-layer l = AreSetsOf l.graph.layers l.sets
