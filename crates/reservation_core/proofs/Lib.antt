@@ -25,3 +25,4 @@ pub mod Exact
 pub mod Added
 pub mod ForCode
 pub mod ForWorld
+pub mod Unlocking

@@ -15,3 +15,4 @@ pub mod Runs
 pub mod Headline
 pub mod LogLines
 pub mod ReportLines
+pub mod Unlocking

@@ -1,6 +1,7 @@
 //! What follows for every world. These calls do nothing and cost nothing: a caller cites their contracts.
-ghost use Rattle.std.specs.Prelude.{◌≡◌, Bool, List};
-ghost use Rattle.reservation_core.specs.Scene.{Scene};
+ghost use Rattle.std.specs.Prelude.{◌≡◌, Bool, List, None};
+ghost use Rattle.ilk_base.specs.declared.words.BayId.{BayId as Bay};
+ghost use Rattle.reservation_core.specs.Scene.{Scene, node};
 ghost use Rattle.reservation_core.specs.declared.values.WorldEvent.{WorldEvent as Event};
 ghost use Rattle.reservation_core.specs.declared.values.WorldOutcome.{WorldOutcome as Shown};
 ghost use Rattle.reservation_core.specs.declared.values.WorldOutcome.TheVariants.{Premise};
@@ -9,6 +10,7 @@ ghost use Rattle.reservation_core.specs.RoundFacts.{RoundFacts};
 ghost use Rattle.reservation_core.specs.Facts.{Facts, Obeys, AnswersAllow, Words, Grants, IsSoundTruth};
 ghost use Rattle.reservation_core.specs.Start.{IsStart};
 ghost use Rattle.reservation_core.specs.Happens.{Happens, InRange};
+ghost use Rattle.reservation_core.specs.Unlocking.{IsLeftLocked, unlocking, HappenInTurn};
 ghost use Rattle.reservation_core.specs.World.{World as Whole, IsNewWorld, WorldFacts, WorldRounds, AreWordsKept};
 
 use central_rules::Judge;
@@ -67,6 +69,19 @@ pub fn soundness_of_truth_is_kept<J: Judge>(judge: &J)
 pub fn broken_premises_change_nothing<J: Judge>(judge: &J)
     ensures { (old new : Scene) (event : Event) (which : Broken) → let m = J.meaning judge.now in
         RoundFacts m old → InRange m.diagram event → Happens m old event new (Premise which) → new ≡ old }
+{
+    judge.diagram_is_station();
+}
+
+/// A lock does not stay where its round is over: from every scene that can be reached, a tick in the locked bay and
+/// the deliveries of the two messages that are then sent, its Query and the Over of the holder, free it, whatever
+/// came before; and these three events can happen. Nothing is said of when they do.
+pub fn left_locks_are_freed<J: Judge>(judge: &J)
+    ensures frees { (w new : Scene) (b : Bay) → let m = J.meaning judge.now in
+        RoundFacts m w → IsLeftLocked m.diagram w b.0 → HappenInTurn m w (unlocking w b) new
+        → (node m.diagram new b.0).lock ≡ None }
+    ensures can { (w : Scene) (b : Bay) → let m = J.meaning judge.now in
+        RoundFacts m w → IsLeftLocked m.diagram w b.0 → (new : Scene) × HappenInTurn m w (unlocking w b) new }
 {
     judge.diagram_is_station();
 }
