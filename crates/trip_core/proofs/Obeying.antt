@@ -29,7 +29,7 @@ use Rattle.reservation_core.proofs.Soundness.{happens_sound, opens_sound}
 use Rattle.trip_core.specs.declared.values.Note.{Note}
 use Rattle.trip_core.specs.declared.values.TripEvent.{TripEvent}
 use Rattle.trip_core.specs.declared.values.TripEvent.TheVariants.{Step, Trip}
-use Rattle.trip_core.specs.Trips.{TripScene, IsBreaker, IsStale, IsValid, IsGoodNote, word_in, note_at}
+use Rattle.trip_core.specs.Trips.{TripScene, IsBreaker, IsStale, IsGoodNote, word_in, note_at}
 use Rattle.trip_core.specs.Happens.{TripHappens, TripInRange}
 use Rattle.trip_core.specs.Facts.{TripFacts, IsFresh, ObeysGap, ObeysLoad, AnswersTrip, StandsForAnswer, WordsTrip}
 use Rattle.trip_core.specs.Facts.{GrantsTrip}
@@ -53,8 +53,7 @@ module _ (m : Meaning) (s : TripScene) (facts : TripFacts m s) where
       (note_at s.known c i).word (true_at w.truth i)
   fresh_true c g i fresh other (inl true_note) = true_note.is_true
   fresh_true c g i fresh other (inr stale) =
-      let valid : IsValid (note_at s.known c i).word = subst IsValid (sym stale.is_on) tt in
-      let before = fresh i stale.is_breaker other valid in
+      let before = fresh i stale.is_breaker other stale.is_on in
       absurd (omega (arith, before, stale.later))
 
   -- a switch of a vector that resolves the truth stands as it truly does

@@ -1,7 +1,7 @@
 -- What a world with trips keeps, and what follows of its granted operations.
 use Rattle.std.specs.Prelude.{◌≡◌, ◌≢◌, ◌⊎◌, ◌<◌, ◌≤◌, ℕ, Bool, true, List, [], length, slice_get, slice_index_or}
 use Rattle.std.specs.Prelude.{Option, Some, None}
-use Rattle.ilk_base.specs.declared.words.Dbpos.TheVariants.{On, Lost}
+use Rattle.ilk_base.specs.declared.words.Dbpos.TheVariants.{On}
 use Rattle.station_graph.specs.Diagram.{Diagram, part_count}
 use Rattle.station_graph.specs.Alike.{IsVector}
 use Rattle.station_graph.specs.CentralRules.{GapBreaks, LoadBreaks}
@@ -17,7 +17,7 @@ use Rattle.reservation_core.specs.Held.{TruthFacts, HeardAllow}
 use Rattle.reservation_core.specs.Facts.{ObeysFirstTwo, BayResolvesBut}
 use Rattle.reservation_core.specs.World.{WorldRounds}
 use Rattle.trip_core.specs.declared.values.Note.{Note}
-use Rattle.trip_core.specs.Trips.{TripScene, IsBreaker, IsStale, IsGoodNote, IsValid, word_in, note_at, own_note}
+use Rattle.trip_core.specs.Trips.{TripScene, IsBreaker, IsStale, IsGoodNote, word_in, note_at, own_note}
 use Rattle.trip_core.specs.Trips.{held_of, tripped_at}
 
 -- There is a note wherever there is to be one, and nothing has tripped at an event that is to come.
@@ -38,9 +38,9 @@ pub record TripFacts (m : Meaning) (s : TripScene) : Type 0 where
       (held_of m.diagram s)
 
 -- No breaker that the granted operation of bay c used has tripped since its word was read. It used each breaker
--- other than its own switch whose word in what it knew is off or on.
+-- other than its own switch whose word in what it knew is on: one that was off is open, and a trip leaves it so.
 abbrev pub IsFresh : Diagram → TripScene → ℕ → Grant → Type 0
-IsFresh d s c g = (i : ℕ) → IsBreaker d i → i ≢ g.op.switch.0 → IsValid (note_at s.known c i).word
+IsFresh d s c g = (i : ℕ) → IsBreaker d i → i ≢ g.op.switch.0 → (note_at s.known c i).word ≡ On
     → tripped_at s.tripped i ≤ (note_at s.known c i).at
 
 -- In no vector that resolves the truth do the first two rules apply to a granted operation, whatever has tripped.

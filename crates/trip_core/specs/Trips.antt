@@ -1,7 +1,7 @@
 -- A world with trips: a world, and when its words were read and its breakers tripped.
-use Rattle.std.specs.Prelude.{◌≡◌, ◌<◌, ◌≤◌, ◌⊎◌, ⊤, ℕ, List, [], slice_get, slice_index_or, Some}
+use Rattle.std.specs.Prelude.{◌≡◌, ◌<◌, ◌≤◌, ◌⊎◌, ℕ, List, [], slice_get, slice_index_or, Some}
 use Rattle.ilk_base.specs.declared.words.Dbpos.{Dbpos}
-use Rattle.ilk_base.specs.declared.words.Dbpos.TheVariants.{Intermediate, Off, On, Bad, Lost}
+use Rattle.ilk_base.specs.declared.words.Dbpos.TheVariants.{On, Lost}
 use Rattle.ilk_base.specs.declared.words.Kind.TheVariants.{Breaker}
 use Rattle.station_graph.specs.declared.items.Switch.{Switch}
 use Rattle.station_graph.specs.Diagram.{Diagram}
@@ -72,11 +72,3 @@ pub record IsTrueNote (truth : List Position) (events i : ℕ) (n : Note) : Type
 -- A note is good where its word is true, or it is stale.
 abbrev pub IsGoodNote : Diagram → List Position → List ℕ → ℕ → ℕ → Note → Type 0
 IsGoodNote d truth tripped events i n = IsTrueNote truth events i n ⊎ IsStale d truth tripped i n
-
--- The word is off or on.
-abbrev pub IsValid : Dbpos → Type 0
-IsValid On = ⊤
-IsValid Off = ⊤
-IsValid Intermediate = ⊥
-IsValid Bad = ⊥
-IsValid Lost = ⊥

@@ -1,7 +1,8 @@
--- What a granted operation used: the breakers whose word its bay knew at the grant, each with the line at which that
+-- What a granted operation used: the breakers that its bay knew to be on at the grant, each with the line at which that
 -- word was read.
 use Rattle.std.specs.Prelude.{◌≡◌, ◌≢◌, ◌≤◌, ◌⊎◌, ◌==◌, ℕ, Bool, false, List, [], ◌∷◌, Option, Some, None, is_some}
 use Rattle.std.specs.Prelude.{if◌then◌else◌}
+use Rattle.ilk_base.specs.declared.words.Dbpos.TheVariants.{On}
 use Rattle.ilk_base.specs.declared.words.Op.{Op}
 use Rattle.station_graph.specs.Diagram.{Diagram}
 use Rattle.central_rules.specs.Meaning.{bay_of}
@@ -16,7 +17,7 @@ use Rattle.reservation_core.specs.declared.values.WorldEvent.TheVariants.{Delive
 use Rattle.trip_core.specs.declared.values.Note.{Note}
 use Rattle.trip_core.specs.declared.values.TripEvent.{TripEvent}
 use Rattle.trip_core.specs.declared.values.TripEvent.TheVariants.{Step, Trip}
-use Rattle.trip_core.specs.Trips.{IsBreaker, IsValid, lost}
+use Rattle.trip_core.specs.Trips.{IsBreaker, lost}
 use Rattle.trip_core.specs.TripLines.{TripLine, plain, sensed_line, tripped_line}
 
 -- The lines up to that which shows the message of this number.
@@ -72,7 +73,7 @@ GrantedAt (x ∷ rest) c r op l before = ((of_bay x.shown c ≡ Granted r op) ×
     (GrantedAt rest c r op l before × (¬ EndsIt (of_bay x.shown c) r))
 
 -- None of the breakers that it used has tripped after the line at which its word was read. It used each breaker,
--- other than the moved switch, whose word that its bay knew is off or on.
+-- other than the moved switch, whose word that its bay knew is on: one that was off stood open, and a trip leaves it so.
 abbrev pub NoneTripped : Diagram → List TripLine → ℕ → Op → TripLine → List TripLine → Type 0
-NoneTripped d lines c op l before = (i : ℕ) → IsBreaker d i → i ≢ op.switch.0 → IsValid
-    (known_note d l before c i).word → tripped_line lines i ≤ (known_note d l before c i).at
+NoneTripped d lines c op l before = (i : ℕ) → IsBreaker d i → i ≢ op.switch.0
+    → (known_note d l before c i).word ≡ On → tripped_line lines i ≤ (known_note d l before c i).at

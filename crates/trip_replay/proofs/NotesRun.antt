@@ -33,7 +33,8 @@ use Rattle.log_replay.proofs.Since.{grant}
 use Rattle.trip_core.specs.declared.values.Note.{Note}
 use Rattle.trip_core.specs.declared.values.TripEvent.{TripEvent}
 use Rattle.trip_core.specs.declared.values.TripEvent.TheVariants.{Step, Trip}
-use Rattle.trip_core.specs.Trips.{TripScene, IsValid, note_at}
+use Rattle.ilk_base.specs.declared.words.Dbpos.TheVariants.{On}
+use Rattle.trip_core.specs.Trips.{TripScene, note_at}
 use Rattle.trip_core.specs.Start.{IsTripStart}
 use Rattle.trip_core.specs.Happens.{NotesTurn, NotesAfter, StepHappens, IsTripped, TripHappens, TripInRange}
 use Rattle.trip_core.specs.TripLines.{TripLine, plain}
@@ -230,7 +231,7 @@ module _ (m : Meaning) (start : List Bool) (station : IsStation m.diagram) (laws
       let same : note_at s.known c i ≡ known_note m.diagram l before c i = knew.notes i lt ∙ (ap (λ
       (x : TripLine). known_note m.diagram x knew.before c i) one.0 ∙ ap (λ
       (x : List TripLine). known_note m.diagram l x c i) one.1) in
-      let past = none i breaker other (subst (λ (n : Note). IsValid n.word) same valid) in
+      let past = none i breaker other (subst (λ (n : Note). n.word ≡ On) same valid) in
       let tripped = notes.tripped i lt in
       let at_note = ap (λ (n : Note). n.at) same in
       omega (arith, past, tripped, at_note))
