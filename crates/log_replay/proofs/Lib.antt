@@ -36,3 +36,5 @@ pub mod RowFacts
 pub mod RowReading
 pub mod ShownReading
 pub mod Telling
+pub mod ShownBays
+pub mod OneReport

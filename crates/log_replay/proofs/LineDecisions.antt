@@ -1,5 +1,5 @@
 -- Each line of a run decides well.
-use Rattle.std.proofs.Common.{◌≡◌, ◌≢◌, ◌-◌, ◌<◌, ℕ, Bool, List, ◌∷◌, length, refl, sym, subst, ap, ◌∙◌, inl, inr}
+use Rattle.std.proofs.Common.{◌≡◌, ◌≢◌, ◌-◌, ◌<◌, ℕ, Bool, List, ◌∷◌, length, refl, sym, subst, ap, inl, inr}
 use Rattle.std.proofs.lemmas.Bool.{cases_eq}
 use Rattle.ilk_base.specs.declared.words.BayId.{BayId}
 use Rattle.ilk_base.specs.declared.words.SwitchId.{SwitchId}
@@ -20,7 +20,7 @@ use Rattle.reservation_core.proofs.Keeping.{got_there}
 use Rattle.reservation_core.specs.Lines.{Line, Shown, of_bay, message, shown}
 use Rattle.reservation_core.specs.Runs.{ShowsNothing, Shows, Run}
 use Rattle.reservation_core.specs.Headline.{DecidesWell}
-use Rattle.log_replay.proofs.Basic.{of_own, of_other, of_quiet}
+use Rattle.log_replay.proofs.Basic.{of_quiet}
 use Rattle.log_replay.proofs.Linked.{TellsNothing, tells_nothing}
 use Rattle.log_replay.proofs.Links.{Spoken, turn_shown, quiet_shown, not_refused, drive_shown}
 use Rattle.log_replay.proofs.Leading.{before_of, brought_of, run_is}
@@ -40,10 +40,9 @@ module _ (m : Meaning) (before : List Line) (old new : Scene) (s : Shown) (outco
       let it = turn_shown (length old.sent) b (node m.diagram old b) turn outcome s says shows in
       elim (cases_eq c b) [
         | inl same ↦ subst (λ (x : ℕ). BayDecides m before (record { event = e; shown = s }) x) (sym same) (own
-            (of_own s b it.bay ∙ it.outcome))
+            it.own)
         | inr other ↦ quiet_bay m before (record { event = e; shown = s }) c (node m.diagram old c).collecting
-            (node m.diagram old c).granted (node m.diagram old c).words (links.nodes c) (of_other s c (λ is. other
-            (sym is ∙ it.bay))) (not_tick c other) (silent c other)
+            (node m.diagram old c).granted (node m.diagram old c).words (links.nodes c) (it.other c other) (not_tick c other) (silent c other)
       ]
 
   -- a line that shows nothing

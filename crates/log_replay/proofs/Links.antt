@@ -14,6 +14,7 @@ use Rattle.bay_frames.specs.declared.frame.Frame.{Frame}
 use Rattle.bay_protocol.specs.declared.values.Grant.{Grant}
 use Rattle.bay_protocol.specs.declared.values.Collection.{Collection}
 use Rattle.bay_protocol.specs.declared.values.Outcome.{Outcome}
+use Rattle.bay_protocol.specs.declared.values.Outcome.TheVariants.{Quiet}
 use Rattle.bay_protocol.specs.State.{State}
 use Rattle.bay_protocol.specs.Step.{Turn}
 use Rattle.reservation_core.specs.Scene.{Scene, node, new_node, at_node, posts, true_at, runs}
@@ -23,14 +24,15 @@ use Rattle.reservation_core.specs.Happens.{Tells, IsStoppedBy, IsUnsent, no_turn
 use Rattle.reservation_core.specs.declared.values.Which.{Which}
 use Rattle.reservation_core.specs.declared.values.WorldOutcome.{WorldOutcome}
 use Rattle.reservation_core.specs.declared.values.WorldOutcome.TheVariants.{Premise, Drive, Node}
-use Rattle.reservation_core.specs.Lines.{Line, Shown, message, messages, shown}
+use Rattle.reservation_core.specs.Lines.{Line, Message, Shown, message, messages, shown, of_bay}
 use Rattle.reservation_core.specs.History.{true_after, drive_runs, reading_at, with_number, sending}
 use Rattle.reservation_core.specs.Hearing.{words_at}
 use Rattle.reservation_core.specs.Runs.{ShowsNothing, Shows}
 use Rattle.reservation_core.proofs.Rounds.{get_lost}
 use Rattle.reservation_core.proofs.Nodes.{each_node, node_here}
 use Rattle.reservation_core.proofs.AlikeNotes.{got_or, switch_of, granted_bay}
-use Rattle.log_replay.proofs.Basic.{in_or_past, of_own, of_other, get_listed, length_listed, number_before}
+use Rattle.log_replay.proofs.ShownBays.{shown_is}
+use Rattle.log_replay.proofs.Basic.{in_or_past, get_listed, length_listed, number_before}
 use Rattle.log_replay.proofs.Basic.{number_after, number_at}
 use Rattle.log_replay.proofs.Linked.{NodeIs, NodeAfter, Harmless, TellsNothing, node_is, stays}
 use Rattle.log_replay.proofs.TurnParts.{TurnIs}
@@ -166,18 +168,24 @@ collecting_bay m w c g rounds has = let s = collecting_there w.nodes c (new_node
 
 -- what is shown of a turn of node b
 pub record TurnShown (count b : ℕ) (turn : Turn) (s : Shown) : Type 0 where
-  pub bay : s.bay ≡ b
+  pub own : of_bay s b ≡ shown turn.outcome
+  pub other : (c : ℕ) → c ≢ b → of_bay s c ≡ Quiet
+  pub bay : (x : Message) → Contains s.messages x → s.bay ≡ b
   pub outcome : s.outcome ≡ shown turn.outcome
   pub messages : s.messages ≡ messages (count + 1) turn.frames
 
 pub turn_shown : (count b : ℕ) (old : State) (turn : Turn) (outcome : WorldOutcome) (s : Shown) →
     Tells count b old turn outcome → Shows outcome s → TurnShown count b turn s
-turn_shown count b old turn (Node bay first output) s tells shows = record {
-  bay = ap (λ (x : Shown). x.bay) shows ∙ tells.0;
-  outcome = ap (λ (x : Shown). x.outcome) shows ∙ ap shown tells.2;
-  messages = ap (λ (x : Shown). x.messages) shows ∙ ap (λ (k : ℕ). messages k output.frames) tells.1
-      ∙ ap (λ (fs : List Frame). messages (count + 1) fs) tells.3;
-}
+turn_shown count b old turn (Node bay first output) s tells shows =
+    let it = shown_is bay.0 (shown output.outcome) (messages first output.frames) s shows in
+    record {
+      own = subst (λ (x : ℕ). of_bay s x ≡ shown turn.outcome) tells.0 (it.own ∙ ap shown tells.2);
+      other = λ c differ. it.other c (λ e. differ (e ∙ tells.0));
+      bay = λ x there. it.bay x there ∙ tells.0;
+      outcome = ap (λ (x : Shown). x.outcome) shows ∙ ap shown tells.2;
+      messages = ap (λ (x : Shown). x.messages) shows ∙ ap (λ (k : ℕ). messages k output.frames) tells.1
+          ∙ ap (λ (fs : List Frame). messages (count + 1) fs) tells.3;
+    }
 turn_shown count b old turn (Premise which) s tells shows = absurd tells
 turn_shown count b old turn Drive s tells shows = absurd tells
 
@@ -223,12 +231,12 @@ turn_node m before old l b turn nodes facts t c =
     NodeIs m (l ∷ before) x n.collecting n.granted n.words) t.within
     (λ own. node_is m l before b turn.new.collecting turn.new.granted turn.new.words
     (subst (λ (o : Outcome). NodeAfter m before b turn.new.collecting turn.new.granted turn.new.words o l.event)
-    (sym (of_own l.shown b t.shows.bay ∙ t.shows.outcome)) t.is.node) own)
+    (sym t.shows.own) t.is.node) own)
     (λ x other own. node_is m l before x (node m.diagram old x).collecting (node m.diagram old x).granted
     (node m.diagram old x).words
     (subst (λ (o : Outcome). NodeAfter m before x (node m.diagram old x).collecting (node m.diagram old x).granted
     (node m.diagram old x).words o l.event)
-    (sym (of_other l.shown x (λ is. other (sym is ∙ t.shows.bay))))
+    (sym (t.shows.other x other))
     (stays m before l.event x (node m.diagram old x).collecting (node m.diagram old x).granted
     (node m.diagram old x).words (nodes x) (t.harmless x other) (λ g has. t.silent x other))) own)
     c (λ g has. grant_own m (posts (at_node old b turn.new) turn.frames) c g facts has)

@@ -26,7 +26,9 @@ use Rattle.log_replay.specs.Following.{LineHappens, FitsAt, IsBroken}
 use Rattle.log_replay.specs.Replay.{Replayed, IsRunOf, IsReplay, ShownFits, shown_at}
 use Rattle.log_replay.proofs.Premises.{premise_exact}
 use Rattle.log_replay.proofs.ReportLemmas.{all_more}
-use Rattle.log_replay.proofs.ShownOutcomes.{nothing_fits, shown_of_fits}
+use Rattle.log_replay.specs.Telling.{AreNumbered, IsShowable}
+use Rattle.log_replay.proofs.Senders.{own_at}
+use Rattle.log_replay.proofs.ShownOutcomes.{nothing_fits, shown_of_fits, nothing_showable, showable_of}
 
 -- what a replay keeps after k lines
 pub record Replaying (m : Meaning) (log : List LogEvent) (outs : List (Option WorldOutcome)) (w : World)
@@ -37,6 +39,7 @@ pub record Replaying (m : Meaning) (log : List LogEvent) (outs : List (Option Wo
   pub premises : PremisesHold m.diagram (start_of m.diagram log) (lines_of log (map shown_at outs) [])
   pub room : length w.scene.sent ≤ 64 * k
   pub fits : All (ShownFits m.diagram) (map shown_at outs)
+  pub showable : All (IsShowable m.diagram) (map shown_at outs)
 
 -- ---- lines
 
@@ -88,6 +91,7 @@ start_replaying m log w is facts = record {
       (lines_none log [])) tt;
   room = let e : length w.scene.sent ≡ 0 = ap length is.sent in omega (arith, e);
   fits = λ k d lt. absurd (omega (arith, lt));
+  showable = λ k d lt. absurd (omega (arith, lt));
 }
 
 pub shown_more : (outs : List (Option WorldOutcome)) (o : Option WorldOutcome) → map shown_at
@@ -102,12 +106,13 @@ got_at log outs k x count got = ap (slice_get log) (length-map outs shown_at ∙
 pub goes_on : (m : Meaning) (log : List LogEvent) (outs : List (Option WorldOutcome)) (old new : World) (k : ℕ)
     (x : LogEvent) (o : Option WorldOutcome) → IsStation m.diagram → Laws m → Replaying m log outs old k
     → slice_get log k ≡ Some x → k < MOST_RECORDS → MayBeTold m.diagram x → LineHappens m old.scene x new.scene o
-    → FitsAt m.diagram o → length new.scene.sent < length old.scene.sent + BAYS → WorldFacts m new → ((which : Which)
-    → ¬ IsBroken o which) → Replaying m log (outs ++ o ∷ []) new (k + 1)
-goes_on m log outs old new k (At i closed) (Some o) station laws r got lt told happens fits few facts none =
+    → FitsAt m.diagram o → AreNumbered o → length new.scene.sent < length old.scene.sent + BAYS → WorldFacts m new
+    → ((which : Which) → ¬ IsBroken o which) → Replaying m log (outs ++ o ∷ []) new (k + 1)
+goes_on m log outs old new k (At i closed) (Some o) station laws r got lt told happens fits numbers few facts none =
     absurd happens
-goes_on m log outs old new k (Step e) None station laws r got lt told happens fits few facts none = absurd happens
-goes_on m log outs old new k (At i closed) None station laws r got lt told happens fits few facts none =
+goes_on m log outs old new k (Step e) None station laws r got lt told happens fits numbers few facts none =
+    absurd happens
+goes_on m log outs old new k (At i closed) None station laws r got lt told happens fits numbers few facts none =
     let start = start_of m.diagram log in
     let same = shown_more outs None in
     let lines : lines_of log (map shown_at (outs ++ None ∷ [])) [] ≡ lines_of log (map shown_at outs) [] = ap (λ
@@ -123,8 +128,10 @@ goes_on m log outs old new k (At i closed) None station laws r got lt told happe
       room = omega (arith, few, r.room);
       fits = subst (λ (ss : List Shown). All (ShownFits m.diagram) ss) (sym same) (all_more (ShownFits m.diagram)
           (map shown_at outs) nothing_shown r.fits (nothing_fits m.diagram));
+      showable = subst (λ (ss : List Shown). All (IsShowable m.diagram) ss) (sym same) (all_more
+          (IsShowable m.diagram) (map shown_at outs) nothing_shown r.showable (nothing_showable m.diagram));
     }
-goes_on m log outs old new k (Step e) (Some o) station laws r got lt told happens fits few facts none =
+goes_on m log outs old new k (Step e) (Some o) station laws r got lt told happens fits numbers few facts none =
     let start = start_of m.diagram log in
     let before = lines_of log (map shown_at outs) [] in
     let same = shown_more outs (Some o) in
@@ -153,6 +160,10 @@ goes_on m log outs old new k (Step e) (Some o) station laws r got lt told happen
       fits = subst (λ (ss : List Shown). All (ShownFits m.diagram) ss) (sym same) (all_more (ShownFits m.diagram)
           (map shown_at outs) (shown_of o) r.fits
           (shown_of_fits m old.scene new.scene e o happens fits (omega (arith, few, r.room, lt))));
+      showable = subst (λ (ss : List Shown). All (IsShowable m.diagram) ss) (sym same) (all_more
+          (IsShowable m.diagram) (map shown_at outs) (shown_of o) r.showable
+          (showable_of m old.scene new.scene e o station happens fits (omega (arith, few, r.room, lt)) numbers
+          (own_at m old.scene new.scene l r.facts.facts.rounds.shape.named leads)));
     }
 
 -- ---- the end

@@ -167,7 +167,7 @@ shown_from m old s named (Who.nobody nothing) x there =
     absurd (omega (arith, (subst (λ (xs : List Message). Contains xs x) nothing.messages there).1))
 shown_from m old s named (Who.steps b e turn step shows) x there =
     messages_from b (length old.sent + 1) turn.frames (λ f is. step_from m (node m.diagram old b) e turn step f is
-    ∙ named b) x (subst (λ (xs : List Message). Contains xs x) shows.messages there) ∙ sym shows.bay
+    ∙ named b) x (subst (λ (xs : List Message). Contains xs x) shows.messages there) ∙ sym (shows.bay x there)
 
 pub own_at : (m : Meaning) (old w : Scene) (l : Line) → ((b : ℕ) → (node m.diagram old b).bay ≡ b) → Leads m old l w →
     OwnMessages l

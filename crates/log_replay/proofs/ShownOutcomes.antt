@@ -1,14 +1,19 @@
 -- What is shown of what happens is of the station.
-use Rattle.std.proofs.Common.{◌≡◌, ◌+◌, ◌<◌, ◌^◌, ◌∙◌, sym, ap, ℕ, List, length, arith}
+use Rattle.std.proofs.Common.{◌≡◌, ◌+◌, ◌<◌, ◌≤◌, ◌^◌, ◌∙◌, refl, sym, ap, ℕ, zero, suc, Bool, List, [], ◌∷◌, length}
+use Rattle.std.proofs.Common.{Some, Contains, inl, inr, arith}
+use Rattle.std.specs.Prelude.{All}
 use Rattle.std.proofs.lemmas.List.{length-append}
 use Rattle.ilk_base.specs.declared.words.BayId.{BayId}
 use Rattle.ilk_base.specs.declared.words.Dbpos.{Dbpos}
 use Rattle.ilk_base.specs.declared.words.SwitchId.{SwitchId}
-use Rattle.station_graph.specs.Diagram.{Diagram}
+use Rattle.station_graph.specs.Diagram.{Diagram, IsStation}
 use Rattle.central_rules.specs.Meaning.{Meaning}
 use Rattle.bay_frames.specs.declared.frame.Frame.{Frame}
+use Rattle.bay_frames.specs.Row.{IsLawful}
 use Rattle.bay_protocol.specs.declared.values.NodeEvent.{NodeEvent}
 use Rattle.bay_protocol.specs.declared.values.NodeOutput.{NodeOutput}
+use Rattle.bay_protocol.specs.declared.values.Outcome.{Outcome}
+use Rattle.bay_protocol.specs.declared.values.Outcome.TheVariants.{Denied}
 use Rattle.reservation_core.specs.declared.values.WorldEvent.{WorldEvent}
 use Rattle.reservation_core.specs.declared.values.WorldEvent.TheVariants.{Command, Sense, Deliver, Tick, Withdraw}
 use Rattle.reservation_core.specs.declared.values.WorldEvent.TheVariants.{Restart, Begin, End, Part, Cut}
@@ -19,9 +24,13 @@ use Rattle.reservation_core.specs.Scene.{Scene, stops}
 use Rattle.reservation_core.specs.Happens.{Happens, NodeSteps, IsStoppedBy, IsDriven, SenseHappens, DeliverHappens}
 use Rattle.reservation_core.specs.Happens.{PartHappens, WithdrawHappens, BeginHappens, EndHappens, CutHappens}
 use Rattle.reservation_core.specs.World.{OutputFits}
+use Rattle.reservation_core.specs.Lines.{Message, messages, shown}
 use Rattle.reservation_core.specs.Runs.{nothing_shown, shown_of}
+use Rattle.reservation_core.proofs.Nodes.{set_set}
 use Rattle.log_replay.specs.Replay.{ShownFits}
+use Rattle.log_replay.specs.Telling.{Is32Bits, Are32Bits, AreNumbered, IsNumbered, IsShowable}
 use Rattle.log_replay.proofs.ReportLemmas.{fits_shown, below_numbers}
+use Rattle.log_replay.proofs.ShownBays.{no_greater, nothing_is_0}
 
 -- ---- what is sent
 
@@ -109,4 +118,66 @@ shown_of_fits m old new e (Node bay first output) happens fits few =
     record {
       outcome = fits_shown m.diagram output.outcome fits.1;
       numbers = below_numbers (2 ^ 32) first output.frames (omega (arith, is.first_is, is.count, few));
+    }
+
+-- ---- and may be shown
+
+pub nothing_showable : (d : Diagram) → IsShowable d nothing_shown
+nothing_showable d = record {
+  fits = tt;
+  unmoved = refl;
+  bay = omega arith;
+  numbers = tt;
+  messages = λ k x within. absurd (omega (arith, within));
+  own = λ x there. absurd (omega (arith, there.1));
+  silent = λ quiet none. refl;
+}
+
+shown_numbered : (o : Outcome) → Are32Bits o → Are32Bits (shown o)
+shown_numbered (Denied r op rule v) n = n
+shown_numbered o n = n
+
+shown_twice : (o : Outcome) → shown (shown o) ≡ shown o
+shown_twice (Denied r op rule v) =
+    ap (λ (w : List Bool). let o : Outcome = Denied r op rule w in o) (set_set v op.switch.0 _ _)
+shown_twice o = refl
+
+numbered : (first : ℕ) (fs : List Frame) → first + length fs ≤ 2 ^ 32 → All IsLawful fs →
+    All (λ (f : Frame). Is32Bits f.round) fs → All IsNumbered (messages first fs)
+numbered first [] few lawful rounds k d lt = absurd (omega (arith, lt))
+numbered first (f ∷ fs) few lawful rounds zero d lt =
+    let it : IsLawful f = lawful 0 f (omega arith) in
+    let from = it.from in
+    let to = it.to in
+    record {
+      number = omega (arith, few);
+      from = omega (arith, from);
+      to = omega (arith, to);
+      round = rounds 0 f (omega arith);
+    }
+numbered first (f ∷ fs) few lawful rounds (suc k) d lt =
+    numbered (first + 1) fs (omega (arith, few)) (λ j c less. lawful (suc j) c (omega (arith, less)))
+    (λ j c less. rounds (suc j) c (omega (arith, less))) k d (omega (arith, lt))
+
+-- what is shown of what happens may be shown
+pub showable_of : (m : Meaning) (old new : Scene) (e : WorldEvent) (o : WorldOutcome) → IsStation m.diagram →
+    Happens m old e new o → OutputFits m.diagram o → length new.sent < 2 ^ 32 → AreNumbered (Some o) →
+    ((x : Message) → Contains (shown_of o).messages x → x.from ≡ (shown_of o).bay) → IsShowable m.diagram (shown_of o)
+showable_of m old new e (Premise which) station happens fits few numbers own = nothing_showable m.diagram
+showable_of m old new e Drive station happens fits few numbers own = nothing_showable m.diagram
+showable_of m old new e (Node bay first output) station happens fits few numbers own =
+    let is = said m old new bay first output e happens in
+    let low = fits.0.0 in
+    let parts = station.items.parts_few in
+    record {
+      fits = fits_shown m.diagram output.outcome fits.1;
+      unmoved = shown_twice output.outcome;
+      bay = elim (no_greater bay.0 (shown output.outcome) (messages first output.frames)) [
+        | inl same ↦ omega (arith, same, low, parts)
+        | inr none ↦ omega (arith, none)
+      ];
+      numbers = shown_numbered output.outcome numbers.0;
+      messages = numbered first output.frames (omega (arith, is.first_is, is.count, few)) fits.2 numbers.1;
+      own = own;
+      silent = nothing_is_0 bay.0 (shown output.outcome) (messages first output.frames);
     }

@@ -32,7 +32,7 @@ use Rattle.reservation_core.specs.History.{Opened, collecting_after, forgotten, 
 use Rattle.reservation_core.specs.Hearing.{IsVerdictOn, DecidesRound}
 use Rattle.reservation_core.specs.Runs.{Leads, Run}
 use Rattle.reservation_core.specs.Headline.{DecidesWell, Verdict, StopsCollecting, StopsWell, IsBusy, IsWithdrawal}
-use Rattle.log_replay.proofs.Basic.{eqb_same, of_own, of_other, of_quiet}
+use Rattle.log_replay.proofs.Basic.{eqb_same, of_quiet}
 use Rattle.log_replay.proofs.Linked.{opened}
 use Rattle.log_replay.proofs.Links.{Spoken}
 use Rattle.log_replay.proofs.Others.{missing_some}
@@ -157,9 +157,9 @@ line_ok m old s c g has (Who.steps b e turn step shows) = elim (cases_eq c b) [
   | inl same ↦
       let here : (node m.diagram old b).collecting ≡ Some g =
       subst (λ (x : ℕ). (node m.diagram old x).collecting ≡ Some g) same has in
-      subst (StopOk g) (sym (of_own s c (shows.bay ∙ sym same) ∙ shows.outcome)) (step_ok m (node m.diagram old b) e g
+      subst (StopOk g) (sym (subst (λ (x : ℕ). of_bay s x ≡ shown turn.outcome) (sym same) shows.own)) (step_ok m (node m.diagram old b) e g
       turn here step)
-  | inr other ↦ subst (StopOk g) (sym (of_other s c (λ is. other (sym is ∙ shows.bay)))) tt
+  | inr other ↦ subst (StopOk g) (sym (shows.other c other)) tt
 ]
 
 -- ---- exactly there

@@ -21,6 +21,7 @@ use Rattle.log_replay.proofs.ReportRows.{last_rows, report_rows, report_closed}
 use Rattle.log_replay.proofs.RowFacts.{wide, outcome_each, messages_each, all_row, last_row}
 use Rattle.log_replay.proofs.RowReading.{first, behind, number_in, number_is, first_of_row}
 use Rattle.log_replay.proofs.ShownReading.{tell, shown_read}
+use Rattle.log_replay.proofs.ShownOutcomes.{nothing_showable}
 
 -- ---- the rows of a line
 
@@ -178,16 +179,6 @@ same_rows d r t paths few less all each one other same =
     let texts : closed (report_rows d r) ≡ closed (report_rows d t) = append_cancel_left (bay_lines d)
     (closed (report_rows d r)) (closed (report_rows d t)) (sym (report_closed d r) ∙ same ∙ report_closed d t) in
     sym (rows_are d r paths few all one) ∙ ap rows_of texts ∙ rows_are d t paths less each other
-
-nothing_showable : (d : Diagram) → IsShowable d nothing_shown
-nothing_showable d = record {
-  fits = tt;
-  unmoved = refl;
-  bay = omega arith;
-  numbers = tt;
-  messages =
-      λ k x within. absurd (omega (arith, within));
-}
 
 behind_all : (out : List Shown) (i : ℕ) → length out ≤ i → shown_after out i ≡ nothing_shown
 behind_all [] zero few = refl

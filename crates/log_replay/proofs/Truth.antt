@@ -35,7 +35,7 @@ use Rattle.reservation_core.specs.History.{Opened, collecting, reading_at}
 use Rattle.reservation_core.specs.Hearing.{words_at, heard, heard_of, heard_by, known_at, IsVerdictOn, DecidesRound}
 use Rattle.reservation_core.specs.Runs.{Run, Leads}
 use Rattle.reservation_core.specs.Headline.{Verdict, MayBeTrue, TrueVerdict, TruthDecides}
-use Rattle.log_replay.proofs.Basic.{of_own, get_listed}
+use Rattle.log_replay.proofs.Basic.{get_listed}
 use Rattle.log_replay.proofs.Linked.{opened}
 use Rattle.log_replay.proofs.TurnParts.{own_known}
 use Rattle.log_replay.proofs.Links.{Spoken, Linked, turn_shown, collecting_bay}
@@ -105,7 +105,8 @@ idle_at m before l old new c o rounds said leads (DecidesRound.alone e at none d
     let t : NodeSteps m old b _ new leads.outcome = subst (λ
     (x : WorldEvent). Happens m old x new leads.outcome) e leads.happens in
     let s = turn_shown (length old.sent) b (node m.diagram old b) t.turn leads.outcome l.shown t.says leads.shows in
-    let shows : of_bay l.shown c ≡ shown t.turn.outcome = of_own l.shown c (s.bay ∙ at) ∙ s.outcome in
+    let shows : of_bay l.shown c ≡ shown t.turn.outcome = subst (λ (x : ℕ).
+    of_bay l.shown x ≡ shown t.turn.outcome) at s.own in
     subst (λ (x : ℕ). (node m.diagram old x).granted ≡ None) at
     (command_idle m (node m.diagram old b) o.op t.turn o t.step (subst (λ (x : Outcome). IsVerdictOn x o) shows d))
 

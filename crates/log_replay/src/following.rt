@@ -9,8 +9,10 @@ ghost use Rattle.reservation_core.specs.World.{WorldFacts};
 ghost use Rattle.log_replay.specs.Records.{MayBeTold};
 ghost use Rattle.log_replay.specs.Replay.{IsReplay, ReportFits};
 ghost use Rattle.log_replay.specs.Following.{LineHappens, FitsAt, IsBroken};
+ghost use Rattle.log_replay.specs.Telling.{IsShowable, IsWholeReport};
 
 use crate::log::Log;
+use crate::numbered::is_numbered;
 use crate::report::Report;
 use crate::start::{at_count, start_of};
 use central_rules::Judge;
@@ -68,6 +70,7 @@ fn replay_from<J: Judge>(
     ensures replay { IfOk result (IsReplay (J.meaning judge.now) log.now) }
     ensures count { IfOk result (λ r. r.count ≡ length log.now) }
     ensures fits { IfOk result (ReportFits station.now) }
+    ensures showable { IfOk result (λ r. All (IsShowable station.now) r.out) }
 {
     // Their clauses are used; they do nothing.
     judge.diagram_is_station();
@@ -76,6 +79,7 @@ fn replay_from<J: Judge>(
     let mut outcomes = Vec::new(alloc);
     for i in 0..log.count() {
         let outcome = follow(&mut world, alloc, station, log.event(i), judge)?;
+        is_numbered(&outcome);
         if let Some(which) = broken(&outcome) {
             return Ok(Report::new(outcomes, Some((i + 1, which)), log.count()));
         }
@@ -102,12 +106,14 @@ pub fn replay<J: Judge>(
     ensures headline { IfOk result (λ r. Headline station.now (start_of station.now log.now)
         (lines_of log.now r.out [])) }
     ensures fits { IfOk result (ReportFits station.now) }
+    // All that it shows is of the station, and its numbers are of 32 bits: so its text decides it.
+    ensures whole { IfOk result (IsWholeReport station.now (length log.now)) }
 {
     judge.diagram_is_station();
+    let count = log.count();
     match start_of(alloc, station, log)? {
         Some(start) => replay_from(alloc, station, &start, log, judge),
         None => {
-            let count = log.count();
             let line = at_count(log) + 1;
             Ok(Report::new(Vec::new(alloc), Some((line, Which::Start)), count))
         }

@@ -1,5 +1,5 @@
 //! What follows for every log. These calls do nothing and cost nothing: a caller cites their contracts.
-ghost use Rattle.std.specs.Prelude.{◌≡◌, ◌≤◌, Bool, List, length, All};
+ghost use Rattle.std.specs.Prelude.{◌≡◌, ◌≤◌, ℕ, Bool, List, length, All};
 ghost use Rattle.reservation_core.specs.Scene.{Scene};
 ghost use Rattle.reservation_core.specs.Happens.{Happens, InRange};
 ghost use Rattle.reservation_core.specs.declared.values.WorldEvent.{WorldEvent as Event};
@@ -7,7 +7,7 @@ ghost use Rattle.reservation_core.specs.declared.values.WorldOutcome.{WorldOutco
 ghost use Rattle.reservation_core.specs.Lines.{Line};
 ghost use Rattle.reservation_core.specs.Runs.{Run, PremiseExact};
 ghost use Rattle.log_replay.specs.Replay.{Replayed, report_text};
-ghost use Rattle.log_replay.specs.Telling.{PathsAreLines, IsShowable, TellSame};
+ghost use Rattle.log_replay.specs.Telling.{PathsAreLines, IsShowable, IsWholeReport, TellSame};
 ghost use Rattle.log_replay.specs.declared.limits.TheConstants.{MOST_RECORDS};
 ghost use Rattle.reservation_core.specs.Headline.{Headline};
 
@@ -41,6 +41,17 @@ pub fn reports_tell_all(station: &Station)
         PathsAreLines d → All (IsShowable d) r.out → All (IsShowable d) t.out
         → length r.out ≤ MOST_RECORDS → length t.out ≤ MOST_RECORDS → r.count ≤ MOST_RECORDS → t.count ≤ MOST_RECORDS
         → report_text d r ≡ report_text d t → TellSame r t }
+{
+    station.is_station();
+}
+
+/// The text of a report and its end decide the report: where two reports of logs with so many records have one text,
+/// and the same premise is broken at the same line of both, or none is, they are one. So what holds of the report that
+/// was made holds of whatever is read out of its text.
+pub fn text_decides_report(station: &Station)
+    ensures { (count : ℕ) (r t : Replayed) → let d = station.now in
+        PathsAreLines d → IsWholeReport d count r → IsWholeReport d count t → r.broken ≡ t.broken
+        → report_text d r ≡ report_text d t → r ≡ t }
 {
     station.is_station();
 }

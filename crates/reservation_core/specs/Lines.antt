@@ -20,7 +20,7 @@ pub record Message : Type 0 where
   pub round : ℕ
 
 -- What is shown at a line of a log: a bay, its outcome and its messages. Where nothing is shown the outcome is
--- Quiet, there is no message, and the bay says nothing.
+-- Quiet, there is no message, and the bay is 0 and says nothing.
 pub record Shown : Type 0 where
   pub bay : ℕ
   pub outcome : Outcome

@@ -3,6 +3,7 @@ use Rattle.std.specs.Prelude.{◌≡◌, ◌≢◌, ℕ, Bool, true, false, List
 use Rattle.station_graph.specs.Diagram.{Diagram}
 use Rattle.central_rules.specs.Meaning.{Meaning, bay_of}
 use Rattle.bay_protocol.specs.declared.values.Grant.{Grant}
+use Rattle.bay_protocol.specs.declared.values.Outcome.{Outcome}
 use Rattle.bay_protocol.specs.declared.values.Outcome.TheVariants.{Quiet}
 use Rattle.reservation_core.specs.Scene.{Scene, IsTrueWord, end_position}
 use Rattle.reservation_core.specs.Start.{IsStart}
@@ -16,7 +17,7 @@ use Rattle.reservation_core.specs.declared.values.WorldEvent.TheVariants.{Comman
 use Rattle.reservation_core.specs.declared.values.WorldEvent.TheVariants.{Restart, Begin, End, Part, Cut}
 use Rattle.reservation_core.specs.declared.values.WorldOutcome.{WorldOutcome}
 use Rattle.reservation_core.specs.declared.values.WorldOutcome.TheVariants.{Premise, Drive, Node}
-use Rattle.reservation_core.specs.Lines.{Line, Shown, shown, messages}
+use Rattle.reservation_core.specs.Lines.{Line, Message, Shown, shown, messages}
 use Rattle.reservation_core.specs.History.{open_of, true_after, drive_runs, sending}
 
 -- Nothing is shown.
@@ -24,15 +25,24 @@ pub record ShowsNothing (s : Shown) : Type 0 where
   pub outcome : s.outcome ≡ Quiet
   pub messages : s.messages ≡ []
 
+-- The bay that stands beside an outcome and messages: 0 where nothing is shown.
+abbrev pub bay_shown : ℕ → Outcome → List Message → ℕ
+bay_shown b Quiet [] = 0
+bay_shown b outcome messages = b
+
+-- What bay b shows.
+abbrev pub shown_by : ℕ → Outcome → List Message → Shown
+shown_by b outcome messages = record {
+  bay = bay_shown b outcome messages;
+  outcome = outcome;
+  messages = messages;
+}
+
 -- What is shown of an outcome. Where a premise is broken there is no line.
 abbrev pub Shows : WorldOutcome → Shown → Type 0
 Shows (Premise which) s = ⊥
 Shows Drive s = ShowsNothing s
-Shows (Node bay first output) s = s ≡ record {
-  bay = bay.0;
-  outcome = shown output.outcome;
-  messages = messages first output.frames;
-}
+Shows (Node bay first output) s = s ≡ shown_by bay.0 (shown output.outcome) (messages first output.frames)
 
 -- Nothing shown.
 abbrev pub nothing_shown : Shown
@@ -40,11 +50,7 @@ nothing_shown = record { bay = 0; outcome = Quiet; messages = [] }
 
 -- What is shown of what comes of an event.
 abbrev pub shown_of : WorldOutcome → Shown
-shown_of (Node bay first output) = record {
-  bay = bay.0;
-  outcome = shown output.outcome;
-  messages = messages first output.frames;
-}
+shown_of (Node bay first output) = shown_by bay.0 (shown output.outcome) (messages first output.frames)
 shown_of (Premise which) = nothing_shown
 shown_of Drive = nothing_shown
 

@@ -3,6 +3,7 @@ use Rattle.std.proofs.Common.{◌≡◌, ◌≢◌, ◌+◌, ◌*◌, ◌<◌, �
 use Rattle.std.proofs.Common.{[], ◌∷◌, ◌++◌, length, map, Option, Some, None, Result, Ok, Err, inl, inr, arith}
 use Rattle.std.specs.Prelude.{slice_get, All, IfOk}
 use Rattle.std.proofs.lemmas.List.{length-append, length-map}
+use Rattle.std.proofs.lemmas.Option.{slice_get_within}
 use Rattle.ilk_base.specs.declared.words.SwitchId.{SwitchId}
 use Rattle.station_graph.specs.Diagram.{Diagram, IsStation}
 use Rattle.station_graph.specs.Alike.{IsVector}
@@ -24,7 +25,10 @@ use Rattle.log_replay.proofs.Premises.{Exactly, happens_exact}
 use Rattle.log_replay.proofs.ReportLemmas.{all_more, each_at}
 use Rattle.log_replay.proofs.Replaying.{shows_so, shown_more, report_is}
 use Rattle.log_replay.proofs.ReplayHeadline.{start_is_vector, nothing_under_way}
-use Rattle.log_replay.proofs.ShownOutcomes.{nothing_fits, shown_of_fits}
+use Rattle.log_replay.specs.Telling.{AreNumbered, IsShowable, IsWholeReport, lines_shown}
+use Rattle.log_replay.proofs.Senders.{own_at}
+use Rattle.log_replay.proofs.OneReport.{EndsSo, stopped_lines, whole_report}
+use Rattle.log_replay.proofs.ShownOutcomes.{nothing_fits, shown_of_fits, nothing_showable, showable_of}
 use Rattle.trip_core.specs.declared.values.TripEvent.{TripEvent}
 use Rattle.trip_core.specs.declared.values.TripEvent.TheVariants.{Step as Happening, Trip}
 use Rattle.trip_core.specs.Trips.{TripScene}
@@ -51,6 +55,7 @@ pub record TripReplaying (m : Meaning) (log : List TripLogEvent) (outs : List (O
   pub room : length s.world.scene.sent ≤ 64 * k
   pub events : s.events ≤ k
   pub fits : All (ShownFits m.diagram) (map shown_at outs)
+  pub showable : All (IsShowable m.diagram) (map shown_at outs)
 
 -- ---- lines
 
@@ -100,6 +105,19 @@ trip_fits m old new (Happening e) o happens fits few =
 trip_fits m old new (Trip i) o happens fits few = subst (λ (x : WorldOutcome). ShownFits m.diagram (shown_of x))
     (sym happens.says) (nothing_fits m.diagram)
 
+-- and may be shown
+trip_showable : (m : Meaning) (old new : TripScene) (e : TripEvent) (o : WorldOutcome) → IsStation m.diagram
+    → TripFacts m old → TripInRange m.diagram e → TripHappens m old e new o → ((which : Which) → o ≢ Premise which)
+    → OutputFits m.diagram o → length new.world.scene.sent < 2 ^ 32 → AreNumbered (Some o)
+    → IsShowable m.diagram (shown_of o)
+trip_showable m old new (Happening e) o station facts range happens fine fits few numbers =
+    showable_of m old.world.scene new.world.scene e o station happens.happens fits few numbers
+    (own_at m old.world.scene new.world.scene (record { event = e; shown = shown_of o })
+    facts.rounds.rounds.shape.named
+    (record { range = range; outcome = o; happens = happens.happens; shows = shows_so o fine }))
+trip_showable m old new (Trip i) o station facts range happens fine fits few numbers = subst (λ
+    (x : WorldOutcome). IsShowable m.diagram (shown_of x)) (sym happens.says) (nothing_showable m.diagram)
+
 in_range : (d : Diagram) (e : TripEvent) → TripMayBeTold d (Step e) → TripInRange d e
 in_range d (Happening e) told = told.0
 in_range d (Trip i) told = told
@@ -117,6 +135,7 @@ start_replaying m log s is facts = record {
   room = let e : length s.world.scene.sent ≡ 0 = ap length is.world.scene.sent in omega (arith, e);
   events = omega (arith, is.events);
   fits = λ k d lt. absurd (omega (arith, lt));
+  showable = λ k d lt. absurd (omega (arith, lt));
 }
 
 module _ (m : Meaning) (log : List TripLogEvent) (outs : List (Option WorldOutcome)) (old new : TripScene) (k : ℕ)
@@ -146,12 +165,12 @@ module _ (m : Meaning) (log : List TripLogEvent) (outs : List (Option WorldOutco
 
   -- one line more
   pub goes_on : (x : TripLogEvent) (o : Option WorldOutcome) → slice_get log k ≡ Some x → k < MOST_RECORDS
-      → TripMayBeTold m.diagram x → TripLineHappens m old x new o → FitsAt m.diagram o
+      → TripMayBeTold m.diagram x → TripLineHappens m old x new o → FitsAt m.diagram o → AreNumbered o
       → length new.world.scene.sent < length old.world.scene.sent + BAYS → new.events ≤ old.events + 1
       → TripFacts m new → ((which : Which) → ¬ IsBroken o which) → TripReplaying m log (outs ++ o ∷ []) new (k + 1)
-  goes_on (At i closed) (Some o) got lt told happens fits few counted facts none = absurd happens
-  goes_on (Step e) None got lt told happens fits few counted facts none = absurd happens
-  goes_on (At i closed) None got lt told happens fits few counted facts none =
+  goes_on (At i closed) (Some o) got lt told happens fits numbers few counted facts none = absurd happens
+  goes_on (Step e) None got lt told happens fits numbers few counted facts none = absurd happens
+  goes_on (At i closed) None got lt told happens fits numbers few counted facts none =
       let same = shown_more outs None in
       let lines : trip_lines_of log (map shown_at (outs ++ None ∷ [])) [] ≡ before = ap (λ
       (ss : List Shown). trip_lines_of log ss []) same ∙ lines_at log
@@ -166,8 +185,10 @@ module _ (m : Meaning) (log : List TripLogEvent) (outs : List (Option WorldOutco
         events = omega (arith, counted, r.events);
         fits = subst (λ (ss : List Shown). All (ShownFits m.diagram) ss) (sym same) (all_more (ShownFits m.diagram)
             (map shown_at outs) nothing_shown r.fits (nothing_fits m.diagram));
+        showable = subst (λ (ss : List Shown). All (IsShowable m.diagram) ss) (sym same) (all_more
+            (IsShowable m.diagram) (map shown_at outs) nothing_shown r.showable (nothing_showable m.diagram));
       }
-  goes_on (Step e) (Some o) got lt told happens fits few counted facts none =
+  goes_on (Step e) (Some o) got lt told happens fits numbers few counted facts none =
       let same = shown_more outs (Some o) in
       let l : TripLine = record { event = e; shown = shown_of o } in
       let lines : trip_lines_of log (map shown_at (outs ++ Some o ∷ [])) [] ≡ l ∷ before = ap (λ
@@ -192,6 +213,10 @@ module _ (m : Meaning) (log : List TripLogEvent) (outs : List (Option WorldOutco
         fits = subst (λ (ss : List Shown). All (ShownFits m.diagram) ss) (sym same) (all_more (ShownFits m.diagram)
             (map shown_at outs) (shown_of o) r.fits
             (trip_fits m old new e o happens fits (omega (arith, few, r.room, lt))));
+        showable = subst (λ (ss : List Shown). All (IsShowable m.diagram) ss) (sym same) (all_more
+            (IsShowable m.diagram) (map shown_at outs) (shown_of o) r.showable
+            (trip_showable m old new e o station r.facts range happens fine fits (omega (arith, few, r.room, lt))
+            numbers));
       }
 
   -- ---- the end
@@ -252,6 +277,35 @@ replay_headline m log r station laws (IsTripReplay.no_start none empty broken) =
     subst (TripHeadline m.diagram (trip_start_of m.diagram log)) (sym (ap (λ
     (ss : List Shown). trip_lines_of log ss []) empty ∙ lines_none log [])) (nothing_headline m.diagram
     (trip_start_of m.diagram log))
+
+-- ---- the report is whole
+
+ends_so : (m : Meaning) (log : List TripLogEvent) (r : Replayed) → IsTripReplay m log r → EndsSo r (length log)
+ends_so m log r (IsTripReplay.whole s is all none) = record {
+  lines = all ∙ sym (ap (λ (b : Option (ℕ × Which)). lines_shown b (length log)) none);
+  within = omega (arith, all);
+}
+ends_so m log r (IsTripReplay.stops s e which is got breaks broken) =
+    let lt = slice_get_within log (length r.out) _ got in
+    record {
+      lines = stopped_lines e which (length r.out) (length log) breaks.named
+          ∙ sym (ap (λ (b : Option (ℕ × Which)). lines_shown b (length log)) broken);
+      within = omega (arith, lt);
+    }
+ends_so m log r (IsTripReplay.no_start none empty broken) =
+    let no_line : length r.out ≡ 0 = ap (λ (xs : List Shown). length xs) empty in
+    record {
+      lines = no_line ∙ sym (ap (λ (b : Option (ℕ × Which)). lines_shown b (length log)) broken);
+      within = omega (arith, no_line);
+    }
+
+pub trip_whole_if : {E : Type 0} (m : Meaning) (d : Diagram) (log : List TripLogEvent) (r : Result Replayed E)
+    → IfOk r (IsTripReplay m log) → IfOk r (λ (x : Replayed). All (IsShowable d) x.out)
+    → IfOk r (λ (x : Replayed). x.count ≡ length log) → length log ≤ MOST_RECORDS
+    → IfOk r (IsWholeReport d (length log))
+trip_whole_if m d log (Ok x) replay showable counted few =
+    whole_report d x (length log) (ends_so m log x replay) showable counted few
+trip_whole_if m d log (Err e) replay showable counted few = tt
 
 -- ---- of the station
 

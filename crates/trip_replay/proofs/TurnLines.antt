@@ -20,7 +20,7 @@ use Rattle.reservation_core.specs.declared.values.WorldEvent.{WorldEvent}
 use Rattle.reservation_core.proofs.Keeping.{got_there}
 use Rattle.reservation_core.proofs.Effects.{effect}
 use Rattle.reservation_core.proofs.StepEffect.{Effect}
-use Rattle.log_replay.proofs.Basic.{IsAnswer, of_own, of_other}
+use Rattle.log_replay.proofs.Basic.{IsAnswer}
 use Rattle.log_replay.proofs.Links.{TurnShown}
 use Rattle.log_replay.proofs.Leading.{brought_of}
 use Rattle.log_replay.proofs.Others.{other_of}
@@ -80,10 +80,10 @@ module _ {m : Meaning} {start : List Bool} {before : List TripLine} {old new : T
   was_node = node m.diagram old.world.scene c.bay
 
   pub own_shown : of_bay s b ≡ shown turn.outcome
-  own_shown = of_own s b shows.bay ∙ shows.outcome
+  own_shown = shows.own
 
   pub other_shown : (x : ℕ) → x ≢ b → of_bay s x ≡ Quiet
-  other_shown x other = of_other s x (λ is. other (sym is ∙ shows.bay))
+  other_shown x other = shows.other x other
 
   pub turn_effect : Effect m was_node c.event turn.new turn.frames
   turn_effect = effect m was_node c.event turn (was.facts.rounds.rounds.rounds b bay) step

@@ -4,6 +4,7 @@ ghost use Rattle.station_graph.specs.declared.limits.TheConstants.{BAYS};
 ghost use Rattle.reservation_core.specs.declared.values.TheConstants.{MESSAGES};
 ghost use Rattle.log_replay.specs.Following.{FitsAt};
 ghost use Rattle.log_replay.specs.Replay.{ReportFits};
+ghost use Rattle.log_replay.specs.Telling.{IsShowable, IsWholeReport};
 ghost use Rattle.trip_core.specs.declared.values.TheConstants.{EVENTS};
 ghost use Rattle.trip_core.specs.Facts.{TripFacts};
 ghost use Rattle.trip_core.specs.TripRuns.{TripHeadline};
@@ -15,7 +16,7 @@ use crate::event::TripLogEvent;
 use crate::log::TripLog;
 use central_rules::Judge;
 use ilk_base::Memory;
-use log_replay::{at_count, broken, start_of};
+use log_replay::{at_count, broken, is_numbered, start_of};
 use reservation_core::{Which, WorldOutcome};
 use station_graph::{Station, Vector};
 use std::alloc::Global;
@@ -64,6 +65,7 @@ fn replay_from<J: Judge>(
     ensures replay { IfOk result (IsTripReplay (J.meaning judge.now) log.now) }
     ensures count { IfOk result (λ r. r.count ≡ length log.now) }
     ensures fits { IfOk result (ReportFits station.now) }
+    ensures showable { IfOk result (λ r. All (IsShowable station.now) r.out) }
 {
     // Their clauses are used; they do nothing.
     judge.diagram_is_station();
@@ -72,6 +74,7 @@ fn replay_from<J: Judge>(
     let mut outcomes = Vec::new(alloc);
     for i in 0..log.count() {
         let outcome = follow(&mut world, alloc, station, log.event(i), judge)?;
+        is_numbered(&outcome);
         if let Some(which) = broken(&outcome) {
             return Ok(TripReport::new(outcomes, Some((i + 1, which)), log.count()));
         }
@@ -99,12 +102,14 @@ pub fn replay_trips<J: Judge>(
     ensures headline { IfOk result (λ r. TripHeadline station.now (trip_start_of station.now log.now)
         (trip_lines_of log.now r.out [])) }
     ensures fits { IfOk result (ReportFits station.now) }
+    // All that it shows is of the station, and its numbers are of 32 bits: so its text decides it.
+    ensures whole { IfOk result (IsWholeReport station.now (length log.now)) }
 {
     judge.diagram_is_station();
+    let count = log.count();
     match start_of(alloc, station, log.plain())? {
         Some(start) => replay_from(alloc, station, &start, log, judge),
         None => {
-            let count = log.count();
             let line = at_count(log.plain()) + 1;
             Ok(TripReport::new(Vec::new(alloc), Some((line, Which::Start)), count))
         }

@@ -46,7 +46,7 @@ loop-i-preserved g c =
     (omega (arith, c.loop-i-test.true, c.count-i-end.ensures.count, c.count-i-end.ensures.few))
     (told_in m d log c.loop-i.i c.event.result c.requires.same c.requires.log c.event.ensures)
     c.in_ok-outcome.ensures.happens (fits_in m d o c.requires.same c.in_ok-outcome.ensures.fits)
-    c.in_ok-outcome.ensures.few c.in_ok-outcome.ensures.facts c.in_default.ensures.none)
+    c.is_numbered.ensures c.in_ok-outcome.ensures.few c.in_ok-outcome.ensures.facts c.in_default.ensures.none)
 
 pub returns-clause-replay : goal.returns-clause-replay
 returns-clause-replay g c =
