@@ -54,7 +54,7 @@ LAYERS = [
           "bay_frames bay_protocol bay_node node_session node_store stored_session"),
     Layer("world",
           "Begin with `reservation_core/specs/Headline.antt`, what is promised of logs.",
-          "reservation_core log_replay trip_core trip_replay"),
+          "reservation_core log_replay trip_core trip_replay stopped_puts"),
     Layer("commands",
           "Begin with the command that you know; each has its definitions in `specs` and one public call.",
           "command_words release_texts whatever_text exchange_plan station_equations equation_text station_make station_work interlock_terms "
