@@ -4,9 +4,10 @@
     examples/program.py [STATION | TEXT=STATION] ..
 
 takes the drawings that are named, or all of examples/, and of each the text that `./interlock program` writes, or the
-one of the file TEXT. It compiles the assignments of the text unchanged, by Free Pascal where `fpc` is there, else by C
-with `cc`, else it reads them as Python, and sets the inputs to the contacts of random words: off (10), on (01), and
-what says nothing (00 and 11). Then by the definitions alone (by_definition.py):
+one of the file TEXT. It compiles the assignments of the text unchanged, a function block as a record and a procedure,
+by Free Pascal where `fpc` is there, else by C with `cc`, else it reads them as Python, and sets the inputs to the
+contacts of random words: off (10), on (01), and what says nothing (00 and 11). Then by the definitions alone
+(by_definition.py):
 
 - where all words are off or on, a release is TRUE exactly where the operation breaks no rule;
 - where some say nothing, what is TRUE breaks no rule in any reading;
@@ -32,36 +33,67 @@ CONTACTS = {"off": ((1, 0),), "on": ((0, 1),), "none": ((0, 0), (1, 1))}
 ROUNDS, UNKNOWN = 40, 4
 
 
-def parts_of(text):
-    """The inputs, the outputs, the other variables, and the assignments of a text."""
-    text = re.sub(r"\(\*.*?\*\)", "", text, flags=re.S)
+def names_of(text):
+    """The names of the inputs, the outputs and the other variables of a block or a program."""
     blocks = re.findall(r"^(VAR_INPUT|VAR_OUTPUT|VAR)\n(.*?)^END_VAR$", text, re.M | re.S)
     lists = {kind: re.findall(r"([\w,\s]+) : BOOL;", body) for kind, body in blocks}
     names = {kind: [name for names in found for name in re.findall(r"\w+", names)] for kind, found in lists.items()}
-    return names["VAR_INPUT"], names["VAR_OUTPUT"], names["VAR"], re.findall(r"^  (\w+) := (.*);$", text, re.M)
+    return names["VAR_INPUT"], names["VAR_OUTPUT"], names["VAR"]
 
 
-def pascal(inputs, outputs, others, assignments):
+def parts_of(text):
+    """The blocks of a text by their names, and its program: variables and steps; and which instance is of which block."""
+    text = re.sub(r"\(\*.*?\*\)", "", text, flags=re.S)
+    blocks = {}
+    for name, body in re.findall(r"^FUNCTION_BLOCK (\w+)\n(.*?)^END_FUNCTION_BLOCK$", text, re.M | re.S):
+        blocks[name] = names_of(body), re.findall(r"^  (\w+) := (.*);$", body, re.M)
+    program = re.search(r"^PROGRAM \w+\n(.*?)^END_PROGRAM$", text, re.M | re.S)[1]
+    instances = dict(re.findall(r"^  (\w+) : (BLOCK_\w+);$", program, re.M))
+    body = program[program.rindex("END_VAR\n"):]
+    steps = []
+    for call, wires, name, formula in re.findall(r"^  (?:(\w+)\(([^)]*)\)|(\w+) := (.*));$", body, re.M):
+        if call:
+            steps += [(f"{call}.{inner}", outer) for inner, outer in re.findall(r"(\w+) := (\w+)", wires)] + [(call, None)]
+        else:
+            steps.append((name, formula))
+    return blocks, names_of(program), instances, steps
+
+
+def pascal(blocks, names, instances, steps):
     """A program that answers each line of 0 and 1 with the outputs."""
-    lines = ["program interlocking;", "{$mode objfpc}{$H+}", "var line_of_inputs: string;"]
-    lines += [f"  {name}: boolean;" for name in inputs + outputs + others]
-    lines += ["begin", "while not eof do begin", "readln(line_of_inputs);"]
+    lines = ["program interlocking;", "{$mode objfpc}{$H+}"]
+    for name, (inside, assignments) in blocks.items():
+        lines += [f"type {name} = record"] + [f"  {each}: boolean;" for each in sum(inside, [])] + ["end;"]
+        lines += [f"procedure run_{name}(var self: {name});", "begin", "with self do begin"]
+        lines += [f"{each} := {formula};" for each, formula in assignments] + ["end;", "end;"]
+    inputs, outputs, others = names
+    lines += ["var line_of_inputs: string;"] + [f"  {name}: boolean;" for name in inputs + outputs + others]
+    lines += [f"  {name}: {block};" for name, block in instances.items()] + ["begin", "while not eof do begin"]
+    lines += ["readln(line_of_inputs);"]
     lines += [f"{name} := line_of_inputs[{place}] = '1';" for place, name in enumerate(inputs, 1)]
-    lines += [f"{name} := {formula};" for name, formula in assignments]
+    lines += [f"{name} := {formula};" if formula else f"run_{instances[name]}({name});" for name, formula in steps]
     lines += [f"if {name} then write('1') else write('0');" for name in outputs]
     return "\n".join(lines + ["writeln;", "end;", "end."]) + "\n"
 
 
-def c_text(inputs, outputs, others, assignments):
+def c_text(blocks, names, instances, steps):
     """The same in C, with the words of C."""
     words = {"AND": "&&", "OR": "||", "NOT": "!", "TRUE": "1", "FALSE": "0"}
-    lines = ["#include <stdio.h>", "static char line[65536];", "int main(void) {"]
-    lines += [f"int {name} = 0;" for name in inputs + outputs + others]
+
+    def in_c(formula, before=""):
+        return re.sub(r"[\w.]+", lambda match: words.get(match[0]) or before + match[0], formula)
+
+    lines = ["#include <stdio.h>", "static char line[65536];"]
+    for name, (inside, assignments) in blocks.items():
+        lines += [f"struct {name} {{"] + [f"int {each};" for each in sum(inside, [])] + ["};"]
+        lines += [f"static void run_{name}(struct {name} *self) {{"]
+        lines += [f"self->{each} = {in_c(formula, 'self->')};" for each, formula in assignments] + ["}"]
+    inputs, outputs, others = names
+    lines += [f"static int {name};" for name in inputs + outputs + others]
+    lines += [f"static struct {block} {name};" for name, block in instances.items()] + ["int main(void) {"]
     lines += ["while (fgets(line, sizeof line, stdin)) {"]
     lines += [f"{name} = line[{place}] == '1';" for place, name in enumerate(inputs)]
-    for name, formula in assignments:
-        in_c = re.sub(r"\b(AND|OR|NOT|TRUE|FALSE)\b", lambda match: words[match[0]], formula)
-        lines.append(f"{name} = {in_c};")
+    lines += [f"{name} = {in_c(formula)};" if formula else f"run_{instances[name]}(&{name});" for name, formula in steps]
     lines += [f"putchar({name} ? '1' : '0');" for name in outputs]
     return "\n".join(lines + ["putchar('\\n'); } return 0; }"]) + "\n"
 
@@ -80,12 +112,22 @@ def compiled(folder, text):
 
 def as_python(text, rows):
     """The answers, read as Python."""
-    inputs, outputs, _, assignments = parts_of(text)
-    lower = [(name, re.sub(r"\b(AND|OR|NOT)\b", lambda m: m[0].lower(), formula)) for name, formula in assignments]
+    blocks, (inputs, outputs, _), instances, steps = parts_of(text)
+
+    def value(formula, store):
+        lower = re.sub(r"\b(AND|OR|NOT)\b", lambda m: m[0].lower(), formula)
+        return eval(re.sub(r"(\w+)\.(\w+)", r"\1__\2", lower), {"TRUE": True, "FALSE": False}, store)
+
     for row in rows:
-        store = dict(zip(inputs, (bit == "1" for bit in row)), TRUE=True, FALSE=False)
-        for name, formula in lower:
-            store[name] = eval(formula, {}, store)
+        store = dict(zip(inputs, (bit == "1" for bit in row)))
+        for name, formula in steps:
+            if formula:
+                store[name.replace(".", "__")] = value(formula, store)
+                continue
+            inside = {inner: store[f"{name}__{inner}"] for inner in blocks[instances[name]][0][0]}
+            for inner, inner_formula in blocks[instances[name]][1]:
+                inside[inner] = value(inner_formula, inside)
+            store.update({f"{name}__{inner}": bit for inner, bit in inside.items()})
         yield "".join("1" if store[name] else "0" for name in outputs)
 
 

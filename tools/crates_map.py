@@ -58,7 +58,7 @@ LAYERS = [
     Layer("commands",
           "Begin with the command that you know; each has its definitions in `specs` and one public call.",
           "command_words release_texts whatever_text exchange_plan station_equations equation_text station_make station_work interlock_terms "
-          "short_equations structured_text program_text station_lines drawing_remarks compare_text tests_text"),
+          "short_equations structured_text program_blocks program_text station_lines drawing_remarks compare_text tests_text"),
     Layer("top",
           "Begin with `interlock_cli/src/top.rt`, where the words of a command become its work.",
           "interlock_cli program_edge interlock page_judge"),

@@ -243,7 +243,7 @@ module _ (d : Diagram) (station : IsStation d) (may sure : List Term) (may_order
         f g l b g_at l_at b_at
 
   -- AN INTERLOCKING
-  pub interlocks : IsInterlocking d lines
+  pub interlocks : IsInterlocking d (after lines)
   interlocks = record {
     safe = λ s op x r moves reads e.
         each s op x moves (λ g l b g_at l_at b_at. safe_one s op x moves g l b g_at l_at b_at r reads e);

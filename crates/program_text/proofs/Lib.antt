@@ -12,7 +12,8 @@ pub mod FullStore
 pub mod InterlockingLemmas
 pub mod ProgramOrder
 pub mod TextLemmas
-pub mod BlockWidth
+pub mod ProgramWidth
+pub mod StandLemmas
 pub mod WithinLemmas
 pub mod RisingLemmas
 pub mod SortLemmas

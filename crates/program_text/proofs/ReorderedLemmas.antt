@@ -13,21 +13,24 @@ use Rattle.program_text.specs.Interlocking.{release_name, IsInterlocking, SetsRe
 
 module _ (d : Diagram) (lines sorted : List Line) (order : AreInOrder IsInput lines) (sets : SetsReleases d lines)
     (same : AreReordered lines sorted) where
-  release_same : (s : Store) (op : Op) (x : Switch) → Moves d op x →
+  pub release_same : (s : Store) (op : Op) (x : Switch) → Moves d op x →
       after sorted s (release_name op) ≡ after lines s (release_name op)
   release_same s op x moves =
       same_meaning IsInput lines sorted s order same.order same.among (release_name op)
       (same.sets (release_name op) (sets op x moves))
 
-  pub still_interlocks : IsInterlocking d lines → IsInterlocking d sorted
-  still_interlocks h = record {
-    safe = λ s op x v moves reads e. h.safe s op x v moves reads (sym (release_same s op x moves) ∙ e);
-    exact = λ s op x v moves reads known.
-        let k = h.exact s op x v moves reads known in
-        let same_bit = release_same s op x moves in
-        (λ e. k.0 (sym same_bit ∙ e), λ b. same_bit ∙ k.1 b);
-    tight = λ s op x moves other.
-        let k = h.tight s op x moves other in
-        let same_bit = release_same s op x moves in
-        (λ e. k.0 (sym same_bit ∙ e), λ b. same_bit ∙ k.1 b);
-  }
+-- so is what releases the same
+pub still_interlocks : (d : Diagram) (f g : Store → Store) →
+    ((s : Store) (op : Op) (x : Switch) → Moves d op x → g s (release_name op) ≡ f s (release_name op)) →
+    IsInterlocking d f → IsInterlocking d g
+still_interlocks d f g same h = record {
+  safe = λ s op x v moves reads e. h.safe s op x v moves reads (sym (same s op x moves) ∙ e);
+  exact = λ s op x v moves reads known.
+      let k = h.exact s op x v moves reads known in
+      let bit = same s op x moves in
+      (λ e. k.0 (sym bit ∙ e), λ b. bit ∙ k.1 b);
+  tight = λ s op x moves other.
+      let k = h.tight s op x moves other in
+      let bit = same s op x moves in
+      (λ e. k.0 (sym bit ∙ e), λ b. bit ∙ k.1 b);
+}

@@ -1,7 +1,10 @@
 -- One piece more of a text, and four.
-use Rattle.std.proofs.Common.{◌≡◌, ◌++◌, ◌∙◌, ◌<◌, ◌-◌, ◌+◌, ℕ, suc, List, sym, ap, arith, append_assoc}
+use Rattle.std.proofs.Common.{◌≡◌, ◌++◌, ◌∙◌, ◌<◌, ◌-◌, ◌+◌, ◌∷◌, ℕ, suc, List, length, get_or, drop, sym, ap, arith, append_assoc}
+use Rattle.std.proofs.Math.Seq.{drop-cons}
+use Rattle.station_graph.specs.Diagram.{Diagram}
 use Rattle.structured_text.specs.Spelling.{input_text, output_text}
-use Rattle.program_text.specs.ProgramText.{inputs_text, outputs_text}
+use Rattle.program_blocks.specs.declared.block.Block.{Block}
+use Rattle.program_text.specs.ProgramText.{inputs_text, outputs_text, block_text, blocks_text}
 
 one_piece : (text one a rest : List ℕ) → one ≡ text ++ a → one ++ rest ≡ text ++ (a ++ rest)
 one_piece text one a rest e = ap (λ t. t ++ rest) e ∙ append_assoc text a rest
@@ -36,3 +39,34 @@ four_pieces text one two three four a b c e f g h i =
     ∙ (append_assoc two c e
     ∙ (ap (λ t. t ++ (c ++ e)) g
     ∙ (append_assoc one b (c ++ e) ∙ (ap (λ t. t ++ (b ++ (c ++ e))) f ∙ append_assoc text a (b ++ (c ++ e)))))))
+
+pub five_pieces : (text one two three four five a b c e f : List ℕ) → one ≡ text ++ a → two ≡ one ++ b → three ≡ two ++ c →
+    four ≡ three ++ e → five ≡ four ++ f → five ≡ text ++ (a ++ (b ++ (c ++ (e ++ f))))
+five_pieces text one two three four five a b c e f g h i j k =
+    four_pieces text one two three five a b c (e ++ f) g h i (k ∙ (ap (λ t. t ++ f) j ∙ append_assoc three e f))
+
+pub six_pieces : (text one two three four five six a b c e f g : List ℕ) → one ≡ text ++ a → two ≡ one ++ b →
+    three ≡ two ++ c → four ≡ three ++ e → five ≡ four ++ f → six ≡ five ++ g →
+    six ≡ text ++ (a ++ (b ++ (c ++ (e ++ (f ++ g)))))
+six_pieces text one two three four five six a b c e f g h i j k l m =
+    five_pieces text one two three four six a b c e (f ++ g) h i j k (m ∙ (ap (λ t. t ++ g) l ∙ append_assoc four f g))
+
+pub three_pieces : (text one two three a b c : List ℕ) → one ≡ text ++ a → two ≡ one ++ b → three ≡ two ++ c →
+    three ≡ text ++ (a ++ (b ++ c))
+three_pieces text one two three a b c f g h =
+    h
+    ∙ (ap (λ t. t ++ c) g
+    ∙ (append_assoc one b c ∙ (ap (λ t. t ++ (b ++ c)) f ∙ append_assoc text a (b ++ c))))
+
+pub same_piece : {X : Type 0} (text one : List ℕ) (f : List X → List ℕ) (a b : List X) → one ≡ text ++ f a → a ≡ b →
+    one ≡ text ++ f b
+same_piece text one f a b e same = e ∙ ap (λ x. text ++ f x) same
+
+pub blocks_more : (d : Diagram) (bs : List Block) (j k : ℕ) (none : Block) (whole text one : List ℕ) → j < length bs →
+    one ≡ text ++ block_text d k (get_or bs j none) → text ++ blocks_text d k (drop j bs) ≡ whole →
+    one ++ blocks_text d (k + 1) (drop (j + 1) bs) ≡ whole
+blocks_more d bs j k none whole text one low e inv =
+    let next : suc j ≡ j + 1 = omega arith in
+    one_piece text one (block_text d k (get_or bs j none)) (blocks_text d (k + 1) (drop (j + 1) bs)) e
+    ∙ (ap (λ xs. text ++ blocks_text d k xs)
+    (sym (drop-cons bs j none low ∙ ap (λ i. get_or bs j none ∷ drop i bs) next)) ∙ inv)

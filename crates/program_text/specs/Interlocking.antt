@@ -16,7 +16,7 @@ use Rattle.double_points.specs.Words.{Agrees}
 use Rattle.structured_text.specs.declared.name.Name.{Name}
 use Rattle.structured_text.specs.declared.name.Name.TheVariants.{Off as OffOf, On as OnOf, Opens, Closes}
 use Rattle.structured_text.specs.declared.line.Line.{Line}
-use Rattle.structured_text.specs.Meaning.{Store, after}
+use Rattle.structured_text.specs.Meaning.{Store}
 use Rattle.structured_text.specs.Order.{IsSetIn}
 
 -- The word that the contacts of the open and of the closed position show: both or neither made say nothing.
@@ -51,14 +51,15 @@ release_name op = towards op.switch op.direction
 abbrev pub SetsReleases : Diagram → List Line → Type 0
 SetsReleases d lines = (op : Op) (x : Switch) → Moves d op x → IsSetIn lines (release_name op)
 
--- The lines are an interlocking of the station. Safe: whatever the inputs show, what is released breaks no rule in any
--- reading. Exact: where each switch is known to be off or on, what breaks no rule is released, and nothing else. Tight:
--- whatever the inputs show, what is not released breaks, but for disconnectors, rule 1 or 2 in some reading.
-pub record IsInterlocking (d : Diagram) (lines : List Line) : Type 0 where
+-- What sets variables from those that are given is an interlocking of the station. Safe: whatever the inputs show, what is
+-- released breaks no rule in any reading. Exact: where each switch is known to be off or on, what breaks no rule is
+-- released, and nothing else. Tight: whatever the inputs show, what is not released breaks, but for disconnectors, rule 1
+-- or 2 in some reading.
+pub record IsInterlocking (d : Diagram) (run : Store → Store) : Type 0 where
   pub safe : (s : Store) (op : Op) (x : Switch) (v : List Bool) → Moves d op x → IsReadingOf d s v →
-      after lines s (release_name op) ≡ true → Breaks d v op None
+      run s (release_name op) ≡ true → Breaks d v op None
   pub exact : (s : Store) (op : Op) (x : Switch) (v : List Bool) → Moves d op x → IsReadingOf d s v → AreKnown d s →
-      (after lines s (release_name op) ≡ true) ↔ Breaks d v op None
+      (run s (release_name op) ≡ true) ↔ Breaks d v op None
   pub tight : (s : Store) (op : Op) (x : Switch) → Moves d op x → x.kind ≢ Disconnector →
-      (after lines s (release_name op) ≡ false)
+      (run s (release_name op) ≡ false)
       ↔ ((v : List Bool) × IsReadingOf d s v × (Applies R1 d v op ⊎ Applies R2 d v op))

@@ -1,12 +1,20 @@
--- The text of an interlocking: a function block of IEC 61131-3.
-use Rattle.std.specs.Prelude.{◌≡◌, ◌++◌, ℕ, zero, suc, List, [], length, codes}
+-- The text of an interlocking: function blocks of IEC 61131-3, and a program that calls them.
+use Rattle.std.specs.Prelude.{◌≡◌, ◌++◌, ◌+◌, ℕ, zero, suc, List, [], ◌∷◌, length, codes, decimal, Option, Some, None, slice_get}
 use Rattle.std.specs.List.{flat_map}
 use Rattle.station_graph.specs.Diagram.{Diagram}
+use Rattle.structured_text.specs.declared.name.Name.{Name}
 use Rattle.structured_text.specs.declared.line.Line.{Line}
+use Rattle.structured_text.specs.Meaning.{Store}
 use Rattle.structured_text.specs.Width.{AreLinesShort}
-use Rattle.structured_text.specs.Spelling.{input_text, output_text, locals_text, line_text}
+use Rattle.structured_text.specs.Spelling.{input_text, output_text, names_text, name_text, pair_text, line_text, heading_text}
+use Rattle.program_blocks.specs.declared.block.Block.{Block}
+use Rattle.program_blocks.specs.declared.block.BlockCall.{BlockCall}
+use Rattle.program_blocks.specs.declared.block.Step.{Step}
+use Rattle.program_blocks.specs.declared.block.Step.TheVariants.{Assign, Call}
+use Rattle.program_blocks.specs.Renaming.{outer}
+use Rattle.program_blocks.specs.Calls.{next_instance, program_after}
+use Rattle.program_blocks.specs.Standing.{StandFor}
 use Rattle.program_text.specs.declared.text.TheConstants.{HEAD}
-use Rattle.program_text.specs.Sections.{AreReordered}
 use Rattle.program_text.specs.Interlocking.{IsInterlocking}
 
 -- The declarations of the contacts of n switches from number k on.
@@ -23,34 +31,101 @@ outputs_text paths k (suc n) = output_text paths (record { 0 = k }) ++ outputs_t
 abbrev pub lines_text : Diagram → List Line → List ℕ
 lines_text d lines = flat_map (λ (x : Line). line_text d x) lines
 
--- What the text says of itself, and its inputs and outputs.
+-- Block k: what it is, its inputs, its outputs, its other variables, its lines.
+abbrev pub block_head : Diagram → ℕ → Block → List ℕ
+block_head d k b = heading_text d b.heading ++ (codes "FUNCTION_BLOCK BLOCK_" ++ (decimal k ++ codes "\nVAR_INPUT\n"))
+
+abbrev pub block_names : Diagram → Block → List ℕ
+block_names d b =
+    names_text d.switch_paths b.inputs.items
+    ++ (codes "END_VAR\nVAR_OUTPUT\n"
+    ++ (names_text d.switch_paths b.outputs.items
+    ++ (codes "END_VAR\nVAR\n" ++ (names_text d.switch_paths b.locals.items ++ codes "END_VAR\n"))))
+
+abbrev pub block_text : Diagram → ℕ → Block → List ℕ
+block_text d k b =
+    block_head d k b ++ (block_names d b ++ (lines_text d b.lines.items ++ codes "END_FUNCTION_BLOCK\n"))
+
+-- Blocks from number k on.
+abbrev pub blocks_text : Diagram → ℕ → List Block → List ℕ
+blocks_text d k [] = []
+blocks_text d k (b ∷ bs) = block_text d k b ++ blocks_text d (k + 1) bs
+
+-- What a call gives to the inputs of its block, each on a line.
+abbrev pub wire_text : List (List ℕ) → BlockCall → Name → List ℕ
+wire_text paths c n = pair_text paths n (codes " := ") (outer c n)
+
+abbrev pub more_wires : List (List ℕ) → BlockCall → List Name → List ℕ
+more_wires paths c [] = codes ");\n"
+more_wires paths c (n ∷ ns) = codes ",\n    " ++ (wire_text paths c n ++ more_wires paths c ns)
+
+abbrev pub wires_text : List (List ℕ) → BlockCall → List Name → List ℕ
+wires_text paths c [] = codes ");\n"
+wires_text paths c (n ∷ ns) = wire_text paths c n ++ more_wires paths c ns
+
+-- What the program reads of instance k.
+abbrev pub drawn_text : List (List ℕ) → ℕ → BlockCall → Name → List ℕ
+drawn_text paths k c n =
+    codes "  " ++ (name_text paths (outer c n) ++ (codes " := b" ++ (decimal k ++ (codes "." ++ (name_text paths n ++ codes ";\n")))))
+
+abbrev pub draws_text : List (List ℕ) → ℕ → BlockCall → List Name → List ℕ
+draws_text paths k c names = flat_map (λ (n : Name). drawn_text paths k c n) names
+
+-- A call of instance k.
+abbrev pub block_call_text : Diagram → ℕ → BlockCall → Block → List ℕ
+block_call_text d k c b =
+    heading_text d c.heading
+    ++ (codes "  b"
+    ++ (decimal k
+    ++ (codes "(" ++ (wires_text d.switch_paths c b.inputs.items ++ draws_text d.switch_paths k c b.outputs.items))))
+
+abbrev pub call_text : Diagram → ℕ → BlockCall → Option Block → List ℕ
+call_text d k c None = []
+call_text d k c (Some b) = block_call_text d k c b
+
+abbrev pub step_text : Diagram → List Block → ℕ → Step → List ℕ
+step_text d bs k (Assign x) = line_text d x
+step_text d bs k (Call c) = call_text d k c (slice_get bs c.block)
+
+abbrev pub steps_text : Diagram → List Block → ℕ → List Step → List ℕ
+steps_text d bs k [] = []
+steps_text d bs k (x ∷ xs) = step_text d bs k x ++ steps_text d bs (next_instance k x) xs
+
+-- The declarations of the instances.
+abbrev pub instance_text : ℕ → Step → List ℕ
+instance_text k (Assign x) = []
+instance_text k (Call c) = codes "  b" ++ (decimal k ++ (codes " : BLOCK_" ++ (decimal c.block ++ codes ";\n")))
+
+abbrev pub instances_text : ℕ → List Step → List ℕ
+instances_text k [] = []
+instances_text k (x ∷ xs) = instance_text k x ++ instances_text (next_instance k x) xs
+
+-- The program: its inputs and outputs, its instances and variables, its steps.
 abbrev pub contacts_text : Diagram → List ℕ
 contacts_text d =
-    HEAD.now
+    codes "\nPROGRAM INTERLOCKING\nVAR_INPUT\n"
     ++ (inputs_text d.switch_paths 0 (length d.switches)
-    ++ (codes "END_VAR\nVAR_OUTPUT\n" ++ (outputs_text d.switch_paths 0 (length d.switches) ++ codes "END_VAR\n")))
+    ++ (codes "END_VAR\nVAR_OUTPUT\n" ++ (outputs_text d.switch_paths 0 (length d.switches) ++ codes "END_VAR\nVAR\n")))
 
--- The declarations of the formulas, for what may be and for what is certain.
-abbrev pub variables_text : Diagram → List Line → List Line → List ℕ
-variables_text d may sure =
-    codes "VAR\n" ++ (locals_text d.switch_paths may ++ (locals_text d.switch_paths sure ++ codes "END_VAR\n"))
-
--- The lines, and the end of the block.
-abbrev pub body_text : Diagram → List Line → List ℕ
-body_text d lines = lines_text d lines ++ codes "END_FUNCTION_BLOCK\n"
+abbrev pub wiring_text : Diagram → List Block → List Step → List Name → List ℕ
+wiring_text d bs steps variables =
+    contacts_text d
+    ++ (instances_text 0 steps
+    ++ (names_text d.switch_paths variables ++ (codes "END_VAR\n" ++ (steps_text d bs 0 steps ++ codes "END_PROGRAM\n"))))
 
 -- The whole text.
-abbrev pub block_text : Diagram → List Line → List Line → List Line → List ℕ
-block_text d may sure lines = contacts_text d ++ (variables_text d may sure ++ body_text d lines)
+abbrev pub whole_text : Diagram → List Block → List Step → List Name → List ℕ
+whole_text d bs steps variables = HEAD.now ++ (blocks_text d 0 bs ++ wiring_text d bs steps variables)
 
--- The text is that of lines that are an interlocking of the station: those of what may be, of what is certain and of the
--- releases, in an order in which each variable is set before it is read. No line has more than 200 characters.
+-- The text is that of blocks and steps that stand for lines, in which each variable is set once and before it is read; and
+-- what they set, whatever the instances keep from before, is an interlocking of the station. No line has more than 200
+-- characters.
 pub record IsProgramText (d : Diagram) (text : List ℕ) : Type 0 where
-  pub may : List Line
-  pub sure : List Line
-  pub releases : List Line
   pub lines : List Line
-  pub same : AreReordered (may ++ (sure ++ releases)) lines
-  pub interlocks : IsInterlocking d lines
-  pub spelled : text ≡ block_text d may sure lines
+  pub blocks : List Block
+  pub steps : List Step
+  pub variables : List Name
+  pub stand : StandFor d lines blocks steps variables
+  pub interlocks : (stores : ℕ → Store) → IsInterlocking d (program_after blocks steps stores)
+  pub spelled : text ≡ whole_text d blocks steps variables
   pub short : AreLinesShort text

@@ -2,6 +2,9 @@
 #![tactic(auto)]
 
 mod bay_masks;
+mod block_text;
+mod forming;
+mod numbering;
 mod place;
 mod places;
 mod program;

@@ -1,6 +1,7 @@
 //! The interlocking of a station as lines.
 ghost use Rattle.std.specs.Prelude.{◌≡◌, ◌<◌, ◌^◌, ◌++◌, length, IfOk, OnOk};
 ghost use Rattle.station_graph.specs.Diagram.{Diagram};
+ghost use Rattle.structured_text.specs.Meaning.{after};
 ghost use Rattle.structured_text.specs.Order.{IsInput, AreInOrder};
 ghost use Rattle.structured_text.specs.Within.{LinesWithin};
 ghost use Rattle.program_text.specs.TermLines.{ServesReleases};
@@ -54,7 +55,7 @@ fn reading_lines(
 /// The interlocking of a station.
 pub fn interlocking(alloc: Global, station: &Station) -> Result<Program, Memory>
     ensures interlocks { IfOk result (λ p. IsInterlocking station.now
-        (p.may.items ++ (p.sure.items ++ p.releases.items))) }
+        (after (p.may.items ++ (p.sure.items ++ p.releases.items)))) }
     ensures order { IfOk result (λ p. AreInOrder IsInput (p.may.items ++ (p.sure.items ++ p.releases.items))) }
     ensures sets { IfOk result (λ p. SetsReleases station.now
         (p.may.items ++ (p.sure.items ++ p.releases.items))) }

@@ -1,27 +1,31 @@
 //! The text of an interlocking.
-ghost use Rattle.std.specs.Prelude.{◌≡◌, ◌++◌, length, codes, OnOk, IfOk};
-ghost use Rattle.structured_text.specs.Within.{LinesWithin};
-ghost use Rattle.program_text.specs.ProgramText.{inputs_text, outputs_text, contacts_text, variables_text};
-ghost use Rattle.program_text.specs.ProgramText.{body_text, block_text, IsProgramText};
+ghost use Rattle.std.specs.Prelude.{◌≡◌, ◌++◌, length, codes, OnOk, IfOk, IsTrue};
+ghost use Rattle.structured_text.specs.Order.{IsInput, AreInOrder};
+ghost use Rattle.program_blocks.specs.Standing.{BlocksWithin, StepsWithin, AreNamesWithin, StandFor};
+ghost use Rattle.program_text.specs.ProgramText.{inputs_text, outputs_text, contacts_text, wiring_text};
+ghost use Rattle.program_text.specs.ProgramText.{whole_text, IsProgramText};
 
-use crate::program::{Program, interlocking, lines_by_bays};
+use crate::block_text::{write_blocks, write_instances, write_steps};
+use crate::forming::{Counts, Formed, form};
+use crate::program::{interlocking, lines_by_bays};
 use ilk_base::{Memory, SwitchId, Text};
+use program_blocks::stand_for;
 use station_graph::Station;
 use std::alloc::Global;
-use structured_text::{Line, write_input, write_lines, write_locals, write_output};
+use structured_text::{Line, write_input, write_names, write_output};
 
-// What the text says of itself, and the begin of its inputs.
+// What the text says of itself.
 const HEAD: &[u8] =
     b"(* The releases EnaOpn and EnaCls of each switch, derived from the single-line diagram.\n\
     \x20  sw1_QB1_off, sw1_QB1_on  contacts of switch 1, whose last name is QB1, in its open and its closed position:\n\
     \x20                           10 off, 01 on; 00 and 11 say nothing. Its path stands where they are declared.\n\
     \x20  m..  what holds where each switch that is not known to be off is closed: coupled, joined, live, earthed, tapped\n\
     \x20  c..  what holds where each switch that is not known to be on is open: bonded\n\
-    \x20  The lines stand bay by bay: what each bay is to the others, what bays are together, each bay's releases.\n\
+    \x20  Each bay has two blocks: what it is to the other bays, and its releases. Bays that are alike share them, in the\n\
+    \x20  names of the first of these bays. The program calls them in order; the m.. and c.. that it gives to a block are\n\
+    \x20  what the bay must be told by others.\n\
     \x20  An input that does not come counts as FALSE. The releases hold at one moment: two controllers that both see one\n\
-    \x20  may both move, which this text does not forbid. *)\n\
-    FUNCTION_BLOCK INTERLOCKING\n\
-    VAR_INPUT\n";
+    \x20  may both move, which this text does not forbid. *)\n";
 
 // Appends the declarations of the contacts of each switch.
 fn write_inputs(text: &mut Text, station: &Station) -> Result<(), Memory>
@@ -45,65 +49,85 @@ fn write_outputs(text: &mut Text, station: &Station) -> Result<(), Memory>
     Ok(())
 }
 
-// Appends what the text says of itself, and its inputs and outputs.
+// Appends the begin of the program, with its inputs and outputs.
 fn write_contacts(text: &mut Text, station: &Station) -> Result<(), Memory>
     ensures { OnOk result (text.new ≡ text.old ++ contacts_text station.now) }
 {
-    text.push(HEAD)?;
+    text.push(b"\nPROGRAM INTERLOCKING\nVAR_INPUT\n")?;
     write_inputs(text, station)?;
     text.push(b"END_VAR\nVAR_OUTPUT\n")?;
     write_outputs(text, station)?;
-    text.push(b"END_VAR\n")
+    text.push(b"END_VAR\nVAR\n")?;
+    Ok(())
 }
 
-// Appends the declarations of the formulas.
-fn write_variables(text: &mut Text, station: &Station, program: &Program) -> Result<(), Memory>
-    requires may { LinesWithin station.now program.now.may.items }
-    requires sure { LinesWithin station.now program.now.sure.items }
-    ensures { OnOk result (text.new ≡ text.old
-        ++ variables_text station.now program.now.may.items program.now.sure.items) }
-{
-    text.push(b"VAR\n")?;
-    write_locals(text, station, &program.may)?;
-    write_locals(text, station, &program.sure)?;
-    text.push(b"END_VAR\n")
-}
-
-// Appends the lines.
-fn write_body(text: &mut Text, station: &Station, lines: &[Line]) -> Result<(), Memory>
-    requires { LinesWithin station.now lines.now }
-    ensures { OnOk result (text.new ≡ text.old ++ body_text station.now lines.now) }
-{
-    write_lines(text, station, lines)?;
-    text.push(b"END_FUNCTION_BLOCK\n")
-}
-
-// Appends the function block.
-fn write_program(
-    text: &mut Text,
-    station: &Station,
-    program: &Program,
-    lines: &[Line],
-) -> Result<(), Memory>
-    requires may { LinesWithin station.now program.now.may.items }
-    requires sure { LinesWithin station.now program.now.sure.items }
-    requires lines { LinesWithin station.now lines.now }
-    ensures { OnOk result (text.new ≡ text.old
-        ++ block_text station.now program.now.may.items program.now.sure.items lines.now) }
+// Appends the program.
+fn write_wiring(text: &mut Text, station: &Station, formed: &Formed) -> Result<(), Memory>
+    requires blocks { BlocksWithin station.now formed.now.blocks.items }
+    requires steps { StepsWithin station.now formed.now.blocks.items formed.now.steps.items }
+    requires names { AreNamesWithin (length station.now.switches) formed.now.variables.items }
+    ensures { OnOk result (text.new ≡ text.old ++ wiring_text station.now formed.now.blocks.items
+        formed.now.steps.items formed.now.variables.items) }
 {
     write_contacts(text, station)?;
-    write_variables(text, station, program)?;
-    write_body(text, station, lines)
+    write_instances(text, &formed.steps)?;
+    write_names(text, station, &formed.variables)?;
+    text.push(b"END_VAR\n")?;
+    write_steps(text, station, &formed.blocks, &formed.steps)?;
+    text.push(b"END_PROGRAM\n")?;
+    Ok(())
 }
 
-/// The interlocking of a station as a function block of structured text (IEC 61131-3): assignments of AND, OR and NOT
-/// alone, each variable set before it is read.
+// Appends the whole text.
+fn write_whole(text: &mut Text, station: &Station, formed: &Formed) -> Result<(), Memory>
+    requires blocks { BlocksWithin station.now formed.now.blocks.items }
+    requires steps { StepsWithin station.now formed.now.blocks.items formed.now.steps.items }
+    requires names { AreNamesWithin (length station.now.switches) formed.now.variables.items }
+    ensures { OnOk result (text.new ≡ text.old ++ whole_text station.now formed.now.blocks.items
+        formed.now.steps.items formed.now.variables.items) }
+{
+    text.push(HEAD)?;
+    write_blocks(text, station, &formed.blocks)?;
+    write_wiring(text, station, formed)?;
+    Ok(())
+}
+
+// The lines as a program of blocks. One that does not stand for the lines, which is not expected, is answered as want
+// of memory.
+fn formed_of(
+    alloc: Global,
+    station: &Station,
+    lines: &[Line],
+    counts: Counts,
+) -> Result<Formed, Memory>
+    ensures { IfOk result (λ f. StandFor station.now lines.now f.blocks.items f.steps.items f.variables.items) }
+{
+    let formed = form(alloc, station, lines, counts)?;
+    let stands = stand_for(
+        alloc,
+        station,
+        lines,
+        &formed.blocks,
+        &formed.steps,
+        &formed.variables,
+    )?;
+    if stands { Ok(formed) } else { Err(Memory) }
+}
+
+/// The interlocking of a station as structured text (IEC 61131-3): function blocks of assignments of AND, OR and NOT
+/// alone, each variable set before it is read, and a program that calls them. The cost grows as the square of the number
+/// of variables between the bays.
 pub fn program_text(alloc: Global, station: &Station) -> Result<Text, Memory>
     ensures { IfOk result (IsProgramText station.now) }
 {
     let program = interlocking(alloc, station)?;
     let lines = lines_by_bays(alloc, station, &program)?;
+    let counts = Counts {
+        may: program.may_count,
+        sure: program.sure_count,
+    };
+    let formed = formed_of(alloc, station, &lines, counts)?;
     let mut text = Text::new(alloc);
-    write_program(&mut text, station, &program, &lines)?;
+    write_whole(&mut text, station, &formed)?;
     Ok(text)
 }

@@ -155,15 +155,15 @@ output_text paths i = declared_text paths (Opens i) (Closes i) ++ codes "\n"
 abbrev pub between_names : ℕ → List ℕ
 between_names k = if k % 4 == 0 then codes ",\n  " else codes ", "
 
--- The variables that more lines set, from number k on, up to the end of the declaration.
-abbrev pub more_names : List (List ℕ) → ℕ → List Line → List ℕ
+-- More variables of a declaration, from number k on, and its end.
+abbrev pub more_names : List (List ℕ) → ℕ → List Name → List ℕ
 more_names paths k [] = codes " : BOOL;\n"
-more_names paths k (x ∷ xs) = between_names k ++ (name_text paths x.name ++ more_names paths (suc k) xs)
+more_names paths k (x ∷ xs) = between_names k ++ (name_text paths x ++ more_names paths (suc k) xs)
 
--- The declaration of the variables that lines set.
-abbrev pub locals_text : List (List ℕ) → List Line → List ℕ
-locals_text paths [] = []
-locals_text paths (x ∷ xs) = codes "  " ++ (name_text paths x.name ++ more_names paths 1 xs)
+-- The declaration of variables.
+abbrev pub names_text : List (List ℕ) → List Name → List ℕ
+names_text paths [] = []
+names_text paths (x ∷ xs) = codes "  " ++ (name_text paths x ++ more_names paths 1 xs)
 
 -- A letter as a small one, and a text with its letters so.
 abbrev pub lower : ℕ → ℕ

@@ -33,6 +33,10 @@ NameWithin count (Sure k) = k < 2 ^ 64
 NameWithin count (Opens i) = i.0 < count
 NameWithin count (Closes i) = i.0 < count
 
+-- Each of the variables is so.
+abbrev pub NamesWithin : ℕ → List Name → Type 0
+NamesWithin count names = (i : ℕ) (m : Name) → slice_get names i ≡ Some m → NameWithin count m
+
 -- The variable is that of a formula, whose number has at most 64 bits.
 abbrev pub IsOfFormula : Name → Type 0
 IsOfFormula (Off i) = ⊥

@@ -12,4 +12,6 @@ mod writing;
 pub use laws::{inputs_decide, names_differ, order_is_free};
 pub use line::{Formula, GapDenial, Heading, Line, LoadDenial, Operand};
 pub use name::Name;
-pub use writing::{write_input, write_line, write_lines, write_locals, write_output};
+pub use writing::{
+    write_heading, write_input, write_line, write_lines, write_name, write_names, write_output,
+};

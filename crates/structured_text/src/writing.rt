@@ -4,8 +4,8 @@ ghost use Rattle.std.specs.List.{flat_map};
 ghost use Rattle.station_graph.specs.Diagram.{part_count};
 ghost use Rattle.structured_text.specs.declared.line.Line.{Line as OfLine};
 ghost use Rattle.structured_text.specs.Spelling.{comment_text, heading_text, line_text, declared_text, remark_text, input_text};
-ghost use Rattle.structured_text.specs.Spelling.{output_text, between_names, locals_text};
-ghost use Rattle.structured_text.specs.Within.{NameWithin, HeadingWithin, LineWithin, LinesWithin};
+ghost use Rattle.structured_text.specs.Spelling.{output_text, between_names, names_text, name_text};
+ghost use Rattle.structured_text.specs.Within.{NameWithin, HeadingWithin, LineWithin, LinesWithin, NamesWithin};
 
 use crate::formula::{push_formula, push_name, push_pair};
 use crate::line::{Heading, Line};
@@ -24,8 +24,12 @@ fn push_comment(text: &mut Text, path: &[u8], what: &[u8]) -> Result<(), Memory>
     text.push(b" *)\n")
 }
 
-// Appends the comment above a line.
-fn push_heading(text: &mut Text, station: &Station, heading: Option<Heading>) -> Result<(), Memory>
+/// Appends a comment, with a blank line above it; nothing where there is none.
+pub fn write_heading(
+    text: &mut Text,
+    station: &Station,
+    heading: Option<Heading>,
+) -> Result<(), Memory>
     requires { HeadingWithin (part_count station.now) heading }
     ensures { OnOk result (text.new ≡ text.old ++ heading_text station.now heading) }
 {
@@ -50,7 +54,7 @@ pub fn write_line(text: &mut Text, station: &Station, line: Line) -> Result<(), 
     requires { LineWithin station.now line }
     ensures { OnOk result (text.new ≡ text.old ++ line_text station.now line) }
 {
-    push_heading(text, station, line.heading)?;
+    write_heading(text, station, line.heading)?;
     text.push(b"  ")?;
     push_name(text, station, line.name)?;
     text.push(b" := ")?;
@@ -133,19 +137,27 @@ fn push_between(text: &mut Text, number: usize) -> Result<(), Memory>
     text.push(b", ")
 }
 
-/// Appends the declaration of the variables that lines set, four on a line; nothing where there are none.
-pub fn write_locals(text: &mut Text, station: &Station, lines: &[Line]) -> Result<(), Memory>
-    requires { LinesWithin station.now lines.now }
-    ensures { OnOk result (text.new ≡ text.old ++ locals_text station.now.switch_paths lines.now) }
+/// Appends the declaration of these variables, four on a line; nothing where there are none.
+pub fn write_names(text: &mut Text, station: &Station, names: &[Name]) -> Result<(), Memory>
+    requires { NamesWithin (length station.now.switches) names.now }
+    ensures { OnOk result (text.new ≡ text.old ++ names_text station.now.switch_paths names.now) }
 {
-    if lines.is_empty() {
+    if names.is_empty() {
         return Ok(());
     }
     text.push(b"  ")?;
-    push_name(text, station, lines[0].name)?;
-    for i in 1..lines.len() {
+    push_name(text, station, names[0])?;
+    for i in 1..names.len() {
         push_between(text, i)?;
-        push_name(text, station, lines[i].name)?;
+        push_name(text, station, names[i])?;
     }
     text.push(b" : BOOL;\n")
+}
+
+/// Appends the identifier of a variable.
+pub fn write_name(text: &mut Text, station: &Station, name: Name) -> Result<(), Memory>
+    requires { NameWithin (length station.now.switches) name }
+    ensures { OnOk result (text.new ≡ text.old ++ name_text station.now.switch_paths name) }
+{
+    push_name(text, station, name)
 }

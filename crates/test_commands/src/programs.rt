@@ -10,55 +10,112 @@ use test_stations::{Drawing, Example, StationRow, built, row_holds, station_of};
 // The earthing switch may be closed where the infeed is known to be off, and the infeed set on where the earthing switch
 // is known to be off; opening is always released. That the node has a tap is read by no line, so no line says it;
 // and all lines are for the releases of this one bay.
-const LINES: &[u8] = b"VAR_INPUT\n\
-    \x20 sw0_QC9_off, sw0_QC9_on : BOOL; (* S/V1/Q1/QC9 *)\n\
-    \x20 sw1_E1_off, sw1_E1_on : BOOL; (* S/V1/Q1/E1 *)\n\
-    END_VAR\nVAR_OUTPUT\n\
-    \x20 sw0_QC9_EnaOpn, sw0_QC9_EnaCls : BOOL;\n\
-    \x20 sw1_E1_EnaOpn, sw1_E1_EnaCls : BOOL;\n\
-    END_VAR\nVAR\n\
+const LINES: &[u8] = b"\n\
+    \x20 (* S/V1/Q1: the releases *)\n\
+    FUNCTION_BLOCK BLOCK_0\n\
+    VAR_INPUT\n\
+    \x20 sw0_QC9_off, sw0_QC9_on, sw1_E1_off, sw1_E1_on : BOOL;\n\
+    END_VAR\n\
+    VAR_OUTPUT\n\
+    \x20 sw0_QC9_EnaOpn, sw0_QC9_EnaCls, sw1_E1_EnaOpn, sw1_E1_EnaCls : BOOL;\n\
+    END_VAR\n\
+    VAR\n\
     \x20 m0, m1 : BOOL;\n\
     END_VAR\n\
-    \n\
-    \x20 (* S/V1/Q1: the releases *)\n\
     \x20 m0 := sw0_QC9_on OR NOT sw0_QC9_off;\n\
     \x20 m1 := sw1_E1_on OR NOT sw1_E1_off;\n\
     \x20 sw0_QC9_EnaOpn := TRUE;\n\
     \x20 sw0_QC9_EnaCls := NOT m1;\n\
     \x20 sw1_E1_EnaOpn := TRUE;\n\
     \x20 sw1_E1_EnaCls := NOT m0;\n\
-    END_FUNCTION_BLOCK\n";
-
-// A busbar that an infeed feeds, and a node behind two disconnectors in parallel. Each of them carries the load that the
-// other one bonds: so it may move unless the infeed may be on, and the other one may be closed but is not for certain. The
-// third formula of what may be is that one of the disconnectors is closed; no release reads it. No earth can meet what is
-// live, so nothing else denies that they close.
-const STUB: &[u8] = b"VAR_INPUT\n\
-    \x20 sw0_QB1_off, sw0_QB1_on : BOOL; (* S/V1/Q1/QB1 *)\n\
-    \x20 sw1_QB2_off, sw1_QB2_on : BOOL; (* S/V1/Q1/QB2 *)\n\
-    \x20 sw2_E1_off, sw2_E1_on : BOOL; (* S/V1/Q1/E1 *)\n\
-    END_VAR\nVAR_OUTPUT\n\
-    \x20 sw0_QB1_EnaOpn, sw0_QB1_EnaCls : BOOL;\n\
-    \x20 sw1_QB2_EnaOpn, sw1_QB2_EnaCls : BOOL;\n\
-    \x20 sw2_E1_EnaOpn, sw2_E1_EnaCls : BOOL;\n\
-    END_VAR\nVAR\n\
-    \x20 m0, m1, m3 : BOOL;\n\
-    \x20 c0, c1 : BOOL;\n\
+    END_FUNCTION_BLOCK\n\
+    \n\
+    PROGRAM INTERLOCKING\n\
+    VAR_INPUT\n\
+    \x20 sw0_QC9_off, sw0_QC9_on : BOOL; (* S/V1/Q1/QC9 *)\n\
+    \x20 sw1_E1_off, sw1_E1_on : BOOL; (* S/V1/Q1/E1 *)\n\
+    END_VAR\n\
+    VAR_OUTPUT\n\
+    \x20 sw0_QC9_EnaOpn, sw0_QC9_EnaCls : BOOL;\n\
+    \x20 sw1_E1_EnaOpn, sw1_E1_EnaCls : BOOL;\n\
+    END_VAR\n\
+    VAR\n\
+    \x20 b0 : BLOCK_0;\n\
     END_VAR\n\
     \n\
     \x20 (* S/V1/Q1: the releases *)\n\
+    \x20 b0(sw0_QC9_off := sw0_QC9_off,\n\
+    \x20   sw0_QC9_on := sw0_QC9_on,\n\
+    \x20   sw1_E1_off := sw1_E1_off,\n\
+    \x20   sw1_E1_on := sw1_E1_on);\n\
+    \x20 sw0_QC9_EnaOpn := b0.sw0_QC9_EnaOpn;\n\
+    \x20 sw0_QC9_EnaCls := b0.sw0_QC9_EnaCls;\n\
+    \x20 sw1_E1_EnaOpn := b0.sw1_E1_EnaOpn;\n\
+    \x20 sw1_E1_EnaCls := b0.sw1_E1_EnaCls;\n\
+    END_PROGRAM\n";
+
+// A busbar that an infeed feeds, and a node behind two disconnectors in parallel. Each of them carries the load that the
+// other one bonds: so it may move unless the infeed may be on, and the other one may be closed but is not for certain. The
+// third formula of what may be is that one of the disconnectors is closed; no release reads it, and in the block the fourth
+// one is m2. No earth can meet what is
+// live, so nothing else denies that they close.
+const STUB: &[u8] = b"\n\
+    \x20 (* S/V1/Q1: the releases *)\n\
+    FUNCTION_BLOCK BLOCK_0\n\
+    VAR_INPUT\n\
+    \x20 sw0_QB1_off, sw0_QB1_on, sw1_QB2_off, sw1_QB2_on,\n\
+    \x20 sw2_E1_off, sw2_E1_on : BOOL;\n\
+    END_VAR\n\
+    VAR_OUTPUT\n\
+    \x20 sw0_QB1_EnaOpn, sw0_QB1_EnaCls, sw1_QB2_EnaOpn, sw1_QB2_EnaCls,\n\
+    \x20 sw2_E1_EnaOpn, sw2_E1_EnaCls : BOOL;\n\
+    END_VAR\n\
+    VAR\n\
+    \x20 m0, m1, m2, c0,\n\
+    \x20 c1 : BOOL;\n\
+    END_VAR\n\
     \x20 m0 := sw0_QB1_on OR NOT sw0_QB1_off;\n\
     \x20 m1 := sw1_QB2_on OR NOT sw1_QB2_off;\n\
-    \x20 m3 := sw2_E1_on OR NOT sw2_E1_off;\n\
+    \x20 m2 := sw2_E1_on OR NOT sw2_E1_off;\n\
     \x20 c0 := sw0_QB1_on AND NOT sw0_QB1_off;\n\
     \x20 c1 := sw1_QB2_on AND NOT sw1_QB2_off;\n\
-    \x20 sw0_QB1_EnaOpn := NOT (m3 AND m1 AND NOT c1);\n\
-    \x20 sw0_QB1_EnaCls := NOT (m3 AND m1 AND NOT c1);\n\
-    \x20 sw1_QB2_EnaOpn := NOT (m3 AND m0 AND NOT c0);\n\
-    \x20 sw1_QB2_EnaCls := NOT (m3 AND m0 AND NOT c0);\n\
+    \x20 sw0_QB1_EnaOpn := NOT (m2 AND m1 AND NOT c1);\n\
+    \x20 sw0_QB1_EnaCls := NOT (m2 AND m1 AND NOT c1);\n\
+    \x20 sw1_QB2_EnaOpn := NOT (m2 AND m0 AND NOT c0);\n\
+    \x20 sw1_QB2_EnaCls := NOT (m2 AND m0 AND NOT c0);\n\
     \x20 sw2_E1_EnaOpn := TRUE;\n\
     \x20 sw2_E1_EnaCls := TRUE;\n\
-    END_FUNCTION_BLOCK\n";
+    END_FUNCTION_BLOCK\n\
+    \n\
+    PROGRAM INTERLOCKING\n\
+    VAR_INPUT\n\
+    \x20 sw0_QB1_off, sw0_QB1_on : BOOL; (* S/V1/Q1/QB1 *)\n\
+    \x20 sw1_QB2_off, sw1_QB2_on : BOOL; (* S/V1/Q1/QB2 *)\n\
+    \x20 sw2_E1_off, sw2_E1_on : BOOL; (* S/V1/Q1/E1 *)\n\
+    END_VAR\n\
+    VAR_OUTPUT\n\
+    \x20 sw0_QB1_EnaOpn, sw0_QB1_EnaCls : BOOL;\n\
+    \x20 sw1_QB2_EnaOpn, sw1_QB2_EnaCls : BOOL;\n\
+    \x20 sw2_E1_EnaOpn, sw2_E1_EnaCls : BOOL;\n\
+    END_VAR\n\
+    VAR\n\
+    \x20 b0 : BLOCK_0;\n\
+    END_VAR\n\
+    \n\
+    \x20 (* S/V1/Q1: the releases *)\n\
+    \x20 b0(sw0_QB1_off := sw0_QB1_off,\n\
+    \x20   sw0_QB1_on := sw0_QB1_on,\n\
+    \x20   sw1_QB2_off := sw1_QB2_off,\n\
+    \x20   sw1_QB2_on := sw1_QB2_on,\n\
+    \x20   sw2_E1_off := sw2_E1_off,\n\
+    \x20   sw2_E1_on := sw2_E1_on);\n\
+    \x20 sw0_QB1_EnaOpn := b0.sw0_QB1_EnaOpn;\n\
+    \x20 sw0_QB1_EnaCls := b0.sw0_QB1_EnaCls;\n\
+    \x20 sw1_QB2_EnaOpn := b0.sw1_QB2_EnaOpn;\n\
+    \x20 sw1_QB2_EnaCls := b0.sw1_QB2_EnaCls;\n\
+    \x20 sw2_E1_EnaOpn := b0.sw2_E1_EnaOpn;\n\
+    \x20 sw2_E1_EnaCls := b0.sw2_E1_EnaCls;\n\
+    END_PROGRAM\n";
 
 // An earthing switch whose path has 92 characters: the first row of the comment has 80 of them, and the identifier the last
 // 13. Nothing denies that it moves, so no formula is read.
@@ -76,17 +133,37 @@ const LONG: Drawing = Drawing {
     taps: &[],
 };
 
-const LONG_LINES: &[u8] = b"VAR_INPUT\n\
-    \x20 sw0_aaaaaaaaaaaaa_off, sw0_aaaaaaaaaaaaa_on : BOOL; (* S/aaaaaaaaaaaaaaaaaaaaaaaaaaaaaaaaaaaaaaaaaaaaaaaaaaaaaaaaaaaaaaaaaaaaaaaaaaaaaa\n\
-    \x20    aaaaaaaaaaaa *)\n\
-    END_VAR\nVAR_OUTPUT\n\
-    \x20 sw0_aaaaaaaaaaaaa_EnaOpn, sw0_aaaaaaaaaaaaa_EnaCls : BOOL;\n\
-    END_VAR\nVAR\nEND_VAR\n\
-    \n\
+const LONG_LINES: &[u8] = b"\n\
     \x20 (* S: the releases *)\n\
+    FUNCTION_BLOCK BLOCK_0\n\
+    VAR_INPUT\n\
+    END_VAR\n\
+    VAR_OUTPUT\n\
+    \x20 sw0_aaaaaaaaaaaaa_EnaOpn, sw0_aaaaaaaaaaaaa_EnaCls : BOOL;\n\
+    END_VAR\n\
+    VAR\n\
+    END_VAR\n\
     \x20 sw0_aaaaaaaaaaaaa_EnaOpn := TRUE;\n\
     \x20 sw0_aaaaaaaaaaaaa_EnaCls := TRUE;\n\
-    END_FUNCTION_BLOCK\n";
+    END_FUNCTION_BLOCK\n\
+    \n\
+    PROGRAM INTERLOCKING\n\
+    VAR_INPUT\n\
+    \x20 sw0_aaaaaaaaaaaaa_off, sw0_aaaaaaaaaaaaa_on : BOOL; (* S/aaaaaaaaaaaaaaaaaaaaaaaaaaaaaaaaaaaaaaaaaaaaaaaaaaaaaaaaaaaaaaaaaaaaaaaaaaaaaa\n\
+    \x20    aaaaaaaaaaaa *)\n\
+    END_VAR\n\
+    VAR_OUTPUT\n\
+    \x20 sw0_aaaaaaaaaaaaa_EnaOpn, sw0_aaaaaaaaaaaaa_EnaCls : BOOL;\n\
+    END_VAR\n\
+    VAR\n\
+    \x20 b0 : BLOCK_0;\n\
+    END_VAR\n\
+    \n\
+    \x20 (* S: the releases *)\n\
+    \x20 b0();\n\
+    \x20 sw0_aaaaaaaaaaaaa_EnaOpn := b0.sw0_aaaaaaaaaaaaa_EnaOpn;\n\
+    \x20 sw0_aaaaaaaaaaaaa_EnaCls := b0.sw0_aaaaaaaaaaaaa_EnaCls;\n\
+    END_PROGRAM\n";
 
 // Whether the text of the station's program ends with these lines.
 fn ends_with(alloc: Global, station: &Station, lines: &[u8]) -> bool {

@@ -1,8 +1,10 @@
-use Rattle.std.proofs.Common.{◌++◌, ◌∙◌, ◌≤◌, ◌^◌, length, ap, subst, sym, arith}
+use Rattle.std.proofs.Common.{◌++◌, ◌∙◌, ◌≤◌, ◌^◌, List, length, ap, subst, sym, arith}
+use Rattle.structured_text.specs.declared.line.Line.{Line}
 use Rattle.structured_text.specs.Width.{AreLinesShort}
-use Rattle.program_text.specs.ProgramText.{block_text}
-use Rattle.program_text.proofs.BlockWidth.{block_short}
-use Rattle.program_text.proofs.ReorderedLemmas.{still_interlocks}
+use Rattle.program_blocks.specs.Standing.{StandFor}
+use Rattle.program_text.specs.ProgramText.{whole_text}
+use Rattle.program_text.proofs.ProgramWidth.{whole_short}
+use Rattle.program_text.proofs.StandLemmas.{program_interlocks}
 use Rattle.program_text.proofs.WithinLemmas.{within_both}
 use Rattle.program_text.proofs.text.program_text.Goals as goal
 
@@ -17,25 +19,27 @@ pub returns : goal.returns
 returns c =
     let d = c.args.station.now in
     let p = c.in_ok-program.program in
-    let may = p.may.items in
-    let sure = p.sure.items in
-    let releases = p.releases.items in
     let lines = c.in_ok-lines.lines.items in
+    let blocks = c.in_ok-formed.formed.blocks.items in
+    let steps = c.in_ok-formed.formed.steps.items in
+    let variables = c.in_ok-formed.formed.variables.items in
     let count = c.in_ok-program.ensures.few in
     let few : length d.switches ≤ 2 ^ 64 = omega (arith, count) in
+    let stand : StandFor d lines blocks steps variables =
+    subst (λ (ls : List Line). StandFor d ls blocks steps variables) c.deref.ensures.value c.in_ok-formed.ensures in
     let same =
-    c.in_ok-write_program.ensures
-    ∙ (ap (λ ls. c.new-text.result ++ block_text d may sure ls) c.deref.ensures.value
-    ∙ ap (λ t. t ++ block_text d may sure lines) c.new-text.ensures) in record {
-      may = may;
-      sure = sure;
-      releases = releases;
+    c.in_ok-write_whole.ensures ∙ ap (λ t. t ++ whole_text d blocks steps variables) c.new-text.ensures in record {
       lines = lines;
-      same = c.in_ok-lines.ensures.reordered;
-      interlocks = still_interlocks d (may ++ (sure ++ releases)) lines c.in_ok-program.ensures.order
-          c.in_ok-program.ensures.sets c.in_ok-lines.ensures.reordered c.in_ok-program.ensures.interlocks;
+      blocks = blocks;
+      steps = steps;
+      variables = variables;
+      stand = stand;
+      interlocks = λ stores.
+          program_interlocks d (p.may.items ++ (p.sure.items ++ p.releases.items)) lines blocks steps variables
+          c.in_ok-program.ensures.order c.in_ok-program.ensures.sets c.in_ok-lines.ensures.reordered stand stores
+          c.in_ok-program.ensures.interlocks;
       spelled = same;
       short = subst AreLinesShort (sym same)
-          (block_short d few may sure lines c.in_ok-program.ensures.may c.in_ok-program.ensures.sure
-          c.in_ok-lines.ensures.within);
+          (whole_short d few blocks steps variables stand.few_blocks stand.few_steps stand.blocks_within stand.steps_within
+          stand.names_within);
     }

@@ -1,0 +1,4 @@
+pub mod Renaming
+pub mod Calls
+pub mod Wiring
+pub mod Standing
