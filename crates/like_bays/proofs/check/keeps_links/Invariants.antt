@@ -1,0 +1,6 @@
+use Rattle.std.proofs.Common.{ℕ, ◌<◌}
+use Rattle.like_bays.specs.Kept.{KeepsLink}
+use Rattle.like_bays.proofs.check.keeps_links.Given as goal
+
+abbrev pub invariant-loop-i : goal.invariant-loop-i
+invariant-loop-i l = (i : ℕ) → i < l.i → KeepsLink l.station l.tables.nodes.items i
