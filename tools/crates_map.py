@@ -47,7 +47,7 @@ LAYERS = [
     Layer("two stations",
           "Begin with `station_changes/specs/Compare.antt`, what an extension changes, and then "
           "`station_compare/src/compare.rt`; and `commissioning_tests`, what is tested of a bay.",
-          "station_changes release_dependence like_bays graph_products graph_walks step_graphs station_joints change_search "
+          "station_changes release_dependence like_bays bay_exchanges graph_products graph_walks step_graphs station_joints change_search "
           "station_compare dependence_search commissioning_tests"),
     Layer("bay",
           "Begin with `bay_protocol/specs/Step.antt`: each constructor is one rule of what a bay does at an event.",

@@ -6,3 +6,5 @@ mod BayLemmas
 mod ListLemmas
 mod MirrorLemmas
 mod WideLemmas
+mod LikeLemmas
+mod IdleLemmas

@@ -10,8 +10,8 @@ use Rattle.station_changes.specs.Compare.{SameSwitch, IsPart}
 use Rattle.change_search.specs.Showing.{witness_of}
 use Rattle.station_compare.specs.Each.{AreEach}
 use Rattle.station_compare.specs.Width.{IsTooWide}
-use Rattle.station_compare.specs.declared.compare.CompareRefusal.{CompareRefusal}
-use Rattle.station_compare.specs.declared.compare.CompareRefusal.TheVariants.{Memory, Wide}
+use Rattle.station_compare.specs.declared.refusal.CompareRefusal.{CompareRefusal}
+use Rattle.station_compare.specs.declared.refusal.CompareRefusal.TheVariants.{Memory, Wide}
 use Rattle.station_compare.specs.declared.found.RuleChanges.{RuleChanges}
 use Rattle.station_compare.specs.declared.found.OperationChanges.{OperationChanges}
 use Rattle.station_compare.specs.declared.found.SwitchChanges.{SwitchChanges}

@@ -4,3 +4,4 @@ pub mod Words
 pub mod Comparing
 pub mod Bays
 pub mod Walking
+pub mod Likeness

@@ -5,7 +5,9 @@ use Rattle.judge_pool.specs.declared.view.View.{View}
 use Rattle.judge_pool.specs.declared.view.View.TheVariants.{Gap, Load}
 use Rattle.step_graphs.specs.declared.graph.StepStock.{StepStock}
 use Rattle.step_graphs.specs.Ready.{IsStepStock}
-use Rattle.std.specs.Prelude.{List}
+use Rattle.std.specs.Prelude.{List, Bool}
+use Rattle.ilk_base.specs.declared.words.Op.{Op}
+use Rattle.station_graph.specs.CentralRules.{LoadBreaks}
 use Rattle.step_graphs.specs.declared.step.Step.{Step}
 use Rattle.station_joints.specs.declared.joint.JointSteps.{JointSteps}
 use Rattle.change_search.specs.Telling.{IsSwitchWalk}
@@ -13,6 +15,10 @@ use Rattle.change_search.specs.Searching.{HaveReached}
 use Rattle.change_search.specs.Showing.{AllowIsolating, AllowAll}
 use Rattle.station_compare.specs.declared.stocks.Stocks.{Stocks}
 use Rattle.station_compare.specs.declared.walked.Walked.{Walked}
+
+-- The third rule applies to no move of switch m.
+abbrev pub HasNoLoad : Diagram → ℕ → Type 0
+HasNoLoad d m = (v : List Bool) (op : Op) → op.switch.0 ≡ m → ¬ LoadBreaks d v op
 
 -- The stock is that of these steps in this view.
 pub record IsStockIn (view : View) (d : Diagram) (steps : List Step) (s : StepStock) : Type 0 where

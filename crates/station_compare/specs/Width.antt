@@ -12,7 +12,7 @@ use Rattle.step_graphs.specs.Steps.{TakesIn}
 use Rattle.step_graphs.specs.Moved.{IsMovedGraph}
 use Rattle.step_graphs.specs.Edges.{StepsPass}
 use Rattle.station_joints.specs.Together.{AreJointSteps}
-use Rattle.station_compare.specs.declared.walked.TheConstants.{WALK_EDGES}
+use Rattle.station_compare.specs.declared.limits.TheConstants.{WALK_EDGES}
 
 -- In one of the two stations and one of the two views the graph of the switch whose step stands at place b has more edges
 -- than `WALK_EDGES` before it is reduced.

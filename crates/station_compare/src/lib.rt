@@ -4,18 +4,26 @@
 
 mod bays;
 mod compare;
+mod exchanged;
 mod extends;
 mod found;
 mod laws;
+mod likeness;
+mod limits;
+mod loads;
+mod next;
 mod operation;
+mod refusal;
 mod stocks;
 mod switch;
 mod walked;
+mod walks;
 mod word;
 
 pub use bays::{BayWord, BayWords};
-pub use compare::{CompareRefusal, compare_stations};
+pub use compare::compare_stations;
 pub use found::{Comparison, Found, OperationChanges, RuleChanges, SwitchChanges};
 pub use laws::comparison_turned_round;
-pub use walked::WALK_EDGES;
+pub use limits::WALK_EDGES;
+pub use refusal::CompareRefusal;
 pub use word::{Word, word_says};

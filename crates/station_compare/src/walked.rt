@@ -12,6 +12,8 @@ ghost use Rattle.station_compare.specs.Walking.{AreStocks, IsWalked};
 ghost use Rattle.judge_pool.specs.declared.layer.Trouble.TheVariants.{Wide};
 ghost use Rattle.station_compare.specs.Width.{IsWideAt, IsTooWide};
 
+use crate::limits::WALK_EDGES;
+use crate::loads::load_graph;
 use crate::stocks::Stocks;
 use change_search::{Reached, free_steps, free_steps_allow};
 use decision_graphs::{Graph, Marks};
@@ -23,9 +25,6 @@ use station_graph::Station;
 use station_joints::JointSteps;
 use std::alloc::Global;
 use step_graphs::moved_graph;
-
-/// How many edges a walk may have, and each graph that is walked before it is reduced.
-pub const WALK_EDGES: usize = 8_000_000;
 
 // The walk of a switch, and what isolating choices and all choices reach in it.
 #[derive(Drop)]
@@ -97,23 +96,15 @@ fn switch_walk(
         new_id,
         WALK_EDGES,
     )?;
-    let old_load = moved_graph(
-        alloc,
-        &mut stocks.old_load,
-        old,
-        olds,
-        place,
-        id,
-        WALK_EDGES,
-    )?;
-    let new_load = moved_graph(
+    let old_load = load_graph(alloc, &mut stocks.old_load, old, olds, place, id, &old_gap)?;
+    let new_load = load_graph(
         alloc,
         &mut stocks.new_load,
         new,
         news,
         place,
         new_id,
-        WALK_EDGES,
+        &new_gap,
     )?;
     let walk = walk_together(alloc, &old_gap, &new_gap, &old_load, &new_load, others)?;
     Ok(walk)

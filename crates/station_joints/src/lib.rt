@@ -6,8 +6,9 @@ mod joint;
 mod pairs;
 mod places;
 mod positions;
+mod ranks;
 mod same;
 
-pub use joint::{JointSteps, joint_steps};
+pub use joint::{JointSteps, joint_steps, joint_steps_of_bay};
 pub use positions::{JointVectors, joint_vectors, positions_give_choices};
 pub use same::same_switch;

@@ -5,6 +5,7 @@ ghost use Rattle.step_graphs.specs.declared.step.Step.TheVariants.{OfSwitch};
 ghost use Rattle.station_joints.specs.Together.{AreTogether};
 ghost use Rattle.station_joints.specs.Taking.{Olds, News, ArePairs};
 
+use crate::ranks::PartRanks;
 use crate::same::same_switch;
 use ilk_base::{BayId, Memory, SwitchId};
 use station_graph::Station;
@@ -29,26 +30,30 @@ fn rank_of(station: &Station, path: &str, behind: u16) -> u16 {
     behind
 }
 
-// For each part of the old station the part of the new one with its path.
-pub(crate) fn part_ranks(alloc: Global, old: &Station, new: &Station) -> Result<Vec<u16>, Memory>
+// For each part of the old station the part of the new one with its path, in the order of these ranks.
+pub(crate) fn part_ranks(
+    alloc: Global,
+    old: &Station,
+    new: &Station,
+    ranks: &PartRanks,
+) -> Result<Vec<u16>, Memory>
     ensures { IfOk result (λ v. length v.items ≡ part_count old.now) }
 {
-    let mut ranks = Vec::new(alloc);
+    let mut list = Vec::new(alloc);
     let parts = new.part_count();
     for p in 0..old.part_count() {
-        let rank = rank_of(new, old.part_path(BayId(p as u8)), parts + p);
-        ranks.push(rank)?;
+        let part = rank_of(new, old.part_path(BayId(p as u8)), parts + p);
+        list.push(ranks.rank(part))?;
     }
-    Ok(ranks)
+    Ok(list)
 }
 
-// The pair of a switch of the new station.
-fn new_pair(old: &Station, new: &Station, id: SwitchId) -> StepPair
+// The pair of a switch of the new station, of this rank.
+fn new_pair(old: &Station, new: &Station, id: SwitchId, rank: u16) -> StepPair
     requires { id.0 < length new.now.switches }
     ensures second { result.second ≡ OfSwitch id }
     ensures together { AreTogether old.now new.now result.first result.second }
 {
-    let rank = u16::from(new.switch(id).bay.0);
     match same_switch(new, old, id) {
         Some(twin) => StepPair {
             first: Step::OfSwitch(twin),
@@ -68,6 +73,7 @@ pub(crate) fn take_new_switches(
     pairs: &mut Vec<StepPair>,
     old: &Station,
     new: &Station,
+    ranks: &PartRanks,
 ) -> Result<(), Memory>
     requires { pairs.old.items ≡ [] }
     ensures { OnOk result (ArePairs old.now new.now (Olds old.now new.now (length new.now.switches) 0 0 0)
@@ -76,7 +82,8 @@ pub(crate) fn take_new_switches(
 {
     old.is_station();
     for k in 0..new.switch_count() {
-        let pair = new_pair(old, new, SwitchId(k));
+        let rank = ranks.rank(u16::from(new.switch(SwitchId(k)).bay.0));
+        let pair = new_pair(old, new, SwitchId(k), rank);
         pairs.push(pair)?;
     }
     Ok(())
@@ -136,6 +143,7 @@ pub(crate) fn take_new_links(
     pairs: &mut Vec<StepPair>,
     old: &Station,
     new: &Station,
+    ranks: &PartRanks,
 ) -> Result<(), Memory>
     requires { ArePairs old.now new.now (Olds old.now new.now (length new.now.switches)
         (length old.now.switches) 0 0) (News (length new.now.switches) 0 0)
@@ -146,7 +154,7 @@ pub(crate) fn take_new_links(
 {
     let _old = old.switch_count();
     for i in 0..new.link_count() {
-        let rank = u16::from(new.link(i).part.0);
+        let rank = ranks.rank(u16::from(new.link(i).part.0));
         pairs.push(StepPair {
             first: Step::OfNothing,
             second: Step::OfLink(i),
@@ -161,6 +169,7 @@ pub(crate) fn take_new_taps(
     pairs: &mut Vec<StepPair>,
     old: &Station,
     new: &Station,
+    ranks: &PartRanks,
 ) -> Result<(), Memory>
     requires { ArePairs old.now new.now (Olds old.now new.now (length new.now.switches)
         (length old.now.switches) 0 0) (News (length new.now.switches) (length new.now.links) 0)
@@ -173,7 +182,7 @@ pub(crate) fn take_new_taps(
 {
     let _old = old.switch_count();
     for i in 0..new.tap_count() {
-        let rank = u16::from(new.tap(i).part.0);
+        let rank = ranks.rank(u16::from(new.tap(i).part.0));
         pairs.push(StepPair {
             first: Step::OfNothing,
             second: Step::OfTap(i),

@@ -6,6 +6,8 @@ mod drawn;
 #[cfg(test)]
 mod labels;
 #[cfg(test)]
+mod like;
+#[cfg(test)]
 mod steps;
 #[cfg(test)]
 mod texts;

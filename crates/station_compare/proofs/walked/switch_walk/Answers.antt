@@ -1,9 +1,21 @@
 use Rattle.std.proofs.Common.{◌-◌, length, sym, ap, ◌∙◌, inl, inr, arith}
 use Rattle.judge_pool.specs.declared.view.View.TheVariants.{Gap, Load}
 use Rattle.judge_pool.proofs.ErrorLemmas.{passed_on}
-use Rattle.station_compare.specs.declared.walked.TheConstants.{WALK_EDGES}
+use Rattle.station_compare.specs.declared.limits.TheConstants.{WALK_EDGES}
 use Rattle.station_compare.proofs.WideLemmas.{moved_here, passes_here}
+use Rattle.station_graph.specs.Connection.{a_switch}
+use Rattle.step_graphs.proofs.SpreadParts.{taken_item}
 use Rattle.station_compare.proofs.walked.switch_walk.Goals as goal
+
+pub load_graph-requires-clause-within : goal.load_graph-requires-clause-within
+load_graph-requires-clause-within c =
+    taken_item c.args.old.now c.args.steps.now.old_steps.items c.requires.steps.steps.old_all c.args.place
+    (a_switch c.args.id.0) c.requires.old_at
+
+pub load_graph-requires-2-clause-within : goal.load_graph-requires-2-clause-within
+load_graph-requires-2-clause-within c =
+    taken_item c.args.new.now c.args.steps.now.new_steps.items c.requires.steps.steps.new_all c.args.place
+    (a_switch c.args.new_id.0) c.requires.new_at
 
 pub returns-in_err-old_gap-clause-wide : goal.returns-in_err-old_gap-clause-wide
 returns-in_err-old_gap-clause-wide c =

@@ -21,7 +21,7 @@ loop-i-preserved c =
     (sym c.in_ok-push.ensures.items)
     (pairs_room o n (Olds o n (length n.switches) (length o.switches) 0 0) (News (length n.switches) (i + 1) 0)
     (length n.switches + length o.switches + i + 1) (length n.switches + length o.switches + (i + 1)) _ (omega arith)
-    (new_link_taken o n (length n.switches) (length o.switches) 0 0 (length n.switches) i 0 (length n.switches + length o.switches + i) c.loop-i.pairs.items c.from-rank.result c.loop-i.invariant
+    (new_link_taken o n (length n.switches) (length o.switches) 0 0 (length n.switches) i 0 (length n.switches + length o.switches + i) c.loop-i.pairs.items c.rank-rank.result c.loop-i.invariant
     (omega (arith, c.loop-i-test.true, c.link_count-i-end.ensures.count))))
 
 pub returns : goal.returns

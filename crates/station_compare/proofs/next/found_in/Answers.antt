@@ -1,5 +1,5 @@
 use Rattle.station_compare.proofs.TwinLemmas.{wide_bay}
-use Rattle.station_compare.proofs.compare.found_in.Goals as goal
+use Rattle.station_compare.proofs.next.found_in.Goals as goal
 
 pub returns-in-Err-Wide-clause-refusal : goal.returns-in-Err-Wide-clause-refusal
 returns-in-Err-Wide-clause-refusal c =
