@@ -16,6 +16,7 @@ use Rattle.dependence_search.proofs.LoneLemmas.{IsLone, lone_of, lone_released, 
 use Rattle.dependence_search.specs.Turning.{IsTurning}
 use Rattle.commissioning_tests.specs.declared.values.TestPosition.{TestPosition}
 use Rattle.commissioning_tests.specs.Answering.{IsPosition, ArePositions}
+use Rattle.commissioning_tests.specs.Standing.{IsMoved}
 use Rattle.commissioning_tests.specs.Covering.{TurnIsShown, RuleIsShown}
 use Rattle.commissioning_tests.specs.Growing.{IsAdded, Grows, AreMore, IsCovered}
 use Rattle.commissioning_tests.proofs.MoveLemmas.{still, new_last}
@@ -46,17 +47,18 @@ pub more_then : (d : Diagram) (ops : List Op) (ps qs rs : List TestPosition) →
     AreMore d ops qs rs → AreMore d ops ps rs
 more_then d ops ps qs rs one two = record { are = two.are; grows = λ i p at. two.grows i p (one.grows i p at) }
 
-pub covered_grows : (d : Diagram) (ops : List Op) (ps qs : List TestPosition) (k : ℕ) → Grows ps qs →
-    IsCovered d ops ps k → IsCovered d ops qs k
-covered_grows d ops ps qs k grows c = record {
+pub covered_grows : (d : Diagram) (ops : List Op) (stands : List ℕ) (ps qs : List TestPosition) (k : ℕ) → Grows ps qs →
+    IsCovered d ops stands ps k → IsCovered d ops stands qs k
+covered_grows d ops stands ps qs k grows c = record {
   answers = c.answers;
-  turns = λ s op at dep. turn_grows ps qs k s grows (c.turns s op at dep);
+  turns = λ s op at here dep. turn_grows ps qs k s grows (c.turns s op at here dep);
   rules = λ rule v op at vector breaks. rule_grows ps qs k rule grows (c.rules rule v op at vector breaks);
 }
 
 -- ---- one more position
 
-module _ (d : Diagram) (ops : List Op) (ps qs : List TestPosition) (v : List Bool) (a : IsAdded d ops ps qs v) where
+module _ (d : Diagram) (ops : List Op) (stands : List ℕ) (ps qs : List TestPosition) (v : List Bool)
+    (a : IsAdded d ops stands ps qs v) where
   grown : Grows ps qs
   grown i p at = subst (λ (l : List TestPosition). slice_get l i ≡ Some p) (sym a.added) (still ps (a.position ∷ []) i p at)
 
@@ -74,9 +76,9 @@ module _ (d : Diagram) (ops : List Op) (ps qs : List TestPosition) (v : List Boo
   here_at = subst (λ (l : List TestPosition). slice_get l (length ps) ≡ Some a.position) (sym a.added)
       (new_last ps a.position)
 
-  pub added_turn : (k s : ℕ) (op : Op) → slice_get ops k ≡ Some op → s < length d.switches → IsTurning d op s v →
-      TurnIsShown qs k s
-  added_turn k s op at lt t = elim (a.shows k s op at lt t) [
+  pub added_turn : (k s : ℕ) (op : Op) → slice_get ops k ≡ Some op → s < length d.switches →
+      IsMoved stands s → IsTurning d op s v → TurnIsShown qs k s
+  added_turn k s op at lt here t = elim (a.shows k s op at lt here t) [
     | inl shown ↦ turn_grows ps qs k s grown shown
     | inr among ↦ record { place = length ps; position = a.position; at = here_at; turn = among }
   ]
@@ -114,9 +116,9 @@ module _ (d : Diagram) (ops : List Op) (ss ts : List Step) (j : AreJointSteps d 
   no_turns k op rule v w at (inl t) = lone_unbroken d op (lone k op at) (are k op at) w rule t.1
   no_turns k op rule v w at (inr t) = lone_unbroken d op (lone k op at) (are k op at) v rule t.0
 
-  pub lone_covered : (ps : List TestPosition) (k : ℕ) → IsCovered d ops ps k
-  lone_covered ps k = record {
+  pub lone_covered : (stands : List ℕ) (ps : List TestPosition) (k : ℕ) → IsCovered d ops stands ps k
+  lone_covered stands ps k = record {
     answers = λ op at v vector. (None, lone_released d op (lone k op at) (are k op at) v);
-    turns = λ s op at dep. absurd (no_turns k op dep.rule dep.v dep.w at dep.turns);
+    turns = λ s op at here dep. absurd (no_turns k op dep.rule dep.v dep.w at dep.turns);
     rules = λ rule v op at vector breaks. absurd (lone_unbroken d op (lone k op at) (are k op at) v rule breaks);
   }

@@ -2,5 +2,8 @@ mod ListLemmas
 mod AnswerLemmas
 mod ShownLemmas
 mod MoveLemmas
+mod StandLemmas
 mod CoverLemmas
+mod DependedLemmas
+mod WalkLemmas
 mod ListedLemmas

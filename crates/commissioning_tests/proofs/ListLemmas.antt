@@ -1,5 +1,5 @@
 -- Lists, in order.
-use Rattle.std.proofs.Common.{◌≡◌, ℕ, ◌+◌, ◌*◌, ◌<◌, zero, suc, List, [], ◌∷◌, ◌++◌, length, slice_get, Some, refl, ap, ◌∙◌}
+use Rattle.std.proofs.Common.{◌≡◌, ℕ, ◌+◌, ◌*◌, ◌<◌, ◌≤◌, zero, suc, List, [], ◌∷◌, ◌++◌, length, slice_get, Some, refl, ap, ◌∙◌}
 use Rattle.std.proofs.Common.{inl, inr, arith}
 use Rattle.std.proofs.lemmas.Option.{same_Some}
 use Rattle.ilk_base.specs.declared.words.Op.{Op}
@@ -76,6 +76,17 @@ closing_at first (suc n) (suc i) lt =
     ∙ (closing_at (suc first) n i (omega (arith, lt)) ∙ ap (λ k. Some (closing k)) number)
 
 -- the operations are of these switches
+pub operations_from_first : (first n k : ℕ) (op : Op) → slice_get (operations_from first n) k ≡ Some op →
+    first ≤ op.switch.0
+operations_from_first first zero k op at = cc
+operations_from_first first (suc n) zero op at =
+    let is : first ≡ op.switch.0 = ap (λ (x : Op). x.switch.0) (same_Some (opening first) op at) in
+    omega (arith, is)
+operations_from_first first (suc n) (suc zero) op at =
+    let is : first ≡ op.switch.0 = ap (λ (x : Op). x.switch.0) (same_Some (closing first) op at) in
+    omega (arith, is)
+operations_from_first first (suc n) (suc (suc k)) op at = omega (arith, operations_from_first (suc first) n k op at)
+
 pub operations_in : (first n k : ℕ) (op : Op) → slice_get (operations_from first n) k ≡ Some op →
     op.switch.0 < first + n
 operations_in first zero k op at = cc

@@ -11,6 +11,7 @@ use Rattle.dependence_search.proofs.DependLemmas.{answers_turned}
 use Rattle.commissioning_tests.specs.declared.values.TestMove.{TestMove}
 use Rattle.commissioning_tests.specs.declared.values.TestPosition.{TestPosition}
 use Rattle.commissioning_tests.specs.Answering.{AreAnswers, TurnsAt, IsMove, AreRising}
+use Rattle.commissioning_tests.specs.Standing.{IsMoved}
 use Rattle.commissioning_tests.specs.Covering.{TurnIsAmong, TurnIsShown}
 use Rattle.commissioning_tests.specs.Growing.{AllIsShown, IsMoveOf, list_of, AreMovesOf}
 
@@ -49,13 +50,13 @@ append_none [] = refl
 append_none (x ∷ xs) = ap (λ l. x ∷ l) (append_none xs)
 
 -- the moves of the first n switches
-pub record MovesUpto (d : Diagram) (ops : List Op) (ps : List TestPosition) (v : List Bool) (answers : List (Option Rule))
-    (moves : List TestMove) (n : ℕ) : Type 0 where
+pub record MovesUpto (d : Diagram) (ops : List Op) (stands : List ℕ) (ps : List TestPosition) (v : List Bool)
+    (answers : List (Option Rule)) (moves : List TestMove) (n : ℕ) : Type 0 where
   pub each : (j : ℕ) (m : TestMove) → slice_get moves j ≡ Some m → IsMove d ops v answers m
   pub rising : AreRising moves
   pub below : (j : ℕ) (m : TestMove) → slice_get moves j ≡ Some m → m.switch.0 < n
-  pub shows : (k s : ℕ) (op : Op) → slice_get ops k ≡ Some op → s < n → IsTurning d op s v →
-      TurnIsShown ps k s ⊎ TurnIsAmong answers moves k s
+  pub shows : (k s : ℕ) (op : Op) → slice_get ops k ≡ Some op → s < n → IsMoved stands s →
+      IsTurning d op s v → TurnIsShown ps k s ⊎ TurnIsAmong answers moves k s
 
 cases : (a b : ℕ) → a < b + 1 → (a < b) ⊎ (a ≡ b)
 cases a b less = grind arith
@@ -70,23 +71,24 @@ among_still answers moves more k s t = record {
   turns = t.turns;
 }
 
-module _ (d : Diagram) (ops : List Op) (ps : List TestPosition) (v : List Bool) (answers : List (Option Rule))
-    (are : AreAnswers d ops v answers) where
-  none_then : (moves : List TestMove) (n : ℕ) → MovesUpto d ops ps v answers moves n → AllIsShown d ops ps v n →
-      MovesUpto d ops ps v answers moves (n + 1)
+module _ (d : Diagram) (ops : List Op) (stands : List ℕ) (ps : List TestPosition) (v : List Bool)
+    (answers : List (Option Rule)) (are : AreAnswers d ops v answers) where
+  none_then : (moves : List TestMove) (n : ℕ) → MovesUpto d ops stands ps v answers moves n →
+      (IsMoved stands n → AllIsShown d ops ps v n) → MovesUpto d ops stands ps v answers moves (n + 1)
   none_then moves n so all = record {
     each = so.each;
     rising = so.rising;
     below = λ j m at. omega (arith, so.below j m at);
-    shows = λ k s op at lt t. elim (cases s n lt) [
-      | inl less ↦ so.shows k s op at less t
+    shows = λ k s op at lt moved_here t. elim (cases s n lt) [
+      | inl less ↦ so.shows k s op at less moved_here t
       | inr equal ↦
-          inl (subst (λ x. TurnIsShown ps k x) (sym equal) (all k op at (subst (λ x. IsTurning d op x v) equal t)))
+          inl (subst (λ x. TurnIsShown ps k x) (sym equal) (all (subst (λ x. IsMoved stands x) equal moved_here) k op at
+          (subst (λ x. IsTurning d op x v) equal t)))
     ];
   }
 
-  one_then : (moves : List TestMove) (n : ℕ) (m : TestMove) → MovesUpto d ops ps v answers moves n → m.switch.0 ≡ n →
-      IsMove d ops v answers m → MovesUpto d ops ps v answers (moves ++ m ∷ []) (n + 1)
+  one_then : (moves : List TestMove) (n : ℕ) (m : TestMove) → MovesUpto d ops stands ps v answers moves n → m.switch.0 ≡ n →
+      IsMove d ops v answers m → MovesUpto d ops stands ps v answers (moves ++ m ∷ []) (n + 1)
   one_then moves n m so number is = record {
     each = λ j x at. elim (slice_get-push moves m x j at) [
       | inl before ↦ so.each j x before
@@ -107,8 +109,8 @@ module _ (d : Diagram) (ops : List Op) (ps : List TestPosition) (v : List Bool) 
       | inl before ↦ omega (arith, so.below j x before)
       | inr here ↦ omega (arith, number, ap (λ (z : TestMove). z.switch.0) here.1)
     ];
-    shows = λ k s op at lt t. elim (cases s n lt) [
-      | inl less ↦ elim (so.shows k s op at less t) [
+    shows = λ k s op at lt moved_here t. elim (cases s n lt) [
+      | inl less ↦ elim (so.shows k s op at less moved_here t) [
         | inl shown ↦ inl shown
         | inr among ↦ inr (among_still answers moves (m ∷ []) k s among)
       ]
@@ -124,17 +126,17 @@ module _ (d : Diagram) (ops : List Op) (ps : List TestPosition) (v : List Bool) 
     ];
   }
 
-  pub moves_more : (moves : List TestMove) (n : ℕ) (found : Option TestMove) → MovesUpto d ops ps v answers moves n →
-      IsMoveOf d ops ps v answers n found → MovesUpto d ops ps v answers (moves ++ list_of found) (n + 1)
+  pub moves_more : (moves : List TestMove) (n : ℕ) (found : Option TestMove) → MovesUpto d ops stands ps v answers moves n →
+      IsMoveOf d ops stands ps v answers n found → MovesUpto d ops stands ps v answers (moves ++ list_of found) (n + 1)
   moves_more moves n None so all =
-      subst (λ (l : List TestMove). MovesUpto d ops ps v answers l (n + 1)) (sym (append_none moves))
+      subst (λ (l : List TestMove). MovesUpto d ops stands ps v answers l (n + 1)) (sym (append_none moves))
       (none_then moves n so all)
   moves_more moves n (Some m) so is = one_then moves n m so is.0 is.1
 
-  pub moves_all : (moves : List TestMove) (n : ℕ) → MovesUpto d ops ps v answers moves n → length d.switches ≤ n →
-      AreMovesOf d ops ps v answers moves
+  pub moves_all : (moves : List TestMove) (n : ℕ) → MovesUpto d ops stands ps v answers moves n → length d.switches ≤ n →
+      AreMovesOf d ops stands ps v answers moves
   moves_all moves n so all = record {
     each = so.each;
     rising = so.rising;
-    shows = λ k s op at lt t. so.shows k s op at (omega (arith, lt, all)) t;
+    shows = λ k s op at lt moved_here t. so.shows k s op at (omega (arith, lt, all)) moved_here t;
   }

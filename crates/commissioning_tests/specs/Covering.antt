@@ -12,6 +12,7 @@ use Rattle.commissioning_tests.specs.declared.values.TestPosition.{TestPosition}
 use Rattle.commissioning_tests.specs.declared.values.BayTests.{BayTests}
 use Rattle.commissioning_tests.specs.Listed.{operations_from, AreThose}
 use Rattle.commissioning_tests.specs.Answering.{ArePositions, TurnsAt}
+use Rattle.commissioning_tests.specs.Standing.{StandsFor}
 
 -- One of the moves is of switch s and turns operation k, whose answers in the position are these.
 pub record TurnIsAmong (answers : List (Option Rule)) (moves : List TestMove) (k s : ℕ) : Type 0 where
@@ -47,8 +48,15 @@ pub record IsNeeded (d : Diagram) (ops : List Op) (first count s : ℕ) : Type 0
   pub at : slice_get ops place ≡ Some op
   pub depends : DependsOn d op s
 
+-- Moving switch s turns operation k in one of the positions, or moving one that stands for it does.
+pub record TurnIsShownFor (d : Diagram) (first count : ℕ) (positions : List TestPosition) (k s : ℕ) : Type 0 where
+  pub stand : ℕ
+  pub stands : StandsFor d first count s stand
+  pub shown : TurnIsShown positions k stand
+
 -- The tests of the switches from the first on, so many of them: each line is what the rules say; for each operation and
--- each switch on which it depends a move turns it; and for each rule that it can break a position shows it.
+-- each switch on which it depends a move turns it, of that switch or of one that stands for it; and for each rule that it
+-- can break a position shows it.
 pub record TestSwitches (d : Diagram) (first count : ℕ) (t : BayTests) : Type 0 where
   pub operations : t.operations.items ≡ operations_from first count
   pub always : AreThose (IsAlways d) t.operations.items t.always.items
@@ -56,7 +64,7 @@ pub record TestSwitches (d : Diagram) (first count : ℕ) (t : BayTests) : Type 
       (map (λ s. s.0) t.needs.items)
   pub positions : ArePositions d t.operations.items t.positions.items
   pub turns : (k s : ℕ) (op : Op) → slice_get t.operations.items k ≡ Some op → DependsOn d op s →
-      TurnIsShown t.positions.items k s
+      TurnIsShownFor d first count t.positions.items k s
   pub rules : (k : ℕ) (op : Op) (rule : Rule) (v : List Bool) → slice_get t.operations.items k ≡ Some op →
       IsVector d v → Breaks d v op (Some rule) → RuleIsShown t.positions.items k rule
 

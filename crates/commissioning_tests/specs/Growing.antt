@@ -14,7 +14,14 @@ use Rattle.dependence_search.specs.RuleWalks.{IsRuleWalk}
 use Rattle.commissioning_tests.specs.declared.values.TestMove.{TestMove}
 use Rattle.commissioning_tests.specs.declared.values.TestPosition.{TestPosition}
 use Rattle.commissioning_tests.specs.declared.walked.OperationWalk.{OperationWalk}
+use Rattle.decision_graphs.specs.Label.{Layered}
+use Rattle.decision_graphs.specs.Reaching.{IsSet}
+use Rattle.graph_walks.specs.Walks.{AreTwos, HasTwos}
+use Rattle.graph_walks.specs.declared.codes.Codes.{Codes}
+use Rattle.ilk_base.specs.declared.words.Direction.{Direction}
+use Rattle.dependence_search.specs.RuleWalks.{IsTurningChoice, rule_of}
 use Rattle.commissioning_tests.specs.Answering.{IsMove, AreRising, IsPosition, ArePositions}
+use Rattle.commissioning_tests.specs.Standing.{IsMoved}
 use Rattle.commissioning_tests.specs.Covering.{TurnIsAmong, TurnIsShown, RuleIsShown}
 
 -- The operations are ones of the station.
@@ -25,11 +32,11 @@ AreOperations d ops = (k : ℕ) (op : Op) → slice_get ops k ≡ Some op → Is
 abbrev pub AllIsShown : Diagram → List Op → List TestPosition → List Bool → ℕ → Type 0
 AllIsShown d ops ps v s = (k : ℕ) (op : Op) → slice_get ops k ≡ Some op → IsTurning d op s v → TurnIsShown ps k s
 
--- What is found of a switch: its move, where that shows what the positions do not.
-abbrev pub IsMoveOf : Diagram → List Op → List TestPosition → List Bool → List (Option Rule) → ℕ → Option TestMove →
-    Type 0
-IsMoveOf d ops ps v answers s found =
-    MatchOption found (AllIsShown d ops ps v s) (λ m. (m.switch.0 ≡ s) × IsMove d ops v answers m)
+-- What is found of a switch: its move, where the switch may be moved and that shows what the positions do not.
+abbrev pub IsMoveOf : Diagram → List Op → List ℕ → List TestPosition → List Bool → List (Option Rule) → ℕ →
+    Option TestMove → Type 0
+IsMoveOf d ops stands ps v answers s found =
+    MatchOption found (IsMoved stands s → AllIsShown d ops ps v s) (λ m. (m.switch.0 ≡ s) × IsMove d ops v answers m)
 
 -- The list of one, or of none.
 abbrev pub list_of : Option TestMove → List TestMove
@@ -37,21 +44,22 @@ list_of None = []
 list_of (Some m) = m ∷ []
 
 -- The moves from a vector, which show whatever the positions do not.
-pub record AreMovesOf (d : Diagram) (ops : List Op) (ps : List TestPosition) (v : List Bool) (answers : List (Option Rule))
-    (moves : List TestMove) : Type 0 where
+pub record AreMovesOf (d : Diagram) (ops : List Op) (stands : List ℕ) (ps : List TestPosition) (v : List Bool)
+    (answers : List (Option Rule)) (moves : List TestMove) : Type 0 where
   pub each : (j : ℕ) (m : TestMove) → slice_get moves j ≡ Some m → IsMove d ops v answers m
   pub rising : AreRising moves
-  pub shows : (k s : ℕ) (op : Op) → slice_get ops k ≡ Some op → s < length d.switches → IsTurning d op s v →
-      TurnIsShown ps k s ⊎ TurnIsAmong answers moves k s
+  pub shows : (k s : ℕ) (op : Op) → slice_get ops k ≡ Some op → s < length d.switches → IsMoved stands s →
+      IsTurning d op s v → TurnIsShown ps k s ⊎ TurnIsAmong answers moves k s
 
 -- One more position is added, that of this vector, which shows whatever the others do not.
-pub record IsAdded (d : Diagram) (ops : List Op) (ps qs : List TestPosition) (v : List Bool) : Type 0 where
+pub record IsAdded (d : Diagram) (ops : List Op) (stands : List ℕ) (ps qs : List TestPosition) (v : List Bool) :
+    Type 0 where
   pub position : TestPosition
   pub added : qs ≡ ps ++ position ∷ []
   pub is : IsPosition d ops position
   pub closed : position.closed.items ≡ v
-  pub shows : (k s : ℕ) (op : Op) → slice_get ops k ≡ Some op → s < length d.switches → IsTurning d op s v →
-      TurnIsShown ps k s ⊎ TurnIsAmong position.answers.items position.moves.items k s
+  pub shows : (k s : ℕ) (op : Op) → slice_get ops k ≡ Some op → s < length d.switches → IsMoved stands s →
+      IsTurning d op s v → TurnIsShown ps k s ⊎ TurnIsAmong position.answers.items position.moves.items k s
 
 -- The positions stay, and more may be added.
 abbrev pub Grows : List TestPosition → List TestPosition → Type 0
@@ -66,12 +74,32 @@ pub record AreMore (d : Diagram) (ops : List Op) (ps qs : List TestPosition) : T
 abbrev pub HasAnswers : Diagram → Op → Type 0
 HasAnswers d op = (v : List Bool) → IsVector d v → (answer : Option Rule) × Breaks d v op answer
 
--- Whatever turns operation k is shown, and each rule that it can break.
-pub record IsCovered (d : Diagram) (ops : List Op) (ps : List TestPosition) (k : ℕ) : Type 0 where
+-- Whatever turns operation k and is moved is shown, and each rule that it can break.
+pub record IsCovered (d : Diagram) (ops : List Op) (stands : List ℕ) (ps : List TestPosition) (k : ℕ) : Type 0 where
   pub answers : (op : Op) → slice_get ops k ≡ Some op → HasAnswers d op
-  pub turns : (s : ℕ) (op : Op) → slice_get ops k ≡ Some op → DependsOn d op s → TurnIsShown ps k s
+  pub turns : (s : ℕ) (op : Op) → slice_get ops k ≡ Some op → IsMoved stands s → DependsOn d op s → TurnIsShown ps k s
   pub rules : (rule : Rule) (v : List Bool) (op : Op) → slice_get ops k ≡ Some op → IsVector d v →
       Breaks d v op (Some rule) → RuleIsShown ps k rule
+
+-- The graph has two choices in each layer, and a label for each place of the list.
+pub record HasTwoChoices (walk : Layered) (codes : List Codes) : Type 0 where
+  pub choices : HasTwos (length walk.layers) walk
+  pub labels : walk.labels ≡ length codes
+
+-- One where the answer is none, else zero.
+abbrev pub name_for : Option Rule → ℕ
+name_for None = 1
+name_for (Some rule) = 0
+
+-- So for the answer that labels give to a move in this direction.
+abbrev pub released_name : Direction → Codes → ℕ
+released_name direction c = name_for (rule_of direction c)
+
+-- Each layer is marked in which some choices turn the release of a move in this direction.
+abbrev pub AreTurnedLayers : Layered → List Codes → Direction → List Bool → Type 0
+AreTurnedLayers walk codes direction layers =
+    (j : ℕ) (cs : List ℕ) → j < length walk.layers → AreTwos (length walk.layers) cs →
+    IsTurningChoice walk codes j direction cs → IsSet layers j
 
 -- The walk of an operation: that of its switch, whose step stands at the place.
 pub record IsOperationWalk (w : OperationWalk) : Type 0 where
@@ -84,5 +112,5 @@ pub record IsOperationWalk (w : OperationWalk) : Type 0 where
       w.walk.now.codes.items
 
 -- All of the first so many operations is shown.
-abbrev pub AreCovered : Diagram → List Op → List TestPosition → ℕ → Type 0
-AreCovered d ops ps n = (k : ℕ) → k < n → IsCovered d ops ps k
+abbrev pub AreCovered : Diagram → List Op → List ℕ → List TestPosition → ℕ → Type 0
+AreCovered d ops stands ps n = (k : ℕ) → k < n → IsCovered d ops stands ps k

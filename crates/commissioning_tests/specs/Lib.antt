@@ -1,4 +1,5 @@
 pub mod Listed
 pub mod Answering
+pub mod Standing
 pub mod Covering
 pub mod Growing

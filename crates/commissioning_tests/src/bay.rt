@@ -8,6 +8,7 @@ ghost use Rattle.commissioning_tests.specs.Listed.{operations_from};
 use crate::cover_bay::cover_switches;
 use crate::lists::{always_of, needs_of};
 use crate::operations::operations_of;
+use crate::stands::stands_of;
 use crate::values::{BayTests, TestPosition};
 use ilk_base::{BayId, Memory, Op, SwitchId};
 use judge_pool::Trouble;
@@ -21,6 +22,7 @@ fn positions_of(
     alloc: Global,
     station: &Station,
     operations: &[Op],
+    stands: &[u16],
     first: SwitchId,
     count: u16,
 ) -> Result<Vec<TestPosition>, Trouble>
@@ -28,13 +30,13 @@ fn positions_of(
     requires within { first.0 + count ≤ length station.now.switches }
     requires few { first.0 + count < 2 ^ 16 }
     ensures positions { IfOk result (λ ps. ArePositions station.now operations.now ps.items) }
-    ensures covered { IfOk result (λ ps. AreCovered station.now operations.now ps.items (length operations.now)) }
+    ensures covered { IfOk result (λ ps. AreCovered station.now operations.now stands.now ps.items (length operations.now)) }
 {
     let steps = joint_steps(alloc, station, station)?;
     if steps.old_steps.len() < 2 {
         return Ok(Vec::new(alloc));
     }
-    let positions = cover_switches(alloc, station, &steps, operations, first, count)?;
+    let positions = cover_switches(alloc, station, &steps, operations, stands, first, count)?;
     Ok(positions)
 }
 
@@ -50,9 +52,18 @@ fn tests_of(
     ensures { IfOk result (TestSwitches station.now first.0 count) }
 {
     let operations = operations_of(alloc, first, count)?;
-    let positions = positions_of(alloc, station, &operations, first, count)?;
-    let always = always_of(alloc, station, &operations, &positions)?;
-    let needs = needs_of(alloc, station, &operations, first, count, &positions)?;
+    let stands = stands_of(alloc, station, first, count)?;
+    let positions = positions_of(alloc, station, &operations, &stands, first, count)?;
+    let always = always_of(alloc, station, &operations, &stands, &positions)?;
+    let needs = needs_of(
+        alloc,
+        station,
+        &operations,
+        &stands,
+        first,
+        count,
+        &positions,
+    )?;
     Ok(BayTests {
         operations,
         always,
@@ -63,10 +74,12 @@ fn tests_of(
 
 /// The tests of a bay: for each of its operations and each switch on which its release depends a position and a move that
 /// turn it, for each rule that an operation can break a position in which it does, what the bay needs of other bays, and
-/// what is released in every position. They are exact: no line is idle, and none is left out. It is `Wide` where a graph
-/// of a switch, or a walk of them, has more than `judge_pool::BAY_EDGES` edges. Time: for each operation that some
-/// position denies and each switch on which it is not seen to depend already a walk of its graphs, and for each position
-/// the rules for each switch that may show more. Memory: a walk, and for each move the answers of the operations.
+/// what is released in every position. The move is of that switch or of one that stands for it: of other bays that are
+/// alike only the first has its switches moved, as far as that is seen in document order. No line is idle. It is `Wide`
+/// where a graph of a switch, or a walk of them, has more than `judge_pool::BAY_EDGES` edges. Time: the items, for each two
+/// bays that are not seen to be like earlier ones; a walk for each switch of the bay; a walk of that with itself for each
+/// turn that no position shows yet; and for each position the rules, for each moved switch that may show more. Memory: a
+/// walk, and for each move the answers of the operations.
 pub fn bay_tests(alloc: Global, station: &Station, bay: BayId) -> Result<BayTests, Trouble>
     ensures { IfOk result (AreTestsOf station.now bay.0) }
 {

@@ -9,6 +9,7 @@ ghost use Rattle.commissioning_tests.specs.Growing.{AreOperations, AreMore, AreC
 ghost use Rattle.commissioning_tests.specs.Listed.{opening, closing, operations_from};
 
 use crate::cover::cover_operation;
+use crate::paths::paths_of;
 use crate::values::TestPosition;
 use crate::walked::OperationWalk;
 use dependence_search::{RuleStocks, rule_stocks, rule_walk};
@@ -25,6 +26,7 @@ fn cover_both(
     station: &Station,
     steps: &JointSteps,
     operations: &[Op],
+    stands: &[u16],
     walk: &Walk,
     place: u16,
     switch: SwitchId,
@@ -40,25 +42,32 @@ fn cover_both(
     requires walk { IsRuleWalk station.now steps.now.old_steps.items place switch.0 walk.now.graph walk.now.codes.items }
     requires positions { ArePositions station.now operations.now positions.old.items }
     ensures more { OnOk result (AreMore station.now operations.now positions.old.items positions.new.items) }
-    ensures opening { OnOk result (IsCovered station.now operations.now positions.new.items number) }
-    ensures closing { OnOk result (IsCovered station.now operations.now positions.new.items (number + 1)) }
+    ensures opening { OnOk result (IsCovered station.now operations.now stands.now positions.new.items number) }
+    ensures closing { OnOk result (IsCovered station.now operations.now stands.now positions.new.items (number + 1)) }
 {
+    let paths = paths_of(alloc, walk)?;
     let open = OperationWalk {
         station,
         steps,
         operations,
+        stands,
         walk,
         place,
+        paths: &paths,
         number,
+        opening: number,
     };
     cover_operation(alloc, &open, positions)?;
     let close = OperationWalk {
         station,
         steps,
         operations,
+        stands,
         walk,
         place,
+        paths: &paths,
         number: number + 1,
+        opening: number,
     };
     cover_operation(alloc, &close, positions)?;
     Ok(())
@@ -71,6 +80,7 @@ fn cover_switch(
     station: &Station,
     steps: &JointSteps,
     operations: &[Op],
+    stands: &[u16],
     switch: SwitchId,
     number: usize,
     positions: &mut Vec<TestPosition>,
@@ -86,8 +96,8 @@ fn cover_switch(
     requires positions { ArePositions station.now operations.now positions.old.items }
     ensures stocks { OnOk result (AreRuleStocks station.now steps.now.old_steps.items stocks.new) }
     ensures more { OnOk result (AreMore station.now operations.now positions.old.items positions.new.items) }
-    ensures opening { OnOk result (IsCovered station.now operations.now positions.new.items number) }
-    ensures closing { OnOk result (IsCovered station.now operations.now positions.new.items (number + 1)) }
+    ensures opening { OnOk result (IsCovered station.now operations.now stands.now positions.new.items number) }
+    ensures closing { OnOk result (IsCovered station.now operations.now stands.now positions.new.items (number + 1)) }
 {
     let place = steps.old_places[usize::from(switch.0)];
     let walk = rule_walk(
@@ -100,7 +110,7 @@ fn cover_switch(
         BAY_EDGES,
     )?;
     cover_both(
-        alloc, station, steps, operations, &walk, place, switch, number, positions,
+        alloc, station, steps, operations, stands, &walk, place, switch, number, positions,
     )?;
     Ok(())
 }
@@ -111,6 +121,7 @@ pub(crate) fn cover_switches(
     station: &Station,
     steps: &JointSteps,
     operations: &[Op],
+    stands: &[u16],
     first: SwitchId,
     count: u16,
 ) -> Result<Vec<TestPosition>, Trouble>
@@ -120,7 +131,7 @@ pub(crate) fn cover_switches(
     requires within { first.0 + count ≤ length station.now.switches }
     requires few { first.0 + count < 2 ^ 16 }
     ensures positions { IfOk result (λ ps. ArePositions station.now operations.now ps.items) }
-    ensures covered { IfOk result (λ ps. AreCovered station.now operations.now ps.items (2 * count)) }
+    ensures covered { IfOk result (λ ps. AreCovered station.now operations.now stands.now ps.items (2 * count)) }
 {
     let mut stocks = rule_stocks(alloc, station, &steps.old_steps)?;
     let mut positions = Vec::new(alloc);
@@ -133,6 +144,7 @@ pub(crate) fn cover_switches(
             station,
             steps,
             operations,
+            stands,
             switch,
             number,
             &mut positions,

@@ -1,11 +1,12 @@
 //! What is always released, and what a bay needs.
-ghost use Rattle.std.specs.Prelude.{◌≡◌, ◌↔◌, ◌++◌, ◌∷◌, [], if◌then◌else◌, ℕ, ◌⊎◌, ◌+◌, ◌^◌, ◌<◌, ◌≤◌, IsTrue, IsFalse, length, map, IfOk, OnOk};
+ghost use Rattle.std.specs.Prelude.{◌≡◌, ◌↔◌, ◌++◌, ◌∷◌, [], if◌then◌else◌, ℕ, ◌⊎◌, ◌+◌, ◌^◌, ◌<◌, ◌≤◌, IsTrue, IsFalse, Some, length, map, slice_get, IfOk, OnOk};
 ghost use Rattle.std.specs.List.{range_with_len};
 ghost use Rattle.ilk_base.specs.declared.words.Rule.{Rule as Broken};
 ghost use Rattle.commissioning_tests.specs.Answering.{ArePositions};
 ghost use Rattle.commissioning_tests.specs.Covering.{TurnIsShown, RuleIsShown, IsAlways, IsNeeded};
 ghost use Rattle.commissioning_tests.specs.Growing.{AreCovered};
-ghost use Rattle.commissioning_tests.specs.Listed.{AreThose};
+ghost use Rattle.commissioning_tests.specs.Listed.{AreThose, operations_from};
+ghost use Rattle.commissioning_tests.specs.Standing.{AreStands};
 
 use crate::shown::{is_rule_shown, is_turn_shown};
 use crate::values::TestPosition;
@@ -37,13 +38,15 @@ pub(crate) fn always_of(
     alloc: Global,
     station: &Station,
     operations: &[Op],
+    stands: &[u16],
     positions: &[TestPosition],
 ) -> Result<Vec<Op>, Memory>
     requires positions { ArePositions station.now operations.now positions.now }
-    requires covered { AreCovered station.now operations.now positions.now (length operations.now) }
+    requires covered { AreCovered station.now operations.now stands.now positions.now (length operations.now) }
     ensures { IfOk result (λ v. AreThose (IsAlways station.now) operations.now v.items) }
 {
     let _ = station;
+    let _ = stands;
     let mut always = Vec::new(alloc);
     for k in 0..operations.len() {
         push_unless(&mut always, is_denied(positions, k), operations[k])?;
@@ -64,21 +67,31 @@ fn turns_some(positions: &[TestPosition], count: usize, switch: SwitchId) -> boo
     false
 }
 
-// Whether the switch is none of so many from the first on, and moving it turns one of the operations.
+// Whether the switch is none of so many from the first on, and moving the one that stands for it turns one of the
+// operations.
 fn is_needed(
     positions: &[TestPosition],
     operations: usize,
     first: SwitchId,
     count: u16,
     switch: SwitchId,
+    stand: SwitchId,
 ) -> bool
     requires { first.0 + count < 2 ^ 16 }
     ensures shown { IsTrue result → ((switch.0 < first.0) ⊎ (first.0 + count ≤ switch.0))
-        × ((k : ℕ) × TurnIsShown positions.now k switch.0) }
+        × ((k : ℕ) × TurnIsShown positions.now k stand.0) }
     ensures none { IsFalse result → ((switch.0 < first.0) ⊎ (first.0 + count ≤ switch.0)) → (k : ℕ) → k < operations
-        → ¬ TurnIsShown positions.now k switch.0 }
+        → ¬ TurnIsShown positions.now k stand.0 }
 {
-    (switch.0 < first.0 || first.0 + count <= switch.0) && turns_some(positions, operations, switch)
+    (switch.0 < first.0 || first.0 + count <= switch.0) && turns_some(positions, operations, stand)
+}
+
+// What stands for a switch.
+fn stand_of(stands: &[u16], s: u16) -> SwitchId
+    requires { s < length stands.now }
+    ensures { slice_get stands.now s ≡ Some result.0 }
+{
+    SwitchId(stands[usize::from(s)])
 }
 
 // Appends the switch, if it is needed.
@@ -96,20 +109,24 @@ pub(crate) fn needs_of(
     alloc: Global,
     station: &Station,
     operations: &[Op],
+    stands: &[u16],
     first: SwitchId,
     count: u16,
     positions: &[TestPosition],
 ) -> Result<Vec<SwitchId>, Memory>
     requires few { first.0 + count < 2 ^ 16 }
+    requires operations { operations.now ≡ operations_from first.0 count }
+    requires stands { AreStands station.now first.0 count stands.now }
     requires positions { ArePositions station.now operations.now positions.now }
-    requires covered { AreCovered station.now operations.now positions.now (length operations.now) }
+    requires covered { AreCovered station.now operations.now stands.now positions.now (length operations.now) }
     ensures { IfOk result (λ v. AreThose (IsNeeded station.now operations.now first.0 count)
         (range_with_len 0 (length station.now.switches)) (map (λ s. s.0) v.items)) }
 {
     let mut needs = Vec::new(alloc);
     for s in 0..station.switch_count() {
         let switch = SwitchId(s);
-        let needed = is_needed(positions, operations.len(), first, count, switch);
+        let stand = stand_of(stands, s);
+        let needed = is_needed(positions, operations.len(), first, count, switch, stand);
         push_switch(&mut needs, needed, switch)?;
     }
     Ok(needs)

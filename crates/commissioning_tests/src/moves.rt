@@ -7,6 +7,7 @@ ghost use Rattle.commissioning_tests.specs.Growing.{AreOperations, IsMoveOf, lis
 
 use crate::answers::{answers_in, turns_at, vector_of};
 use crate::shown::is_turn_shown;
+use crate::stands::is_moved;
 use crate::values::{TestMove, TestPosition};
 use ilk_base::{Memory, Op, Rule, SwitchId};
 use station_graph::{Station, Vector};
@@ -56,11 +57,12 @@ fn all_shown(positions: &[TestPosition], count: usize, switch: SwitchId) -> bool
     true
 }
 
-// The move of a switch, where it shows what the positions do not.
+// The move of a switch, where the switch is moved and that shows what the positions do not.
 fn move_of(
     alloc: Global,
     station: &Station,
     operations: &[Op],
+    stands: &[u16],
     positions: &[TestPosition],
     vector: &Vector,
     answers: &[Option<Rule>],
@@ -70,8 +72,11 @@ fn move_of(
     requires vector { IsVector station.now vector.now }
     requires answers { AreAnswers station.now operations.now vector.now answers.now }
     requires switch { switch.0 < length station.now.switches }
-    ensures { IfOk result (IsMoveOf station.now operations.now positions.now vector.now answers.now switch.0) }
+    ensures { IfOk result (IsMoveOf station.now operations.now stands.now positions.now vector.now answers.now switch.0) }
 {
+    if !is_moved(stands, switch.0) {
+        return Ok(None);
+    }
     if all_shown(positions, operations.len(), switch) {
         return Ok(None);
     }
@@ -102,6 +107,7 @@ fn moves_of(
     alloc: Global,
     station: &Station,
     operations: &[Op],
+    stands: &[u16],
     positions: &[TestPosition],
     vector: &Vector,
     answers: &[Option<Rule>],
@@ -109,7 +115,7 @@ fn moves_of(
     requires operations { AreOperations station.now operations.now }
     requires vector { IsVector station.now vector.now }
     requires answers { AreAnswers station.now operations.now vector.now answers.now }
-    ensures { IfOk result (λ m. AreMovesOf station.now operations.now positions.now vector.now answers.now m.items) }
+    ensures { IfOk result (λ m. AreMovesOf station.now operations.now stands.now positions.now vector.now answers.now m.items) }
 {
     let mut moves = Vec::new(alloc);
     for s in 0..station.switch_count() {
@@ -117,6 +123,7 @@ fn moves_of(
             alloc,
             station,
             operations,
+            stands,
             positions,
             vector,
             answers,
@@ -132,6 +139,7 @@ fn position_of(
     alloc: Global,
     station: &Station,
     operations: &[Op],
+    stands: &[u16],
     positions: &[TestPosition],
     closed: Vec<bool>,
 ) -> Result<TestPosition, Memory>
@@ -139,12 +147,14 @@ fn position_of(
     requires vector { IsVector station.now closed.items }
     ensures position { IfOk result (IsPosition station.now operations.now) }
     ensures closed { IfOk result (λ p. p.closed.items ≡ closed.items) }
-    ensures moves { IfOk result (λ p. AreMovesOf station.now operations.now positions.now p.closed.items p.answers.items
+    ensures moves { IfOk result (λ p. AreMovesOf station.now operations.now stands.now positions.now p.closed.items p.answers.items
         p.moves.items) }
 {
     let vector = vector_of(alloc, station, &closed)?;
     let answers = answers_in(alloc, station, operations, &vector)?;
-    let moves = moves_of(alloc, station, operations, positions, &vector, &answers)?;
+    let moves = moves_of(
+        alloc, station, operations, stands, positions, &vector, &answers,
+    )?;
     Ok(TestPosition {
         closed,
         answers,
@@ -157,14 +167,15 @@ pub(crate) fn add_position(
     alloc: Global,
     station: &Station,
     operations: &[Op],
+    stands: &[u16],
     positions: &mut Vec<TestPosition>,
     closed: Vec<bool>,
 ) -> Result<(), Memory>
     requires operations { AreOperations station.now operations.now }
     requires vector { IsVector station.now closed.items }
-    ensures { OnOk result (IsAdded station.now operations.now positions.old.items positions.new.items closed.items) }
+    ensures { OnOk result (IsAdded station.now operations.now stands.now positions.old.items positions.new.items closed.items) }
 {
-    let position = position_of(alloc, station, operations, positions, closed)?;
+    let position = position_of(alloc, station, operations, stands, positions, closed)?;
     positions.push(position)?;
     Ok(())
 }

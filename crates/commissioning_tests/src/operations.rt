@@ -1,7 +1,9 @@
 //! The operations of a bay.
-ghost use Rattle.std.specs.Prelude.{◌≡◌, ◌+◌, ◌<◌, ◌^◌, IfOk};
+ghost use Rattle.std.specs.Prelude.{◌≡◌, ◌+◌, ◌<◌, ◌^◌, Some, slice_get, IfOk};
+ghost use Rattle.commissioning_tests.specs.Growing.{IsOperationWalk};
 ghost use Rattle.commissioning_tests.specs.Listed.{operations_from};
 
+use crate::walked::OperationWalk;
 use ilk_base::{Direction, Memory, Op, SwitchId};
 use std::alloc::Global;
 
@@ -24,4 +26,12 @@ pub(crate) fn operations_of(alloc: Global, first: SwitchId, count: u16) -> Resul
         operations.push(operation(switch, Direction::ToOn))?;
     }
     Ok(operations)
+}
+
+// The operation of a walk.
+pub(crate) fn operation_of(walked: &OperationWalk<'_>) -> Op
+    requires { IsOperationWalk walked.now }
+    ensures { slice_get walked.now.operations.now walked.now.number ≡ Some result }
+{
+    walked.operations[walked.number]
 }

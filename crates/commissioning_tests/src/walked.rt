@@ -1,4 +1,5 @@
 //! The walk of an operation.
+use crate::paths::Paths;
 use graph_walks::Walk;
 use ilk_base::Op;
 use station_graph::Station;
@@ -12,9 +13,14 @@ pub(crate) struct OperationWalk<'a> {
     pub(crate) steps: &'a JointSteps,
     // the operations of the bay
     pub(crate) operations: &'a [Op],
+    // which switch stands for each
+    pub(crate) stands: &'a [u16],
     // the walk of the moved switch, and the place of its step
     pub(crate) walk: &'a Walk,
     pub(crate) place: u16,
-    // which of the operations it is
+    // its edges
+    pub(crate) paths: &'a Paths,
+    // which of the operations it is, and which opens the switch; the next to that closes it
     pub(crate) number: usize,
+    pub(crate) opening: usize,
 }

@@ -1,6 +1,7 @@
 //! Bays that are like each other.
 use bay_exchanges::{BayExchange, exchange_of, exchanged_vector, stands_for};
 use ilk_base::BayId;
+use like_bays::are_like;
 use station_graph::Station;
 use station_joints::joint_steps_of_bay;
 use std::alloc::Global;
@@ -45,6 +46,24 @@ fn are_exchanged(alloc: Global, station: &Station) -> bool {
 fn like_feeders_are_exchanged(rt: HostRuntime) -> Result<(), Fail> {
     let station = built(rt.alloc(), Example::TwoFeeders)?;
     assert!(rt; are_exchanged(rt.alloc(), &station));
+    Ok(())
+}
+
+// Whether the two feeders are like, by the exchange of their switches, and the busbar is like none of them.
+fn are_told_like(alloc: Global, station: &Station) -> bool {
+    let exchanged = match like_bays::exchange_of(alloc, station, BayId(1), BayId(2)) {
+        Ok(Some(table)) => table.as_slice() == SWITCHES,
+        _ => false,
+    };
+    exchanged
+        && matches!(are_like(alloc, station, BayId(1), BayId(2)), Ok(true))
+        && matches!(are_like(alloc, station, BayId(0), BayId(1)), Ok(false))
+}
+
+#[test]
+fn like_feeders_are_told(rt: HostRuntime) -> Result<(), Fail> {
+    let station = built(rt.alloc(), Example::TwoFeeders)?;
+    assert!(rt; are_told_like(rt.alloc(), &station));
     Ok(())
 }
 

@@ -68,19 +68,20 @@ fn plans(rt: HostRuntime) -> Result<(), Fail> {
 }
 
 // The line with an earthing switch and an infeed at one node. With the infeed on, closing the earthing switch breaks R1;
-// then closing the earthing switch makes the infeed's closing break R2, and opening the infeed releases the earthing
-// switch. That closing the infeed breaks R2 is shown where the earthing switch is closed.
+// with the earthing switch closed, closing the infeed breaks R2. From the position in which both are open the move of
+// either turns the closing of the other, so that two more positions, without moves, show the rules.
 const TESTS: &str = "bay S/V1/Q1
 always open S/V1/Q1/QC9
 always open S/V1/Q1/E1
 position 1
-with S/V1/Q1/E1
-denied R1 close S/V1/Q1/QC9
 closed S/V1/Q1/QC9
 denied R2 close S/V1/Q1/E1
-opened S/V1/Q1/E1
-released close S/V1/Q1/QC9
+closed S/V1/Q1/E1
+denied R1 close S/V1/Q1/QC9
 position 2
+with S/V1/Q1/E1
+denied R1 close S/V1/Q1/QC9
+position 3
 with S/V1/Q1/QC9
 denied R2 close S/V1/Q1/E1
 ";

@@ -13,7 +13,7 @@ returns-then-len-lt2-clause-covered c k lt =
       operations_in c.args.first.0 c.args.count k op
           (ap (λ (l : List Op). slice_get l k) (sym c.requires.operations) ∙ at),
       c.requires.within,
-    )) c.new.result.items k
+    )) c.args.stands.now c.new.result.items k
 
 pub returns-clause-covered : goal.returns-clause-covered
 returns-clause-covered c k lt =

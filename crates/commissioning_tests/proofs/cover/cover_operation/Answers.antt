@@ -2,7 +2,7 @@ use Rattle.std.proofs.Common.{subst}
 use Rattle.std.proofs.lemmas.Option.{slice_get_within}
 use Rattle.ilk_base.specs.declared.words.Op.{Op}
 use Rattle.dependence_search.specs.RuleWalks.{IsRuleWalk}
-use Rattle.commissioning_tests.proofs.CoverLemmas.{rule_grows, same_op}
+use Rattle.commissioning_tests.proofs.CoverLemmas.{turn_grows, same_op}
 use Rattle.commissioning_tests.proofs.cover.cover_operation.Goals as goal
 
 pub returns-clause-covered : goal.returns-clause-covered
@@ -18,9 +18,8 @@ returns-clause-covered c =
           c.args.walked.now.steps.now.old_steps.items c.args.walked.now.place x.switch.0
           c.args.walked.now.walk.now.graph c.args.walked.now.walk.now.codes.items)
           (same_op c.args.walked.now.operations.now c.args.walked.now.number w.op op w.at at) w.walk) vector;
-      turns = c.in_ok-cover_turns.ensures.shown;
-      rules = λ rule v op at vector breaks.
-          rule_grows c.cover_rules.new.positions.items c.cover_turns.new.positions.items c.args.walked.now.number rule
-          c.in_ok-cover_turns.ensures.more.grows
-          (c.in_ok-cover_rules.ensures.shown rule v op at vector breaks);
+      turns = λ s op at here dep.
+          turn_grows c.cover_turns.new.positions.items c.cover_rules.new.positions.items c.args.walked.now.number s
+          c.in_ok-cover_rules.ensures.more.grows (c.in_ok-cover_turns.ensures.shown s op at here dep);
+      rules = c.in_ok-cover_rules.ensures.shown;
     }

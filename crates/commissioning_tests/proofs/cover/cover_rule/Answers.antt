@@ -8,14 +8,14 @@ use Rattle.commissioning_tests.proofs.cover.cover_rule.Goals as goal
 
 pub returns-in_ok-add_position-in-Some-clause-more : goal.returns-in_ok-add_position-in-Some-clause-more
 returns-in_ok-add_position-in-Some-clause-more c =
-    added_more c.args.walked.now.station.now c.args.walked.now.operations.now c.args.positions.now.items
+    added_more c.args.walked.now.station.now c.args.walked.now.operations.now c.args.walked.now.stands.now c.args.positions.now.items
     c.add_position.new.positions.items c.in-Some.closed.items c.in_ok-add_position-in-Some.ensures
     c.requires.positions
 
 pub returns-in_ok-add_position-in-Some-clause-shown : goal.returns-in_ok-add_position-in-Some-clause-shown
 returns-in_ok-add_position-in-Some-clause-shown c v op at vector breaks =
     let found = rw c.in-Some.is at c.in_ok-found.ensures in
-    added_rule c.args.walked.now.station.now c.args.walked.now.operations.now c.args.positions.now.items
+    added_rule c.args.walked.now.station.now c.args.walked.now.operations.now c.args.walked.now.stands.now c.args.positions.now.items
     c.add_position.new.positions.items c.in-Some.closed.items c.in_ok-add_position-in-Some.ensures
     c.args.walked.now.number c.args.rule op at
     (subst (λ (x : Op). Breaks c.args.walked.now.station.now c.in-Some.closed.items x (Some c.args.rule))

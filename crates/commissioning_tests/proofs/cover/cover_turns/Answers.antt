@@ -1,33 +1,41 @@
-use Rattle.std.proofs.Common.{◌≡◌, ◌⊎◌, ◌+◌, ◌<◌, ℕ, subst, sym, inl, inr, arith}
+use Rattle.std.proofs.Common.{◌≡◌, ◌⊎◌, ◌+◌, ◌<◌, ℕ, Bool, List, subst, sym, inl, inr, arith}
 use Rattle.release_dependence.specs.Depends.{DependsOn}
+use Rattle.commissioning_tests.specs.Standing.{IsMoved}
 use Rattle.commissioning_tests.specs.Covering.{TurnIsShown}
+use Rattle.commissioning_tests.specs.Growing.{AreTurnedLayers}
 use Rattle.commissioning_tests.proofs.CoverLemmas.{more_then, turn_grows, depends_within}
 use Rattle.commissioning_tests.proofs.cover.cover_turns.Goals as goal
 
 cases : (a b : ℕ) → a < b + 1 → (a < b) ⊎ (a ≡ b)
 cases a b less = grind arith
 
+pub cover_turn-requires-clause-layers : goal.cover_turn-requires-clause-layers
+cover_turn-requires-clause-layers c op at =
+    subst (λ (l : List Bool). AreTurnedLayers c.args.walked.now.walk.now.graph c.args.walked.now.walk.now.codes.items
+    op.direction l) (sym c.deref.ensures.value) (c.in_ok-layers.ensures op at)
+
 pub loop-s-preserved : goal.loop-s-preserved
 loop-s-preserved c = (
   more_then c.args.walked.now.station.now c.args.walked.now.operations.now c.args.positions.now.items
       c.loop-s.positions.items c.cover_turn.new.positions.items c.loop-s.invariant.0 c.in_ok-cover_turn.ensures.more,
-  λ s op lt at dep. elim (cases s c.loop-s.s lt) [
+  λ s op lt at here dep. elim (cases s c.loop-s.s lt) [
     | inl less ↦
         turn_grows c.loop-s.positions.items c.cover_turn.new.positions.items c.args.walked.now.number s
-        c.in_ok-cover_turn.ensures.more.grows (c.loop-s.invariant.1 s op less at dep)
+        c.in_ok-cover_turn.ensures.more.grows (c.loop-s.invariant.1 s op less at here dep)
     | inr equal ↦
         subst (λ (k : ℕ). TurnIsShown c.cover_turn.new.positions.items c.args.walked.now.number k) (sym equal)
         (c.in_ok-cover_turn.ensures.shown op at
+        (subst (λ (k : ℕ). IsMoved c.args.walked.now.stands.now k) equal here)
         (subst (λ (k : ℕ). DependsOn c.args.walked.now.station.now op k) equal dep))
   ],
 )
 
 pub returns-clause-shown : goal.returns-clause-shown
-returns-clause-shown c s op at dep =
+returns-clause-shown c s op at here dep =
     c.loop-s.invariant.1 s op
     (omega (
       arith,
       depends_within c.args.walked.now.station.now op s dep,
       c.loop-s-test.false,
       c.switch_count-s-end.ensures,
-    )) at dep
+    )) at here dep

@@ -48,14 +48,14 @@ loop-i-preserved c = (
   c.in_ok-cover_switch.ensures.more.are,
   λ k lt. elim (cases k c.loop-i.i lt) [
     | inl less ↦
-        covered_grows c.args.station.now c.args.operations.now c.loop-i.positions.items
+        covered_grows c.args.station.now c.args.operations.now c.args.stands.now c.loop-i.positions.items
         c.cover_switch.new.positions.items k c.in_ok-cover_switch.ensures.more.grows (c.loop-i.invariant.2 k less)
     | inr next ↦ elim next [
       | inl even ↦
-          subst (λ (x : ℕ). IsCovered c.args.station.now c.args.operations.now c.cover_switch.new.positions.items x)
+          subst (λ (x : ℕ). IsCovered c.args.station.now c.args.operations.now c.args.stands.now c.cover_switch.new.positions.items x)
           (ap (λ (x : ℕ). 2 * x) c.from-number.ensures ∙ sym even) c.in_ok-cover_switch.ensures.opening
       | inr odd ↦
-          subst (λ (x : ℕ). IsCovered c.args.station.now c.args.operations.now c.cover_switch.new.positions.items x)
+          subst (λ (x : ℕ). IsCovered c.args.station.now c.args.operations.now c.args.stands.now c.cover_switch.new.positions.items x)
           (ap (λ (x : ℕ). 2 * x + 1) c.from-number.ensures ∙ sym odd) c.in_ok-cover_switch.ensures.closing
     ]
   ],

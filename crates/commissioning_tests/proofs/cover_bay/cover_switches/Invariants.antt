@@ -7,4 +7,4 @@ use Rattle.commissioning_tests.proofs.cover_bay.cover_switches.Given as goal
 abbrev pub invariant-loop-i : goal.invariant-loop-i
 invariant-loop-i l =
     AreRuleStocks l.station l.steps.old_steps.items l.stocks × ArePositions l.station l.operations l.positions.items
-    × AreCovered l.station l.operations l.positions.items (2 * l.i)
+    × AreCovered l.station l.operations l.stands l.positions.items (2 * l.i)

@@ -10,9 +10,9 @@ returns c = record {
   added = c.in_ok-push.ensures.items;
   is = c.in_ok-position.ensures.position;
   closed = c.in_ok-position.ensures.closed;
-  shows = λ k s op at lt t.
+  shows = λ k s op at lt here t.
       subst (λ (ps : List TestPosition). TurnIsShown ps k s ⊎ TurnIsAmong c.in_ok-position.position.answers.items
       c.in_ok-position.position.moves.items k s) c.deref.ensures.value
-      (c.in_ok-position.ensures.moves.shows k s op at lt
+      (c.in_ok-position.ensures.moves.shows k s op at lt here
       (subst (λ (v : List Bool). IsTurning c.args.station.now op s v) (sym c.in_ok-position.ensures.closed) t));
 }

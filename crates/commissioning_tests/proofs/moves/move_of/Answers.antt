@@ -11,7 +11,7 @@ is_moved : (v w : List Bool) (s : ℕ) (x : Bool) → slice_get v s ≡ Some x �
 is_moved v w s x at is = is ∙ ap (λ y. slice_set v s (not y)) (sym (get_or_from_slice_get v s x _ at))
 
 pub returns-then-all_shown : goal.returns-then-all_shown
-returns-then-all_shown c k op at t =
+returns-then-all_shown c _ k op at t =
     c.if-all_shown.ensures refl k (omega (arith, slice_get_within c.args.operations.now k op at))
 
 pub returns-then-shows_more : goal.returns-then-shows_more
@@ -32,7 +32,7 @@ returns-then-shows_more c =
     )
 
 pub returns : goal.returns
-returns c k op at t =
+returns c _ k op at t =
     let other = is_moved c.args.vector.now c.in_ok-other.other c.args.switch.0 c.closed.result c.closed.ensures
     c.in_ok-other.ensures in
     let are = subst (λ (w : List Bool). AreAnswers c.args.station.now c.args.operations.now w

@@ -1,0 +1,125 @@
+//! The edges of a walk, laid out so that many lists of choices are followed fast. What is found by them is a guess: the
+//! rules themselves say what each position shows.
+ghost use Rattle.std.specs.Prelude.{◌<◌, length};
+ghost use Rattle.decision_graphs.specs.Label.{layer_at};
+
+use change_search::answer;
+use decision_graphs::Graph;
+use graph_walks::{Codes, Walk};
+use ilk_base::{Direction, Memory};
+use std::alloc::Global;
+
+// Which operations of a switch are released.
+#[derive(Clone, Copy, PartialEq, Eq)]
+pub(crate) struct Released {
+    pub(crate) open: bool,
+    pub(crate) close: bool,
+}
+
+// The edges of a walk.
+#[derive(Drop)]
+pub(crate) struct Paths {
+    // how many layers there are
+    layers: u16,
+    // where the choices lead from each node: to a node, or from the last layer to a label
+    opened: Vec<u32>,
+    closed: Vec<u32>,
+    // what each label says
+    labels: Vec<Released>,
+}
+
+// Where a choice at a node of a layer leads.
+fn target(graph: &Graph, layer: u16, node: u32, choice: u32) -> u32
+    requires layer { layer < length graph.now.layers }
+    requires node { node < length (layer_at graph.now.layers layer).rows }
+    requires choice { choice < (layer_at graph.now.layers layer).choices }
+{
+    let _layers = graph.layers();
+    let (first, _) = graph.nodes(layer);
+    graph.edge(first + node, choice)
+}
+
+// Appends where a choice leads from each node of a layer.
+fn push_layer(graph: &Graph, layer: u16, choice: u32, targets: &mut Vec<u32>) -> Result<(), Memory>
+    requires layer { layer < length graph.now.layers }
+    requires choice { choice < (layer_at graph.now.layers layer).choices }
+{
+    let (_, count) = graph.nodes(layer);
+    for node in 0..count {
+        targets.push(target(graph, layer, node, choice))?;
+    }
+    Ok(())
+}
+
+// Where a choice leads from each node.
+fn targets(alloc: Global, graph: &Graph, choice: u32) -> Result<Vec<u32>, Memory> {
+    let mut targets = Vec::new(alloc);
+    for layer in 0..graph.layers() {
+        if choice < graph.choices(layer) {
+            push_layer(graph, layer, choice, &mut targets)?;
+        }
+    }
+    Ok(targets)
+}
+
+// What the labels say.
+fn told_by(codes: Codes) -> Released {
+    Released {
+        open: answer(Direction::ToOff, codes.first, codes.third).is_none(),
+        close: answer(Direction::ToOn, codes.first, codes.third).is_none(),
+    }
+}
+
+// What each label says.
+fn all_released(alloc: Global, codes: &[Codes]) -> Result<Vec<Released>, Memory> {
+    let mut labels = Vec::new(alloc);
+    for t in 0..codes.len() {
+        labels.push(told_by(codes[t]))?;
+    }
+    Ok(labels)
+}
+
+// The edges of a walk.
+pub(crate) fn paths_of(alloc: Global, walk: &Walk) -> Result<Paths, Memory> {
+    Ok(Paths {
+        layers: walk.graph.layers(),
+        opened: targets(alloc, &walk.graph, 0)?,
+        closed: targets(alloc, &walk.graph, 1)?,
+        labels: all_released(alloc, &walk.codes)?,
+    })
+}
+
+// The number at a place, 0 where there is none.
+fn number_at(numbers: &[u32], place: usize) -> u32 {
+    if place < numbers.len() {
+        numbers[place]
+    } else {
+        0
+    }
+}
+
+impl Paths {
+    // How many layers there are.
+    pub(crate) fn layers(&self) -> u16 {
+        self.layers
+    }
+
+    // Where a node leads: to a node, or from the last layer to a label.
+    pub(crate) fn next(&self, node: u32, closed: bool) -> u32 {
+        let targets = if closed { &self.closed } else { &self.opened };
+        number_at(targets, node as usize)
+    }
+
+    // What a label says.
+    pub(crate) fn told(&self, label: u32) -> Released {
+        let label = label as usize;
+        if label < self.labels.len() {
+            self.labels[label]
+        } else {
+            Released {
+                open: true,
+                close: true,
+            }
+        }
+    }
+}
