@@ -31,10 +31,13 @@ GATE = TOP / "crates/test_run_calls/stdout"
 IN_GATE = ["work", "2"]
 # The drawing of the orders in examples/orders.
 ORDERED = "double_busbar.ssd"
+# The text of `program` that is stored.
+WRITTEN = "double_busbar.st"
 # Further answers: a command's words, and the file that holds its text.
 OTHERS = [
     (["replay", "two_feeders.ssd", "two_feeders.log"], "two_feeders.report"),
     (["audit", "double_busbar.ssd", "double_busbar.equations"], "double_busbar.audit"),
+    (["program", "double_busbar.ssd"], WRITTEN),
 ]
 
 
@@ -87,6 +90,15 @@ def example_differences(name, answer, store):
         yield f"{name}: the program does not say what examples/{name}.txt says"
 
 
+def other_differences(answers, store):
+    for (_, name), text in zip(OTHERS, answers):
+        stored = HERE / name
+        if store and name == WRITTEN:
+            stored.write_text(text)
+        if not stored.exists() or stored.read_text() != text:
+            yield f"{name}: the program does not say what examples/{name} says"
+
+
 def main(words):
     if words not in ([], ["--store"]):
         sys.exit(__doc__)
@@ -108,11 +120,7 @@ def main(words):
         for order, text in zip(orders, answers[len(names):])
         if order.with_suffix(".txt").read_text() != text
     ]
-    found += [
-        f"{stored}: the program does not say what examples/{stored} says"
-        for (_, stored), text in zip(OTHERS, answers[len(names) + len(orders):])
-        if (HERE / stored).read_text() != text
-    ]
+    found += other_differences(answers[len(names) + len(orders):], words == ["--store"])
     found += [
         f"{drawing.name}: {line}"
         for drawing, text in zip(drawings, looks)

@@ -18,3 +18,4 @@ pub mod WithinLemmas
 pub mod RisingLemmas
 pub mod SortLemmas
 pub mod ReorderedLemmas
+pub mod UnblockedLemmas

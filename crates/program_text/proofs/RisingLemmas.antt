@@ -8,7 +8,7 @@ use Rattle.structured_text.specs.Reads.{FormulaReads}
 use Rattle.structured_text.specs.Order.{IsInput}
 use Rattle.structured_text.proofs.OrderLemmas.{reads_more}
 use Rattle.program_text.proofs.ReadLemmas.{reads_from}
-use Rattle.program_text.specs.declared.section_keys.TheConstants.{LAST}
+use Rattle.program_text.specs.declared.section_order.TheConstants.{LAST}
 use Rattle.program_text.specs.declared.section_keys.Keys.{Keys}
 use Rattle.program_text.specs.ReadNames.{formula_names}
 use Rattle.program_text.specs.Sections.{key_in, section_at, AreKeysSmall, RisesTo, KeysRise}

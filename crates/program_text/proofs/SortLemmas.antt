@@ -10,7 +10,7 @@ use Rattle.structured_text.specs.Reads.{FormulaReads}
 use Rattle.structured_text.specs.Order.{IsInput, IsSetIn, IsSetBefore, AreInOrder}
 use Rattle.structured_text.proofs.OrderLemmas.{reads_both, none_in_order, set_left, set_last, last_set, one_more_in_order}
 use Rattle.interlock_terms.proofs.TermLemmas.{push_cases}
-use Rattle.program_text.specs.declared.section_keys.TheConstants.{LAST}
+use Rattle.program_text.specs.declared.section_order.TheConstants.{LAST}
 use Rattle.program_text.specs.Sections.{section_at, AreKeysSmall, RisesTo, KeysRise, AreSortedTo, AreReordered}
 
 nothing : (k : ℕ) (y : Line) → slice_get [] k ≡ Some y → ⊥

@@ -6,3 +6,4 @@ pub mod Interlocking
 pub mod ReadNames
 pub mod Sections
 pub mod ProgramText
+pub mod Unblocked

@@ -5,7 +5,7 @@ use Rattle.structured_text.specs.declared.name.Name.TheVariants.{Off, On, May, S
 use Rattle.structured_text.specs.declared.line.Line.{Line}
 use Rattle.structured_text.specs.Reads.{FormulaReads}
 use Rattle.structured_text.specs.Order.{IsInput, IsSetIn, AreInOrder, AreAmong}
-use Rattle.program_text.specs.declared.section_keys.TheConstants.{LAST}
+use Rattle.program_text.specs.declared.section_order.TheConstants.{LAST}
 use Rattle.program_text.specs.declared.section_keys.Keys.{Keys}
 
 -- The section behind which a variable can be read.

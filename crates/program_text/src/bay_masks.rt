@@ -1,9 +1,9 @@
 //! On which bays the lines depend, and for the releases of which bays they are.
 ghost use Rattle.std.specs.Prelude.{◌≤◌, ◌<◌, IfSome};
-ghost use Rattle.program_text.specs.declared.section_keys.TheConstants.{LAST};
+ghost use Rattle.program_text.specs.declared.section_order.TheConstants.{LAST};
 
 use crate::read_names::names_of;
-use crate::section_keys::{BETWEEN, FIRST_RELEASES, LAST};
+use crate::section_order::{BETWEEN, FIRST_RELEASES, LAST};
 use ilk_base::{BayId, Memory, SwitchId};
 use station_graph::Station;
 use std::alloc::Global;

@@ -13,9 +13,11 @@ mod reading;
 mod reads;
 mod release;
 mod section_keys;
+mod section_order;
 mod sections;
 mod term_lines;
 mod text;
+mod unblocked;
 
 pub use program::{Program, interlocking};
 pub use text::program_text;

@@ -2,21 +2,16 @@
 ghost use Rattle.std.specs.Prelude.{◌≡◌, ◌≤◌, ◌<◌, ℕ, length, slice_get, slice_index_or, Some, IfOk, OnOk};
 ghost use Rattle.structured_text.specs.declared.name.Name.{Name as OfName};
 ghost use Rattle.structured_text.specs.Order.{IsInput};
+ghost use Rattle.program_text.specs.declared.section_order.TheConstants.{LAST};
 ghost use Rattle.program_text.specs.Sections.{key_in, section_at, IsSmall, AreSmall, AreKeysSmall, KeysRise};
 
 use crate::bay_masks::sections_of;
 use crate::read_names::names_of;
+use crate::section_order::LAST;
 use ilk_base::Memory;
 use station_graph::Station;
 use std::alloc::Global;
 use structured_text::{Line, Name};
-
-/// The section between those of the signals of bays, which come first, and those of their releases.
-pub(crate) const BETWEEN: usize = 64;
-/// The section of the releases of the first bay.
-pub(crate) const FIRST_RELEASES: usize = 65;
-/// The last section.
-pub(crate) const LAST: usize = 128;
 
 /// The section of the line of each formula, as far as it is known.
 #[derive(Drop)]

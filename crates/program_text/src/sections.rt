@@ -3,10 +3,10 @@ ghost use Rattle.std.specs.Prelude.{◌≡◌, ◌≤◌, ◌<◌, ◌+◌, leng
 ghost use Rattle.station_graph.specs.Diagram.{part_count};
 ghost use Rattle.structured_text.specs.Order.{IsInput, AreInOrder};
 ghost use Rattle.structured_text.specs.Within.{HeadingWithin, LinesWithin};
-ghost use Rattle.program_text.specs.declared.section_keys.TheConstants.{LAST};
+ghost use Rattle.program_text.specs.declared.section_order.TheConstants.{LAST};
 ghost use Rattle.program_text.specs.Sections.{section_at, AreKeysSmall, KeysRise, AreSortedTo, AreReordered};
 
-use crate::section_keys::{BETWEEN, FIRST_RELEASES, LAST};
+use crate::section_order::{BETWEEN, FIRST_RELEASES, LAST};
 use ilk_base::{BayId, Memory};
 use station_graph::Station;
 use std::alloc::Global;

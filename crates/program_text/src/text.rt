@@ -1,6 +1,7 @@
 //! The text of an interlocking.
 ghost use Rattle.std.specs.Prelude.{◌≡◌, ◌++◌, length, codes, OnOk, IfOk, IsTrue};
 ghost use Rattle.structured_text.specs.Order.{IsInput, AreInOrder};
+ghost use Rattle.structured_text.specs.Within.{LinesWithin};
 ghost use Rattle.program_blocks.specs.Standing.{BlocksWithin, StepsWithin, AreNamesWithin, StandFor};
 ghost use Rattle.program_text.specs.ProgramText.{inputs_text, outputs_text, contacts_text, wiring_text};
 ghost use Rattle.program_text.specs.ProgramText.{whole_text, IsProgramText};
@@ -8,6 +9,7 @@ ghost use Rattle.program_text.specs.ProgramText.{whole_text, IsProgramText};
 use crate::block_text::{write_blocks, write_instances, write_steps};
 use crate::forming::{Counts, Formed, form};
 use crate::program::{interlocking, lines_by_bays};
+use crate::unblocked::without_blocks;
 use ilk_base::{Memory, SwitchId, Text};
 use program_blocks::stand_for;
 use station_graph::Station;
@@ -21,7 +23,7 @@ const HEAD: &[u8] =
     \x20                           10 off, 01 on; 00 and 11 say nothing. Its path stands where they are declared.\n\
     \x20  m..  what holds where each switch that is not known to be off is closed: coupled, joined, live, earthed, tapped\n\
     \x20  c..  what holds where each switch that is not known to be on is open: bonded\n\
-    \x20  Each bay has two blocks: what it is to the other bays, and its releases. Bays that are alike share them, in the\n\
+    \x20  Each block is of one bay: what it is to the other bays, or its releases. Bays that are alike share them, in the\n\
     \x20  names of the first of these bays. The program calls them in order; the m.. and c.. that it gives to a block are\n\
     \x20  what the bay must be told by others.\n\
     \x20  An input that does not come counts as FALSE. The releases hold at one moment: two controllers that both see one\n\
@@ -92,14 +94,15 @@ fn write_whole(text: &mut Text, station: &Station, formed: &Formed) -> Result<()
     Ok(())
 }
 
-// The lines as a program of blocks. One that does not stand for the lines, which is not expected, is answered as want
-// of memory.
+// The lines as a program: one of blocks where what was formed is found to stand for them, and else one without blocks.
 fn formed_of(
     alloc: Global,
     station: &Station,
     lines: &[Line],
     counts: Counts,
 ) -> Result<Formed, Memory>
+    requires order { AreInOrder IsInput lines.now }
+    requires within { LinesWithin station.now lines.now }
     ensures { IfOk result (λ f. StandFor station.now lines.now f.blocks.items f.steps.items f.variables.items) }
 {
     let formed = form(alloc, station, lines, counts)?;
@@ -111,7 +114,11 @@ fn formed_of(
         &formed.steps,
         &formed.variables,
     )?;
-    if stands { Ok(formed) } else { Err(Memory) }
+    if stands {
+        Ok(formed)
+    } else {
+        without_blocks(alloc, station, lines)
+    }
 }
 
 /// The interlocking of a station as structured text (IEC 61131-3): function blocks of assignments of AND, OR and NOT

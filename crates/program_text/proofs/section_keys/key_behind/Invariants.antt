@@ -1,6 +1,6 @@
 use Rattle.std.proofs.Common.{◌≡◌, ◌<◌, ◌≤◌, ℕ, slice_get, Some}
 use Rattle.structured_text.specs.declared.name.Name.{Name}
-use Rattle.program_text.specs.declared.section_keys.TheConstants.{LAST}
+use Rattle.program_text.specs.declared.section_order.TheConstants.{LAST}
 use Rattle.program_text.specs.Sections.{key_in}
 use Rattle.program_text.proofs.section_keys.key_behind.Given as goal
 
