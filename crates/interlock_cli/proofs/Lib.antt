@@ -13,3 +13,5 @@ pub mod Naming
 pub mod Storing
 pub mod StoredNaming
 mod Comparing
+pub mod Reports
+pub mod DrawnPaths

@@ -3,6 +3,7 @@ ghost use Rattle.std.specs.Prelude.{◌≡◌, ◌⊎◌, ◌∷◌, ℕ, List, 
 ghost use Rattle.station_graph.specs.Diagram.{Diagram};
 ghost use Rattle.bay_contract.specs.Alphabets.{AreAlphabets};
 ghost use Rattle.release_compile.specs.Judging.{KeepsLimits};
+ghost use Rattle.log_replay.specs.Telling.{PathsAreLines};
 ghost use Rattle.interlock_cli.specs.Formats.{Drawing};
 ghost use Rattle.interlock_cli.specs.Files.{files, Reads};
 ghost use Rattle.interlock_cli.specs.Form.{Form, Take, File, Gives, FormStops};
@@ -33,6 +34,7 @@ pub(crate) trait Answer {
     ) -> Result<Output, End>
         requires same { judge.now.diagram ≡ station.now }
         requires alphabets { AreAlphabets judge.now.diagram judge.now.alphabets }
+        requires lines { PathsAreLines station.now }
         ensures ok { IfOk result (Gives (rest self.now station.now) (F.held shelf.old)) }
         ensures err { IfErr result (FormStops (rest self.now station.now) (F.held shelf.old) (F.faults shelf.old)
             (F.faults shelf.new)) }
@@ -49,6 +51,7 @@ pub(crate) fn answer_station<A: Answer, F: Shelf>(
     command: &A,
     shelf: &mut F,
 ) -> Result<Output, End>
+    requires { PathsAreLines station }
     ensures ok { IfOk result (λ output. KeepsLimits station × Gives (A.rest command.now station) (F.held shelf.old)
         output) }
     ensures err { IfErr result (λ end. BuildFails station end ⊎ (KeepsLimits station

@@ -2,13 +2,14 @@
 ghost use Rattle.std.specs.Prelude.{◌≡◌, All, IfOk};
 ghost use Rattle.bay_contract.specs.Alphabets.{AreAlphabets};
 ghost use Rattle.log_replay.specs.Records.{MayBeTold};
+ghost use Rattle.log_replay.specs.Telling.{PathsAreLines};
 ghost use Rattle.interlock_cli.specs.ReplayWrites.{replay_outcome, ReplayWrites};
 
 use crate::answer::Answer;
 use crate::content::load;
 use crate::end::{End, Outcome, Output};
 use ilk_base::{Memory, Shelf};
-use log_replay::Log;
+use log_replay::{Log, text_decides_report};
 use release_compile::GraphJudge;
 use reservation_core::Which;
 use station_graph::Station;
@@ -37,8 +38,11 @@ fn replay_output(
     requires same { judge.now.diagram ≡ station.now }
     requires alphabets { AreAlphabets judge.now.diagram judge.now.alphabets }
     requires log { All (MayBeTold station.now) log.now }
+    requires lines { PathsAreLines station.now }
     ensures { IfOk result (λ o. ReplayWrites station.now log.now o.outcome o.text) }
 {
+    // Its clause is used; it does nothing.
+    text_decides_report(station);
     let report = log_replay::replay(alloc, station, log, judge)?;
     let text = report.text(alloc, station)?;
     Ok(Output {

@@ -72,6 +72,7 @@ fn answer_want<E: Sink>(err: &mut E) -> Status
 /// (`untouched`). For these (`stored`) it says of each end its cause: a fault only where a count rose;
 /// refusal 12 exactly where the device's record is none from which the bay goes on; which lines were answered and what
 /// `out` took; and for which record an image stands that a crash leaves, at any moment of the call and at its return.
+/// To all bays of the station a stop inside a put is a restart (`logs_with_stops_are_logs` of `stopped_puts`).
 /// The device is called at most three times, and six times more for each line. `stored_complete` says that a call that
 /// is told all, that is refused nothing and in which no count rose answers the whole input, or wants memory.
 pub fn run_stored<F: Shelf, I: Source, O: Sink, E: Sink, D: Device>(

@@ -1,6 +1,7 @@
 //! The command `trips`.
 ghost use Rattle.std.specs.Prelude.{◌≡◌, All, IfOk};
 ghost use Rattle.bay_contract.specs.Alphabets.{AreAlphabets};
+ghost use Rattle.log_replay.specs.Telling.{PathsAreLines};
 ghost use Rattle.trip_replay.specs.TripRecords.{TripMayBeTold};
 ghost use Rattle.interlock_cli.specs.TripsWrites.{TripsWrites};
 
@@ -9,6 +10,7 @@ use crate::content::load;
 use crate::end::{End, Output};
 use crate::replay_command::ended;
 use ilk_base::{Memory, Shelf};
+use log_replay::text_decides_report;
 use release_compile::GraphJudge;
 use station_graph::Station;
 use std::alloc::Global;
@@ -24,8 +26,11 @@ fn trips_output(
     requires same { judge.now.diagram ≡ station.now }
     requires alphabets { AreAlphabets judge.now.diagram judge.now.alphabets }
     requires log { All (TripMayBeTold station.now) log.now }
+    requires lines { PathsAreLines station.now }
     ensures { IfOk result (λ o. TripsWrites station.now log.now o.outcome o.text) }
 {
+    // Its clause is used; it does nothing.
+    text_decides_report(station);
     let report = replay_trips(alloc, station, log, judge)?;
     let text = report.text(alloc, station)?;
     Ok(Output {

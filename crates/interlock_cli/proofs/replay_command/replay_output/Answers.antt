@@ -1,19 +1,31 @@
-use Rattle.std.proofs.Common.{ap, ◌∙◌}
+use Rattle.std.proofs.Common.{ap, subst, [], ◌∙◌, length}
+use Rattle.reservation_core.specs.LogLines.{start_of, lines_of}
+use Rattle.reservation_core.specs.Headline.{Headline}
+use Rattle.log_replay.specs.Replay.{Replayed}
 use Rattle.interlock_cli.specs.ReplayWrites.{replay_outcome}
+use Rattle.interlock_cli.proofs.Reports.{read_out}
 use Rattle.interlock_cli.proofs.replay_command.replay_output.Goals as goal
 
 pub returns : goal.returns
 returns c =
-    let report = c.in_ok-report in (
-      report.report,
-      record {
+    let report = c.in_ok-report in
+    let d = c.args.station.now in
+    let log = c.args.log.now in
+    let ends = c.ended.ensures ∙ ap replay_outcome c.premise.ensures in
+    record {
+      report = report.report;
+      replays = record {
         judging = c.args.judge.now;
         of_station = c.requires.same;
         alphabets = c.requires.alphabets;
         replay = report.ensures.replay;
         count = report.ensures.count;
+        whole = report.ensures.whole;
         headline = report.ensures.headline;
-      },
-      c.ended.ensures ∙ ap replay_outcome c.premise.ensures,
-      c.in_ok-text.ensures,
-    )
+      };
+      ends = ends;
+      text_is = c.in_ok-text.ensures;
+      headline = λ t is. subst (λ (x : Replayed). Headline d (start_of d log) (lines_of log x.out []))
+          (read_out d (length log) _ _ report.report t c.requires.lines c.text_decides_report.ensures
+          report.ensures.whole ends c.in_ok-text.ensures is) report.ensures.headline;
+    }

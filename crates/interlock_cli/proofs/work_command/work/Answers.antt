@@ -4,6 +4,7 @@ use Rattle.station_make.specs.DrawingText.{station_text}
 use Rattle.station_make.specs.EventsText.{events_text}
 use Rattle.station_make.specs.PositionsText.{positions_text}
 use Rattle.interlock_cli.specs.Formats.{Drawing}
+use Rattle.interlock_cli.proofs.DrawnPaths.{paths_are_lines}
 use Rattle.interlock_cli.proofs.Later.{word_fails}
 use Rattle.interlock_cli.proofs.Passing.{passed}
 use Rattle.interlock_cli.proofs.Resting.{made_gives, made_stops}
@@ -17,6 +18,10 @@ returns-in_err-station-clause-err g c =
     (inl (word_fails (g.F.Shelf.held c.args.shelf.now) (g.F.Shelf.faults c.args.shelf.now)
     (g.F.Shelf.faults c.args.shelf.now) Drawing (station_text c.args.feeders.number) end
     (rw (c.bytes.ensures, c.in_ok-made.ensures.station) at c.in_err-station.ensures.err)))
+
+pub answer_station-requires : goal.answer_station-requires
+answer_station-requires g c =
+    paths_are_lines c.bytes.result.now c.in_ok-station.station c.in_ok-station.ensures.ok
 
 pub returns-clause-ok : goal.returns-clause-ok
 returns-clause-ok g c =

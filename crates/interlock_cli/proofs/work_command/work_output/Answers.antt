@@ -12,6 +12,7 @@ returns c =
         alphabets = c.requires.alphabets;
         replay = report.ensures.replay;
         count = report.ensures.count;
+        whole = report.ensures.whole;
         headline = report.ensures.headline;
       },
       c.ended.ensures ∙ ap replay_outcome c.premise.ensures,
