@@ -1,9 +1,9 @@
 //! The program as one call.
-ghost use Rattle.std.specs.Prelude.{◌≡◌, ◌⊎◌, map, string_bytes, None};
-ghost use Rattle.interlock_cli.specs.Commands.{command_of};
-ghost use Rattle.interlock_cli.specs.StoredWords.{stored_of};
+ghost use Rattle.std.specs.Prelude.{◌≡◌, map, string_bytes};
+ghost use Rattle.node_session.specs.SessionEnds.{streams};
+ghost use Rattle.program_edge.specs.Says.{SaysWords};
 
-use ilk_base::{FileShelf, StdIn, StdOut, write_all};
+use ilk_base::{FileShelf, Sink, Source, StdIn, StdOut, write_all};
 use interlock_cli::{Status, run_stored};
 use node_store::{FileDevice, OwnFile};
 use std::alloc::{AllocError, Global};
@@ -13,7 +13,7 @@ use std::process::ExitCode;
 use std::rt::{Env, Files};
 
 // Says that there was not enough memory.
-fn wants_memory<E: Write>(err: &mut StdOut<E>) -> Status
+fn wants_memory<E: Sink>(err: &mut E) -> Status
     ensures { result ≡ Status.Memory }
 {
     let _ = write_all(err, b"interlock: out of memory\n");
@@ -21,40 +21,34 @@ fn wants_memory<E: Write>(err: &mut StdOut<E>) -> Status
 }
 
 /// Does what the words say over the files that the runtime reaches, as `run_stored` does. The device of a stored
-/// session is the file that the fourth word names; for other words no device is asked.
-pub fn run_words<R: Files, I: Read + Drop, O: Write + Drop, E: Write + Drop>(
+/// session is the file that the fourth word names; for other words no device is asked. Of these words the contract says
+/// what `run` says of a call whose files tell nothing of what they hold: the status is that of an end which has its
+/// cause for some contents of the files, over these streams; words that name a command, or a stored session, are never
+/// Usage.
+pub fn run_words<R: Files, I: Source, O: Sink, E: Sink>(
     alloc: Global,
     words: &[String],
     rt: &R,
-    input: I,
-    out: O,
-    err: E,
+    input: &mut I,
+    out: &mut O,
+    err: &mut E,
 ) -> Status
 where
     R::File: OwnFile,
-    ensures { stored_of (map string_bytes words.now) ≡ None → command_of (map string_bytes words.now) ≡ None
-        → (result ≡ Status.Usage) ⊎ (result ≡ Status.Memory) }
+    ensures { SaysWords result (map string_bytes words.now)
+        (streams (I.left input.old) (I.left_before input.old) (I.faults input.old) (O.took out.old) (O.faults out.old))
+        (streams (I.left input.new) (I.left_before input.new) (I.faults input.new) (O.took out.new) (O.faults out.new))
+        (E.took err.old) (E.took err.new) (E.faults err.old) (E.faults err.new) }
 {
     let mut shelf = FileShelf::new(alloc, rt);
-    let mut input = StdIn::new(input);
-    let mut out = StdOut::new(out);
-    let mut err = StdOut::new(err);
     let name = match words.get(3) {
         Some(name) => name.as_str(),
         None => "",
     };
     let Ok(mut device) = FileDevice::new(alloc, rt, name) else {
-        return wants_memory(&mut err);
+        return wants_memory(err);
     };
-    run_stored(
-        alloc,
-        words,
-        &mut shelf,
-        &mut input,
-        &mut out,
-        &mut err,
-        &mut device,
-    )
+    run_stored(alloc, words, &mut shelf, input, out, err, &mut device)
 }
 
 // The words of the command line, without the program's name.
@@ -80,12 +74,13 @@ where
     R::File: OwnFile,
 {
     let alloc = rt.alloc();
+    let mut input = StdIn::new(input);
+    let mut out = StdOut::new(out);
+    let mut err = StdOut::new(err);
     let status = match words_of(rt) {
-        Ok(words) => run_words(alloc, &words, rt, input, out, err),
-        Err(error) if error.kind() == ErrorKind::OutOfMemory => {
-            wants_memory(&mut StdOut::new(err))
-        }
-        Err(_) => run_words(alloc, &[], rt, input, out, err),
+        Ok(words) => run_words(alloc, &words, rt, &mut input, &mut out, &mut err),
+        Err(error) if error.kind() == ErrorKind::OutOfMemory => wants_memory(&mut err),
+        Err(_) => run_words(alloc, &[], rt, &mut input, &mut out, &mut err),
     };
     ExitCode::from(status as u8)
 }

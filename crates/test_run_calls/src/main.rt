@@ -1,6 +1,7 @@
 //! Calls of the program over files that are there: what each writes, and how it ends.
 #![tactic(auto)]
 
+use ilk_base::{StdIn, StdOut};
 use program_edge::run_words;
 use std::alloc::Global;
 use std::fs;
@@ -76,8 +77,10 @@ fn words_of(alloc: Global, line: &str) -> Result<Vec<String>> {
 fn make_call(rt: &HostRuntime, call: &Call) -> Result<()> {
     let alloc = rt.alloc();
     let words = words_of(alloc, call.words)?;
-    let input = call.input.as_bytes();
-    let status = run_words(alloc, &words, rt, input, rt.stdout(), rt.stdout());
+    let mut input = StdIn::new(call.input.as_bytes());
+    let mut out = StdOut::new(rt.stdout());
+    let mut err = StdOut::new(rt.stdout());
+    let status = run_words(alloc, &words, rt, &mut input, &mut out, &mut err);
     println!(rt; "status {}", status as u8)
 }
 
