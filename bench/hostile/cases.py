@@ -75,15 +75,19 @@ FORMS = {
     "trips": Form(2, "station log", "station log log log", {0, 5, 6, 7}),
     "audit": Form(2, "station equations", "station equations equations equations", {0, 1, 5, 6}),
     "node": Form(3, "station bay", "station node node node node bay", {0, 2, 5, 6}),
-    "stored": Form(2, "station bay kept", "station kept kept kept lines lines lines lines bay", {0, 2, 3, 5, 6}),
+    "stored": Form(2, "station bay kept", "station kept kept kept lines lines lines lines bay", {0, 2, 4, 5, 6}),
     "plan": Form(1, "station", "station", {0, 5}),
     "compile": Form(1, "station", "station", {0, 5}),
+    "station": Form(2, "station", "station", {0, 1, 5}),
+    "program": Form(1, "station", "station", {0, 5}),
+    "compare": Form(1, "old station", "station station old", {0, 1, 5}),
+    "tests": Form(1, "old bay", "old old old bay", {0, 2, 5, 6}),
     "make": Form(1, "number text", "number number text", {0, 2}),
     "work": Form(1, "number", "number", {0, 2}),
 }
 # The parts that an example has; those that are files, named by a word; and those that are the input of a command.
-OF_EXAMPLES = {"station", "positions", "known", "order", "log", "equations", "node", "lines"}
-FILES = {"station", "positions", "known", "order", "log", "equations", "kept"}
+OF_EXAMPLES = {"station", "positions", "known", "order", "log", "equations", "node", "lines", "old"}
+FILES = {"station", "positions", "known", "order", "log", "equations", "kept", "old"}
 INPUTS = {"node": "node", "stored": "lines"}
 
 
@@ -108,7 +112,7 @@ def stock():
     fitting = [block for block in equations.split(b"\n\n") if b"QB2" not in block and b"K0" not in block]
     parts["two_feeders"] = {"station": read("two_feeders.ssd"), "positions": known, "known": known, "log": log}
     parts["two_feeders"] |= {"order": order.replace(b"Q1", b"Q2"), "equations": b"\n\n".join(fitting)}
-    parts["two_feeders"] |= {"node": NODE, "lines": LINES}
+    parts["two_feeders"] |= {"node": NODE, "lines": LINES, "old": parts["two_feeders"]["station"]}
     return parts
 
 

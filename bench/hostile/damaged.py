@@ -11,7 +11,7 @@ number or a mark that means something is put in, the end is cut off), and runs a
   on standard error and nothing more, and with nothing on standard output where a file is refused.
 - Status 2 must come exactly where the words are those of no command.
 - A run of `stored` must end and write as `node` does that goes on from the record of its file. The file that it leaves
-  must stand for the record that this `node` kept last. Status 3 must come exactly where the file is too short.
+  must stand for the record that this `node` kept last. Status 4 must come exactly where the file has not 64 bytes.
 
 What was seen is counted, with the time of the processor. A run that does not end so is kept in a folder that is named;
 its part, of at most 500 runs, ends there, and the status is 1. The same seed makes the same runs, whatever the count of
@@ -39,7 +39,7 @@ SECONDS, PART = 60, 500
 # The line of each status on standard error.
 STATION = rb"([1-9]|1[0134]) at \d+|12 at \d+ count \d+|15 limit \d+ count \d+|16 part \d+ step \d+|17 bay \d+"
 LINE = {
-    0: rb"", 1: rb"", 2: rb"interlock: usage\n", 3: rb"interlock: read fault\n",
+    0: rb"", 1: rb"", 2: rb"interlock: usage\n", 4: rb"interlock: write fault\n",
     5: rb"interlock: station refused (" + STATION + rb")\n",
     6: rb"interlock: input refused ([1-9]|1[0-4]) line \d+\n",
     7: rb"interlock: premise [1-7] line \d+\n",
@@ -72,7 +72,7 @@ def fault(one, done):
         return f"status {status}"
     if not re.fullmatch(LINE[status], done.err):
         return f"status {status}, and on standard error {done.err!r}"
-    if out and (status in (2, 3, 5) or (status == 6 and one.command not in ("node", "stored"))):
+    if out and (status in (2, 4, 5) or (status == 6 and one.command not in ("node", "stored"))):
         return f"status {status}, and on standard output {out[:200]!r}"
     if out and not out.endswith(b"\n"):
         return f"status {status}, and the last line is cut: {out[-200:]!r}"
@@ -96,8 +96,8 @@ def wanted_of_stored(runs, one):
     refused = re.fullmatch(rb"interlock: input refused 10 line (\d+)\n", node.err)
     if node.status != 0 and not refused:
         return node.status, node.err, b"", None
-    if len(image) < SIZE:
-        return 3, b"interlock: read fault\n", b"", None
+    if len(image) != SIZE:
+        return 4, b"interlock: write fault\n", b"", None
     if newest_sequence(image) > LAST_SEQUENCE or (refused and int(refused[1]) == 1):
         return 6, b"interlock: input refused 12 line 0\n", b"", None
     lines = node.out.splitlines(keepends=True)

@@ -1,0 +1,190 @@
+#!/usr/bin/env python3
+"""What inputs cost that were made with intent: time and memory, at a quarter, a half and the whole of a size.
+
+    bench/hostile/costs.py [PROGRAM]
+
+Build the program first: ./interlock --prove. Each case is run once, with at most 8 GiB and 20 minutes, and must end with
+the status that is written beside it. No run may take more than 10 s of a processor or 1,024 MiB; where a figure by the
+size of the input stands beside a case, each MB of it may cost no more than that either, beyond 0.2 s and 64 MiB. The
+status is 1 where one is over.
+
+- chosen names: keys of nodes that all have one hash under the standard library's hash with its fixed seed, and as many
+  keys beside them that do not. Both have the same bound
+- long names: 64 bays of 8 switches below one name of up to 8,000 bytes, with nothing known: each line of an answer
+  repeats it, so that `check` writes 2 GB
+- floods: a million frames, ticks, commands, readings or changes of the record to one node; 3,000 lines to a stored one,
+  whose changes go to the disk; a log of 20,000 records in which 64 bays send one another messages
+"""
+import pathlib
+import random
+import resource
+import subprocess
+import sys
+from typing import NamedTuple, Optional
+
+sys.path.insert(0, str(pathlib.Path(__file__).resolve().parents[1]))
+import common
+
+sys.path.insert(0, str(common.TOP / "bench/check"))
+import schemes
+
+PARTS = (4, 2, 1)
+SECONDS, MEMORY = 10.0, 1024.0
+SPARE_SECONDS, SPARE_MEMORY = 0.2, 64.0
+
+
+class Case(NamedTuple):
+    """A run: its name, the words, the files by name, the input, the status, and what a MB of all of it may cost."""
+    name: str
+    words: list
+    files: dict
+    given: bytes
+    status: int
+    seconds: Optional[float] = None
+    memory: Optional[float] = None
+
+    def size(self):
+        return (sum(map(len, self.files.values())) + len(self.given)) / 1e6
+
+
+# ---- chosen names
+
+WORD = (1 << 64) - 1
+MULTIPLIER, SEED = 0x9E3779B97F4A7C15, 0x243F6A8885A308D3
+LETTERS = sorted(set(range(0x21, 0x7F)) - set(b'<&"\'/'))
+DIGITS = b"0123456789abcdefghijklmnopqrstuvwxyz"
+
+
+def folded(a, b):
+    """The halves of a product, one over the other: a step of the hash."""
+    product = a * b
+    return (product & WORD) ^ (product >> 64)
+
+
+def front():
+    """24 bytes after which the hash of a text of 32 no longer depends on the last 8: the third word is what the hash has
+    after the first two, so that the last step multiplies by nothing."""
+    rng = random.Random(1)
+    while True:
+        first = bytes(rng.choice(LETTERS) for _ in range(16))
+        low, high = (int.from_bytes(first[i:i + 8], "little") for i in (0, 8))
+        third = folded(low ^ ((SEED + 32) & WORD), high ^ MULTIPLIER).to_bytes(8, "little")
+        if all(byte in LETTERS for byte in third):
+            return first + third
+
+
+def key(front, number):
+    """A key of 32 bytes with this front."""
+    return (front + bytes(DIGITS[number // 36 ** place % 36] for place in range(8))).decode()
+
+
+def named(front, count):
+    """A drawing of so many nodes with such keys. It has too many nodes, which is seen after all names are looked at."""
+    nodes = "".join(f'<ConnectivityNode name="{n:x}" pathName="{key(front, n)}"/>' for n in range(count))
+    return f'<SCL><Substation name="S"><VoltageLevel name="V"><Bay name="Q">{nodes}</Bay></VoltageLevel></Substation></SCL>'
+
+
+def chosen_names():
+    for what, head in (("that collide", front()), ("beside them", b"q" * 24)):
+        for part in PARTS:
+            text = named(head, 108_000 // part)
+            yield Case(f"check: keys of nodes {what}", ["check", "a", "b"], {"a": text.encode(), "b": b""}, b"", 5, 0.1, 16)
+
+
+# ---- long names
+
+def bays_below(name):
+    """64 bays of 4 infeeds and 4 disconnectors on one busbar, below a voltage level of this name. Keys are short."""
+    def node(bay, node):
+        return f'<ConnectivityNode name="{node}" pathName="{bay}/{node}"/>'
+
+    def switch(bay, number):
+        keys, kind = ((f"{bay}/{number}",), "IFL") if number < 4 else (("W/B", f"{bay}/{number - 4}"), "DIS")
+        ends = "".join(f'<Terminal connectivityNode="{key}"/>' for key in keys)
+        return f'<ConductingEquipment name="D{number}" type="{kind}">{ends}</ConductingEquipment>'
+    bays = [f'<Bay name="W">{node("W", "B")}</Bay>']
+    for count in range(64):
+        items = "".join(node(count, number) for number in range(4)) + "".join(switch(count, number) for number in range(8))
+        bays.append(f'<Bay name="{count}">{items}</Bay>')
+    return f'<SCL><Substation name="S"><VoltageLevel name="{name}">{"".join(bays)}</VoltageLevel></Substation></SCL>'
+
+
+def long_names():
+    for command in ("check", "state", "plan", "compile", "program", "station"):
+        for part in PARTS:
+            files = {"a": bays_below("V" * (8_000 // part)).encode(), "b": b""}
+            words = [command, "a", "b"] if command in ("check", "state") else [command, "a"]
+            yield Case(f"{command}: 64 bays of 8 switches below a long name", words, files, b"", 0)
+    for part in PARTS:
+        files = {"a": schemes.sections_in_turn(60 // part).drawing().encode()}
+        yield Case(f"compile: two sections of {60 // part} feeders in turn", ["compile", "a"], files, b"", 0)
+
+
+# ---- floods
+
+# A command is granted and taken back.
+CHANGES = b"command open S/V1/Q1/QA1\ntick\nwithdraw\n"
+
+
+def floods():
+    two, many = (common.double_busbar(feeders)[0].encode() for feeders in (2, 63))
+    words = common.double_busbar(63)[1]
+    lines = {
+        "frames that nobody waits for": b"frame 02020100000001000104\n",
+        "ticks": b"tick\n",
+        "commands, each withdrawn": b"command open S/V1/Q1/QA1\nwithdraw\n",
+        "readings, each other than the last": b"sense off S/V1/Q1/QB1\nsense on S/V1/Q1/QB1\n",
+        "lines of which two in three change the record": CHANGES,
+    }
+    for what, line in lines.items():
+        for part in PARTS:
+            given = line * (1_000_000 // line.count(b"\n") // part)
+            yield Case(f"node: a million {what}", ["node", "a", "S/V1/Q1"], {"a": two}, given, 0, 0.5, 8)
+    for part in PARTS:
+        yield Case("stored: 3,000 such lines, each change on the disk", ["stored", "a", "S/V1/Q1", "k"], {"a": two}, CHANGES * (1_000 // part), 0)
+    start = "".join(f"at,{path},{word}\n" for path, word in words.items())
+    for part in PARTS:
+        asked = "".join(f"command,S/V1/Q{n % 63 + 1}/QB1,open\nwithdraw,S/V1/Q{n % 63 + 1}\n" for n in range((20_000 - len(words)) // 2 // part))
+        yield Case("replay: 20,000 records of 64 bays that ask", ["replay", "a", "b"], {"a": many, "b": (start + asked).encode()}, b"", 0)
+
+
+def run(case, folder):
+    """Runs a case: seconds of a processor, the most memory at once in MiB, and the status."""
+    for name, text in case.files.items():
+        (folder / name).write_bytes(text)
+    (folder / "input").write_bytes(case.given)
+    feed = f"feed = os.open({str(folder / 'input')!r}, os.O_RDONLY)\nactions = [(os.POSIX_SPAWN_DUP2, feed, 0), "
+    starter = common.STARTER.replace("actions = [", feed)
+    limit = lambda: resource.setrlimit(resource.RLIMIT_AS, (8 << 30, 8 << 30))
+    words = [sys.executable, "-S", "-c", starter, str(common.program()), *case.words]
+    done = subprocess.run(words, cwd=folder, capture_output=True, text=True, timeout=1200, preexec_fn=limit)
+    _, peak, status, seconds = done.stdout.split()
+    return float(seconds), float(peak), int(status)
+
+
+def judged(case, seconds, memory, status):
+    """What is wrong with a run, in words."""
+    if status != case.status:
+        yield f"status {status}, not {case.status}"
+    if seconds > SECONDS or memory > MEMORY:
+        yield "over the most of any run"
+    if case.seconds is not None and seconds > SPARE_SECONDS + case.seconds * case.size():
+        yield f"over {case.seconds} s a MB"
+    if case.memory is not None and memory > SPARE_MEMORY + case.memory * case.size():
+        yield f"over {case.memory} MiB a MB"
+
+
+def main():
+    if "-h" in sys.argv or "--help" in sys.argv:
+        sys.exit(__doc__.strip())
+    wrong = False
+    for case in (case for cases in (chosen_names, long_names, floods) for case in cases()):
+        with common.folder() as place:
+            seconds, memory, status = run(case, pathlib.Path(place))
+        faults = list(judged(case, seconds, memory, status))
+        print(f"{case.name:66} {case.size():7.3f} MB {seconds:8.3f} s {memory:7.0f} MiB  {', '.join(faults)}", flush=True)
+        wrong |= bool(faults)
+    sys.exit(1 if wrong else 0)
+
+
+main()
