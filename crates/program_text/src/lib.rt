@@ -2,7 +2,9 @@
 #![tactic(auto)]
 
 mod bay_masks;
+mod block_outputs;
 mod block_text;
+mod formed;
 mod forming;
 mod numbering;
 mod place;
@@ -14,6 +16,7 @@ mod reads;
 mod release;
 mod section_keys;
 mod section_order;
+mod section_reads;
 mod sections;
 mod term_lines;
 mod text;

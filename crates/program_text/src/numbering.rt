@@ -5,6 +5,13 @@ use program_blocks::BlockCall;
 use std::alloc::Global;
 use structured_text::{Heading, Line, Name};
 
+/// The sizes of the tables of formulas: of what may be, and of what is certain.
+#[derive(Clone, Copy)]
+pub(crate) struct Counts {
+    pub may: usize,
+    pub sure: usize,
+}
+
 // No number yet.
 const NONE: usize = usize::MAX;
 
@@ -92,11 +99,10 @@ fn number_line(alloc: Global, numbering: &mut Numbering, line: Line) -> Result<(
 fn empty_call(
     alloc: Global,
     heading: Option<Heading>,
-    may: usize,
-    sure: usize,
+    counts: Counts,
 ) -> Result<BlockCall, Memory> {
-    let may = vec![in alloc; NONE; may]?;
-    let sure = vec![in alloc; NONE; sure]?;
+    let may = vec![in alloc; NONE; counts.may]?;
+    let sure = vec![in alloc; NONE; counts.sure]?;
     Ok(BlockCall {
         heading,
         block: 0,
@@ -110,11 +116,10 @@ fn empty_call(
 fn no_numbers(
     alloc: Global,
     heading: Option<Heading>,
-    may: usize,
-    sure: usize,
+    counts: Counts,
 ) -> Result<Numbering, Memory> {
-    let to_program = empty_call(alloc, heading, 0, 0)?;
-    let to_block = empty_call(alloc, heading, may, sure)?;
+    let to_program = empty_call(alloc, heading, Counts { may: 0, sure: 0 })?;
+    let to_block = empty_call(alloc, heading, counts)?;
     Ok(Numbering {
         to_program,
         to_block,
@@ -127,10 +132,9 @@ pub(crate) fn numbering_of(
     alloc: Global,
     heading: Option<Heading>,
     lines: &[Line],
-    may: usize,
-    sure: usize,
+    counts: Counts,
 ) -> Result<Numbering, Memory> {
-    let mut numbering = no_numbers(alloc, heading, may, sure)?;
+    let mut numbering = no_numbers(alloc, heading, counts)?;
     for line in lines {
         let _set = new_name(&mut numbering, line.name)?;
     }

@@ -7,7 +7,9 @@ ghost use Rattle.program_text.specs.ProgramText.{inputs_text, outputs_text, cont
 ghost use Rattle.program_text.specs.ProgramText.{whole_text, IsProgramText};
 
 use crate::block_text::{write_blocks, write_instances, write_steps};
-use crate::forming::{Counts, Formed, form};
+use crate::formed::Formed;
+use crate::forming::form;
+use crate::numbering::Counts;
 use crate::program::{interlocking, lines_by_bays};
 use crate::unblocked::without_blocks;
 use ilk_base::{Memory, SwitchId, Text};

@@ -5,7 +5,7 @@ ghost use Rattle.structured_text.specs.Within.{LinesWithin};
 ghost use Rattle.program_blocks.specs.Standing.{StandFor};
 ghost use Rattle.program_text.specs.Unblocked.{assigned, unless_release, set_variables};
 
-use crate::forming::Formed;
+use crate::formed::Formed;
 use ilk_base::Memory;
 use program_blocks::Step;
 use station_graph::Station;
