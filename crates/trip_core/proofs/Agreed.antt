@@ -1,7 +1,6 @@
 -- A vector is changed to agree with words, and where words and position are known to fit, nothing but breakers changes.
-use Rattle.std.proofs.Common.{◌⊎◌, ◌≡◌, ◌≢◌, ◌<◌, ◌≤◌, ℕ, zero, suc, Bool, true, false, List, [], ◌∷◌, length, get_or}
+use Rattle.std.proofs.Common.{◌⊎◌, ◌≡◌, ◌≢◌, ◌<◌, ℕ, zero, suc, Bool, true, false, List, [], ◌∷◌, length, get_or}
 use Rattle.std.proofs.Common.{slice_get, Option, Some, None, refl, sym, subst, ap, ◌∙◌, inl, inr, arith}
-use Rattle.std.proofs.lemmas.Option.{slice_get-get_or, slice_get_within}
 use Rattle.ilk_base.specs.declared.words.Dbpos.{Dbpos}
 use Rattle.ilk_base.specs.declared.words.Dbpos.TheVariants.{Intermediate, Off, On, Bad, Lost}
 use Rattle.ilk_base.specs.declared.words.Kind.{Kind}
@@ -76,6 +75,31 @@ agrees_at words v i word lt is =
 
 pub lost_agrees : (word : Dbpos) (closed : Bool) → word ≡ Lost → Agrees word closed
 lost_agrees word closed is = subst (λ (x : Dbpos). Agrees x closed) (sym is) tt
+
+-- nothing changes where all words are lost
+pub agreed_lost : (words : ℕ → Dbpos) (v : List Bool) → ((i : ℕ) → words i ≡ Lost) → agreed_list words v ≡ v
+unfolding agreed_list agreed
+agreed_lost words [] lost = refl
+agreed_lost words (x ∷ xs) lost =
+    let first : agreed (words 0) x ≡ x = ap (λ w. agreed w x) (lost 0) in
+    rw (first, agreed_lost (λ i. words (suc i)) xs (λ i. lost (suc i))) refl
+
+-- the same words change the same
+pub agreed_alike : (words others : ℕ → Dbpos) (v : List Bool) → ((i : ℕ) → words i ≡ others i) →
+    agreed_list words v ≡ agreed_list others v
+unfolding agreed_list
+agreed_alike words others [] same = refl
+agreed_alike words others (x ∷ xs) same =
+    rw (same 0, agreed_alike (λ i. words (suc i)) (λ i. others (suc i)) xs (λ i. same (suc i))) refl
+
+-- so at one place
+pub agreed_same_at : (words others : ℕ → Dbpos) (v : List Bool) (i : ℕ) → words i ≡ others i →
+    slice_get (agreed_list words v) i ≡ slice_get (agreed_list others v) i
+unfolding agreed_list
+agreed_same_at words others [] i same = refl
+agreed_same_at words others (x ∷ xs) zero same = ap (λ w. Some (agreed w x)) same
+agreed_same_at words others (x ∷ xs) (suc i) same =
+    agreed_same_at (λ i. words (suc i)) (λ i. others (suc i)) xs i same
 
 -- ---- breakers
 

@@ -1,5 +1,5 @@
 -- What a bay knows after a step, by the Answer that counts.
-use Rattle.std.proofs.Common.{◌≡◌, ℕ, Bool, true, false, cond, ◌==◌, Option, Some, None, refl, sym, subst, ap, ◌∙◌}
+use Rattle.std.proofs.Common.{◌≡◌, ℕ, true, false, cond, ◌==◌, Option, Some, None, refl, sym, subst, ap}
 use Rattle.std.specs.Prelude.{is_some}
 use Rattle.central_rules.specs.Meaning.{Meaning}
 use Rattle.bay_frames.specs.declared.frame.Frame.{Frame}

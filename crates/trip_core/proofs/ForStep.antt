@@ -1,11 +1,10 @@
 -- What follows of a step, or of want of memory.
-use Rattle.std.proofs.Common.{◌≡◌, ◌≢◌, ◌+◌, ◌<◌, ◌≤◌, ◌↔◌, ℕ, length, Option, Some, Result, Ok, Err, refl, sym}
-use Rattle.std.proofs.Common.{subst, ap, ◌∙◌, arith, lit<}
+use Rattle.std.proofs.Common.{◌≡◌, ◌+◌, ◌<◌, ◌≤◌, ◌↔◌, ℕ, length, Result, Ok, Err, sym}
+use Rattle.std.proofs.Common.{subst, ap, arith, lit<}
 use Rattle.std.specs.Prelude.{IfOk, OnErr}
 use Rattle.station_graph.specs.Diagram.{Diagram, IsStation}
 use Rattle.station_graph.specs.declared.limits.TheConstants.{BAYS}
 use Rattle.central_rules.specs.Meaning.{Meaning, Laws}
-use Rattle.reservation_core.specs.Scene.{Scene}
 use Rattle.reservation_core.specs.Facts.{IsSoundTruth}
 use Rattle.reservation_core.specs.World.{OutputFits}
 use Rattle.reservation_core.specs.declared.values.Which.{Which}
@@ -17,8 +16,8 @@ use Rattle.reservation_core.proofs.Gives.{gives}
 use Rattle.trip_core.specs.declared.values.TripEvent.{TripEvent}
 use Rattle.trip_core.specs.declared.values.TripEvent.TheVariants.{Step, Trip}
 use Rattle.trip_core.specs.Trips.{TripScene}
-use Rattle.trip_core.specs.Happens.{NotesAfter, StepHappens, IsTripped, TripHappens, TripInRange, BreaksTripPremise}
-use Rattle.trip_core.specs.Facts.{TripFacts, ObeysGap, ObeysLoad}
+use Rattle.trip_core.specs.Happens.{NotesAfter, TripHappens, TripInRange, BreaksTripPremise}
+use Rattle.trip_core.specs.Facts.{TripFacts}
 use Rattle.trip_core.proofs.Keeping.{trip_happens_keeps}
 use Rattle.trip_core.proofs.Obeying.{trip_sound}
 

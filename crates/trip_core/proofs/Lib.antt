@@ -1,6 +1,7 @@
 pub mod Good
 pub mod Counted
 pub mod Agreed
+pub mod Resting
 pub mod TurnKeeping
 pub mod Keeping
 pub mod Obeying

@@ -1,26 +1,19 @@
 -- Granted operations obey the first two rules always, and the third as long as no breaker that they used has tripped.
-use Rattle.std.proofs.Common.{◌⊎◌, ◌≡◌, ◌≢◌, ◌<◌, ◌≤◌, ◌==◌, cond, ℕ, Bool, true, false, List, length, get_or, set}
-use Rattle.std.proofs.Common.{slice_get, Option, Some, None, refl, sym, subst, ap, ◌∙◌, inl, inr, arith}
+use Rattle.std.proofs.Common.{◌⊎◌, ◌≡◌, ◌≢◌, ◌<◌, ◌==◌, cond, ℕ, Bool, false, List, length, get_or}
+use Rattle.std.proofs.Common.{Some, None, refl, sym, subst, ◌∙◌, inl, inr, arith}
 use Rattle.std.proofs.lemmas.Bool.{cases_eq}
 use Rattle.std.proofs.lemmas.Bool.Decides.{eqb_tells}
-use Rattle.std.proofs.lemmas.Option.{slice_get-get_or, slice_get_within}
+use Rattle.std.proofs.lemmas.Option.{slice_get_within}
 use Rattle.ilk_base.specs.declared.words.Dbpos.{Dbpos}
 use Rattle.ilk_base.specs.declared.words.Dbpos.TheVariants.{Intermediate, Off, On, Bad, Lost}
 use Rattle.double_points.specs.Words.{Agrees}
-use Rattle.station_graph.specs.Diagram.{Diagram, IsStation}
-use Rattle.station_graph.specs.Alike.{IsVector, SamePositions}
-use Rattle.station_graph.specs.Connection.{a_switch}
-use Rattle.station_graph.specs.Sharing.{OfPart}
-use Rattle.station_graph.specs.Supply.{Apart}
-use Rattle.station_graph.proofs.GapLemmas.{none_parts, apart_same}
+use Rattle.station_graph.specs.Alike.{IsVector}
+use Rattle.station_graph.specs.CentralRules.{Breaks}
+use Rattle.station_graph.proofs.GapLemmas.{none_parts}
 use Rattle.central_rules.specs.Meaning.{Meaning, Laws, bay_of}
-use Rattle.bay_frames.specs.declared.frame.Frame.{Frame}
 use Rattle.bay_protocol.specs.declared.values.Grant.{Grant}
-use Rattle.reservation_core.specs.Scene.{Scene, node, moves, true_at, IsTrueWord, ReadsAs, Resolves}
-use Rattle.reservation_core.specs.RoundFacts.{RoundFacts}
+use Rattle.reservation_core.specs.Scene.{Scene, node, true_at, IsTrueWord, ReadsAs, Resolves}
 use Rattle.reservation_core.specs.Facts.{IsSoundTruth}
-use Rattle.reservation_core.specs.declared.values.Position.{Position}
-use Rattle.reservation_core.specs.declared.values.Position.TheVariants.{Open, Between}
 use Rattle.reservation_core.specs.declared.values.WorldOutcome.{WorldOutcome}
 use Rattle.reservation_core.proofs.TrueWords.{true_word_agrees, stood}
 use Rattle.reservation_core.proofs.AlikeNotes.{backed_agrees, granted_bay, switch_of, of_part}
@@ -29,12 +22,13 @@ use Rattle.reservation_core.proofs.Soundness.{happens_sound, opens_sound}
 use Rattle.trip_core.specs.declared.values.Note.{Note}
 use Rattle.trip_core.specs.declared.values.TripEvent.{TripEvent}
 use Rattle.trip_core.specs.declared.values.TripEvent.TheVariants.{Step, Trip}
-use Rattle.trip_core.specs.Trips.{TripScene, IsBreaker, IsStale, IsGoodNote, word_in, note_at}
+use Rattle.trip_core.specs.Trips.{TripScene, IsBreaker, Matters, IsGoodNote, word_in, note_at}
 use Rattle.trip_core.specs.Happens.{TripHappens, TripInRange}
 use Rattle.trip_core.specs.Facts.{TripFacts, IsFresh, ObeysGap, ObeysLoad, AnswersTrip, StandsForAnswer, WordsTrip}
 use Rattle.trip_core.specs.Facts.{GrantsTrip}
 use Rattle.trip_core.proofs.Agreed.{agreed_list, length_agreed, agreed_at, agrees_at, lost_agrees, breaker_or_not}
 use Rattle.trip_core.proofs.Agreed.{IsFair, gap_of}
+use Rattle.trip_core.proofs.Resting.{Rest, rested_list, length_rested, rested_at, rest_irrelevant, some_rest}
 
 module _ (m : Meaning) (s : TripScene) (facts : TripFacts m s) where
   abbrev w : Scene
@@ -47,13 +41,20 @@ module _ (m : Meaning) (s : TripScene) (facts : TripFacts m s) where
       (granted_bay m w c g facts.rounds.rounds granted)).kept.granted g granted in
       (switch_of m (node m.diagram w c).bay g.op.switch.0 fits.own).1 ∙ facts.rounds.rounds.shape.named c
 
+  moved_within : (c : ℕ) (g : Grant) → (node m.diagram w c).granted ≡ Some g →
+      g.op.switch.0 < length m.diagram.switches
+  moved_within c g granted =
+      let fits = (facts.rounds.rounds.rounds c
+      (granted_bay m w c g facts.rounds.rounds granted)).kept.granted g granted in
+      (switch_of m (node m.diagram w c).bay g.op.switch.0 fits.own).0
+
   -- where it is fresh, no note that was used is stale
-  fresh_true : (c : ℕ) (g : Grant) (i : ℕ) → IsFresh m.diagram s c g → i ≢ g.op.switch.0
-      → IsGoodNote m.diagram w.truth s.tripped s.events i (note_at s.known c i) → IsTrueWord
+  fresh_true : (c : ℕ) (g : Grant) (i : ℕ) → IsFresh m.diagram s c g → Matters m.diagram (bay_of m.diagram i) c
+      → i ≢ g.op.switch.0 → IsGoodNote m.diagram w.truth s.tripped s.events i (note_at s.known c i) → IsTrueWord
       (note_at s.known c i).word (true_at w.truth i)
-  fresh_true c g i fresh other (inl true_note) = true_note.is_true
-  fresh_true c g i fresh other (inr stale) =
-      let before = fresh i stale.is_breaker other stale.is_on in
+  fresh_true c g i fresh matters other (inl true_note) = true_note.is_true
+  fresh_true c g i fresh matters other (inr stale) =
+      let before = fresh i stale.is_breaker matters other stale.is_on in
       absurd (omega (arith, before, stale.later))
 
   -- a switch of a vector that resolves the truth stands as it truly does
@@ -62,15 +63,6 @@ module _ (m : Meaning) (s : TripScene) (facts : TripFacts m s) where
   stands_in v i whole lt resolves = resolves i (get_or v i false) (stood m v i whole lt)
 
   -- ---- the rules
-
-  pub load : ObeysLoad m s
-  load c g v granted whole resolves fresh =
-      let backed = facts.truth.grants c g granted in
-      ((none_parts m.diagram v g.op).0 (backed_agrees m Note word_in
-      (IsGoodNote m.diagram w.truth s.tripped s.events) w.sent (note_at s.known c) c g
-      (mine c g granted) backed v whole
-      (λ i lt other. true_word_agrees (note_at s.known c i).word (true_at w.truth i) (get_or v i false)
-      (fresh_true c g i fresh other (backed.good i lt other)) (stands_in v i whole lt resolves)))).1
 
   -- the words that a grant knew, but for the moved switch
   words_known : ℕ → Grant → ℕ → Dbpos
@@ -83,6 +75,31 @@ module _ (m : Meaning) (s : TripScene) (facts : TripFacts m s) where
   word_other : (c : ℕ) (g : Grant) (i : ℕ) → i ≢ g.op.switch.0 → words_known c g i ≡ (note_at s.known c i).word
   unfolding words_known
   word_other c g i differs = elim (eqb_tells i g.op.switch.0) [ inl p ↦ absurd (differs p.1) | inr p ↦ rw p.0 refl ]
+
+  -- where what is known of bays that do not matter is put in place of the truth, no rule is broken
+  rested : (c : ℕ) (g : Grant) (v : List Bool) (granted : (node m.diagram w c).granted ≡ Some g)
+      (whole : IsVector m.diagram v) → Resolves w.truth v → IsFresh m.diagram s c g
+      → (rest : Rest m.diagram c) → Breaks m.diagram (rested_list m.diagram c (words_known c g)
+      rest v) g.op None
+  rested c g v granted whole resolves fresh rest =
+      let backed = facts.truth.grants c g granted in
+      backed_agrees m Note word_in (IsGoodNote m.diagram w.truth s.tripped s.events) w.sent (note_at s.known c) c g
+      (mine c g granted) backed (rested_list m.diagram c (words_known c g) rest v)
+      (length_rested m.diagram c (words_known c g) rest v ∙ whole)
+      (λ i lt other. elim (rested_at m.diagram c (words_known c g) rest v i (omega (arith, lt, whole)) lt) [
+        | inl known ↦ known (note_at s.known c i).word (word_other c g i other)
+        | inr truly ↦
+            subst (λ (x : Bool). Agrees (note_at s.known c i).word x) (sym truly.1)
+            (true_word_agrees (note_at s.known c i).word (true_at w.truth i) (get_or v i false)
+            (fresh_true c g i fresh truly.0 other (backed.good i lt other)) (stands_in v i whole lt resolves))
+      ])
+
+  pub load : ObeysLoad m s
+  load c g v granted whole resolves fresh = λ breaks.
+      some_rest m.diagram c
+      (λ rest. ((none_parts m.diagram v g.op).0 (rest_irrelevant m.diagram c (words_known c g) rest v g.op whole
+      (of_part m c g.op.switch.0 (moved_within c g granted, mine c g granted))
+      (rested c g v granted whole resolves fresh rest))).1 breaks)
 
   pub gap : ObeysGap m s
   gap c g v granted whole resolves =
@@ -173,7 +190,7 @@ module _ (m : Meaning) (s : TripScene) (facts : TripFacts m s) where
             (allowed b t other got)));
         load = λ fresh v whole resolves allowed. ((none_parts m.diagram v g.op).0 (backed.none v whole
             (λ i own other. true_word_agrees (note_at s.known c i).word (true_at w.truth i) (get_or v i false)
-            (fresh_true c g i fresh other (backed.good i own.0 other)) (resolves i (get_or v i false)
+            (fresh_true c g i fresh (inl own.1) other (backed.good i own.0 other)) (resolves i (get_or v i false)
             (of_part m c i own) other (stood m v i whole own.0)))
             allowed)).1;
       }

@@ -1,10 +1,9 @@
 -- The facts hold at the start.
-use Rattle.std.proofs.Common.{◌≡◌, ℕ, zero, suc, Bool, List, length, get_or, slice_get, replicate, None, refl, sym}
+use Rattle.std.proofs.Common.{◌≡◌, ℕ, zero, suc, Bool, List, length, get_or, replicate, None, refl, sym}
 use Rattle.std.proofs.Common.{subst, ap, ◌∙◌, inl, arith}
 use Rattle.std.proofs.lemmas.List.{length-replicate}
 use Rattle.ilk_base.specs.declared.words.Dbpos.{Dbpos}
-use Rattle.ilk_base.specs.declared.words.Dbpos.TheVariants.{Lost}
-use Rattle.central_rules.specs.Meaning.{Meaning, bay_of}
+use Rattle.central_rules.specs.Meaning.{Meaning}
 use Rattle.bay_frames.specs.declared.frame.Frame.{Frame}
 use Rattle.bay_protocol.specs.State.{State}
 use Rattle.reservation_core.specs.Scene.{node, true_at, IsTrueWord}

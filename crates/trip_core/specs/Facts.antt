@@ -17,7 +17,7 @@ use Rattle.reservation_core.specs.Held.{TruthFacts, HeardAllow}
 use Rattle.reservation_core.specs.Facts.{ObeysFirstTwo, BayResolvesBut}
 use Rattle.reservation_core.specs.World.{WorldRounds}
 use Rattle.trip_core.specs.declared.values.Note.{Note}
-use Rattle.trip_core.specs.Trips.{TripScene, IsBreaker, IsStale, IsGoodNote, word_in, note_at, own_note}
+use Rattle.trip_core.specs.Trips.{TripScene, IsBreaker, Matters, IsStale, IsGoodNote, word_in, note_at, own_note}
 use Rattle.trip_core.specs.Trips.{held_of, tripped_at}
 
 -- There is a note wherever there is to be one, and nothing has tripped at an event that is to come.
@@ -37,11 +37,12 @@ pub record TripFacts (m : Meaning) (s : TripScene) : Type 0 where
   pub truth : TruthFacts m Note word_in (IsGoodNote m.diagram s.world.scene.truth s.tripped s.events) s.world.scene
       (held_of m.diagram s)
 
--- No breaker that the granted operation of bay c used has tripped since its word was read. It used each breaker
--- other than its own switch whose word in what it knew is on: one that was off is open, and a trip leaves it so.
+-- No breaker that the granted operation of bay c used has tripped since its word was read. It used each breaker of a
+-- bay that matters to c, other than its own switch, whose word in what it knew is on: one that was off is open, and a
+-- trip leaves it so.
 abbrev pub IsFresh : Diagram → TripScene → ℕ → Grant → Type 0
-IsFresh d s c g = (i : ℕ) → IsBreaker d i → i ≢ g.op.switch.0 → (note_at s.known c i).word ≡ On
-    → tripped_at s.tripped i ≤ (note_at s.known c i).at
+IsFresh d s c g = (i : ℕ) → IsBreaker d i → Matters d (bay_of d i) c → i ≢ g.op.switch.0
+    → (note_at s.known c i).word ≡ On → tripped_at s.tripped i ≤ (note_at s.known c i).at
 
 -- In no vector that resolves the truth do the first two rules apply to a granted operation, whatever has tripped.
 abbrev pub ObeysGap : Meaning → TripScene → Type 0

@@ -2,7 +2,6 @@
 -- before the event, and new the one after it.
 use Rattle.std.specs.Prelude.{◌≡◌, ◌≢◌, ◌+◌, ◌<◌, ◌≤◌, ◌==◌, ℕ, false, List, [], length, slice_get, slice_set}
 use Rattle.std.specs.Prelude.{slice_index_or, is_some, Option, Some, None, if◌then◌else◌}
-use Rattle.ilk_base.specs.declared.words.SwitchId.{SwitchId}
 use Rattle.station_graph.specs.Diagram.{Diagram}
 use Rattle.central_rules.specs.Meaning.{Meaning, bay_of}
 use Rattle.bay_frames.specs.declared.frame.Frame.{Frame}
@@ -26,7 +25,7 @@ use Rattle.reservation_core.specs.declared.values.WorldOutcome.TheVariants.{Prem
 use Rattle.trip_core.specs.declared.values.Note.{Note}
 use Rattle.trip_core.specs.declared.values.TripEvent.{TripEvent}
 use Rattle.trip_core.specs.declared.values.TripEvent.TheVariants.{Step, Trip}
-use Rattle.trip_core.specs.Trips.{TripScene, IsBreaker, lost, note_at, own_note}
+use Rattle.trip_core.specs.Trips.{TripScene, IsBreaker, note_at, own_note}
 use Rattle.trip_core.specs.Learning.{CountsOf, learned_note}
 
 -- One event later, with this world and the same notes.

@@ -1,6 +1,6 @@
 -- The lines of a log with trips, newest first: the lines of before without the trips, and the true positions and
 -- drives anew. Each definition says what one line changes.
-use Rattle.std.specs.Prelude.{◌==◌, ℕ, Bool, true, false, List, [], ◌∷◌, length, Option, slice_index_or, if◌then◌else◌}
+use Rattle.std.specs.Prelude.{◌==◌, ℕ, Bool, false, List, [], ◌∷◌, length, Option, slice_index_or, if◌then◌else◌}
 use Rattle.ilk_base.specs.declared.words.Op.{Op}
 use Rattle.station_graph.specs.Diagram.{Diagram}
 use Rattle.reservation_core.specs.Start.{position_of}
@@ -8,7 +8,6 @@ use Rattle.reservation_core.specs.Lines.{Shown, Line}
 use Rattle.reservation_core.specs.History.{last_granted, moved, driven}
 use Rattle.reservation_core.specs.declared.values.Position.{Position}
 use Rattle.reservation_core.specs.declared.values.Position.TheVariants.{Open}
-use Rattle.reservation_core.specs.declared.values.WorldEvent.{WorldEvent}
 use Rattle.reservation_core.specs.declared.values.WorldEvent.TheVariants.{Sense}
 use Rattle.trip_core.specs.declared.values.TripEvent.{TripEvent}
 use Rattle.trip_core.specs.declared.values.TripEvent.TheVariants.{Step, Trip}

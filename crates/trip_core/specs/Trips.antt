@@ -5,6 +5,7 @@ use Rattle.ilk_base.specs.declared.words.Dbpos.TheVariants.{On, Lost}
 use Rattle.ilk_base.specs.declared.words.Kind.TheVariants.{Breaker}
 use Rattle.station_graph.specs.declared.items.Switch.{Switch}
 use Rattle.station_graph.specs.Diagram.{Diagram}
+use Rattle.station_graph.specs.Alike.{Partner}
 use Rattle.central_rules.specs.Meaning.{bay_of}
 use Rattle.reservation_core.specs.Scene.{node, true_at, IsTrueWord}
 use Rattle.reservation_core.specs.Held.{Held}
@@ -29,6 +30,10 @@ pub record IsBreaker (d : Diagram) (i : ℕ) : Type 0 where
   pub switch : Switch
   pub listed : slice_get d.switches i ≡ Some switch
   pub kind : switch.kind ≡ Breaker
+
+-- What stands in bay b matters to bay c: it is c itself, or a partner of c, whose positions can change an answer of c.
+abbrev pub Matters : Diagram → ℕ → ℕ → Type 0
+Matters d b c = (b ≡ c) ⊎ Partner d b c
 
 -- The note where nothing is known.
 abbrev pub lost : Note

@@ -17,7 +17,7 @@ use Rattle.reservation_core.specs.declared.values.WorldEvent.TheVariants.{Delive
 use Rattle.trip_core.specs.declared.values.Note.{Note}
 use Rattle.trip_core.specs.declared.values.TripEvent.{TripEvent}
 use Rattle.trip_core.specs.declared.values.TripEvent.TheVariants.{Step, Trip}
-use Rattle.trip_core.specs.Trips.{IsBreaker, lost}
+use Rattle.trip_core.specs.Trips.{IsBreaker, Matters, lost}
 use Rattle.trip_core.specs.TripLines.{TripLine, plain, sensed_line, tripped_line}
 
 -- The lines up to that which shows the message of this number.
@@ -72,8 +72,9 @@ GrantedAt [] c r op l before = ⊥
 GrantedAt (x ∷ rest) c r op l before = ((of_bay x.shown c ≡ Granted r op) × (x ≡ l) × (rest ≡ before)) ⊎
     (GrantedAt rest c r op l before × (¬ EndsIt (of_bay x.shown c) r))
 
--- None of the breakers that it used has tripped after the line at which its word was read. It used each breaker,
--- other than the moved switch, whose word that its bay knew is on: one that was off stood open, and a trip leaves it so.
+-- None of the breakers that it used has tripped after the line at which its word was read. It used each breaker of its
+-- bay and of the bay's partners, other than the moved switch, whose word that its bay knew is on: one that was off stood
+-- open, and a trip leaves it so.
 abbrev pub NoneTripped : Diagram → List TripLine → ℕ → Op → TripLine → List TripLine → Type 0
-NoneTripped d lines c op l before = (i : ℕ) → IsBreaker d i → i ≢ op.switch.0
+NoneTripped d lines c op l before = (i : ℕ) → IsBreaker d i → Matters d (bay_of d i) c → i ≢ op.switch.0
     → (known_note d l before c i).word ≡ On → tripped_line lines i ≤ (known_note d l before c i).at

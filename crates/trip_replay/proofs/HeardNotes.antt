@@ -16,12 +16,11 @@ use Rattle.bay_protocol.specs.Counts.{Counts}
 use Rattle.reservation_core.specs.Scene.{Scene, node}
 use Rattle.reservation_core.specs.Concern.{Concern}
 use Rattle.reservation_core.specs.Lines.{Shown, kind_of, message, of_bay}
-use Rattle.reservation_core.specs.History.{or_else, last_round, collecting}
+use Rattle.reservation_core.specs.History.{or_else, last_round}
 use Rattle.reservation_core.specs.declared.values.WorldEvent.{WorldEvent}
 use Rattle.reservation_core.proofs.Steps.{bay_of_is}
 use Rattle.reservation_core.proofs.StepEffect.{HeardFrom, CountsAt}
 use Rattle.log_replay.proofs.Basic.{IsAnswer}
-use Rattle.log_replay.proofs.Linked.{opened}
 use Rattle.log_replay.proofs.Leading.{brought_of}
 use Rattle.trip_core.specs.declared.values.Note.{Note}
 use Rattle.trip_core.specs.declared.values.TripEvent.TheVariants.{Step}

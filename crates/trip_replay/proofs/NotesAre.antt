@@ -1,44 +1,32 @@
 -- The notes of a world with trips are what the lines of its run say, and so the third rule is obeyed as long as no
 -- breaker has tripped that the lines say was used.
-use Rattle.std.proofs.Common.{◌⊎◌, ◌≡◌, ◌≢◌, ◌+◌, ◌-◌, ◌<◌, ◌≤◌, ◌==◌, ℕ, zero, suc, Bool, true, false, cond, List}
-use Rattle.std.proofs.Common.{[], ◌∷◌, length, get_or, slice_get, set, Option, Some, None, refl, sym, subst, ap, ◌∙◌}
-use Rattle.std.proofs.Common.{inl, inr, arith}
-use Rattle.std.specs.Prelude.{is_some}
-use Rattle.std.proofs.lemmas.Bool.{cases_Bool, cases_eq}
+use Rattle.std.proofs.Common.{◌≡◌, ◌≢◌, ◌+◌, ◌<◌, ◌==◌, ℕ, List}
+use Rattle.std.proofs.Common.{length, get_or, slice_get, Option, Some, None, refl, sym, ap}
+use Rattle.std.proofs.Common.{inl, inr}
+use Rattle.std.proofs.lemmas.Bool.{cases_Bool}
 use Rattle.std.proofs.lemmas.Bool.Decides.{eqb_tells}
-use Rattle.std.proofs.lemmas.Option.{slice_get_within}
-use Rattle.ilk_base.specs.declared.words.Dbpos.{Dbpos}
-use Rattle.ilk_base.specs.declared.words.Dbpos.TheVariants.{Lost}
-use Rattle.ilk_base.specs.declared.words.Op.{Op}
-use Rattle.station_graph.specs.Diagram.{Diagram, IsStation}
-use Rattle.central_rules.specs.Meaning.{Meaning, Laws, IsBay, bay_of}
+use Rattle.station_graph.specs.Diagram.{Diagram}
+use Rattle.central_rules.specs.Meaning.{Meaning, bay_of}
 use Rattle.bay_frames.specs.declared.frame.Frame.{Frame}
 use Rattle.bay_frames.specs.declared.frame.Body.TheVariants.{Answer}
 use Rattle.bay_protocol.specs.declared.values.Grant.{Grant}
 use Rattle.bay_protocol.specs.declared.values.Collection.{Collection}
 use Rattle.bay_protocol.specs.declared.values.Outcome.{Outcome}
 use Rattle.bay_protocol.specs.declared.values.Outcome.TheVariants.{Granted, Collecting, Finished, Withdrawn, Stopped}
-use Rattle.bay_protocol.specs.declared.values.Outcome.TheVariants.{Quiet}
-use Rattle.bay_protocol.specs.State.{others, IsOther}
-use Rattle.reservation_core.specs.Lines.{Line, Shown, Message, MessageKind, message, of_bay}
-use Rattle.reservation_core.specs.History.{closes, open_after, open_of, or_else, opened_by, collecting_after}
-use Rattle.reservation_core.specs.History.{forgotten, Opened, with_number, Sending, sending, reading_at, last_round}
-use Rattle.reservation_core.specs.History.{collecting}
+use Rattle.reservation_core.specs.History.{closes, open_after, or_else, collecting_after}
+use Rattle.reservation_core.specs.History.{forgotten, Opened, Sending, sending, last_round}
 use Rattle.reservation_core.specs.Hearing.{answers}
 use Rattle.reservation_core.specs.Headline.{EndsIt}
-use Rattle.reservation_core.specs.Scene.{Scene, node}
+use Rattle.reservation_core.specs.Scene.{node}
 use Rattle.reservation_core.specs.Held.{IsSwitchOf}
 use Rattle.reservation_core.specs.declared.values.WorldEvent.{WorldEvent}
-use Rattle.reservation_core.specs.declared.values.WorldEvent.TheVariants.{Command, Sense, Deliver, Tick, Withdraw}
-use Rattle.reservation_core.specs.declared.values.WorldEvent.TheVariants.{Restart, Begin, End, Part, Cut}
-use Rattle.log_replay.proofs.Basic.{IsAnswer, answer_tells, answer_is, of_quiet}
-use Rattle.log_replay.proofs.Linked.{opened}
+use Rattle.reservation_core.specs.declared.values.WorldEvent.TheVariants.{Deliver}
+use Rattle.reservation_core.specs.declared.values.WorldEvent.TheVariants.{Restart}
+use Rattle.log_replay.proofs.Basic.{IsAnswer, answer_tells, answer_is}
 use Rattle.trip_core.specs.declared.values.Note.{Note}
-use Rattle.trip_core.specs.declared.values.TripEvent.{TripEvent}
-use Rattle.trip_core.specs.declared.values.TripEvent.TheVariants.{Step, Trip}
-use Rattle.trip_core.specs.Trips.{TripScene, lost, note_at, own_note, tripped_at}
+use Rattle.trip_core.specs.Trips.{TripScene, note_at, tripped_at}
 use Rattle.trip_core.specs.TripLines.{TripLine, plain, sensed_line, tripped_line}
-use Rattle.trip_core.specs.Used.{sent_by, is_answer_from, told_by_line, heard_then, heard_lines, line_note}
+use Rattle.trip_core.specs.Used.{sent_by, told_by_line, heard_then, heard_lines, line_note}
 use Rattle.trip_core.specs.Used.{heard_note_at, known_note, GrantedAt}
 
 -- what bay c knew at the line that granted its operation

@@ -226,12 +226,12 @@ module _ (m : Meaning) (start : List Bool) (station : IsStation m.diagram) (laws
       let knew = notes.granted c (grant r op) has in
       let one = one_grant lines s c r op knew.l l knew.before before run knew.at at in
       load m s is.facts c (grant r op) v has may.whole (to_scene m start station laws lines s v is may)
-      (λ i breaker other valid.
+      (λ i breaker matters other valid.
       let lt = breaker_within m.diagram i breaker in
       let same : note_at s.known c i ≡ known_note m.diagram l before c i = knew.notes i lt ∙ (ap (λ
       (x : TripLine). known_note m.diagram x knew.before c i) one.0 ∙ ap (λ
       (x : List TripLine). known_note m.diagram l x c i) one.1) in
-      let past = none i breaker other (subst (λ (n : Note). n.word ≡ On) same valid) in
+      let past = none i breaker matters other (subst (λ (n : Note). n.word ≡ On) same valid) in
       let tripped = notes.tripped i lt in
       let at_note = ap (λ (n : Note). n.at) same in
       omega (arith, past, tripped, at_note))

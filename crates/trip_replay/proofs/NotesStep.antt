@@ -17,7 +17,7 @@ use Rattle.bay_protocol.specs.State.{State, others}
 use Rattle.bay_protocol.specs.Step.{Turn, Step as Stepping, CommandStep}
 use Rattle.reservation_core.specs.Scene.{Scene, node}
 use Rattle.reservation_core.specs.Concern.{Concern, concern}
-use Rattle.reservation_core.specs.Lines.{Shown, message, of_bay}
+use Rattle.reservation_core.specs.Lines.{Shown, of_bay}
 use Rattle.reservation_core.specs.History.{open_after, collecting_after, forgotten, Opened, collecting}
 use Rattle.reservation_core.specs.Hearing.{IsVerdictOn, DecidesRound}
 use Rattle.reservation_core.specs.Headline.{EndsIt}

@@ -1,63 +1,36 @@
 -- The notes after a step of a node are what the lines say.
-use Rattle.std.proofs.Common.{◌⊎◌, ◌≡◌, ◌≢◌, ◌+◌, ◌-◌, ◌<◌, ◌≤◌, ◌==◌, ℕ, zero, suc, Bool, true, false, cond, List}
-use Rattle.std.proofs.Common.{[], ◌∷◌, ◌++◌, length, get_or, slice_get, set, Option, Some, None, Contains, refl, sym}
+use Rattle.std.proofs.Common.{◌⊎◌, ◌≡◌, ◌≢◌, ◌-◌, ◌==◌, ℕ, cond, List}
+use Rattle.std.proofs.Common.{length, get_or, slice_get, Option, Some, None, refl, sym}
 use Rattle.std.proofs.Common.{subst, ap, ◌∙◌, inl, inr, arith}
-use Rattle.std.specs.Prelude.{is_some}
-use Rattle.std.proofs.lemmas.Bool.{cases_Bool, cases_eq}
-use Rattle.std.proofs.lemmas.Bool.Decides.{eqb_tells}
-use Rattle.std.proofs.lemmas.Option.{slice_get_within}
-use Rattle.ilk_base.specs.declared.words.Dbpos.{Dbpos}
-use Rattle.ilk_base.specs.declared.words.Dbpos.TheVariants.{Lost}
-use Rattle.ilk_base.specs.declared.words.BayId.{BayId}
 use Rattle.ilk_base.specs.declared.words.Op.{Op}
-use Rattle.station_graph.specs.Diagram.{Diagram, IsStation}
-use Rattle.central_rules.specs.Meaning.{Meaning, Laws, IsBay, bay_of}
+use Rattle.station_graph.specs.Diagram.{Diagram}
+use Rattle.central_rules.specs.Meaning.{Meaning, bay_of}
 use Rattle.bay_frames.specs.declared.frame.Frame.{Frame}
 use Rattle.bay_frames.specs.declared.frame.Body.{Body}
 use Rattle.bay_frames.specs.declared.frame.Body.TheVariants.{Reserve, Answer, Busy, Query, Over}
-use Rattle.bay_protocol.specs.declared.values.Grant.{Grant}
 use Rattle.bay_protocol.specs.declared.values.Collection.{Collection}
-use Rattle.bay_protocol.specs.declared.values.Outcome.{Outcome}
-use Rattle.bay_protocol.specs.declared.values.Outcome.TheVariants.{Granted, Collecting, Quiet}
-use Rattle.bay_protocol.specs.declared.values.NodeEvent.{NodeEvent}
+use Rattle.bay_protocol.specs.declared.values.Outcome.TheVariants.{Collecting, Quiet}
 use Rattle.bay_protocol.specs.declared.values.NodeEvent.TheVariants.{Command as Commanded, Sense as Sensing}
 use Rattle.bay_protocol.specs.declared.values.NodeEvent.TheVariants.{Frame as Arrival, Tick as Ticking}
 use Rattle.bay_protocol.specs.declared.values.NodeEvent.TheVariants.{Withdraw as Withdrawing, Restart as Restarting}
 use Rattle.bay_protocol.specs.declared.values.NodeEvent.TheVariants.{Cut as Cutting}
-use Rattle.bay_protocol.specs.State.{State, others, IsOther, under_way, under_way_of}
-use Rattle.bay_protocol.specs.Step.{Turn, Step as Stepping, FrameStep, ReserveStep, CommandStep}
-use Rattle.bay_protocol.specs.Counts.{Counts}
-use Rattle.reservation_core.specs.Scene.{Scene, node}
+use Rattle.bay_protocol.specs.State.{State, under_way_of}
+use Rattle.bay_protocol.specs.Step.{Turn, FrameStep, ReserveStep, CommandStep}
+use Rattle.reservation_core.specs.Scene.{Scene}
 use Rattle.reservation_core.specs.Concern.{Concern, concern, arrival}
-use Rattle.reservation_core.specs.Held.{IsSwitchOf}
-use Rattle.reservation_core.specs.Happens.{Happens, InRange, NodeSteps, IsMessage, DeliverHappens}
-use Rattle.reservation_core.specs.RoundFacts.{RoundFacts, FrameFits}
-use Rattle.reservation_core.specs.Lines.{Line, Shown, MessageKind, kind_of, message, of_bay, shown}
-use Rattle.reservation_core.specs.History.{or_else, with_number, reading_at, last_round, open_of}
-use Rattle.reservation_core.specs.Runs.{Shows}
+use Rattle.reservation_core.specs.Happens.{Happens, InRange, IsMessage, DeliverHappens}
+use Rattle.reservation_core.specs.Lines.{MessageKind, kind_of, message, shown}
 use Rattle.reservation_core.specs.declared.values.Which.{Which}
 use Rattle.reservation_core.specs.declared.values.WorldEvent.{WorldEvent}
 use Rattle.reservation_core.specs.declared.values.WorldEvent.TheVariants.{Command, Sense, Deliver, Tick, Withdraw}
 use Rattle.reservation_core.specs.declared.values.WorldEvent.TheVariants.{Restart, Begin, End, Part, Cut}
 use Rattle.reservation_core.specs.declared.values.WorldOutcome.{WorldOutcome}
 use Rattle.reservation_core.specs.declared.values.WorldOutcome.TheVariants.{Premise}
-use Rattle.reservation_core.proofs.Keeping.{got_there}
-use Rattle.reservation_core.proofs.Steps.{bay_of_is}
-use Rattle.log_replay.proofs.Basic.{IsAnswer, number_before, number_at}
 use Rattle.log_replay.proofs.Links.{put_is}
-use Rattle.log_replay.proofs.Leading.{brought_of}
-use Rattle.log_replay.proofs.Others.{other_of}
-use Rattle.trip_core.specs.declared.values.Note.{Note}
-use Rattle.trip_core.specs.declared.values.TripEvent.{TripEvent}
-use Rattle.trip_core.specs.declared.values.TripEvent.TheVariants.{Step, Trip}
-use Rattle.trip_core.specs.Trips.{TripScene, lost, note_at, own_note, tripped_at}
-use Rattle.trip_core.specs.Learning.{CountsOf}
-use Rattle.trip_core.specs.Happens.{sensed_after, NotesTurn}
-use Rattle.trip_core.specs.TripLines.{TripLine, plain, is_sense, sensed_line, tripped_line}
-use Rattle.trip_core.specs.Used.{sent_by, told_by_line, heard_then, heard_lines, line_note, heard_note_at, known_note}
-use Rattle.trip_core.specs.Used.{GrantedAt}
-use Rattle.trip_replay.proofs.NotesAre.{NotesAre, KnewAt, untold, told_now}
-use Rattle.trip_replay.proofs.TripFollowing.{TripIs, trip_line}
+use Rattle.trip_core.specs.declared.values.TripEvent.TheVariants.{Step}
+use Rattle.trip_core.specs.Happens.{sensed_after}
+use Rattle.trip_core.specs.TripLines.{TripLine, is_sense}
+use Rattle.trip_core.specs.Used.{told_by_line}
 
 -- ---- the event of a node
 

@@ -15,7 +15,7 @@ use Rattle.reservation_core.specs.declared.values.WorldEvent.{WorldEvent}
 use Rattle.log_replay.specs.declared.kinds.RecordKind.{RecordKind}
 use Rattle.log_replay.specs.declared.kinds.RecordKind.TheVariants as kind
 use Rattle.log_replay.specs.declared.limits.TheConstants.{MOST_RECORDS}
-use Rattle.log_replay.specs.Records.{RecordSays, is_step, is_told_of, has_step, tell_of}
+use Rattle.log_replay.specs.Records.{RecordSays, is_step, is_told_of}
 use Rattle.log_replay.specs.RecordFaults.{kind_name, field}
 use Rattle.log_replay.specs.Log.{IsText, MayFollow}
 use Rattle.log_replay.proofs.OneOutcome.{kind_of, of_row, steps_same, told_same, no_fault, follows_too}
@@ -23,7 +23,7 @@ use Rattle.log_replay.proofs.ReportLemmas.{each_at}
 use Rattle.trip_core.specs.declared.values.TripEvent.TheVariants.{Step as Happening, Trip}
 use Rattle.trip_replay.specs.declared.event.TripLogEvent.{TripLogEvent}
 use Rattle.trip_replay.specs.declared.event.TripLogEvent.TheVariants.{At, Step}
-use Rattle.trip_replay.specs.TripRecords.{as_log, trip_event_row, TripSays, IsTripRow, TripForm, TripFault}
+use Rattle.trip_replay.specs.TripRecords.{as_log, TripSays, IsTripRow, TripFault}
 use Rattle.trip_replay.specs.TripRecords.{TripRecordFault}
 use Rattle.trip_replay.specs.TripLogs.{IsTripLog, IsTripLogFault}
 

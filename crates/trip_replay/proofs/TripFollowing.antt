@@ -1,27 +1,25 @@
 -- Each line of a run with trips leads to a scene that is what the lines say.
-use Rattle.std.proofs.Common.{◌⊎◌, ◌≡◌, ◌≢◌, ◌<◌, ◌==◌, ℕ, Bool, false, cond, List, [], ◌∷◌, length, Option, Some}
-use Rattle.std.proofs.Common.{None, refl, sym, subst, ap, ◌∙◌, inl, inr, arith}
+use Rattle.std.proofs.Common.{◌≡◌, ◌<◌, ◌==◌, ℕ, Bool, false, cond, List, [], ◌∷◌, length, Option, Some}
+use Rattle.std.proofs.Common.{refl, sym, subst, ap, ◌∙◌, inl, inr, arith}
 use Rattle.std.proofs.lemmas.Option.{slice_get_within}
 use Rattle.ilk_base.specs.declared.words.Dbpos.{Dbpos}
 use Rattle.ilk_base.specs.declared.words.Op.{Op}
-use Rattle.station_graph.specs.Diagram.{Diagram, IsStation}
+use Rattle.station_graph.specs.Diagram.{IsStation}
 use Rattle.station_graph.specs.Alike.{IsVector}
-use Rattle.station_graph.specs.CentralRules.{GapBreaks}
 use Rattle.central_rules.specs.Meaning.{Meaning, Laws, bay_of}
 use Rattle.bay_protocol.specs.declared.values.Grant.{Grant}
-use Rattle.bay_protocol.specs.declared.values.Outcome.{Outcome}
-use Rattle.reservation_core.specs.Scene.{Scene, true_at, runs, ReadsAs, Resolves}
+use Rattle.reservation_core.specs.Scene.{true_at, runs, ReadsAs, Resolves}
 use Rattle.reservation_core.specs.Facts.{IsSoundTruth}
-use Rattle.reservation_core.specs.Lines.{Line, Shown, of_bay}
+use Rattle.reservation_core.specs.Lines.{Shown, of_bay}
 use Rattle.reservation_core.specs.History.{open_after, open_of, last_round, Opened}
-use Rattle.reservation_core.specs.Hearing.{IsVerdictOn, DecidesRound, heard}
-use Rattle.reservation_core.specs.Runs.{ShowsNothing, Shows, Leads}
-use Rattle.reservation_core.specs.Headline.{DecidesWell, EndsIt, OpenSince}
+use Rattle.reservation_core.specs.Hearing.{IsVerdictOn, heard}
+use Rattle.reservation_core.specs.Runs.{Shows, Leads}
+use Rattle.reservation_core.specs.Headline.{DecidesWell, OpenSince}
 use Rattle.reservation_core.specs.declared.values.Position.{Position}
 use Rattle.reservation_core.specs.declared.values.Position.TheVariants.{Open, Between}
 use Rattle.reservation_core.specs.declared.values.WorldEvent.{WorldEvent}
 use Rattle.reservation_core.specs.declared.values.WorldOutcome.{WorldOutcome}
-use Rattle.log_replay.proofs.Links.{Spoken, start_linked, put_is, drive_shown}
+use Rattle.log_replay.proofs.Links.{Spoken, start_linked, put_is}
 use Rattle.log_replay.proofs.Leading.{speaks}
 use Rattle.log_replay.proofs.DriveMoves.{happens_moves}
 use Rattle.log_replay.proofs.LineDecisions.{lead_bays}
@@ -36,8 +34,8 @@ use Rattle.trip_core.specs.declared.values.TripEvent.TheVariants.{Step, Trip}
 use Rattle.trip_core.specs.Trips.{TripScene}
 use Rattle.trip_core.specs.Happens.{TripHappens, TripInRange}
 use Rattle.trip_core.specs.Facts.{TripFacts}
-use Rattle.trip_core.specs.TripLines.{TripLine, plain, plain_line, trip_true, trip_drives}
-use Rattle.trip_core.specs.TripRuns.{TripRun, TripLeads, TripMayBeTrue, TripDecides, TripDecisions, ObeysGapSince}
+use Rattle.trip_core.specs.TripLines.{TripLine, plain, trip_true, trip_drives}
+use Rattle.trip_core.specs.TripRuns.{TripRun, TripMayBeTrue, TripDecides, TripDecisions, ObeysGapSince}
 use Rattle.trip_core.specs.TripRuns.{IsTripSound, AtEachTrip, TripDrivesAreGranted, TripsHearNothing}
 use Rattle.trip_core.proofs.Starting.{trip_starts}
 use Rattle.trip_core.proofs.Keeping.{trip_happens_keeps, breaker_within}

@@ -1,6 +1,6 @@
 -- What a replay with trips keeps at each line.
-use Rattle.std.proofs.Common.{◌≡◌, ◌≢◌, ◌+◌, ◌*◌, ◌<◌, ◌≤◌, ◌^◌, ◌∙◌, sym, ap, refl, subst, ℕ, zero, suc, Bool, List}
-use Rattle.std.proofs.Common.{[], ◌∷◌, ◌++◌, length, map, Option, Some, None, Result, Ok, Err, inl, inr, arith}
+use Rattle.std.proofs.Common.{◌≡◌, ◌≢◌, ◌+◌, ◌*◌, ◌<◌, ◌≤◌, ◌^◌, ◌∙◌, sym, ap, refl, subst, ℕ, Bool, List}
+use Rattle.std.proofs.Common.{[], ◌∷◌, ◌++◌, length, map, Option, Some, None, Result, Ok, Err, arith}
 use Rattle.std.specs.Prelude.{slice_get, All, IfOk}
 use Rattle.std.proofs.lemmas.List.{length-append, length-map}
 use Rattle.std.proofs.lemmas.Option.{slice_get_within}
@@ -11,13 +11,12 @@ use Rattle.station_graph.specs.declared.limits.TheConstants.{BAYS}
 use Rattle.central_rules.specs.Meaning.{Meaning, Laws}
 use Rattle.reservation_core.specs.declared.values.WorldEvent.{WorldEvent}
 use Rattle.reservation_core.specs.declared.values.WorldOutcome.{WorldOutcome}
-use Rattle.reservation_core.specs.declared.values.WorldOutcome.TheVariants.{Premise, Drive, Node}
+use Rattle.reservation_core.specs.declared.values.WorldOutcome.TheVariants.{Premise}
 use Rattle.reservation_core.specs.declared.values.Which.{Which}
-use Rattle.reservation_core.specs.declared.values.Which.TheVariants.{Start}
 use Rattle.reservation_core.specs.Happens.{InRange}
 use Rattle.reservation_core.specs.World.{OutputFits}
 use Rattle.reservation_core.specs.Lines.{Shown}
-use Rattle.reservation_core.specs.Runs.{Shows, nothing_shown, shown_of}
+use Rattle.reservation_core.specs.Runs.{nothing_shown, shown_of}
 use Rattle.log_replay.specs.declared.limits.TheConstants.{MOST_RECORDS}
 use Rattle.log_replay.specs.Following.{FitsAt, IsBroken}
 use Rattle.log_replay.specs.Replay.{Replayed, ShownFits, shown_at}
@@ -40,9 +39,9 @@ use Rattle.trip_core.specs.TripRuns.{TripRun, TripLeads, TripMayHappen, TripPrem
 use Rattle.trip_replay.specs.declared.event.TripLogEvent.{TripLogEvent}
 use Rattle.trip_replay.specs.declared.event.TripLogEvent.TheVariants.{At, Step}
 use Rattle.trip_replay.specs.TripRecords.{as_log, TripMayBeTold}
-use Rattle.trip_replay.specs.TripLogLines.{trip_start_of, TripHasStart, trip_at_count, trip_lines_of}
+use Rattle.trip_replay.specs.TripLogLines.{trip_start_of, TripHasStart, trip_lines_of}
 use Rattle.trip_replay.specs.TripReplays.{TripLineHappens, IsTripRunOf, IsTripReplay}
-use Rattle.trip_replay.proofs.TripFollowing.{TripIs, trip_is}
+use Rattle.trip_replay.proofs.TripFollowing.{trip_is}
 use Rattle.trip_replay.proofs.TripAll.{trip_headline}
 
 -- what a replay keeps after k lines

@@ -1,10 +1,10 @@
 -- The records of a log with trips, and the events that they say.
-use Rattle.std.proofs.Common.{◌≡◌, ◌≢◌, ◌+◌, ◌<◌, ◌≤◌, ℕ, zero, suc, true, List, [], ◌∷◌, ◌++◌, length, take, drop}
-use Rattle.std.proofs.Common.{map, Ok, Err, Result, refl, sym, ap, subst, ◌∙◌, inl, inr, arith}
-use Rattle.std.specs.Prelude.{All, IfErr, codes}
+use Rattle.std.proofs.Common.{◌≡◌, ◌+◌, ◌<◌, ℕ, zero, suc, true, List, [], ◌∷◌, ◌++◌, length, take, drop}
+use Rattle.std.proofs.Common.{map, refl, sym, ap, subst, ◌∙◌, arith}
+use Rattle.std.specs.Prelude.{All, codes}
 use Rattle.std.specs.List.{AllZip}
 use Rattle.std.specs.Str.{is_utf8}
-use Rattle.std.proofs.lemmas.List.{length-append, map-append, length-map}
+use Rattle.std.proofs.lemmas.List.{length-append, map-append}
 use Rattle.std.proofs.lemmas.Str.{is_utf8-from_IsUtf8}
 use Rattle.station_graph.specs.Diagram.{Diagram}
 use Rattle.reservation_core.specs.declared.values.LogEvent.{LogEvent}
@@ -14,9 +14,7 @@ use Rattle.log_replay.specs.Log.{MayFollow, AreInOrder, IsText}
 use Rattle.log_replay.proofs.FieldLemmas.{same_default}
 use Rattle.log_replay.proofs.LogLemmas.{next, AllZip-push, order_more}
 use Rattle.log_replay.proofs.ReportLemmas.{all_more}
-use Rattle.trip_core.specs.declared.values.TripEvent.TheVariants.{Step as Happening}
 use Rattle.trip_replay.specs.declared.event.TripLogEvent.{TripLogEvent}
-use Rattle.trip_replay.specs.declared.event.TripLogEvent.TheVariants.{At}
 use Rattle.trip_replay.specs.TripRecords.{as_log, TripMayBeTold, TripSays, IsTripRow, TripForm}
 use Rattle.trip_replay.specs.TripLogs.{TripTell}
 

@@ -14,7 +14,7 @@ use Rattle.reservation_core.specs.Scene.{Scene, node}
 use Rattle.reservation_core.specs.Concern.{Concern, concern}
 use Rattle.reservation_core.specs.Happens.{InRange}
 use Rattle.reservation_core.specs.Lines.{Shown, message, of_bay, shown}
-use Rattle.reservation_core.specs.History.{or_else, last_round, collecting}
+use Rattle.reservation_core.specs.History.{or_else, last_round}
 use Rattle.reservation_core.specs.Headline.{DecidesWell}
 use Rattle.reservation_core.specs.declared.values.WorldEvent.{WorldEvent}
 use Rattle.reservation_core.proofs.Keeping.{got_there}

@@ -5,13 +5,11 @@ use Rattle.station_graph.specs.Diagram.{Diagram, switch_path}
 use Rattle.reservation_core.specs.Happens.{InRange}
 use Rattle.reservation_core.specs.declared.values.LogEvent.{LogEvent}
 use Rattle.reservation_core.specs.declared.values.LogEvent.TheVariants.{At as TellsAt, Step as TellsStep}
-use Rattle.reservation_core.specs.declared.values.WorldEvent.{WorldEvent}
 use Rattle.reservation_core.specs.declared.values.WorldEvent.TheVariants.{Begin}
 use Rattle.log_replay.specs.Records.{event_row, step_row, NumbersFit}
 use Rattle.log_replay.specs.RecordFaults.{field, RecordFault}
 use Rattle.log_replay.specs.declared.limits.TheConstants.{MOST_RECORDS}
 use Rattle.trip_core.specs.Trips.{IsBreaker}
-use Rattle.trip_core.specs.declared.values.TripEvent.{TripEvent}
 use Rattle.trip_core.specs.declared.values.TripEvent.TheVariants.{Step as Happening, Trip}
 use Rattle.trip_replay.specs.declared.event.TripLogEvent.{TripLogEvent}
 use Rattle.trip_replay.specs.declared.event.TripLogEvent.TheVariants.{At, Step}

@@ -1,5 +1,5 @@
 -- What a replay of a log with trips gives.
-use Rattle.std.specs.Prelude.{◌≡◌, ◌+◌, ℕ, List, [], length, slice_get, Option, Some, None}
+use Rattle.std.specs.Prelude.{◌≡◌, ◌+◌, List, [], length, slice_get, Option, Some, None}
 use Rattle.central_rules.specs.Meaning.{Meaning}
 use Rattle.reservation_core.specs.Lines.{Shown}
 use Rattle.reservation_core.specs.declared.values.WorldEvent.{WorldEvent}

@@ -1,4 +1,3 @@
-use Rattle.std.proofs.Common.{inl, inr}
 use Rattle.trip_replay.specs.TripRecords.{TripRecordFault}
 use Rattle.trip_replay.proofs.record.read_trip_record.Goals as goal
 

@@ -1,8 +1,7 @@
-use Rattle.std.proofs.Common.{◌≡◌, ◌<◌, ◌≤◌, ◌++◌, ◌-◌, ℕ, List, [], length, get_or, take, refl, sym, subst, ap, ◌∙◌}
+use Rattle.std.proofs.Common.{◌≡◌, ◌<◌, ◌++◌, ℕ, List, [], length, get_or, refl, sym, subst, ap, ◌∙◌}
 use Rattle.std.proofs.Common.{arith}
 use Rattle.station_graph.specs.Diagram.{Diagram, part_count}
 use Rattle.central_rules.specs.Meaning.{bay_of}
-use Rattle.bay_frames.specs.declared.frame.Frame.{Frame}
 use Rattle.reservation_core.specs.Scene.{node}
 use Rattle.reservation_core.specs.Concern.{concern}
 use Rattle.reservation_core.specs.RoundFacts.{FrameFits}
