@@ -119,21 +119,3 @@ module _ (m : Meaning) (d : Diagram) (b : ℕ) where
       (along_all start (lines ++ line ∷ []) (text ++ answer) next c
       (session_more start lines text last line answer next session answers) h))
       stands
-
-  -- before all lines
-  pub along_start : (start : State) (lines : List (List ℕ)) (text : List ℕ) (last : State) (c : List ℕ)
-      → StoredSession m d b start lines text last → IsImageOf c (kept_of start)
-      → StandsAlong m d b start lines text last 0 c
-  along_start start lines text last c session stands = record {
-    done = [];
-    more = lines;
-    parts = refl;
-    enough = omega arith;
-    text_done = [];
-    text_more = text;
-    texts = refl;
-    between = start;
-    first = (refl, refl);
-    second = session;
-    stands = stands;
-  }

@@ -1,5 +1,5 @@
 -- A session from before the opening of the store.
-use Rattle.std.proofs.Common.{◌≡◌, ◌∙◌, ◌≤◌, inl, inr, ⊎_elim, ℕ, List, sym, subst, arith}
+use Rattle.std.proofs.Common.{◌≡◌, ◌∙◌, ◌≤◌, ◌⊎◌, inl, inr, ⊎_elim, ℕ, List, sym, subst, arith}
 use Rattle.ilk_base.specs.Outside.{Rose}
 use Rattle.ilk_base.proofs.Fronts.{rose_earlier}
 use Rattle.station_graph.specs.Diagram.{Diagram}
@@ -8,7 +8,7 @@ use Rattle.bay_protocol.specs.State.{State, kept_of}
 use Rattle.node_session.specs.SessionEnds.{Streams}
 use Rattle.node_store.specs.Device.{Told, LeavesFrom, KeepsPast, RisesBy}
 use Rattle.node_store.specs.Image.{IsImageOf}
-use Rattle.node_store.proofs.Runs.{one_call, then_more, stays_settled}
+use Rattle.node_store.proofs.Runs.{then_more, weaker, is_since}
 use Rattle.stored_session.specs.View.{View}
 use Rattle.stored_session.proofs.Time.{KeepsTime}
 use Rattle.stored_session.specs.Along.{StandsAlong}
@@ -16,7 +16,6 @@ use Rattle.stored_session.specs.Ends.{EndsSo, BegunEnds}
 use Rattle.stored_session.specs.declared.end.StoredEnd.{StoredEnd}
 use Rattle.stored_session.specs.declared.end.StoredEnd.TheVariants.{Done, Unfit, Refused, Long, ReadFault, WriteFault}
 use Rattle.stored_session.specs.declared.end.StoredEnd.TheVariants.{Memory}
-use Rattle.stored_session.proofs.Along.{along_start}
 
 -- a count that rose in a part of a run rose in it
 so_earlier : (m : Meaning) (d : Diagram) (b : ℕ) (start : State) (before now : Streams) (part whole : Type 0)
@@ -50,6 +49,12 @@ so_earlier m d b start before now part whole lines text low Unfit rose so = so
 module _ {D : Type 0} (v : View D) (time : KeepsTime v) (old mid : D) (same : v.content mid ≡ v.content old)
     (follows : LeavesFrom v.since (v.moment old) old mid (λ c d. c ≡ d)) (past : KeepsPast v.moment v.between old mid)
     (called : RisesBy 3 (v.calls old) (v.calls mid)) where
+  -- what a crash leaves in the opening it could leave before
+  left_before : (c : List ℕ) → v.since mid (v.moment old) c → v.since old (v.moment old) c
+  left_before c left =
+      let from = follows c left in
+      subst (λ (d : List ℕ). v.since old (v.moment old) d) from.2 from.1
+
   -- the session that follows the opening, with it
   begun_at : (m : Meaning) (d : Diagram) (b : ℕ) (start : State) (before now : Streams) (new : D) (end : StoredEnd)
       → v.writes old ≤ v.writes mid → Told (v.content old) (λ image. IsImageOf image (kept_of start))
@@ -62,14 +67,16 @@ module _ {D : Type 0} (v : View D) (time : KeepsTime v) (old mid : D) (same : v.
     low = ends.low;
     so = so_earlier m d b start before now (Rose (v.writes mid) (v.writes new)) (Rose (v.writes old) (v.writes new))
         ends.lines ends.text ends.low end (λ rose. rose_earlier _ _ _ grows rose) ends.so;
-    crash = λ image told settled.
+    taken = ends.taken;
+    crash = λ image told.
         let P : List ℕ → Type 0 = StandsAlong m d b start ends.lines ends.text ends.last 0 in
-        then_more v.moment v.between v.since time old mid new P
-        (one_call v.moment v.between v.since time old mid image (λ c d. c ≡ d) P settled follows past
-        (λ c is. subst P is (along_start m d b start ends.lines ends.text ends.last image ends.session
-        (stands image told))))
-        (ends.crash image (same ∙ told)
-        (stays_settled v.moment v.between v.since time old mid image settled follows past));
+        let Q : List ℕ → Type 0 = λ c. v.since old (v.moment old) c ⊎ P c in
+        then_more v.moment v.between v.since time old mid new Q
+        (record { past = past; each = λ c left. inl (left_before c left) })
+        (weaker v.moment v.between v.since time mid new (λ c. v.since mid (v.moment mid) c ⊎ P c) Q
+        (ends.crash image (same ∙ told))
+        (λ c h. ⊎_elim (λ left. inl (left_before c
+        (is_since v.moment v.between v.since time old mid c past.later left))) (λ along. inr along) h));
     at_return = λ image told. ends.at_return image (same ∙ told);
     whole = λ is. let stands = ends.whole is in record {
       told = λ image told. stands.told image (same ∙ told);

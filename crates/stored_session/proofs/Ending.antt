@@ -1,6 +1,8 @@
 -- How a stored session ends, between two lines or at one.
-use Rattle.std.proofs.Common.{◌≡◌, ◌≤◌, ◌<◌, ◌⊎◌, ◌+◌, ◌*◌, ◌++◌, ◌∷◌, [], inl, inr, ℕ, List, length, take, refl, sym}
+use Rattle.std.proofs.Common.{◌≡◌, ◌∙◌, ◌≤◌, ◌<◌, ◌⊎◌, ◌+◌, ◌*◌, ◌++◌, ◌∷◌, [], inl, inr, ℕ, List, length, take, refl, sym}
 use Rattle.std.proofs.Common.{subst, arith}
+use Rattle.std.proofs.Math.Seq.{take-append-add, take-length}
+use Rattle.std.proofs.lemmas.List.{append-nil}
 use Rattle.std.specs.Io.KnownBytes.{Appends}
 use Rattle.ilk_base.specs.Outside.{Rose}
 use Rattle.ilk_base.proofs.Fronts.{rose_earlier}
@@ -12,10 +14,11 @@ use Rattle.node_session.specs.SessionEnds.{Streams, LastAsked}
 use Rattle.node_session.proofs.Going.{appends_both}
 use Rattle.node_store.specs.declared.store.Store.{Store}
 use Rattle.node_store.specs.Device.{Told, RisesBy}
-use Rattle.node_store.proofs.Runs.{is_since}
+use Rattle.node_store.proofs.Runs.{is_since, weaker}
 use Rattle.stored_session.specs.View.{View}
 use Rattle.stored_session.proofs.Time.{KeepsTime}
 use Rattle.stored_session.specs.Kept.{LeavesNow}
+use Rattle.stored_session.specs.Along.{StandsAlong}
 use Rattle.stored_session.specs.Stored.{AnswersStored, WritesFront, StoredLineFails}
 use Rattle.stored_session.specs.Through.{HasNext, TakesNear}
 use Rattle.stored_session.specs.Progress.{IsEndAt}
@@ -53,7 +56,21 @@ module _ {D : Type 0} (v : View D) (time : KeepsTime v) (m : Meaning) (d : Diagr
     session = at.session;
     low = length done;
     so = so at.text (record { wrote = at.wrote; all = refl });
-    crash = λ image told settled. at.crash image told;
+    taken = record {
+      done = done;
+      more = [];
+      parts = sym (append-nil done);
+      count = refl;
+      text = at.text;
+      state = state;
+      session = at.session;
+      front = length at.text;
+      wrote = subst (λ (t : List ℕ). Appends before.out now.out t) (sym (take-length at.text)) at.wrote;
+    };
+    crash = λ image told. weaker v.moment v.between v.since time old device
+        (StandsAlong m d b start done at.text state 0)
+        (λ c. v.since old (v.moment old) c ⊎ StandsAlong m d b start done at.text state 0 c) (at.crash image told)
+        (λ c along. inr along);
     at_return = λ image told c left.
         let here = at.kept.told image told in
         along_all m d b start done at.text state c at.session
@@ -110,7 +127,23 @@ module _ {D : Type 0} (v : View D) (time : KeepsTime v) (m : Meaning) (d : Diagr
             cause = inl (rose_earlier _ _ _ at.stores_grow rose, refl, refl);
           },
         );
-        crash = λ image told settled. crash image told;
+        taken = record {
+          done = done;
+          more = line ∷ [];
+          parts = refl;
+          count = refl;
+          text = at.text;
+          state = state;
+          session = at.session;
+          front = length at.text;
+          wrote = subst (λ (t : List ℕ). Appends before.out after.out t)
+              (append-nil at.text ∙ sym (take-length at.text))
+              (appends_both before.out now.out after.out at.text [] at.wrote nothing);
+        };
+        crash = λ image told. weaker v.moment v.between v.since time old new
+            (StandsAlong m d b start lines (at.text ++ answer) next 0)
+            (λ c. v.since old (v.moment old) c ⊎ StandsAlong m d b start lines (at.text ++ answer) next 0 c)
+            (crash image told) (λ c along. inr along);
         at_return = λ image told c left.
             let here = at.kept.told image told in
             let in_line = in_it here.0 here.1 in
@@ -159,7 +192,23 @@ module _ {D : Type 0} (v : View D) (time : KeepsTime v) (m : Meaning) (d : Diagr
             cause = inr (rose_earlier _ _ _ at.writes_grow rose, tells.wrote.1, refl);
           },
         );
-        crash = λ image told settled. crash image told;
+        taken = record {
+          done = lines;
+          more = [];
+          parts = sym (append-nil lines);
+          count = refl;
+          text = at.text ++ answer;
+          state = next;
+          session = session;
+          front = length at.text + tells.wrote.0;
+          wrote = subst (λ (t : List ℕ). Appends before.out after.out t)
+              (sym (take-append-add at.text answer tells.wrote.0))
+              (appends_both before.out now.out after.out at.text (take tells.wrote.0 answer) at.wrote tells.wrote.2);
+        };
+        crash = λ image told. weaker v.moment v.between v.since time old new
+            (StandsAlong m d b start lines (at.text ++ answer) next 0)
+            (λ c. v.since old (v.moment old) c ⊎ StandsAlong m d b start lines (at.text ++ answer) next 0 c)
+            (crash image told) (λ c along. inr along);
         at_return = λ image told c left.
             let here = at.kept.told image told in
             along_all m d b start lines (at.text ++ answer) next c session (leaves here.0 here.1 c left);

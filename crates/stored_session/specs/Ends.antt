@@ -74,11 +74,26 @@ EndsSo m d b start before now stores lines text low Memory =
     BeginsStored before.input lines × WritesAll before now lines text low
 EndsSo m d b start before now stores lines text low Unfit = ⊥
 
--- A session that has begun ends so. It took these lines, from the first state to the last, with these texts. Where
--- nothing was pending on the device at first, a crash at any moment leaves the record after some number of the lines.
--- A crash at the return leaves it after no fewer than `low`; that is all lines of whose text `out` took a byte, or
--- more. Where all is done, the record after all lines stands on the device. `opening` is how many calls of the device
--- came before the lines.
+-- What `out` took is a front of the text of the first `low` lines: of no line behind them it took a byte.
+pub record TookFront (m : Meaning) (d : Diagram) (b : ℕ) (start : State) (before now : Streams)
+    (lines : List (List ℕ)) (low : ℕ) : Type 0 where
+  pub done : List (List ℕ)
+  pub more : List (List ℕ)
+  pub parts : lines ≡ done ++ more
+  pub count : length done ≡ low
+  pub text : List ℕ
+  pub state : State
+  pub session : StoredSession m d b start done text state
+  pub front : ℕ
+  pub wrote : Appends before.out now.out (take front text)
+
+-- A session that has begun ends so. It took these lines, from the first state to the last, with these texts. A crash at
+-- any moment of the call leaves the record after some number of the lines, or what it could leave at the call: with
+-- nothing pending that is the record with which the session begins; where an earlier program was stopped inside a put,
+-- the one from before that put or from after it. A crash at the return leaves it after no fewer than `low` lines, and
+-- those are all lines of whose text `out` took a byte, or more: so wherever the device stops, the record that it keeps is
+-- not behind what was shown. Where all is done, the record after all lines stands on the device. `opening` is how many
+-- calls of the device came before the lines.
 pub record BegunEnds {D : Type 0} (v : View D) (m : Meaning) (d : Diagram) (b opening : ℕ) (start : State)
     (before now : Streams) (old device : D) (end : StoredEnd) : Type 0 where
   pub lines : List (List ℕ)
@@ -87,18 +102,19 @@ pub record BegunEnds {D : Type 0} (v : View D) (m : Meaning) (d : Diagram) (b op
   pub session : StoredSession m d b start lines text last
   pub low : ℕ
   pub so : EndsSo m d b start before now (Rose (v.writes old) (v.writes device)) lines text low end
-  pub crash : Told (v.content old) (λ image. Settled v old image
-      → Leaves v old device (StandsAlong m d b start lines text last 0))
+  pub taken : TookFront m d b start before now lines low
+  pub crash : Told (v.content old) (λ _. Leaves v old device
+      (λ c. v.since old (v.moment old) c ⊎ StandsAlong m d b start lines text last 0 c))
   pub at_return : Told (v.content old) (λ _. (c : List ℕ) → v.since device (v.moment device) c
       → StandsAlong m d b start lines text last low c)
   pub whole : end ≡ Done → Becomes (v.content old) (v.content device) (λ _ image.
       Settled v device image × IsImageOf image (kept_of last))
   pub called : RisesBy (opening + 6 * length lines) (v.calls old) (v.calls device)
 
--- No line was asked for, and a crash leaves what the device had at first.
+-- No line was asked for, and a crash leaves what it could leave at the call.
 pub record IsIdle {D : Type 0} (v : View D) (before now : Streams) (old device : D) : Type 0 where
   pub streams : now ≡ before
-  pub crash : Told (v.content old) (λ image. Settled v old image → Leaves v old device (λ c. c ≡ image))
+  pub crash : Told (v.content old) (λ _. Leaves v old device (v.since old (v.moment old)))
   pub called : RisesBy 3 (v.calls old) (v.calls device)
 
 -- Why no line was asked for. Of `reads` and `stores`, the one is that the device's count of reads rose, the other that
