@@ -1,5 +1,5 @@
 -- Nodes and goals from a place on stay so as nodes are added.
-use Rattle.std.proofs.Common.{◌≡◌, ◌∙◌, ◌⊎◌, ℕ, ◌+◌, ◌-◌, ◌<◌, ◌≤◌, zero, suc, List, [], ◌∷◌, ◌++◌, length, sym, ap}
+use Rattle.std.proofs.Common.{refl, ◌≡◌, ◌∙◌, ◌⊎◌, ℕ, ◌+◌, ◌-◌, ◌<◌, ◌≤◌, zero, suc, List, [], ◌∷◌, ◌++◌, length, sym, ap}
 use Rattle.std.proofs.Common.{subst, inl, inr, arith, Some, Option, cond}
 use Rattle.std.specs.Prelude.{slice_get, nat_lt}
 use Rattle.std.proofs.lemmas.Bool.{cases_lt}
@@ -71,6 +71,7 @@ pub apart_none : (j : Judging) (ops : List SwitchGoals) (nodes : List NodeLine) 
     StandApart j 0 ops nodes
 apart_none j ops nodes no_ops no_nodes = record {
   starts = λ m. 0;
+  begins = refl;
   end = sym (ap length no_nodes);
   climbs = λ m lt. absurd (omega (arith, lt));
   few = λ m lt. absurd (omega (arith, lt));
@@ -100,6 +101,7 @@ pub apart_more : (j : Judging) (n next : ℕ) (ops longer_ops : List SwitchGoals
     → StandApart j n ops nodes → StandApart j next longer_ops more
 apart_more j n next ops longer_ops nodes more x one_more same count ext from few graphs fit old = record {
   starts = then_end old.starts n (length more);
+  begins = at_before old.starts n (length more) 0 (omega arith) ∙ old.begins;
   end = ap (then_end old.starts n (length more)) (one_more ∙ omega arith) ∙ at_end old.starts n (length more);
   climbs = λ m lt. elim (last m lt) [
     | inl less ↦ omega (arith, before m (omega (arith, less)), before (suc m) less, old.climbs m less)

@@ -25,7 +25,7 @@ use Rattle.judge_pool.specs.Pooling.{Extends}
 use Rattle.station_equations.specs.Compiling.{AreExact, IsPartStep, AreStepsOf, ArePartsOf, AreExactParts}
 use Rattle.station_equations.specs.Compiling.{SwitchIsExact}
 use Rattle.station_equations.specs.Compiling.{AreGoalsOf, HaveFewSteps}
-use Rattle.station_equations.specs.NodeCount.{HaveFewNodes}
+use Rattle.station_equations.specs.NodeCount.{HaveFewNodes, HaveFewLines}
 use Rattle.station_equations.proofs.LeadsLemmas.{leads_stay}
 use Rattle.station_equations.proofs.GrowingLemmas.{get_push, goal_stays, goal_below, next_stays}
 use Rattle.station_equations.proofs.PartsLemmas.{part_exact, part_fits}
@@ -149,14 +149,16 @@ pub record Compiled (d : Diagram) (e : EquationLines) : Type 0 where
   pub exact : AreExact d e
   pub steps : HaveFewSteps d e
   pub nodes : HaveFewNodes d e
+  pub all : HaveFewLines d e
 
 pub compiled : (d : Diagram) (a : Alphabets) (parts : List PartLines) (nodes lines : List NodeLine)
     (ops turned : List SwitchGoals) (total : ℕ) → AreAlphabets d a → ArePartsOf a (part_count d) parts →
     AreGoalsOf d parts nodes (length d.switches) ops → IsTurned nodes lines → length nodes ≡ total →
     turned ≡ map (turned_goals total) ops →
     HaveFewNodes d (record { parts = parts; ops = map (turned_goals (length nodes)) ops; nodes = lines }) →
+    HaveFewLines d (record { parts = parts; ops = map (turned_goals (length nodes)) ops; nodes = lines }) →
     Compiled d (record { parts = parts; ops = turned; nodes = lines })
-compiled d a parts nodes lines ops turned total al are goals is count same few =
+compiled d a parts nodes lines ops turned total al are goals is count same few all =
     let now : turned ≡ map (turned_goals (length nodes)) ops = same ∙ ap (λ n. map (turned_goals n) ops) (sym count) in
     subst (λ (xs : List SwitchGoals). Compiled d (record { parts = parts; ops = xs; nodes = lines }))
     (sym now) (record {
@@ -167,6 +169,7 @@ compiled d a parts nodes lines ops turned total al are goals is count same few =
           λ part x at. subst (λ n. AreStepSizes d part n) (sym (are.each part x at).count)
           (al.each part (omega (arith, slice_get_within parts part x at, are.count))).steps;
       nodes = few;
+      all = all;
     })
 
 pub goals_within : (d : Diagram) (parts : List PartLines) (nodes : List NodeLine) (n total : ℕ)

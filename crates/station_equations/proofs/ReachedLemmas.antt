@@ -18,12 +18,12 @@ use Rattle.release_compile.specs.Judging.{Judging, ground, bay_at}
 use Rattle.station_equations.specs.declared.goal.Goal.{Goal}
 use Rattle.station_equations.specs.declared.goal.Goal.TheVariants.{Node, Answer}
 use Rattle.station_equations.specs.declared.goal.SwitchGoals.{SwitchGoals}
-use Rattle.station_equations.specs.EquationLines.{PartLines, NodeLine, goal_towards}
+use Rattle.station_equations.specs.EquationLines.{PartLines, NodeLine, EquationLines, goal_towards}
 use Rattle.station_equations.specs.EquationMeaning.{PassesThrough, Leads}
 use Rattle.station_equations.specs.EquationForm.{IsGoal, goals_of}
 use Rattle.station_equations.specs.Growing.{AllGrew, turned_goal, turned_goals, IsTurned}
 use Rattle.station_equations.specs.Apart.{IsFrom, StandApart}
-use Rattle.station_equations.specs.NodeCount.{WritesGoal, IsNodeOf, AreAtMost}
+use Rattle.station_equations.specs.NodeCount.{WritesGoal, IsNodeOf, AreAtMost, most_nodes, HaveFewLines}
 use Rattle.judge_pool.specs.Layering.{NoneTwice}
 use Rattle.station_equations.specs.Compiling.{view_nodes, switch_nodes}
 use Rattle.station_equations.proofs.GrowingLemmas.{goal_below}
@@ -200,13 +200,11 @@ module _ (j : Judging) (ops : List SwitchGoals) (nodes turned : List NodeLine) (
         has.gap.inner.len h
 
     -- the nodes of the bay are few
-    pub few_nodes : AreAtMost
-        (2 * (has.count * (has.gap.outer_edges + has.load.outer_edges)) + (has.gap.inner_edges + has.load.inner_edges))
-        (IsNodeOf j.diagram (record {
-          parts = parts;
-          ops = map (turned_goals (length nodes)) ops;
-          nodes = turned;
-        }) b)
+    pub few_nodes : AreAtMost (most_nodes has) (IsNodeOf j.diagram (record {
+      parts = parts;
+      ops = map (turned_goals (length nodes)) ops;
+      nodes = turned;
+    }) b)
     few_nodes = λ ns differ each.
         let le = range_has (length nodes) (apart.starts has.first) (apart.starts (has.first + has.count)) ns
         differ (λ i k at.
@@ -218,3 +216,19 @@ module _ (j : Judging) (ops : List SwitchGoals) (nodes turned : List NodeLine) (
         (omega (arith, has.switches.within, all)) in
         (inside.0, omega (arith, inside.1, low), omega (arith, inside.2, high))) in
         omega (arith, le, bay_few, has.gap.inner.all, has.load.inner.all)
+
+-- all lines are few
+pub few_lines : (j : Judging) (ops : List SwitchGoals) (nodes turned : List NodeLine) (switches : ℕ)
+    (parts : List PartLines) (goals : List SwitchGoals) → StandApart j (length j.diagram.switches) ops nodes →
+    length ops ≡ length j.diagram.switches → AllGrew switches parts nodes → IsTurned nodes turned →
+    HaveFewLines j.diagram (record { parts = parts; ops = goals; nodes = turned })
+few_lines j ops nodes turned switches parts goals apart count grew is = record {
+  before = apart.starts;
+  begins = apart.begins;
+  climbs = apart.climbs;
+  ends = apart.end ∙ sym is.count;
+  few = λ b edges has.
+      let h = bay_few j ops nodes turned (length j.diagram.switches) apart count switches parts grew is refl b edges
+      has in
+      omega (arith, h, has.gap.inner.all, has.load.inner.all);
+}

@@ -28,10 +28,11 @@ pub record BothFrom (lo : ℕ) (x : SwitchGoals) : Type 0 where
   pub opening : IsFrom lo x.opening
   pub closing : IsFrom lo x.closing
 
--- The nodes were built switch by switch: those of switch m begin at a place, end where those of the next switch
--- begin, and are no more than those of its bay's graphs; its goals, and theirs, are among them or answers.
+-- The nodes were built switch by switch, those of the first at the front: those of switch m begin at a place, end where
+-- those of the next switch begin, and are no more than those of its bay's graphs; its goals, and theirs, are among them or answers.
 pub record StandApart (j : Judging) (n : ℕ) (ops : List SwitchGoals) (nodes : List NodeLine) : Type 0 where
   pub starts : ℕ → ℕ
+  pub begins : starts 0 ≡ 0
   pub end : starts n ≡ length nodes
   pub climbs : (m : ℕ) → m < n → starts m ≤ starts (suc m)
   pub few : (m : ℕ) → m < n → starts (suc m) ≤ starts m + switch_nodes j m

@@ -1,5 +1,5 @@
 -- How many node lines a bay has: those to which the lines of its operations lead.
-use Rattle.std.specs.Prelude.{◌≡◌, ◌≤◌, ◌+◌, ◌*◌, ℕ, List, length, slice_get, Some}
+use Rattle.std.specs.Prelude.{◌≡◌, ◌<◌, ◌≤◌, ◌+◌, ◌*◌, ℕ, suc, List, length, slice_get, Some}
 use Rattle.ilk_base.specs.declared.words.Direction.{Direction}
 use Rattle.station_graph.specs.declared.items.Switch.{Switch}
 use Rattle.station_graph.specs.Diagram.{Diagram}
@@ -40,9 +40,23 @@ pub record IsNodeOf (d : Diagram) (e : EquationLines) (b n : ℕ) : Type 0 where
 abbrev pub AreAtMost : ℕ → (ℕ → Type 0) → Type 0
 AreAtMost most P = (ns : List ℕ) → NoneTwice ns → ((i n : ℕ) → slice_get ns i ≡ Some n → P n) → length ns ≤ most
 
--- A bay of s switches has at most 2 s times as many nodes as its outer graphs have counted edges, and as many
--- as its inner graphs have.
+-- The most node lines of a bay with these counted sizes: for each of its switches twice as many as its outer graphs
+-- have counted edges, and beside them as many as its inner graphs have.
+abbrev pub most_nodes : {d : Diagram} {b edges : ℕ} → BayHas d b (AreSoMany d) edges → ℕ
+most_nodes has =
+    2 * (has.count * (has.gap.outer_edges + has.load.outer_edges)) + (has.gap.inner_edges + has.load.inner_edges)
+
+-- A bay has no more nodes than its counted sizes allow.
 abbrev pub HaveFewNodes : Diagram → EquationLines → Type 0
-HaveFewNodes d e = (b edges : ℕ) → (has : BayHas d b (AreSoMany d) edges) →
-    AreAtMost (2 * (has.count * (has.gap.outer_edges + has.load.outer_edges))
-    + (has.gap.inner_edges + has.load.inner_edges)) (IsNodeOf d e b)
+HaveFewNodes d e = (b edges : ℕ) → (has : BayHas d b (AreSoMany d) edges) → AreAtMost (most_nodes has) (IsNodeOf d e b)
+
+-- All node lines, also those to which nothing leads, are shared out among the switches, in their order, and those of
+-- the switches of a bay are together no more than its counted sizes allow.
+pub record HaveFewLines (d : Diagram) (e : EquationLines) : Type 0 where
+  -- how many the switches before that of a number have
+  pub before : ℕ → ℕ
+  pub begins : before 0 ≡ 0
+  pub climbs : (m : ℕ) → m < length d.switches → before m ≤ before (suc m)
+  pub ends : before (length d.switches) ≡ length e.nodes
+  pub few : (b edges : ℕ) → (has : BayHas d b (AreSoMany d) edges) →
+      before (has.first + has.count) ≤ before has.first + most_nodes has

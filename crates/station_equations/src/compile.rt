@@ -13,7 +13,7 @@ ghost use Rattle.station_equations.specs.EquationForm.{IsGoal, SwitchGoalsFit, A
 ghost use Rattle.station_equations.specs.Growing.{AllGrew};
 ghost use Rattle.judge_pool.specs.Pooling.{Extends};
 ghost use Rattle.station_equations.specs.Apart.{IsFrom, BothFrom, AllFrom, StandApart};
-ghost use Rattle.station_equations.specs.NodeCount.{HaveFewNodes};
+ghost use Rattle.station_equations.specs.NodeCount.{HaveFewNodes, HaveFewLines};
 ghost use Rattle.station_equations.specs.CompileText.{IsCompileText};
 ghost use Rattle.station_equations.specs.Compiling.{AreExact, AreExactParts, IsOwnBay, ViewLeads, SwitchIsExact};
 ghost use Rattle.station_equations.specs.Compiling.{AreGoalsOf, HaveFewSteps, view_nodes, switch_nodes};
@@ -222,6 +222,7 @@ pub fn compile_equations(alloc: Global, judge: &GraphJudge) -> Result<Equations,
     ensures exact { IfOk result (AreExact judge.now.diagram) }
     ensures steps { IfOk result (HaveFewSteps judge.now.diagram) }
     ensures nodes { IfOk result (HaveFewNodes judge.now.diagram) }
+    ensures all { IfOk result (HaveFewLines judge.now.diagram) }
 {
     let parts = all_steps(alloc, judge.station(), judge.parts())?;
     let mut nodes = Vec::new(alloc);

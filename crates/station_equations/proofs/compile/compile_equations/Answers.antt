@@ -4,7 +4,7 @@ use Rattle.station_equations.specs.EquationForm.{OpsFit}
 use Rattle.station_equations.specs.Growing.{turned_goals}
 use Rattle.station_equations.specs.NodeCount.{HaveFewNodes}
 use Rattle.station_equations.proofs.CompileLemmas.{parts_exact, parts_of, goals_within, compiled}
-use Rattle.station_equations.proofs.ReachedLemmas.{few_nodes}
+use Rattle.station_equations.proofs.ReachedLemmas.{few_nodes, few_lines}
 use Rattle.station_equations.proofs.compile.compile_equations.Goals as goal
 
 pub turned_ops-ops-requires : goal.turned_ops-ops-requires
@@ -52,9 +52,13 @@ invariant_of-result c =
     λ b edges has. few_nodes c.args.judge.now c.in_ok-goals.goals.items c.all_goals.new.nodes.items
     c.in_ok-lines.lines.items (length d.switches) apart goals.count (length d.switches) parts goals.grew
     c.in_ok-lines.ensures refl b edges has in
+    let all = few_lines c.args.judge.now c.in_ok-goals.goals.items c.all_goals.new.nodes.items
+    c.in_ok-lines.lines.items (length d.switches) parts
+    (map (turned_goals (length c.all_goals.new.nodes.items)) c.in_ok-goals.goals.items) apart goals.count goals.grew
+    c.in_ok-lines.ensures in
     (compiled d a parts c.all_goals.new.nodes.items c.in_ok-lines.lines.items c.in_ok-goals.goals.items
     c.turned_ops-ops.result.items c.in_ok-total.total c.parts.ensures.alphabets are goals c.in_ok-lines.ensures total
-    c.turned_ops-ops.ensures few).whole
+    c.turned_ops-ops.ensures few all).whole
 
 pub returns : goal.returns
 returns c =
@@ -74,7 +78,11 @@ returns c =
     λ b edges has. few_nodes c.args.judge.now c.in_ok-goals.goals.items c.all_goals.new.nodes.items
     c.in_ok-lines.lines.items (length d.switches) apart goals.count (length d.switches) parts goals.grew
     c.in_ok-lines.ensures refl b edges has in
+    let all = few_lines c.args.judge.now c.in_ok-goals.goals.items c.all_goals.new.nodes.items
+    c.in_ok-lines.lines.items (length d.switches) parts
+    (map (turned_goals (length c.all_goals.new.nodes.items)) c.in_ok-goals.goals.items) apart goals.count goals.grew
+    c.in_ok-lines.ensures in
     let x = compiled d a parts c.all_goals.new.nodes.items c.in_ok-lines.lines.items c.in_ok-goals.goals.items
     c.turned_ops-ops.result.items c.in_ok-total.total c.parts.ensures.alphabets are goals c.in_ok-lines.ensures total
-    c.turned_ops-ops.ensures few in
-    record { of_station = x.equations; exact = x.exact; steps = x.steps; nodes = x.nodes }
+    c.turned_ops-ops.ensures few all in
+    record { of_station = x.equations; exact = x.exact; steps = x.steps; nodes = x.nodes; all = x.all }

@@ -1,7 +1,7 @@
 use Rattle.std.proofs.Common.{subst}
 use Rattle.station_graph.specs.Diagram.{Diagram}
 use Rattle.station_equations.specs.EquationForm.{AreEquations}
-use Rattle.station_equations.specs.NodeCount.{HaveFewNodes}
+use Rattle.station_equations.specs.NodeCount.{HaveFewNodes, HaveFewLines}
 use Rattle.station_equations.specs.Compiling.{AreExact, HaveFewSteps}
 use Rattle.station_equations.proofs.compile.compile_text.Goals as goal
 
@@ -16,4 +16,5 @@ returns c =
       exact = subst (λ (d : Diagram). AreExact d e) same made.exact;
       steps = subst (λ (d : Diagram). HaveFewSteps d e) same made.steps;
       nodes = subst (λ (d : Diagram). HaveFewNodes d e) same made.nodes;
+      all = subst (λ (d : Diagram). HaveFewLines d e) same made.all;
     }
