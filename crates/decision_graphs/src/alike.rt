@@ -59,10 +59,10 @@ fn is_alike(graph: &Layout<'_>, stack: &[Folded], layer: usize, place: usize) ->
     ensures { result ≡ true → IsFoldedAt (lists_in graph.now) layer
         (folding_at (map folding_of stack.now) (length stack.now - 1)) (folding_at (map folding_of stack.now) place) }
 {
-    if !same_layer(graph, layer, graph.shapes.len() - place) {
+    if !same_folding(&stack[stack.len() - 1], &stack[place - 1]) {
         return false;
     }
-    same_folding(&stack[stack.len() - 1], &stack[place - 1])
+    same_layer(graph, layer, graph.shapes.len() - place)
 }
 
 // The place in the stack of a layer that is the same as this one, and whose edges lead to the same classes.

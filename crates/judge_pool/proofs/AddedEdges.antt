@@ -11,7 +11,8 @@ use Rattle.station_graph.proofs.PathLemmas.{slice_get-push}
 use Rattle.contraction.specs.Answers.{Answers}
 use Rattle.judge_pool.specs.declared.view.View.{View}
 use Rattle.judge_pool.specs.Pooling.{Extends, IsMadeOf, WasMade}
-use Rattle.judge_pool.specs.Layering.{IsPlaced, AreAdded, LeadsToMade, AreEdges}
+use Rattle.judge_pool.specs.Layering.{IsPlaced, AreAdded}
+use Rattle.judge_pool.specs.Pooling.{LeadsToMade, AreEdges}
 use Rattle.judge_pool.proofs.LayerLemmas.{get_front, get_last}
 
 -- ---- edges that are added one by one

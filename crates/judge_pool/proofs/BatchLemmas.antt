@@ -17,6 +17,7 @@ use Rattle.judge_pool.specs.Pooling.{WasMade, MakesEach, HasBatch, NotesAreRight
 use Rattle.judge_pool.specs.Pooling.{letter_lists, IsPool, GrewTo, CanCompose}
 use Rattle.judge_pool.specs.Layering.{no_answers}
 use Rattle.judge_pool.proofs.LayeringLemmas.{Grows, grew_of, grew_in, keep_in, either_more}
+use Rattle.judge_pool.proofs.PastLemmas.{layers_stay}
 
 -- ---- a pool that grew
 
@@ -82,6 +83,7 @@ selects_other p s h =
       apart = h.apart;
       well = h.well;
       notes = notes_stay p q g p.notes h.notes;
+      layers = layers_stay p q g p.layers.items h.layers;
     }) g
 
 -- ---- a note more

@@ -8,7 +8,8 @@ use Rattle.contraction.specs.Answers.{Answers, Keeps}
 use Rattle.judge_pool.specs.declared.view.View.{View}
 use Rattle.judge_pool.specs.Seen.{ComposesIn}
 use Rattle.judge_pool.specs.Folding.{Carried, AreApartIn, AreRising, IsStep, AreReached}
-use Rattle.judge_pool.specs.Layering.{LeadsToMade, AreEdges, no_answers, values_at}
+use Rattle.judge_pool.specs.Layering.{no_answers, values_at}
+use Rattle.judge_pool.specs.Pooling.{LeadsToMade, AreEdges}
 
 pub from_map : {X Y : Type 0} (f : X → Y) (o : Option X) (y : Y) → option_map f o ≡ Some y →
     (x : X) × (o ≡ Some x) × (f x ≡ y)

@@ -15,7 +15,8 @@ use Rattle.contraction.specs.Answers.{Answers}
 use Rattle.judge_pool.specs.declared.pool.Pool.{Pool}
 use Rattle.judge_pool.specs.Pooling.{Extends, IsPool, GrewTo, EitherKeeps, letter_lists}
 use Rattle.judge_pool.specs.Folding.{AreApartIn, AreRising}
-use Rattle.judge_pool.specs.Layering.{NoneTwice, IsPlaced, no_answers}
+use Rattle.judge_pool.specs.Layering.{IsPlaced, no_answers}
+use Rattle.judge_pool.specs.Pooling.{NoneTwice}
 use Rattle.judge_pool.proofs.LayerLemmas.{get_front}
 
 -- ---- places

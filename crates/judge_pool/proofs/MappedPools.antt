@@ -16,7 +16,8 @@ use Rattle.judge_pool.specs.Pooling.{Extends, IsMadeOf}
 use Rattle.judge_pool.specs.Seen.{SameSeen}
 use Rattle.judge_pool.specs.Places.{pool_on}
 use Rattle.judge_pool.specs.Folding.{IsCarriedOn, AreReached, ReachesMore}
-use Rattle.judge_pool.specs.Layering.{LeadsToMade, AreEdges, values_at, no_answers}
+use Rattle.judge_pool.specs.Layering.{values_at, no_answers}
+use Rattle.judge_pool.specs.Pooling.{LeadsToMade, AreEdges}
 use Rattle.judge_pool.specs.Plans.{AreLinked}
 use Rattle.judge_pool.proofs.BridgeLemmas.{from_map}
 use Rattle.judge_pool.proofs.LayeringLemmas.{AreSound, Grows}

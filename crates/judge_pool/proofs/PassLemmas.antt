@@ -15,7 +15,8 @@ use Rattle.judge_pool.specs.declared.pool.Pool.{Pool}
 use Rattle.judge_pool.specs.Counted.{Size, edges_in, AreAtLeast, Spends}
 use Rattle.judge_pool.specs.Pooling.{GrewTo}
 use Rattle.judge_pool.specs.Folding.{IsExact, ReachesMore}
-use Rattle.judge_pool.specs.Layering.{AreEdges, values_at}
+use Rattle.judge_pool.specs.Layering.{values_at}
+use Rattle.judge_pool.specs.Pooling.{AreEdges}
 use Rattle.judge_pool.specs.Plans.{Plan, PlanFits, AreLinked, PlanHas, PlanPasses, SameBefore, plan_diagram}
 use Rattle.judge_pool.specs.Plans.{ChosenBy, items_of, new_of, NeededBy}
 use Rattle.judge_pool.proofs.BridgeLemmas.{reached_by_edges}

@@ -1,17 +1,15 @@
--- Layers that were made, while the pool grows and another is made.
-use Rattle.std.proofs.Common.{◌≡◌, ℕ, ◌*◌, ◌<◌, suc, List, [], ◌∷◌, ◌++◌, length, slice_get, Some, sym, ap, ◌∙◌, subst}
-use Rattle.std.proofs.Common.{inl, inr, arith, map, Vec, Global}
-use Rattle.std.specs.Prelude.{option_map}
-use Rattle.std.proofs.lemmas.List.{length_push, length-map}
-use Rattle.std.proofs.lemmas.Option.{slice_get_within, slice_get-map, same_Some}
+-- Layers that are known, while the pool grows and another is made.
+use Rattle.std.proofs.Common.{◌≡◌, ℕ, ◌*◌, List, [], ◌∷◌, ◌++◌, length, slice_get, Some, sym, ap, ◌∙◌, subst}
+use Rattle.std.proofs.Common.{inl, inr}
+use Rattle.std.proofs.lemmas.Option.{same_Some}
 use Rattle.station_graph.proofs.PathLemmas.{slice_get-push}
 use Rattle.contraction.specs.Answers.{Answers}
+use Rattle.judge_pool.specs.declared.known.LayerKey.{LayerKey}
+use Rattle.judge_pool.specs.declared.known.KnownLayer.{KnownLayer}
 use Rattle.judge_pool.specs.declared.pool.Pool.{Pool}
 use Rattle.judge_pool.specs.declared.view.View.{View}
-use Rattle.judge_pool.specs.Pooling.{Extends, GrewTo}
-use Rattle.judge_pool.specs.Layering.{AreEdges}
-use Rattle.judge_pool.specs.Past.{LeadsOn, ArePast, IsPast}
-use Rattle.judge_pool.proofs.LayerLemmas.{get_front, get_last}
+use Rattle.judge_pool.specs.Pooling.{Extends, AreEdges, LeadsOn, IsKeyOf, SameKey, IsKnown, AreKnown, letter_lists}
+use Rattle.judge_pool.proofs.LayeringLemmas.{Grows}
 
 -- edges between values stay while there are more values
 pub edges_grown : (view : View) (values more : List Answers) (keep states letters next edges : List ℕ) (n : ℕ) →
@@ -39,7 +37,7 @@ edges_grown view values more keep states letters next edges n grown h = record {
   hit = h.hit;
 }
 
-pub leads_grown : (p q : Pool) (k : ℕ) (states row next edges : List ℕ) → GrewTo p q →
+pub leads_grown : (p q : Pool) (k : ℕ) (states row next edges : List ℕ) → Grows p q →
     LeadsOn p k states row next edges → LeadsOn q k states row next edges
 leads_grown p q k states row next edges g h = record {
   nodes = h.nodes;
@@ -51,70 +49,52 @@ leads_grown p q k states row next edges g h = record {
       g.values h.edges_lead);
 }
 
--- what stands before the end of a list with one more stands in the list
-before_end : {X : Type 0} (xs : List X) (x y : X) (i : ℕ) → i < length xs → slice_get (xs ++ x ∷ []) i ≡ Some y →
-    slice_get xs i ≡ Some y
-before_end xs x y i lt at = elim (slice_get-push xs x y i at) [
-  | inl before ↦ before
-  | inr here ↦ absurd (omega (arith, lt, here.0))
+pub key_stays : (p q : Pool) → Grows p q → (states row : List ℕ) (keep : ℕ) (k : LayerKey) →
+    IsKeyOf p states row keep k → IsKeyOf q states row keep k
+key_stays p q g states row keep k h = record {
+  before = g.letters k.states states h.before;
+  by = g.letters k.letters row h.by;
+  behind = h.behind;
+}
+
+pub known_stays : (p q : Pool) → Grows p q → (l : KnownLayer) → IsKnown p l → IsKnown q l
+known_stays p q g l h = record {
+  states = h.states;
+  row = h.row;
+  next = h.next;
+  key = key_stays p q g h.states h.row l.key.keep l.key h.key;
+  listed = g.letters l.next h.next h.listed;
+  leads = leads_grown p q l.key.keep h.states h.row h.next l.edges.items g h.leads;
+}
+
+pub layers_stay : (p q : Pool) → Grows p q → (layers : List KnownLayer) → AreKnown p layers → AreKnown q layers
+layers_stay p q g layers known i l at = known_stays p q g l (known i l at)
+
+pub layers_more : (p : Pool) (layers : List KnownLayer) (new : KnownLayer) → AreKnown p layers → IsKnown p new →
+    AreKnown p (layers ++ new ∷ [])
+layers_more p layers new known is i l at = elim (slice_get-push layers new l i at) [
+  | inl before ↦ known i l before
+  | inr here ↦ subst (IsKnown p) here.1 is
 ]
 
-at_end : {X : Type 0} (xs : List X) (x y : X) (i : ℕ) → i ≡ length xs → slice_get (xs ++ x ∷ []) i ≡ Some y → x ≡ y
-at_end xs x y i is at = elim (slice_get-push xs x y i at) [
-  | inl before ↦ absurd (omega (arith, is, slice_get_within xs i y before))
-  | inr here ↦ here.1
-]
+pub layers_none : (p : Pool) (layers : List KnownLayer) → layers ≡ [] → AreKnown p layers
+layers_none p layers e i l at =
+    absurd (let h : slice_get {X = KnownLayer} [] i ≡ Some l = ap (λ ls. slice_get ls i) (sym e) ∙ at in cc)
 
--- one layer more
-module _ (p q : Pool) (letters : List (List ℕ)) (keeps : List ℕ) (lists layers : List (List ℕ)) (g : GrewTo p q)
-    (states row next edges : List ℕ) (j k : ℕ) (past : ArePast p letters keeps (lists ++ states ∷ []) layers)
-    (in_lists : length lists ≡ j) (in_layers : length layers ≡ j) (at_row : slice_get letters j ≡ Some row)
-    (at_keep : slice_get keeps (suc j) ≡ Some k) (leads : LeadsOn q k states row next edges) where
-  count : length (lists ++ states ∷ []) ≡ suc j
-  count = omega (arith, length_push lists states, in_lists)
-
-  pub past_more : ArePast q letters keeps ((lists ++ states ∷ []) ++ next ∷ []) (layers ++ edges ∷ [])
-  past_more i m r s n e at_r at_m at_s at_n at_e = elim (slice_get-push layers edges e i at_e) [
-    | inl before ↦
-        let lt : i < j = omega (arith, slice_get_within layers i e before, in_layers) in
-        leads_grown p q m s r n e g
-        (past i m r s n e at_r at_m (before_end (lists ++ states ∷ []) next s i (omega (arith, lt, count)) at_s)
-        (before_end (lists ++ states ∷ []) next n (suc i) (omega (arith, lt, count)) at_n) before)
-    | inr here ↦
-        let is : i ≡ j = here.0 ∙ in_layers in
-        let same_row : row ≡ r = same_Some row r (sym at_row ∙ (ap (slice_get letters) (sym is) ∙ at_r)) in
-        let same_keep : k ≡ m = same_Some k m (sym at_keep ∙ (ap (λ t. slice_get keeps (suc t)) (sym is) ∙ at_m)) in
-        let same_states : states ≡ s = at_end lists states s i (is ∙ sym in_lists)
-        (before_end (lists ++ states ∷ []) next s i (omega (arith, is, count)) at_s) in
-        let same_next : next ≡ n = at_end (lists ++ states ∷ []) next n (suc i) (omega (arith, is, count)) at_n in
-        subst (λ x. LeadsOn q m s r n x) here.1
-        (subst (λ x. LeadsOn q m s r x edges) same_next
-        (subst (λ x. LeadsOn q m s x next edges) same_row
-        (subst (λ x. LeadsOn q m x row next edges) same_states
-        (subst (λ x. LeadsOn q x states row next edges) same_keep leads))))
-  ]
-
--- a layer that is the same as one that was made leads as that one did
-pub past_leads : (p : Pool) (letters : List (List ℕ)) (keeps : List ℕ) (lists layers : List (List ℕ))
-    (states now row next edges : List ℕ) (place k : ℕ) → ArePast p letters keeps (lists ++ now ∷ []) layers →
-    IsPast lists letters keeps place states row k → slice_get (lists ++ now ∷ []) (suc place) ≡ Some next →
-    slice_get layers place ≡ Some edges → LeadsOn p k states row next edges
-past_leads p letters keeps lists layers states now row next edges place k past is at_next at_edges =
-    past place k row states next edges is.letter_row is.behind (get_front lists (now ∷ []) place states is.list) at_next
-    at_edges
-
--- the list behind a place, where one more list stands at the end
-pub list_behind : (vs : List (Vec ℕ Global)) (now : List ℕ) (place : ℕ) (v : Vec ℕ Global) →
-    slice_get vs (suc place) ≡ Some v → slice_get (map (λ (w : Vec ℕ Global). w.items) vs ++ now ∷ []) (suc place)
-    ≡ Some v.items
-list_behind vs now place v at =
-    get_front (map (λ (w : Vec ℕ Global). w.items) vs) (now ∷ []) (suc place) v.items
-    (slice_get-map (λ (w : Vec ℕ Global). w.items) vs (suc place)
-    ∙ ap (option_map (λ (w : Vec ℕ Global). w.items)) at)
-
-pub last_behind : (vs : List (Vec ℕ Global)) (now : List ℕ) (place : ℕ) → suc place ≡ length vs →
-    slice_get (map (λ (w : Vec ℕ Global). w.items) vs ++ now ∷ []) (suc place) ≡ Some now
-last_behind vs now place is =
-    ap (slice_get (map (λ (w : Vec ℕ Global). w.items) vs ++ now ∷ []))
-    (is ∙ sym (length-map vs (λ (w : Vec ℕ Global). w.items)))
-    ∙ get_last (map (λ (w : Vec ℕ Global). w.items) vs) now
+-- a layer that is made of the same lists leads as that one did
+pub leads_again : (p : Pool) (l : KnownLayer) (k : LayerKey) (states row next edges : List ℕ) (keep : ℕ) →
+    IsKnown p l → SameKey l.key k → IsKeyOf p states row keep k → slice_get (letter_lists p) l.next ≡ Some next →
+    edges ≡ l.edges.items → LeadsOn p keep states row next edges
+leads_again p l k states row next edges keep known same key at_next is_edges =
+    let lists = letter_lists p in
+    let is_states : known.states ≡ states =
+    same_Some known.states states (sym known.key.before ∙ (ap (slice_get lists) same.states ∙ key.before)) in
+    let is_row : known.row ≡ row =
+    same_Some known.row row (sym known.key.by ∙ (ap (slice_get lists) same.letters ∙ key.by)) in
+    let is_next : known.next ≡ next = same_Some known.next next (sym known.listed ∙ at_next) in
+    let is_keep : l.key.keep ≡ keep = same.keep ∙ key.behind in
+    subst (λ m. LeadsOn p m states row next edges) is_keep
+    (subst (λ x. LeadsOn p l.key.keep x row next edges) is_states
+    (subst (λ x. LeadsOn p l.key.keep known.states x next edges) is_row
+    (subst (λ x. LeadsOn p l.key.keep known.states known.row x edges) is_next
+    (subst (λ x. LeadsOn p l.key.keep known.states known.row known.next x) (sym is_edges) known.leads))))

@@ -13,7 +13,8 @@ use Rattle.judge_pool.specs.declared.pool.Pool.{Pool}
 use Rattle.judge_pool.specs.Folding.{StandsIn, IsStep, IsExact}
 use Rattle.decision_graphs.specs.Finished.{layer_with}
 use Rattle.judge_pool.specs.Pooling.{Extends, GrewTo, EitherKeeps}
-use Rattle.judge_pool.specs.Layering.{AreEdges, no_answers, values_at}
+use Rattle.judge_pool.specs.Layering.{no_answers, values_at}
+use Rattle.judge_pool.specs.Pooling.{AreEdges}
 use Rattle.judge_pool.specs.Plans.{Plan, PlanFits, AreLinked, plan_diagram, ChosenBy, items_of, new_of, items_before}
 use Rattle.judge_pool.specs.Plans.{NeededBy}
 use Rattle.judge_pool.proofs.LayeringLemmas.{AreSound, Grows, state_in, keep_was}

@@ -9,4 +9,3 @@ pub mod Plans
 pub mod Pooling
 pub mod Places
 pub mod Layering
-pub mod Past

@@ -1,6 +1,6 @@
 -- Values of one view, found again by their rows, and the batches that were composed of them.
-use Rattle.std.specs.Prelude.{◌≡◌, ℕ, ◌↔◌, ◌⊎◌, ◌+◌, ◌<◌, List, length, map, slice_get, Option, Some, None, Contains}
-use Rattle.std.specs.Prelude.{nat_eq, ◌&&◌, Bool}
+use Rattle.std.specs.Prelude.{◌≡◌, ℕ, ◌↔◌, ◌⊎◌, ◌+◌, ◌*◌, ◌/◌, ◌%◌, ◌<◌, ◌≤◌, List, length, map, slice_get, Option}
+use Rattle.std.specs.Prelude.{Some, None, Contains, nat_eq, ◌&&◌, Bool, slice_index}
 use Rattle.std.specs.Str.{bytes_eq}
 use Rattle.std.specs.HashMap.{HashMap, get}
 use Rattle.station_graph.specs.Diagram.{Diagram}
@@ -11,6 +11,8 @@ use Rattle.contraction.specs.Stands.{Among}
 use Rattle.judge_pool.specs.declared.view.View.{View}
 use Rattle.judge_pool.specs.declared.batch.Made.{Made}
 use Rattle.judge_pool.specs.declared.batch.Batch.{Batch}
+use Rattle.judge_pool.specs.declared.known.LayerKey.{LayerKey}
+use Rattle.judge_pool.specs.declared.known.KnownLayer.{KnownLayer}
 use Rattle.judge_pool.specs.declared.pool.Pool.{Pool}
 use Rattle.judge_pool.specs.Seen.{SeenFor, SameSeen, ComposesIn, seen_row}
 use Rattle.judge_pool.specs.Folding.{AreApartIn, AreWell}
@@ -51,7 +53,7 @@ pub record WasMade (view : View) (values : List Answers) (keeps : List (List ℕ
 abbrev pub composition : Batch → ℕ → Made
 composition b letter = record { first = b.first; second = letter; keep = b.keep }
 
--- The lists of letters of the pool.
+-- The lists of numbers of the pool: of letters, and of the states of layers.
 abbrev pub letter_lists : Pool → List (List ℕ)
 letter_lists p = map (λ v. v.items) p.letters.items
 
@@ -77,14 +79,73 @@ same_batch a b = nat_eq a.first b.first && (nat_eq a.letters b.letters && nat_eq
 abbrev pub NotesAreRight : {S : Type 0} → Pool → HashMap Batch ℕ S → Type 0
 NotesAreRight p m = (b : Batch) (start : ℕ) → get same_batch m b ≡ Some start → HasBatch p b start
 
--- The pool has each value once, and its notes are right.
+-- No number stands twice.
+abbrev pub NoneTwice : List ℕ → Type 0
+NoneTwice ids = (a b id : ℕ) → slice_get ids a ≡ Some id → slice_get ids b ≡ Some id → a ≡ b
+
+-- The value at a place of the next layer was made of two values on these nodes.
+pub record LeadsToMade (view : View) (values : List Answers) (keep next : List ℕ) (i j place : ℕ) : Type 0 where
+  pub id : ℕ
+  pub at : slice_get next place ≡ Some id
+  pub x : Answers
+  pub y : Answers
+  pub first : slice_get values i ≡ Some x
+  pub second : slice_get values j ≡ Some y
+  pub made : IsMadeOf view x y keep values id
+
+-- The first n edges, state by state, lead to the values that were made of a state and a letter; the next layer has
+-- the numbers of these alone, each once.
+pub record AreEdges (view : View) (values : List Answers) (keep states letters next edges : List ℕ)
+    (n : ℕ) : Type 0 where
+  pub len : length edges ≡ n
+  pub made : (p i j : ℕ) → p < n → slice_get states (p / length letters) ≡ Some i →
+      slice_get letters (p % length letters) ≡ Some j → LeadsToMade view values keep next i j (slice_index edges p)
+  pub none_twice : NoneTwice next
+  pub hit : (b id : ℕ) → slice_get next b ≡ Some id →
+      (p i j : ℕ) × (p < n) × (slice_get states (p / length letters) ≡ Some i)
+      × (slice_get letters (p % length letters) ≡ Some j) × (slice_index edges p ≡ b)
+
+-- From these states, by these letters and on these nodes, these edges lead to these states.
+pub record LeadsOn (p : Pool) (keep : ℕ) (states row next edges : List ℕ) : Type 0 where
+  pub nodes : List ℕ
+  pub kept : slice_get p.keeps.items keep ≡ Some nodes
+  pub few : length next ≤ length states * length row
+  pub edges_lead : AreEdges p.view p.values.items nodes states row next edges (length states * length row)
+
+-- The key names these lists of the pool, and the nodes of this number.
+pub record IsKeyOf (p : Pool) (states row : List ℕ) (keep : ℕ) (k : LayerKey) : Type 0 where
+  pub before : slice_get (letter_lists p) k.states ≡ Some states
+  pub by : slice_get (letter_lists p) k.letters ≡ Some row
+  pub behind : k.keep ≡ keep
+
+-- Both keys name the same.
+pub record SameKey (a b : LayerKey) : Type 0 where
+  pub states : a.states ≡ b.states
+  pub letters : a.letters ≡ b.letters
+  pub keep : a.keep ≡ b.keep
+
+-- The layer was made of what its key names, and leads on as its edges say.
+pub record IsKnown (p : Pool) (l : KnownLayer) : Type 0 where
+  pub states : List ℕ
+  pub row : List ℕ
+  pub next : List ℕ
+  pub key : IsKeyOf p states row l.key.keep l.key
+  pub listed : slice_get (letter_lists p) l.next ≡ Some next
+  pub leads : LeadsOn p l.key.keep states row next l.edges.items
+
+-- Each layer that is known is so.
+abbrev pub AreKnown : Pool → List KnownLayer → Type 0
+AreKnown p layers = (i : ℕ) (l : KnownLayer) → slice_get layers i ≡ Some l → IsKnown p l
+
+-- The pool has each value once, its notes are right, and so are the layers that it knows.
 pub record IsPool (p : Pool) : Type 0 where
   pub index : IsRowIndex p.view p.values.items p.index
   pub apart : AreApartIn p.view p.values.items
   pub well : AreWell p.values.items
   pub notes : NotesAreRight p p.notes
+  pub layers : AreKnown p p.layers.items
 
--- The pool has what it had, and maybe more values, lists of nodes, lists of letters and numbers of made values.
+-- The pool has what it had, and maybe more values, lists of nodes, lists of numbers and numbers of made values.
 pub record GrewTo (old new : Pool) : Type 0 where
   pub is_pool : IsPool new
   pub view : new.view ≡ old.view

@@ -1,11 +1,11 @@
 //! Compositions of values of a pool, by batches, each made once.
 ghost use Rattle.std.specs.Prelude.{◌≡◌, ℕ, ◌+◌, ◌<◌, ◌≤◌, ◌⊎◌, ◌↔◌, length, map, slice_get, Some};
-ghost use Rattle.std.specs.Prelude.{IfOk, IfSome, OnOk, Contains};
+ghost use Rattle.std.specs.Prelude.{IfOk, IfSome, OnOk, Contains, IsTrue, slice_index, take};
 ghost use Rattle.contraction.specs.Answers.{Keeps};
 ghost use Rattle.judge_pool.specs.declared.pool.Pool.{Pool as AnyPool};
 ghost use Rattle.judge_pool.specs.Seen.{ComposesIn};
 ghost use Rattle.judge_pool.specs.Pooling.{IsPool, GrewTo, Selects, SelectsFor, IsRowOfBoth, CanCompose, LettersFit};
-ghost use Rattle.judge_pool.specs.Pooling.{WasMade, MakesEach, HasBatch, NotesAreRight, letter_lists};
+ghost use Rattle.judge_pool.specs.Pooling.{WasMade, MakesEach, HasBatch, NotesAreRight, letter_lists, composition};
 
 use crate::batch::{Batch, Made};
 use crate::pool::{Pool, find_row};
@@ -92,31 +92,79 @@ fn note_batch(notes: &mut HashMap<Batch, usize>, batch: Batch, start: usize) -> 
     Ok(())
 }
 
-// The place of the list of letters among these.
-fn find_letters(lists: &[Vec<usize>], letters: &[usize]) -> Option<usize>
+// Whether two lists of numbers are the same.
+fn same_numbers(one: &[usize], other: &[usize]) -> bool
+    ensures { IsTrue result → one.now ≡ other.now }
+{
+    one == other
+}
+
+// Whether the list stands at this place.
+fn is_list(lists: &[Vec<usize>], place: usize, letters: &[usize]) -> bool
+    requires { place < length lists.now }
+    ensures { IsTrue result → slice_get (map (λ v. v.items) lists.now) place ≡ Some letters.now }
+{
+    same_numbers(&lists[place], letters)
+}
+
+// The place, if the list stands there.
+fn list_at(lists: &[Vec<usize>], place: usize, letters: &[usize]) -> Option<usize>
     ensures { IfSome result (λ l. slice_get (map (λ v. v.items) lists.now) l ≡ Some letters.now) }
 {
-    for place in 0..lists.len() {
-        if lists[place].as_slice() == letters {
-            return Some(place);
+    if place >= lists.len() {
+        return None;
+    }
+    if is_list(lists, place, letters) {
+        Some(place)
+    } else {
+        None
+    }
+}
+
+// The place of the list among these, which is looked for where it was noted.
+fn find_letters(
+    places: &HashMap<Vec<usize>, usize>,
+    lists: &[Vec<usize>],
+    letters: &Vec<usize>,
+) -> Option<usize>
+    ensures { IfSome result (λ l. slice_get (map (λ v. v.items) lists.now) l ≡ Some letters.now.items) }
+{
+    match places.get(letters) {
+        Some(place) => list_at(lists, *place, letters),
+        None => None,
+    }
+}
+
+// An earlier place with the same letter. Letters that differ in the other view alone are one value here.
+fn same_before(letters: &[usize], c: usize) -> Option<usize>
+    requires { c < length letters.now }
+    ensures before { IfSome result (λ k. k < c) }
+    ensures same { IfSome result (λ k. slice_index letters.now k ≡ slice_index letters.now c) }
+{
+    for k in 0..c {
+        if letters[k] == letters[c] {
+            return Some(k);
         }
     }
     None
 }
 
 impl Pool {
-    // The number of the list of letters, which the pool has once.
+    // The number of the list of letters or states, which the pool has once.
     pub(crate) fn note_letters(&mut self, alloc: Global, letters: &[usize]) -> Result<usize, Memory>
         requires { IsPool self.old }
         ensures grew { OnOk result (GrewTo self.old self.new) }
         ensures noted { IfOk result (λ l. slice_get (letter_lists self.new) l ≡ Some letters.now) }
     {
-        if let Some(place) = find_letters(&self.letters, letters) {
+        let list = Vec::from_slice(alloc, letters)?;
+        if let Some(place) = find_letters(&self.list_places, &self.letters, &list) {
             return Ok(place);
         }
+        let key = Vec::from_slice(alloc, letters)?;
         let held = self.letters.as_slice();
         let place = held.len();
-        self.letters.push(letters.to_vec(alloc)?)?;
+        self.letters.push(list)?;
+        self.list_places.insert(key, place)?;
         Ok(place)
     }
 
@@ -184,15 +232,42 @@ impl Pool {
     {
         let mut ids = Vec::with_capacity(alloc, letters.len())?;
         'letters: for c in 0..letters.len() {
-            let key = Made {
-                first: batch.first,
-                second: letters[c],
-                keep: batch.keep,
-            };
-            let id = self.compose(alloc, key)?;
+            let id = self.compose_letter(alloc, batch, letters, &ids, c)?;
             ids.push(id)?;
         }
         Ok(ids)
+    }
+
+    // The number of what the value and the letter at a place make together, given the numbers of those at the places
+    // before it.
+    fn compose_letter(
+        &mut self,
+        alloc: Global,
+        batch: Batch,
+        letters: &[usize],
+        ids: &[usize],
+        c: usize,
+    ) -> Result<usize, Memory>
+        requires pool { IsPool self.old }
+        requires place { c < length letters.now }
+        requires fit { LettersFit self.old batch letters.now }
+        requires made { MakesEach self.old batch (take c letters.now) ids.now }
+        ensures grew { OnOk result (GrewTo self.old self.new) }
+        ensures made { IfOk result (λ t. WasMade self.new.view self.new.values.items self.new.keeps.items
+            (composition batch (slice_index letters.now c)) t) }
+    {
+        match same_before(letters, c) {
+            Some(k) => Ok(ids[k]),
+            None => {
+                let key = Made {
+                    first: batch.first,
+                    second: letters[c],
+                    keep: batch.keep,
+                };
+                let id = self.compose(alloc, key)?;
+                Ok(id)
+            }
+        }
     }
 
     // The number of the value that stands for both together, on these of their nodes.

@@ -5,7 +5,8 @@ ghost use Rattle.decision_graphs.specs.Finished.{AreFinished};
 ghost use Rattle.contraction.specs.Renaming.{KeepsOrder, mapped};
 ghost use Rattle.judge_pool.specs.Pooling.{IsPool, GrewTo, EitherKeeps};
 ghost use Rattle.judge_pool.specs.Places.{pool_on};
-ghost use Rattle.judge_pool.specs.Layering.{IsPlaced, AreAdded, AreEdges, values_at};
+ghost use Rattle.judge_pool.specs.Layering.{IsPlaced, AreAdded, values_at};
+ghost use Rattle.judge_pool.specs.Pooling.{AreEdges};
 ghost use Rattle.judge_pool.specs.Counted.{Spends};
 ghost use Rattle.judge_pool.specs.Folding.{IsExact, ReachesMore};
 ghost use Rattle.judge_pool.specs.declared.layer.Trouble.TheVariants.{Wide};
@@ -100,7 +101,6 @@ pub fn fold_layers(
         i < length pool.new.values.items) }
 {
     let mut layers = Vec::new(alloc);
-    let mut lists = Vec::new(alloc);
     let mut states = list_of(alloc, start)?;
     let mut left = budget;
     'layers: for j in 0..letters.len() {
@@ -113,25 +113,13 @@ pub fn fold_layers(
         }
         left -= nodes * choices;
         let most = most_nodes(letters, j + 1, left);
-        let step = step_from(
-            alloc,
-            pool,
-            &lists,
-            &layers,
-            letters,
-            keeps,
-            held,
-            row,
-            keeps[j + 1],
-            most,
-        )?;
+        let step = step_from(alloc, pool, held, row, keeps[j + 1], most)?;
         let layer = FinishedLayer {
             choices: choices as u32,
             nodes: nodes as u32,
             edges: step.edges,
         };
         layers.push(layer)?;
-        lists.push(states)?;
         states = step.next;
     }
     Ok(Drafts {

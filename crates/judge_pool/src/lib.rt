@@ -5,6 +5,7 @@
 mod batch;
 mod batches;
 mod fold;
+mod known;
 mod layer;
 mod limits;
 mod past;

@@ -1,104 +1,155 @@
-//! Layers that are made as one before them was.
-ghost use Rattle.std.specs.Prelude.{◌≡◌, [], ◌∷◌, ◌++◌, ℕ, suc, ◌+◌, ◌*◌, ◌<◌, ◌≤◌, length, map, slice_get, List};
+//! Layers that are made as one before them was, in whichever graph that stands.
+ghost use Rattle.std.specs.Prelude.{◌≡◌, ℕ, ◌*◌, ◌<◌, ◌≤◌, length, slice_get, List};
 ghost use Rattle.std.specs.Prelude.{Some, IfOk, IfErr, IfSome, OnOk, IsTrue};
-ghost use Rattle.judge_pool.specs.Pooling.{IsPool, GrewTo, EitherKeeps};
-ghost use Rattle.judge_pool.specs.Layering.{AreEdges, values_at};
+ghost use Rattle.judge_pool.specs.Pooling.{IsPool, GrewTo, EitherKeeps, AreEdges, LeadsOn, IsKeyOf, SameKey, letter_lists};
+ghost use Rattle.judge_pool.specs.Layering.{values_at};
 ghost use Rattle.judge_pool.specs.Folding.{ReachesMore};
-ghost use Rattle.judge_pool.specs.Past.{ArePast, IsPast};
+ghost use Rattle.judge_pool.specs.declared.known.KnownLayer.{KnownLayer as Known};
 ghost use Rattle.judge_pool.specs.declared.layer.Trouble.TheVariants.{Wide};
 ghost use Rattle.judge_pool.specs.declared.limits.TheConstants.{ALL_EDGES};
 
+use crate::known::{KnownLayer, LayerKey};
 use crate::layer::{Step, Trouble, next_layer};
 use crate::pool::Pool;
-use decision_graphs::FinishedLayer;
 use ilk_base::Memory;
 use std::alloc::Global;
+use std::collections::HashMap;
 
-// Whether two lists of numbers are the same.
-fn same_numbers(one: &[usize], other: &[usize]) -> bool
-    ensures { IsTrue result → one.now ≡ other.now }
+// Whether the layer was made of this.
+fn is_made_of(layer: &KnownLayer, key: LayerKey) -> bool
+    ensures { IsTrue result → SameKey layer.now.key key }
 {
-    one == other
-}
-
-// Whether the layer at this place has these states, letters and nodes.
-fn is_past(
-    lists: &[Vec<usize>],
-    letters: &[Vec<usize>],
-    keeps: &[usize],
-    place: usize,
-    states: &[usize],
-    row: &[usize],
-    keep: usize,
-) -> bool
-    requires list { place < length lists.now }
-    requires letters { place < length letters.now }
-    requires keeps { place + 1 < length keeps.now }
-    ensures { IsTrue result → IsPast (map (λ v. v.items) lists.now) (map (λ v. v.items) letters.now) keeps.now place
-        states.now row.now keep }
-{
-    if keeps[place + 1] != keep {
+    if layer.key.states != key.states {
         return false;
     }
-    if !same_numbers(&letters[place], row) {
+    if layer.key.letters != key.letters {
         return false;
     }
-    same_numbers(&lists[place], states)
+    layer.key.keep == key.keep
 }
 
-// The place of a layer that was made with these states, letters and nodes.
-fn find_past(
-    lists: &[Vec<usize>],
-    letters: &[Vec<usize>],
-    keeps: &[usize],
-    states: &[usize],
-    row: &[usize],
-    keep: usize,
-) -> Option<usize>
-    requires letters { length lists.now ≤ length letters.now }
-    requires keeps { length lists.now < length keeps.now }
-    ensures within { IfSome result (λ place. place < length lists.now) }
-    ensures past { IfSome result (λ place. IsPast (map (λ v. v.items) lists.now) (map (λ v. v.items) letters.now) keeps.now place
-        states.now row.now keep) }
+// The place, if a layer that was made of this stands there.
+fn layer_at(layers: &[KnownLayer], place: usize, key: LayerKey) -> Option<usize>
+    ensures { IfSome result (λ k. (l : Known) × (slice_get layers.now k ≡ Some l) × SameKey l.key key) }
 {
-    for place in 0..lists.len() {
-        if is_past(lists, letters, keeps, place, states, row, keep) {
-            return Some(place);
-        }
+    if place >= layers.len() {
+        return None;
     }
-    None
-}
-
-// The states behind a layer, where these are the states before the next one.
-fn states_behind<'a>(lists: &'a [Vec<usize>], states: &'a [usize], place: usize) -> &'a [usize]
-    requires { place < length lists.now }
-    ensures { slice_get (map (λ v. v.items) lists.now ++ states.now ∷ []) (suc place) ≡ Some result.now }
-{
-    if place + 1 < lists.len() {
-        &lists[place + 1]
+    if is_made_of(&layers[place], key) {
+        Some(place)
     } else {
-        states
+        None
     }
 }
 
-// The same edges and states as those of a layer that was made.
-fn step_again(
-    alloc: Global,
-    lists: &[Vec<usize>],
-    layers: &[FinishedLayer],
-    states: &[usize],
-    place: usize,
-) -> Result<Step, Memory>
-    requires list { place < length lists.now }
-    requires layer { place < length layers.now }
-    ensures next { IfOk result
-        (λ s. slice_get (map (λ v. v.items) lists.now ++ states.now ∷ []) (suc place) ≡ Some s.next.items) }
-    ensures edges { IfOk result (λ s. slice_get (map (λ l. l.edges.items) layers.now) place ≡ Some s.edges.items) }
+// The place of a layer that was made of this, which is looked for where it was noted.
+fn find_layer(
+    places: &HashMap<LayerKey, usize>,
+    layers: &[KnownLayer],
+    key: LayerKey,
+) -> Option<usize>
+    ensures { IfSome result (λ k. (l : Known) × (slice_get layers.now k ≡ Some l) × SameKey l.key key) }
+{
+    match places.get(&key) {
+        Some(place) => layer_at(layers, *place, key),
+        None => None,
+    }
+}
+
+// The same states and edges again.
+fn step_again(alloc: Global, next: &[usize], edges: &[u32]) -> Result<Step, Memory>
+    ensures next { IfOk result (λ s. s.next.items ≡ next.now) }
+    ensures edges { IfOk result (λ s. s.edges.items ≡ edges.now) }
 {
     Ok(Step {
-        next: Vec::from_slice(alloc, states_behind(lists, states, place))?,
-        edges: Vec::from_slice(alloc, &layers[place].edges)?,
+        next: Vec::from_slice(alloc, next)?,
+        edges: Vec::from_slice(alloc, edges)?,
     })
+}
+
+impl Pool {
+    // What a layer with these states, letters and nodes is made of, by the numbers of its lists.
+    fn layer_key(
+        &mut self,
+        alloc: Global,
+        states: &[usize],
+        letters: &[usize],
+        keep: usize,
+    ) -> Result<LayerKey, Memory>
+        requires { IsPool self.old }
+        ensures grew { OnOk result (GrewTo self.old self.new) }
+        ensures key { IfOk result (IsKeyOf self.new states.now letters.now keep) }
+    {
+        let before = self.note_letters(alloc, states)?;
+        let by = self.note_letters(alloc, letters)?;
+        Ok(LayerKey {
+            states: before,
+            letters: by,
+            keep,
+        })
+    }
+
+    // The edges and states of the layer at a place, again.
+    fn layer_again(&self, alloc: Global, place: usize) -> Result<Step, Memory>
+        requires pool { IsPool self.now }
+        requires place { place < length self.now.layers.items }
+        ensures next { IfOk result (λ s. (l : Known) → slice_get self.now.layers.items place ≡ Some l →
+            slice_get (letter_lists self.now) l.next ≡ Some s.next.items) }
+        ensures edges { IfOk result (λ s. (l : Known) → slice_get self.now.layers.items place ≡ Some l →
+            s.edges.items ≡ l.edges.items) }
+    {
+        let layer = &self.layers[place];
+        let step = step_again(alloc, &self.letters[layer.next], &layer.edges)?;
+        Ok(step)
+    }
+
+    // Remembers a layer, so that it is not made again.
+    fn note_layer(&mut self, alloc: Global, key: LayerKey, step: &Step) -> Result<(), Memory>
+        requires pool { IsPool self.old }
+        requires leads { (states : List ℕ) × ((row : List ℕ) × IsKeyOf self.old states row key.keep key
+            × LeadsOn self.old key.keep states row step.now.next.items step.now.edges.items) }
+        ensures grew { OnOk result (GrewTo self.old self.new) }
+    {
+        let next = self.note_letters(alloc, &step.next)?;
+        let edges = Vec::from_slice(alloc, &step.edges)?;
+        let place = self.layers.len();
+        self.layer_places.insert(key, place)?;
+        self.layers.push(KnownLayer { key, next, edges })?;
+        Ok(())
+    }
+
+    // A layer that is made now, and remembered.
+    fn new_layer(
+        &mut self,
+        alloc: Global,
+        states: &[usize],
+        row: &[usize],
+        key: LayerKey,
+        most: usize,
+    ) -> Result<Step, Trouble>
+        requires pool { IsPool self.old }
+        requires key { IsKeyOf self.old states.now row.now key.keep key }
+        requires states { (k i : ℕ) → slice_get states.now k ≡ Some i → i < length self.old.values.items }
+        requires letters { (c j : ℕ) → slice_get row.now c ≡ Some j → j < length self.old.values.items }
+        requires some { 0 < length row.now }
+        requires few { length states.now * length row.now ≤ ALL_EDGES }
+        requires keep { key.keep < length self.old.keeps.items }
+        requires nodes { (k c i j : ℕ) → slice_get states.now k ≡ Some i → slice_get row.now c ≡ Some j →
+            EitherKeeps self.old i j key.keep }
+        ensures grew { OnOk result (GrewTo self.old self.new) }
+        ensures few { IfOk result (λ s. length s.next.items ≤ length states.now * length row.now) }
+        ensures edges { IfOk result (λ s. (nodes : List ℕ) → slice_get self.old.keeps.items key.keep ≡ Some nodes
+            → AreEdges self.new.view self.new.values.items nodes states.now row.now s.next.items s.edges.items
+            (length states.now * length row.now)) }
+        ensures wide { IfErr result (λ e. e ≡ Wide → (nodes : List ℕ) →
+            slice_get self.old.keeps.items key.keep ≡ Some nodes
+            → ReachesMore self.old.view nodes (values_at self.old.values.items states.now)
+            (values_at self.old.values.items row.now) most) }
+    {
+        let step = next_layer(alloc, self, states, row, key.keep, most)?;
+        self.note_layer(alloc, key, &step)?;
+        Ok(step)
+    }
 }
 
 // From the values of a layer to those of the next one: as in a layer that was made with the same states, letters and
@@ -106,10 +157,6 @@ fn step_again(
 pub(crate) fn step_from(
     alloc: Global,
     pool: &mut Pool,
-    lists: &[Vec<usize>],
-    layers: &[FinishedLayer],
-    letters: &[Vec<usize>],
-    keeps: &[usize],
     states: &[usize],
     row: &[usize],
     keep: usize,
@@ -123,11 +170,6 @@ pub(crate) fn step_from(
     requires keep { keep < length pool.old.keeps.items }
     requires nodes { (k c i j : ℕ) → slice_get states.now k ≡ Some i → slice_get row.now c ≡ Some j →
         EitherKeeps pool.old i j keep }
-    requires lists_in { length lists.now ≤ length letters.now }
-    requires keeps_in { length lists.now < length keeps.now }
-    requires layers_in { length layers.now ≡ length lists.now }
-    requires past { ArePast pool.old (map (λ v. v.items) letters.now) keeps.now
-        (map (λ v. v.items) lists.now ++ states.now ∷ []) (map (λ l. l.edges.items) layers.now) }
     ensures grew { OnOk result (GrewTo pool.old pool.new) }
     ensures few { IfOk result (λ s. length s.next.items ≤ length states.now * length row.now) }
     ensures edges { IfOk result (λ s. (nodes : List ℕ) → slice_get pool.old.keeps.items keep ≡ Some nodes
@@ -137,13 +179,14 @@ pub(crate) fn step_from(
         → ReachesMore pool.old.view nodes (values_at pool.old.values.items states.now)
         (values_at pool.old.values.items row.now) most) }
 {
-    match find_past(lists, letters, keeps, states, row, keep) {
+    let key = pool.layer_key(alloc, states, row, keep)?;
+    match find_layer(&pool.layer_places, &pool.layers, key) {
         Some(place) => {
-            let step = step_again(alloc, lists, layers, states, place)?;
+            let step = pool.layer_again(alloc, place)?;
             Ok(step)
         }
         None => {
-            let step = next_layer(alloc, pool, states, row, keep, most)?;
+            let step = pool.new_layer(alloc, states, row, key, most)?;
             Ok(step)
         }
     }

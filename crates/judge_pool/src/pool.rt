@@ -7,6 +7,7 @@ ghost use Rattle.judge_pool.specs.Seen.{seen_row};
 ghost use Rattle.judge_pool.specs.Pooling.{IsRowIndex, IsPool, GrewTo, HasSame, HasCopy};
 
 use crate::batch::Batch;
+use crate::known::{KnownLayer, LayerKey};
 use crate::view::{View, row_in};
 use contraction::{Contraction, Selection};
 use ilk_base::{Memory, Text};
@@ -15,8 +16,9 @@ use std::alloc::Global;
 use std::collections::HashMap;
 
 /// Values of one view, each once, with lists of nodes that values are to keep. Batches of compositions stand one behind
-/// the other, and where each begins is noted, so that none is made twice. The selection of the last composition is at
-/// hand for the next, which is mostly of values on the same nodes.
+/// the other, and where each begins is noted, so that none is made twice; so are the layers of graphs, by the lists of
+/// their states and letters. The selection of the last composition is at hand for the next, which is mostly of values
+/// on the same nodes.
 #[derive(Drop)]
 pub struct Pool {
     /// the view
@@ -27,6 +29,9 @@ pub struct Pool {
     /// the lists of nodes, by number
     pub keeps: Vec<NodeList>,
     pub(crate) letters: Vec<Vec<usize>>,
+    pub(crate) list_places: HashMap<Vec<usize>, usize>,
+    pub(crate) layers: Vec<KnownLayer>,
+    pub(crate) layer_places: HashMap<LayerKey, usize>,
     pub(crate) made: Vec<usize>,
     pub(crate) notes: HashMap<Batch, usize>,
     pub(crate) selection: Option<Selection>,
@@ -79,6 +84,9 @@ impl Pool {
             index: HashMap::new(alloc),
             keeps,
             letters: Vec::new(alloc),
+            list_places: HashMap::new(alloc),
+            layers: Vec::new(alloc),
+            layer_places: HashMap::new(alloc),
             made: Vec::new(alloc),
             notes: HashMap::new(alloc),
             selection: None,

@@ -21,7 +21,7 @@ returns c same =
     c.index-stack-place.is in
     let next = subst (λ (f : Folding). SameFolding f (folding_at fs (p - 1))) (sym top)
     (subst (λ (f : Folding). SameFolding (folding_of c.index-stack-stack.result) f) (sym under)
-    (c.same_folding.ensures same)) in
+    (c.if-not-same_folding.ensures refl)) in
     folded_as g c.args.layer (length g.shapes - p) (folding_at fs (length stack - 1)) (folding_at fs (p - 1))
-    (folding_at fs p) (c.if-not-same_layer.ensures refl) next
+    (folding_at fs p) (c.same_layer.ensures same) next
     (folded_there g fs p c.requires.stack c.requires.folded (omega (arith, len, c.requires.place)))

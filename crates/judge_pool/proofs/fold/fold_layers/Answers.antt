@@ -12,8 +12,8 @@ use Rattle.std.specs.List.{sum_by}
 use Rattle.std.proofs.lemmas.List.Sums.{sum_by_push}
 use Rattle.contraction.specs.Renaming.{mapped}
 use Rattle.judge_pool.specs.Places.{pool_on}
-use Rattle.judge_pool.specs.Layering.{AreEdges, values_at, no_answers}
-use Rattle.judge_pool.specs.Past.{ArePast}
+use Rattle.judge_pool.specs.Layering.{values_at, no_answers}
+use Rattle.judge_pool.specs.Pooling.{AreEdges}
 use Rattle.judge_pool.specs.Counted.{Spends, AreAtLeast}
 use Rattle.judge_pool.specs.Folding.{IsExact, ReachesMore}
 use Rattle.decision_graphs.specs.Finished.{layer_with}
@@ -25,16 +25,9 @@ use Rattle.judge_pool.proofs.PlanLemmas.{either_here, one_in, start_kept_at}
 use Rattle.judge_pool.proofs.CountLemmas.{at_least_of}
 use Rattle.judge_pool.proofs.PassLemmas.{plan_none, plan_spends, plan_passes, states_count, reached_at_least}
 use Rattle.judge_pool.proofs.PassLemmas.{passes_next}
-use Rattle.judge_pool.proofs.PastLemmas.{past_more}
 use Rattle.judge_pool.proofs.ErrorLemmas.{passed_on}
 use Rattle.judge_pool.proofs.fold.fold_layers.Goals as goal
 use Rattle.judge_pool.specs.declared.limits.TheConstants.{ALL_EDGES}
-
-abbrev items_in : Vec ℕ Global → List ℕ
-items_in v = v.items
-
-abbrev edges_of : FinishedLayer → List ℕ
-edges_of l = l.edges.items
 
 pub layers-init : goal.layers-init
 layers-init c =
@@ -59,11 +52,6 @@ layers-init c =
           subst (λ ls. AreFinished (length c.in_ok-states.states.items) ls) (sym c.new-layers.ensures.items)
           (omega (arith, ap length is));
       made = omega (arith, ap length c.new-layers.ensures.items);
-      listed = omega (arith, ap length c.new-lists.ensures.items);
-      past = λ i k row states next edges at_row at_keep at_list at_next at_edges. absurd
-          (let h : slice_get {X = List ℕ} [] i ≡ Some edges =
-          ap (λ (ls : List FinishedLayer). slice_get (map edges_of ls) i) (sym c.new-layers.ensures.items) ∙ at_edges in
-          cc);
       kept =
           λ t i m x nodes at_i at_x at_m at_nodes n. start_kept_at p c.args.start letters c.args.keeps.now
           c.requires.linked t i m x nodes (ap (λ xs. slice_get xs t) (sym is) ∙ at_i) at_x at_m at_nodes n;
@@ -261,31 +249,6 @@ layers-preserved c =
         length_push c.layers.layers.items layer,
         c.layers.invariant.made,
       );
-      listed = omega (
-        arith,
-        ap length c.in_ok-push-2.ensures.items,
-        length_push c.layers.lists.items c.layers.states,
-        c.layers.invariant.listed,
-      );
-      past =
-          let lists : List (Vec ℕ Global) = c.layers.lists.items in
-          let layers : List FinishedLayer = c.layers.layers.items in
-          let on = past_more q r letters keeps (map items_in lists) (map edges_of layers) h states row next edges j k
-          c.layers.invariant.past (length-map lists items_in ∙ c.layers.invariant.listed)
-          (length-map layers edges_of ∙ c.layers.invariant.made) at_j at_k (record {
-            nodes = nodes;
-            kept = h.keeps k nodes at_q;
-            few = few_next;
-            edges_lead = e;
-          }) in
-          subst (λ ls. ArePast r letters keeps (map items_in ls ++ next ∷ []) (map edges_of c.push.new.self.items))
-          (sym c.in_ok-push-2.ensures.items)
-          (subst (λ ls. ArePast r letters keeps (map items_in (lists ++ c.layers.states ∷ []) ++ next ∷ [])
-          (map edges_of ls)) (sym c.in_ok-push.ensures.items)
-          (subst (λ xs. ArePast r letters keeps (xs ++ next ∷ []) (map edges_of (layers ++ layer ∷ [])))
-          (sym (map-append items_in lists (c.layers.states ∷ [])))
-          (subst (λ xs. ArePast r letters keeps ((map items_in lists ++ states ∷ []) ++ next ∷ []) xs)
-          (sym (map-append edges_of layers (layer ∷ []))) on)));
       kept = λ t i m x ns at_i at_x at_m at_ns n.
           let same_k : k ≡ m = same_Some k m (sym at_k1 ∙ at_m) in
           let same_nodes : nodes ≡ ns =
@@ -319,21 +282,6 @@ layers-preserved c =
     length-letters : (xs : List (Vec ℕ Global)) → length (map (λ (v : Vec ℕ Global). v.items) xs) ≡ length xs
     length-letters [] = refl
     length-letters (x ∷ xs) = ap suc (length-letters xs)
-
-pub step_from-requires-clause-past : goal.step_from-requires-clause-past
-step_from-requires-clause-past c i k row states next edges at_row at_keep at_list at_next at_edges =
-    c.layers.invariant.past i k row states next edges at_row at_keep (same i ∙ at_list) (same (suc i) ∙ at_next)
-    (ap (λ (ls : List FinishedLayer). slice_get (map (λ (l : FinishedLayer). l.edges.items) ls) i)
-    (sym c.deref-in-layers.ensures.value) ∙ at_edges)
-  where
-    same : (t : ℕ) →
-        slice_get (map (λ (v : Vec ℕ Global). v.items) c.layers.lists.items ++ c.layers.states.items ∷ []) t
-        ≡ slice_get (map (λ (v : Vec ℕ Global). v.items) c.deref.result.now ++ c.as_slice-held.result.now ∷ []) t
-    same t =
-        ap (λ (ls : List (Vec ℕ Global)).
-        slice_get (map (λ (v : Vec ℕ Global). v.items) ls ++ c.layers.states.items ∷ []) t) (sym c.deref.ensures.value)
-        ∙ ap (λ xs. slice_get (map (λ (v : Vec ℕ Global). v.items) c.deref.result.now ++ xs ∷ []) t)
-        (sym c.as_slice-held.ensures.value)
 
 pub returns-clause-choices : goal.returns-clause-choices
 returns-clause-choices c =

@@ -1,4 +1,4 @@
-use Rattle.std.proofs.Common.{◌≡◌, ℕ, suc, ◌+◌, ◌<◌, ◌≤◌, ◌↔◌, List, [], ◌∷◌, ◌++◌, Some, slice_get, length, map, take}
+use Rattle.std.proofs.Common.{◌≡◌, ℕ, suc, ◌+◌, ◌<◌, ◌≤◌, ◌↔◌, List, Some, slice_get, length, map, take}
 use Rattle.std.specs.List.{sum_by}
 use Rattle.decision_graphs.specs.declared.finished.FinishedLayer.{FinishedLayer}
 use Rattle.decision_graphs.specs.Finished.{AreFinished}
@@ -8,7 +8,6 @@ use Rattle.contraction.specs.Renaming.{KeepsOrder, mapped}
 use Rattle.judge_pool.specs.Pooling.{GrewTo}
 use Rattle.judge_pool.specs.Places.{pool_on}
 use Rattle.judge_pool.specs.Layering.{values_at}
-use Rattle.judge_pool.specs.Past.{ArePast}
 use Rattle.judge_pool.specs.Counted.{Spends}
 use Rattle.judge_pool.specs.Folding.{IsExact}
 use Rattle.judge_pool.specs.Plans.{Plan, PlanFits, PlanHas, plan_diagram, ChosenBy, items_of, NeededBy, layers_of}
@@ -28,9 +27,6 @@ invariant-layers l = record {
       ≡ map length (take l.j (map (λ v. v.items) l.letters));
   finished : AreFinished (length l.states.items) l.layers.items;
   made : length l.layers.items ≡ l.j;
-  listed : length l.lists.items ≡ l.j;
-  past : ArePast l.pool (map (λ v. v.items) l.letters) l.keeps (map (λ v. v.items) l.lists.items ++ l.states.items ∷ [])
-      (map (λ (l : FinishedLayer). l.edges.items) l.layers.items);
   kept : (t i m : ℕ) (x : Answers) (nodes : List ℕ) → slice_get l.states.items t ≡ Some i →
       slice_get l.pool.values.items i ≡ Some x → slice_get l.keeps l.j ≡ Some m →
       slice_get l.fn.pool.keeps.items m ≡ Some nodes → (n : ℕ) → Keeps x.kept n ↔ Contains nodes n;

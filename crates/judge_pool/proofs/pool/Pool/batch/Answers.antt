@@ -2,6 +2,7 @@ use Rattle.std.proofs.Common.{refl}
 use Rattle.judge_pool.specs.declared.pool.Pool.{Pool}
 use Rattle.judge_pool.proofs.LayeringLemmas.{Grows, grew_of, grew_more}
 use Rattle.judge_pool.proofs.BatchLemmas.{notes_stay, batch_stays, batch_ends}
+use Rattle.judge_pool.proofs.PastLemmas.{layers_stay}
 use Rattle.judge_pool.proofs.pool.Pool.batch.Goals as goal
 
 pub returns-clause-grew : goal.returns-clause-grew
@@ -24,6 +25,7 @@ returns-clause-grew c =
       notes =
           notes_stay q r g c.note_batch.new.notes
           (c.in_ok-note_batch.ensures q h.is_pool.notes c.in_ok-start.ensures.batch);
+      layers = layers_stay q r g q.layers.items h.is_pool.layers;
     }) g)
 
 pub returns-clause-batch : goal.returns-clause-batch

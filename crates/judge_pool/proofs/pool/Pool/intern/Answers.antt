@@ -7,6 +7,7 @@ use Rattle.judge_pool.proofs.LayerLemmas.{get_front, get_last}
 use Rattle.judge_pool.proofs.PoolLemmas.{well_more, apart_more}
 use Rattle.judge_pool.proofs.LayeringLemmas.{Grows, grew_of}
 use Rattle.judge_pool.proofs.BatchLemmas.{notes_stay}
+use Rattle.judge_pool.proofs.PastLemmas.{layers_stay}
 use Rattle.judge_pool.proofs.pool.Pool.intern.Goals as goal
 
 pub returns-in-Some-clause-same : goal.returns-in-Some-clause-same
@@ -47,6 +48,7 @@ returns-in_ok-push-in-None-clause-grew c =
           (λ i y at same. none i y at ((c.in_ok-row.ensures.tells y (c.requires.well i y at)).1 same)));
       well = subst (λ vs. AreWell vs) (sym items) (well_more p.view p.values.items x c.requires.well well_x);
       notes = notes_stay p q g p.notes c.requires.notes;
+      layers = layers_stay p q g p.layers.items c.requires.layers;
     }) g
 
 pub returns-in_ok-push-in-None-clause-same : goal.returns-in_ok-push-in-None-clause-same

@@ -4,6 +4,7 @@ use Rattle.judge_pool.specs.Pooling.{Extends}
 use Rattle.judge_pool.proofs.LayerLemmas.{get_front, get_last}
 use Rattle.judge_pool.proofs.LayeringLemmas.{Grows, grew_of}
 use Rattle.judge_pool.proofs.BatchLemmas.{notes_stay}
+use Rattle.judge_pool.proofs.PastLemmas.{layers_stay}
 use Rattle.judge_pool.proofs.pool.Pool.keep.Goals as goal
 
 pub returns-clause-grew : goal.returns-clause-grew
@@ -25,6 +26,7 @@ returns-clause-grew c =
       apart = c.requires.apart;
       well = c.requires.well;
       notes = notes_stay p q g p.notes c.requires.notes;
+      layers = layers_stay p q g p.layers.items c.requires.layers;
     }) g
 
 pub returns-clause-kept : goal.returns-clause-kept

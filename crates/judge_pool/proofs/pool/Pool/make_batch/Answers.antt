@@ -4,6 +4,7 @@ use Rattle.judge_pool.specs.Pooling.{Extends}
 use Rattle.judge_pool.proofs.LayerLemmas.{get_front}
 use Rattle.judge_pool.proofs.LayeringLemmas.{Grows, grew_of, grew_more}
 use Rattle.judge_pool.proofs.BatchLemmas.{notes_stay, are_made_more, get_behind}
+use Rattle.judge_pool.proofs.PastLemmas.{layers_stay}
 use Rattle.judge_pool.proofs.pool.Pool.make_batch.Goals as goal
 
 pub returns-clause-grew : goal.returns-clause-grew
@@ -27,6 +28,7 @@ returns-clause-grew c =
       apart = h.is_pool.apart;
       well = h.is_pool.well;
       notes = notes_stay q r g q.notes h.is_pool.notes;
+      layers = layers_stay q r g q.layers.items h.is_pool.layers;
     }) g)
 
 pub returns-clause-batch : goal.returns-clause-batch

@@ -1,5 +1,6 @@
 use Rattle.judge_pool.proofs.PoolLemmas.{index_none, apart_none, well_none}
 use Rattle.judge_pool.proofs.BatchLemmas.{notes_none}
+use Rattle.judge_pool.proofs.PastLemmas.{layers_none}
 use Rattle.judge_pool.proofs.pool.Pool.new.Goals as goal
 
 pub returns-clause-pool : goal.returns-clause-pool
@@ -7,5 +8,6 @@ returns-clause-pool c = record {
   index = index_none c.args.view c.new.result.items c.new-2.result c.new.ensures.items c.new-2.ensures.empty;
   apart = apart_none c.args.view c.new.result.items c.new.ensures.items;
   well = well_none c.new.result.items c.new.ensures.items;
-  notes = notes_none _ c.new-5.result c.new-5.ensures.empty;
+  notes = notes_none _ c.new-8.result c.new-8.ensures.empty;
+  layers = layers_none _ c.new-5.result.items c.new-5.ensures.items;
 }

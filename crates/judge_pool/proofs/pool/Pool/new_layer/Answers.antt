@@ -1,0 +1,45 @@
+use Rattle.std.proofs.Common.{◌≡◌, ◌*◌, List, ℕ, [], Some, length, slice_get, get_or, sym, subst}
+use Rattle.std.proofs.lemmas.Option.{slice_get-get_or}
+use Rattle.judge_pool.specs.Pooling.{AreEdges}
+use Rattle.judge_pool.proofs.LayeringLemmas.{grows, grew_more}
+use Rattle.judge_pool.proofs.PastLemmas.{key_stays, edges_grown}
+use Rattle.judge_pool.proofs.pool.Pool.new_layer.Goals as goal
+
+pub note_layer-requires-clause-leads : goal.note_layer-requires-clause-leads
+note_layer-requires-clause-leads c =
+    let p = c.args.self.now in
+    let q = c.next_layer.new.pool in
+    let g = c.in_ok-step.ensures.grew in
+    let k = c.args.key in
+    let nodes : List ℕ = get_or p.keeps.items k.keep [] in
+    let at : slice_get p.keeps.items k.keep ≡ Some nodes = slice_get-get_or p.keeps.items k.keep [] c.requires.keep in (
+      c.args.states.now,
+      (
+        c.args.row.now,
+        key_stays p q (grows p q g) c.args.states.now c.args.row.now k.keep k c.requires.key,
+        record {
+          nodes = nodes;
+          kept = g.keeps k.keep nodes at;
+          few = c.in_ok-step.ensures.few;
+          edges_lead = c.in_ok-step.ensures.edges nodes at;
+        },
+      ),
+    )
+
+pub returns-clause-grew : goal.returns-clause-grew
+returns-clause-grew c =
+    grew_more c.args.self.now c.next_layer.new.pool c.note_layer.new.self c.in_ok-step.ensures.grew
+    c.in_ok-note_layer.ensures.grew
+
+pub returns-clause-edges : goal.returns-clause-edges
+returns-clause-edges c nodes at =
+    let q = c.next_layer.new.pool in
+    let r = c.note_layer.new.self in
+    let g = c.in_ok-note_layer.ensures.grew in
+    let states = c.args.states.now in
+    let row = c.args.row.now in
+    let step = c.in_ok-step.step in
+    subst (λ v. AreEdges v r.values.items nodes states row step.next.items step.edges.items
+    (length states * length row)) (sym g.view)
+    (edges_grown q.view q.values.items r.values.items nodes states row step.next.items step.edges.items
+    (length states * length row) g.values (c.in_ok-step.ensures.edges nodes at))

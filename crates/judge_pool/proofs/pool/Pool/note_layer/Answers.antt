@@ -1,0 +1,56 @@
+use Rattle.std.proofs.Common.{◌≡◌, List, ℕ, Some, slice_get, refl, sym, ap, ◌∙◌, subst}
+use Rattle.judge_pool.specs.declared.known.KnownLayer.{KnownLayer}
+use Rattle.judge_pool.specs.declared.pool.Pool.{Pool}
+use Rattle.judge_pool.specs.Pooling.{LeadsOn, IsKnown, AreKnown, letter_lists}
+use Rattle.judge_pool.proofs.LayeringLemmas.{Grows, grows, grew_of, grew_more}
+use Rattle.judge_pool.proofs.BatchLemmas.{notes_stay}
+use Rattle.judge_pool.proofs.PastLemmas.{leads_grown, key_stays, known_stays, layers_stay, layers_more}
+use Rattle.judge_pool.proofs.pool.Pool.note_layer.Goals as goal
+
+pub returns : goal.returns
+returns c =
+    let p = c.args.self.now in
+    let q = c.note_letters.new.self in
+    let h = c.in_ok-next.ensures.grew in
+    let k = c.args.key in
+    let w = c.requires.leads in
+    let states : List ℕ = w.0 in
+    let row : List ℕ = w.1.0 in
+    let next : List ℕ = c.args.step.now.next.items in
+    let edges : List ℕ = c.args.step.now.edges.items in
+    let new : KnownLayer = record { key = k; next = c.in_ok-next.next; edges = c.in_ok-edges.edges } in
+    let same : c.in_ok-edges.edges.items ≡ edges = c.in_ok-edges.ensures.items ∙ c.deref-2.ensures.value in
+    let listed : slice_get (letter_lists q) c.in_ok-next.next ≡ Some next =
+    c.in_ok-next.ensures.noted ∙ ap Some c.deref.ensures.value in
+    let leads : LeadsOn q k.keep states row next c.in_ok-edges.edges.items =
+    subst (λ es. LeadsOn q k.keep states row next es) (sym same)
+    (leads_grown p q k.keep states row next edges (grows p q h) w.1.2) in
+    let known : IsKnown q new = record {
+      states = states;
+      row = row;
+      next = next;
+      key = key_stays p q (grows p q h) states row k.keep k w.1.1;
+      listed = listed;
+      leads = leads;
+    } in
+    let r : Pool = record q { layer_places = c.insert.new.self; layers = c.push.new.self } in
+    let g : Grows q r = record {
+      view = refl;
+      keeps = λ k ns at. at;
+      values = λ i x at. at;
+      letters = λ l ls at. at;
+      made = λ i t at. at;
+    } in
+    record {
+      grew =
+          grew_more p q r h (grew_of q r (record {
+            index = h.is_pool.index;
+            apart = h.is_pool.apart;
+            well = h.is_pool.well;
+            notes = notes_stay q r g q.notes h.is_pool.notes;
+            layers =
+                subst (AreKnown r) (sym c.in_ok-push.ensures.items)
+                (layers_more r q.layers.items new (layers_stay q r g q.layers.items h.is_pool.layers)
+                (known_stays q r g new known));
+          }) g);
+    }
