@@ -7,3 +7,8 @@ mod CoverLemmas
 mod DependedLemmas
 mod WalkLemmas
 mod ListedLemmas
+mod LeadLemmas
+mod LikeLemmas
+mod StuckLemmas
+mod LeftOutLemmas
+mod SoundLemmas

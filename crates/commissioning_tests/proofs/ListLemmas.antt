@@ -1,9 +1,12 @@
 -- Lists, in order.
-use Rattle.std.proofs.Common.{◌≡◌, ℕ, ◌+◌, ◌*◌, ◌<◌, ◌≤◌, zero, suc, List, [], ◌∷◌, ◌++◌, length, slice_get, Some, refl, ap, ◌∙◌}
-use Rattle.std.proofs.Common.{inl, inr, arith}
+use Rattle.std.proofs.Common.{◌≡◌, ℕ, ◌+◌, ◌*◌, ◌<◌, ◌≤◌, zero, suc, Bool, true, false, List, [], ◌∷◌, ◌++◌, length, map, slice_get}
+use Rattle.std.proofs.Common.{Some, refl, sym, ap, ◌∙◌, subst, inl, inr, arith}
+use Rattle.std.specs.Prelude.{if◌then◌else◌}
+use Rattle.std.specs.List.{range_with_len}
 use Rattle.std.proofs.lemmas.Option.{same_Some}
 use Rattle.ilk_base.specs.declared.words.Op.{Op}
-use Rattle.commissioning_tests.specs.Listed.{opening, closing, operations_from, AreThose}
+use Rattle.release_dependence.specs.Operations.{opening, closing}
+use Rattle.commissioning_tests.specs.Listed.{operations_from, AreThose}
 
 -- lists with the same entries are one
 pub same_list : {X : Type 0} (xs ys : List X) → length xs ≡ length ys →
@@ -45,6 +48,67 @@ pub those_less : {X : Type 0} (P : X → Type 0) (xs chosen : List X) (x : X) �
 those_less P [] chosen x h never = inr (never, h)
 those_less P (y ∷ ys) chosen x (inl h) never = inl (h.0, h.1, h.2, those_less P ys h.0 x h.3 never)
 those_less P (y ∷ ys) chosen x (inr h) never = inr (h.0, those_less P ys chosen x h.1 never)
+
+range_next : (first n : ℕ) → range_with_len first (suc n) ≡ range_with_len first n ++ (first + n) ∷ []
+range_next first zero =
+    let e : first ≡ first + 0 = omega arith in
+    ap (λ k. k ∷ []) e
+range_next first (suc n) =
+    let e : first + 1 + n ≡ first + suc n = omega arith in
+    ap (λ l. first ∷ l) (range_next (first + 1) n ∙ ap (λ k. range_with_len (first + 1) n ++ k ∷ []) e)
+
+pub range_more : (n : ℕ) → range_with_len 0 (n + 1) ≡ range_with_len 0 n ++ n ∷ []
+range_more n =
+    let next : n + 1 ≡ suc n = omega arith in
+    let last : 0 + n ≡ n = omega arith in
+    ap (range_with_len 0) next ∙ (range_next 0 n ∙ ap (λ k. range_with_len 0 n ++ k ∷ []) last)
+
+-- the keys of one more
+pub keys_more : {X : Type 0} (key : X → ℕ) (xs : List X) (x : X) → map key (xs ++ x ∷ []) ≡ map key xs ++ key x ∷ []
+keys_more key [] x = refl
+keys_more key (y ∷ ys) x = ap (λ l. key y ∷ l) (keys_more key ys x)
+
+pub those_if : {X : Type 0} (key : X → ℕ) (P : ℕ → Type 0) (xs : List ℕ) (chosen : List X) (x : X) (wanted : Bool) →
+    AreThose P xs (map key chosen) → (wanted ≡ true → P (key x)) → (wanted ≡ false → ¬ P (key x)) →
+    AreThose P (xs ++ key x ∷ []) (map key (if wanted then chosen ++ x ∷ [] else chosen))
+those_if key P xs chosen x true h holds fails =
+    subst (λ (l : List ℕ). AreThose P (xs ++ key x ∷ []) l) (sym (keys_more key chosen x))
+    (those_more P xs (map key chosen) (key x) h (holds refl))
+those_if key P xs chosen x false h holds fails = those_less P xs (map key chosen) (key x) h (fails refl)
+
+-- one for which it holds is among those
+pub chosen_has : {X : Type 0} (P : X → Type 0) (xs chosen : List X) (i : ℕ) (x : X) → AreThose P xs chosen →
+    slice_get xs i ≡ Some x → P x → (j : ℕ) × (slice_get chosen j ≡ Some x)
+chosen_has P [] chosen i x those at p = cc
+chosen_has P (y ∷ ys) chosen zero x (inl h) at p =
+    (0, ap (λ l. slice_get l 0) h.1 ∙ at)
+chosen_has P (y ∷ ys) chosen zero x (inr h) at p = absurd (h.0 (subst P (sym (same_Some y x at)) p))
+chosen_has P (y ∷ ys) chosen (suc i) x (inl h) at p =
+    let rest = chosen_has P ys h.0 i x h.3 at p in
+    (suc rest.0, ap (λ l. slice_get l (suc rest.0)) h.1 ∙ rest.1)
+chosen_has P (y ∷ ys) chosen (suc i) x (inr h) at p = chosen_has P ys chosen i x h.1 at p
+
+-- a number of a range stands at its place
+range_at : (first n i : ℕ) → i < n → slice_get (range_with_len first n) i ≡ Some (first + i)
+range_at first zero i lt = absurd (omega (arith, lt))
+range_at first (suc n) zero lt =
+    let e : first ≡ first + 0 = omega arith in
+    ap Some e
+range_at first (suc n) (suc i) lt =
+    let e : first + 1 + i ≡ first + suc i = omega arith in
+    range_at (first + 1) n i (omega (arith, lt)) ∙ ap Some e
+
+pub number_at : (n i : ℕ) → i < n → slice_get (range_with_len 0 n) i ≡ Some i
+number_at n i lt =
+    let e : 0 + i ≡ i = omega arith in
+    range_at 0 n i lt ∙ ap Some e
+
+-- what has a key that stands there
+pub of_key : {X : Type 0} (key : X → ℕ) (xs : List X) (j n : ℕ) → slice_get (map key xs) j ≡ Some n →
+    (x : X) × (slice_get xs j ≡ Some x) × (key x ≡ n)
+of_key key [] j n at = cc
+of_key key (x ∷ xs) zero n at = (x, refl, same_Some (key x) n at)
+of_key key (x ∷ xs) (suc j) n at = of_key key xs j n at
 
 -- ---- where an operation stands
 

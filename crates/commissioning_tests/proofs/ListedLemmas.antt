@@ -20,7 +20,7 @@ use Rattle.commissioning_tests.specs.Standing.{AreStands}
 use Rattle.commissioning_tests.specs.Answering.{ArePositions}
 use Rattle.commissioning_tests.specs.Covering.{TurnIsShown, TurnIsShownFor, RuleIsShown, IsAlways, IsNeeded}
 use Rattle.commissioning_tests.specs.Growing.{IsCovered, AreCovered}
-use Rattle.commissioning_tests.proofs.ListLemmas.{those_more, those_less, operations_in, operations_from_first}
+use Rattle.commissioning_tests.proofs.ListLemmas.{those_more, those_less, those_if, range_more, operations_in, operations_from_first}
 use Rattle.commissioning_tests.proofs.CoverLemmas.{depends_within}
 use Rattle.commissioning_tests.proofs.StandLemmas.{stand_depends, stand_back}
 
@@ -32,37 +32,11 @@ take_more [] k x at = cc
 take_more (y ∷ ys) zero x at = ap (λ z. z ∷ []) (same_Some y x at)
 take_more (y ∷ ys) (suc k) x at = ap (λ zs. y ∷ zs) (take_more ys k x at)
 
-range_next : (first n : ℕ) → range_with_len first (suc n) ≡ range_with_len first n ++ (first + n) ∷ []
-range_next first zero =
-    let e : first ≡ first + 0 = omega arith in
-    ap (λ k. k ∷ []) e
-range_next first (suc n) =
-    let e : first + 1 + n ≡ first + suc n = omega arith in
-    ap (λ l. first ∷ l) (range_next (first + 1) n ∙ ap (λ k. range_with_len (first + 1) n ++ k ∷ []) e)
-
-pub range_more : (n : ℕ) → range_with_len 0 (n + 1) ≡ range_with_len 0 n ++ n ∷ []
-range_more n =
-    let next : n + 1 ≡ suc n = omega arith in
-    let last : 0 + n ≡ n = omega arith in
-    ap (range_with_len 0) next ∙ (range_next 0 n ∙ ap (λ k. range_with_len 0 n ++ k ∷ []) last)
-
 pub those_unless : {X : Type 0} (P : X → Type 0) (xs chosen : List X) (x : X) (left_out : Bool) → AreThose P xs chosen →
     (left_out ≡ false → P x) → (left_out ≡ true → ¬ P x) →
     AreThose P (xs ++ x ∷ []) (if left_out then chosen else chosen ++ x ∷ [])
 those_unless P xs chosen x false h holds fails = those_more P xs chosen x h (holds refl)
 those_unless P xs chosen x true h holds fails = those_less P xs chosen x h (fails refl)
-
-map_push : (xs : List SwitchId) (s : SwitchId) → map (λ (x : SwitchId). x.0) (xs ++ s ∷ []) ≡ map (λ x. x.0) xs ++ s.0 ∷ []
-map_push [] s = refl
-map_push (x ∷ xs) s = ap (λ l. x.0 ∷ l) (map_push xs s)
-
-pub those_if : (P : ℕ → Type 0) (xs : List ℕ) (chosen : List SwitchId) (s : SwitchId) (wanted : Bool) →
-    AreThose P xs (map (λ x. x.0) chosen) → (wanted ≡ true → P s.0) → (wanted ≡ false → ¬ P s.0) →
-    AreThose P (xs ++ s.0 ∷ []) (map (λ x. x.0) (if wanted then chosen ++ s ∷ [] else chosen))
-those_if P xs chosen s true h holds fails =
-    subst (λ (l : List ℕ). AreThose P (xs ++ s.0 ∷ []) l) (sym (map_push chosen s))
-    (those_more P xs (map (λ x. x.0) chosen) s.0 h (holds refl))
-those_if P xs chosen s false h holds fails = those_less P xs (map (λ x. x.0) chosen) s.0 h (fails refl)
 
 -- ---- always
 
@@ -172,7 +146,7 @@ module _ (d : Diagram) (ops : List Op) (stands : List ℕ) (ps : List TestPositi
       ap (λ n. range_with_len 0 s ++ n ∷ []) number ∙ sym (range_more s) in
       subst (λ (l : List ℕ). AreThose (IsNeeded d ops first count) l
       (map (λ n. n.0) (if wanted then needs ++ x ∷ [] else needs))) next
-      (those_if (IsNeeded d ops first count) (range_with_len 0 s) needs x wanted those
+      (those_if (λ (n : SwitchId). n.0) (IsNeeded d ops first count) (range_with_len 0 s) needs x wanted those
       (λ e. subst (λ (n : ℕ). IsNeeded d ops first count n) (sym number) (needed_if (holds e)))
       (λ e h. not_needed (fails e) (subst (λ (n : ℕ). IsNeeded d ops first count n) number h)))
 

@@ -11,7 +11,7 @@ use Rattle.station_graph.proofs.PathLemmas.{slice_get-push}
 use Rattle.judge_intake.proofs.OtherLemmas.{element}
 use Rattle.ilk_base.specs.declared.words.Op.{Op}
 use Rattle.release_dependence.specs.Depends.{DependsOn}
-use Rattle.release_dependence.specs.Exchange.{Exchange, IsExchanged}
+use Rattle.release_dependence.specs.Exchange.{Exchange, IsExchanged, IsExchangedOp}
 use Rattle.release_dependence.proofs.ExchangeLemmas.{turns_to, differ_to}
 use Rattle.like_bays.specs.Like.{led_by, IsExchangeBy}
 use Rattle.commissioning_tests.specs.Standing.{StandsFor, AreStanding, AreStands, IsSettled, LeavesBay}
@@ -69,10 +69,10 @@ module _ (d : Diagram) (h : Exchange d) where
         ∙ sym (past_end (exchanged v) (h.switch_to i) (omega (arith, outside i le, exchanged_long v)))
   ]
 
-  -- the release of an operation that stays depends on the exchanged switch too
-  pub depends_to : (op : Op) (s : ℕ) → h.switch_to op.switch.0 ≡ op.switch.0 → DependsOn d op s →
-      DependsOn d op (h.switch_to s)
-  depends_to op s stays dep = record {
+  -- the release of the exchanged operation depends on the exchanged switch
+  pub depends_over : (op other : Op) (s : ℕ) → IsExchangedOp h.switch_to op other → DependsOn d op s →
+      DependsOn d other (h.switch_to s)
+  depends_over op other s over dep = record {
     v = exchanged dep.v;
     w = exchanged dep.w;
     rule = dep.rule;
@@ -80,9 +80,14 @@ module _ (d : Diagram) (h : Exchange d) where
         differ_to d h s dep.v dep.w (exchanged dep.v) (exchanged dep.w) (exchanged_long dep.v) (exchanged_long dep.w)
         (is_exchanged dep.v dep.differ.first) (is_exchanged dep.w dep.differ.second) dep.differ;
     turns =
-        turns_to d h op op (record { switch = sym stays; direction = refl }) dep.rule dep.v dep.w (exchanged dep.v)
-        (exchanged dep.w) (is_exchanged dep.v dep.differ.first) (is_exchanged dep.w dep.differ.second) dep.turns;
+        turns_to d h op other over dep.rule dep.v dep.w (exchanged dep.v) (exchanged dep.w)
+        (is_exchanged dep.v dep.differ.first) (is_exchanged dep.w dep.differ.second) dep.turns;
   }
+
+  -- that of an operation that stays depends on the exchanged switch too
+  pub depends_to : (op : Op) (s : ℕ) → h.switch_to op.switch.0 ≡ op.switch.0 → DependsOn d op s →
+      DependsOn d op (h.switch_to s)
+  depends_to op s stays dep = depends_over op op s (record { switch = sym stays; direction = refl }) dep
 
 -- ---- a switch that stands for another
 

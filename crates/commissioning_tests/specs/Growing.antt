@@ -1,7 +1,10 @@
 -- How positions are added until all is shown.
-use Rattle.std.specs.Prelude.{◌≡◌, ◌⊎◌, ℕ, ◌<◌, Bool, List, [], ◌∷◌, ◌++◌, Option, Some, None, MatchOption, length, slice_get}
+use Rattle.std.specs.Prelude.{◌≡◌, ◌⊎◌, ℕ, ◌<◌, Bool, true, List, [], ◌∷◌, ◌++◌, Option, Some, None, MatchOption, length, slice_get}
 use Rattle.ilk_base.specs.declared.words.Op.{Op}
+use Rattle.ilk_base.specs.declared.words.Kind.TheVariants.{Infeed}
 use Rattle.ilk_base.specs.declared.words.Rule.{Rule}
+use Rattle.ilk_base.specs.declared.words.Rule.TheVariants.{R2}
+use Rattle.station_graph.specs.declared.items.Switch.{Switch}
 use Rattle.station_graph.specs.Connection.{a_switch}
 use Rattle.station_graph.specs.Diagram.{Diagram}
 use Rattle.station_graph.specs.Alike.{IsVector}
@@ -20,9 +23,18 @@ use Rattle.graph_walks.specs.Walks.{AreTwos, HasTwos}
 use Rattle.graph_walks.specs.declared.codes.Codes.{Codes}
 use Rattle.ilk_base.specs.declared.words.Direction.{Direction}
 use Rattle.dependence_search.specs.RuleWalks.{IsTurningChoice, rule_of}
+use Rattle.release_dependence.specs.Operations.{closing}
 use Rattle.commissioning_tests.specs.Answering.{IsMove, AreRising, IsPosition, ArePositions}
 use Rattle.commissioning_tests.specs.Standing.{IsMoved}
 use Rattle.commissioning_tests.specs.Covering.{TurnIsAmong, TurnIsShown, RuleIsShown}
+
+-- Switch i is a closed infeed, and closing it breaks the second rule: it stands at a node that is earthable.
+pub record FeedsEarth (d : Diagram) (v : List Bool) (i : ℕ) : Type 0 where
+  pub switch : Switch
+  pub listed : slice_get d.switches i ≡ Some switch
+  pub is_infeed : switch.kind ≡ Infeed
+  pub closed : slice_get v i ≡ Some true
+  pub breaks : Breaks d v (closing i) (Some R2)
 
 -- The operations are ones of the station.
 abbrev pub AreOperations : Diagram → List Op → Type 0

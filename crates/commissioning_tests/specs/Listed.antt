@@ -1,14 +1,7 @@
 -- Lists in document order.
 use Rattle.std.specs.Prelude.{◌≡◌, ◌⊎◌, ℕ, suc, zero, List, [], ◌∷◌}
-use Rattle.ilk_base.specs.declared.words.Direction.TheVariants.{ToOff, ToOn}
 use Rattle.ilk_base.specs.declared.words.Op.{Op}
-
--- To open a switch, and to close it.
-abbrev pub opening : ℕ → Op
-opening i = record { switch = record { 0 = i }; direction = ToOff }
-
-abbrev pub closing : ℕ → Op
-closing i = record { switch = record { 0 = i }; direction = ToOn }
+use Rattle.release_dependence.specs.Operations.{opening, closing}
 
 -- The operations of so many switches, from this one on: for each of them to open and to close it.
 abbrev pub operations_from : ℕ → ℕ → List Op

@@ -6,7 +6,8 @@ ghost use Rattle.station_joints.specs.Joined.{HaveJointSteps};
 ghost use Rattle.dependence_search.specs.RuleWalks.{AreRuleStocks, IsRuleWalk};
 ghost use Rattle.commissioning_tests.specs.Answering.{ArePositions};
 ghost use Rattle.commissioning_tests.specs.Growing.{AreOperations, AreMore, AreCovered, IsCovered};
-ghost use Rattle.commissioning_tests.specs.Listed.{opening, closing, operations_from};
+ghost use Rattle.release_dependence.specs.Operations.{opening, closing};
+ghost use Rattle.commissioning_tests.specs.Listed.{operations_from};
 
 use crate::cover::cover_operation;
 use crate::paths::paths_of;

@@ -3,21 +3,29 @@
 //! shows it.
 #![tactic(auto)]
 
+mod all_bays;
 mod answers;
 mod bay;
 mod climb;
 mod cover;
 mod cover_bay;
 mod depends;
+mod laws;
+mod leads;
 mod lists;
 mod moves;
 mod operations;
 mod paths;
 mod rich;
 mod shown;
+mod sound;
 mod stands;
 mod values;
 mod walked;
 
+pub use all_bays::station_tests;
 pub use bay::bay_tests;
-pub use values::{BayTests, TestMove, TestPosition};
+pub use laws::{
+    each_bay_is_tested, left_out_rules_are_found, like_bays_are_tested, stuck_inputs_are_found,
+};
+pub use values::{BayTests, SharedTests, TestMove, TestPosition};

@@ -7,6 +7,7 @@ ghost use Rattle.commissioning_tests.specs.Growing.{AreOperations, IsMoveOf, lis
 
 use crate::answers::{answers_in, turns_at, vector_of};
 use crate::shown::is_turn_shown;
+use crate::sound::is_sound;
 use crate::stands::is_moved;
 use crate::values::{TestMove, TestPosition};
 use ilk_base::{Memory, Op, Rule, SwitchId};
@@ -82,14 +83,15 @@ fn move_of(
     }
     let other = vector.with(alloc, switch, !vector.closed(switch))?;
     let others = answers_in(alloc, station, operations, &other)?;
-    if shows_more(positions, answers, &others, switch) {
-        Ok(Some(TestMove {
-            switch,
-            answers: others,
-        }))
-    } else {
-        Ok(None)
+    if !shows_more(positions, answers, &others, switch) {
+        return Ok(None);
     }
+    let sound = is_sound(alloc, station, &other)?;
+    Ok(Some(TestMove {
+        switch,
+        answers: others,
+        sound,
+    }))
 }
 
 // Appends the move, if there is one.
@@ -152,12 +154,14 @@ fn position_of(
 {
     let vector = vector_of(alloc, station, &closed)?;
     let answers = answers_in(alloc, station, operations, &vector)?;
+    let sound = is_sound(alloc, station, &vector)?;
     let moves = moves_of(
         alloc, station, operations, stands, positions, &vector, &answers,
     )?;
     Ok(TestPosition {
         closed,
         answers,
+        sound,
         moves,
     })
 }

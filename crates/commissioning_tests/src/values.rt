@@ -1,5 +1,5 @@
 //! What is tested of a bay.
-use ilk_base::{Op, Rule, SwitchId};
+use ilk_base::{BayId, Op, Rule, SwitchId};
 use std::alloc::Global;
 
 /// One switch moved in a position, and put back afterwards.
@@ -9,6 +9,8 @@ pub struct TestMove {
     pub switch: SwitchId,
     /// for each operation of the bay the rule that it breaks with the switch moved, none where it is released
     pub answers: Vec<Option<Rule>>,
+    /// whether no node is both energisable and earthable with the switch moved
+    pub sound: bool,
 }
 
 /// A position of all switches, and the moves from it.
@@ -18,6 +20,8 @@ pub struct TestPosition {
     pub closed: Vec<bool>,
     /// for each operation of the bay the rule that it breaks, none where it is released
     pub answers: Vec<Option<Rule>>,
+    /// whether no node is both energisable and earthable
+    pub sound: bool,
     /// the moves, each of which turns the release of some operation, in document order of the moved switches
     pub moves: Vec<TestMove>,
 }
@@ -33,4 +37,15 @@ pub struct BayTests {
     pub needs: Vec<SwitchId>,
     /// the positions, with their moves
     pub positions: Vec<TestPosition>,
+}
+
+/// The tests of a bay, and the bays whose tests they are too.
+#[derive(Drop)]
+pub struct SharedTests {
+    /// the bay that is tested
+    pub bay: BayId,
+    /// the later bays that are like it, in document order: their tests are these with the two bays exchanged
+    pub like: Vec<BayId>,
+    /// its tests
+    pub tests: BayTests,
 }

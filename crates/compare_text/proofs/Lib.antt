@@ -1,1 +1,3 @@
 mod TextLemmas
+pub mod MirrorLemmas
+pub mod BayMirrorLemmas

@@ -22,7 +22,8 @@ use Rattle.station_compare.specs.declared.found.Comparison.{Comparison}
 use Rattle.station_compare.specs.declared.word.Word.{Word}
 use Rattle.station_compare.specs.declared.word.Word.TheVariants.{Same, Kept, Changed}
 use Rattle.station_compare.specs.Words.{word_of}
-use Rattle.station_compare.specs.Comparing.{opening, closing, IsComparison}
+use Rattle.release_dependence.specs.Operations.{opening, closing}
+use Rattle.station_compare.specs.Comparing.{IsComparison}
 use Rattle.station_compare.specs.Bays.{AreBays}
 use Rattle.compare_text.specs.declared.text.CompareReport.{CompareReport}
 

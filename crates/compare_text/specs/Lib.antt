@@ -1,1 +1,2 @@
 pub mod CompareText
+pub mod Mirror

@@ -3,8 +3,10 @@
 #![tactic(auto)]
 
 mod bay_lines;
+mod laws;
 mod names;
 mod text;
 mod vector_lines;
 
+pub use laws::texts_turned_round;
 pub use text::{CompareReport, compare_text};

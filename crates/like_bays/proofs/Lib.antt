@@ -1,1 +1,2 @@
 pub mod LikeLemmas
+pub mod VectorLemmas

@@ -3,7 +3,7 @@ ghost use Rattle.std.specs.Prelude.{◌≡◌, ℕ, ◌+◌, ◌<◌, ◌^◌, I
 ghost use Rattle.like_bays.specs.Like.{led_by, IsOutside};
 ghost use Rattle.like_bays.specs.Kept.{LeadsBack, KeepsSwitch, KeepsLink, KeepsTap, AreTablesOf};
 
-use crate::items::{keeps_link, keeps_switch, keeps_tap, led};
+use crate::items::{keeps_link, keeps_switch, keeps_tap, led_to};
 use crate::tables::Tables;
 use ilk_base::SwitchId;
 use station_graph::Station;
@@ -13,7 +13,7 @@ fn leads_back_to(table: &[u16], n: usize) -> bool
     requires { n < length table.now }
     ensures { IsTrue result → led_by table.now (led_by table.now n) ≡ n }
 {
-    usize::from(led(table, table[n])) == n
+    usize::from(led_to(table, table[n])) == n
 }
 
 // Whether the table leads back to each number.
@@ -74,7 +74,7 @@ fn carries(table: &[u16], first: SwitchId, second: SwitchId, count: u16) -> bool
     ensures { IsTrue result → (i : ℕ) → i < count → led_by table.now (first.0 + i) ≡ second.0 + i }
 {
     for i in 0..count {
-        if led(table, first.0 + i) != second.0 + i {
+        if led_to(table, first.0 + i) != second.0 + i {
             return false;
         }
     }

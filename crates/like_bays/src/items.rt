@@ -9,8 +9,8 @@ use crate::tables::Tables;
 use ilk_base::{NodeId, SwitchId};
 use station_graph::{Link, Station, Switch};
 
-// Where the table leads from a number.
-pub(crate) fn led(table: &[u16], n: u16) -> u16
+/// Where a table leads from a number: past its end every number stays. At once.
+pub fn led_to(table: &[u16], n: u16) -> u16
     ensures { result ≡ led_by table.now n }
 {
     if usize::from(n) < table.len() {
@@ -26,7 +26,7 @@ fn is_second(nodes: &[u16], x: Option<NodeId>, y: Option<NodeId>) -> bool
 {
     match x {
         Some(from) => match y {
-            Some(to) => to.0 == led(nodes, from.0),
+            Some(to) => to.0 == led_to(nodes, from.0),
             None => false,
         },
         None => match y {
@@ -40,7 +40,9 @@ fn is_second(nodes: &[u16], x: Option<NodeId>, y: Option<NodeId>) -> bool
 fn is_switch(nodes: &[u16], x: Switch, y: Switch) -> bool
     ensures { IsTrue result → SwitchAs (led_by nodes.now) x y }
 {
-    y.kind == x.kind && y.first.0 == led(nodes, x.first.0) && is_second(nodes, x.second, y.second)
+    y.kind == x.kind
+        && y.first.0 == led_to(nodes, x.first.0)
+        && is_second(nodes, x.second, y.second)
 }
 
 // Whether the tables keep a switch.
@@ -48,7 +50,7 @@ pub(crate) fn keeps_switch(station: &Station, tables: &Tables, i: u16) -> bool
     requires { i < length station.now.switches }
     ensures { IsTrue result → KeepsSwitch station.now tables.now.switches.items tables.now.nodes.items i }
 {
-    let to = led(&tables.switches, i);
+    let to = led_to(&tables.switches, i);
     if to >= station.switch_count() {
         return false;
     }
@@ -62,7 +64,9 @@ fn is_link(nodes: &[u16], x: Link, y: Link) -> bool
     ensures { IsTrue result → (y.bond ≡ x.bond) × (y.first.0 ≡ led_by nodes.now x.first.0)
         × (y.second.0 ≡ led_by nodes.now x.second.0) }
 {
-    y.bond == x.bond && y.first.0 == led(nodes, x.first.0) && y.second.0 == led(nodes, x.second.0)
+    y.bond == x.bond
+        && y.first.0 == led_to(nodes, x.first.0)
+        && y.second.0 == led_to(nodes, x.second.0)
 }
 
 // Whether the tables keep a link.
@@ -70,7 +74,7 @@ pub(crate) fn keeps_link(station: &Station, tables: &Tables, i: u16) -> bool
     requires { i < length station.now.links }
     ensures { IsTrue result → KeepsLink station.now tables.now.nodes.items i }
 {
-    let to = led(&tables.links, i);
+    let to = led_to(&tables.links, i);
     if to >= station.link_count() {
         return false;
     }
@@ -82,9 +86,9 @@ pub(crate) fn keeps_tap(station: &Station, tables: &Tables, i: u16) -> bool
     requires { i < length station.now.taps }
     ensures { IsTrue result → KeepsTap station.now tables.now.nodes.items i }
 {
-    let to = led(&tables.taps, i);
+    let to = led_to(&tables.taps, i);
     if to >= station.tap_count() {
         return false;
     }
-    station.tap(to).node.0 == led(&tables.nodes, station.tap(i).node.0)
+    station.tap(to).node.0 == led_to(&tables.nodes, station.tap(i).node.0)
 }

@@ -15,7 +15,8 @@ use Rattle.station_compare.specs.declared.found.Found.TheVariants.{OnlyNew, InBo
 use Rattle.station_compare.specs.declared.word.Word.{Word}
 use Rattle.station_compare.specs.declared.word.Word.TheVariants.{Same, Kept, Changed}
 use Rattle.station_compare.specs.Words.{IsWord, worse, worst, word_of, switch_word, found_word}
-use Rattle.station_compare.specs.Comparing.{AreSwitchChanges, IsFound, opening, closing}
+use Rattle.release_dependence.specs.Operations.{opening, closing}
+use Rattle.station_compare.specs.Comparing.{AreSwitchChanges, IsFound}
 use Rattle.station_compare.specs.Bays.{IsCommonOf, IsWorst, WorstOf, Between, InPart}
 use Rattle.station_compare.proofs.WordLemmas.{says_word}
 use Rattle.station_compare.proofs.ExtendLemmas.{opened, closed}

@@ -22,7 +22,8 @@ use Rattle.station_compare.specs.declared.found.Comparison.{Comparison}
 use Rattle.station_compare.specs.declared.word.Word.{Word}
 use Rattle.station_compare.specs.declared.word.Word.TheVariants.{Same, Kept, Changed}
 use Rattle.station_compare.specs.Words.{ShowsSome, IsWord, worse, word_of, switch_word, IsUnchanged}
-use Rattle.station_compare.specs.Comparing.{AreSwitchChanges, IsFound, IsGone, IsComparison, opening, closing}
+use Rattle.release_dependence.specs.Operations.{opening, closing}
+use Rattle.station_compare.specs.Comparing.{AreSwitchChanges, IsFound, IsGone, IsComparison}
 use Rattle.station_compare.proofs.WordLemmas.{says_word}
 
 -- ---- words

@@ -1,16 +1,16 @@
 -- The load graph of a switch to which the third rule never applies.
-use Rattle.std.proofs.Common.{◌≡◌, ℕ, ◌<◌, zero, suc, Bool, List, length, map, replicate, slice_get, Some, get_or}
+use Rattle.std.proofs.Common.{◌≡◌, ℕ, zero, suc, Bool, List, length, replicate, slice_get, Some, get_or}
 use Rattle.std.proofs.Common.{refl, sym, ap, ◌∙◌, arith}
 use Rattle.std.proofs.lemmas.Option.{same_Some, slice_get_within}
 use Rattle.ilk_base.specs.declared.words.Kind.TheVariants.{Disconnector}
 use Rattle.station_graph.specs.declared.items.Switch.{Switch}
 use Rattle.station_graph.specs.Diagram.{Diagram}
-use Rattle.decision_graphs.specs.Label.{Layer, Layered, layer_at, label_of, AreChoices, AreLayers, AreReduced}
+use Rattle.decision_graphs.specs.Label.{Layered, label_of, AreChoices}
 use Rattle.judge_pool.specs.declared.view.View.TheVariants.{Gap, Load}
-use Rattle.judge_pool.proofs.ChoiceLemmas.{choices_each, choices_on, same_choices, same_count}
+use Rattle.judge_pool.proofs.ChoiceLemmas.{choices_each, same_choices, same_count}
 use Rattle.step_graphs.specs.declared.step.Step.{Step}
 use Rattle.step_graphs.specs.Moved.{IsMovedGraph, AreGiven}
-use Rattle.station_compare.specs.Walking.{HasNoLoad}
+use Rattle.station_compare.specs.Walking.{HasNoLoad, IsIdleOf}
 
 abbrev nought : ℕ
 nought = 0
@@ -36,24 +36,17 @@ module _ (d : Diagram) (steps : List Step) (b m : ℕ) (gap : Layered) (h : IsMo
       choices_each gap.layers cs len (λ i c at.
       omega (arith, given.small i c at, h.choices i (omega (arith, len, slice_get_within cs i c at))))
 
-  pub idle : (named g : Layered) → map (λ (l : Layer). l.choices) named.layers ≡ map (λ (l : Layer). l.choices) gap.layers →
-      ((cs : List ℕ) → AreChoices gap.layers cs → label_of named cs ≡ 0) → g.labels ≡ 2 →
-      map (λ (l : Layer). l.choices) g.layers ≡ map (λ (l : Layer). l.choices) named.layers →
-      ((cs : List ℕ) → AreChoices named.layers cs → label_of g cs ≡ label_of named cs) → AreLayers g.labels g.layers →
-      AreReduced g.layers → IsMovedGraph Load d steps b m g
-  idle named g named_choices named_label labels choices label fits reduced =
-      let both = choices ∙ named_choices in
-      let len : length g.layers ≡ length gap.layers = same_count gap.layers g.layers both in
+  pub idle : (g : Layered) → IsIdleOf gap g → IsMovedGraph Load d steps b m g
+  idle g i =
+      let len : length g.layers ≡ length gap.layers = same_count gap.layers g.layers i.choices in
       record {
-        fits = fits;
+        fits = i.fits;
         count = omega (arith, len, h.count);
-        choices = λ j lt. same_choices gap.layers g.layers both j ∙ h.choices j (omega (arith, lt, len));
-        labels = labels;
-        reduced = reduced;
+        choices = λ j lt. same_choices gap.layers g.layers i.choices j ∙ h.choices j (omega (arith, lt, len));
+        labels = i.labels;
+        reduced = i.reduced;
         says = λ v cs vector given op same.
-            let are = allowed v cs given in
-            let is_zero : label_of g cs ≡ 0 =
-            label cs (choices_on gap.layers named.layers cs named_choices are) ∙ named_label cs are in (
+            let is_zero : label_of g cs ≡ 0 = i.first cs (allowed v cs given) in (
               λ e. absurd (omega (arith, e, is_zero)),
               λ a. absurd (none v op same a),
             );

@@ -1,10 +1,10 @@
 mod WordLemmas
 mod LoneLemmas
-mod TwinLemmas
+pub mod TwinLemmas
 mod ExtendLemmas
 mod BayLemmas
 mod ListLemmas
-mod MirrorLemmas
+pub mod MirrorLemmas
 mod WideLemmas
 mod LikeLemmas
 mod IdleLemmas

@@ -19,7 +19,11 @@ use Rattle.step_graphs.specs.declared.step.Step.{Step}
 use Rattle.step_graphs.specs.declared.step.Step.TheVariants.{OfSwitch, OfLink, OfTap, OfNothing}
 use Rattle.step_graphs.specs.Steps.{items_in, AreSteps}
 use Rattle.station_joints.specs.Together.{AreJointSteps}
-use Rattle.station_compare.specs.Comparing.{AreChanges, no_changes}
+use Rattle.ilk_base.specs.declared.words.SwitchId.{SwitchId}
+use Rattle.release_dependence.specs.Operations.{opening, closing}
+use Rattle.station_compare.specs.declared.found.OperationChanges.{OperationChanges}
+use Rattle.station_compare.specs.declared.found.SwitchChanges.{SwitchChanges}
+use Rattle.station_compare.specs.Comparing.{AreChanges, AreSwitchChanges, no_changes}
 
 -- every switch of the station is the moved one
 abbrev IsLone : Diagram → ℕ → Type 0
@@ -106,7 +110,7 @@ module _ (o n : Diagram) (ss ts : List Step) (j : AreJointSteps o n ss ts) (one 
       (lone_of o ss j.old_all one a.switch.0 (slice_get_within o.switches a.switch.0 same.old same.old_at))
       same.old same.old_at u rule h.0
 
-  pub lone_changes : AreChanges o n a b no_changes
+  lone_changes : AreChanges o n a b no_changes
   lone_changes = record {
     stricter = record {
       first = none_shown Stricter R1;
@@ -119,3 +123,18 @@ module _ (o n : Diagram) (ss ts : List Step) (j : AreJointSteps o n ss ts) (one 
       third = none_shown Looser R3;
     };
   }
+
+pub lone_switch : (o n : Diagram) (ss ts : List Step) → AreJointSteps o n ss ts → length ss ≡ 1 → (id : SwitchId) (k : ℕ) →
+    SameSwitch o n id.0 k → (c : SwitchChanges) → c.old ≡ id → c.opening ≡ no_changes → c.closing ≡ no_changes →
+    AreSwitchChanges o n k c
+lone_switch o n ss ts j one id k same c old opens closes = record {
+  same = subst (λ (x : SwitchId). SameSwitch o n x.0 k) (sym old) same;
+  opened =
+      subst (λ (x : SwitchId). AreChanges o n (opening x.0) (opening k) c.opening) (sym old)
+      (subst (λ (x : OperationChanges). AreChanges o n (opening id.0) (opening k) x) (sym opens)
+      (lone_changes o n ss ts j one (opening id.0) (opening k) same));
+  closed =
+      subst (λ (x : SwitchId). AreChanges o n (closing x.0) (closing k) c.closing) (sym old)
+      (subst (λ (x : OperationChanges). AreChanges o n (closing id.0) (closing k) x) (sym closes)
+      (lone_changes o n ss ts j one (closing id.0) (closing k) same));
+}

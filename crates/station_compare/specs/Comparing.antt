@@ -1,12 +1,12 @@
 -- What is found of the operations of two stations.
 use Rattle.std.specs.Prelude.{ℕ, ◌≡◌, Bool, true, false, List, length, option_map, None, ⊤}
-use Rattle.ilk_base.specs.declared.words.Direction.TheVariants.{ToOff, ToOn}
 use Rattle.ilk_base.specs.declared.words.Op.{Op}
 use Rattle.ilk_base.specs.declared.words.Rule.TheVariants.{R1, R2, R3}
 use Rattle.station_graph.specs.Diagram.{Diagram}
 use Rattle.station_changes.specs.declared.change.Change.{Change}
 use Rattle.station_changes.specs.declared.change.Change.TheVariants.{Stricter, Looser}
 use Rattle.station_changes.specs.Compare.{SameSwitch, IsPart}
+use Rattle.release_dependence.specs.Operations.{opening, closing}
 use Rattle.change_search.specs.Showing.{witness_of}
 use Rattle.station_compare.specs.Each.{AreEach}
 use Rattle.station_compare.specs.Width.{IsTooWide}
@@ -29,13 +29,6 @@ pub record AreRuleChanges (o n : Diagram) (a b : Op) (change : Change) (c : Rule
 pub record AreChanges (o n : Diagram) (a b : Op) (c : OperationChanges) : Type 0 where
   pub stricter : AreRuleChanges o n a b Stricter c.stricter
   pub looser : AreRuleChanges o n a b Looser c.looser
-
--- The opening and the closing of a switch.
-abbrev pub opening : ℕ → Op
-opening i = record { switch = record { 0 = i }; direction = ToOff }
-
-abbrev pub closing : ℕ → Op
-closing i = record { switch = record { 0 = i }; direction = ToOn }
 
 -- What changes for switch k of the new station, which is one of the old one.
 pub record AreSwitchChanges (o n : Diagram) (k : ℕ) (c : SwitchChanges) : Type 0 where

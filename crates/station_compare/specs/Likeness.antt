@@ -4,23 +4,23 @@ use Rattle.ilk_base.specs.declared.words.Op.{Op}
 use Rattle.station_graph.specs.Diagram.{Diagram}
 use Rattle.station_changes.specs.Compare.{SameSwitch}
 use Rattle.release_dependence.specs.Exchange.{IsExchangedOp}
-use Rattle.bay_exchanges.specs.Exchanging.{IsBayExchange, partner}
+use Rattle.like_bays.specs.Like.{led_by, IsExchangeBy}
 use Rattle.station_joints.specs.Joined.{HaveJointSteps}
 use Rattle.station_compare.specs.declared.likeness.LikeBays.{LikeBays}
 use Rattle.station_compare.specs.declared.walks.BayWalks.{BayWalks}
 use Rattle.station_compare.specs.Walking.{AreStocks}
 
--- The exchange of two bays in both stations, under which the same switches stay the same.
+-- The tables of an exchange of two bays in both stations, under which the same switches stay the same.
 pub record AreExchanged (o n : Diagram) (x : LikeBays) : Type 0 where
-  pub old : IsBayExchange o x.old
-  pub new : IsBayExchange n x.new
+  pub old : IsExchangeBy o x.old.items
+  pub new : IsExchangeBy n x.new.items
   pub agree : (i k : ℕ) → SameSwitch o n i k →
-      SameSwitch o n (partner x.old.switches.items i) (partner x.new.switches.items k)
+      SameSwitch o n (led_by x.old.items i) (led_by x.new.items k)
 
 -- The operations c and d are a of the old station and b of the new one, exchanged.
 pub record AreExchangedOps (x : LikeBays) (a b c d : Op) : Type 0 where
-  pub old : IsExchangedOp (partner x.old.switches.items) a c
-  pub new : IsExchangedOp (partner x.new.switches.items) b d
+  pub old : IsExchangedOp (led_by x.old.items) a c
+  pub new : IsExchangedOp (led_by x.new.items) b d
 
 -- The stocks are those of joint steps of both stations, and if a bay is like the one at work, both are exchanged.
 pub record AreBayWalks (o n : Diagram) (w : BayWalks) : Type 0 where

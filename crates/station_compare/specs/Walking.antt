@@ -1,11 +1,12 @@
 -- What the walks of two stations are made of, and what is reached in them.
 use Rattle.std.specs.Prelude.{◌≡◌, ℕ}
 use Rattle.station_graph.specs.Diagram.{Diagram}
+use Rattle.decision_graphs.specs.Label.{Layer, Layered, label_of, AreChoices, AreLayers, AreReduced}
 use Rattle.judge_pool.specs.declared.view.View.{View}
 use Rattle.judge_pool.specs.declared.view.View.TheVariants.{Gap, Load}
 use Rattle.step_graphs.specs.declared.graph.StepStock.{StepStock}
 use Rattle.step_graphs.specs.Ready.{IsStepStock}
-use Rattle.std.specs.Prelude.{List, Bool}
+use Rattle.std.specs.Prelude.{List, Bool, map}
 use Rattle.ilk_base.specs.declared.words.Op.{Op}
 use Rattle.station_graph.specs.CentralRules.{LoadBreaks}
 use Rattle.step_graphs.specs.declared.step.Step.{Step}
@@ -19,6 +20,14 @@ use Rattle.station_compare.specs.declared.walked.Walked.{Walked}
 -- The third rule applies to no move of switch m.
 abbrev pub HasNoLoad : Diagram → ℕ → Type 0
 HasNoLoad d m = (v : List Bool) (op : Op) → op.switch.0 ≡ m → ¬ LoadBreaks d v op
+
+-- The graph has the layers of another one and two labels, and leads to the first of them whatever is chosen.
+pub record IsIdleOf (gap g : Layered) : Type 0 where
+  pub fits : AreLayers g.labels g.layers
+  pub choices : map (λ (l : Layer). l.choices) g.layers ≡ map (λ (l : Layer). l.choices) gap.layers
+  pub labels : g.labels ≡ 2
+  pub reduced : AreReduced g.layers
+  pub first : (cs : List ℕ) → AreChoices gap.layers cs → label_of g cs ≡ 0
 
 -- The stock is that of these steps in this view.
 pub record IsStockIn (view : View) (d : Diagram) (steps : List Step) (s : StepStock) : Type 0 where

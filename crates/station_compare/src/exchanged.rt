@@ -6,16 +6,16 @@ ghost use Rattle.station_graph.specs.Alike.{IsVector};
 ghost use Rattle.station_changes.specs.declared.change.Change.{Change};
 ghost use Rattle.station_changes.specs.Compare.{IsPart};
 ghost use Rattle.release_dependence.specs.Exchange.{IsExchanged};
-ghost use Rattle.bay_exchanges.specs.Exchanging.{partner};
+ghost use Rattle.like_bays.specs.Like.{led_by};
 ghost use Rattle.change_search.specs.Showing.{witness_of};
 ghost use Rattle.station_compare.specs.Comparing.{AreRuleChanges, AreChanges, AreSwitchChanges, IsFound};
 ghost use Rattle.station_compare.specs.Likeness.{AreExchanged, AreExchangedOps};
 
 use crate::found::{Found, OperationChanges, RuleChanges, SwitchChanges};
 use crate::likeness::LikeBays;
-use bay_exchanges::{exchanged_vector, stands_for};
 use change_search::Shown;
 use ilk_base::{Memory, SwitchId};
+use like_bays::{exchanged_vector, led_to};
 use station_graph::Station;
 use std::alloc::Global;
 
@@ -32,9 +32,9 @@ fn exchanged_shown(
     ensures new { IfOk result (λ s. IsVector new.now s.new_closed.items) }
     ensures isolated { IfOk result (λ s. s.isolated ≡ shown.now.isolated) }
     ensures old_exchanged { IfOk result (λ s. IsVector old.now shown.now.old_closed.items →
-        IsExchanged (partner like.now.old.switches.items) shown.now.old_closed.items s.old_closed.items) }
+        IsExchanged (led_by like.now.old.items) shown.now.old_closed.items s.old_closed.items) }
     ensures new_exchanged { IfOk result (λ s. IsVector new.now shown.now.new_closed.items →
-        IsExchanged (partner like.now.new.switches.items) shown.now.new_closed.items s.new_closed.items) }
+        IsExchanged (led_by like.now.new.items) shown.now.new_closed.items s.new_closed.items) }
 {
     let old_closed = exchanged_vector(alloc, old, &like.old, &shown.old_closed)?;
     let new_closed = exchanged_vector(alloc, new, &like.new, &shown.new_closed)?;
@@ -116,12 +116,12 @@ fn exchanged_switch(
 ) -> Result<SwitchChanges, Memory>
     requires { AreExchanged old.now new.now like.now }
     ensures { IfOk result (λ c. (k : ℕ) → AreSwitchChanges old.now new.now k changes.now →
-        AreSwitchChanges old.now new.now (partner like.now.new.switches.items k) c) }
+        AreSwitchChanges old.now new.now (led_by like.now.new.items k) c) }
 {
     let opening = exchanged_changes(alloc, like, old, new, &changes.opening)?;
     let closing = exchanged_changes(alloc, like, old, new, &changes.closing)?;
     Ok(SwitchChanges {
-        old: SwitchId(stands_for(&like.old.switches, changes.old.0)),
+        old: SwitchId(led_to(&like.old, changes.old.0)),
         opening,
         closing,
     })
@@ -137,7 +137,7 @@ pub(crate) fn exchanged_found(
 ) -> Result<Found, Memory>
     requires { AreExchanged old.now new.now like.now }
     ensures { IfOk result (λ f. (k : ℕ) → IsFound old.now new.now k found.now →
-        IsFound old.now new.now (partner like.now.new.switches.items k) f) }
+        IsFound old.now new.now (led_by like.now.new.items k) f) }
 {
     match found {
         Found::OnlyNew => Ok(Found::OnlyNew),

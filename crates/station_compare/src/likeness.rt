@@ -2,20 +2,20 @@
 ghost use Rattle.std.specs.Prelude.{◌≡◌, ◌<◌, ℕ, ⊤, IsTrue, IfOk, MatchOption, length};
 ghost use Rattle.station_graph.specs.Diagram.{part_count};
 ghost use Rattle.station_changes.specs.Compare.{SameSwitch};
-ghost use Rattle.bay_exchanges.specs.Exchanging.{IsBayExchange, partner};
+ghost use Rattle.like_bays.specs.Like.{led_by};
 ghost use Rattle.station_compare.specs.Likeness.{AreExchanged};
 
-use bay_exchanges::{BayExchange, exchange_of, stands_for};
 use ilk_base::{BayId, Memory, SwitchId};
+use like_bays::{exchange_of, led_to};
 use station_graph::Station;
 use station_joints::same_switch;
 use std::alloc::Global;
 
-// The exchange of two bays in both stations.
+// Where the exchange of two bays leads from each switch, in both stations.
 #[derive(Drop)]
 pub(crate) struct LikeBays {
-    pub(crate) old: BayExchange,
-    pub(crate) new: BayExchange,
+    pub(crate) old: Vec<u16>,
+    pub(crate) new: Vec<u16>,
 }
 
 impl LikeBays {
@@ -23,15 +23,15 @@ impl LikeBays {
     fn twin_stands(&self, old: &Station, new: &Station, id: SwitchId, twin: SwitchId) -> bool
         requires { SameSwitch new.now old.now id.0 twin.0 }
         ensures { IsTrue result → (i : ℕ) → SameSwitch old.now new.now i id.0 →
-            SameSwitch old.now new.now (partner self.now.old.switches.items i)
-            (partner self.now.new.switches.items id.0) }
+            SameSwitch old.now new.now (led_by self.now.old.items i)
+            (led_by self.now.new.items id.0) }
     {
         old.is_station();
-        let there = stands_for(&self.new.switches, id.0);
+        let there = led_to(&self.new, id.0);
         if there >= new.switch_count() {
             return false;
         }
-        let wanted = stands_for(&self.old.switches, twin.0);
+        let wanted = led_to(&self.old, twin.0);
         match same_switch(new, old, SwitchId(there)) {
             Some(other) => other.0 == wanted,
             None => false,
@@ -42,8 +42,8 @@ impl LikeBays {
     fn twin_agrees(&self, old: &Station, new: &Station, id: SwitchId) -> bool
         requires { id.0 < length new.now.switches }
         ensures { IsTrue result → (i : ℕ) → SameSwitch old.now new.now i id.0 →
-            SameSwitch old.now new.now (partner self.now.old.switches.items i)
-            (partner self.now.new.switches.items id.0) }
+            SameSwitch old.now new.now (led_by self.now.old.items i)
+            (led_by self.now.new.items id.0) }
     {
         match same_switch(new, old, id) {
             Some(twin) => self.twin_stands(old, new, id, twin),
@@ -54,8 +54,8 @@ impl LikeBays {
     // Whether that holds of each switch of the new station.
     fn agrees(&self, old: &Station, new: &Station) -> bool
         ensures { IsTrue result → (i k : ℕ) → SameSwitch old.now new.now i k →
-            SameSwitch old.now new.now (partner self.now.old.switches.items i)
-            (partner self.now.new.switches.items k) }
+            SameSwitch old.now new.now (led_by self.now.old.items i)
+            (led_by self.now.new.items k) }
     {
         for k in 0..new.switch_count() {
             if !self.twin_agrees(old, new, SwitchId(k)) {

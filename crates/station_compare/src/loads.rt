@@ -7,7 +7,7 @@ ghost use Rattle.step_graphs.specs.Edges.{StepsPass};
 ghost use Rattle.step_graphs.specs.Moved.{IsMovedGraph};
 ghost use Rattle.step_graphs.specs.Steps.{AreSteps, TakesIn};
 ghost use Rattle.step_graphs.specs.Ready.{IsStepStock};
-ghost use Rattle.station_compare.specs.Walking.{HasNoLoad};
+ghost use Rattle.station_compare.specs.Walking.{HasNoLoad, IsIdleOf};
 ghost use Rattle.station_compare.specs.declared.limits.TheConstants.{WALK_EDGES};
 
 use crate::limits::WALK_EDGES;
@@ -35,24 +35,11 @@ fn zeros(alloc: Global, count: u32) -> Result<Vec<u32>, Memory>
     Ok(names)
 }
 
-// The load graph of a switch to whose moves the third rule never applies, from its gap graph, which has as many layers.
-fn idle_graph(
-    alloc: Global,
-    station: &Station,
-    steps: &[Step],
-    place: u16,
-    id: SwitchId,
-    gap: &Graph,
-) -> Result<Graph, Memory>
-    requires gap { IsMovedGraph Gap station.now steps.now place id.0 gap.now }
-    requires none { HasNoLoad station.now id.0 }
-    requires some { 1 < length steps.now }
-    ensures { IfOk result (IsMovedGraph Load station.now steps.now place id.0) }
+// The graph with the layers of this one that leads to the first of two labels whatever is chosen.
+fn idle_graph(alloc: Global, gap: &Graph) -> Result<Graph, Memory>
+    requires { 0 < length gap.now.layers }
+    ensures { IfOk result (IsIdleOf gap.now) }
 {
-    let _ = station;
-    let _ = steps;
-    let _ = place;
-    let _ = id;
     let names = zeros(alloc, gap.labels())?;
     let named = gap.rename(alloc, 2, &names)?;
     let reduced = named.reduce(alloc)?;
@@ -85,7 +72,8 @@ pub(crate) fn load_graph(
         StepsPass stock.old.pool.view station.now steps.now place WALK_EDGES) }
 {
     if !has_load(station, id) {
-        return Ok(idle_graph(alloc, station, steps, place, id, gap)?);
+        let idle = idle_graph(alloc, gap)?;
+        return Ok(idle);
     }
     let graph = moved_graph(alloc, stock, station, steps, place, id, WALK_EDGES)?;
     Ok(graph)

@@ -12,9 +12,9 @@ use crate::refusal::CompareRefusal;
 use crate::stocks::Stocks;
 use crate::switch::found_of;
 use crate::walks::BayWalks;
-use bay_exchanges::stands_for;
 use ilk_base::{Memory, SwitchId};
 use judge_pool::Trouble;
+use like_bays::led_to;
 use station_graph::Station;
 use station_joints::JointSteps;
 use std::alloc::Global;
@@ -60,7 +60,7 @@ fn known(
     let Some(like) = &walks.like else {
         return Ok(None);
     };
-    let there = usize::from(stands_for(&like.new.switches, id.0));
+    let there = usize::from(led_to(&like.new, id.0));
     if there >= list.len() {
         return Ok(None);
     }

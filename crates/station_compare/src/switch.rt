@@ -37,23 +37,12 @@ fn unchanged() -> OperationChanges
     }
 }
 
-// Where both stations have one item alone, which is the same switch, nothing changes for it.
-fn lone_switch(
-    old: &Station,
-    new: &Station,
-    steps: &JointSteps,
-    id: SwitchId,
-    new_id: SwitchId,
-) -> SwitchChanges
-    requires steps { HaveJointSteps old.now new.now steps.now }
-    requires same { SameSwitch old.now new.now id.0 new_id.0 }
-    requires alone { length steps.now.old_steps.items ≡ 1 }
-    ensures { AreSwitchChanges old.now new.now new_id.0 result }
+// No change of the switch with this number in the old station.
+fn unchanged_switch(id: SwitchId) -> SwitchChanges
+    ensures old { result.old ≡ id }
+    ensures opening { result.opening ≡ no_changes }
+    ensures closing { result.closing ≡ no_changes }
 {
-    old.is_station();
-    new.is_station();
-    let _ = steps;
-    let _ = new_id;
     SwitchChanges {
         old: id,
         opening: unchanged(),
@@ -124,8 +113,9 @@ fn switch_changes(
     ensures changes { IfOk result (AreSwitchChanges old.now new.now new_id.0) }
     ensures wide { IfErr result (λ e. e ≡ Wide → IsTooWide old.now new.now id.0 new_id.0) }
 {
+    // where both stations have one item alone, which is the same switch, nothing changes for it
     if steps.old_steps.len() == 1 {
-        return Ok(lone_switch(old, new, steps, id, new_id));
+        return Ok(unchanged_switch(id));
     }
     let place = steps.old_places[id.0 as usize];
     moved_switch(alloc, stocks, old, new, steps, place, id, new_id)

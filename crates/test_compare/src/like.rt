@@ -1,18 +1,14 @@
 //! Bays that are like each other.
-use bay_exchanges::{BayExchange, exchange_of, exchanged_vector, stands_for};
 use ilk_base::BayId;
-use like_bays::are_like;
+use like_bays::{are_like, exchange_of, exchanged_vector, led_to};
 use station_graph::Station;
 use station_joints::joint_steps_of_bay;
 use std::alloc::Global;
 use std::test::Fail;
 use test_stations::{Example, built};
 
-// The five switches of the first feeder stand for those of the second.
+// The exchange leads from the five switches of the first feeder to those of the second, and back.
 const SWITCHES: &[u16] = &[5, 6, 7, 8, 9, 0, 1, 2, 3, 4];
-
-// Each node of a feeder stands for one of the other, and the busbar for itself.
-const NODES: &[u16] = &[0, 4, 5, 6, 1, 2, 3];
 
 // The first feeder's breaker and earthing switch are closed, and exchanged the second feeder's.
 const CLOSED: &[bool] = &[
@@ -23,19 +19,16 @@ const EXCHANGED: &[bool] = &[
     false, false, false, false, false, false, true, false, true, false,
 ];
 
-// Whether the exchange is that of the two feeders.
-fn is_exchange(found: &BayExchange) -> bool {
-    found.switches.as_slice() == SWITCHES
-        && found.nodes.as_slice() == NODES
-        && stands_for(&found.switches, 3) == 8
-        && stands_for(&found.switches, 12) == 12
+// Whether the table is that of the two feeders; past its end every switch stays.
+fn is_exchange(table: &[u16]) -> bool {
+    table == SWITCHES && led_to(table, 3) == 8 && led_to(table, 12) == 12
 }
 
 // Whether the feeders are exchanged, and these positions with them.
 fn are_exchanged(alloc: Global, station: &Station) -> bool {
     match exchange_of(alloc, station, BayId(1), BayId(2)) {
-        Ok(Some(found)) => match exchanged_vector(alloc, station, &found, CLOSED) {
-            Ok(closed) => is_exchange(&found) && closed.as_slice() == EXCHANGED,
+        Ok(Some(table)) => match exchanged_vector(alloc, station, &table, CLOSED) {
+            Ok(closed) => is_exchange(&table) && closed.as_slice() == EXCHANGED,
             Err(_) => false,
         },
         _ => false,
@@ -49,14 +42,9 @@ fn like_feeders_are_exchanged(rt: HostRuntime) -> Result<(), Fail> {
     Ok(())
 }
 
-// Whether the two feeders are like, by the exchange of their switches, and the busbar is like none of them.
+// Whether the two feeders are like, and the busbar is like none of them.
 fn are_told_like(alloc: Global, station: &Station) -> bool {
-    let exchanged = match like_bays::exchange_of(alloc, station, BayId(1), BayId(2)) {
-        Ok(Some(table)) => table.as_slice() == SWITCHES,
-        _ => false,
-    };
-    exchanged
-        && matches!(are_like(alloc, station, BayId(1), BayId(2)), Ok(true))
+    matches!(are_like(alloc, station, BayId(1), BayId(2)), Ok(true))
         && matches!(are_like(alloc, station, BayId(0), BayId(1)), Ok(false))
 }
 

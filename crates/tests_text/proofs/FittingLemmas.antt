@@ -1,20 +1,24 @@
 -- Tests of a bay fit its station.
-use Rattle.std.proofs.Common.{◌≡◌, ℕ, zero, suc, ◌+◌, ◌<◌, ◌≤◌, List, [], ◌∷◌, length, map, Some, All, inl, inr}
+use Rattle.std.proofs.Common.{◌≡◌, ℕ, zero, suc, ◌+◌, ◌<◌, ◌≤◌, List, [], ◌∷◌, length, map, get_or, Some, All, inl, inr}
 use Rattle.std.proofs.Common.{arith}
 use Rattle.std.specs.Prelude.{slice_get}
 use Rattle.std.specs.List.{range_with_len}
 use Rattle.std.proofs.lemmas.Option.{slice_get-get_or}
 use Rattle.std.proofs.lemmas.List.Elements.{All-nil, All-cons, All-head, All-tail, All-same}
 use Rattle.ilk_base.specs.declared.words.Op.{Op}
+use Rattle.ilk_base.specs.declared.words.BayId.{BayId}
 use Rattle.ilk_base.specs.declared.words.SwitchId.{SwitchId}
-use Rattle.station_graph.specs.Diagram.{Diagram}
+use Rattle.station_graph.specs.Diagram.{Diagram, part_count}
 use Rattle.station_graph.specs.CentralRules.{IsOperation}
 use Rattle.commissioning_tests.specs.declared.values.TestPosition.{TestPosition}
 use Rattle.commissioning_tests.specs.declared.values.BayTests.{BayTests}
-use Rattle.commissioning_tests.specs.Listed.{opening, closing, operations_from, AreThose}
+use Rattle.commissioning_tests.specs.declared.values.SharedTests.{SharedTests}
+use Rattle.release_dependence.specs.Operations.{opening, closing}
+use Rattle.commissioning_tests.specs.Listed.{operations_from, AreThose}
 use Rattle.commissioning_tests.specs.Answering.{IsPosition}
 use Rattle.commissioning_tests.specs.Covering.{IsAlways, IsNeeded, AreTestsOf}
-use Rattle.tests_text.specs.Fitting.{MoveFits, PositionFits, TestsFit}
+use Rattle.commissioning_tests.specs.Shared.{AreSharedTests, AreStationTests, AreTestsUpto, IsLater, IsTested}
+use Rattle.tests_text.specs.Fitting.{MoveFits, PositionFits, SharedFit, TestsFit}
 
 -- what holds at each place holds of all
 at_each_place : {X : Type 0} (P : X → Type 0) (xs : List X) →
@@ -76,3 +80,30 @@ tests_of_fit d bay t are =
       positions = at_each_place (PositionFits d t.operations.items) t.positions.items
           (λ i p at. position_fits d t.operations.items p (are.tests.positions i p at));
     }
+
+-- ---- the tests of a station
+
+shared_fits : (d : Diagram) (leads : List ℕ) (s : SharedTests) → s.bay.0 < part_count d → AreSharedTests d leads s →
+    SharedFit d s
+shared_fits d leads s within are =
+    let n = part_count d in
+    record {
+      bay = within;
+      like = keys_are (λ b. b < n) (λ (b : BayId). b.0) s.like.items
+          (chosen_are (IsLater d leads s.bay.0) (λ b. b < n) (range_with_len 0 n) (map (λ (b : BayId). b.0) s.like.items)
+          are.like (numbers_below 0 n n (omega arith)));
+      tests = tests_of_fit d s.bay.0 s.tests are.tests;
+    }
+
+bays_within : (d : Diagram) (leads : List ℕ) (all : List SharedTests) → AreTestsUpto d leads (part_count d) all →
+    All (λ (s : SharedTests). s.bay.0 < part_count d) all
+bays_within d leads all are =
+    let n = part_count d in
+    keys_are (λ b. b < n) (λ (s : SharedTests). s.bay.0) all
+    (chosen_are (IsTested d leads) (λ b. b < n) (range_with_len 0 n) (map (λ (s : SharedTests). s.bay.0) all) are.bays
+    (numbers_below 0 n n (omega arith)))
+
+pub station_fits : (d : Diagram) (all : List SharedTests) → AreStationTests d all → All (SharedFit d) all
+station_fits d all are k s within =
+    shared_fits d are.leads (get_or all k s) (bays_within d are.leads all are.tests k s within)
+    (are.tests.each k (get_or all k s) (slice_get-get_or all k s within))

@@ -1,13 +1,13 @@
 //! Single lines of the text of tests.
 ghost use Rattle.std.specs.Prelude.{◌≡◌, ◌<◌, ◌++◌, length, codes, OnOk};
-ghost use Rattle.station_graph.specs.Diagram.{switch_path};
+ghost use Rattle.station_graph.specs.Diagram.{part_count, switch_path};
 ghost use Rattle.station_graph.specs.CentralRules.{IsOperation};
 ghost use Rattle.denial_explain.specs.ExplanationText.{operation};
-ghost use Rattle.tests_text.specs.TestsText.{path_line, with_line, denied_line, turned_line};
+ghost use Rattle.tests_text.specs.TestsText.{path_line, part_line, with_line, denied_line, turned_line, unsound_line};
 
 use central_rules::rule_name;
 use denial_explain::operation_text;
-use ilk_base::{Memory, Op, Rule, SwitchId, Text};
+use ilk_base::{BayId, Memory, Op, Rule, SwitchId, Text};
 use station_graph::Station;
 use std::alloc::Global;
 
@@ -42,6 +42,20 @@ pub(crate) fn push_switch(
     push_path(text, word, path_of_switch(station, id))
 }
 
+/// Appends the word and the path of the part.
+#[tactic(auto, using(std::proofs::lemmas::Option::get_or_from_slice_get))]
+pub(crate) fn push_part(
+    text: &mut Text,
+    word: &[u8],
+    station: &Station,
+    part: BayId,
+) -> Result<(), Memory>
+    requires { part.0 < part_count station.now }
+    ensures { OnOk result (text.new ≡ text.old ++ part_line station.now word.now part.0) }
+{
+    push_path(text, word, station.part_path(part).as_bytes())
+}
+
 /// Appends the word and the operation.
 pub(crate) fn push_operation(
     alloc: Global,
@@ -71,6 +85,16 @@ pub(crate) fn push_with(
         return Ok(());
     }
     push_switch(text, b"with ", station, id)
+}
+
+/// Appends the line of a position that is not sound; a sound one has none.
+pub(crate) fn push_unsound(text: &mut Text, sound: bool) -> Result<(), Memory>
+    ensures { OnOk result (text.new ≡ text.old ++ unsound_line sound) }
+{
+    if sound {
+        return Ok(());
+    }
+    text.push(b"unsound\n")
 }
 
 /// Appends the line of an operation that breaks a rule; one that is released has none.

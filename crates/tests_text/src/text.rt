@@ -1,28 +1,20 @@
 //! The text of the tests of a bay.
-ghost use Rattle.std.specs.Prelude.{◌≡◌, ◌<◌, ◌++◌, All, [], length, slice_index_or, codes, decimal, flat_map};
+ghost use Rattle.std.specs.Prelude.{◌≡◌, ◌<◌, ◌++◌, All, length, decimal, flat_map};
 ghost use Rattle.std.specs.Prelude.{IfOk, OnOk};
 ghost use Rattle.station_graph.specs.Alike.{IsVector};
 ghost use Rattle.station_graph.specs.CentralRules.{IsOperation};
 ghost use Rattle.station_graph.specs.Diagram.{part_count};
 ghost use Rattle.tests_text.specs.Fitting.{MoveFits, PositionFits, TestsFit};
-ghost use Rattle.tests_text.specs.TestsText.{path_line, always_lines, needs_lines, with_lines, denied_lines};
+ghost use Rattle.tests_text.specs.TestsText.{always_lines, needs_lines, with_lines, denied_lines, bay_lines};
 ghost use Rattle.tests_text.specs.TestsText.{turned_lines, move_lines, position_lines, positions_lines, tests_lines};
 
-use crate::lines::{push_denied, push_operation, push_path, push_switch, push_turned, push_with};
+use crate::lines::{
+    push_denied, push_operation, push_part, push_switch, push_turned, push_unsound, push_with,
+};
 use commissioning_tests::{BayTests, TestMove, TestPosition};
 use ilk_base::{BayId, Memory, Op, Rule, SwitchId, Text};
 use station_graph::Station;
 use std::alloc::Global;
-
-// Appends the line of the bay.
-#[tactic(auto, using(std::proofs::lemmas::Option::get_or_from_slice_get))]
-fn push_bay(text: &mut Text, station: &Station, bay: BayId) -> Result<(), Memory>
-    requires { bay.0 < part_count station.now }
-    ensures { OnOk result (text.new ≡ text.old
-        ++ path_line (codes "bay ") (slice_index_or station.now.part_paths bay.0 [])) }
-{
-    push_path(text, b"bay ", station.part_path(bay).as_bytes())
-}
 
 // Appends the lines of the operations that are always released.
 fn push_always(alloc: Global, text: &mut Text, station: &Station, ops: &[Op]) -> Result<(), Memory>
@@ -115,6 +107,7 @@ fn push_move(
         b"closed "
     };
     push_switch(text, word, station, turn.switch)?;
+    push_unsound(text, turn.sound || !position.sound)?;
     push_all_turned(alloc, text, station, ops, &position.answers, &turn.answers)
 }
 
@@ -153,6 +146,7 @@ fn push_position(
     text.push(b"position ")?;
     text.push_decimal(number)?;
     text.push(b"\n")?;
+    push_unsound(text, position.sound)?;
     push_closed(text, station, &position.closed)?;
     push_all_denied(alloc, text, station, ops, &position.answers)?;
     push_moves(alloc, text, station, ops, position)
@@ -176,9 +170,25 @@ fn push_positions(
     Ok(())
 }
 
+// Appends what is always released, what the bay needs, and the positions.
+pub(crate) fn push_tests(
+    alloc: Global,
+    text: &mut Text,
+    station: &Station,
+    tests: &BayTests,
+) -> Result<(), Memory>
+    requires { TestsFit station.now tests.now }
+    ensures { OnOk result (text.new ≡ text.old ++ bay_lines station.now tests.now) }
+{
+    push_always(alloc, text, station, &tests.always)?;
+    push_needs(text, station, &tests.needs)?;
+    push_positions(alloc, text, station, &tests.operations, &tests.positions)
+}
+
 /// The text of the tests of a bay of the station: `bay PATH`; `always open PATH` (or `close`) for each operation that
 /// is always released; `needs PATH` for each switch of another bay on which an operation of the bay depends; and the
-/// positions, numbered from 1. A position is the line `position K`, `with PATH` for each closed switch, `denied RULE
+/// positions, numbered from 1. A position is the line `position K`, `unsound` where some node is both energisable and
+/// earthable, `with PATH` for each closed switch, `denied RULE
 /// open PATH` for each operation that breaks a rule there, and its moves: `closed PATH` or `opened PATH`, and `denied
 /// RULE open PATH` or `released open PATH` for each operation whose release the move turns. Tests of a bay fit, by
 /// `tests_fit`. Time: the text, and for each position the switches, and for it and each of its moves the operations.
@@ -194,15 +204,7 @@ pub fn tests_text(
     ensures { IfOk result (λ t. t ≡ tests_lines station.now bay.0 tests.now) }
 {
     let mut text = Text::new(alloc);
-    push_bay(&mut text, station, bay)?;
-    push_always(alloc, &mut text, station, &tests.always)?;
-    push_needs(&mut text, station, &tests.needs)?;
-    push_positions(
-        alloc,
-        &mut text,
-        station,
-        &tests.operations,
-        &tests.positions,
-    )?;
+    push_part(&mut text, b"bay ", station, bay)?;
+    push_tests(alloc, &mut text, station, tests)?;
     Ok(text)
 }

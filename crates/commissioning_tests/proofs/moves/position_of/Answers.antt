@@ -1,5 +1,7 @@
 use Rattle.std.proofs.Common.{◌≡◌, Bool, List, Option, subst, ◌∙◌}
+use Rattle.std.specs.Prelude.{◌↔◌, IsTrue}
 use Rattle.ilk_base.specs.declared.words.Rule.{Rule}
+use Rattle.station_graph.specs.Supply.{Apart}
 use Rattle.commissioning_tests.specs.Answering.{AreAnswers}
 use Rattle.commissioning_tests.specs.Growing.{AreMovesOf}
 use Rattle.commissioning_tests.proofs.moves.position_of.Goals as goal
@@ -21,6 +23,9 @@ returns-clause-position c =
       answers =
           subst (λ (v : List Bool). AreAnswers c.args.station.now c.args.operations.now v
           c.in_ok-answers.answers.items) vector c.in_ok-answers.ensures;
+      sound =
+          subst (λ (v : List Bool). IsTrue c.in_ok-sound.sound ↔ Apart c.args.station.now v) vector
+          c.in_ok-sound.ensures;
       moves = moves.each;
       rising = moves.rising;
     }

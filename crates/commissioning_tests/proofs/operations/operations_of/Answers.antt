@@ -1,6 +1,7 @@
 use Rattle.std.proofs.Common.{◌≡◌, ◌++◌, ◌+◌, ◌∷◌, [], refl, sym, ap, ◌∙◌, List}
 use Rattle.ilk_base.specs.declared.words.Op.{Op}
-use Rattle.commissioning_tests.specs.Listed.{opening, operations_from}
+use Rattle.release_dependence.specs.Operations.{opening}
+use Rattle.commissioning_tests.specs.Listed.{operations_from}
 use Rattle.commissioning_tests.proofs.ListLemmas.{operations_more}
 use Rattle.commissioning_tests.proofs.operations.operations_of.Goals as goal
 

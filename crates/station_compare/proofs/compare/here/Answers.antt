@@ -18,3 +18,8 @@ loop-k-preserved c = (
   rw c.in_ok-push.ensures.items (each_next (IsFound c.args.old.now c.args.new.now) c.loop-k.k c.loop-k.list.items
       c.in_ok-found.found c.loop-k.invariant.1 c.in_ok-found.ensures.found),
 )
+
+pub next_found-requires-clause-list : goal.next_found-requires-clause-list
+next_found-requires-clause-list c =
+    subst (λ (xs : List Found). AreEach (IsFound c.args.old.now c.args.new.now) c.loop-k.k xs)
+    (sym c.deref.ensures.value) c.loop-k.invariant.1

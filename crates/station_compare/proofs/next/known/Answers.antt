@@ -1,7 +1,7 @@
 use Rattle.std.proofs.Common.{◌≡◌, ◌∙◌, List, ℕ, Option, MatchOption, ap, sym, subst, arith}
 use Rattle.std.specs.Prelude.{⊤}
-use Rattle.bay_exchanges.specs.Exchanging.{partner}
-use Rattle.bay_exchanges.proofs.PartnerLemmas.{back}
+use Rattle.like_bays.specs.Like.{led_by}
+use Rattle.like_bays.proofs.VectorLemmas.{led_back}
 use Rattle.station_compare.specs.declared.likeness.LikeBays.{LikeBays}
 use Rattle.station_compare.specs.Comparing.{IsFound}
 use Rattle.station_compare.specs.Likeness.{AreExchanged}
@@ -14,16 +14,16 @@ returns c =
     let n = c.args.new.now in
     let x = c.in-Some.like in
     let id = c.args.id.0 in
-    let there = c.stands_for.result in
+    let there = c.led_to.result in
     let f = c.index-list-there.result in
     let h : AreExchanged o n x =
     subst (λ (p : Option LikeBays). MatchOption p ⊤ (AreExchanged o n)) c.in-Some.is c.requires.walks.like in
     let at =
     at_index c.args.list.now c.from-there.result there f c.index-list-there.is c.from-there.ensures
     (omega (arith, c.if-there-list.false, c.from-there.ensures)) in
-    let stands : there ≡ partner x.new.switches.items id =
-    c.stands_for.ensures ∙ ap (λ (xs : List ℕ). partner xs id) c.deref.ensures.value in
-    let turned : partner x.new.switches.items there ≡ id =
-    ap (partner x.new.switches.items) stands ∙ back n x.new h.new id in
+    let stands : there ≡ led_by x.new.items id =
+    c.led_to.ensures ∙ ap (λ (xs : List ℕ). led_by xs id) c.deref.ensures.value in
+    let turned : led_by x.new.items there ≡ id =
+    ap (led_by x.new.items) stands ∙ led_back n x.new.items h.new id in
     subst (λ k. IsFound o n k c.in_ok-found.found) turned
     (c.in_ok-found.ensures there (c.requires.list.each there f at))

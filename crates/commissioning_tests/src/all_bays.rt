@@ -1,0 +1,62 @@
+//! The tests of all bays of a station.
+ghost use Rattle.std.specs.Prelude.{◌≡◌, ◌+◌, ◌<◌, IfOk, OnOk};
+ghost use Rattle.station_graph.specs.Diagram.{part_count};
+ghost use Rattle.commissioning_tests.specs.Shared.{AreSharedTests, AreTestsUpto, AreStationTests};
+
+use crate::bay::bay_tests;
+use crate::leads::{is_tested, leads_of, like_of};
+use crate::values::SharedTests;
+use ilk_base::BayId;
+use judge_pool::Trouble;
+use station_graph::Station;
+use std::alloc::Global;
+
+// The tests of a bay, and the later bays whose tests they are too.
+fn shared_tests(
+    alloc: Global,
+    station: &Station,
+    leads: &[u8],
+    bay: BayId,
+) -> Result<SharedTests, Trouble>
+    ensures bay { IfOk result (λ s. s.bay ≡ bay) }
+    ensures are { IfOk result (AreSharedTests station.now leads.now) }
+{
+    let like = like_of(alloc, station, leads, bay)?;
+    let tests = bay_tests(alloc, station, bay)?;
+    Ok(SharedTests { bay, like, tests })
+}
+
+// Adds the tests of a part, if it is a bay that has its own.
+fn add_tests(
+    alloc: Global,
+    station: &Station,
+    leads: &[u8],
+    part: BayId,
+    all: &mut Vec<SharedTests>,
+) -> Result<(), Trouble>
+    requires within { part.0 < part_count station.now }
+    requires before { AreTestsUpto station.now leads.now part.0 all.old.items }
+    ensures { OnOk result (AreTestsUpto station.now leads.now (part.0 + 1) all.new.items) }
+{
+    if !is_tested(station, leads, part) {
+        return Ok(());
+    }
+    let tests = shared_tests(alloc, station, leads, part)?;
+    all.push(tests)?;
+    Ok(())
+}
+
+/// The tests of a station, bay by bay in document order: those of each bay that is not seen to be like an earlier one, as
+/// `bay_tests` makes them, and with them the later bays that are seen to be like it, whose tests they are with the two
+/// bays exchanged, by `like_bays_are_tested`. It is `Wide` as `bay_tests` is. Time: the items, for each bay and each
+/// bay that is tested; and that of `bay_tests`, for each of these. Memory: all tests.
+pub fn station_tests(alloc: Global, station: &Station) -> Result<Vec<SharedTests>, Trouble>
+    ensures { IfOk result (λ v. AreStationTests station.now v.items) }
+{
+    let leads = leads_of(alloc, station)?;
+    let mut all = Vec::new(alloc);
+    for part in 0..station.part_count() {
+        add_tests(alloc, station, &leads, BayId(part as u8), &mut all)?;
+    }
+    Ok(all)
+}
