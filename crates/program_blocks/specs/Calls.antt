@@ -33,6 +33,7 @@ kept stores k t j = if k == j then t else stores j
 abbrev pub instance_after : BlockCall → Block → ℕ → State → Store
 instance_after c b k st = after b.lines.items (filled c b.inputs.items st.variables (st.instances k))
 
+-- The state behind a call of the block; where there is none it does nothing.
 abbrev pub call_after : BlockCall → Option Block → ℕ → State → State
 call_after c None k st = st
 call_after c (Some b) k st = record {
@@ -59,14 +60,16 @@ state_after bs k (x ∷ xs) st = state_after bs (next_instance k x) xs (step_aft
 abbrev pub program_after : List Block → List Step → (ℕ → Store) → Store → Store
 program_after bs steps stores s = (state_after bs 0 steps (record { variables = s; instances = stores })).variables
 
--- The lines for which steps stand, without comments.
+-- A line without its comment.
 abbrev pub bare : Line → Line
 bare x = record { heading = None; name = x.name; formula = x.formula }
 
+-- The lines for which a call stands: those of the block, in the variables of the program.
 abbrev pub call_lines : BlockCall → Option Block → List Line
 call_lines c None = []
 call_lines c (Some b) = map (λ (x : Line). outer_line c x) b.lines.items
 
+-- Those for which a step stands, and those for which steps stand.
 abbrev pub step_lines : List Block → Step → List Line
 step_lines bs (Assign x) = bare x ∷ []
 step_lines bs (Call c) = call_lines c (slice_get bs c.block)

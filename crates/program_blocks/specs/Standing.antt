@@ -3,8 +3,9 @@ use Rattle.std.specs.Prelude.{◌≡◌, ◌⊎◌, ◌<◌, ◌^◌, ℕ, true,
 use Rattle.std.specs.List.{Contains}
 use Rattle.station_graph.specs.Diagram.{Diagram, part_count}
 use Rattle.structured_text.specs.declared.name.Name.{Name}
-use Rattle.structured_text.specs.declared.name.Name.TheVariants.{Off, On, May, Sure, Opens, Closes}
 use Rattle.structured_text.specs.declared.line.Line.{Line}
+use Rattle.structured_text.specs.Order.{IsRelease}
+use Rattle.structured_text.specs.Sides.{AreSided}
 use Rattle.structured_text.specs.Within.{NameWithin, HeadingWithin, LineWithin, LinesWithin}
 use Rattle.program_blocks.specs.declared.block.Block.{Block}
 use Rattle.program_blocks.specs.declared.block.BlockCall.{BlockCall}
@@ -13,15 +14,6 @@ use Rattle.program_blocks.specs.declared.block.Step.TheVariants.{Assign, Call}
 use Rattle.program_blocks.specs.Renaming.{outer}
 use Rattle.program_blocks.specs.Calls.{bare, unfolded}
 use Rattle.program_blocks.specs.Wiring.{IsGiven, AreWired, known_after}
-
--- The variable is a release.
-abbrev pub IsRelease : Name → Type 0
-IsRelease (Off i) = ⊥
-IsRelease (On i) = ⊥
-IsRelease (May k) = ⊥
-IsRelease (Sure k) = ⊥
-IsRelease (Opens i) = Unit {0}
-IsRelease (Closes i) = Unit {0}
 
 -- Each release that these lines set is known.
 abbrev pub AreReleased : List Name → List Line → Type 0
@@ -57,6 +49,7 @@ pub record BlockWithin (d : Diagram) (b : Block) : Type 0 where
 abbrev pub BlocksWithin : Diagram → List Block → Type 0
 BlocksWithin d bs = (k : ℕ) (b : Block) → slice_get bs k ≡ Some b → BlockWithin d b
 
+-- So do the inputs and outputs of a call's block, if there is such a block, in the variables of the program.
 abbrev pub WiresWithin : Diagram → BlockCall → Option Block → Type 0
 WiresWithin d c None = Unit {0}
 WiresWithin d c (Some b) =
@@ -70,13 +63,18 @@ StepWithin d bs (Call c) =
 abbrev pub StepsWithin : Diagram → List Block → List Step → Type 0
 StepsWithin d bs steps = (k : ℕ) (x : Step) → slice_get steps k ≡ Some x → StepWithin d bs x
 
+-- The lines of each block are on the side of denial.
+abbrev pub AreBlocksSided : List Block → Type 0
+AreBlocksSided bs = (k : ℕ) (b : Block) → slice_get bs k ≡ Some b → AreSided b.lines.items
+
 -- The steps stand for the lines, and each variable is set once and before it is read; the releases are set in the program,
--- and what else is set there is one of these variables.
+-- and what else is set there is one of these variables; the blocks are on the side of denial.
 pub record StandFor (d : Diagram) (lines : List Line) (bs : List Block) (steps : List Step) (variables : List Name) : Type 0 where
   pub wired : AreWired bs [] steps
   pub same : unfolded bs steps ≡ map (λ (x : Line). bare x) lines
   pub released : AreReleased (known_after bs [] steps) lines
   pub declared : AreVariables (known_after bs [] steps) variables
+  pub sided : AreBlocksSided bs
   pub few_blocks : length bs < 2 ^ 64
   pub few_steps : length steps < 2 ^ 64
   pub blocks_within : BlocksWithin d bs

@@ -1,31 +1,18 @@
 //! Whether a program of blocks stands for lines.
-ghost use Rattle.std.specs.Prelude.{◌≡◌, ◌↔◌, [], IsTrue, IfOk};
-ghost use Rattle.program_blocks.specs.Standing.{IsRelease, AreReleased, AreVariables, StandFor};
+ghost use Rattle.std.specs.Prelude.{[], IsTrue, IfOk};
+ghost use Rattle.program_blocks.specs.Standing.{AreReleased, AreVariables, StandFor};
 ghost use Rattle.program_blocks.specs.Wiring.{AreWired, known_after};
 
 use crate::block::{Block, Step};
 use crate::names::is_among;
+use crate::sides::are_blocks_sided;
 use crate::unfolding::unfold_to;
 use crate::wiring::known_behind;
 use crate::within::{are_blocks_within, are_names_within, are_steps_within, is_number};
 use ilk_base::Memory;
 use station_graph::Station;
 use std::alloc::Global;
-use structured_text::{Line, Name};
-
-/// Whether the variable is a release.
-pub fn is_release(name: Name) -> bool
-    ensures { IsTrue result ↔ IsRelease name }
-{
-    match name {
-        Name::Off(_) => false,
-        Name::On(_) => false,
-        Name::May(_) => false,
-        Name::Sure(_) => false,
-        Name::Opens(_) => true,
-        Name::Closes(_) => true,
-    }
-}
+use structured_text::{Line, Name, is_release};
 
 // Whether each release that the lines set is known.
 fn are_released(known: &[Name], lines: &[Line]) -> bool
@@ -74,8 +61,8 @@ fn set_releases(
     }
 }
 
-/// Whether the steps stand for the lines, with each variable set once and before it is read, and these are the
-/// variables of the program. The cost grows as the square of the number of variables of the program.
+/// Whether the steps stand for the lines, with each variable set once and before it is read, these are the variables of
+/// the program, and the blocks are on the side of denial. The cost grows as the square of the number of variables of the program.
 pub fn stand_for(
     alloc: Global,
     station: &Station,
@@ -91,6 +78,7 @@ pub fn stand_for(
     let all = are_blocks_within(station, blocks);
     let each = are_steps_within(station, blocks, steps);
     let names = are_names_within(station, variables);
+    let sided = are_blocks_sided(blocks);
     let few = is_number(blocks.len()) && is_number(steps.len());
-    Ok(set && same && few && all && each && names)
+    Ok(set && same && few && all && each && names && sided)
 }

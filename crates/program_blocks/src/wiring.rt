@@ -1,7 +1,7 @@
 //! Whether each variable is set once, and before it is read.
 ghost use Rattle.std.specs.Prelude.{◌≡◌, ◌≢◌, ◌↔◌, ◌++◌, [], ◌∷◌, ℕ, false, true, IsTrue, IfOk, IfSome, OnOk, slice_get, Some, map, Option};
 ghost use Rattle.structured_text.specs.declared.name.Name.{Name as OfName};
-ghost use Rattle.structured_text.specs.Order.{IsInput, IsSetIn};
+ghost use Rattle.structured_text.specs.Order.{IsSetIn};
 ghost use Rattle.structured_text.specs.Reads.{GapReads, LoadReads, OperandReads, FormulaReads};
 ghost use Rattle.program_blocks.specs.Renaming.{outer};
 ghost use Rattle.program_blocks.specs.Wiring.{IsGiven, IsLineWired, AreLinesWired, IsBlockWired, IsCallWired, IsStepWired};
@@ -12,21 +12,7 @@ use crate::names::is_among;
 use crate::renaming::outer;
 use ilk_base::Memory;
 use std::alloc::Global;
-use structured_text::{Formula, GapDenial, Line, LoadDenial, Name, Operand};
-
-// Whether the variable is a contact.
-fn is_contact(name: Name) -> bool
-    ensures { IsTrue result ↔ IsInput name }
-{
-    match name {
-        Name::Off(_) => true,
-        Name::On(_) => true,
-        Name::May(_) => false,
-        Name::Sure(_) => false,
-        Name::Opens(_) => false,
-        Name::Closes(_) => false,
-    }
-}
+use structured_text::{Formula, GapDenial, Line, LoadDenial, Name, Operand, is_contact};
 
 // Whether the variable can be read.
 fn is_known(known: &[Name], name: Name) -> bool

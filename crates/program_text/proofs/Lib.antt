@@ -12,6 +12,7 @@ pub mod FullStore
 pub mod InterlockingLemmas
 pub mod ProgramOrder
 pub mod TextLemmas
+pub mod KeptNames
 pub mod ProgramWidth
 pub mod StandLemmas
 pub mod WithinLemmas
@@ -19,3 +20,4 @@ pub mod RisingLemmas
 pub mod SortLemmas
 pub mod ReorderedLemmas
 pub mod UnblockedLemmas
+pub mod VariableLemmas

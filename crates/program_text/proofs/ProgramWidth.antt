@@ -1,14 +1,15 @@
 -- The text has no long line.
 use Rattle.std.proofs.Common.{◌≡◌, ◌++◌, ◌≤◌, ◌<◌, ◌+◌, ◌^◌, ℕ, zero, suc, List, [], ◌∷◌, length, slice_get, Option, Some, None, refl, arith}
-use Rattle.std.specs.Prelude.{codes, decimal}
+use Rattle.std.specs.Prelude.{Bool, true, false, codes, decimal, if◌then◌else◌}
+use Rattle.std.specs.List.{flat_map}
 use Rattle.std.proofs.lemmas.Fmt.{length-decimal-le}
 use Rattle.station_graph.specs.Diagram.{Diagram}
 use Rattle.structured_text.specs.declared.name.Name.{Name}
-use Rattle.structured_text.specs.Spelling.{input_text, output_text, names_text, name_text, heading_text}
+use Rattle.structured_text.specs.Spelling.{input_text, output_text, names_text, true_names_text, name_text, heading_text}
 use Rattle.structured_text.specs.Within.{NameWithin}
 use Rattle.structured_text.specs.Width.{AreLinesShort}
 use Rattle.structured_text.proofs.WidthLemmas.{Fits, tested, goes_on, short_lines, piece, later, earlier}
-use Rattle.structured_text.proofs.LineWidths.{input_fits, output_fits, names_fit, name_fits, line_fits, lines_fit, heading_fits}
+use Rattle.structured_text.proofs.LineWidths.{input_fits, output_fits, names_fit, true_names_fit, name_fits, line_fits, lines_fit, heading_fits}
 use Rattle.program_blocks.specs.declared.block.Block.{Block}
 use Rattle.program_blocks.specs.declared.block.BlockCall.{BlockCall}
 use Rattle.program_blocks.specs.declared.block.Step.{Step}
@@ -18,8 +19,12 @@ use Rattle.program_blocks.specs.Calls.{next_instance}
 use Rattle.program_blocks.specs.Standing.{AreNamesWithin, AreWiresWithin, BlockWithin, BlocksWithin, WiresWithin, StepWithin, StepsWithin}
 use Rattle.program_text.specs.declared.text.TheConstants.{HEAD}
 use Rattle.program_text.specs.ProgramText.{inputs_text, outputs_text, lines_text, block_head, block_names, block_text, blocks_text}
+use Rattle.program_text.specs.ProgramText.{section_text, if_may, unless_may, block_inputs, formula_count, exchange_text}
 use Rattle.program_text.specs.ProgramText.{wire_text, more_wires, wires_text, drawn_text, draws_text, call_text}
-use Rattle.program_text.specs.ProgramText.{step_text, steps_text, instance_text, instances_text, contacts_text, wiring_text, whole_text}
+use Rattle.program_text.specs.ProgramText.{step_text, steps_text, instance_text, instances_text, contacts_text}
+use Rattle.program_text.specs.ProgramText.{variables_text, wiring_text, whole_text}
+use Rattle.program_text.specs.BayText.{is_called_for, bay_blocks_text}
+use Rattle.program_text.proofs.KeptNames.{may_within, others_within, formula_count_low}
 
 number_fits : (c n : ℕ) → n < 2 ^ 64 → c + 20 ≤ 200 → Fits c (decimal n) (c + 20)
 number_fits c n small room =
@@ -64,45 +69,81 @@ module _ (d : Diagram) (few : length d.switches ≤ 2 ^ 64) where
       goes_on 0 (output_text paths (record { 0 = k })) 0 (outputs_text paths (suc k) n) 0
       (output_fits d few (record { 0 = k }) (omega (arith, within))) (outputs_fit (suc k) n (omega (arith, within)))
 
+  -- a section of what fits
+  section_fits : (kind declared : List ℕ) → Fits 0 kind 0 → Fits 0 declared 0 → Fits 0 (section_text kind declared) 0
+  section_fits kind [] k h = omega arith
+  section_fits kind (b ∷ bs) k h =
+      goes_on 0 kind 0 ((b ∷ bs) ++ codes "END_VAR\n") 0 k
+      (goes_on 0 (b ∷ bs) 0 (codes "END_VAR\n") 0 h (tested 0 (codes "END_VAR\n") 0 refl))
+
   contacts_fit : Fits 0 (contacts_text d) 0
   contacts_fit =
       let count = length d.switches in
-      let begin = codes "\nPROGRAM INTERLOCKING\nVAR_INPUT\n" in
-      goes_on 0 begin 0
-      (inputs_text paths 0 count
-      ++ (codes "END_VAR\nVAR_OUTPUT\n" ++ (outputs_text paths 0 count ++ codes "END_VAR\nVAR\n"))) 0 (tested 0 begin 0 refl)
-      (goes_on 0 (inputs_text paths 0 count) 0
-      (codes "END_VAR\nVAR_OUTPUT\n" ++ (outputs_text paths 0 count ++ codes "END_VAR\nVAR\n")) 0 (inputs_fit 0 count (omega arith))
-      (goes_on 0 (codes "END_VAR\nVAR_OUTPUT\n") 0 (outputs_text paths 0 count ++ codes "END_VAR\nVAR\n") 0
-      (tested 0 (codes "END_VAR\nVAR_OUTPUT\n") 0 refl)
-      (goes_on 0 (outputs_text paths 0 count) 0 (codes "END_VAR\nVAR\n") 0 (outputs_fit 0 count (omega arith))
-      (tested 0 (codes "END_VAR\nVAR\n") 0 refl))))
+      let begin = codes "\nPROGRAM INTERLOCKING\n" in
+      let ins = section_text (codes "VAR_INPUT\n") (inputs_text paths 0 count) in
+      let outs = section_text (codes "VAR_OUTPUT\n") (outputs_text paths 0 count) in
+      goes_on 0 begin 0 (ins ++ outs) 0 (tested 0 begin 0 refl)
+      (goes_on 0 ins 0 outs 0
+      (section_fits (codes "VAR_INPUT\n") (inputs_text paths 0 count) (tested 0 (codes "VAR_INPUT\n") 0 refl)
+      (inputs_fit 0 count (omega arith)))
+      (section_fits (codes "VAR_OUTPUT\n") (outputs_text paths 0 count) (tested 0 (codes "VAR_OUTPUT\n") 0 refl)
+      (outputs_fit 0 count (omega arith))))
 
   -- ---- blocks
+  block_inputs_fit : (names : List Name) → AreNamesWithin (length d.switches) names → Fits 0 (block_inputs paths names) 0
+  block_inputs_fit names h =
+      let others = flat_map (λ (n : Name). unless_may n) names in
+      let may = flat_map (λ (n : Name). if_may n) names in
+      goes_on 0 (names_text paths others) 0 (true_names_text paths may) 0
+      (names_fit d few others (others_within (length d.switches) names h))
+      (true_names_fit d few may (may_within (length d.switches) names h))
+
+  block_names_fit : (b : Block) → BlockWithin d b → Fits 0 (block_names d b) 0
+  block_names_fit b h =
+      let ins = section_text (codes "VAR_INPUT\n") (block_inputs paths b.inputs.items) in
+      let outs = section_text (codes "VAR_OUTPUT\n") (names_text paths b.outputs.items) in
+      let own = section_text (codes "VAR\n") (names_text paths b.locals.items) in
+      goes_on 0 ins 0 (outs ++ own) 0
+      (section_fits (codes "VAR_INPUT\n") (block_inputs paths b.inputs.items) (tested 0 (codes "VAR_INPUT\n") 0 refl)
+      (block_inputs_fit b.inputs.items h.inputs))
+      (goes_on 0 outs 0 own 0
+      (section_fits (codes "VAR_OUTPUT\n") (names_text paths b.outputs.items) (tested 0 (codes "VAR_OUTPUT\n") 0 refl)
+      (names_fit d few b.outputs.items h.outputs))
+      (section_fits (codes "VAR\n") (names_text paths b.locals.items) (tested 0 (codes "VAR\n") 0 refl)
+      (names_fit d few b.locals.items h.locals)))
+
+  exchange_fits : (b : Block) → Fits 0 (exchange_text b) 0
+  exchange_fits b =
+      let read = formula_count b.inputs.items in
+      let given = formula_count b.outputs.items in
+      let low = formula_count_low b.inputs.items in
+      let held = b.inputs.ok in
+      let small = b.inputs.small in
+      let low_given = formula_count_low b.outputs.items in
+      let held_given = b.outputs.ok in
+      let small_given = b.outputs.small in
+      let begin = codes "  (* from other blocks " in
+      let between = codes " BOOLs, to others " in
+      goes_on 0 begin 23 (decimal read ++ (between ++ (decimal given ++ codes " *)\n"))) 0 (tested 0 begin 23 refl)
+      (goes_on 23 (decimal read) 43 (between ++ (decimal given ++ codes " *)\n")) 0
+      (number_fits 23 read (omega (arith, low, held.0, held.1, small)) (omega arith))
+      (goes_on 43 between 61 (decimal given ++ codes " *)\n") 0 (tested 43 between 61 refl)
+      (goes_on 61 (decimal given) 81 (codes " *)\n") 0
+      (number_fits 61 given (omega (arith, low_given, held_given.0, held_given.1, small_given)) (omega arith))
+      (tested 81 (codes " *)\n") 0 refl))))
+
   block_fits : (k : ℕ) (b : Block) → k < 2 ^ 64 → BlockWithin d b → Fits 0 (block_text d k b) 0
   block_fits k b small h =
-      let ins = names_text paths b.inputs.items in
-      let outs = names_text paths b.outputs.items in
-      let own = names_text paths b.locals.items in
       let body = lines_text d b.lines.items in
       let name = codes "FUNCTION_BLOCK BLOCK_" in
       let head : Fits 0 (block_head d k b) 0 =
-      goes_on 0 (heading_text d b.heading) 0 (name ++ (decimal k ++ codes "\nVAR_INPUT\n")) 0 (heading_fits d b.heading)
-      (goes_on 0 name 21 (decimal k ++ codes "\nVAR_INPUT\n") 0 (tested 0 name 21 refl)
-      (goes_on 21 (decimal k) 41 (codes "\nVAR_INPUT\n") 0 (number_fits 21 k small (omega arith))
-      (tested 41 (codes "\nVAR_INPUT\n") 0 refl))) in
-      let names : Fits 0 (block_names d b) 0 =
-      goes_on 0 ins 0
-      (codes "END_VAR\nVAR_OUTPUT\n" ++ (outs ++ (codes "END_VAR\nVAR\n" ++ (own ++ codes "END_VAR\n")))) 0
-      (names_fit d few b.inputs.items h.inputs)
-      (goes_on 0 (codes "END_VAR\nVAR_OUTPUT\n") 0 (outs ++ (codes "END_VAR\nVAR\n" ++ (own ++ codes "END_VAR\n"))) 0
-      (tested 0 (codes "END_VAR\nVAR_OUTPUT\n") 0 refl)
-      (goes_on 0 outs 0 (codes "END_VAR\nVAR\n" ++ (own ++ codes "END_VAR\n")) 0 (names_fit d few b.outputs.items h.outputs)
-      (goes_on 0 (codes "END_VAR\nVAR\n") 0 (own ++ codes "END_VAR\n") 0 (tested 0 (codes "END_VAR\nVAR\n") 0 refl)
-      (goes_on 0 own 0 (codes "END_VAR\n") 0 (names_fit d few b.locals.items h.locals)
-      (tested 0 (codes "END_VAR\n") 0 refl))))) in
+      goes_on 0 (heading_text d b.heading) 0 (exchange_text b ++ (name ++ (decimal k ++ codes "\n"))) 0
+      (heading_fits d b.heading)
+      (goes_on 0 (exchange_text b) 0 (name ++ (decimal k ++ codes "\n")) 0 (exchange_fits b)
+      (goes_on 0 name 21 (decimal k ++ codes "\n") 0 (tested 0 name 21 refl)
+      (goes_on 21 (decimal k) 41 (codes "\n") 0 (number_fits 21 k small (omega arith)) (tested 41 (codes "\n") 0 refl)))) in
       goes_on 0 (block_head d k b) 0 (block_names d b ++ (body ++ codes "END_FUNCTION_BLOCK\n")) 0 head
-      (goes_on 0 (block_names d b) 0 (body ++ codes "END_FUNCTION_BLOCK\n") 0 names
+      (goes_on 0 (block_names d b) 0 (body ++ codes "END_FUNCTION_BLOCK\n") 0 (block_names_fit b h)
       (goes_on 0 body 0 (codes "END_FUNCTION_BLOCK\n") 0 (lines_fit d few b.lines.items h.lines)
       (tested 0 (codes "END_FUNCTION_BLOCK\n") 0 refl)))
 
@@ -191,19 +232,39 @@ module _ (d : Diagram) (few : length d.switches ≤ 2 ^ 64) where
       (step_fits bs k x (omega (arith, small)) blocks (h 0 x refl))
       (steps_fit bs (next_instance k x) xs (next_small k x (length xs) small) blocks (λ i y at. h (suc i) y at))
 
+  variables_fit : (bs : List Block) (steps : List Step) (variables : List Name) → length steps < 2 ^ 64 →
+      StepsWithin d bs steps → AreNamesWithin (length d.switches) variables → Fits 0 (variables_text d steps variables) 0
+  variables_fit bs steps variables few_steps h names =
+      section_fits (codes "VAR\n") (instances_text 0 steps ++ names_text paths variables) (tested 0 (codes "VAR\n") 0 refl)
+      (goes_on 0 (instances_text 0 steps) 0 (names_text paths variables) 0
+      (instances_fit 0 steps (omega (arith, few_steps)) d bs h) (names_fit d few variables names))
+
   pub whole_short : (bs : List Block) (steps : List Step) (variables : List Name) → length bs < 2 ^ 64 →
       length steps < 2 ^ 64 → BlocksWithin d bs → StepsWithin d bs steps → AreNamesWithin (length d.switches) variables →
       AreLinesShort (whole_text d bs steps variables)
   whole_short bs steps variables few_bs few_steps blocks h names =
-      let rest = names_text paths variables ++ (codes "END_VAR\n" ++ (steps_text d bs 0 steps ++ codes "END_PROGRAM\n")) in
+      let rest = steps_text d bs 0 steps ++ codes "END_PROGRAM\n" in
       short_lines (whole_text d bs steps variables) 0
       (goes_on 0 HEAD.now 0 (blocks_text d 0 bs ++ wiring_text d bs steps variables) 0 (tested 0 HEAD.now 0 refl)
       (goes_on 0 (blocks_text d 0 bs) 0 (wiring_text d bs steps variables) 0 (blocks_fit 0 bs (omega (arith, few_bs)) blocks)
-      (goes_on 0 (contacts_text d) 0 (instances_text 0 steps ++ rest) 0 contacts_fit
-      (goes_on 0 (instances_text 0 steps) 0 rest 0 (instances_fit 0 steps (omega (arith, few_steps)) d bs h)
-      (goes_on 0 (names_text paths variables) 0 (codes "END_VAR\n" ++ (steps_text d bs 0 steps ++ codes "END_PROGRAM\n")) 0
-      (names_fit d few variables names)
-      (goes_on 0 (codes "END_VAR\n") 0 (steps_text d bs 0 steps ++ codes "END_PROGRAM\n") 0
-      (tested 0 (codes "END_VAR\n") 0 refl)
+      (goes_on 0 (contacts_text d) 0 (variables_text d steps variables ++ rest) 0 contacts_fit
+      (goes_on 0 (variables_text d steps variables) 0 rest 0 (variables_fit bs steps variables few_steps h names)
       (goes_on 0 (steps_text d bs 0 steps) 0 (codes "END_PROGRAM\n") 0
-      (steps_fit bs 0 steps (omega (arith, few_steps)) blocks h) (tested 0 (codes "END_PROGRAM\n") 0 refl))))))))
+      (steps_fit bs 0 steps (omega (arith, few_steps)) blocks h) (tested 0 (codes "END_PROGRAM\n") 0 refl))))))
+
+  chosen_fits : (q : Bool) (text : List ℕ) → Fits 0 text 0 → Fits 0 (if q then text else []) 0
+  chosen_fits true text h = h
+  chosen_fits false text h = omega arith
+
+  bay_blocks_fit : (steps : List Step) (p k : ℕ) (bs : List Block) → k + length bs ≤ 2 ^ 64 → BlocksWithin d bs →
+      Fits 0 (bay_blocks_text d steps p k bs) 0
+  bay_blocks_fit steps p k [] small h = omega arith
+  bay_blocks_fit steps p k (b ∷ bs) small h =
+      goes_on 0 (if is_called_for p k steps then block_text d k b else []) 0 (bay_blocks_text d steps p (k + 1) bs) 0
+      (chosen_fits (is_called_for p k steps) (block_text d k b) (block_fits k b (omega (arith, small)) (h 0 b refl)))
+      (bay_blocks_fit steps p (k + 1) bs (omega (arith, small)) (λ i y at. h (suc i) y at))
+
+  pub bay_short : (steps : List Step) (p : ℕ) (bs : List Block) → length bs < 2 ^ 64 → BlocksWithin d bs →
+      AreLinesShort (bay_blocks_text d steps p 0 bs)
+  bay_short steps p bs few_bs blocks =
+      short_lines (bay_blocks_text d steps p 0 bs) 0 (bay_blocks_fit steps p 0 bs (omega (arith, few_bs)) blocks)

@@ -19,10 +19,10 @@ use Rattle.structured_text.specs.declared.line.Formula.{Formula}
 use Rattle.structured_text.specs.declared.line.Heading.{Heading}
 use Rattle.structured_text.specs.declared.line.Line.{Line}
 use Rattle.structured_text.specs.Meaning.{Store, value, gap_denied, load_denied, b_not, same_name, after}
-use Rattle.program_text.specs.Releases.{two_of, one_of, gap_denial_in, loaded_of, load_denial_in, release_in, IsRelease}
+use Rattle.program_text.specs.Releases.{two_of, one_of, gap_denial_in, loaded_of, load_denial_in, release_in}
 use Rattle.program_text.specs.Releases.{MeansReleases, pair_in}
 use Rattle.structured_text.proofs.OrderLemmas.{none_in_order}
-use Rattle.structured_text.specs.Order.{IsSetIn}
+use Rattle.structured_text.specs.Order.{IsRelease, IsSetIn}
 use Rattle.program_text.specs.Releases.{IsFormula, IsReleaseBelow}
 use Rattle.program_text.proofs.ReleaseOrder.{opening_reads, closing_reads, two_order, two_sets}
 use Rattle.structured_text.proofs.StoreLemmas.{eq_true, eq_false, is_set, not_set}

@@ -10,12 +10,12 @@ use Rattle.station_graph.specs.CentralRules.{Moves}
 use Rattle.structured_text.specs.declared.name.Name.{Name}
 use Rattle.structured_text.specs.declared.line.Line.{Line}
 use Rattle.structured_text.specs.Meaning.{Store, after}
-use Rattle.structured_text.specs.Order.{IsInput, AreInOrder}
+use Rattle.structured_text.specs.Order.{IsInput, IsRelease, AreInOrder}
 use Rattle.program_blocks.specs.declared.block.Block.{Block}
 use Rattle.program_blocks.specs.declared.block.Step.{Step}
 use Rattle.program_blocks.specs.Calls.{program_after}
 use Rattle.program_blocks.specs.Wiring.{IsGiven, known_after}
-use Rattle.program_blocks.specs.Standing.{IsRelease, StandFor}
+use Rattle.program_blocks.specs.Standing.{StandFor}
 use Rattle.program_blocks.proofs.StepLemmas.{program_same}
 use Rattle.program_text.specs.Sections.{AreReordered}
 use Rattle.program_text.specs.Interlocking.{towards, release_name, IsInterlocking, SetsReleases}

@@ -8,7 +8,7 @@ use Rattle.station_graph.specs.Diagram.{Diagram}
 use Rattle.structured_text.specs.declared.name.Name.{Name}
 use Rattle.structured_text.specs.declared.name.Name.TheVariants.{Off, On, May, Sure, Opens, Closes}
 use Rattle.structured_text.specs.declared.line.Line.{Line}
-use Rattle.structured_text.specs.Order.{IsInput, IsSetBefore, AreInOrder}
+use Rattle.structured_text.specs.Order.{IsInput, IsRelease, IsSetBefore, AreInOrder}
 use Rattle.structured_text.specs.Within.{NameWithin, LinesWithin}
 use Rattle.structured_text.proofs.OrderLemmas.{reads_more}
 use Rattle.program_blocks.specs.declared.block.Block.{Block}
@@ -16,7 +16,7 @@ use Rattle.program_blocks.specs.declared.block.Step.{Step}
 use Rattle.program_blocks.specs.declared.block.Step.TheVariants.{Assign}
 use Rattle.program_blocks.specs.Calls.{bare, unfolded}
 use Rattle.program_blocks.specs.Wiring.{IsGiven, AreWired, known_after}
-use Rattle.program_blocks.specs.Standing.{IsRelease, StepWithin, StandFor}
+use Rattle.program_blocks.specs.Standing.{StepWithin, StandFor}
 use Rattle.program_text.specs.Unblocked.{assigned, unless_release, set_variables}
 
 -- ---- the variables that lines set
@@ -117,22 +117,22 @@ released_or (Opens i) = inl tt
 released_or (Closes i) = inl tt
 
 declared : (xs : List Line) (k : ℕ) (y : Line) → slice_get xs k ≡ Some y →
-    IsRelease y.name ⊎ Contains (set_variables xs) y.name
+    IsRelease y.name ⊎ Contains (set_variables [] (assigned xs)) y.name
 declared [] k y at = absurd (cc at)
 declared (x ∷ xs) zero y at =
     let is : x ≡ y = cc at in
-    subst (λ (z : Line). IsRelease z.name ⊎ Contains (set_variables (x ∷ xs)) z.name) is (by (released_or x.name))
+    subst (λ (z : Line). IsRelease z.name ⊎ Contains (set_variables [] (assigned (x ∷ xs))) z.name) is (by (released_or x.name))
   where
     by : IsRelease x.name ⊎ Contains (unless_release x.name) x.name →
-        IsRelease x.name ⊎ Contains (set_variables (x ∷ xs)) x.name
+        IsRelease x.name ⊎ Contains (set_variables [] (assigned (x ∷ xs))) x.name
     by (inl release) = inl release
-    by (inr there) = inr (Contains-append_left (unless_release x.name) (set_variables xs) x.name there)
+    by (inr there) = inr (Contains-append_left (unless_release x.name) (set_variables [] (assigned xs)) x.name there)
 declared (x ∷ xs) (suc k) y at = by (declared xs k y at)
   where
-    by : IsRelease y.name ⊎ Contains (set_variables xs) y.name →
-        IsRelease y.name ⊎ Contains (set_variables (x ∷ xs)) y.name
+    by : IsRelease y.name ⊎ Contains (set_variables [] (assigned xs)) y.name →
+        IsRelease y.name ⊎ Contains (set_variables [] (assigned (x ∷ xs))) y.name
     by (inl release) = inl release
-    by (inr there) = inr (Contains-append_right (unless_release x.name) (set_variables xs) y.name there)
+    by (inr there) = inr (Contains-append_right (unless_release x.name) (set_variables [] (assigned xs)) y.name there)
 
 only : (n m : Name) → Contains (unless_release n) m → n ≡ m
 only n m there = by (Contains-push_cases [] n m (one n there))
@@ -150,11 +150,11 @@ only n m there = by (Contains-push_cases [] n m (one n there))
     by (inr same) = same
 
 module _ (d : Diagram) where
-  name_within : (xs : List Line) → LinesWithin d xs → (n : Name) → Contains (set_variables xs) n →
+  name_within : (xs : List Line) → LinesWithin d xs → (n : Name) → Contains (set_variables [] (assigned xs)) n →
       NameWithin (length d.switches) n
   name_within [] within n (k, low, e) = absurd (omega (arith, low))
   name_within (x ∷ xs) within n there =
-      elim (Contains-append_cases (unless_release x.name) (set_variables xs) n there) [
+      elim (Contains-append_cases (unless_release x.name) (set_variables [] (assigned xs)) n there) [
         | inl now ↦ subst (NameWithin (length d.switches)) (only x.name n now) (within 0 x refl).name
         | inr more ↦ name_within xs (λ k y at. within (suc k) y at) n more
       ]
@@ -170,7 +170,7 @@ unfolds [] = refl
 unfolds (x ∷ xs) = ap (λ ys. bare x ∷ ys) (unfolds xs)
 
 stand : (d : Diagram) (lines : List Line) → AreInOrder IsInput lines → LinesWithin d lines →
-    length (assigned lines) < 2 ^ 64 → StandFor d lines [] (assigned lines) (set_variables lines)
+    length (assigned lines) < 2 ^ 64 → StandFor d lines [] (assigned lines) (set_variables [] (assigned lines))
 stand d lines order within few = record {
   wired = wired lines order [] lines refl;
   same = unfolds lines;
@@ -178,19 +178,22 @@ stand d lines order within few = record {
       inr (subst (λ ks. Contains ks x.name) (sym (known [] lines)) (among (names lines) k x.name (named lines k x at)));
   declared = λ k n at.
       let of = line_of lines k n (ap (λ ks. slice_get ks k) (sym (known [] lines)) ∙ at) in
-      subst (λ m. IsRelease m ⊎ Contains (set_variables lines) m) of.2 (declared lines k of.0 of.1);
+      subst (λ m. IsRelease m ⊎ Contains (set_variables [] (assigned lines)) m) of.2 (declared lines k of.0 of.1);
   few_blocks = omega arith;
   few_steps = few;
   blocks_within = λ k b at. absurd (cc at);
   steps_within = step_within d lines within;
-  names_within = λ k n at. name_within d lines within n (among (set_variables lines) k n at);
+  sided = λ k b at. absurd (cc at);
+  names_within = λ k n at. name_within d lines within n (among (set_variables [] (assigned lines)) k n at);
 }
 
 pub lines_stand : (d : Diagram) (lines : List Line) (bs : List Block) (steps : List Step) (variables : List Name) →
     AreInOrder IsInput lines → LinesWithin d lines → length steps < 2 ^ 64 → bs ≡ [] → steps ≡ assigned lines →
-    variables ≡ set_variables lines → StandFor d lines bs steps variables
+    variables ≡ set_variables bs steps → StandFor d lines bs steps variables
 lines_stand d lines bs steps variables order within few none same set =
+    let set_are : variables ≡ set_variables [] (assigned lines) =
+    set ∙ (ap (λ (os : List Block). set_variables os steps) none ∙ ap (λ (xs : List Step). set_variables [] xs) same) in
     subst (λ (os : List Block). StandFor d lines os steps variables) (sym none)
     (subst (λ (xs : List Step). StandFor d lines [] xs variables) (sym same)
-    (subst (λ (ns : List Name). StandFor d lines [] (assigned lines) ns) (sym set)
+    (subst (λ (ns : List Name). StandFor d lines [] (assigned lines) ns) (sym set_are)
     (stand d lines order within (subst (λ (xs : List Step). length xs < 2 ^ 64) same few))))

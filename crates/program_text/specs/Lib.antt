@@ -7,3 +7,4 @@ pub mod ReadNames
 pub mod Sections
 pub mod ProgramText
 pub mod Unblocked
+pub mod BayText

@@ -3,10 +3,13 @@ use Rattle.std.specs.Prelude.{◌≡◌, ◌++◌, ◌+◌, ℕ, zero, suc, List
 use Rattle.std.specs.List.{flat_map}
 use Rattle.station_graph.specs.Diagram.{Diagram}
 use Rattle.structured_text.specs.declared.name.Name.{Name}
+use Rattle.structured_text.specs.declared.name.Name.TheVariants.{Off, On, May, Sure, Opens, Closes}
 use Rattle.structured_text.specs.declared.line.Line.{Line}
-use Rattle.structured_text.specs.Meaning.{Store}
+use Rattle.structured_text.specs.Meaning.{Store, after}
+use Rattle.structured_text.specs.Sides.{IsCautious}
 use Rattle.structured_text.specs.Width.{AreLinesShort}
-use Rattle.structured_text.specs.Spelling.{input_text, output_text, names_text, name_text, pair_text, line_text, heading_text}
+use Rattle.structured_text.specs.Spelling.{input_text, output_text, names_text, true_names_text, name_text, pair_text, line_text}
+use Rattle.structured_text.specs.Spelling.{heading_text}
 use Rattle.program_blocks.specs.declared.block.Block.{Block}
 use Rattle.program_blocks.specs.declared.block.BlockCall.{BlockCall}
 use Rattle.program_blocks.specs.declared.block.Step.{Step}
@@ -31,16 +34,63 @@ outputs_text paths k (suc n) = output_text paths (record { 0 = k }) ++ outputs_t
 abbrev pub lines_text : Diagram → List Line → List ℕ
 lines_text d lines = flat_map (λ (x : Line). line_text d x) lines
 
--- Block k: what it is, its inputs, its outputs, its other variables, its lines.
+-- A section of declarations of this kind; none where nothing is declared.
+abbrev pub section_text : List ℕ → List ℕ → List ℕ
+section_text kind [] = []
+section_text kind (b ∷ bs) = kind ++ ((b ∷ bs) ++ codes "END_VAR\n")
+
+-- The variable, if it is one of what may be; and unless it is.
+abbrev pub if_may : Name → List Name
+if_may (Off i) = []
+if_may (On i) = []
+if_may (May k) = May k ∷ []
+if_may (Sure k) = []
+if_may (Opens i) = []
+if_may (Closes i) = []
+
+abbrev pub unless_may : Name → List Name
+unless_may (Off i) = Off i ∷ []
+unless_may (On i) = On i ∷ []
+unless_may (May k) = []
+unless_may (Sure k) = Sure k ∷ []
+unless_may (Opens i) = Opens i ∷ []
+unless_may (Closes i) = Closes i ∷ []
+
+-- The inputs of a block: what may be is TRUE as long as nothing sets it, and all else FALSE.
+abbrev pub block_inputs : List (List ℕ) → List Name → List ℕ
+block_inputs paths names =
+    names_text paths (flat_map (λ (n : Name). unless_may n) names)
+    ++ true_names_text paths (flat_map (λ (n : Name). if_may n) names)
+
+-- The variable, if it is one of a formula; and how many of these are.
+abbrev pub if_formula : Name → List Name
+if_formula (Off i) = []
+if_formula (On i) = []
+if_formula (May k) = May k ∷ []
+if_formula (Sure k) = Sure k ∷ []
+if_formula (Opens i) = []
+if_formula (Closes i) = []
+
+abbrev pub formula_count : List Name → ℕ
+formula_count names = length (flat_map (λ (n : Name). if_formula n) names)
+
+-- A comment: how many BOOLs a block reads that other blocks or the program set, and how many it gives to others.
+abbrev pub exchange_text : Block → List ℕ
+exchange_text b =
+    codes "  (* from other blocks "
+    ++ (decimal (formula_count b.inputs.items)
+    ++ (codes " BOOLs, to others " ++ (decimal (formula_count b.outputs.items) ++ codes " *)\n")))
+
+-- Block k: what it is, what it exchanges, its inputs, its outputs, its other variables, its lines.
 abbrev pub block_head : Diagram → ℕ → Block → List ℕ
-block_head d k b = heading_text d b.heading ++ (codes "FUNCTION_BLOCK BLOCK_" ++ (decimal k ++ codes "\nVAR_INPUT\n"))
+block_head d k b =
+    heading_text d b.heading ++ (exchange_text b ++ (codes "FUNCTION_BLOCK BLOCK_" ++ (decimal k ++ codes "\n")))
 
 abbrev pub block_names : Diagram → Block → List ℕ
 block_names d b =
-    names_text d.switch_paths b.inputs.items
-    ++ (codes "END_VAR\nVAR_OUTPUT\n"
-    ++ (names_text d.switch_paths b.outputs.items
-    ++ (codes "END_VAR\nVAR\n" ++ (names_text d.switch_paths b.locals.items ++ codes "END_VAR\n"))))
+    section_text (codes "VAR_INPUT\n") (block_inputs d.switch_paths b.inputs.items)
+    ++ (section_text (codes "VAR_OUTPUT\n") (names_text d.switch_paths b.outputs.items)
+    ++ section_text (codes "VAR\n") (names_text d.switch_paths b.locals.items))
 
 abbrev pub block_text : Diagram → ℕ → Block → List ℕ
 block_text d k b =
@@ -103,29 +153,36 @@ instances_text k (x ∷ xs) = instance_text k x ++ instances_text (next_instance
 -- The program: its inputs and outputs, its instances and variables, its steps.
 abbrev pub contacts_text : Diagram → List ℕ
 contacts_text d =
-    codes "\nPROGRAM INTERLOCKING\nVAR_INPUT\n"
-    ++ (inputs_text d.switch_paths 0 (length d.switches)
-    ++ (codes "END_VAR\nVAR_OUTPUT\n" ++ (outputs_text d.switch_paths 0 (length d.switches) ++ codes "END_VAR\nVAR\n")))
+    codes "\nPROGRAM INTERLOCKING\n"
+    ++ (section_text (codes "VAR_INPUT\n") (inputs_text d.switch_paths 0 (length d.switches))
+    ++ section_text (codes "VAR_OUTPUT\n") (outputs_text d.switch_paths 0 (length d.switches)))
+
+abbrev pub variables_text : Diagram → List Step → List Name → List ℕ
+variables_text d steps variables =
+    section_text (codes "VAR\n") (instances_text 0 steps ++ names_text d.switch_paths variables)
 
 abbrev pub wiring_text : Diagram → List Block → List Step → List Name → List ℕ
 wiring_text d bs steps variables =
-    contacts_text d
-    ++ (instances_text 0 steps
-    ++ (names_text d.switch_paths variables ++ (codes "END_VAR\n" ++ (steps_text d bs 0 steps ++ codes "END_PROGRAM\n"))))
+    contacts_text d ++ (variables_text d steps variables ++ (steps_text d bs 0 steps ++ codes "END_PROGRAM\n"))
 
 -- The whole text.
 abbrev pub whole_text : Diagram → List Block → List Step → List Name → List ℕ
 whole_text d bs steps variables = HEAD.now ++ (blocks_text d 0 bs ++ wiring_text d bs steps variables)
 
--- The text is that of blocks and steps that stand for lines, in which each variable is set once and before it is read; and
--- what they set, whatever the instances keep from before, is an interlocking of the station. No line has more than 200
--- characters.
-pub record IsProgramText (d : Diagram) (text : List ℕ) : Type 0 where
+-- The blocks and steps stand for lines, with each variable set once and before it is read; what they set, whatever the
+-- instances keep from before, is an interlocking of the station; and where signals to a block do not come, it releases
+-- nothing that it does not release with them.
+pub record IsProgram (d : Diagram) (blocks : List Block) (steps : List Step) (variables : List Name) : Type 0 where
   pub lines : List Line
+  pub stand : StandFor d lines blocks steps variables
+  pub interlocks : (stores : ℕ → Store) → IsInterlocking d (program_after blocks steps stores)
+  pub cautious : (k : ℕ) (b : Block) → slice_get blocks k ≡ Some b → IsCautious (after b.lines.items)
+
+-- The text is that of such a program, and no line has more than 200 characters.
+pub record IsProgramText (d : Diagram) (text : List ℕ) : Type 0 where
   pub blocks : List Block
   pub steps : List Step
   pub variables : List Name
-  pub stand : StandFor d lines blocks steps variables
-  pub interlocks : (stores : ℕ → Store) → IsInterlocking d (program_after blocks steps stores)
+  pub program : IsProgram d blocks steps variables
   pub spelled : text ≡ whole_text d blocks steps variables
   pub short : AreLinesShort text

@@ -15,7 +15,7 @@ use Rattle.structured_text.specs.declared.line.Formula.{Formula}
 use Rattle.structured_text.specs.declared.line.Formula.TheVariants.{Always, Apart, Unloaded, Released}
 use Rattle.structured_text.specs.declared.line.Line.{Line}
 use Rattle.structured_text.specs.Meaning.{Store, value, after}
-use Rattle.structured_text.specs.Order.{IsSetIn, AreInOrder}
+use Rattle.structured_text.specs.Order.{IsRelease, IsSetIn, AreInOrder}
 
 -- The formula, if it is one of so many.
 abbrev pub known_in : ℕ → Option ℕ → Option ℕ
@@ -62,15 +62,6 @@ release_in (Some gap) (Some load) = Released gap load
 release_in (Some gap) None = Apart gap
 release_in None (Some load) = Unloaded load
 release_in None None = Always
-
--- The variable is a release.
-abbrev pub IsRelease : Name → Type 0
-IsRelease (Off i) = ⊥
-IsRelease (On i) = ⊥
-IsRelease (May k) = ⊥
-IsRelease (Sure k) = ⊥
-IsRelease (Opens i) = Unit {0}
-IsRelease (Closes i) = Unit {0}
 
 -- The variable is that of a formula, of so many of each reading.
 abbrev pub IsFormula : ℕ → ℕ → Name → Type 0

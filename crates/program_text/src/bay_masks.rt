@@ -7,7 +7,7 @@ use crate::section_order::{BETWEEN, FIRST_RELEASES, LAST};
 use ilk_base::{BayId, Memory, SwitchId};
 use station_graph::Station;
 use std::alloc::Global;
-use structured_text::{Line, Name};
+use structured_text::{Line, Name, is_release};
 
 // A set of bays for each formula, as bits.
 #[derive(Drop)]
@@ -132,15 +132,6 @@ fn only_bay(mask: u64) -> Option<usize>
     None
 }
 
-// Whether the variable is a release.
-fn is_output(name: Name) -> bool {
-    match name {
-        Name::Opens(_) => true,
-        Name::Closes(_) => true,
-        _ => false,
-    }
-}
-
 // The section of what depends on one bay, or stands between bays.
 fn signal_section(below: u64) -> usize
     ensures { result ≤ LAST }
@@ -166,7 +157,7 @@ fn release_section(above: u64, below: u64) -> usize
 fn section_of(name: Name, below: u64, above: u64) -> usize
     ensures { result ≤ LAST }
 {
-    if is_output(name) || (below & above) == above {
+    if is_release(name) || (below & above) == above {
         return release_section(above, below);
     }
     signal_section(below)

@@ -1,32 +1,72 @@
-//! The text of function blocks, and of calls of them.
-ghost use Rattle.std.specs.Prelude.{◌≡◌, ◌++◌, ◌<◌, ◌+◌, ◌^◌, length, codes, decimal, OnOk, slice_get, ℕ, true};
+//! The text of function blocks.
+ghost use Rattle.std.specs.Prelude.{◌≡◌, ◌++◌, length, decimal, OnOk, IfOk};
 ghost use Rattle.std.specs.List.{flat_map};
 ghost use Rattle.structured_text.specs.declared.name.Name.{Name as OfName};
-ghost use Rattle.program_blocks.specs.Calls.{next_instance};
-ghost use Rattle.program_blocks.specs.Standing.{AreNamesWithin, AreWiresWithin, BlockWithin, BlocksWithin, WiresWithin};
-ghost use Rattle.program_blocks.specs.Standing.{StepWithin, StepsWithin};
-ghost use Rattle.structured_text.specs.Within.{NameWithin, HeadingWithin};
-ghost use Rattle.station_graph.specs.Diagram.{part_count};
-ghost use Rattle.program_blocks.specs.Renaming.{outer};
-ghost use Rattle.program_text.specs.ProgramText.{block_head, block_names, block_text, blocks_text, wire_text, more_wires, wires_text};
-ghost use Rattle.program_text.specs.ProgramText.{drawn_text, draws_text, block_call_text, call_text, step_text, steps_text};
-ghost use Rattle.program_text.specs.ProgramText.{instance_text, instances_text};
+ghost use Rattle.program_blocks.specs.Standing.{BlockWithin, BlocksWithin};
+ghost use Rattle.program_text.specs.ProgramText.{if_formula, exchange_text, block_head, block_names, block_text, blocks_text};
 
+use crate::declarations::{write_block_inputs, write_names_section};
 use ilk_base::{Memory, Text};
-use itoa::Buffer;
-use program_blocks::{Block, BlockCall, Step, outer};
+use program_blocks::Block;
 use station_graph::Station;
-use structured_text::{Name, write_heading, write_line, write_lines, write_name, write_names};
+use std::alloc::Global;
+use structured_text::{Name, write_heading, write_lines};
 
-// Appends a number.
-fn write_number(text: &mut Text, number: usize) -> Result<(), Memory>
-    ensures { OnOk result (text.new ≡ text.old ++ decimal number) }
+// Adds the variable, if it is one of a formula.
+fn add_formula(name: Name, names: &mut Vec<Name>) -> Result<(), Memory>
+    ensures { OnOk result (names.new.items ≡ names.old.items ++ if_formula name) }
 {
-    let mut digits = Buffer::new();
-    text.push(digits.format(number).as_bytes())
+    match name {
+        Name::May(_) => {
+            names.push(name)?;
+            Ok(())
+        }
+        Name::Sure(_) => {
+            names.push(name)?;
+            Ok(())
+        }
+        Name::Off(_) => Ok(()),
+        Name::On(_) => Ok(()),
+        Name::Opens(_) => Ok(()),
+        Name::Closes(_) => Ok(()),
+    }
+}
+
+// The variables of formulas among these.
+fn formulas_of(alloc: Global, names: &[Name]) -> Result<Vec<Name>, Memory>
+    ensures { IfOk result (λ r. r.items ≡ flat_map (λ (n : OfName). if_formula n) names.now) }
+{
+    let mut found = Vec::new(alloc);
+    for name in names {
+        add_formula(*name, &mut found)?;
+    }
+    Ok(found)
+}
+
+// Appends how many variables these are.
+fn write_count(text: &mut Text, names: &[Name]) -> Result<(), Memory>
+    ensures { OnOk result (text.new ≡ text.old ++ decimal (length names.now)) }
+{
+    text.push_decimal(names.len())?;
+    Ok(())
+}
+
+// Appends the comment on what the block exchanges.
+fn write_exchange(alloc: Global, text: &mut Text, block: &Block) -> Result<(), Memory>
+    ensures { OnOk result (text.new ≡ text.old ++ exchange_text block.now) }
+{
+    let read = formulas_of(alloc, &block.inputs)?;
+    let given = formulas_of(alloc, &block.outputs)?;
+    text.push(b"  (* from other blocks ")?;
+    write_count(text, &read)?;
+    text.push(b" BOOLs, to others ")?;
+    write_count(text, &given)?;
+    text.push(b" *)\n")?;
+    Ok(())
 }
 
 fn write_block_head(
+    alloc: Global,
     text: &mut Text,
     station: &Station,
     number: usize,
@@ -36,27 +76,31 @@ fn write_block_head(
     ensures { OnOk result (text.new ≡ text.old ++ block_head station.now number block.now) }
 {
     write_heading(text, station, block.heading)?;
+    write_exchange(alloc, text, block)?;
     text.push(b"FUNCTION_BLOCK BLOCK_")?;
-    write_number(text, number)?;
-    text.push(b"\nVAR_INPUT\n")?;
+    text.push_decimal(number)?;
+    text.push(b"\n")?;
     Ok(())
 }
 
-fn write_block_names(text: &mut Text, station: &Station, block: &Block) -> Result<(), Memory>
+fn write_block_names(
+    alloc: Global,
+    text: &mut Text,
+    station: &Station,
+    block: &Block,
+) -> Result<(), Memory>
     requires { BlockWithin station.now block.now }
     ensures { OnOk result (text.new ≡ text.old ++ block_names station.now block.now) }
 {
-    write_names(text, station, &block.inputs)?;
-    text.push(b"END_VAR\nVAR_OUTPUT\n")?;
-    write_names(text, station, &block.outputs)?;
-    text.push(b"END_VAR\nVAR\n")?;
-    write_names(text, station, &block.locals)?;
-    text.push(b"END_VAR\n")?;
+    write_block_inputs(alloc, text, station, &block.inputs)?;
+    write_names_section(alloc, text, station, b"VAR_OUTPUT\n", &block.outputs)?;
+    write_names_section(alloc, text, station, b"VAR\n", &block.locals)?;
     Ok(())
 }
 
 /// Appends the block of this number.
 pub(crate) fn write_block(
+    alloc: Global,
     text: &mut Text,
     station: &Station,
     number: usize,
@@ -65,8 +109,8 @@ pub(crate) fn write_block(
     requires { BlockWithin station.now block.now }
     ensures { OnOk result (text.new ≡ text.old ++ block_text station.now number block.now) }
 {
-    write_block_head(text, station, number, block)?;
-    write_block_names(text, station, block)?;
+    write_block_head(alloc, text, station, number, block)?;
+    write_block_names(alloc, text, station, block)?;
     write_lines(text, station, &block.lines)?;
     text.push(b"END_FUNCTION_BLOCK\n")?;
     Ok(())
@@ -74,6 +118,7 @@ pub(crate) fn write_block(
 
 /// Appends the blocks.
 pub(crate) fn write_blocks(
+    alloc: Global,
     text: &mut Text,
     station: &Station,
     blocks: &[Block],
@@ -83,196 +128,8 @@ pub(crate) fn write_blocks(
 {
     let mut number = 0;
     for block in blocks {
-        write_block(text, station, number, block)?;
+        write_block(alloc, text, station, number, block)?;
         number += 1;
-    }
-    Ok(())
-}
-
-fn write_wire(
-    text: &mut Text,
-    station: &Station,
-    call: &BlockCall,
-    name: Name,
-) -> Result<(), Memory>
-    requires inner { NameWithin (length station.now.switches) name }
-    requires outer { NameWithin (length station.now.switches) (outer call.now name) }
-    ensures { OnOk result (text.new ≡ text.old ++ wire_text station.now.switch_paths call.now name) }
-{
-    write_name(text, station, name)?;
-    text.push(b" := ")?;
-    write_name(text, station, outer(call, name))
-}
-
-fn write_wires(
-    text: &mut Text,
-    station: &Station,
-    call: &BlockCall,
-    names: &[Name],
-) -> Result<(), Memory>
-    requires inner { AreNamesWithin (length station.now.switches) names.now }
-    requires outer { AreWiresWithin (length station.now.switches) call.now names.now }
-    ensures { OnOk result (text.new ≡ text.old ++ wires_text station.now.switch_paths call.now names.now) }
-{
-    if names.is_empty() {
-        return text.push(b");\n");
-    }
-    write_wire(text, station, call, names[0])?;
-    for i in 1..names.len() {
-        text.push(b",\n    ")?;
-        write_wire(text, station, call, names[i])?;
-    }
-    text.push(b");\n")
-}
-
-fn write_drawn(
-    text: &mut Text,
-    station: &Station,
-    instance: usize,
-    call: &BlockCall,
-    name: Name,
-) -> Result<(), Memory>
-    requires inner { NameWithin (length station.now.switches) name }
-    requires outer { NameWithin (length station.now.switches) (outer call.now name) }
-    ensures { OnOk result (text.new ≡ text.old ++ drawn_text station.now.switch_paths instance call.now name) }
-{
-    text.push(b"  ")?;
-    write_name(text, station, outer(call, name))?;
-    text.push(b" := b")?;
-    write_number(text, instance)?;
-    text.push(b".")?;
-    write_name(text, station, name)?;
-    text.push(b";\n")
-}
-
-fn write_draws(
-    text: &mut Text,
-    station: &Station,
-    instance: usize,
-    call: &BlockCall,
-    names: &[Name],
-) -> Result<(), Memory>
-    requires inner { AreNamesWithin (length station.now.switches) names.now }
-    requires outer { AreWiresWithin (length station.now.switches) call.now names.now }
-    ensures { OnOk result (text.new ≡ text.old
-        ++ draws_text station.now.switch_paths instance call.now names.now) }
-{
-    for name in names {
-        write_drawn(text, station, instance, call, *name)?;
-    }
-    Ok(())
-}
-
-fn write_block_call(
-    text: &mut Text,
-    station: &Station,
-    instance: usize,
-    call: &BlockCall,
-    block: &Block,
-) -> Result<(), Memory>
-    requires heading { HeadingWithin (part_count station.now) call.now.heading }
-    requires block { BlockWithin station.now block.now }
-    requires inputs { AreWiresWithin (length station.now.switches) call.now block.now.inputs.items }
-    requires outputs { AreWiresWithin (length station.now.switches) call.now block.now.outputs.items }
-    ensures { OnOk result (text.new ≡ text.old ++ block_call_text station.now instance call.now block.now) }
-{
-    write_heading(text, station, call.heading)?;
-    text.push(b"  b")?;
-    write_number(text, instance)?;
-    text.push(b"(")?;
-    write_wires(text, station, call, &block.inputs)?;
-    write_draws(text, station, instance, call, &block.outputs)
-}
-
-fn write_call(
-    text: &mut Text,
-    station: &Station,
-    blocks: &[Block],
-    instance: usize,
-    call: &BlockCall,
-) -> Result<(), Memory>
-    requires blocks { BlocksWithin station.now blocks.now }
-    requires heading { HeadingWithin (part_count station.now) call.now.heading }
-    requires wires { WiresWithin station.now call.now (slice_get blocks.now call.now.block) }
-    ensures { OnOk result (text.new ≡ text.old
-        ++ call_text station.now instance call.now (slice_get blocks.now call.now.block)) }
-{
-    match blocks.get(call.block) {
-        None => Ok(()),
-        Some(block) => write_block_call(text, station, instance, call, block),
-    }
-}
-
-fn write_step(
-    text: &mut Text,
-    station: &Station,
-    blocks: &[Block],
-    instance: usize,
-    step: &Step,
-) -> Result<(), Memory>
-    requires blocks { BlocksWithin station.now blocks.now }
-    requires step { StepWithin station.now blocks.now step.now }
-    ensures { OnOk result (text.new ≡ text.old ++ step_text station.now blocks.now instance step.now) }
-{
-    match step {
-        Step::Assign(line) => write_line(text, station, *line),
-        Step::Call(call) => write_call(text, station, blocks, instance, call),
-    }
-}
-
-// The number of the next instance.
-fn next_instance(instance: usize, step: &Step) -> usize
-    requires { instance + 1 < 2 ^ 64 }
-    ensures { result ≡ next_instance instance step.now }
-{
-    match step {
-        Step::Assign(_) => instance,
-        Step::Call(_) => instance + 1,
-    }
-}
-
-/// Appends the steps of a program.
-pub(crate) fn write_steps(
-    text: &mut Text,
-    station: &Station,
-    blocks: &[Block],
-    steps: &[Step],
-) -> Result<(), Memory>
-    requires blocks { BlocksWithin station.now blocks.now }
-    requires steps { StepsWithin station.now blocks.now steps.now }
-    ensures { OnOk result (text.new ≡ text.old ++ steps_text station.now blocks.now 0 steps.now) }
-{
-    let mut instance = 0;
-    for step in steps {
-        write_step(text, station, blocks, instance, step)?;
-        instance = next_instance(instance, step);
-    }
-    Ok(())
-}
-
-fn write_instance(text: &mut Text, instance: usize, step: &Step) -> Result<(), Memory>
-    ensures { OnOk result (text.new ≡ text.old ++ instance_text instance step.now) }
-{
-    match step {
-        Step::Assign(_) => Ok(()),
-        Step::Call(call) => {
-            text.push(b"  b")?;
-            write_number(text, instance)?;
-            text.push(b" : BLOCK_")?;
-            write_number(text, call.block)?;
-            text.push(b";\n")
-        }
-    }
-}
-
-/// Appends the declarations of the instances.
-pub(crate) fn write_instances(text: &mut Text, steps: &[Step]) -> Result<(), Memory>
-    ensures { OnOk result (text.new ≡ text.old ++ instances_text 0 steps.now) }
-{
-    let mut instance = 0;
-    for step in steps {
-        write_instance(text, instance, step)?;
-        instance = next_instance(instance, step);
     }
     Ok(())
 }

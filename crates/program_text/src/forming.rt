@@ -1,8 +1,9 @@
 //! Sections of lines as blocks, which have no outputs yet, and calls of them.
-use crate::block_outputs::{give_all_locals, give_outputs, variables_of};
+use crate::block_outputs::{give_all_locals, give_outputs};
 use crate::formed::Formed;
-use crate::numbering::{Counts, Numbering, numbering_of};
+use crate::numbering::{Counts, Wiring, wiring_of};
 use crate::section_reads::reads_between;
+use crate::variables::variables_of;
 use ilk_base::{BayId, Memory};
 use program_blocks::{Block, BlockCall, Step, are_all_same, outer_line};
 use station_graph::Station;
@@ -53,18 +54,18 @@ fn block_lines(alloc: Global, to_block: &BlockCall, lines: &[Line]) -> Result<Ve
 fn new_block(
     alloc: Global,
     formed: &mut Formed,
-    numbering: Numbering,
+    wiring: Wiring,
     first: u16,
     lines: &[Line],
 ) -> Result<(), Memory> {
-    let inner = block_lines(alloc, &numbering.to_block, lines)?;
-    let mut call = numbering.to_program;
+    let inner = block_lines(alloc, &wiring.to_block, lines)?;
+    let mut call = wiring.to_program;
     call.block = formed.blocks.len();
     call.shift = 0;
     formed.firsts.push(first)?;
     formed.blocks.push(Block {
         heading: call.heading,
-        inputs: numbering.inputs,
+        inputs: wiring.inputs,
         outputs: Vec::new(alloc),
         locals: Vec::new(alloc),
         lines: inner,
@@ -82,13 +83,13 @@ fn add_bay_section(
     first: u16,
     lines: &[Line],
 ) -> Result<(), Memory> {
-    let mut numbering = numbering_of(alloc, heading, lines, counts)?;
-    match find_block(formed, &mut numbering.to_program, first, lines) {
+    let mut wiring = wiring_of(alloc, heading, lines, counts)?;
+    match find_block(formed, &mut wiring.to_program, first, lines) {
         Some(_) => {
-            formed.steps.push(Step::Call(numbering.to_program))?;
+            formed.steps.push(Step::Call(wiring.to_program))?;
             Ok(())
         }
-        None => new_block(alloc, formed, numbering, first, lines),
+        None => new_block(alloc, formed, wiring, first, lines),
     }
 }
 

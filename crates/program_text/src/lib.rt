@@ -2,8 +2,10 @@
 #![tactic(auto)]
 
 mod bay_masks;
+mod bay_text;
 mod block_outputs;
 mod block_text;
+mod declarations;
 mod formed;
 mod forming;
 mod numbering;
@@ -18,9 +20,13 @@ mod section_keys;
 mod section_order;
 mod section_reads;
 mod sections;
+mod standing_program;
+mod step_text;
 mod term_lines;
 mod text;
 mod unblocked;
+mod variables;
 
+pub use bay_text::bay_program_text;
 pub use program::{Program, interlocking};
 pub use text::program_text;

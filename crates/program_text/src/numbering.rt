@@ -12,30 +12,30 @@ pub(crate) struct Counts {
     pub sure: usize,
 }
 
-// No number yet.
-const NONE: usize = usize::MAX;
-
-/// The numbers of the formulas of a section.
+// The formulas of one reading of a section.
 #[derive(Drop)]
-pub(crate) struct Numbering {
+struct Table {
     /// the formula of the program for each number
-    pub to_program: BlockCall,
-    /// the number for each formula of the program
-    pub to_block: BlockCall,
-    /// what the section reads and does not set, by these numbers
-    pub inputs: Vec<Name>,
+    to_program: Vec<usize>,
+    /// the number for each formula of the program that has one
+    to_block: Vec<Option<usize>>,
 }
 
-// The number of a formula, and whether it is a new one.
-fn number_in(
-    to_program: &mut Vec<usize>,
-    to_block: &mut Vec<usize>,
-    formula: usize,
-) -> Result<Option<usize>, Memory> {
-    if formula < to_block.len() && to_block[formula] == NONE {
-        let number = to_program.len();
-        to_block[formula] = number;
-        to_program.push(formula)?;
+// The numbers of the formulas of a section.
+#[derive(Drop)]
+struct Numbering {
+    may: Table,
+    sure: Table,
+    /// what the section reads and does not set, by these numbers
+    inputs: Vec<Name>,
+}
+
+// The number of a formula that had none.
+fn number_in(table: &mut Table, formula: usize) -> Result<Option<usize>, Memory> {
+    if formula < table.to_block.len() && table.to_block[formula].is_none() {
+        let number = table.to_program.len();
+        table.to_block[formula] = Some(number);
+        table.to_program.push(formula)?;
         return Ok(Some(number));
     }
     Ok(None)
@@ -45,19 +45,11 @@ fn number_in(
 fn new_name(numbering: &mut Numbering, name: Name) -> Result<Option<Name>, Memory> {
     match name {
         Name::May(formula) => {
-            let number = number_in(
-                &mut numbering.to_program.may,
-                &mut numbering.to_block.may,
-                formula,
-            )?;
+            let number = number_in(&mut numbering.may, formula)?;
             Ok(number.map(Name::May))
         }
         Name::Sure(formula) => {
-            let number = number_in(
-                &mut numbering.to_program.sure,
-                &mut numbering.to_block.sure,
-                formula,
-            )?;
+            let number = number_in(&mut numbering.sure, formula)?;
             Ok(number.map(Name::Sure))
         }
         _ => Ok(None),
@@ -95,46 +87,29 @@ fn number_line(alloc: Global, numbering: &mut Numbering, line: Line) -> Result<(
     Ok(())
 }
 
-// A call that stands for nothing yet.
-fn empty_call(
-    alloc: Global,
-    heading: Option<Heading>,
-    counts: Counts,
-) -> Result<BlockCall, Memory> {
-    let may = vec![in alloc; NONE; counts.may]?;
-    let sure = vec![in alloc; NONE; counts.sure]?;
-    Ok(BlockCall {
-        heading,
-        block: 0,
-        shift: 0,
-        may,
-        sure,
+// A table of so many formulas, without numbers.
+fn no_table(alloc: Global, count: usize) -> Result<Table, Memory> {
+    let to_block = vec![in alloc; None; count]?;
+    Ok(Table {
+        to_program: Vec::new(alloc),
+        to_block,
     })
 }
 
 // No numbers yet.
-fn no_numbers(
-    alloc: Global,
-    heading: Option<Heading>,
-    counts: Counts,
-) -> Result<Numbering, Memory> {
-    let to_program = empty_call(alloc, heading, Counts { may: 0, sure: 0 })?;
-    let to_block = empty_call(alloc, heading, counts)?;
+fn no_numbers(alloc: Global, counts: Counts) -> Result<Numbering, Memory> {
+    let may = no_table(alloc, counts.may)?;
+    let sure = no_table(alloc, counts.sure)?;
     Ok(Numbering {
-        to_program,
-        to_block,
+        may,
+        sure,
         inputs: Vec::new(alloc),
     })
 }
 
-/// The numbers of the formulas of a section.
-pub(crate) fn numbering_of(
-    alloc: Global,
-    heading: Option<Heading>,
-    lines: &[Line],
-    counts: Counts,
-) -> Result<Numbering, Memory> {
-    let mut numbering = no_numbers(alloc, heading, counts)?;
+// The numbers of the formulas of a section.
+fn numbering_of(alloc: Global, lines: &[Line], counts: Counts) -> Result<Numbering, Memory> {
+    let mut numbering = no_numbers(alloc, counts)?;
     for line in lines {
         let _set = new_name(&mut numbering, line.name)?;
     }
@@ -142,4 +117,70 @@ pub(crate) fn numbering_of(
         number_line(alloc, &mut numbering, *line)?;
     }
     Ok(numbering)
+}
+
+/// What the variables of a section stand for, on the way to its block and back.
+#[derive(Drop)]
+pub(crate) struct Wiring {
+    /// the formula of the program for each number
+    pub to_program: BlockCall,
+    /// the number for each formula of the program
+    pub to_block: BlockCall,
+    /// what the section reads and does not set, by these numbers
+    pub inputs: Vec<Name>,
+}
+
+// The numbers of formulas; of one that the section does not name any.
+fn numbers_of(alloc: Global, numbers: &[Option<usize>]) -> Result<Vec<usize>, Memory> {
+    let mut all = Vec::new(alloc);
+    for number in numbers {
+        all.push(number.unwrap_or(0))?;
+    }
+    Ok(all)
+}
+
+// The formulas of one reading, on the way to the block and back.
+#[derive(Drop)]
+struct Ways {
+    to_program: Vec<usize>,
+    to_block: Vec<usize>,
+}
+
+fn ways_of(alloc: Global, table: Table) -> Result<Ways, Memory> {
+    let to_block = numbers_of(alloc, &table.to_block)?;
+    Ok(Ways {
+        to_program: table.to_program,
+        to_block,
+    })
+}
+
+/// The formulas of a section, numbered from 0.
+pub(crate) fn wiring_of(
+    alloc: Global,
+    heading: Option<Heading>,
+    lines: &[Line],
+    counts: Counts,
+) -> Result<Wiring, Memory> {
+    let numbering = numbering_of(alloc, lines, counts)?;
+    let may = ways_of(alloc, numbering.may)?;
+    let sure = ways_of(alloc, numbering.sure)?;
+    let to_block = BlockCall {
+        heading,
+        block: 0,
+        shift: 0,
+        may: may.to_block,
+        sure: sure.to_block,
+    };
+    let to_program = BlockCall {
+        heading,
+        block: 0,
+        shift: 0,
+        may: may.to_program,
+        sure: sure.to_program,
+    };
+    Ok(Wiring {
+        to_program,
+        to_block,
+        inputs: numbering.inputs,
+    })
 }

@@ -3,25 +3,25 @@ use crate::numbering::Counts;
 use crate::read_names::names_of;
 use ilk_base::Memory;
 use std::alloc::Global;
-use structured_text::{Line, Name};
+use structured_text::{Line, Name, is_release};
 
-// Which formulas are read by another section than the one that sets them.
+// For each formula the section that sets it, once that is known, and whether another one reads it.
 #[derive(Drop)]
 pub(crate) struct Reads {
-    may_set: Vec<usize>,
-    sure_set: Vec<usize>,
+    may_set: Vec<Option<usize>>,
+    sure_set: Vec<Option<usize>>,
     may_read: Vec<bool>,
     sure_read: Vec<bool>,
 }
 
-fn note_set(set: &mut Vec<usize>, number: usize, section: usize) {
+fn note_set(set: &mut Vec<Option<usize>>, number: usize, section: usize) {
     if number < set.len() {
-        set[number] = section;
+        set[number] = Some(section);
     }
 }
 
-fn note_read(set: &[usize], read: &mut Vec<bool>, number: usize, section: usize) {
-    if number < set.len() && number < read.len() && set[number] != section {
+fn note_read(set: &[Option<usize>], read: &mut Vec<bool>, number: usize, section: usize) {
+    if number < set.len() && number < read.len() && set[number] != Some(section) {
         read[number] = true;
     }
 }
@@ -48,8 +48,8 @@ fn note_line(alloc: Global, reads: &mut Reads, line: Line, section: usize) -> Re
 }
 
 fn no_reads(alloc: Global, counts: Counts) -> Result<Reads, Memory> {
-    let may_set = vec![in alloc; 0usize; counts.may]?;
-    let sure_set = vec![in alloc; 0usize; counts.sure]?;
+    let may_set = vec![in alloc; None; counts.may]?;
+    let sure_set = vec![in alloc; None; counts.sure]?;
     let may_read = vec![in alloc; false; counts.may]?;
     let sure_read = vec![in alloc; false; counts.sure]?;
     Ok(Reads {
@@ -60,7 +60,7 @@ fn no_reads(alloc: Global, counts: Counts) -> Result<Reads, Memory> {
     })
 }
 
-// The reads between sections.
+// The reads between sections. A section is known by the number of its first line.
 pub(crate) fn reads_between(
     alloc: Global,
     lines: &[Line],
@@ -70,20 +70,18 @@ pub(crate) fn reads_between(
     let mut section = 0;
     for number in 0..lines.len() {
         if lines[number].heading.is_some() {
-            section = number + 1;
+            section = number;
         }
         note_line(alloc, &mut reads, lines[number], section)?;
     }
     Ok(reads)
 }
 
-// Whether the variable is read outside its section.
+// Whether the variable is a release, or read outside its section.
 pub(crate) fn is_output(reads: &Reads, name: Name) -> bool {
     match name {
         Name::May(number) => reads.may_read.get(number).copied().unwrap_or(false),
         Name::Sure(number) => reads.sure_read.get(number).copied().unwrap_or(false),
-        Name::Opens(_) => true,
-        Name::Closes(_) => true,
-        _ => false,
+        _ => is_release(name),
     }
 }

@@ -1,16 +1,17 @@
 //! Lines as a program without blocks.
-ghost use Rattle.std.specs.Prelude.{◌≡◌, ◌++◌, IfOk, OnOk};
+ghost use Rattle.std.specs.Prelude.{◌≡◌, IfOk};
 ghost use Rattle.structured_text.specs.Order.{IsInput, AreInOrder};
 ghost use Rattle.structured_text.specs.Within.{LinesWithin};
 ghost use Rattle.program_blocks.specs.Standing.{StandFor};
-ghost use Rattle.program_text.specs.Unblocked.{assigned, unless_release, set_variables};
+ghost use Rattle.program_text.specs.Unblocked.{assigned};
 
 use crate::formed::Formed;
+use crate::variables::variables_of;
 use ilk_base::Memory;
 use program_blocks::Step;
 use station_graph::Station;
 use std::alloc::Global;
-use structured_text::{Line, Name};
+use structured_text::Line;
 
 // The lines as steps.
 fn steps_of(alloc: Global, lines: &[Line]) -> Result<Vec<Step>, Memory>
@@ -21,29 +22,6 @@ fn steps_of(alloc: Global, lines: &[Line]) -> Result<Vec<Step>, Memory>
         steps.push(Step::Assign(*line))?;
     }
     Ok(steps)
-}
-
-// Adds the variable, unless it is a release.
-fn add_variable(name: Name, variables: &mut Vec<Name>) -> Result<(), Memory>
-    ensures { OnOk result (variables.new.items ≡ variables.old.items ++ unless_release name) }
-{
-    match name {
-        Name::Opens(_) => {}
-        Name::Closes(_) => {}
-        _ => variables.push(name)?,
-    }
-    Ok(())
-}
-
-// What the lines set beside the releases.
-fn variables_of(alloc: Global, lines: &[Line]) -> Result<Vec<Name>, Memory>
-    ensures { IfOk result (λ r. r.items ≡ set_variables lines.now) }
-{
-    let mut variables = Vec::new(alloc);
-    for line in lines {
-        add_variable(line.name, &mut variables)?;
-    }
-    Ok(variables)
 }
 
 /// The lines as a program without blocks. It stands for them, as long as they are in order.
@@ -57,9 +35,10 @@ pub(crate) fn without_blocks(
     ensures { IfOk result (λ f. StandFor station.now lines.now f.blocks.items f.steps.items f.variables.items) }
 {
     let steps = steps_of(alloc, lines)?;
-    let variables = variables_of(alloc, lines)?;
+    let blocks = Vec::new(alloc);
+    let variables = variables_of(alloc, &blocks, &steps)?;
     Ok(Formed {
-        blocks: Vec::new(alloc),
+        blocks,
         firsts: Vec::new(alloc),
         steps,
         variables,

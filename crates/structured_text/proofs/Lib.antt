@@ -8,3 +8,4 @@ pub mod OrderLaws
 pub mod WidthLemmas
 pub mod PieceWidths
 pub mod LineWidths
+pub mod SideLemmas

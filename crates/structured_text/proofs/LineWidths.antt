@@ -15,7 +15,7 @@ use Rattle.structured_text.specs.declared.line.Line.{Line}
 use Rattle.structured_text.specs.Width.{continues}
 use Rattle.structured_text.specs.Spelling.{shown_byte, row_break, row_length, shown_from, shown, name_text, pair_text, formula_text}
 use Rattle.structured_text.specs.Spelling.{comment_text, heading_text, line_text, declared_text, remark_text, input_text}
-use Rattle.structured_text.specs.Spelling.{output_text, between_names, more_names, names_text}
+use Rattle.structured_text.specs.Spelling.{output_text, between_names, more_names, declared_names, names_text, true_names_text}
 use Rattle.structured_text.specs.Within.{NameWithin, LineWithin, LinesWithin, NamesWithin}
 use Rattle.structured_text.proofs.WidthLemmas.{chosen, passed, both_true, Fits, column, wider, tested, earlier, goes_on, piece, column_more}
 use Rattle.structured_text.proofs.PieceWidths.{name_length, pair_length, formula_text_length}
@@ -175,52 +175,60 @@ module _ (d : Diagram) (few : length d.switches ≤ 2 ^ 64) where
       goes_on 0 (declared_text paths (Opens i) (Closes i)) 98 (codes "\n") 0 (declared_fits (Opens i) (Closes i) low low)
       (tested 98 (codes "\n") 0 refl)
 
-  -- four names on a line
-  abbrev RestFits : List Name → Type 0
-  RestFits xs = (j q : ℕ) → 1 ≤ q → q ≤ 4 → j % 4 ≡ q % 4 → Fits (45 * q) (more_names paths j xs) 0
+  -- four names on a line, and an end that fits behind them
+  module _ (end : List ℕ) (ends : Fits 180 end 0) where
+    abbrev RestFits : List Name → Type 0
+    RestFits xs = (j q : ℕ) → 1 ≤ q → q ≤ 4 → j % 4 ≡ q % 4 → Fits (45 * q) (more_names paths end j xs) 0
 
-  more_fit : (xs : List Name) (k r : ℕ) → 1 ≤ r → r ≤ 4 → k % 4 ≡ r % 4 → NamesWithin count xs →
-      Fits (45 * r) (more_names paths k xs) 0
-  more_fit [] k r least most same h =
-      earlier (45 * r) 180 (codes " : BOOL;\n") 0 (omega (arith, most)) (tested 180 (codes " : BOOL;\n") 0 refl)
-  more_fit (x ∷ xs) k r least most same h = by (k % 4 == 0) refl
-      (λ j q low high e. more_fit xs j q low high e (λ i y at. h (suc i) y at))
-    where
-      within : NameWithin count x
-      within = h 0 x refl
+    more_fit : (xs : List Name) (k r : ℕ) → 1 ≤ r → r ≤ 4 → k % 4 ≡ r % 4 → NamesWithin count xs →
+        Fits (45 * r) (more_names paths end k xs) 0
+    more_fit [] k r least most same h =
+        earlier (45 * r) 180 end 0 (omega (arith, most)) ends
+    more_fit (x ∷ xs) k r least most same h = by (k % 4 == 0) refl
+        (λ j q low high e. more_fit xs j q low high e (λ i y at. h (suc i) y at))
+      where
+        within : NameWithin count x
+        within = h 0 x refl
 
-      with_break : (between : List ℕ) → between_names k ≡ between →
-          Fits (45 * r) (between ++ (name_text paths x ++ more_names paths (suc k) xs)) 0 →
-          Fits (45 * r) (more_names paths k (x ∷ xs)) 0
-      with_break between e f =
-          subst (λ t. Fits (45 * r) (t ++ (name_text paths x ++ more_names paths (suc k) xs)) 0) (sym e) f
+        with_break : (between : List ℕ) → between_names k ≡ between →
+            Fits (45 * r) (between ++ (name_text paths x ++ more_names paths end (suc k) xs)) 0 →
+            Fits (45 * r) (more_names paths end k (x ∷ xs)) 0
+        with_break between e f =
+            subst (λ t. Fits (45 * r) (t ++ (name_text paths x ++ more_names paths end (suc k) xs)) 0) (sym e) f
 
-      by : (q : Bool) → (k % 4 == 0) ≡ q → RestFits xs → Fits (45 * r) (more_names paths k (x ∷ xs)) 0
-      by true is rest =
-          let zero_is : k % 4 ≡ 0 = grind (arith, nat_tests) in
-          let next : suc k % 4 ≡ 1 % 4 = omega (arith, zero_is) in
-          with_break (codes ",\n  ") (chosen (k % 4 == 0) (codes ",\n  ") (codes ", ") is)
-          (goes_on (45 * r) (codes ",\n  ") 2 (name_text paths x ++ more_names paths (suc k) xs) 0
-          (earlier (45 * r) 180 (codes ",\n  ") 2 (omega (arith, most)) (tested 180 (codes ",\n  ") 2 refl))
-          (goes_on 2 (name_text paths x) 45 (more_names paths (suc k) xs) 0
-          (name_fits 2 x within (omega arith))
-          (rest (suc k) 1 (omega arith) (omega arith) next)))
-      by false is rest =
-          let not_zero : k % 4 ≢ 0 = λ e. false≢true (sym is ∙ ap (λ z. z == 0) e) in
-          let below : r < 4 = omega (arith, most, same, not_zero) in
-          let next : suc k % 4 ≡ (r + 1) % 4 = omega (arith, same) in
-          let wide : 45 * (r + 1) ≡ (45 * r + 2) + 43 = omega arith in
-          with_break (codes ", ") (passed (k % 4 == 0) (codes ",\n  ") (codes ", ") is)
-          (goes_on (45 * r) (codes ", ") (45 * r + 2) (name_text paths x ++ more_names paths (suc k) xs) 0
-          (piece (45 * r) (codes ", ") 2 (omega arith) (omega (arith, below)))
-          (goes_on (45 * r + 2) (name_text paths x) ((45 * r + 2) + 43) (more_names paths (suc k) xs) 0
-          (name_fits (45 * r + 2) x within (omega (arith, below)))
-          (subst (λ c. Fits c (more_names paths (suc k) xs) 0) wide
-          (rest (suc k) (r + 1) (omega arith) (omega (arith, below)) next))))
+        by : (q : Bool) → (k % 4 == 0) ≡ q → RestFits xs → Fits (45 * r) (more_names paths end k (x ∷ xs)) 0
+        by true is rest =
+            let zero_is : k % 4 ≡ 0 = grind (arith, nat_tests) in
+            let next : suc k % 4 ≡ 1 % 4 = omega (arith, zero_is) in
+            with_break (codes ",\n  ") (chosen (k % 4 == 0) (codes ",\n  ") (codes ", ") is)
+            (goes_on (45 * r) (codes ",\n  ") 2 (name_text paths x ++ more_names paths end (suc k) xs) 0
+            (earlier (45 * r) 180 (codes ",\n  ") 2 (omega (arith, most)) (tested 180 (codes ",\n  ") 2 refl))
+            (goes_on 2 (name_text paths x) 45 (more_names paths end (suc k) xs) 0
+            (name_fits 2 x within (omega arith))
+            (rest (suc k) 1 (omega arith) (omega arith) next)))
+        by false is rest =
+            let not_zero : k % 4 ≢ 0 = λ e. false≢true (sym is ∙ ap (λ z. z == 0) e) in
+            let below : r < 4 = omega (arith, most, same, not_zero) in
+            let next : suc k % 4 ≡ (r + 1) % 4 = omega (arith, same) in
+            let wide : 45 * (r + 1) ≡ (45 * r + 2) + 43 = omega arith in
+            with_break (codes ", ") (passed (k % 4 == 0) (codes ",\n  ") (codes ", ") is)
+            (goes_on (45 * r) (codes ", ") (45 * r + 2) (name_text paths x ++ more_names paths end (suc k) xs) 0
+            (piece (45 * r) (codes ", ") 2 (omega arith) (omega (arith, below)))
+            (goes_on (45 * r + 2) (name_text paths x) ((45 * r + 2) + 43) (more_names paths end (suc k) xs) 0
+            (name_fits (45 * r + 2) x within (omega (arith, below)))
+            (subst (λ c. Fits c (more_names paths end (suc k) xs) 0) wide
+            (rest (suc k) (r + 1) (omega arith) (omega (arith, below)) next))))
+
+    declared_names_fit : (names : List Name) → NamesWithin count names → Fits 0 (declared_names paths end names) 0
+    declared_names_fit [] h = omega arith
+    declared_names_fit (x ∷ xs) h =
+        goes_on 0 (codes "  ") 2 (name_text paths x ++ more_names paths end 1 xs) 0 (tested 0 (codes "  ") 2 refl)
+        (goes_on 2 (name_text paths x) 45 (more_names paths end 1 xs) 0 (name_fits 2 x (h 0 x refl) (omega arith))
+        (more_fit xs 1 1 (omega arith) (omega arith) refl (λ i y at. h (suc i) y at)))
 
   pub names_fit : (names : List Name) → NamesWithin count names → Fits 0 (names_text paths names) 0
-  names_fit [] h = omega arith
-  names_fit (x ∷ xs) h =
-      goes_on 0 (codes "  ") 2 (name_text paths x ++ more_names paths 1 xs) 0 (tested 0 (codes "  ") 2 refl)
-      (goes_on 2 (name_text paths x) 45 (more_names paths 1 xs) 0 (name_fits 2 x (h 0 x refl) (omega arith))
-      (more_fit xs 1 1 (omega arith) (omega arith) refl (λ i y at. h (suc i) y at)))
+  names_fit names h = declared_names_fit (codes " : BOOL;\n") (tested 180 (codes " : BOOL;\n") 0 refl) names h
+
+  pub true_names_fit : (names : List Name) → NamesWithin count names → Fits 0 (true_names_text paths names) 0
+  true_names_fit names h =
+      declared_names_fit (codes " : BOOL := TRUE;\n") (tested 180 (codes " : BOOL := TRUE;\n") 0 refl) names h

@@ -4,3 +4,4 @@ pub mod Order
 pub mod Width
 pub mod Spelling
 pub mod Within
+pub mod Sides

@@ -14,6 +14,15 @@ IsInput (Sure k) = ⊥
 IsInput (Opens i) = ⊥
 IsInput (Closes i) = ⊥
 
+-- The variable is a release.
+abbrev pub IsRelease : Name → Type 0
+IsRelease (Off i) = ⊥
+IsRelease (On i) = ⊥
+IsRelease (May k) = ⊥
+IsRelease (Sure k) = ⊥
+IsRelease (Opens i) = Unit {0}
+IsRelease (Closes i) = Unit {0}
+
 -- A line sets the variable.
 abbrev pub IsSetIn : List Line → Name → Type 0
 IsSetIn lines m = (k : ℕ) × (y : Line) × (slice_get lines k ≡ Some y) × (y.name ≡ m)

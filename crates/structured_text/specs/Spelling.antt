@@ -156,14 +156,21 @@ abbrev pub between_names : ℕ → List ℕ
 between_names k = if k % 4 == 0 then codes ",\n  " else codes ", "
 
 -- More variables of a declaration, from number k on, and its end.
-abbrev pub more_names : List (List ℕ) → ℕ → List Name → List ℕ
-more_names paths k [] = codes " : BOOL;\n"
-more_names paths k (x ∷ xs) = between_names k ++ (name_text paths x ++ more_names paths (suc k) xs)
+abbrev pub more_names : List (List ℕ) → List ℕ → ℕ → List Name → List ℕ
+more_names paths end k [] = end
+more_names paths end k (x ∷ xs) = between_names k ++ (name_text paths x ++ more_names paths end (suc k) xs)
 
--- The declaration of variables.
+-- The declaration of variables, if there are any.
+abbrev pub declared_names : List (List ℕ) → List ℕ → List Name → List ℕ
+declared_names paths end [] = []
+declared_names paths end (x ∷ xs) = codes "  " ++ (name_text paths x ++ more_names paths end 1 xs)
+
 abbrev pub names_text : List (List ℕ) → List Name → List ℕ
-names_text paths [] = []
-names_text paths (x ∷ xs) = codes "  " ++ (name_text paths x ++ more_names paths 1 xs)
+names_text paths names = declared_names paths (codes " : BOOL;\n") names
+
+-- That of variables which are TRUE as long as nothing sets them.
+abbrev pub true_names_text : List (List ℕ) → List Name → List ℕ
+true_names_text paths names = declared_names paths (codes " : BOOL := TRUE;\n") names
 
 -- A letter as a small one, and a text with its letters so.
 abbrev pub lower : ℕ → ℕ

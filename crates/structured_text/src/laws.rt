@@ -1,9 +1,11 @@
-//! That variables have different names, and that lines in order have one meaning.
+//! That variables have different names, that lines in order have one meaning, and that signals that do not come release
+//! nothing.
 ghost use Rattle.std.specs.Prelude.{◌≡◌, ℕ, List};
 ghost use Rattle.structured_text.specs.declared.line.Line.{Line};
 ghost use Rattle.structured_text.specs.declared.name.Name.{Name};
 ghost use Rattle.structured_text.specs.Meaning.{Store, after};
 ghost use Rattle.structured_text.specs.Order.{IsInput, IsSetIn, AreInOrder, AreAmong};
+ghost use Rattle.structured_text.specs.Sides.{AreSided, IsCautious};
 ghost use Rattle.structured_text.specs.Spelling.{name_text, folded};
 ghost use Rattle.structured_text.specs.Within.{IsNumbered};
 
@@ -25,4 +27,10 @@ pub fn inputs_decide()
 pub fn order_is_free()
     ensures { (lines more : List Line) (s : Store) → AreInOrder IsInput lines → AreInOrder IsInput more
         → AreAmong more lines → (m : Name) → IsSetIn more m → after more s m ≡ after lines s m }
+{}
+
+/// Where a signal does not come, and counts as TRUE if it says what may be and as FALSE if it says what is certain, lines
+/// on the side of denial release nothing that they do not release with it.
+pub fn missing_signals()
+    ensures { (lines : List Line) → AreSided lines → IsCautious (after lines) }
 {}

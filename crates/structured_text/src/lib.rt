@@ -9,9 +9,10 @@ mod name;
 mod readable;
 mod writing;
 
-pub use laws::{inputs_decide, names_differ, order_is_free};
+pub use laws::{inputs_decide, missing_signals, names_differ, order_is_free};
 pub use line::{Formula, GapDenial, Heading, Line, LoadDenial, Operand};
-pub use name::Name;
+pub use name::{Name, is_contact, is_release};
 pub use writing::{
     write_heading, write_input, write_line, write_lines, write_name, write_names, write_output,
+    write_true_names,
 };

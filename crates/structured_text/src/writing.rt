@@ -4,7 +4,8 @@ ghost use Rattle.std.specs.List.{flat_map};
 ghost use Rattle.station_graph.specs.Diagram.{part_count};
 ghost use Rattle.structured_text.specs.declared.line.Line.{Line as OfLine};
 ghost use Rattle.structured_text.specs.Spelling.{comment_text, heading_text, line_text, declared_text, remark_text, input_text};
-ghost use Rattle.structured_text.specs.Spelling.{output_text, between_names, names_text, name_text};
+ghost use Rattle.structured_text.specs.Spelling.{output_text, between_names, declared_names, names_text, true_names_text};
+ghost use Rattle.structured_text.specs.Spelling.{name_text};
 ghost use Rattle.structured_text.specs.Within.{NameWithin, HeadingWithin, LineWithin, LinesWithin, NamesWithin};
 
 use crate::formula::{push_formula, push_name, push_pair};
@@ -137,10 +138,11 @@ fn push_between(text: &mut Text, number: usize) -> Result<(), Memory>
     text.push(b", ")
 }
 
-/// Appends the declaration of these variables, four on a line; nothing where there are none.
-pub fn write_names(text: &mut Text, station: &Station, names: &[Name]) -> Result<(), Memory>
+// Appends the declaration of these variables, four on a line, with this end; nothing where there are none.
+fn push_names(text: &mut Text, station: &Station, names: &[Name], end: &[u8]) -> Result<(), Memory>
     requires { NamesWithin (length station.now.switches) names.now }
-    ensures { OnOk result (text.new ≡ text.old ++ names_text station.now.switch_paths names.now) }
+    ensures { OnOk result (text.new
+        ≡ text.old ++ declared_names station.now.switch_paths end.now names.now) }
 {
     if names.is_empty() {
         return Ok(());
@@ -151,7 +153,23 @@ pub fn write_names(text: &mut Text, station: &Station, names: &[Name]) -> Result
         push_between(text, i)?;
         push_name(text, station, names[i])?;
     }
-    text.push(b" : BOOL;\n")
+    text.push(end)
+}
+
+/// Appends the declaration of these variables, four on a line; nothing where there are none.
+pub fn write_names(text: &mut Text, station: &Station, names: &[Name]) -> Result<(), Memory>
+    requires { NamesWithin (length station.now.switches) names.now }
+    ensures { OnOk result (text.new ≡ text.old ++ names_text station.now.switch_paths names.now) }
+{
+    push_names(text, station, names, b" : BOOL;\n")
+}
+
+/// The same for variables that are TRUE as long as nothing sets them.
+pub fn write_true_names(text: &mut Text, station: &Station, names: &[Name]) -> Result<(), Memory>
+    requires { NamesWithin (length station.now.switches) names.now }
+    ensures { OnOk result (text.new ≡ text.old ++ true_names_text station.now.switch_paths names.now) }
+{
+    push_names(text, station, names, b" : BOOL := TRUE;\n")
 }
 
 /// Appends the identifier of a variable.

@@ -1,7 +1,7 @@
 use Rattle.std.proofs.Common.{◌≡◌, ◌<◌, ℕ, true, slice_get, Some}
 use Rattle.structured_text.specs.declared.line.Line.{Line}
 use Rattle.program_blocks.specs.Wiring.{IsGiven}
-use Rattle.program_blocks.specs.Standing.{IsRelease}
+use Rattle.structured_text.specs.Order.{IsRelease}
 use Rattle.program_blocks.proofs.standing.are_released.Given as goal
 
 abbrev pub invariant-loop-line : goal.invariant-loop-line

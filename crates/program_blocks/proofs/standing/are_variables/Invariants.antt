@@ -2,7 +2,7 @@ use Rattle.std.proofs.Common.{◌≡◌, ◌<◌, ℕ, slice_get, Some}
 use Rattle.std.specs.Prelude.{◌⊎◌}
 use Rattle.std.specs.List.{Contains}
 use Rattle.structured_text.specs.declared.name.Name.{Name}
-use Rattle.program_blocks.specs.Standing.{IsRelease}
+use Rattle.structured_text.specs.Order.{IsRelease}
 use Rattle.program_blocks.proofs.standing.are_variables.Given as goal
 
 abbrev pub invariant-loop-name : goal.invariant-loop-name

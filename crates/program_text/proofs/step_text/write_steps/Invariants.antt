@@ -1,6 +1,6 @@
 use Rattle.std.proofs.Common.{◌≡◌, ◌++◌, ◌≤◌, drop}
 use Rattle.program_text.specs.ProgramText.{steps_text}
-use Rattle.program_text.proofs.block_text.write_steps.Given as goal
+use Rattle.program_text.proofs.step_text.write_steps.Given as goal
 
 abbrev pub invariant-loop-step : goal.invariant-loop-step
 invariant-loop-step l =

@@ -1,6 +1,6 @@
 use Rattle.std.proofs.Common.{◌≡◌, ◌++◌, drop}
 use Rattle.program_text.specs.ProgramText.{more_wires, wires_text}
-use Rattle.program_text.proofs.block_text.write_wires.Given as goal
+use Rattle.program_text.proofs.step_text.write_wires.Given as goal
 
 abbrev pub invariant-loop-i : goal.invariant-loop-i
 invariant-loop-i l =

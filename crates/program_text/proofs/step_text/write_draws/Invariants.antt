@@ -2,7 +2,7 @@ use Rattle.std.proofs.Common.{◌≡◌, ◌++◌, take}
 use Rattle.std.specs.List.{flat_map}
 use Rattle.structured_text.specs.declared.name.Name.{Name}
 use Rattle.program_text.specs.ProgramText.{drawn_text}
-use Rattle.program_text.proofs.block_text.write_draws.Given as goal
+use Rattle.program_text.proofs.step_text.write_draws.Given as goal
 
 abbrev pub invariant-loop-name : goal.invariant-loop-name
 invariant-loop-name l =
