@@ -1,6 +1,6 @@
 -- What the first element of a list with a property has.
 use Rattle.std.proofs.Common.{◌≡◌, ◌∙◌, sym, ap, refl, Bool, true, false, List, [], ◌∷◌, Option, Some, None, inl, inr}
-use Rattle.std.proofs.Common.{◌&&◌, ◌||◌}
+use Rattle.std.proofs.Common.{◌&&◌, ◌||◌, ◌<◌, ℕ, zero, suc, length, get_or, arith}
 use Rattle.std.specs.Prelude.{find}
 use Rattle.std.specs.List.{list_all, filter_map}
 use Rattle.std.proofs.lemmas.Bool.{cases_Bool}
@@ -37,3 +37,10 @@ find-all {A} p q (y ∷ xs) x all found = elim (cases_Bool (p y)) [
       let later : find p xs ≡ Some x = rw fails at found in
       find-all p q xs x (both (q y) (list_all q xs) all).1 later
 ]
+
+-- what all elements have, at a place
+pub all-at : {A : Type 0} (p : A → Bool) (xs : List A) (i : ℕ) (d : A) → list_all p xs ≡ true → i < length xs →
+    p (get_or xs i d) ≡ true
+all-at p [] i d all lt = absurd (omega (arith, lt))
+all-at p (x ∷ xs) zero d all lt = (both (p x) (list_all p xs) all).0
+all-at p (x ∷ xs) (suc i) d all lt = all-at p xs i d (both (p x) (list_all p xs) all).1 (omega (arith, lt))

@@ -1,15 +1,18 @@
 -- A command with one to four words: at which words it has no fault, and what it reads.
-use Rattle.std.proofs.Common.{◌≡◌, ◌==◌, ◌≤◌, refl, ℕ, zero, suc, Bool, true, false, List, [], ◌∷◌, length, not, arith}
+use Rattle.std.proofs.Common.{◌≡◌, ◌==◌, ◌&&◌, ◌||◌, ◌<◌, ◌∙◌, ap, sym, subst, refl, ℕ, zero, suc, Bool, true, false, List, []}
+use Rattle.std.proofs.Common.{◌∷◌, length, not, arith, inl, inr}
+use Rattle.std.specs.Prelude.{nat_lt}
 use Rattle.std.specs.List.{list_all}
-use Rattle.std.proofs.lemmas.Bool.{ne_eqb}
+use Rattle.std.proofs.lemmas.Bool.{cases_Bool, eqb-true, ltb-true, lt-ltb}
 use Rattle.clap.specs.Words.{Text, Kinds}
 use Rattle.clap.specs.declared.error.ErrorKind.{ErrorKind}
-use Rattle.command_words.specs.Rows.{is_plain}
+use Rattle.command_words.specs.Rows.{are_few, is_between, is_plain}
 use Rattle.command_words.proofs.FindLemmas.{both}
 use Rattle.command_words.proofs.WordCounts.{leaf_fault, leaf_given, IsNoFlag, AreNoFlags, one_0, one_1, one_more}
 use Rattle.command_words.proofs.WordCounts.{one_given, two_0, two_1, two_2, two_more, two_given, three_0, three_1}
 use Rattle.command_words.proofs.WordCounts.{three_2, three_3, three_more, three_given, four_0, four_1, four_2, four_3}
-use Rattle.command_words.proofs.WordCounts.{four_4, four_more, four_given}
+use Rattle.command_words.proofs.WordCounts.{four_4, four_more, four_given, either_0, either_1, either_2}
+use Rattle.command_words.proofs.WordCounts.{either_more, either_given_1, either_given_2}
 
 -- without a fault exactly where the test holds
 abbrev pub Exactly : Kinds → Bool → Type 0
@@ -22,29 +25,42 @@ refused kinds k ks test e not = (λ none. absurd (cc), λ holds. absurd (cc))
 taken : (kinds : Kinds) (test : Bool) → kinds ≡ [] → test ≡ true → Exactly kinds test
 taken kinds test e holds = (λ _. holds, λ _. e)
 
-exactly_one : (n : Text) (rest : List Text) → AreNoFlags rest → Exactly (leaf_fault (n, 1) rest) (length rest == 1)
+and_false : (b : Bool) → (b && false) ≡ false
+and_false true = refl
+and_false false = refl
+
+-- there are more words than that
+past : (k least most : ℕ) → most < k → is_between least most k ≡ false
+past k least most more =
+    let e : nat_lt most k ≡ true = lt-ltb most k more in
+    ap (λ (b : Bool). not (nat_lt k least) && not b) e ∙ and_false (not (nat_lt k least))
+
+many : {P : Type 0} (k least most : ℕ) → most < k → is_between least most k ≡ true → P
+many k least most more between = absurd (cc (past k least most more, between))
+
+exactly_one : (n : Text) (rest : List Text) → AreNoFlags rest → Exactly (leaf_fault (n, 1, 1) rest) (is_between 1 1 (length rest))
 exactly_one n [] p = refused _ _ _ _ (one_0 n) refl
 exactly_one n (a ∷ []) p = taken _ _ (one_1 n a p.0) refl
 exactly_one n (a ∷ b ∷ rest) p =
-    refused _ _ _ _ (one_more n a b rest p.0 p.1.0) (ne_eqb _ 1 (λ e. absurd (omega (arith, e))))
+    refused _ _ _ _ (one_more n a b rest p.0 p.1.0) (past (length (a ∷ b ∷ rest)) 1 1 (omega arith))
 
-exactly_two : (n : Text) (rest : List Text) → AreNoFlags rest → Exactly (leaf_fault (n, 2) rest) (length rest == 2)
+exactly_two : (n : Text) (rest : List Text) → AreNoFlags rest → Exactly (leaf_fault (n, 2, 2) rest) (is_between 2 2 (length rest))
 exactly_two n [] p = refused _ _ _ _ (two_0 n) refl
 exactly_two n (a ∷ []) p = refused _ _ _ _ (two_1 n a p.0) refl
 exactly_two n (a ∷ b ∷ []) p = taken _ _ (two_2 n a b p.0 p.1.0) refl
 exactly_two n (a ∷ b ∷ c ∷ rest) p =
-    refused _ _ _ _ (two_more n a b c rest p.0 p.1.0 p.1.1.0) (ne_eqb _ 2 (λ e. absurd (omega (arith, e))))
+    refused _ _ _ _ (two_more n a b c rest p.0 p.1.0 p.1.1.0) (past (length (a ∷ b ∷ c ∷ rest)) 2 2 (omega arith))
 
-exactly_three : (n : Text) (rest : List Text) → AreNoFlags rest → Exactly (leaf_fault (n, 3) rest) (length rest == 3)
+exactly_three : (n : Text) (rest : List Text) → AreNoFlags rest → Exactly (leaf_fault (n, 3, 3) rest) (is_between 3 3 (length rest))
 exactly_three n [] p = refused _ _ _ _ (three_0 n) refl
 exactly_three n (a ∷ []) p = refused _ _ _ _ (three_1 n a p.0) refl
 exactly_three n (a ∷ b ∷ []) p = refused _ _ _ _ (three_2 n a b p.0 p.1.0) refl
 exactly_three n (a ∷ b ∷ c ∷ []) p = taken _ _ (three_3 n a b c p.0 p.1.0 p.1.1.0) refl
 exactly_three n (a ∷ b ∷ c ∷ d ∷ rest) p =
     refused _ _ _ _ (three_more n a b c d rest p.0 p.1.0 p.1.1.0 p.1.1.1.0)
-    (ne_eqb _ 3 (λ e. absurd (omega (arith, e))))
+    (past (length (a ∷ b ∷ c ∷ d ∷ rest)) 3 3 (omega arith))
 
-exactly_four : (n : Text) (rest : List Text) → AreNoFlags rest → Exactly (leaf_fault (n, 4) rest) (length rest == 4)
+exactly_four : (n : Text) (rest : List Text) → AreNoFlags rest → Exactly (leaf_fault (n, 4, 4) rest) (is_between 4 4 (length rest))
 exactly_four n [] p = refused _ _ _ _ (four_0 n) refl
 exactly_four n (a ∷ []) p = refused _ _ _ _ (four_1 n a p.0) refl
 exactly_four n (a ∷ b ∷ []) p = refused _ _ _ _ (four_2 n a b p.0 p.1.0) refl
@@ -52,53 +68,92 @@ exactly_four n (a ∷ b ∷ c ∷ []) p = refused _ _ _ _ (four_3 n a b c p.0 p.
 exactly_four n (a ∷ b ∷ c ∷ d ∷ []) p = taken _ _ (four_4 n a b c d p.0 p.1.0 p.1.1.0 p.1.1.1.0) refl
 exactly_four n (a ∷ b ∷ c ∷ d ∷ e ∷ rest) p =
     refused _ _ _ _ (four_more n a b c d e rest p.0 p.1.0 p.1.1.0 p.1.1.1.0 p.1.1.1.1.0)
-    (ne_eqb _ 4 (λ e. absurd (omega (arith, e))))
+    (past (length (a ∷ b ∷ c ∷ d ∷ e ∷ rest)) 4 4 (omega arith))
+
+exactly_either : (n : Text) (rest : List Text) → AreNoFlags rest →
+    Exactly (leaf_fault (n, 1, 2) rest) (is_between 1 2 (length rest))
+exactly_either n [] p = refused _ _ _ _ (either_0 n) refl
+exactly_either n (a ∷ []) p = taken _ _ (either_1 n a p.0) refl
+exactly_either n (a ∷ b ∷ []) p = taken _ _ (either_2 n a b p.0 p.1.0) refl
+exactly_either n (a ∷ b ∷ c ∷ rest) p =
+    refused _ _ _ _ (either_more n a b c rest p.0 p.1.0 p.1.1.0) (past (length (a ∷ b ∷ c ∷ rest)) 1 2 (omega arith))
+
+-- what holds at each count of words that a row may have
+by_same : (P : ℕ → ℕ → Type 0) → P 1 1 → P 2 2 → P 3 3 → P 4 4 → (n : ℕ) → 0 < n → n < 5 → P n n
+by_same P one two three four zero some few = absurd (omega arith)
+by_same P one two three four (suc zero) some few = one
+by_same P one two three four (suc (suc zero)) some few = two
+by_same P one two three four (suc (suc (suc zero))) some few = three
+by_same P one two three four (suc (suc (suc (suc zero)))) some few = four
+by_same P one two three four (suc (suc (suc (suc (suc n))))) some few = absurd (omega arith)
+
+by_count : (P : ℕ → ℕ → Type 0) → P 1 1 → P 2 2 → P 3 3 → P 4 4 → P 1 2 → (least most : ℕ) →
+    are_few least most ≡ true → P least most
+by_count P one two three four either least most e =
+    let few = both (nat_lt 0 least && nat_lt most 5) (least == most || (least == 1 && most == 2)) e in
+    let some = both (nat_lt 0 least) (nat_lt most 5) few.0 in
+    elim (cases_Bool (least == most)) [
+      | inl same ↦
+          let is : least ≡ most = eqb-true least most same in
+          subst (λ k. P k most) (sym is)
+          (by_same P one two three four most (omega (arith, ltb-true 0 least some.0, is)) (ltb-true most 5 some.1))
+      | inr other ↦
+          let last : (least == 1 && most == 2) ≡ true = rw other at few.1 in
+          let are = both (least == 1) (most == 2) last in
+          subst (λ k. P k most) (sym (eqb-true least 1 are.0))
+          (subst (λ k. P 1 k) (sym (eqb-true most 2 are.1)) either)
+    ]
 
 -- a command has no fault exactly where there are as many words as its row says
-pub leaf_exactly : (n : Text) (count : ℕ) → 1 ≤ count → count ≤ 4 → (rest : List Text) → AreNoFlags rest →
-    Exactly (leaf_fault (n, count) rest) (length rest == count)
-leaf_exactly n zero some few rest p = absurd (omega arith)
-leaf_exactly n (suc zero) some few rest p = exactly_one n rest p
-leaf_exactly n (suc (suc zero)) some few rest p = exactly_two n rest p
-leaf_exactly n (suc (suc (suc zero))) some few rest p = exactly_three n rest p
-leaf_exactly n (suc (suc (suc (suc zero)))) some few rest p = exactly_four n rest p
-leaf_exactly n (suc (suc (suc (suc (suc count))))) some few rest p = absurd (omega arith)
+pub leaf_exactly : (n : Text) (least most : ℕ) → are_few least most ≡ true → (rest : List Text) → AreNoFlags rest →
+    Exactly (leaf_fault (n, least, most) rest) (is_between least most (length rest))
+leaf_exactly n least most few rest p =
+    by_count (λ l m. Exactly (leaf_fault (n, l, m) rest) (is_between l m (length rest))) (exactly_one n rest p)
+    (exactly_two n rest p) (exactly_three n rest p) (exactly_four n rest p) (exactly_either n rest p) least most few
 
-given_one : (n : Text) (rest : List Text) → AreNoFlags rest → length rest ≡ 1 → leaf_given (n, 1) rest ≡ rest
-given_one n [] p count = absurd (omega (arith, count))
+given_one : (n : Text) (rest : List Text) → AreNoFlags rest → is_between 1 1 (length rest) ≡ true →
+    leaf_given (n, 1, 1) rest ≡ rest
+given_one n [] p count = absurd (cc)
 given_one n (a ∷ []) p count = one_given n a p.0
-given_one n (a ∷ b ∷ rest) p count = absurd (omega (arith, count))
+given_one n (a ∷ b ∷ rest) p count = many (length (a ∷ b ∷ rest)) 1 1 (omega arith) count
 
-given_two : (n : Text) (rest : List Text) → AreNoFlags rest → length rest ≡ 2 → leaf_given (n, 2) rest ≡ rest
-given_two n [] p count = absurd (omega (arith, count))
-given_two n (a ∷ []) p count = absurd (omega (arith, count))
+given_two : (n : Text) (rest : List Text) → AreNoFlags rest → is_between 2 2 (length rest) ≡ true →
+    leaf_given (n, 2, 2) rest ≡ rest
+given_two n [] p count = absurd (cc)
+given_two n (a ∷ []) p count = absurd (cc)
 given_two n (a ∷ b ∷ []) p count = two_given n a b p.0 p.1.0
-given_two n (a ∷ b ∷ c ∷ rest) p count = absurd (omega (arith, count))
+given_two n (a ∷ b ∷ c ∷ rest) p count = many (length (a ∷ b ∷ c ∷ rest)) 2 2 (omega arith) count
 
-given_three : (n : Text) (rest : List Text) → AreNoFlags rest → length rest ≡ 3 → leaf_given (n, 3) rest ≡ rest
-given_three n [] p count = absurd (omega (arith, count))
-given_three n (a ∷ []) p count = absurd (omega (arith, count))
-given_three n (a ∷ b ∷ []) p count = absurd (omega (arith, count))
+given_three : (n : Text) (rest : List Text) → AreNoFlags rest → is_between 3 3 (length rest) ≡ true →
+    leaf_given (n, 3, 3) rest ≡ rest
+given_three n [] p count = absurd (cc)
+given_three n (a ∷ []) p count = absurd (cc)
+given_three n (a ∷ b ∷ []) p count = absurd (cc)
 given_three n (a ∷ b ∷ c ∷ []) p count = three_given n a b c p.0 p.1.0 p.1.1.0
-given_three n (a ∷ b ∷ c ∷ d ∷ rest) p count = absurd (omega (arith, count))
+given_three n (a ∷ b ∷ c ∷ d ∷ rest) p count = many (length (a ∷ b ∷ c ∷ d ∷ rest)) 3 3 (omega arith) count
 
-given_four : (n : Text) (rest : List Text) → AreNoFlags rest → length rest ≡ 4 → leaf_given (n, 4) rest ≡ rest
-given_four n [] p count = absurd (omega (arith, count))
-given_four n (a ∷ []) p count = absurd (omega (arith, count))
-given_four n (a ∷ b ∷ []) p count = absurd (omega (arith, count))
-given_four n (a ∷ b ∷ c ∷ []) p count = absurd (omega (arith, count))
+given_four : (n : Text) (rest : List Text) → AreNoFlags rest → is_between 4 4 (length rest) ≡ true →
+    leaf_given (n, 4, 4) rest ≡ rest
+given_four n [] p count = absurd (cc)
+given_four n (a ∷ []) p count = absurd (cc)
+given_four n (a ∷ b ∷ []) p count = absurd (cc)
+given_four n (a ∷ b ∷ c ∷ []) p count = absurd (cc)
 given_four n (a ∷ b ∷ c ∷ d ∷ []) p count = four_given n a b c d p.0 p.1.0 p.1.1.0 p.1.1.1.0
-given_four n (a ∷ b ∷ c ∷ d ∷ e ∷ rest) p count = absurd (omega (arith, count))
+given_four n (a ∷ b ∷ c ∷ d ∷ e ∷ rest) p count = many (length (a ∷ b ∷ c ∷ d ∷ e ∷ rest)) 4 4 (omega arith) count
+
+given_either : (n : Text) (rest : List Text) → AreNoFlags rest → is_between 1 2 (length rest) ≡ true →
+    leaf_given (n, 1, 2) rest ≡ rest
+given_either n [] p count = absurd (cc)
+given_either n (a ∷ []) p count = either_given_1 n a p.0
+given_either n (a ∷ b ∷ []) p count = either_given_2 n a b p.0 p.1.0
+given_either n (a ∷ b ∷ c ∷ rest) p count = many (length (a ∷ b ∷ c ∷ rest)) 1 2 (omega arith) count
 
 -- and then reads these words
-pub leaf_reads : (n : Text) (count : ℕ) → 1 ≤ count → count ≤ 4 → (rest : List Text) → AreNoFlags rest →
-    length rest ≡ count → leaf_given (n, count) rest ≡ rest
-leaf_reads n zero some few rest p e = absurd (omega arith)
-leaf_reads n (suc zero) some few rest p e = given_one n rest p e
-leaf_reads n (suc (suc zero)) some few rest p e = given_two n rest p e
-leaf_reads n (suc (suc (suc zero))) some few rest p e = given_three n rest p e
-leaf_reads n (suc (suc (suc (suc zero)))) some few rest p e = given_four n rest p e
-leaf_reads n (suc (suc (suc (suc (suc count))))) some few rest p e = absurd (omega arith)
+pub leaf_reads : (n : Text) (least most : ℕ) → are_few least most ≡ true → (rest : List Text) → AreNoFlags rest →
+    is_between least most (length rest) ≡ true → leaf_given (n, least, most) rest ≡ rest
+leaf_reads n least most few rest p count =
+    by_count (λ l m. is_between l m (length rest) ≡ true → leaf_given (n, l, m) rest ≡ rest) (given_one n rest p)
+    (given_two n rest p) (given_three n rest p) (given_four n rest p) (given_either n rest p) least most few count
 
 -- a word that is not empty and does not begin with `-` is no flag
 no_flag : (w : Text) → is_plain w ≡ true → IsNoFlag w

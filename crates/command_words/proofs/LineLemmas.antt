@@ -2,10 +2,10 @@
 use Rattle.std.proofs.Common.{◌≡◌, ◌∙◌, ◌==◌, ◌<◌, ◌≤◌, ◌&&◌, ◌⊎◌, ◌++◌, ap, ap₂, sym, subst, refl, ℕ, Bool, true}
 use Rattle.std.proofs.Common.{false, List, [], ◌∷◌, codes, is_some, Option, Some, None, length, map, fold, option_map}
 use Rattle.std.proofs.Common.{inl, inr, arith, append-nil, append_assoc}
-use Rattle.std.specs.Prelude.{find, nat_lt}
+use Rattle.std.specs.Prelude.{find}
 use Rattle.std.specs.Str.{bytes_eq}
 use Rattle.std.specs.List.{list_all, filter_map}
-use Rattle.std.proofs.lemmas.Bool.{cases_Bool, eqb-true, ltb-true}
+use Rattle.std.proofs.lemmas.Bool.{cases_Bool}
 use Rattle.std.proofs.lemmas.Slice.Eq.{bytes_eq-Decides}
 use Rattle.clap.specs.Words.{App, Shape, Rule, Text, Row, Kinds, first_of, fault_of, built, is_simple}
 use Rattle.clap.specs.Words.{is_simple_and_free, subcommand_of}
@@ -18,9 +18,9 @@ use Rattle.clap.specs.Faults.{defaults_fault, check_fault}
 use Rattle.clap.specs.declared.error.ErrorKind.{ErrorKind}
 use Rattle.clap.specs.declared.error.ErrorKind.TheVariants as kind
 use Rattle.clap.proofs.OnLiterals.{clap_on_literals}
-use Rattle.command_words.specs.Rows.{is_plain, is_row, row_of, rows}
+use Rattle.command_words.specs.Rows.{are_few, is_between, is_plain, is_row, row_of, rows}
 use Rattle.command_words.specs.App.{command_line, ids}
-use Rattle.command_words.proofs.FindLemmas.{both, find-holds, find-all}
+use Rattle.command_words.proofs.FindLemmas.{find-holds, find-all}
 use Rattle.command_words.proofs.LeafLemmas.{leaf_exactly, leaf_reads, Exactly}
 use Rattle.command_words.proofs.WordCounts.{top, leaf, leaf_fault, leaf_given, IsNoFlag, AreNoFlags}
 
@@ -131,7 +131,7 @@ fault_empty subs = refl
 
 -- ---- the command of a name
 
-found_name : (w : Text) (rs : List (Text × ℕ)) →
+found_name : (w : Text) (rs : List (Text × ℕ × ℕ)) →
     find (answers_to w) (map label_of (map leaf rs)) ≡ option_map (λ r. (r.0, [])) (find (λ r. bytes_eq r.0 w) rs)
 found_name w [] = refl
 found_name w (r ∷ rs) = elim (cases_Bool (bytes_eq r.0 w)) [
@@ -139,7 +139,7 @@ found_name w (r ∷ rs) = elim (cases_Bool (bytes_eq r.0 w)) [
   | inr fails ↦ rw fails (found_name w rs)
 ]
 
-found_leaf : (w : Text) (rs : List (Text × ℕ)) →
+found_leaf : (w : Text) (rs : List (Text × ℕ × ℕ)) →
     find (λ s. answers_to w (label_of s)) (map leaf rs) ≡ option_map leaf (find (λ r. bytes_eq r.0 w) rs)
 found_leaf w [] = refl
 found_leaf w (r ∷ rs) = elim (cases_Bool (bytes_eq r.0 w)) [
@@ -148,23 +148,18 @@ found_leaf w (r ∷ rs) = elim (cases_Bool (bytes_eq r.0 w)) [
 ]
 
 -- what is known of the row of a name
-record IsFound (w : Text) (r : Text × ℕ) : Type 0 where
+record IsFound (w : Text) (r : Text × ℕ × ℕ) : Type 0 where
   named : find (answers_to w) (names_of (whole (map leaf rows))) ≡ Some (r.0, [])
   entered : find (λ x. answers_to r.0 (label_of x)) (map leaf rows) ≡ Some (leaf r)
-  some : 1 ≤ r.1
-  few : r.1 ≤ 4
+  few : are_few r.1 r.2 ≡ true
 
-found : (w : Text) (r : Text × ℕ) → row_of w ≡ Some r → IsFound w r
+found : (w : Text) (r : Text × ℕ × ℕ) → row_of w ≡ Some r → IsFound w r
 found w r e =
     let same : r.0 ≡ w = (bytes_eq-Decides r.0 w).0 (find-holds (λ x. bytes_eq x.0 w) rows r e) in
-    let counts =
-    both (nat_lt 0 r.1) (nat_lt r.1 5)
-    (find-all (λ x. bytes_eq x.0 w) (λ x. nat_lt 0 x.1 && nat_lt x.1 5) rows r refl e) in
     record {
       named = found_name w rows ∙ ap (option_map (λ x. (x.0, []))) e;
       entered = found_leaf r.0 rows ∙ ap (option_map leaf) (ap row_of same ∙ e);
-      some = omega (arith, ltb-true 0 r.1 counts.0);
-      few = omega (arith, ltb-true r.1 5 counts.1);
+      few = find-all (λ x. bytes_eq x.0 w) (λ x. are_few x.1 x.2) rows r refl e;
     }
 
 fault_is : (words : List Text) → fault_of command_line words ≡ built_fault (whole (map leaf rows)) nothing_held words
@@ -177,7 +172,7 @@ line_exactly [] p =
     (λ none. absurd (cc), λ holds. absurd (cc))
 line_exactly (w ∷ rest) p = go (row_of w) refl
   where
-    go : (o : Option (Text × ℕ)) → row_of w ≡ o → Exactly (fault_of command_line (w ∷ rest)) (is_row (w ∷ rest))
+    go : (o : Option (Text × ℕ × ℕ)) → row_of w ≡ o → Exactly (fault_of command_line (w ∷ rest)) (is_row (w ∷ rest))
     go None e =
         let unnamed : find (answers_to w) (names_of (whole (map leaf rows))) ≡ None =
         found_name w rows ∙ ap (option_map (λ x. (x.0, []))) e in
@@ -189,8 +184,8 @@ line_exactly (w ∷ rest) p = go (row_of w) refl
         let f = found w r e in
         let fault : fault_of command_line (w ∷ rest) ≡ leaf_fault r rest =
         fault_is (w ∷ rest) ∙ fault_entered (map leaf rows) w rest (r.0, []) (leaf r) f.named f.entered in
-        let row : is_row (w ∷ rest) ≡ (length rest == r.1) = rw e refl in
-        let ends = leaf_exactly r.0 r.1 f.some f.few rest p.1 in
+        let row : is_row (w ∷ rest) ≡ is_between r.1 r.2 (length rest) = rw e refl in
+        let ends = leaf_exactly r.0 r.1 r.2 f.few rest p.1 in
         (λ none. row ∙ ends.0 (sym fault ∙ none), λ holds. fault ∙ ends.1 (sym row ∙ holds))
 
 -- what is read of the words of a row: its name, and the words after it
@@ -205,14 +200,14 @@ unfolding stop_at
 line_reads [] p is = absurd (cc)
 line_reads (w ∷ rest) p is = go (row_of w) refl
   where
-    go : (o : Option (Text × ℕ)) → row_of w ≡ o → Reads (w ∷ rest)
+    go : (o : Option (Text × ℕ × ℕ)) → row_of w ≡ o → Reads (w ∷ rest)
     go None e =
         let row : is_row (w ∷ rest) ≡ false = rw e refl in
         absurd (cc)
     go (Some r) e =
         let f = found w r e in
         let same : r.0 ≡ w = (bytes_eq-Decides r.0 w).0 (find-holds (λ x. bytes_eq x.0 w) rows r e) in
-        let row : is_row (w ∷ rest) ≡ (length rest == r.1) = rw e refl in
+        let row : is_row (w ∷ rest) ≡ is_between r.1 r.2 (length rest) = rw e refl in
         let subs = map leaf rows in
         record {
           name = r.0;
@@ -223,5 +218,5 @@ line_reads (w ∷ rest) p is = go (row_of w) refl
               ∙ ap (option_map (λ x. rows_at x rest)) f.entered;
           are =
               ap₂ (λ n ws. n ∷ ws) same
-              (leaf_reads r.0 r.1 f.some f.few rest p.1 (eqb-true (length rest) r.1 (sym row ∙ is)));
+              (leaf_reads r.0 r.1 r.2 f.few rest p.1 (sym row ∙ is));
         }

@@ -11,20 +11,20 @@ use Rattle.clap.specs.Words.{App, Text, with_subcommand}
 use Rattle.command_words.specs.Rows.{rows_from}
 use Rattle.command_words.specs.App.{row_shape}
 
-pub row_more : (rows : List (Bor Text × ℕ)) (i : ℕ) (d : Bor Text × ℕ) (old now new : App) → i < length rows
+pub row_more : (rows : List (Bor Text × ℕ × ℕ)) (i : ℕ) (d : Bor Text × ℕ × ℕ) (old now new : App) → i < length rows
     → now ≡ fold with_subcommand old (map row_shape (rows_from (take i rows)))
-    → new ≡ with_subcommand now (row_shape ((get_or rows i d).0.now, (get_or rows i d).1))
+    → new ≡ with_subcommand now (row_shape ((get_or rows i d).0.now, (get_or rows i d).1, (get_or rows i d).2))
     → new ≡ fold with_subcommand old (map row_shape (rows_from (take (i + 1) rows)))
 row_more rows i d old now new within before added =
     let r = get_or rows i d in
     let shapes = map row_shape (rows_from (take i rows)) in
-    let last = row_shape (r.0.now, r.1) ∷ [] in
+    let last = row_shape (r.0.now, r.1, r.2) ∷ [] in
     let more : map row_shape (rows_from (take (i + 1) rows)) ≡ shapes ++ last =
     ap (λ rs. map row_shape (rows_from rs)) (take_more rows i d within)
-    ∙ ap (map row_shape) (map-append (λ (x : Bor Text × ℕ). (x.0.now, x.1)) (take i rows) (r ∷ []))
-    ∙ map-append row_shape (rows_from (take i rows)) ((r.0.now, r.1) ∷ []) in
+    ∙ ap (map row_shape) (map-append (λ (x : Bor Text × ℕ × ℕ). (x.0.now, x.1, x.2)) (take i rows) (r ∷ []))
+    ∙ map-append row_shape (rows_from (take i rows)) ((r.0.now, r.1, r.2) ∷ []) in
     added
-    ∙ ap (λ a. with_subcommand a (row_shape (r.0.now, r.1))) before
+    ∙ ap (λ a. with_subcommand a (row_shape (r.0.now, r.1, r.2))) before
     ∙ sym (fold-append with_subcommand old shapes last)
     ∙ ap (fold with_subcommand old) (sym more)
 

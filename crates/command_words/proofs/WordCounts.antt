@@ -20,15 +20,15 @@ abbrev pub top : Shape
 top = record bare.top { is_leaf = false; is_built = true }
 
 -- the command of a row, as it is built
-abbrev pub leaf : Text × ℕ → Shape
+abbrev pub leaf : Text × ℕ × ℕ → Shape
 leaf r = built_leaf (inherited top (row_shape r))
 
 -- the fault of the command at the words after its name
-abbrev pub leaf_fault : Text × ℕ → List Text → Kinds
+abbrev pub leaf_fault : Text × ℕ × ℕ → List Text → Kinds
 leaf_fault r rest = level_fault (leaf r) [] nothing_held rest false []
 
 -- what it reads of them
-abbrev pub leaf_given : Text × ℕ → List Text → List Text
+abbrev pub leaf_given : Text × ℕ × ℕ → List Text → List Text
 leaf_given r rest = filter_map (λ id. first_of id (rows_after (leaf r).rules [] rest)) ids
 
 -- a word that is no flag for `clap`
@@ -45,86 +45,86 @@ missing = kind.MissingRequiredArgument ∷ []
 abbrev unknown : Kinds
 unknown = kind.UnknownArgument ∷ []
 
-pub one_0 : (n : Text) → leaf_fault (n, 1) ([]) ≡ missing
+pub one_0 : (n : Text) → leaf_fault (n, 1, 1) ([]) ≡ missing
 unfolding clap_on_literals
 one_0 n = refl
 
-pub one_1 : (n : Text) (a : Text) (ha : IsNoFlag a) → leaf_fault (n, 1) (a ∷ []) ≡ []
+pub one_1 : (n : Text) (a : Text) (ha : IsNoFlag a) → leaf_fault (n, 1, 1) (a ∷ []) ≡ []
 unfolding clap_on_literals
 one_1 n a ha = simp (ha.0, ha.1)
 
 pub one_more : (n : Text) (a b : Text) (rest : List Text) (ha : IsNoFlag a) (hb : IsNoFlag b) →
-    leaf_fault (n, 1) (a ∷ b ∷ rest) ≡ unknown
+    leaf_fault (n, 1, 1) (a ∷ b ∷ rest) ≡ unknown
 unfolding clap_on_literals
 one_more n a b rest ha hb = simp (ha.0, ha.1, hb.0, hb.1)
 
-pub one_given : (n : Text) (a : Text) (ha : IsNoFlag a) → leaf_given (n, 1) (a ∷ []) ≡ a ∷ []
+pub one_given : (n : Text) (a : Text) (ha : IsNoFlag a) → leaf_given (n, 1, 1) (a ∷ []) ≡ a ∷ []
 unfolding clap_on_literals
 one_given n a ha = simp (ha.0, ha.1)
 
-pub two_0 : (n : Text) → leaf_fault (n, 2) ([]) ≡ missing
+pub two_0 : (n : Text) → leaf_fault (n, 2, 2) ([]) ≡ missing
 unfolding clap_on_literals
 two_0 n = refl
 
-pub two_1 : (n : Text) (a : Text) (ha : IsNoFlag a) → leaf_fault (n, 2) (a ∷ []) ≡ missing
+pub two_1 : (n : Text) (a : Text) (ha : IsNoFlag a) → leaf_fault (n, 2, 2) (a ∷ []) ≡ missing
 unfolding clap_on_literals
 two_1 n a ha = simp (ha.0, ha.1)
 
-pub two_2 : (n : Text) (a b : Text) (ha : IsNoFlag a) (hb : IsNoFlag b) → leaf_fault (n, 2) (a ∷ b ∷ []) ≡ []
+pub two_2 : (n : Text) (a b : Text) (ha : IsNoFlag a) (hb : IsNoFlag b) → leaf_fault (n, 2, 2) (a ∷ b ∷ []) ≡ []
 unfolding clap_on_literals
 two_2 n a b ha hb = simp (ha.0, ha.1, hb.0, hb.1)
 
 pub two_more : (n : Text) (a b c : Text) (rest : List Text) (ha : IsNoFlag a) (hb : IsNoFlag b) (hc : IsNoFlag c) →
-    leaf_fault (n, 2) (a ∷ b ∷ c ∷ rest) ≡ unknown
+    leaf_fault (n, 2, 2) (a ∷ b ∷ c ∷ rest) ≡ unknown
 unfolding clap_on_literals
 two_more n a b c rest ha hb hc = simp (ha.0, ha.1, hb.0, hb.1, hc.0, hc.1)
 
 pub two_given : (n : Text) (a b : Text) (ha : IsNoFlag a) (hb : IsNoFlag b) →
-    leaf_given (n, 2) (a ∷ b ∷ []) ≡ a ∷ b ∷ []
+    leaf_given (n, 2, 2) (a ∷ b ∷ []) ≡ a ∷ b ∷ []
 unfolding clap_on_literals
 two_given n a b ha hb = simp (ha.0, ha.1, hb.0, hb.1)
 
-pub three_0 : (n : Text) → leaf_fault (n, 3) ([]) ≡ missing
+pub three_0 : (n : Text) → leaf_fault (n, 3, 3) ([]) ≡ missing
 unfolding clap_on_literals
 three_0 n = refl
 
-pub three_1 : (n : Text) (a : Text) (ha : IsNoFlag a) → leaf_fault (n, 3) (a ∷ []) ≡ missing
+pub three_1 : (n : Text) (a : Text) (ha : IsNoFlag a) → leaf_fault (n, 3, 3) (a ∷ []) ≡ missing
 unfolding clap_on_literals
 three_1 n a ha = simp (ha.0, ha.1)
 
-pub three_2 : (n : Text) (a b : Text) (ha : IsNoFlag a) (hb : IsNoFlag b) → leaf_fault (n, 3) (a ∷ b ∷ []) ≡ missing
+pub three_2 : (n : Text) (a b : Text) (ha : IsNoFlag a) (hb : IsNoFlag b) → leaf_fault (n, 3, 3) (a ∷ b ∷ []) ≡ missing
 unfolding clap_on_literals
 three_2 n a b ha hb = simp (ha.0, ha.1, hb.0, hb.1)
 
 pub three_3 : (n : Text) (a b c : Text) (ha : IsNoFlag a) (hb : IsNoFlag b) (hc : IsNoFlag c) →
-    leaf_fault (n, 3) (a ∷ b ∷ c ∷ []) ≡ []
+    leaf_fault (n, 3, 3) (a ∷ b ∷ c ∷ []) ≡ []
 unfolding clap_on_literals
 three_3 n a b c ha hb hc = simp (ha.0, ha.1, hb.0, hb.1, hc.0, hc.1)
 
 pub three_more : (n : Text) (a b c d : Text) (rest : List Text) (ha : IsNoFlag a) (hb : IsNoFlag b) (hc : IsNoFlag c)
-    (hd : IsNoFlag d) → leaf_fault (n, 3) (a ∷ b ∷ c ∷ d ∷ rest) ≡ unknown
+    (hd : IsNoFlag d) → leaf_fault (n, 3, 3) (a ∷ b ∷ c ∷ d ∷ rest) ≡ unknown
 unfolding clap_on_literals
 three_more n a b c d rest ha hb hc hd = simp (ha.0, ha.1, hb.0, hb.1, hc.0, hc.1, hd.0, hd.1)
 
 pub three_given : (n : Text) (a b c : Text) (ha : IsNoFlag a) (hb : IsNoFlag b) (hc : IsNoFlag c) →
-    leaf_given (n, 3) (a ∷ b ∷ c ∷ []) ≡ a ∷ b ∷ c ∷ []
+    leaf_given (n, 3, 3) (a ∷ b ∷ c ∷ []) ≡ a ∷ b ∷ c ∷ []
 unfolding clap_on_literals
 three_given n a b c ha hb hc = simp (ha.0, ha.1, hb.0, hb.1, hc.0, hc.1)
 
-pub four_0 : (n : Text) → leaf_fault (n, 4) ([]) ≡ missing
+pub four_0 : (n : Text) → leaf_fault (n, 4, 4) ([]) ≡ missing
 unfolding clap_on_literals
 four_0 n = refl
 
-pub four_1 : (n : Text) (a : Text) (ha : IsNoFlag a) → leaf_fault (n, 4) (a ∷ []) ≡ missing
+pub four_1 : (n : Text) (a : Text) (ha : IsNoFlag a) → leaf_fault (n, 4, 4) (a ∷ []) ≡ missing
 unfolding clap_on_literals
 four_1 n a ha = simp (ha.0, ha.1)
 
-pub four_2 : (n : Text) (a b : Text) (ha : IsNoFlag a) (hb : IsNoFlag b) → leaf_fault (n, 4) (a ∷ b ∷ []) ≡ missing
+pub four_2 : (n : Text) (a b : Text) (ha : IsNoFlag a) (hb : IsNoFlag b) → leaf_fault (n, 4, 4) (a ∷ b ∷ []) ≡ missing
 unfolding clap_on_literals
 four_2 n a b ha hb = simp (ha.0, ha.1, hb.0, hb.1)
 
 pub four_3 : (n : Text) (a b c : Text) (ha : IsNoFlag a) (hb : IsNoFlag b) (hc : IsNoFlag c) →
-    leaf_fault (n, 4) (a ∷ b ∷ c ∷ []) ≡ missing
+    leaf_fault (n, 4, 4) (a ∷ b ∷ c ∷ []) ≡ missing
 unfolding clap_on_literals
 four_3 n a b c ha hb hc = simp (ha.0, ha.1, hb.0, hb.1, hc.0, hc.1)
 
@@ -147,7 +147,7 @@ turn : (s : Shape) (h : Held) (p : ℕ) (word : Text) → IsNoFlag word
 turn s h p word (a, b) = simp (a, b)
 
 abbrev four_rules : List Rule
-four_rules = (leaf ([], 4)).rules
+four_rules = (leaf ([], 4, 4)).rules
 
 abbrev after_1 : Text → Walk
 after_1 a = onward four_rules 1 a (walk_from nothing_held)
@@ -179,13 +179,13 @@ one_word s h p word rest f =
     ap₂ (λ k x. or_else k (walk_fault s [] x rest)) (turn s h p word f) (step s.rules h p word f)
 
 four_fault : (n a b c d : Text) → IsNoFlag a → IsNoFlag b → IsNoFlag c → IsNoFlag d →
-    walk_fault (leaf (n, 4)) [] (walk_from nothing_held) (a ∷ b ∷ c ∷ d ∷ []) ≡ []
+    walk_fault (leaf (n, 4, 4)) [] (walk_from nothing_held) (a ∷ b ∷ c ∷ d ∷ []) ≡ []
 unfolding walk_fault
 four_fault n a b c d ha hb hc hd =
-    one_word (leaf (n, 4)) nothing_held 1 a (b ∷ c ∷ d ∷ []) ha
-    ∙ one_word (leaf (n, 4)) (after_1 a).held 2 b (c ∷ d ∷ []) hb
-    ∙ one_word (leaf (n, 4)) (after_2 a b).held 3 c (d ∷ []) hc
-    ∙ one_word (leaf (n, 4)) (after_3 a b c).held 4 d [] hd
+    one_word (leaf (n, 4, 4)) nothing_held 1 a (b ∷ c ∷ d ∷ []) ha
+    ∙ one_word (leaf (n, 4, 4)) (after_1 a).held 2 b (c ∷ d ∷ []) hb
+    ∙ one_word (leaf (n, 4, 4)) (after_2 a b).held 3 c (d ∷ []) hc
+    ∙ one_word (leaf (n, 4, 4)) (after_3 a b c).held 4 d [] hd
 
 -- what a level adds to the faults of its walk
 abbrev level_by : Shape → Walk → Kinds → Kinds
@@ -193,17 +193,45 @@ level_by s e f = or_else f (or_else [] (or_else (settle_fault s.rules s.args_ove
     (or_else (defaults_fault (settled s.rules e.held).rows s.rules) (check_fault s (finished s.rules e.held) false))))
 
 pub four_4 : (n a b c d : Text) (ha : IsNoFlag a) (hb : IsNoFlag b) (hc : IsNoFlag c) (hd : IsNoFlag d) →
-    leaf_fault (n, 4) (a ∷ b ∷ c ∷ d ∷ []) ≡ []
+    leaf_fault (n, 4, 4) (a ∷ b ∷ c ∷ d ∷ []) ≡ []
 unfolding defaults_fault
 four_4 n a b c d ha hb hc hd =
-    ap₂ (level_by (leaf (n, 4))) (four_walk a b c d ha hb hc hd) (four_fault n a b c d ha hb hc hd)
+    ap₂ (level_by (leaf (n, 4, 4))) (four_walk a b c d ha hb hc hd) (four_fault n a b c d ha hb hc hd)
 
 pub four_more : (n : Text) (a b c d e : Text) (rest : List Text) (ha : IsNoFlag a) (hb : IsNoFlag b) (hc : IsNoFlag c)
-    (hd : IsNoFlag d) (he : IsNoFlag e) → leaf_fault (n, 4) (a ∷ b ∷ c ∷ d ∷ e ∷ rest) ≡ unknown
+    (hd : IsNoFlag d) (he : IsNoFlag e) → leaf_fault (n, 4, 4) (a ∷ b ∷ c ∷ d ∷ e ∷ rest) ≡ unknown
 unfolding clap_on_literals
 four_more n a b c d e rest ha hb hc hd he = simp (ha.0, ha.1, hb.0, hb.1, hc.0, hc.1, hd.0, hd.1, he.0, he.1)
 
 pub four_given : (n a b c d : Text) (ha : IsNoFlag a) (hb : IsNoFlag b) (hc : IsNoFlag c) (hd : IsNoFlag d) →
-    leaf_given (n, 4) (a ∷ b ∷ c ∷ d ∷ []) ≡ a ∷ b ∷ c ∷ d ∷ []
+    leaf_given (n, 4, 4) (a ∷ b ∷ c ∷ d ∷ []) ≡ a ∷ b ∷ c ∷ d ∷ []
 four_given n a b c d ha hb hc hd =
     ap (λ (e : Walk). filter_map (λ id. first_of id (finished four_rules e.held)) ids) (four_walk a b c d ha hb hc hd)
+
+-- ---- the second of two words may be left out
+
+pub either_0 : (n : Text) → leaf_fault (n, 1, 2) ([]) ≡ missing
+unfolding clap_on_literals
+either_0 n = refl
+
+pub either_1 : (n : Text) (a : Text) (ha : IsNoFlag a) → leaf_fault (n, 1, 2) (a ∷ []) ≡ []
+unfolding clap_on_literals
+either_1 n a ha = simp (ha.0, ha.1)
+
+pub either_2 : (n : Text) (a b : Text) (ha : IsNoFlag a) (hb : IsNoFlag b) → leaf_fault (n, 1, 2) (a ∷ b ∷ []) ≡ []
+unfolding clap_on_literals
+either_2 n a b ha hb = simp (ha.0, ha.1, hb.0, hb.1)
+
+pub either_more : (n : Text) (a b c : Text) (rest : List Text) (ha : IsNoFlag a) (hb : IsNoFlag b)
+    (hc : IsNoFlag c) → leaf_fault (n, 1, 2) (a ∷ b ∷ c ∷ rest) ≡ unknown
+unfolding clap_on_literals
+either_more n a b c rest ha hb hc = simp (ha.0, ha.1, hb.0, hb.1, hc.0, hc.1)
+
+pub either_given_1 : (n : Text) (a : Text) (ha : IsNoFlag a) → leaf_given (n, 1, 2) (a ∷ []) ≡ a ∷ []
+unfolding clap_on_literals
+either_given_1 n a ha = simp (ha.0, ha.1)
+
+pub either_given_2 : (n : Text) (a b : Text) (ha : IsNoFlag a) (hb : IsNoFlag b) →
+    leaf_given (n, 1, 2) (a ∷ b ∷ []) ≡ a ∷ b ∷ []
+unfolding clap_on_literals
+either_given_2 n a b ha hb = simp (ha.0, ha.1, hb.0, hb.1)

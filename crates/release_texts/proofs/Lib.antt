@@ -1,1 +1,1 @@
-mod AllLines
+pub mod AllLines

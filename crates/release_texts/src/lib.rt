@@ -5,5 +5,5 @@
 mod check;
 mod explain;
 
-pub use check::check_text;
+pub use check::{check_lines, check_text};
 pub use explain::explain_text;

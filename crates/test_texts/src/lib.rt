@@ -5,3 +5,5 @@
 mod lines;
 #[cfg(test)]
 mod outside;
+#[cfg(test)]
+mod pieces;
