@@ -8,7 +8,9 @@
                                  and what `order` says of each order in examples/orders, `replay` of the log
                                  two_feeders and `audit` of the equations double_busbar, with the stored texts,
                                  which were worked by hand; that `station` has no remark on any drawing; and that the
-                 picture of each example is the stored one, NAME.svg, byte for byte
+                 picture of each example is the stored one, NAME.svg, byte for byte;
+                 and what `compare` says of each extension in examples/extensions, with the stored text, with the
+                 definitions by a second way (extensions.py), and with the stored picture
     examples/check.py --store    writes what the program says as the stored texts, where the definitions
                                  allow it, and the pictures; look at each difference by hand before you commit it
 
@@ -23,6 +25,7 @@ import sys
 
 sys.dont_write_bytecode = True
 import by_definition
+import extensions
 
 HERE = pathlib.Path(__file__).resolve().parent
 TOP = HERE.parent
@@ -38,6 +41,12 @@ OTHERS = [
     (["replay", "two_feeders.ssd", "two_feeders.log"], "two_feeders.report"),
     (["audit", "double_busbar.ssd", "double_busbar.equations"], "double_busbar.audit"),
     (["program", "double_busbar.ssd"], WRITTEN),
+]
+# Extensions: OLD, NEW, and the name of the text and the picture in examples/extensions.
+EXTENSIONS = [
+    ("single_busbar.ssd", "extensions/fourth_feeder.ssd", "fourth_feeder"),
+    ("extensions/one_busbar.ssd", "double_busbar.ssd", "second_busbar"),
+    ("single_busbar.ssd", "extensions/cut_busbar.ssd", "cut_busbar"),
 ]
 
 
@@ -67,6 +76,26 @@ def picture_differences(names, checked, looks, ask, store):
             stored.write_text(svg)
         if not stored.exists() or stored.read_text() != svg:
             yield f"{name}: the picture is not examples/{name}.svg"
+
+
+def stored_differences(file, text, store):
+    """Whether the text is the one that is stored in the file."""
+    if store:
+        file.write_text(text)
+    if not file.exists() or file.read_text() != text:
+        yield f"the program does not say what {file.relative_to(TOP)} says"
+
+
+def extension_differences(answers, store):
+    pictures = script_of(TOP / "tools/picture")
+    for (old, new, name), answer in zip(EXTENSIONS, answers):
+        files = (str(HERE / old), str(HERE / new))
+        wrong = [f"{name}: {fault}" for fault in extensions.faults(*files, answer)]
+        yield from wrong
+        yield from stored_differences(HERE / f"extensions/{name}.txt", answer, store and not wrong)
+        drawn, svg = pictures.extension(*files, (0, answer))
+        yield from (f"the picture of {name}: {fault}" for fault in drawn.faults())
+        yield from stored_differences(HERE / f"extensions/{name}.svg", svg, store)
 
 
 def cited_differences(names):
@@ -109,11 +138,13 @@ def main(words):
     commands = [["check", str(HERE / f"{name}.ssd"), str(HERE / f"{name}.csv")] for name in names]
     commands += [["order", str(HERE / ORDERED), str(order.with_suffix(".csv")), str(order)] for order in orders]
     commands += [[command, *(str(HERE / file) for file in files)] for (command, *files), _ in OTHERS]
-    drawings = sorted(HERE.glob("*.ssd"))
+    drawings = sorted([*HERE.glob("*.ssd"), *HERE.glob("extensions/*.ssd")])
     commands += [["station", str(drawing)] for drawing in drawings]
+    commands += [["compare", str(HERE / old), str(HERE / new)] for old, new, _ in EXTENSIONS]
     commands += [IN_GATE]
     *answers, in_gate = (text for _, text in script.answers(commands))
-    looks = answers[len(commands) - 1 - len(drawings):]
+    compared = answers[-len(EXTENSIONS):]
+    looks = answers[-len(EXTENSIONS) - len(drawings):-len(EXTENSIONS)]
     found = [d for name, text in zip(names, answers) for d in example_differences(name, text, words == ["--store"])]
     found += [
         f"{order.stem}: the program does not say what examples/orders/{order.stem}.txt says"
@@ -131,6 +162,7 @@ def main(words):
         found += ["the program does not say what crates/test_run_calls/stdout says of work 2"]
     seen = {drawing.name: text for drawing, text in zip(drawings, looks)}
     found += picture_differences(names, answers, seen, script.answers, words == ["--store"])
+    found += extension_differences(compared, words == ["--store"])
     found += cited_differences(names)
     print("\n".join(found), end="\n" if found else "")
     program = "the proved program" if proved else "the checked build, not the proved program"

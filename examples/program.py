@@ -36,9 +36,9 @@ ROUNDS, UNKNOWN = 40, 4
 def names_of(text):
     """The names of the inputs, the outputs and the other variables of a block or a program."""
     blocks = re.findall(r"^(VAR_INPUT|VAR_OUTPUT|VAR)\n(.*?)^END_VAR$", text, re.M | re.S)
-    lists = {kind: re.findall(r"([\w,\s]+) : BOOL;", body) for kind, body in blocks}
+    lists = {kind: re.findall(r"([\w,\s]+) : BOOL(?: := TRUE)?;", body) for kind, body in blocks}
     names = {kind: [name for names in found for name in re.findall(r"\w+", names)] for kind, found in lists.items()}
-    return names["VAR_INPUT"], names["VAR_OUTPUT"], names["VAR"]
+    return tuple(names.get(kind, []) for kind in ("VAR_INPUT", "VAR_OUTPUT", "VAR"))
 
 
 def parts_of(text):
@@ -49,7 +49,7 @@ def parts_of(text):
         blocks[name] = names_of(body), re.findall(r"^  (\w+) := (.*);$", body, re.M)
     program = re.search(r"^PROGRAM \w+\n(.*?)^END_PROGRAM$", text, re.M | re.S)[1]
     instances = dict(re.findall(r"^  (\w+) : (BLOCK_\w+);$", program, re.M))
-    body = program[program.rindex("END_VAR\n"):]
+    body = program.rpartition("END_VAR\n")[2]
     steps = []
     for call, wires, name, formula in re.findall(r"^  (?:(\w+)\(([^)]*)\)|(\w+) := (.*));$", body, re.M):
         if call:

@@ -52,6 +52,12 @@ ROWS = [
             "that one operation is released, or why not: the way by which a node is energised (`live`), the way "
             "by which it is earthed (`earthed`), or the load on both sides (`tap`) and all that is bonded to the "
             "first side (`bonded`), among which the second is not"),
+    Command("`why STATION POSITIONS open SWITCH`, or `close`", "the same for people, by the devices",
+            "the same for people: what joins each two nodes of a way, and which unknown positions do not matter alone",
+            {3, 5, 6}, (1, 2),
+            "as `explain`, with a line for the device between each two nodes of a way (`over PATH`; `over open PATH` for a "
+            "breaker that stands open and counts as closed; `over link PATH` with the bay of a link), and a line "
+            "`whatever PATH` for each switch with which the operation is denied both where it is off and where it is on"),
     Command("`state STATION POSITIONS`", "which nodes are live and which earthed",
             "for each node whether it is live and earthed, over every reading of the positions", {3, 5, 6}, (1, 2),
             "for each node a line `VOLTAGE EARTH PATH`: `live`, `dead` or `unknown`, and `earthed`, `free` or "
@@ -70,11 +76,12 @@ ROWS = [
             "who must talk to whom, as JSON: for each bay the bays whose positions can change an answer for it", {3, 5}, (1,),
             "who must talk to whom, as JSON: for each bay exactly the bays whose positions can change an answer "
             "for one of its operations"),
-    Command("`program STATION`", "the interlocking as structured text for a controller",
-            "the releases of every switch as structured text of IEC 61131-3",
-            {3, 5}, (1,),
-            "the releases of every switch as a function block of structured text (IEC 61131-3): assignments of AND, OR "
-            "and NOT alone, from the two contacts of each switch"),
+    Command("`program STATION`, or `program STATION BAY`", "the interlocking as structured text for a controller",
+            "the releases of every switch as structured text of IEC 61131-3; or the blocks of one bay alone",
+            {3, 5, 6}, (1,),
+            "the releases of every switch as function blocks of structured text (IEC 61131-3) and a program that calls "
+            "them: assignments of AND, OR and NOT alone, from the two contacts of each switch. With BAY, the blocks of "
+            "that bay alone, as the whole text has them"),
     Command("`compile STATION`", "the release equations of the whole station",
             "the release equations of the whole station as one text, whose meaning is the rules", {3, 5}, (1,)),
     Command("`audit STATION EQUATIONS`", "hand-written equations held against the rules",
@@ -88,9 +95,11 @@ ROWS = [
             "not while every switch that only one of them has is open; `changed`; `new` or `gone`. Below, `stricter R` "
             "(OLD releases what rule R of NEW forbids: an equation left as it was is dangerous) and `looser R`, each with "
             "the switches that are closed in one such position. Then each bay with its worst word"),
-    Command("`tests STATION BAY`", "a test protocol for a bay's commissioning",
-            "positions and single moves that test a bay's releases, and leave no dependence out", {3, 5, 6}, (1,),
-            "what is always released, which switches of other bays the bay needs, and then positions with single moves: for "
+    Command("`tests STATION BAY`, or `tests STATION`", "a test protocol for commissioning",
+            "positions and single moves that test a bay's releases, and leave no dependence out; without BAY those of each "
+            "bay that is not like an earlier one", {3, 5, 6}, (1,),
+            "without BAY the tests of each bay that is not seen to be like an earlier one, and below it the later bays that "
+            "are like it. Of a bay: what is always released, which switches of other bays the bay needs, and then positions with single moves: for "
             "each operation and each switch on which its release depends a move that turns it, and for each rule that the "
             "operation can break a position that shows it; none is left out"),
     Command("`node STATION BAY`", "one bay's controller, over lines",

@@ -31,7 +31,7 @@ LAYERS = [
     Layer("base and texts",
           "Begin with `ilk_base/src/words.rt` and `ilk_base/src/outside.rt`: the words that all share, and the system as "
           "traits.",
-          "ilk_base text_lines ssd_text"),
+          "ilk_base text_lines piece_writer ssd_text"),
     Layer("station and drawing",
           "Begin with `station_graph/specs`, where a station and the three rules are defined, and then "
           "`ssd_read/src/read.rt`.",
@@ -39,7 +39,7 @@ LAYERS = [
     Layer("positions and rules",
           "Begin with `central_rules/specs/Meaning.antt`, what a judge is, and `central_rules/src/rules.rt`, the rules on "
           "one vector.",
-          "double_points central_rules denial_explain station_state operation_lines switching_orders equation_audit"),
+          "double_points plain_rows central_rules denial_explain station_state operation_lines switching_orders equation_audit"),
     Layer("contractions, alphabets, graphs, judge",
           "Begin with `contraction/specs/Stands.antt`, what some items are to the rest, and end with "
           "`release_compile/src/judge.rt`.",
@@ -47,7 +47,7 @@ LAYERS = [
     Layer("two stations",
           "Begin with `station_changes/specs/Compare.antt`, what an extension changes, and then "
           "`station_compare/src/compare.rt`; and `commissioning_tests`, what is tested of a bay.",
-          "station_changes release_dependence like_bays bay_exchanges graph_products graph_walks step_graphs station_joints change_search "
+          "station_changes release_dependence like_bays graph_products graph_walks step_graphs station_joints change_search "
           "station_compare dependence_search commissioning_tests"),
     Layer("bay",
           "Begin with `bay_protocol/specs/Step.antt`: each constructor is one rule of what a bay does at an event.",
@@ -57,7 +57,7 @@ LAYERS = [
           "reservation_core log_replay trip_core trip_replay stopped_puts"),
     Layer("commands",
           "Begin with the command that you know; each has its definitions in `specs` and one public call.",
-          "command_words release_texts whatever_text exchange_plan station_equations equation_text station_make station_work interlock_terms "
+          "command_words release_texts whatever_text why_text exchange_plan station_equations equation_text station_make station_work interlock_terms "
           "short_equations structured_text program_blocks program_text station_lines drawing_remarks compare_text tests_text"),
     Layer("top",
           "Begin with `interlock_cli/src/top.rt`, where the words of a command become its work.",

@@ -11,7 +11,7 @@ status is 1 where one is over.
 - chosen names: keys of nodes that all have one hash under the standard library's hash with its fixed seed, and as many
   keys beside them that do not. Both have the same bound
 - long names: 64 bays of 8 switches below one name of up to 8,000 bytes, with nothing known: each line of an answer
-  repeats it, so that `check` writes 2 GB
+  repeats it, so that `check` writes 2 GB, in pieces, of which it holds one at a time
 - floods: a million frames, ticks, commands, readings or changes of the record to one node; 3,000 lines to a stored one,
   whose changes go to the disk; a log of 20,000 records in which 64 bays send one another messages
 """
@@ -114,7 +114,7 @@ def long_names():
         for part in PARTS:
             files = {"a": bays_below("V" * (8_000 // part)).encode(), "b": b""}
             words = [command, "a", "b"] if command in ("check", "state") else [command, "a"]
-            yield Case(f"{command}: 64 bays of 8 switches below a long name", words, files, b"", 0)
+            yield Case(f"{command}: 64 bays of 8 switches below a long name", words, files, b"", 0, 20, 16)
     for part in PARTS:
         files = {"a": schemes.sections_in_turn(60 // part).drawing().encode()}
         yield Case(f"compile: two sections of {60 // part} feeders in turn", ["compile", "a"], files, b"", 0)

@@ -16,7 +16,7 @@ unnamed (name ∷ a ∷ b ∷ []) none = refl
 unnamed (name ∷ a ∷ b ∷ c ∷ []) none = elim (cases_Bool (bytes_eq name (codes "stored"))) [
   | inl holds ↦
       let same : name ≡ codes "stored" = (bytes_eq-Decides name (codes "stored")).0 holds in
-      let found : row_of name ≡ Some (codes "stored", 3) = ap row_of same in
+      let found : row_of name ≡ Some (codes "stored", 3, 3) = ap row_of same in
       let other : true ≡ false = rw found at none in
       cc other
   | inr fails ↦ rw fails refl

@@ -38,7 +38,7 @@ use Rattle.interlock_cli.specs.declared.status.Status.{Status}
 use Rattle.interlock_cli.specs.declared.status.Status.TheVariants as s
 use Rattle.interlock_cli.specs.declared.status.Status.TheVariants.{Usage}
 use Rattle.interlock_cli.specs.declared.end.Outcome.{Outcome}
-use Rattle.interlock_cli.specs.declared.end.Outcome.TheVariants.{Done, Differs, Premise}
+use Rattle.interlock_cli.specs.declared.end.Outcome.TheVariants.{Done, Differs, Premise, TooWide}
 use Rattle.interlock_cli.specs.declared.end.End.{End}
 use Rattle.interlock_cli.specs.declared.end.End.TheVariants as e
 
@@ -166,6 +166,7 @@ outcome_usage : (outcome : Outcome) → status_of (e.Written outcome) ≡ Usage 
 outcome_usage Done is = cc is
 outcome_usage Differs is = cc is
 outcome_usage (Premise number line) is = cc is
+outcome_usage (TooWide bay) is = cc is
 
 not_usage : (s : SessionEnd) → e.Usage ≡ session_end s → ⊥
 not_usage se.Done is = cc is

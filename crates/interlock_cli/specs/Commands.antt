@@ -13,9 +13,9 @@ use Rattle.station_make.specs.PositionsText.{positions_text}
 use Rattle.station_make.specs.Words.{feeders_of, made_text, text_named}
 use Rattle.interlock_cli.specs.Formats.{Drawing, Elements}
 use Rattle.interlock_cli.specs.Form.{Form, Write, Take, File, Word}
-use Rattle.interlock_cli.specs.Rests.{IsDoneWith, check_rest, explain_rest, state_rest, order_rest, replay_rest}
-use Rattle.interlock_cli.specs.Rests.{audit_rest, node_rest, compile_rest, trips_rest, plan_rest, program_rest}
-use Rattle.interlock_cli.specs.Rests.{work_rest, compare_rest, tests_rest}
+use Rattle.interlock_cli.specs.Rests.{IsDoneWith, check_rest, explain_rest, why_rest, state_rest, order_rest}
+use Rattle.interlock_cli.specs.Rests.{replay_rest, audit_rest, node_rest, compile_rest, trips_rest, plan_rest}
+use Rattle.interlock_cli.specs.Rests.{program_rest, bay_program_rest, work_rest, compare_rest, tests_rest, station_tests_rest}
 use Rattle.interlock_cli.specs.StationWrites.{StationWrites}
 
 -- What the words may name.
@@ -42,6 +42,8 @@ pub data Command : Type 0 where
   Plan : List ℕ → Command
   -- `program STATION`
   Program : List ℕ → Command
+  -- `program STATION BAY`
+  BayProgram : List ℕ → List ℕ → Command
   -- `make NUMBER station`, or `positions`, or `log`
   Make : ℕ → MadeText → Command
   -- `work NUMBER`
@@ -52,6 +54,10 @@ pub data Command : Type 0 where
   Compare : List ℕ → List ℕ → Command
   -- `tests STATION BAY`
   Tests : List ℕ → List ℕ → Command
+  -- `why STATION POSITIONS open SWITCH`, or `close`
+  Why : List ℕ → List ℕ → Direction → List ℕ → Command
+  -- `tests STATION`
+  StationTests : List ℕ → Command
 
 -- The direction that a word names.
 abbrev pub direction_of : List ℕ → Option Direction
@@ -62,6 +68,13 @@ direction_of word =
 abbrev pub one_word : (List ℕ → Option Command) → List (List ℕ) → Option Command
 one_word names (a ∷ []) = names a
 one_word names _ = None
+
+-- One word or two, and what they name.
+abbrev pub one_or_two_words : (List ℕ → Option Command) → (List ℕ → List ℕ → Option Command) → List (List ℕ) →
+    Option Command
+one_or_two_words one two (a ∷ []) = one a
+one_or_two_words one two (a ∷ b ∷ []) = two a b
+one_or_two_words one two _ = None
 
 -- Two words, and what they name.
 abbrev pub two_words : (List ℕ → List ℕ → Option Command) → List (List ℕ) → Option Command
@@ -122,7 +135,7 @@ plan_of = one_word (λ station. Some (Plan station))
 
 -- The words behind `program`.
 abbrev pub program_of : List (List ℕ) → Option Command
-program_of = one_word (λ station. Some (Program station))
+program_of = one_or_two_words (λ station. Some (Program station)) (λ station bay. Some (BayProgram station bay))
 
 -- The words behind `make`.
 abbrev pub make_of : List (List ℕ) → Option Command
@@ -143,7 +156,13 @@ compare_of = two_words (λ old new. Some (Compare old new))
 
 -- The words behind `tests`.
 abbrev pub tests_of : List (List ℕ) → Option Command
-tests_of = two_words (λ station bay. Some (Tests station bay))
+tests_of = one_or_two_words (λ station. Some (StationTests station)) (λ station bay. Some (Tests station bay))
+
+-- The words behind `why`.
+abbrev pub why_of : List (List ℕ) → Option Command
+why_of =
+    four_words (λ station positions direction switch. option_map (λ d. Why station positions d switch)
+    (direction_of direction))
 
 -- What the words name, the command's name first.
 abbrev pub named_command : List (List ℕ) → Option Command
@@ -165,6 +184,7 @@ named_command (name ∷ rest) =
     else if bytes_eq name (codes "station") then station_of rest
     else if bytes_eq name (codes "compare") then compare_of rest
     else if bytes_eq name (codes "tests") then tests_of rest
+    else if bytes_eq name (codes "why") then why_of rest
     else None
 
 -- What the words name, where no word is empty or begins with `-`.
@@ -184,11 +204,14 @@ files_of (Compile station) = station ∷ []
 files_of (Trips station log) = station ∷ log ∷ []
 files_of (Plan station) = station ∷ []
 files_of (Program station) = station ∷ []
+files_of (BayProgram station bay) = station ∷ []
 files_of (Make number text) = []
 files_of (Work number) = []
 files_of (Station station) = station ∷ []
 files_of (Compare old new) = old ∷ new ∷ []
 files_of (Tests station bay) = station ∷ []
+files_of (Why station positions direction switch) = station ∷ positions ∷ []
+files_of (StationTests station) = station ∷ []
 
 -- The files of the command that the words name, if they name one.
 abbrev pub files_named : Option Command → List (List ℕ)
@@ -210,9 +233,13 @@ form_of (Compile station) = Take (File station) Drawing compile_rest
 form_of (Trips station log) = Take (File station) Drawing (trips_rest log)
 form_of (Plan station) = Take (File station) Drawing plan_rest
 form_of (Program station) = Take (File station) Drawing program_rest
+form_of (BayProgram station bay) = Take (File station) Drawing (bay_program_rest bay)
 form_of (Make number text) = Write (IsDoneWith (λ written. written ≡ made_text text number))
 form_of (Work number) =
     Take (Word (station_text number)) Drawing (work_rest (positions_text number) (events_text number))
 form_of (Station station) = Take (File station) Elements (λ all. Write (StationWrites all))
 form_of (Compare old new) = Take (File old) Drawing (compare_rest new)
 form_of (Tests station bay) = Take (File station) Drawing (tests_rest bay)
+form_of (Why station positions direction switch) =
+    Take (File station) Drawing (why_rest positions direction switch)
+form_of (StationTests station) = Take (File station) Drawing station_tests_rest

@@ -19,3 +19,4 @@ pub mod Ends
 pub mod Complete
 pub mod StoredWords
 pub mod StoredEnding
+pub mod OutTexts

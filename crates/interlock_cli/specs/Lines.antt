@@ -16,6 +16,7 @@ abbrev pub outcome_status : Outcome → Status
 outcome_status o.Done = s.Done
 outcome_status o.Differs = s.Differs
 outcome_status (o.Premise number line) = s.Premise
+outcome_status (o.TooWide bay) = s.StationRefused
 
 -- The status of an end.
 abbrev pub status_of : End → Status
@@ -54,12 +55,13 @@ numbered_line (Some n) refusal = fault_line n (place refusal) (option_map limit_
 abbrev pub station_line : SsdRefusal → List ℕ
 station_line refusal = numbered_line (number refusal) refusal
 
--- The line of a call whose text is written: the premise that is broken, and where.
+-- The line of a call whose text is written: the premise that is broken, and where; or the bay of which a walk is too wide.
 abbrev pub outcome_line : Outcome → List ℕ
 outcome_line o.Done = []
 outcome_line o.Differs = []
 outcome_line (o.Premise number line) =
     codes "interlock: premise " ++ decimal number ++ codes " line " ++ decimal line ++ codes "\n"
+outcome_line (o.TooWide bay) = codes "interlock: station refused 18 bay " ++ decimal bay.0 ++ codes "\n"
 
 -- The line on `err`.
 abbrev pub line_of : End → List ℕ

@@ -7,9 +7,11 @@ use Rattle.station_state.specs.StateText.{IsStateText}
 use Rattle.station_equations.specs.CompileText.{IsCompileText}
 use Rattle.exchange_plan.specs.PlanText.{IsPlanText}
 use Rattle.program_text.specs.ProgramText.{IsProgramText}
-use Rattle.tests_text.specs.TestsText.{IsTestsText}
+use Rattle.program_text.specs.BayText.{IsBayProgramText}
+use Rattle.tests_text.specs.TestsText.{IsStationTestsText, IsTestsText}
 use Rattle.release_texts.specs.CheckText.{IsCheckText}
 use Rattle.release_texts.specs.ExplainText.{IsExplainText}
+use Rattle.why_text.specs.WhyText.{IsWhyText}
 use Rattle.interlock_cli.specs.Formats.{Drawing, Positions, CertainPositions, OrderOf, LogOf, TripLogOf, BlocksOf}
 use Rattle.interlock_cli.specs.Formats.{SwitchOf, BayOf}
 use Rattle.interlock_cli.specs.Form.{Form, Write, Take, Serve, File, Word}
@@ -35,6 +37,12 @@ abbrev pub explain_rest : List ℕ → Direction → List ℕ → Diagram → Fo
 explain_rest positions direction switch d =
     Take (File positions) (Positions d) (λ words.
     Take (Word switch) (SwitchOf d) (λ path. Write (IsDoneWith (IsExplainText d words direction path))))
+
+-- `why`: as `explain`, with the text for people.
+abbrev pub why_rest : List ℕ → Direction → List ℕ → Diagram → Form
+why_rest positions direction switch d =
+    Take (File positions) (Positions d) (λ words.
+    Take (Word switch) (SwitchOf d) (λ path. Write (IsDoneWith (IsWhyText d words direction path))))
 
 -- `state`: the positions.
 abbrev pub state_rest : List ℕ → Diagram → Form
@@ -74,13 +82,21 @@ plan_rest d = Write (IsDoneWith (IsPlanText d))
 abbrev pub program_rest : Diagram → Form
 program_rest d = Write (IsDoneWith (IsProgramText d))
 
+-- `program` of a bay: the path of the bay.
+abbrev pub bay_program_rest : List ℕ → Diagram → Form
+bay_program_rest bay d = Take (Word bay) (BayOf d) (λ b. Write (IsDoneWith (IsBayProgramText d b)))
+
 -- `compare`: the new drawing, held against the old one.
 abbrev pub compare_rest : List ℕ → Diagram → Form
 compare_rest new d = Take (File new) Drawing (λ e. Write (CompareWrites d e))
 
--- `tests`: the path of the bay.
+-- `tests` of one bay: its path.
 abbrev pub tests_rest : List ℕ → Diagram → Form
 tests_rest bay d = Take (Word bay) (BayOf d) (λ b. Write (IsDoneWith (IsTestsText d b)))
+
+-- `tests` of the whole station: nothing more.
+abbrev pub station_tests_rest : Diagram → Form
+station_tests_rest d = Write (IsDoneWith (IsStationTestsText d))
 
 -- `work`: the texts of the positions and of the log, which the program makes.
 abbrev pub work_rest : List ℕ → List ℕ → Diagram → Form

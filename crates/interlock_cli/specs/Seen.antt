@@ -3,7 +3,7 @@ use Rattle.interlock_cli.specs.Commands as c
 use Rattle.interlock_cli.specs.declared.words.Command.{Command}
 use Rattle.interlock_cli.specs.declared.words.Command.TheVariants.{Check, Explain, State, Order, Replay, Audit, Node}
 use Rattle.interlock_cli.specs.declared.words.Command.TheVariants.{Compile, Trips, Plan, Program, Make, Work, Station}
-use Rattle.interlock_cli.specs.declared.words.Command.TheVariants.{Compare, Tests}
+use Rattle.interlock_cli.specs.declared.words.Command.TheVariants.{BayProgram, Compare, Tests, StationTests, Why}
 
 -- A command, as the definitions name it.
 abbrev pub seen_command : Command → c.Command
@@ -18,8 +18,11 @@ seen_command (Compile station) = c.Compile station.now
 seen_command (Trips station log) = c.Trips station.now log.now
 seen_command (Plan station) = c.Plan station.now
 seen_command (Program station) = c.Program station.now
+seen_command (BayProgram station bay) = c.BayProgram station.now bay.now
 seen_command (Make feeders text) = c.Make feeders.number text
 seen_command (Work feeders) = c.Work feeders.number
 seen_command (Station station) = c.Station station.now
 seen_command (Compare old new) = c.Compare old.now new.now
 seen_command (Tests station bay) = c.Tests station.now bay.now
+seen_command (Why station positions direction switch) = c.Why station.now positions.now direction switch.now
+seen_command (StationTests station) = c.StationTests station.now

@@ -7,6 +7,7 @@ use crate::answer::Answer;
 use crate::content::load;
 use crate::end::{End, Output};
 use crate::order_command::outcome_of;
+use crate::out_text::OutText;
 use central_rules::Judge;
 use equation_audit::Blocks;
 use ilk_base::{Memory, Shelf};
@@ -29,7 +30,7 @@ fn audit_output<J: Judge>(
     let text = found.text(alloc, station)?;
     Ok(Output {
         outcome: outcome_of(found.differs()),
-        text,
+        text: OutText::whole(text),
     })
 }
 

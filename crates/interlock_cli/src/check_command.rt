@@ -2,10 +2,11 @@
 use crate::answer::Answer;
 use crate::content::load;
 use crate::end::{End, Outcome, Output};
+use crate::out_text::OutText;
 use double_points::Readings;
 use ilk_base::Shelf;
 use release_compile::GraphJudge;
-use release_texts::check_text;
+use release_texts::check_lines;
 use station_graph::Station;
 use std::alloc::Global;
 
@@ -31,7 +32,8 @@ impl<'a> Answer for Check<'a> {
         shelf: &mut F,
     ) -> Result<Output, End> {
         let readings: Readings = load(alloc, station, self.positions, shelf)?;
-        let text = check_text(alloc, station, judge, &readings)?;
+        let lines = check_lines(alloc, station, judge, &readings)?;
+        let text = OutText::named(alloc, lines)?;
         Ok(Output {
             outcome: Outcome::Done,
             text,

@@ -6,26 +6,31 @@ ghost use Rattle.interlock_cli.specs.Judging.{BuildFails};
 ghost use Rattle.interlock_cli.specs.declared.end.End.TheVariants.{Memory as WantsMemory};
 
 use crate::answer::Answer;
-use crate::end::{End, Output};
+use crate::end::{End, Outcome, Output};
 use crate::loading::{build_judge, load_drawing};
 use crate::order_command::outcome_of;
+use crate::out_text::OutText;
 use compare_text::compare_text;
-use ilk_base::{Memory, Shelf};
+use ilk_base::{Memory, Shelf, Text};
 use release_compile::GraphJudge;
+use station_compare::CompareRefusal;
 use station_graph::Station;
 use std::alloc::Global;
 
-// What has to be written of the new station, held against the old one. A walk that is too wide is answered as want of
-// memory.
+// What has to be written of the new station, held against the old one: nothing where a walk is too wide.
 fn compare_output(alloc: Global, old: &Station, new: &Station) -> Result<Output, Memory>
     ensures { IfOk result (λ o. CompareWrites old.now new.now o.outcome o.text) }
 {
     match compare_text(alloc, old, new) {
         Ok(report) => Ok(Output {
             outcome: outcome_of(!report.extends),
-            text: report.text,
+            text: OutText::whole(report.text),
         }),
-        Err(_) => Err(Memory),
+        Err(CompareRefusal::Wide { bay }) => Ok(Output {
+            outcome: Outcome::TooWide { bay },
+            text: OutText::whole(Text::new(alloc)),
+        }),
+        Err(CompareRefusal::Memory) => Err(Memory),
     }
 }
 

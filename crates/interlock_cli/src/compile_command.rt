@@ -1,6 +1,7 @@
 //! The command `compile`.
 use crate::answer::Answer;
 use crate::end::{End, Outcome, Output};
+use crate::out_text::OutText;
 use ilk_base::Shelf;
 use release_compile::GraphJudge;
 use station_equations::compile_text;
@@ -30,7 +31,7 @@ impl Answer for Compile {
         let text = compile_text(alloc, station, judge)?;
         Ok(Output {
             outcome: Outcome::Done,
-            text,
+            text: OutText::whole(text),
         })
     }
 }

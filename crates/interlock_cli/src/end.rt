@@ -2,8 +2,9 @@
 ghost use Rattle.std.specs.Prelude.{◌≡◌};
 ghost use Rattle.interlock_cli.specs.Lines.{outcome_status, status_of};
 
+use crate::out_text::OutText;
 use crate::status::Status;
-use ilk_base::{BayId, InputFault, InputRefusal, Memory, Text};
+use ilk_base::{BayId, InputFault, InputRefusal, Memory};
 use ssd_read::SsdRefusal;
 
 // How a call ends whose text is written.
@@ -12,13 +13,14 @@ pub enum Outcome {
     Done,
     Differs,
     Premise { number: u8, line: u32 },
+    TooWide { bay: BayId },
 }
 
 // What a call has to write once all is accepted, and how it then ends.
 #[derive(Drop)]
 pub struct Output {
     pub outcome: Outcome,
-    pub text: Text,
+    pub text: OutText,
 }
 
 // How a call ends, with what its line shows.
@@ -67,6 +69,7 @@ fn outcome_status(outcome: Outcome) -> Status
         Outcome::Done => Status::Done,
         Outcome::Differs => Status::Differs,
         Outcome::Premise { .. } => Status::Premise,
+        Outcome::TooWide { .. } => Status::StationRefused,
     }
 }
 

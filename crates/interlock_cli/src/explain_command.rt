@@ -3,6 +3,7 @@ use crate::answer::Answer;
 use crate::content::load;
 use crate::end::{End, Outcome, Output};
 use crate::loading::named_switch;
+use crate::out_text::OutText;
 use double_points::Readings;
 use ilk_base::{Direction, Op, Shelf};
 use release_compile::GraphJudge;
@@ -41,7 +42,7 @@ impl<'a> Answer for Explain<'a> {
         let text = explain_text(alloc, station, judge, &readings, op)?;
         Ok(Output {
             outcome: Outcome::Done,
-            text,
+            text: OutText::whole(text),
         })
     }
 }

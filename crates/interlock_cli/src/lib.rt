@@ -14,6 +14,7 @@ mod loading;
 mod make_command;
 mod node_command;
 mod order_command;
+mod out_text;
 mod plan_command;
 mod program_command;
 mod replay_command;
@@ -27,6 +28,7 @@ mod tell;
 mod tests_command;
 mod top;
 mod trips_command;
+mod why_command;
 mod words;
 mod work_command;
 

@@ -3,6 +3,7 @@ ghost use Rattle.std.specs.Prelude.{◌≡◌, IfOk, IfErr};
 ghost use Rattle.station_make.specs.Words.{made_text};
 
 use crate::end::{End, Outcome, Output};
+use crate::out_text::OutText;
 use station_make::{Feeders, MadeText, make_text};
 use std::alloc::Global;
 
@@ -14,6 +15,6 @@ pub(crate) fn make(alloc: Global, feeders: Feeders, text: MadeText) -> Result<Ou
     let text = make_text(alloc, text, feeders)?;
     Ok(Output {
         outcome: Outcome::Done,
-        text,
+        text: OutText::whole(text),
     })
 }

@@ -5,6 +5,7 @@ ghost use Rattle.interlock_cli.specs.OrderWrites.{done_or_differs};
 use crate::answer::Answer;
 use crate::content::load;
 use crate::end::{End, Outcome, Output};
+use crate::out_text::OutText;
 use ilk_base::Shelf;
 use release_compile::GraphJudge;
 use station_graph::{Station, Vector};
@@ -48,7 +49,7 @@ impl<'a> Answer for Order<'a> {
         let report = order_text(alloc, station, &start, &steps)?;
         Ok(Output {
             outcome: outcome_of(report.differs),
-            text: report.text,
+            text: OutText::whole(report.text),
         })
     }
 }

@@ -1,6 +1,7 @@
 //! The command `plan`.
 use crate::answer::Answer;
 use crate::end::{End, Outcome, Output};
+use crate::out_text::OutText;
 use exchange_plan::plan_text;
 use ilk_base::Shelf;
 use release_compile::GraphJudge;
@@ -30,7 +31,7 @@ impl Answer for Plan {
         let text = plan_text(alloc, station, judge)?;
         Ok(Output {
             outcome: Outcome::Done,
-            text,
+            text: OutText::whole(text),
         })
     }
 }

@@ -8,6 +8,7 @@ ghost use Rattle.interlock_cli.specs.ReplayWrites.{replay_outcome, ReplayWrites}
 use crate::answer::Answer;
 use crate::content::load;
 use crate::end::{End, Outcome, Output};
+use crate::out_text::OutText;
 use ilk_base::{Memory, Shelf};
 use log_replay::{Log, text_decides_report};
 use release_compile::GraphJudge;
@@ -47,7 +48,7 @@ fn replay_output(
     let text = report.text(alloc, station)?;
     Ok(Output {
         outcome: ended(report.premise()),
-        text,
+        text: OutText::whole(text),
     })
 }
 

@@ -2,6 +2,7 @@
 use crate::answer::Answer;
 use crate::content::load;
 use crate::end::{End, Outcome, Output};
+use crate::out_text::OutText;
 use double_points::Readings;
 use ilk_base::Shelf;
 use release_compile::GraphJudge;
@@ -34,7 +35,7 @@ impl<'a> Answer for State<'a> {
         let text = state_text(alloc, station, &readings)?;
         Ok(Output {
             outcome: Outcome::Done,
-            text,
+            text: OutText::whole(text),
         })
     }
 }

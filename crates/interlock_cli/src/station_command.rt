@@ -13,6 +13,7 @@ ghost use Rattle.interlock_cli.specs.Judging.{JudgeFails};
 use crate::end::{End, Output};
 use crate::loading::read_file;
 use crate::order_command::outcome_of;
+use crate::out_text::OutText;
 use drawing_remarks::{StationReport, station_text};
 use ilk_base::Shelf;
 use ssd_read::{SsdRefusal, WholeDrawing, read_whole};
@@ -63,6 +64,6 @@ pub(crate) fn station<F: Shelf>(alloc: Global, name: &str, shelf: &mut F) -> Res
     let report = judge_elements(alloc, &bytes)?;
     Ok(Output {
         outcome: outcome_of(report.remarks > 0),
-        text: report.text,
+        text: OutText::whole(report.text),
     })
 }

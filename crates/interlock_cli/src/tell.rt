@@ -126,7 +126,7 @@ fn tell_one<S: Sink>(sink: &mut S, head: &[u8], number: u32) -> Result<(), Faile
     write_pieces(sink, &[head, number, b"\n".as_slice()])
 }
 
-// Writes the line of a call whose text is written: that of a broken premise, or nothing.
+// Writes the line of a call whose text is written: that of a broken premise or of a walk that is too wide, or nothing.
 fn tell_written<S: Sink>(sink: &mut S, outcome: Outcome) -> Result<(), Failed>
     ensures ok { OnOk result (Appends (S.took sink.old) (S.took sink.new) (outcome_line outcome)) }
     ensures err { OnErr result (AppendsFront (S.took sink.old) (S.took sink.new) (outcome_line outcome)) }
@@ -142,6 +142,11 @@ fn tell_written<S: Sink>(sink: &mut S, outcome: Outcome) -> Result<(), Failed>
             u32::from(number),
             b" line ",
             line,
+        ),
+        Outcome::TooWide { bay } => tell_one(
+            sink,
+            b"interlock: station refused 18 bay ",
+            u32::from(bay.0),
         ),
     }
 }

@@ -2,18 +2,20 @@
 ghost use Rattle.std.specs.Prelude.{◌≡◌, IfOk};
 ghost use Rattle.central_rules.specs.Meaning.{IsBay};
 ghost use Rattle.commissioning_tests.specs.Covering.{AreTestsOf};
-ghost use Rattle.tests_text.specs.TestsText.{IsTestsText};
+ghost use Rattle.commissioning_tests.specs.Shared.{AreStationTests};
+ghost use Rattle.tests_text.specs.TestsText.{IsStationTestsText, IsTestsText};
 ghost use Rattle.interlock_cli.specs.declared.end.Outcome.TheVariants.{Done};
 
 use crate::answer::Answer;
 use crate::end::{End, Outcome, Output};
 use crate::loading::named_bay;
-use commissioning_tests::{BayTests, bay_tests};
+use crate::out_text::OutText;
+use commissioning_tests::{BayTests, SharedTests, bay_tests, station_tests};
 use ilk_base::{BayId, Memory, Shelf, Text};
 use release_compile::GraphJudge;
 use station_graph::Station;
 use std::alloc::Global;
-use tests_text::{tests_fit, tests_text};
+use tests_text::{station_tests_fit, station_tests_text, tests_fit, tests_text};
 
 // The tests of a bay. A walk that is too wide is answered as want of memory.
 fn tests_of(alloc: Global, station: &Station, bay: BayId) -> Result<BayTests, Memory>
@@ -45,7 +47,7 @@ fn tests_output(alloc: Global, station: &Station, bay: BayId) -> Result<Output, 
     let tests = tests_of(alloc, station, bay)?;
     Ok(Output {
         outcome: Outcome::Done,
-        text: text_of(alloc, station, bay, &tests)?,
+        text: OutText::whole(text_of(alloc, station, bay, &tests)?),
     })
 }
 
@@ -73,6 +75,63 @@ impl<'a> Answer for Tests<'a> {
     ) -> Result<Output, End> {
         let bay = named_bay(station, self.bay)?;
         let output = tests_output(alloc, station, bay)?;
+        Ok(output)
+    }
+}
+
+// The tests of a station. A walk that is too wide is answered as want of memory.
+fn all_tests(alloc: Global, station: &Station) -> Result<Vec<SharedTests>, Memory>
+    ensures { IfOk result (λ v. AreStationTests station.now v.items) }
+{
+    match station_tests(alloc, station) {
+        Ok(tests) => Ok(tests),
+        Err(_) => Err(Memory),
+    }
+}
+
+// Their text.
+fn all_text(alloc: Global, station: &Station, tests: &[SharedTests]) -> Result<Text, Memory>
+    requires { AreStationTests station.now tests.now }
+    ensures { IfOk result (IsStationTestsText station.now) }
+{
+    // Its clause says that they fit the station; it does nothing.
+    station_tests_fit();
+    let text = station_tests_text(alloc, station, tests)?;
+    Ok(text)
+}
+
+// What has to be written of a station.
+fn all_output(alloc: Global, station: &Station) -> Result<Output, Memory>
+    ensures { IfOk result (λ o. (o.outcome ≡ Done) × IsStationTestsText station.now o.text) }
+{
+    let tests = all_tests(alloc, station)?;
+    Ok(Output {
+        outcome: Outcome::Done,
+        text: OutText::whole(all_text(alloc, station, &tests)?),
+    })
+}
+
+// `tests STATION`
+#[derive(Clone, Copy)]
+pub(crate) struct StationTests;
+
+impl Answer for StationTests {
+    ghost use Rattle.std.specs.Prelude.{[]};
+    ghost use Rattle.interlock_cli.specs.Rests.{station_tests_rest};
+
+    ghost rest = { λ _. station_tests_rest };
+
+    ghost names = { λ _. [] };
+
+    #[tactic(auto, using(crate::proofs::Asked::reads_none))]
+    fn answer<F: Shelf>(
+        &self,
+        alloc: Global,
+        station: &Station,
+        _judge: &GraphJudge<'_>,
+        _shelf: &mut F,
+    ) -> Result<Output, End> {
+        let output = all_output(alloc, station)?;
         Ok(output)
     }
 }

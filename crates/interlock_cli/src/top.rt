@@ -19,17 +19,18 @@ use crate::make_command::make;
 use crate::node_command::node;
 use crate::order_command::Order;
 use crate::plan_command::Plan;
-use crate::program_command::Program;
+use crate::program_command::{BayProgram, Program};
 use crate::replay_command::Replay;
 use crate::state_command::State;
 use crate::station_command::station;
 use crate::status::Status;
 use crate::tell::tell;
-use crate::tests_command::Tests;
+use crate::tests_command::{StationTests, Tests};
 use crate::trips_command::Trips;
+use crate::why_command::Why;
 use crate::words::{Command, read_command};
 use crate::work_command::work;
-use ilk_base::{Shelf, Sink, Source, write_all};
+use ilk_base::{Shelf, Sink, Source};
 use std::alloc::Global;
 
 // What a command that does not serve the input has to write, or how it ends before it writes.
@@ -74,22 +75,40 @@ fn output_of<F: Shelf>(alloc: Global, command: &Command, shelf: &mut F) -> Resul
         Command::Trips { station, log } => answer_drawing(alloc, station, &Trips { log }, shelf),
         Command::Plan { station } => answer_drawing(alloc, station, &Plan, shelf),
         Command::Program { station } => answer_drawing(alloc, station, &Program, shelf),
+        Command::BayProgram { station, bay } => {
+            answer_drawing(alloc, station, &BayProgram { bay }, shelf)
+        }
         Command::Replay { station, log } => answer_drawing(alloc, station, &Replay { log }, shelf),
         Command::Make { feeders, text } => make(alloc, feeders, text),
         Command::Work { feeders } => work(alloc, feeders, shelf),
         Command::Station { station: name } => station(alloc, name, shelf),
         Command::Compare { old, new } => answer_drawing(alloc, old, &Compare { new }, shelf),
         Command::Tests { station, bay } => answer_drawing(alloc, station, &Tests { bay }, shelf),
+        Command::Why {
+            station,
+            positions,
+            direction,
+            switch,
+        } => {
+            let why = Why {
+                positions,
+                direction,
+                switch,
+            };
+            answer_drawing(alloc, station, &why, shelf)
+        }
+        Command::StationTests { station } => answer_drawing(alloc, station, &StationTests, shelf),
         Command::Node { .. } => unreachable!(),
     }
 }
 
 // Writes what a call has to write.
-fn write_output<O: Sink>(output: &Output, out: &mut O) -> End
-    ensures { Wrote output.now (O.faults out.old) (O.faults out.new) (O.took out.old) (O.took out.new) result }
+fn write_output<O: Sink>(output: Output, out: &mut O) -> End
+    ensures { Wrote output (O.faults out.old) (O.faults out.new) (O.took out.old) (O.took out.new) result }
 {
-    match write_all(out, output.text.bytes()) {
-        Ok(()) => End::Written(output.outcome),
+    let Output { outcome, text } = output;
+    match text.write(out) {
+        Ok(()) => End::Written(outcome),
         Err(_) => End::WriteFault,
     }
 }
@@ -124,7 +143,7 @@ fn call<F: Shelf, I: Source, O: Sink>(
         };
     }
     match output_of(alloc, &command, shelf) {
-        Ok(output) => write_output(&output, out),
+        Ok(output) => write_output(output, out),
         Err(end) => end,
     }
 }
@@ -133,9 +152,11 @@ fn call<F: Shelf, I: Source, O: Sink>(
 ///
 /// The words are those of the command line, without the program's name. Where no word is empty or begins
 /// with `-`, and they are `check STATION POSITIONS`, `explain STATION POSITIONS open SWITCH` (or `close`),
+/// `why STATION POSITIONS open SWITCH` (or `close`),
 /// `state STATION POSITIONS`, `order STATION POSITIONS ORDER`, `replay STATION LOG`, `trips STATION LOG`,
-/// `audit STATION EQUATIONS`, `plan STATION`, `program STATION`, `compile STATION`, `station STATION`,
-/// `compare OLD NEW`, `tests STATION BAY`, `node STATION BAY`, `make NUMBER station` (or `positions`, or `log`) or
+/// `audit STATION EQUATIONS`, `plan STATION`, `program STATION` (or `program STATION BAY`), `compile STATION`,
+/// `station STATION`, `compare OLD NEW`, `tests STATION BAY` (or `tests STATION`), `node STATION BAY`,
+/// `make NUMBER station` (or `positions`, or `log`) or
 /// `work NUMBER`, they name that command; all else is `Usage`. What a command is given is judged in the order of the words, but for a switch or bay
 /// that they name, which comes last. Each file is judged before the next is read, and nothing is written, nor
 /// asked of the input, before all is accepted. On every status but `Done` and `Differs` one line goes to

@@ -8,6 +8,7 @@ ghost use Rattle.interlock_cli.specs.TripsWrites.{TripsWrites};
 use crate::answer::Answer;
 use crate::content::load;
 use crate::end::{End, Output};
+use crate::out_text::OutText;
 use crate::replay_command::ended;
 use ilk_base::{Memory, Shelf};
 use log_replay::text_decides_report;
@@ -35,7 +36,7 @@ fn trips_output(
     let text = report.text(alloc, station)?;
     Ok(Output {
         outcome: ended(report.premise()),
-        text,
+        text: OutText::whole(text),
     })
 }
 

@@ -1,7 +1,7 @@
 //! What the words name.
 ghost use Rattle.std.specs.Prelude.{◌≡◌, ◌∷◌, map, option_map, string_bytes, Some, IfOk, IfErr};
 ghost use Rattle.interlock_cli.specs.Commands.{replay_of, audit_of, check_of, command_of, direction_of, explain_of};
-ghost use Rattle.interlock_cli.specs.Commands.{compare_of, make_of, named_command, node_of, program_of, tests_of};
+ghost use Rattle.interlock_cli.specs.Commands.{compare_of, make_of, named_command, node_of, program_of, tests_of, why_of};
 ghost use Rattle.interlock_cli.specs.Commands.{plan_of, trips_of, compile_of, order_of, state_of, station_of, work_of};
 ghost use Rattle.interlock_cli.specs.Ends.{WordsUnread};
 ghost use Rattle.interlock_cli.specs.Seen.{seen_command};
@@ -59,6 +59,10 @@ pub enum Command<'a> {
     Program {
         station: &'a str,
     },
+    BayProgram {
+        station: &'a str,
+        bay: &'a str,
+    },
     Make {
         feeders: Feeders,
         text: MadeText,
@@ -76,6 +80,15 @@ pub enum Command<'a> {
     Tests {
         station: &'a str,
         bay: &'a str,
+    },
+    Why {
+        station: &'a str,
+        positions: &'a str,
+        direction: Direction,
+        switch: &'a str,
+    },
+    StationTests {
+        station: &'a str,
     },
 }
 
@@ -202,14 +215,15 @@ fn plan_words<'a>(rest: &[&'a str]) -> Option<Command<'a>>
     Some(Command::Plan { station })
 }
 
-// `program STATION`.
+// `program STATION`, or `program STATION BAY`.
 fn program_words<'a>(rest: &[&'a str]) -> Option<Command<'a>>
     ensures { program_of (map (λ w. w.now) rest.now) ≡ option_map seen_command result }
 {
-    let &[station] = rest else {
-        return None;
-    };
-    Some(Command::Program { station })
+    match rest {
+        &[station] => Some(Command::Program { station }),
+        &[station, bay] => Some(Command::BayProgram { station, bay }),
+        _ => None,
+    }
 }
 
 // `make NUMBER station`, or `positions`, or `log`.
@@ -261,14 +275,33 @@ fn compare_words<'a>(rest: &[&'a str]) -> Option<Command<'a>>
     Some(Command::Compare { old, new })
 }
 
-// `tests STATION BAY`.
+// `tests STATION BAY`, or `tests STATION`.
 fn tests_words<'a>(rest: &[&'a str]) -> Option<Command<'a>>
     ensures { tests_of (map (λ w. w.now) rest.now) ≡ option_map seen_command result }
 {
-    let &[station, bay] = rest else {
+    match rest {
+        &[station] => Some(Command::StationTests { station }),
+        &[station, bay] => Some(Command::Tests { station, bay }),
+        _ => None,
+    }
+}
+
+// `why STATION POSITIONS open SWITCH`, or `close`.
+fn why_words<'a>(rest: &[&'a str]) -> Option<Command<'a>>
+    ensures { why_of (map (λ w. w.now) rest.now) ≡ option_map seen_command result }
+{
+    let &[station, positions, direction, switch] = rest else {
         return None;
     };
-    Some(Command::Tests { station, bay })
+    match direction_of(direction) {
+        Some(direction) => Some(Command::Why {
+            station,
+            positions,
+            direction,
+            switch,
+        }),
+        None => None,
+    }
 }
 
 // The command of a name and the words after it.
@@ -292,6 +325,7 @@ fn named<'a>(name: &str, rest: &[&'a str]) -> Option<Command<'a>>
         "station" => station_words(rest),
         "compare" => compare_words(rest),
         "tests" => tests_words(rest),
+        "why" => why_words(rest),
         _ => None,
     }
 }

@@ -12,6 +12,7 @@ use crate::answer::{Answer, answer_station};
 use crate::content::Content;
 use crate::end::{End, Output};
 use crate::loading::judge_drawing;
+use crate::out_text::OutText;
 use crate::replay_command::ended;
 use double_points::Readings;
 use ilk_base::{Memory, Shelf};
@@ -40,7 +41,7 @@ fn work_output(
     let text = work_text(alloc, station, judge, readings, &report)?;
     Ok(Output {
         outcome: ended(report.premise()),
-        text,
+        text: OutText::whole(text),
     })
 }
 

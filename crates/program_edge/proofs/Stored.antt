@@ -22,6 +22,7 @@ usage_only e.Usage is = refl
 usage_only (e.Written o.Done) is = absurd (cc is)
 usage_only (e.Written o.Differs) is = absurd (cc is)
 usage_only (e.Written (o.Premise number line)) is = absurd (cc is)
+usage_only (e.Written (o.TooWide bay)) is = absurd (cc is)
 usage_only e.ReadFault is = absurd (cc is)
 usage_only e.WriteFault is = absurd (cc is)
 usage_only (e.Station refusal) is = absurd (cc is)

@@ -19,7 +19,8 @@ const EARTHING: SwitchId = SwitchId(0);
 const INFEED: SwitchId = SwitchId(1);
 
 // To open the earthing switch breaks no rule, and to close it breaks R1 where the infeed is closed. So it is released
-// with both open, until the infeed is closed, and denied with both closed, until the infeed is opened.
+// with both open, until the infeed is closed, and denied with both closed, until the infeed is opened. With both closed
+// their node is energisable and earthable.
 const TEXT: &[u8] = b"bay S/V1/Q1\n\
     always open S/V1/Q1/QC9\n\
     needs S/V1/Q1/E1\n\
@@ -27,6 +28,7 @@ const TEXT: &[u8] = b"bay S/V1/Q1\n\
     closed S/V1/Q1/E1\n\
     denied R1 close S/V1/Q1/QC9\n\
     position 2\n\
+    unsound\n\
     with S/V1/Q1/QC9\n\
     with S/V1/Q1/E1\n\
     denied R1 close S/V1/Q1/QC9\n\
@@ -59,12 +61,14 @@ fn infeed_moved(alloc: Global, closing: Option<Rule>) -> Result<Vec<TestMove>, M
     Ok(vec![in alloc;
         TestMove {
             switch: INFEED,
-            answers
+            answers,
+            sound: true
         },
     ]?)
 }
 
-// Both switches in one position, and the infeed moved: what closing the earthing switch breaks before and after.
+// Both switches in one position, sound where they are open, and the infeed moved: what closing the earthing switch breaks
+// before and after.
 fn position(
     alloc: Global,
     closed: bool,
@@ -79,6 +83,7 @@ fn position(
     Ok(TestPosition {
         closed: vec![in alloc; closed; 2]?,
         answers,
+        sound: !closed,
         moves,
     })
 }

@@ -1,7 +1,7 @@
 //! Structured texts worked by hand: of a bay with an earthing switch and an infeed at one node, of one with two
-//! disconnectors in parallel, and of one with a long name.
-use ilk_base::Kind;
-use program_text::program_text;
+//! disconnectors in parallel, of one with a long name, and of bays that share a block.
+use ilk_base::{BayId, Kind};
+use program_text::{bay_program_text, program_text};
 use station_graph::Station;
 use std::alloc::Global;
 use std::test::Fail;
@@ -12,6 +12,7 @@ use test_stations::{Drawing, Example, StationRow, built, row_holds, station_of};
 // and all lines are for the releases of this one bay.
 const LINES: &[u8] = b"\n\
     \x20 (* S/V1/Q1: the releases *)\n\
+    \x20 (* from other blocks 0 BOOLs, to others 0 *)\n\
     FUNCTION_BLOCK BLOCK_0\n\
     VAR_INPUT\n\
     \x20 sw0_QC9_off, sw0_QC9_on, sw1_E1_off, sw1_E1_on : BOOL;\n\
@@ -61,6 +62,7 @@ const LINES: &[u8] = b"\n\
 // live, so nothing else denies that they close.
 const STUB: &[u8] = b"\n\
     \x20 (* S/V1/Q1: the releases *)\n\
+    \x20 (* from other blocks 0 BOOLs, to others 0 *)\n\
     FUNCTION_BLOCK BLOCK_0\n\
     VAR_INPUT\n\
     \x20 sw0_QB1_off, sw0_QB1_on, sw1_QB2_off, sw1_QB2_on,\n\
@@ -118,7 +120,8 @@ const STUB: &[u8] = b"\n\
     END_PROGRAM\n";
 
 // An earthing switch whose path has 92 characters: the first row of the comment has 80 of them, and the identifier the last
-// 13. Nothing denies that it moves, so no formula is read.
+// 13. Nothing denies that it moves, so no formula is read: the block has neither inputs nor variables of its own, and no
+// section of either.
 const LONG: Drawing = Drawing {
     parts: &["S"],
     nodes: &["S/n"],
@@ -135,13 +138,10 @@ const LONG: Drawing = Drawing {
 
 const LONG_LINES: &[u8] = b"\n\
     \x20 (* S: the releases *)\n\
+    \x20 (* from other blocks 0 BOOLs, to others 0 *)\n\
     FUNCTION_BLOCK BLOCK_0\n\
-    VAR_INPUT\n\
-    END_VAR\n\
     VAR_OUTPUT\n\
     \x20 sw0_aaaaaaaaaaaaa_EnaOpn, sw0_aaaaaaaaaaaaa_EnaCls : BOOL;\n\
-    END_VAR\n\
-    VAR\n\
     END_VAR\n\
     \x20 sw0_aaaaaaaaaaaaa_EnaOpn := TRUE;\n\
     \x20 sw0_aaaaaaaaaaaaa_EnaCls := TRUE;\n\
@@ -165,10 +165,57 @@ const LONG_LINES: &[u8] = b"\n\
     \x20 sw0_aaaaaaaaaaaaa_EnaCls := b0.sw0_aaaaaaaaaaaaa_EnaCls;\n\
     END_PROGRAM\n";
 
+// An earthing switch in each of two bays, and two in a third one. Nothing denies that they move. The first two bays share a
+// block, which is in the names of the first of them; the third one has another.
+const THREE_BAYS: Drawing = Drawing {
+    parts: &["S/A", "S/B", "S/C"],
+    nodes: &["S/A/n", "S/B/n", "S/C/n"],
+    switches: &[
+        ("QC1", Kind::Earthing, 0, 0, None),
+        ("QC1", Kind::Earthing, 1, 1, None),
+        ("QC1", Kind::Earthing, 2, 2, None),
+        ("QC2", Kind::Earthing, 2, 2, None),
+    ],
+    links: &[],
+    taps: &[],
+};
+
+const SHARED: &[u8] = b"\n\
+    \x20 (* S/A: the releases *)\n\
+    \x20 (* from other blocks 0 BOOLs, to others 0 *)\n\
+    FUNCTION_BLOCK BLOCK_0\n\
+    VAR_OUTPUT\n\
+    \x20 sw0_QC1_EnaOpn, sw0_QC1_EnaCls : BOOL;\n\
+    END_VAR\n\
+    \x20 sw0_QC1_EnaOpn := TRUE;\n\
+    \x20 sw0_QC1_EnaCls := TRUE;\n\
+    END_FUNCTION_BLOCK\n";
+
+const ITS_OWN: &[u8] = b"\n\
+    \x20 (* S/C: the releases *)\n\
+    \x20 (* from other blocks 0 BOOLs, to others 0 *)\n\
+    FUNCTION_BLOCK BLOCK_1\n\
+    VAR_OUTPUT\n\
+    \x20 sw2_QC1_EnaOpn, sw2_QC1_EnaCls, sw3_QC2_EnaOpn, sw3_QC2_EnaCls : BOOL;\n\
+    END_VAR\n\
+    \x20 sw2_QC1_EnaOpn := TRUE;\n\
+    \x20 sw2_QC1_EnaCls := TRUE;\n\
+    \x20 sw3_QC2_EnaOpn := TRUE;\n\
+    \x20 sw3_QC2_EnaCls := TRUE;\n\
+    END_FUNCTION_BLOCK\n";
+
 // Whether the text of the station's program ends with these lines.
 fn ends_with(alloc: Global, station: &Station, lines: &[u8]) -> bool {
     match program_text(alloc, station) {
         Ok(text) => text.bytes().ends_with(lines),
+        Err(_) => false,
+    }
+}
+
+// Whether the bay's text is this one.
+fn is_of_bay(alloc: Global, station: &Station, bay: u8, blocks: &[u8]) -> bool {
+    match bay_program_text(alloc, station, BayId(bay)) {
+        Ok(text) => text.bytes() == blocks,
         Err(_) => false,
     }
 }
@@ -204,5 +251,14 @@ fn two_ways(rt: HostRuntime) -> Result<(), Fail> {
 fn long_path(rt: HostRuntime) -> Result<(), Fail> {
     let station = station_of(rt.alloc(), LONG)?;
     assert!(rt; ends_with(rt.alloc(), &station, LONG_LINES));
+    Ok(())
+}
+
+#[test]
+fn bays(rt: HostRuntime) -> Result<(), Fail> {
+    let station = station_of(rt.alloc(), THREE_BAYS)?;
+    assert!(rt; is_of_bay(rt.alloc(), &station, 0, SHARED));
+    assert!(rt; is_of_bay(rt.alloc(), &station, 1, SHARED));
+    assert!(rt; is_of_bay(rt.alloc(), &station, 2, ITS_OWN));
     Ok(())
 }

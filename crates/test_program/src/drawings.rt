@@ -207,6 +207,36 @@ pub(crate) const TWO_TRANSFORMERS: &str = "<SCL>
 </SCL>
 ";
 
+// Three lines with an earthing switch and an infeed at one node: the third has the infeed first.
+pub(crate) const THREE_LINES: &str = "<SCL>
+<Substation name=\"S\">
+<VoltageLevel name=\"V1\">
+<Bay name=\"Q1\">
+<ConnectivityNode name=\"a\" pathName=\"S/V1/Q1/a\"/>
+<ConductingEquipment name=\"QC9\" type=\"DIS\"><Terminal connectivityNode=\"S/V1/Q1/a\" cNodeName=\"a\"/>\
+    <Terminal connectivityNode=\"S/V1/Q1/grounded\" cNodeName=\"grounded\"/></ConductingEquipment>
+<ConductingEquipment name=\"E1\" type=\"IFL\">\
+    <Terminal connectivityNode=\"S/V1/Q1/a\" cNodeName=\"a\"/></ConductingEquipment>
+</Bay>
+<Bay name=\"Q2\">
+<ConnectivityNode name=\"a\" pathName=\"S/V1/Q2/a\"/>
+<ConductingEquipment name=\"QC9\" type=\"DIS\"><Terminal connectivityNode=\"S/V1/Q2/a\" cNodeName=\"a\"/>\
+    <Terminal connectivityNode=\"S/V1/Q2/grounded\" cNodeName=\"grounded\"/></ConductingEquipment>
+<ConductingEquipment name=\"E1\" type=\"IFL\">\
+    <Terminal connectivityNode=\"S/V1/Q2/a\" cNodeName=\"a\"/></ConductingEquipment>
+</Bay>
+<Bay name=\"Q3\">
+<ConnectivityNode name=\"a\" pathName=\"S/V1/Q3/a\"/>
+<ConductingEquipment name=\"E1\" type=\"IFL\">\
+    <Terminal connectivityNode=\"S/V1/Q3/a\" cNodeName=\"a\"/></ConductingEquipment>
+<ConductingEquipment name=\"QC9\" type=\"DIS\"><Terminal connectivityNode=\"S/V1/Q3/a\" cNodeName=\"a\"/>\
+    <Terminal connectivityNode=\"S/V1/Q3/grounded\" cNodeName=\"grounded\"/></ConductingEquipment>
+</Bay>
+</VoltageLevel>
+</Substation>
+</SCL>
+";
+
 // A drawing of one bay as a tool writes it, with line ends of two bytes.
 pub(crate) const AS_A_TOOL_WRITES: &str =
     "<?xml version=\"1.0\" encoding=\"utf-8\"?>\r\n<!-- one line bay -->\r\n\

@@ -35,3 +35,5 @@ mod station_texts;
 mod stored;
 #[cfg(test)]
 mod trips;
+#[cfg(test)]
+mod whys;

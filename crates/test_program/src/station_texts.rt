@@ -1,5 +1,5 @@
-//! What `compile`, `plan`, `tests` and `compare` write of a station, and of two.
-use crate::drawings::{AS_A_TOOL_WRITES, FEEDERS_APART, TWO_FEEDERS};
+//! What `compile`, `plan`, `program`, `tests` and `compare` write of a station, and of two.
+use crate::drawings::{AS_A_TOOL_WRITES, FEEDERS_APART, THREE_LINES, TWO_FEEDERS};
 use crate::rows::expect;
 use interlock_cli::Status;
 use std::test::Fail;
@@ -98,12 +98,109 @@ fn tests_of_a_bay(rt: HostRuntime) -> Result<(), Fail> {
     )
 }
 
+// Of three such lines the first two are like each other: exchanged, each switch of the one stands where that of the other
+// stood. The third has its infeed first, so that it is not seen to be like them, and has tests of its own.
+const ALL_TESTS: &str = "bay S/V1/Q1
+like S/V1/Q2
+always open S/V1/Q1/QC9
+always open S/V1/Q1/E1
+position 1
+closed S/V1/Q1/QC9
+denied R2 close S/V1/Q1/E1
+closed S/V1/Q1/E1
+denied R1 close S/V1/Q1/QC9
+position 2
+with S/V1/Q1/E1
+denied R1 close S/V1/Q1/QC9
+position 3
+with S/V1/Q1/QC9
+denied R2 close S/V1/Q1/E1
+bay S/V1/Q3
+always open S/V1/Q3/E1
+always open S/V1/Q3/QC9
+position 1
+closed S/V1/Q3/E1
+denied R1 close S/V1/Q3/QC9
+closed S/V1/Q3/QC9
+denied R2 close S/V1/Q3/E1
+position 2
+with S/V1/Q3/QC9
+denied R2 close S/V1/Q3/E1
+position 3
+with S/V1/Q3/E1
+denied R1 close S/V1/Q3/QC9
+";
+
+#[test]
+fn tests_of_a_station(rt: HostRuntime) -> Result<(), Fail> {
+    expect(
+        &rt,
+        rt.alloc(),
+        "tests a.ssd",
+        THREE_LINES.as_bytes(),
+        b"",
+        (Status::Done, ALL_TESTS.as_bytes(), ""),
+    )
+}
+
 #[test]
 fn tests_of_no_bay(rt: HostRuntime) -> Result<(), Fail> {
     expect(
         &rt,
         rt.alloc(),
         "tests a.ssd S/V1/Q2",
+        AS_A_TOOL_WRITES.as_bytes(),
+        b"",
+        (
+            Status::InputRefused,
+            b"",
+            "interlock: input refused 11 line 0\n",
+        ),
+    )
+}
+
+// The blocks of the same line. The earthing switch may be closed where the infeed is known to be off, and the infeed set on
+// where the earthing switch is known to be off; opening is always released. All lines are for the releases of this bay.
+const BLOCKS: &str = "
+  (* S/V1/Q1: the releases *)
+  (* from other blocks 0 BOOLs, to others 0 *)
+FUNCTION_BLOCK BLOCK_0
+VAR_INPUT
+  sw0_QC9_off, sw0_QC9_on, sw1_E1_off, sw1_E1_on : BOOL;
+END_VAR
+VAR_OUTPUT
+  sw0_QC9_EnaOpn, sw0_QC9_EnaCls, sw1_E1_EnaOpn, sw1_E1_EnaCls : BOOL;
+END_VAR
+VAR
+  m0, m1 : BOOL;
+END_VAR
+  m0 := sw0_QC9_on OR NOT sw0_QC9_off;
+  m1 := sw1_E1_on OR NOT sw1_E1_off;
+  sw0_QC9_EnaOpn := TRUE;
+  sw0_QC9_EnaCls := NOT m1;
+  sw1_E1_EnaOpn := TRUE;
+  sw1_E1_EnaCls := NOT m0;
+END_FUNCTION_BLOCK
+";
+
+#[test]
+fn program_of_a_bay(rt: HostRuntime) -> Result<(), Fail> {
+    expect(
+        &rt,
+        rt.alloc(),
+        "program a.ssd S/V1/Q1",
+        AS_A_TOOL_WRITES.as_bytes(),
+        b"",
+        (Status::Done, BLOCKS.as_bytes(), ""),
+    )
+}
+
+#[test]
+fn program_of_no_bay(rt: HostRuntime) -> Result<(), Fail> {
+    expect(
+        &rt,
+        rt.alloc(),
+        "program a.ssd S/V1/Q2",
         AS_A_TOOL_WRITES.as_bytes(),
         b"",
         (

@@ -1,4 +1,4 @@
-use Rattle.std.proofs.Common.{List, Ok, Err, inl, refl}
+use Rattle.std.proofs.Common.{List, Ok, Err, inl}
 use Rattle.ssd_read.specs.Elements.{Element}
 use Rattle.interlock_cli.specs.Formats.{Elements}
 use Rattle.interlock_cli.proofs.Cuts.{given, failed}
@@ -11,7 +11,7 @@ returns-clause-ok g c =
       all,
       given Elements tt (λ (x : List Element). x) (g.F.Shelf.held c.args.shelf.now) c.args.name.now
           c.in_ok-bytes.bytes.items (Ok all) c.in_ok-bytes.ensures.ok accepts,
-      (c.in_ok-report.report, says, c.outcome_of.ensures, refl),
+      (c.in_ok-report.report, says, c.outcome_of.ensures, c.whole.ensures),
     )
 
 pub returns-in_err-report-clause-err : goal.returns-in_err-report-clause-err

@@ -37,3 +37,9 @@ returns-in-Compare-clause-err g c = rw c.in-Compare.is c.answer_drawing-in-Compa
 
 pub returns-in-Tests-clause-err : goal.returns-in-Tests-clause-err
 returns-in-Tests-clause-err g c = rw c.in-Tests.is c.answer_drawing-in-Tests.ensures.err
+
+pub returns-in-Why-clause-err : goal.returns-in-Why-clause-err
+returns-in-Why-clause-err g c = rw c.in-Why.is c.answer_drawing-in-Why.ensures.err
+
+pub returns-in-BayProgram-clause-err : goal.returns-in-BayProgram-clause-err
+returns-in-BayProgram-clause-err g c = rw c.in-BayProgram.is c.answer_drawing-in-BayProgram.ensures.err

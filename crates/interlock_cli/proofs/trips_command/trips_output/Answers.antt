@@ -12,6 +12,7 @@ returns c =
     let d = c.args.station.now in
     let log = c.args.log.now in
     let ends = c.ended.ensures ∙ ap replay_outcome c.premise.ensures in
+    let text = c.whole.ensures ∙ c.in_ok-text.ensures in
     record {
       report = report.report;
       replays = record {
@@ -24,8 +25,8 @@ returns c =
         headline = report.ensures.headline;
       };
       ends = ends;
-      text_is = c.in_ok-text.ensures;
+      text_is = text;
       headline = λ t is. subst (λ (x : Replayed). TripHeadline d (trip_start_of d log) (trip_lines_of log x.out []))
           (read_out d (length log) _ _ report.report t c.requires.lines c.text_decides_report.ensures
-          report.ensures.whole ends c.in_ok-text.ensures is) report.ensures.headline;
+          report.ensures.whole ends text is) report.ensures.headline;
     }

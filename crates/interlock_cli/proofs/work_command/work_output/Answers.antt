@@ -16,5 +16,5 @@ returns c =
         headline = report.ensures.headline;
       },
       c.ended.ensures ∙ ap replay_outcome c.premise.ensures,
-      c.in_ok-text.ensures,
+      rw c.whole.ensures c.in_ok-text.ensures,
     )

@@ -16,7 +16,7 @@ returns-clause-ok g c =
             op = record { switch = switch.field-0; direction = command.direction };
             direction_is = refl;
             named = switch.ensures.ok;
-            tells = c.in_ok-text.ensures;
+            tells = rw c.whole.ensures c.in_ok-text.ensures;
           },
         ),
       ),
