@@ -1,24 +1,20 @@
 -- No path of a drawing's station holds the end of a line.
 use Rattle.std.proofs.Common.{◌≡◌, ◌+◌, ◌<◌, ◌&&◌, ℕ, zero, suc, Bool, true, false, List, [], ◌∷◌, ◌++◌, length, map}
-use Rattle.std.proofs.Common.{get_or, Option, Some, None, Result, Ok, Err, Contains, refl, sym, ap, subst, ◌∙◌, inl, inr}
+use Rattle.std.proofs.Common.{get_or, None, Result, Ok, Err, Contains, refl, sym, ap, subst, ◌∙◌, inl, inr}
 use Rattle.std.proofs.Common.{arith}
 use Rattle.std.specs.Prelude.{slice_index_or}
 use Rattle.std.specs.List.{list_all, flat_map, range_with_len}
-use Rattle.std.specs.Option.{option_or, option_map_or}
 use Rattle.station_graph.specs.declared.items.Switch.{Switch}
-use Rattle.station_graph.specs.Diagram.{Diagram, empty}
+use Rattle.station_graph.specs.Diagram.{Diagram}
 use Rattle.ssd_text.specs.declared.refusal.TextRefusal.{TextRefusal}
 use Rattle.ssd_text.specs.Nesting.{Entry, Spells, IsInOrder}
 use Rattle.ssd_text.proofs.Ordered.{read_order}
-use Rattle.ssd_read.specs.declared.refusal.SsdRefusal.{SsdRefusal}
 use Rattle.ssd_read.specs.Elements.{Element, element_at, elements_of}
 use Rattle.ssd_read.specs.Names.{is_shown, root_fault, name_fault, first_fault}
-use Rattle.ssd_read.specs.Ends.{end_fault}
-use Rattle.ssd_read.specs.Steps.{steps_of, built}
 use Rattle.ssd_read.specs.Laws.{switches_at, switch_paths_at}
-use Rattle.ssd_read.specs.StandsFor.{Stands, station_of, fault_of, outcome_of, after_text}
+use Rattle.ssd_read.specs.StandsFor.{Stands, station_of, outcome_of, after_text}
 use Rattle.ssd_read.proofs.Drawn.{drawn_len}
-use Rattle.ssd_read.proofs.InOrder.{has_in_order}
+use Rattle.ssd_read.proofs.InOrder.{has_in_order, no_root_fault, names_are_good}
 use Rattle.station_lines.specs.Aside.{IsShown}
 use Rattle.station_lines.proofs.ShownLemmas.{path_shown}
 use Rattle.log_replay.specs.Telling.{PathsAreLines}
@@ -68,24 +64,11 @@ path_at (path ∷ paths) (suc i) h = path_at paths i h.1
 
 -- ---- a drawing
 
-no_fault : (o : Option SsdRefusal) (r : Result Diagram SsdRefusal) (d : Diagram) → option_map_or Err o r ≡ Ok d →
-    (o ≡ None) × (r ≡ Ok d)
-no_fault None r d h = (refl, h)
-no_fault (Some e) r d h = absurd (cc h)
-
-or_first : (o r : Option SsdRefusal) → option_or o r ≡ None → o ≡ None
-or_first None r h = refl
-or_first (Some e) r h = absurd (cc h)
-
 tree_lines : (tree : List Entry) (d : Diagram) → IsInOrder tree → outcome_of tree ≡ Ok d → PathsAreLines d
 tree_lines tree d order outcome i =
     let all : List Element = elements_of tree in
-    let stands : station_of all ≡ Ok d = (no_fault (root_fault tree) (station_of (elements_of tree)) d outcome).1 in
-    let fault : fault_of all ≡ None =
-    (no_fault (fault_of (elements_of tree)) (built empty (steps_of (elements_of tree))) d stands).0 in
-    let good : first_fault name_fault [] (elements_of tree) ≡ None =
-    or_first (first_fault name_fault [] (elements_of tree))
-    (first_fault (end_fault (elements_of tree)) [] (elements_of tree)) fault in
+    let stands : station_of all ≡ Ok d = no_root_fault (root_fault tree) (station_of (elements_of tree)) d outcome in
+    let good : first_fault name_fault [] (elements_of tree) ≡ None = names_are_good (elements_of tree) d stands in
     let each : (k : ℕ) → k < length (elements_of tree) → IsShown (element_at (elements_of tree) k).path = λ k less.
     path_shown tree order good k (omega (arith, less, drawn_len tree)) in
     let paths : AllPaths d.switch_paths = subst AllPaths (sym (has_in_order tree d order outcome).switch_paths)

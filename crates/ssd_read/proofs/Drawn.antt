@@ -22,12 +22,12 @@ use Rattle.ssd_read.proofs.Taken.{append_none}
 
 -- ---- the elements after those before them
 
-rest_after : List ℕ → List Element → List Entry → List Element
+pub rest_after : List ℕ → List Element → List Entry → List Element
 rest_after front before [] = []
 rest_after front before (e ∷ es) = element_after front before e ∷ rest_after front
     (before ++ element_after front before e ∷ []) es
 
-after_rest : (front : List ℕ) (before : List Element) (es : List Entry) →
+pub after_rest : (front : List ℕ) (before : List Element) (es : List Entry) →
     elements_after front before es ≡ before ++ rest_after front before es
 unfolding rest_after
 after_rest front before [] = elements_end front before ∙ sym (append_none before)

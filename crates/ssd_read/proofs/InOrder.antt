@@ -2,14 +2,16 @@
 use Rattle.std.proofs.Common.{◌≡◌, ℕ, ◌<◌, ◌+◌, List, [], ◌∷◌, ◌++◌, length, map, get_or, Option, Some, None, Bool}
 use Rattle.std.proofs.Common.{true, false, cond, Result, Ok, Err, refl, arith, zero, suc, ap, ◌∙◌}
 use Rattle.std.specs.List.{filter, filter_map, flat_map, range_with_len, cons_option}
-use Rattle.std.specs.Option.{option_map_or}
+use Rattle.std.specs.Option.{option_map_or, option_or}
 use Rattle.std.proofs.lemmas.List.Elements.{filter_map-append}
 use Rattle.station_graph.specs.Diagram.{Diagram, empty}
 use Rattle.station_graph.specs.declared.items.Switch.{Switch}
 use Rattle.ssd_text.specs.Nesting.{Entry, IsInOrder}
 use Rattle.ssd_read.specs.declared.refusal.SsdRefusal.{SsdRefusal}
 use Rattle.ssd_read.specs.Elements.{Element, element_at, elements_of, element_name}
-use Rattle.ssd_read.specs.Names.{is_node, root_fault}
+use Rattle.ssd_read.specs.Names.{is_node, root_fault, name_fault, first_fault}
+use Rattle.ssd_read.specs.PathBytes.{paths_fault}
+use Rattle.ssd_read.specs.Ends.{end_fault}
 use Rattle.ssd_read.specs.Steps.{Step, a_part, a_node, a_switch, a_link, a_tap, built, is_part, naming_step}
 use Rattle.ssd_read.specs.Steps.{item_steps_at, steps_of}
 use Rattle.ssd_read.specs.Lists.{switch_in, link_in, tap_in}
@@ -97,6 +99,21 @@ pub no_root_fault : (o : Option SsdRefusal) (r : Result Diagram SsdRefusal) (d :
     option_map_or Err o r ≡ Ok d → r ≡ Ok d
 no_root_fault None r d h = h
 no_root_fault (Some e) r d h = absurd (cc)
+
+fault_none : (o : Option SsdRefusal) (r : Result Diagram SsdRefusal) (d : Diagram) →
+    option_map_or Err o r ≡ Ok d → o ≡ None
+fault_none None r d h = refl
+fault_none (Some e) r d h = absurd (cc)
+
+second_none : (o r s : Option SsdRefusal) → option_or o (option_or r s) ≡ None → r ≡ None
+second_none None None s h = refl
+second_none None (Some e) s h = absurd (cc)
+second_none (Some e) r s h = absurd (cc)
+
+pub names_are_good : (all : List Element) (d : Diagram) → station_of all ≡ Ok d → first_fault name_fault [] all ≡ None
+names_are_good all d h =
+    second_none (paths_fault all) (first_fault name_fault [] all) (first_fault (end_fault all) [] all)
+    (fault_none (fault_of all) (built empty (steps_of all)) d h)
 
 pub accepted_builds : (tree : List Entry) (d : Diagram) → outcome_of tree ≡ Ok d →
     built empty (steps_of (elements_of tree)) ≡ Ok d

@@ -23,3 +23,4 @@ pub mod Items
 pub mod InOrder
 pub mod AddedPaths
 pub mod Counted
+pub mod PathRoom

@@ -41,7 +41,7 @@ placed_at (e ∷ es) (p ∷ ps) (suc k) d h l =
     let l' : k < length ps = omega arith in
     placed_at es ps k d h' l'
 
-placed_push : (es : List Entry) (ps : List DrawnElement) (p : DrawnElement) → length ps < length es →
+pub placed_push : (es : List Entry) (ps : List DrawnElement) (p : DrawnElement) → length ps < length es →
     placed_all es (ps ++ p ∷ []) ≡ placed_all es ps ++ placed (entry_at es (length ps)) p ∷ []
 placed_push [] ps p h = absurd (omega arith)
 placed_push (e ∷ []) [] p h = refl
@@ -144,7 +144,7 @@ place_inner front es ps e p q role path h ep n er es' =
 
 -- ---- all elements
 
-placed_none : (es : List Entry) → placed_all es [] ≡ []
+pub placed_none : (es : List Entry) → placed_all es [] ≡ []
 placed_none [] = refl
 placed_none (e ∷ es) = refl
 

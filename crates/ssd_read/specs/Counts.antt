@@ -2,7 +2,7 @@
 use Rattle.std.specs.Prelude.{◌≡◌, ℕ, ◌+◌, List, ◌∷◌, ◌++◌, length, Ok}
 use Rattle.station_graph.specs.declared.fault.What.{What}
 use Rattle.station_graph.specs.declared.fault.What.TheVariants.{Bytes, Parts, Bays, Nodes, Switches, BaySwitches}
-use Rattle.station_graph.specs.declared.fault.What.TheVariants.{Links, Taps}
+use Rattle.station_graph.specs.declared.fault.What.TheVariants.{Links, Taps, Paths}
 use Rattle.station_graph.specs.Diagram.{Diagram, part_count, node_count, bay_count, switches_in}
 use Rattle.ssd_read.specs.Steps.{Step, a_switch, built}
 
@@ -21,6 +21,7 @@ has Switches d s = length d.switches
 has BaySwitches d s = beside d s
 has Links d s = length d.links
 has Taps d s = length d.taps
+has Paths d s = 0
 
 -- The steps pass a limit: those before one of them give a diagram from the one at hand, within all limits, and with that
 -- one there are so many of what is counted.

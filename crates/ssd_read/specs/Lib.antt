@@ -2,6 +2,7 @@ pub mod Elements
 pub mod Drawn
 pub mod Types
 pub mod Names
+pub mod PathBytes
 pub mod Ends
 pub mod Steps
 pub mod Lists

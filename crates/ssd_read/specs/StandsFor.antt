@@ -10,14 +10,16 @@ use Rattle.ssd_read.specs.declared.refusal.SsdRefusal.{SsdRefusal}
 use Rattle.ssd_read.specs.declared.refusal.SsdRefusal.TheVariants.{Limit, Memory}
 use Rattle.ssd_read.specs.Elements.{Element, elements_of}
 use Rattle.ssd_read.specs.Names.{root_fault, name_fault, first_fault}
+use Rattle.ssd_read.specs.PathBytes.{paths_fault}
 use Rattle.ssd_read.specs.Ends.{end_fault}
 use Rattle.ssd_read.specs.Steps.{steps_of, built}
 use Rattle.station_graph.specs.Diagram.{empty}
 use Rattle.ssd_read.specs.Seen.{AnswersRefusal, refusal_of_text}
 
--- The first fault of the elements: of names, then of ends.
+-- The first fault of the elements: of all paths together, then of names, then of ends.
 abbrev pub fault_of : List Element → Option SsdRefusal
-fault_of all = option_or (first_fault name_fault [] all) (first_fault (end_fault all) [] all)
+fault_of all =
+    option_or (paths_fault all) (option_or (first_fault name_fault [] all) (first_fault (end_fault all) [] all))
 
 -- The station of the elements, or their first fault.
 abbrev pub station_of : List Element → Result Diagram SsdRefusal

@@ -9,20 +9,20 @@ ghost use Rattle.ssd_read.specs.Types.{type_of};
 ghost use Rattle.ssd_read.specs.Decoded.{IsNameOf, IsDecoded, ArePlaces};
 ghost use Rattle.ssd_text.specs.Nesting.{Entry, entry_at};
 ghost use Rattle.ssd_read.specs.Drawn.{IsDrawn};
-ghost use Rattle.ssd_read.specs.Seen.{placed, placed_all};
+ghost use Rattle.ssd_read.specs.Seen.{placed, placed_all, Finds};
+ghost use Rattle.ssd_read.specs.PathBytes.{paths_fault};
 ghost use Rattle.ssd_text.specs.declared.limits.TheConstants.{ELEMENTS};
 
 use crate::attributes::{attribute, entry, name_in, name_or_nothing, text_of};
+use crate::refusal::SsdRefusal;
 use crate::role::{Role, counted_as, front_of, role_in, unless_grounded};
 use crate::types::{EquipmentType, type_in};
 use ilk_base::Memory;
 use ssd_text::Tree;
+use station_graph::What;
+use station_graph::limits::PATH_BYTES;
 use std::alloc::Global;
 use std::marker::Model;
-
-// The bytes that the paths of all elements may have together. A path holds the names of all that an element
-// stands in, so names of megabytes over many elements would otherwise take gigabytes.
-const MOST_PATH_BYTES: usize = 67_108_864;
 
 // What an element is, what it stands in, its name, where it is counted by one, its path, and its type, where
 // it is equipment: each decoded once, for all passes.
@@ -135,38 +135,38 @@ fn front_of_tree<'a>(tree: &Tree<'a>) -> &'a [u8]
     }
 }
 
-// Takes the bytes of a path from what all paths together may have.
-fn take_room(room: &mut usize, path: &str) -> Result<(), Memory> {
-    match room.checked_sub(path.len()) {
-        Some(left) => {
-            *room = left;
-            Ok(())
-        }
-        None => Err(Memory),
-    }
-}
-
-// The places of all elements. Paths of more than `MOST_PATH_BYTES` together are want of memory.
-fn places_of(alloc: Global, tree: &Tree<'_>) -> Result<Vec<DrawnElement>, Memory>
-    ensures { IfOk result (λ places. ArePlaces tree.now places.items) }
+// The places of all elements, where their paths together are within the limit.
+fn places_of(alloc: Global, tree: &Tree<'_>) -> Result<Vec<DrawnElement>, SsdRefusal>
+    ensures places { IfOk result (λ places. ArePlaces tree.now places.items) }
+    ensures fault { Finds result (paths_fault (elements_of tree.now)) }
 {
     let front = front_of_tree(tree);
     let mut places = Vec::new(alloc);
-    let mut room = MOST_PATH_BYTES;
+    let mut room = PATH_BYTES;
     for i in 0..tree.count() {
         let place = place_of(alloc, tree, front, &places, i)?;
-        take_room(&mut room, place.path.as_str())?;
+        let more = place.path.as_str().len();
+        if more > room {
+            return Err(SsdRefusal::Limit {
+                what: What::Paths,
+                count: PATH_BYTES as u32 + 1,
+            });
+        }
+        room -= more;
         places.push(place)?;
     }
     Ok(places)
 }
 
 impl<'a> Drawing<'a> {
-    pub(crate) fn new(alloc: Global, tree: Tree<'a>) -> Result<Drawing<'a>, Memory>
-        ensures { IfOk result (λ d. d ≡ elements_of tree.entry) }
+    pub(crate) fn new(alloc: Global, tree: Tree<'a>) -> Result<Drawing<'a>, SsdRefusal>
+        ensures elements { IfOk result (λ d. d ≡ elements_of tree.entry) }
+        ensures fault { Finds result (paths_fault (elements_of tree.entry)) }
     {
-        let places = places_of(alloc, &tree)?;
-        Ok(Drawing { tree, places })
+        match places_of(alloc, &tree) {
+            Ok(places) => Ok(Drawing { tree, places }),
+            Err(fault) => Err(fault),
+        }
     }
 
     /// How many elements there are, at once. They are those of a tree, in document order.

@@ -1,10 +1,11 @@
 //! The whole file.
 
-ghost use Rattle.std.specs.Prelude.{◌≡◌, length, List, ℕ, Result};
+ghost use Rattle.std.specs.Prelude.{◌≡◌, length, List, ℕ, Result, None};
 ghost use Rattle.station_graph.specs.Diagram.{Diagram};
 ghost use Rattle.ssd_read.specs.declared.refusal.SsdRefusal.{SsdRefusal as Refusal};
 ghost use Rattle.ssd_read.specs.StandsFor.{TellsStation, TreeAnswers, ElementsAnswer, Stands};
 ghost use Rattle.ssd_read.specs.Names.{root_fault};
+ghost use Rattle.ssd_read.specs.PathBytes.{paths_fault};
 
 use crate::attributes::entry;
 use crate::build::build;
@@ -23,12 +24,13 @@ use std::alloc::Global;
 /// first thing that is wrong with it.
 ///
 /// A file of more than 8,388,608 bytes is refused before it is looked at. Then come the faults of the
-/// text; then, over all elements in document order, those of the root and of names; then, over all
-/// equipment and windings, those of terminals; then the first count that passes a limit of a station.
+/// text and that of the root; then paths of more than 67,108,864 bytes together; then, over all elements
+/// in document order, the faults of names; then, over all equipment and windings, those of terminals; then
+/// the first count that passes a limit of a station.
 ///
 /// Time and memory are those of the text, and of the paths of all named elements written out, each of
-/// which is the names from its substation downward. Paths of more than 64 MiB together are answered as
-/// `Memory`, so that names of megabytes over many elements take memory in the order of the file.
+/// which is the names from its substation downward: of 64 MiB and one path at most, since the limit of
+/// paths is judged as they are written. `Memory` is want of memory alone.
 pub fn read_ssd(alloc: Global, bytes: &[u8]) -> Result<Station, SsdRefusal>
     ensures { TellsStation bytes.now result }
 {
@@ -51,8 +53,10 @@ fn station_of(alloc: Global, tree: Tree<'_>) -> Result<Station, SsdRefusal>
     if let Some(fault) = root_fault(&tree) {
         return Err(fault);
     }
-    let drawing = Drawing::new(alloc, tree)?;
-    station_of_drawing(alloc, &drawing)
+    match Drawing::new(alloc, tree) {
+        Ok(drawing) => station_of_drawing(alloc, &drawing),
+        Err(fault) => Err(fault),
+    }
 }
 
 // The fault of the root's name.
@@ -72,6 +76,7 @@ pub(crate) fn root_fault(tree: &Tree<'_>) -> Option<SsdRefusal>
 
 // The station of a drawing whose root is right.
 fn station_of_drawing(alloc: Global, drawing: &Drawing<'_>) -> Result<Station, SsdRefusal>
+    requires paths { paths_fault drawing.now ≡ None }
     ensures { ElementsAnswer drawing.now result }
 {
     let keys = match check_names(alloc, drawing) {

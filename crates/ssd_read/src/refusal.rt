@@ -13,7 +13,8 @@ use std::alloc::{AllocError, AllocFailed};
 ///
 /// The faults that are no want of memory are numbered 1 to 15, as they stand here. The first seven
 /// are those of the text. 8 to 10 are looked for in all elements, then 11 to 14, then 15, each in
-/// document order; a file that is too long is refused with 15 before all others.
+/// document order; a file that is too long is refused with 15 before all others, and paths that are too
+/// long together between 8 and 9.
 #[derive(Debug, Drop, PartialEq, Eq)]
 pub enum SsdRefusal {
     /// 1: the text is not UTF-8. The place is the length of its longest front that is.
@@ -47,7 +48,7 @@ pub enum SsdRefusal {
     Grounded { at: u32 },
     /// 14: a breaker or disconnector whose two ends are one node.
     Loop { at: u32 },
-    /// 15: one more than a limit of the station, with what is counted and that number.
+    /// 15: one more than a limit, with what is counted and that number.
     Limit { what: What, count: u32 },
     /// There was not enough memory.
     Memory,

@@ -5,6 +5,7 @@ ghost use Rattle.ssd_read.specs.Drawn.{IsDrawn};
 ghost use Rattle.ssd_read.specs.Elements.{elements_of};
 ghost use Rattle.ssd_read.specs.Ends.{ends_of};
 ghost use Rattle.ssd_read.specs.Names.{root_fault};
+ghost use Rattle.ssd_read.specs.PathBytes.{paths_fault};
 ghost use Rattle.ssd_read.specs.Steps.{winding_ends_of};
 ghost use Rattle.ssd_read.specs.StandsFor.{station_of, TellsStation, TreeAnswers, ElementsAnswer};
 ghost use Rattle.ssd_read.specs.Whole.{HasStation, IsDrawing, ReadsTree};
@@ -83,6 +84,7 @@ impl<'a> WholeDrawing<'a> {
 
 // The whole of a drawing whose root is right.
 fn whole_of_drawing<'a>(alloc: Global, drawing: Drawing<'a>) -> Result<WholeDrawing<'a>, SsdRefusal>
+    requires paths { paths_fault drawing ≡ None }
     ensures ok { IfOk result (λ all. (all ≡ drawing.entry) × HasStation all) }
     ensures err { IfErr result (λ e. ElementsAnswer drawing.entry (Err e)) }
 {
@@ -118,8 +120,10 @@ fn whole_of_tree<'a>(alloc: Global, tree: Tree<'a>) -> Result<WholeDrawing<'a>, 
     if let Some(fault) = root_fault(&tree) {
         return Err(fault);
     }
-    let drawing = Drawing::new(alloc, tree)?;
-    whole_of_drawing(alloc, drawing)
+    match Drawing::new(alloc, tree) {
+        Ok(drawing) => whole_of_drawing(alloc, drawing),
+        Err(fault) => Err(fault),
+    }
 }
 
 /// A drawing without faults, as its elements, the ends of each, and the station for which it stands; or the

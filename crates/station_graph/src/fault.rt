@@ -6,7 +6,7 @@ use std::alloc::{AllocError, AllocFailed};
 use std::error::Error;
 use std::fmt;
 
-/// What a limit counts. Each has the number of its limit, from 1 to 8, as `What::Bytes as u8`.
+/// What a limit counts. Each has the number of its limit, from 1 to 9, as `What::Bytes as u8`.
 #[derive(Clone, Copy, Debug, PartialEq, Eq, Hash)]
 pub enum What {
     /// the bytes of a file
@@ -25,12 +25,14 @@ pub enum What {
     Links = 7,
     /// the taps
     Taps = 8,
+    /// the bytes of all paths of a drawing together
+    Paths = 9,
 }
 
 impl What {
     ghost use Rattle.station_graph.specs.Limits.{limit_number};
 
-    /// The number of its limit, from 1 to 8.
+    /// The number of its limit, from 1 to 9.
     pub fn number(self) -> u8
         ensures { result ≡ limit_number self }
     {

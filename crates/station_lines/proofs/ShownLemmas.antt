@@ -1,8 +1,8 @@
 -- All fields of the lines of a drawing are shown.
 use Rattle.std.proofs.Common.{◌≡◌, ℕ, ◌≤◌, ◌<◌, List, [], ◌∷◌, ◌++◌, length, map, take, get_or, Option, Some, None, Bool}
-use Rattle.std.proofs.Common.{true, false, ◌&&◌, ◌||◌, not, cond, Result, Ok, Err, refl, arith, zero, suc, ap, ◌∙◌, sym, subst, ◌+◌}
+use Rattle.std.proofs.Common.{true, false, ◌&&◌, ◌||◌, not, cond, Ok, refl, arith, zero, suc, ap, ◌∙◌, sym, subst, ◌+◌}
 use Rattle.std.specs.List.{list_all, filter, flat_map, range_with_len}
-use Rattle.std.specs.Option.{option_or, option_map_or, unwrap_or}
+use Rattle.std.specs.Option.{option_map_or, unwrap_or}
 use Rattle.std.specs.Prelude.{codes, is_some, nat_lt, ◌⊎◌}
 use Rattle.std.proofs.lemmas.Bool.{cases_Bool}
 use Rattle.std.proofs.lemmas.List.Folds.{list_all-append}
@@ -16,22 +16,20 @@ use Rattle.ssd_read.specs.declared.role.Role.{Role}
 use Rattle.ssd_read.specs.declared.role.Role.TheVariants.{Root, Substation, VoltageLevel, Bay, ConnectivityNode}
 use Rattle.ssd_read.specs.declared.role.Role.TheVariants.{ConductingEquipment, PowerTransformer, TransformerWinding}
 use Rattle.ssd_read.specs.declared.role.Role.TheVariants.{Terminal, Skipped}
-use Rattle.ssd_read.specs.declared.refusal.SsdRefusal.{SsdRefusal}
 use Rattle.ssd_read.specs.declared.refusal.SsdRefusal.TheVariants.{NoName, Twice}
 use Rattle.ssd_read.specs.Elements.{Element, element_at, elements_of, element_after, element_name, attribute_value}
 use Rattle.ssd_read.specs.Elements.{counted_as, path_in, same_role, front_of_tree}
 use Rattle.ssd_read.specs.Names.{is_shown, is_good_name, lacks_name, is_nameless, is_taken, name_fault, first_fault}
 use Rattle.ssd_read.specs.Names.{is_node, keys_of}
 use Rattle.ssd_read.specs.Steps.{Step, a_part, a_node, a_switch, a_link, a_tap, naming_step, item_steps_at, is_part}
-use Rattle.ssd_read.specs.Steps.{part_of, steps_of, built}
-use Rattle.ssd_read.specs.Ends.{end_fault}
+use Rattle.ssd_read.specs.Steps.{part_of}
 use Rattle.ssd_read.specs.Whole.{IsDrawing}
-use Rattle.station_graph.specs.Diagram.{empty}
 use Rattle.ssd_text.proofs.Ordered.{read_order}
 use Rattle.ssd_read.specs.Laws.{StandsIn, path_of, numbers_of}
-use Rattle.ssd_read.specs.StandsFor.{station_of, fault_of}
+use Rattle.ssd_read.specs.StandsFor.{station_of}
 use Rattle.ssd_read.specs.Types.{type_of}
 use Rattle.ssd_read.proofs.Drawn.{drawn_at, drawn_len, drawn_entry, stands_in}
+use Rattle.ssd_read.proofs.InOrder.{names_are_good}
 use Rattle.ssd_read.proofs.NewPaths.{none_at, or_false}
 use Rattle.station_lines.specs.Rows.{Row, text_of}
 use Rattle.station_lines.specs.Lines.{step_row, step_rows, nodes_of, type_word, shown_word, node_in, second_in, kind_word}
@@ -274,23 +272,13 @@ tree_shown tree o good =
 
 -- ---- a drawing
 
-or_first : (o r : Option SsdRefusal) → option_or o r ≡ None → o ≡ None
-or_first None r h = refl
-or_first (Some e) r h = absurd (cc)
-
-no_fault : (o : Option SsdRefusal) (r : Result Diagram SsdRefusal) (d : Diagram) → option_map_or Err o r ≡ Ok d → o ≡ None
-no_fault None r d h = refl
-no_fault (Some e) r d h = absurd (cc)
-
 pub drawing_shown : (text : List ℕ) (all : List Element) (d : Diagram) → IsDrawing text all → station_of all ≡ Ok d →
     AllShown (rows_of all)
 drawing_shown text all d drawing stands =
     let tree : List Entry = drawing.tree in
     let order : IsInOrder tree = read_order text tree drawing.spells in
     let same : all ≡ elements_of tree = drawing.reads.elements in
-    let fault : fault_of all ≡ None = no_fault (fault_of all) (built empty (steps_of all)) d stands in
-    let good : first_fault name_fault [] all ≡ None =
-    or_first (first_fault name_fault [] all) (first_fault (end_fault all) [] all) fault in
+    let good : first_fault name_fault [] all ≡ None = names_are_good all d stands in
     subst (λ (xs : List Element). AllShown (rows_of xs)) (sym same)
     (tree_shown tree order (subst (λ (xs : List Element). first_fault name_fault [] xs ≡ None) same good))
 

@@ -17,6 +17,7 @@ fn number_of(what: What) -> u32 {
         What::BaySwitches => 6,
         What::Links => 7,
         What::Taps => 8,
+        What::Paths => 9,
     }
 }
 
@@ -43,7 +44,7 @@ fn told_refusal(refusal: SsdRefusal) -> (u8, u32, u32) {
 }
 
 // What a text is refused with, or 0.
-fn outcome(alloc: Global, bytes: &[u8]) -> (u8, u32, u32) {
+pub(crate) fn outcome(alloc: Global, bytes: &[u8]) -> (u8, u32, u32) {
     match read_ssd(alloc, bytes) {
         Ok(_) => (0, 0, 0),
         Err(refusal) => told_refusal(refusal),
