@@ -8,6 +8,8 @@ mod drawings;
 #[cfg(test)]
 mod exported;
 #[cfg(test)]
+mod long_names;
+#[cfg(test)]
 mod pieces;
 #[cfg(test)]
 mod refusals;
