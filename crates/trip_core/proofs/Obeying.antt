@@ -22,7 +22,7 @@ use Rattle.reservation_core.proofs.Soundness.{happens_sound, opens_sound}
 use Rattle.trip_core.specs.declared.values.Note.{Note}
 use Rattle.trip_core.specs.declared.values.TripEvent.{TripEvent}
 use Rattle.trip_core.specs.declared.values.TripEvent.TheVariants.{Step, Trip}
-use Rattle.trip_core.specs.Trips.{TripScene, IsBreaker, Matters, IsGoodNote, word_in, note_at}
+use Rattle.trip_core.specs.Trips.{TripScene, IsBreaker, IsOwnOrPartner, IsGoodNote, word_in, note_at}
 use Rattle.trip_core.specs.Happens.{TripHappens, TripInRange}
 use Rattle.trip_core.specs.Facts.{TripFacts, IsFresh, ObeysGap, ObeysLoad, AnswersTrip, StandsForAnswer, WordsTrip}
 use Rattle.trip_core.specs.Facts.{GrantsTrip}
@@ -49,7 +49,7 @@ module _ (m : Meaning) (s : TripScene) (facts : TripFacts m s) where
       (switch_of m (node m.diagram w c).bay g.op.switch.0 fits.own).0
 
   -- where it is fresh, no note that was used is stale
-  fresh_true : (c : ℕ) (g : Grant) (i : ℕ) → IsFresh m.diagram s c g → Matters m.diagram (bay_of m.diagram i) c
+  fresh_true : (c : ℕ) (g : Grant) (i : ℕ) → IsFresh m.diagram s c g → IsOwnOrPartner m.diagram (bay_of m.diagram i) c
       → i ≢ g.op.switch.0 → IsGoodNote m.diagram w.truth s.tripped s.events i (note_at s.known c i) → IsTrueWord
       (note_at s.known c i).word (true_at w.truth i)
   fresh_true c g i fresh matters other (inl true_note) = true_note.is_true

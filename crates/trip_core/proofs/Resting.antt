@@ -17,7 +17,7 @@ use Rattle.station_graph.specs.CentralRules.{Breaks}
 use Rattle.central_rules.specs.Meaning.{bay_of}
 use Rattle.reservation_core.proofs.Steps.{switch_there}
 use Rattle.reservation_core.proofs.AlikeNotes.{got_or}
-use Rattle.trip_core.specs.Trips.{Matters}
+use Rattle.trip_core.specs.Trips.{IsOwnOrPartner}
 use Rattle.trip_core.proofs.Agreed.{agreed_list, length_agreed, agreed_at, agrees_at, lost_agrees}
 use Rattle.trip_core.proofs.Agreed.{agreed_lost, agreed_alike, agreed_same_at}
 
@@ -25,7 +25,7 @@ use Rattle.trip_core.proofs.Agreed.{agreed_lost, agreed_alike, agreed_same_at}
 pub record Resting (d : Diagram) (c n : ℕ) : Type 0 where
   pub rests : ℕ → Bool
   pub none : (b : ℕ) → b < n → rests b ≡ true → Irrelevant d b c
-  pub other : (b : ℕ) → b < n → rests b ≡ false → Matters d b c
+  pub other : (b : ℕ) → b < n → rests b ≡ false → IsOwnOrPartner d b c
 
 -- the same of all bays of switches
 pub record Rest (d : Diagram) (c : ℕ) : Type 0 where
@@ -67,8 +67,8 @@ module _ (d : Diagram) (c n : ℕ) (old : Resting d c n) where
     ];
   }
 
-  matters_more : Matters d n c → Resting d c (suc n)
-  matters_more matters = record {
+  own_or_partner_more : IsOwnOrPartner d n c → Resting d c (suc n)
+  own_or_partner_more matters = record {
     rests = then_rests old.rests n false;
     none = λ b lt at. elim (below_or_last b n lt) [
       | inl less ↦ old.none b less (sym (rests_before old.rests n false b (λ is. absurd (omega (arith, is, less)))) ∙ at)
@@ -77,7 +77,7 @@ module _ (d : Diagram) (c n : ℕ) (old : Resting d c n) where
     other = λ b lt at. elim (below_or_last b n lt) [
       | inl less ↦
           old.other b less (sym (rests_before old.rests n false b (λ is. absurd (omega (arith, is, less)))) ∙ at)
-      | inr is ↦ subst (λ k. Matters d k c) (sym is) matters
+      | inr is ↦ subst (λ k. IsOwnOrPartner d k c) (sym is) matters
     ];
   }
 
@@ -90,7 +90,7 @@ resting d c zero refuted = refuted (record {
 resting d c (suc n) refuted =
     resting d c n (λ old. not_none (λ (which : Irrelevant d n c ⊎ ¬ Irrelevant d n c). elim which [
       | inl is ↦ refuted (rests_more d c n old is)
-      | inr partner ↦ refuted (matters_more d c n old (inr partner))
+      | inr partner ↦ refuted (own_or_partner_more d c n old (inr partner))
     ]))
 
 -- a number above those of all bays
@@ -184,7 +184,7 @@ module _ (d : Diagram) (c : ℕ) (words : ℕ → Dbpos) (rest : Rest d c) where
   -- a switch agrees with its word, or it is of a bay that matters and stands as it did
   pub rested_at : (v : List Bool) (i : ℕ) → i < length v → i < length d.switches →
       ((word : Dbpos) → words i ≡ word → Agrees word (get_or (rested_list v) i false))
-      ⊎ (Matters d (bay_of d i) c × (get_or (rested_list v) i false ≡ get_or v i false))
+      ⊎ (IsOwnOrPartner d (bay_of d i) c × (get_or (rested_list v) i false ≡ get_or v i false))
   unfolding rested_list
   rested_at v i lt there = elim (cases_Bool (rest.resting.rests (bay_of d i))) [
     | inl rests ↦

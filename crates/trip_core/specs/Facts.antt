@@ -17,7 +17,7 @@ use Rattle.reservation_core.specs.Held.{TruthFacts, HeardAllow}
 use Rattle.reservation_core.specs.Facts.{ObeysFirstTwo, BayResolvesBut}
 use Rattle.reservation_core.specs.World.{WorldRounds}
 use Rattle.trip_core.specs.declared.values.Note.{Note}
-use Rattle.trip_core.specs.Trips.{TripScene, IsBreaker, Matters, IsStale, IsGoodNote, word_in, note_at, own_note}
+use Rattle.trip_core.specs.Trips.{TripScene, IsBreaker, IsOwnOrPartner, IsStale, IsGoodNote, word_in, note_at, own_note}
 use Rattle.trip_core.specs.Trips.{held_of, tripped_at}
 
 -- There is a note wherever there is to be one, and nothing has tripped at an event that is to come.
@@ -41,7 +41,7 @@ pub record TripFacts (m : Meaning) (s : TripScene) : Type 0 where
 -- bay that matters to c, other than its own switch, whose word in what it knew is on: one that was off is open, and a
 -- trip leaves it so.
 abbrev pub IsFresh : Diagram → TripScene → ℕ → Grant → Type 0
-IsFresh d s c g = (i : ℕ) → IsBreaker d i → Matters d (bay_of d i) c → i ≢ g.op.switch.0
+IsFresh d s c g = (i : ℕ) → IsBreaker d i → IsOwnOrPartner d (bay_of d i) c → i ≢ g.op.switch.0
     → (note_at s.known c i).word ≡ On → tripped_at s.tripped i ≤ (note_at s.known c i).at
 
 -- In no vector that resolves the truth do the first two rules apply to a granted operation, whatever has tripped.

@@ -32,8 +32,8 @@ pub record IsBreaker (d : Diagram) (i : ℕ) : Type 0 where
   pub kind : switch.kind ≡ Breaker
 
 -- What stands in bay b matters to bay c: it is c itself, or a partner of c, whose positions can change an answer of c.
-abbrev pub Matters : Diagram → ℕ → ℕ → Type 0
-Matters d b c = (b ≡ c) ⊎ Partner d b c
+abbrev pub IsOwnOrPartner : Diagram → ℕ → ℕ → Type 0
+IsOwnOrPartner d b c = (b ≡ c) ⊎ Partner d b c
 
 -- The note where nothing is known.
 abbrev pub lost : Note

@@ -17,7 +17,7 @@ use Rattle.reservation_core.specs.declared.values.WorldEvent.TheVariants.{Delive
 use Rattle.trip_core.specs.declared.values.Note.{Note}
 use Rattle.trip_core.specs.declared.values.TripEvent.{TripEvent}
 use Rattle.trip_core.specs.declared.values.TripEvent.TheVariants.{Step, Trip}
-use Rattle.trip_core.specs.Trips.{IsBreaker, Matters, lost}
+use Rattle.trip_core.specs.Trips.{IsBreaker, IsOwnOrPartner, lost}
 use Rattle.trip_core.specs.TripLines.{TripLine, plain, sensed_line, tripped_line}
 
 -- The lines up to that which shows the message of this number.
@@ -76,5 +76,5 @@ GrantedAt (x ∷ rest) c r op l before = ((of_bay x.shown c ≡ Granted r op) ×
 -- bay and of the bay's partners, other than the moved switch, whose word that its bay knew is on: one that was off stood
 -- open, and a trip leaves it so.
 abbrev pub NoneTripped : Diagram → List TripLine → ℕ → Op → TripLine → List TripLine → Type 0
-NoneTripped d lines c op l before = (i : ℕ) → IsBreaker d i → Matters d (bay_of d i) c → i ≢ op.switch.0
+NoneTripped d lines c op l before = (i : ℕ) → IsBreaker d i → IsOwnOrPartner d (bay_of d i) c → i ≢ op.switch.0
     → (known_note d l before c i).word ≡ On → tripped_line lines i ≤ (known_note d l before c i).at
