@@ -1,14 +1,15 @@
 -- What a contract sees of a command.
 use Rattle.interlock_cli.specs.Commands as c
-use Rattle.interlock_cli.specs.declared.words.Command.{Command}
-use Rattle.interlock_cli.specs.declared.words.Command.TheVariants.{Check, Explain, State, Order, Replay, Audit, Node}
-use Rattle.interlock_cli.specs.declared.words.Command.TheVariants.{Compile, Trips, Plan, Program, Make, Work, Station}
-use Rattle.interlock_cli.specs.declared.words.Command.TheVariants.{BayProgram, Compare, Tests, StationTests, Why}
+use Rattle.interlock_cli.specs.declared.command.Command.{Command}
+use Rattle.interlock_cli.specs.declared.command.Command.TheVariants.{Check, Explain, State, Order, Replay, Audit, Node}
+use Rattle.interlock_cli.specs.declared.command.Command.TheVariants.{Compile, Trips, Plan, Program, Make, Work, Station}
+use Rattle.interlock_cli.specs.declared.command.Command.TheVariants.{BayProgram, Compare, Tests, StationTests, Why}
 
 -- A command, as the definitions name it.
 abbrev pub seen_command : Command → c.Command
 seen_command (Check station positions) = c.Check station.now positions.now
-seen_command (Explain station positions direction switch) = c.Explain station.now positions.now direction switch.now
+seen_command (Explain station asked) =
+    c.Explain station.now asked.positions.now asked.direction asked.switch.now
 seen_command (State station positions) = c.State station.now positions.now
 seen_command (Order station positions order) = c.Order station.now positions.now order.now
 seen_command (Replay station log) = c.Replay station.now log.now
@@ -24,5 +25,6 @@ seen_command (Work feeders) = c.Work feeders.number
 seen_command (Station station) = c.Station station.now
 seen_command (Compare old new) = c.Compare old.now new.now
 seen_command (Tests station bay) = c.Tests station.now bay.now
-seen_command (Why station positions direction switch) = c.Why station.now positions.now direction switch.now
+seen_command (Why station asked) =
+    c.Why station.now asked.positions.now asked.direction asked.switch.now
 seen_command (StationTests station) = c.StationTests station.now

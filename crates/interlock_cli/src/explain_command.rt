@@ -1,11 +1,12 @@
 //! The command `explain`.
 use crate::answer::Answer;
+use crate::command::AskedOperation;
 use crate::content::load;
 use crate::end::{End, Outcome, Output};
 use crate::loading::named_switch;
 use crate::out_text::OutText;
 use double_points::Readings;
-use ilk_base::{Direction, Op, Shelf};
+use ilk_base::{Op, Shelf};
 use release_compile::GraphJudge;
 use release_texts::explain_text;
 use station_graph::Station;
@@ -14,18 +15,16 @@ use std::alloc::Global;
 // `explain STATION POSITIONS open SWITCH`, or `close`
 #[derive(Clone, Copy)]
 pub(crate) struct Explain<'a> {
-    pub positions: &'a str,
-    pub direction: Direction,
-    pub switch: &'a str,
+    pub asked: AskedOperation<'a>,
 }
 
 impl<'a> Answer for Explain<'a> {
     ghost use Rattle.std.specs.Prelude.{[], ◌∷◌};
     ghost use Rattle.interlock_cli.specs.Rests.{explain_rest};
 
-    ghost rest = { λ command. explain_rest command.positions.now command.direction command.switch.now };
+    ghost rest = { λ command. explain_rest command.asked.positions.now command.asked.direction command.asked.switch.now };
 
-    ghost names = { λ command. command.positions.now ∷ [] };
+    ghost names = { λ command. command.asked.positions.now ∷ [] };
 
     fn answer<F: Shelf>(
         &self,
@@ -34,10 +33,10 @@ impl<'a> Answer for Explain<'a> {
         judge: &GraphJudge<'_>,
         shelf: &mut F,
     ) -> Result<Output, End> {
-        let readings: Readings = load(alloc, station, self.positions, shelf)?;
+        let readings: Readings = load(alloc, station, self.asked.positions, shelf)?;
         let op = Op {
-            switch: named_switch(station, self.switch)?,
-            direction: self.direction,
+            switch: named_switch(station, self.asked.switch)?,
+            direction: self.asked.direction,
         };
         let text = explain_text(alloc, station, judge, &readings, op)?;
         Ok(Output {

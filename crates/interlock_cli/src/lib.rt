@@ -4,6 +4,7 @@
 mod answer;
 mod audit_command;
 mod check_command;
+mod command;
 mod compare_command;
 mod compile_command;
 mod content;

@@ -11,6 +11,7 @@ ghost use Rattle.interlock_cli.specs.Complete.{Completes};
 use crate::answer::answer_drawing;
 use crate::audit_command::Audit;
 use crate::check_command::Check;
+use crate::command::Command;
 use crate::compare_command::Compare;
 use crate::compile_command::Compile;
 use crate::end::{End, Output, make_status};
@@ -28,7 +29,7 @@ use crate::tell::tell;
 use crate::tests_command::{StationTests, Tests};
 use crate::trips_command::Trips;
 use crate::why_command::Why;
-use crate::words::{Command, read_command};
+use crate::words::read_command;
 use crate::work_command::work;
 use ilk_base::{Shelf, Sink, Source};
 use std::alloc::Global;
@@ -47,18 +48,8 @@ fn output_of<F: Shelf>(alloc: Global, command: &Command, shelf: &mut F) -> Resul
         Command::Check { station, positions } => {
             answer_drawing(alloc, station, &Check { positions }, shelf)
         }
-        Command::Explain {
-            station,
-            positions,
-            direction,
-            switch,
-        } => {
-            let explain = Explain {
-                positions,
-                direction,
-                switch,
-            };
-            answer_drawing(alloc, station, &explain, shelf)
+        Command::Explain { station, asked } => {
+            answer_drawing(alloc, station, &Explain { asked }, shelf)
         }
         Command::State { station, positions } => {
             answer_drawing(alloc, station, &State { positions }, shelf)
@@ -84,19 +75,7 @@ fn output_of<F: Shelf>(alloc: Global, command: &Command, shelf: &mut F) -> Resul
         Command::Station { station: name } => station(alloc, name, shelf),
         Command::Compare { old, new } => answer_drawing(alloc, old, &Compare { new }, shelf),
         Command::Tests { station, bay } => answer_drawing(alloc, station, &Tests { bay }, shelf),
-        Command::Why {
-            station,
-            positions,
-            direction,
-            switch,
-        } => {
-            let why = Why {
-                positions,
-                direction,
-                switch,
-            };
-            answer_drawing(alloc, station, &why, shelf)
-        }
+        Command::Why { station, asked } => answer_drawing(alloc, station, &Why { asked }, shelf),
         Command::StationTests { station } => answer_drawing(alloc, station, &StationTests, shelf),
         Command::Node { .. } => unreachable!(),
     }

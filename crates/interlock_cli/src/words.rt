@@ -6,91 +6,12 @@ ghost use Rattle.interlock_cli.specs.Commands.{plan_of, trips_of, compile_of, or
 ghost use Rattle.interlock_cli.specs.Ends.{WordsUnread};
 ghost use Rattle.interlock_cli.specs.Seen.{seen_command};
 
+use crate::command::{AskedOperation, Command};
 use crate::end::End;
 use command_words::read_words;
 use ilk_base::Direction;
-use station_make::{Feeders, MadeText, feeders_named, text_named};
+use station_make::{feeders_named, text_named};
 use std::alloc::Global;
-
-// A command, with its words.
-#[derive(Clone, Copy)]
-pub enum Command<'a> {
-    Check {
-        station: &'a str,
-        positions: &'a str,
-    },
-    Explain {
-        station: &'a str,
-        positions: &'a str,
-        direction: Direction,
-        switch: &'a str,
-    },
-    State {
-        station: &'a str,
-        positions: &'a str,
-    },
-    Order {
-        station: &'a str,
-        positions: &'a str,
-        order: &'a str,
-    },
-    Replay {
-        station: &'a str,
-        log: &'a str,
-    },
-    Audit {
-        station: &'a str,
-        equations: &'a str,
-    },
-    Node {
-        station: &'a str,
-        bay: &'a str,
-    },
-    Compile {
-        station: &'a str,
-    },
-    Trips {
-        station: &'a str,
-        log: &'a str,
-    },
-    Plan {
-        station: &'a str,
-    },
-    Program {
-        station: &'a str,
-    },
-    BayProgram {
-        station: &'a str,
-        bay: &'a str,
-    },
-    Make {
-        feeders: Feeders,
-        text: MadeText,
-    },
-    Work {
-        feeders: Feeders,
-    },
-    Station {
-        station: &'a str,
-    },
-    Compare {
-        old: &'a str,
-        new: &'a str,
-    },
-    Tests {
-        station: &'a str,
-        bay: &'a str,
-    },
-    Why {
-        station: &'a str,
-        positions: &'a str,
-        direction: Direction,
-        switch: &'a str,
-    },
-    StationTests {
-        station: &'a str,
-    },
-}
 
 // The direction that a word names.
 fn direction_of(word: &str) -> Option<Direction>
@@ -121,12 +42,14 @@ fn explain_words<'a>(rest: &[&'a str]) -> Option<Command<'a>>
         return None;
     };
     match direction_of(direction) {
-        Some(direction) => Some(Command::Explain {
-            station,
-            positions,
-            direction,
-            switch,
-        }),
+        Some(direction) => {
+            let asked = AskedOperation {
+                positions,
+                direction,
+                switch,
+            };
+            Some(Command::Explain { station, asked })
+        }
         None => None,
     }
 }
@@ -294,12 +217,14 @@ fn why_words<'a>(rest: &[&'a str]) -> Option<Command<'a>>
         return None;
     };
     match direction_of(direction) {
-        Some(direction) => Some(Command::Why {
-            station,
-            positions,
-            direction,
-            switch,
-        }),
+        Some(direction) => {
+            let asked = AskedOperation {
+                positions,
+                direction,
+                switch,
+            };
+            Some(Command::Why { station, asked })
+        }
         None => None,
     }
 }

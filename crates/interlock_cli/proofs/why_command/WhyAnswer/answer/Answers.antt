@@ -3,7 +3,7 @@ use Rattle.interlock_cli.proofs.why_command.WhyAnswer.answer.Goals as goal
 
 pub returns-clause-ok : goal.returns-clause-ok
 returns-clause-ok g c =
-    let command = c.args.self.now in
+    let command = c.args.self.now.asked in
     let switch = c.in_ok-named_switch in (
       c.in_ok-readings.readings,
       c.in_ok-readings.ensures.ok,
