@@ -11,7 +11,7 @@ status is 1 where one is over.
 - chosen names: keys of nodes that all have one hash under the standard library's hash with its fixed seed, and as many
   keys beside them that do not. Both have the same bound
 - long names: 64 bays of 8 switches below one name of up to 8,000 bytes, with nothing known: each line of an answer
-  repeats it, so that `check` writes 2 GB, in pieces, of which it holds one at a time
+  repeats it, so that `check` writes 2 GB and `audit` 1 GB, in pieces, of which they hold one at a time
 - floods: a million frames, ticks, commands, readings or changes of the record to one node; 3,000 lines to a stored one,
   whose changes go to the disk; a log of 20,000 records in which 64 bays send one another messages
 """
@@ -29,6 +29,8 @@ sys.path.insert(0, str(common.TOP / "bench/check"))
 import schemes
 
 PARTS = (4, 2, 1)
+# The most bytes of a file.
+LONGEST = 8_388_608
 SECONDS, MEMORY = 10.0, 1024.0
 SPARE_SECONDS, SPARE_MEMORY = 0.2, 64.0
 
@@ -109,12 +111,22 @@ def bays_below(name):
     return f'<SCL><Substation name="S"><VoltageLevel name="{name}">{"".join(bays)}</VoltageLevel></Substation></SCL>'
 
 
+def paths_below(name):
+    """The paths of the switches of these bays."""
+    return [f"S/{name}/{bay}/D{number}" for bay in range(64) for number in range(8)]
+
+
 def long_names():
     for command in ("check", "state", "plan", "compile", "program", "station"):
         for part in PARTS:
             files = {"a": bays_below("V" * (8_000 // part)).encode(), "b": b""}
             words = [command, "a", "b"] if command in ("check", "state") else [command, "a"]
             yield Case(f"{command}: 64 bays of 8 switches below a long name", words, files, b"", 0, 20, 16)
+    for part in PARTS:
+        files = {"a": bays_below("V" * (8_000 // part)).encode()}
+        files["b"] = "".join(f"{move} {path}\nend\n" for path in paths_below("V" * (8_000 // part)) for move in ("open", "close")).encode()[:LONGEST]
+        files["b"] = files["b"][:files["b"].rfind(b"end\n") + 4]
+        yield Case("audit: a block without conditions for each operation there", ["audit", "a", "b"], files, b"", 1, 1, 16)
     for part in PARTS:
         files = {"a": schemes.sections_in_turn(60 // part).drawing().encode()}
         yield Case(f"compile: two sections of {60 // part} feeders in turn", ["compile", "a"], files, b"", 0)

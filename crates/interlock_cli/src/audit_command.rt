@@ -27,10 +27,11 @@ fn audit_output<J: Judge>(
     ensures { IfOk result (λ o. AuditWrites station.now blocks.now o.outcome o.text) }
 {
     let found = equation_audit::audit(alloc, station, blocks, judge)?;
-    let text = found.text(alloc, station)?;
+    let lines = found.lines(alloc, station)?;
+    let text = OutText::named(alloc, lines)?;
     Ok(Output {
         outcome: outcome_of(found.differs()),
-        text: OutText::whole(text),
+        text,
     })
 }
 
