@@ -81,7 +81,7 @@ ROWS = [
             {3, 5, 6}, (1,),
             "the releases of every switch as function blocks of structured text (IEC 61131-3) and a program that calls "
             "them: assignments of AND, OR and NOT alone, from the two contacts of each switch. With BAY, the blocks of "
-            "that bay alone, as the whole text has them"),
+            "that bay alone, and how many BOOLs it exchanges with others"),
     Command("`compile STATION`", "the release equations of the whole station",
             "the release equations of the whole station as one text, whose meaning is the rules", {3, 5}, (1,)),
     Command("`audit STATION EQUATIONS`", "hand-written equations held against the rules",

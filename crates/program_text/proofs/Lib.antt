@@ -21,3 +21,5 @@ pub mod SortLemmas
 pub mod ReorderedLemmas
 pub mod UnblockedLemmas
 pub mod VariableLemmas
+pub mod WholeLemmas
+pub mod CountLemmas

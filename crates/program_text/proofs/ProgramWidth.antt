@@ -23,7 +23,7 @@ use Rattle.program_text.specs.ProgramText.{section_text, if_may, unless_may, blo
 use Rattle.program_text.specs.ProgramText.{wire_text, more_wires, wires_text, drawn_text, draws_text, call_text}
 use Rattle.program_text.specs.ProgramText.{step_text, steps_text, instance_text, instances_text, contacts_text}
 use Rattle.program_text.specs.ProgramText.{variables_text, wiring_text, whole_text}
-use Rattle.program_text.specs.BayText.{is_called_for, bay_blocks_text}
+use Rattle.program_text.specs.BayText.{is_called_for, bay_blocks_text, bay_exchange_text}
 use Rattle.program_text.proofs.KeptNames.{may_within, others_within, formula_count_low}
 
 number_fits : (c n : ℕ) → n < 2 ^ 64 → c + 20 ≤ 200 → Fits c (decimal n) (c + 20)
@@ -122,15 +122,15 @@ module _ (d : Diagram) (few : length d.switches ≤ 2 ^ 64) where
       let low_given = formula_count_low b.outputs.items in
       let held_given = b.outputs.ok in
       let small_given = b.outputs.small in
-      let begin = codes "  (* from other blocks " in
-      let between = codes " BOOLs, to others " in
-      goes_on 0 begin 23 (decimal read ++ (between ++ (decimal given ++ codes " *)\n"))) 0 (tested 0 begin 23 refl)
-      (goes_on 23 (decimal read) 43 (between ++ (decimal given ++ codes " *)\n")) 0
-      (number_fits 23 read (omega (arith, low, held.0, held.1, small)) (omega arith))
-      (goes_on 43 between 61 (decimal given ++ codes " *)\n") 0 (tested 43 between 61 refl)
-      (goes_on 61 (decimal given) 81 (codes " *)\n") 0
-      (number_fits 61 given (omega (arith, low_given, held_given.0, held_given.1, small_given)) (omega arith))
-      (tested 81 (codes " *)\n") 0 refl))))
+      let begin = codes "  (* from outside of the block " in
+      let between = codes " BOOLs, to the outside " in
+      goes_on 0 begin 31 (decimal read ++ (between ++ (decimal given ++ codes " *)\n"))) 0 (tested 0 begin 31 refl)
+      (goes_on 31 (decimal read) 51 (between ++ (decimal given ++ codes " *)\n")) 0
+      (number_fits 31 read (omega (arith, low, held.0, held.1, small)) (omega arith))
+      (goes_on 51 between 74 (decimal given ++ codes " *)\n") 0 (tested 51 between 74 refl)
+      (goes_on 74 (decimal given) 94 (codes " *)\n") 0
+      (number_fits 74 given (omega (arith, low_given, held_given.0, held_given.1, small_given)) (omega arith))
+      (tested 94 (codes " *)\n") 0 refl))))
 
   block_fits : (k : ℕ) (b : Block) → k < 2 ^ 64 → BlockWithin d b → Fits 0 (block_text d k b) 0
   block_fits k b small h =
@@ -264,7 +264,20 @@ module _ (d : Diagram) (few : length d.switches ≤ 2 ^ 64) where
       (chosen_fits (is_called_for p k steps) (block_text d k b) (block_fits k b (omega (arith, small)) (h 0 b refl)))
       (bay_blocks_fit steps p (k + 1) bs (omega (arith, small)) (λ i y at. h (suc i) y at))
 
-  pub bay_short : (steps : List Step) (p : ℕ) (bs : List Block) → length bs < 2 ^ 64 → BlocksWithin d bs →
-      AreLinesShort (bay_blocks_text d steps p 0 bs)
-  bay_short steps p bs few_bs blocks =
-      short_lines (bay_blocks_text d steps p 0 bs) 0 (bay_blocks_fit steps p 0 bs (omega (arith, few_bs)) blocks)
+  bay_exchange_fits : (told tells : ℕ) → told < 2 ^ 64 → tells < 2 ^ 64 → Fits 0 (bay_exchange_text told tells) 0
+  bay_exchange_fits told tells few_told few_tells =
+      let begin = codes "(* from other bays " in
+      let between = codes " BOOLs, to other bays " in
+      goes_on 0 begin 19 (decimal told ++ (between ++ (decimal tells ++ codes " *)\n"))) 0 (tested 0 begin 19 refl)
+      (goes_on 19 (decimal told) 39 (between ++ (decimal tells ++ codes " *)\n")) 0 (number_fits 19 told few_told (omega arith))
+      (goes_on 39 between 61 (decimal tells ++ codes " *)\n") 0 (tested 39 between 61 refl)
+      (goes_on 61 (decimal tells) 81 (codes " *)\n") 0 (number_fits 61 tells few_tells (omega arith))
+      (tested 81 (codes " *)\n") 0 refl))))
+
+  pub bay_short : (told tells : ℕ) → told < 2 ^ 64 → tells < 2 ^ 64 → (steps : List Step) (p : ℕ) (bs : List Block) →
+      length bs < 2 ^ 64 → BlocksWithin d bs →
+      AreLinesShort (bay_exchange_text told tells ++ bay_blocks_text d steps p 0 bs)
+  bay_short told tells few_told few_tells steps p bs few_bs blocks =
+      short_lines (bay_exchange_text told tells ++ bay_blocks_text d steps p 0 bs) 0
+      (goes_on 0 (bay_exchange_text told tells) 0 (bay_blocks_text d steps p 0 bs) 0
+      (bay_exchange_fits told tells few_told few_tells) (bay_blocks_fit steps p 0 bs (omega (arith, few_bs)) blocks))

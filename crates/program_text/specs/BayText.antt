@@ -1,22 +1,15 @@
 -- The text of one bay: the blocks that its calls name.
-use Rattle.std.specs.Prelude.{◌≡◌, ◌++◌, ◌+◌, ◌==◌, ◌&&◌, ◌||◌, ℕ, Bool, false, List, [], ◌∷◌, Option, Some, None}
+use Rattle.std.specs.Prelude.{◌≡◌, ◌++◌, ◌+◌, ◌==◌, ◌&&◌, ◌||◌, ℕ, Bool, true, false, List, [], ◌∷◌, codes, decimal}
 use Rattle.std.specs.Prelude.{if◌then◌else◌}
 use Rattle.station_graph.specs.Diagram.{Diagram}
-use Rattle.structured_text.specs.declared.name.Name.{Name}
-use Rattle.structured_text.specs.declared.line.Heading.{Heading}
-use Rattle.structured_text.specs.declared.line.Heading.TheVariants.{Signals, Together, Releases}
 use Rattle.structured_text.specs.Width.{AreLinesShort}
 use Rattle.program_blocks.specs.declared.block.Block.{Block}
 use Rattle.program_blocks.specs.declared.block.Step.{Step}
 use Rattle.program_blocks.specs.declared.block.Step.TheVariants.{Assign, Call}
-use Rattle.program_text.specs.ProgramText.{block_text, IsProgram}
-
--- Whether the comment is above the signals or the releases of bay p.
-abbrev pub is_of_bay : ℕ → Option Heading → Bool
-is_of_bay p None = false
-is_of_bay p (Some (Signals q)) = q.0 == p
-is_of_bay p (Some Together) = false
-is_of_bay p (Some (Releases q)) = q.0 == p
+use Rattle.program_text.specs.declared.block_program.BlockProgram.{BlockProgram}
+use Rattle.program_text.specs.ProgramText.{block_text, IsWholeText}
+use Rattle.program_text.specs.BayCalls.{is_of_bay}
+use Rattle.program_text.specs.BayExchange.{ArePassed}
 
 -- Whether a step calls block k for bay p; whether one of the steps does.
 abbrev pub calls_for : ℕ → ℕ → Step → Bool
@@ -33,12 +26,25 @@ bay_blocks_text d steps p k [] = []
 bay_blocks_text d steps p k (b ∷ bs) =
     (if is_called_for p k steps then block_text d k b else []) ++ bay_blocks_text d steps p (k + 1) bs
 
--- The text is that of the blocks of a program of the station which are called for bay p, each as the text of the program has
--- it, in the order there; and no line has more than 200 characters.
-pub record IsBayProgramText (d : Diagram) (p : ℕ) (text : List ℕ) : Type 0 where
-  pub blocks : List Block
-  pub steps : List Step
-  pub variables : List Name
-  pub program : IsProgram d blocks steps variables
-  pub spelled : text ≡ bay_blocks_text d steps p 0 blocks
+-- A comment: how many BOOLs the bay has to be told by others, and how many to tell them.
+abbrev pub bay_exchange_text : ℕ → ℕ → List ℕ
+bay_exchange_text told tells =
+    codes "(* from other bays " ++ (decimal told ++ (codes " BOOLs, to other bays " ++ (decimal tells ++ codes " *)\n")))
+
+-- The text says how many variables the calls for bay p read that other steps of this program set, and how many they set that
+-- others read; then it has the blocks that are called for the bay, each as the whole text of this program has it, in the
+-- order there. No line has more than 200 characters.
+pub record IsBayText (d : Diagram) (b : BlockProgram) (p : ℕ) (text : List ℕ) : Type 0 where
+  pub told : ℕ
+  pub tells : ℕ
+  pub is_told : ArePassed b.blocks.items p false b.steps.items told
+  pub is_telling : ArePassed b.blocks.items p true b.steps.items tells
+  pub spelled : text ≡ bay_exchange_text told tells ++ bay_blocks_text d b.steps.items p 0 b.blocks.items
   pub short : AreLinesShort text
+
+-- The text is that of bay p in a program of the station, which has a whole text.
+pub record IsBayProgramText (d : Diagram) (p : ℕ) (text : List ℕ) : Type 0 where
+  pub program : BlockProgram
+  pub whole : List ℕ
+  pub within : IsWholeText d program whole
+  pub of_bay : IsBayText d program p text

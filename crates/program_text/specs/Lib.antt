@@ -7,4 +7,6 @@ pub mod ReadNames
 pub mod Sections
 pub mod ProgramText
 pub mod Unblocked
+pub mod BayCalls
+pub mod BayExchange
 pub mod BayText

@@ -18,6 +18,7 @@ use Rattle.program_blocks.specs.Renaming.{outer}
 use Rattle.program_blocks.specs.Calls.{next_instance, program_after}
 use Rattle.program_blocks.specs.Standing.{StandFor}
 use Rattle.program_text.specs.declared.text.TheConstants.{HEAD}
+use Rattle.program_text.specs.declared.block_program.BlockProgram.{BlockProgram}
 use Rattle.program_text.specs.Interlocking.{IsInterlocking}
 
 -- The declarations of the contacts of n switches from number k on.
@@ -74,12 +75,12 @@ if_formula (Closes i) = []
 abbrev pub formula_count : List Name → ℕ
 formula_count names = length (flat_map (λ (n : Name). if_formula n) names)
 
--- A comment: how many BOOLs a block reads that other blocks or the program set, and how many it gives to others.
+-- A comment: how many BOOLs of formulas a block reads that are set outside of it, and how many it gives.
 abbrev pub exchange_text : Block → List ℕ
 exchange_text b =
-    codes "  (* from other blocks "
+    codes "  (* from outside of the block "
     ++ (decimal (formula_count b.inputs.items)
-    ++ (codes " BOOLs, to others " ++ (decimal (formula_count b.outputs.items) ++ codes " *)\n")))
+    ++ (codes " BOOLs, to the outside " ++ (decimal (formula_count b.outputs.items) ++ codes " *)\n")))
 
 -- Block k: what it is, what it exchanges, its inputs, its outputs, its other variables, its lines.
 abbrev pub block_head : Diagram → ℕ → Block → List ℕ
@@ -169,20 +170,22 @@ wiring_text d bs steps variables =
 abbrev pub whole_text : Diagram → List Block → List Step → List Name → List ℕ
 whole_text d bs steps variables = HEAD.now ++ (blocks_text d 0 bs ++ wiring_text d bs steps variables)
 
--- The blocks and steps stand for lines, with each variable set once and before it is read; what they set, whatever the
--- instances keep from before, is an interlocking of the station; and where signals to a block do not come, it releases
--- nothing that it does not release with them.
-pub record IsProgram (d : Diagram) (blocks : List Block) (steps : List Step) (variables : List Name) : Type 0 where
+-- The blocks and steps of a program stand for lines, with each variable set once and before it is read; what they set,
+-- whatever the instances keep from before, is an interlocking of the station; and where signals to a block do not come, it
+-- releases nothing that it does not release with them.
+pub record IsProgram (d : Diagram) (p : BlockProgram) : Type 0 where
   pub lines : List Line
-  pub stand : StandFor d lines blocks steps variables
-  pub interlocks : (stores : ℕ → Store) → IsInterlocking d (program_after blocks steps stores)
-  pub cautious : (k : ℕ) (b : Block) → slice_get blocks k ≡ Some b → IsCautious (after b.lines.items)
+  pub stand : StandFor d lines p.blocks.items p.steps.items p.variables.items
+  pub interlocks : (stores : ℕ → Store) → IsInterlocking d (program_after p.blocks.items p.steps.items stores)
+  pub cautious : (k : ℕ) (b : Block) → slice_get p.blocks.items k ≡ Some b → IsCautious (after b.lines.items)
 
--- The text is that of such a program, and no line has more than 200 characters.
-pub record IsProgramText (d : Diagram) (text : List ℕ) : Type 0 where
-  pub blocks : List Block
-  pub steps : List Step
-  pub variables : List Name
-  pub program : IsProgram d blocks steps variables
-  pub spelled : text ≡ whole_text d blocks steps variables
+-- The text is that of this program of the station, and no line has more than 200 characters.
+pub record IsWholeText (d : Diagram) (p : BlockProgram) (text : List ℕ) : Type 0 where
+  pub program : IsProgram d p
+  pub spelled : text ≡ whole_text d p.blocks.items p.steps.items p.variables.items
   pub short : AreLinesShort text
+
+-- The text is that of a program of the station.
+pub record IsProgramText (d : Diagram) (text : List ℕ) : Type 0 where
+  pub program : BlockProgram
+  pub whole : IsWholeText d program text

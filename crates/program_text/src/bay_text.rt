@@ -1,28 +1,19 @@
 //! The text of one bay.
 ghost use Rattle.std.specs.Prelude.{◌≡◌, ◌++◌, [], OnOk, IfOk, if◌then◌else◌};
 ghost use Rattle.program_blocks.specs.Standing.{BlockWithin, BlocksWithin};
-ghost use Rattle.program_text.specs.ProgramText.{block_text};
-ghost use Rattle.program_text.specs.BayText.{is_of_bay, calls_for, is_called_for, bay_blocks_text, IsBayProgramText};
+ghost use Rattle.program_text.specs.ProgramText.{block_text, IsProgram};
+ghost use Rattle.program_text.specs.BayText.{calls_for, is_called_for, bay_blocks_text, bay_exchange_text};
+ghost use Rattle.program_text.specs.BayText.{IsBayText, IsBayProgramText};
 
+use crate::bay_calls::is_of_bay;
+use crate::bay_exchange::passed;
+use crate::block_program::BlockProgram;
 use crate::block_text::write_block;
 use crate::standing_program::program_of;
 use ilk_base::{BayId, Memory, Text};
 use program_blocks::{Block, Step};
 use station_graph::Station;
 use std::alloc::Global;
-use structured_text::Heading;
-
-// Whether the comment is above the signals or the releases of the bay.
-fn is_of_bay(bay: BayId, heading: Option<Heading>) -> bool
-    ensures { result ≡ is_of_bay bay.0 heading }
-{
-    match heading {
-        None => false,
-        Some(Heading::Signals(other)) => other.0 == bay.0,
-        Some(Heading::Together) => false,
-        Some(Heading::Releases(other)) => other.0 == bay.0,
-    }
-}
 
 // Whether the step calls the block of this number for the bay.
 fn calls_for(bay: BayId, number: usize, step: &Step) -> bool
@@ -86,19 +77,53 @@ fn write_bay_blocks(
     Ok(())
 }
 
-/// The blocks of one bay, as the text of the whole program has them. It costs as much as that text.
-pub fn bay_program_text(alloc: Global, station: &Station, bay: BayId) -> Result<Text, Memory>
-    ensures { IfOk result (IsBayProgramText station.now bay.0) }
+// Appends the comment on what the bay exchanges.
+fn write_bay_exchange(text: &mut Text, told: usize, tells: usize) -> Result<(), Memory>
+    ensures { OnOk result (text.new ≡ text.old ++ bay_exchange_text told tells) }
 {
-    let formed = program_of(alloc, station)?;
+    text.push(b"(* from other bays ")?;
+    text.push_decimal(told)?;
+    text.push(b" BOOLs, to other bays ")?;
+    text.push_decimal(tells)?;
+    text.push(b" *)\n")?;
+    Ok(())
+}
+
+/// The blocks of one bay in a program of the station, as `text_of_program` writes them of the same program, and how many
+/// BOOLs it exchanges with others.
+pub fn text_of_bay(
+    alloc: Global,
+    station: &Station,
+    program: &BlockProgram,
+    bay: BayId,
+) -> Result<Text, Memory>
+    requires { IsProgram station.now program.now }
+    ensures { IfOk result (IsBayText station.now program.now bay.0) }
+{
+    // Its clause says how many switches there may be.
+    let _count = station.switch_count();
+    let told = passed(alloc, &program.blocks, bay, false, &program.steps)?;
+    let tells = passed(alloc, &program.blocks, bay, true, &program.steps)?;
     let mut text = Text::new(alloc);
+    write_bay_exchange(&mut text, told, tells)?;
     write_bay_blocks(
         alloc,
         &mut text,
         station,
         bay,
-        &formed.blocks,
-        &formed.steps,
+        &program.blocks,
+        &program.steps,
     )?;
+    Ok(text)
+}
+
+/// The blocks of one bay in the program of the station. It costs about as much as the text of all.
+pub fn bay_program_text(alloc: Global, station: &Station, bay: BayId) -> Result<Text, Memory>
+    ensures { IfOk result (IsBayProgramText station.now bay.0) }
+{
+    // Its clause says how many switches there may be.
+    let _count = station.switch_count();
+    let program = program_of(alloc, station)?;
+    let text = text_of_bay(alloc, station, &program, bay)?;
     Ok(text)
 }

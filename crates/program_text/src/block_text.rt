@@ -57,9 +57,9 @@ fn write_exchange(alloc: Global, text: &mut Text, block: &Block) -> Result<(), M
 {
     let read = formulas_of(alloc, &block.inputs)?;
     let given = formulas_of(alloc, &block.outputs)?;
-    text.push(b"  (* from other blocks ")?;
+    text.push(b"  (* from outside of the block ")?;
     write_count(text, &read)?;
-    text.push(b" BOOLs, to others ")?;
+    text.push(b" BOOLs, to the outside ")?;
     write_count(text, &given)?;
     text.push(b" *)\n")?;
     Ok(())

@@ -1,6 +1,6 @@
 //! Sections of lines as blocks, which have no outputs yet, and calls of them.
 use crate::block_outputs::{give_all_locals, give_outputs};
-use crate::formed::Formed;
+use crate::block_program::BlockProgram;
 use crate::numbering::{Counts, Wiring, wiring_of};
 use crate::section_reads::reads_between;
 use crate::variables::variables_of;
@@ -30,7 +30,12 @@ fn bay_of(heading: Option<Heading>) -> Option<BayId> {
 }
 
 // The number of a block that stands for the lines, if there is one. The call is left as it calls it.
-fn find_block(formed: &Formed, call: &mut BlockCall, first: u16, lines: &[Line]) -> Option<usize> {
+fn find_block(
+    formed: &BlockProgram,
+    call: &mut BlockCall,
+    first: u16,
+    lines: &[Line],
+) -> Option<usize> {
     for number in 0..formed.blocks.len() {
         call.block = number;
         call.shift = first.saturating_sub(formed.firsts.get(number).copied().unwrap_or(0));
@@ -53,7 +58,7 @@ fn block_lines(alloc: Global, to_block: &BlockCall, lines: &[Line]) -> Result<Ve
 // A block for a section.
 fn new_block(
     alloc: Global,
-    formed: &mut Formed,
+    formed: &mut BlockProgram,
     wiring: Wiring,
     first: u16,
     lines: &[Line],
@@ -77,7 +82,7 @@ fn new_block(
 // Adds a section of a bay.
 fn add_bay_section(
     alloc: Global,
-    formed: &mut Formed,
+    formed: &mut BlockProgram,
     counts: Counts,
     heading: Option<Heading>,
     first: u16,
@@ -94,7 +99,7 @@ fn add_bay_section(
 }
 
 // Adds a section that is of no bay.
-fn add_lines(formed: &mut Formed, lines: &[Line]) -> Result<(), Memory> {
+fn add_lines(formed: &mut BlockProgram, lines: &[Line]) -> Result<(), Memory> {
     for line in lines {
         formed.steps.push(Step::Assign(*line))?;
     }
@@ -105,7 +110,7 @@ fn add_lines(formed: &mut Formed, lines: &[Line]) -> Result<(), Memory> {
 fn add_section(
     alloc: Global,
     station: &Station,
-    formed: &mut Formed,
+    formed: &mut BlockProgram,
     counts: Counts,
     lines: &[Line],
 ) -> Result<(), Memory> {
@@ -128,8 +133,8 @@ fn form_sections(
     station: &Station,
     lines: &[Line],
     counts: Counts,
-) -> Result<Formed, Memory> {
-    let mut formed = Formed {
+) -> Result<BlockProgram, Memory> {
+    let mut formed = BlockProgram {
         blocks: Vec::new(alloc),
         firsts: Vec::new(alloc),
         steps: Vec::new(alloc),
@@ -154,7 +159,7 @@ pub(crate) fn form(
     station: &Station,
     lines: &[Line],
     counts: Counts,
-) -> Result<Formed, Memory> {
+) -> Result<BlockProgram, Memory> {
     let reads = reads_between(alloc, lines, counts)?;
     let mut formed = form_sections(alloc, station, lines, counts)?;
     for step in &formed.steps {

@@ -1,12 +1,14 @@
 //! The interlocking of a station as structured text that a bay controller takes.
 #![tactic(auto)]
 
+mod bay_calls;
+mod bay_exchange;
 mod bay_masks;
 mod bay_text;
 mod block_outputs;
+mod block_program;
 mod block_text;
 mod declarations;
-mod formed;
 mod forming;
 mod numbering;
 mod place;
@@ -27,6 +29,8 @@ mod text;
 mod unblocked;
 mod variables;
 
-pub use bay_text::bay_program_text;
+pub use bay_text::{bay_program_text, text_of_bay};
+pub use block_program::BlockProgram;
 pub use program::{Program, interlocking};
-pub use text::program_text;
+pub use standing_program::program_of;
+pub use text::{program_text, text_of_program};

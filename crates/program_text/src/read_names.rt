@@ -68,8 +68,8 @@ fn push_denials(names: &mut Vec<Name>, gap: GapDenial, load: LoadDenial) -> Resu
     push_load(names, load)
 }
 
-// Appends the variables that a formula reads.
-fn push_formula(names: &mut Vec<Name>, formula: Formula) -> Result<(), Memory>
+/// Appends the variables that a formula reads.
+pub(crate) fn push_formula(names: &mut Vec<Name>, formula: Formula) -> Result<(), Memory>
     ensures { OnOk result (names.new.items ≡ names.old.items ++ formula_names formula) }
 {
     match formula {

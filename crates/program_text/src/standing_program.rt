@@ -1,11 +1,11 @@
 //! The program of a station: blocks, and steps that call them.
-ghost use Rattle.std.specs.Prelude.{◌<◌, ◌^◌, length, OnOk, IfOk};
+ghost use Rattle.std.specs.Prelude.{IfOk};
 ghost use Rattle.structured_text.specs.Order.{IsInput, AreInOrder};
 ghost use Rattle.structured_text.specs.Within.{LinesWithin};
 ghost use Rattle.program_blocks.specs.Standing.{StandFor};
 ghost use Rattle.program_text.specs.ProgramText.{IsProgram};
 
-use crate::formed::Formed;
+use crate::block_program::BlockProgram;
 use crate::forming::form;
 use crate::numbering::Counts;
 use crate::program::{interlocking, lines_by_bays};
@@ -22,7 +22,7 @@ fn formed_of(
     station: &Station,
     lines: &[Line],
     counts: Counts,
-) -> Result<Formed, Memory>
+) -> Result<BlockProgram, Memory>
     requires order { AreInOrder IsInput lines.now }
     requires within { LinesWithin station.now lines.now }
     ensures { IfOk result (λ f. StandFor station.now lines.now f.blocks.items f.steps.items f.variables.items) }
@@ -43,10 +43,10 @@ fn formed_of(
     }
 }
 
-/// The program of a station.
-pub(crate) fn program_of(alloc: Global, station: &Station) -> Result<Formed, Memory>
-    ensures program { IfOk result (λ f. IsProgram station.now f.blocks.items f.steps.items f.variables.items) }
-    ensures few { OnOk result (length station.now.switches < 2 ^ 16) }
+/// The program of a station. `text_of_program` and `text_of_bay` write it: what they write of one
+/// program belongs together.
+pub fn program_of(alloc: Global, station: &Station) -> Result<BlockProgram, Memory>
+    ensures { IfOk result (IsProgram station.now) }
 {
     let program = interlocking(alloc, station)?;
     let lines = lines_by_bays(alloc, station, &program)?;

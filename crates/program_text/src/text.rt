@@ -2,11 +2,11 @@
 ghost use Rattle.std.specs.Prelude.{◌≡◌, ◌++◌, length, codes, OnOk, IfOk};
 ghost use Rattle.program_blocks.specs.Standing.{BlocksWithin, StepsWithin, AreNamesWithin};
 ghost use Rattle.program_text.specs.ProgramText.{inputs_text, outputs_text, contacts_text, variables_text, wiring_text};
-ghost use Rattle.program_text.specs.ProgramText.{whole_text, IsProgramText};
+ghost use Rattle.program_text.specs.ProgramText.{whole_text, IsProgram, IsWholeText, IsProgramText};
 
+use crate::block_program::BlockProgram;
 use crate::block_text::write_blocks;
 use crate::declarations::write_section;
-use crate::formed::Formed;
 use crate::standing_program::program_of;
 use crate::step_text::{write_instances, write_steps};
 use ilk_base::{Memory, SwitchId, Text};
@@ -22,8 +22,8 @@ const HEAD: &[u8] =
     \x20  m..  what holds where each switch that is not known to be off is closed: coupled, joined, live, earthed, tapped\n\
     \x20  c..  what holds where each switch that is not known to be on is open: bonded\n\
     \x20  Each block is of one bay: what it is to the other bays, or its releases. Bays that are alike share them, in the\n\
-    \x20  names of the first of these bays. The program calls them in order; the m.. and c.. that it gives to a block are\n\
-    \x20  what the bay must be told by others.\n\
+    \x20  names of the first of these bays. The program calls them in order; the m.. and c.. that it gives to a block come\n\
+    \x20  from other blocks, of this bay or of others, or say what bays are together.\n\
     \x20  A contact or a c.. that does not come counts as FALSE, an m.. of a block as TRUE: nothing is released without an\n\
     \x20  m.. or c.. that is not released with it. The releases hold at one moment: two controllers that both see one may\n\
     \x20  both move, which this text does not forbid. *)\n";
@@ -85,7 +85,7 @@ fn write_variables(
     alloc: Global,
     text: &mut Text,
     station: &Station,
-    formed: &Formed,
+    formed: &BlockProgram,
 ) -> Result<(), Memory>
     requires { AreNamesWithin (length station.now.switches) formed.now.variables.items }
     ensures { OnOk result (text.new
@@ -103,7 +103,7 @@ fn write_wiring(
     alloc: Global,
     text: &mut Text,
     station: &Station,
-    formed: &Formed,
+    formed: &BlockProgram,
 ) -> Result<(), Memory>
     requires blocks { BlocksWithin station.now formed.now.blocks.items }
     requires steps { StepsWithin station.now formed.now.blocks.items formed.now.steps.items }
@@ -123,7 +123,7 @@ fn write_whole(
     alloc: Global,
     text: &mut Text,
     station: &Station,
-    formed: &Formed,
+    formed: &BlockProgram,
 ) -> Result<(), Memory>
     requires blocks { BlocksWithin station.now formed.now.blocks.items }
     requires steps { StepsWithin station.now formed.now.blocks.items formed.now.steps.items }
@@ -137,6 +137,22 @@ fn write_whole(
     Ok(())
 }
 
+/// The text of a program of the station.
+pub fn text_of_program(
+    alloc: Global,
+    station: &Station,
+    program: &BlockProgram,
+) -> Result<Text, Memory>
+    requires { IsProgram station.now program.now }
+    ensures { IfOk result (IsWholeText station.now program.now) }
+{
+    // Its clause says how many switches there may be.
+    let _count = station.switch_count();
+    let mut text = Text::new(alloc);
+    write_whole(alloc, &mut text, station, program)?;
+    Ok(text)
+}
+
 /// The interlocking of a station as structured text (IEC 61131-3): function blocks of assignments of AND, OR and NOT
 /// alone, each variable set before it is read, and a program that calls them. The cost grows as the square of the number
 /// of variables between the bays. That a block releases nothing more where signals do not come is the law
@@ -144,8 +160,7 @@ fn write_whole(
 pub fn program_text(alloc: Global, station: &Station) -> Result<Text, Memory>
     ensures { IfOk result (IsProgramText station.now) }
 {
-    let formed = program_of(alloc, station)?;
-    let mut text = Text::new(alloc);
-    write_whole(alloc, &mut text, station, &formed)?;
+    let program = program_of(alloc, station)?;
+    let text = text_of_program(alloc, station, &program)?;
     Ok(text)
 }

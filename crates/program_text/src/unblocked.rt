@@ -5,7 +5,7 @@ ghost use Rattle.structured_text.specs.Within.{LinesWithin};
 ghost use Rattle.program_blocks.specs.Standing.{StandFor};
 ghost use Rattle.program_text.specs.Unblocked.{assigned};
 
-use crate::formed::Formed;
+use crate::block_program::BlockProgram;
 use crate::variables::variables_of;
 use ilk_base::Memory;
 use program_blocks::Step;
@@ -29,7 +29,7 @@ pub(crate) fn without_blocks(
     alloc: Global,
     station: &Station,
     lines: &[Line],
-) -> Result<Formed, Memory>
+) -> Result<BlockProgram, Memory>
     requires order { AreInOrder IsInput lines.now }
     requires within { LinesWithin station.now lines.now }
     ensures { IfOk result (λ f. StandFor station.now lines.now f.blocks.items f.steps.items f.variables.items) }
@@ -37,7 +37,7 @@ pub(crate) fn without_blocks(
     let steps = steps_of(alloc, lines)?;
     let blocks = Vec::new(alloc);
     let variables = variables_of(alloc, &blocks, &steps)?;
-    Ok(Formed {
+    Ok(BlockProgram {
         blocks,
         firsts: Vec::new(alloc),
         steps,

@@ -44,7 +44,12 @@ fn add_call(blocks: &[Block], call: &BlockCall, variables: &mut Vec<Name>) -> Re
     }
 }
 
-fn add_step(blocks: &[Block], step: &Step, variables: &mut Vec<Name>) -> Result<(), Memory>
+/// Adds what a step sets in the program beside the releases.
+pub(crate) fn add_step(
+    blocks: &[Block],
+    step: &Step,
+    variables: &mut Vec<Name>,
+) -> Result<(), Memory>
     ensures { OnOk result (variables.new.items ≡ variables.old.items ++ step_variables blocks.now step.now) }
 {
     match step {

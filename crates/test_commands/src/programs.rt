@@ -12,7 +12,7 @@ use test_stations::{Drawing, Example, StationRow, built, row_holds, station_of};
 // and all lines are for the releases of this one bay.
 const LINES: &[u8] = b"\n\
     \x20 (* S/V1/Q1: the releases *)\n\
-    \x20 (* from other blocks 0 BOOLs, to others 0 *)\n\
+    \x20 (* from outside of the block 0 BOOLs, to the outside 0 *)\n\
     FUNCTION_BLOCK BLOCK_0\n\
     VAR_INPUT\n\
     \x20 sw0_QC9_off, sw0_QC9_on, sw1_E1_off, sw1_E1_on : BOOL;\n\
@@ -62,7 +62,7 @@ const LINES: &[u8] = b"\n\
 // live, so nothing else denies that they close.
 const STUB: &[u8] = b"\n\
     \x20 (* S/V1/Q1: the releases *)\n\
-    \x20 (* from other blocks 0 BOOLs, to others 0 *)\n\
+    \x20 (* from outside of the block 0 BOOLs, to the outside 0 *)\n\
     FUNCTION_BLOCK BLOCK_0\n\
     VAR_INPUT\n\
     \x20 sw0_QB1_off, sw0_QB1_on, sw1_QB2_off, sw1_QB2_on,\n\
@@ -138,7 +138,7 @@ const LONG: Drawing = Drawing {
 
 const LONG_LINES: &[u8] = b"\n\
     \x20 (* S: the releases *)\n\
-    \x20 (* from other blocks 0 BOOLs, to others 0 *)\n\
+    \x20 (* from outside of the block 0 BOOLs, to the outside 0 *)\n\
     FUNCTION_BLOCK BLOCK_0\n\
     VAR_OUTPUT\n\
     \x20 sw0_aaaaaaaaaaaaa_EnaOpn, sw0_aaaaaaaaaaaaa_EnaCls : BOOL;\n\
@@ -180,9 +180,10 @@ const THREE_BAYS: Drawing = Drawing {
     taps: &[],
 };
 
-const SHARED: &[u8] = b"\n\
+const SHARED: &[u8] = b"(* from other bays 0 BOOLs, to other bays 0 *)\n\
+    \n\
     \x20 (* S/A: the releases *)\n\
-    \x20 (* from other blocks 0 BOOLs, to others 0 *)\n\
+    \x20 (* from outside of the block 0 BOOLs, to the outside 0 *)\n\
     FUNCTION_BLOCK BLOCK_0\n\
     VAR_OUTPUT\n\
     \x20 sw0_QC1_EnaOpn, sw0_QC1_EnaCls : BOOL;\n\
@@ -191,9 +192,10 @@ const SHARED: &[u8] = b"\n\
     \x20 sw0_QC1_EnaCls := TRUE;\n\
     END_FUNCTION_BLOCK\n";
 
-const ITS_OWN: &[u8] = b"\n\
+const ITS_OWN: &[u8] = b"(* from other bays 0 BOOLs, to other bays 0 *)\n\
+    \n\
     \x20 (* S/C: the releases *)\n\
-    \x20 (* from other blocks 0 BOOLs, to others 0 *)\n\
+    \x20 (* from outside of the block 0 BOOLs, to the outside 0 *)\n\
     FUNCTION_BLOCK BLOCK_1\n\
     VAR_OUTPUT\n\
     \x20 sw2_QC1_EnaOpn, sw2_QC1_EnaCls, sw3_QC2_EnaOpn, sw3_QC2_EnaCls : BOOL;\n\
@@ -202,6 +204,46 @@ const ITS_OWN: &[u8] = b"\n\
     \x20 sw2_QC1_EnaCls := TRUE;\n\
     \x20 sw3_QC2_EnaOpn := TRUE;\n\
     \x20 sw3_QC2_EnaCls := TRUE;\n\
+    END_FUNCTION_BLOCK\n";
+
+// An earthing switch in one bay, and an infeed in another, at one node. Each is told by the other whether that may be closed,
+// and denies its closing then. Both have one position and one denial, so their blocks are the same but for the numbers.
+const ONE_NODE: Drawing = Drawing {
+    parts: &["S/A", "S/B"],
+    nodes: &["S/A/n"],
+    switches: &[
+        ("QC1", Kind::Earthing, 0, 0, None),
+        ("E1", Kind::Infeed, 1, 0, None),
+    ],
+    links: &[],
+    taps: &[(1, 0)],
+};
+
+const TOLD: &[u8] = b"(* from other bays 1 BOOLs, to other bays 1 *)\n\
+    \n\
+    \x20 (* S/A: what it is to the other bays *)\n\
+    \x20 (* from outside of the block 0 BOOLs, to the outside 1 *)\n\
+    FUNCTION_BLOCK BLOCK_0\n\
+    VAR_INPUT\n\
+    \x20 sw0_QC1_off, sw0_QC1_on : BOOL;\n\
+    END_VAR\n\
+    VAR_OUTPUT\n\
+    \x20 m0 : BOOL;\n\
+    END_VAR\n\
+    \x20 m0 := sw0_QC1_on OR NOT sw0_QC1_off;\n\
+    END_FUNCTION_BLOCK\n\
+    \n\
+    \x20 (* S/A: the releases *)\n\
+    \x20 (* from outside of the block 1 BOOLs, to the outside 0 *)\n\
+    FUNCTION_BLOCK BLOCK_1\n\
+    VAR_INPUT\n\
+    \x20 m0 : BOOL := TRUE;\n\
+    END_VAR\n\
+    VAR_OUTPUT\n\
+    \x20 sw0_QC1_EnaOpn, sw0_QC1_EnaCls : BOOL;\n\
+    END_VAR\n\
+    \x20 sw0_QC1_EnaOpn := TRUE;\n\
+    \x20 sw0_QC1_EnaCls := NOT m0;\n\
     END_FUNCTION_BLOCK\n";
 
 // Whether the text of the station's program ends with these lines.
@@ -260,5 +302,13 @@ fn bays(rt: HostRuntime) -> Result<(), Fail> {
     assert!(rt; is_of_bay(rt.alloc(), &station, 0, SHARED));
     assert!(rt; is_of_bay(rt.alloc(), &station, 1, SHARED));
     assert!(rt; is_of_bay(rt.alloc(), &station, 2, ITS_OWN));
+    Ok(())
+}
+
+#[test]
+fn told_by_another_bay(rt: HostRuntime) -> Result<(), Fail> {
+    let station = station_of(rt.alloc(), ONE_NODE)?;
+    assert!(rt; is_of_bay(rt.alloc(), &station, 0, TOLD));
+    assert!(rt; is_of_bay(rt.alloc(), &station, 1, TOLD));
     Ok(())
 }

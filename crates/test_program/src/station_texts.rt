@@ -160,10 +160,12 @@ fn tests_of_no_bay(rt: HostRuntime) -> Result<(), Fail> {
 }
 
 // The blocks of the same line. The earthing switch may be closed where the infeed is known to be off, and the infeed set on
-// where the earthing switch is known to be off; opening is always released. All lines are for the releases of this bay.
-const BLOCKS: &str = "
+// where the earthing switch is known to be off; opening is always released. All lines are for the releases of this bay, and
+// no other bay is told anything.
+const BLOCKS: &str = "(* from other bays 0 BOOLs, to other bays 0 *)
+
   (* S/V1/Q1: the releases *)
-  (* from other blocks 0 BOOLs, to others 0 *)
+  (* from outside of the block 0 BOOLs, to the outside 0 *)
 FUNCTION_BLOCK BLOCK_0
 VAR_INPUT
   sw0_QC9_off, sw0_QC9_on, sw1_E1_off, sw1_E1_on : BOOL;

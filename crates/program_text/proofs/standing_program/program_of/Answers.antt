@@ -12,8 +12,8 @@ lines_by_bays-requires-clause-within c =
     within_both d p.may.items _ c.in_ok-program.ensures.may
     (within_both d p.sure.items p.releases.items c.in_ok-program.ensures.sure c.in_ok-program.ensures.releases)
 
-pub returns-clause-program : goal.returns-clause-program
-returns-clause-program c =
+pub returns : goal.returns
+returns c =
     let d = c.args.station.now in
     let p = c.in_ok-program.program in
     let lines = c.in_ok-lines.lines.items in

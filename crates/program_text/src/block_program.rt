@@ -4,7 +4,7 @@ use structured_text::Name;
 
 /// A program of blocks.
 #[derive(Drop)]
-pub(crate) struct Formed {
+pub struct BlockProgram {
     /// its blocks
     pub blocks: Vec<Block>,
     /// for each of them the number of the first switch of the bay for which it is written
