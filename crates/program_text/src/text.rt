@@ -22,8 +22,8 @@ const HEAD: &[u8] =
     \x20  m..  what holds where each switch that is not known to be off is closed: coupled, joined, live, earthed, tapped\n\
     \x20  c..  what holds where each switch that is not known to be on is open: bonded\n\
     \x20  Each block is of one bay: what it is to the other bays, or its releases. Bays that are alike share them, in the\n\
-    \x20  names of the first of these bays. The program calls them in order; the m.. and c.. that it gives to a block come\n\
-    \x20  from other blocks, of this bay or of others, or say what bays are together.\n\
+    \x20  names of the first of these bays. The program calls them in order; the m.. and c.. that it gives to a block\n\
+    \x20  come from other blocks, of this bay or of others, or say what bays are together.\n\
     \x20  A contact or a c.. that does not come counts as FALSE, an m.. of a block as TRUE: nothing is released without an\n\
     \x20  m.. or c.. that is not released with it. The releases hold at one moment: two controllers that both see one may\n\
     \x20  both move, which this text does not forbid. *)\n";
