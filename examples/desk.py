@@ -8,8 +8,9 @@
                                          screenshots go to FOLDER
     examples/desk.py --node              the module alone
     examples/desk.py --serve [FOLDER]    the stories on the page of `tools/desk --serve`, which asks the program
+    examples/desk.py --firefox [FOLDER]  the stories in headless Firefox; --serve goes with it
 
-It wants node from version 20, and for the stories Debian's packages chromium and chromium-driver. DESK_PROGRAM names
+It wants node from version 20, and for the stories Debian's packages chromium and chromium-driver, or firefox-esr. DESK_PROGRAM names
 another program than the proved one to compare with. Status 1 where anything differs.
 """
 import importlib.machinery
@@ -30,7 +31,7 @@ HERE = pathlib.Path(__file__).resolve().parent
 TOP = HERE.parent
 sys.path[:0] = [str(HERE), str(TOP / "tools")]
 import page_module
-from webdriver import Browser
+from webdriver import Browser, Firefox
 
 # Keeps each question and its answer.
 LISTEN = "if (!window.heard) { window.heard = []; const real = ask; ask = async (q) => { const a = await real(q); heard.push([q, a]); return a; }; }"
@@ -49,7 +50,7 @@ def script_of(file):
 class Page:
     """A page of a station in a browser, and what its stories found wrong."""
 
-    def __init__(self, station, positions, folder, serves, **more):
+    def __init__(self, station, positions, folder, serves, browser=Browser, **more):
         self.station, self.folder, self.wrong, self.heard, self.server = station, folder, [], [], None
         files = [station, *([positions] if positions else [])]
         if serves:
@@ -59,7 +60,7 @@ class Page:
             file = folder / f"{station.stem}.html"
             file.write_bytes(subprocess.run([TOP / "tools/desk", *files], stdout=subprocess.PIPE).stdout)
             address = file.as_uri()
-        self.browser = Browser(**more)
+        self.browser = browser(**more)
         self.browser.open(address)
         self.browser.wait("return document.body.dataset.done || document.body.dataset.failed")
         self.browser.run(LISTEN)
@@ -245,15 +246,8 @@ def answers(questions):
     return [(run.returncode, run.stdout, line and (int(line[1]), int(line[2] or 0))) for run, line in zip(runs, lines)]
 
 
-def unknown_of(question):
-    """The rows of a question's positions, and the paths of the other switches whose positions are not known."""
-    rows = [line.rpartition(",") for line in question["positions"].splitlines()]
-    return rows, [path for path, _, word in rows if word not in ("off", "on") and path != question["path"]]
-
-
 def commands_of(question, folder, number):
-    """The commands whose texts the answer has, over files of these contents. What does not matter alone is no command: it
-    is asked by `explain` with each unknown switch off, and with it on."""
+    """The commands whose texts the answer has, over files of these contents."""
     given, operation = question["positions"], ["close" if question.get("closes") else "open", question.get("path", "")]
     given = given.encode() if isinstance(given, str) else bytes(given.values() if isinstance(given, dict) else given)
 
@@ -261,13 +255,6 @@ def commands_of(question, folder, number):
         (folder / name).write_bytes(content)
         return str(folder / name)
 
-    if question["asks"] == "whatever":
-        rows, unknown = unknown_of(question)
-        for number_of, path in enumerate(unknown):
-            for word in ("off", "on"):
-                text = "".join(f"{p},{word if p == path else w}\n" for p, _, w in rows)
-                yield ["explain", "STATION", file(f"{number}_{number_of}_{word}.csv", text.encode()), *operation]
-        return
     positions = file(f"{number}.csv", given)
     if question["asks"] == "check":
         yield ["check", "STATION", positions]
@@ -275,16 +262,11 @@ def commands_of(question, folder, number):
     elif question["asks"] == "order":
         yield ["order", "STATION", positions, file(f"{number}.order", question["steps"].encode())]
     else:
-        yield ["explain", "STATION", positions, *operation]
+        yield [question["asks"], "STATION", positions, *operation]
 
 
 def expected(question, given):
     """The code, the texts and the refusal that the module is to answer where the program gives these answers."""
-    if question["asks"] == "whatever":
-        _, unknown = unknown_of(question)
-        denied = [text.startswith("denied") for _, text, _ in given]
-        lines = [f"whatever {path}\n" for path, off, on in zip(unknown, denied[::2], denied[1::2]) if off and on]
-        return 0, ["".join(lines)], None
     status = max(-1 if answer[0] is None else answer[0] for answer in given)
     return status, [text for _, text, _ in given] if status < 2 else [], given[0][2]
 
@@ -322,13 +304,13 @@ def made_stations(folder, sizes=(40, 60)):
     return made
 
 
-def in_browser(folder, serves, station):
+def in_browser(folder, serves, station, browser):
     wrong = []
-    page = Page(DOUBLE, HERE / "orders/earth_line_1.csv", folder, serves)
+    page = Page(DOUBLE, HERE / "orders/earth_line_1.csv", folder, serves, browser)
     for story in STORIES:
         story(page)
     wrong += page.end()
-    large = Page(station, None, folder, serves)
+    large = Page(station, None, folder, serves, browser)
     large_station(large)
     wrong += large.end()
     return wrong + compared([(one.station, one.heard) for one in (page, large)], folder)
@@ -384,7 +366,7 @@ def text_of(words):
 
 
 def questions_of(station, count, seed):
-    """Random positions of a station, each with `check`, an explanation and an order."""
+    """Random positions of a station, each with `check`, `explain`, `why` and an order."""
     chance, paths = random.Random(seed), paths_of(station)
     for number in range(count):
         known = ["off", "on"] * 5
@@ -393,8 +375,7 @@ def questions_of(station, count, seed):
         yield {"asks": "check", "positions": text_of(words)}
         closes = chance.random() < 0.5
         yield {"asks": "explain", "positions": text_of(words), "closes": closes, "path": path}
-        if len(paths) < 50:
-            yield {"asks": "whatever", "positions": text_of(words), "closes": closes, "path": path}
+        yield {"asks": "why", "positions": text_of(words), "closes": closes, "path": path}
         step = f"{'close' if words[path] == 'off' else 'open'} {path}\n"
         yield {"asks": "order", "positions": text_of(words), "steps": step + step.replace("close", "open")}
 
@@ -405,7 +386,8 @@ def bad_questions_of(station):
     off = text_of({path: "off" for path in paths})
     for positions in ["", off, off + off, "S,on\n", f"{paths[0]},up\n", f"{paths[0]}\n", "\n" * 9 + f"{paths[0]},on,\n"]:
         yield {"asks": "check", "positions": positions}
-        yield {"asks": "explain", "positions": positions, "closes": True, "path": "S/nowhere"}
+        for asks in ("explain", "why"):
+            yield {"asks": asks, "positions": positions, "closes": True, "path": "S/nowhere"}
         yield {"asks": "order", "positions": positions, "steps": f"close {paths[0]}\n\nshut {paths[0]}\n"}
     for steps in ["", "close S/nowhere\n", f"open {paths[0]}\n", f"close {paths[0]}\nclose {paths[0]}\n"]:
         yield {"asks": "order", "positions": off, "steps": steps}
@@ -429,10 +411,10 @@ def under_node(folder, stations):
 
 
 def times(station, wanted=50):
-    """A click asks for `check` and `state`; where it is denied, for `explain` too."""
+    """A click asks for `check` and `state`; where it is denied, for `why` too."""
     questions = list(questions_of(station, 4, "times"))
     run = asked_module(station, questions, times=5)
-    clicks = [run["heard"][i][2] + run["heard"][i + 1][2] for i in range(0, len(questions), 3)]
+    clicks = [run["heard"][i][2] + run["heard"][i + 2][2] for i in range(0, len(questions), 4)]
     print(f"{station.stem}: opened in {run['open']:.0f} ms; a click with its way {', '.join(f'{t:.1f}' for t in clicks)} ms")
     return [f"a click takes {max(clicks):.0f} ms, more than {wanted}"] if max(clicks) > wanted else []
 
@@ -442,13 +424,14 @@ def main(words):
     with tempfile.TemporaryDirectory() as room:
         folder = pathlib.Path(words[0] if words else room).resolve()
         folder.mkdir(parents=True, exist_ok=True)
-        has_browser = shutil.which("chromium") and shutil.which("chromedriver")
+        browser = Firefox if "--firefox" in flags else Browser
+        needed = ["firefox-esr"] if browser is Firefox else ["chromium", "chromedriver"]
         stations = made_stations(folder)
-        wrong = [] if "--serve" in flags else under_node(folder, stations)
-        if has_browser and "--node" not in flags:
-            wrong += in_browser(folder, "--serve" in flags, stations[40])
+        wrong = [] if "--serve" in flags or "--firefox" in flags else under_node(folder, stations)
+        if "--node" not in flags and all(map(shutil.which, needed)):
+            wrong += in_browser(folder, "--serve" in flags, stations[40], browser)
         elif "--node" not in flags:
-            print("no stories: there is no chromium with its driver")
+            print(f"no stories: not all of {', '.join(needed)} stand here")
     for line in wrong:
         print(line)
     sys.exit(1 if wrong else 0)

@@ -1,10 +1,12 @@
-"""A headless Chromium, by the protocol of W3C WebDriver (Debian's chromium and chromium-driver)."""
+"""A headless Chromium, by the protocol of W3C WebDriver (Debian's chromium and chromium-driver); and a headless Firefox, by
+its own protocol Marionette, which needs no driver (Debian's firefox-esr)."""
 import base64
 import json
 import pathlib
 import shutil
 import socket
 import subprocess
+import tempfile
 import time
 import urllib.error
 import urllib.request
@@ -50,6 +52,7 @@ class Browser:
         return self.call("POST", "/element", {"using": "css selector", "value": selector})[ELEMENT]
 
     def click(self, selector, button=0):
+        self.run("document.querySelector(arguments[0]).scrollIntoView({ block: 'nearest' })", selector)
         move = {"type": "pointerMove", "duration": 0, "origin": {ELEMENT: self.find(selector)}, "x": 0, "y": 0}
         steps = [move, {"type": "pointerDown", "button": button}, {"type": "pointerUp", "button": button}]
         self.call("POST", "/actions", {"actions": [{"type": "pointer", "id": "mouse", "actions": steps}]})
@@ -83,3 +86,76 @@ class Browser:
         finally:
             self.driver.terminate()
             self.driver.wait()
+
+
+# The commands of Marionette for the ends of the addresses of WebDriver.
+MARIONETTE = {"url": "Navigate", "sync": "ExecuteScript", "element": "FindElement", "actions": "PerformActions", "screenshot": "TakeScreenshot"}
+
+# Runs a script of the page's own, since a driver's cannot see the names that the page declares; the page's policy allows it.
+INSIDE = """
+const [script, words] = arguments, e = document.createElement("script"), root = document.documentElement;
+e.textContent = `try { document.documentElement.dataset.driven = JSON.stringify({ value: (function () { ${script} }).apply(null, ${JSON.stringify(words)}) }); }
+  catch (error) { document.documentElement.dataset.driven = JSON.stringify({ error: String(error) }); }`;
+(document.head || root).append(e);
+e.remove();
+const driven = root.dataset.driven;
+delete root.dataset.driven;
+return driven;
+"""
+
+
+class Firefox(Browser):
+    def __init__(self, wide=1500, tall=1000, dark=False):
+        self.profile, self.last = tempfile.TemporaryDirectory(ignore_cleanup_errors=True), 0
+        with socket.socket() as free:
+            free.bind(("127.0.0.1", 0))
+            port = free.getsockname()[1]
+        (pathlib.Path(self.profile.name) / "user.js").write_text(f'user_pref("marionette.port", {port});\n')
+        words = [shutil.which("firefox-esr"), "--headless", "--marionette", "--profile", self.profile.name, f"--width={wide}", f"--height={tall}"]
+        self.driver = subprocess.Popen(words, stdout=subprocess.DEVNULL, stderr=subprocess.DEVNULL)
+        for _ in range(300):
+            try:
+                self.line = socket.create_connection(("127.0.0.1", port), timeout=300).makefile("rwb")
+                break
+            except OSError:
+                time.sleep(0.1)
+        self.heard()
+        self.asked("NewSession", {"capabilities": {"alwaysMatch": {"unhandledPromptBehavior": "dismiss"}}})
+
+    def heard(self):
+        size = b""
+        while (byte := self.line.read(1)) not in (b":", b""):
+            size += byte
+        return json.loads(self.line.read(int(size)))
+
+    def asked(self, command, words):
+        self.last += 1
+        sent = json.dumps([0, self.last, f"WebDriver:{command}", words]).encode()
+        self.line.write(f"{len(sent)}:".encode() + sent)
+        self.line.flush()
+        _, _, error, answer = self.heard()
+        if error:
+            raise RuntimeError(f"{command}: {error}")
+        return answer.get("value") if isinstance(answer, dict) else answer
+
+    def call(self, method, path, body=None):
+        end = path.rsplit("/", 1)[-1]
+        if end == "value":
+            return self.asked("ElementSendKeys", {"id": path.split("/")[2], **body})
+        return self.asked(MARIONETTE[end], {"full": False} if end == "screenshot" else body)
+
+    def run(self, script, *words):
+        said = json.loads(super().run(INSIDE, script, words))
+        if "error" in said:
+            raise RuntimeError(f"{script}: {said['error']}")
+        return said.get("value")
+
+    def log(self):
+        return []
+
+    def close(self):
+        self.asked("DeleteSession", {})
+        self.line.close()
+        self.driver.terminate()
+        self.driver.wait()
+        self.profile.cleanup()

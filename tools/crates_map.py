@@ -57,7 +57,7 @@ LAYERS = [
           "reservation_core log_replay trip_core trip_replay stopped_puts"),
     Layer("commands",
           "Begin with the command that you know; each has its definitions in `specs` and one public call.",
-          "command_words release_texts whatever_text why_text exchange_plan station_equations equation_text station_make station_work interlock_terms "
+          "command_words release_texts whatever_text why_text page_questions exchange_plan station_equations equation_text station_make station_work interlock_terms "
           "short_equations structured_text program_blocks program_text station_lines drawing_remarks compare_text tests_text"),
     Layer("top",
           "Begin with `interlock_cli/src/top.rt`, where the words of a command become its work.",

@@ -72,15 +72,10 @@ def drawn(station):
     use = layout.by_coordinates if drawing.has_places else layout.by_topology
     picture = DeskPicture(use(drawing))
     svg = picture.render()
-    nodes = list(drawing.nodes)
     data = {
         "title": drawing.title,
         "nodes": [node.path for node in drawing.nodes.values()],
-        "items": [
-            {"path": item.path, "kind": item.kind, "ends": [nodes.index(end) for end in item.ends if end in drawing.nodes],
-             "earths": item.grounded, "switch": item.is_switch, "says": item.description}
-            for item in drawing.items
-        ],
+        "items": [{"path": item.path, "switch": item.is_switch} for item in drawing.items],
         "states": {f"{voltage} {earth}": style for (voltage, earth), style in symbols.STATES.items()},
         "legend": [[" ".join(state), words] for state, words in symbols.LEGEND],
     }

@@ -24,7 +24,7 @@ FOLDER = repository.TOP / "crates" / CRATE
 MODULE = FOLDER / "out/page_judge.wasm"
 SUMS = FOLDER / "out/page_judge.sums"
 HEAP = HERE / "desk_page/heap.c"
-EXPORTS = ("page_open", "page_check", "page_state", "page_explain", "page_whatever", "page_order", "page_close", "desk_alloc", "desk_free")
+EXPORTS = ("page_open", "page_check", "page_state", "page_explain", "page_why", "page_order", "page_close", "desk_alloc", "desk_free")
 WASM = ["--target=wasm64-unknown-unknown", "-mcpu=lime1", "-mllvm", "-expand-div-rem-bits=64", "-mllvm",
         "-expand-fp-convert-bits=64", "--no-default-config", "-ffunction-sections", "-fdata-sections", "-mllvm",
         "-trap-unreachable"]

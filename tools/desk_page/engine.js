@@ -83,17 +83,23 @@ function statesOf(text) {
   return found;
 }
 
-// `explain`: the rule, the reading, and the parts with their nodes and the switch at their end. null: it is released.
+// What joins two nodes: a closed switch, a link of a part, or a breaker that is open and counts as closed.
+const overOf = ([kind, ...rest]) => (kind === "open" || kind === "link" ? { over: kind, path: rest.join(" ") } : { over: "switch", path: [kind, ...rest].join(" ") });
+
+// `why`: the rule, the reading, the switches that do not matter alone, and the parts with their nodes, what joins these and
+// the switch at their end. null: it is released.
 function denialOf(text) {
-  const said = { rule: "", reading: [], parts: [] };
+  const said = { rule: "", reading: [], whatever: [], parts: [] };
   for (const line of linesOf(text)) {
     const [first, ...rest] = line.split(" "), part = said.parts[said.parts.length - 1];
     if (first === "released") return null;
     if (first === "denied") said.rule = rest[0];
     else if (first === "with") said.reading.push({ word: rest[0], path: rest.slice(1).join(" ") });
-    else if (first === "node") part.nodes.push(rest.join(" "));
+    else if (first === "whatever") said.whatever.push(rest.join(" "));
+    else if (first === "node") part.steps.push({ node: rest.join(" ") });
+    else if (first === "over") part.steps.push(overOf(rest));
     else if (first === "by") part.by = rest.join(" ");
-    else if (rest.length === 0) said.parts.push({ name: first, nodes: [], by: null });
+    else if (rest.length === 0) said.parts.push({ name: first, steps: [], by: null });
     else throw new Error(`the page does not know the line ${line}`);
   }
   return said;

@@ -79,7 +79,7 @@ class Judge {
     }
   }
 
-  // The texts of `check` and of `state`; or of `explain`, or what does not matter alone to it; or of `order`.
+  // The texts of `check` and of `state`; or that of `explain`, of `why` or of `order`.
   ask(question) {
     if (this.opened.code !== 0) return this.opened;
     const bytes = (text) => (text instanceof Uint8Array ? text : new TextEncoder().encode(text));
@@ -87,7 +87,7 @@ class Judge {
     if (question.asks === "order") return this.call("page_order", [positions, bytes(question.steps)]);
     const operation = () => [positions, Number(question.closes), bytes(question.path)];
     if (question.asks === "explain") return this.call("page_explain", operation());
-    if (question.asks === "whatever") return this.call("page_whatever", operation());
+    if (question.asks === "why") return this.call("page_why", operation());
     const check = this.call("page_check", [positions]);
     if (check.code !== 0) return check;
     const state = this.call("page_state", [positions]);

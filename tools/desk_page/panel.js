@@ -94,7 +94,8 @@ function paintSwitches() {
 // The words that the picture cannot show beside its symbol.
 function paintWords() {
   each(".said.word", (e) => e.remove());
-  for (const path of switches) if (["bad", "lost"].includes(now()[path])) note(path, now()[path], "word");
+  const others = boxesOf();
+  for (const path of switches) if (["bad", "lost"].includes(now()[path])) note(path, now()[path], "word", others);
 }
 
 // ---- the menu of a switch

@@ -7,7 +7,6 @@ const RULES = {
 };
 const PARTS = { live: "live by this way", earthed: "earthed by this way", tap: "load by this way", bonded: "bonded to its first side" };
 const COLOURS = { live: "#dd2f36", earthed: "#16874a", tap: "#2f76d2", bonded: "#b36200" };
-const MOST_ASKED = 12;
 
 function putAway() {
   each(".halo, .said:not(.word)", (e) => e.remove());
@@ -27,97 +26,67 @@ function halo(node, colour) {
   });
 }
 
-// Text beside a symbol, where it covers no other text and no release.
-function note(path, text, kind = "") {
+// What text beside a symbol must not cover: other text, the releases, and the symbols.
+const boxesOf = () => [...picture.querySelectorAll("text, .mark rect, rect[pointer-events]")].filter((e) => e.getClientRects().length).map((e) => e.getBoundingClientRect());
+const covers = (a, b) => a.left < b.right && b.left < a.right && a.top < b.bottom && b.top < a.bottom;
+
+// Text beside a symbol, at the first place that is free.
+function note(path, text, kind = "", others = boxesOf()) {
   const at = symbolPlace(path);
   if (!at) return;
   const e = document.createElementNS("http://www.w3.org/2000/svg", "text");
   e.setAttribute("class", `said ${kind}`);
   e.textContent = text;
   picture.append(e);
-  const others = [...picture.querySelectorAll(":scope > text, .mark rect")].filter((o) => o !== e && o.getClientRects().length).map((o) => o.getBBox());
-  for (const [dx, dy] of [[0, -20], [0, 28], [-26, 4], [26, 4], [0, -32], [0, 40], [0, -20]]) {
+  let box = null;
+  for (const [dx, dy] of [[0, -20], [0, 28], [0, -32], [0, 40], [-34, 4], [34, 4], [-34, -16], [34, -16], [-34, 20], [34, 20], [0, -20]]) {
     e.setAttribute("x", at.x + dx);
     e.setAttribute("y", at.y + dy);
-    const box = e.getBBox();
-    if (!others.some((o) => box.x < o.x + o.width && o.x < box.x + box.width && box.y < o.y + o.height && o.y < box.y + box.height)) break;
+    box = e.getBoundingClientRect();
+    if (!others.some((other) => covers(box, other))) break;
   }
+  others.push(box);
 }
 
 const mark = (path) => each("#picture [data-path]", (e) => { if (e.dataset.path === path) e.classList.add("way"); });
 const nameOf = (path) => path.split("/").slice(-2).join("/");
 
-// The device between two nodes of a way: one that is closed in the reading, else a transformer, else an open breaker,
-// which counts as closed for what may be live or earthed.
-function between(a, b, words) {
-  const one = data.nodes.indexOf(a), two = data.nodes.indexOf(b);
-  const found = data.items.filter((item) => item.ends.includes(one) && item.ends.includes(two));
-  const closed = found.find((item) => item.switch && words[item.path] === "on") || found.find((item) => !item.switch);
-  if (closed) return { path: closed.path, open: false };
-  const breaker = found.find((item) => item.kind === "CBR");
-  return breaker ? { path: breaker.path, open: true } : null;
-}
+// A line of a way as it is shown: what joins two nodes is named by the judge.
+const OVER = {
+  switch: (path) => `over ${nameOf(path)}`, open: (path) => `over open ${nameOf(path)} (an open breaker counts as closed)`,
+  link: (path) => `over a link of ${path}`,
+};
 
 // The lines of a part: from the switch at its end over the devices.
-function wayLines(part, words) {
-  if (part.name === "bonded") return [`${PARTS.bonded}: ${part.nodes.join(", ")}`];
-  const lines = [`${PARTS[part.name]}:`];
-  part.nodes.forEach((node, i) => {
-    if (i > 0) {
-      const device = between(part.nodes[i - 1], node, words);
-      if (device) {
-        mark(device.path);
-        lines.push(`    over ${device.open ? "open " : ""}${nameOf(device.path)}` + (device.open ? " (an open breaker counts as closed)" : ""));
-      }
-    }
-    lines.push(`    ${node}`);
-    halo(node, COLOURS[part.name]);
+function wayLines({ name, steps, by }) {
+  const nodes = steps.filter((step) => step.node).map((step) => step.node);
+  if (name === "bonded") return [`${PARTS.bonded}: ${nodes.join(", ")}`];
+  nodes.forEach((node) => halo(node, COLOURS[name]));
+  const lines = steps.map((step) => {
+    if (step.node) return `    ${step.node}`;
+    mark(step.path);
+    return `    ${OVER[step.over](step.path)}`;
   });
-  if (part.by) {
-    mark(part.by);
-    lines.push(`    by ${nameOf(part.by)}`);
+  if (by) {
+    mark(by);
+    lines.push(`    by ${nameOf(by)}`);
   }
-  return lines;
-}
-
-// The unknown switches that alone do not change the answer: it is denied with each of them off, and with it on. The module
-// says which; the program is asked for both, of some of them.
-async function whatever(reading, direction, path) {
-  const asks = { positions: csv(now()), closes: direction === "close", path };
-  if (data.module) {
-    const answer = await ask({ ...asks, asks: "whatever" });
-    return answer.code === 0 ? linesOf(answer.texts[0]).map((line) => line.slice("whatever ".length)) : [];
-  }
-  const found = [];
-  for (const { path: open } of reading.slice(0, MOST_ASKED)) {
-    let always = true;
-    for (const word of ["off", "on"]) {
-      const answer = await ask({ ...asks, asks: "explain", positions: csv({ ...now(), [open]: word }) });
-      always = always && answer.code === 0 && denialOf(answer.texts[0]) !== null;
-      if (!always) break;
-    }
-    if (always) found.push(open);
-  }
-  return found;
+  return [`${PARTS[name]}:`, ...lines];
 }
 
 // Why the operation is denied, told in lines and shown in the picture.
 async function why(direction, path) {
-  const answer = await ask({ asks: "explain", positions: csv(now()), closes: direction === "close", path });
+  const answer = await ask({ asks: "why", positions: csv(now()), closes: direction === "close", path });
   if (answer.code !== 0) return [refusal(answer)];
   const denial = denialOf(answer.texts[0]);
   if (!denial) return ["released"];
-  const indifferent = await whatever(denial.reading, direction, path);
-  const words = { ...now(), ...Object.fromEntries(denial.reading.map(({ path, word }) => [path, word])) };
-  if (denial.rule === "R2") words[path] = "on";
-  const lines = [`${denial.rule}: ${RULES[denial.rule]}`];
-  if (indifferent.length) lines.push(`denied whatever ${indifferent.map(nameOf).join(", ")} ${indifferent.length > 1 ? "are, each alone" : "is"}`);
-  for (const { path: open, word } of denial.reading) {
-    if (indifferent.includes(open)) continue;
+  const { rule, reading, whatever } = denial, lines = [`${rule}: ${RULES[rule]}`];
+  if (whatever.length) lines.push(`denied whatever ${whatever.map(nameOf).join(", ")} ${whatever.length > 1 ? "are, each alone" : "is"}`);
+  for (const { path: open, word } of reading) {
+    if (whatever.includes(open)) continue;
     note(open, `if ${word}`);
     lines.push(`for example if ${nameOf(open)} is ${word}`);
   }
-  if (denial.reading.length && indifferent.length === denial.reading.length) lines.push("the way below is that of one reading");
-  for (const part of denial.parts) lines.push(...wayLines(part, words));
-  return lines;
+  if (reading.length && whatever.length === reading.length) lines.push("the way below is that of one reading");
+  return [...lines, ...denial.parts.flatMap(wayLines)];
 }

@@ -1,4 +1,3 @@
 pub mod Told
-pub mod Questions
-pub mod Drawings
+pub mod Opening
 pub mod Desk

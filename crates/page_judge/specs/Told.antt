@@ -4,7 +4,7 @@ use Rattle.ilk_base.specs.declared.words.InputRefusal.{InputRefusal}
 use Rattle.ilk_base.specs.declared.input_fault.InputFault.{InputFault}
 use Rattle.ilk_base.specs.declared.input_fault.InputFault.TheVariants.{Memory, Refused}
 use Rattle.ilk_base.specs.Inputs.{ForRefused}
-use Rattle.page_judge.specs.declared.answers.Answer.{Answer}
+use Rattle.page_questions.specs.declared.answers.Answer.{Answer}
 use Rattle.page_judge.specs.declared.told.Told.{Told}
 use Rattle.page_judge.specs.declared.told.TheConstants.{DONE, DIFFERS, INPUT, MEMORY, ROOM}
 

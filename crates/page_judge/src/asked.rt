@@ -2,14 +2,14 @@
 ghost use Rattle.std.specs.Prelude.{◌≡◌};
 ghost use Rattle.page_judge.specs.Told.{Ends};
 ghost use Rattle.page_judge.specs.Desk.{IsOpen, Keeps};
-ghost use Rattle.page_judge.specs.Questions.{SaysCheck, SaysState, SaysExplain, SaysWhatever, SaysOrder};
-ghost use Rattle.page_judge.specs.Questions.{direction_of};
-ghost use Rattle.page_judge.specs.Questions.{RefusesPositions, RefusesExplain, RefusesOrder};
+ghost use Rattle.page_questions.specs.Questions.{SaysCheck, SaysState, SaysExplain, SaysWhy, SaysOrder};
+ghost use Rattle.page_questions.specs.Questions.{direction_of};
+ghost use Rattle.page_questions.specs.Questions.{RefusesPositions, RefusesExplain, RefusesOrder};
 
-use crate::answers::{check_answer, explain_answer, order_answer, state_answer, whatever_answer};
 use crate::desk::Desk;
 use crate::told::{Told, tell};
 use ilk_base::Direction;
+use page_questions::{check_answer, explain_answer, order_answer, state_answer, why_answer};
 use std::alloc::Global;
 
 // The direction of an operation that closes, or that opens.
@@ -84,10 +84,9 @@ pub extern "C" fn page_explain(
     tell(&answer, room, told)
 }
 
-/// A line `whatever PATH` for each switch whose position is not known, and with which closing, or opening, the switch of
-/// this path is denied both where it is off and where it is on, the others being as they are.
+/// The text of `why` for closing, or for opening, the switch of this path.
 #[unsafe(no_mangle)]
-pub extern "C" fn page_whatever(
+pub extern "C" fn page_why(
     alloc: Global,
     desk: &mut Desk,
     positions: &[u8],
@@ -98,11 +97,11 @@ pub extern "C" fn page_whatever(
 ) -> u32
     requires open { IsOpen desk.old.kept }
     ensures kept { desk.new.kept ≡ desk.old.kept }
-    ensures ends { Keeps desk.old.kept (λ d. Ends (SaysWhatever d positions.now (direction_of closes) path.now)
+    ensures ends { Keeps desk.old.kept (λ d. Ends (SaysWhy d positions.now (direction_of closes) path.now)
         (RefusesExplain d positions.now path.now) result told.new room.new) }
 {
     let kept = desk.take(alloc);
-    let answer = whatever_answer(alloc, &kept.judge, positions, direction_of(closes), path);
+    let answer = why_answer(alloc, &kept.judge, positions, direction_of(closes), path);
     desk.put(kept);
     tell(&answer, room, told)
 }

@@ -7,7 +7,6 @@
 //! question, whatever its code.
 #![tactic(auto)]
 
-mod answers;
 mod asked;
 mod desk;
 mod kept;
@@ -15,8 +14,7 @@ mod opening;
 mod parts;
 mod told;
 
-pub use answers::Answer;
-pub use asked::{page_check, page_explain, page_order, page_state, page_whatever};
+pub use asked::{page_check, page_explain, page_order, page_state, page_why};
 pub use desk::Desk;
 pub use kept::Kept;
 pub use opening::{page_close, page_open};

@@ -4,7 +4,8 @@ ghost use Rattle.ssd_read.specs.Shown as shown;
 ghost use Rattle.ssd_read.specs.StandsFor.{Stands};
 ghost use Rattle.release_compile.specs.Judging.{KeepsLimits};
 ghost use Rattle.page_judge.specs.Desk.{IsOpen};
-ghost use Rattle.page_judge.specs.Drawings.{IsDrawingOf, IsNoStation, IsPastLimits, RefusesDrawing, ForShown, Opens};
+ghost use Rattle.page_questions.specs.Drawings.{IsDrawingOf, IsNoStation, IsPastLimits, RefusesDrawing};
+ghost use Rattle.page_judge.specs.Opening.{ForShown, Opens};
 
 use crate::desk::Desk;
 use crate::kept::Kept;

@@ -2,8 +2,8 @@
 ghost use Rattle.std.specs.Prelude.{◌≡◌};
 ghost use Rattle.page_judge.specs.Told.{done_code, IsGiven, IsStopped, IsTold};
 
-use crate::answers::Answer;
 use ilk_base::InputFault;
+use page_questions::Answer;
 
 /// The text is in the room.
 pub const DONE: u32 = 0;

@@ -1,10 +1,10 @@
-//! The answers to the questions of a page, by what the commands write.
+//! The answers to the questions of a page about a station that is read and judged.
 ghost use Rattle.std.specs.Prelude.{◌≡◌, false, IfOk, IfErr};
 ghost use Rattle.ilk_base.specs.Inputs.{ForRefused};
 ghost use Rattle.station_graph.specs.Alike.{IsVector};
 ghost use Rattle.switching_orders.specs.OrderRuling.{AreOperations};
-ghost use Rattle.page_judge.specs.Questions.{IsStart, SaysCheck, SaysState, SaysExplain, SaysWhatever, SaysOrder};
-ghost use Rattle.page_judge.specs.Questions.{RefusesPositions, RefusesExplain, RefusesStart, RefusesOrder};
+ghost use Rattle.page_questions.specs.Questions.{IsStart, SaysCheck, SaysState, SaysExplain, SaysWhy, SaysOrder};
+ghost use Rattle.page_questions.specs.Questions.{RefusesPositions, RefusesExplain, RefusesStart, RefusesOrder};
 
 use double_points::read_positions;
 use ilk_base::{Direction, InputFault, Op, Text};
@@ -15,13 +15,13 @@ use station_graph::{Station, Vector};
 use station_state::state_text;
 use std::alloc::Global;
 use switching_orders::{certain_positions, order_text, read_order};
-use whatever_text::whatever_text;
+use why_text::why_text;
 
 /// A text, and whether what was judged differs from the rules.
 #[derive(Drop)]
 pub struct Answer {
-    pub(crate) differs: bool,
-    pub(crate) text: Text,
+    pub differs: bool,
+    pub text: Text,
 }
 
 // An answer that differs from no rule.
@@ -34,8 +34,8 @@ fn plain(text: Text) -> Answer
     }
 }
 
-// What `check` says by these positions.
-pub(crate) fn check_answer(
+/// What `check` says by these positions.
+pub fn check_answer(
     alloc: Global,
     judge: &GraphJudge,
     positions: &[u8],
@@ -47,8 +47,8 @@ pub(crate) fn check_answer(
     Ok(plain(check_text(alloc, judge.station(), judge, &readings)?))
 }
 
-// What `state` says by these positions.
-pub(crate) fn state_answer(
+/// What `state` says by these positions.
+pub fn state_answer(
     alloc: Global,
     station: &Station,
     positions: &[u8],
@@ -60,8 +60,8 @@ pub(crate) fn state_answer(
     Ok(plain(state_text(alloc, station, &readings)?))
 }
 
-// What `explain` says of moving the switch of this path.
-pub(crate) fn explain_answer(
+/// What `explain` says of moving the switch of this path.
+pub fn explain_answer(
     alloc: Global,
     judge: &GraphJudge,
     positions: &[u8],
@@ -79,15 +79,15 @@ pub(crate) fn explain_answer(
     Ok(plain(explain_text(alloc, judge.station(), judge, &readings, op)?))
 }
 
-// What does not matter alone to moving the switch of this path.
-pub(crate) fn whatever_answer(
+/// What `why` says of moving the switch of this path.
+pub fn why_answer(
     alloc: Global,
     judge: &GraphJudge,
     positions: &[u8],
     direction: Direction,
     path: &[u8],
 ) -> Result<Answer, InputFault>
-    ensures ok { IfOk result (λ a. SaysWhatever judge.now.diagram positions.now direction path.now a.differs a.text) }
+    ensures ok { IfOk result (λ a. SaysWhy judge.now.diagram positions.now direction path.now a.differs a.text) }
     ensures err { IfErr result (λ e. ForRefused e (RefusesExplain judge.now.diagram positions.now path.now)) }
 {
     let readings = read_positions(alloc, judge.station(), positions)?;
@@ -95,7 +95,7 @@ pub(crate) fn whatever_answer(
         return Err(InputFault::refused(11, 0));
     };
     let op = Op { switch, direction };
-    Ok(plain(whatever_text(alloc, judge.station(), judge, &readings, op)?))
+    Ok(plain(why_text(alloc, judge.station(), judge, &readings, op)?))
 }
 
 // The vector that these positions say.
@@ -111,8 +111,8 @@ fn start_of(alloc: Global, station: &Station, positions: &[u8]) -> Result<Vector
     }
 }
 
-// What `order` says of these steps.
-pub(crate) fn order_answer(
+/// What `order` says of these steps.
+pub fn order_answer(
     alloc: Global,
     station: &Station,
     positions: &[u8],

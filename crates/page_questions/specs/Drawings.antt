@@ -1,5 +1,5 @@
--- What a drawing is opened as, and why it is refused.
-use Rattle.std.specs.Prelude.{◌≡◌, ◌⊎◌, ⊤, ℕ, List, Option, Ok, Err, unwrap_or}
+-- What a drawing is taken as, and why it is refused.
+use Rattle.std.specs.Prelude.{◌≡◌, ◌⊎◌, ℕ, List, Ok, Err, unwrap_or}
 use Rattle.station_graph.specs.Diagram.{Diagram, IsStation}
 use Rattle.ssd_read.specs.StandsFor.{Stands}
 use Rattle.ssd_read.specs.Shown as shown
@@ -7,12 +7,6 @@ use Rattle.ssd_read.specs.declared.refusal.SsdRefusal.{SsdRefusal}
 use Rattle.release_compile.specs.Judging.{KeepsLimits, IsBuildRefusal}
 use Rattle.release_compile.specs.declared.refusal.BuildRefusal.{BuildRefusal}
 use Rattle.release_compile.specs.declared.refusal.BuildRefusal.TheVariants as b
-use Rattle.page_judge.specs.Desk.{Keeps}
-use Rattle.page_judge.specs.declared.kept.Kept.{Kept}
-use Rattle.page_judge.specs.declared.told.Told.{Told}
-use Rattle.page_judge.specs.declared.told.TheConstants.{DONE, DRAWING, MEMORY}
-use Rattle.page_judge.specs.declared.opening.DrawingFault.{DrawingFault}
-use Rattle.page_judge.specs.declared.opening.DrawingFault.TheVariants as f
 
 -- The drawing is that of this station, which keeps the limits of its graphs.
 abbrev pub IsDrawingOf : List ℕ → Diagram → Type 0
@@ -43,16 +37,3 @@ abbrev pub RefusesDrawing : List ℕ → ℕ → ℕ → Type 0
 RefusesDrawing drawing number place =
     IsNoStation drawing number place
     ⊎ ((d : Diagram) × Stands drawing (Ok d) × IsPastLimits d number place)
-
--- A drawing is opened: its station is kept from now on; or it is refused, or memory is wanting, and what was kept
--- before still is.
-abbrev pub Opens : List ℕ → Option Kept → Option Kept → ℕ → Told → Type 0
-Opens drawing before after code told =
-    ((code ≡ DONE) × Keeps after (IsDrawingOf drawing))
-    ⊎ ((code ≡ DRAWING) × (after ≡ before) × RefusesDrawing drawing told.number told.place)
-    ⊎ ((code ≡ MEMORY) × (after ≡ before))
-
--- Of a fault that is no want of memory, this holds of what is shown.
-abbrev pub ForShown : DrawingFault → (ℕ → ℕ → Type 0) → Type 0
-ForShown f.Memory P = ⊤
-ForShown (f.Refused number place) P = P number place

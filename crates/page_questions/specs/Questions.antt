@@ -1,6 +1,6 @@
 -- What each question of a page says of a station, and what it refuses, in the order in which it is judged: what the
 -- command of its name says.
-use Rattle.std.specs.Prelude.{◌≡◌, ◌⊎◌, ℕ, Bool, true, false, List, slice_get, Some, Contains}
+use Rattle.std.specs.Prelude.{◌≡◌, ◌⊎◌, ℕ, Bool, true, false, List, Contains}
 use Rattle.ilk_base.specs.declared.words.Dbpos.{Dbpos}
 use Rattle.ilk_base.specs.declared.words.Direction.{Direction}
 use Rattle.ilk_base.specs.declared.words.Direction.TheVariants.{ToOff, ToOn}
@@ -14,7 +14,7 @@ use Rattle.switching_orders.specs.OrderLines.{IsOrder, IsOrderFault}
 use Rattle.switching_orders.specs.OrderText.{IsOrderText}
 use Rattle.release_texts.specs.CheckText.{IsCheckText}
 use Rattle.release_texts.specs.ExplainText.{IsExplainText}
-use Rattle.whatever_text.specs.Whatever.{IsWhateverText}
+use Rattle.why_text.specs.WhyText.{IsWhyText}
 
 -- The positions are accepted, as words of which this holds.
 abbrev pub ByPositions : Diagram → List ℕ → (List Dbpos → Type 0) → Type 0
@@ -38,17 +38,10 @@ abbrev pub SaysExplain : Diagram → List ℕ → Direction → List ℕ → Boo
 SaysExplain d positions direction path differs text =
     (differs ≡ false) × ByPositions d positions (λ words. IsExplainText d words direction path text)
 
--- The lines of the switches that do not matter alone to moving the switch of this path in this direction.
-pub record TellsWhatever (d : Diagram) (words : List Dbpos) (direction : Direction) (path text : List ℕ) : Type 0 where
-  pub op : Op
-  pub direction_is : op.direction ≡ direction
-  pub named : slice_get d.switch_paths op.switch.0 ≡ Some path
-  pub tells : IsWhateverText d words op text
-
--- They are told by these positions.
-abbrev pub SaysWhatever : Diagram → List ℕ → Direction → List ℕ → Bool → List ℕ → Type 0
-SaysWhatever d positions direction path differs text =
-    (differs ≡ false) × ByPositions d positions (λ words. TellsWhatever d words direction path text)
+-- The text of `why` for moving the switch of this path in this direction.
+abbrev pub SaysWhy : Diagram → List ℕ → Direction → List ℕ → Bool → List ℕ → Type 0
+SaysWhy d positions direction path differs text =
+    (differs ≡ false) × ByPositions d positions (λ words. IsWhyText d words direction path text)
 
 -- The positions are accepted, and no word of them leaves a position open: this is the vector that they say.
 abbrev pub IsStart : Diagram → List ℕ → List Bool → Type 0
