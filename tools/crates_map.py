@@ -61,7 +61,7 @@ LAYERS = [
           "short_equations structured_text program_blocks program_text station_lines drawing_remarks compare_text tests_text"),
     Layer("top",
           "Begin with `interlock_cli/src/top.rt`, where the words of a command become its work.",
-          "interlock_cli program_edge interlock page_judge"),
+          "interlock_cli page_commands program_edge interlock page_judge"),
     Layer("tests and benches",
           "Begin with `test_stations`, the stations that the tests are worked on.",
           "test_stations test_texts test_graphs test_drawing test_station test_judge test_compare test_bay test_world test_commands test_program test_edge test_run_calls bench_parts"),
