@@ -39,7 +39,7 @@ function note(path, text, kind = "", others = boxesOf()) {
   e.textContent = text;
   picture.append(e);
   let box = null;
-  for (const [dx, dy] of [[0, -20], [0, 28], [0, -32], [0, 40], [-34, 4], [34, 4], [-34, -16], [34, -16], [-34, 20], [34, 20], [0, -20]]) {
+  for (const [dx, dy] of [[0, -20], [0, 28], [0, -32], [0, 40], [0, 60], [-34, 4], [34, 4], [-34, -16], [34, -16], [-34, 20], [34, 20], [0, -20]]) {
     e.setAttribute("x", at.x + dx);
     e.setAttribute("y", at.y + dy);
     box = e.getBoundingClientRect();

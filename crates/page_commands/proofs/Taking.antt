@@ -2,8 +2,9 @@
 use Rattle.std.proofs.Common.{◌≡◌, ◌↔◌, ◌⊎◌, ◌∙◌, ℕ, List, Option, Some, IfSome, inl, inr, refl, sym, subst, ⊎_elim}
 use Rattle.ilk_base.specs.declared.words.InputRefusal.{InputRefusal}
 use Rattle.interlock_cli.specs.Formats.{Format, Value, AcceptsAs, Refuses}
-use Rattle.interlock_cli.specs.Form.{Form, Origin, Take, File, Word, IsContent, FormSays, FormStops}
+use Rattle.interlock_cli.specs.Form.{Form, Origin, Take, File, Word, IsContent, Refused, FormSays, FormStops}
 use Rattle.interlock_cli.specs.declared.end.Outcome.{Outcome}
+use Rattle.interlock_cli.specs.declared.end.End.{End}
 use Rattle.interlock_cli.specs.declared.end.End.TheVariants.{Input}
 use Rattle.page_commands.specs.Answering.{Held}
 
@@ -18,9 +19,14 @@ only : (held : Held) (origin : Origin) (content c : List ℕ) → IsAt held orig
 only held (File name) content c at is = subst (λ (h : Option (List ℕ)). IfSome h (λ x. x ≡ c)) at is
 only held (Word word) content c at is = sym at ∙ is
 
-itself : (held : Held) (origin : Origin) (content : List ℕ) → IsAt held origin content → IsContent held origin content
+pub itself : (held : Held) (origin : Origin) (content : List ℕ) → IsAt held origin content → IsContent held origin content
 itself held (File name) content at = subst (λ (h : Option (List ℕ)). IfSome h (λ x. x ≡ content)) (sym at) refl
 itself held (Word word) content at = at
+
+pub refused_content : (held : Held) (origin : Origin) (content : List ℕ) → IsAt held origin content → (f : Format)
+    (end : End) → Refused held origin f end → Refuses f content end
+refused_content held origin content at f end b =
+    subst (λ (c : List ℕ). Refuses f c end) (sym (only held origin content b.0 at b.1)) b.2
 
 module _ (held : Held) (origin : Origin) (content : List ℕ) (at : IsAt held origin content) (f : Format)
     (next : Value f → Form) where

@@ -7,6 +7,7 @@ use Rattle.page_questions.specs.Questions.{SaysCheck, SaysState, SaysExplain, Sa
 use Rattle.page_questions.specs.Questions.{RefusesPositions, RefusesExplain, RefusesOrder}
 use Rattle.interlock_cli.specs.Rests.{check_rest, state_rest, explain_rest, why_rest, order_rest}
 use Rattle.page_commands.proofs.Answers.{of_drawing, of_words, of_words_path, of_order}
+use Rattle.page_commands.proofs.Refusals.{refused_alike}
 use Rattle.page_commands.proofs.laws.answers_are_the_commands.Goals as goal
 
 pub returns-clause-check : goal.returns-clause-check
@@ -47,3 +48,6 @@ returns-clause-order c = λ held station positions order drawing given steps at_
     of_drawing held station drawing at_drawing (order_rest positions order) (λ d. SaysOrder d given steps)
     (λ d. RefusesOrder d given steps) (λ d. of_order held positions given at d order steps at_order) in
     record { writes = a.writes; refuses = a.refuses }
+
+pub returns-clause-drawing : goal.returns-clause-drawing
+returns-clause-drawing c = refused_alike
