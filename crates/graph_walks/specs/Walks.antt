@@ -3,7 +3,7 @@ use Rattle.std.specs.Prelude.{◌≡◌, ℕ, ◌<◌, ◌⊎◌, ◌↔◌, ◌
 use Rattle.std.specs.Prelude.{slice_index, slice_index_or, Some}
 use Rattle.decision_graphs.specs.Label.{Layer, Layered, layer_at, label_of, AreLayers}
 use Rattle.graph_products.specs.declared.row.Row.{Row}
-use Rattle.graph_products.specs.Products.{IsProductOf, IsWide, first_of, second_of}
+use Rattle.graph_products.specs.Products.{IsProductOf, IsWide, HasRoom, first_of, second_of}
 use Rattle.graph_walks.specs.declared.codes.Codes.{Codes}
 
 -- Both graphs take the same of two choices.
@@ -73,3 +73,15 @@ pub record AreTogetherWide (g h k l : Layered) (n budget : ℕ) : Type 0 where
 abbrev pub IsWideWalk : Layered → Layered → Layered → Layered → ℕ → ℕ → Type 0
 IsWideWalk g h k l n budget =
     IsWide g h (same_steps n) budget ⊎ (IsWide k l (same_steps n) budget ⊎ AreTogetherWide g h k l n budget)
+
+-- None of the three products by which the four are walked has more edges than these.
+pub record HasWalkRoom (g h k l : Layered) (n budget : ℕ) : Type 0 where
+  pub one : Layered
+  pub other : Layered
+  pub one_pairs : List ℕ
+  pub other_pairs : List ℕ
+  pub first : IsProductOf g h (same_steps n) one one_pairs
+  pub second : IsProductOf k l (same_steps n) other other_pairs
+  pub first_room : HasRoom g h (same_steps n) budget
+  pub second_room : HasRoom k l (same_steps n) budget
+  pub room : HasRoom one other (same_steps n) budget

@@ -2,7 +2,8 @@
 ghost use Rattle.std.specs.Prelude.{◌≡◌, ℕ, ◌≤◌, ◌<◌, ◌^◌, length, map, slice_get, Some, IfOk, IfErr};
 ghost use Rattle.graph_products.specs.Products.{first_of, second_of};
 ghost use Rattle.graph_products.specs.declared.product.ProductTrouble.TheVariants.{Wide};
-ghost use Rattle.graph_walks.specs.Walks.{same_rows, same_steps, HasTwos, IsWalkOf, IsWideWalk, codes_at, IsInPlace};
+ghost use Rattle.graph_walks.specs.Walks.{same_rows, same_steps, HasTwos, IsWalkOf, IsWideWalk, HasWalkRoom};
+ghost use Rattle.graph_walks.specs.Walks.{codes_at, IsInPlace};
 
 use crate::codes::Codes;
 use decision_graphs::Graph;
@@ -112,6 +113,7 @@ pub fn walk_of(
     requires fourth { HasTwos n fourth.now }
     requires budget { budget < 2 ^ 32 }
     ensures walk { IfOk result (λ w. IsWalkOf first.now second.now third.now fourth.now n w.graph w.codes.items) }
+    ensures room { IfOk result (λ _. HasWalkRoom first.now second.now third.now fourth.now n budget) }
     ensures wide { IfErr result (λ e. e ≡ Wide →
         IsWideWalk first.now second.now third.now fourth.now n budget) }
 {

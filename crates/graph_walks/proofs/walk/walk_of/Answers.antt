@@ -1,7 +1,7 @@
 use Rattle.std.proofs.Common.{◌≡◌, ℕ, List, Vec, Global, map, slice_get, Some, sym, ap, ◌∙◌, subst}
 use Rattle.decision_graphs.specs.Label.{Layered}
 use Rattle.graph_products.specs.declared.row.Row.{Row}
-use Rattle.graph_products.specs.Products.{IsProductOf}
+use Rattle.graph_products.specs.Products.{IsProductOf, HasRoom}
 use Rattle.graph_walks.specs.declared.codes.Codes.{Codes}
 use Rattle.graph_walks.specs.Walks.{same_steps, codes_at, IsInPlace}
 use Rattle.graph_walks.proofs.WalkLemmas.{steps_fit, has_twos, in_place, walk_is}
@@ -16,6 +16,12 @@ by_same : (g h p : Layered) (pairs : List ℕ) (n : ℕ) (held steps : List (Vec
     rows_of steps ≡ same_steps n → IsProductOf g h (rows_of held) p pairs → IsProductOf g h (same_steps n) p pairs
 by_same g h p pairs n held steps same is made =
     subst (λ ss. IsProductOf g h ss p pairs) (ap rows_of same ∙ is) made
+
+-- the room of such a product is that of one by the same choices
+room_by_same : (g h : Layered) (n budget : ℕ) (held steps : List (Vec Row Global)) → held ≡ steps →
+    rows_of steps ≡ same_steps n → HasRoom g h (rows_of held) budget → HasRoom g h (same_steps n) budget
+room_by_same g h n budget held steps same is room =
+    subst (λ ss. HasRoom g h ss budget) (ap rows_of same ∙ is) room
 
 pub product_of-requires-3-clause-steps : goal.product_of-requires-3-clause-steps
 product_of-requires-3-clause-steps c =
@@ -76,3 +82,31 @@ returns-clause-walk c =
     ∙ ap (λ (l : List ℕ). map (codes_at one_pairs other_pairs) l) c.deref-6.ensures.value)) in
     walk_is n c.args.first.now c.args.second.now c.args.third.now c.args.fourth.now one other all one_pairs
     other_pairs pairs first second both c.in_ok-codes.codes.items are
+
+pub returns-clause-room : goal.returns-clause-room
+returns-clause-room c =
+    let n = c.args.n in
+    let steps : List (Vec Row Global) = c.in_ok-steps.steps.items in
+    let one : Layered = c.in_ok-one.one.graph in
+    let other : Layered = c.in_ok-other.other.graph in
+    record {
+      one = one;
+      other = other;
+      one_pairs = c.in_ok-one.one.pairs.items;
+      other_pairs = c.in_ok-other.other.pairs.items;
+      first =
+          by_same c.args.first.now c.args.second.now one c.in_ok-one.one.pairs.items n c.deref.result.now steps
+          c.deref.ensures.value c.in_ok-steps.ensures c.in_ok-one.ensures.product;
+      second =
+          by_same c.args.third.now c.args.fourth.now other c.in_ok-other.other.pairs.items n c.deref-2.result.now steps
+          c.deref-2.ensures.value c.in_ok-steps.ensures c.in_ok-other.ensures.product;
+      first_room =
+          room_by_same c.args.first.now c.args.second.now n c.args.budget c.deref.result.now steps
+          c.deref.ensures.value c.in_ok-steps.ensures c.in_ok-one.ensures.room;
+      second_room =
+          room_by_same c.args.third.now c.args.fourth.now n c.args.budget c.deref-2.result.now steps
+          c.deref-2.ensures.value c.in_ok-steps.ensures c.in_ok-other.ensures.room;
+      room =
+          room_by_same one other n c.args.budget c.deref-3.result.now steps c.deref-3.ensures.value
+          c.in_ok-steps.ensures c.in_ok-all.ensures.room;
+    }
