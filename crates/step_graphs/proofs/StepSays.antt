@@ -16,7 +16,8 @@ use Rattle.judge_pool.specs.Graphs.{other_of, LabelSays}
 use Rattle.judge_pool.specs.Listing.{parts_before}
 use Rattle.judge_pool.specs.Needing.{IsNeededOuter}
 use Rattle.judge_pool.specs.Plans.{Plan, PlanFits, AreLinked, outer_plan, plan_diagram, ChosenBy, items_of, NeededBy}
-use Rattle.judge_pool.specs.Plans.{layers_of, PlanPasses}
+use Rattle.judge_pool.specs.Counted.{Spends}
+use Rattle.judge_pool.specs.Plans.{layers_of, PlanHas, PlanPasses}
 use Rattle.judge_pool.specs.Places.{pool_on}
 use Rattle.judge_pool.specs.Layering.{values_at}
 use Rattle.judge_pool.proofs.MappedPools.{order_self, values_at_self, grows_self}
@@ -33,7 +34,7 @@ use Rattle.step_graphs.specs.declared.step.Step.{Step}
 use Rattle.step_graphs.specs.declared.step.Step.TheVariants.{OfSwitch, OfLink, OfTap, OfNothing}
 use Rattle.step_graphs.specs.Steps.{items_in, TakesIn, AreSteps}
 use Rattle.step_graphs.specs.Needing.{IsNeeded}
-use Rattle.step_graphs.specs.Edges.{StepsPass}
+use Rattle.step_graphs.specs.Edges.{StepsPass, StepsKeep}
 use Rattle.step_graphs.specs.Ready.{IsStepReady}
 use Rattle.step_graphs.specs.Ending.{AreAllBut, AreEndCodes}
 use Rattle.step_graphs.specs.Moved.{AreGiven, IsMovedGraph, IsLabelledFrom}
@@ -41,7 +42,7 @@ use Rattle.step_graphs.proofs.Spread.{spread, spread_has, has_spread, spread_swi
 use Rattle.step_graphs.proofs.SpreadViews.{seen_on, touches_on, touched_on}
 use Rattle.step_graphs.proofs.SpreadParts.{place_has, has_place}
 use Rattle.step_graphs.proofs.StepFits.{step_letters, step_fits, step_linked, given_chosen, two_each}
-use Rattle.step_graphs.proofs.StepEdges.{steps_pass}
+use Rattle.step_graphs.proofs.StepEdges.{steps_pass, steps_keep}
 
 one_item : (s : Step) (x y : Item) → Among (items_in s) x → Among (items_in s) y → x ≡ y
 one_item (OfSwitch id) x y (inl e) (inl f) = e ∙ sym f
@@ -225,3 +226,11 @@ module _ (d : Diagram) (steps : List Step) (are : AreSteps d steps) (b others m 
   passes_of limit wide =
       steps_pass d steps are b others (pool_on (λ i. i) p) start letters keeps self_ready held same p.view limit
       (wide (λ i. i) the_plan order_self held_fits)
+
+  pub keeps_of : (n : ℕ) → n ≡ length held → (limit left : ℕ) →
+      ((f : ℕ → ℕ) (plan : Plan) → KeepsOrder f → PlanFits plan (pool_on f p) start held held_keeps →
+      Spends (PlanHas p.view plan held n) (plan_diagram plan) limit left) → StepsKeep p.view d steps b limit
+  keeps_of n count limit left spent =
+      steps_keep d steps are b others (pool_on (λ i. i) p) start letters keeps self_ready held same p.view limit left
+      (subst (λ k. Spends (PlanHas p.view the_plan held k) (spread d steps) limit left) count
+      (spent (λ i. i) the_plan order_self held_fits))

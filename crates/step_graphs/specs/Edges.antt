@@ -1,7 +1,8 @@
 -- How many edges the graph of a moved switch has, by the distinct views between its layers.
-use Rattle.std.specs.Prelude.{◌≡◌, ℕ, ◌*◌, ◌<◌, Bool, List, length, slice_get, Some, sum}
+use Rattle.std.specs.Prelude.{◌≡◌, ℕ, suc, ◌*◌, ◌<◌, ◌≤◌, Bool, List, length, slice_get, Some, sum}
 use Rattle.station_graph.specs.Diagram.{Diagram}
 use Rattle.station_graph.specs.Connection.{Item}
+use Rattle.bay_contract.specs.Counting.{AreSoMany}
 use Rattle.judge_pool.specs.declared.view.View.{View}
 use Rattle.judge_pool.specs.Counted.{Passes}
 use Rattle.judge_pool.specs.Graphs.{other_of}
@@ -31,3 +32,11 @@ pub record StepsPass (view : View) (d : Diagram) (steps : List Step) (b limit : 
   pub others : ℕ
   pub within : others < length steps
   pub first : Passes (StepsHave view d steps b others) d limit
+
+-- The graph of the switch at place b has no more edges than the limit: all its layers together have not.
+pub record StepsKeep (view : View) (d : Diagram) (steps : List Step) (b limit : ℕ) : Type 0 where
+  pub others : ℕ
+  pub count : suc others ≡ length steps
+  pub edges : ℕ
+  pub has : StepsHave view d steps b others (AreSoMany d) edges
+  pub few : edges ≤ limit

@@ -9,7 +9,7 @@ ghost use Rattle.judge_pool.specs.declared.limits.TheConstants.{BAY_EDGES};
 ghost use Rattle.step_graphs.specs.Steps.{AreSteps, AllFit, TakesIn};
 ghost use Rattle.step_graphs.specs.Ready.{IsStepStock, IsStepReady};
 ghost use Rattle.step_graphs.specs.Moved.{IsMovedGraph, IsLabelledFrom};
-ghost use Rattle.step_graphs.specs.Edges.{StepsPass};
+ghost use Rattle.step_graphs.specs.Edges.{StepsPass, StepsKeep};
 ghost use Rattle.judge_pool.specs.declared.layer.Trouble.TheVariants.{Wide};
 
 use crate::ends::end_codes;
@@ -128,6 +128,7 @@ pub fn moved_graph(
     ensures stock { OnOk result (IsStepStock station.now steps.now stock.new) }
     ensures view { OnOk result (stock.new.pool.view ≡ stock.old.pool.view) }
     ensures graph { IfOk result (IsMovedGraph stock.old.pool.view station.now steps.now place id.0) }
+    ensures room { IfOk result (λ _. StepsKeep stock.old.pool.view station.now steps.now place budget) }
     ensures wide { IfErr result (λ e. e ≡ Wide →
         StepsPass stock.old.pool.view station.now steps.now place budget) }
 {

@@ -11,8 +11,8 @@ use Rattle.step_graphs.specs.Ending.{AreEndCodes}
 use Rattle.step_graphs.specs.Moved.{IsMovedGraph, IsLabelledFrom}
 use Rattle.step_graphs.proofs.SpreadParts.{taken_item}
 use Rattle.step_graphs.proofs.StepLemmas.{step_rows_stay}
-use Rattle.step_graphs.specs.Edges.{StepsPass}
-use Rattle.step_graphs.proofs.StepSays.{held_linked, moved_of, passes_of}
+use Rattle.step_graphs.specs.Edges.{StepsPass, StepsKeep}
+use Rattle.step_graphs.proofs.StepSays.{held_linked, moved_of, passes_of, keeps_of}
 use Rattle.step_graphs.proofs.graph.moved_graph.Goals as goal
 
 abbrev ids_of : List (Vec ℕ Global) → List (List ℕ)
@@ -77,3 +77,15 @@ returns-in_err-drafts-clause-wide c =
     c.in_ok-taken.taken.start (ids_of c.in_ok-taken.taken.letters.items) c.in_ok-taken.taken.keeps.items
     c.in_ok-taken.ensures.ready (ids_of c.deref.result.now) c.deref-2.result.now (ap ids_of c.deref.ensures.value)
     c.deref-2.ensures.value c.args.budget (c.in_err-drafts.ensures.wide (sym same ∙ is))))
+
+pub returns-clause-room : goal.returns-clause-room
+returns-clause-room c =
+    let d = c.args.station.now in
+    let p : Pool = c.intake.new.stock.pool in
+    subst (λ w. StepsKeep w d c.args.steps.now c.args.place c.args.budget) c.in_ok-taken.ensures.view
+    (keeps_of d c.args.steps.now c.requires.steps c.args.place _ c.args.id.0 c.requires.moved p
+    c.in_ok-taken.taken.start (ids_of c.in_ok-taken.taken.letters.items) c.in_ok-taken.taken.keeps.items
+    c.in_ok-taken.ensures.ready (ids_of c.deref.result.now) c.deref-2.result.now (ap ids_of c.deref.ensures.value)
+    c.deref-2.ensures.value (length c.deref.result.now)
+    (sym (length-map c.deref.result.now (λ (v : Vec ℕ Global). v.items))) c.args.budget c.in_ok-drafts.drafts.left
+    c.in_ok-drafts.ensures.spent)
