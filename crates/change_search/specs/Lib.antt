@@ -1,3 +1,4 @@
 pub mod Telling
 pub mod Searching
 pub mod Showing
+pub mod Passing

@@ -12,3 +12,4 @@ mod LikeLemmas
 mod StuckLemmas
 mod LeftOutLemmas
 mod SoundLemmas
+mod RefusalLemmas

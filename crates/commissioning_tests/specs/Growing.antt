@@ -19,10 +19,13 @@ use Rattle.commissioning_tests.specs.declared.values.TestPosition.{TestPosition}
 use Rattle.commissioning_tests.specs.declared.walked.OperationWalk.{OperationWalk}
 use Rattle.decision_graphs.specs.Label.{Layered}
 use Rattle.decision_graphs.specs.Reaching.{IsSet}
-use Rattle.graph_walks.specs.Walks.{AreTwos, HasTwos}
+use Rattle.graph_walks.specs.Walks.{AreTwos}
 use Rattle.graph_walks.specs.declared.codes.Codes.{Codes}
 use Rattle.ilk_base.specs.declared.words.Direction.{Direction}
-use Rattle.dependence_search.specs.RuleWalks.{IsTurningChoice, rule_of}
+use Rattle.dependence_search.specs.RuleWalks.{IsTurningChoice}
+use Rattle.dependence_search.specs.Released.{IsReleasedOf}
+use Rattle.dependence_search.specs.Width.{TurnPasses}
+use Rattle.judge_pool.specs.declared.limits.TheConstants.{BAY_EDGES}
 use Rattle.release_dependence.specs.Operations.{closing}
 use Rattle.commissioning_tests.specs.Answering.{IsMove, AreRising, IsPosition, ArePositions}
 use Rattle.commissioning_tests.specs.Standing.{IsMoved}
@@ -93,27 +96,13 @@ pub record IsCovered (d : Diagram) (ops : List Op) (stands : List ℕ) (ps : Lis
   pub rules : (rule : Rule) (v : List Bool) (op : Op) → slice_get ops k ≡ Some op → IsVector d v →
       Breaks d v op (Some rule) → RuleIsShown ps k rule
 
--- The graph has two choices in each layer, and a label for each place of the list.
-pub record HasTwoChoices (walk : Layered) (codes : List Codes) : Type 0 where
-  pub choices : HasTwos (length walk.layers) walk
-  pub labels : walk.labels ≡ length codes
-
--- One where the answer is none, else zero.
-abbrev pub name_for : Option Rule → ℕ
-name_for None = 1
-name_for (Some rule) = 0
-
--- So for the answer that labels give to a move in this direction.
-abbrev pub released_name : Direction → Codes → ℕ
-released_name direction c = name_for (rule_of direction c)
-
 -- Each layer is marked in which some choices turn the release of a move in this direction.
 abbrev pub AreTurnedLayers : Layered → List Codes → Direction → List Bool → Type 0
 AreTurnedLayers walk codes direction layers =
     (j : ℕ) (cs : List ℕ) → j < length walk.layers → AreTwos (length walk.layers) cs →
     IsTurningChoice walk codes j direction cs → IsSet layers j
 
--- The walk of an operation: that of its switch, whose step stands at the place.
+-- The walk of an operation: that of its switch, whose step stands at the place, and the graph of the operation.
 pub record IsOperationWalk (w : OperationWalk) : Type 0 where
   pub steps : HaveJointSteps w.station.now w.station.now w.steps.now
   pub all : AreOperations w.station.now w.operations.now
@@ -122,6 +111,12 @@ pub record IsOperationWalk (w : OperationWalk) : Type 0 where
   pub moved : TakesIn w.steps.now.old_steps.items w.place (a_switch op.switch.0)
   pub walk : IsRuleWalk w.station.now w.steps.now.old_steps.items w.place op.switch.0 w.walk.now.graph
       w.walk.now.codes.items
+  pub released : IsReleasedOf w.walk.now.graph w.walk.now.codes.items op.direction w.released.now
+
+-- The graph of the operation walked with itself has more than `BAY_EDGES` edges.
+abbrev pub IsWalkedWide : OperationWalk → Type 0
+IsWalkedWide w = (op : Op) → slice_get w.operations.now w.number ≡ Some op →
+    TurnPasses w.station.now w.steps.now.old_steps.items w.place op.switch.0 BAY_EDGES
 
 -- All of the first so many operations is shown.
 abbrev pub AreCovered : Diagram → List Op → List ℕ → List TestPosition → ℕ → Type 0

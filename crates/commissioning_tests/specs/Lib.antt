@@ -6,3 +6,4 @@ pub mod Growing
 pub mod Shared
 pub mod Likewise
 pub mod Controllers
+pub mod Refusing

@@ -1,13 +1,14 @@
 //! The tests of all bays of a station.
-ghost use Rattle.std.specs.Prelude.{◌≡◌, ◌+◌, ◌<◌, IfOk, OnOk};
+ghost use Rattle.std.specs.Prelude.{◌≡◌, ◌+◌, ◌<◌, IfOk, IfErr, OnOk};
 ghost use Rattle.station_graph.specs.Diagram.{part_count};
+ghost use Rattle.commissioning_tests.specs.Refusing.{IsRefusal, IsWideBay};
 ghost use Rattle.commissioning_tests.specs.Shared.{AreSharedTests, AreTestsUpto, AreStationTests};
 
 use crate::bay::bay_tests;
 use crate::leads::{is_tested, leads_of, like_of};
+use crate::refusal::TestsRefusal;
 use crate::values::SharedTests;
 use ilk_base::BayId;
-use judge_pool::Trouble;
 use station_graph::Station;
 use std::alloc::Global;
 
@@ -17,9 +18,10 @@ fn shared_tests(
     station: &Station,
     leads: &[u8],
     bay: BayId,
-) -> Result<SharedTests, Trouble>
+) -> Result<SharedTests, TestsRefusal>
     ensures bay { IfOk result (λ s. s.bay ≡ bay) }
     ensures are { IfOk result (AreSharedTests station.now leads.now) }
+    ensures refusal { IfErr result (IsRefusal (IsWideBay station.now)) }
 {
     let like = like_of(alloc, station, leads, bay)?;
     let tests = bay_tests(alloc, station, bay)?;
@@ -33,10 +35,11 @@ fn add_tests(
     leads: &[u8],
     part: BayId,
     all: &mut Vec<SharedTests>,
-) -> Result<(), Trouble>
+) -> Result<(), TestsRefusal>
     requires within { part.0 < part_count station.now }
     requires before { AreTestsUpto station.now leads.now part.0 all.old.items }
-    ensures { OnOk result (AreTestsUpto station.now leads.now (part.0 + 1) all.new.items) }
+    ensures tests { OnOk result (AreTestsUpto station.now leads.now (part.0 + 1) all.new.items) }
+    ensures refusal { IfErr result (IsRefusal (IsWideBay station.now)) }
 {
     if !is_tested(station, leads, part) {
         return Ok(());
@@ -48,10 +51,12 @@ fn add_tests(
 
 /// The tests of a station, bay by bay in document order: those of each bay that is not seen to be like an earlier one, as
 /// `bay_tests` makes them, and with them the later bays that are seen to be like it, whose tests they are with the two
-/// bays exchanged, by `like_bays_are_tested`. It is `Wide` as `bay_tests` is. Time: the items, for each bay and each
+/// bays exchanged, by `like_bays_are_tested`. It is `Wide` as `bay_tests` is, with the first
+/// bay of which that is found. Time: the items, for each bay and each
 /// bay that is tested; and that of `bay_tests`, for each of these. Memory: all tests.
-pub fn station_tests(alloc: Global, station: &Station) -> Result<Vec<SharedTests>, Trouble>
-    ensures { IfOk result (λ v. AreStationTests station.now v.items) }
+pub fn station_tests(alloc: Global, station: &Station) -> Result<Vec<SharedTests>, TestsRefusal>
+    ensures tests { IfOk result (λ v. AreStationTests station.now v.items) }
+    ensures refusal { IfErr result (IsRefusal (IsWideBay station.now)) }
 {
     let leads = leads_of(alloc, station)?;
     let mut all = Vec::new(alloc);

@@ -1,13 +1,16 @@
 //! The tests of a bay.
-ghost use Rattle.std.specs.Prelude.{◌≡◌, ◌+◌, ◌*◌, ◌^◌, ◌<◌, ◌≤◌, length, IfOk};
+ghost use Rattle.std.specs.Prelude.{◌≡◌, ◌+◌, ◌*◌, ◌^◌, ◌<◌, ◌≤◌, length, IfOk, IfErr};
 ghost use Rattle.commissioning_tests.specs.Answering.{ArePositions};
 ghost use Rattle.commissioning_tests.specs.Covering.{AreTestsOf, TestSwitches};
 ghost use Rattle.commissioning_tests.specs.Growing.{AreCovered};
 ghost use Rattle.commissioning_tests.specs.Listed.{operations_from};
+ghost use Rattle.commissioning_tests.specs.Refusing.{IsRefusal, IsThatWideBay, SomeIsTooWide};
+ghost use Rattle.judge_pool.specs.declared.layer.Trouble.TheVariants.{Wide};
 
 use crate::cover_bay::cover_switches;
 use crate::lists::{always_of, needs_of};
 use crate::operations::operations_of;
+use crate::refusal::TestsRefusal;
 use crate::stands::stands_of;
 use crate::values::{BayTests, TestPosition};
 use ilk_base::{BayId, Memory, Op, SwitchId};
@@ -31,6 +34,7 @@ fn positions_of(
     requires few { first.0 + count < 2 ^ 16 }
     ensures positions { IfOk result (λ ps. ArePositions station.now operations.now ps.items) }
     ensures covered { IfOk result (λ ps. AreCovered station.now operations.now stands.now ps.items (length operations.now)) }
+    ensures wide { IfErr result (λ e. e ≡ Wide → SomeIsTooWide station.now first.0 count) }
 {
     let steps = joint_steps(alloc, station, station)?;
     if steps.old_steps.len() < 2 {
@@ -49,7 +53,8 @@ fn tests_of(
 ) -> Result<BayTests, Trouble>
     requires within { first.0 + count ≤ length station.now.switches }
     requires few { first.0 + count < 2 ^ 16 }
-    ensures { IfOk result (TestSwitches station.now first.0 count) }
+    ensures tests { IfOk result (TestSwitches station.now first.0 count) }
+    ensures wide { IfErr result (λ e. e ≡ Wide → SomeIsTooWide station.now first.0 count) }
 {
     let operations = operations_of(alloc, first, count)?;
     let stands = stands_of(alloc, station, first, count)?;
@@ -76,14 +81,20 @@ fn tests_of(
 /// turn it, for each rule that an operation can break a position in which it does, what the bay needs of other bays, and
 /// what is released in every position. The move is of that switch or of one that stands for it: of other bays that are
 /// alike only the first has its switches moved, as far as that is seen in document order. No line is idle. It is `Wide`
-/// where a graph of a switch, or a walk of them, has more than `judge_pool::BAY_EDGES` edges. Time: the items, for each two
-/// bays that are not seen to be like earlier ones; a walk for each switch of the bay; a walk of that with itself for each
-/// turn that no position shows yet; and for each position the rules, for each moved switch that may show more. Memory: a
-/// walk, and for each move the answers of the operations.
-pub fn bay_tests(alloc: Global, station: &Station, bay: BayId) -> Result<BayTests, Trouble>
-    ensures { IfOk result (AreTestsOf station.now bay.0) }
+/// where for a switch of the bay a graph, a walk of both, or the graph of one of its operations walked with itself has more
+/// than `judge_pool::BAY_EDGES` edges. Time: the items, for each two bays that are not seen to be like earlier ones; a walk
+/// for each switch of the bay; the graph of an operation walked with itself for each turn that no position shows yet; and
+/// for each position the rules, for each moved switch that may show more. Memory: a walk, and for each move the answers of
+/// the operations.
+pub fn bay_tests(alloc: Global, station: &Station, bay: BayId) -> Result<BayTests, TestsRefusal>
+    ensures tests { IfOk result (AreTestsOf station.now bay.0) }
+    ensures refusal { IfErr result (IsRefusal (IsThatWideBay station.now bay.0)) }
 {
     station.is_station();
     let (first, count) = station.switches_of(bay);
-    tests_of(alloc, station, first, count)
+    match tests_of(alloc, station, first, count) {
+        Ok(tests) => Ok(tests),
+        Err(Trouble::Memory) => Err(TestsRefusal::Memory),
+        Err(Trouble::Wide) => Err(TestsRefusal::Wide { bay }),
+    }
 }

@@ -1,5 +1,5 @@
 //! How positions are added until all is shown.
-ghost use Rattle.std.specs.Prelude.{◌≡◌, ℕ, List, Bool, ◌<◌, length, slice_get, Some, IfOk, OnOk, option_map};
+ghost use Rattle.std.specs.Prelude.{◌≡◌, ℕ, List, Bool, ◌<◌, length, slice_get, Some, IfOk, IfErr, OnOk, option_map};
 ghost use Rattle.ilk_base.specs.declared.words.Op.{Op as Operation};
 ghost use Rattle.ilk_base.specs.declared.words.Rule.{Rule as Broken};
 ghost use Rattle.station_graph.specs.Alike.{IsVector};
@@ -9,7 +9,8 @@ ghost use Rattle.dependence_search.specs.Turning.{IsTurn, IsTurning};
 ghost use Rattle.commissioning_tests.specs.Answering.{ArePositions};
 ghost use Rattle.commissioning_tests.specs.Standing.{IsMoved};
 ghost use Rattle.commissioning_tests.specs.Covering.{TurnIsShown, RuleIsShown};
-ghost use Rattle.commissioning_tests.specs.Growing.{AreMore, AreTurnedLayers, IsOperationWalk, IsCovered};
+ghost use Rattle.commissioning_tests.specs.Growing.{AreMore, AreTurnedLayers, IsOperationWalk, IsWalkedWide, IsCovered};
+ghost use Rattle.judge_pool.specs.declared.layer.Trouble.TheVariants.{Wide};
 
 use crate::depends::{layers_of, may_turn};
 use crate::moves::add_position;
@@ -34,13 +35,14 @@ fn turn_of(
     requires walked { IsOperationWalk walked.now }
     requires op { slice_get walked.now.operations.now walked.now.number ≡ Some op }
     requires switch { switch.0 < length walked.now.station.now.switches }
-    ensures { IfOk result (λ found. IsTurn walked.now.station.now op switch.0 (option_map (λ v. v.items) found)) }
+    ensures turn { IfOk result (λ found. IsTurn walked.now.station.now op switch.0 (option_map (λ v. v.items) found)) }
+    ensures wide { IfErr result (λ e. e ≡ Wide → IsWalkedWide walked.now) }
 {
     match find_turn(
         alloc,
         walked.station,
         walked.steps,
-        walked.walk,
+        walked.released,
         walked.place,
         op,
         switch,
@@ -150,6 +152,7 @@ fn cover_turn(
         positions.new.items) }
     ensures shown { OnOk result ((op : Operation) → slice_get walked.now.operations.now walked.now.number ≡ Some op
         → IsMoved walked.now.stands.now switch.0 → DependsOn walked.now.station.now op switch.0 → TurnIsShown positions.new.items walked.now.number switch.0) }
+    ensures wide { IfErr result (λ e. e ≡ Wide → IsWalkedWide walked.now) }
 {
     if !is_moved(walked.stands, switch.0) || is_turn_shown(positions, walked.number, switch) {
         return Ok(());
@@ -170,7 +173,7 @@ fn cover_rule(
     walked: &OperationWalk<'_>,
     rule: Rule,
     positions: &mut Vec<TestPosition>,
-) -> Result<(), Trouble>
+) -> Result<(), Memory>
     requires walked { IsOperationWalk walked.now }
     requires positions { ArePositions walked.now.station.now walked.now.operations.now positions.old.items }
     ensures more { OnOk result (AreMore walked.now.station.now walked.now.operations.now positions.old.items
@@ -211,7 +214,7 @@ fn cover_rules(
     alloc: Global,
     walked: &OperationWalk<'_>,
     positions: &mut Vec<TestPosition>,
-) -> Result<(), Trouble>
+) -> Result<(), Memory>
     requires walked { IsOperationWalk walked.now }
     requires positions { ArePositions walked.now.station.now walked.now.operations.now positions.old.items }
     ensures more { OnOk result (AreMore walked.now.station.now walked.now.operations.now positions.old.items
@@ -240,6 +243,7 @@ fn cover_turns(
     ensures shown { OnOk result ((s : ℕ) (op : Operation)
         → slice_get walked.now.operations.now walked.now.number ≡ Some op → IsMoved walked.now.stands.now s
         → DependsOn walked.now.station.now op s → TurnIsShown positions.new.items walked.now.number s) }
+    ensures wide { IfErr result (λ e. e ≡ Wide → IsWalkedWide walked.now) }
 {
     let layers = layers_of(alloc, walked)?;
     for s in 0..walked.station.switch_count() {
@@ -260,6 +264,7 @@ pub(crate) fn cover_operation(
         positions.new.items) }
     ensures covered { OnOk result (IsCovered walked.now.station.now walked.now.operations.now walked.now.stands.now positions.new.items
         walked.now.number) }
+    ensures wide { IfErr result (λ e. e ≡ Wide → IsWalkedWide walked.now) }
 {
     walked.station.is_station();
     walks_answer();

@@ -1,21 +1,25 @@
 //! The positions that show all of a bay's operations.
-ghost use Rattle.std.specs.Prelude.{◌≡◌, ◌+◌, ◌*◌, ◌^◌, ◌<◌, ◌≤◌, length, slice_get, Some, IfOk, OnOk};
+ghost use Rattle.std.specs.Prelude.{◌≡◌, ◌+◌, ◌*◌, ◌^◌, ◌<◌, ◌≤◌, length, slice_get, Some, IfOk, IfErr, OnOk};
 ghost use Rattle.station_graph.specs.Connection.{a_switch};
 ghost use Rattle.step_graphs.specs.Steps.{TakesIn};
 ghost use Rattle.station_joints.specs.Joined.{HaveJointSteps};
 ghost use Rattle.dependence_search.specs.RuleWalks.{AreRuleStocks, IsRuleWalk};
+ghost use Rattle.dependence_search.specs.Width.{IsTooWide, TurnPasses};
+ghost use Rattle.judge_pool.specs.declared.limits.TheConstants.{BAY_EDGES};
+ghost use Rattle.judge_pool.specs.declared.layer.Trouble.TheVariants.{Wide};
 ghost use Rattle.commissioning_tests.specs.Answering.{ArePositions};
 ghost use Rattle.commissioning_tests.specs.Growing.{AreOperations, AreMore, AreCovered, IsCovered};
 ghost use Rattle.release_dependence.specs.Operations.{opening, closing};
 ghost use Rattle.commissioning_tests.specs.Listed.{operations_from};
+ghost use Rattle.commissioning_tests.specs.Refusing.{SomeIsTooWide};
 
 use crate::cover::cover_operation;
 use crate::paths::paths_of;
 use crate::values::TestPosition;
 use crate::walked::OperationWalk;
-use dependence_search::{RuleStocks, rule_stocks, rule_walk};
+use dependence_search::{RuleStocks, released_graph, rule_stocks, rule_walk};
 use graph_walks::Walk;
-use ilk_base::{Op, SwitchId};
+use ilk_base::{Direction, Op, SwitchId};
 use judge_pool::{BAY_EDGES, Trouble};
 use station_graph::Station;
 use station_joints::JointSteps;
@@ -45,8 +49,11 @@ fn cover_both(
     ensures more { OnOk result (AreMore station.now operations.now positions.old.items positions.new.items) }
     ensures opening { OnOk result (IsCovered station.now operations.now stands.now positions.new.items number) }
     ensures closing { OnOk result (IsCovered station.now operations.now stands.now positions.new.items (number + 1)) }
+    ensures wide { IfErr result (λ e. e ≡ Wide
+        → TurnPasses station.now steps.now.old_steps.items place switch.0 BAY_EDGES) }
 {
     let paths = paths_of(alloc, walk)?;
+    let opened = released_graph(alloc, walk, Direction::ToOff)?;
     let open = OperationWalk {
         station,
         steps,
@@ -55,10 +62,12 @@ fn cover_both(
         walk,
         place,
         paths: &paths,
+        released: &opened,
         number,
         opening: number,
     };
     cover_operation(alloc, &open, positions)?;
+    let closed = released_graph(alloc, walk, Direction::ToOn)?;
     let close = OperationWalk {
         station,
         steps,
@@ -67,6 +76,7 @@ fn cover_both(
         walk,
         place,
         paths: &paths,
+        released: &closed,
         number: number + 1,
         opening: number,
     };
@@ -99,6 +109,7 @@ fn cover_switch(
     ensures more { OnOk result (AreMore station.now operations.now positions.old.items positions.new.items) }
     ensures opening { OnOk result (IsCovered station.now operations.now stands.now positions.new.items number) }
     ensures closing { OnOk result (IsCovered station.now operations.now stands.now positions.new.items (number + 1)) }
+    ensures wide { IfErr result (λ e. e ≡ Wide → IsTooWide station.now switch.0 BAY_EDGES) }
 {
     let place = steps.old_places[usize::from(switch.0)];
     let walk = rule_walk(
@@ -133,6 +144,7 @@ pub(crate) fn cover_switches(
     requires few { first.0 + count < 2 ^ 16 }
     ensures positions { IfOk result (λ ps. ArePositions station.now operations.now ps.items) }
     ensures covered { IfOk result (λ ps. AreCovered station.now operations.now stands.now ps.items (2 * count)) }
+    ensures wide { IfErr result (λ e. e ≡ Wide → SomeIsTooWide station.now first.0 count) }
 {
     let mut stocks = rule_stocks(alloc, station, &steps.old_steps)?;
     let mut positions = Vec::new(alloc);

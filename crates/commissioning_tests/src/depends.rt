@@ -1,49 +1,14 @@
 //! On which switches the release of an operation does not depend, found at once for all of them.
-ghost use Rattle.std.specs.Prelude.{◌≡◌, ◌≢◌, ◌↔◌, ◌<◌, IsTrue, IsFalse, Some, length, map, slice_get, IfOk};
+ghost use Rattle.std.specs.Prelude.{◌≡◌, ◌≢◌, ◌↔◌, ◌<◌, IsTrue, IsFalse, Some, length, slice_get, IfOk};
 ghost use Rattle.ilk_base.specs.declared.words.Op.{Op as Operation};
 ghost use Rattle.decision_graphs.specs.Reaching.{IsSet};
 ghost use Rattle.release_dependence.specs.Depends.{DependsOn};
 ghost use Rattle.station_joints.specs.Chosen.{layer_of};
-ghost use Rattle.commissioning_tests.specs.Growing.{IsOperationWalk, HasTwoChoices, AreTurnedLayers, released_name};
+ghost use Rattle.commissioning_tests.specs.Growing.{IsOperationWalk, AreTurnedLayers};
 
-use crate::operations::operation_of;
 use crate::walked::OperationWalk;
-use change_search::answer;
-use graph_walks::{Codes, Walk};
-use ilk_base::{Direction, Memory, SwitchId};
+use ilk_base::{Memory, SwitchId};
 use std::alloc::Global;
-
-// One where labels say that the move is released, else zero.
-fn name_of(direction: Direction, codes: Codes) -> u32
-    ensures { result ≡ released_name direction codes }
-{
-    match answer(direction, codes.first, codes.third) {
-        Some(_) => 0,
-        None => 1,
-    }
-}
-
-// So of each label.
-fn names_of(alloc: Global, direction: Direction, codes: &[Codes]) -> Result<Vec<u32>, Memory>
-    ensures { IfOk result (λ v. v.items ≡ map (released_name direction) codes.now) }
-{
-    let mut names = Vec::new(alloc);
-    for t in 0..codes.len() {
-        names.push(name_of(direction, codes[t]))?;
-    }
-    Ok(names)
-}
-
-// For each layer of the walk whether the choice there turns the release of a move in this direction.
-fn turned_layers(alloc: Global, walk: &Walk, direction: Direction) -> Result<Vec<bool>, Memory>
-    requires { HasTwoChoices walk.now.graph walk.now.codes.items }
-    ensures { IfOk result (λ v. AreTurnedLayers walk.now.graph walk.now.codes.items direction v.items) }
-{
-    let names = names_of(alloc, direction, &walk.codes)?;
-    let released = walk.graph.rename(alloc, 2, &names)?;
-    let layers = released.dependencies(alloc)?;
-    Ok(layers)
-}
 
 // For each layer of the operation's walk whether the choice there turns its release.
 pub(crate) fn layers_of(alloc: Global, walked: &OperationWalk<'_>) -> Result<Vec<bool>, Memory>
@@ -51,8 +16,7 @@ pub(crate) fn layers_of(alloc: Global, walked: &OperationWalk<'_>) -> Result<Vec
     ensures { IfOk result (λ v. (op : Operation) → slice_get walked.now.operations.now walked.now.number ≡ Some op
         → AreTurnedLayers walked.now.walk.now.graph walked.now.walk.now.codes.items op.direction v.items) }
 {
-    let op = operation_of(walked);
-    let layers = turned_layers(alloc, walked.walk, op.direction)?;
+    let layers = walked.released.dependencies(alloc)?;
     Ok(layers)
 }
 

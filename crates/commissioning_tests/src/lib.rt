@@ -16,6 +16,7 @@ mod lists;
 mod moves;
 mod operations;
 mod paths;
+mod refusal;
 mod rich;
 mod shown;
 mod sound;
@@ -28,4 +29,5 @@ pub use bay::bay_tests;
 pub use laws::{
     each_bay_is_tested, left_out_rules_are_found, like_bays_are_tested, stuck_inputs_are_found,
 };
+pub use refusal::TestsRefusal;
 pub use values::{BayTests, SharedTests, TestMove, TestPosition};

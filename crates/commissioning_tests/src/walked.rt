@@ -1,5 +1,6 @@
 //! The walk of an operation.
 use crate::paths::Paths;
+use decision_graphs::Graph;
 use graph_walks::Walk;
 use ilk_base::Op;
 use station_graph::Station;
@@ -20,6 +21,8 @@ pub(crate) struct OperationWalk<'a> {
     pub(crate) place: u16,
     // its edges
     pub(crate) paths: &'a Paths,
+    // the graph of the operation
+    pub(crate) released: &'a Graph,
     // which of the operations it is, and which opens the switch; the next to that closes it
     pub(crate) number: usize,
     pub(crate) opening: usize,

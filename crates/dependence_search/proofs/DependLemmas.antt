@@ -247,10 +247,3 @@ module _ (d : Diagram) (ss : List Step) (places : List ℕ) (at : ArePlaces d ss
       let there = at.each s q at_q in
       layer_in b q n places_apart (omega (arith, slice_get_within ss q there.step there.at, count))
       (omega (arith, slice_get_within ss b here.step here.at, count))
-
--- where choices lead in a walk there are labels of both graphs
-pub label_within : (d : Diagram) (ss : List Step) (b m : ℕ) (walk : Layered) (codes : List Codes)
-    (w : IsRuleWalk d ss b m walk codes) (cs : List ℕ) → AreTwos w.others cs → label_of walk cs < length codes
-label_within d ss b m walk codes w cs two =
-    slice_get_within codes (label_of walk cs) (codes_of w.old_gap w.new_gap w.old_load w.new_load cs)
-    (w.walked.leads cs two)

@@ -1,7 +1,9 @@
-mod GivenLemmas
+pub mod GivenLemmas
 mod TurnedLemmas
 pub mod LoneLemmas
 pub mod ToldLemmas
 mod WantedLemmas
 mod LabelLemmas
 pub mod DependLemmas
+pub mod ReleasedLemmas
+mod WideLemmas

@@ -19,7 +19,7 @@ use Rattle.dependence_search.specs.RuleWalks.{IsRuleWalk, rule_of}
 
 -- ---- the walk has two choices in each layer
 
-choices_listed : (ls : List Layer) (j : ℕ) → (layer_at ls j).choices ≡ get_or (map (λ (l : Layer). l.choices) ls) j 0
+pub choices_listed : (ls : List Layer) (j : ℕ) → (layer_at ls j).choices ≡ get_or (map (λ (l : Layer). l.choices) ls) j 0
 choices_listed [] zero = refl
 choices_listed [] (suc j) = refl
 choices_listed (l ∷ ls) zero = refl

@@ -8,12 +8,10 @@ use Rattle.graph_products.specs.declared.row.Row.{Row}
 use Rattle.graph_products.specs.Products.{AreRows, firsts, seconds, row_at, rows_at, RowsFit, StepsFit, IsProductOf}
 use Rattle.graph_products.specs.Products.{first_of, second_of}
 use Rattle.graph_walks.specs.Walks.{same_rows, same_steps, AreTwos, HasTwos}
-use Rattle.graph_walks.specs.declared.codes.Codes.{Codes}
 use Rattle.decision_graphs.specs.Reaching.{IsSet}
-use Rattle.ilk_base.specs.declared.words.Direction.{Direction}
 use Rattle.dependence_search.specs.Leading.{IsLed}
-use Rattle.dependence_search.specs.RuleWalks.{AreLabels, AreWanted, IsTurnedPair, IsTurningChoice, IsTurnChoice}
-use Rattle.dependence_search.proofs.GivenLemmas.{twos_turned}
+use Rattle.dependence_search.specs.RuleWalks.{AreWanted}
+use Rattle.dependence_search.specs.Released.{IsTurnedPair, IsTurnChoice, TurnsLabel}
 use Rattle.graph_walks.proofs.WalkLemmas.{rows_of_twos, twos_of_rows, firsts_same, seconds_same}
 use Rattle.dependence_search.specs.RuleWalks.{turned_rows, turned_steps, turned_at}
 
@@ -159,54 +157,20 @@ module _ (n l : ℕ) (lt : l < n) (g p : Layered) (pairs : List ℕ) (is : IsPro
         s.is.second ∙ ap (λ ds. label_of g ds) (turned_seconds n l cs two lt),
       )
 
-  module _ (codes : List Codes) (within : (cs : List ℕ) → AreTwos n cs → label_of g cs < length codes) where
-    pub pair_within : (t x : ℕ) → slice_get pairs t ≡ Some x → AreLabels codes x
-    pair_within t x at =
-        let hit = is.hit t (slice_get_within pairs t x at) in
-        let two = are_twos n l hit.rows hit.are_rows in
-        let (y, at_y, one, other) = pair_at hit.rows two in
-        let same : y ≡ x = same_Some y x (sym at_y ∙ (ap (slice_get pairs) hit.led ∙ at)) in
-        record {
-          first = omega (arith, within hit.rows two, one, ap (λ z. first_of z) same);
-          second =
-              omega (
-                arith,
-                within (turned_at l hit.rows) (twos_turned n l hit.rows two),
-                other,
-                ap (λ z. second_of z) same,
-              );
-        }
+  module _ (wanted : List Bool) (are : AreWanted IsTurnedPair pairs wanted) where
+    turning_to : (cs : List ℕ) → AreTwos n cs → IsSet wanted (label_of p cs) → TurnsLabel g l cs
+    turning_to cs two set e =
+        let (x, at, one, other) = pair_at cs two in
+        (are.each (label_of p cs) x at).0 set (one ∙ (e ∙ sym other))
 
-    module _ (direction : Direction) (wanted : List Bool) (are : AreWanted (IsTurnedPair direction codes) pairs wanted)
-      where
-        turning_to : (cs : List ℕ) → AreTwos n cs → IsSet wanted (label_of p cs) →
-            IsTurningChoice g codes l direction cs
-        turning_to cs two set =
-            let (x, at, one, other) = pair_at cs two in
-            let pair = (are.each (label_of p cs) x at).0 set in
-            record {
-              one = pair.one;
-              other = pair.other;
-              one_at = ap (slice_get codes) (sym one) ∙ pair.one_at;
-              other_at = ap (slice_get codes) (sym other) ∙ pair.other_at;
-              turned = pair.turned;
-            }
+    turning_from : (cs : List ℕ) → AreTwos n cs → TurnsLabel g l cs → IsSet wanted (label_of p cs)
+    turning_from cs two turns =
+        let (x, at, one, other) = pair_at cs two in
+        (are.each (label_of p cs) x at).1 (λ e. turns (sym one ∙ (e ∙ other)))
 
-        turning_from : (cs : List ℕ) → AreTwos n cs → IsTurningChoice g codes l direction cs →
-            IsSet wanted (label_of p cs)
-        turning_from cs two turning =
-            let (x, at, one, other) = pair_at cs two in
-            (are.each (label_of p cs) x at).1 (record {
-              one = turning.one;
-              other = turning.other;
-              one_at = ap (slice_get codes) one ∙ turning.one_at;
-              other_at = ap (slice_get codes) other ∙ turning.other_at;
-              turned = turning.turned;
-            })
-
-        pub turn_choice : (found : Option (List ℕ)) → IsLed p wanted n found → IsTurnChoice g codes n l direction found
-        turn_choice None none = λ cs two turning. none cs two (turning_from cs two turning)
-        turn_choice (Some cs) led = (led.0, turning_to cs led.0 led.1)
+    pub turn_choice : (found : Option (List ℕ)) → IsLed p wanted n found → IsTurnChoice g n l found
+    turn_choice None none = λ cs two turns. none cs two (turning_from cs two turns)
+    turn_choice (Some cs) led = (led.0, turning_to cs led.0 led.1)
 
 -- a list that is written at one place
 pub map-set : {X Y : Type 0} (f : X → Y) (xs : List X) (i : ℕ) (x : X) →

@@ -1,3 +1,5 @@
 pub mod Turning
 pub mod Leading
 pub mod RuleWalks
+pub mod Released
+pub mod Width

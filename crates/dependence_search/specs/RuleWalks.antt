@@ -1,15 +1,14 @@
 -- The walk of the two graphs of a switch, and what its labels say.
-use Rattle.std.specs.Prelude.{◌≡◌, ◌≢◌, ◌↔◌, ◌⊎◌, ◌<◌, ℕ, Bool, List, [], ◌∷◌, Option, None, Some, slice_set, slice_get}
-use Rattle.std.specs.Prelude.{◌-◌, length, slice_index, MatchOption}
+use Rattle.std.specs.Prelude.{◌≡◌, ◌≢◌, ◌↔◌, ◌⊎◌, ℕ, Bool, List, [], ◌∷◌, Option, None, Some, slice_set, slice_get}
+use Rattle.std.specs.Prelude.{◌-◌, length, slice_index}
 use Rattle.ilk_base.specs.declared.words.Direction.{Direction}
 use Rattle.ilk_base.specs.declared.words.Rule.{Rule}
 use Rattle.station_graph.specs.Diagram.{Diagram}
 use Rattle.decision_graphs.specs.Label.{Layered, label_of}
 use Rattle.decision_graphs.specs.Reaching.{IsSet}
-use Rattle.graph_products.specs.Products.{first_of, second_of}
 use Rattle.graph_products.specs.declared.row.Row.{Row}
 use Rattle.graph_walks.specs.declared.codes.Codes.{Codes}
-use Rattle.graph_walks.specs.Walks.{AreTwos, same_steps}
+use Rattle.graph_walks.specs.Walks.{same_steps}
 use Rattle.change_search.specs.Telling.{answer_of, IsSwitchWalk}
 use Rattle.step_graphs.specs.declared.step.Step.{Step}
 use Rattle.step_graphs.specs.Ready.{IsStepStock}
@@ -43,14 +42,6 @@ turned_steps n layer = slice_set (same_steps n) layer turned_rows
 abbrev pub OneIsNone : Option Rule → Option Rule → Type 0
 OneIsNone x y = ((x ≡ None) × (y ≢ None)) ⊎ ((x ≢ None) × (y ≡ None))
 
--- The number is that of a pair of labels which say that a move in this direction is released once, and once breaks a rule.
-pub record IsTurnedPair (direction : Direction) (codes : List Codes) (x : ℕ) : Type 0 where
-  pub one : Codes
-  pub other : Codes
-  pub one_at : slice_get codes (first_of x) ≡ Some one
-  pub other_at : slice_get codes (second_of x) ≡ Some other
-  pub turned : OneIsNone (rule_of direction one) (rule_of direction other)
-
 -- The choices with the other of two in this layer.
 abbrev pub turned_at : ℕ → List ℕ → List ℕ
 turned_at layer cs = slice_set cs layer (1 - slice_index cs layer)
@@ -65,18 +56,7 @@ pub record IsTurningChoice (walk : Layered) (codes : List Codes) (layer : ℕ) (
   pub other_at : slice_get codes (label_of walk (turned_at layer cs)) ≡ Some other
   pub turned : OneIsNone (rule_of direction one) (rule_of direction other)
 
--- Such choices, one of two in each of n layers; none where there are none.
-abbrev pub IsTurnChoice : Layered → List Codes → ℕ → ℕ → Direction → Option (List ℕ) → Type 0
-IsTurnChoice walk codes n layer direction found =
-    MatchOption found ((cs : List ℕ) → AreTwos n cs → ¬ IsTurningChoice walk codes layer direction cs)
-    (λ cs. AreTwos n cs × IsTurningChoice walk codes layer direction cs)
-
 -- Wanted are exactly the places of the list at which this holds.
 pub record AreWanted {X : Type 0} (P : X → Type 0) (xs : List X) (wanted : List Bool) : Type 0 where
   pub len : length wanted ≡ length xs
   pub each : (t : ℕ) (x : X) → slice_get xs t ≡ Some x → IsSet wanted t ↔ P x
-
--- Both labels of the pair are places of the list.
-pub record AreLabels (codes : List Codes) (x : ℕ) : Type 0 where
-  pub first : first_of x < length codes
-  pub second : second_of x < length codes

@@ -4,9 +4,11 @@
 
 mod breach;
 mod label;
+mod released;
 mod turn;
 mod walk;
 
 pub use breach::find_breach;
+pub use released::released_graph;
 pub use turn::{find_turn, one_is_none, turning_depends};
 pub use walk::{RuleStocks, rule_stocks, rule_walk, trouble_of, walks_answer};

@@ -6,23 +6,23 @@ ghost use Rattle.station_graph.specs.Connection.{a_switch};
 ghost use Rattle.station_graph.specs.Diagram.{Diagram};
 ghost use Rattle.graph_products.specs.Products.{IsProductOf, IsWide};
 ghost use Rattle.graph_products.specs.declared.product.ProductTrouble.TheVariants.{Wide};
-ghost use Rattle.graph_walks.specs.Walks.{AreTwos, HasTwos};
-ghost use Rattle.decision_graphs.specs.Label.{label_of};
+ghost use Rattle.graph_walks.specs.Walks.{HasTwos};
 ghost use Rattle.release_dependence.specs.Depends.{DependsOn};
 ghost use Rattle.step_graphs.specs.Steps.{TakesIn};
 ghost use Rattle.station_joints.specs.Chosen.{layer_of};
 ghost use Rattle.station_joints.specs.Joined.{HaveJointSteps};
-ghost use Rattle.dependence_search.specs.RuleWalks.{AreLabels, AreWanted, IsRuleWalk, IsTurnedPair, OneIsNone, rule_of};
-ghost use Rattle.dependence_search.specs.RuleWalks.{turned_rows, turned_steps, IsTurnChoice};
+ghost use Rattle.dependence_search.specs.RuleWalks.{AreWanted, OneIsNone};
+ghost use Rattle.dependence_search.specs.Released.{IsReleasedWalk, IsTurnedPair, IsTurnChoice};
+ghost use Rattle.dependence_search.specs.RuleWalks.{turned_rows, turned_steps};
 ghost use Rattle.dependence_search.specs.Turning.{IsTurn, IsTurning};
+ghost use Rattle.dependence_search.specs.Width.{TurnPasses};
 
 use crate::breach::closed_by;
 use crate::label::find_label;
-use change_search::answer;
-use decision_graphs::ChoiceList;
+use decision_graphs::{ChoiceList, Graph};
 use graph_products::{Product, ProductTrouble, Row, product_of};
-use graph_walks::{Codes, Walk, same_steps};
-use ilk_base::{Direction, Memory, Op, Rule, SwitchId};
+use graph_walks::same_steps;
+use ilk_base::{Memory, Op, Rule, SwitchId};
 use station_graph::Station;
 use station_joints::JointSteps;
 use std::alloc::Global;
@@ -44,41 +44,20 @@ pub fn one_is_none(one: Option<Rule>, other: Option<Rule>) -> bool
     }
 }
 
-// Whether labels say that the move is released once, and once breaks a rule.
-fn is_turned(direction: Direction, one: Codes, other: Codes) -> bool
-    ensures { IsTrue result ↔ OneIsNone (rule_of direction one) (rule_of direction other) }
+// Whether the labels of a pair differ.
+fn is_turned_pair(pair: usize) -> bool
+    ensures { IsTrue result ↔ IsTurnedPair pair }
 {
-    one_is_none(
-        answer(direction, one.first, one.third),
-        answer(direction, other.first, other.third),
-    )
+    pair / 4294967296 != pair % 4294967296
 }
 
-// Whether a pair of labels says so.
-fn is_turned_pair(direction: Direction, codes: &[Codes], pair: usize) -> bool
-    requires { AreLabels codes.now pair }
-    ensures { IsTrue result ↔ IsTurnedPair direction codes.now pair }
-{
-    is_turned(
-        direction,
-        codes[pair / 4294967296],
-        codes[pair % 4294967296],
-    )
-}
-
-// For each pair of labels whether it says so.
-fn turned_labels(
-    alloc: Global,
-    direction: Direction,
-    codes: &[Codes],
-    pairs: &[usize],
-) -> Result<Vec<bool>, Memory>
-    requires { (t x : ℕ) → slice_get pairs.now t ≡ Some x → AreLabels codes.now x }
-    ensures { IfOk result (λ v. AreWanted (IsTurnedPair direction codes.now) pairs.now v.items) }
+// For each pair of labels whether they differ.
+fn turned_labels(alloc: Global, pairs: &[usize]) -> Result<Vec<bool>, Memory>
+    ensures { IfOk result (λ v. AreWanted IsTurnedPair pairs.now v.items) }
 {
     let mut wanted = Vec::new(alloc);
     for t in 0..pairs.len() {
-        wanted.push(is_turned_pair(direction, codes, pairs[t]))?;
+        wanted.push(is_turned_pair(pairs[t]))?;
     }
     Ok(wanted)
 }
@@ -109,44 +88,41 @@ fn turned(alloc: Global, n: u16, layer: u16) -> Result<Vec<Vec<Row>>, Memory>
     Ok(steps)
 }
 
-// The walk with itself, in which the second takes the other choice in this layer.
+// The graph walked with itself, where the second takes the other choice in this layer.
 fn turned_product(
     alloc: Global,
-    walk: &Walk,
+    released: &Graph,
     n: u16,
     layer: u16,
     budget: usize,
 ) -> Result<Product, ProductTrouble>
-    requires walked { HasTwos n walk.now.graph }
+    requires released { HasTwos n released.now }
     requires layer { layer < n }
     requires budget { budget < 2 ^ 32 }
-    ensures product { IfOk result (λ p. IsProductOf walk.now.graph walk.now.graph (turned_steps n layer) p.graph
+    ensures product { IfOk result (λ p. IsProductOf released.now released.now (turned_steps n layer) p.graph
         p.pairs.items) }
-    ensures wide { IfErr result (λ e. e ≡ Wide → IsWide walk.now.graph walk.now.graph (turned_steps n layer) budget) }
+    ensures wide { IfErr result (λ e. e ≡ Wide → IsWide released.now released.now (turned_steps n layer) budget) }
 {
     let steps = turned(alloc, n, layer)?;
-    product_of(alloc, &walk.graph, &walk.graph, &steps, budget)
+    product_of(alloc, released, released, &steps, budget)
 }
 
-// Choices of the walk that say that the move is released, and with the other choice in this layer that it breaks a rule, or
-// the other way round; none where no choices do.
+// Choices that lead to one label, and with the other choice in this layer to another; none where no choices do.
 fn turning_choices(
     alloc: Global,
-    walk: &Walk,
+    released: &Graph,
     n: u16,
     layer: u16,
-    direction: Direction,
     budget: usize,
 ) -> Result<Option<ChoiceList>, ProductTrouble>
-    requires walked { HasTwos n walk.now.graph }
-    requires labels { (cs : List ℕ) → AreTwos n cs → label_of walk.now.graph cs < length walk.now.codes.items }
+    requires released { HasTwos n released.now }
     requires layer { layer < n }
     requires budget { budget < 2 ^ 32 }
-    ensures found { IfOk result (λ found. IsTurnChoice walk.now.graph walk.now.codes.items n layer direction found) }
-    ensures wide { IfErr result (λ e. e ≡ Wide → IsWide walk.now.graph walk.now.graph (turned_steps n layer) budget) }
+    ensures found { IfOk result (IsTurnChoice released.now n layer) }
+    ensures wide { IfErr result (λ e. e ≡ Wide → IsWide released.now released.now (turned_steps n layer) budget) }
 {
-    let both = turned_product(alloc, walk, n, layer, budget)?;
-    let wanted = turned_labels(alloc, direction, &walk.codes, &both.pairs)?;
+    let both = turned_product(alloc, released, n, layer, budget)?;
+    let wanted = turned_labels(alloc, &both.pairs)?;
     Ok(find_label(alloc, &both.graph, &wanted, n)?)
 }
 
@@ -160,14 +136,14 @@ fn layer_at(moved: u16, place: u16) -> u16
 
 /// A position of all switches in which moving a switch turns the operation: it is released before or after, and the other
 /// time it breaks a rule. None exactly where the release does not depend on the switch; it never depends on the moved
-/// switch itself. The steps are those of the station with itself, the walk is that of the moved switch, whose step stands
-/// at this place of the old steps. It is `Wide` where the walk with itself has more edges than the budget. Time and
-/// memory: those edges, and the switches.
+/// switch itself. The steps are those of the station with itself, the graph is that of the operation, as
+/// `released_graph` makes it, and the step of its switch stands at this place of the old steps. It is `Wide` where the
+/// graph walked with itself has more edges than the budget. Time and memory: those edges, and the switches.
 pub fn find_turn(
     alloc: Global,
     station: &Station,
     steps: &JointSteps,
-    walk: &Walk,
+    released: &Graph,
     place: u16,
     op: Op,
     switch: SwitchId,
@@ -175,13 +151,12 @@ pub fn find_turn(
 ) -> Result<Option<Vec<bool>>, ProductTrouble>
     requires steps { HaveJointSteps station.now station.now steps.now }
     requires moved { TakesIn steps.now.old_steps.items place (a_switch op.switch.0) }
-    requires walk { IsRuleWalk station.now steps.now.old_steps.items place op.switch.0 walk.now.graph
-        walk.now.codes.items }
+    requires released { IsReleasedWalk station.now steps.now.old_steps.items place op.switch.0 op.direction released.now }
     requires switch { switch.0 < length station.now.switches }
     requires budget { budget < 2 ^ 32 }
     ensures turn { IfOk result (λ found. IsTurn station.now op switch.0 (option_map (λ v. v.items) found)) }
-    ensures wide { IfErr result (λ e. e ≡ Wide → (n layer : ℕ)
-        × IsWide walk.now.graph walk.now.graph (turned_steps n layer) budget) }
+    ensures wide { IfErr result (λ e. e ≡ Wide
+        → TurnPasses station.now steps.now.old_steps.items place op.switch.0 budget) }
 {
     station.is_station();
     if switch.0 == op.switch.0 {
@@ -189,7 +164,7 @@ pub fn find_turn(
     }
     let n = (steps.old_steps.len() - 1) as u16;
     let layer = layer_at(place, steps.old_places[usize::from(switch.0)]);
-    match turning_choices(alloc, walk, n, layer, op.direction, budget)? {
+    match turning_choices(alloc, released, n, layer, budget)? {
         Some(choices) => Ok(Some(closed_by(alloc, station, steps, place, &choices)?)),
         None => Ok(None),
     }

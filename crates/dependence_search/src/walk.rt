@@ -1,5 +1,5 @@
 //! The walk of the two graphs of a switch.
-ghost use Rattle.std.specs.Prelude.{◌≡◌, ◌↔◌, ◌<◌, ◌≤◌, ◌^◌, ℕ, Bool, List, Option, length, IfOk, OnOk};
+ghost use Rattle.std.specs.Prelude.{◌≡◌, ◌↔◌, ◌<◌, ◌≤◌, ◌^◌, ℕ, Bool, List, Option, length, IfOk, IfErr, OnOk};
 ghost use Rattle.ilk_base.specs.declared.words.Op.{Op};
 ghost use Rattle.ilk_base.specs.declared.words.Rule.{Rule};
 ghost use Rattle.station_graph.specs.Alike.{IsVector};
@@ -8,6 +8,7 @@ ghost use Rattle.station_graph.specs.Diagram.{Diagram, IsStation};
 ghost use Rattle.decision_graphs.specs.Label.{Layered};
 ghost use Rattle.graph_walks.specs.declared.codes.Codes.{Codes};
 ghost use Rattle.station_joints.specs.Together.{AreJointSteps};
+ghost use Rattle.change_search.specs.Passing.{IsWideSwitchWalk};
 ghost use Rattle.step_graphs.specs.declared.step.Step.{Step as StepValue};
 ghost use Rattle.station_graph.specs.Connection.{a_switch};
 ghost use Rattle.step_graphs.specs.Steps.{AreSteps, AllFit, TakesIn};
@@ -74,6 +75,8 @@ pub fn rule_walk(
     requires budget { budget ≤ BAY_EDGES }
     ensures stocks { OnOk result (AreRuleStocks station.now steps.now stocks.new) }
     ensures walk { IfOk result (λ w. IsRuleWalk station.now steps.now place id.0 w.graph w.codes.items) }
+    ensures wide { IfErr result (λ e. e ≡ Wide
+        → IsWideSwitchWalk station.now station.now steps.now steps.now place id.0 id.0 budget) }
 {
     let n = (steps.len() - 1) as u16;
     let gap = moved_graph(alloc, &mut stocks.gap, station, steps, place, id, budget)?;

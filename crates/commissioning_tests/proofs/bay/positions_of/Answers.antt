@@ -1,5 +1,6 @@
 use Rattle.std.proofs.Common.{List, length, slice_get, ap, ◌∙◌, sym, arith}
 use Rattle.ilk_base.specs.declared.words.Op.{Op}
+use Rattle.judge_pool.proofs.ErrorLemmas.{passed_on}
 use Rattle.commissioning_tests.proofs.ListLemmas.{operations_long, operations_in}
 use Rattle.commissioning_tests.proofs.CoverLemmas.{lone_covered}
 use Rattle.commissioning_tests.proofs.bay.positions_of.Goals as goal
@@ -19,3 +20,8 @@ pub returns-clause-covered : goal.returns-clause-covered
 returns-clause-covered c k lt =
     c.in_ok-positions.ensures.covered k
     (omega (arith, lt, ap length c.requires.operations, operations_long c.args.first.0 c.args.count))
+
+pub returns-in_err-positions-clause-wide : goal.returns-in_err-positions-clause-wide
+returns-in_err-positions-clause-wide c =
+    passed_on _ _ c.from_residual-in_err-positions.result c.from_residual-in_err-positions.ensures.1
+    (λ trouble same is. c.in_err-positions.ensures.wide (sym same ∙ is))

@@ -1,4 +1,4 @@
-use Rattle.std.proofs.Common.{ℕ, List, length, map, subst}
+use Rattle.std.proofs.Common.{ℕ, List, length, map, sym, subst, ◌∙◌}
 use Rattle.std.specs.List.{range_with_len}
 use Rattle.std.proofs.lemmas.Option.{slice_get_within}
 use Rattle.ilk_base.specs.declared.words.Op.{Op}
@@ -7,11 +7,12 @@ use Rattle.commissioning_tests.specs.Listed.{AreThose}
 use Rattle.commissioning_tests.specs.Covering.{IsAlways, IsNeeded}
 use Rattle.commissioning_tests.specs.Answering.{ArePositions}
 use Rattle.commissioning_tests.specs.Growing.{AreCovered}
+use Rattle.judge_pool.proofs.ErrorLemmas.{passed_on}
 use Rattle.commissioning_tests.proofs.ListedLemmas.{turns_for}
 use Rattle.commissioning_tests.proofs.bay.tests_of.Goals as goal
 
-pub returns : goal.returns
-returns c =
+pub returns-clause-tests : goal.returns-clause-tests
+returns-clause-tests c =
     let d = c.args.station.now in
     let ops : List Op = c.in_ok-operations.operations.items in
     let stands : List ℕ = c.in_ok-stands.stands.items in
@@ -38,3 +39,8 @@ returns c =
           c.in_ok-stands.ensures;
       rules = λ k op rule v at vector breaks. (covered k (slice_get_within ops k op at)).rules rule v op at vector breaks;
     }
+
+pub returns-in_err-positions-clause-wide : goal.returns-in_err-positions-clause-wide
+returns-in_err-positions-clause-wide c =
+    passed_on _ _ c.from_residual-in_err-positions.result c.from_residual-in_err-positions.ensures.1
+    (λ trouble same is. c.in_err-positions.ensures.wide (sym same ∙ is))

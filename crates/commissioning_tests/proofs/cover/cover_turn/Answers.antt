@@ -1,7 +1,8 @@
-use Rattle.std.proofs.Common.{subst}
+use Rattle.std.proofs.Common.{sym, subst, ◌∙◌}
 use Rattle.ilk_base.specs.declared.words.Op.{Op}
 use Rattle.release_dependence.specs.Depends.{DependsOn}
 use Rattle.dependence_search.specs.Turning.{IsTurning}
+use Rattle.judge_pool.proofs.ErrorLemmas.{passed_on}
 use Rattle.commissioning_tests.proofs.CoverLemmas.{same_op}
 use Rattle.commissioning_tests.proofs.cover.cover_turn.Goals as goal
 
@@ -14,11 +15,16 @@ returns-in_ok-add_both-in-Some-clause-shown c op at here dep =
     c.in_ok-add_both-in-Some.ensures.shown op at here
     (subst (λ (x : Op). IsTurning c.args.walked.now.station.now x c.args.switch.0 c.in-Some.closed.items)
     (same_op c.args.walked.now.operations.now c.args.walked.now.number c.operation_of-op.result op
-    c.operation_of-op.ensures at) turning)
+    c.operation_of-op.ensures at) turning.turn)
 
 pub returns-in-None-clause-shown : goal.returns-in-None-clause-shown
 returns-in-None-clause-shown c op at here dep =
     let none = rw c.in-None.is at c.in_ok-closed.ensures in
     absurd (subst (λ (x : Op). ¬ DependsOn c.args.walked.now.station.now x c.args.switch.0)
     (same_op c.args.walked.now.operations.now c.args.walked.now.number c.operation_of-op.result op
-    c.operation_of-op.ensures at) none dep)
+    c.operation_of-op.ensures at) none.turn dep)
+
+pub returns-in_err-closed-clause-wide : goal.returns-in_err-closed-clause-wide
+returns-in_err-closed-clause-wide c =
+    passed_on _ _ c.from_residual.result c.from_residual.ensures.1
+    (λ trouble same is. c.in_err-closed.ensures.wide (sym same ∙ is))

@@ -1,8 +1,60 @@
-use Rattle.commissioning_tests.proofs.CoverLemmas.{covered_grows}
+use Rattle.std.proofs.Common.{sym, ◌∙◌}
+use Rattle.judge_pool.proofs.ErrorLemmas.{passed_on}
+use Rattle.dependence_search.proofs.ReleasedLemmas.{walk_has}
+use Rattle.release_dependence.specs.Operations.{opening, closing}
+use Rattle.commissioning_tests.proofs.CoverLemmas.{covered_grows, more_then}
 use Rattle.commissioning_tests.proofs.cover_bay.cover_both.Goals as goal
+
+pub released_graph-requires : goal.released_graph-requires
+released_graph-requires c =
+    walk_has c.args.station.now c.args.steps.now.old_steps.items c.args.place c.args.switch.0 c.args.walk.now.graph
+    c.args.walk.now.codes.items c.requires.walk
+
+pub released_graph-requires-2 : goal.released_graph-requires-2
+released_graph-requires-2 c =
+    walk_has c.args.station.now c.args.steps.now.old_steps.items c.args.place c.args.switch.0 c.args.walk.now.graph
+    c.args.walk.now.codes.items c.requires.walk
+
+pub cover_operation-requires-clause-walked : goal.cover_operation-requires-clause-walked
+cover_operation-requires-clause-walked c = record {
+  steps = c.requires.steps;
+  all = c.requires.all;
+  op = opening c.args.switch.0;
+  at = c.requires.opening;
+  moved = c.requires.moved;
+  walk = c.requires.walk;
+  released = c.in_ok-opened.ensures;
+}
+
+pub cover_operation-requires-2-clause-walked : goal.cover_operation-requires-2-clause-walked
+cover_operation-requires-2-clause-walked c = record {
+  steps = c.requires.steps;
+  all = c.requires.all;
+  op = closing c.args.switch.0;
+  at = c.requires.closing;
+  moved = c.requires.moved;
+  walk = c.requires.walk;
+  released = c.in_ok-closed.ensures;
+}
+
+pub returns-in_err-cover_operation-clause-wide : goal.returns-in_err-cover_operation-clause-wide
+returns-in_err-cover_operation-clause-wide c =
+    passed_on _ _ c.from_residual-in_err-cover_operation.result c.from_residual-in_err-cover_operation.ensures.1
+    (λ trouble same is. c.in_err-cover_operation.ensures.wide (sym same ∙ is) (opening c.args.switch.0) c.requires.opening)
+
+pub returns-in_err-cover_operation-2-clause-wide : goal.returns-in_err-cover_operation-2-clause-wide
+returns-in_err-cover_operation-2-clause-wide c =
+    passed_on _ _ c.from_residual-in_err-cover_operation-2.result c.from_residual-in_err-cover_operation-2.ensures.1
+    (λ trouble same is. c.in_err-cover_operation-2.ensures.wide (sym same ∙ is) (closing c.args.switch.0) c.requires.closing)
 
 pub returns-clause-opening : goal.returns-clause-opening
 returns-clause-opening c =
     covered_grows c.args.station.now c.args.operations.now c.args.stands.now c.cover_operation.new.positions.items
     c.cover_operation-2.new.positions.items c.args.number c.in_ok-cover_operation-2.ensures.more.grows
     c.in_ok-cover_operation.ensures.covered
+
+pub returns-clause-more : goal.returns-clause-more
+returns-clause-more c =
+    more_then c.args.station.now c.args.operations.now c.args.positions.now.items
+    c.cover_operation.new.positions.items c.cover_operation-2.new.positions.items
+    c.in_ok-cover_operation.ensures.more c.in_ok-cover_operation-2.ensures.more

@@ -1,5 +1,6 @@
 use Rattle.std.proofs.Common.{◌≡◌, ◌⊎◌, ◌+◌, ◌*◌, ◌<◌, ℕ, List, length, slice_get, sym, ap, ◌∙◌, subst, inl, inr, arith}
 use Rattle.ilk_base.specs.declared.words.Op.{Op}
+use Rattle.judge_pool.proofs.ErrorLemmas.{passed_on}
 use Rattle.commissioning_tests.specs.Growing.{IsCovered}
 use Rattle.commissioning_tests.proofs.ListLemmas.{operations_long, opening_at, closing_at, operations_in}
 use Rattle.commissioning_tests.proofs.CoverLemmas.{covered_grows}
@@ -60,3 +61,13 @@ loop-i-preserved c = (
     ]
   ],
 )
+
+pub returns-in_err-cover_switch-clause-wide : goal.returns-in_err-cover_switch-clause-wide
+returns-in_err-cover_switch-clause-wide c =
+    passed_on _ _ c.from_residual-in_err-cover_switch.result c.from_residual-in_err-cover_switch.ensures.1
+    (λ trouble same is. record {
+      number = c.args.first.0 + c.loop-i.i;
+      after = omega arith;
+      before = omega (arith, c.loop-i-test.true);
+      too_wide = c.in_err-cover_switch.ensures.wide (sym same ∙ is);
+    })

@@ -1,8 +1,8 @@
 use Rattle.std.proofs.Common.{map, ap, ◌∙◌, arith}
 use Rattle.std.proofs.lemmas.List.{take_all}
-use Rattle.commissioning_tests.specs.Growing.{released_name}
-use Rattle.commissioning_tests.proofs.DependedLemmas.{names_more}
-use Rattle.commissioning_tests.proofs.depends.names_of.Goals as goal
+use Rattle.dependence_search.specs.Released.{released_name}
+use Rattle.dependence_search.proofs.ReleasedLemmas.{names_more}
+use Rattle.dependence_search.proofs.released.names_of.Goals as goal
 
 pub loop-t-preserved : goal.loop-t-preserved
 loop-t-preserved c =
