@@ -8,7 +8,9 @@ pub mod TripsWrites
 pub mod AuditWrites
 pub mod WorkWrites
 pub mod StationWrites
+pub mod WalkRefusals
 pub mod CompareWrites
+pub mod TestsWrites
 pub mod Rests
 pub mod Commands
 pub mod Seen

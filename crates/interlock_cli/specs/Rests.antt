@@ -8,6 +8,7 @@ use Rattle.station_equations.specs.CompileText.{IsCompileText}
 use Rattle.exchange_plan.specs.PlanText.{IsPlanText}
 use Rattle.program_text.specs.ProgramText.{IsProgramText}
 use Rattle.program_text.specs.BayText.{IsBayProgramText}
+use Rattle.commissioning_tests.specs.Refusing.{IsThatWideBay, IsWideBay}
 use Rattle.tests_text.specs.TestsText.{IsStationTestsText, IsTestsText}
 use Rattle.release_texts.specs.CheckText.{IsCheckText}
 use Rattle.release_texts.specs.ExplainText.{IsExplainText}
@@ -21,6 +22,7 @@ use Rattle.interlock_cli.specs.TripsWrites.{TripsWrites}
 use Rattle.interlock_cli.specs.AuditWrites.{AuditWrites}
 use Rattle.interlock_cli.specs.WorkWrites.{WorkWrites}
 use Rattle.interlock_cli.specs.CompareWrites.{CompareWrites}
+use Rattle.interlock_cli.specs.TestsWrites.{TestsWrites}
 use Rattle.interlock_cli.specs.declared.end.Outcome.{Outcome}
 use Rattle.interlock_cli.specs.declared.end.Outcome.TheVariants.{Done}
 
@@ -92,11 +94,11 @@ compare_rest new d = Take (File new) Drawing (λ e. Write (CompareWrites d e))
 
 -- `tests` of one bay: its path.
 abbrev pub tests_rest : List ℕ → Diagram → Form
-tests_rest bay d = Take (Word bay) (BayOf d) (λ b. Write (IsDoneWith (IsTestsText d b)))
+tests_rest bay d = Take (Word bay) (BayOf d) (λ b. Write (TestsWrites (IsTestsText d b) (IsThatWideBay d b)))
 
 -- `tests` of the whole station: nothing more.
 abbrev pub station_tests_rest : Diagram → Form
-station_tests_rest d = Write (IsDoneWith (IsStationTestsText d))
+station_tests_rest d = Write (TestsWrites (IsStationTestsText d) (IsWideBay d))
 
 -- `work`: the texts of the positions and of the log, which the program makes.
 abbrev pub work_rest : List ℕ → List ℕ → Diagram → Form

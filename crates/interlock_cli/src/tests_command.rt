@@ -1,33 +1,24 @@
 //! The command `tests`.
-ghost use Rattle.std.specs.Prelude.{◌≡◌, IfOk};
+ghost use Rattle.std.specs.Prelude.{IfOk};
 ghost use Rattle.central_rules.specs.Meaning.{IsBay};
 ghost use Rattle.commissioning_tests.specs.Covering.{AreTestsOf};
+ghost use Rattle.commissioning_tests.specs.Refusing.{IsThatWideBay, IsWideBay};
 ghost use Rattle.commissioning_tests.specs.Shared.{AreStationTests};
 ghost use Rattle.tests_text.specs.TestsText.{IsStationTestsText, IsTestsText};
-ghost use Rattle.interlock_cli.specs.declared.end.Outcome.TheVariants.{Done};
+ghost use Rattle.interlock_cli.specs.TestsWrites.{TestsWrites};
 
 use crate::answer::Answer;
 use crate::end::{End, Outcome, Output};
 use crate::loading::named_bay;
 use crate::out_text::OutText;
-use commissioning_tests::{BayTests, SharedTests, bay_tests, station_tests};
+use commissioning_tests::{BayTests, SharedTests, TestsRefusal, bay_tests, station_tests};
 use ilk_base::{BayId, Memory, Shelf, Text};
 use release_compile::GraphJudge;
 use station_graph::Station;
 use std::alloc::Global;
 use tests_text::{station_tests_fit, station_tests_text, tests_fit, tests_text};
 
-// The tests of a bay. A walk that is too wide is answered as want of memory.
-fn tests_of(alloc: Global, station: &Station, bay: BayId) -> Result<BayTests, Memory>
-    ensures { IfOk result (AreTestsOf station.now bay.0) }
-{
-    match bay_tests(alloc, station, bay) {
-        Ok(tests) => Ok(tests),
-        Err(_) => Err(Memory),
-    }
-}
-
-// Their text.
+// The text of the tests of a bay.
 fn text_of(alloc: Global, station: &Station, bay: BayId, tests: &BayTests) -> Result<Text, Memory>
     requires bay { IsBay station.now bay.0 }
     requires tests { AreTestsOf station.now bay.0 tests.now }
@@ -39,16 +30,23 @@ fn text_of(alloc: Global, station: &Station, bay: BayId, tests: &BayTests) -> Re
     Ok(text)
 }
 
-// What has to be written of a bay.
+// What has to be written of a bay: nothing where a walk is too wide.
 fn tests_output(alloc: Global, station: &Station, bay: BayId) -> Result<Output, Memory>
     requires bay { IsBay station.now bay.0 }
-    ensures { IfOk result (λ o. (o.outcome ≡ Done) × IsTestsText station.now bay.0 o.text) }
+    ensures { IfOk result (λ o. TestsWrites (IsTestsText station.now bay.0) (IsThatWideBay station.now bay.0) o.outcome
+        o.text) }
 {
-    let tests = tests_of(alloc, station, bay)?;
-    Ok(Output {
-        outcome: Outcome::Done,
-        text: OutText::whole(text_of(alloc, station, bay, &tests)?),
-    })
+    match bay_tests(alloc, station, bay) {
+        Ok(tests) => Ok(Output {
+            outcome: Outcome::Done,
+            text: OutText::whole(text_of(alloc, station, bay, &tests)?),
+        }),
+        Err(TestsRefusal::Wide { bay }) => Ok(Output {
+            outcome: Outcome::TooWide { bay },
+            text: OutText::whole(Text::new(alloc)),
+        }),
+        Err(TestsRefusal::Memory) => Err(Memory),
+    }
 }
 
 // `tests STATION BAY`
@@ -79,17 +77,7 @@ impl<'a> Answer for Tests<'a> {
     }
 }
 
-// The tests of a station. A walk that is too wide is answered as want of memory.
-fn all_tests(alloc: Global, station: &Station) -> Result<Vec<SharedTests>, Memory>
-    ensures { IfOk result (λ v. AreStationTests station.now v.items) }
-{
-    match station_tests(alloc, station) {
-        Ok(tests) => Ok(tests),
-        Err(_) => Err(Memory),
-    }
-}
-
-// Their text.
+// The text of the tests of a station.
 fn all_text(alloc: Global, station: &Station, tests: &[SharedTests]) -> Result<Text, Memory>
     requires { AreStationTests station.now tests.now }
     ensures { IfOk result (IsStationTestsText station.now) }
@@ -100,15 +88,21 @@ fn all_text(alloc: Global, station: &Station, tests: &[SharedTests]) -> Result<T
     Ok(text)
 }
 
-// What has to be written of a station.
+// What has to be written of a station: nothing where a walk is too wide.
 fn all_output(alloc: Global, station: &Station) -> Result<Output, Memory>
-    ensures { IfOk result (λ o. (o.outcome ≡ Done) × IsStationTestsText station.now o.text) }
+    ensures { IfOk result (λ o. TestsWrites (IsStationTestsText station.now) (IsWideBay station.now) o.outcome o.text) }
 {
-    let tests = all_tests(alloc, station)?;
-    Ok(Output {
-        outcome: Outcome::Done,
-        text: OutText::whole(all_text(alloc, station, &tests)?),
-    })
+    match station_tests(alloc, station) {
+        Ok(tests) => Ok(Output {
+            outcome: Outcome::Done,
+            text: OutText::whole(all_text(alloc, station, &tests)?),
+        }),
+        Err(TestsRefusal::Wide { bay }) => Ok(Output {
+            outcome: Outcome::TooWide { bay },
+            text: OutText::whole(Text::new(alloc)),
+        }),
+        Err(TestsRefusal::Memory) => Err(Memory),
+    }
 }
 
 // `tests STATION`
