@@ -24,4 +24,6 @@ mod programs;
 #[cfg(test)]
 mod taken;
 #[cfg(test)]
+mod whole_tests;
+#[cfg(test)]
 mod words;
