@@ -46,8 +46,8 @@ def drawings():
     yield "one tag with 700,000 equal attributes", filled("<SCL", " abc=\"\"", "/>"), 5
     yield "a value of 1,600,000 references", filled('<SCL a="', "&#65;", '"/>'), 0
     yield "a name of 8 MB", filled('<SCL><Substation name="', "S", '"/></SCL>'), 0
-    yield "10,000 nodes below a name of 10,000 bytes", drawing([bay("Q" * 10_000, range(10_000), [])]), None
-    yield "50,000 nodes below a name of 4 MB", drawing([bay("Q" * 4_000_000, range(50_000), [])]), None
+    yield "10,000 nodes below a name of 10,000 bytes", drawing([bay("Q" * 10_000, range(10_000), [])]), 5
+    yield "50,000 nodes below a name of 4 MB", drawing([bay("Q" * 4_000_000, range(50_000), [])]), 5
     yield "199,000 substations", counted("<SCL>", '<Substation name="S%d"/>', "</SCL>", 199_000), 0
     yield "equipment with 190,000 terminals", head + '<ConnectivityNode name="a"/><ConductingEquipment name="E" type="X">' + '<Terminal connectivityNode="S/V/Q/a"/>' * 190_000 + "</ConductingEquipment>" + tail, 0
     yield "equipment with 190,000 terminals of no node", head + '<ConductingEquipment name="E" type="X">' + "<Terminal/>" * 190_000 + "</ConductingEquipment>" + tail, 5
