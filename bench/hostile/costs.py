@@ -4,7 +4,8 @@
     bench/hostile/costs.py [PROGRAM]
 
 Build the program first: ./interlock --prove. Each case is run once, with at most 8 GiB and 20 minutes, and must end with
-the status that is written beside it. No run may take more than 10 s of a processor or 1,024 MiB; where a figure by the
+the status that is written beside it. No run may take more than 10 s of a processor or 1,024 MiB, but for
+`compile`, which writes the counted edges of the graphs: 30 s and 2,048 MiB. Where a figure by the
 size of the input stands beside a case, each MB of it may cost no more than that either, beyond 0.2 s and 64 MiB. The
 status is 1 where one is over.
 
@@ -32,6 +33,7 @@ PARTS = (4, 2, 1)
 # The most bytes of a file.
 LONGEST = 8_388_608
 SECONDS, MEMORY = 10.0, 1024.0
+EDGE_SECONDS, EDGE_MEMORY = 30.0, 2048.0
 SPARE_SECONDS, SPARE_MEMORY = 0.2, 64.0
 
 
@@ -44,6 +46,8 @@ class Case(NamedTuple):
     status: int
     seconds: Optional[float] = None
     memory: Optional[float] = None
+    # whether what it writes grows with the counted edges of the station's graphs, and not with the input
+    by_edges: bool = False
 
     def size(self):
         return (sum(map(len, self.files.values())) + len(self.given)) / 1e6
@@ -129,7 +133,7 @@ def long_names():
         yield Case("audit: a block without conditions for each operation there", ["audit", "a", "b"], files, b"", 1, 1, 16)
     for part in PARTS:
         files = {"a": schemes.sections_in_turn(60 // part).drawing().encode()}
-        yield Case(f"compile: two sections of {60 // part} feeders in turn", ["compile", "a"], files, b"", 0)
+        yield Case(f"compile: two sections of {60 // part} feeders in turn", ["compile", "a"], files, b"", 0, by_edges=True)
 
 
 # ---- floods
@@ -178,7 +182,7 @@ def judged(case, seconds, memory, status):
     """What is wrong with a run, in words."""
     if status != case.status:
         yield f"status {status}, not {case.status}"
-    if seconds > SECONDS or memory > MEMORY:
+    if seconds > (EDGE_SECONDS if case.by_edges else SECONDS) or memory > (EDGE_MEMORY if case.by_edges else MEMORY):
         yield "over the most of any run"
     if case.seconds is not None and seconds > SPARE_SECONDS + case.seconds * case.size():
         yield f"over {case.seconds} s a MB"
