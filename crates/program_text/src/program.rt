@@ -4,7 +4,10 @@ ghost use Rattle.station_graph.specs.Diagram.{Diagram};
 ghost use Rattle.structured_text.specs.Meaning.{after};
 ghost use Rattle.structured_text.specs.Order.{IsInput, AreInOrder};
 ghost use Rattle.structured_text.specs.Within.{LinesWithin};
+ghost use Rattle.short_equations.specs.Pairs.{AreExactPairs};
+ghost use Rattle.short_equations.specs.declared.view.View.TheVariants.{Gap, Load, Bond};
 ghost use Rattle.program_text.specs.TermLines.{ServesReleases};
+ghost use Rattle.program_text.specs.declared.reading.Reading.TheVariants.{May as AsClosed, Sure as AsOpen};
 ghost use Rattle.program_text.specs.Sections.{AreReordered};
 ghost use Rattle.program_text.specs.Interlocking.{IsInterlocking, SetsReleases};
 
@@ -16,7 +19,7 @@ use crate::sections::in_sections;
 use crate::term_lines::term_lines;
 use ilk_base::Memory;
 use interlock_terms::Terms;
-use short_equations::{View, view_pairs};
+use short_equations::{TermPair, View, view_pairs};
 use station_graph::Station;
 use std::alloc::Global;
 use structured_text::Line;
@@ -52,6 +55,101 @@ fn reading_lines(
     Ok(lines)
 }
 
+// The formulas of what may be, and the two terms of each switch in the two views that rest on them.
+#[derive(Drop)]
+struct MayFormulas {
+    terms: Terms,
+    gap: Vec<TermPair>,
+    load: Vec<TermPair>,
+}
+
+// The formulas of what is certain, and the two terms of each switch.
+#[derive(Drop)]
+struct SureFormulas {
+    terms: Terms,
+    bond: Vec<TermPair>,
+}
+
+// The formulas of what may be coupled, joined, live, earthed and tapped.
+fn may_formulas(alloc: Global, station: &Station) -> Result<MayFormulas, Memory>
+    ensures gap_len { IfOk result (λ f. length f.gap.items ≡ length station.now.switches) }
+    ensures load_len { IfOk result (λ f. length f.load.items ≡ length station.now.switches) }
+    ensures gap { IfOk result (λ f. AreExactPairs Gap station.now f.terms f.gap.items) }
+    ensures load { IfOk result (λ f. AreExactPairs Load station.now f.terms f.load.items) }
+{
+    let mut terms = Terms::new(alloc);
+    let gap = view_pairs(alloc, &mut terms, station, View::Gap)?;
+    let load = view_pairs(alloc, &mut terms, station, View::Load)?;
+    Ok(MayFormulas { terms, gap, load })
+}
+
+// The formulas of what is bonded for certain.
+fn sure_formulas(alloc: Global, station: &Station) -> Result<SureFormulas, Memory>
+    ensures bond_len { IfOk result (λ f. length f.bond.items ≡ length station.now.switches) }
+    ensures bond { IfOk result (λ f. AreExactPairs Bond station.now f.terms f.bond.items) }
+{
+    let mut terms = Terms::new(alloc);
+    let bond = view_pairs(alloc, &mut terms, station, View::Bond)?;
+    Ok(SureFormulas { terms, bond })
+}
+
+// The lines of both readings with those of the releases.
+fn with_readings(
+    alloc: Global,
+    may: &Terms,
+    sure: &Terms,
+    count: u16,
+    releases: Vec<Line>,
+) -> Result<Program, Memory>
+    ensures releases { IfOk result (λ p. p.releases.items ≡ releases.items) }
+    ensures may { IfOk result (λ p. ServesReleases AsClosed count may.now releases.items p.may.items) }
+    ensures sure { IfOk result (λ p. ServesReleases AsOpen count sure.now releases.items p.sure.items) }
+    ensures may_within { IfOk result (λ p. (d : Diagram) → length d.switches ≡ count → LinesWithin d p.may.items) }
+    ensures sure_within { IfOk result (λ p. (d : Diagram) → length d.switches ≡ count → LinesWithin d p.sure.items) }
+{
+    let first = reading_lines(alloc, may, Reading::May, count, &releases)?;
+    let second = reading_lines(alloc, sure, Reading::Sure, count, &releases)?;
+    Ok(Program {
+        may: first,
+        sure: second,
+        releases,
+        may_count: may.len(),
+        sure_count: sure.len(),
+    })
+}
+
+// The interlocking by these formulas.
+fn program_by(
+    alloc: Global,
+    station: &Station,
+    may: &MayFormulas,
+    sure: &SureFormulas,
+) -> Result<Program, Memory>
+    requires gap_len { length may.now.gap.items ≡ length station.now.switches }
+    requires load_len { length may.now.load.items ≡ length station.now.switches }
+    requires bond_len { length sure.now.bond.items ≡ length station.now.switches }
+    requires gap { AreExactPairs Gap station.now may.now.terms may.now.gap.items }
+    requires load { AreExactPairs Load station.now may.now.terms may.now.load.items }
+    requires bond { AreExactPairs Bond station.now sure.now.terms sure.now.bond.items }
+    ensures interlocks { IfOk result (λ p. IsInterlocking station.now
+        (after (p.may.items ++ (p.sure.items ++ p.releases.items)))) }
+    ensures order { IfOk result (λ p. AreInOrder IsInput (p.may.items ++ (p.sure.items ++ p.releases.items))) }
+    ensures sets { IfOk result (λ p. SetsReleases station.now
+        (p.may.items ++ (p.sure.items ++ p.releases.items))) }
+    ensures may { IfOk result (λ p. LinesWithin station.now p.may.items) }
+    ensures sure { IfOk result (λ p. LinesWithin station.now p.sure.items) }
+    ensures releases { IfOk result (λ p. LinesWithin station.now p.releases.items) }
+{
+    let count = station.switch_count();
+    let may_count = may.terms.len();
+    let sure_count = sure.terms.len();
+    let releases = release_lines(
+        alloc, station, &may.gap, &may.load, &sure.bond, may_count, sure_count,
+    )?;
+    let program = with_readings(alloc, &may.terms, &sure.terms, count, releases)?;
+    Ok(program)
+}
+
 /// The interlocking of a station.
 pub fn interlocking(alloc: Global, station: &Station) -> Result<Program, Memory>
     ensures interlocks { IfOk result (λ p. IsInterlocking station.now
@@ -64,24 +162,12 @@ pub fn interlocking(alloc: Global, station: &Station) -> Result<Program, Memory>
     ensures releases { IfOk result (λ p. LinesWithin station.now p.releases.items) }
     ensures few { OnOk result (length station.now.switches < 2 ^ 16) }
 {
-    let mut terms = Terms::new(alloc);
-    let gap = view_pairs(alloc, &mut terms, station, View::Gap)?;
-    let load = view_pairs(alloc, &mut terms, station, View::Load)?;
-    let mut certain = Terms::new(alloc);
-    let bond = view_pairs(alloc, &mut certain, station, View::Bond)?;
-    let count = station.switch_count();
-    let may_count = terms.len();
-    let sure_count = certain.len();
-    let releases = release_lines(alloc, station, &gap, &load, &bond, may_count, sure_count)?;
-    let may = reading_lines(alloc, &terms, Reading::May, count, &releases)?;
-    let sure = reading_lines(alloc, &certain, Reading::Sure, count, &releases)?;
-    Ok(Program {
-        may,
-        sure,
-        releases,
-        may_count,
-        sure_count,
-    })
+    // called for its clause alone: how many switches a station has
+    station.switch_count();
+    let may = may_formulas(alloc, station)?;
+    let sure = sure_formulas(alloc, station)?;
+    let program = program_by(alloc, station, &may, &sure)?;
+    Ok(program)
 }
 
 // The lines, one list behind the other.
