@@ -50,11 +50,10 @@ fn turn_of(
     requires rising { AreNodes nodes.now }
     ensures { IfOk result (IsTurn station.now part.0 id.0) }
 {
-    Ok(Turn {
-        off: Contraction::of_switch(alloc, station, id, false)?,
-        on: Contraction::of_switch(alloc, station, id, true)?,
-        kept: fewer_nodes(alloc, station, part, shared, id.0 + 1, nodes, first)?,
-    })
+    let kept = fewer_nodes(alloc, station, part, shared, id.0 + 1, nodes, first)?;
+    let off = Contraction::of_switch(alloc, station, id, false)?;
+    let on = Contraction::of_switch(alloc, station, id, true)?;
+    Ok(Turn { off, on, kept })
 }
 
 // The turns of the part's switches.
