@@ -26,3 +26,4 @@ pub mod MoveLemmas
 pub mod OneViewLemmas
 pub mod SelectionLemmas
 pub mod MappedLemmas
+pub mod ByteLemmas

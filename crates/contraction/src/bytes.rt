@@ -1,5 +1,5 @@
 //! The rows of a contraction, which tell contractions apart.
-ghost use Rattle.std.specs.Prelude.{◌≡◌, ◌↔◌, ◌++◌, ℕ, length, List, IfOk};
+ghost use Rattle.std.specs.Prelude.{◌≡◌, ◌≤◌, ◌↔◌, ◌++◌, ℕ, length, List, IfOk};
 ghost use Rattle.contraction.specs.Answers.{Answers, IsContraction, SameGap, SameLoad};
 ghost use Rattle.contraction.specs.Rows.{words, flag, flags, row_bytes, bonded_bytes, gap_bytes, load_bytes, gap_row};
 ghost use Rattle.contraction.specs.Rows.{load_row, whole_row};
@@ -10,14 +10,38 @@ use ilk_base::{Memory, Text};
 use station_graph::NodeList;
 use std::alloc::Global;
 
-// Appends two bytes for each number, the higher one first.
-fn push_words(text: &mut Text, row: &[u16]) -> Result<(), Memory>
+// Appends two bytes for each of a few numbers, the higher one first, all in one piece.
+fn push_few_words(text: &mut Text, row: &[u16]) -> Result<(), Memory>
+    requires { length row.now ≤ 32 }
+    ensures { IfOk result (λ _. text.new ≡ text.old ++ words row.now) }
+{
+    let mut bytes = [0; 64];
+    for i in 0..row.len() {
+        bytes[2 * i] = (row[i] / 256) as u8;
+        bytes[2 * i + 1] = (row[i] % 256) as u8;
+    }
+    text.push(&bytes[..2 * row.len()])
+}
+
+// Appends two bytes for each number, the higher one first, number by number.
+fn push_many_words(text: &mut Text, row: &[u16]) -> Result<(), Memory>
     ensures { IfOk result (λ _. text.new ≡ text.old ++ words row.now) }
 {
     for number in row {
         text.push(&[(number / 256) as u8, (number % 256) as u8])?;
     }
     Ok(())
+}
+
+// Appends two bytes for each number, the higher one first. Nearly all rows are short, and are appended
+// by one call.
+fn push_words(text: &mut Text, row: &[u16]) -> Result<(), Memory>
+    ensures { IfOk result (λ _. text.new ≡ text.old ++ words row.now) }
+{
+    if row.len() <= 32 {
+        return push_few_words(text, row);
+    }
+    push_many_words(text, row)
 }
 
 // 1 for a bit that is set.
@@ -27,14 +51,36 @@ fn byte_of(bit: bool) -> u8
     if bit { 1 } else { 0 }
 }
 
-// Appends one byte for each bit.
-fn push_flags(text: &mut Text, row: &[bool]) -> Result<(), Memory>
+// Appends one byte for each of a few bits, all in one piece.
+fn push_few_flags(text: &mut Text, row: &[bool]) -> Result<(), Memory>
+    requires { length row.now ≤ 32 }
+    ensures { IfOk result (λ _. text.new ≡ text.old ++ flags row.now) }
+{
+    let mut bytes = [0; 32];
+    for i in 0..row.len() {
+        bytes[i] = byte_of(row[i]);
+    }
+    text.push(&bytes[..row.len()])
+}
+
+// Appends one byte for each bit, bit by bit.
+fn push_many_flags(text: &mut Text, row: &[bool]) -> Result<(), Memory>
     ensures { IfOk result (λ _. text.new ≡ text.old ++ flags row.now) }
 {
     for bit in row {
         text.push(&[byte_of(*bit)])?;
     }
     Ok(())
+}
+
+// Appends one byte for each bit; those of a short row by one call.
+fn push_flags(text: &mut Text, row: &[bool]) -> Result<(), Memory>
+    ensures { IfOk result (λ _. text.new ≡ text.old ++ flags row.now) }
+{
+    if row.len() <= 32 {
+        return push_few_flags(text, row);
+    }
+    push_many_flags(text, row)
 }
 
 // How many bytes the gap row, the load row and the row of both views have for each kept node.

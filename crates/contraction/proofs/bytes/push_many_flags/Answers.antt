@@ -3,7 +3,7 @@ use Rattle.std.proofs.Common.{arith}
 use Rattle.std.proofs.lemmas.List.{take_more}
 use Rattle.contraction.specs.Rows.{flag, flags}
 use Rattle.contraction.proofs.RowLemmas.{flags_push, push_one}
-use Rattle.contraction.proofs.bytes.push_flags.Goals as goal
+use Rattle.contraction.proofs.bytes.push_many_flags.Goals as goal
 
 pub loop-bit-preserved : goal.loop-bit-preserved
 loop-bit-preserved c =

@@ -3,7 +3,7 @@ use Rattle.std.proofs.Common.{arith}
 use Rattle.std.proofs.lemmas.List.{take_more}
 use Rattle.contraction.specs.Rows.{words}
 use Rattle.contraction.proofs.RowLemmas.{words_push, push_two}
-use Rattle.contraction.proofs.bytes.push_words.Goals as goal
+use Rattle.contraction.proofs.bytes.push_many_words.Goals as goal
 
 pub loop-number-preserved : goal.loop-number-preserved
 loop-number-preserved c =
