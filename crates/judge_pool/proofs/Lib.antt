@@ -6,10 +6,12 @@ pub mod CountLemmas
 pub mod FoldLemmas
 pub mod MappedViews
 pub mod MappedPools
+pub mod AlikeLemmas
 pub mod PoolLemmas
 pub mod LayeringLemmas
 pub mod BatchLemmas
 pub mod AddedEdges
+pub mod OnceLemmas
 pub mod BridgeLemmas
 pub mod PlanLemmas
 pub mod PassLemmas

@@ -114,6 +114,12 @@ pub rows_tell : (view : View) (x y : Answers) → IsContraction x → IsContract
 rows_tell Gap x y wx wy same = (gap_rows x y wx wy).0 same
 rows_tell Load x y wx wy same = (load_rows x y wx wy).0 same
 
+-- and values with one view have one row
+pub rows_told : (view : View) (x y : Answers) → IsContraction x → IsContraction y → SameSeen view x y →
+    seen_row view x ≡ seen_row view y
+rows_told Gap x y wx wy same = (gap_rows x y wx wy).1 same
+rows_told Load x y wx wy same = (load_rows x y wx wy).1 same
+
 -- ---- nothing yet
 
 pub index_none : {S : Type 0} (view : View) (values : List Answers) (m : HashMap (List ℕ) ℕ S) → values ≡ [] →

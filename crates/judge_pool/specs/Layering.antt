@@ -1,5 +1,5 @@
 -- A layer by the numbers of values in a pool.
-use Rattle.std.specs.Prelude.{◌≡◌, ℕ, suc, ◌⊎◌, ◌+◌, ◌≤◌, List, [], ◌++◌, length, map, slice_get, slice_index}
+use Rattle.std.specs.Prelude.{◌≡◌, ℕ, suc, ◌⊎◌, ◌+◌, ◌<◌, ◌≤◌, List, [], ◌++◌, length, map, slice_get, slice_index}
 use Rattle.std.specs.Prelude.{slice_index_or, Some}
 use Rattle.contraction.specs.Answers.{Answers}
 pub use Rattle.judge_pool.specs.Pooling.{NoneTwice}
@@ -25,6 +25,16 @@ pub record AreAdded (old edges ids next edges' : List ℕ) : Type 0 where
       ⊎ ((c : ℕ) × (slice_get ids c ≡ Some t) × (slice_index to c ≡ b))
   pub none_twice : NoneTwice old → NoneTwice next
   pub grown : length next ≤ length old + length ids
+
+-- The numbers are places in a list of so many, each of which is named.
+pub record NameAll (n : ℕ) (places : List ℕ) : Type 0 where
+  pub within : (c k : ℕ) → slice_get places c ≡ Some k → k < n
+  pub each : (k : ℕ) → k < n → (c : ℕ) × (slice_get places c ≡ Some k)
+  pub few : n ≤ length places
+
+-- What stands at each of these places.
+abbrev pub at_places : List ℕ → List ℕ → List ℕ
+at_places ids places = map (λ k. slice_index ids k) places
 
 -- The contraction of no items that keeps no node.
 abbrev pub no_answers : Answers

@@ -1,11 +1,11 @@
 //! Compositions of values of a pool, by batches, each made once.
 ghost use Rattle.std.specs.Prelude.{◌≡◌, ℕ, ◌+◌, ◌<◌, ◌≤◌, ◌⊎◌, ◌↔◌, length, map, slice_get, Some};
-ghost use Rattle.std.specs.Prelude.{IfOk, IfSome, OnOk, Contains, IsTrue, slice_index, take};
-ghost use Rattle.contraction.specs.Answers.{Keeps};
+ghost use Rattle.std.specs.Prelude.{IfOk, IfSome, OnOk, Contains, IsTrue};
+ghost use Rattle.contraction.specs.Answers.{Keeps, IsContraction};
 ghost use Rattle.judge_pool.specs.declared.pool.Pool.{Pool as AnyPool};
 ghost use Rattle.judge_pool.specs.Seen.{ComposesIn};
 ghost use Rattle.judge_pool.specs.Pooling.{IsPool, GrewTo, Selects, SelectsFor, IsRowOfBoth, CanCompose, LettersFit};
-ghost use Rattle.judge_pool.specs.Pooling.{WasMade, MakesEach, HasBatch, NotesAreRight, letter_lists, composition};
+ghost use Rattle.judge_pool.specs.Pooling.{WasMade, MakesEach, HasBatch, NotesAreRight, letter_lists};
 
 use crate::batch::{Batch, Made};
 use crate::pool::{Pool, find_row};
@@ -64,6 +64,7 @@ fn composed(
     requires first { selection.now.first ≡ x.now.kept }
     requires second { selection.now.second ≡ y.now.kept }
     requires nodes { (n : ℕ) → Contains selection.now.nodes n → Keeps x.now.kept n ⊎ Keeps y.now.kept n }
+    ensures contraction { IfOk result IsContraction }
     ensures composes { IfOk result (ComposesIn view x.now y.now) }
     ensures kept { IfOk result (λ r. (n : ℕ) → Keeps r.kept n ↔ Contains selection.now.nodes n) }
 {
@@ -133,20 +134,6 @@ fn find_letters(
         Some(place) => list_at(lists, *place, letters),
         None => None,
     }
-}
-
-// An earlier place with the same letter. Letters that differ in the other view alone are one value here.
-fn same_before(letters: &[usize], c: usize) -> Option<usize>
-    requires { c < length letters.now }
-    ensures before { IfSome result (λ k. k < c) }
-    ensures same { IfSome result (λ k. slice_index letters.now k ≡ slice_index letters.now c) }
-{
-    for k in 0..c {
-        if letters[k] == letters[c] {
-            return Some(k);
-        }
-    }
-    None
 }
 
 impl Pool {
@@ -232,42 +219,15 @@ impl Pool {
     {
         let mut ids = Vec::with_capacity(alloc, letters.len())?;
         'letters: for c in 0..letters.len() {
-            let id = self.compose_letter(alloc, batch, letters, &ids, c)?;
+            let key = Made {
+                first: batch.first,
+                second: letters[c],
+                keep: batch.keep,
+            };
+            let id = self.compose(alloc, key)?;
             ids.push(id)?;
         }
         Ok(ids)
-    }
-
-    // The number of what the value and the letter at a place make together, given the numbers of those at the places
-    // before it.
-    fn compose_letter(
-        &mut self,
-        alloc: Global,
-        batch: Batch,
-        letters: &[usize],
-        ids: &[usize],
-        c: usize,
-    ) -> Result<usize, Memory>
-        requires pool { IsPool self.old }
-        requires place { c < length letters.now }
-        requires fit { LettersFit self.old batch letters.now }
-        requires made { MakesEach self.old batch (take c letters.now) ids.now }
-        ensures grew { OnOk result (GrewTo self.old self.new) }
-        ensures made { IfOk result (λ t. WasMade self.new.view self.new.values.items self.new.keeps.items
-            (composition batch (slice_index letters.now c)) t) }
-    {
-        match same_before(letters, c) {
-            Some(k) => Ok(ids[k]),
-            None => {
-                let key = Made {
-                    first: batch.first,
-                    second: letters[c],
-                    keep: batch.keep,
-                };
-                let id = self.compose(alloc, key)?;
-                Ok(id)
-            }
-        }
     }
 
     // The number of the value that stands for both together, on these of their nodes.
@@ -303,11 +263,13 @@ impl Pool {
         let x = &self.values[key.first];
         let y = &self.values[key.second];
         let row = composed_row(alloc, self.view, x, y, selection)?;
-        if let Some(place) = find_row(&self.index, &row) {
-            return Ok(place);
+        match find_row(&self.index, &row) {
+            Some(place) => Ok(place),
+            None => {
+                let value = composed(alloc, self.view, x, y, selection)?;
+                let place = self.put(row, value)?;
+                Ok(place)
+            }
         }
-        let value = composed(alloc, self.view, x, y, selection)?;
-        let place = self.intern(alloc, value)?;
-        Ok(place)
     }
 }

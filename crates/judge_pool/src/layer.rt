@@ -1,11 +1,11 @@
 //! One layer of a graph: from the values of its nodes to those of the next.
-ghost use Rattle.std.specs.Prelude.{◌≡◌, [], ◌∷◌, ℕ, suc, ◌+◌, ◌*◌, ◌<◌, ◌≤◌, length, map, slice_get, sum_by, List};
+ghost use Rattle.std.specs.Prelude.{◌≡◌, [], ◌∷◌, ℕ, suc, ◌+◌, ◌*◌, ◌<◌, ◌≤◌, length, map, slice_get, sum_by, List, ◌++◌};
 ghost use Rattle.std.specs.Prelude.{Some, IfOk, IfErr, OnOk, IsTrue, IsFalse};
 ghost use Rattle.decision_graphs.specs.Finished.{AreFinished};
 ghost use Rattle.contraction.specs.Renaming.{KeepsOrder, mapped};
 ghost use Rattle.judge_pool.specs.Pooling.{IsPool, GrewTo, EitherKeeps};
 ghost use Rattle.judge_pool.specs.Places.{pool_on};
-ghost use Rattle.judge_pool.specs.Layering.{IsPlaced, AreAdded, values_at};
+ghost use Rattle.judge_pool.specs.Layering.{IsPlaced, AreAdded, NameAll, at_places, values_at};
 ghost use Rattle.judge_pool.specs.Pooling.{AreEdges};
 ghost use Rattle.judge_pool.specs.Counted.{Spends};
 ghost use Rattle.judge_pool.specs.Folding.{IsExact, ReachesMore};
@@ -84,15 +84,73 @@ fn place(ids: &mut IndexSet<usize>, id: usize) -> Result<usize, Memory>
     Ok(place)
 }
 
-// Adds an edge to each of these values, which are put at the end of the next layer where it has not got them.
-fn add_edges(next: &mut IndexSet<usize>, edges: &mut Vec<u32>, ids: &[usize]) -> Result<(), Memory>
-    requires few { length next.old.keys + length ids.now ≤ ALL_EDGES }
-    ensures { OnOk result (AreAdded next.old.keys edges.old.items ids.now next.new.keys edges.new.items) }
+// Adds the place of each of these numbers, which are put at the end of the list where it has not got them.
+fn add_places(
+    list: &mut IndexSet<usize>,
+    places: &mut Vec<usize>,
+    ids: &[usize],
+) -> Result<(), Memory>
+    ensures { OnOk result (AreAdded list.old.keys places.old.items ids.now list.new.keys places.new.items) }
 {
     for c in 0..ids.len() {
-        let to = place(next, ids[c])?;
+        let to = place(list, ids[c])?;
+        places.push(to)?;
+    }
+    Ok(())
+}
+
+// The letters of a layer, each once, and for each choice the place of its letter among them.
+#[derive(Drop)]
+struct Distinct {
+    letters: Vec<usize>,
+    places: Vec<usize>,
+}
+
+// The letters, each once. Letters that differ in the other view alone are one value here.
+fn each_once(alloc: Global, letters: &[usize]) -> Result<Distinct, Memory>
+    ensures { IfOk result (λ d. AreAdded [] [] letters.now d.letters.items d.places.items) }
+{
+    let mut once = IndexSet::new(alloc);
+    let mut places = Vec::new(alloc);
+    add_places(&mut once, &mut places, letters)?;
+    let keys = listed(alloc, &once)?;
+    Ok(Distinct {
+        letters: keys,
+        places,
+    })
+}
+
+// Adds the edges of a state: for each choice the place to which its letter leads.
+fn add_edges(edges: &mut Vec<u32>, ends: &[usize], places: &[usize]) -> Result<(), Memory>
+    requires within { (c k : ℕ) → slice_get places.now c ≡ Some k → k < length ends.now }
+    requires short { (k t : ℕ) → slice_get ends.now k ≡ Some t → t < ALL_EDGES }
+    ensures { OnOk result (edges.new.items ≡ edges.old.items ++ at_places ends.now places.now) }
+{
+    for c in 0..places.len() {
+        let to = ends[places[c]];
         edges.push(to as u32)?;
     }
+    Ok(())
+}
+
+// Adds the edges of a state, which each letter leads to one of these values. They are put at the end of the next layer
+// where it has not got them.
+fn add_state(
+    alloc: Global,
+    next: &mut IndexSet<usize>,
+    edges: &mut Vec<u32>,
+    ids: &[usize],
+    places: &[usize],
+) -> Result<(), Memory>
+    requires few { length next.old.keys + length ids.now ≤ ALL_EDGES }
+    requires places { NameAll (length ids.now) places.now }
+    ensures { OnOk result
+        (AreAdded next.old.keys edges.old.items (at_places ids.now places.now) next.new.keys edges.new.items) }
+{
+    let mut to = Vec::new(alloc);
+    add_places(next, &mut to, ids)?;
+    let ends = to.as_slice();
+    add_edges(edges, ends, places)?;
     Ok(())
 }
 
@@ -125,14 +183,17 @@ pub(crate) fn next_layer(
 {
     let mut next = IndexSet::new(alloc);
     let mut edges = Vec::new(alloc);
-    let number = pool.note_letters(alloc, letters)?;
+    let by = each_once(alloc, letters)?;
+    let once = by.letters.as_slice();
+    let places = by.places.as_slice();
+    let number = pool.note_letters(alloc, once)?;
     'states: for k in 0..states.len() {
         if next.len() > most {
             return Err(Trouble::Wide);
         }
-        let start = pool.batch(alloc, states[k], letters, number, keep)?;
-        let end = start + letters.len();
-        add_edges(&mut next, &mut edges, &pool.made[start..end])?;
+        let start = pool.batch(alloc, states[k], once, number, keep)?;
+        let end = start + once.len();
+        add_state(alloc, &mut next, &mut edges, &pool.made[start..end], places)?;
     }
     let next = listed(alloc, &next)?;
     Ok(Step { next, edges })

@@ -1,7 +1,7 @@
 //! Values of one view, each kept once.
 ghost use Rattle.std.specs.Prelude.{◌≡◌, ℕ, ◌↔◌, ◌++◌, List, [], ◌∷◌, length, slice_get, Some, IfOk, IfSome};
 ghost use Rattle.std.specs.Prelude.{OnOk, MatchOption, Contains};
-ghost use Rattle.contraction.specs.Answers.{Answers, Keeps};
+ghost use Rattle.contraction.specs.Answers.{Answers, Keeps, IsContraction};
 ghost use Rattle.judge_pool.specs.declared.view.View.{View as Seen};
 ghost use Rattle.judge_pool.specs.Seen.{seen_row};
 ghost use Rattle.judge_pool.specs.Pooling.{IsRowIndex, IsPool, GrewTo, HasSame, HasCopy};
@@ -103,13 +103,27 @@ impl Pool {
         match find_row(&self.index, &row) {
             Some(place) => Ok(place),
             None => {
-                let held = self.values.as_slice();
-                let place = held.len();
-                note_row(&mut self.index, row, place)?;
-                self.values.push(value)?;
+                let place = self.put(row, value)?;
                 Ok(place)
             }
         }
+    }
+
+    // Puts a value last, by its row, which no other value has.
+    pub(crate) fn put(&mut self, row: Text, value: Contraction) -> Result<usize, Memory>
+        requires pool { IsPool self.old }
+        requires well { IsContraction value }
+        requires row { row ≡ seen_row self.old.view value }
+        requires new { (i : ℕ) (x : Answers) → slice_get self.old.values.items i ≡ Some x
+            → row ≡ seen_row self.old.view x → ⊥ }
+        ensures grew { OnOk result (GrewTo self.old self.new) }
+        ensures same { IfOk result (HasSame self.new value) }
+    {
+        let held = self.values.as_slice();
+        let place = held.len();
+        note_row(&mut self.index, row, place)?;
+        self.values.push(value)?;
+        Ok(place)
     }
 
     /// The number of the list of nodes, which the pool has once.

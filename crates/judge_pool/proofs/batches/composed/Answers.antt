@@ -1,6 +1,6 @@
 use Rattle.std.proofs.Common.{sym, subst}
 use Rattle.std.specs.Prelude.{IfOk}
-use Rattle.contraction.specs.Answers.{Answers}
+use Rattle.contraction.specs.Answers.{Answers, IsContraction}
 use Rattle.contraction.specs.Composing.{IsGapOfBoth, IsLoadOfBoth, ComposesGap, ComposesLoad}
 use Rattle.judge_pool.specs.Seen.{ComposesIn}
 use Rattle.judge_pool.proofs.PoolLemmas.{if_ok}
@@ -29,3 +29,13 @@ pub returns-in-Load-clause-kept : goal.returns-in-Load-clause-kept
 returns-in-Load-clause-kept c =
     if_ok c.compose_load_on.result (IsLoadOfBoth c.args.selection.now.nodes c.args.x.now c.args.y.now) _ (λ r h. h.kept)
     c.compose_load_on.ensures.both
+
+pub returns-in-Gap-clause-contraction : goal.returns-in-Gap-clause-contraction
+returns-in-Gap-clause-contraction c =
+    if_ok c.compose_gap_on.result (IsGapOfBoth c.args.selection.now.nodes c.args.x.now c.args.y.now) IsContraction
+    (λ r h. h.contraction) c.compose_gap_on.ensures.both
+
+pub returns-in-Load-clause-contraction : goal.returns-in-Load-clause-contraction
+returns-in-Load-clause-contraction c =
+    if_ok c.compose_load_on.result (IsLoadOfBoth c.args.selection.now.nodes c.args.x.now c.args.y.now) IsContraction
+    (λ r h. h.contraction) c.compose_load_on.ensures.both

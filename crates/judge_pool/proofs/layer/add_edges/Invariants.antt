@@ -1,6 +1,6 @@
-use Rattle.std.proofs.Common.{take}
-use Rattle.judge_pool.specs.Layering.{AreAdded}
+use Rattle.std.proofs.Common.{◌≡◌, ◌++◌, take}
+use Rattle.judge_pool.specs.Layering.{at_places}
 use Rattle.judge_pool.proofs.layer.add_edges.Given as goal
 
 abbrev pub invariant-loop-c : goal.invariant-loop-c
-invariant-loop-c l = AreAdded l.fn.next.keys l.fn.edges.items (take l.c l.ids) l.next.keys l.edges.items
+invariant-loop-c l = l.edges.items ≡ l.fn.edges.items ++ at_places l.ends (take l.c l.places)

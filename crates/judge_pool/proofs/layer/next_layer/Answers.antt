@@ -1,4 +1,4 @@
-use Rattle.std.proofs.Common.{◌≡◌, ◌<◌, ◌≤◌, ◌+◌, ◌-◌, ◌*◌, ℕ, suc, List, length, Some, slice_get, get_or, take}
+use Rattle.std.proofs.Common.{◌≡◌, ◌<◌, ◌≤◌, ◌+◌, ◌-◌, ◌*◌, ℕ, suc, [], List, length, Some, slice_get, get_or, take}
 use Rattle.std.proofs.Common.{drop, arith, ap, ◌∙◌, subst, sym}
 use Rattle.std.proofs.lemmas.Option.{slice_get-get_or}
 use Rattle.std.proofs.Math.Nat.{suc-mul, zero-mul, mul-le-mul_right}
@@ -7,7 +7,9 @@ use Rattle.judge_pool.specs.declared.pool.Pool.{Pool}
 use Rattle.judge_pool.specs.Pooling.{MakesEach, HasBatch, letter_lists}
 use Rattle.judge_pool.specs.Pooling.{AreEdges}
 use Rattle.judge_pool.proofs.LayeringLemmas.{grew_more, nil_of_len}
+use Rattle.judge_pool.specs.Layering.{AreAdded, NameAll}
 use Rattle.judge_pool.proofs.AddedEdges.{edges_none, edges_more}
+use Rattle.judge_pool.proofs.OnceLemmas.{letter_of, some_once, names_all, spread_made}
 use Rattle.judge_pool.proofs.BatchLemmas.{can_more, batch_made}
 use Rattle.judge_pool.proofs.PassLemmas.{more_reached}
 use Rattle.judge_pool.proofs.layer.next_layer.Goals as goal
@@ -27,6 +29,12 @@ states-init c =
           c.new-edges.ensures.items);
     }
 
+pub batch-requires-clause-some : goal.batch-requires-clause-some
+batch-requires-clause-some c =
+    let by = subst (λ l. AreAdded [] [] c.args.letters.now l c.in_ok-by.by.places.items)
+    (sym c.as_slice-once.ensures.value) c.in_ok-by.ensures in
+    some_once c.args.letters.now c.as_slice-once.result.now c.in_ok-by.by.places.items by c.requires.some
+
 pub batch-requires-clause-fit : goal.batch-requires-clause-fit
 batch-requires-clause-fit c m j at_j =
     let p = c.args.pool.now in
@@ -35,11 +43,14 @@ batch-requires-clause-fit c m j at_j =
     let k = c.states.k in
     let i = get_or c.args.states.now k 0 in
     let at_i : slice_get c.args.states.now k ≡ Some i = slice_get-get_or c.args.states.now k 0 c.states-test.true in
+    let by = subst (λ l. AreAdded [] [] c.args.letters.now l c.in_ok-by.by.places.items)
+    (sym c.as_slice-once.ensures.value) c.in_ok-by.ensures in
+    let choice = letter_of c.args.letters.now c.as_slice-once.result.now c.in_ok-by.by.places.items by m j at_j in
     can_more p q (record { first = i; second = j; keep = c.args.keep }) g (record {
       first = c.requires.states k i at_i;
-      second = c.requires.letters m j at_j;
+      second = c.requires.letters choice.0 j choice.1;
       keep = c.requires.keep;
-      either = c.requires.nodes k m i j at_i at_j;
+      either = c.requires.nodes k choice.0 i j at_i choice.1;
     })
 
 -- the batch of a state ends in what was made, and is there letter by letter
@@ -53,17 +64,43 @@ module _ (q : Pool) (b : Batch) (start : ℕ) (letters : List ℕ) (has : HasBat
       (subst (λ l. MakesEach q b letters (take (length letters) (drop start l))) (sym is)
       (batch_made q b start letters has noted some))
 
-pub add_edges-requires : goal.add_edges-requires
-add_edges-requires c =
+pub add_state-requires-clause-few : goal.add_state-requires-clause-few
+add_state-requires-clause-few c =
     let q = c.batch.new.self in
-    let w = length c.args.letters.now in
+    let letters = c.args.letters.now in
+    let once = c.as_slice-once.result.now in
     let k = c.states.k in
-    let noted = c.in_ok-start.ensures.grew.letters c.in_ok-number.number c.args.letters.now c.states.invariant.noted in
-    let part = part_made q _ c.in_ok-start.start c.args.letters.now c.in_ok-start.ensures.batch noted c.requires.some
-    c.deref.result.now c.deref.ensures.value in
-    let most : suc k * w ≤ length c.args.states.now * w =
-    mul-le-mul_right w (let h : suc k ≤ length c.args.states.now = omega (arith, c.states-test.true) in h) in
-    record { few = omega (arith, part.len, c.states.invariant.few, most, suc-mul k w, c.requires.few) }
+    let by = subst (λ l. AreAdded [] [] letters l c.in_ok-by.by.places.items) (sym c.as_slice-once.ensures.value)
+    c.in_ok-by.ensures in
+    let noted = c.in_ok-start.ensures.grew.letters c.in_ok-number.number once c.states.invariant.noted in
+    let part = part_made q _ c.in_ok-start.start once c.in_ok-start.ensures.batch noted
+    (some_once letters once c.in_ok-by.by.places.items by c.requires.some) c.deref.result.now c.deref.ensures.value in
+    let most : suc k * length letters ≤ length c.args.states.now * length letters =
+    mul-le-mul_right (length letters)
+    (let h : suc k ≤ length c.args.states.now = omega (arith, c.states-test.true) in h) in
+    omega (
+      arith,
+      part.len,
+      by.grown,
+      c.states.invariant.few,
+      most,
+      suc-mul k (length letters),
+      c.requires.few,
+    )
+
+pub add_state-requires-clause-places : goal.add_state-requires-clause-places
+add_state-requires-clause-places c =
+    let q = c.batch.new.self in
+    let letters = c.args.letters.now in
+    let once = c.as_slice-once.result.now in
+    let by = subst (λ l. AreAdded [] [] letters l c.as_slice-places.result.now) (sym c.as_slice-once.ensures.value)
+    (subst (λ l. AreAdded [] [] letters c.in_ok-by.by.letters.items l) (sym c.as_slice-places.ensures.value)
+    c.in_ok-by.ensures) in
+    let noted = c.in_ok-start.ensures.grew.letters c.in_ok-number.number once c.states.invariant.noted in
+    let part = part_made q _ c.in_ok-start.start once c.in_ok-start.ensures.batch noted
+    (some_once letters once c.as_slice-places.result.now by c.requires.some) c.deref.result.now c.deref.ensures.value in
+    subst (λ n. NameAll n c.as_slice-places.result.now) (sym part.len)
+    (names_all letters once c.as_slice-places.result.now by)
 
 pub states-preserved : goal.states-preserved
 states-preserved c =
@@ -72,22 +109,28 @@ states-preserved c =
     let q = c.batch.new.self in
     let states = c.args.states.now in
     let letters = c.args.letters.now in
+    let once = c.as_slice-once.result.now in
+    let places = c.as_slice-places.result.now in
     let w = length letters in
     let k = c.states.k in
     let g = c.in_ok-start.ensures.grew in
     let inv = c.states.invariant in
-    let noted = g.letters c.in_ok-number.number letters inv.noted in
+    let by = subst (λ l. AreAdded [] [] letters l places) (sym c.as_slice-once.ensures.value)
+    (subst (λ l. AreAdded [] [] letters c.in_ok-by.by.letters.items l) (sym c.as_slice-places.ensures.value)
+    c.in_ok-by.ensures) in
+    let noted = g.letters c.in_ok-number.number once inv.noted in
     let i = get_or states k 0 in
     let at_i : slice_get states k ≡ Some i = slice_get-get_or states k 0 c.states-test.true in
-    let part = part_made q _ c.in_ok-start.start letters c.in_ok-start.ensures.batch noted c.requires.some
-    c.deref.result.now c.deref.ensures.value in
-    let added = c.in_ok-add_edges.ensures in
+    let part = part_made q _ c.in_ok-start.start once c.in_ok-start.ensures.batch noted
+    (some_once letters once places by c.requires.some) c.deref.result.now c.deref.ensures.value in
+    let made = spread_made q _ letters once places _ by part in
+    let added = c.in_ok-add_state.ensures in
     let next : (k + 1) * w ≡ k * w + w =
     ap (λ n. n * w) (let e : k + 1 ≡ suc k = omega arith in e) ∙ suc-mul k w in
     record {
       grew = grew_more p old q inv.grew g;
       noted = noted;
-      few = omega (arith, added.grown, part.len, inv.few, next);
+      few = omega (arith, added.grown, made.len, inv.few, next);
       edges = λ nodes at.
           let at_q : slice_get q.keeps.items c.args.keep ≡ Some nodes =
           g.keeps c.args.keep nodes (inv.grew.keeps c.args.keep nodes at) in
@@ -95,8 +138,8 @@ states-preserved c =
           (λ v. AreEdges v old.values.items nodes states letters c.states.next.keys c.states.edges.items (k * w))
           (sym g.view) (inv.edges nodes at) in
           edges_more q.view old.values.items q.values.items q.keeps.items nodes states letters c.states.next.keys
-          c.add_edges.new.next.keys c.states.edges.items c.add_edges.new.edges.items _ k i c.args.keep g.values before
-          added at_i at_q part.len part.made;
+          c.add_state.new.next.keys c.states.edges.items c.add_state.new.edges.items _ k i c.args.keep g.values before
+          added at_i at_q made.len made.made;
     }
 
 pub returns-clause-few : goal.returns-clause-few

@@ -6,7 +6,7 @@ use Rattle.judge_pool.proofs.layer.next_layer.Given as goal
 abbrev pub invariant-states : goal.invariant-states
 invariant-states l = record {
   grew : GrewTo l.fn.pool l.pool;
-  noted : slice_get (letter_lists l.pool) l.number ≡ Some l.letters;
+  noted : slice_get (letter_lists l.pool) l.number ≡ Some l.once;
   few : length l.next.keys ≤ l.k * length l.letters;
   edges : (nodes : List ℕ) → slice_get l.fn.pool.keeps.items l.keep ≡ Some nodes →
       AreEdges l.pool.view l.pool.values.items nodes l.states l.letters l.next.keys l.edges.items

@@ -1,5 +1,6 @@
 use Rattle.std.proofs.Common.{[], ◌∷◌, ◌++◌, take, get_or, sym, subst, arith}
 use Rattle.std.proofs.lemmas.List.{take_more, take_all}
+use Rattle.std.proofs.lemmas.Option.{slice_get-get_or}
 use Rattle.judge_pool.specs.Pooling.{MakesEach, composition}
 use Rattle.judge_pool.proofs.LayeringLemmas.{grows, grew_same, grew_more}
 use Rattle.judge_pool.proofs.BatchLemmas.{can_more, are_made_more, made_none, made_one}
@@ -11,18 +12,16 @@ letters-init c = record {
   made = made_none c.args.self.now c.args.batch c.in_ok-ids.ids.items c.in_ok-ids.ensures.items;
 }
 
-pub compose_letter-requires-clause-pool : goal.compose_letter-requires-clause-pool
-compose_letter-requires-clause-pool c = c.letters.invariant.grew.is_pool
+pub compose-requires-clause-pool : goal.compose-requires-clause-pool
+compose-requires-clause-pool c = c.letters.invariant.grew.is_pool
 
-pub compose_letter-requires-clause-fit : goal.compose_letter-requires-clause-fit
-compose_letter-requires-clause-fit c k j at =
+pub compose-requires-clause-fits : goal.compose-requires-clause-fits
+compose-requires-clause-fits c =
+    let letters = c.args.letters.now in
+    let k = c.letters.c in
+    let j = get_or letters k 0 in
     can_more c.args.self.now c.letters.self (composition c.args.batch j) c.letters.invariant.grew
-    (c.requires.fit k j at)
-
-pub compose_letter-requires-clause-made : goal.compose_letter-requires-clause-made
-compose_letter-requires-clause-made c =
-    subst (MakesEach c.letters.self c.args.batch (take c.letters.c c.args.letters.now)) (sym c.deref.ensures.value)
-    c.letters.invariant.made
+    (c.requires.fit k j (slice_get-get_or letters k 0 c.letters-test.true))
 
 pub letters-preserved : goal.letters-preserved
 letters-preserved c =
@@ -31,7 +30,7 @@ letters-preserved c =
     let b = c.args.batch in
     let letter = get_or letters k 0 in
     let id = c.in_ok-id.id in
-    let q = c.compose_letter.new.self in
+    let q = c.compose.new.self in
     let g = c.in_ok-id.ensures.grew in
     let old = are_made_more c.letters.self q (grows c.letters.self q g) b (take k letters) c.letters.ids.items
     c.letters.invariant.made in

@@ -4,6 +4,7 @@ use Rattle.std.proofs.lemmas.Option.{slice_get_read, slice_get-get_or}
 use Rattle.contraction.specs.Answers.{Answers, Keeps}
 use Rattle.judge_pool.specs.Seen.{ComposesIn}
 use Rattle.judge_pool.specs.Pooling.{HasSame, Selects}
+use Rattle.judge_pool.proofs.AlikeLemmas.{row_of_both}
 use Rattle.judge_pool.proofs.PoolLemmas.{made_same, rows_tell}
 use Rattle.judge_pool.proofs.pool.Pool.find_or_make.Goals as goal
 
@@ -148,8 +149,20 @@ returns-in-Some-clause-made c =
           (subst (λ l. (n : ℕ) → Keeps b.value.kept n ↔ Contains l n) sel.asked b.kept);
     }
 
-pub returns-clause-made : goal.returns-clause-made
-returns-clause-made c =
+pub put-requires-clause-row : goal.put-requires-clause-row
+put-requires-clause-row c =
+    let x : Answers = c.index-x.result.now in
+    let y : Answers = c.index-y.result.now in
+    let b = c.in_ok-row.ensures in
+    let made = c.in_ok-value-in-None.ensures in
+    b.row ∙ row_of_both x y b.value c.in_ok-value-in-None.value c.args.selection.now.nodes b.contraction
+    made.contraction b.kept made.kept c.args.self.now.view b.composes made.composes
+
+pub put-requires-clause-new : goal.put-requires-clause-new
+put-requires-clause-new c = c.in-None.ensures c.args.self.now.view c.args.self.now.values.items c.requires.pool.index
+
+pub returns-in_ok-place-in-None-clause-made : goal.returns-in_ok-place-in-None-clause-made
+returns-in_ok-place-in-None-clause-made c =
     let p = c.args.self.now in
     let k = c.args.key in
     let s = c.args.selection.now in
@@ -163,9 +176,9 @@ returns-clause-made c =
     let asked : slice_get p.keeps.items k.keep ≡ Some nodes =
     slice_get-get_or p.keeps.items k.keep [] c.requires.fits.keep in
     let sel : Selects x y nodes s = c.requires.selection x y nodes first second asked in
-    let q = c.intern.new.self in
-    let g = c.in_ok-place.ensures.grew in
-    let value : Answers = c.in_ok-value.value in
+    let q = c.put.new.self in
+    let g = c.in_ok-place-in-None.ensures.grew in
+    let value : Answers = c.in_ok-value-in-None.value in
     record {
       x = x;
       y = y;
@@ -174,7 +187,7 @@ returns-clause-made c =
       second = g.values k.second y second;
       nodes = g.keeps k.keep nodes asked;
       made =
-          made_same q x y value nodes c.in_ok-place.place c.in_ok-place.ensures.same
-          (subst (λ w. ComposesIn w x y value) (sym g.view) c.in_ok-value.ensures.composes)
-          (subst (λ l. (n : ℕ) → Keeps value.kept n ↔ Contains l n) sel.asked c.in_ok-value.ensures.kept);
+          made_same q x y value nodes c.in_ok-place-in-None.place c.in_ok-place-in-None.ensures.same
+          (subst (λ w. ComposesIn w x y value) (sym g.view) c.in_ok-value-in-None.ensures.composes)
+          (subst (λ l. (n : ℕ) → Keeps value.kept n ↔ Contains l n) sel.asked c.in_ok-value-in-None.ensures.kept);
     }
