@@ -1,6 +1,6 @@
--- What holds of the graph made last goes on where the pool grows, and for all that takes in the same.
-use Rattle.std.proofs.Common.{◌≡◌, ℕ, ◌-◌, ◌<◌, suc, List, [], ◌∷◌, ◌++◌, length, map, slice_get, Option, Some}
-use Rattle.std.proofs.Common.{None, refl, sym, ap, ◌∙◌, subst, inl, inr, arith}
+-- What is noted of a graph goes on where the pool grows, and holds for all that takes in the same.
+use Rattle.std.proofs.Common.{◌≡◌, ℕ, ◌-◌, ◌<◌, suc, List, [], ◌∷◌, ◌++◌, length, map, slice_get, Some}
+use Rattle.std.proofs.Common.{refl, sym, ap, ◌∙◌, subst, inl, inr, arith}
 use Rattle.std.proofs.lemmas.List.{length-map}
 use Rattle.station_graph.proofs.PathLemmas.{slice_get-push}
 use Rattle.contraction.specs.Renaming.{KeepsOrder, mapped}
@@ -18,7 +18,7 @@ use Rattle.judge_pool.specs.Folding.{StandsIn, IsExact}
 use Rattle.judge_pool.specs.Counted.{Spends}
 use Rattle.judge_pool.specs.Plans.{Plan, PlanFits, PlanHas, PlanPasses, AreLinked, CanBoth, plan_diagram, ChosenBy}
 use Rattle.judge_pool.specs.Plans.{items_before, new_of, items_of, NeededBy, layers_of}
-use Rattle.judge_graphs.specs.Noting.{letter_rows, SameIntake, AreLaid, IsNoted, IsRight, AreRight}
+use Rattle.judge_graphs.specs.Noting.{letter_rows, SameIntake, AreLaid, IsNoted, AreRight, AreOuter}
 use Rattle.judge_pool.proofs.LayeringLemmas.{Grows, value_in, value_was, list_in, list_was}
 use Rattle.judge_pool.proofs.MappedPools.{grows_on, linked_on, grows_self}
 use Rattle.judge_pool.proofs.PlanLemmas.{values_more}
@@ -149,9 +149,8 @@ noted_stays p q g n h = record {
   sizes = h.sizes;
 }
 
-pub right_stays : (p q : Pool) → Grows p q → (o : Option Noted) → IsRight p o → IsRight q o
-right_stays p q g None h = h
-right_stays p q g (Some n) h = (noted_stays p q g n h.0, h.1)
+pub outer_stay : (p q : Pool) → Grows p q → (notes : List Noted) → AreOuter p notes → AreOuter q notes
+outer_stay p q g notes h k n at = (noted_stays p q g n (h k n at).0, (h k n at).1)
 
 pub all_right_stay : (p q : Pool) → Grows p q → (notes : List Noted) → AreRight p notes → AreRight q notes
 all_right_stay p q g notes h k n at = noted_stays p q g n (h k n at)

@@ -1,5 +1,5 @@
 -- Graphs that were made before, and what they are for every plan that takes in the same.
-use Rattle.std.specs.Prelude.{◌≡◌, ℕ, ◌+◌, ◌<◌, ◌≤◌, List, length, map, slice_get, Option, Some, None}
+use Rattle.std.specs.Prelude.{◌≡◌, ℕ, ◌+◌, ◌<◌, ◌≤◌, List, length, map, slice_get, Some}
 use Rattle.contraction.specs.Renaming.{KeepsOrder, mapped}
 use Rattle.bay_contract.specs.Counting.{AreSoMany}
 use Rattle.decision_graphs.specs.Label.{Layer, layer_at, leads, label_of, AreChoices, AreReduced}
@@ -46,14 +46,14 @@ pub record IsNoted (p : Pool) (n : Noted) : Type 0 where
   pub reduced : AreReduced n.graph.value.layers
   pub sizes : (j : ℕ) → length (layer_at n.graph.value.layers j).rows ≤ length (layer_at layers j).rows
 
--- What is noted, if there is a note, is so, and its labels are few.
-abbrev pub IsRight : Pool → Option Noted → Type 0
-IsRight p None = Unit {0}
-IsRight p (Some n) = IsNoted p n × (length n.names.items ≤ BAY_EDGES + 1)
-
 -- What is noted is so.
 abbrev pub AreRight : Pool → List Noted → Type 0
 AreRight p notes = (k : ℕ) (n : Noted) → slice_get notes k ≡ Some n → IsNoted p n
+
+-- What is noted is so, and its labels are few.
+abbrev pub AreOuter : Pool → List Noted → Type 0
+AreOuter p notes =
+    (k : ℕ) (n : Noted) → slice_get notes k ≡ Some n → IsNoted p n × (length n.names.items ≤ BAY_EDGES + 1)
 
 -- The graph is the one noted for what is taken in, and with its edges and those left these are so many.
 pub record IsTaken (p : Pool) (i : Intake) (budget : ℕ) (o : TakenGraph) : Type 0 where

@@ -166,7 +166,7 @@ fn view_graphs(
         alloc,
         &mut stock.pool,
         &stock.letters,
-        &mut stock.last,
+        &mut stock.outer,
         station,
         parts,
         sharing,

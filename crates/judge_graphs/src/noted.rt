@@ -1,11 +1,11 @@
 //! Graphs that were made before, so that bays that look the same share them.
-ghost use Rattle.std.specs.Prelude.{◌≡◌, ℕ, suc, ◌+◌, ◌*◌, ◌<◌, ◌≤◌, length, map, slice_get, Some, IfOk, IfErr, IfSome};
+ghost use Rattle.std.specs.Prelude.{◌≡◌, ℕ, suc, ◌+◌, ◌*◌, ◌<◌, ◌≤◌, ◌⊎◌, length, map, slice_get, Some, IfOk, IfErr, IfSome};
 ghost use Rattle.std.specs.Prelude.{OnOk, IsTrue};
 ghost use Rattle.contraction.specs.Renaming.{KeepsOrder};
 ghost use Rattle.judge_pool.specs.Pooling.{IsPool, GrewTo, Extends};
 ghost use Rattle.judge_pool.specs.Places.{pool_on};
 ghost use Rattle.judge_pool.specs.Plans.{Plan, PlanFits, PlanPasses, AreLinked};
-ghost use Rattle.judge_graphs.specs.Noting.{letter_rows, SameIntake, IsNoted, IsRight, AreRight, IsTaken};
+ghost use Rattle.judge_graphs.specs.Noting.{letter_rows, SameIntake, IsNoted, AreRight, AreOuter, IsTaken};
 ghost use Rattle.judge_graphs.specs.declared.noted.Noted.{Noted as Note};
 ghost use Rattle.judge_pool.specs.declared.layer.Trouble.TheVariants.{Wide};
 ghost use Rattle.judge_pool.specs.declared.limits.TheConstants.{BAY_EDGES};
@@ -82,16 +82,6 @@ fn same_intake(one: &Intake, other: &Intake) -> bool
         && same_rows(&one.letters, &other.letters)
 }
 
-// Whether the graph made last took in the same.
-fn is_noted(last: &Option<Noted>, intake: &Intake) -> bool
-    ensures { IsTrue result → (n : Note) × (last.now ≡ Some n) × SameIntake n.intake intake.now }
-{
-    match last {
-        Some(noted) => same_intake(&noted.intake, intake),
-        None => false,
-    }
-}
-
 // The graph, to be held by more than one owner.
 fn shared(alloc: Global, graph: Graph) -> Result<Rc<Graph>, Memory>
     ensures { IfOk result (λ r. r.value ≡ graph) }
@@ -136,34 +126,6 @@ fn note(alloc: Global, pool: &mut Pool, intake: Intake, budget: usize) -> Result
     })
 }
 
-// Makes the graph, unless the one made last took in the same.
-fn renew(
-    alloc: Global,
-    pool: &mut Pool,
-    last: &mut Option<Noted>,
-    intake: Intake,
-    budget: usize,
-) -> Result<(), Trouble>
-    requires pool { IsPool pool.old }
-    requires last { IsRight pool.old last.old }
-    requires linked { AreLinked pool.old intake.start (letter_rows intake) intake.keeps.items }
-    requires few { length (letter_rows intake) ≤ LAYERS }
-    requires budget { budget ≤ BAY_EDGES }
-    ensures grew { OnOk result (GrewTo pool.old pool.new) }
-    ensures noted { OnOk result ((n : Note) × (last.new ≡ Some n) × IsNoted pool.new n
-        × (length n.names.items ≤ BAY_EDGES + 1) × SameIntake n.intake intake) }
-    ensures wide { IfErr result (λ e. e ≡ Wide → (f : ℕ → ℕ) (plan : Plan) → KeepsOrder f →
-        PlanFits plan (pool_on f pool.old) intake.start (letter_rows intake) intake.keeps.items
-        → PlanPasses pool.old.view plan (letter_rows intake) budget) }
-{
-    if is_noted(last, &intake) {
-        return Ok(());
-    }
-    let noted = note(alloc, pool, intake, budget)?;
-    *last = Some(noted);
-    Ok(())
-}
-
 // How many of so many edges are left beside those of a noted graph. It is too wide where it has more.
 fn edges_left(noted: &Noted, budget: usize) -> Result<usize, Trouble>
     ensures all { IfOk result (λ left. noted.now.edges + left ≡ budget) }
@@ -188,46 +150,6 @@ fn take_noted(alloc: Global, noted: &Noted, budget: usize) -> Result<TakenGraph,
         names: Vec::from_slice(alloc, &noted.names)?,
         left,
     })
-}
-
-// The graph made last, with its names. It is too wide where its layers have more than so many edges.
-fn take_last(alloc: Global, last: &Option<Noted>, budget: usize) -> Result<TakenGraph, Trouble>
-    requires { (n : Note) × (last.now ≡ Some n) }
-    ensures taken { IfOk result (λ o. (n : Note) → last.now ≡ Some n
-        → (o.graph.value ≡ n.graph.value) × (o.names.items ≡ n.names.items) × (n.edges + o.left ≡ budget)) }
-    ensures wide { IfErr result (λ e. e ≡ Wide → (n : Note) → last.now ≡ Some n → budget < n.edges) }
-{
-    match last {
-        Some(noted) => take_noted(alloc, noted, budget),
-        None => unreachable!(),
-    }
-}
-
-// The graph of layers that take this in, with what its labels name; it is made only where the one made last took in
-// something else.
-pub(crate) fn taken(
-    alloc: Global,
-    pool: &mut Pool,
-    last: &mut Option<Noted>,
-    intake: Intake,
-    budget: usize,
-) -> Result<TakenGraph, Trouble>
-    requires pool { IsPool pool.old }
-    requires last { IsRight pool.old last.old }
-    requires linked { AreLinked pool.old intake.start (letter_rows intake) intake.keeps.items }
-    requires few { length (letter_rows intake) ≤ LAYERS }
-    requires budget { budget ≤ BAY_EDGES }
-    ensures grew { OnOk result (GrewTo pool.old pool.new) }
-    ensures last { OnOk result (IsRight pool.new last.new) }
-    ensures taken { IfOk result (IsTaken pool.new intake budget) }
-    ensures few { IfOk result (λ o. length o.names.items ≤ BAY_EDGES + 1) }
-    ensures wide { IfErr result (λ e. e ≡ Wide → (f : ℕ → ℕ) (plan : Plan) → KeepsOrder f →
-        PlanFits plan (pool_on f pool.old) intake.start (letter_rows intake) intake.keeps.items
-        → PlanPasses pool.old.view plan (letter_rows intake) budget) }
-{
-    renew(alloc, pool, last, intake, budget)?;
-    let outer = take_last(alloc, last, budget)?;
-    Ok(outer)
 }
 
 // The place of the note of layers that take this in, if there is one.
@@ -258,6 +180,8 @@ fn noted_at(
     ensures grew { OnOk result (GrewTo pool.old pool.new) }
     ensures notes { OnOk result (AreRight pool.new notes.new.items) }
     ensures more { OnOk result (Extends notes.old.items notes.new.items) }
+    ensures new { OnOk result ((k : ℕ) (n : Note) → slice_get notes.new.items k ≡ Some n
+        → (slice_get notes.old.items k ≡ Some n) ⊎ (length n.names.items ≤ suc budget)) }
     ensures noted { IfOk result (λ k. (n : Note) × (slice_get notes.new.items k ≡ Some n)
         × SameIntake n.intake intake) }
     ensures wide { IfErr result (λ e. e ≡ Wide → (f : ℕ → ℕ) (plan : Plan) → KeepsOrder f →
@@ -301,4 +225,32 @@ pub(crate) fn taken_again(
     let held = notes.as_slice();
     let left = edges_left(&held[place], budget)?;
     Ok(NotePlace { place, left })
+}
+
+// The graph of layers that take this in, with what its labels name; it is made only where none that is noted took in
+// the same.
+pub(crate) fn taken(
+    alloc: Global,
+    pool: &mut Pool,
+    notes: &mut Vec<Noted>,
+    intake: Intake,
+    budget: usize,
+) -> Result<TakenGraph, Trouble>
+    requires pool { IsPool pool.old }
+    requires notes { AreOuter pool.old notes.old.items }
+    requires linked { AreLinked pool.old intake.start (letter_rows intake) intake.keeps.items }
+    requires few { length (letter_rows intake) ≤ LAYERS }
+    requires budget { budget ≤ BAY_EDGES }
+    ensures grew { OnOk result (GrewTo pool.old pool.new) }
+    ensures notes { OnOk result (AreOuter pool.new notes.new.items) }
+    ensures taken { IfOk result (IsTaken pool.new intake budget) }
+    ensures few { IfOk result (λ o. length o.names.items ≤ BAY_EDGES + 1) }
+    ensures wide { IfErr result (λ e. e ≡ Wide → (f : ℕ → ℕ) (plan : Plan) → KeepsOrder f →
+        PlanFits plan (pool_on f pool.old) intake.start (letter_rows intake) intake.keeps.items
+        → PlanPasses pool.old.view plan (letter_rows intake) budget) }
+{
+    let place = noted_at(alloc, pool, notes, intake, budget)?;
+    let held = notes.as_slice();
+    let outer = take_noted(alloc, &held[place], budget)?;
+    Ok(outer)
 }

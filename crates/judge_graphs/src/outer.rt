@@ -10,7 +10,7 @@ ghost use Rattle.judge_pool.specs.Graphs.{IsOuter};
 ghost use Rattle.judge_intake.specs.SharedNodes.{IsSharing};
 ghost use Rattle.judge_intake.specs.Inputs.{AreNames, AreLetters};
 ghost use Rattle.judge_intake.specs.Ready.{IsOuterReady};
-ghost use Rattle.judge_graphs.specs.Noting.{letter_rows, IsRight};
+ghost use Rattle.judge_graphs.specs.Noting.{letter_rows, AreOuter};
 ghost use Rattle.judge_pool.specs.Counted.{OuterHas, Spends, Passes, OuterIsSmall};
 ghost use Rattle.judge_pool.specs.declared.layer.Trouble.TheVariants.{Wide};
 ghost use Rattle.judge_pool.specs.declared.limits.TheConstants.{BAY_EDGES};
@@ -59,12 +59,12 @@ fn outer_intake(
     })
 }
 
-// The outer graph of one view. It is that of the bay before where all other parts look the same from both.
+// The outer graph of one view. It is that of a bay before where all other parts look the same from both.
 pub(crate) fn outer_graph(
     alloc: Global,
     pool: &mut Pool,
     letters: &[Vec<usize>],
-    last: &mut Option<Noted>,
+    notes: &mut Vec<Noted>,
     station: &Station,
     parts: &Parts,
     sharing: &Sharing,
@@ -76,13 +76,13 @@ pub(crate) fn outer_graph(
     requires lettered { AreAlphabets station.now parts.now }
     requires letters { AreLetters (lettered station.now parts.now) pool.old (map (λ v. v.items) letters.now)
         (part_count station.now) }
-    requires last { IsRight pool.old last.old }
+    requires notes { AreOuter pool.old notes.old.items }
     requires sharing { IsSharing station.now sharing.now }
     requires count { suc others ≡ part_count station.now }
     requires bay { bay.0 < part_count station.now }
     requires left { left ≤ BAY_EDGES }
     ensures grew { OnOk result (GrewTo pool.old pool.new) }
-    ensures last { OnOk result (IsRight pool.new last.new) }
+    ensures notes { OnOk result (AreOuter pool.new notes.new.items) }
     ensures wide { IfErr result (λ e. e ≡ Wide →
         Passes (OuterHas pool.old.view station.now bay.0 others) station.now left) }
     ensures spent { IfOk result (λ o. Spends (OuterHas pool.old.view station.now bay.0 others) station.now
@@ -97,7 +97,7 @@ pub(crate) fn outer_graph(
 {
     let _count = station.part_count();
     let intake = outer_intake(alloc, pool, letters, station, parts, sharing, bay, others)?;
-    let outer = taken(alloc, pool, last, intake, left)?;
+    let outer = taken(alloc, pool, notes, intake, left)?;
     let _labels = outer.graph.as_ref().labels();
     Ok(outer)
 }

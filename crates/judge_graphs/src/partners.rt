@@ -88,7 +88,7 @@ fn are_these(graphs: &BayGraphs, gap: &ViewGraphs, load: &ViewGraphs) -> bool
     same_view(&graphs.load, load)
 }
 
-// The graphs of the part before, if they are these.
+// The graphs of a part before, if they are these.
 fn before_like<'b>(
     bays: &'b [Option<BayGraphs>],
     gap: &ViewGraphs,
@@ -97,23 +97,21 @@ fn before_like<'b>(
     ensures { IfSome result (λ g. (b : ℕ) × (slice_get bays.now b ≡ Some (Some g.now))
         × AreThese g.now (view_of gap.now) (view_of load.now)) }
 {
-    if bays.is_empty() {
-        return None;
-    }
-    let last = bays.len() - 1;
-    match &bays[last] {
-        Some(graphs) => {
-            if are_these(graphs, gap, load) {
-                return Some(graphs);
+    for place in 0..bays.len() {
+        match &bays[place] {
+            Some(graphs) => {
+                if are_these(graphs, gap, load) {
+                    return Some(graphs);
+                }
             }
-            None
+            None => {}
         }
-        None => None,
     }
+    None
 }
 
 // For each other part, in document order, whether the graphs of one of the two views tell of its layer. It is as for
-// the part before, if its graphs are these.
+// a part before whose graphs are these.
 pub(crate) fn told_like(
     alloc: Global,
     bays: &[Option<BayGraphs>],

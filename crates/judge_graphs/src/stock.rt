@@ -14,13 +14,13 @@ use judge_pool::{Pool, View};
 use station_graph::{NodeList, Station};
 use std::alloc::Global;
 
-/// Values of one view, the numbers of each part's letters among them, the outer graph that was made last, and the inner
-/// graphs of switches that were unlike all before them.
+/// Values of one view, the numbers of each part's letters among them, and the outer graphs of bays and the inner ones
+/// of switches that were unlike all before them.
 #[derive(Drop)]
 pub struct Stock {
     pub(crate) pool: Pool,
     pub(crate) letters: Vec<Vec<usize>>,
-    pub(crate) last: Option<Noted>,
+    pub(crate) outer: Vec<Noted>,
     pub(crate) inner: InnerNotes,
 }
 
@@ -41,7 +41,7 @@ pub fn stock_of(
     Ok(Stock {
         pool,
         letters,
-        last: None,
+        outer: Vec::new(alloc),
         inner: InnerNotes {
             graphs: Vec::new(alloc),
             labelled: Vec::new(alloc),

@@ -12,7 +12,7 @@ use Rattle.judge_graphs.proofs.BayEdges.{view_spends, outer_view_passes, inner_v
 use Rattle.judge_pool.proofs.ErrorLemmas.{passed_on}
 use Rattle.judge_pool.proofs.LayeringLemmas.{grew_more, grows}
 use Rattle.judge_intake.proofs.InputsLemmas.{letters_stay}
-use Rattle.judge_graphs.proofs.NotingLemmas.{right_stays}
+use Rattle.judge_graphs.proofs.NotingLemmas.{outer_stay}
 use Rattle.judge_graphs.proofs.LabellingLemmas.{inner_notes_stay}
 use Rattle.judge_graphs.proofs.bay.view_graphs.Goals as goal
 
@@ -40,7 +40,7 @@ returns-clause-stock c =
           letters_stay p0 p2 (grows p0 p2 (grew_more p0 p1 p2 g1 g2)) a
           (map (λ (v : Vec ℕ Global). v.items) c.args.stock.now.letters.items) (part_count c.args.station.now)
           c.requires.stock.letters;
-      last = right_stays p1 p2 (grows p1 p2 g2) c.outer_graph.new.last c.in_ok-outer.ensures.last;
+      outer = outer_stay p1 p2 (grows p1 p2 g2) c.outer_graph.new.notes.items c.in_ok-outer.ensures.notes;
       inner = c.in_ok-inners.ensures.notes;
     }
 

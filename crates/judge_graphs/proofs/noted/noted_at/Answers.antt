@@ -1,4 +1,5 @@
-use Rattle.std.proofs.Common.{◌∙◌, ◌++◌, ◌∷◌, [], List, length, slice_get, sym, ap, subst}
+use Rattle.std.proofs.Common.{◌∙◌, ◌++◌, ◌∷◌, ◌≤◌, [], List, length, suc, slice_get, sym, ap, subst, inl, inr}
+use Rattle.station_graph.proofs.PathLemmas.{slice_get-push}
 use Rattle.judge_graphs.specs.declared.noted.Intake.{Intake}
 use Rattle.judge_graphs.specs.declared.noted.Noted.{Noted}
 use Rattle.judge_graphs.specs.Noting.{letter_rows, AreRight}
@@ -41,3 +42,16 @@ pub returns-in-Some-clause-noted : goal.returns-in-Some-clause-noted
 returns-in-Some-clause-noted c =
     let (n, at, same) = c.in-Some.ensures in
     (n, ap (λ (xs : List Noted). slice_get xs c.in-Some.place) (sym c.as_slice-held.ensures.value) ∙ at, same)
+
+pub returns-clause-new : goal.returns-clause-new
+returns-clause-new c k n at =
+    let old : List Noted = c.args.notes.now.items in
+    let made : Noted = c.in_ok-noted.noted in
+    elim (slice_get-push old made n k (ap (λ (xs : List Noted). slice_get xs k) (sym c.in_ok-push.ensures.items) ∙ at)) [
+      | inl before ↦ inl before
+      | inr here ↦
+          inr (subst (λ (m : Noted). length m.names.items ≤ suc c.args.budget) here.1 c.in_ok-noted.ensures.few)
+    ]
+
+pub returns-in-Some-clause-new : goal.returns-in-Some-clause-new
+returns-in-Some-clause-new c k n at = inl at

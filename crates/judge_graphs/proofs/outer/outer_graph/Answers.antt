@@ -9,7 +9,7 @@ use Rattle.judge_pool.specs.Plans.{outer_plan}
 use Rattle.judge_graphs.specs.Noting.{letter_rows}
 use Rattle.judge_pool.proofs.LayeringLemmas.{grew_more, grows}
 use Rattle.judge_pool.proofs.MappedPools.{order_self}
-use Rattle.judge_graphs.proofs.NotingLemmas.{right_stays, fits_self}
+use Rattle.judge_graphs.proofs.NotingLemmas.{outer_stay, fits_self}
 use Rattle.judge_intake.proofs.OuterFits.{outer_fits}
 use Rattle.judge_graphs.proofs.OuterEdges.{outer_passes}
 use Rattle.judge_graphs.proofs.OuterGraphs.{outer_linked}
@@ -18,10 +18,10 @@ use Rattle.judge_graphs.proofs.OuterTaken.{taken_reduced}
 use Rattle.judge_pool.proofs.ErrorLemmas.{passed_on}
 use Rattle.judge_graphs.proofs.outer.outer_graph.Goals as goal
 
-pub taken-requires-clause-last : goal.taken-requires-clause-last
-taken-requires-clause-last c =
-    right_stays c.args.pool.now c.outer_intake.new.pool
-    (grows c.args.pool.now c.outer_intake.new.pool c.in_ok-intake.ensures.grew) c.args.last.now c.requires.last
+pub taken-requires-clause-notes : goal.taken-requires-clause-notes
+taken-requires-clause-notes c =
+    outer_stay c.args.pool.now c.outer_intake.new.pool
+    (grows c.args.pool.now c.outer_intake.new.pool c.in_ok-intake.ensures.grew) c.args.notes.now.items c.requires.notes
 
 pub taken-requires-clause-linked : goal.taken-requires-clause-linked
 taken-requires-clause-linked c =
