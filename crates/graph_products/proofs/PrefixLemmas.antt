@@ -1,7 +1,8 @@
 -- The layers of a product so far, and the pairs to which they lead.
 use Rattle.std.proofs.Common.{◌≡◌, ℕ, ◌+◌, ◌*◌, ◌/◌, ◌%◌, ◌<◌, ◌≤◌, zero, suc, List, [], ◌∷◌, ◌++◌, length, get_or, map, take}
-use Rattle.std.proofs.Common.{slice_get, Some, refl, sym, ap, ◌∙◌, subst, arith, div-add-mod'}
-use Rattle.std.proofs.lemmas.List.{take_more, take_all, map-append, length_push, length-take-le}
+use Rattle.std.proofs.Common.{slice_get, Some, refl, sym, ap, ◌∙◌, subst, inl, inr, arith, div-add-mod'}
+use Rattle.std.proofs.lemmas.List.{take_more, take_all, take-append-le, map-append, length_push, length-take-le}
+use Rattle.std.proofs.lemmas.Bool.{cases_lt}
 use Rattle.std.proofs.lemmas.Nat.{div-mul-add, mod-mul-add, mod_below, div_below}
 use Rattle.std.proofs.lemmas.Option.{slice_get_within, slice_get-get_or, same_Some}
 use Rattle.decision_graphs.specs.Label.{Layer, Layered, no_layer, layer_at, leads, step, label_of, AreLayers, size_at}
@@ -9,7 +10,7 @@ use Rattle.decision_graphs.specs.Finished.{layer_with}
 use Rattle.decision_graphs.proofs.RowLemmas.{element-rows_of, row_end}
 use Rattle.graph_products.specs.declared.row.Row.{Row}
 use Rattle.graph_products.specs.Products.{row_at, rows_at, AreRows, firsts, seconds, StepsFit, first_of, second_of, IsPair}
-use Rattle.graph_products.specs.Products.{LeadsJointly, StandsThere, IsHit, IsProductOf, front_of, AreSoManyPairs, IsFront}
+use Rattle.graph_products.specs.Products.{LeadsJointly, StandsThere, IsHit, IsProductOf, front_of, AreSoManyPairs, IsFront, MeetAt}
 use Rattle.std.proofs.Math.Nat.{mul-le-mul_left}
 use Rattle.graph_products.specs.Layering.{NoneTwice, AreEdges, AreStates}
 use Rattle.graph_products.proofs.ListLemmas.{leads_more, rows_len, olds_len, news_len, firsts_more, seconds_more, rows_more}
@@ -21,6 +22,10 @@ pub record IsWay (rss : List (List Row)) (ps : List Layer) (t : ℕ) : Type 0 wh
   pub are : AreRows rss rows
   pub led : leads ps 0 rows ≡ t
 
+-- the layers as a graph, whatever its labels
+abbrev graph_of : List Layer → Layered
+graph_of ps = record { labels = 0; layers = ps }
+
 pub record IsPrefix (g h : Layered) (rss : List (List Row)) (j : ℕ) (ps : List Layer) (states : List ℕ) : Type 0 where
   pub count : length ps ≡ j
   pub choices : map (λ (l : Layer). l.choices) ps ≡ map length (take j rss)
@@ -30,6 +35,16 @@ pub record IsPrefix (g h : Layered) (rss : List (List Row)) (j : ℕ) (ps : List
   pub hit : (t : ℕ) → t < length states → IsWay (take j rss) ps t
   pub within : AreStates (size_at g.labels g.layers j) (size_at h.labels h.layers j) states
   pub some : 0 < length states
+  pub meet : (i : ℕ) → i ≤ j → MeetAt g h rss (graph_of ps) i
+
+-- numbers of one pair are one
+pub same_number : (a b x y : ℕ) → IsPair a b x → IsPair a b y → x ≡ y
+same_number a b x y p q =
+    let first : first_of x ≡ first_of y = p.first ∙ sym q.first in
+    let second : second_of x ≡ second_of y = p.second ∙ sym q.second in
+    sym (div-add-mod' x 4294967296)
+    ∙ (ap (λ n. n * 4294967296 + second_of x) first ∙ (ap (λ n. first_of y * 4294967296 + n) second
+    ∙ div-add-mod' y 4294967296))
 
 -- ---- the start
 
@@ -55,8 +70,13 @@ prefix_start g h rss fit_g fit_h = record {
         (some_start h.labels h.layers fit_h),
   );
   some = omega arith;
+  meet = start_meet;
 }
   where
+    start_meet : (i : ℕ) → i ≤ 0 → MeetAt g h rss (graph_of []) i
+    start_meet zero le cs ds a b one other = refl
+    start_meet (suc i) le cs ds a b one other = absurd (omega (arith, le))
+
     start_pair : (cs : List ℕ) → AreRows (take 0 rss) cs →
         StandsThere (0 ∷ []) (leads [] 0 cs) (front_of g 0 (firsts (take 0 rss) cs)) (front_of h 0
         (seconds (take 0 rss) cs))
@@ -228,6 +248,34 @@ module _ (g h : Layered) (rss : List (List Row)) (j : ℕ) (ps : List Layer) (st
       let n = next_pair 0 x 0 (slice_get-get_or states 0 0 pre.some) some_row in
       omega (arith, slice_get_within next (step p 0 0) n.0 n.1)
 
+  -- lists that come to one pair come to one place of the next layer
+  meet_next : MeetAt g h rss (graph_of (ps ++ p ∷ [])) (suc j)
+  meet_next cs ds a b one other =
+      let s = pair_more cs a in
+      let t = pair_more ds b in
+      let same : s.number ≡ t.number =
+      same_number (front_of g (suc j) (firsts (take (suc j) rss) ds)) (front_of h (suc j)
+      (seconds (take (suc j) rss) ds)) s.number t.number
+      (record { first = s.is.first ∙ one; second = s.is.second ∙ other }) t.is in
+      let led : leads (ps ++ p ∷ []) 0 cs ≡ leads (ps ++ p ∷ []) 0 ds =
+      made.none_twice (leads (ps ++ p ∷ []) 0 cs) (leads (ps ++ p ∷ []) 0 ds) t.number (s.at ∙ ap Some same) t.at in
+      let all : take (suc j) (ps ++ p ∷ []) ≡ ps ++ p ∷ [] =
+      take_all (suc j) (ps ++ p ∷ []) (omega (arith, length_push ps p, pre.count)) in
+      ap (λ ls. leads ls 0 cs) all ∙ (led ∙ ap (λ ls. leads ls 0 ds) (sym all))
+
+  meet_before : (i : ℕ) → i ≤ j → MeetAt g h rss (graph_of (ps ++ p ∷ [])) i
+  meet_before i le cs ds a b one other =
+      let front : take i (ps ++ p ∷ []) ≡ take i ps = take-append-le i ps (p ∷ []) (omega (arith, le, pre.count)) in
+      ap (λ ls. leads ls 0 cs) front
+      ∙ (pre.meet i le cs ds a b one other ∙ ap (λ ls. leads ls 0 ds) (sym front))
+
+  meet_more : (i : ℕ) → i ≤ suc j → MeetAt g h rss (graph_of (ps ++ p ∷ [])) i
+  meet_more i le = elim (cases_lt i (suc j)) [
+    | inl less ↦ meet_before i (omega (arith, less))
+    | inr more ↦ subst (λ k. MeetAt g h rss (graph_of (ps ++ p ∷ [])) k)
+        (let e : suc j ≡ i = omega (arith, le, more) in e) meet_next
+  ]
+
   pub prefix_more : IsPrefix g h rss (suc j) (ps ++ p ∷ []) next
   prefix_more = record {
     count = length_push ps p ∙ omega (arith, pre.count);
@@ -240,6 +288,7 @@ module _ (g h : Layered) (rss : List (List Row)) (j : ℕ) (ps : List Layer) (st
     hit = hit_more;
     within = states_more;
     some = some_next;
+    meet = meet_more;
   }
 
 -- ---- counts
@@ -258,14 +307,6 @@ edges_lead l m states rows next edges e some t lt =
     slice_get_within next (get_or edges t 0) n.0 n.1
 
 -- ---- the end
-
-same_number : (a b x y : ℕ) → IsPair a b x → IsPair a b y → x ≡ y
-same_number a b x y p q =
-    let first : first_of x ≡ first_of y = p.first ∙ sym q.first in
-    let second : second_of x ≡ second_of y = p.second ∙ sym q.second in
-    sym (div-add-mod' x 4294967296)
-    ∙ (ap (λ n. n * 4294967296 + second_of x) first ∙ (ap (λ n. first_of y * 4294967296 + n) second
-    ∙ div-add-mod' y 4294967296))
 
 module _ (g h : Layered) (rss : List (List Row)) (ps : List Layer) (states : List ℕ) (steps : StepsFit g h rss)
     (pre : IsPrefix g h rss (length rss) ps states) where
@@ -313,6 +354,7 @@ module _ (g h : Layered) (rss : List (List Row)) (ps : List Layer) (states : Lis
     apart = λ s t a b x y.
         pre.apart s t x.number x.at (y.at ∙ ap Some (same_number a b y.number x.number y.is x.is));
     hit = hit_all;
+    meet = pre.meet;
   }
 
 -- ---- how many pairs are reached

@@ -75,9 +75,20 @@ pub record StandsThere (pairs : List ℕ) (t a b : ℕ) : Type 0 where
   pub at : slice_get pairs t ≡ Some number
   pub is : IsPair a b number
 
+-- Where the first j choices of a list lead in a graph.
+abbrev pub front_of : Layered → ℕ → List ℕ → ℕ
+front_of g j cs = leads (take j g.layers) 0 cs
+
+-- Lists of rows of the first j steps whose choices lead both graphs to the same nodes lead the third to one node.
+abbrev pub MeetAt : Layered → Layered → List (List Row) → Layered → ℕ → Type 0
+MeetAt g h rss p j =
+    (cs ds : List ℕ) → AreRows (take j rss) cs → AreRows (take j rss) ds →
+    front_of g j (firsts (take j rss) cs) ≡ front_of g j (firsts (take j rss) ds) →
+    front_of h j (seconds (take j rss) cs) ≡ front_of h j (seconds (take j rss) ds) → front_of p j cs ≡ front_of p j ds
+
 -- The third graph is the product of two by these steps: its choices are the rows; every list of rows leads to the label
 -- that stands for the pair of labels to which the choices of both lead; no two labels stand for one pair, and to each
--- leads a list of rows.
+-- leads a list of rows; and before each step there is one node for each pair of nodes.
 pub record IsProductOf (g h : Layered) (rss : List (List Row)) (p : Layered) (pairs : List ℕ) : Type 0 where
   pub choices : map (λ (l : Layer). l.choices) p.layers ≡ map length rss
   pub count : p.labels ≡ length pairs
@@ -85,10 +96,7 @@ pub record IsProductOf (g h : Layered) (rss : List (List Row)) (p : Layered) (pa
       StandsThere pairs (label_of p cs) (label_of g (firsts rss cs)) (label_of h (seconds rss cs))
   pub apart : (s t a b : ℕ) → StandsThere pairs s a b → StandsThere pairs t a b → s ≡ t
   pub hit : (t : ℕ) → t < length pairs → IsHit p rss t
-
--- Where the first j choices of a list lead in a graph.
-abbrev pub front_of : Layered → ℕ → List ℕ → ℕ
-front_of g j cs = leads (take j g.layers) 0 cs
+  pub meet : (j : ℕ) → j ≤ length rss → MeetAt g h rss p j
 
 -- The number is that of the pair to which a list of rows of the first j steps leads.
 pub record IsFront (g h : Layered) (rss : List (List Row)) (j x : ℕ) : Type 0 where
