@@ -13,13 +13,13 @@ use Rattle.graph_walks.specs.Walks.{same_rows, same_steps, AreTwos, HasTwos, cod
 
 -- ---- lists of two choices
 
-two_tail : (n c : ℕ) (cs : List ℕ) → AreTwos (suc n) (c ∷ cs) → AreTwos n cs
+pub two_tail : (n c : ℕ) (cs : List ℕ) → AreTwos (suc n) (c ∷ cs) → AreTwos n cs
 two_tail n c cs h = record { len = omega (arith, h.len); small = λ j d at. h.small (suc j) d at }
 
-no_twos : (n : ℕ) → AreTwos (suc n) [] → ⊥
+pub no_twos : (n : ℕ) → AreTwos (suc n) [] → ⊥
 no_twos n h = omega (arith, h.len)
 
-some_twos : (c : ℕ) (cs : List ℕ) → AreTwos 0 (c ∷ cs) → ⊥
+pub some_twos : (c : ℕ) (cs : List ℕ) → AreTwos 0 (c ∷ cs) → ⊥
 some_twos c cs h = omega (arith, h.len)
 
 pub rows_of_twos : (n : ℕ) (cs : List ℕ) → AreTwos n cs → AreRows (same_steps n) cs
@@ -32,7 +32,7 @@ no_choice : (j c : ℕ) → slice_get {X = ℕ} [] j ≡ Some c → ⊥
 no_choice zero c at = cc
 no_choice (suc j) c at = cc
 
-two_more : (n c : ℕ) (cs : List ℕ) → c < 2 → AreTwos n cs → AreTwos (suc n) (c ∷ cs)
+pub two_more : (n c : ℕ) (cs : List ℕ) → c < 2 → AreTwos n cs → AreTwos (suc n) (c ∷ cs)
 two_more n c cs lt h = record { len = ap suc h.len; small = each }
   where
     each : (j d : ℕ) → slice_get (c ∷ cs) j ≡ Some d → d < 2
