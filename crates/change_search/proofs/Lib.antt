@@ -1,3 +1,5 @@
 pub mod TellingLemmas
 mod PartLemmas
 pub mod AllowLemmas
+mod GivenLemmas
+mod WidthLemmas

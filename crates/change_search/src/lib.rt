@@ -8,6 +8,7 @@ mod law;
 mod part;
 mod search;
 mod telling;
+mod width;
 
 pub use allow::free_steps_allow;
 pub use free::free_steps;
@@ -15,3 +16,4 @@ pub use law::labels_tell_changes;
 pub use part::{Reached, Shown, find_part};
 pub use search::find_change;
 pub use telling::{answer, tells};
+pub use width::keeping_excludes_passing;
