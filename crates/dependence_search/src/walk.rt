@@ -8,7 +8,7 @@ ghost use Rattle.station_graph.specs.Diagram.{Diagram, IsStation};
 ghost use Rattle.decision_graphs.specs.Label.{Layered};
 ghost use Rattle.graph_walks.specs.declared.codes.Codes.{Codes};
 ghost use Rattle.station_joints.specs.Together.{AreJointSteps};
-ghost use Rattle.change_search.specs.Passing.{IsWideSwitchWalk};
+ghost use Rattle.change_search.specs.Passing.{IsWideSwitchWalk, KeepsSwitchWalk};
 ghost use Rattle.step_graphs.specs.declared.step.Step.{Step as StepValue};
 ghost use Rattle.station_graph.specs.Connection.{a_switch};
 ghost use Rattle.step_graphs.specs.Steps.{AreSteps, AllFit, TakesIn};
@@ -56,7 +56,8 @@ pub fn trouble_of(trouble: ProductTrouble) -> Trouble
 }
 
 /// The walk of the gap graph and the load graph of a switch, by which labels say which rule moving it breaks, for each
-/// position of all other switches. It is too wide where a graph, or a product of them, has more edges than the budget.
+/// position of all other switches. It is too wide exactly where a graph, or a product of them, has more edges than the
+/// budget: a walk that is made keeps it, and along given steps none does both (`keeping_excludes_passing`).
 /// Time and memory: those edges, and the compositions that the stocks have not got.
 pub fn rule_walk(
     alloc: Global,
@@ -75,6 +76,7 @@ pub fn rule_walk(
     requires budget { budget ≤ BAY_EDGES }
     ensures stocks { OnOk result (AreRuleStocks station.now steps.now stocks.new) }
     ensures walk { IfOk result (λ w. IsRuleWalk station.now steps.now place id.0 w.graph w.codes.items) }
+    ensures keeps { IfOk result (λ _. KeepsSwitchWalk station.now station.now steps.now steps.now place id.0 id.0 budget) }
     ensures wide { IfErr result (λ e. e ≡ Wide
         → IsWideSwitchWalk station.now station.now steps.now steps.now place id.0 id.0 budget) }
 {
