@@ -123,9 +123,11 @@ pub fn joint_steps(alloc: Global, old: &Station, new: &Station) -> Result<JointS
     steps_by_part(alloc, old, new, &PartRanks::in_order(alloc))
 }
 
-/// The joint steps in the order in which the walks of this bay's switches are narrow: first the parts that both stations
-/// have with as many switches, in which both take the same choices; then the other parts, and this bay of the new station
-/// last, so that what stands before it is the same for each of its switches. Time: that of `joint_steps`.
+/// The joint steps in the order in which the walks of this bay's switches are narrow: first the parts that lie deepest behind
+/// the bay, so that of these only what is seen from nearer parts is told apart; of those of one depth, those together that
+/// stand at one node, and of these first the parts that both stations have with as many switches, in which both take the
+/// same choices; and this bay of the new station last, so that what stands before it is the same for each of its switches.
+/// Time: that of `joint_steps`, and the switches and links for each depth.
 pub fn joint_steps_of_bay(
     alloc: Global,
     old: &Station,

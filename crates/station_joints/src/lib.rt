@@ -3,6 +3,7 @@
 #![tactic(auto)]
 
 mod joint;
+mod near;
 mod pairs;
 mod places;
 mod positions;
