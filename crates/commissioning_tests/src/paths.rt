@@ -90,7 +90,7 @@ pub(crate) fn paths_of(alloc: Global, walk: &Walk) -> Result<Paths, Memory> {
 }
 
 // The number at a place, 0 where there is none.
-fn number_at(numbers: &[u32], place: usize) -> u32 {
+pub(crate) fn number_at(numbers: &[u32], place: usize) -> u32 {
     if place < numbers.len() {
         numbers[place]
     } else {

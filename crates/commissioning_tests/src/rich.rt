@@ -148,7 +148,7 @@ pub(crate) fn richer(
 {
     let worths = worths(alloc, walked, positions, kept)?;
     let mut choices = choices_of(alloc, walked, closed)?;
-    climb(walked.paths, &worths, &mut choices);
-    climb(walked.paths, &worths, &mut choices);
+    climb(alloc, walked.paths, &worths, &mut choices)?;
+    climb(alloc, walked.paths, &worths, &mut choices)?;
     closed_by(alloc, walked, &choices, closed)
 }
