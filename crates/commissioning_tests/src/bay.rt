@@ -6,6 +6,7 @@ ghost use Rattle.commissioning_tests.specs.Growing.{AreCovered};
 ghost use Rattle.commissioning_tests.specs.Listed.{operations_from};
 ghost use Rattle.commissioning_tests.specs.Refusing.{IsRefusal, IsThatWideBay, SomeIsTooWide};
 ghost use Rattle.judge_pool.specs.declared.layer.Trouble.TheVariants.{Wide};
+ghost use Rattle.station_joints.specs.Joined.{HaveJointSteps};
 
 use crate::cover_bay::cover_switches;
 use crate::lists::{always_of, needs_of};
@@ -16,14 +17,31 @@ use crate::values::{BayTests, TestPosition};
 use ilk_base::{BayId, Memory, Op, SwitchId};
 use judge_pool::Trouble;
 use station_graph::Station;
-use station_joints::joint_steps;
+use station_joints::{JointSteps, joint_steps, joint_steps_of_bay};
 use std::alloc::Global;
+
+// A station of more switches is large.
+const FEW_SWITCHES: u16 = 24;
+
+// The joint steps of the station with itself. Of a large one they come in the order in which the walks of this bay's
+// switches are narrow. In a small one they are narrow in any order, and in document order fewer positions show all, mostly.
+fn steps_for(alloc: Global, station: &Station, bay: BayId) -> Result<JointSteps, Memory>
+    ensures { IfOk result (HaveJointSteps station.now station.now) }
+{
+    if station.switch_count() <= FEW_SWITCHES {
+        let steps = joint_steps(alloc, station, station)?;
+        return Ok(steps);
+    }
+    let steps = joint_steps_of_bay(alloc, station, station, bay)?;
+    Ok(steps)
+}
 
 // Positions that show all of the operations of so many switches, from this one on; none where the station has one item
 // alone, of which nothing is live.
 fn positions_of(
     alloc: Global,
     station: &Station,
+    bay: BayId,
     operations: &[Op],
     stands: &[u16],
     first: SwitchId,
@@ -36,7 +54,7 @@ fn positions_of(
     ensures covered { IfOk result (λ ps. AreCovered station.now operations.now stands.now ps.items (length operations.now)) }
     ensures wide { IfErr result (λ e. e ≡ Wide → SomeIsTooWide station.now first.0 count) }
 {
-    let steps = joint_steps(alloc, station, station)?;
+    let steps = steps_for(alloc, station, bay)?;
     if steps.old_steps.len() < 2 {
         return Ok(Vec::new(alloc));
     }
@@ -48,6 +66,7 @@ fn positions_of(
 fn tests_of(
     alloc: Global,
     station: &Station,
+    bay: BayId,
     first: SwitchId,
     count: u16,
 ) -> Result<BayTests, Trouble>
@@ -58,7 +77,7 @@ fn tests_of(
 {
     let operations = operations_of(alloc, first, count)?;
     let stands = stands_of(alloc, station, first, count)?;
-    let positions = positions_of(alloc, station, &operations, &stands, first, count)?;
+    let positions = positions_of(alloc, station, bay, &operations, &stands, first, count)?;
     let always = always_of(alloc, station, &operations, &stands, &positions)?;
     let needs = needs_of(
         alloc,
@@ -92,7 +111,7 @@ pub fn bay_tests(alloc: Global, station: &Station, bay: BayId) -> Result<BayTest
 {
     station.is_station();
     let (first, count) = station.switches_of(bay);
-    match tests_of(alloc, station, first, count) {
+    match tests_of(alloc, station, bay, first, count) {
         Ok(tests) => Ok(tests),
         Err(Trouble::Memory) => Err(TestsRefusal::Memory),
         Err(Trouble::Wide) => Err(TestsRefusal::Wide { bay }),
