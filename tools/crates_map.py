@@ -35,7 +35,7 @@ LAYERS = [
     Layer("station and drawing",
           "Begin with `station_graph/specs`, where a station and the three rules are defined, and then "
           "`ssd_read/src/read.rt`.",
-          "station_graph ssd_read station_lines station_names"),
+          "station_graph ssd_read station_lines station_names path_names"),
     Layer("positions and rules",
           "Begin with `central_rules/specs/Meaning.antt`, what a judge is, and `central_rules/src/rules.rt`, the rules on "
           "one vector.",
