@@ -1,12 +1,12 @@
 -- The text of `compare`.
 use Rattle.std.specs.Prelude.{◌≡◌, ◌==◌, ◌++◌, ◌↔◌, if◌then◌else◌, ℕ, Bool, false, List, [], length, codes}
 use Rattle.std.specs.Prelude.{slice_get, slice_index_or, Option, Some, None, IsTrue}
+use Rattle.ilk_base.specs.declared.words.Direction.{Direction}
 use Rattle.ilk_base.specs.declared.words.Op.{Op}
 use Rattle.ilk_base.specs.declared.words.Rule.{Rule}
 use Rattle.ilk_base.specs.declared.words.Rule.TheVariants.{R1, R2, R3}
 use Rattle.station_graph.specs.Diagram.{Diagram, switch_path, part_count}
-use Rattle.central_rules.specs.Names.{rule_name, texts_below}
-use Rattle.denial_explain.specs.ExplanationText.{operation}
+use Rattle.central_rules.specs.Names.{rule_name, direction_name, texts_below}
 use Rattle.station_changes.specs.declared.change.Change.{Change}
 use Rattle.station_changes.specs.declared.change.Change.TheVariants.{Stricter, Looser}
 use Rattle.station_changes.specs.Compare.{part_path, Extends}
@@ -79,9 +79,14 @@ vector_lines o n c moved s =
 
 -- ---- operations
 
--- The line of an operation behind a word.
+-- The line of an operation behind a word, by the path of its switch.
+abbrev pub moved_line : List ℕ → Direction → List ℕ → List ℕ
+moved_line word direction path =
+    word ++ codes " " ++ direction_name direction ++ codes " " ++ path ++ codes "\n"
+
+-- The same, of an operation of a station.
 abbrev pub operation_line : List ℕ → Diagram → Op → List ℕ
-operation_line word d op = word ++ codes " " ++ operation d op
+operation_line word d op = moved_line word op.direction (switch_path d op.switch.0)
 
 -- The line of a change by a rule, and those of the position that shows it; none where no position does.
 abbrev pub part_lines : Diagram → Diagram → Comparison → ℕ → Change → Rule → Option Shown → List ℕ
@@ -175,5 +180,5 @@ pub record IsComparisonText (o n : Diagram) (c : Comparison) (text : List ℕ) :
 pub record IsCompareReport (o n : Diagram) (r : CompareReport) : Type 0 where
   pub found : Comparison
   pub is : IsComparison o n found
-  pub text : IsComparisonText o n found r.text
+  pub text : IsComparisonText o n found r.lines.text
   pub extends : IsTrue r.extends ↔ Extends o n

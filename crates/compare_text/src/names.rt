@@ -1,5 +1,5 @@
 //! What the text calls things.
-ghost use Rattle.std.specs.Prelude.{◌≡◌};
+ghost use Rattle.std.specs.Prelude.{◌≡◌, ◌++◌, codes};
 ghost use Rattle.compare_text.specs.CompareText.{change_name, judged_name, side_name};
 
 use station_changes::Change;
@@ -26,12 +26,12 @@ pub(crate) fn judged_name(word: Word) -> &'static [u8]
     }
 }
 
-// Which stations have a switch of the new one.
-pub(crate) fn side_name(found: &Found) -> &'static [u8]
-    ensures { result.now ≡ side_name found.now }
+// The front of the line of a switch of the new station that is closed: which stations have it.
+pub(crate) fn with_word(found: &Found) -> &'static [u8]
+    ensures { result.now ≡ codes "with " ++ side_name found.now ++ codes " " }
 {
     match found {
-        Found::OnlyNew => b"new",
-        Found::InBoth(_) => b"both",
+        Found::OnlyNew => b"with new ",
+        Found::InBoth(_) => b"with both ",
     }
 }

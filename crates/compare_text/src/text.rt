@@ -1,19 +1,22 @@
 //! The text of `compare`.
-ghost use Rattle.std.specs.Prelude.{◌≡◌, ◌<◌, ◌++◌, length, IfOk, IfErr, OnOk};
+ghost use Rattle.std.specs.Prelude.{◌≡◌, ◌<◌, ◌++◌, [], length, slice_index_or, IfOk, IfErr, OnOk};
+ghost use Rattle.ilk_base.specs.declared.words.Direction.TheVariants.{ToOff, ToOn};
 ghost use Rattle.station_graph.specs.CentralRules.{IsOperation};
 ghost use Rattle.central_rules.specs.Names.{texts_below};
+ghost use Rattle.path_names.specs.Tables.{paths_of_both};
 ghost use Rattle.station_compare.specs.Comparing.{IsComparison, IsRefusal};
-ghost use Rattle.compare_text.specs.CompareText.{operation_line, part_lines, rule_lines, judged_lines, two_lines};
+ghost use Rattle.compare_text.specs.CompareText.{moved_line, part_lines, rule_lines, judged_lines};
 ghost use Rattle.compare_text.specs.CompareText.{found_lines, found_at, gone_lines, gone_at, comparison_lines};
 ghost use Rattle.compare_text.specs.CompareText.{IsComparisonText, IsCompareReport};
 
 use crate::bay_lines::push_bays;
 use crate::names::{change_name, judged_name};
 use crate::vector_lines::push_vector;
-use central_rules::rule_name;
+use central_rules::{direction_name, rule_name};
 use change_search::Shown;
-use denial_explain::operation_text;
-use ilk_base::{Direction, Memory, Op, Rule, SwitchId, Text};
+use ilk_base::{Direction, Memory, Op, Rule, SwitchId};
+use path_names::{both_paths, new_switch_name, old_switch_name};
+use piece_writer::NamedText;
 use station_changes::Change;
 use station_compare::{
     CompareRefusal, Comparison, Found, OperationChanges, RuleChanges, compare_stations,
@@ -25,30 +28,33 @@ use std::alloc::Global;
 #[derive(Drop)]
 pub struct CompareReport {
     /// the lines
-    pub text: Text,
+    pub lines: NamedText,
     /// whether the new station extends the old one
     pub extends: bool,
 }
 
-// Appends the line of an operation behind a word.
+// Appends the line of an operation of the switch of this name, behind a word.
 fn push_operation(
-    alloc: Global,
-    text: &mut Text,
-    word: &[u8],
-    station: &Station,
-    op: Op,
+    text: &mut NamedText,
+    word: &'static [u8],
+    direction: Direction,
+    name: u16,
 ) -> Result<(), Memory>
-    requires { IsOperation station.now op }
-    ensures { OnOk result (text.new ≡ text.old ++ operation_line word.now station.now op) }
+    ensures ok { OnOk result (text.new.text ≡ text.old.text
+        ++ moved_line word.now direction (slice_index_or text.old.names name [])) }
+    ensures names { text.new.names ≡ text.old.names }
 {
-    text.push(word)?;
-    text.push(b" ")?;
-    text.push(operation_text(alloc, station, op)?.bytes())
+    text.word(word)?;
+    text.word(b" ")?;
+    text.word(direction_name(direction))?;
+    text.word(b" ")?;
+    text.name(name)?;
+    text.word(b"\n")
 }
 
 // Appends the lines of a change by a rule, where there is one.
 fn push_part(
-    text: &mut Text,
+    text: &mut NamedText,
     old: &Station,
     new: &Station,
     found: &Comparison,
@@ -57,16 +63,19 @@ fn push_part(
     rule: Rule,
     part: &Option<Shown>,
 ) -> Result<(), Memory>
-    requires { IsComparison old.now new.now found.now }
-    ensures { OnOk result (text.new ≡ text.old ++ part_lines old.now new.now found.now moved.0 change rule part.now) }
+    requires names { text.old.names ≡ paths_of_both old.now new.now }
+    requires comparison { IsComparison old.now new.now found.now }
+    ensures ok { OnOk result (text.new.text ≡ text.old.text
+        ++ part_lines old.now new.now found.now moved.0 change rule part.now) }
+    ensures names { text.new.names ≡ text.old.names }
 {
     match part {
         None => Ok(()),
         Some(shown) => {
-            text.push(change_name(change))?;
-            text.push(b" ")?;
-            text.push(rule_name(rule))?;
-            text.push(b"\n")?;
+            text.word(change_name(change))?;
+            text.word(b" ")?;
+            text.word(rule_name(rule))?;
+            text.word(b"\n")?;
             push_vector(text, old, new, found, moved, shown)
         }
     }
@@ -74,7 +83,7 @@ fn push_part(
 
 // Appends those of a change by each rule.
 fn push_rules(
-    text: &mut Text,
+    text: &mut NamedText,
     old: &Station,
     new: &Station,
     found: &Comparison,
@@ -82,8 +91,11 @@ fn push_rules(
     change: Change,
     changes: &RuleChanges,
 ) -> Result<(), Memory>
-    requires { IsComparison old.now new.now found.now }
-    ensures { OnOk result (text.new ≡ text.old ++ rule_lines old.now new.now found.now moved.0 change changes.now) }
+    requires names { text.old.names ≡ paths_of_both old.now new.now }
+    requires comparison { IsComparison old.now new.now found.now }
+    ensures ok { OnOk result (text.new.text ≡ text.old.text
+        ++ rule_lines old.now new.now found.now moved.0 change changes.now) }
+    ensures names { text.new.names ≡ text.old.names }
 {
     push_part(
         text,
@@ -119,19 +131,22 @@ fn push_rules(
 
 // Appends the lines of an operation that both stations have.
 fn push_judged(
-    alloc: Global,
-    text: &mut Text,
+    text: &mut NamedText,
     old: &Station,
     new: &Station,
     found: &Comparison,
     op: Op,
     changes: &OperationChanges,
 ) -> Result<(), Memory>
+    requires names { text.old.names ≡ paths_of_both old.now new.now }
     requires comparison { IsComparison old.now new.now found.now }
     requires operation { IsOperation new.now op }
-    ensures { OnOk result (text.new ≡ text.old ++ judged_lines old.now new.now found.now op changes.now) }
+    ensures ok { OnOk result (text.new.text ≡ text.old.text
+        ++ judged_lines old.now new.now found.now op changes.now) }
+    ensures names { text.new.names ≡ text.old.names }
 {
-    push_operation(alloc, text, judged_name(changes.word()), new, op)?;
+    let name = new_switch_name(old, new, op.switch);
+    push_operation(text, judged_name(changes.word()), op.direction, name)?;
     push_rules(
         text,
         old,
@@ -152,103 +167,104 @@ fn push_judged(
     )
 }
 
-// Appends the lines of both operations of a switch behind a word.
-fn push_two(
-    alloc: Global,
-    text: &mut Text,
-    word: &[u8],
-    station: &Station,
-    id: SwitchId,
-) -> Result<(), Memory>
-    requires { id.0 < length station.now.switches }
-    ensures { OnOk result (text.new ≡ text.old ++ two_lines word.now station.now id.0) }
+// Appends the lines of both operations of the switch of this name, behind a word.
+fn push_two(text: &mut NamedText, word: &'static [u8], name: u16) -> Result<(), Memory>
+    ensures ok { OnOk result (text.new.text ≡ text.old.text
+        ++ (moved_line word.now ToOff (slice_index_or text.old.names name [])
+        ++ moved_line word.now ToOn (slice_index_or text.old.names name []))) }
+    ensures names { text.new.names ≡ text.old.names }
 {
-    let open = Op {
-        switch: id,
-        direction: Direction::ToOff,
-    };
-    push_operation(alloc, text, word, station, open)?;
-    let close = Op {
-        switch: id,
-        direction: Direction::ToOn,
-    };
-    push_operation(alloc, text, word, station, close)
+    push_operation(text, word, Direction::ToOff, name)?;
+    push_operation(text, word, Direction::ToOn, name)
 }
 
 // Appends the lines of a switch of the new station.
 fn push_found(
-    alloc: Global,
-    text: &mut Text,
+    text: &mut NamedText,
     old: &Station,
     new: &Station,
     found: &Comparison,
     of_switch: &Found,
     id: SwitchId,
 ) -> Result<(), Memory>
+    requires names { text.old.names ≡ paths_of_both old.now new.now }
     requires comparison { IsComparison old.now new.now found.now }
     requires within { id.0 < length new.now.switches }
-    ensures { OnOk result (text.new ≡ text.old ++ found_lines old.now new.now found.now of_switch.now id.0) }
+    ensures ok { OnOk result (text.new.text ≡ text.old.text
+        ++ found_lines old.now new.now found.now of_switch.now id.0) }
+    ensures names { text.new.names ≡ text.old.names }
 {
     match of_switch {
-        Found::OnlyNew => push_two(alloc, text, b"new", new, id),
+        Found::OnlyNew => push_two(text, b"new", new_switch_name(old, new, id)),
         Found::InBoth(changes) => {
             let open = Op {
                 switch: id,
                 direction: Direction::ToOff,
             };
-            push_judged(alloc, text, old, new, found, open, &changes.opening)?;
+            push_judged(text, old, new, found, open, &changes.opening)?;
             let close = Op {
                 switch: id,
                 direction: Direction::ToOn,
             };
-            push_judged(alloc, text, old, new, found, close, &changes.closing)
+            push_judged(text, old, new, found, close, &changes.closing)
         }
     }
 }
 
 // Appends those of all its switches.
 fn push_here(
-    alloc: Global,
-    text: &mut Text,
+    text: &mut NamedText,
     old: &Station,
     new: &Station,
     found: &Comparison,
 ) -> Result<(), Memory>
-    requires { IsComparison old.now new.now found.now }
-    ensures { OnOk result (text.new ≡ text.old ++ texts_below (found_at old.now new.now found.now)
-        (length new.now.switches)) }
+    requires names { text.old.names ≡ paths_of_both old.now new.now }
+    requires comparison { IsComparison old.now new.now found.now }
+    ensures ok { OnOk result (text.new.text ≡ text.old.text
+        ++ texts_below (found_at old.now new.now found.now) (length new.now.switches)) }
+    ensures names { text.new.names ≡ text.old.names }
 {
     for k in 0..new.switch_count() {
         let of_switch = &found.here[usize::from(k)];
-        push_found(alloc, text, old, new, found, of_switch, SwitchId(k))?;
+        push_found(text, old, new, found, of_switch, SwitchId(k))?;
     }
     Ok(())
 }
 
 // Appends the lines of a switch of the old station, where the new one has it not.
 fn push_gone(
-    alloc: Global,
-    text: &mut Text,
+    text: &mut NamedText,
     old: &Station,
+    new: &Station,
     gone: bool,
     id: SwitchId,
 ) -> Result<(), Memory>
-    requires { id.0 < length old.now.switches }
-    ensures { OnOk result (text.new ≡ text.old ++ gone_lines old.now gone id.0) }
+    requires names { text.old.names ≡ paths_of_both old.now new.now }
+    requires within { id.0 < length old.now.switches }
+    ensures ok { OnOk result (text.new.text ≡ text.old.text ++ gone_lines old.now gone id.0) }
+    ensures names { text.new.names ≡ text.old.names }
 {
     if !gone {
         return Ok(());
     }
-    push_two(alloc, text, b"gone", old, id)
+    push_two(text, b"gone", old_switch_name(old, new, id))
 }
 
 // Appends those of all its switches.
-fn push_all_gone(alloc: Global, text: &mut Text, old: &Station, gone: &[bool]) -> Result<(), Memory>
-    requires { length gone.now ≡ length old.now.switches }
-    ensures { OnOk result (text.new ≡ text.old ++ texts_below (gone_at old.now gone.now) (length old.now.switches)) }
+fn push_all_gone(
+    text: &mut NamedText,
+    old: &Station,
+    new: &Station,
+    gone: &[bool],
+) -> Result<(), Memory>
+    requires names { text.old.names ≡ paths_of_both old.now new.now }
+    requires count { length gone.now ≡ length old.now.switches }
+    ensures ok { OnOk result (text.new.text ≡ text.old.text
+        ++ texts_below (gone_at old.now gone.now) (length old.now.switches)) }
+    ensures names { text.new.names ≡ text.old.names }
 {
     for i in 0..old.switch_count() {
-        push_gone(alloc, text, old, gone[usize::from(i)], SwitchId(i))?;
+        push_gone(text, old, new, gone[usize::from(i)], SwitchId(i))?;
     }
     Ok(())
 }
@@ -259,14 +275,15 @@ fn comparison_text(
     old: &Station,
     new: &Station,
     found: &Comparison,
-) -> Result<Text, Memory>
+) -> Result<NamedText, Memory>
     requires { IsComparison old.now new.now found.now }
-    ensures { IfOk result (IsComparisonText old.now new.now found.now) }
+    ensures { IfOk result (λ t. IsComparisonText old.now new.now found.now t.text) }
 {
     let bays = found.bays(alloc, old, new)?;
-    let mut text = Text::new(alloc);
-    push_here(alloc, &mut text, old, new, found)?;
-    push_all_gone(alloc, &mut text, old, &found.gone)?;
+    let names = both_paths(alloc, old, new)?;
+    let mut text = NamedText::new(alloc, names);
+    push_here(&mut text, old, new, found)?;
+    push_all_gone(&mut text, old, new, &found.gone)?;
     push_bays(&mut text, old, new, &bays)?;
     Ok(text)
 }
@@ -274,8 +291,9 @@ fn comparison_text(
 /// The text of `compare`: for each switch of the new station in document order, and for it open and then close, `new open
 /// PATH` where the old station has it not, else `same open PATH`, `kept open PATH` or `changed open PATH` with the changes
 /// that some position of all switches shows, each with the other switches that are closed in one such position; then `gone
-/// open PATH` of the old station's switches that the new one has not; then a line for each bay. Time and memory: those of
-/// `compare_stations`, and the text's.
+/// open PATH` of the old station's switches that the new one has not; then a line for each bay. Each path is held once, however
+/// often the lines name it. Time: that of `compare_stations`, and the lines. Memory: that of `compare_stations`, the paths of
+/// both stations, and some bytes a line.
 pub fn compare_text(
     alloc: Global,
     old: &Station,
@@ -285,7 +303,7 @@ pub fn compare_text(
     ensures refusal { IfErr result (IsRefusal old.now new.now) }
 {
     let found = compare_stations(alloc, old, new)?;
-    let text = comparison_text(alloc, old, new, &found)?;
+    let lines = comparison_text(alloc, old, new, &found)?;
     let extends = found.extends(old, new);
-    Ok(CompareReport { text, extends })
+    Ok(CompareReport { lines, extends })
 }

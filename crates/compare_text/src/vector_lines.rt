@@ -1,24 +1,17 @@
 //! The lines of a position of all switches.
-ghost use Rattle.std.specs.Prelude.{◌≡◌, ◌<◌, ◌++◌, false, length, slice_index_or, OnOk};
-ghost use Rattle.station_graph.specs.Diagram.{switch_path};
+ghost use Rattle.std.specs.Prelude.{◌≡◌, ◌<◌, ◌++◌, [], false, codes, length, slice_index_or, OnOk};
 ghost use Rattle.central_rules.specs.Names.{texts_below};
+ghost use Rattle.path_names.specs.Tables.{paths_of_both};
 ghost use Rattle.station_compare.specs.Comparing.{IsComparison};
-ghost use Rattle.compare_text.specs.CompareText.{with_line, new_with, new_with_at, old_with, old_with_at, vector_lines};
+ghost use Rattle.compare_text.specs.CompareText.{new_with, new_with_at, old_with, old_with_at, vector_lines};
 
-use crate::names::side_name;
+use crate::names::with_word;
 use change_search::Shown;
-use ilk_base::{Memory, SwitchId, Text};
+use ilk_base::{Memory, SwitchId};
+use path_names::{new_switch_name, old_switch_name};
+use piece_writer::NamedText;
 use station_compare::{Comparison, Found};
 use station_graph::Station;
-
-// The path of a switch, in bytes.
-#[tactic(auto, using(std::proofs::lemmas::Option::get_or_from_slice_get))]
-fn path_of_switch(station: &Station, id: SwitchId) -> &[u8]
-    requires { id.0 < length station.now.switches }
-    ensures { result.now ≡ switch_path station.now id.0 }
-{
-    station.switch_path(id).as_bytes()
-}
 
 // Whether the list says so of this place.
 fn is_set(list: &[bool], place: u16) -> bool
@@ -30,28 +23,31 @@ fn is_set(list: &[bool], place: u16) -> bool
     }
 }
 
-// Appends the line `with SIDE PATH`.
-fn push_with(text: &mut Text, side: &[u8], path: &[u8]) -> Result<(), Memory>
-    ensures { OnOk result (text.new ≡ text.old ++ with_line side.now path.now) }
+// Appends the front of a line, the path of this name, and the end of the line.
+fn push_with(text: &mut NamedText, front: &'static [u8], name: u16) -> Result<(), Memory>
+    ensures ok { OnOk result (text.new.text ≡ text.old.text
+        ++ (front.now ++ slice_index_or text.old.names name [] ++ codes "\n")) }
+    ensures names { text.new.names ≡ text.old.names }
 {
-    text.push(b"with ")?;
-    text.push(side)?;
-    text.push(b" ")?;
-    text.push(path)?;
-    text.push(b"\n")
+    text.word(front)?;
+    text.name(name)?;
+    text.word(b"\n")
 }
 
 // Appends the line of a switch of the new station, where it has one.
 fn push_new_with(
-    text: &mut Text,
+    text: &mut NamedText,
+    old: &Station,
     new: &Station,
     moved: SwitchId,
     found: &Found,
     closed: bool,
     id: SwitchId,
 ) -> Result<(), Memory>
-    requires { id.0 < length new.now.switches }
-    ensures { OnOk result (text.new ≡ text.old ++ new_with new.now moved.0 found.now closed id.0) }
+    requires names { text.old.names ≡ paths_of_both old.now new.now }
+    requires within { id.0 < length new.now.switches }
+    ensures ok { OnOk result (text.new.text ≡ text.old.text ++ new_with new.now moved.0 found.now closed id.0) }
+    ensures names { text.new.names ≡ text.old.names }
 {
     if id.0 == moved.0 {
         return Ok(());
@@ -59,38 +55,44 @@ fn push_new_with(
     if !closed {
         return Ok(());
     }
-    push_with(text, side_name(found), path_of_switch(new, id))
+    push_with(text, with_word(found), new_switch_name(old, new, id))
 }
 
 // Appends those of all of them.
 fn push_new_withs(
-    text: &mut Text,
+    text: &mut NamedText,
+    old: &Station,
     new: &Station,
     moved: SwitchId,
     here: &[Found],
     closed: &[bool],
 ) -> Result<(), Memory>
-    requires { length here.now ≡ length new.now.switches }
-    ensures { OnOk result (text.new ≡ text.old ++ texts_below (new_with_at new.now moved.0 here.now closed.now)
-        (length new.now.switches)) }
+    requires names { text.old.names ≡ paths_of_both old.now new.now }
+    requires count { length here.now ≡ length new.now.switches }
+    ensures ok { OnOk result (text.new.text ≡ text.old.text
+        ++ texts_below (new_with_at new.now moved.0 here.now closed.now) (length new.now.switches)) }
+    ensures names { text.new.names ≡ text.old.names }
 {
     for k in 0..new.switch_count() {
         let found = &here[usize::from(k)];
-        push_new_with(text, new, moved, found, is_set(closed, k), SwitchId(k))?;
+        push_new_with(text, old, new, moved, found, is_set(closed, k), SwitchId(k))?;
     }
     Ok(())
 }
 
 // Appends the line of a switch of the old station, where it has one.
 fn push_old_with(
-    text: &mut Text,
+    text: &mut NamedText,
     old: &Station,
+    new: &Station,
     gone: bool,
     closed: bool,
     id: SwitchId,
 ) -> Result<(), Memory>
-    requires { id.0 < length old.now.switches }
-    ensures { OnOk result (text.new ≡ text.old ++ old_with old.now gone closed id.0) }
+    requires names { text.old.names ≡ paths_of_both old.now new.now }
+    requires within { id.0 < length old.now.switches }
+    ensures ok { OnOk result (text.new.text ≡ text.old.text ++ old_with old.now gone closed id.0) }
+    ensures names { text.new.names ≡ text.old.names }
 {
     if !gone {
         return Ok(());
@@ -98,37 +100,50 @@ fn push_old_with(
     if !closed {
         return Ok(());
     }
-    push_with(text, b"old", path_of_switch(old, id))
+    push_with(text, b"with old ", old_switch_name(old, new, id))
 }
 
 // Appends those of all of them.
 fn push_old_withs(
-    text: &mut Text,
+    text: &mut NamedText,
     old: &Station,
+    new: &Station,
     gone: &[bool],
     closed: &[bool],
 ) -> Result<(), Memory>
-    ensures { OnOk result (text.new ≡ text.old ++ texts_below (old_with_at old.now gone.now closed.now)
-        (length old.now.switches)) }
+    requires names { text.old.names ≡ paths_of_both old.now new.now }
+    ensures ok { OnOk result (text.new.text ≡ text.old.text
+        ++ texts_below (old_with_at old.now gone.now closed.now) (length old.now.switches)) }
+    ensures names { text.new.names ≡ text.old.names }
 {
     for i in 0..old.switch_count() {
-        push_old_with(text, old, is_set(gone, i), is_set(closed, i), SwitchId(i))?;
+        push_old_with(
+            text,
+            old,
+            new,
+            is_set(gone, i),
+            is_set(closed, i),
+            SwitchId(i),
+        )?;
     }
     Ok(())
 }
 
 // Appends the line of each other switch that is closed in the position.
 pub(crate) fn push_vector(
-    text: &mut Text,
+    text: &mut NamedText,
     old: &Station,
     new: &Station,
     found: &Comparison,
     moved: SwitchId,
     shown: &Shown,
 ) -> Result<(), Memory>
-    requires { IsComparison old.now new.now found.now }
-    ensures { OnOk result (text.new ≡ text.old ++ vector_lines old.now new.now found.now moved.0 shown.now) }
+    requires names { text.old.names ≡ paths_of_both old.now new.now }
+    requires comparison { IsComparison old.now new.now found.now }
+    ensures ok { OnOk result (text.new.text ≡ text.old.text
+        ++ vector_lines old.now new.now found.now moved.0 shown.now) }
+    ensures names { text.new.names ≡ text.old.names }
 {
-    push_new_withs(text, new, moved, &found.here, &shown.new_closed)?;
-    push_old_withs(text, old, &found.gone, &shown.old_closed)
+    push_new_withs(text, old, new, moved, &found.here, &shown.new_closed)?;
+    push_old_withs(text, old, new, &found.gone, &shown.old_closed)
 }

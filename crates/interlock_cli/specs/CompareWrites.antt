@@ -13,7 +13,7 @@ pub record WritesReport (old new : Diagram) (outcome : Outcome) (text : List ℕ
   pub report : CompareReport
   pub is_report : IsCompareReport old new report
   pub outcome_is : outcome ≡ done_or_differs (not report.extends)
-  pub text_is : text ≡ report.text
+  pub text_is : text ≡ report.lines.text
 
 -- One, or the walk of a switch of a bay of the new station is too wide, and nothing is written.
 abbrev pub CompareWrites : Diagram → Diagram → Outcome → List ℕ → Type 0

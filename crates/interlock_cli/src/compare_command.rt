@@ -22,10 +22,11 @@ fn compare_output(alloc: Global, old: &Station, new: &Station) -> Result<Output,
     ensures { IfOk result (λ o. CompareWrites old.now new.now o.outcome o.text) }
 {
     match compare_text(alloc, old, new) {
-        Ok(report) => Ok(Output {
-            outcome: outcome_of(!report.extends),
-            text: OutText::whole(report.text),
-        }),
+        Ok(report) => {
+            let outcome = outcome_of(!report.extends);
+            let text = OutText::named(alloc, report.lines)?;
+            Ok(Output { outcome, text })
+        }
         Err(CompareRefusal::Wide { bay }) => Ok(Output {
             outcome: Outcome::TooWide { bay },
             text: OutText::whole(Text::new(alloc)),

@@ -1,15 +1,24 @@
 //! The text of `compare`.
 use crate::drawn::{FED, JOINED, PARTED};
 use compare_text::compare_text;
+use piece_writer::NamedText;
 use station_graph::Station;
 use std::alloc::Global;
 use std::test::Fail;
 use test_stations::{Drawing, Example, drawing_of, station_of};
 
+// Whether the lines are this text.
+fn say(alloc: Global, lines: &NamedText, text: &str) -> bool {
+    match lines.whole(alloc) {
+        Ok(whole) => whole.bytes() == text.as_bytes(),
+        Err(_) => false,
+    }
+}
+
 // Whether the report of the stations is this text, and says so of an extension.
 fn reports(alloc: Global, old: &Station, new: &Station, text: &str, extends: bool) -> bool {
     match compare_text(alloc, old, new) {
-        Ok(report) => report.text.bytes() == text.as_bytes() && report.extends == extends,
+        Ok(report) => report.extends == extends && say(alloc, &report.lines, text),
         Err(_) => false,
     }
 }

@@ -1,4 +1,5 @@
 use Rattle.std.proofs.Common.{◌++◌, ℕ, Bool, List, length, ap, ◌∙◌}
+use Rattle.piece_writer.specs.Named.{Named}
 use Rattle.central_rules.specs.Names.{texts_below}
 use Rattle.compare_text.specs.CompareText.{found_at, gone_at, bay_lines}
 use Rattle.compare_text.proofs.text.comparison_text.Goals as goal
@@ -16,10 +17,10 @@ returns c =
       bays = bays;
       are = c.in_ok-bays.ensures;
       lines =
-          c.in_ok-push_bays.ensures
-          ∙ (ap (λ (t : List ℕ). t ++ last) (c.in_ok-push_all_gone.ensures
-          ∙ ap (λ (t : List ℕ). t ++ gone) (c.in_ok-push_here.ensures
-          ∙ ap (λ (t : List ℕ). t ++ here) c.new-text.ensures))
+          c.in_ok-push_bays.ensures.ok
+          ∙ (ap (λ (t : List ℕ). t ++ last) (c.in_ok-push_all_gone.ensures.ok
+          ∙ ap (λ (t : List ℕ). t ++ gone) (c.in_ok-push_here.ensures.ok
+          ∙ ap (λ (t : Named). t.text ++ here) c.new-text.ensures))
           ∙ ap (λ (gs : List Bool). (here ++ texts_below (gone_at o gs) (length o.switches)) ++ last)
           c.deref.ensures.value);
     }

@@ -1,4 +1,4 @@
-use Rattle.std.proofs.Common.{Option, sym, ap, arith}
+use Rattle.std.proofs.Common.{Option, sym, ap, ◌∙◌, arith}
 use Rattle.station_compare.specs.declared.found.Found.{Found}
 use Rattle.compare_text.specs.CompareText.{found_lines_of, found_at}
 use Rattle.compare_text.proofs.TextLemmas.{more, at_index}
@@ -17,7 +17,12 @@ loop-k-preserved c =
       c.loop-k-test.true,
       c.loop-k.auto.k-end,
       c.switch_count-k-end.ensures.count,
-      c.requires.here.count,
+      c.requires.comparison.here.count,
     )) in
-    more (found_at o n found) k c.args.text.now c.loop-k.text c.push_found.new.text _ c.loop-k.invariant
-    c.in_ok-push_found.ensures (sym (ap (λ (x : Option Found). found_lines_of o n found x k) at))
+    record {
+      text = more (found_at o n found) k c.args.text.now.text c.loop-k.text.text c.push_found.new.text.text _
+          c.loop-k.invariant.text c.in_ok-push_found.ensures.ok
+          (sym (ap (λ (x : Option Found). found_lines_of o n found x k) at));
+      names = c.push_found.ensures.names ∙ c.loop-k.invariant.names;
+      same = c.push_found.ensures.names ∙ c.loop-k.invariant.same;
+    }

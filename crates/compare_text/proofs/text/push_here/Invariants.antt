@@ -1,7 +1,12 @@
 use Rattle.std.proofs.Common.{◌≡◌, ◌++◌}
 use Rattle.central_rules.specs.Names.{texts_below}
+use Rattle.path_names.specs.Tables.{paths_of_both}
 use Rattle.compare_text.specs.CompareText.{found_at}
 use Rattle.compare_text.proofs.text.push_here.Given as goal
 
 abbrev pub invariant-loop-k : goal.invariant-loop-k
-invariant-loop-k l = l.text ≡ l.initial.text ++ texts_below (found_at l.old l.new l.found) l.k
+invariant-loop-k l = record {
+  text : l.text.text ≡ l.initial.text.text ++ texts_below (found_at l.old l.new l.found) l.k;
+  names : l.text.names ≡ paths_of_both l.old l.new;
+  same : l.text.names ≡ l.initial.text.names;
+}

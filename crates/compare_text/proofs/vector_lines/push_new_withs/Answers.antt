@@ -19,9 +19,13 @@ loop-k-preserved c =
       c.loop-k-test.true,
       c.loop-k.auto.k-end,
       c.switch_count-k-end.ensures.count,
-      c.requires,
+      c.requires.count,
     )) in
-    more (new_with_at n moved here closed) k c.args.text.now c.loop-k.text c.push_new_with.new.text _
-    c.loop-k.invariant c.in_ok-push_new_with.ensures
-    (ap (λ (b : Bool). new_with n moved f b k) c.is_set.ensures
-    ∙ sym (ap (λ (o : Option Found). new_with_of n moved o (slice_index_or closed k false) k) at))
+    record {
+      text = more (new_with_at n moved here closed) k c.args.text.now.text c.loop-k.text.text
+          c.push_new_with.new.text.text _ c.loop-k.invariant.text c.in_ok-push_new_with.ensures.ok
+          (ap (λ (b : Bool). new_with n moved f b k) c.is_set.ensures
+          ∙ sym (ap (λ (o : Option Found). new_with_of n moved o (slice_index_or closed k false) k) at));
+      names = c.push_new_with.ensures.names ∙ c.loop-k.invariant.names;
+      same = c.push_new_with.ensures.names ∙ c.loop-k.invariant.same;
+    }

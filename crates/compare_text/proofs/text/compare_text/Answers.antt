@@ -1,0 +1,9 @@
+use Rattle.compare_text.proofs.text.compare_text.Goals as goal
+
+pub returns-clause-report : goal.returns-clause-report
+returns-clause-report c = record {
+  found = c.in_ok-found.found;
+  is = c.in_ok-found.ensures.comparison;
+  text = c.in_ok-lines.ensures;
+  extends = c.extends-extends.ensures;
+}
