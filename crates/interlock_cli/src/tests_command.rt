@@ -18,15 +18,21 @@ use station_graph::Station;
 use std::alloc::Global;
 use tests_text::{station_tests_fit, station_tests_text, tests_fit, tests_text};
 
-// The text of the tests of a bay.
-fn text_of(alloc: Global, station: &Station, bay: BayId, tests: &BayTests) -> Result<Text, Memory>
+// The text of the tests of a bay, as it is written.
+fn text_of(
+    alloc: Global,
+    station: &Station,
+    bay: BayId,
+    tests: &BayTests,
+) -> Result<OutText, Memory>
     requires bay { IsBay station.now bay.0 }
     requires tests { AreTestsOf station.now bay.0 tests.now }
     ensures { IfOk result (IsTestsText station.now bay.0) }
 {
     // Its clause says that they fit the station; it does nothing.
     tests_fit();
-    let text = tests_text(alloc, station, bay, tests)?;
+    let lines = tests_text(alloc, station, bay, tests)?;
+    let text = OutText::named(alloc, lines)?;
     Ok(text)
 }
 
@@ -39,7 +45,7 @@ fn tests_output(alloc: Global, station: &Station, bay: BayId) -> Result<Output, 
     match bay_tests(alloc, station, bay) {
         Ok(tests) => Ok(Output {
             outcome: Outcome::Done,
-            text: OutText::whole(text_of(alloc, station, bay, &tests)?),
+            text: text_of(alloc, station, bay, &tests)?,
         }),
         Err(TestsRefusal::Wide { bay }) => Ok(Output {
             outcome: Outcome::TooWide { bay },
@@ -77,14 +83,15 @@ impl<'a> Answer for Tests<'a> {
     }
 }
 
-// The text of the tests of a station.
-fn all_text(alloc: Global, station: &Station, tests: &[SharedTests]) -> Result<Text, Memory>
+// The text of the tests of a station, as it is written.
+fn all_text(alloc: Global, station: &Station, tests: &[SharedTests]) -> Result<OutText, Memory>
     requires { AreStationTests station.now tests.now }
     ensures { IfOk result (IsStationTestsText station.now) }
 {
     // Its clause says that they fit the station; it does nothing.
     station_tests_fit();
-    let text = station_tests_text(alloc, station, tests)?;
+    let lines = station_tests_text(alloc, station, tests)?;
+    let text = OutText::named(alloc, lines)?;
     Ok(text)
 }
 
@@ -95,7 +102,7 @@ fn all_output(alloc: Global, station: &Station) -> Result<Output, Memory>
     match station_tests(alloc, station) {
         Ok(tests) => Ok(Output {
             outcome: Outcome::Done,
-            text: OutText::whole(all_text(alloc, station, &tests)?),
+            text: all_text(alloc, station, &tests)?,
         }),
         Err(TestsRefusal::Wide { bay }) => Ok(Output {
             outcome: Outcome::TooWide { bay },

@@ -7,6 +7,7 @@ ghost use Rattle.tests_text.specs.Fitting.{MoveFits, PositionFits, TestsFit};
 
 use commissioning_tests::{BayTests, TestMove, TestPosition};
 use ilk_base::{BayId, Direction, Memory, Op, Rule, SwitchId};
+use piece_writer::NamedText;
 use station_graph::Station;
 use std::alloc::Global;
 use std::test::Fail;
@@ -114,13 +115,21 @@ fn made_by_hand(alloc: Global) -> Result<BayTests, Memory>
     })
 }
 
+// Whether the lines are that text.
+fn is_text(alloc: Global, lines: &NamedText) -> bool {
+    match lines.whole(alloc) {
+        Ok(text) => text.bytes() == TEXT,
+        Err(_) => false,
+    }
+}
+
 // Whether their text is that above.
 fn says(alloc: Global, station: &Station, tests: &BayTests) -> bool
     requires bay { 0 < part_count station.now }
     requires fits { TestsFit station.now tests.now }
 {
     match tests_text(alloc, station, BayId(0), tests) {
-        Ok(text) => text.bytes() == TEXT,
+        Ok(lines) => is_text(alloc, &lines),
         Err(_) => false,
     }
 }

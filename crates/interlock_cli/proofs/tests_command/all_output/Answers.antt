@@ -7,5 +7,5 @@ returns-in-Err-Wide c =
       bay = c.in-Err-Wide.bay;
       too_wide = rw c.in-Err-Wide.field-0-is at c.in-Err-Wide.ensures.refusal;
       outcome_is = refl;
-      nothing = c.whole-in-Err-Wide.ensures ∙ c.new.ensures;
+      nothing = c.whole.ensures ∙ c.new.ensures;
     })

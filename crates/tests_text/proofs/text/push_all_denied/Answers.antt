@@ -1,4 +1,4 @@
-use Rattle.std.proofs.Common.{Option, None, arith}
+use Rattle.std.proofs.Common.{Option, None, arith, ◌∙◌}
 use Rattle.std.specs.List.{zip}
 use Rattle.std.proofs.lemmas.Option.{slice_get-get_or}
 use Rattle.ilk_base.specs.declared.words.Op.{Op}
@@ -15,16 +15,20 @@ loop-k-preserved c =
     let answers = c.args.answers.now in
     let k = c.loop-k.k in
     let any : Op = record { switch = record { 0 = 0 }; direction = ToOff } in
-    one_more (λ (p : Op × Option Rule). denied_line d p.0 p.1) (zip ops answers) k _ c.args.text.now c.loop-k.text
-    c.push_denied.new.text
-    (paired_at ops answers k _ _ (slice_get-get_or ops k any c.loop-k-test.true)
-    (slice_get-get_or answers k None (omega (arith, c.requires.answers, c.loop-k-test.true))))
-    c.loop-k.invariant c.in_ok-push_denied.ensures
+    record {
+      text = one_more (λ (p : Op × Option Rule). denied_line d p.0 p.1) (zip ops answers) k _ c.args.text.now.text c.loop-k.text.text
+          c.push_denied.new.text.text
+          (paired_at ops answers k _ _ (slice_get-get_or ops k any c.loop-k-test.true)
+          (slice_get-get_or answers k None (omega (arith, c.requires.answers, c.loop-k-test.true))))
+          c.loop-k.invariant.text c.in_ok-push_denied.ensures.ok;
+      names = c.push_denied.ensures.names ∙ c.loop-k.invariant.names;
+      same = c.push_denied.ensures.names ∙ c.loop-k.invariant.same;
+    }
 
-pub returns : goal.returns
-returns c =
+pub returns-clause-ok : goal.returns-clause-ok
+returns-clause-ok c =
     let d = c.args.station.now in
     let ops = c.args.ops.now in
     let answers = c.args.answers.now in
-    all_lines (λ (p : Op × Option Rule). denied_line d p.0 p.1) (zip ops answers) c.loop-k.k c.args.text.now
-    c.loop-k.text (paired_end ops answers c.loop-k.k c.loop-k-test.false) c.loop-k.invariant
+    all_lines (λ (p : Op × Option Rule). denied_line d p.0 p.1) (zip ops answers) c.loop-k.k c.args.text.now.text
+    c.loop-k.text.text (paired_end ops answers c.loop-k.k c.loop-k-test.false) c.loop-k.invariant.text
