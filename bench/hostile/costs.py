@@ -12,7 +12,9 @@ status is 1 where one is over.
 - chosen names: keys of nodes that all have one hash under the standard library's hash with its fixed seed, and as many
   keys beside them that do not. Both have the same bound
 - long names: 64 bays of 8 switches below one name of up to 8,000 bytes, with nothing known: each line of an answer
-  repeats it, so that `check` writes 2 GB and `audit` 1 GB, in pieces, of which they hold one at a time
+  repeats it, so that `check` writes 2 GB and `audit` 1 GB, in pieces, of which they hold one at a time; and so do `tests`
+  of them and `compare`, here with an earthing switch on their busbar, and 0.3 GB of a row of 192 disconnectors, of which
+  each position names all
 - floods: a million frames, ticks, commands, readings or changes of the record to one node; 3,000 lines to a stored one,
   whose changes go to the disk; a log of 20,000 records in which 64 bays send one another messages
 """
@@ -99,8 +101,12 @@ def chosen_names():
 
 # ---- long names
 
-def bays_below(name):
-    """64 bays of 4 infeeds and 4 disconnectors on one busbar, below a voltage level of this name. Keys are short."""
+EARTHED = '<Terminal cNodeName="grounded"/>'
+
+
+def bays_below(name, count=64, more=""):
+    """So many bays of 4 infeeds and 4 disconnectors on one busbar, below a voltage level of this name, with more in the
+    bay of the busbar. Keys are short."""
     def node(bay, node):
         return f'<ConnectivityNode name="{node}" pathName="{bay}/{node}"/>'
 
@@ -108,11 +114,38 @@ def bays_below(name):
         keys, kind = ((f"{bay}/{number}",), "IFL") if number < 4 else (("W/B", f"{bay}/{number - 4}"), "DIS")
         ends = "".join(f'<Terminal connectivityNode="{key}"/>' for key in keys)
         return f'<ConductingEquipment name="D{number}" type="{kind}">{ends}</ConductingEquipment>'
-    bays = [f'<Bay name="W">{node("W", "B")}</Bay>']
-    for count in range(64):
-        items = "".join(node(count, number) for number in range(4)) + "".join(switch(count, number) for number in range(8))
-        bays.append(f'<Bay name="{count}">{items}</Bay>')
+    bays = [f'<Bay name="W">{node("W", "B")}{more}</Bay>']
+    for place in range(count):
+        items = "".join(node(place, number) for number in range(4)) + "".join(switch(place, number) for number in range(8))
+        bays.append(f'<Bay name="{place}">{items}</Bay>')
     return f'<SCL><Substation name="S"><VoltageLevel name="{name}">{"".join(bays)}</VoltageLevel></Substation></SCL>'
+
+
+def equipment(name, kind, ends):
+    """A piece of equipment at these ends."""
+    return f'<ConductingEquipment name="{name}" type="{kind}">{"".join(ends)}</ConductingEquipment>'
+
+
+def end(key):
+    return f'<Terminal connectivityNode="{key}"/>'
+
+
+def earthing(key):
+    """An earthing switch at this node."""
+    return equipment("E", "DIS", [end(key), EARTHED])
+
+
+def row_below(name, bays, last=""):
+    """A row of bays of 8 disconnectors, one behind the other, below a voltage level of this name: at its head an infeed,
+    and this at its end."""
+    keys = [f"{bay}/{number}" for bay in range(bays) for number in range(8)] + ["W/B"]
+    parts = []
+    for bay in range(bays):
+        nodes = "".join(f'<ConnectivityNode name="{number}" pathName="{bay}/{number}"/>' for number in range(8))
+        items = "".join(equipment(f"D{number}", "DIS", [end(keys[8 * bay + number]), end(keys[8 * bay + number + 1])]) for number in range(8))
+        parts.append(f'<Bay name="{bay}">{nodes}{items}</Bay>')
+    parts.append(f'<Bay name="W"><ConnectivityNode name="B" pathName="W/B"/>{equipment("I", "IFL", [end(keys[0])])}{last}</Bay>')
+    return f'<SCL><Substation name="S"><VoltageLevel name="{name}">{"".join(parts)}</VoltageLevel></Substation></SCL>'
 
 
 def paths_below(name):
@@ -131,6 +164,14 @@ def long_names():
         files["b"] = "".join(f"{move} {path}\nend\n" for path in paths_below("V" * (8_000 // part)) for move in ("open", "close")).encode()[:LONGEST]
         files["b"] = files["b"][:files["b"].rfind(b"end\n") + 4]
         yield Case("audit: a block without conditions for each operation there", ["audit", "a", "b"], files, b"", 1, 1, 16)
+    for part in PARTS:
+        name = "V" * (8_000 // part)
+        files = {"a": bays_below(name).encode()}
+        yield Case("tests: 64 bays of 8 switches below a long name", ["tests", "a"], files, b"", 0)
+        files = {"a": bays_below(name, 63).encode(), "b": bays_below(name, 63, earthing("W/B")).encode()}
+        yield Case("compare: 63 such bays, and an earthing switch more", ["compare", "a", "b"], files, b"", 1, None, 256)
+        files = {"a": row_below(name, 24).encode(), "b": row_below(name, 24, earthing("W/B")).encode()}
+        yield Case("compare: a row of 192 disconnectors there, and one more", ["compare", "a", "b"], files, b"", 0, None, 16)
     for part in PARTS:
         files = {"a": schemes.sections_in_turn(60 // part).drawing().encode()}
         yield Case(f"compile: two sections of {60 // part} feeders in turn", ["compile", "a"], files, b"", 0, by_edges=True)
