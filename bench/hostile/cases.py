@@ -69,6 +69,7 @@ class Form(NamedTuple):
 FORMS = {
     "check": Form(3, "station positions", "station station station positions positions", {0, 5, 6}),
     "explain": Form(2, "station positions direction switch", "station station positions switch", {0, 2, 5, 6}),
+    "why": Form(2, "station positions direction switch", "station station positions switch", {0, 2, 5, 6}),
     "state": Form(2, "station positions", "station station station positions positions", {0, 5, 6}),
     "order": Form(2, "station known order", "station station known order order order", {0, 1, 5, 6}),
     "replay": Form(3, "station log", "station log log log", {0, 5, 6, 7}),
@@ -79,7 +80,7 @@ FORMS = {
     "plan": Form(1, "station", "station", {0, 5}),
     "compile": Form(1, "station", "station", {0, 5}),
     "station": Form(2, "station", "station", {0, 1, 5}),
-    "program": Form(1, "station", "station", {0, 5}),
+    "program": Form(1, "station bay", "station station bay", {0, 2, 5, 6}),
     "compare": Form(1, "old station", "station station old", {0, 1, 5}),
     "tests": Form(1, "old bay", "old old old bay", {0, 2, 5, 6}),
     "make": Form(1, "number text", "number number text", {0, 2}),

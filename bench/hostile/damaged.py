@@ -37,7 +37,7 @@ PROGRAM = TOP / "crates/interlock/out/interlock"
 SECONDS, PART = 60, 500
 
 # The line of each status on standard error.
-STATION = rb"([1-9]|1[0134]) at \d+|12 at \d+ count \d+|15 limit \d+ count \d+|16 part \d+ step \d+|17 bay \d+"
+STATION = rb"([1-9]|1[0134]) at \d+|12 at \d+ count \d+|15 limit \d+ count \d+|16 part \d+ step \d+|1[78] bay \d+"
 LINE = {
     0: rb"", 1: rb"", 2: rb"interlock: usage\n", 4: rb"interlock: write fault\n",
     5: rb"interlock: station refused (" + STATION + rb")\n",
