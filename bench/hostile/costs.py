@@ -169,7 +169,7 @@ def long_names():
         files = {"a": bays_below(name).encode()}
         yield Case("tests: 64 bays of 8 switches below a long name", ["tests", "a"], files, b"", 0)
         files = {"a": bays_below(name, 63).encode(), "b": bays_below(name, 63, earthing("W/B")).encode()}
-        yield Case("compare: 63 such bays, and an earthing switch more", ["compare", "a", "b"], files, b"", 1, None, 256)
+        yield Case("compare: 63 such bays, and an earthing switch more", ["compare", "a", "b"], files, b"", 0, None, 256)
         files = {"a": row_below(name, 24).encode(), "b": row_below(name, 24, earthing("W/B")).encode()}
         yield Case("compare: a row of 192 disconnectors there, and one more", ["compare", "a", "b"], files, b"", 0, None, 16)
     for part in PARTS:
