@@ -27,3 +27,6 @@ pub mod OneViewLemmas
 pub mod SelectionLemmas
 pub mod MappedLemmas
 pub mod ByteLemmas
+pub mod FirstLemmas
+pub mod ReadLemmas
+pub mod TextLemmas

@@ -10,6 +10,11 @@ slice_get-set_same [] i b h = absurd (omega (arith, h))
 slice_get-set_same (x ∷ xs) zero b h = refl
 slice_get-set_same (x ∷ xs) (suc i) b h = slice_get-set_same xs i b (omega arith)
 
+-- what follows from a fact of whatever value is there
+pub if_ok : {X Y : Type 0} (r : Result X Y) (P Q : X → Type 0) → ((x : X) → P x → Q x) → IfOk r P → IfOk r Q
+if_ok (Ok x) P Q h p = h x p
+if_ok (Err e) P Q h p = tt
+
 -- two facts of whatever value is there are one
 pub if_ok_both : {X Y : Type 0} (r : Result X Y) (P Q R : X → Type 0) → ((x : X) → P x → Q x → R x) → IfOk r P →
     IfOk r Q → IfOk r R

@@ -1,17 +1,17 @@
 -- Rows tell lists apart, and answers tell lists apart.
 use Rattle.std.proofs.Common.{◌≡◌, ℕ, ◌+◌, ◌*◌, ◌<◌, ◌/◌, ◌%◌, ◌↔◌, suc, Bool, true, false, List, [], ◌∷◌, ◌++◌, length}
-use Rattle.std.proofs.Common.{slice_get, slice_index, Some, refl, sym, ◌∙◌, ap, arith, append_assoc}
+use Rattle.std.proofs.Common.{zero, map, eqb, slice_get, slice_index, Some, refl, sym, ◌∙◌, ap, arith, append_assoc}
 use Rattle.std.proofs.lemmas.Option.{slice_get_within, slice_get-get_or}
 use Rattle.contraction.specs.Answers.{Answers, IsAt, Keeps, SameAt, MarkedAt, AreLabels, IsContraction}
 use Rattle.station_graph.specs.Nodes.{Rises}
 use Rattle.contraction.specs.Rows.{words, flag, flags, gap_bytes, load_bytes, gap_row, load_row, whole_row}
 use Rattle.contraction.proofs.RestrictLemmas.{same_at_places, marked_at_place}
 
-length-words : (xs : List ℕ) → length (words xs) ≡ 2 * length xs
+pub length-words : (xs : List ℕ) → length (words xs) ≡ 2 * length xs
 length-words [] = refl
 length-words (x ∷ xs) = omega (arith, length-words xs)
 
-length-flags : (bs : List Bool) → length (flags bs) ≡ length bs
+pub length-flags : (bs : List Bool) → length (flags bs) ≡ length bs
 length-flags [] = refl
 length-flags (b ∷ bs) = ap suc (length-flags bs)
 
@@ -219,7 +219,7 @@ module _ (x y : Answers) (wx : IsContraction x) (wy : IsContraction y) where
       (words_same x.kept y.kept b.0, gap_bytes_tell x y wx wy same b.1, load_bytes_tell x y wx wy same a.1)
 
 -- lists of one length with the same entries are equal
-same_entries : (xs ys : List ℕ) → length xs ≡ length ys →
+pub same_entries : (xs ys : List ℕ) → length xs ≡ length ys →
     ((k : ℕ) → k < length xs → slice_index xs k ≡ slice_index ys k) → xs ≡ ys
 same_entries [] [] e h = refl
 same_entries [] (y ∷ ys) e h = absurd (omega (arith, e))
@@ -298,3 +298,23 @@ push_two a w h l = simp append_assoc
 
 pub push_one : (a w : List ℕ) (h : ℕ) → (a ++ w) ++ h ∷ [] ≡ a ++ (w ++ h ∷ [])
 push_one a w h = simp append_assoc
+
+-- the two bytes of a number among those of a list, and the bits of bytes
+pub word_high : (xs : List ℕ) (i : ℕ) → slice_index (words xs) (2 * i) ≡ slice_index xs i / 256
+word_high [] i = refl
+word_high (x ∷ xs) zero = refl
+word_high (x ∷ xs) (suc i) =
+    let e : 2 * suc i ≡ suc (suc (2 * i)) = omega arith in
+    ap (slice_index (words (x ∷ xs))) e ∙ word_high xs i
+
+pub word_low : (xs : List ℕ) (i : ℕ) → slice_index (words xs) (2 * i + 1) ≡ slice_index xs i % 256
+word_low [] i = refl
+word_low (x ∷ xs) zero = refl
+word_low (x ∷ xs) (suc i) =
+    let e : 2 * suc i + 1 ≡ suc (suc (2 * i + 1)) = omega arith in
+    ap (slice_index (words (x ∷ xs))) e ∙ word_low xs i
+
+pub bits_back : (bs : List Bool) → map (λ (b : ℕ). eqb b 1) (flags bs) ≡ bs
+bits_back [] = refl
+bits_back (true ∷ bs) = ap (λ (l : List Bool). true ∷ l) (bits_back bs)
+bits_back (false ∷ bs) = ap (λ (l : List Bool). false ∷ l) (bits_back bs)

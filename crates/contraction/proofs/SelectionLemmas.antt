@@ -1,22 +1,17 @@
 -- Two values on a selection of the nodes that they keep: what is proved of their fields holds of their answers.
-use Rattle.std.proofs.Common.{◌≡◌, ℕ, ◌⊎◌, ◌≤◌, ◌++◌, List, length, sym, ◌∙◌, ap, subst, arith}
+use Rattle.std.proofs.Common.{◌≡◌, ℕ, ◌⊎◌, ◌≤◌, List, length, sym, ◌∙◌, ap, subst, arith}
 use Rattle.std.specs.Prelude.{Contains}
 use Rattle.station_graph.specs.declared.limits.TheConstants.{NODES}
-use Rattle.contraction.specs.declared.row.Row.{Row}
 use Rattle.contraction.specs.declared.layout.Layout.{Layout}
 use Rattle.contraction.specs.declared.value.Contraction.TheInside.{Inside}
 use Rattle.contraction.specs.declared.selection.Selection.TheInside.{Inside as Chosen}
 use Rattle.contraction.specs.Answers.{Answers, Keeps, AreLabels, IsContraction}
 use Rattle.contraction.specs.Inside.{answers_of, selected_of, IsLaid}
-use Rattle.contraction.specs.Single.{AreAlone}
 use Rattle.contraction.specs.Merging.{LabelsFit, RowFits}
-use Rattle.contraction.specs.Composing.{IsGapOfBoth, IsLoadOfBoth, IsGapRowOfBoth, IsLoadRowOfBoth}
-use Rattle.contraction.specs.Renaming.{renamed}
-use Rattle.contraction.specs.Rows.{words, row_bytes, bonded_bytes}
-use Rattle.contraction.specs.Selecting.{Selected, IsLayout, LayoutFits, RowSelected, LabelsSelected}
+use Rattle.contraction.specs.Composing.{IsGapRowOfBoth, IsLoadRowOfBoth}
+use Rattle.contraction.specs.Selecting.{Selected, IsLayout, LayoutFits, IsGapText, IsLoadText}
 use Rattle.contraction.proofs.MergeLemmas.{merged_nodes, few_nodes, rises_short}
-use Rattle.contraction.proofs.OneViewLemmas.{IsBare, bare_of, gap_of_both, load_of_both, gap_row_of_both}
-use Rattle.contraction.proofs.OneViewLemmas.{load_row_of_both}
+use Rattle.contraction.proofs.OneViewLemmas.{gap_row_of_both, load_row_of_both}
 
 -- what is seen of the values is theirs
 inside_seen : (x y sx sy : Answers) (nodes : List ℕ) → x ≡ sx → y ≡ sy →
@@ -25,21 +20,6 @@ inside_seen : (x y sx sy : Answers) (nodes : List ℕ) → x ≡ sx → y ≡ sy
 inside_seen x y sx sy nodes ex ey h n has =
     subst (λ (z : Answers). Keeps x.kept n ⊎ Keeps z.kept n) (sym ey)
     (subst (λ (z : Answers). Keeps z.kept n ⊎ Keeps sy.kept n) (sym ex) (h n has))
-
-gap_seen : (nodes : List ℕ) (x y sx sy z : Answers) → x ≡ sx → y ≡ sy → IsGapOfBoth nodes x y z →
-    IsGapOfBoth nodes sx sy z
-gap_seen nodes x y sx sy z ex ey h =
-    subst (λ l. IsGapOfBoth nodes l sy z) ex (subst (λ l. IsGapOfBoth nodes x l z) ey h)
-
-load_seen : (nodes : List ℕ) (x y sx sy z : Answers) → x ≡ sx → y ≡ sy → IsLoadOfBoth nodes x y z →
-    IsLoadOfBoth nodes sx sy z
-load_seen nodes x y sx sy z ex ey h =
-    subst (λ l. IsLoadOfBoth nodes l sy z) ex (subst (λ l. IsLoadOfBoth nodes x l z) ey h)
-
-pub labels_seen : (s : Layout) (a a1 b b1 labels : List ℕ) → a ≡ a1 → b ≡ b1 → LabelsSelected s a b labels →
-    LabelsSelected s a1 b1 labels
-labels_seen s a a1 b b1 labels ea eb h =
-    subst (λ l. LabelsSelected s l b1 labels) ea (subst (λ l. LabelsSelected s a l labels) eb h)
 
 gap_row_seen : (nodes bytes : List ℕ) (x y sx sy : Answers) → x ≡ sx → y ≡ sy → IsGapRowOfBoth nodes x y bytes →
     IsGapRowOfBoth nodes sx sy bytes
@@ -68,9 +48,6 @@ module _ (x y : Inside) (wx : IsContraction (answers_of x)) (wy : IsContraction 
         omega (arith, layout_few));
     inside = is.places.below;
   }
-
-  pub kept_few : length s.kept.items ≤ NODES
-  kept_few = omega (arith, layout_fits.fewer, is.kept.len)
 
   pub first_labels_fit : (l : List ℕ) → AreLabels (length x.kept.items) l →
       LabelsFit s.union.first.items (length s.union.kept.items) l
@@ -130,45 +107,18 @@ module _ (x y : Inside) (t : Chosen) (sx sy : Answers) (s : Selected) (wx : IsCo
       (subst (λ l. IsLayout x.kept.items l t.nodes.items t.layout) second
       (subst (λ l. IsLayout l t.second.items t.nodes.items t.layout) first laid))
 
-  module _ (inside : (n : ℕ) → Contains s.nodes n → Keeps sx.kept n ⊎ Keeps sy.kept n) (row : Row)
-      (bytes : List ℕ) where
-    pub gap_row_on : RowSelected t.layout x.gap y.gap row → bytes ≡ words t.layout.kept.items ++ row_bytes row →
-        IsGapRowOfBoth s.nodes sx sy bytes
-    gap_row_on h is =
+  module _ (inside : (n : ℕ) → Contains s.nodes n → Keeps sx.kept n ⊎ Keeps sy.kept n) (bytes : List ℕ) where
+    pub gap_row_on : IsGapText t.layout x.gap y.gap bytes → IsGapRowOfBoth s.nodes sx sy bytes
+    gap_row_on h =
         gap_row_seen s.nodes bytes (answers_of x) (answers_of y) sx sy ex ey
         (gap_row_of_both x y wx wy s.nodes t.layout laid_on
-        (inside_seen (answers_of x) (answers_of y) sx sy s.nodes ex ey inside) row h bytes is)
+        (inside_seen (answers_of x) (answers_of y) sx sy s.nodes ex ey inside) bytes h)
 
-    pub load_row_on : (bonded : List ℕ) → RowSelected t.layout x.load y.load row →
-        LabelsSelected t.layout x.bonded y.bonded bonded →
-        bytes ≡ words t.layout.kept.items ++ bonded_bytes row bonded → IsLoadRowOfBoth s.nodes sx sy bytes
-    load_row_on bonded h k is =
+    pub load_row_on : (a b : List ℕ) → a ≡ x.bonded → b ≡ y.bonded →
+        IsLoadText t.layout x.load y.load a b bytes → IsLoadRowOfBoth s.nodes sx sy bytes
+    load_row_on a b ea eb h =
         load_row_seen s.nodes bytes (answers_of x) (answers_of y) sx sy ex ey
         (load_row_of_both x y wx wy s.nodes t.layout laid_on
-        (inside_seen (answers_of x) (answers_of y) sx sy s.nodes ex ey inside) row bonded h k bytes is)
-
-  module _ (inside : (n : ℕ) → Contains s.nodes n → Keeps sx.kept n ⊎ Keeps sy.kept n) (kept : List ℕ)
-      (is_kept : kept ≡ t.layout.kept.items) (count : ℕ) (is_count : count ≡ length t.layout.kept.items)
-      (row other : Row) (bonded : List ℕ) (bare : IsBare count other) where
-    pub gap_on : RowSelected t.layout x.gap y.gap row → AreAlone count bonded →
-        IsGapOfBoth s.nodes sx sy
-        (renamed kept (answers_of (record { kept = t.layout.kept; gap = row; load = other; bonded = bonded })))
-    gap_on h apart =
-        let z : Answers = answers_of (record { kept = t.layout.kept; gap = row; load = other; bonded = bonded }) in
-        subst (λ l. IsGapOfBoth s.nodes sx sy (renamed l z)) (sym is_kept)
-        (gap_seen s.nodes (answers_of x) (answers_of y) sx sy z ex ey
-        (gap_of_both x y wx wy s.nodes t.layout laid_on
-        (inside_seen (answers_of x) (answers_of y) sx sy s.nodes ex ey inside) row h other bonded
-        (bare_of (length t.layout.kept.items) count other is_count bare)
-        (subst (λ n. AreAlone n bonded) is_count apart)))
-
-    pub load_on : RowSelected t.layout x.load y.load row → LabelsSelected t.layout x.bonded y.bonded bonded →
-        IsLoadOfBoth s.nodes sx sy
-        (renamed kept (answers_of (record { kept = t.layout.kept; gap = other; load = row; bonded = bonded })))
-    load_on h k =
-        let z : Answers = answers_of (record { kept = t.layout.kept; gap = other; load = row; bonded = bonded }) in
-        subst (λ l. IsLoadOfBoth s.nodes sx sy (renamed l z)) (sym is_kept)
-        (load_seen s.nodes (answers_of x) (answers_of y) sx sy z ex ey
-        (load_of_both x y wx wy s.nodes t.layout laid_on
-        (inside_seen (answers_of x) (answers_of y) sx sy s.nodes ex ey inside) row bonded h k other
-        (bare_of (length t.layout.kept.items) count other is_count bare)))
+        (inside_seen (answers_of x) (answers_of y) sx sy s.nodes ex ey inside) bytes
+        (subst (λ l. IsLoadText t.layout x.load y.load x.bonded l bytes) eb
+        (subst (λ l. IsLoadText t.layout x.load y.load l b bytes) ea h)))

@@ -111,6 +111,11 @@ pub record LabelsFit (places : List ℕ) (count : ℕ) (labels : List ℕ) : Typ
   pub inside : (k : ℕ) → k < length places → slice_index places k < count
   pub below : (k : ℕ) → k < length places → slice_index labels k ≤ k
 
+-- The marks stand at these places, which are so many.
+pub record MarksFit (places : List ℕ) (count : ℕ) (marks : List Bool) : Type 0 where
+  pub len : length marks ≡ length places
+  pub inside : (k : ℕ) → k < length places → slice_index places k < count
+
 -- The labels and marks of the row are those of so many places.
 pub record RowFits (places : List ℕ) (count : ℕ) (row : Row) : Type 0 where
   pub labels : LabelsFit places count row.labels

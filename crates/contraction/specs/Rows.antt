@@ -1,6 +1,6 @@
 -- The rows of a contraction, as bytes.
-use Rattle.std.specs.Prelude.{ℕ, ◌/◌, ◌%◌, Bool, List, [], ◌∷◌, ◌++◌, true, false}
-use Rattle.contraction.specs.Answers.{Answers}
+use Rattle.std.specs.Prelude.{◌≡◌, ℕ, ◌/◌, ◌%◌, Bool, List, [], ◌∷◌, ◌++◌, true, false}
+use Rattle.contraction.specs.Answers.{Answers, IsContraction}
 use Rattle.contraction.specs.declared.row.Row.{Row}
 
 -- Two bytes for each number, the higher one first.
@@ -45,3 +45,15 @@ load_row c = words c.kept ++ load_bytes c
 -- The kept nodes and all answers.
 abbrev pub whole_row : Answers → List ℕ
 whole_row c = words c.kept ++ gap_bytes c ++ load_bytes c
+
+-- The bytes are the gap row of a contraction.
+pub record IsGapRow (bytes : List ℕ) : Type 0 where
+  pub value : Answers
+  pub contraction : IsContraction value
+  pub row : bytes ≡ gap_row value
+
+-- The bytes are the load row of a contraction.
+pub record IsLoadRow (bytes : List ℕ) : Type 0 where
+  pub value : Answers
+  pub contraction : IsContraction value
+  pub row : bytes ≡ load_row value

@@ -1,10 +1,12 @@
 -- Some of the nodes of a merged list, and what two rows together say of them.
-use Rattle.std.specs.Prelude.{ℕ, ◌<◌, ◌≤◌, List, length, slice_index}
+use Rattle.std.specs.Prelude.{◌≡◌, ℕ, ◌<◌, ◌≤◌, Bool, List, ◌++◌, length, slice_index}
 use Rattle.station_graph.specs.declared.limits.TheConstants.{NODES}
 use Rattle.contraction.specs.declared.row.Row.{Row}
 use Rattle.contraction.specs.declared.layout.Layout.{Layout}
+use Rattle.contraction.specs.declared.few_rows.TheConstants.{FEW}
 use Rattle.contraction.specs.Merging.{IsMerged, LabelsOfBoth}
-use Rattle.contraction.specs.Restricting.{PlacesOf, Picks, LabelsRestrict, RowOfBothAt}
+use Rattle.contraction.specs.Restricting.{PlacesOf, Picks, LabelsRestrict, MarksAt, RowOfBothAt}
+use Rattle.contraction.specs.Rows.{words, flags}
 
 -- The kept nodes of two contractions, and the nodes that are asked for.
 pub record Selected : Type 0 where
@@ -17,6 +19,7 @@ pub record IsLayout (first second nodes : List ℕ) (s : Layout) : Type 0 where
   pub merged : IsMerged first second s.union.kept.items s.union.first.items s.union.second.items
   pub places : PlacesOf nodes s.union.kept.items s.places.items
   pub kept : Picks s.union.kept.items s.places.items s.kept.items
+  pub bytes : s.bytes ≡ words s.kept.items
 
 -- There are at most as many nodes as a station has, and the selected places are among them.
 pub record LayoutFits (s : Layout) : Type 0 where
@@ -33,3 +36,56 @@ pub record LabelsSelected (s : Layout) (x y labels : List ℕ) : Type 0 where
   pub wide : List ℕ
   pub composes : LabelsOfBoth s.union.first.items x s.union.second.items y (length s.union.kept.items) wide
   pub restricts : LabelsRestrict wide s.places.items labels
+
+-- It has few places.
+pub record IsSmall (s : Layout) : Type 0 where
+  pub all : length s.union.kept.items ≤ FEW
+  pub some : length s.places.items ≤ FEW
+
+-- To the text are added the labels of these places, of which the first list has those of all.
+pub record AddsLabels (wide places old new : List ℕ) : Type 0 where
+  pub labels : List ℕ
+  pub restricts : LabelsRestrict wide places labels
+  pub bytes : new ≡ old ++ words labels
+
+-- To the text are added the labels of two lists together, on the selected places.
+pub record AddsBonds (s : Layout) (x y old new : List ℕ) : Type 0 where
+  pub wide : List ℕ
+  pub composes : LabelsOfBoth s.union.first.items x s.union.second.items y (length s.union.kept.items) wide
+  pub added : AddsLabels wide s.places.items old new
+
+-- To the text are added the marks of two lists together, on the selected places, where all have these labels.
+pub record AddsMarks (s : Layout) (wide : List ℕ) (x y : List Bool) (old new : List ℕ) : Type 0 where
+  pub marks : List Bool
+  pub are : MarksAt wide s.places.items s.union.first.items x s.union.second.items y marks
+  pub bytes : new ≡ old ++ flags marks
+
+-- The text has the selected nodes, and the labels and marks of two rows together on them.
+pub record IsGapText (s : Layout) (x y : Row) (text : List ℕ) : Type 0 where
+  pub wide : List ℕ
+  pub labels : List ℕ
+  pub first : List Bool
+  pub second : List Bool
+  pub composes : LabelsOfBoth s.union.first.items x.labels s.union.second.items y.labels (length s.union.kept.items)
+      wide
+  pub restricts : LabelsRestrict wide s.places.items labels
+  pub firsts : MarksAt wide s.places.items s.union.first.items x.first.items s.union.second.items y.first.items first
+  pub seconds : MarksAt wide s.places.items s.union.first.items x.second.items s.union.second.items y.second.items
+      second
+  pub bytes : text ≡ s.bytes ++ words labels ++ flags first ++ flags second
+
+-- The same with the labels of the bonds of both, which stand beside those of the rows.
+pub record IsLoadText (s : Layout) (x y : Row) (x_bonds y_bonds text : List ℕ) : Type 0 where
+  pub wide : List ℕ
+  pub labels : List ℕ
+  pub bonds : List ℕ
+  pub first : List Bool
+  pub second : List Bool
+  pub composes : LabelsOfBoth s.union.first.items x.labels s.union.second.items y.labels (length s.union.kept.items)
+      wide
+  pub restricts : LabelsRestrict wide s.places.items labels
+  pub bonded : LabelsSelected s x_bonds y_bonds bonds
+  pub firsts : MarksAt wide s.places.items s.union.first.items x.first.items s.union.second.items y.first.items first
+  pub seconds : MarksAt wide s.places.items s.union.first.items x.second.items s.union.second.items y.second.items
+      second
+  pub bytes : text ≡ s.bytes ++ words labels ++ words bonds ++ flags first ++ flags second

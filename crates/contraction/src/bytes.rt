@@ -11,7 +11,7 @@ use station_graph::NodeList;
 use std::alloc::Global;
 
 // Appends two bytes for each of a few numbers, the higher one first, all in one piece.
-fn push_few_words(text: &mut Text, row: &[u16]) -> Result<(), Memory>
+pub(crate) fn push_few_words(text: &mut Text, row: &[u16]) -> Result<(), Memory>
     requires { length row.now ≤ 32 }
     ensures { IfOk result (λ _. text.new ≡ text.old ++ words row.now) }
 {
@@ -35,7 +35,7 @@ fn push_many_words(text: &mut Text, row: &[u16]) -> Result<(), Memory>
 
 // Appends two bytes for each number, the higher one first. Nearly all rows are short, and are appended
 // by one call.
-fn push_words(text: &mut Text, row: &[u16]) -> Result<(), Memory>
+pub(crate) fn push_words(text: &mut Text, row: &[u16]) -> Result<(), Memory>
     ensures { IfOk result (λ _. text.new ≡ text.old ++ words row.now) }
 {
     if row.len() <= 32 {
@@ -52,7 +52,7 @@ fn byte_of(bit: bool) -> u8
 }
 
 // Appends one byte for each of a few bits, all in one piece.
-fn push_few_flags(text: &mut Text, row: &[bool]) -> Result<(), Memory>
+pub(crate) fn push_few_flags(text: &mut Text, row: &[bool]) -> Result<(), Memory>
     requires { length row.now ≤ 32 }
     ensures { IfOk result (λ _. text.new ≡ text.old ++ flags row.now) }
 {
@@ -74,7 +74,7 @@ fn push_many_flags(text: &mut Text, row: &[bool]) -> Result<(), Memory>
 }
 
 // Appends one byte for each bit; those of a short row by one call.
-fn push_flags(text: &mut Text, row: &[bool]) -> Result<(), Memory>
+pub(crate) fn push_flags(text: &mut Text, row: &[bool]) -> Result<(), Memory>
     ensures { IfOk result (λ _. text.new ≡ text.old ++ flags row.now) }
 {
     if row.len() <= 32 {
@@ -83,7 +83,9 @@ fn push_flags(text: &mut Text, row: &[bool]) -> Result<(), Memory>
     push_many_flags(text, row)
 }
 
-// How many bytes the gap row, the load row and the row of both views have for each kept node.
+// How many bytes the nodes alone, the gap row, the load row and the row of both views have for each kept node.
+pub(crate) const KEPT_BYTES: usize = 2;
+
 pub(crate) const GAP_BYTES: usize = 6;
 
 pub(crate) const LOAD_BYTES: usize = 8;

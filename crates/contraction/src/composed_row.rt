@@ -1,13 +1,90 @@
 //! The row of one view of two contractions together.
-ghost use Rattle.std.specs.Prelude.{◌≡◌, ◌⊎◌, ℕ, IfOk, Contains};
+ghost use Rattle.std.specs.Prelude.{◌≡◌, ◌⊎◌, ℕ, length, IfOk, Contains};
 ghost use Rattle.contraction.specs.Answers.{Keeps};
+ghost use Rattle.contraction.specs.Merging.{LabelsFit, RowFits};
+ghost use Rattle.contraction.specs.Selecting.{LayoutFits, IsGapText, IsLoadText};
 ghost use Rattle.contraction.specs.Composing.{IsGapRowOfBoth, IsLoadRowOfBoth};
 
-use crate::bytes::{GAP_BYTES, LOAD_BYTES, bytes_from};
+use crate::bytes::{GAP_BYTES, LOAD_BYTES};
+use crate::layout::Layout;
+use crate::row::Row;
 use crate::selection::Selection;
 use crate::value::Contraction;
 use ilk_base::{Memory, Text};
 use std::alloc::Global;
+
+impl Layout {
+    // The selected nodes and the rows of both lists on them, however many they are.
+    fn wide_gap_text(&self, alloc: Global, x: &Row, y: &Row) -> Result<Text, Memory>
+        requires fits { LayoutFits self.now }
+        requires first { RowFits self.now.union.first.items (length self.now.union.kept.items) x.now }
+        requires second { RowFits self.now.union.second.items (length self.now.union.kept.items) y.now }
+        ensures { IfOk result (IsGapText self.now x.now y.now) }
+    {
+        let row = self.row(alloc, x, y)?;
+        let mut text = self.start(alloc, GAP_BYTES)?;
+        row.push_to(&mut text)?;
+        Ok(text)
+    }
+
+    // The selected nodes and the rows of both lists on them.
+    fn gap_text(&self, alloc: Global, x: &Row, y: &Row) -> Result<Text, Memory>
+        requires fits { LayoutFits self.now }
+        requires first { RowFits self.now.union.first.items (length self.now.union.kept.items) x.now }
+        requires second { RowFits self.now.union.second.items (length self.now.union.kept.items) y.now }
+        ensures { IfOk result (IsGapText self.now x.now y.now) }
+    {
+        if self.is_small() {
+            return self.small_gap_text(alloc, x, y);
+        }
+        self.wide_gap_text(alloc, x, y)
+    }
+
+    // The selected nodes, and the rows of both lists on them with the labels of the bonds, however many they are.
+    fn wide_load_text(
+        &self,
+        alloc: Global,
+        x: &Row,
+        y: &Row,
+        x_bonds: &[u16],
+        y_bonds: &[u16],
+    ) -> Result<Text, Memory>
+        requires fits { LayoutFits self.now }
+        requires first { RowFits self.now.union.first.items (length self.now.union.kept.items) x.now }
+        requires second { RowFits self.now.union.second.items (length self.now.union.kept.items) y.now }
+        requires first_bonds { LabelsFit self.now.union.first.items (length self.now.union.kept.items) x_bonds.now }
+        requires second_bonds { LabelsFit self.now.union.second.items (length self.now.union.kept.items) y_bonds.now }
+        ensures { IfOk result (IsLoadText self.now x.now y.now x_bonds.now y_bonds.now) }
+    {
+        let row = self.row(alloc, x, y)?;
+        let bonded = self.labels(alloc, x_bonds, y_bonds)?;
+        let mut text = self.start(alloc, LOAD_BYTES)?;
+        row.push_with(&mut text, &bonded)?;
+        Ok(text)
+    }
+
+    // The selected nodes, and the rows of both lists on them with the labels of the bonds.
+    fn load_text(
+        &self,
+        alloc: Global,
+        x: &Row,
+        y: &Row,
+        x_bonds: &[u16],
+        y_bonds: &[u16],
+    ) -> Result<Text, Memory>
+        requires fits { LayoutFits self.now }
+        requires first { RowFits self.now.union.first.items (length self.now.union.kept.items) x.now }
+        requires second { RowFits self.now.union.second.items (length self.now.union.kept.items) y.now }
+        requires first_bonds { LabelsFit self.now.union.first.items (length self.now.union.kept.items) x_bonds.now }
+        requires second_bonds { LabelsFit self.now.union.second.items (length self.now.union.kept.items) y_bonds.now }
+        ensures { IfOk result (IsLoadText self.now x.now y.now x_bonds.now y_bonds.now) }
+    {
+        if self.is_small() {
+            return self.small_load_text(alloc, x, y, x_bonds, y_bonds);
+        }
+        self.wide_load_text(alloc, x, y, x_bonds, y_bonds)
+    }
+}
 
 impl Contraction {
     /// The row of the gap view of what `compose_gap_on` gives, in less time than that takes. So who has made such
@@ -26,11 +103,7 @@ impl Contraction {
             → Keeps self.now.kept n ⊎ Keeps other.now.kept n }
         ensures { IfOk result (IsGapRowOfBoth selection.now.nodes self.now other.now) }
     {
-        let layout = &selection.layout;
-        let row = layout.row(alloc, &self.gap, &other.gap)?;
-        let mut text = bytes_from(alloc, &layout.kept, GAP_BYTES)?;
-        row.push_to(&mut text)?;
-        Ok(text)
+        selection.layout.gap_text(alloc, &self.gap, &other.gap)
     }
 
     /// The row of the load view of what `compose_load_on` gives, in less time than that takes.
@@ -48,11 +121,10 @@ impl Contraction {
             → Keeps self.now.kept n ⊎ Keeps other.now.kept n }
         ensures { IfOk result (IsLoadRowOfBoth selection.now.nodes self.now other.now) }
     {
-        let layout = &selection.layout;
-        let row = layout.row(alloc, &self.load, &other.load)?;
-        let bonded = layout.labels(alloc, self.bonded.numbers(), other.bonded.numbers())?;
-        let mut text = bytes_from(alloc, &layout.kept, LOAD_BYTES)?;
-        row.push_with(&mut text, &bonded)?;
-        Ok(text)
+        let x_bonds = self.bonded.numbers();
+        let y_bonds = other.bonded.numbers();
+        selection
+            .layout
+            .load_text(alloc, &self.load, &other.load, x_bonds, y_bonds)
     }
 }

@@ -1,8 +1,9 @@
 //! Classes of kept nodes, as rows of labels. A label is the first place of its class.
-ghost use Rattle.std.specs.Prelude.{◌≡◌, ◌≢◌, ℕ, ◌<◌, ◌≤◌, [], ◌∷◌, if◌then◌else◌, length, slice_index, IfOk};
+ghost use Rattle.std.specs.Prelude.{◌≡◌, ℕ, ◌<◌, ◌≤◌, ◌==◌, [], ◌∷◌, if◌then◌else◌, length, map, slice_index, IfOk};
 ghost use Rattle.station_graph.specs.declared.limits.TheConstants.{NODES};
+ghost use Rattle.station_graph.specs.Classes.{merged};
 ghost use Rattle.contraction.specs.Merging.{LabelsFit, LabelsOfBoth};
-ghost use Rattle.contraction.specs.Restricting.{LabelsRestrict};
+ghost use Rattle.contraction.specs.Restricting.{LabelsRestrict, FirstAt};
 ghost use Rattle.contraction.specs.Single.{AreAlone};
 
 use ilk_base::{Memory, NodeId};
@@ -35,8 +36,65 @@ pub(crate) fn one_label(alloc: Global) -> Result<NodeList, Memory>
     Ok(labels)
 }
 
+// Each of the places in a class of its own.
+fn part(labels: &mut [u16])
+    requires { length labels.old ≤ NODES }
+    ensures { AreAlone (length labels.old) labels.new }
+{
+    for k in 0..labels.len() {
+        labels[k] = k as u16;
+    }
+}
+
+// Puts one label in the place of another. The value is written in both cases, so that the loop is
+// made of wide steps.
+fn relabel(labels: &mut [u16], from: u16, to: u16)
+    ensures { labels.new ≡ map (λ label. if label == from then to else label) labels.old }
+{
+    for label in labels.iter_mut() {
+        *label = if *label == from { to } else { *label };
+    }
+}
+
+// Makes the classes of two places one.
+fn unite(labels: &mut [u16], a: u16, b: u16)
+    requires first { a < length labels.old }
+    requires second { b < length labels.old }
+    ensures { labels.new ≡ merged labels.old a b }
+{
+    let x = labels[a as usize];
+    let y = labels[b as usize];
+    if x != y {
+        relabel(labels, x.max(y), x.min(y));
+    }
+}
+
 // The labels of the places of a merged list, from the labels of both lists: the classes of both are
 // closed up over one another.
+pub(crate) fn label_both(
+    labels: &mut [u16],
+    first: &[u16],
+    first_labels: &[u16],
+    second: &[u16],
+    second_labels: &[u16],
+)
+    requires few { length labels.old ≤ NODES }
+    requires first { LabelsFit first.now (length labels.old) first_labels.now }
+    requires second { LabelsFit second.now (length labels.old) second_labels.now }
+    ensures { LabelsOfBoth first.now first_labels.now second.now second_labels.now (length labels.old) labels.new }
+{
+    part(labels);
+    'firsts: for i in 0..first.len() {
+        let label = first_labels[i] as usize;
+        unite(labels, first[i], first[label]);
+    }
+    'seconds: for j in 0..second.len() {
+        let label = second_labels[j] as usize;
+        unite(labels, second[j], second[label]);
+    }
+}
+
+// The same in a list of its own.
 pub(crate) fn labels_of_both(
     alloc: Global,
     count: u16,
@@ -62,34 +120,71 @@ pub(crate) fn labels_of_both(
     Ok(classes.into_labels())
 }
 
-// The first of these places with the label.
-fn first_with(labels: &[u16], places: &[u16], label: u16, most: usize) -> usize
+// Notes for each label the first of these places that has it. The places are gone through from the last one on, so
+// that the first stays.
+fn note_firsts(firsts: &mut [u16], labels: &[u16], places: &[u16])
     requires inside { (k : ℕ) → k < length places.now → slice_index places.now k < length labels.now }
-    requires most { most < length places.now }
-    requires there { slice_index labels.now (slice_index places.now most) ≡ label }
-    ensures most { result ≤ most }
-    ensures label { slice_index labels.now (slice_index places.now result) ≡ label }
-    ensures first { (k : ℕ) → k < result
-        → slice_index labels.now (slice_index places.now k) ≢ label }
+    requires labels { (k : ℕ) → k < length places.now
+        → slice_index labels.now (slice_index places.now k) < length firsts.old }
+    requires few { length places.now ≤ NODES }
+    ensures { (k : ℕ) → k < length places.now → FirstAt labels.now places.now k
+        (slice_index firsts.new (slice_index labels.now (slice_index places.now k))) }
 {
-    for k in 0..most {
-        if labels[places[k] as usize] == label {
-            return k;
-        }
+    for k in (0..places.len()).rev() {
+        let label = labels[places[k] as usize];
+        firsts[label as usize] = k as u16;
     }
-    most
 }
 
-// The labels of these places alone.
+// The labels of these places alone, by what is noted of their labels.
+fn spread_firsts(row: &mut [u16], firsts: &[u16], labels: &[u16], places: &[u16])
+    requires room { length row.old ≡ length places.now }
+    requires inside { (k : ℕ) → k < length places.now → slice_index places.now k < length labels.now }
+    requires labels { (k : ℕ) → k < length places.now
+        → slice_index labels.now (slice_index places.now k) < length firsts.now }
+    ensures len { length row.new ≡ length places.now }
+    ensures told { (k : ℕ) → k < length places.now → slice_index row.new k
+        ≡ slice_index firsts.now (slice_index labels.now (slice_index places.now k)) }
+{
+    for k in 0..places.len() {
+        let label = labels[places[k] as usize];
+        row[k] = firsts[label as usize];
+    }
+}
+
+// The labels of these places alone. There is room for them, and for a note on each label.
+pub(crate) fn label_at(row: &mut [u16], firsts: &mut [u16], labels: &[u16], places: &[u16])
+    requires room { length row.old ≡ length places.now }
+    requires notes { length firsts.old ≡ length labels.now }
+    requires inside { (k : ℕ) → k < length places.now → slice_index places.now k < length labels.now }
+    requires below { (k : ℕ) → k < length labels.now → slice_index labels.now k ≤ k }
+    requires few { length places.now ≤ NODES }
+    ensures { LabelsRestrict labels.now places.now row.new }
+{
+    note_firsts(firsts, labels, places);
+    spread_firsts(row, firsts, labels, places);
+}
+
+// A list of these numbers.
+fn list_of(alloc: Global, numbers: &[u16]) -> Result<NodeList, Memory>
+    ensures { IfOk result (λ list. list ≡ numbers.now) }
+{
+    let mut list = NodeList::with_capacity(alloc, numbers.len())?;
+    for number in numbers {
+        list.push(NodeId(*number))?;
+    }
+    Ok(list)
+}
+
+// The same in a list of its own.
 pub(crate) fn labels_at(alloc: Global, labels: &[u16], places: &[u16]) -> Result<NodeList, Memory>
     requires inside { (k : ℕ) → k < length places.now → slice_index places.now k < length labels.now }
+    requires below { (k : ℕ) → k < length labels.now → slice_index labels.now k ≤ k }
     requires few { length places.now ≤ NODES }
     ensures { IfOk result (LabelsRestrict labels.now places.now) }
 {
-    let mut row = NodeList::with_capacity(alloc, places.len())?;
-    for k in 0..places.len() {
-        let label = labels[places[k] as usize];
-        row.push(NodeId(first_with(labels, places, label, k) as u16))?;
-    }
-    Ok(row)
+    let mut row = vec![in alloc; 0; places.len()]?;
+    let mut firsts = vec![in alloc; 0; labels.len()]?;
+    label_at(&mut row, &mut firsts, labels, places);
+    list_of(alloc, &row)
 }

@@ -1,23 +1,25 @@
 //! How the nodes of two contractions lie in one list, and what the rows of both say of some of them.
-ghost use Rattle.std.specs.Prelude.{length, IfOk};
+ghost use Rattle.std.specs.Prelude.{◌≡◌, length, IfOk};
 ghost use Rattle.contraction.specs.Answers.{AreNodes};
 ghost use Rattle.contraction.specs.Merging.{LabelsFit, RowFits};
 ghost use Rattle.contraction.specs.Selecting.{IsLayout, LayoutFits, RowSelected, LabelsSelected};
 
+use crate::bytes::{KEPT_BYTES, bytes_from};
 use crate::labels::{labels_at, labels_of_both};
 use crate::merge::{Union, merge};
 use crate::places::{picked, places_of};
 use crate::row::Row;
-use ilk_base::Memory;
+use ilk_base::{Memory, Text};
 use station_graph::NodeList;
 use std::alloc::Global;
 
-// Two rising lists of nodes as one, and some of its nodes with their places in it.
+// Two rising lists of nodes as one, and some of its nodes with their places in it and their bytes.
 #[derive(Drop)]
 pub(crate) struct Layout {
     pub(crate) union: Union,
     pub(crate) places: Vec<u16>,
     pub(crate) kept: Vec<u16>,
+    pub(crate) bytes: Text,
 }
 
 impl Layout {
@@ -36,10 +38,12 @@ impl Layout {
         let all = union.kept.as_slice();
         let places = places_of(alloc, all, nodes.numbers())?;
         let kept = picked(alloc, all, places.as_slice())?;
+        let bytes = bytes_from(alloc, kept.as_slice(), KEPT_BYTES)?;
         Ok(Layout {
             union,
             places,
             kept,
+            bytes,
         })
     }
 
@@ -65,5 +69,15 @@ impl Layout {
         let second = self.union.second.as_slice();
         let wide = labels_of_both(alloc, count, first, x, second, y)?;
         labels_at(alloc, wide.numbers(), self.places.as_slice())
+    }
+
+    // The bytes of the selected nodes, with room for so many for each of them.
+    pub(crate) fn start(&self, alloc: Global, each: usize) -> Result<Text, Memory>
+        ensures { IfOk result (λ t. t ≡ self.now.bytes) }
+    {
+        let room = self.places.len().saturating_mul(each);
+        let mut text = Text::with_capacity(alloc, room)?;
+        text.push(self.bytes.bytes())?;
+        Ok(text)
     }
 }

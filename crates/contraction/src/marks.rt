@@ -60,24 +60,19 @@ fn spread(alloc: Global, classes: &[bool], labels: &[u16]) -> Result<Vec<bool>, 
     Ok(marks)
 }
 
-// For each of these places whether its class is noted.
-fn spread_at(
-    alloc: Global,
-    classes: &[bool],
-    labels: &[u16],
-    places: &[u16],
-) -> Result<Vec<bool>, Memory>
-    requires labels { (k : ℕ) → k < length labels.now → slice_index labels.now k < length classes.now }
+// For each of these places whether its class is noted, into a row that has room for them.
+fn spread_at(row: &mut [bool], classes: &[bool], labels: &[u16], places: &[u16])
+    requires room { length row.old ≡ length places.now }
+    requires labels { (k : ℕ) → k < length places.now
+        → slice_index labels.now (slice_index places.now k) < length classes.now }
     requires places { (k : ℕ) → k < length places.now → slice_index places.now k < length labels.now }
-    ensures len { IfOk result (λ marks. length marks.items ≡ length places.now) }
-    ensures marks { IfOk result (λ marks. (k : ℕ) → k < length places.now → slice_get marks.items k
-        ≡ slice_get classes.now (slice_index labels.now (slice_index places.now k))) }
+    ensures len { length row.new ≡ length places.now }
+    ensures marks { (k : ℕ) → k < length places.now → slice_get row.new k
+        ≡ slice_get classes.now (slice_index labels.now (slice_index places.now k)) }
 {
-    let mut marks = Vec::with_capacity(alloc, places.len())?;
     for k in 0..places.len() {
-        marks.push(classes[labels[places[k] as usize] as usize])?;
+        row[k] = classes[labels[places[k] as usize] as usize];
     }
-    Ok(marks)
 }
 
 // For each class whether an entry of it is marked in one of both rows.
@@ -131,7 +126,40 @@ pub(crate) fn marks_of_both(
     spread(alloc, &classes, labels)
 }
 
-// The marks of these of the places of a merged list.
+// Puts out all of these.
+fn clear(classes: &mut [bool])
+    ensures { classes.new ≡ replicate (length classes.old) false }
+{
+    classes.fill(false);
+}
+
+// The marks of these of the places of a merged list. There is room for them, and for a mark of each class.
+pub(crate) fn mark_at(
+    row: &mut [bool],
+    classes: &mut [bool],
+    labels: &[u16],
+    places: &[u16],
+    first: &[u16],
+    first_marks: &[bool],
+    second: &[u16],
+    second_marks: &[bool],
+)
+    requires room { length row.old ≡ length places.now }
+    requires classes { length classes.old ≡ length labels.now }
+    requires places { (k : ℕ) → k < length places.now → slice_index places.now k < length labels.now }
+    requires first_len { length first_marks.now ≡ length first.now }
+    requires second_len { length second_marks.now ≡ length second.now }
+    requires first_in { (k : ℕ) → k < length first.now → slice_index first.now k < length labels.now }
+    requires second_in { (k : ℕ) → k < length second.now → slice_index second.now k < length labels.now }
+    requires below { (k : ℕ) → k < length labels.now → slice_index labels.now k ≤ k }
+    ensures { MarksAt labels.now places.now first.now first_marks.now second.now second_marks.now row.new }
+{
+    clear(classes);
+    note_both(classes, labels, first, first_marks, second, second_marks);
+    spread_at(row, classes, labels, places);
+}
+
+// The same in a list of its own.
 pub(crate) fn marks_at(
     alloc: Global,
     labels: &[u16],
@@ -150,6 +178,17 @@ pub(crate) fn marks_at(
     ensures { IfOk result (λ marks.
         MarksAt labels.now places.now first.now first_marks.now second.now second_marks.now marks.items) }
 {
-    let classes = marked_classes(alloc, labels, first, first_marks, second, second_marks)?;
-    spread_at(alloc, &classes, labels, places)
+    let mut row = vec![in alloc; false; places.len()]?;
+    let mut classes = vec![in alloc; false; labels.len()]?;
+    mark_at(
+        &mut row,
+        &mut classes,
+        labels,
+        places,
+        first,
+        first_marks,
+        second,
+        second_marks,
+    );
+    Ok(row)
 }

@@ -6,8 +6,6 @@ ghost use Rattle.contraction.specs.Answers.{Keeps};
 ghost use Rattle.contraction.specs.Stands.{Among, MeetsKept, GapStandsFor, LoadStandsFor};
 ghost use Rattle.contraction.specs.Composing.{IsGapOfBoth, IsLoadOfBoth};
 
-use crate::labels::apart;
-use crate::row::Row;
 use crate::selection::Selection;
 use crate::value::Contraction;
 use ilk_base::Memory;
@@ -58,15 +56,8 @@ impl Contraction {
             → GapStandsFor (Among others) d v other.now
             → GapStandsFor (Among (items ++ others)) d v c) }
     {
-        let layout = &selection.layout;
-        let gap = layout.row(alloc, &self.gap, &other.gap)?;
-        let count = layout.kept.len() as u16;
-        Ok(Contraction {
-            kept: Vec::from_slice(alloc, &layout.kept)?,
-            gap,
-            load: Row::bare(alloc, count)?,
-            bonded: apart(alloc, count)?,
-        })
+        let row = self.composed_gap_row(alloc, other, selection)?;
+        Contraction::of_gap_row(alloc, &row)
     }
 
     /// What `compose` and then `keep_only` give in the load view alone, with less work: the items of
@@ -113,15 +104,7 @@ impl Contraction {
             → LoadStandsFor (Among others) d v other.now
             → LoadStandsFor (Among (items ++ others)) d v c) }
     {
-        let layout = &selection.layout;
-        let load = layout.row(alloc, &self.load, &other.load)?;
-        let bonded = layout.labels(alloc, self.bonded.numbers(), other.bonded.numbers())?;
-        let count = layout.kept.len() as u16;
-        Ok(Contraction {
-            kept: Vec::from_slice(alloc, &layout.kept)?,
-            gap: Row::bare(alloc, count)?,
-            load,
-            bonded,
-        })
+        let row = self.composed_load_row(alloc, other, selection)?;
+        Contraction::of_load_row(alloc, &row)
     }
 }

@@ -133,6 +133,7 @@ impl Row {
         requires few { length places.now ≤ NODES }
         requires labels { (k : ℕ) → k < length places.now
             → slice_index places.now k < length self.now.labels }
+        requires below { (k : ℕ) → k < length self.now.labels → slice_index self.now.labels k ≤ k }
         requires first { length self.now.first.items ≡ length self.now.labels }
         requires second { length self.now.second.items ≡ length self.now.labels }
         ensures { IfOk result (RowRestricts self.now places.now) }

@@ -1,11 +1,11 @@
-use Rattle.std.proofs.Common.{◌≡◌, ◌∙◌, ◌++◌, List, ℕ, ap}
-use Rattle.contraction.specs.Rows.{words, row_bytes}
-use Rattle.contraction.specs.Selecting.{IsLayout}
+use Rattle.contraction.specs.Selecting.{IsLayout, IsGapText}
+use Rattle.contraction.specs.Composing.{IsGapRowOfBoth}
 use Rattle.contraction.proofs.SelectionLemmas.{laid_on, layout_fits, first_gap_fits, second_gap_fits, gap_row_on}
+use Rattle.contraction.proofs.MarkLemmas.{if_ok}
 use Rattle.contraction.proofs.value.Contraction.composed_gap_row.Goals as goal
 
-pub row-requires-clause-fits : goal.row-requires-clause-fits
-row-requires-clause-fits c =
+pub gap_text-requires-clause-fits : goal.gap_text-requires-clause-fits
+gap_text-requires-clause-fits c =
     let x = c.self.inside in
     let y = c.other.inside in
     let t = c.selection.inside in
@@ -14,8 +14,8 @@ row-requires-clause-fits c =
     c.selection.invariant c.self.view_is c.other.view_is c.selection.view_is c.requires.first c.requires.second in
     layout_fits x y c.self.invariant c.other.invariant c.args.selection.now.nodes t.layout laid
 
-pub row-requires-clause-first : goal.row-requires-clause-first
-row-requires-clause-first c =
+pub gap_text-requires-clause-first : goal.gap_text-requires-clause-first
+gap_text-requires-clause-first c =
     let x = c.self.inside in
     let y = c.other.inside in
     let t = c.selection.inside in
@@ -24,8 +24,8 @@ row-requires-clause-first c =
     c.selection.invariant c.self.view_is c.other.view_is c.selection.view_is c.requires.first c.requires.second in
     first_gap_fits x y c.self.invariant c.other.invariant c.args.selection.now.nodes t.layout laid
 
-pub row-requires-clause-second : goal.row-requires-clause-second
-row-requires-clause-second c =
+pub gap_text-requires-clause-second : goal.gap_text-requires-clause-second
+gap_text-requires-clause-second c =
     let x = c.self.inside in
     let y = c.other.inside in
     let t = c.selection.inside in
@@ -39,8 +39,7 @@ returns c =
     let x = c.self.inside in
     let y = c.other.inside in
     let t = c.selection.inside in
-    let from : c.in_ok-text.text ≡ words t.layout.kept.items = c.in_ok-text.ensures ∙ ap words c.deref.ensures.value in
-    gap_row_on x y t c.args.self.now c.args.other.now c.args.selection.now c.self.invariant c.other.invariant
-    c.selection.invariant c.self.view_is c.other.view_is c.selection.view_is c.requires.first c.requires.second
-    c.requires.nodes c.in_ok-row.row c.push_to.new.text c.in_ok-row.ensures
-    (c.in_ok-push_to.ensures ∙ ap (λ (b : List ℕ). b ++ row_bytes c.in_ok-row.row) from)
+    if_ok c.gap_text.result (IsGapText t.layout x.gap y.gap) (IsGapRowOfBoth c.args.selection.now.nodes c.args.self.now c.args.other.now)
+    (λ bytes h. gap_row_on x y t c.args.self.now c.args.other.now c.args.selection.now c.self.invariant
+    c.other.invariant c.selection.invariant c.self.view_is c.other.view_is c.selection.view_is c.requires.first
+    c.requires.second c.requires.nodes bytes h) c.gap_text.ensures

@@ -1,13 +1,14 @@
-use Rattle.std.proofs.Common.{◌≡◌, ◌∙◌, ◌++◌, List, ℕ, length, subst, sym, ap}
+use Rattle.std.proofs.Common.{length, subst, sym}
 use Rattle.contraction.specs.Merging.{LabelsFit}
-use Rattle.contraction.specs.Rows.{words, bonded_bytes}
-use Rattle.contraction.specs.Selecting.{IsLayout, LabelsSelected}
-use Rattle.contraction.proofs.SelectionLemmas.{laid_on, labels_seen, layout_fits, first_labels_fit, second_labels_fit}
+use Rattle.contraction.specs.Selecting.{IsLayout, IsLoadText}
+use Rattle.contraction.specs.Composing.{IsLoadRowOfBoth}
+use Rattle.contraction.proofs.MarkLemmas.{if_ok}
+use Rattle.contraction.proofs.SelectionLemmas.{laid_on, layout_fits, first_labels_fit, second_labels_fit}
 use Rattle.contraction.proofs.SelectionLemmas.{first_load_fits, second_load_fits, load_row_on}
 use Rattle.contraction.proofs.value.Contraction.composed_load_row.Goals as goal
 
-pub row-requires-clause-fits : goal.row-requires-clause-fits
-row-requires-clause-fits c =
+pub load_text-requires-clause-fits : goal.load_text-requires-clause-fits
+load_text-requires-clause-fits c =
     let x = c.self.inside in
     let y = c.other.inside in
     let t = c.selection.inside in
@@ -16,8 +17,8 @@ row-requires-clause-fits c =
     c.selection.invariant c.self.view_is c.other.view_is c.selection.view_is c.requires.first c.requires.second in
     layout_fits x y c.self.invariant c.other.invariant c.args.selection.now.nodes t.layout laid
 
-pub row-requires-clause-first : goal.row-requires-clause-first
-row-requires-clause-first c =
+pub load_text-requires-clause-first : goal.load_text-requires-clause-first
+load_text-requires-clause-first c =
     let x = c.self.inside in
     let y = c.other.inside in
     let t = c.selection.inside in
@@ -26,8 +27,8 @@ row-requires-clause-first c =
     c.selection.invariant c.self.view_is c.other.view_is c.selection.view_is c.requires.first c.requires.second in
     first_load_fits x y c.self.invariant c.other.invariant c.args.selection.now.nodes t.layout laid
 
-pub row-requires-clause-second : goal.row-requires-clause-second
-row-requires-clause-second c =
+pub load_text-requires-clause-second : goal.load_text-requires-clause-second
+load_text-requires-clause-second c =
     let x = c.self.inside in
     let y = c.other.inside in
     let t = c.selection.inside in
@@ -36,38 +37,28 @@ row-requires-clause-second c =
     c.selection.invariant c.self.view_is c.other.view_is c.selection.view_is c.requires.first c.requires.second in
     second_load_fits x y c.self.invariant c.other.invariant c.args.selection.now.nodes t.layout laid
 
-pub labels-requires-clause-fits : goal.labels-requires-clause-fits
-labels-requires-clause-fits c =
+pub load_text-requires-clause-first_bonds : goal.load_text-requires-clause-first_bonds
+load_text-requires-clause-first_bonds c =
     let x = c.self.inside in
     let y = c.other.inside in
     let t = c.selection.inside in
     let laid : IsLayout x.kept.items y.kept.items c.args.selection.now.nodes t.layout =
     laid_on x y t c.args.self.now c.args.other.now c.args.selection.now c.self.invariant c.other.invariant
     c.selection.invariant c.self.view_is c.other.view_is c.selection.view_is c.requires.first c.requires.second in
-    layout_fits x y c.self.invariant c.other.invariant c.args.selection.now.nodes t.layout laid
-
-pub labels-requires-clause-first : goal.labels-requires-clause-first
-labels-requires-clause-first c =
-    let x = c.self.inside in
-    let y = c.other.inside in
-    let t = c.selection.inside in
-    let laid : IsLayout x.kept.items y.kept.items c.args.selection.now.nodes t.layout =
-    laid_on x y t c.args.self.now c.args.other.now c.args.selection.now c.self.invariant c.other.invariant
-    c.selection.invariant c.self.view_is c.other.view_is c.selection.view_is c.requires.first c.requires.second in
-    subst (λ l. LabelsFit t.layout.union.first.items (length t.layout.union.kept.items) l) (sym c.numbers.ensures)
-    (first_labels_fit x y c.self.invariant c.other.invariant c.args.selection.now.nodes t.layout laid x.bonded
+    subst (λ l. LabelsFit t.layout.union.first.items (length t.layout.union.kept.items) l)
+    (sym c.numbers-x_bonds.ensures) (first_labels_fit x y c.self.invariant c.other.invariant c.args.selection.now.nodes t.layout laid x.bonded
     c.self.invariant.bonded)
 
-pub labels-requires-clause-second : goal.labels-requires-clause-second
-labels-requires-clause-second c =
+pub load_text-requires-clause-second_bonds : goal.load_text-requires-clause-second_bonds
+load_text-requires-clause-second_bonds c =
     let x = c.self.inside in
     let y = c.other.inside in
     let t = c.selection.inside in
     let laid : IsLayout x.kept.items y.kept.items c.args.selection.now.nodes t.layout =
     laid_on x y t c.args.self.now c.args.other.now c.args.selection.now c.self.invariant c.other.invariant
     c.selection.invariant c.self.view_is c.other.view_is c.selection.view_is c.requires.first c.requires.second in
-    subst (λ l. LabelsFit t.layout.union.second.items (length t.layout.union.kept.items) l) (sym c.numbers-2.ensures)
-    (second_labels_fit x y c.self.invariant c.other.invariant c.args.selection.now.nodes t.layout laid y.bonded
+    subst (λ l. LabelsFit t.layout.union.second.items (length t.layout.union.kept.items) l)
+    (sym c.numbers-y_bonds.ensures) (second_labels_fit x y c.self.invariant c.other.invariant c.args.selection.now.nodes t.layout laid y.bonded
     c.other.invariant.bonded)
 
 pub returns : goal.returns
@@ -75,13 +66,11 @@ returns c =
     let x = c.self.inside in
     let y = c.other.inside in
     let t = c.selection.inside in
-    let r = c.in_ok-row.row in
-    let bonded : List ℕ = c.in_ok-bonded.bonded in
-    let labels : LabelsSelected t.layout x.bonded y.bonded bonded =
-    labels_seen t.layout c.numbers.result.now x.bonded c.numbers-2.result.now y.bonded bonded c.numbers.ensures
-    c.numbers-2.ensures c.in_ok-bonded.ensures in
-    let from : c.in_ok-text.text ≡ words t.layout.kept.items = c.in_ok-text.ensures ∙ ap words c.deref.ensures.value in
-    load_row_on x y t c.args.self.now c.args.other.now c.args.selection.now c.self.invariant c.other.invariant
-    c.selection.invariant c.self.view_is c.other.view_is c.selection.view_is c.requires.first c.requires.second
-    c.requires.nodes r c.push_with.new.text bonded c.in_ok-row.ensures labels
-    (c.in_ok-push_with.ensures ∙ ap (λ (b : List ℕ). b ++ bonded_bytes r bonded) from)
+    let a = c.numbers-x_bonds.result.now in
+    let b = c.numbers-y_bonds.result.now in
+    if_ok c.load_text.result (IsLoadText t.layout x.load y.load a b)
+    (IsLoadRowOfBoth c.args.selection.now.nodes c.args.self.now c.args.other.now)
+    (λ bytes h. load_row_on x y t c.args.self.now c.args.other.now c.args.selection.now c.self.invariant
+    c.other.invariant c.selection.invariant c.self.view_is c.other.view_is c.selection.view_is c.requires.first
+    c.requires.second c.requires.nodes bytes a b c.numbers-x_bonds.ensures c.numbers-y_bonds.ensures h)
+    c.load_text.ensures

@@ -1,0 +1,125 @@
+//! The value that a row tells.
+ghost use Rattle.std.specs.Prelude.{◌≡◌, ◌+◌, ◌*◌, ◌<◌, ℕ, Bool, List, [], length, slice_index, IfOk};
+ghost use Rattle.station_graph.specs.Diagram.{Diagram};
+ghost use Rattle.contraction.specs.Answers.{Answers, IsContraction};
+ghost use Rattle.contraction.specs.Composing.{IsGapOfBoth, IsLoadOfBoth, IsGapRowOfBoth, IsLoadRowOfBoth};
+ghost use Rattle.contraction.specs.Rows.{words, flags, gap_row, load_row, IsGapRow, IsLoadRow};
+ghost use Rattle.contraction.specs.Stands.{Among, GapStandsFor, LoadStandsFor};
+
+use crate::bytes::{GAP_BYTES, LOAD_BYTES};
+use crate::labels::apart;
+use crate::row::Row;
+use crate::value::Contraction;
+use ilk_base::{Memory, NodeId, Text};
+use station_graph::NodeList;
+use std::alloc::Global;
+
+// The number that two bytes of the list are, the higher one first.
+fn number_at(bytes: &[u8], i: usize) -> u16
+    requires { 2 * i + 1 < length bytes.now }
+    ensures { (numbers : List ℕ) → bytes.now ≡ words numbers → result ≡ slice_index numbers i }
+{
+    u16::from(bytes[2 * i]) * 256 + u16::from(bytes[2 * i + 1])
+}
+
+// The numbers of which these are the bytes.
+fn numbers_of(alloc: Global, bytes: &[u8]) -> Result<Vec<u16>, Memory>
+    ensures { IfOk result (λ v. (numbers : List ℕ) → bytes.now ≡ words numbers → v.items ≡ numbers) }
+{
+    let count = bytes.len() / 2;
+    let mut numbers = Vec::with_capacity(alloc, count)?;
+    for i in 0..count {
+        numbers.push(number_at(bytes, i))?;
+    }
+    Ok(numbers)
+}
+
+// The same as labels.
+fn labels_of(alloc: Global, bytes: &[u8]) -> Result<NodeList, Memory>
+    ensures { IfOk result (λ l. (numbers : List ℕ) → bytes.now ≡ words numbers → l ≡ numbers) }
+{
+    let count = bytes.len() / 2;
+    let mut labels = NodeList::with_capacity(alloc, count)?;
+    for i in 0..count {
+        labels.push(NodeId(number_at(bytes, i)))?;
+    }
+    Ok(labels)
+}
+
+// The bits of which these are the bytes.
+fn bits_of(alloc: Global, bytes: &[u8]) -> Result<Vec<bool>, Memory>
+    ensures { IfOk result (λ v. (bits : List Bool) → bytes.now ≡ flags bits → v.items ≡ bits) }
+{
+    let mut bits = Vec::with_capacity(alloc, bytes.len())?;
+    for byte in bytes {
+        bits.push(*byte == 1)?;
+    }
+    Ok(bits)
+}
+
+impl Contraction {
+    /// The value that this gap row tells: it has that row, and in the load view it is that of no item. So who has worked
+    /// out a row makes its value without composing again.
+    ///
+    /// Time and memory: the row.
+    pub fn of_gap_row(alloc: Global, row: &Text) -> Result<Contraction, Memory>
+        requires row { IsGapRow row.now }
+        ensures contraction { IfOk result IsContraction }
+        ensures row { IfOk result (λ c. row.now ≡ gap_row c) }
+        ensures bare { IfOk result (λ c. (d : Diagram) (v : List Bool) → LoadStandsFor (Among []) d v c) }
+        ensures both { IfOk result (λ c. (nodes : List ℕ) (x y : Answers) → IsGapRowOfBoth nodes x y row.now
+            → IsGapOfBoth nodes x y c) }
+    {
+        let bytes = row.bytes();
+        let count = bytes.len() / GAP_BYTES;
+        let kept = numbers_of(alloc, &bytes[..2 * count])?;
+        let labels = labels_of(alloc, &bytes[2 * count..4 * count])?;
+        let first = bits_of(alloc, &bytes[4 * count..5 * count])?;
+        let second = bits_of(alloc, &bytes[5 * count..6 * count])?;
+        let load = Row::bare(alloc, count as u16)?;
+        let bonded = apart(alloc, count as u16)?;
+        let gap = Row {
+            labels,
+            first,
+            second,
+        };
+        Ok(Contraction {
+            kept,
+            gap,
+            load,
+            bonded,
+        })
+    }
+
+    /// The value that this load row tells: it has that row, and in the gap view it is that of no item.
+    ///
+    /// Time and memory: the row.
+    pub fn of_load_row(alloc: Global, row: &Text) -> Result<Contraction, Memory>
+        requires row { IsLoadRow row.now }
+        ensures contraction { IfOk result IsContraction }
+        ensures row { IfOk result (λ c. row.now ≡ load_row c) }
+        ensures bare { IfOk result (λ c. (d : Diagram) (v : List Bool) → GapStandsFor (Among []) d v c) }
+        ensures both { IfOk result (λ c. (nodes : List ℕ) (x y : Answers) → IsLoadRowOfBoth nodes x y row.now
+            → IsLoadOfBoth nodes x y c) }
+    {
+        let bytes = row.bytes();
+        let count = bytes.len() / LOAD_BYTES;
+        let kept = numbers_of(alloc, &bytes[..2 * count])?;
+        let labels = labels_of(alloc, &bytes[2 * count..4 * count])?;
+        let bonded = labels_of(alloc, &bytes[4 * count..6 * count])?;
+        let first = bits_of(alloc, &bytes[6 * count..7 * count])?;
+        let second = bits_of(alloc, &bytes[7 * count..8 * count])?;
+        let gap = Row::bare(alloc, count as u16)?;
+        let load = Row {
+            labels,
+            first,
+            second,
+        };
+        Ok(Contraction {
+            kept,
+            gap,
+            load,
+            bonded,
+        })
+    }
+}
