@@ -6,7 +6,6 @@ pub mod CountLemmas
 pub mod FoldLemmas
 pub mod MappedViews
 pub mod MappedPools
-pub mod AlikeLemmas
 pub mod PoolLemmas
 pub mod LayeringLemmas
 pub mod BatchLemmas

@@ -207,3 +207,17 @@ pub record IsRowOfBoth (view : View) (nodes : List ℕ) (x y : Answers) (bytes :
   pub kept : (n : ℕ) → Keeps value.kept n ↔ Contains nodes n
   pub composes : ComposesIn view x y value
   pub row : bytes ≡ seen_row view value
+
+-- The bytes are the row of a contraction in this view.
+pub record IsRowIn (view : View) (bytes : List ℕ) : Type 0 where
+  pub value : Answers
+  pub contraction : IsContraction value
+  pub row : bytes ≡ seen_row view value
+
+-- The value has this row, and it is two values together wherever these have it together.
+pub record IsToldBy (view : View) (bytes : List ℕ) (r : Answers) : Type 0 where
+  pub contraction : IsContraction r
+  pub row : bytes ≡ seen_row view r
+  pub composes : (nodes : List ℕ) (x y : Answers) → IsRowOfBoth view nodes x y bytes → ComposesIn view x y r
+  pub kept : (nodes : List ℕ) (x y : Answers) → IsRowOfBoth view nodes x y bytes →
+      (n : ℕ) → Keeps r.kept n ↔ Contains nodes n

@@ -1,11 +1,11 @@
 //! Compositions of values of a pool, by batches, each made once.
 ghost use Rattle.std.specs.Prelude.{◌≡◌, ℕ, ◌+◌, ◌<◌, ◌≤◌, ◌⊎◌, ◌↔◌, length, map, slice_get, Some};
 ghost use Rattle.std.specs.Prelude.{IfOk, IfSome, OnOk, Contains, IsTrue};
-ghost use Rattle.contraction.specs.Answers.{Keeps, IsContraction};
+ghost use Rattle.contraction.specs.Answers.{Keeps};
 ghost use Rattle.judge_pool.specs.declared.pool.Pool.{Pool as AnyPool};
-ghost use Rattle.judge_pool.specs.Seen.{ComposesIn};
 ghost use Rattle.judge_pool.specs.Pooling.{IsPool, GrewTo, Selects, SelectsFor, IsRowOfBoth, CanCompose, LettersFit};
 ghost use Rattle.judge_pool.specs.Pooling.{WasMade, MakesEach, HasBatch, NotesAreRight, letter_lists};
+ghost use Rattle.judge_pool.specs.Pooling.{IsRowIn, IsToldBy};
 
 use crate::batch::{Batch, Made};
 use crate::pool::{Pool, find_row};
@@ -53,24 +53,14 @@ fn composed_row(
     }
 }
 
-// The composition of two values in this view, on a selection of their nodes.
-fn composed(
-    alloc: Global,
-    view: View,
-    x: &Contraction,
-    y: &Contraction,
-    selection: &Selection,
-) -> Result<Contraction, Memory>
-    requires first { selection.now.first ≡ x.now.kept }
-    requires second { selection.now.second ≡ y.now.kept }
-    requires nodes { (n : ℕ) → Contains selection.now.nodes n → Keeps x.now.kept n ⊎ Keeps y.now.kept n }
-    ensures contraction { IfOk result IsContraction }
-    ensures composes { IfOk result (ComposesIn view x.now y.now) }
-    ensures kept { IfOk result (λ r. (n : ℕ) → Keeps r.kept n ↔ Contains selection.now.nodes n) }
+// The value that the row tells in this view.
+fn value_of(alloc: Global, view: View, row: &Text) -> Result<Contraction, Memory>
+    requires { IsRowIn view row.now }
+    ensures { IfOk result (IsToldBy view row.now) }
 {
     match view {
-        View::Gap => x.compose_gap_on(alloc, y, selection),
-        View::Load => x.compose_load_on(alloc, y, selection),
+        View::Gap => Contraction::of_gap_row(alloc, row),
+        View::Load => Contraction::of_load_row(alloc, row),
     }
 }
 
@@ -247,7 +237,7 @@ impl Pool {
     }
 
     // The number of the value that two values on this selection of their nodes make together. Where the pool has it,
-    // its row tells it, and it is not made.
+    // its row tells it, and it is not made; else it is read from the row.
     fn find_or_make(
         &mut self,
         alloc: Global,
@@ -266,7 +256,7 @@ impl Pool {
         match find_row(&self.index, &row) {
             Some(place) => Ok(place),
             None => {
-                let value = composed(alloc, self.view, x, y, selection)?;
+                let value = value_of(alloc, self.view, &row)?;
                 let place = self.put(row, value)?;
                 Ok(place)
             }

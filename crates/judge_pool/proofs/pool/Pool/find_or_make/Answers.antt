@@ -4,7 +4,6 @@ use Rattle.std.proofs.lemmas.Option.{slice_get_read, slice_get-get_or}
 use Rattle.contraction.specs.Answers.{Answers, Keeps}
 use Rattle.judge_pool.specs.Seen.{ComposesIn}
 use Rattle.judge_pool.specs.Pooling.{HasSame, Selects}
-use Rattle.judge_pool.proofs.AlikeLemmas.{row_of_both}
 use Rattle.judge_pool.proofs.PoolLemmas.{made_same, rows_tell}
 use Rattle.judge_pool.proofs.pool.Pool.find_or_make.Goals as goal
 
@@ -60,57 +59,10 @@ composed_row-requires-clause-nodes c =
     subst (λ l. (n : ℕ) → Contains l n → Keeps x.kept n ⊎ Keeps y.kept n) (sym sel.asked)
     (c.requires.fits.either x y nodes first second asked)
 
-pub composed-requires-clause-first : goal.composed-requires-clause-first
-composed-requires-clause-first c =
-    let p = c.args.self.now in
-    let k = c.args.key in
-    let s = c.args.selection.now in
-    let x : Answers = c.index-x.result.now in
-    let y : Answers = c.index-y.result.now in
-    let nodes : List ℕ = get_or p.keeps.items k.keep [] in
-    let first : slice_get p.values.items k.first ≡ Some x =
-    slice_get_read p.values.items _ k.first x refl c.requires.fits.first c.index-x.ensures in
-    let second : slice_get p.values.items k.second ≡ Some y =
-    slice_get_read p.values.items _ k.second y refl c.requires.fits.second c.index-y.ensures in
-    let asked : slice_get p.keeps.items k.keep ≡ Some nodes =
-    slice_get-get_or p.keeps.items k.keep [] c.requires.fits.keep in
-    let sel : Selects x y nodes s = c.requires.selection x y nodes first second asked in
-    sel.first
-
-pub composed-requires-clause-second : goal.composed-requires-clause-second
-composed-requires-clause-second c =
-    let p = c.args.self.now in
-    let k = c.args.key in
-    let s = c.args.selection.now in
-    let x : Answers = c.index-x.result.now in
-    let y : Answers = c.index-y.result.now in
-    let nodes : List ℕ = get_or p.keeps.items k.keep [] in
-    let first : slice_get p.values.items k.first ≡ Some x =
-    slice_get_read p.values.items _ k.first x refl c.requires.fits.first c.index-x.ensures in
-    let second : slice_get p.values.items k.second ≡ Some y =
-    slice_get_read p.values.items _ k.second y refl c.requires.fits.second c.index-y.ensures in
-    let asked : slice_get p.keeps.items k.keep ≡ Some nodes =
-    slice_get-get_or p.keeps.items k.keep [] c.requires.fits.keep in
-    let sel : Selects x y nodes s = c.requires.selection x y nodes first second asked in
-    sel.second
-
-pub composed-requires-clause-nodes : goal.composed-requires-clause-nodes
-composed-requires-clause-nodes c =
-    let p = c.args.self.now in
-    let k = c.args.key in
-    let s = c.args.selection.now in
-    let x : Answers = c.index-x.result.now in
-    let y : Answers = c.index-y.result.now in
-    let nodes : List ℕ = get_or p.keeps.items k.keep [] in
-    let first : slice_get p.values.items k.first ≡ Some x =
-    slice_get_read p.values.items _ k.first x refl c.requires.fits.first c.index-x.ensures in
-    let second : slice_get p.values.items k.second ≡ Some y =
-    slice_get_read p.values.items _ k.second y refl c.requires.fits.second c.index-y.ensures in
-    let asked : slice_get p.keeps.items k.keep ≡ Some nodes =
-    slice_get-get_or p.keeps.items k.keep [] c.requires.fits.keep in
-    let sel : Selects x y nodes s = c.requires.selection x y nodes first second asked in
-    subst (λ l. (n : ℕ) → Contains l n → Keeps x.kept n ⊎ Keeps y.kept n) (sym sel.asked)
-    (c.requires.fits.either x y nodes first second asked)
+pub value_of-requires : goal.value_of-requires
+value_of-requires c =
+    let b = c.in_ok-row.ensures in
+    record { value = b.value; contraction = b.contraction; row = b.row }
 
 pub returns-in-Some-clause-made : goal.returns-in-Some-clause-made
 returns-in-Some-clause-made c =
@@ -150,13 +102,10 @@ returns-in-Some-clause-made c =
     }
 
 pub put-requires-clause-row : goal.put-requires-clause-row
-put-requires-clause-row c =
-    let x : Answers = c.index-x.result.now in
-    let y : Answers = c.index-y.result.now in
-    let b = c.in_ok-row.ensures in
-    let made = c.in_ok-value-in-None.ensures in
-    b.row ∙ row_of_both x y b.value c.in_ok-value-in-None.value c.args.selection.now.nodes b.contraction
-    made.contraction b.kept made.kept c.args.self.now.view b.composes made.composes
+put-requires-clause-row c = c.in_ok-value-in-None.ensures.row
+
+pub put-requires-clause-well : goal.put-requires-clause-well
+put-requires-clause-well c = c.in_ok-value-in-None.ensures.contraction
 
 pub put-requires-clause-new : goal.put-requires-clause-new
 put-requires-clause-new c = c.in-None.ensures c.args.self.now.view c.args.self.now.values.items c.requires.pool.index
@@ -179,6 +128,8 @@ returns-in_ok-place-in-None-clause-made c =
     let q = c.put.new.self in
     let g = c.in_ok-place-in-None.ensures.grew in
     let value : Answers = c.in_ok-value-in-None.value in
+    let told = c.in_ok-value-in-None.ensures in
+    let b = c.in_ok-row.ensures in
     record {
       x = x;
       y = y;
@@ -188,6 +139,6 @@ returns-in_ok-place-in-None-clause-made c =
       nodes = g.keeps k.keep nodes asked;
       made =
           made_same q x y value nodes c.in_ok-place-in-None.place c.in_ok-place-in-None.ensures.same
-          (subst (λ w. ComposesIn w x y value) (sym g.view) c.in_ok-value-in-None.ensures.composes)
-          (subst (λ l. (n : ℕ) → Keeps value.kept n ↔ Contains l n) sel.asked c.in_ok-value-in-None.ensures.kept);
+          (subst (λ w. ComposesIn w x y value) (sym g.view) (told.composes s.nodes x y b))
+          (subst (λ l. (n : ℕ) → Keeps value.kept n ↔ Contains l n) sel.asked (told.kept s.nodes x y b));
     }
