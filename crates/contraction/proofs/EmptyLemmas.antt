@@ -9,7 +9,7 @@ use Rattle.contraction.specs.Answers.{Answers, IsAt, Keeps, SameAt, MarkedAt, Ar
 use Rattle.contraction.specs.Stands.{StandsFor, Among}
 use Rattle.contraction.specs.Single.{AreAlone}
 
-no_true : (n k : ℕ) → slice_get (replicate n false) k ≡ Some true → ⊥
+pub no_true : (n k : ℕ) → slice_get (replicate n false) k ≡ Some true → ⊥
 no_true zero k e = cc
 no_true (suc n) zero e = cc
 no_true (suc n) (suc k) e = no_true n k e

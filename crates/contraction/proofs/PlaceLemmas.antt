@@ -1,22 +1,35 @@
 -- The places at which named nodes stand, place by place.
-use Rattle.std.proofs.Common.{◌≡◌, ℕ, ◌+◌, Bool, true, false, List, [], ◌∷◌, ◌++◌, length, slice_index}
-use Rattle.std.proofs.Common.{slice_index_or, eqb, eq-eqb, refl, sym, ◌∙◌, subst, inl, inr, arith, Some, ap}
+use Rattle.std.proofs.Common.{◌≡◌, ℕ, ◌+◌, ◌<◌, Bool, true, false, List, [], ◌∷◌, ◌++◌, length, slice_index}
+use Rattle.std.proofs.Common.{slice_get, get_or, replicate, refl, sym, ◌∙◌, subst, inl, inr, arith, Some, ap}
 use Rattle.std.specs.Prelude.{Contains}
-use Rattle.std.specs.List.{IsAnyAnswer}
-use Rattle.std.proofs.lemmas.Bool.{eqb-true}
+use Rattle.std.proofs.lemmas.Bool.{false≢true}
 use Rattle.std.proofs.lemmas.Bool.{cases_lt}
-use Rattle.std.proofs.lemmas.List.{length_push}
-use Rattle.std.proofs.lemmas.Option.{slice_get_within, slice_get-get_or, get_or_from_slice_get}
+use Rattle.std.proofs.lemmas.List.{length_push, get_or_default}
+use Rattle.std.proofs.lemmas.Option.{slice_get_within, slice_get-get_or, get_or_from_slice_get, same_Some}
 use Rattle.contraction.specs.Answers.{Keeps}
-use Rattle.contraction.specs.Restricting.{PlacesBelow}
+use Rattle.contraction.specs.Restricting.{NamedBelow, PlacesBelow}
+use Rattle.contraction.proofs.EmptyLemmas.{no_true, length-replicate_false}
 use Rattle.contraction.proofs.MergeLemmas.{push_old, push_new, rises_push}
 
--- a list that is asked for a node has it or not
-pub has_answer : (xs : List ℕ) (n : ℕ) (b : Bool) → IsAnyAnswer (λ y c. eqb y n ≡ c) xs b →
-    (b ≡ true → Contains xs n) × (b ≡ false → ¬ Contains xs n)
-has_answer xs n true h = (λ e. (h.0, h.1, eqb-true (slice_index_or xs h.0 n) n (h.2 n)), λ e. cc)
-has_answer xs n false h =
-    (λ e. cc, λ e c. let f = h c.0 n (omega arith) c.1 in let t = eq-eqb (slice_index_or xs c.0 n) n c.2 in cc)
+-- what is noted of a node says whether it is named
+pub named_answer : (nodes : List ℕ) (old named : List Bool) (size n : ℕ) (b : Bool) → old ≡ replicate size false →
+    n < size → NamedBelow nodes (length nodes) old named → b ≡ get_or named n false →
+    (b ≡ true → Contains nodes n) × (b ≡ false → ¬ Contains nodes n)
+named_answer nodes old named size n b eo n_in h eb =
+    let long : length old ≡ size = ap length eo ∙ length-replicate_false size in
+    let at : slice_get named n ≡ Some b =
+    slice_get-get_or named n false (omega (arith, h.len, long)) ∙ ap Some (sym eb) in
+    let told = h.named n (omega (arith, long)) in (
+      λ e. elim (told.0 (at ∙ ap Some e)) [
+        | inl was ↦ absurd (no_true size n (ap (λ (l : List Bool). slice_get l n) (sym eo) ∙ was))
+        | inr is ↦ (is.entry, is.below, get_or_default nodes is.entry n 0 is.below ∙ is.is)
+      ],
+      λ e c. false≢true (same_Some false true (sym (at ∙ ap Some e) ∙ told.1 (inr (record {
+        entry = c.0;
+        below = c.1;
+        is = get_or_default nodes c.0 0 n c.1 ∙ c.2;
+      })))),
+    )
 
 -- a list keeps what it has
 pub keeps_from_has : (xs : List ℕ) (n : ℕ) → Contains xs n → Keeps xs n

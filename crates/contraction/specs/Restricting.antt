@@ -1,5 +1,6 @@
 -- Rows of fewer places.
-use Rattle.std.specs.Prelude.{◌≡◌, ◌≢◌, ℕ, ◌<◌, ◌≤◌, ◌↔◌, Bool, List, length, slice_get, slice_index, Contains}
+use Rattle.std.specs.Prelude.{◌≡◌, ◌≢◌, ℕ, ◌<◌, ◌≤◌, ◌⊎◌, ◌↔◌, Bool, true, List, length, slice_get, slice_index}
+use Rattle.std.specs.Prelude.{Some, Contains}
 use Rattle.contraction.specs.declared.row.Row.{Row}
 use Rattle.contraction.specs.declared.merge.Union.{Union}
 use Rattle.contraction.specs.Merging.{LabelsOfBoth, MarksOfBoth}
@@ -37,6 +38,18 @@ pub record RowRestricts (all : Row) (places : List ℕ) (row : Row) : Type 0 whe
   pub labels : LabelsRestrict all.labels places row.labels
   pub first : Picks all.first.items places row.first.items
   pub second : Picks all.second.items places row.second.items
+
+-- One of the first i of these nodes is this one.
+pub record IsNamed (nodes : List ℕ) (i n : ℕ) : Type 0 where
+  pub entry : ℕ
+  pub below : entry < i
+  pub is : slice_index nodes entry ≡ n
+
+-- A node is noted where it was, or where it is one of the first i of these.
+pub record NamedBelow (nodes : List ℕ) (i : ℕ) (old new : List Bool) : Type 0 where
+  pub len : length new ≡ length old
+  pub named : (n : ℕ) → n < length old → (slice_get new n ≡ Some true) ↔
+      ((slice_get old n ≡ Some true) ⊎ IsNamed nodes i n)
 
 -- The places below i of the list at which one of these nodes stands, rising.
 pub record PlacesBelow (nodes kept : List ℕ) (i : ℕ) (places : List ℕ) : Type 0 where

@@ -35,7 +35,7 @@ fn push_many_words(text: &mut Text, row: &[u16]) -> Result<(), Memory>
 
 // Appends two bytes for each number, the higher one first. Nearly all rows are short, and are appended
 // by one call.
-pub(crate) fn push_words(text: &mut Text, row: &[u16]) -> Result<(), Memory>
+fn push_words(text: &mut Text, row: &[u16]) -> Result<(), Memory>
     ensures { IfOk result (λ _. text.new ≡ text.old ++ words row.now) }
 {
     if row.len() <= 32 {
@@ -74,7 +74,7 @@ fn push_many_flags(text: &mut Text, row: &[bool]) -> Result<(), Memory>
 }
 
 // Appends one byte for each bit; those of a short row by one call.
-pub(crate) fn push_flags(text: &mut Text, row: &[bool]) -> Result<(), Memory>
+fn push_flags(text: &mut Text, row: &[bool]) -> Result<(), Memory>
     ensures { IfOk result (λ _. text.new ≡ text.old ++ flags row.now) }
 {
     if row.len() <= 32 {

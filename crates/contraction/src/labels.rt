@@ -1,5 +1,5 @@
 //! Classes of kept nodes, as rows of labels. A label is the first place of its class.
-ghost use Rattle.std.specs.Prelude.{◌≡◌, ℕ, ◌<◌, ◌≤◌, ◌==◌, [], ◌∷◌, if◌then◌else◌, length, map, slice_index, IfOk};
+ghost use Rattle.std.specs.Prelude.{◌≡◌, ℕ, ◌<◌, ◌≤◌, ◌^◌, ◌==◌, [], ◌∷◌, if◌then◌else◌, length, map, slice_index, IfOk};
 ghost use Rattle.station_graph.specs.declared.limits.TheConstants.{NODES};
 ghost use Rattle.station_graph.specs.Classes.{merged};
 ghost use Rattle.contraction.specs.Merging.{LabelsFit, LabelsOfBoth};
@@ -38,7 +38,7 @@ pub(crate) fn one_label(alloc: Global) -> Result<NodeList, Memory>
 
 // Each of the places in a class of its own.
 fn part(labels: &mut [u16])
-    requires { length labels.old ≤ NODES }
+    requires { length labels.old ≤ 2 ^ 16 }
     ensures { AreAlone (length labels.old) labels.new }
 {
     for k in 0..labels.len() {
@@ -78,7 +78,7 @@ pub(crate) fn label_both(
     second: &[u16],
     second_labels: &[u16],
 )
-    requires few { length labels.old ≤ NODES }
+    requires few { length labels.old ≤ 2 ^ 16 }
     requires first { LabelsFit first.now (length labels.old) first_labels.now }
     requires second { LabelsFit second.now (length labels.old) second_labels.now }
     ensures { LabelsOfBoth first.now first_labels.now second.now second_labels.now (length labels.old) labels.new }
@@ -108,16 +108,9 @@ pub(crate) fn labels_of_both(
     ensures { IfOk result
         (LabelsOfBoth first.now first_labels.now second.now second_labels.now count) }
 {
-    let mut classes = Classes::alone(alloc, count)?;
-    'firsts: for i in 0..first.len() {
-        let label = first_labels[i] as usize;
-        classes.merge(first[i], first[label]);
-    }
-    'seconds: for j in 0..second.len() {
-        let label = second_labels[j] as usize;
-        classes.merge(second[j], second[label]);
-    }
-    Ok(classes.into_labels())
+    let mut labels = vec![in alloc; 0; count as usize]?;
+    label_both(&mut labels, first, first_labels, second, second_labels);
+    list_of(alloc, &labels)
 }
 
 // Notes for each label the first of these places that has it. The places are gone through from the last one on, so

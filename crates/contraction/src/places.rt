@@ -3,9 +3,10 @@ ghost use Rattle.std.specs.Prelude.{◌≡◌, ℕ, ◌<◌, ◌≤◌, ◌↔�
 ghost use Rattle.station_graph.specs.declared.limits.TheConstants.{NODES};
 ghost use Rattle.station_graph.specs.Nodes.{Rises};
 ghost use Rattle.contraction.specs.Answers.{Keeps, SameAt, MarkedAt};
-ghost use Rattle.contraction.specs.Restricting.{PlacesOf, Picks};
+ghost use Rattle.contraction.specs.Restricting.{NamedBelow, PlacesOf, Picks};
 
 use ilk_base::Memory;
+use station_graph::limits::NODES;
 use std::alloc::Global;
 
 // The place of a kept node.
@@ -41,14 +42,30 @@ pub(crate) fn is_marked(kept: &[u16], marks: &[bool], a: u16) -> bool
     marks[place_of(kept, a)]
 }
 
+// Notes which nodes are named, of those for which there is room.
+fn note_named(named: &mut [bool], nodes: &[u16])
+    ensures { NamedBelow nodes.now (length nodes.now) named.old named.new }
+{
+    for i in 0..nodes.len() {
+        let node = nodes[i] as usize;
+        if node < named.len() {
+            named[node] = true;
+        }
+    }
+}
+
 // The places of the list at which one of these nodes stands.
 pub(crate) fn places_of(alloc: Global, kept: &[u16], nodes: &[u16]) -> Result<Vec<u16>, Memory>
     requires few { length kept.now ≤ NODES }
+    requires small { (k : ℕ) → k < length kept.now → slice_index kept.now k < NODES }
     ensures { IfOk result (λ places. PlacesOf nodes.now kept.now places.items) }
 {
+    let mut named = [false; NODES];
+    note_named(&mut named, nodes);
     let mut places = Vec::with_capacity(alloc, nodes.len())?;
     for place in 0..kept.len() {
-        if nodes.contains(&kept[place]) {
+        let is_named = named[kept[place] as usize];
+        if is_named {
             places.push(place as u16)?;
         }
     }

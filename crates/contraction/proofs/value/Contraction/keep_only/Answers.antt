@@ -1,5 +1,5 @@
-use Rattle.std.proofs.Common.{ℕ, List, length, arith, subst, sym, ap}
-use Rattle.contraction.specs.Answers.{Answers, Keeps}
+use Rattle.std.proofs.Common.{ℕ, List, subst, sym}
+use Rattle.contraction.specs.Answers.{Answers, AreNodes, Keeps}
 use Rattle.contraction.specs.Stands.{Among}
 use Rattle.contraction.specs.Composing.{Restricts}
 use Rattle.contraction.specs.Inside.{answers_of}
@@ -11,9 +11,9 @@ use Rattle.contraction.proofs.RisingLemmas.{kept_is}
 use Rattle.contraction.proofs.value.Contraction.keep_only.Goals as goal
 
 pub places_of-requires : goal.places_of-requires
-places_of-requires c = record {
-  few = omega (arith, few_nodes c.self.inside.kept.items c.self.invariant.nodes, ap length c.deref.ensures.value);
-}
+places_of-requires c =
+    let nodes : AreNodes c.deref.result.now = subst AreNodes (sym c.deref.ensures.value) c.self.invariant.nodes in
+    record { few = few_nodes c.deref.result.now nodes; small = nodes.small }
 
 pub at-requires-clause-few : goal.at-requires-clause-few
 at-requires-clause-few c =
