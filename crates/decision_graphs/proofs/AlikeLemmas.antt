@@ -1,6 +1,6 @@
 -- A layer is folded as one that is the same.
-use Rattle.std.proofs.Common.{◌≡◌, ℕ, ◌+◌, ◌-◌, ◌*◌, ◌<◌, ◌≤◌, List, length, slice_index, sym, ap, ◌∙◌, subst, arith}
-use Rattle.decision_graphs.specs.Folding.{Folding, folding_at, IsFolded, IsFoldedAt, IsStack}
+use Rattle.std.proofs.Common.{◌≡◌, ℕ, ◌+◌, ◌-◌, ◌*◌, ◌<◌, List, length, slice_index, sym, ap, ◌∙◌, subst, arith}
+use Rattle.decision_graphs.specs.Folding.{Folding, folding_at, IsFoldedAt, IsStack}
 use Rattle.decision_graphs.specs.Shapes.{GraphLists, shape_at, place}
 use Rattle.decision_graphs.specs.Same.{SameLayer, SameFolding}
 

@@ -1,5 +1,5 @@
 -- Layers that are the same, and foldings after which they are folded alike.
-use Rattle.std.specs.Prelude.{◌≡◌, ℕ, ◌<◌, List, slice_index}
+use Rattle.std.specs.Prelude.{◌≡◌, ℕ, ◌<◌, slice_index}
 use Rattle.decision_graphs.specs.Folding.{Folding}
 use Rattle.decision_graphs.specs.Shapes.{GraphLists, shape_at, place}
 

@@ -1,4 +1,4 @@
-use Rattle.std.proofs.Common.{◌≡◌, ℕ, ◌<◌, ◌+◌, ◌-◌, length, map, refl, sym, subst, arith}
+use Rattle.std.proofs.Common.{◌-◌, length, map, refl, sym, subst, arith}
 use Rattle.std.proofs.lemmas.List.{length-map}
 use Rattle.decision_graphs.specs.Folding.{Folding, folding_at}
 use Rattle.decision_graphs.specs.FoldedView.{folding_of}

@@ -1,7 +1,7 @@
-use Rattle.std.proofs.Common.{◌≡◌, ℕ, ◌<◌, ◌+◌, ◌-◌, suc, length, slice_index, List, map, sym, ap, subst, arith}
+use Rattle.std.proofs.Common.{◌≡◌, ℕ, ◌<◌, ◌-◌, suc, length, slice_index, List, map, ap, subst, arith}
 use Rattle.std.proofs.lemmas.List.{length-map}
 use Rattle.decision_graphs.specs.Shapes.{size_of}
-use Rattle.decision_graphs.specs.Folding.{Folding, folding_at}
+use Rattle.decision_graphs.specs.Folding.{Folding}
 use Rattle.decision_graphs.specs.FoldedView.{folding_of}
 use Rattle.decision_graphs.specs.LaidOut.{lists_in}
 use Rattle.decision_graphs.proofs.StackLemmas.{stack_len, stack_in, folding_read}
