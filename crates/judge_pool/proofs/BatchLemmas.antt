@@ -14,7 +14,7 @@ use Rattle.judge_pool.specs.declared.batch.Made.{Made}
 use Rattle.judge_pool.specs.declared.batch.Batch.{Batch}
 use Rattle.judge_pool.specs.declared.pool.Pool.{Pool}
 use Rattle.judge_pool.specs.Pooling.{WasMade, MakesEach, HasBatch, NotesAreRight, composition, same_batch}
-use Rattle.judge_pool.specs.Pooling.{letter_lists, IsPool, GrewTo, CanCompose}
+use Rattle.judge_pool.specs.Pooling.{letter_lists, Extends, IsPool, GrewTo, CanCompose}
 use Rattle.judge_pool.specs.Layering.{no_answers}
 use Rattle.judge_pool.proofs.LayeringLemmas.{Grows, grew_of, grew_in, keep_in, either_more}
 use Rattle.judge_pool.proofs.PastLemmas.{layers_stay}
@@ -46,18 +46,19 @@ are_made_more p q g b letters ids m = record {
   made = λ c j t at_c at_t. was_made_more p q g (composition b j) t (m.made c j t at_c at_t);
 }
 
-pub batch_stays : (p q : Pool) → Grows p q → (b : Batch) (start : ℕ) → HasBatch p b start → HasBatch q b start
-batch_stays p q g b start h = record {
+pub batch_stays : (p q : Pool) → Grows p q → Extends p.made.items q.made.items → (b : Batch) (start : ℕ) →
+    HasBatch p b start → HasBatch q b start
+batch_stays p q g more b start h = record {
   letters = h.letters;
   ids = h.ids;
   listed = g.letters b.letters h.letters h.listed;
   made = are_made_more p q g b h.letters h.ids h.made;
-  at = λ c t at. g.made (start + c) t (h.at c t at);
+  at = λ c t at. more (start + c) t (h.at c t at);
 }
 
-pub notes_stay : {S : Type 0} (p q : Pool) → Grows p q → (m : HashMap Batch ℕ S) → NotesAreRight p m →
-    NotesAreRight q m
-notes_stay p q g m right b start e = batch_stays p q g b start (right b start e)
+pub notes_stay : {S : Type 0} (p q : Pool) → Grows p q → Extends p.made.items q.made.items → (m : HashMap Batch ℕ S) →
+    NotesAreRight p m → NotesAreRight q m
+notes_stay p q g more m right b start e = batch_stays p q g more b start (right b start e)
 
 pub can_more : (p q : Pool) (k : Made) → GrewTo p q → CanCompose p k → CanCompose q k
 can_more p q k g h = record {
@@ -76,13 +77,12 @@ selects_other p s h =
       keeps = λ k ns at. at;
       values = λ i x at. at;
       letters = λ l ids at. at;
-      made = λ i t at. at;
     } in
     grew_of p q (record {
       index = h.index;
       apart = h.apart;
       well = h.well;
-      notes = notes_stay p q g p.notes h.notes;
+      notes = notes_stay p q g (λ i t at. at) p.notes h.notes;
       layers = layers_stay p q g p.layers.items h.layers;
     }) g
 

@@ -98,13 +98,12 @@ pub record Grows (old new : Pool) : Type 0 where
   pub keeps : Extends old.keeps.items new.keeps.items
   pub values : Extends old.values.items new.values.items
   pub letters : Extends (letter_lists old) (letter_lists new)
-  pub made : Extends old.made.items new.made.items
 
 pub sound : (p : Pool) → IsPool p → AreSound p
 sound p h = record { apart = h.apart; rising = λ t r at. (h.well t r at).nodes.rises }
 
 pub grows : (p q : Pool) → GrewTo p q → Grows p q
-grows p q g = record { view = g.view; keeps = g.keeps; values = g.values; letters = g.letters; made = g.made }
+grows p q g = record { view = g.view; keeps = g.keeps; values = g.values; letters = g.letters }
 
 -- a pool of which nothing was taken
 pub grew_of : (p q : Pool) → IsPool q → Grows p q → GrewTo p q
@@ -114,7 +113,6 @@ grew_of p q h g = record {
   keeps = g.keeps;
   values = g.values;
   letters = g.letters;
-  made = g.made;
 }
 
 pub grows_same : (p : Pool) → Grows p p
@@ -123,7 +121,6 @@ grows_same p = record {
   keeps = λ k ns at. at;
   values = λ i x at. at;
   letters = λ l ids at. at;
-  made = λ i t at. at;
 }
 
 pub grows_more : (p q r : Pool) → Grows p q → Grows q r → Grows p r
@@ -132,7 +129,6 @@ grows_more p q r a b = record {
   keeps = λ k ns at. b.keeps k ns (a.keeps k ns at);
   values = λ i x at. b.values i x (a.values i x at);
   letters = λ l ids at. b.letters l ids (a.letters l ids at);
-  made = λ i t at. b.made i t (a.made i t at);
 }
 
 pub grew_same : (p : Pool) → IsPool p → GrewTo p p

@@ -71,7 +71,6 @@ grows_self p = record {
   keeps = λ k ns at. ap (λ xs. slice_get xs k) (lists_self p.keeps.items) ∙ at;
   values = λ i x at. ap (λ xs. slice_get xs i) (values_self p.values.items) ∙ at;
   letters = λ l ids at. at;
-  made = λ i t at. at;
 }
 
 pub order_self : KeepsOrder (λ n. n)
@@ -86,7 +85,6 @@ module _ (f : ℕ → ℕ) where
     keeps = extends_mapped (map f) p.keeps.items q.keeps.items g.keeps;
     values = extends_mapped (mapped f) p.values.items q.values.items g.values;
     letters = g.letters;
-    made = g.made;
   }
 
   pub linked_on : (p : Pool) (start : ℕ) (letters : List (List ℕ)) (keeps : List ℕ) → AreLinked p start letters keeps →

@@ -30,7 +30,6 @@ pool_on f p = record {
   index = p.index;
   keeps = with_mapped (map f) p.keeps;
   letters = p.letters;
-  list_places = p.list_places;
   layers = p.layers;
   layer_places = p.layer_places;
   made = p.made;

@@ -55,7 +55,7 @@ composition b letter = record { first = b.first; second = letter; keep = b.keep 
 
 -- The lists of numbers of the pool: of letters, and of the states of layers.
 abbrev pub letter_lists : Pool → List (List ℕ)
-letter_lists p = map (λ v. v.items) p.letters.items
+letter_lists p = map (λ v. v.items) p.letters.keys
 
 -- Letter by letter, these are the numbers of what the value of the batch and the letter make together.
 pub record MakesEach (p : Pool) (b : Batch) (letters ids : List ℕ) : Type 0 where
@@ -145,14 +145,13 @@ pub record IsPool (p : Pool) : Type 0 where
   pub notes : NotesAreRight p p.notes
   pub layers : AreKnown p p.layers.items
 
--- The pool has what it had, and maybe more values, lists of nodes, lists of numbers and numbers of made values.
+-- The pool has what it had, and maybe more values, lists of nodes and lists of numbers. Batches may be forgotten.
 pub record GrewTo (old new : Pool) : Type 0 where
   pub is_pool : IsPool new
   pub view : new.view ≡ old.view
   pub keeps : Extends old.keeps.items new.keeps.items
   pub values : Extends old.values.items new.values.items
   pub letters : Extends (letter_lists old) (letter_lists new)
-  pub made : Extends old.made.items new.made.items
 
 -- The pool has a value that is the same as this one in its view.
 pub record HasSame (p : Pool) (value : Answers) (t : ℕ) : Type 0 where

@@ -1,4 +1,4 @@
-//! Compositions of values of a pool, by batches, each made once.
+//! Compositions of values of a pool, by batches, each made once until all of them are forgotten.
 ghost use Rattle.std.specs.Prelude.{◌≡◌, ℕ, ◌+◌, ◌<◌, ◌≤◌, ◌⊎◌, ◌↔◌, length, map, slice_get, Some};
 ghost use Rattle.std.specs.Prelude.{IfOk, IfSome, OnOk, Contains, IsTrue};
 ghost use Rattle.contraction.specs.Answers.{Keeps};
@@ -8,6 +8,7 @@ ghost use Rattle.judge_pool.specs.Pooling.{WasMade, MakesEach, HasBatch, NotesAr
 ghost use Rattle.judge_pool.specs.Pooling.{IsRowIn, IsToldBy};
 
 use crate::batch::{Batch, Made};
+use crate::lists::{narrowed, note_list};
 use crate::pool::{Pool, find_row};
 use crate::view::View;
 use contraction::{Contraction, Selection};
@@ -15,6 +16,9 @@ use ilk_base::{Memory, Text};
 use station_graph::NodeList;
 use std::alloc::Global;
 use std::collections::HashMap;
+
+// So many compositions are held in batches, and not many more.
+const MANY: usize = 2_000_000;
 
 // The selection of these of the nodes that two values keep: the one at hand where it is that, else a new one.
 fn selection_for(
@@ -83,49 +87,6 @@ fn note_batch(notes: &mut HashMap<Batch, usize>, batch: Batch, start: usize) -> 
     Ok(())
 }
 
-// Whether two lists of numbers are the same.
-fn same_numbers(one: &[usize], other: &[usize]) -> bool
-    ensures { IsTrue result → one.now ≡ other.now }
-{
-    one == other
-}
-
-// Whether the list stands at this place.
-fn is_list(lists: &[Vec<usize>], place: usize, letters: &[usize]) -> bool
-    requires { place < length lists.now }
-    ensures { IsTrue result → slice_get (map (λ v. v.items) lists.now) place ≡ Some letters.now }
-{
-    same_numbers(&lists[place], letters)
-}
-
-// The place, if the list stands there.
-fn list_at(lists: &[Vec<usize>], place: usize, letters: &[usize]) -> Option<usize>
-    ensures { IfSome result (λ l. slice_get (map (λ v. v.items) lists.now) l ≡ Some letters.now) }
-{
-    if place >= lists.len() {
-        return None;
-    }
-    if is_list(lists, place, letters) {
-        Some(place)
-    } else {
-        None
-    }
-}
-
-// The place of the list among these, which is looked for where it was noted.
-fn find_letters(
-    places: &HashMap<Vec<usize>, usize>,
-    lists: &[Vec<usize>],
-    letters: &Vec<usize>,
-) -> Option<usize>
-    ensures { IfSome result (λ l. slice_get (map (λ v. v.items) lists.now) l ≡ Some letters.now.items) }
-{
-    match places.get(letters) {
-        Some(place) => list_at(lists, *place, letters),
-        None => None,
-    }
-}
-
 impl Pool {
     // The number of the list of letters or states, which the pool has once.
     pub(crate) fn note_letters(&mut self, alloc: Global, letters: &[usize]) -> Result<usize, Memory>
@@ -133,19 +94,12 @@ impl Pool {
         ensures grew { OnOk result (GrewTo self.old self.new) }
         ensures noted { IfOk result (λ l. slice_get (letter_lists self.new) l ≡ Some letters.now) }
     {
-        let list = Vec::from_slice(alloc, letters)?;
-        if let Some(place) = find_letters(&self.list_places, &self.letters, &list) {
-            return Ok(place);
-        }
-        let key = Vec::from_slice(alloc, letters)?;
-        let held = self.letters.as_slice();
-        let place = held.len();
-        self.letters.push(list)?;
-        self.list_places.insert(key, place)?;
+        let list = narrowed(alloc, letters)?;
+        let place = note_list(&mut self.letters, list)?;
         Ok(place)
     }
 
-    // Where the batch of the value with these letters, which have the number, begins. It is made once.
+    // Where the batch of the value with these letters, which have the number, begins. It is made where it is not noted.
     pub(crate) fn batch(
         &mut self,
         alloc: Global,
@@ -170,9 +124,22 @@ impl Pool {
         if let Some(start) = find_batch(&self.notes, batch) {
             return Ok(start);
         }
+        self.forget_batches();
         let start = self.make_batch(alloc, batch, letters)?;
         note_batch(&mut self.notes, batch, start)?;
         Ok(start)
+    }
+
+    // Forgets all batches where they are many. Those that come again mostly come soon, so it costs little time.
+    fn forget_batches(&mut self)
+        requires { IsPool self.old }
+        ensures { GrewTo self.old self.new }
+    {
+        if self.made.len() < MANY {
+            return;
+        }
+        self.notes.clear();
+        self.made.clear();
     }
 
     // Composes the batch, and puts it behind the others.

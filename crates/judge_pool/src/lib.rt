@@ -8,6 +8,7 @@ mod fold;
 mod known;
 mod layer;
 mod limits;
+mod lists;
 mod past;
 mod pool;
 mod view;

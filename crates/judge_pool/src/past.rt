@@ -10,6 +10,7 @@ ghost use Rattle.judge_pool.specs.declared.limits.TheConstants.{ALL_EDGES};
 
 use crate::known::{KnownLayer, LayerKey};
 use crate::layer::{Step, Trouble, next_layer};
+use crate::lists::{list_at, widened};
 use crate::pool::Pool;
 use ilk_base::Memory;
 use std::alloc::Global;
@@ -57,12 +58,12 @@ fn find_layer(
 }
 
 // The same states and edges again.
-fn step_again(alloc: Global, next: &[usize], edges: &[u32]) -> Result<Step, Memory>
+fn step_again(alloc: Global, next: &[u32], edges: &[u32]) -> Result<Step, Memory>
     ensures next { IfOk result (λ s. s.next.items ≡ next.now) }
     ensures edges { IfOk result (λ s. s.edges.items ≡ edges.now) }
 {
     Ok(Step {
-        next: Vec::from_slice(alloc, next)?,
+        next: widened(alloc, next)?,
         edges: Vec::from_slice(alloc, edges)?,
     })
 }
@@ -99,7 +100,9 @@ impl Pool {
             s.edges.items ≡ l.edges.items) }
     {
         let layer = &self.layers[place];
-        let step = step_again(alloc, &self.letters[layer.next], &layer.edges)?;
+        let lists = self.letters.as_slice();
+        let next = list_at(lists, layer.next);
+        let step = step_again(alloc, next, &layer.edges)?;
         Ok(step)
     }
 

@@ -11,14 +11,15 @@ use crate::known::{KnownLayer, LayerKey};
 use crate::view::{View, row_in};
 use contraction::{Contraction, Selection};
 use ilk_base::{Memory, Text};
+use indexmap::IndexSet;
 use station_graph::NodeList;
 use std::alloc::Global;
 use std::collections::HashMap;
 
 /// Values of one view, each once, with lists of nodes that values are to keep. Batches of compositions stand one behind
-/// the other, and where each begins is noted, so that none is made twice; so are the layers of graphs, by the lists of
-/// their states and letters. The selection of the last composition is at hand for the next, which is mostly of values
-/// on the same nodes.
+/// the other, and where each begins is noted, so that none is made twice, but for those that were forgotten when they
+/// were many; so are the layers of graphs, by the lists of their states and letters. The selection of the last
+/// composition is at hand for the next, which is mostly of values on the same nodes.
 #[derive(Drop)]
 pub struct Pool {
     /// the view
@@ -28,8 +29,7 @@ pub struct Pool {
     pub(crate) index: HashMap<Text, usize>,
     /// the lists of nodes, by number
     pub keeps: Vec<NodeList>,
-    pub(crate) letters: Vec<Vec<usize>>,
-    pub(crate) list_places: HashMap<Vec<usize>, usize>,
+    pub(crate) letters: IndexSet<Vec<u32>>,
     pub(crate) layers: Vec<KnownLayer>,
     pub(crate) layer_places: HashMap<LayerKey, usize>,
     pub(crate) made: Vec<usize>,
@@ -83,8 +83,7 @@ impl Pool {
             values: Vec::new(alloc),
             index: HashMap::new(alloc),
             keeps,
-            letters: Vec::new(alloc),
-            list_places: HashMap::new(alloc),
+            letters: IndexSet::new(alloc),
             layers: Vec::new(alloc),
             layer_places: HashMap::new(alloc),
             made: Vec::new(alloc),

@@ -19,13 +19,12 @@ returns-clause-grew c =
       keeps = subst (λ ks. Extends p.keeps.items ks) (sym items) more;
       values = λ i x at. at;
       letters = λ l ids at. at;
-      made = λ i t at. at;
     } in
     grew_of p q (record {
       index = c.requires.index;
       apart = c.requires.apart;
       well = c.requires.well;
-      notes = notes_stay p q g p.notes c.requires.notes;
+      notes = notes_stay p q g (λ i t at. at) p.notes c.requires.notes;
       layers = layers_stay p q g p.layers.items c.requires.layers;
     }) g
 

@@ -21,13 +21,15 @@ returns-clause-grew c =
       keeps = λ k ns at. at;
       values = λ i x at. at;
       letters = λ l ls at. at;
-      made = subst (λ xs. Extends q.made.items xs) (sym items) (λ i t at. get_front q.made.items ids i t at);
     } in
     grew_more p q r h (grew_of q r (record {
       index = h.is_pool.index;
       apart = h.is_pool.apart;
       well = h.is_pool.well;
-      notes = notes_stay q r g q.notes h.is_pool.notes;
+      notes =
+          notes_stay q r g
+          (subst (λ xs. Extends q.made.items xs) (sym items) (λ i t at. get_front q.made.items ids i t at)) q.notes
+          h.is_pool.notes;
       layers = layers_stay q r g q.layers.items h.is_pool.layers;
     }) g)
 
@@ -47,7 +49,6 @@ returns-clause-batch c =
       keeps = λ k ns at. at;
       values = λ i x at. at;
       letters = λ l ls at. at;
-      made = subst (λ xs. Extends q.made.items xs) (sym items) (λ i t at. get_front q.made.items ids i t at);
     } in
     record {
       letters = letters;

@@ -39,7 +39,6 @@ returns c =
       keeps = λ k ns at. at;
       values = λ i x at. at;
       letters = λ l ls at. at;
-      made = λ i t at. at;
     } in
     record {
       grew =
@@ -47,7 +46,7 @@ returns c =
             index = h.is_pool.index;
             apart = h.is_pool.apart;
             well = h.is_pool.well;
-            notes = notes_stay q r g q.notes h.is_pool.notes;
+            notes = notes_stay q r g (λ i t at. at) q.notes h.is_pool.notes;
             layers =
                 subst (AreKnown r) (sym c.in_ok-push.ensures.items)
                 (layers_more r q.layers.items new (layers_stay q r g q.layers.items h.is_pool.layers)

@@ -24,7 +24,6 @@ returns-clause-grew c =
       keeps = λ k ns at. at;
       values = subst (λ vs. Extends p.values.items vs) (sym items) more;
       letters = λ l ids at. at;
-      made = λ i t at. at;
     } in
     grew_of p q (record {
       index =
@@ -35,7 +34,7 @@ returns-clause-grew c =
           (λ i y at same. c.requires.new i y at
           (c.requires.row ∙ rows_told p.view x y well_x (h.well i y at) same)));
       well = subst (λ vs. AreWell vs) (sym items) (well_more p.view p.values.items x h.well well_x);
-      notes = notes_stay p q g p.notes h.notes;
+      notes = notes_stay p q g (λ i t at. at) p.notes h.notes;
       layers = layers_stay p q g p.layers.items h.layers;
     }) g
 
