@@ -15,4 +15,4 @@ mod stock;
 
 pub use bay::{Bay, bay_graphs};
 pub use graphs::{BayGraphs, ViewGraphs};
-pub use stock::{Stock, stock_of};
+pub use stock::{Stock, renew_large, stock_of};

@@ -1,5 +1,5 @@
 //! What the graphs of one view are made of, over the whole station.
-ghost use Rattle.std.specs.Prelude.{IfOk};
+ghost use Rattle.std.specs.Prelude.{IfOk, OnOk};
 ghost use Rattle.bay_contract.specs.Alphabets.{AreAlphabets};
 ghost use Rattle.judge_pool.specs.Lettered.{lettered};
 ghost use Rattle.judge_intake.specs.SharedNodes.{AreShared};
@@ -13,6 +13,9 @@ use judge_intake::letter_rows;
 use judge_pool::{Pool, View};
 use station_graph::{NodeList, Station};
 use std::alloc::Global;
+
+// A stock of so many values is large.
+const MANY_VALUES: usize = 400_000;
 
 /// Values of one view, the numbers of each part's letters among them, and the outer graphs of bays and the inner ones
 /// of switches that were unlike all before them.
@@ -47,4 +50,33 @@ pub fn stock_of(
             labelled: Vec::new(alloc),
         },
     })
+}
+
+impl Stock {
+    // Whether its values take more room than they save time.
+    fn is_large(&self) -> bool {
+        self.pool.values.len() >= MANY_VALUES
+    }
+}
+
+/// Puts a new stock in place of a large one. What the next bays have in common with those before is then made again,
+/// and what they have not takes no more room.
+pub fn renew_large(
+    alloc: Global,
+    view: View,
+    station: &Station,
+    parts: &Parts,
+    shared: &[NodeList],
+    stock: &mut Stock,
+) -> Result<(), Memory>
+    requires lettered { AreAlphabets station.now parts.now }
+    requires shared { AreShared station.now shared.now }
+    requires stock { IsStock (lettered station.now parts.now) view stock.old }
+    ensures { OnOk result (IsStock (lettered station.now parts.now) view stock.new) }
+{
+    if !stock.is_large() {
+        return Ok(());
+    }
+    *stock = stock_of(alloc, view, station, parts, shared)?;
+    Ok(())
 }

@@ -24,7 +24,7 @@ use crate::refusal::BuildRefusal;
 use bay_contract::{Parts, PartsRefusal};
 use decision_graphs::Graph;
 use ilk_base::{BayId, Memory, SwitchId};
-use judge_graphs::{BayGraphs, Stock, bay_graphs, stock_of};
+use judge_graphs::{BayGraphs, Stock, bay_graphs, renew_large, stock_of};
 use judge_intake::{Sharing, sharing_of};
 use judge_pool::{ALL_EDGES, BAY_EDGES, Trouble, View};
 use station_graph::Station;
@@ -122,6 +122,8 @@ fn all_bays(
             Ok(made) => {
                 spent += left - made.left;
                 keep(&mut bays, made.graphs)?;
+                renew_large(alloc, View::Gap, station, parts, &sharing.parts, &mut gap)?;
+                renew_large(alloc, View::Load, station, parts, &sharing.parts, &mut load)?;
             }
             Err(Trouble::Memory) => {
                 return Err(BuildRefusal::Memory);

@@ -35,8 +35,8 @@ loop-part-preserved c =
       told =
           subst (λ bs. HaveTold bs) (sym c.in_ok-keep-in-Ok.ensures)
           (told_more c.loop-part.bays.items c.in-Ok.made.graphs c.loop-part.invariant.told c.in-Ok.ensures.told);
-      gap = c.in-Ok.ensures.gap;
-      load = c.in-Ok.ensures.load;
+      gap = c.in_ok-renew_large-in-Ok.ensures;
+      load = c.in_ok-renew_large-in-Ok-2.ensures;
       spent = omega (arith, c.allowed-left.ensures.all, c.loop-part.invariant.spent);
       edges =
           keep_more c.args.station.now c.loop-part.part c.loop-part.spent (c.allowed-left.result - c.in-Ok.made.left)
