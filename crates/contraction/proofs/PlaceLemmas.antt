@@ -1,15 +1,23 @@
 -- The places at which named nodes stand, place by place.
 use Rattle.std.proofs.Common.{◌≡◌, ℕ, ◌+◌, ◌<◌, Bool, true, false, List, [], ◌∷◌, ◌++◌, length, slice_index}
-use Rattle.std.proofs.Common.{slice_get, get_or, replicate, refl, sym, ◌∙◌, subst, inl, inr, arith, Some, ap}
+use Rattle.std.proofs.Common.{slice_index_or, slice_get, get_or, replicate, eqb, eq-eqb, refl, sym, ◌∙◌, subst}
+use Rattle.std.proofs.Common.{inl, inr, arith, Some, ap}
 use Rattle.std.specs.Prelude.{Contains}
-use Rattle.std.proofs.lemmas.Bool.{false≢true}
-use Rattle.std.proofs.lemmas.Bool.{cases_lt}
+use Rattle.std.specs.List.{IsAnyAnswer}
+use Rattle.std.proofs.lemmas.Bool.{false≢true, eqb-true, cases_lt}
 use Rattle.std.proofs.lemmas.List.{length_push, get_or_default}
 use Rattle.std.proofs.lemmas.Option.{slice_get_within, slice_get-get_or, get_or_from_slice_get, same_Some}
 use Rattle.contraction.specs.Answers.{Keeps}
 use Rattle.contraction.specs.Restricting.{NamedBelow, PlacesBelow}
 use Rattle.contraction.proofs.EmptyLemmas.{no_true, length-replicate_false}
 use Rattle.contraction.proofs.MergeLemmas.{push_old, push_new, rises_push}
+
+-- a list that is asked for a node has it or not
+pub has_answer : (xs : List ℕ) (n : ℕ) (b : Bool) → IsAnyAnswer (λ y c. eqb y n ≡ c) xs b →
+    (b ≡ true → Contains xs n) × (b ≡ false → ¬ Contains xs n)
+has_answer xs n true h = (λ e. (h.0, h.1, eqb-true (slice_index_or xs h.0 n) n (h.2 n)), λ e. cc)
+has_answer xs n false h =
+    (λ e. cc, λ e c. let f = h c.0 n (omega arith) c.1 in let t = eq-eqb (slice_index_or xs c.0 n) n c.2 in cc)
 
 -- what is noted of a node says whether it is named
 pub named_answer : (nodes : List ℕ) (old named : List Bool) (size n : ℕ) (b : Bool) → old ≡ replicate size false →

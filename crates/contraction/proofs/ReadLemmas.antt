@@ -1,5 +1,6 @@
 -- What is read from a row is the value whose row it is, bare in the other view.
-use Rattle.std.proofs.Common.{◌≡◌, ℕ, ◌+◌, ◌*◌, ◌/◌, ◌≤◌, ◌⊎◌, ◌↔◌, ◌++◌, Bool, false, List, [], length, slice_get, replicate, take, drop}
+use Rattle.std.proofs.Common.{◌≡◌, ℕ, ◌+◌, ◌*◌, ◌/◌, ◌≤◌, ◌⊎◌, ◌↔◌, ◌++◌, Bool, false, List, [], length}
+use Rattle.std.proofs.Common.{slice_get, replicate, take, drop}
 use Rattle.std.proofs.Common.{refl, sym, ◌∙◌, ap, subst, arith, append_assoc}
 use Rattle.std.specs.Prelude.{Contains}
 use Rattle.std.specs.List.{between}
@@ -98,7 +99,8 @@ module _ (c : Answers) (w : IsContraction c) where
       kept =
           ap (λ (l : List ℕ). take (2 * n) l) is ∙ take_at (words c.kept) _ (2 * n) long_kept;
       coupled =
-          ap (λ (l : List ℕ). between (2 * n) (4 * n) l) (gap_flat ∙ append_assoc (words c.kept ++ words c.coupled) (flags c.energisable) (flags c.earthable))
+          ap (λ (l : List ℕ). between (2 * n) (4 * n) l) (gap_flat ∙ append_assoc (words c.kept ++ words c.coupled)
+          (flags c.energisable) (flags c.earthable))
           ∙ mid (words c.kept) (words c.coupled) (flags c.energisable ++ flags c.earthable) (2 * n) (4 * n) long_kept
           (omega (arith, long_kept, long_coupled));
       energisable =
@@ -166,8 +168,8 @@ module _ (c : Answers) (w : IsContraction c) where
       long = long_load;
       kept = ap (λ (l : List ℕ). take (2 * n) l) is ∙ take_at (words c.kept) _ (2 * n) long_kept;
       joined =
-          ap (λ (l : List ℕ). between (2 * n) (4 * n) l) (load_flat ∙ three_right (words c.kept ++ words c.joined) (words c.bonded)
-          (flags c.fed) (flags c.loaded))
+          ap (λ (l : List ℕ). between (2 * n) (4 * n) l) (load_flat ∙ three_right (words c.kept ++ words c.joined)
+          (words c.bonded) (flags c.fed) (flags c.loaded))
           ∙ mid (words c.kept) (words c.joined) (words c.bonded ++ flags c.fed ++ flags c.loaded) (2 * n) (4 * n)
           long_kept (omega (arith, long_kept, length-words c.joined, w.joined.len));
       bonded =

@@ -13,7 +13,8 @@ adds_seen s wide x x1 y y1 old new ex ey h =
     subst (λ z. AddsMarks s wide x1 z old new) ey (subst (λ z. AddsMarks s wide z y old new) ex h)
 
 module _ (s : Layout) (x y : Row) (wide : List ℕ)
-    (composes : LabelsOfBoth s.union.first.items x.labels s.union.second.items y.labels (length s.union.kept.items) wide)
+    (composes : LabelsOfBoth s.union.first.items x.labels s.union.second.items y.labels (length s.union.kept.items)
+    wide)
     (start one : List ℕ) (begins : start ≡ s.bytes) (labels : AddsLabels wide s.places.items start one) where
   pub load_text_of : (x_bonds y_bonds two three four : List ℕ) → AddsBonds s x_bonds y_bonds one two →
       AddsMarks s wide x.first.items y.first.items two three →

@@ -1,5 +1,6 @@
 //! Classes of kept nodes, as rows of labels. A label is the first place of its class.
-ghost use Rattle.std.specs.Prelude.{◌≡◌, ℕ, ◌<◌, ◌≤◌, ◌^◌, ◌==◌, [], ◌∷◌, if◌then◌else◌, length, map, slice_index, IfOk};
+ghost use Rattle.std.specs.Prelude.{◌≡◌, ℕ, ◌<◌, ◌≤◌, ◌^◌, ◌==◌, [], ◌∷◌, if◌then◌else◌, length, map};
+ghost use Rattle.std.specs.Prelude.{slice_index, IfOk};
 ghost use Rattle.station_graph.specs.declared.limits.TheConstants.{NODES};
 ghost use Rattle.station_graph.specs.Classes.{merged};
 ghost use Rattle.contraction.specs.Merging.{LabelsFit, LabelsOfBoth};

@@ -58,8 +58,8 @@ fn bits_of(alloc: Global, bytes: &[u8]) -> Result<Vec<bool>, Memory>
 }
 
 impl Contraction {
-    /// The value that this gap row tells: it has that row, and in the load view it is that of no item. So who has worked
-    /// out a row makes its value without composing again.
+    /// The value that this gap row tells: it has that row, and in the load view it is that of no item. So who has
+    /// worked out a row makes its value without composing again.
     ///
     /// Time and memory: the row.
     pub fn of_gap_row(alloc: Global, row: &Text) -> Result<Contraction, Memory>

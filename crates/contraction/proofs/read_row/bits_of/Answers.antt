@@ -6,4 +6,5 @@ use Rattle.contraction.proofs.read_row.bits_of.Goals as goal
 pub returns : goal.returns
 returns c = λ bits e.
     c.loop-byte.invariant
-    ∙ ap (map (λ (b : ℕ). eqb b 1)) (take_all c.loop-byte.byte-index c.args.bytes.now (omega arith) ∙ e) ∙ bits_back bits
+    ∙ ap (map (λ (b : ℕ). eqb b 1)) (take_all c.loop-byte.byte-index c.args.bytes.now (omega arith) ∙ e)
+    ∙ bits_back bits

@@ -39,7 +39,8 @@ returns c =
     let x = c.self.inside in
     let y = c.other.inside in
     let t = c.selection.inside in
-    if_ok c.gap_text.result (IsGapText t.layout x.gap y.gap) (IsGapRowOfBoth c.args.selection.now.nodes c.args.self.now c.args.other.now)
+    if_ok c.gap_text.result (IsGapText t.layout x.gap y.gap)
+    (IsGapRowOfBoth c.args.selection.now.nodes c.args.self.now c.args.other.now)
     (λ bytes h. gap_row_on x y t c.args.self.now c.args.other.now c.args.selection.now c.self.invariant
     c.other.invariant c.selection.invariant c.self.view_is c.other.view_is c.selection.view_is c.requires.first
     c.requires.second c.requires.nodes bytes h) c.gap_text.ensures

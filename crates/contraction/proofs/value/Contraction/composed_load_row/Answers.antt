@@ -46,8 +46,8 @@ load_text-requires-clause-first_bonds c =
     laid_on x y t c.args.self.now c.args.other.now c.args.selection.now c.self.invariant c.other.invariant
     c.selection.invariant c.self.view_is c.other.view_is c.selection.view_is c.requires.first c.requires.second in
     subst (λ l. LabelsFit t.layout.union.first.items (length t.layout.union.kept.items) l)
-    (sym c.numbers-x_bonds.ensures) (first_labels_fit x y c.self.invariant c.other.invariant c.args.selection.now.nodes t.layout laid x.bonded
-    c.self.invariant.bonded)
+    (sym c.numbers-x_bonds.ensures) (first_labels_fit x y c.self.invariant c.other.invariant
+    c.args.selection.now.nodes t.layout laid x.bonded c.self.invariant.bonded)
 
 pub load_text-requires-clause-second_bonds : goal.load_text-requires-clause-second_bonds
 load_text-requires-clause-second_bonds c =
@@ -58,8 +58,8 @@ load_text-requires-clause-second_bonds c =
     laid_on x y t c.args.self.now c.args.other.now c.args.selection.now c.self.invariant c.other.invariant
     c.selection.invariant c.self.view_is c.other.view_is c.selection.view_is c.requires.first c.requires.second in
     subst (λ l. LabelsFit t.layout.union.second.items (length t.layout.union.kept.items) l)
-    (sym c.numbers-y_bonds.ensures) (second_labels_fit x y c.self.invariant c.other.invariant c.args.selection.now.nodes t.layout laid y.bonded
-    c.other.invariant.bonded)
+    (sym c.numbers-y_bonds.ensures) (second_labels_fit x y c.self.invariant c.other.invariant
+    c.args.selection.now.nodes t.layout laid y.bonded c.other.invariant.bonded)
 
 pub returns : goal.returns
 returns c =
