@@ -8,3 +8,5 @@ pub mod MirrorLemmas
 mod WideLemmas
 mod LikeLemmas
 mod IdleLemmas
+mod WalkLemmas
+mod OrderLemmas

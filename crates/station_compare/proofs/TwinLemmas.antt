@@ -1,11 +1,8 @@
 -- A switch is the same as one switch alone.
 use Rattle.std.proofs.Common.{◌≡◌, ℕ, ◌<◌, [], length, slice_get, Some, sym, ap, ◌∙◌, arith}
-use Rattle.std.proofs.lemmas.Option.{slice_get_within, slice_get-get_or, same_Some}
-use Rattle.station_graph.specs.declared.items.Switch.{Switch}
+use Rattle.std.proofs.lemmas.Option.{slice_get_within, slice_get-get_or}
 use Rattle.station_graph.specs.Diagram.{Diagram, IsStation, switch_path}
 use Rattle.station_changes.specs.Compare.{SameSwitch}
-use Rattle.station_compare.specs.Width.{IsWideSwitch}
-use Rattle.station_compare.specs.Comparing.{IsWideBay}
 
 path_at : (d : Diagram) (i : ℕ) → IsStation d → i < length d.switches →
     slice_get d.switch_paths i ≡ Some (switch_path d i)
@@ -15,13 +12,3 @@ pub one_same : (o n : Diagram) (i j k : ℕ) → IsStation o → SameSwitch o n 
 one_same o n i j k is a b =
     is.paths_differ.switches i j (switch_path o i) (path_at o i is (slice_get_within o.switches i a.old a.old_at))
     (path_at o j is (slice_get_within o.switches j b.old b.old_at) ∙ ap Some (b.path ∙ sym a.path))
-
--- the bay of a switch whose walk is too wide
-pub wide_bay : (o n : Diagram) (k : ℕ) (x : Switch) → IsWideSwitch o n k → slice_get n.switches k ≡ Some x →
-    IsWideBay o n x.bay.0
-wide_bay o n k x (i, wide) at = record {
-  old = i;
-  new = k;
-  too_wide = wide;
-  of_bay = ap (λ (y : Switch). y.bay.0) (same_Some wide.same.new x (sym wide.same.new_at ∙ at));
-}

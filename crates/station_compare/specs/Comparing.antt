@@ -9,7 +9,7 @@ use Rattle.station_changes.specs.Compare.{SameSwitch, IsPart}
 use Rattle.release_dependence.specs.Operations.{opening, closing}
 use Rattle.change_search.specs.Showing.{witness_of}
 use Rattle.station_compare.specs.Each.{AreEach}
-use Rattle.station_compare.specs.Width.{IsTooWide}
+use Rattle.station_compare.specs.Orders.{Orders, IsFirstWide}
 use Rattle.station_compare.specs.declared.refusal.CompareRefusal.{CompareRefusal}
 use Rattle.station_compare.specs.declared.refusal.CompareRefusal.TheVariants.{Memory, Wide}
 use Rattle.station_compare.specs.declared.found.RuleChanges.{RuleChanges}
@@ -59,14 +59,11 @@ pub record IsComparison (o n : Diagram) (c : Comparison) : Type 0 where
   pub here : AreHere o n c.here.items
   pub gone : AreGone o n c.gone.items
 
--- The walk of a switch of this bay is too wide.
-pub record IsWideBay (o n : Diagram) (bay : ℕ) : Type 0 where
-  pub old : ℕ
-  pub new : ℕ
-  pub too_wide : IsTooWide o n old new
-  pub of_bay : too_wide.same.new.bay.0 ≡ bay
+-- Along some orders of the walks this is the first bay of the new station that is too wide.
+abbrev pub IsWideBay : Diagram → Diagram → ℕ → Type 0
+IsWideBay o n bay = (orders : Orders o n) × IsFirstWide o n orders bay
 
--- Why two stations are not compared: the walk of a switch of this bay is too wide.
+-- Why two stations are not compared: this bay is the first that is too wide.
 abbrev pub IsRefusal : Diagram → Diagram → CompareRefusal → Type 0
 IsRefusal o n Memory = ⊤
 IsRefusal o n (Wide bay) = IsWideBay o n bay.0

@@ -5,3 +5,5 @@ pub mod Comparing
 pub mod Bays
 pub mod Walking
 pub mod Likeness
+pub mod Orders
+pub mod Turning

@@ -1,6 +1,7 @@
 //! Two stations compared.
 ghost use Rattle.std.specs.Prelude.{◌≡◌, ◌<◌, length, IfOk, IfErr, OnOk};
 ghost use Rattle.station_compare.specs.Comparing.{IsComparison, AreHere, AreGone, IsGone, IsRefusal};
+ghost use Rattle.station_compare.specs.Orders.{AreNarrow};
 
 use crate::found::{Comparison, Found};
 use crate::next::next_found;
@@ -36,13 +37,14 @@ fn gone(alloc: Global, old: &Station, new: &Station) -> Result<Vec<bool>, Memory
 // What is found of each switch of the new station.
 fn here(alloc: Global, old: &Station, new: &Station) -> Result<Vec<Found>, CompareRefusal>
     ensures here { IfOk result (λ v. AreHere old.now new.now v.items) }
+    ensures narrow { IfOk result (λ _. AreNarrow old.now new.now) }
     ensures refusal { IfErr result (IsRefusal old.now new.now) }
 {
     let mut walks = walks_of(alloc, old, new, BayId(0))?;
     let mut list = Vec::new(alloc);
     for k in 0..new.switch_count() {
         let id = SwitchId(k);
-        turn_to(alloc, &mut walks, old, new, new.switch(id).bay)?;
+        turn_to(alloc, &mut walks, old, new, id)?;
         let found = next_found(alloc, &mut walks, old, new, &list, id)?;
         list.push(found)?;
     }
@@ -59,6 +61,7 @@ pub fn compare_stations(
     new: &Station,
 ) -> Result<Comparison, CompareRefusal>
     ensures comparison { IfOk result (IsComparison old.now new.now) }
+    ensures narrow { IfOk result (λ _. AreNarrow old.now new.now) }
     ensures refusal { IfErr result (IsRefusal old.now new.now) }
 {
     let here = here(alloc, old, new)?;

@@ -1,13 +1,14 @@
 //! The load graph of a switch.
-ghost use Rattle.std.specs.Prelude.{◌≡◌, ◌<◌, ◌≤◌, ◌^◌, length, replicate, IsFalse, IfOk, IfErr, OnOk};
+ghost use Rattle.std.specs.Prelude.{◌≡◌, ◌↔◌, ◌<◌, ◌≤◌, ◌^◌, length, replicate, IsTrue, IsFalse, IfOk, IfErr, OnOk};
 ghost use Rattle.station_graph.specs.Connection.{a_switch};
 ghost use Rattle.judge_pool.specs.declared.layer.Trouble.TheVariants.{Wide};
 ghost use Rattle.judge_pool.specs.declared.view.View.TheVariants.{Gap, Load};
-ghost use Rattle.step_graphs.specs.Edges.{StepsPass};
+ghost use Rattle.step_graphs.specs.Edges.{StepsPass, StepsKeep};
 ghost use Rattle.step_graphs.specs.Moved.{IsMovedGraph};
 ghost use Rattle.step_graphs.specs.Steps.{AreSteps, TakesIn};
 ghost use Rattle.step_graphs.specs.Ready.{IsStepStock};
 ghost use Rattle.station_compare.specs.Walking.{HasNoLoad, IsIdleOf};
+ghost use Rattle.station_compare.specs.Width.{IsDisconnector};
 ghost use Rattle.station_compare.specs.declared.limits.TheConstants.{WALK_EDGES};
 
 use crate::limits::WALK_EDGES;
@@ -21,7 +22,8 @@ use step_graphs::{Step, StepStock, moved_graph};
 // Whether the third rule may apply to a move of the switch: to those of a disconnector alone.
 fn has_load(station: &Station, id: SwitchId) -> bool
     requires { id.0 < length station.now.switches }
-    ensures { IsFalse result → HasNoLoad station.now id.0 }
+    ensures some { IsTrue result ↔ IsDisconnector station.now id.0 }
+    ensures none { IsFalse result → HasNoLoad station.now id.0 }
 {
     station.switch(id).kind == Kind::Disconnector
 }
@@ -47,7 +49,7 @@ fn idle_graph(alloc: Global, gap: &Graph) -> Result<Graph, Memory>
     Ok(reduced)
 }
 
-// The load graph of the switch at a place of the steps, whose gap graph this is.
+// The load graph of the switch at a place of the steps, whose gap graph this is: made for a disconnector alone.
 pub(crate) fn load_graph(
     alloc: Global,
     stock: &mut StepStock,
@@ -68,8 +70,10 @@ pub(crate) fn load_graph(
     ensures stock { OnOk result (IsStepStock station.now steps.now stock.new) }
     ensures view { OnOk result (stock.new.pool.view ≡ stock.old.pool.view) }
     ensures graph { IfOk result (IsMovedGraph stock.old.pool.view station.now steps.now place id.0) }
-    ensures wide { IfErr result (λ e. e ≡ Wide →
-        StepsPass stock.old.pool.view station.now steps.now place WALK_EDGES) }
+    ensures keeps { IfOk result (λ _. IsDisconnector station.now id.0 →
+        StepsKeep stock.old.pool.view station.now steps.now place WALK_EDGES) }
+    ensures wide { IfErr result (λ e. e ≡ Wide → IsDisconnector station.now id.0
+        × StepsPass stock.old.pool.view station.now steps.now place WALK_EDGES) }
 {
     if !has_load(station, id) {
         let idle = idle_graph(alloc, gap)?;

@@ -1,48 +1,21 @@
 //! What is found of the next switch of the new station.
-ghost use Rattle.std.specs.Prelude.{◌≡◌, ◌<◌, ⊤, length, IfOk, IfErr, OnOk, MatchOption};
-ghost use Rattle.station_joints.specs.Joined.{HaveJointSteps};
+ghost use Rattle.std.specs.Prelude.{◌≡◌, ◌+◌, ◌<◌, ⊤, length, IfOk, IfErr, OnOk, MatchOption};
 ghost use Rattle.station_compare.specs.Each.{AreEach};
 ghost use Rattle.station_compare.specs.Comparing.{IsFound, IsRefusal};
+ghost use Rattle.station_compare.specs.Orders.{IsCarried};
+ghost use Rattle.station_compare.specs.Turning.{IsOfBay, AreNarrowBefore};
 ghost use Rattle.station_compare.specs.Likeness.{AreBayWalks};
-ghost use Rattle.station_compare.specs.Walking.{AreStocks};
 
 use crate::exchanged::exchanged_found;
 use crate::found::Found;
 use crate::refusal::CompareRefusal;
-use crate::stocks::Stocks;
 use crate::switch::found_of;
 use crate::walks::BayWalks;
 use ilk_base::{Memory, SwitchId};
 use judge_pool::Trouble;
 use like_bays::led_to;
 use station_graph::Station;
-use station_joints::JointSteps;
 use std::alloc::Global;
-
-// What is found of a switch of the new station, or in which bay it is too wide.
-fn found_in(
-    alloc: Global,
-    stocks: &mut Stocks,
-    old: &Station,
-    new: &Station,
-    steps: &JointSteps,
-    id: SwitchId,
-) -> Result<Found, CompareRefusal>
-    requires stocks { AreStocks old.now new.now steps.now stocks.old }
-    requires steps { HaveJointSteps old.now new.now steps.now }
-    requires within { id.0 < length new.now.switches }
-    ensures stocks { OnOk result (AreStocks old.now new.now steps.now stocks.new) }
-    ensures found { IfOk result (IsFound old.now new.now id.0) }
-    ensures refusal { IfErr result (IsRefusal old.now new.now) }
-{
-    match found_of(alloc, stocks, old, new, steps, id) {
-        Ok(found) => Ok(found),
-        Err(Trouble::Memory) => Err(CompareRefusal::Memory),
-        Err(Trouble::Wide) => Err(CompareRefusal::Wide {
-            bay: new.switch(id).bay,
-        }),
-    }
-}
 
 // What is known of a switch of the new station from those before it, of which this is found.
 fn known(
@@ -55,7 +28,9 @@ fn known(
 ) -> Result<Option<Found>, Memory>
     requires walks { AreBayWalks old.now new.now walks.now }
     requires list { AreEach (IsFound old.now new.now) id.0 list.now }
-    ensures { IfOk result (λ found. MatchOption found ⊤ (IsFound old.now new.now id.0)) }
+    ensures found { IfOk result (λ found. MatchOption found ⊤ (IsFound old.now new.now id.0)) }
+    ensures carried { IfOk result (λ found. MatchOption found (¬ IsCarried walks.now.like id.0)
+        (λ _. IsCarried walks.now.like id.0)) }
 {
     let Some(like) = &walks.like else {
         return Ok(None);
@@ -68,7 +43,35 @@ fn known(
     Ok(Some(found))
 }
 
-// What is found of a switch of the new station, after those before it.
+// What is found of a switch of the new station by its walk, or in which bay it is too wide. Each switch before it is narrow.
+fn walked_found(
+    alloc: Global,
+    walks: &mut BayWalks,
+    old: &Station,
+    new: &Station,
+    id: SwitchId,
+) -> Result<Found, CompareRefusal>
+    requires walks { AreBayWalks old.now new.now walks.old }
+    requires within { id.0 < length new.now.switches }
+    requires bay { IsOfBay new.now walks.old.bay.0 id.0 }
+    requires not_carried { ¬ IsCarried walks.old.like id.0 }
+    requires before { AreNarrowBefore old.now new.now walks.old id.0 }
+    ensures walks { OnOk result (AreBayWalks old.now new.now walks.new) }
+    ensures bay { OnOk result (walks.new.bay ≡ walks.old.bay) }
+    ensures before { OnOk result (AreNarrowBefore old.now new.now walks.new (id.0 + 1)) }
+    ensures found { IfOk result (IsFound old.now new.now id.0) }
+    ensures refusal { IfErr result (IsRefusal old.now new.now) }
+{
+    match found_of(alloc, &mut walks.stocks, old, new, &walks.steps, id) {
+        Ok(found) => Ok(found),
+        Err(Trouble::Memory) => Err(CompareRefusal::Memory),
+        Err(Trouble::Wide) => Err(CompareRefusal::Wide {
+            bay: new.switch(id).bay,
+        }),
+    }
+}
+
+// What is found of a switch of the new station, after those before it, of which each is narrow.
 pub(crate) fn next_found(
     alloc: Global,
     walks: &mut BayWalks,
@@ -80,12 +83,17 @@ pub(crate) fn next_found(
     requires walks { AreBayWalks old.now new.now walks.old }
     requires list { AreEach (IsFound old.now new.now) id.0 list.now }
     requires within { id.0 < length new.now.switches }
+    requires bay { IsOfBay new.now walks.old.bay.0 id.0 }
+    requires before { AreNarrowBefore old.now new.now walks.old id.0 }
     ensures walks { OnOk result (AreBayWalks old.now new.now walks.new) }
+    ensures bay { OnOk result (walks.new.bay ≡ walks.old.bay) }
+    ensures before { OnOk result (AreNarrowBefore old.now new.now walks.new (id.0 + 1)) }
     ensures found { IfOk result (IsFound old.now new.now id.0) }
     ensures refusal { IfErr result (IsRefusal old.now new.now) }
 {
-    match known(alloc, walks, old, new, list, id)? {
+    let taken = known(alloc, walks, old, new, list, id)?;
+    match taken {
         Some(found) => Ok(found),
-        None => found_in(alloc, &mut walks.stocks, old, new, &walks.steps, id),
+        None => walked_found(alloc, walks, old, new, id),
     }
 }

@@ -7,7 +7,7 @@ ghost use Rattle.step_graphs.specs.Steps.{TakesIn};
 ghost use Rattle.station_joints.specs.Joined.{HaveJointSteps};
 ghost use Rattle.station_compare.specs.Comparing.{AreSwitchChanges, IsFound, no_changes};
 ghost use Rattle.station_compare.specs.Walking.{AreStocks};
-ghost use Rattle.station_compare.specs.Width.{IsTooWide, IsWideSwitch};
+ghost use Rattle.station_compare.specs.Width.{IsNarrowAlong, IsWideAlong};
 
 use crate::found::{Found, OperationChanges, RuleChanges, SwitchChanges};
 use crate::operation::operation_changes;
@@ -68,8 +68,13 @@ fn moved_switch(
     requires some { 1 < length steps.now.old_steps.items }
     ensures stocks { OnOk result (AreStocks old.now new.now steps.now stocks.new) }
     ensures changes { IfOk result (AreSwitchChanges old.now new.now new_id.0) }
-    ensures wide { IfErr result (λ e. e ≡ Wide → IsTooWide old.now new.now id.0 new_id.0) }
+    ensures narrow { IfOk result (λ _. IsNarrowAlong old.now new.now steps.now.old_steps.items steps.now.new_steps.items
+        new_id.0) }
+    ensures wide { IfErr result (λ e. e ≡ Wide → IsWideAlong old.now new.now steps.now.old_steps.items
+        steps.now.new_steps.items new_id.0) }
 {
+    old.is_station();
+    new.is_station();
     let walked = walk_switch(alloc, stocks, old, new, steps, place, id, new_id)?;
     let open = Op {
         switch: id,
@@ -111,7 +116,10 @@ fn switch_changes(
     requires same { SameSwitch old.now new.now id.0 new_id.0 }
     ensures stocks { OnOk result (AreStocks old.now new.now steps.now stocks.new) }
     ensures changes { IfOk result (AreSwitchChanges old.now new.now new_id.0) }
-    ensures wide { IfErr result (λ e. e ≡ Wide → IsTooWide old.now new.now id.0 new_id.0) }
+    ensures narrow { IfOk result (λ _. IsNarrowAlong old.now new.now steps.now.old_steps.items steps.now.new_steps.items
+        new_id.0) }
+    ensures wide { IfErr result (λ e. e ≡ Wide → IsWideAlong old.now new.now steps.now.old_steps.items
+        steps.now.new_steps.items new_id.0) }
 {
     // where both stations have one item alone, which is the same switch, nothing changes for it
     if steps.old_steps.len() == 1 {
@@ -135,7 +143,10 @@ pub(crate) fn found_of(
     requires within { new_id.0 < length new.now.switches }
     ensures stocks { OnOk result (AreStocks old.now new.now steps.now stocks.new) }
     ensures found { IfOk result (IsFound old.now new.now new_id.0) }
-    ensures wide { IfErr result (λ e. e ≡ Wide → IsWideSwitch old.now new.now new_id.0) }
+    ensures narrow { IfOk result (λ _. IsNarrowAlong old.now new.now steps.now.old_steps.items steps.now.new_steps.items
+        new_id.0) }
+    ensures wide { IfErr result (λ e. e ≡ Wide → IsWideAlong old.now new.now steps.now.old_steps.items
+        steps.now.new_steps.items new_id.0) }
 {
     match same_switch(new, old, new_id) {
         None => Ok(Found::OnlyNew),

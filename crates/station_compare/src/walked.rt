@@ -3,14 +3,15 @@ ghost use Rattle.std.specs.Prelude.{◌≡◌, ◌+◌, ◌<◌, ◌^◌, suc, t
 ghost use Rattle.station_graph.specs.Connection.{a_switch};
 ghost use Rattle.station_changes.specs.Compare.{SameSwitch};
 ghost use Rattle.decision_graphs.specs.Label.{Layer};
-ghost use Rattle.graph_walks.specs.Walks.{HasTwos, IsWalkOf, IsWideWalk, set_for};
+ghost use Rattle.graph_walks.specs.Walks.{HasTwos, HasWalkRoom, IsWalkOf, IsWideWalk, set_for};
 ghost use Rattle.step_graphs.specs.Steps.{TakesIn};
 ghost use Rattle.station_joints.specs.Joined.{HaveJointSteps};
 ghost use Rattle.change_search.specs.Telling.{IsSwitchWalk};
 ghost use Rattle.change_search.specs.Searching.{HaveReached};
 ghost use Rattle.station_compare.specs.Walking.{AreStocks, IsWalked};
 ghost use Rattle.judge_pool.specs.declared.layer.Trouble.TheVariants.{Wide};
-ghost use Rattle.station_compare.specs.Width.{IsWideAt, IsTooWide};
+ghost use Rattle.station_compare.specs.declared.limits.TheConstants.{WALK_EDGES};
+ghost use Rattle.station_compare.specs.Width.{KeepsWalk, PassesWalk};
 
 use crate::limits::WALK_EDGES;
 use crate::loads::load_graph;
@@ -49,6 +50,7 @@ fn walk_together(
     requires new_load { HasTwos others new_load.now }
     ensures walk { IfOk result (λ w. IsWalkOf old_gap.now new_gap.now old_load.now new_load.now others w.graph
         w.codes.items) }
+    ensures room { IfOk result (λ _. HasWalkRoom old_gap.now new_gap.now old_load.now new_load.now others WALK_EDGES) }
     ensures wide { IfErr result (λ e. e ≡ Wide →
         IsWideWalk old_gap.now new_gap.now old_load.now new_load.now others WALK_EDGES) }
 {
@@ -80,7 +82,9 @@ fn switch_walk(
     ensures stocks { OnOk result (AreStocks old.now new.now steps.now stocks.new) }
     ensures walk { IfOk result (λ w. IsSwitchWalk old.now new.now steps.now.old_steps.items steps.now.new_steps.items
         place id.0 new_id.0 w.graph w.codes.items) }
-    ensures wide { IfErr result (λ e. e ≡ Wide → IsWideAt old.now new.now steps.now.old_steps.items
+    ensures keeps { IfOk result (λ _. KeepsWalk old.now new.now steps.now.old_steps.items steps.now.new_steps.items
+        place id.0 new_id.0) }
+    ensures wide { IfErr result (λ e. e ≡ Wide → PassesWalk old.now new.now steps.now.old_steps.items
         steps.now.new_steps.items place id.0 new_id.0) }
 {
     let olds = steps.old_steps.as_slice();
@@ -149,7 +153,10 @@ pub(crate) fn walk_switch(
     requires some { 1 < length steps.now.old_steps.items }
     ensures stocks { OnOk result (AreStocks old.now new.now steps.now stocks.new) }
     ensures walked { IfOk result (IsWalked old.now new.now steps.now place id.0 new_id.0) }
-    ensures wide { IfErr result (λ e. e ≡ Wide → IsTooWide old.now new.now id.0 new_id.0) }
+    ensures keeps { IfOk result (λ _. KeepsWalk old.now new.now steps.now.old_steps.items steps.now.new_steps.items
+        place id.0 new_id.0) }
+    ensures wide { IfErr result (λ e. e ≡ Wide → PassesWalk old.now new.now steps.now.old_steps.items
+        steps.now.new_steps.items place id.0 new_id.0) }
 {
     new.is_station();
     // what the free layers allow

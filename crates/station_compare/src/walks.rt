@@ -1,11 +1,12 @@
 //! What the walks of a bay's switches are made of.
-ghost use Rattle.std.specs.Prelude.{◌<◌, IfOk, OnOk};
+ghost use Rattle.std.specs.Prelude.{◌≡◌, ◌↔◌, ◌<◌, length, IsTrue, IfOk, OnOk};
 ghost use Rattle.station_graph.specs.Diagram.{part_count};
 ghost use Rattle.station_compare.specs.Likeness.{AreBayWalks};
+ghost use Rattle.station_compare.specs.Turning.{IsOfBay, IsBayBefore, AreNarrowBefore};
 
 use crate::likeness::{LikeBays, like_earlier};
 use crate::stocks::{Stocks, stocks_of};
-use ilk_base::{BayId, Memory};
+use ilk_base::{BayId, Memory, SwitchId};
 use station_graph::Station;
 use station_joints::{JointSteps, joint_steps_of_bay};
 use std::alloc::Global;
@@ -27,7 +28,8 @@ pub(crate) fn walks_of(
     new: &Station,
     bay: BayId,
 ) -> Result<BayWalks, Memory>
-    ensures { IfOk result (AreBayWalks old.now new.now) }
+    ensures walks { IfOk result (AreBayWalks old.now new.now) }
+    ensures bay { IfOk result (λ w. w.bay ≡ bay) }
 {
     let steps = joint_steps_of_bay(alloc, old, new, bay)?;
     let stocks = stocks_of(alloc, old, new, &steps)?;
@@ -39,8 +41,15 @@ pub(crate) fn walks_of(
     })
 }
 
-// The work on this bay.
-pub(crate) fn turn_to(
+// Whether the work is on this bay.
+fn is_at_work(walks: &BayWalks, bay: BayId) -> bool
+    ensures { IsTrue result ↔ (walks.now.bay.0 ≡ bay.0) }
+{
+    walks.bay.0 == bay.0
+}
+
+// The work on another bay.
+fn turn(
     alloc: Global,
     walks: &mut BayWalks,
     old: &Station,
@@ -49,11 +58,9 @@ pub(crate) fn turn_to(
 ) -> Result<(), Memory>
     requires bay { bay.0 < part_count new.now }
     requires walks { AreBayWalks old.now new.now walks.old }
-    ensures { OnOk result (AreBayWalks old.now new.now walks.new) }
+    ensures walks { OnOk result (AreBayWalks old.now new.now walks.new) }
+    ensures bay { OnOk result (walks.new.bay ≡ bay) }
 {
-    if walks.bay == bay {
-        return Ok(());
-    }
     match like_earlier(alloc, old, new, bay)? {
         Some(like) => {
             walks.bay = bay;
@@ -65,4 +72,29 @@ pub(crate) fn turn_to(
             Ok(())
         }
     }
+}
+
+// The work on the bay of this switch, before which each switch is narrow.
+pub(crate) fn turn_to(
+    alloc: Global,
+    walks: &mut BayWalks,
+    old: &Station,
+    new: &Station,
+    id: SwitchId,
+) -> Result<(), Memory>
+    requires within { id.0 < length new.now.switches }
+    requires walks { AreBayWalks old.now new.now walks.old }
+    requires last { IsBayBefore new.now walks.old.bay.0 id.0 }
+    requires before { AreNarrowBefore old.now new.now walks.old id.0 }
+    ensures walks { OnOk result (AreBayWalks old.now new.now walks.new) }
+    ensures bay { OnOk result (IsOfBay new.now walks.new.bay.0 id.0) }
+    ensures before { OnOk result (AreNarrowBefore old.now new.now walks.new id.0) }
+{
+    new.is_station();
+    let bay = new.switch(id).bay;
+    if is_at_work(walks, bay) {
+        return Ok(());
+    }
+    turn(alloc, walks, old, new, bay)?;
+    Ok(())
 }

@@ -13,5 +13,5 @@ returns-then-not-has_load-clause-graph c =
     let steps = c.args.steps.now in
     let g = c.in_ok-idle.idle in
     subst (λ (view : View). IsMovedGraph view d steps c.args.place c.args.id.0 g) (sym c.requires.seen)
-    (idle d steps c.args.place c.args.id.0 c.args.gap.now c.requires.gap (c.if-not-has_load.ensures refl) g
+    (idle d steps c.args.place c.args.id.0 c.args.gap.now c.requires.gap (c.if-not-has_load.ensures.none refl) g
     c.in_ok-idle.ensures)

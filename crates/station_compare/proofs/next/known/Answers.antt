@@ -1,15 +1,16 @@
-use Rattle.std.proofs.Common.{◌≡◌, ◌∙◌, List, ℕ, Option, MatchOption, ap, sym, subst, arith}
+use Rattle.std.proofs.Common.{◌≡◌, ◌<◌, ◌∙◌, List, ℕ, Option, MatchOption, ap, sym, subst, arith}
 use Rattle.std.specs.Prelude.{⊤}
 use Rattle.like_bays.specs.Like.{led_by}
 use Rattle.like_bays.proofs.VectorLemmas.{led_back}
 use Rattle.station_compare.specs.declared.likeness.LikeBays.{LikeBays}
 use Rattle.station_compare.specs.Comparing.{IsFound}
+use Rattle.station_compare.specs.Orders.{IsCarried}
 use Rattle.station_compare.specs.Likeness.{AreExchanged}
 use Rattle.station_compare.proofs.ListLemmas.{at_index}
 use Rattle.station_compare.proofs.next.known.Goals as goal
 
-pub returns : goal.returns
-returns c =
+pub returns-clause-found : goal.returns-clause-found
+returns-clause-found c =
     let o = c.args.old.now in
     let n = c.args.new.now in
     let x = c.in-Some.like in
@@ -27,3 +28,24 @@ returns c =
     ap (led_by x.new.items) stands ∙ led_back n x.new.items h.new id in
     subst (λ k. IsFound o n k c.in_ok-found.found) turned
     (c.in_ok-found.ensures there (c.requires.list.each there f at))
+
+pub returns-clause-carried : goal.returns-clause-carried
+returns-clause-carried c =
+    let x = c.in-Some.like in
+    let id = c.args.id.0 in
+    let there = c.led_to.result in
+    let stands : there ≡ led_by x.new.items id =
+    c.led_to.ensures ∙ ap (λ (xs : List ℕ). led_by xs id) c.deref.ensures.value in
+    subst (λ (p : Option LikeBays). IsCarried p id) (sym c.in-Some.is)
+    (subst (λ j. j < id) stands
+    (omega (arith, c.if-there-list.false, c.from-there.ensures, c.requires.list.count)))
+
+pub returns-then-there-list-clause-carried : goal.returns-then-there-list-clause-carried
+returns-then-there-list-clause-carried c carried =
+    let x = c.in-Some.like in
+    let id = c.args.id.0 in
+    let there = c.led_to.result in
+    let stands : there ≡ led_by x.new.items id =
+    c.led_to.ensures ∙ ap (λ (xs : List ℕ). led_by xs id) c.deref.ensures.value in
+    let lt : led_by x.new.items id < id = subst (λ (p : Option LikeBays). IsCarried p id) c.in-Some.is carried in
+    absurd (omega (arith, c.if-there-list.true, c.from-there.ensures, c.requires.list.count, stands, lt))

@@ -14,6 +14,10 @@ moved_switch-requires-clause-some c =
     let t = c.requires.steps.old_at.each i p at in
     omega (arith, slice_get_within ss p t.step t.at, c.len.ensures, c.if-len-eq1.false)
 
+pub returns-then-len-eq1-clause-narrow : goal.returns-then-len-eq1-clause-narrow
+returns-then-len-eq1-clause-narrow c b i walk =
+    absurd (omega (arith, walk.others, c.len.ensures, c.if-len-eq1.true))
+
 pub returns-then-len-eq1-clause-changes : goal.returns-then-len-eq1-clause-changes
 returns-then-len-eq1-clause-changes c =
     lone_switch c.args.old.now c.args.new.now c.args.steps.now.old_steps.items c.args.steps.now.new_steps.items

@@ -67,16 +67,5 @@ returns-clause-walked c =
 
 pub returns-in_err-walk-clause-wide : goal.returns-in_err-walk-clause-wide
 returns-in_err-walk-clause-wide c =
-    passed_on _ _ c.from_residual.result c.from_residual.ensures.1 (λ trouble same is. record {
-      same = c.requires.same;
-      old_steps = c.args.steps.now.old_steps.items;
-      new_steps = c.args.steps.now.new_steps.items;
-      place = c.args.place;
-      joint = c.requires.steps.steps;
-      old_at = c.requires.old_at;
-      new_at =
-          one_place c.args.old.now c.args.new.now c.args.steps.now.old_steps.items c.args.steps.now.new_steps.items
-          c.args.place c.args.id.0 c.args.new_id.0 c.is_station.ensures c.requires.steps.steps c.requires.same
-          c.requires.old_at;
-      wide = c.in_err-walk.ensures.wide (sym same ∙ is);
-    })
+    passed_on _ _ c.from_residual.result c.from_residual.ensures.1
+    (λ trouble same is. c.in_err-walk.ensures.wide (sym same ∙ is))
