@@ -1,4 +1,4 @@
--- A session goes on by one line.
+-- A session goes on by some lines.
 use Rattle.std.proofs.Common.{◌∙◌, ◌≤◌, ◌⊎◌, ◌++◌, ◌∷◌, [], ⊎_elim, ℕ, List, length, refl, sym, ap, subst, arith}
 use Rattle.std.proofs.lemmas.List.{append-nil, append_assoc, length-append}
 use Rattle.station_graph.specs.Diagram.{Diagram}
@@ -9,29 +9,28 @@ use Rattle.stored_session.specs.Stored.{AnswersStored, StoredSession}
 use Rattle.stored_session.specs.Along.{StandsAlong}
 
 module _ (m : Meaning) (d : Diagram) (b : ℕ) where
-  -- one line more
-  pub session_more : (start : State) (done : List (List ℕ)) (text : List ℕ) (state : State) (line answer : List ℕ)
-      (next : State)
-      → StoredSession m d b start done text state → AnswersStored m d b state line answer next
-      → StoredSession m d b start (done ++ line ∷ []) (text ++ answer) next
-  session_more start [] text state line answer next (nothing, same) answers = (
-    answer,
-    next,
-    subst (λ (s : State). AnswersStored m d b s line answer next) same answers,
-    [],
-    (refl, refl),
-    ap
-        (λ t. t ++ answer) nothing ∙ sym (append-nil answer),
-  )
-  session_more start (l ∷ done) text state line answer next (one, mid, answered, rest, session, is) answers = (
+  -- more lines
+  pub session_more : (start : State) (done : List (List ℕ)) (text : List ℕ) (state : State) (more : List (List ℕ))
+      (answer : List ℕ) (next : State)
+      → StoredSession m d b start done text state → StoredSession m d b state more answer next
+      → StoredSession m d b start (done ++ more) (text ++ answer) next
+  session_more start [] text state more answer next (nothing, same) answers =
+      subst (λ (t : List ℕ). StoredSession m d b start more (t ++ answer) next) (sym nothing)
+      (subst (λ (s : State). StoredSession m d b s more answer next) same answers)
+  session_more start (l ∷ done) text state more answer next (one, mid, answered, rest, session, is) answers = (
     one,
     mid,
     answered,
     rest ++ answer,
-    session_more mid done rest state line answer next session answers,
+    session_more mid done rest state more answer next session answers,
     ap
         (λ t. t ++ answer) is ∙ append_assoc one rest answer,
   )
+
+  -- one line
+  pub session_one : (state : State) (line answer : List ℕ) (next : State) → AnswersStored m d b state line answer next
+      → StoredSession m d b state (line ∷ []) answer next
+  session_one state line answer next answers = (answer, next, answers, [], (refl, refl), sym (append-nil answer))
 
   -- after no line
   pub along_none : (start : State) (c : List ℕ) → IsImageOf c (kept_of start) → StandsAlong m d b start [] [] start 0 c
@@ -67,22 +66,22 @@ module _ (m : Meaning) (d : Diagram) (b : ℕ) where
     stands = stands;
   }
 
-  -- what stood before one line more stands after it
+  -- what stood before more lines stands after them
   pub along_more : (start : State) (lines : List (List ℕ)) (text : List ℕ) (last : State) (low : ℕ)
-      (line answer : List ℕ) (next : State) (c : List ℕ)
-      → AnswersStored m d b last line answer next → StandsAlong m d b start lines text last low c
-      → StandsAlong m d b start (lines ++ line ∷ []) (text ++ answer) next low c
-  along_more start lines text last low line answer next c answers s = record {
+      (more : List (List ℕ)) (answer : List ℕ) (next : State) (c : List ℕ)
+      → StoredSession m d b last more answer next → StandsAlong m d b start lines text last low c
+      → StandsAlong m d b start (lines ++ more) (text ++ answer) next low c
+  along_more start lines text last low more answer next c answers s = record {
     done = s.done;
-    more = s.more ++ line ∷ [];
-    parts = ap (λ l. l ++ line ∷ []) s.parts ∙ append_assoc s.done s.more (line ∷ []);
+    more = s.more ++ more;
+    parts = ap (λ l. l ++ more) s.parts ∙ append_assoc s.done s.more more;
     enough = s.enough;
     text_done = s.text_done;
     text_more = s.text_more ++ answer;
     texts = ap (λ t. t ++ answer) s.texts ∙ append_assoc s.text_done s.text_more answer;
     between = s.between;
     first = s.first;
-    second = session_more s.between s.more s.text_more last line answer next s.second answers;
+    second = session_more s.between s.more s.text_more last more answer next s.second answers;
     stands = s.stands;
   }
 
@@ -104,18 +103,18 @@ module _ (m : Meaning) (d : Diagram) (b : ℕ) where
     stands = s.stands;
   }
 
-  -- a crash in one line more leaves the record before it or after it, and no fewer lines than before
-  pub along_either : (start : State) (lines : List (List ℕ)) (text : List ℕ) (last : State) (line answer : List ℕ)
-      (next : State) (c : List ℕ)
-      → StoredSession m d b start lines text last → AnswersStored m d b last line answer next
+  -- a crash in more lines leaves the record before them or after them, and no fewer lines than before
+  pub along_either : (start : State) (lines : List (List ℕ)) (text : List ℕ) (last : State) (more : List (List ℕ))
+      (answer : List ℕ) (next : State) (c : List ℕ)
+      → StoredSession m d b start lines text last → StoredSession m d b last more answer next
       → IsImageOf c (kept_of last) ⊎ IsImageOf c (kept_of next)
-      → StandsAlong m d b start (lines ++ line ∷ []) (text ++ answer) next (length lines) c
-  along_either start lines text last line answer next c session answers stands = ⊎_elim
-      (λ (h : IsImageOf c (kept_of last)). along_more start lines text last (length lines) line answer next c answers
+      → StandsAlong m d b start (lines ++ more) (text ++ answer) next (length lines) c
+  along_either start lines text last more answer next c session answers stands = ⊎_elim
+      (λ (h : IsImageOf c (kept_of last)). along_more start lines text last (length lines) more answer next c answers
       (along_all start lines text last c session h))
       (λ (h : IsImageOf c (kept_of next)).
-      along_lower start (lines ++ line ∷ []) (text ++ answer) next (length (lines ++ line ∷ [])) (length lines) c
-      (omega (arith, length-append lines (line ∷ [])))
-      (along_all start (lines ++ line ∷ []) (text ++ answer) next c
-      (session_more start lines text last line answer next session answers) h))
+      along_lower start (lines ++ more) (text ++ answer) next (length (lines ++ more)) (length lines) c
+      (omega (arith, length-append lines more))
+      (along_all start (lines ++ more) (text ++ answer) next c
+      (session_more start lines text last more answer next session answers) h))
       stands

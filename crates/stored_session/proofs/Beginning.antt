@@ -31,12 +31,17 @@ so_earlier m d b start before now part whole lines text low WriteFault rose (beg
   record {
     done = stops.done;
     line = stops.line;
+    more = stops.more;
     parts = stops.parts;
     text_done = stops.text_done;
     answer = stops.answer;
+    text_more = stops.text_more;
     texts = stops.texts;
     state = stops.state;
     session = stops.session;
+    next = stops.next;
+    answers = stops.answers;
+    near = stops.near;
     asked = stops.asked;
     front = stops.front;
     wrote = stops.wrote;

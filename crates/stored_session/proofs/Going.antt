@@ -1,5 +1,5 @@
--- One more line of a stored session.
-use Rattle.std.proofs.Common.{◌≡◌, ◌∙◌, ◌≤◌, ◌⊎◌, ◌+◌, ◌*◌, ◌++◌, ◌∷◌, [], ℕ, List, Option, length, refl, sym, subst}
+-- More lines of a stored session.
+use Rattle.std.proofs.Common.{◌≡◌, ◌∙◌, ◌≤◌, ◌⊎◌, ◌*◌, ◌++◌, [], ℕ, List, Option, length, refl, sym, subst}
 use Rattle.std.proofs.Common.{arith}
 use Rattle.std.specs.Io.KnownBytes.{Appends}
 use Rattle.std.proofs.lemmas.List.{append-nil, length-append}
@@ -15,25 +15,24 @@ use Rattle.node_store.proofs.Runs.{one_content, weaker, then_more, begins as sta
 use Rattle.stored_session.specs.View.{View, Leaves}
 use Rattle.stored_session.proofs.Time.{KeepsTime}
 use Rattle.stored_session.specs.Kept.{IsKept}
-use Rattle.stored_session.specs.Stored.{AnswersStored, StoredSession, WritesLine}
+use Rattle.stored_session.specs.Stored.{StoredSession}
 use Rattle.stored_session.specs.Along.{StandsAlong}
 use Rattle.stored_session.specs.Progress.{StandsAfter}
 use Rattle.stored_session.proofs.Along.{session_more, along_none, along_more, along_lower, along_either}
 
-pub rises_on : (n a b c : ℕ) → RisesBy (6 * n) a b → RisesBy 6 b c → RisesBy (6 * (n + 1)) a c
-rises_on n a b c first second = record {
+-- so many calls for each line, and for each line more
+pub rises_on : (done more : List (List ℕ)) (a b c : ℕ) → RisesBy (6 * length done) a b → RisesBy (6 * length more) b c
+    → RisesBy (6 * length (done ++ more)) a c
+rises_on done more a b c first second = record {
   grows = omega (arith, first.grows, second.grows);
-  most = omega (arith, first.most, second.most);
+  most = omega (arith, first.most, second.most, length-append done more);
 }
-
-pub one_line_more : (done : List (List ℕ)) (line : List ℕ) → length done + 1 ≡ length (done ++ line ∷ [])
-one_line_more done line = omega (arith, length-append done (line ∷ []))
 
 appends_none : (a b c : Option (List ℕ)) (text : List ℕ) → Appends a b text → Appends b c [] → Appends a c text
 appends_none a b c text first second =
     subst (λ (t : List ℕ). Appends a c t) (append-nil text) (appends_both a b c text [] first second)
 
--- a crash leaves the record before the line or after it
+-- a crash leaves the record before the lines or after them
 abbrev pub LeavesEither : {D : Type 0} → View D → D → D → State → State → Type 0
 LeavesEither v device new state next =
     Told (v.content device) (λ _. Leaves v device new (λ c. IsImageOf c (kept_of state) ⊎ IsImageOf c (kept_of next)))
@@ -53,25 +52,25 @@ module _ {D : Type 0} (v : View D) (time : KeepsTime v) (m : Meaning) (d : Diagr
   Along device done text state =
       Told (v.content old) (λ _. Leaves v old device (StandsAlong m d b start done text state 0))
 
-  -- after a line that was being answered, a crash leaves the record after some of the lines
+  -- after lines that were being answered, a crash leaves the record after some of the lines
   pub crash_more : (device new : D) (done : List (List ℕ)) (text : List ℕ) (store : Store) (state : State)
-      → (line answer : List ℕ) (next : State)
-      → StoredSession m d b start done text state → AnswersStored m d b state line answer next
+      → (more : List (List ℕ)) (answer : List ℕ) (next : State)
+      → StoredSession m d b start done text state → StoredSession m d b state more answer next
       → Keeps v old device store state → Along device done text state → LeavesEither v device new state next
-      → Along new (done ++ line ∷ []) (text ++ answer) next
-  crash_more device new done text store state line answer next session answers kept before_it in_it image told =
+      → Along new (done ++ more) (text ++ answer) next
+  crash_more device new done text store state more answer next session answers kept before_it in_it image told =
       let here = kept.told image told in
       let Old : List ℕ → Type 0 = StandsAlong m d b start done text state 0 in
       let Either : List ℕ → Type 0 = λ c. IsImageOf c (kept_of state) ⊎ IsImageOf c (kept_of next) in
-      let All : List ℕ → Type 0 = StandsAlong m d b start (done ++ line ∷ []) (text ++ answer) next 0 in
+      let All : List ℕ → Type 0 = StandsAlong m d b start (done ++ more) (text ++ answer) next 0 in
       then_more v.moment v.between v.since time old device new All
       (weaker v.moment v.between v.since time old device Old All (before_it image told)
-      (λ c along. along_more m d b start done text state 0 line answer next c answers along))
+      (λ c along. along_more m d b start done text state 0 more answer next c answers along))
       (weaker v.moment v.between v.since time device new Either All (in_it here.0 here.1)
-      (λ c either. along_lower m d b start (done ++ line ∷ []) (text ++ answer) next (length done) 0 c (omega arith)
-      (along_either m d b start done text state line answer next c session answers either)))
+      (λ c either. along_lower m d b start (done ++ more) (text ++ answer) next (length done) 0 c (omega arith)
+      (along_either m d b start done text state more answer next c session answers either)))
 
-  -- what is kept now, from what was kept before a line
+  -- what is kept now, from what was kept before
   kept_more : (device new : D) (store next_store : Store) (state next : State)
       → Keeps v old device store state → Keeps v device new next_store next → Keeps v old new next_store next
   kept_more device new store next_store state next first second = record {
@@ -89,23 +88,24 @@ module _ {D : Type 0} (v : View D) (time : KeepsTime v) (m : Meaning) (d : Diagr
       subst (λ (i : List ℕ). IsKept v.moment v.since device store i (kept_of state)) (one_content (sym here.1
       ∙ told)) here.2
 
-  -- a line is answered
+  -- more lines are answered
   pub stands_more : (now after : Streams) (device new : D) (done : List (List ℕ)) (store next_store : Store)
-      → (state : State) (line : List ℕ) (next : State) → Now now device done store state
+      → (state : State) (more : List (List ℕ)) (answer : List ℕ) (next : State)
+      → Now now device done store state
       → LeavesEither v device new state next → Keeps v device new next_store next
-      → WritesLine m d b state line next now.out after.out → RisesBy 6 (v.calls device) (v.calls new)
+      → StoredSession m d b state more answer next → Appends now.out after.out answer
+      → RisesBy (6 * length more) (v.calls device) (v.calls new)
       → v.writes device ≤ v.writes new → now.reads ≤ after.reads → now.writes ≤ after.writes
-      → Now after new (done ++ line ∷ []) next_store next
-  stands_more now after device new done store next_store state line next at in_it kept answered called stores reads
-      writes = record {
-        text = at.text ++ answered.text;
-        session = session_more m d b start done at.text state line answered.text next at.session answered.answers;
-        wrote = appends_both before.out now.out after.out at.text answered.text at.wrote answered.wrote;
+      → Now after new (done ++ more) next_store next
+  stands_more now after device new done store next_store state more answer next at in_it kept answers wrote called
+      stores reads writes = record {
+        text = at.text ++ answer;
+        session = session_more m d b start done at.text state more answer next at.session answers;
+        wrote = appends_both before.out now.out after.out at.text answer at.wrote wrote;
         kept = kept_more device new store next_store state next at.kept kept;
-        crash = crash_more device new done at.text store state line answered.text next at.session answered.answers
-            at.kept at.crash in_it;
-        called = subst (λ (n : ℕ). RisesBy (6 * n) (v.calls old) (v.calls new)) (one_line_more done line)
-            (rises_on (length done) (v.calls old) (v.calls device) (v.calls new) at.called called);
+        crash = crash_more device new done at.text store state more answer next at.session answers at.kept at.crash
+            in_it;
+        called = rises_on done more (v.calls old) (v.calls device) (v.calls new) at.called called;
         stores_grow = omega (arith, at.stores_grow, stores);
         reads_grow = omega (arith, at.reads_grow, reads);
         writes_grow = omega (arith, at.writes_grow, writes);

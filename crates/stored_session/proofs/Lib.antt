@@ -1,8 +1,12 @@
 pub mod Along
+pub mod Answering
 pub mod Beginning
 pub mod Changing
 pub mod Ending
 pub mod Going
+pub mod Holding
 pub mod Lines
-pub mod Whole
+pub mod Locating
+pub mod Stepping
 pub mod Time
+pub mod Whole

@@ -1,23 +1,23 @@
 -- Reading an input line by line.
-use Rattle.std.proofs.Common.{◌≡◌, ◌∙◌, ◌≤◌, ◌<◌, ◌+◌, ◌++◌, ◌∷◌, [], ℕ, List, Option, Some, None, Err, length, take}
-use Rattle.std.proofs.Common.{drop}
+use Rattle.std.proofs.Common.{◌≡◌, ◌∙◌, ◌≤◌, ◌<◌, ◌+◌, ◌++◌, ◌∷◌, [], ℕ, List, Option, Some, None, Ok, Err, length}
 use Rattle.std.proofs.Common.{true, refl, sym, ap, subst, arith}
 use Rattle.std.specs.Prelude.{IfSome}
 use Rattle.std.specs.Str.Lines.{lines, strip_carriage_return}
 use Rattle.std.specs.Io.KnownBytes.{Consumes, IsAtEnd}
 use Rattle.std.proofs.lemmas.List.{append-nil, append_assoc, length-append}
-use Rattle.std.proofs.Math.Seq.{take-append_seam, drop-append-add}
 use Rattle.node_session.specs.declared.request.TheConstants.{MOST_LINE}
 use Rattle.node_session.specs.declared.reader.TheConstants.{CHUNK}
 use Rattle.node_session.specs.declared.reader.Front.TheVariants.{Line, TooLong, Last}
 use Rattle.node_session.specs.declared.reader.InputTrouble.{InputTrouble}
 use Rattle.node_session.specs.declared.reader.InputTrouble.TheVariants.{Memory, Failed}
-use Rattle.node_session.specs.Reading.{HasNoFeed, is_long, AsksNeeded, Grows, BeginsLine, Fills, FillFails}
+use Rattle.node_session.specs.Reading.{HasNoFeed, is_long, AsksNeeded, Grows, Fills, FillFails}
 use Rattle.node_session.specs.SessionEnds.{LastAsked}
 use Rattle.node_session.proofs.Feeds.{feeds-append, lines-line, lines-no_end, long_line}
 use Rattle.node_session.proofs.Asking.{asks_needed}
 use Rattle.node_session.proofs.Filling.{consumes_both}
+use Rattle.stored_session.specs.Holding.{HoldsLine}
 use Rattle.stored_session.specs.Through.{ReadsThrough, TakesNear, BeginsStored, IsAll, HasNext, GoesOn}
+use Rattle.stored_session.specs.declared.read.NextLine.TheVariants.{Whole}
 
 rest_of : (a b : Option (List ℕ)) (taken : List ℕ) → Consumes a b taken → (rest : List ℕ) × IfSome a
     (λ known. known ≡ taken ++ rest)
@@ -34,13 +34,14 @@ consumes_none : (a : Option (List ℕ)) → Consumes a a []
 consumes_none None = tt
 consumes_none (Some x) = refl
 
--- a line of so many bytes, and what follows its end
-at_line : (n : ℕ) (held line past : List ℕ) → length line ≡ n → held ≡ line ++ 10 ∷ past
-    → (take n held ≡ line) × (drop (n + 1) held ≡ past)
-at_line n held line past len parts = (
-  ap (take n) parts ∙ ap (λ k. take k (line ++ 10 ∷ past)) (sym len) ∙ take-append_seam line (10 ∷ past),
-  ap (drop (n + 1)) parts ∙ ap (λ k. drop (k + 1) (line ++ 10 ∷ past)) (sym len) ∙ drop-append-add line (10 ∷ past) 1,
-)
+-- what is held begins with a whole line, whatever was read
+pub holds_whole : (left left_new : Option (List ℕ)) (held held_new : List ℕ) (rose : Type 0)
+    → ((before : Option (List ℕ)) (done : List (List ℕ)) → ReadsThrough before left held done
+    → GoesOn before left_new held_new done rose (Ok Whole))
+    → HoldsLine held_new
+holds_whole left left_new held held_new rose goes =
+    let (reads, holds) = goes None [] (record { taken = []; consumed = tt; ends = λ rest. refl; feeds = refl }) in
+    holds
 
 module _ (before : Option (List ℕ)) (done : List (List ℕ)) where
   -- nothing is read yet
@@ -100,23 +101,23 @@ module _ (before : Option (List ℕ)) (done : List (List ℕ)) where
     )
 
     -- the first line of what is held is passed
-    reads_line : (line past : List ℕ) → BeginsLine held line past → ReadsThrough before now past
+    pub reads_line : (line past : List ℕ) → held ≡ line ++ 10 ∷ past → HasNoFeed line → ReadsThrough before now past
         (done ++ strip_carriage_return line ∷ [])
-    reads_line line past first = record {
+    reads_line line past parts whole = record {
       taken = at.taken ++ (line ++ 10 ∷ []);
       consumed = subst (λ (l : List ℕ). Consumes before now l)
-          (ap (λ l. at.taken ++ l) (first.parts ∙ sym (append_assoc line (10 ∷ []) past)) ∙ sym (append_assoc at.taken
+          (ap (λ l. at.taken ++ l) (parts ∙ sym (append_assoc line (10 ∷ []) past)) ∙ sym (append_assoc at.taken
           (line ++ 10 ∷ []) past)) at.consumed;
       ends = λ rest.
           ap lines (append_assoc at.taken (line ++ 10 ∷ []) rest)
           ∙ at.ends ((line ++ 10 ∷ []) ++ rest)
-          ∙ ap (λ l. done ++ l) (ap lines (append_assoc line (10 ∷ []) rest) ∙ lines-line line rest first.whole)
+          ∙ ap (λ l. done ++ l) (ap lines (append_assoc line (10 ∷ []) rest) ∙ lines-line line rest whole)
           ∙ sym (append_assoc done (strip_carriage_return line ∷ []) (lines rest));
       feeds = omega (
         arith,
         feeds-append at.taken (line ++ 10 ∷ []),
         feeds-append line (10 ∷ []),
-        first.whole,
+        whole,
         at.feeds,
         length-append done (strip_carriage_return line ∷ []),
       );
@@ -156,6 +157,14 @@ module _ (before : Option (List ℕ)) (done : List (List ℕ)) where
               (append_assoc at.taken held rest) ∙ at.ends (held ++ rest);
         },
       )
+
+  -- so is one that is held
+  pub has_held : (now : Option (List ℕ)) (held : List ℕ) → ReadsThrough before now held done → HoldsLine held
+      → (line : List ℕ) × HasNext before done line
+  has_held now held at (line, past, begins) = (
+    strip_carriage_return line,
+    has_next now past (strip_carriage_return line) (reads_line now held at line past begins.parts begins.whole),
+  )
 
   pub has_last : (now : Option (List ℕ)) (line : List ℕ) → IsAll before now (done ++ line ∷ [])
       → HasNext before done line
@@ -207,17 +216,11 @@ module _ (before : Option (List ℕ)) (done : List (List ℕ)) (now after : Opti
   last_asked asked asked_new earlier needed some = asked_for asked asked_new earlier needed some
 
   -- a line with an end comes next
-  pub line_comes : (n : ℕ) (text : List ℕ) → Fills held held_new now after (Line n)
-      → text ≡ strip_carriage_return (take n held_new) → ReadsThrough before after (drop (n + 1) held_new)
-      (done ++ text ∷ [])
-  line_comes n text fills is =
+  pub line_comes : (n : ℕ) → Fills held held_new now after (Line n)
+      → ReadsThrough before after held_new done × HoldsLine held_new
+  line_comes n fills =
       let (line, past, len, first) = fills.is in
-      let there = at_line n held_new line past len first.parts in
-      let same : strip_carriage_return line ≡ text = sym (is ∙ ap strip_carriage_return there.0) in
-      subst (λ (l : List ℕ). ReadsThrough before after l (done ++ text ∷ [])) (sym there.1)
-      (subst (λ (t : List ℕ). ReadsThrough before after past (done ++ t ∷ [])) same
-      (reads_line before done after held_new
-      (reads_more before done now after held held_new at fills.grows) line past first))
+      (reads_more before done now after held held_new at fills.grows, (line, past, first))
 
   -- one that is too long
   pub long_comes : Fills held held_new now after TooLong → (line : List ℕ) × HasNext before done line
@@ -226,11 +229,9 @@ module _ (before : Option (List ℕ)) (done : List (List ℕ)) (now after : Opti
       (reads_more before done now after held held_new at fills.grows) fills.is.0 fills.is.1
 
   -- the last one, without an end
-  pub last_comes : (text : List ℕ) → Fills held held_new now after Last → text ≡ held_new → 0 < length held_new
-      → IsAll before after (done ++ text ∷ [])
-  last_comes text fills is some = subst (λ (t : List ℕ). IsAll before after (done ++ t ∷ [])) (sym is)
-      (last_next before done after held_new
-      (reads_more before done now after held held_new at fills.grows) fills.is.0 some fills.is.1)
+  pub last_comes : Fills held held_new now after Last → 0 < length held_new → IsAll before after (done ++ held_new ∷ [])
+  last_comes fills some = last_next before done after held_new
+      (reads_more before done now after held held_new at fills.grows) fills.is.0 some fills.is.1
 
   -- it is not known
   pub fails_so : (rose : Type 0) (trouble : InputTrouble) → FillFails held held_new now after rose trouble

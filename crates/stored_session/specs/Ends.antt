@@ -16,27 +16,32 @@ use Rattle.node_store.specs.Device.{Told, Becomes, RisesBy}
 use Rattle.node_store.specs.Image.{IsImageOf}
 use Rattle.stored_session.specs.View.{View, Leaves, Settled}
 use Rattle.stored_session.specs.Opening.{IsUnfit}
-use Rattle.stored_session.specs.Stored.{StoredSession}
+use Rattle.stored_session.specs.Stored.{AnswersStored, StoredSession}
 use Rattle.stored_session.specs.Along.{StandsAlong}
 use Rattle.stored_session.specs.Through.{BeginsStored, IsAll, HasNext, TakesNear, ReadsTo}
 use Rattle.stored_session.specs.declared.end.StoredEnd.{StoredEnd}
 use Rattle.stored_session.specs.declared.end.StoredEnd.TheVariants.{Done, Unfit, Refused, Long}
 use Rattle.stored_session.specs.declared.end.StoredEnd.TheVariants.{ReadFault, WriteFault, Memory}
 
--- Of the last line: its text was not written, since a write or a sync of the device failed; or the device has its
--- record, and a front of its text was written that is not all. After its end was read the input was not asked again.
--- `stores` is that the device's count of writes and
--- syncs rose.
+-- The text of one of the lines was not written, since a write or a sync of the device failed; or the device has the
+-- record after the last of the lines, and of that text a front was written that is not all. The lines behind that one
+-- were taken of the input with it: after its end was read the input was not asked again, and little was taken past it.
+-- `stores` is that the device's count of writes and syncs rose.
 pub record StopsWriting (m : Meaning) (d : Diagram) (b : ℕ) (start : State) (before now : Streams) (stores : Type 0)
     (lines : List (List ℕ)) (text : List ℕ) (low : ℕ) : Type 0 where
   pub done : List (List ℕ)
   pub line : List ℕ
-  pub parts : lines ≡ done ++ line ∷ []
+  pub more : List (List ℕ)
+  pub parts : lines ≡ done ++ line ∷ more
   pub text_done : List ℕ
   pub answer : List ℕ
-  pub texts : text ≡ text_done ++ answer
+  pub text_more : List ℕ
+  pub texts : text ≡ text_done ++ (answer ++ text_more)
   pub state : State
   pub session : StoredSession m d b start done text_done state
+  pub next : State
+  pub answers : AnswersStored m d b state line answer next
+  pub near : TakesNear before.input now.input (done ++ line ∷ [])
   pub asked : LastAsked before.input now.asked (length done)
   pub front : ℕ
   pub wrote : Appends before.out now.out (text_done ++ take front answer)
@@ -53,8 +58,8 @@ abbrev pub RefusesNext : Diagram → ℕ → Option (List ℕ) → List (List �
 RefusesNext d b input lines = (line : List ℕ) × HasNext input lines line × ¬ (IsRequest d b false line)
 
 -- What each end says of the lines that the node took, and of their text: they are the whole input; a line follows
--- that is refused, or one too many; the input failed, and each line whose end was read is answered; the last line's
--- text is not written whole, and little of the input was taken past that line; memory was wanting.
+-- that is refused, or one too many; the input failed, and each line whose end was read is answered; the text of one of
+-- them is not written whole, and little of the input was taken past the last; memory was wanting.
 abbrev pub EndsSo : Meaning → Diagram → ℕ → State → Streams → Streams → Type 0 → List (List ℕ) → List ℕ → ℕ
     → StoredEnd → Type 0
 EndsSo m d b start before now stores lines text low Done =

@@ -1,5 +1,7 @@
 pub mod Along
+pub mod Batch
 pub mod Ends
+pub mod Holding
 pub mod Kept
 pub mod Opening
 pub mod Progress

@@ -1,4 +1,4 @@
--- How a stored session stands between two lines, and how one more line goes.
+-- How a stored session stands between two lines, and how it goes on.
 use Rattle.std.specs.Prelude.{◌≡◌, ◌≤◌, ◌+◌, ◌*◌, ℕ, List, length, Result, Ok, Err}
 use Rattle.std.specs.Io.KnownBytes.{Appends}
 use Rattle.station_graph.specs.Diagram.{Diagram}
@@ -14,6 +14,7 @@ use Rattle.stored_session.specs.Stored.{StoredSession}
 use Rattle.stored_session.specs.Along.{StandsAlong}
 use Rattle.stored_session.specs.Through.{ReadsThrough}
 use Rattle.stored_session.specs.Ends.{BegunEnds}
+use Rattle.stored_session.specs.declared.held.Reached.{Reached}
 use Rattle.stored_session.specs.declared.line.LineEnd.{LineEnd}
 use Rattle.stored_session.specs.declared.line.LineEnd.TheVariants as l
 use Rattle.stored_session.specs.declared.end.StoredEnd.{StoredEnd}
@@ -43,13 +44,12 @@ pub record StoredStands {D : Type 0} (v : View D) (m : Meaning) (d : Diagram) (b
   pub asked : HasAsked before now held count
   pub after : StandsAfter v m d b start before now old device done store state
 
--- How one more line goes: it is answered, or the session ends.
+-- How the session goes on: it stands after some more lines, or ends.
 abbrev pub StoredGoes : {D : Type 0} → View D → Meaning → Diagram → ℕ → State → Streams → Streams → D → D → List ℕ
-    → ℕ → State
-    → Result Store StoredEnd → Type 0
-StoredGoes v m d b start before now old device held count state (Ok store) =
-    StoredStands v m d b start before now old device held (count + 1) store state
-StoredGoes v m d b start before now old device held count state (Err end) =
+    → State → Result Reached StoredEnd → Type 0
+StoredGoes v m d b start before now old device held state (Ok reached) =
+    StoredStands v m d b start before now old device held reached.count reached.store state
+StoredGoes v m d b start before now old device held state (Err end) =
     BegunEnds v m d b 0 start before now old device end
 
 -- How a session ends at a line before which so many are answered.

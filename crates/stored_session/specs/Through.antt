@@ -8,7 +8,8 @@ use Rattle.node_session.specs.declared.reader.TheConstants.{CHUNK}
 use Rattle.node_session.specs.declared.reader.InputTrouble.{InputTrouble}
 use Rattle.node_session.specs.declared.reader.InputTrouble.TheVariants.{Memory, Failed}
 use Rattle.stored_session.specs.declared.read.NextLine.{NextLine}
-use Rattle.stored_session.specs.declared.read.NextLine.TheVariants.{Line, Last, TooLong, End}
+use Rattle.stored_session.specs.declared.read.NextLine.TheVariants.{Whole, Last, TooLong, End}
+use Rattle.stored_session.specs.Holding.{HoldsLine}
 
 -- These whole lines were taken of the input, and these bytes are held that follow them.
 pub record ReadsThrough (before now : Option (List ℕ)) (held : List ℕ) (done : List (List ℕ)) : Type 0 where
@@ -51,24 +52,17 @@ HasNext input done line = BeginsStored input (done ++ line ∷ [])
 -- What comes next, after these lines: a line with an end; the last one, without; one that is too long; nothing. A
 -- line that is too long is refused before its end is seen.
 abbrev pub ComesNext : Option (List ℕ) → Option (List ℕ) → List ℕ → List (List ℕ) → NextLine → Type 0
-ComesNext input now held done (Line line) = ReadsThrough input now held (done ++ line ∷ [])
-ComesNext input now held done (Last line) = IsAll input now (done ++ line ∷ [])
+ComesNext input now held done Whole = ReadsThrough input now held done × HoldsLine held
+ComesNext input now held done Last = IsAll input now (done ++ held ∷ [])
 ComesNext input now held done TooLong = (line : List ℕ) × HasNext input done line × (MOST_LINE < length line)
 ComesNext input now held done End = IsAll input now done
 
 -- It is a line that is not too long.
 abbrev pub IsLine : NextLine → Type 0
-IsLine (Line line) = ⊤
-IsLine (Last line) = ⊤
+IsLine Whole = ⊤
+IsLine Last = ⊤
 IsLine TooLong = ⊥
 IsLine End = ⊥
-
--- It is a line with an end.
-abbrev pub HasEnd : NextLine → Type 0
-HasEnd (Line line) = ⊤
-HasEnd (Last line) = ⊥
-HasEnd TooLong = ⊥
-HasEnd End = ⊥
 
 -- The same, or why it is not known; `rose` is that the input's count of faults rose.
 abbrev pub GoesOn : Option (List ℕ) → Option (List ℕ) → List ℕ → List (List ℕ) → Type 0

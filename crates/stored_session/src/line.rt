@@ -38,7 +38,7 @@ pub enum LineEnd {
 }
 
 // Does what the line asks.
-fn act<J: Judge>(
+pub(crate) fn act<J: Judge>(
     alloc: Global,
     station: &Station,
     bay: BayId,

@@ -1,5 +1,6 @@
 //! Putting a record that has changed.
-ghost use Rattle.std.specs.Prelude.{◌≡◌, ◌≤◌, ◌<◌, ◌⊎◌, ◌+◌, ◌^◌, ℕ, List, IfOk, IfNone, OnErr};
+ghost use Rattle.std.specs.Prelude.{◌≡◌, ◌≢◌, ◌≤◌, ◌<◌, ◌⊎◌, ◌+◌, ◌^◌, ℕ, List, None, IfOk};
+ghost use Rattle.std.specs.Prelude.{IfNone, OnErr};
 ghost use Rattle.ilk_base.specs.Outside.{Rose};
 ghost use Rattle.bay_protocol.specs.Output.{IsKeep};
 ghost use Rattle.bay_protocol.specs.declared.values.Kept.{Kept as AnyRecord};
@@ -11,6 +12,16 @@ ghost use Rattle.stored_session.specs.Kept.{IsKept};
 use bay_node::Kept;
 use ilk_base::Failed;
 use node_store::{Device, Store};
+
+// The new record, if it is another.
+pub(crate) fn changed(before: Kept, after: Kept) -> Option<Kept>
+    ensures { IsKeep before after result }
+{
+    if before == after {
+        return None;
+    }
+    Some(after)
+}
 
 // Puts the record, if there is a new one.
 pub(crate) fn put_changed<D: Device>(
@@ -34,6 +45,7 @@ pub(crate) fn put_changed<D: Device>(
     ensures reads { D.read_faults device.new ≡ D.read_faults device.old }
     ensures grows { D.write_faults device.old ≤ D.write_faults device.new }
     ensures failed { OnErr result (Rose (D.write_faults device.old) (D.write_faults device.new)) }
+    ensures some { OnErr result (keep ≢ None) }
 {
     match keep {
         Some(kept) => store.put(device, &kept),

@@ -3,35 +3,26 @@ ghost use Rattle.std.specs.Prelude.{◌≡◌, ◌≤◌, ◌<◌, ◌+◌, ℕ,
 ghost use Rattle.ilk_base.specs.Outside.{Rose};
 ghost use Rattle.node_session.specs.SessionEnds.{LastAsked};
 ghost use Rattle.node_session.specs.declared.reader.TheConstants.{CHUNK};
-ghost use Rattle.stored_session.specs.Through.{ReadsThrough, IsLine, HasEnd, GoesOn};
+ghost use Rattle.stored_session.specs.Through.{ReadsThrough, IsLine, GoesOn};
 
-use ilk_base::{Memory, Source, Text};
-use node_session::{Front, InputTrouble, Reader, without_return};
+use ilk_base::Source;
+use node_session::{Front, InputTrouble, Reader};
 use std::alloc::Global;
 
-// What comes next of an input.
-#[derive(Drop)]
+// What comes next of an input, at the front of what the reader holds.
+#[derive(Clone, Copy, PartialEq, Eq)]
 pub(crate) enum NextLine {
-    // a line, without its end
-    Line(Text),
+    // a line with its end
+    Whole,
     // the last line, which has no end
-    Last(Text),
+    Last,
     // a line that is too long
     TooLong,
     // nothing
     End,
 }
 
-// The bytes, as a text.
-fn text_of(alloc: Global, bytes: &[u8]) -> Result<Text, Memory>
-    ensures { IfOk result (λ text. text ≡ bytes.now) }
-{
-    let mut text = Text::new(alloc);
-    text.push(bytes)?;
-    Ok(text)
-}
-
-// Takes the next line; no more of the input is taken than it must.
+// Looks what comes next; no more of the input is taken than it must, and none where a whole line is held.
 pub(crate) fn next_line<I: Source>(
     alloc: Global,
     reader: &mut Reader,
@@ -47,27 +38,16 @@ pub(crate) fn next_line<I: Source>(
         → ReadsThrough before (I.left input.old) reader.old done
         → (0 < length done + length reader.old → LastAsked before (I.left_before input.old) (length done))
         → IfOk result (λ next. IsLine next → LastAsked before (I.left_before input.new) (length done)) }
-    ensures near { IfOk result (λ next. HasEnd next → length reader.new ≤ CHUNK) }
     ensures grows { I.faults input.old ≤ I.faults input.new }
 {
     match reader.fill(alloc, input) {
-        Ok(Front::Line(len)) => {
-            let (line, _) = reader.held().split_at(len);
-            let Ok(text) = text_of(alloc, without_return(line)) else {
-                return Err(InputTrouble::Memory);
-            };
-            reader.pass(len + 1);
-            Ok(NextLine::Line(text))
-        }
+        Ok(Front::Line(_)) => Ok(NextLine::Whole),
         Ok(Front::TooLong) => Ok(NextLine::TooLong),
         Ok(Front::Last) => {
             if reader.held().is_empty() {
                 return Ok(NextLine::End);
             }
-            let Ok(text) = text_of(alloc, reader.held()) else {
-                return Err(InputTrouble::Memory);
-            };
-            Ok(NextLine::Last(text))
+            Ok(NextLine::Last)
         }
         Err(trouble) => Err(trouble),
     }

@@ -17,6 +17,7 @@ ghost use Rattle.stored_session.specs.Progress.{StoredStands, StoredGoes};
 ghost use Rattle.stored_session.specs.Ends.{BegunEnds, StoredEnds, IsStoredInput};
 
 use crate::end::{StoredEnd, end_at};
+use crate::held::{Reached, answer_held};
 use crate::line::take_line;
 use crate::opening::{BayTrouble, open_for_bay};
 use crate::read::{NextLine, next_line};
@@ -28,61 +29,61 @@ use node_store::{Device, Store};
 use station_graph::Station;
 use std::alloc::Global;
 
-// Answers the next line, before which so many are answered, or says how the session ends.
+// Answers the next lines, as many as lie in the input already, or says how the session ends.
 fn answer_next<J: Judge, I: Source, O: Sink, D: Device>(
     alloc: Global,
     station: &Station,
     bay: BayId,
     judge: &J,
     node: &mut Node,
-    store: Store,
+    reached: Reached,
     device: &mut D,
-    count: u32,
     reader: &mut Reader,
     input: &mut I,
     out: &mut O,
-) -> Result<Store, StoredEnd>
+) -> Result<Reached, StoredEnd>
     requires same { (J.meaning judge.now).diagram ≡ station.now }
     requires node { IsNode station.now node.old }
     requires fits { FitsHeard (J.meaning judge.now) node.old }
     requires bay { node.old.bay ≡ bay.0 }
-    requires few { count < MOST_LINES }
+    requires few { reached.count < MOST_LINES }
     requires near { length reader.old ≤ CHUNK }
-    requires room { store_sequence store + 1 < 2 ^ 64 }
+    requires room { store_sequence reached.store + 1 < 2 ^ 64 }
     requires kept { Told (D.content device.old) (λ image.
-        IsKept D.moment D.left_since device.old store image (kept_of node.old)) }
+        IsKept D.moment D.left_since device.old reached.store image (kept_of node.old)) }
     // Wherever the session stood, it goes on so.
     ensures goes { (start : State) (before : Streams) (from : D)
         → StoredStands (view D.content D.moment D.left_between D.left_since D.read_faults D.write_faults D.calls)
         (J.meaning judge.now) station.now bay.0 start before
         (streams (I.left input.old) (I.left_before input.old) (I.faults input.old) (O.took out.old) (O.faults out.old))
-        from device.old reader.old count store node.old
+        from device.old reader.old reached.count reached.store node.old
         → StoredGoes (view D.content D.moment D.left_between D.left_since D.read_faults D.write_faults D.calls)
         (J.meaning judge.now) station.now bay.0 start before
         (streams (I.left input.new) (I.left_before input.new) (I.faults input.new) (O.took out.new) (O.faults out.new))
-        from device.new reader.new count node.new result }
+        from device.new reader.new node.new result }
+    ensures more { IfOk result (λ r. reached.count < r.count) }
+    ensures few { IfOk result (λ r. r.count ≤ MOST_LINES) }
     ensures near { IfOk result (λ _. length reader.new ≤ CHUNK) }
-    ensures sequence { IfOk result (λ s. store_sequence s ≤ store_sequence store + 1) }
+    ensures sequence { IfOk result (λ r. store_sequence r.store ≤ store_sequence reached.store + 1) }
     ensures node { IsNode station.now node.new }
     ensures fits { FitsHeard (J.meaning judge.now) node.new }
     ensures bay { node.new.bay ≡ bay.0 }
 {
     match next_line(alloc, reader, input) {
-        Ok(NextLine::Line(line)) => {
-            let line = line.bytes();
-            match take_line(alloc, station, bay, judge, node, store, device, out, line) {
-                Ok(next) => Ok(next),
-                Err(end) => Err(end_at(count, end)),
-            }
-        }
-        Ok(NextLine::Last(line)) => {
-            let line = line.bytes();
+        Ok(NextLine::Whole) => answer_held(
+            alloc, station, bay, judge, node, reached, device, reader, out,
+        ),
+        Ok(NextLine::Last) => {
+            let Reached { store, count } = reached;
+            let line = reader.held();
             match take_line(alloc, station, bay, judge, node, store, device, out, line) {
                 Ok(_) => Err(StoredEnd::Done),
                 Err(end) => Err(end_at(count, end)),
             }
         }
-        Ok(NextLine::TooLong) => Err(StoredEnd::Refused { line: count + 1 }),
+        Ok(NextLine::TooLong) => Err(StoredEnd::Refused {
+            line: reached.count + 1,
+        }),
         Ok(NextLine::End) => Err(StoredEnd::Done),
         Err(InputTrouble::Failed) => Err(StoredEnd::ReadFault),
         Err(InputTrouble::Memory) => Err(StoredEnd::Memory),
@@ -114,31 +115,30 @@ fn run<J: Judge, I: Source, O: Sink, D: Device>(
         (streams (I.left input.new) (I.left_before input.new) (I.faults input.new) (O.took out.new) (O.faults out.new))
         device.old device.new result }
 {
-    let mut now = store;
+    let mut reached = Reached { store, count: 0 };
     let mut reader = Reader::new(alloc);
-    for count in 0..MOST_LINES {
+    while reached.count < MOST_LINES {
         let next = answer_next(
             alloc,
             station,
             bay,
             judge,
             node,
-            now,
+            reached,
             device,
-            count,
             &mut reader,
             input,
             out,
         );
         match next {
-            Ok(store) => now = store,
+            Ok(next) => reached = next,
             Err(end) => return end,
         }
     }
     match next_line(alloc, &mut reader, input) {
         Ok(NextLine::End) => StoredEnd::Done,
-        Ok(NextLine::Line(_)) => StoredEnd::Long,
-        Ok(NextLine::Last(_)) => StoredEnd::Long,
+        Ok(NextLine::Whole) => StoredEnd::Long,
+        Ok(NextLine::Last) => StoredEnd::Long,
         Ok(NextLine::TooLong) => StoredEnd::Long,
         Err(InputTrouble::Failed) => StoredEnd::ReadFault,
         Err(InputTrouble::Memory) => StoredEnd::Memory,
@@ -186,9 +186,12 @@ fn serve<J: Judge, I: Source, O: Sink, D: Device>(
 }
 
 /// Runs the node of the bay over the lines of the input, from the record that the device holds. Each line is one step
-/// of the protocol; a changed record is put on the device before the line's text is written, and the text is written
-/// before the next line is asked for. A `kept` line is refused, and no `keep` line is written. Time and memory: those
-/// of `take_line` for each line. The device is called at most three times, and six times more for each line.
+/// of the protocol; the record that it leaves, or one of a later line, is put on the device before the line's text is
+/// written, and the text is written before more is asked of the input. All whole lines that one read gave, of at most
+/// 4,096 bytes beside the first, are stepped before the record after the last of them is put, once, and their texts are
+/// written. A `kept` line is refused, and no `keep` line is written. Time and memory: those of `take_line` for each
+/// line, and the texts of the lines that one read gave. The device is called at most three times, and six times more for
+/// each line.
 ///
 /// `ends` says of each end what its cause is, what `out` took, and for which record an image stands that a crash
 /// leaves, in the call or at its return. `complete` says that an input of lines that are not refused, and no more than
