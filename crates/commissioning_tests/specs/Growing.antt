@@ -24,8 +24,6 @@ use Rattle.graph_walks.specs.declared.codes.Codes.{Codes}
 use Rattle.ilk_base.specs.declared.words.Direction.{Direction}
 use Rattle.dependence_search.specs.RuleWalks.{IsTurningChoice}
 use Rattle.dependence_search.specs.Released.{IsReleasedOf}
-use Rattle.dependence_search.specs.Width.{TurnPasses}
-use Rattle.judge_pool.specs.declared.limits.TheConstants.{BAY_EDGES}
 use Rattle.release_dependence.specs.Operations.{closing}
 use Rattle.commissioning_tests.specs.Answering.{IsMove, AreRising, IsPosition, ArePositions}
 use Rattle.commissioning_tests.specs.Standing.{IsMoved}
@@ -112,11 +110,6 @@ pub record IsOperationWalk (w : OperationWalk) : Type 0 where
   pub walk : IsRuleWalk w.station.now w.steps.now.old_steps.items w.place op.switch.0 w.walk.now.graph
       w.walk.now.codes.items
   pub released : IsReleasedOf w.walk.now.graph w.walk.now.codes.items op.direction w.released.now
-
--- The graph of the operation walked with itself has more than `BAY_EDGES` edges.
-abbrev pub IsWalkedWide : OperationWalk → Type 0
-IsWalkedWide w = (op : Op) → slice_get w.operations.now w.number ≡ Some op →
-    TurnPasses w.station.now w.steps.now.old_steps.items w.place op.switch.0 BAY_EDGES
 
 -- All of the first so many operations is shown.
 abbrev pub AreCovered : Diagram → List Op → List ℕ → List TestPosition → ℕ → Type 0

@@ -1,8 +1,9 @@
 //! The tests of all bays of a station.
 ghost use Rattle.std.specs.Prelude.{◌≡◌, ◌+◌, ◌<◌, IfOk, IfErr, OnOk};
 ghost use Rattle.station_graph.specs.Diagram.{part_count};
-ghost use Rattle.commissioning_tests.specs.Refusing.{IsRefusal, IsWideBay};
-ghost use Rattle.commissioning_tests.specs.Shared.{AreSharedTests, AreTestsUpto, AreStationTests};
+ghost use Rattle.commissioning_tests.specs.Refusing.{AreNarrowTests, AreNarrowUpto, IsNarrowBay, IsRefusal};
+ghost use Rattle.commissioning_tests.specs.Refusing.{IsThatWideBay, IsWideBay};
+ghost use Rattle.commissioning_tests.specs.Shared.{AreLeads, AreSharedTests, AreStationTests, AreTestsUpto};
 
 use crate::bay::bay_tests;
 use crate::leads::{is_tested, leads_of, like_of};
@@ -21,7 +22,8 @@ fn shared_tests(
 ) -> Result<SharedTests, TestsRefusal>
     ensures bay { IfOk result (λ s. s.bay ≡ bay) }
     ensures are { IfOk result (AreSharedTests station.now leads.now) }
-    ensures refusal { IfErr result (IsRefusal (IsWideBay station.now)) }
+    ensures narrow { IfOk result (λ _. IsNarrowBay station.now bay.0) }
+    ensures refusal { IfErr result (IsRefusal (IsThatWideBay station.now bay.0)) }
 {
     let like = like_of(alloc, station, leads, bay)?;
     let tests = bay_tests(alloc, station, bay)?;
@@ -37,8 +39,11 @@ fn add_tests(
     all: &mut Vec<SharedTests>,
 ) -> Result<(), TestsRefusal>
     requires within { part.0 < part_count station.now }
+    requires leads { AreLeads station.now leads.now }
     requires before { AreTestsUpto station.now leads.now part.0 all.old.items }
+    requires narrow { AreNarrowUpto station.now leads.now part.0 }
     ensures tests { OnOk result (AreTestsUpto station.now leads.now (part.0 + 1) all.new.items) }
+    ensures narrow { IfOk result (λ _. AreNarrowUpto station.now leads.now (part.0 + 1)) }
     ensures refusal { IfErr result (IsRefusal (IsWideBay station.now)) }
 {
     if !is_tested(station, leads, part) {
@@ -51,11 +56,12 @@ fn add_tests(
 
 /// The tests of a station, bay by bay in document order: those of each bay that is not seen to be like an earlier one, as
 /// `bay_tests` makes them, and with them the later bays that are seen to be like it, whose tests they are with the two
-/// bays exchanged, by `like_bays_are_tested`. It is `Wide` as `bay_tests` is, with the first
-/// bay of which that is found. Time: the items, for each bay and each
+/// bays exchanged, by `like_bays_are_tested`. It is `Wide` as `bay_tests` is, with the first bay whose walks are too wide;
+/// of the bays before it, and of all bays where there are tests, the walks are narrow. Time: the items, for each bay and each
 /// bay that is tested; and that of `bay_tests`, for each of these. Memory: all tests.
 pub fn station_tests(alloc: Global, station: &Station) -> Result<Vec<SharedTests>, TestsRefusal>
     ensures tests { IfOk result (λ v. AreStationTests station.now v.items) }
+    ensures narrow { IfOk result (λ v. AreNarrowTests station.now v.items) }
     ensures refusal { IfErr result (IsRefusal (IsWideBay station.now)) }
 {
     let leads = leads_of(alloc, station)?;

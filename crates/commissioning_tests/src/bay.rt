@@ -4,7 +4,7 @@ ghost use Rattle.commissioning_tests.specs.Answering.{ArePositions};
 ghost use Rattle.commissioning_tests.specs.Covering.{AreTestsOf, TestSwitches};
 ghost use Rattle.commissioning_tests.specs.Growing.{AreCovered};
 ghost use Rattle.commissioning_tests.specs.Listed.{operations_from};
-ghost use Rattle.commissioning_tests.specs.Refusing.{IsRefusal, IsThatWideBay, SomeIsTooWide};
+ghost use Rattle.commissioning_tests.specs.Refusing.{HaveNarrow, HaveTooWide, IsNarrowBay, IsRefusal, IsThatWideBay};
 ghost use Rattle.judge_pool.specs.declared.layer.Trouble.TheVariants.{Wide};
 ghost use Rattle.station_joints.specs.Joined.{HaveJointSteps};
 
@@ -52,7 +52,8 @@ fn positions_of(
     requires few { first.0 + count < 2 ^ 16 }
     ensures positions { IfOk result (λ ps. ArePositions station.now operations.now ps.items) }
     ensures covered { IfOk result (λ ps. AreCovered station.now operations.now stands.now ps.items (length operations.now)) }
-    ensures wide { IfErr result (λ e. e ≡ Wide → SomeIsTooWide station.now first.0 count) }
+    ensures narrow { IfOk result (λ _. HaveNarrow station.now first.0 count) }
+    ensures wide { IfErr result (λ e. e ≡ Wide → HaveTooWide station.now first.0 count) }
 {
     let steps = steps_for(alloc, station, bay)?;
     if steps.old_steps.len() < 2 {
@@ -73,7 +74,8 @@ fn tests_of(
     requires within { first.0 + count ≤ length station.now.switches }
     requires few { first.0 + count < 2 ^ 16 }
     ensures tests { IfOk result (TestSwitches station.now first.0 count) }
-    ensures wide { IfErr result (λ e. e ≡ Wide → SomeIsTooWide station.now first.0 count) }
+    ensures narrow { IfOk result (λ _. HaveNarrow station.now first.0 count) }
+    ensures wide { IfErr result (λ e. e ≡ Wide → HaveTooWide station.now first.0 count) }
 {
     let operations = operations_of(alloc, first, count)?;
     let stands = stands_of(alloc, station, first, count)?;
@@ -100,13 +102,14 @@ fn tests_of(
 /// turn it, for each rule that an operation can break a position in which it does, what the bay needs of other bays, and
 /// what is released in every position. The move is of that switch or of one that stands for it: of other bays that are
 /// alike only the first has its switches moved, as far as that is seen in document order. No line is idle. It is `Wide`
-/// where for a switch of the bay a graph, a walk of both, or the graph of one of its operations walked with itself has more
-/// than `judge_pool::BAY_EDGES` edges. Time: the items, for each two bays that are not seen to be like earlier ones; a walk
-/// for each switch of the bay; the graph of an operation walked with itself for each turn that no position shows yet; and
-/// for each position the rules, for each moved switch that may show more. Memory: a walk, and for each move the answers of
-/// the operations.
+/// where for a switch of the bay a graph or a walk of both has more than `judge_pool::BAY_EDGES` edges, in the order in
+/// which the items are taken in; where it has tests, none has. Time: the items, for each two bays that are not seen to be
+/// like earlier ones; a walk for each switch of the bay; the graph of an operation for each turn that no position shows
+/// yet; and for each position the rules, for each moved switch that may show more. Memory: a walk, and for each move the
+/// answers of the operations.
 pub fn bay_tests(alloc: Global, station: &Station, bay: BayId) -> Result<BayTests, TestsRefusal>
     ensures tests { IfOk result (AreTestsOf station.now bay.0) }
+    ensures narrow { IfOk result (λ _. IsNarrowBay station.now bay.0) }
     ensures refusal { IfErr result (IsRefusal (IsThatWideBay station.now bay.0)) }
 {
     station.is_station();

@@ -1,5 +1,5 @@
 //! How positions are added until all is shown.
-ghost use Rattle.std.specs.Prelude.{◌≡◌, ℕ, List, Bool, ◌<◌, length, slice_get, Some, IfOk, IfErr, OnOk, option_map};
+ghost use Rattle.std.specs.Prelude.{◌≡◌, ℕ, List, Bool, ◌<◌, length, slice_get, Some, IfOk, OnOk, option_map};
 ghost use Rattle.ilk_base.specs.declared.words.Op.{Op as Operation};
 ghost use Rattle.ilk_base.specs.declared.words.Rule.{Rule as Broken};
 ghost use Rattle.station_graph.specs.Alike.{IsVector};
@@ -9,8 +9,7 @@ ghost use Rattle.dependence_search.specs.Turning.{IsTurn, IsTurning};
 ghost use Rattle.commissioning_tests.specs.Answering.{ArePositions};
 ghost use Rattle.commissioning_tests.specs.Standing.{IsMoved};
 ghost use Rattle.commissioning_tests.specs.Covering.{TurnIsShown, RuleIsShown};
-ghost use Rattle.commissioning_tests.specs.Growing.{AreMore, AreTurnedLayers, IsOperationWalk, IsWalkedWide, IsCovered};
-ghost use Rattle.judge_pool.specs.declared.layer.Trouble.TheVariants.{Wide};
+ghost use Rattle.commissioning_tests.specs.Growing.{AreMore, AreTurnedLayers, IsOperationWalk, IsCovered};
 
 use crate::depends::{layers_of, may_turn};
 use crate::moves::add_position;
@@ -20,9 +19,8 @@ use crate::shown::{is_rule_shown, is_turn_shown};
 use crate::stands::is_moved;
 use crate::values::TestPosition;
 use crate::walked::OperationWalk;
-use dependence_search::{find_breach, find_turn, trouble_of, walks_answer};
+use dependence_search::{find_breach, find_turn, walks_answer};
 use ilk_base::{Memory, Op, Rule, SwitchId};
-use judge_pool::{BAY_EDGES, Trouble};
 use std::alloc::Global;
 
 // A position in which moving the switch turns the operation.
@@ -31,14 +29,13 @@ fn turn_of(
     walked: &OperationWalk<'_>,
     op: Op,
     switch: SwitchId,
-) -> Result<Option<Vec<bool>>, Trouble>
+) -> Result<Option<Vec<bool>>, Memory>
     requires walked { IsOperationWalk walked.now }
     requires op { slice_get walked.now.operations.now walked.now.number ≡ Some op }
     requires switch { switch.0 < length walked.now.station.now.switches }
     ensures turn { IfOk result (λ found. IsTurn walked.now.station.now op switch.0 (option_map (λ v. v.items) found)) }
-    ensures wide { IfErr result (λ e. e ≡ Wide → IsWalkedWide walked.now) }
 {
-    match find_turn(
+    find_turn(
         alloc,
         walked.station,
         walked.steps,
@@ -46,11 +43,7 @@ fn turn_of(
         walked.place,
         op,
         switch,
-        BAY_EDGES,
-    ) {
-        Ok(found) => Ok(found),
-        Err(trouble) => Err(trouble_of(trouble)),
-    }
+    )
 }
 
 // Adds the position, if none shows that moving the switch turns operation k.
@@ -142,7 +135,7 @@ fn cover_turn(
     layers: &[bool],
     switch: SwitchId,
     positions: &mut Vec<TestPosition>,
-) -> Result<(), Trouble>
+) -> Result<(), Memory>
     requires walked { IsOperationWalk walked.now }
     requires layers { (op : Operation) → slice_get walked.now.operations.now walked.now.number ≡ Some op
         → AreTurnedLayers walked.now.walk.now.graph walked.now.walk.now.codes.items op.direction layers.now }
@@ -152,7 +145,6 @@ fn cover_turn(
         positions.new.items) }
     ensures shown { OnOk result ((op : Operation) → slice_get walked.now.operations.now walked.now.number ≡ Some op
         → IsMoved walked.now.stands.now switch.0 → DependsOn walked.now.station.now op switch.0 → TurnIsShown positions.new.items walked.now.number switch.0) }
-    ensures wide { IfErr result (λ e. e ≡ Wide → IsWalkedWide walked.now) }
 {
     if !is_moved(walked.stands, switch.0) || is_turn_shown(positions, walked.number, switch) {
         return Ok(());
@@ -235,7 +227,7 @@ fn cover_turns(
     alloc: Global,
     walked: &OperationWalk<'_>,
     positions: &mut Vec<TestPosition>,
-) -> Result<(), Trouble>
+) -> Result<(), Memory>
     requires walked { IsOperationWalk walked.now }
     requires positions { ArePositions walked.now.station.now walked.now.operations.now positions.old.items }
     ensures more { OnOk result (AreMore walked.now.station.now walked.now.operations.now positions.old.items
@@ -243,7 +235,6 @@ fn cover_turns(
     ensures shown { OnOk result ((s : ℕ) (op : Operation)
         → slice_get walked.now.operations.now walked.now.number ≡ Some op → IsMoved walked.now.stands.now s
         → DependsOn walked.now.station.now op s → TurnIsShown positions.new.items walked.now.number s) }
-    ensures wide { IfErr result (λ e. e ≡ Wide → IsWalkedWide walked.now) }
 {
     let layers = layers_of(alloc, walked)?;
     for s in 0..walked.station.switch_count() {
@@ -257,14 +248,13 @@ pub(crate) fn cover_operation(
     alloc: Global,
     walked: &OperationWalk<'_>,
     positions: &mut Vec<TestPosition>,
-) -> Result<(), Trouble>
+) -> Result<(), Memory>
     requires walked { IsOperationWalk walked.now }
     requires positions { ArePositions walked.now.station.now walked.now.operations.now positions.old.items }
     ensures more { OnOk result (AreMore walked.now.station.now walked.now.operations.now positions.old.items
         positions.new.items) }
     ensures covered { OnOk result (IsCovered walked.now.station.now walked.now.operations.now walked.now.stands.now positions.new.items
         walked.now.number) }
-    ensures wide { IfErr result (λ e. e ≡ Wide → IsWalkedWide walked.now) }
 {
     walked.station.is_station();
     walks_answer();

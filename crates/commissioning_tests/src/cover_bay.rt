@@ -4,14 +4,14 @@ ghost use Rattle.station_graph.specs.Connection.{a_switch};
 ghost use Rattle.step_graphs.specs.Steps.{TakesIn};
 ghost use Rattle.station_joints.specs.Joined.{HaveJointSteps};
 ghost use Rattle.dependence_search.specs.RuleWalks.{AreRuleStocks, IsRuleWalk};
-ghost use Rattle.dependence_search.specs.Width.{IsTooWide, TurnPasses};
+ghost use Rattle.dependence_search.specs.Width.{IsNarrow, IsTooWide};
 ghost use Rattle.judge_pool.specs.declared.limits.TheConstants.{BAY_EDGES};
 ghost use Rattle.judge_pool.specs.declared.layer.Trouble.TheVariants.{Wide};
 ghost use Rattle.commissioning_tests.specs.Answering.{ArePositions};
 ghost use Rattle.commissioning_tests.specs.Growing.{AreOperations, AreMore, AreCovered, IsCovered};
 ghost use Rattle.release_dependence.specs.Operations.{opening, closing};
 ghost use Rattle.commissioning_tests.specs.Listed.{operations_from};
-ghost use Rattle.commissioning_tests.specs.Refusing.{SomeIsTooWide};
+ghost use Rattle.commissioning_tests.specs.Refusing.{AllAreNarrow, SomeIsTooWide};
 
 use crate::cover::cover_operation;
 use crate::paths::paths_of;
@@ -19,7 +19,7 @@ use crate::values::TestPosition;
 use crate::walked::OperationWalk;
 use dependence_search::{RuleStocks, released_graph, rule_stocks, rule_walk};
 use graph_walks::Walk;
-use ilk_base::{Direction, Op, SwitchId};
+use ilk_base::{Direction, Memory, Op, SwitchId};
 use judge_pool::{BAY_EDGES, Trouble};
 use station_graph::Station;
 use station_joints::JointSteps;
@@ -37,7 +37,7 @@ fn cover_both(
     switch: SwitchId,
     number: usize,
     positions: &mut Vec<TestPosition>,
-) -> Result<(), Trouble>
+) -> Result<(), Memory>
     requires steps { HaveJointSteps station.now station.now steps.now }
     requires all { AreOperations station.now operations.now }
     requires room { number + 1 < length operations.now }
@@ -49,8 +49,6 @@ fn cover_both(
     ensures more { OnOk result (AreMore station.now operations.now positions.old.items positions.new.items) }
     ensures opening { OnOk result (IsCovered station.now operations.now stands.now positions.new.items number) }
     ensures closing { OnOk result (IsCovered station.now operations.now stands.now positions.new.items (number + 1)) }
-    ensures wide { IfErr result (λ e. e ≡ Wide
-        → TurnPasses station.now steps.now.old_steps.items place switch.0 BAY_EDGES) }
 {
     let paths = paths_of(alloc, walk)?;
     let opened = released_graph(alloc, walk, Direction::ToOff)?;
@@ -84,7 +82,8 @@ fn cover_both(
     Ok(())
 }
 
-// Adds positions that show all of the two operations of a switch, the first of which has this number.
+// Adds positions that show all of the two operations of a switch, the first of which has this number, where its walk is
+// narrow.
 fn cover_switch(
     alloc: Global,
     stocks: &mut RuleStocks,
@@ -109,7 +108,9 @@ fn cover_switch(
     ensures more { OnOk result (AreMore station.now operations.now positions.old.items positions.new.items) }
     ensures opening { OnOk result (IsCovered station.now operations.now stands.now positions.new.items number) }
     ensures closing { OnOk result (IsCovered station.now operations.now stands.now positions.new.items (number + 1)) }
-    ensures wide { IfErr result (λ e. e ≡ Wide → IsTooWide station.now switch.0 BAY_EDGES) }
+    ensures narrow { IfOk result (λ _. IsNarrow station.now steps.now.old_steps.items switch.0 BAY_EDGES) }
+    ensures wide { IfErr result (λ e. e ≡ Wide
+        → IsTooWide station.now steps.now.old_steps.items switch.0 BAY_EDGES) }
 {
     let place = steps.old_places[usize::from(switch.0)];
     let walk = rule_walk(
@@ -144,7 +145,8 @@ pub(crate) fn cover_switches(
     requires few { first.0 + count < 2 ^ 16 }
     ensures positions { IfOk result (λ ps. ArePositions station.now operations.now ps.items) }
     ensures covered { IfOk result (λ ps. AreCovered station.now operations.now stands.now ps.items (2 * count)) }
-    ensures wide { IfErr result (λ e. e ≡ Wide → SomeIsTooWide station.now first.0 count) }
+    ensures narrow { IfOk result (λ _. AllAreNarrow station.now steps.now.old_steps.items first.0 count) }
+    ensures wide { IfErr result (λ e. e ≡ Wide → SomeIsTooWide station.now steps.now.old_steps.items first.0 count) }
 {
     let mut stocks = rule_stocks(alloc, station, &steps.old_steps)?;
     let mut positions = Vec::new(alloc);

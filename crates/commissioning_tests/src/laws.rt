@@ -6,12 +6,16 @@ ghost use Rattle.station_graph.specs.Diagram.{Diagram, IsStation};
 ghost use Rattle.release_dependence.specs.Depends.{DependsOn};
 ghost use Rattle.central_rules.specs.Meaning.{IsBay};
 ghost use Rattle.like_bays.specs.Like.{AreLike};
+ghost use Rattle.step_graphs.specs.declared.step.Step.{Step};
 ghost use Rattle.commissioning_tests.specs.Controllers.{Controller, Differs, FindsStuck, LeavesOut, Matters};
 ghost use Rattle.commissioning_tests.specs.Covering.{AreTestsOf};
 ghost use Rattle.commissioning_tests.specs.Likewise.{AreTestsOfLike};
+ghost use Rattle.commissioning_tests.specs.Refusing.{IsNarrowBy, IsWideBy};
 ghost use Rattle.commissioning_tests.specs.Shared.{AreStationTests, IsTestedBy};
 ghost use Rattle.commissioning_tests.specs.declared.values.BayTests.{BayTests as Tests};
 ghost use Rattle.commissioning_tests.specs.declared.values.SharedTests.{SharedTests as Shared};
+
+use dependence_search::narrow_excludes_wide;
 
 /// In the tests of a station each bay has its own tests, or is listed as one that is like an earlier bay that has. This is
 /// a law: the call does nothing.
@@ -42,3 +46,10 @@ pub fn left_out_rules_are_found()
         → slice_get t.operations.items k ≡ Some op → (releases : Controller) (rule : AnyRule)
         → LeavesOut d rule releases → Matters d op rule → Differs releases t }
 {}
+
+/// Along given steps no bay is both narrow and too wide. This is a law: the call does nothing.
+pub fn narrow_bays_are_not_wide()
+    ensures { (d : Diagram) (steps : List Step) (bay : ℕ) → IsNarrowBy d steps bay → ¬ IsWideBy d steps bay }
+{
+    narrow_excludes_wide();
+}

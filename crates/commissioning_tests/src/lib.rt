@@ -27,7 +27,8 @@ mod walked;
 pub use all_bays::station_tests;
 pub use bay::bay_tests;
 pub use laws::{
-    each_bay_is_tested, left_out_rules_are_found, like_bays_are_tested, stuck_inputs_are_found,
+    each_bay_is_tested, left_out_rules_are_found, like_bays_are_tested, narrow_bays_are_not_wide,
+    stuck_inputs_are_found,
 };
 pub use refusal::TestsRefusal;
 pub use values::{BayTests, SharedTests, TestMove, TestPosition};

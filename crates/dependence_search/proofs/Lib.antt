@@ -1,5 +1,4 @@
 pub mod GivenLemmas
-mod TurnedLemmas
 pub mod LoneLemmas
 pub mod ToldLemmas
 mod WantedLemmas
@@ -7,3 +6,7 @@ mod LabelLemmas
 pub mod DependLemmas
 pub mod ReleasedLemmas
 mod WideLemmas
+mod MarkLemmas
+mod PartingLemmas
+mod TellingLemmas
+mod ChosenLemmas

@@ -7,7 +7,7 @@ use Rattle.std.proofs.lemmas.Option.{slice_get_within, get_or_from_slice_get}
 use Rattle.ilk_base.specs.declared.words.Direction.{Direction}
 use Rattle.ilk_base.specs.declared.words.Rule.{Rule}
 use Rattle.station_graph.specs.Diagram.{Diagram}
-use Rattle.decision_graphs.specs.Label.{Layer, Layered, AreChoices, label_of}
+use Rattle.decision_graphs.specs.Label.{Layer, Layered, AreChoices, AreReduced, label_of}
 use Rattle.graph_walks.specs.declared.codes.Codes.{Codes}
 use Rattle.graph_walks.specs.Walks.{AreTwos, HasTwos, codes_of}
 use Rattle.judge_pool.proofs.ChoiceLemmas.{choices_each, choices_on}
@@ -89,7 +89,8 @@ module _ (walk named g : Layered) (codes : List Codes) (direction : Direction) (
     (named_label : 0 < length walk.layers → (cs : List ℕ) → AreChoices walk.layers cs →
     label_of named cs ≡ slice_index (map (released_name direction) codes) (label_of walk cs))
     (choices : map (λ (l : Layer). l.choices) g.layers ≡ map (λ (l : Layer). l.choices) named.layers)
-    (label : (cs : List ℕ) → AreChoices named.layers cs → label_of g cs ≡ label_of named cs) where
+    (label : (cs : List ℕ) → AreChoices named.layers cs → label_of g cs ≡ label_of named cs)
+    (reduced : AreReduced g.layers) where
   pub released_of : IsReleasedOf walk codes direction g
   released_of = record {
     choices = same_twos walk g has.choices (choices ∙ named_choices);
@@ -99,6 +100,7 @@ module _ (walk named g : Layered) (codes : List Codes) (direction : Direction) (
         ∙ (named_label some cs allowed
         ∙ (get_or-map (released_name direction) codes (label_of walk cs) c _ (slice_get_within codes (label_of walk cs) c at)
         ∙ ap (released_name direction) (get_or_from_slice_get codes (label_of walk cs) c c at)));
+    reduced = reduced;
   }
 
 module _ (d : Diagram) (ss : List Step) (b m : ℕ) (walk : Layered) (codes : List Codes)

@@ -3,3 +3,4 @@ pub mod Leading
 pub mod RuleWalks
 pub mod Released
 pub mod Width
+pub mod Parting

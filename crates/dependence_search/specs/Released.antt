@@ -3,8 +3,7 @@ use Rattle.std.specs.Prelude.{◌≡◌, ◌≢◌, ℕ, ◌<◌, List, Option, 
 use Rattle.ilk_base.specs.declared.words.Direction.{Direction}
 use Rattle.ilk_base.specs.declared.words.Rule.{Rule}
 use Rattle.station_graph.specs.Diagram.{Diagram}
-use Rattle.decision_graphs.specs.Label.{Layered, label_of}
-use Rattle.graph_products.specs.Products.{first_of, second_of}
+use Rattle.decision_graphs.specs.Label.{Layered, AreReduced, label_of}
 use Rattle.graph_walks.specs.declared.codes.Codes.{Codes}
 use Rattle.graph_walks.specs.Walks.{AreTwos, HasTwos}
 use Rattle.step_graphs.specs.declared.step.Step.{Step}
@@ -25,11 +24,12 @@ pub record HasTwoChoices (walk : Layered) (codes : List Codes) : Type 0 where
   pub labels : walk.labels ≡ length codes
 
 -- The graph leads to one where the walk leads to labels by which a move in this direction is released, and to zero where
--- it leads to labels by which the move breaks a rule.
+-- it leads to labels by which the move breaks a rule; and no two nodes of one layer have equal edges.
 pub record IsReleasedOf (walk : Layered) (codes : List Codes) (direction : Direction) (g : Layered) : Type 0 where
   pub choices : HasTwos (length walk.layers) g
   pub label : (cs : List ℕ) (c : Codes) → 0 < length walk.layers → AreTwos (length walk.layers) cs →
       slice_get codes (label_of walk cs) ≡ Some c → label_of g cs ≡ released_name direction c
+  pub reduced : AreReduced g.layers
 
 -- The graph does so for the walk of switch m, whose step stands at place b.
 pub record IsReleasedWalk (d : Diagram) (steps : List Step) (b m : ℕ) (direction : Direction) (g : Layered) :
@@ -38,10 +38,6 @@ pub record IsReleasedWalk (d : Diagram) (steps : List Step) (b m : ℕ) (directi
   pub codes : List Codes
   pub is_walk : IsRuleWalk d steps b m walk codes
   pub released : IsReleasedOf walk codes direction g
-
--- The number is that of a pair of two labels.
-abbrev pub IsTurnedPair : ℕ → Type 0
-IsTurnedPair x = first_of x ≢ second_of x
 
 -- The choices lead to one label, and those with the other choice in the layer to another.
 abbrev pub TurnsLabel : Layered → ℕ → List ℕ → Type 0

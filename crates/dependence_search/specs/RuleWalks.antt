@@ -1,14 +1,12 @@
 -- The walk of the two graphs of a switch, and what its labels say.
-use Rattle.std.specs.Prelude.{◌≡◌, ◌≢◌, ◌↔◌, ◌⊎◌, ℕ, Bool, List, [], ◌∷◌, Option, None, Some, slice_set, slice_get}
+use Rattle.std.specs.Prelude.{◌≡◌, ◌≢◌, ◌↔◌, ◌⊎◌, ℕ, Bool, List, Option, None, Some, slice_set, slice_get}
 use Rattle.std.specs.Prelude.{◌-◌, length, slice_index}
 use Rattle.ilk_base.specs.declared.words.Direction.{Direction}
 use Rattle.ilk_base.specs.declared.words.Rule.{Rule}
 use Rattle.station_graph.specs.Diagram.{Diagram}
 use Rattle.decision_graphs.specs.Label.{Layered, label_of}
 use Rattle.decision_graphs.specs.Reaching.{IsSet}
-use Rattle.graph_products.specs.declared.row.Row.{Row}
 use Rattle.graph_walks.specs.declared.codes.Codes.{Codes}
-use Rattle.graph_walks.specs.Walks.{same_steps}
 use Rattle.change_search.specs.Telling.{answer_of, IsSwitchWalk}
 use Rattle.step_graphs.specs.declared.step.Step.{Step}
 use Rattle.step_graphs.specs.Ready.{IsStepStock}
@@ -29,14 +27,6 @@ pub record AreRuleStocks (d : Diagram) (steps : List Step) (s : RuleStocks) : Ty
   pub load : IsStepStock d steps s.load
   pub gap_view : s.gap.pool.view ≡ Gap
   pub load_view : s.load.pool.view ≡ Load
-
--- Of two choices one graph takes one, and the other the other.
-abbrev pub turned_rows : List Row
-turned_rows = record { first = 0; second = 1 } ∷ record { first = 1; second = 0 } ∷ []
-
--- Two graphs of n layers take the same choices but in one layer, in which they take different ones.
-abbrev pub turned_steps : ℕ → ℕ → List (List Row)
-turned_steps n layer = slice_set (same_steps n) layer turned_rows
 
 -- Of two answers one is none.
 abbrev pub OneIsNone : Option Rule → Option Rule → Type 0

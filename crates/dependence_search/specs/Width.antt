@@ -1,33 +1,20 @@
--- When the search for the switches on which an operation depends is too wide.
-use Rattle.std.specs.Prelude.{◌⊎◌, ℕ, List}
-use Rattle.ilk_base.specs.declared.words.Direction.{Direction}
+-- When the walk of a switch is too wide, and when it is narrow.
+use Rattle.std.specs.Prelude.{ℕ, List}
 use Rattle.station_graph.specs.Connection.{a_switch}
 use Rattle.station_graph.specs.Diagram.{Diagram}
-use Rattle.decision_graphs.specs.Label.{Layered}
-use Rattle.graph_products.specs.Products.{IsWide}
-use Rattle.change_search.specs.Passing.{IsWideSwitchWalk}
+use Rattle.change_search.specs.Passing.{IsWideSwitchWalk, KeepsSwitchWalk}
 use Rattle.step_graphs.specs.declared.step.Step.{Step}
-use Rattle.step_graphs.specs.Steps.{AreSteps, TakesIn}
-use Rattle.dependence_search.specs.RuleWalks.{turned_steps}
-use Rattle.dependence_search.specs.Released.{IsReleasedWalk}
+use Rattle.step_graphs.specs.Steps.{TakesIn}
 
--- A graph of switch m, one of two for its two operations, walked with itself has more edges than the limit.
-pub record TurnPasses (d : Diagram) (steps : List Step) (b m limit : ℕ) : Type 0 where
-  pub direction : Direction
-  pub graph : Layered
-  pub is_released : IsReleasedWalk d steps b m direction graph
-  pub others : ℕ
-  pub layer : ℕ
-  pub wide : IsWide graph graph (turned_steps others layer) limit
-
--- The walk of switch m, whose step stands at place b, is too wide, or such a graph walked with itself.
-abbrev pub IsWideAt : Diagram → List Step → ℕ → ℕ → ℕ → Type 0
-IsWideAt d steps b m limit = IsWideSwitchWalk d d steps steps b m m limit ⊎ TurnPasses d steps b m limit
-
--- So it is where the steps are taken in some order.
-pub record IsTooWide (d : Diagram) (m limit : ℕ) : Type 0 where
-  pub steps : List Step
+-- Along these steps the walk of switch m has more edges than the limit: one of its graphs before it is reduced, or a product
+-- by which they are walked.
+pub record IsTooWide (d : Diagram) (steps : List Step) (m limit : ℕ) : Type 0 where
   pub place : ℕ
-  pub all : AreSteps d steps
   pub at : TakesIn steps place (a_switch m)
-  pub wide : IsWideAt d steps place m limit
+  pub wide : IsWideSwitchWalk d d steps steps place m m limit
+
+-- Along these steps none of them has more.
+pub record IsNarrow (d : Diagram) (steps : List Step) (m limit : ℕ) : Type 0 where
+  pub place : ℕ
+  pub at : TakesIn steps place (a_switch m)
+  pub keeps : KeepsSwitchWalk d d steps steps place m m limit

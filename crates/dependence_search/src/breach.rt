@@ -44,7 +44,7 @@ fn broken_labels(
 }
 
 // The position of all switches for which the choices stand, the moved one open.
-pub(crate) fn closed_by(
+fn closed_by(
     alloc: Global,
     station: &Station,
     steps: &JointSteps,

@@ -4,11 +4,16 @@
 
 mod breach;
 mod label;
+mod parting;
+mod position;
 mod released;
+mod telling;
 mod turn;
 mod walk;
+mod width;
 
 pub use breach::find_breach;
 pub use released::released_graph;
 pub use turn::{find_turn, one_is_none, turning_depends};
-pub use walk::{RuleStocks, rule_stocks, rule_walk, trouble_of, walks_answer};
+pub use walk::{RuleStocks, rule_stocks, rule_walk, walks_answer};
+pub use width::narrow_excludes_wide;

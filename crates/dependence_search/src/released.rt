@@ -30,8 +30,8 @@ fn names_of(alloc: Global, direction: Direction, codes: &[Codes]) -> Result<Vec<
 }
 
 /// The graph of an operation, by the walk of its switch: it leads to 1 where a move in this direction is released, and to
-/// 0 where it breaks a rule. It is reduced, so it has no more nodes than the walk, and mostly far fewer. Time and
-/// memory: the edges of the walk.
+/// 0 where it breaks a rule. It is reduced, so it has no more nodes than the walk, and mostly far fewer, and two different
+/// nodes of one layer lead to different labels by some choices. Time and memory: the edges of the walk.
 pub fn released_graph(alloc: Global, walk: &Walk, direction: Direction) -> Result<Graph, Memory>
     requires { HasTwoChoices walk.now.graph walk.now.codes.items }
     ensures { IfOk result (IsReleasedOf walk.now.graph walk.now.codes.items direction) }

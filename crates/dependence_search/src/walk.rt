@@ -45,8 +45,8 @@ pub fn rule_stocks(alloc: Global, station: &Station, steps: &[Step]) -> Result<R
     })
 }
 
-/// Why a walk, or a walk with itself, was not made. Constant time.
-pub fn trouble_of(trouble: ProductTrouble) -> Trouble
+// Why a walk was not made.
+fn trouble_of(trouble: ProductTrouble) -> Trouble
     ensures { (result ≡ Wide) ↔ (trouble ≡ TooWide) }
 {
     match trouble {

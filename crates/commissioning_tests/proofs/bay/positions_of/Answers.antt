@@ -21,7 +21,26 @@ returns-clause-covered c k lt =
     c.in_ok-positions.ensures.covered k
     (omega (arith, lt, ap length c.requires.operations, operations_long c.args.first.0 c.args.count))
 
+pub returns-then-len-lt2-clause-narrow : goal.returns-then-len-lt2-clause-narrow
+returns-then-len-lt2-clause-narrow c = record {
+  steps = c.in_ok-steps.steps.old_steps.items;
+  all = c.in_ok-steps.ensures.steps.old_all;
+  narrow = λ some m after before. absurd (omega (arith, some, c.if-len-lt2.true, c.len.ensures));
+}
+
+pub returns-clause-narrow : goal.returns-clause-narrow
+returns-clause-narrow c = record {
+  steps = c.in_ok-steps.steps.old_steps.items;
+  all = c.in_ok-steps.ensures.steps.old_all;
+  narrow = λ some. c.in_ok-positions.ensures.narrow;
+}
+
 pub returns-in_err-positions-clause-wide : goal.returns-in_err-positions-clause-wide
 returns-in_err-positions-clause-wide c =
     passed_on _ _ c.from_residual-in_err-positions.result c.from_residual-in_err-positions.ensures.1
-    (λ trouble same is. c.in_err-positions.ensures.wide (sym same ∙ is))
+    (λ trouble same is. record {
+      steps = c.in_ok-steps.steps.old_steps.items;
+      all = c.in_ok-steps.ensures.steps.old_all;
+      some = omega (arith, c.if-len-lt2.false, c.len.ensures);
+      too_wide = c.in_err-positions.ensures.wide (sym same ∙ is);
+    })

@@ -1,7 +1,6 @@
-use Rattle.std.proofs.Common.{sym, subst, ◌∙◌}
+use Rattle.std.proofs.Common.{subst}
 use Rattle.std.proofs.lemmas.Option.{slice_get_within}
 use Rattle.ilk_base.specs.declared.words.Op.{Op}
-use Rattle.judge_pool.proofs.ErrorLemmas.{passed_on}
 use Rattle.dependence_search.specs.RuleWalks.{IsRuleWalk}
 use Rattle.commissioning_tests.proofs.CoverLemmas.{turn_grows, same_op}
 use Rattle.commissioning_tests.proofs.cover.cover_operation.Goals as goal
@@ -24,8 +23,3 @@ returns-clause-covered c =
           c.in_ok-cover_rules.ensures.more.grows (c.in_ok-cover_turns.ensures.shown s op at here dep);
       rules = c.in_ok-cover_rules.ensures.shown;
     }
-
-pub returns-in_err-cover_turns-clause-wide : goal.returns-in_err-cover_turns-clause-wide
-returns-in_err-cover_turns-clause-wide c =
-    passed_on _ _ c.from_residual.result c.from_residual.ensures.1
-    (λ trouble same is. c.in_err-cover_turns.ensures.wide (sym same ∙ is))

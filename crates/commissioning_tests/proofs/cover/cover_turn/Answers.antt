@@ -1,8 +1,7 @@
-use Rattle.std.proofs.Common.{sym, subst, ◌∙◌}
+use Rattle.std.proofs.Common.{subst}
 use Rattle.ilk_base.specs.declared.words.Op.{Op}
 use Rattle.release_dependence.specs.Depends.{DependsOn}
 use Rattle.dependence_search.specs.Turning.{IsTurning}
-use Rattle.judge_pool.proofs.ErrorLemmas.{passed_on}
 use Rattle.commissioning_tests.proofs.CoverLemmas.{same_op}
 use Rattle.commissioning_tests.proofs.cover.cover_turn.Goals as goal
 
@@ -23,8 +22,3 @@ returns-in-None-clause-shown c op at here dep =
     absurd (subst (λ (x : Op). ¬ DependsOn c.args.walked.now.station.now x c.args.switch.0)
     (same_op c.args.walked.now.operations.now c.args.walked.now.number c.operation_of-op.result op
     c.operation_of-op.ensures at) none.turn dep)
-
-pub returns-in_err-closed-clause-wide : goal.returns-in_err-closed-clause-wide
-returns-in_err-closed-clause-wide c =
-    passed_on _ _ c.from_residual.result c.from_residual.ensures.1
-    (λ trouble same is. c.in_err-closed.ensures.wide (sym same ∙ is))

@@ -1,5 +1,4 @@
-use Rattle.std.proofs.Common.{◌≡◌, ◌⊎◌, ◌+◌, ◌<◌, ℕ, Bool, List, subst, sym, ◌∙◌, inl, inr, arith}
-use Rattle.judge_pool.proofs.ErrorLemmas.{passed_on}
+use Rattle.std.proofs.Common.{◌≡◌, ◌⊎◌, ◌+◌, ◌<◌, ℕ, Bool, List, subst, sym, inl, inr, arith}
 use Rattle.release_dependence.specs.Depends.{DependsOn}
 use Rattle.commissioning_tests.specs.Standing.{IsMoved}
 use Rattle.commissioning_tests.specs.Covering.{TurnIsShown}
@@ -40,8 +39,3 @@ returns-clause-shown c s op at here dep =
       c.loop-s-test.false,
       c.switch_count-s-end.ensures,
     )) at here dep
-
-pub returns-in_err-cover_turn-clause-wide : goal.returns-in_err-cover_turn-clause-wide
-returns-in_err-cover_turn-clause-wide c =
-    passed_on _ _ c.from_residual-in_err-cover_turn.result c.from_residual-in_err-cover_turn.ensures.1
-    (λ trouble same is. c.in_err-cover_turn.ensures.wide (sym same ∙ is))

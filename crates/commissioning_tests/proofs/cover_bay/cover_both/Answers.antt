@@ -1,5 +1,3 @@
-use Rattle.std.proofs.Common.{sym, ◌∙◌}
-use Rattle.judge_pool.proofs.ErrorLemmas.{passed_on}
 use Rattle.dependence_search.proofs.ReleasedLemmas.{walk_has}
 use Rattle.release_dependence.specs.Operations.{opening, closing}
 use Rattle.commissioning_tests.proofs.CoverLemmas.{covered_grows, more_then}
@@ -36,16 +34,6 @@ cover_operation-requires-2-clause-walked c = record {
   walk = c.requires.walk;
   released = c.in_ok-closed.ensures;
 }
-
-pub returns-in_err-cover_operation-clause-wide : goal.returns-in_err-cover_operation-clause-wide
-returns-in_err-cover_operation-clause-wide c =
-    passed_on _ _ c.from_residual-in_err-cover_operation.result c.from_residual-in_err-cover_operation.ensures.1
-    (λ trouble same is. c.in_err-cover_operation.ensures.wide (sym same ∙ is) (opening c.args.switch.0) c.requires.opening)
-
-pub returns-in_err-cover_operation-2-clause-wide : goal.returns-in_err-cover_operation-2-clause-wide
-returns-in_err-cover_operation-2-clause-wide c =
-    passed_on _ _ c.from_residual-in_err-cover_operation-2.result c.from_residual-in_err-cover_operation-2.ensures.1
-    (λ trouble same is. c.in_err-cover_operation-2.ensures.wide (sym same ∙ is) (closing c.args.switch.0) c.requires.closing)
 
 pub returns-clause-opening : goal.returns-clause-opening
 returns-clause-opening c =

@@ -1,8 +1,8 @@
-use Rattle.std.proofs.Common.{length, List, sym, subst, ◌∙◌, inl, inr}
+use Rattle.std.proofs.Common.{length, List, sym, subst, ◌∙◌}
 use Rattle.judge_pool.specs.declared.limits.TheConstants.{BAY_EDGES}
 use Rattle.judge_pool.proofs.ErrorLemmas.{passed_on}
 use Rattle.step_graphs.specs.declared.step.Step.{Step}
-use Rattle.change_search.specs.Passing.{IsWideSwitchWalk}
+use Rattle.change_search.specs.Passing.{IsWideSwitchWalk, KeepsSwitchWalk}
 use Rattle.dependence_search.proofs.DependLemmas.{listed}
 use Rattle.commissioning_tests.proofs.cover_bay.cover_switch.Goals as goal
 
@@ -12,31 +12,28 @@ returns-in_err-walk-clause-wide c =
     let m = c.args.switch.0 in
     let place = c.index-place.result.now in
     passed_on _ _ c.from_residual.result c.from_residual.ensures.1 (λ trouble same is. record {
-      steps = c.args.steps.now.old_steps.items;
       place = place;
-      all = c.requires.steps.steps.old_all;
       at =
           c.requires.steps.old_at.each m place
           (listed c.args.steps.now.old_places.items m c.from.result place (length d.switches) c.from.ensures
           c.index-place.ensures c.requires.switch c.requires.steps.old_at.len);
       wide =
-          inl (subst (λ (xs : List Step). IsWideSwitchWalk d d xs xs place m m BAY_EDGES) c.deref.ensures.value
-          (c.in_err-walk.ensures.wide (sym same ∙ is)));
+          subst (λ (xs : List Step). IsWideSwitchWalk d d xs xs place m m BAY_EDGES) c.deref.ensures.value
+          (c.in_err-walk.ensures.wide (sym same ∙ is));
     })
 
-pub returns-in_err-cover_both-clause-wide : goal.returns-in_err-cover_both-clause-wide
-returns-in_err-cover_both-clause-wide c =
+pub returns-clause-narrow : goal.returns-clause-narrow
+returns-clause-narrow c =
     let d = c.args.station.now in
     let m = c.args.switch.0 in
     let place = c.index-place.result.now in
-    passed_on _ _ c.from_residual-in_err-cover_both.result c.from_residual-in_err-cover_both.ensures.1
-    (λ trouble same is. record {
-      steps = c.args.steps.now.old_steps.items;
+    record {
       place = place;
-      all = c.requires.steps.steps.old_all;
       at =
           c.requires.steps.old_at.each m place
           (listed c.args.steps.now.old_places.items m c.from.result place (length d.switches) c.from.ensures
           c.index-place.ensures c.requires.switch c.requires.steps.old_at.len);
-      wide = inr (c.in_err-cover_both.ensures.wide (sym same ∙ is));
-    })
+      keeps =
+          subst (λ (xs : List Step). KeepsSwitchWalk d d xs xs place m m BAY_EDGES) c.deref.ensures.value
+          c.in_ok-walk.ensures.keeps;
+    }

@@ -4,6 +4,7 @@ use Rattle.judge_pool.proofs.ErrorLemmas.{passed_on}
 use Rattle.commissioning_tests.specs.Growing.{IsCovered}
 use Rattle.commissioning_tests.proofs.ListLemmas.{operations_long, opening_at, closing_at, operations_in}
 use Rattle.commissioning_tests.proofs.CoverLemmas.{covered_grows}
+use Rattle.commissioning_tests.proofs.RefusalLemmas.{narrow_more}
 use Rattle.commissioning_tests.proofs.cover_bay.cover_switches.Goals as goal
 
 pub overflow_add-switch : goal.overflow_add-switch
@@ -60,6 +61,8 @@ loop-i-preserved c = (
           (ap (λ (x : ℕ). 2 * x + 1) c.from-number.ensures ∙ sym odd) c.in_ok-cover_switch.ensures.closing
     ]
   ],
+  narrow_more c.args.station.now c.args.steps.now.old_steps.items c.args.first.0 c.loop-i.i c.loop-i.invariant.3
+      c.in_ok-cover_switch.ensures.narrow,
 )
 
 pub returns-in_err-cover_switch-clause-wide : goal.returns-in_err-cover_switch-clause-wide
@@ -71,3 +74,7 @@ returns-in_err-cover_switch-clause-wide c =
       before = omega (arith, c.loop-i-test.true);
       too_wide = c.in_err-cover_switch.ensures.wide (sym same ∙ is);
     })
+
+pub returns-clause-narrow : goal.returns-clause-narrow
+returns-clause-narrow c m after before =
+    c.loop-i.invariant.3 m after (omega (arith, before, c.loop-i-test.false, c.loop-i.auto.i-end))

@@ -23,3 +23,4 @@ returns c =
     (λ some cs fits.
     subst (λ (l : List ℕ). label_of c.in_ok-named.named cs ≡ slice_index l (label_of c.args.walk.now.graph cs)) is
     (c.in_ok-named.ensures.label some cs fits)) c.in_ok-reduced.ensures.choices c.in_ok-reduced.ensures.label
+    c.in_ok-reduced.ensures.reduced
