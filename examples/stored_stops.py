@@ -10,12 +10,15 @@ whole, not at all, with any front of its bytes, with any tail, or with other byt
 name was not on the disk yet, it may be missing. They are looked at by the rules of docs/FORMATS.md and not by the program:
 each must stand for the record after some number of the lines, and for no fewer than those of whose text a byte was
 written. The session is then run again over the rest of the lines, and must write what `node` writes from that record.
+All of this twice: with all lines in the input together, of which one record is put, and with each line in a read of its
+own (a pipe of packets), of which each is put and answered alone.
 
 The records are those that `node` hands out as `keep` lines. At last the same is looked at as if no sync of the file, and
 then as if none of its folder, had been made: each of the two must be seen to leave a wrong file. The status is 0 where
 all agrees.
 """
 import ctypes
+import itertools
 import os
 import pathlib
 import random
@@ -118,19 +121,27 @@ def with_all(image, writes):
     return image
 
 
-def stopped_run(name, stop, disk):
+def input_of(together):
+    """a descriptor that gives the lines together, or each in a read of its own"""
+    end, given = os.pipe2(0 if together else os.O_DIRECT)
+    for piece in ["".join(line + "\n" for line in LINES)] if together else [line + "\n" for line in LINES]:
+        os.write(given, piece.encode())
+    os.close(given)
+    return end
+
+
+def stopped_run(name, stop, disk, together):
     """Runs a stored session, and kills it before its call of this number on the file is done. Returns how many calls
     were seen, the text that was written, and of a write that was stopped its place and its bytes. What the calls that
     were done leave is kept in `disk`."""
-    given, out = tempfile.TemporaryFile(), tempfile.TemporaryFile()
-    given.write("".join(line + "\n" for line in LINES).encode())
-    given.seek(0)
+    given, out = input_of(together), tempfile.TemporaryFile()
     process = os.fork()
     if process == 0:
-        os.dup2(given.fileno(), 0)
+        os.dup2(given, 0)
         os.dup2(out.fileno(), 1)
         libc.ptrace(TRACEME, 0, 0, 0)
         os.execv(program(), [program(), "stored", str(STATION), BAY, name])
+    os.close(given)
     os.waitpid(process, 0)
     ptrace(SET_OPTIONS, process, 0, SEES_SYSCALLS | KILLS_WITH_ITS_PARENT)
     calls, entry, torn, handed, open_call = 0, Info(), None, 0, None
@@ -271,12 +282,12 @@ class Wrong(Exception):
     """a file that a crash may leave, from which the session does not go on rightly"""
 
 
-def all_stops(folder, is_there, told, texts, syncs=True, names=True):
+def all_stops(folder, is_there, told, texts, together, syncs=True, names=True):
     """stops the session at each call; how many calls and how many images there were"""
     file, chance = pathlib.Path(folder, "q1.bin"), random.Random(1)
     begun = lambda: Disk(bytes(SIZE) if is_there else None, syncs, names)
     begin(file, is_there)
-    last, text, _ = stopped_run(str(file), 0, begun())
+    last, text, _ = stopped_run(str(file), 0, begun(), together)
     wanted = [line for lines in texts for line in lines]
     if text != wanted:
         raise Wrong(f"without a stop it wrote {text}, not {wanted}")
@@ -287,7 +298,7 @@ def all_stops(folder, is_there, told, texts, syncs=True, names=True):
     for stop in range(last + 1, 0, -1):
         begin(file, is_there)
         disk = begun()
-        _, text, torn = stopped_run(str(file), stop, disk)
+        _, text, torn = stopped_run(str(file), stop, disk, together)
         for name, image in images_of(disk, torn, chance):
             where = f"stopped at call {stop}, {name}"
             count = looked_at(image, text, told, texts, where)
@@ -299,7 +310,7 @@ def all_stops(folder, is_there, told, texts, syncs=True, names=True):
 def is_seen_wrong(folder, told, texts, **without):
     """whether a wrong file is seen where these syncs do not count"""
     try:
-        all_stops(folder, False, told, texts, **without)
+        all_stops(folder, False, told, texts, False, **without)
     except Wrong as wrong:
         print(f"without {', '.join(without)}: {wrong}")
         return True
@@ -311,11 +322,12 @@ def main():
     with tempfile.TemporaryDirectory() as made:
         folder = os.path.realpath(made)
         try:
-            for is_there in (True, False):
-                calls, seen = all_stops(folder, is_there, told, texts)
+            for is_there, together in itertools.product((True, False), (False, True)):
+                calls, seen = all_stops(folder, is_there, told, texts, together)
                 start = "a file of zeros" if is_there else "no file"
-                print(f"from {start}: {calls} calls on it, {seen} images after a stop; each stands for a record, "
-                      "and goes on from it")
+                came = "together" if together else "one by one"
+                print(f"from {start}, lines {came}: {calls} calls on it, {seen} images after a stop; each stands for a "
+                      "record, and goes on from it")
         except Wrong as wrong:
             sys.exit(str(wrong))
         if not is_seen_wrong(folder, told, texts, syncs=False) or not is_seen_wrong(folder, told, texts, names=False):
