@@ -8,7 +8,7 @@ use Rattle.station_equations.specs.CompileText.{IsCompileText}
 use Rattle.exchange_plan.specs.PlanText.{IsPlanText}
 use Rattle.program_text.specs.ProgramText.{IsProgramText}
 use Rattle.program_text.specs.BayText.{IsBayProgramText}
-use Rattle.commissioning_tests.specs.Refusing.{IsThatWideBay, IsWideBay}
+use Rattle.commissioning_tests.specs.Refusing.{IsWideBay, IsThatWideBay}
 use Rattle.tests_text.specs.TestsText.{IsStationTestsText, IsTestsText}
 use Rattle.release_texts.specs.CheckText.{IsCheckText}
 use Rattle.release_texts.specs.ExplainText.{IsExplainText}

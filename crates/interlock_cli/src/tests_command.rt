@@ -2,8 +2,7 @@
 ghost use Rattle.std.specs.Prelude.{IfOk};
 ghost use Rattle.central_rules.specs.Meaning.{IsBay};
 ghost use Rattle.commissioning_tests.specs.Covering.{AreTestsOf};
-ghost use Rattle.commissioning_tests.specs.Refusing.{IsThatWideBay, IsWideBay};
-ghost use Rattle.commissioning_tests.specs.Shared.{AreStationTests};
+ghost use Rattle.commissioning_tests.specs.Refusing.{AreNarrowTests, IsWideBay, IsNarrowBay, IsThatWideBay};
 ghost use Rattle.tests_text.specs.TestsText.{IsStationTestsText, IsTestsText};
 ghost use Rattle.interlock_cli.specs.TestsWrites.{TestsWrites};
 
@@ -27,6 +26,7 @@ fn text_of(
 ) -> Result<OutText, Memory>
     requires bay { IsBay station.now bay.0 }
     requires tests { AreTestsOf station.now bay.0 tests.now }
+    requires narrow { IsNarrowBay station.now bay.0 }
     ensures { IfOk result (IsTestsText station.now bay.0) }
 {
     // Its clause says that they fit the station; it does nothing.
@@ -85,7 +85,7 @@ impl<'a> Answer for Tests<'a> {
 
 // The text of the tests of a station, as it is written.
 fn all_text(alloc: Global, station: &Station, tests: &[SharedTests]) -> Result<OutText, Memory>
-    requires { AreStationTests station.now tests.now }
+    requires { AreNarrowTests station.now tests.now }
     ensures { IfOk result (IsStationTestsText station.now) }
 {
     // Its clause says that they fit the station; it does nothing.
@@ -97,7 +97,8 @@ fn all_text(alloc: Global, station: &Station, tests: &[SharedTests]) -> Result<O
 
 // What has to be written of a station: nothing where a walk is too wide.
 fn all_output(alloc: Global, station: &Station) -> Result<Output, Memory>
-    ensures { IfOk result (λ o. TestsWrites (IsStationTestsText station.now) (IsWideBay station.now) o.outcome o.text) }
+    ensures { IfOk result (λ o. TestsWrites (IsStationTestsText station.now) (IsWideBay station.now) o.outcome
+        o.text) }
 {
     match station_tests(alloc, station) {
         Ok(tests) => Ok(Output {

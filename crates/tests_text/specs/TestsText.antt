@@ -14,7 +14,7 @@ use Rattle.commissioning_tests.specs.declared.values.TestPosition.{TestPosition}
 use Rattle.commissioning_tests.specs.declared.values.BayTests.{BayTests}
 use Rattle.commissioning_tests.specs.declared.values.SharedTests.{SharedTests}
 use Rattle.commissioning_tests.specs.Covering.{AreTestsOf}
-use Rattle.commissioning_tests.specs.Shared.{AreStationTests}
+use Rattle.commissioning_tests.specs.Refusing.{AreNarrowTests, IsNarrowBay}
 
 -- A line of a word and a path.
 abbrev pub path_line : List ℕ → List ℕ → List ℕ
@@ -104,14 +104,15 @@ shared_lines d s = part_line d (codes "bay ") s.bay.0 ++ like_lines d s.like.ite
 abbrev pub station_lines : Diagram → List SharedTests → List ℕ
 station_lines d all = flat_map (shared_lines d) all
 
--- The text is of tests of the bay.
+-- The text is of tests of the bay, and in some order of taking in the walks of its switches are narrow.
 pub record IsTestsText (d : Diagram) (bay : ℕ) (text : List ℕ) : Type 0 where
   pub tests : BayTests
   pub are : AreTestsOf d bay tests
+  pub narrow : IsNarrowBay d bay
   pub lines : text ≡ tests_lines d bay tests
 
--- The text is of tests of the station.
+-- The text is of tests of the station, of which by some orders each bay that has tests of its own is narrow.
 pub record IsStationTestsText (d : Diagram) (text : List ℕ) : Type 0 where
   pub tests : List SharedTests
-  pub are : AreStationTests d tests
+  pub are : AreNarrowTests d tests
   pub lines : text ≡ station_lines d tests

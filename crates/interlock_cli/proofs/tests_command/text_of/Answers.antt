@@ -9,5 +9,6 @@ pub returns : goal.returns
 returns c = record {
   tests = c.args.tests.now;
   are = c.requires.tests;
+  narrow = c.requires.narrow;
   lines = c.in_ok-text.ensures ∙ c.in_ok-lines.ensures;
 }
