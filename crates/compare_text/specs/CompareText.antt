@@ -25,6 +25,7 @@ use Rattle.station_compare.specs.Words.{word_of}
 use Rattle.release_dependence.specs.Operations.{opening, closing}
 use Rattle.station_compare.specs.Comparing.{IsComparison}
 use Rattle.station_compare.specs.Bays.{AreBays}
+use Rattle.station_compare.specs.Orders.{AreNarrow}
 use Rattle.compare_text.specs.declared.text.CompareReport.{CompareReport}
 
 -- ---- names
@@ -176,9 +177,11 @@ pub record IsComparisonText (o n : Diagram) (c : Comparison) (text : List ℕ) :
   pub are : AreBays o n bays
   pub lines : text ≡ comparison_lines o n c bays
 
--- The report of two stations: the text of a comparison of them, and whether the new one extends the old one.
+-- The report of two stations: the text of a comparison of them, each switch of which is narrow along some orders, and whether
+-- the new one extends the old one.
 pub record IsCompareReport (o n : Diagram) (r : CompareReport) : Type 0 where
   pub found : Comparison
   pub is : IsComparison o n found
+  pub narrow : AreNarrow o n
   pub text : IsComparisonText o n found r.lines.text
   pub extends : IsTrue r.extends ↔ Extends o n
