@@ -2,4 +2,4 @@ pub mod TellingLemmas
 mod PartLemmas
 pub mod AllowLemmas
 mod GivenLemmas
-mod WidthLemmas
+pub mod WidthLemmas

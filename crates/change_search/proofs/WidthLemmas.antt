@@ -19,7 +19,7 @@ use Rattle.judge_pool.specs.Seen.{SameView}
 use Rattle.judge_pool.specs.declared.view.View.{View}
 use Rattle.judge_pool.specs.declared.view.View.TheVariants.{Gap, Load}
 use Rattle.judge_intake.specs.Coding.{labels_of}
-use Rattle.graph_walks.specs.Walks.{AreTwos, IsWideWalk}
+use Rattle.graph_walks.specs.Walks.{AreTwos, HasWalkRoom, IsWideWalk}
 use Rattle.graph_walks.specs.Telling.{IsReduced, TellAlike}
 use Rattle.graph_walks.proofs.RoomLemmas.{room_is_told, label_within}
 use Rattle.step_graphs.specs.declared.step.Step.{Step}
@@ -60,7 +60,7 @@ sums (x ∷ xs) (y ∷ ys) short each =
     let more : sum (y ∷ ys) ≡ y + sum ys = sum_by-cons (λ z. z) y ys in
     omega (arith, less, more, rest, each 0 x y refl refl)
 
-keep_excludes : (view : View) (d : Diagram) (steps : List Step) (b limit : ℕ) → StepsKeep view d steps b limit →
+pub keep_excludes : (view : View) (d : Diagram) (steps : List Step) (b limit : ℕ) → StepsKeep view d steps b limit →
     StepsPass view d steps b limit → ⊥
 keep_excludes view d steps b limit keep pass =
     let more = pass.first.has in
@@ -143,22 +143,26 @@ module _ (view : View) (d : Diagram) (steps : List Step) (b m n : ℕ) (are : Ar
 
 module _ (o n : Diagram) (old_steps new_steps : List Step) (b i k limit : ℕ)
     (old_all : AreSteps o old_steps) (new_all : AreSteps n new_steps) (len : length old_steps ≡ length new_steps) where
+  pub products_exclude : (others : ℕ) → suc others ≡ length old_steps → (old_gap new_gap old_load new_load : Layered) →
+      IsMovedGraph Gap o old_steps b i old_gap → IsMovedGraph Gap n new_steps b k new_gap →
+      IsMovedGraph Load o old_steps b i old_load → IsMovedGraph Load n new_steps b k new_load →
+      HasWalkRoom old_gap new_gap old_load new_load others limit → WalkPasses o n old_steps new_steps b i k limit → ⊥
+  products_exclude others count old_gap new_gap old_load new_load is_old_gap is_new_gap is_old_load is_new_load room pass =
+      let new_count : suc others ≡ length new_steps = count ∙ len in
+      let wide : IsWideWalk pass.old_gap pass.new_gap pass.old_load pass.new_load others limit =
+      subst (λ m. IsWideWalk pass.old_gap pass.new_gap pass.old_load pass.new_load m limit)
+      (let e : pass.others ≡ others = omega (arith, pass.count, count) in e) pass.wide in
+      room_is_told others limit old_gap new_gap old_load new_load pass.old_gap pass.new_gap pass.old_load pass.new_load
+      (tell_alike Gap o old_steps b i others old_all count old_gap pass.old_gap is_old_gap pass.is_old_gap)
+      (tell_alike Gap n new_steps b k others new_all new_count new_gap pass.new_gap is_new_gap pass.is_new_gap)
+      (tell_alike Load o old_steps b i others old_all count old_load pass.old_load is_old_load pass.is_old_load)
+      (tell_alike Load n new_steps b k others new_all new_count new_load pass.new_load is_new_load pass.is_new_load) room
+      wide
+
   walk_excludes : KeepsSwitchWalk o n old_steps new_steps b i k limit → WalkPasses o n old_steps new_steps b i k limit → ⊥
   walk_excludes keep pass =
-      let new_count : suc keep.others ≡ length new_steps = keep.count ∙ len in
-      let wide : IsWideWalk pass.old_gap pass.new_gap pass.old_load pass.new_load keep.others limit =
-      subst (λ m. IsWideWalk pass.old_gap pass.new_gap pass.old_load pass.new_load m limit)
-      (let e : pass.others ≡ keep.others = omega (arith, pass.count, keep.count) in e) pass.wide in
-      room_is_told keep.others limit keep.old_gap keep.new_gap keep.old_load keep.new_load pass.old_gap pass.new_gap
-      pass.old_load pass.new_load
-      (tell_alike Gap o old_steps b i keep.others old_all keep.count keep.old_gap pass.old_gap keep.is_old_gap
-      pass.is_old_gap)
-      (tell_alike Gap n new_steps b k keep.others new_all new_count keep.new_gap pass.new_gap keep.is_new_gap
-      pass.is_new_gap)
-      (tell_alike Load o old_steps b i keep.others old_all keep.count keep.old_load pass.old_load
-      keep.is_old_load pass.is_old_load)
-      (tell_alike Load n new_steps b k keep.others new_all new_count keep.new_load pass.new_load
-      keep.is_new_load pass.is_new_load) keep.room wide
+      products_exclude keep.others keep.count keep.old_gap keep.new_gap keep.old_load keep.new_load keep.is_old_gap
+      keep.is_new_gap keep.is_old_load keep.is_new_load keep.room pass
 
   pub excludes : KeepsSwitchWalk o n old_steps new_steps b i k limit →
       IsWideSwitchWalk o n old_steps new_steps b i k limit → ⊥

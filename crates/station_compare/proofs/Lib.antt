@@ -10,3 +10,4 @@ mod LikeLemmas
 mod IdleLemmas
 mod WalkLemmas
 mod OrderLemmas
+mod NarrowLemmas

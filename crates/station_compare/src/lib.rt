@@ -23,7 +23,7 @@ mod word;
 pub use bays::{BayWord, BayWords};
 pub use compare::compare_stations;
 pub use found::{Comparison, Found, OperationChanges, RuleChanges, SwitchChanges};
-pub use laws::comparison_turned_round;
+pub use laws::{comparison_turned_round, narrow_excludes_width};
 pub use limits::WALK_EDGES;
 pub use refusal::CompareRefusal;
 pub use word::{Word, word_says};
