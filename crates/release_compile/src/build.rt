@@ -95,6 +95,66 @@ fn keep(bays: &mut Vec<Option<BayGraphs>>, graphs: Option<BayGraphs>) -> Result<
     Ok(())
 }
 
+// Begins new stocks in place of large ones.
+fn renew_both(
+    alloc: Global,
+    station: &Station,
+    parts: &Parts,
+    sharing: &Sharing,
+    gap: &mut Stock,
+    load: &mut Stock,
+) -> Result<(), Memory>
+    requires lettered { AreAlphabets station.now parts.now }
+    requires sharing { IsSharing station.now sharing.now }
+    requires gap { IsStock (lettered station.now parts.now) Gap gap.old }
+    requires load { IsStock (lettered station.now parts.now) Load load.old }
+    ensures gap { OnOk result (IsStock (lettered station.now parts.now) Gap gap.new) }
+    ensures load { OnOk result (IsStock (lettered station.now parts.now) Load load.new) }
+{
+    renew_large(alloc, View::Gap, station, parts, &sharing.parts, gap)?;
+    renew_large(alloc, View::Load, station, parts, &sharing.parts, load)
+}
+
+// The graphs of all parts that have switches, made of these stocks.
+fn bays_of(
+    alloc: Global,
+    station: &Station,
+    parts: &Parts,
+    sharing: &Sharing,
+    gap: &mut Stock,
+    load: &mut Stock,
+) -> Result<Vec<Option<BayGraphs>>, BuildRefusal>
+    requires lettered { AreAlphabets station.now parts.now }
+    requires sharing { IsSharing station.now sharing.now }
+    requires gap { IsStock (lettered station.now parts.now) Gap gap.old }
+    requires load { IsStock (lettered station.now parts.now) Load load.old }
+    ensures bays { IfOk result (λ v. AreBays (lettered station.now parts.now) (map seen_part v.items)
+        (part_count station.now)) }
+    ensures fits { IfOk result (λ _. (edges : ℕ) × KeepEdges station.now (part_count station.now) edges) }
+    ensures refusal { IfErr result (IsTooWide station.now) }
+{
+    let mut bays = Vec::new(alloc);
+    let mut spent = 0usize;
+    for part in 0..station.part_count() {
+        let bay = BayId(part as u8);
+        let left = allowed(spent);
+        match part_graphs(alloc, station, parts, gap, load, &bays, sharing, bay, left) {
+            Ok(made) => {
+                spent += left - made.left;
+                keep(&mut bays, made.graphs)?;
+                renew_both(alloc, station, parts, sharing, gap, load)?;
+            }
+            Err(Trouble::Memory) => {
+                return Err(BuildRefusal::Memory);
+            }
+            Err(Trouble::Wide) => {
+                return Err(BuildRefusal::Wide { bay });
+            }
+        }
+    }
+    Ok(bays)
+}
+
 // The graphs of all parts that have switches.
 fn all_bays(
     alloc: Global,
@@ -111,29 +171,7 @@ fn all_bays(
 {
     let mut gap = stock_of(alloc, View::Gap, station, parts, &sharing.parts)?;
     let mut load = stock_of(alloc, View::Load, station, parts, &sharing.parts)?;
-    let mut bays = Vec::new(alloc);
-    let mut spent = 0usize;
-    for part in 0..station.part_count() {
-        let bay = BayId(part as u8);
-        let left = allowed(spent);
-        match part_graphs(
-            alloc, station, parts, &mut gap, &mut load, &bays, sharing, bay, left,
-        ) {
-            Ok(made) => {
-                spent += left - made.left;
-                keep(&mut bays, made.graphs)?;
-                renew_large(alloc, View::Gap, station, parts, &sharing.parts, &mut gap)?;
-                renew_large(alloc, View::Load, station, parts, &sharing.parts, &mut load)?;
-            }
-            Err(Trouble::Memory) => {
-                return Err(BuildRefusal::Memory);
-            }
-            Err(Trouble::Wide) => {
-                return Err(BuildRefusal::Wide { bay });
-            }
-        }
-    }
-    Ok(bays)
+    bays_of(alloc, station, parts, sharing, &mut gap, &mut load)
 }
 
 // The graphs at a place where there are some.
