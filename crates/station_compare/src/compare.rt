@@ -1,12 +1,13 @@
 //! Two stations compared.
 ghost use Rattle.std.specs.Prelude.{◌≡◌, ◌<◌, length, IfOk, IfErr, OnOk};
 ghost use Rattle.station_compare.specs.Comparing.{IsComparison, AreHere, AreGone, IsGone, IsRefusal};
+ghost use Rattle.station_compare.specs.Likeness.{AreBayWalks};
 ghost use Rattle.station_compare.specs.Orders.{AreNarrow};
 
 use crate::found::{Comparison, Found};
 use crate::next::next_found;
 use crate::refusal::CompareRefusal;
-use crate::walks::{turn_to, walks_of};
+use crate::walks::{BayWalks, turn_to, walks_of};
 use ilk_base::{BayId, Memory, SwitchId};
 use station_graph::Station;
 use station_joints::same_switch;
@@ -34,6 +35,28 @@ fn gone(alloc: Global, old: &Station, new: &Station) -> Result<Vec<bool>, Memory
     Ok(list)
 }
 
+// What is found of each switch of the new station by these walks, whichever bay they are at.
+fn found_by(
+    alloc: Global,
+    walks: &mut BayWalks,
+    old: &Station,
+    new: &Station,
+) -> Result<Vec<Found>, CompareRefusal>
+    requires { AreBayWalks old.now new.now walks.old }
+    ensures here { IfOk result (λ v. AreHere old.now new.now v.items) }
+    ensures narrow { IfOk result (λ _. AreNarrow old.now new.now) }
+    ensures refusal { IfErr result (IsRefusal old.now new.now) }
+{
+    let mut list = Vec::new(alloc);
+    for k in 0..new.switch_count() {
+        let id = SwitchId(k);
+        turn_to(alloc, walks, old, new, id)?;
+        let found = next_found(alloc, walks, old, new, &list, id)?;
+        list.push(found)?;
+    }
+    Ok(list)
+}
+
 // What is found of each switch of the new station.
 fn here(alloc: Global, old: &Station, new: &Station) -> Result<Vec<Found>, CompareRefusal>
     ensures here { IfOk result (λ v. AreHere old.now new.now v.items) }
@@ -41,14 +64,7 @@ fn here(alloc: Global, old: &Station, new: &Station) -> Result<Vec<Found>, Compa
     ensures refusal { IfErr result (IsRefusal old.now new.now) }
 {
     let mut walks = walks_of(alloc, old, new, BayId(0))?;
-    let mut list = Vec::new(alloc);
-    for k in 0..new.switch_count() {
-        let id = SwitchId(k);
-        turn_to(alloc, &mut walks, old, new, id)?;
-        let found = next_found(alloc, &mut walks, old, new, &list, id)?;
-        list.push(found)?;
-    }
-    Ok(list)
+    found_by(alloc, &mut walks, old, new)
 }
 
 /// The new station compared with the old one: for each operation that both have and for each rule, whether some position

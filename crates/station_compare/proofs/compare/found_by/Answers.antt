@@ -5,17 +5,17 @@ use Rattle.station_compare.specs.Each.{AreEach}
 use Rattle.station_compare.specs.Comparing.{IsFound}
 use Rattle.station_compare.proofs.ListLemmas.{each_first, each_next}
 use Rattle.station_compare.proofs.OrderLemmas.{first_orders, all_narrow, bay_next}
-use Rattle.station_compare.proofs.compare.here.Goals as goal
+use Rattle.station_compare.proofs.compare.found_by.Goals as goal
 
 pub loop-k-init : goal.loop-k-init
 loop-k-init c = (
-  c.in_ok-walks.ensures.walks,
+  c.requires,
   (
     subst (λ (xs : List Found). AreEach (IsFound c.args.old.now c.args.new.now) 0 xs) (sym c.new-list.ensures.items)
         (each_first (IsFound c.args.old.now c.args.new.now)),
     (
       λ j e. absurd (omega (arith, e)),
-      first_orders c.args.old.now c.args.new.now c.in_ok-walks.walks c.in_ok-walks.ensures.walks,
+      first_orders c.args.old.now c.args.new.now c.args.walks.now c.requires,
     ),
   ),
 )

@@ -2,7 +2,7 @@ use Rattle.station_compare.specs.Each.{AreEach}
 use Rattle.station_compare.specs.Comparing.{IsFound}
 use Rattle.station_compare.specs.Likeness.{AreBayWalks}
 use Rattle.station_compare.specs.Turning.{IsBayBefore, AreNarrowBefore}
-use Rattle.station_compare.proofs.compare.here.Given as goal
+use Rattle.station_compare.proofs.compare.found_by.Given as goal
 
 abbrev pub invariant-loop-k : goal.invariant-loop-k
 invariant-loop-k l =
