@@ -1,4 +1,6 @@
 //! What `stored` answers to the lines of its input, what its device has then, and how it ends.
+ghost use Rattle.std.specs.Prelude.{◌≤◌};
+
 use crate::drawings::TWO_FEEDERS;
 use crate::rows::words_of;
 use ilk_base::{MemShelf, MemSink, MemSource};
@@ -23,19 +25,22 @@ struct CallEnd {
     line: &'static str,
 }
 
-// Runs the words over the file a.ssd, the input and the device.
-fn expect_stored(
+// Runs the words over the file a.ssd, the input and the device. A read of the input gives so many bytes at most.
+fn expect_read(
     rt: &impl Abort,
     alloc: Global,
     words: &str,
     input: &[u8],
+    at_once: usize,
     device: &mut MemDevice,
     want: &CallEnd,
-) -> Result<(), Fail> {
+) -> Result<(), Fail>
+    requires { 1 ≤ at_once }
+{
     let words = words_of(alloc, words)?;
     let mut shelf = MemShelf::new(alloc);
     shelf.put("a.ssd", TWO_FEEDERS.as_bytes())?;
-    let mut input = MemSource::new(alloc, input, 7)?;
+    let mut input = MemSource::new(alloc, input, at_once)?;
     let mut out = MemSink::new(alloc, 1000, 77)?;
     let mut err = MemSink::new(alloc, 100, 7)?;
     let status = run_stored(
@@ -45,6 +50,18 @@ fn expect_stored(
     assert!(rt; out.bytes() == want.text);
     assert!(rt; status == want.status);
     Ok(())
+}
+
+// The same, where no two lines come at once.
+fn expect_stored(
+    rt: &impl Abort,
+    alloc: Global,
+    words: &str,
+    input: &[u8],
+    device: &mut MemDevice,
+    want: &CallEnd,
+) -> Result<(), Fail> {
+    expect_read(rt, alloc, words, input, 7, device, want)
 }
 
 #[test]
@@ -89,6 +106,36 @@ fn a_stored_round(rt: HostRuntime) -> Result<(), Fail> {
     };
     let handed_back = b"tick\nkept 000000010000000000000000000000000000\n".as_slice();
     expect_stored(&rt, alloc, Q1, handed_back, &mut device, &refused)?;
+    assert!(rt; device.bytes() == image.as_slice());
+    Ok(())
+}
+
+// Of lines that come at once the record after the last is put, once; a refused one takes nothing from those before it.
+#[test]
+fn lines_at_once(rt: HostRuntime) -> Result<(), Fail> {
+    let alloc = rt.alloc();
+    let refused = CallEnd {
+        status: Status::InputRefused,
+        text: b"collecting 1\nsend 010102000000010000\ncollecting 2\nsend 010102000000020000\n",
+        line: "interlock: input refused 10 line 4\n",
+    };
+    let input =
+        b"command close S/V1/Q1/QB1\nrestart\ncommand close S/V1/Q1/QB1\nkept\ntick\n".as_slice();
+    // at once: the gate, the sequence and the highest round of the one put
+    let mut device = MemDevice::new(alloc, 40)?;
+    expect_read(&rt, alloc, Q1, input, 100, &mut device, &refused)?;
+    let mut image = [0; 64];
+    image[0] = 1;
+    image[8] = 1;
+    image[12] = 2;
+    assert!(rt; device.bytes() == image.as_slice());
+    // one after another: two puts
+    let mut device = MemDevice::new(alloc, 40)?;
+    expect_read(&rt, alloc, Q1, input, 7, &mut device, &refused)?;
+    image[12] = 1;
+    image[32] = 1;
+    image[40] = 2;
+    image[44] = 2;
     assert!(rt; device.bytes() == image.as_slice());
     Ok(())
 }
