@@ -18,7 +18,7 @@ pub mod ReducedLemmas
 pub mod FoldLemmas
 pub mod RowIndexLemmas
 pub mod StackLemmas
-pub mod AlikeLemmas
+pub mod AloneLemmas
 pub mod AssembleLemmas
 pub mod ReduceLemmas
 pub mod DependLemmas

@@ -1,6 +1,5 @@
 pub mod Label
 pub mod Rows
-pub mod Same
 pub mod Drafting
 pub mod Shapes
 pub mod Whole
@@ -13,6 +12,7 @@ pub mod Marked
 pub mod Folding
 pub mod RowIndex
 pub mod FoldedView
+pub mod Alone
 pub mod Assembling
 pub mod Depending
 pub mod Renaming

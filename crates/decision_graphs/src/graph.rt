@@ -14,9 +14,9 @@ ghost use Rattle.decision_graphs.specs.Whole.{layered_of, IsWhole};
 ghost use Rattle.decision_graphs.specs.declared.limits.TheConstants.{LAYERS, GRAPH_NODES};
 
 use crate::arrival::Arrival;
-use crate::assemble::reduced;
 use crate::depend::{label_depends_on, layers_depended};
 use crate::finished::{FinishedLayer, joined};
+use crate::folds::Folds;
 use crate::layout::{GraphParts, Layout};
 use crate::reach::mark_labels;
 use crate::rename::renamed;
@@ -194,7 +194,23 @@ impl Graph {
         ensures sizes { IfOk result (λ g. (j : ℕ) → length (layer_at g.layers j).rows ≤ length
             (layer_at self.now.layers j).rows) }
     {
-        let parts = reduced(alloc, &self.layout())?;
+        let mut folds = Folds::new(alloc);
+        self.reduce_by(alloc, &mut folds)
+    }
+
+    /// The same, where layers that were folded in a graph before are not folded again. Linear in edges; hashes the
+    /// rows of new layers only.
+    pub fn reduce_by(&self, alloc: Global, folds: &mut Folds) -> Result<Graph, Memory>
+        ensures labels { IfOk result (λ g. g.labels ≡ self.now.labels) }
+        ensures choices { IfOk result (λ g. map (λ (l : Layer). l.choices) g.layers ≡ map (λ (l : Layer). l.choices)
+            self.now.layers) }
+        ensures label { IfOk result (λ g. (cs : List ℕ) → AreChoices self.now.layers cs →
+            label_of g cs ≡ label_of self.now cs) }
+        ensures reduced { IfOk result (λ g. AreReduced g.layers) }
+        ensures sizes { IfOk result (λ g. (j : ℕ) → length (layer_at g.layers j).rows ≤ length
+            (layer_at self.now.layers j).rows) }
+    {
+        let parts = folds.reduced(alloc, &self.layout())?;
         Ok(Graph::from_parts(parts))
     }
 

@@ -7,7 +7,6 @@
 //! Edges stand in one list of 4 bytes each, beside 2 bytes a node for its layer.
 #![tactic(auto)]
 
-mod alike;
 mod arrival;
 mod assemble;
 mod builder;
@@ -17,7 +16,9 @@ mod find;
 mod finished;
 mod fold;
 mod fold_all;
+mod folds;
 mod graph;
+mod known;
 mod laws;
 mod layout;
 mod limits;
@@ -32,6 +33,7 @@ mod shape;
 pub use builder::{GraphBuilder, Unfinished};
 pub use choices::ChoiceList;
 pub use finished::FinishedLayer;
+pub use folds::Folds;
 pub use graph::Graph;
 pub use laws::{reduced_nodes_are_apart, renamed_labels_lead_alike};
 pub use limits::{GRAPH_NODES, LABELS, LAYERS};

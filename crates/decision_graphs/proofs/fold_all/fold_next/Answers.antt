@@ -1,41 +1,53 @@
-use Rattle.std.proofs.Common.{◌≡◌, ℕ, ◌<◌, ◌-◌, suc, length, slice_index, List, map, ap, subst, arith}
+use Rattle.std.proofs.Common.{◌≡◌, ℕ, ◌<◌, ◌-◌, suc, length, slice_index, List, map, ap, sym, subst, arith}
 use Rattle.std.proofs.lemmas.List.{length-map}
-use Rattle.decision_graphs.specs.Shapes.{size_of}
-use Rattle.decision_graphs.specs.Folding.{Folding}
+use Rattle.decision_graphs.specs.Shapes.{size_of, shape_at}
+use Rattle.decision_graphs.specs.Folding.{Folding, IsFoldedAt}
 use Rattle.decision_graphs.specs.FoldedView.{folding_of}
 use Rattle.decision_graphs.specs.LaidOut.{lists_in}
+use Rattle.decision_graphs.proofs.AloneLemmas.{edge_alone, folded_among}
 use Rattle.decision_graphs.proofs.StackLemmas.{stack_len, stack_in, folding_read}
 use Rattle.decision_graphs.proofs.fold_all.fold_next.Goals as goal
 
-pub fold_layer-requires-clause-leads : goal.fold_layer-requires-clause-leads
-fold_layer-requires-clause-leads c k b node choice =
+pub fold_once-requires-clause-layer : goal.fold_once-requires-clause-layer
+fold_once-requires-clause-layer c =
     let g = lists_in c.args.graph.now in
     let stack = c.args.stack.now in
     let fs = map folding_of stack in
     let len = length-map stack folding_of in
-    let t : ℕ = length stack - 1 in
     let lt : length stack - 1 < length stack = omega (arith, len, c.requires.stack.some) in
     let read = folding_read stack (length stack - 1) c.index-stack-stack.result lt c.index-stack-stack.is in
     let top = stack_len g fs (length stack - 1) c.requires.stack (omega (arith, lt, len)) in
     let here : length g.shapes - (length stack - 1) ≡ suc c.args.layer =
     omega (arith, c.requires.layer, len, c.requires.stack.some) in
-    omega (
-      arith,
-      c.requires.whole.edges c.args.layer k b (omega (arith, c.requires.layer, len, c.requires.stack.some)) node choice,
-      top,
-      ap (λ n. size_of g n) here,
-      ap (λ (f : Folding). length f.classes) read,
-      ap (λ (xs : List ℕ). length xs) c.deref.ensures.value,
-    )
+    let within : c.args.layer < length g.shapes = omega (arith, c.requires.layer, len, c.requires.stack.some) in
+    let in_top = λ (i : ℕ). stack_in g fs (length stack - 1) i c.requires.stack (omega (arith, lt, len)) in
+    let in_below = subst (λ (f : Folding). (i : ℕ) → i < length f.classes → slice_index f.classes i < f.count) read in_top in
+    record {
+      fits = omega (arith, c.edges_of.ensures.len);
+      choice = (c.requires.whole.laid.stands c.args.layer within).choices;
+      leads = λ k b node choice. omega (
+        arith,
+        edge_alone (shape_at g c.args.layer) c.edges_of.result.now g.edges c.edges_of.ensures.each k b node choice,
+        c.requires.whole.edges c.args.layer k b within node choice,
+        top,
+        ap (λ n. size_of g n) here,
+        ap (λ (f : Folding). length f.classes) read,
+        ap (λ (xs : List ℕ). length xs) c.deref.ensures.value,
+      );
+      next = λ t in_next. rw c.deref.ensures.value (in_below t (rw c.deref.ensures.value at in_next));
+    }
 
-pub fold_layer-requires-clause-next : goal.fold_layer-requires-clause-next
-fold_layer-requires-clause-next c k in_next =
+pub returns-clause-folded : goal.returns-clause-folded
+returns-clause-folded c =
     let g = lists_in c.args.graph.now in
     let stack = c.args.stack.now in
-    let fs = map folding_of stack in
     let len = length-map stack folding_of in
     let lt : length stack - 1 < length stack = omega (arith, len, c.requires.stack.some) in
     let read = folding_read stack (length stack - 1) c.index-stack-stack.result lt c.index-stack-stack.is in
-    let h = λ (i : ℕ). stack_in g fs (length stack - 1) i c.requires.stack (omega (arith, lt, len)) in
-    let h' = subst (λ (f : Folding). (i : ℕ) → i < length f.classes → slice_index f.classes i < f.count) read h in
-    rw c.deref.ensures.value (h' k (rw c.deref.ensures.value at in_next))
+    let alone = subst (λ (xs : List ℕ). IsFoldedAt g c.args.layer
+    (record { count = c.index-stack-stack.result.count; rows = c.index-stack-stack.result.rows.items; classes = xs })
+    (folding_of c.in_ok-folded.folded)) c.deref.ensures.value
+    (folded_among (shape_at g c.args.layer) c.edges_of.result.now g.edges c.deref.result.now
+    c.index-stack-stack.result.count (folding_of c.in_ok-folded.folded) c.edges_of.ensures.each
+    c.in_ok-folded.ensures.folded) in
+    subst (λ (f : Folding). IsFoldedAt g c.args.layer f (folding_of c.in_ok-folded.folded)) (sym read) alone

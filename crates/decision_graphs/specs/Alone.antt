@@ -1,0 +1,40 @@
+-- A layer by itself, and layers that are known with their foldings.
+use Rattle.std.specs.Prelude.{◌≡◌, ℕ, ◌*◌, ◌<◌, ◌≤◌, List, length, slice_index, slice_get, Some}
+use Rattle.decision_graphs.specs.Folding.{Folding, IsFolded}
+use Rattle.decision_graphs.specs.FoldedView.{folding_of}
+use Rattle.decision_graphs.specs.Shapes.{place}
+use Rattle.decision_graphs.specs.declared.known.Known.{Known}
+use Rattle.decision_graphs.specs.declared.known.Lone.{Lone}
+use Rattle.decision_graphs.specs.declared.shape.Shape.{Shape}
+
+-- Where a layer stands whose edges are all there are.
+abbrev pub alone : ℕ → ℕ → Shape
+alone choices nodes = record { choices = choices; nodes = nodes; first = 0; base = 0 }
+
+-- The layer has been folded.
+abbrev pub IsFoldedAlone : Lone → Folding → Type 0
+IsFoldedAlone l f = IsFolded (alone l.choices l.nodes) l.edges.now l.next.now l.bound l.nodes f
+
+-- The layer can be folded: it has a choice and all its edges, and these lead to what comes after it.
+pub record CanFold (l : Lone) : Type 0 where
+  pub fits : l.nodes * l.choices ≤ length l.edges.now
+  pub choice : 0 < l.choices
+  pub leads : (k c : ℕ) → k < l.nodes → c < l.choices →
+      slice_index l.edges.now (place (alone l.choices l.nodes) k c) < length l.next.now
+  pub next : (t : ℕ) → t < length l.next.now → slice_index l.next.now t < l.bound
+
+-- The known layer is the same, and what came after it was folded the same.
+pub record IsMadeOf (k : Known) (l : Lone) : Type 0 where
+  pub choices : k.choices ≡ l.choices
+  pub nodes : k.nodes ≡ l.nodes
+  pub edges : k.edges.items ≡ l.edges.now
+  pub next : k.next.items ≡ l.next.now
+  pub bound : k.bound ≡ l.bound
+
+-- The known layer has been folded.
+abbrev pub IsKnown : Known → Type 0
+IsKnown k = IsFolded (alone k.choices k.nodes) k.edges.items k.next.items k.bound k.nodes (folding_of k.folded)
+
+-- Each of these layers has been folded.
+abbrev pub AreKnown : List Known → Type 0
+AreKnown ks = (p : ℕ) (k : Known) → slice_get ks p ≡ Some k → IsKnown k

@@ -1,0 +1,249 @@
+//! Layers that were folded before, in whichever graph.
+ghost use Rattle.std.specs.Prelude.{◌≡◌, Some, slice_get, IfOk, IfSome, IsTrue};
+ghost use Rattle.decision_graphs.specs.FoldedView.{folding_of};
+ghost use Rattle.decision_graphs.specs.Alone.{IsFoldedAlone, CanFold, IsMadeOf, IsKnown, AreKnown};
+ghost use Rattle.decision_graphs.specs.declared.known.Known.{Known as Layer};
+
+use crate::fold::{Folded, fold_layer};
+use crate::same::same_edges;
+use crate::shape::Shape;
+use ilk_base::Memory;
+use std::alloc::Global;
+use std::collections::HashMap;
+
+// So many edges of folded layers are held, and not many more.
+const MANY: usize = 4_000_000;
+
+// Of a list so many numbers are mixed into a mark, and less than twice as many.
+const MIXED: usize = 256;
+
+// A layer that was folded: how many choices and nodes it has, its edges, the classes of what came after it and how many
+// these are, and what it became.
+#[derive(Drop)]
+pub(crate) struct Known {
+    pub(crate) choices: u32,
+    pub(crate) nodes: u32,
+    pub(crate) edges: Vec<u32>,
+    pub(crate) next: Vec<u32>,
+    pub(crate) bound: u32,
+    pub(crate) folded: Folded,
+}
+
+// Layers that were folded, where each stands by its mark, and how many edges they have.
+#[derive(Drop)]
+pub(crate) struct KnownList {
+    pub(crate) layers: Vec<Known>,
+    pub(crate) places: HashMap<u64, usize>,
+    pub(crate) held: usize,
+}
+
+// A layer to be folded, by itself: how many choices and nodes it has, its edges, the classes of what comes after it and
+// how many these are.
+#[derive(Clone, Copy)]
+pub(crate) struct Lone<'a> {
+    pub(crate) choices: u32,
+    pub(crate) nodes: u32,
+    pub(crate) edges: &'a [u32],
+    pub(crate) next: &'a [u32],
+    pub(crate) bound: u32,
+}
+
+// Mixes a number into a mark.
+fn mixed(mark: u64, number: u64) -> u64 {
+    let sum = mark.rotate_left(5) ^ number;
+    sum.wrapping_mul(0x9e37_79b9_7f4a_7c15)
+}
+
+// Mixes the length of a list and some of its numbers, evenly spread, into a mark.
+fn mixed_list(mark: u64, list: &[u32]) -> u64 {
+    let step = list.len() / MIXED + 1;
+    let mut sum = mixed(mark, list.len() as u64);
+    for number in list.iter().step_by(step) {
+        sum = mixed(sum, u64::from(*number));
+    }
+    sum
+}
+
+// A mark of the layer: layers that are the same have the same one, and others mostly have others.
+fn mark_of(layer: &Lone<'_>) -> u64 {
+    let counts = mixed(u64::from(layer.choices), u64::from(layer.bound));
+    mixed_list(mixed_list(counts, layer.edges), layer.next)
+}
+
+// Whether a known layer is the same, and what came after it was folded the same.
+fn is_made_of(known: &Known, layer: &Lone<'_>) -> bool
+    ensures { IsTrue result → IsMadeOf known.now layer.now }
+{
+    if known.choices != layer.choices {
+        return false;
+    }
+    if known.nodes != layer.nodes {
+        return false;
+    }
+    if known.bound != layer.bound {
+        return false;
+    }
+    same_edges(&known.edges, layer.edges) && same_edges(&known.next, layer.next)
+}
+
+// The place, if a layer that is the same stands there.
+fn layer_at(layers: &[Known], place: usize, layer: &Lone<'_>) -> Option<usize>
+    ensures { IfSome result (λ p. (k : Layer) × (slice_get layers.now p ≡ Some k) × IsMadeOf k layer.now) }
+{
+    if place >= layers.len() {
+        return None;
+    }
+    if is_made_of(&layers[place], layer) {
+        Some(place)
+    } else {
+        None
+    }
+}
+
+// The place of a layer that is the same, which is looked for by its mark.
+fn find_known(
+    places: &HashMap<u64, usize>,
+    layers: &[Known],
+    mark: u64,
+    layer: &Lone<'_>,
+) -> Option<usize>
+    ensures { IfSome result (λ p. (k : Layer) × (slice_get layers.now p ≡ Some k) × IsMadeOf k layer.now) }
+{
+    match places.get(&mark) {
+        Some(place) => layer_at(layers, *place, layer),
+        None => None,
+    }
+}
+
+impl Folded {
+    // The same again.
+    fn copy(&self, alloc: Global) -> Result<Folded, Memory>
+        ensures { IfOk result (λ f. folding_of f ≡ folding_of self.now) }
+    {
+        Ok(Folded {
+            count: self.count,
+            rows: Vec::from_slice(alloc, &self.rows)?,
+            classes: Vec::from_slice(alloc, &self.classes)?,
+        })
+    }
+}
+
+// The folding of a known layer that is the same, if there is one.
+fn known_fold(
+    alloc: Global,
+    places: &HashMap<u64, usize>,
+    layers: &[Known],
+    mark: u64,
+    layer: &Lone<'_>,
+) -> Result<Option<Folded>, Memory>
+    requires { AreKnown layers.now }
+    ensures { IfOk result (λ o. IfSome o (λ f. IsFoldedAlone layer.now (folding_of f))) }
+{
+    match find_known(places, layers, mark, layer) {
+        Some(place) => {
+            let copy = layers[place].folded.copy(alloc)?;
+            Ok(Some(copy))
+        }
+        None => Ok(None),
+    }
+}
+
+// A layer with its folding, to be known.
+fn known_of(alloc: Global, layer: &Lone<'_>, folded: &Folded) -> Result<Known, Memory>
+    requires { IsFoldedAlone layer.now (folding_of folded.now) }
+    ensures { IfOk result IsKnown }
+{
+    let edges = Vec::from_slice(alloc, layer.edges)?;
+    let next = Vec::from_slice(alloc, layer.next)?;
+    let copy = folded.copy(alloc)?;
+    Ok(Known {
+        choices: layer.choices,
+        nodes: layer.nodes,
+        edges,
+        next,
+        bound: layer.bound,
+        folded: copy,
+    })
+}
+
+impl KnownList {
+    // No layers.
+    pub(crate) fn new(alloc: Global) -> KnownList
+        ensures { AreKnown result.layers.items }
+    {
+        KnownList {
+            layers: Vec::new(alloc),
+            places: HashMap::new(alloc),
+            held: 0,
+        }
+    }
+}
+
+// Forgets all layers where they have many edges.
+fn forget_many(list: &mut KnownList)
+    requires { AreKnown list.old.layers.items }
+    ensures { AreKnown list.new.layers.items }
+{
+    if list.held < MANY {
+        return;
+    }
+    list.layers.clear();
+    list.places.clear();
+    list.held = 0;
+}
+
+// Puts a layer last.
+fn put_last(list: &mut KnownList, mark: u64, known: Known) -> Result<(), Memory>
+    requires list { AreKnown list.old.layers.items }
+    requires known { IsKnown known }
+    ensures { AreKnown list.new.layers.items }
+{
+    let place = list.layers.len();
+    list.held = list.held.saturating_add(known.edges.len());
+    list.places.insert(mark, place)?;
+    list.layers.push(known)?;
+    Ok(())
+}
+
+// Makes the list know a layer that was folded.
+fn note(
+    alloc: Global,
+    list: &mut KnownList,
+    mark: u64,
+    layer: &Lone<'_>,
+    folded: &Folded,
+) -> Result<(), Memory>
+    requires list { AreKnown list.old.layers.items }
+    requires folded { IsFoldedAlone layer.now (folding_of folded.now) }
+    ensures { AreKnown list.new.layers.items }
+{
+    let known = known_of(alloc, layer, folded)?;
+    forget_many(list);
+    put_last(list, mark, known)
+}
+
+// The folding of a layer, which is made only where none that is the same is known.
+pub(crate) fn fold_once(
+    alloc: Global,
+    list: &mut KnownList,
+    layer: &Lone<'_>,
+) -> Result<Folded, Memory>
+    requires list { AreKnown list.old.layers.items }
+    requires layer { CanFold layer.now }
+    ensures list { AreKnown list.new.layers.items }
+    ensures folded { IfOk result (λ f. IsFoldedAlone layer.now (folding_of f)) }
+{
+    let mark = mark_of(layer);
+    if let Some(folded) = known_fold(alloc, &list.places, &list.layers, mark, layer)? {
+        return Ok(folded);
+    }
+    let shape = Shape {
+        choices: layer.choices,
+        nodes: layer.nodes,
+        first: 0,
+        base: 0,
+    };
+    let folded = fold_layer(alloc, shape, layer.edges, layer.next, layer.bound)?;
+    note(alloc, list, mark, layer, &folded)?;
+    Ok(folded)
+}
