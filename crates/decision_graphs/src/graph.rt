@@ -251,7 +251,17 @@ impl Graph {
         ensures exact { IfOk result (λ v. (j : ℕ) → j < length self.now.layers
             → (slice_index_or v.items j false ≡ true) ↔ DependsOn self.now j) }
     {
-        let reduced = self.reduce(alloc)?;
+        let mut folds = Folds::new(alloc);
+        self.dependencies_by(alloc, &mut folds)
+    }
+
+    /// The same, where layers that were folded in a graph before are not folded again.
+    pub fn dependencies_by(&self, alloc: Global, folds: &mut Folds) -> Result<Vec<bool>, Memory>
+        ensures count { IfOk result (λ v. length v.items ≡ length self.now.layers) }
+        ensures exact { IfOk result (λ v. (j : ℕ) → j < length self.now.layers
+            → (slice_index_or v.items j false ≡ true) ↔ DependsOn self.now j) }
+    {
+        let reduced = self.reduce_by(alloc, folds)?;
         let depended = layers_depended(alloc, &reduced.layout())?;
         Ok(depended)
     }
