@@ -14,7 +14,7 @@ use std::collections::HashMap;
 // So many edges of folded layers are held, and not many more.
 const MANY: usize = 4_000_000;
 
-// Of a list so many numbers are mixed into a mark, and less than twice as many.
+// Of a list so many numbers are mixed into a hash, and less than twice as many.
 const MIXED: usize = 256;
 
 // A layer that was folded: how many choices and nodes it has, its edges, the classes of what came after it and how many
@@ -29,7 +29,7 @@ pub(crate) struct Known {
     pub(crate) folded: Folded,
 }
 
-// Layers that were folded, where each stands by its mark, and how many edges they have.
+// Layers that were folded, where each stands by its hash, and how many edges they have.
 #[derive(Drop)]
 pub(crate) struct KnownList {
     pub(crate) layers: Vec<Known>,
@@ -48,24 +48,24 @@ pub(crate) struct Lone<'a> {
     pub(crate) bound: u32,
 }
 
-// Mixes a number into a mark.
-fn mixed(mark: u64, number: u64) -> u64 {
-    let sum = mark.rotate_left(5) ^ number;
+// Mixes a number into a hash.
+fn mixed(hash: u64, number: u64) -> u64 {
+    let sum = hash.rotate_left(5) ^ number;
     sum.wrapping_mul(0x9e37_79b9_7f4a_7c15)
 }
 
-// Mixes the length of a list and some of its numbers, evenly spread, into a mark.
-fn mixed_list(mark: u64, list: &[u32]) -> u64 {
+// Mixes the length of a list and some of its numbers, evenly spread, into a hash.
+fn mixed_list(hash: u64, list: &[u32]) -> u64 {
     let step = list.len() / MIXED + 1;
-    let mut sum = mixed(mark, list.len() as u64);
+    let mut sum = mixed(hash, list.len() as u64);
     for number in list.iter().step_by(step) {
         sum = mixed(sum, u64::from(*number));
     }
     sum
 }
 
-// A mark of the layer: layers that are the same have the same one, and others mostly have others.
-fn mark_of(layer: &Lone<'_>) -> u64 {
+// A hash of the layer: layers that are the same have the same one, and others mostly have others.
+fn hash_of(layer: &Lone<'_>) -> u64 {
     let counts = mixed(u64::from(layer.choices), u64::from(layer.bound));
     mixed_list(mixed_list(counts, layer.edges), layer.next)
 }
@@ -100,16 +100,16 @@ fn layer_at(layers: &[Known], place: usize, layer: &Lone<'_>) -> Option<usize>
     }
 }
 
-// The place of a layer that is the same, which is looked for by its mark.
+// The place of a layer that is the same, which is looked for by its hash.
 fn find_known(
     places: &HashMap<u64, usize>,
     layers: &[Known],
-    mark: u64,
+    hash: u64,
     layer: &Lone<'_>,
 ) -> Option<usize>
     ensures { IfSome result (λ p. (k : Layer) × (slice_get layers.now p ≡ Some k) × IsMadeOf k layer.now) }
 {
-    match places.get(&mark) {
+    match places.get(&hash) {
         Some(place) => layer_at(layers, *place, layer),
         None => None,
     }
@@ -133,13 +133,13 @@ fn known_fold(
     alloc: Global,
     places: &HashMap<u64, usize>,
     layers: &[Known],
-    mark: u64,
+    hash: u64,
     layer: &Lone<'_>,
 ) -> Result<Option<Folded>, Memory>
     requires { AreKnown layers.now }
     ensures { IfOk result (λ o. IfSome o (λ f. IsFoldedAlone layer.now (folding_of f))) }
 {
-    match find_known(places, layers, mark, layer) {
+    match find_known(places, layers, hash, layer) {
         Some(place) => {
             let copy = layers[place].folded.copy(alloc)?;
             Ok(Some(copy))
@@ -193,14 +193,14 @@ fn forget_many(list: &mut KnownList)
 }
 
 // Puts a layer last.
-fn put_last(list: &mut KnownList, mark: u64, known: Known) -> Result<(), Memory>
+fn put_last(list: &mut KnownList, hash: u64, known: Known) -> Result<(), Memory>
     requires list { AreKnown list.old.layers.items }
     requires known { IsKnown known }
     ensures { AreKnown list.new.layers.items }
 {
     let place = list.layers.len();
     list.held = list.held.saturating_add(known.edges.len());
-    list.places.insert(mark, place)?;
+    list.places.insert(hash, place)?;
     list.layers.push(known)?;
     Ok(())
 }
@@ -209,7 +209,7 @@ fn put_last(list: &mut KnownList, mark: u64, known: Known) -> Result<(), Memory>
 fn note(
     alloc: Global,
     list: &mut KnownList,
-    mark: u64,
+    hash: u64,
     layer: &Lone<'_>,
     folded: &Folded,
 ) -> Result<(), Memory>
@@ -219,7 +219,7 @@ fn note(
 {
     let known = known_of(alloc, layer, folded)?;
     forget_many(list);
-    put_last(list, mark, known)
+    put_last(list, hash, known)
 }
 
 // The folding of a layer, which is made only where none that is the same is known.
@@ -233,8 +233,8 @@ pub(crate) fn fold_once(
     ensures list { AreKnown list.new.layers.items }
     ensures folded { IfOk result (λ f. IsFoldedAlone layer.now (folding_of f)) }
 {
-    let mark = mark_of(layer);
-    if let Some(folded) = known_fold(alloc, &list.places, &list.layers, mark, layer)? {
+    let hash = hash_of(layer);
+    if let Some(folded) = known_fold(alloc, &list.places, &list.layers, hash, layer)? {
         return Ok(folded);
     }
     let shape = Shape {
@@ -244,6 +244,6 @@ pub(crate) fn fold_once(
         base: 0,
     };
     let folded = fold_layer(alloc, shape, layer.edges, layer.next, layer.bound)?;
-    note(alloc, list, mark, layer, &folded)?;
+    note(alloc, list, hash, layer, &folded)?;
     Ok(folded)
 }
