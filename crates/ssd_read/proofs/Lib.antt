@@ -20,6 +20,7 @@ mod KeyTables
 pub mod SwitchPaths
 pub mod Ready
 pub mod Items
+pub mod Used
 pub mod InOrder
 pub mod AddedPaths
 pub mod Counted

@@ -64,6 +64,31 @@ fn add_names(
     Ok(numbers)
 }
 
+// Adds all that the elements give: first the parts and nodes, then the equipment.
+fn add_all(
+    alloc: Global,
+    drawing: &Drawing<'_>,
+    builder: &mut Builder,
+    own: &EndLists,
+    windings: &EndLists,
+) -> Result<(), SsdRefusal>
+    requires empty { builder.old ≡ empty }
+    requires names { first_fault name_fault [] drawing.now ≡ None }
+    requires ends { first_fault (end_fault drawing.now) [] drawing.now ≡ None }
+    requires own { length own.now ≡ length drawing.now }
+    requires windings { length windings.now ≡ length drawing.now }
+    requires own_ends { (j : ℕ) → j < length drawing.now → slice_index_or own.now j [] ≡ ends_of drawing.now j }
+    requires winding_ends { (j : ℕ) → j < length drawing.now → slice_index_or windings.now j [] ≡ winding_ends_of
+        drawing.now j }
+    ensures { Builds empty (steps_of drawing.now) result builder.new }
+{
+    let numbers = match add_names(alloc, drawing, builder) {
+        Ok(numbers) => numbers,
+        Err(fault) => return Err(fault),
+    };
+    add_items(alloc, drawing, builder, &numbers, own, windings)
+}
+
 // The station of a drawing without faults.
 pub(crate) fn build(
     alloc: Global,
@@ -82,11 +107,7 @@ pub(crate) fn build(
         (λ e. AnswersRefusal e (built empty (steps_of drawing.now))) }
 {
     let mut builder = Builder::new(alloc);
-    let numbers = match add_names(alloc, drawing, &mut builder) {
-        Ok(numbers) => numbers,
-        Err(fault) => return Err(fault),
-    };
-    match add_items(alloc, drawing, &mut builder, &numbers, own, windings) {
+    match add_all(alloc, drawing, &mut builder, own, windings) {
         Ok(()) => Ok(builder.finish()),
         Err(fault) => Err(fault),
     }
