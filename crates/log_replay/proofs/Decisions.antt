@@ -17,8 +17,7 @@ use Rattle.bay_protocol.proofs.Others.{another_no}
 use Rattle.reservation_core.specs.declared.values.WorldEvent.TheVariants.{Command, Sense, Tick, Withdraw, Restart, Cut}
 use Rattle.reservation_core.proofs.AlikeNotes.{switch_of}
 use Rattle.reservation_core.specs.Lines.{Line, Shown, of_bay, shown}
-use Rattle.reservation_core.specs.History.{collecting}
-use Rattle.reservation_core.specs.Hearing.{heard, IsVerdictOn, DecidesRound, known_at}
+use Rattle.reservation_core.specs.Hearing.{IsVerdictOn, DecidesRound, known_at}
 use Rattle.log_replay.proofs.Basic.{in_or_past}
 use Rattle.log_replay.proofs.Linked.{opened, HeardIs}
 use Rattle.log_replay.proofs.TurnParts.{Before, get_none, own_known}

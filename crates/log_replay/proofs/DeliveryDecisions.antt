@@ -13,7 +13,7 @@ use Rattle.bay_protocol.specs.Step.{Turn, StepEnds, ReserveStep, AnswerStep, Bus
 use Rattle.bay_protocol.proofs.Others.{another_no}
 use Rattle.reservation_core.specs.declared.values.WorldEvent.TheVariants.{Deliver}
 use Rattle.reservation_core.specs.Lines.{MessageKind, Line, Shown, of_bay, message, kind_of, shown}
-use Rattle.reservation_core.specs.History.{collecting, last_round, sending}
+use Rattle.reservation_core.specs.History.{last_round, sending}
 use Rattle.reservation_core.specs.Hearing.{words_told, heard_after, heard, AreAllHeard, IsVerdictOn, DecidesRound}
 use Rattle.reservation_core.specs.Hearing.{known_at}
 use Rattle.log_replay.proofs.Basic.{IsAnswer}

@@ -1,6 +1,7 @@
 pub mod FieldLemmas
 pub mod RecordLemmas
 pub mod LogLemmas
+pub mod Grown
 pub mod All
 pub mod Apart
 pub mod Basic

@@ -1,16 +1,21 @@
 -- The events that the records of a text say, one after another.
-use Rattle.std.proofs.Common.{◌≡◌, ◌⊎◌, ◌+◌, ◌<◌, ℕ, zero, suc, List, [], ◌∷◌, ◌++◌, length, take, drop, Some, refl}
+use Rattle.std.proofs.Common.{◌≡◌, ◌⊎◌, ◌+◌, ◌<◌, ℕ, zero, suc, List, [], ◌∷◌, ◌++◌, ◌≤◌, length, take, drop, Some, refl}
 use Rattle.std.proofs.Common.{sym, ap, subst, ◌∙◌, inl, inr, add-one, arith}
 use Rattle.std.specs.Prelude.{slice_get, All}
 use Rattle.std.specs.List.{AllZip}
 use Rattle.std.proofs.Math.Seq.{take-append_seam}
 use Rattle.std.proofs.lemmas.List.{length-append, take-append-le}
+use Rattle.ilk_base.specs.declared.input_fault.InputFault.{InputFault}
+use Rattle.ilk_base.specs.declared.input_fault.InputFault.TheVariants.{Memory, Refused}
+use Rattle.ilk_base.specs.declared.limits.TheConstants.{FILE_BYTES}
+use Rattle.ilk_base.specs.Inputs.{ForRefused}
+use Rattle.double_points.specs.Rows.{rows_of}
 use Rattle.station_graph.specs.Diagram.{Diagram}
 use Rattle.reservation_core.specs.declared.values.LogEvent.{LogEvent}
 use Rattle.log_replay.specs.declared.limits.TheConstants.{MOST_RECORDS}
 use Rattle.log_replay.specs.Records.{RecordSays, MayBeTold}
 use Rattle.log_replay.proofs.ReportLemmas.{all_more}
-use Rattle.log_replay.specs.Log.{MayFollow, AreInOrder, IsText, Tell}
+use Rattle.log_replay.specs.Log.{MayFollow, AreInOrder, IsText, Tell, IsFirstRecordFault, IsLogFault}
 
 -- ---- lists
 
@@ -102,3 +107,11 @@ told_each d [] (e ∷ events) each k x lt = absurd each
 told_each d (row ∷ rows) [] each k x lt = absurd each
 told_each d (row ∷ rows) (e ∷ events) each zero x lt = each.0.told
 told_each d (row ∷ rows) (e ∷ events) each (suc k) x lt = told_each d rows events each.1 k x (omega (arith, lt))
+
+-- ---- no log
+
+-- a record with a fault, where the bytes are not too many
+pub no_log : (d : Diagram) (bytes : List ℕ) (e : InputFault) → length bytes ≤ FILE_BYTES
+    → ForRefused e (IsFirstRecordFault d (rows_of bytes)) → ForRefused e (IsLogFault d bytes)
+no_log d bytes Memory few fault = tt
+no_log d bytes (Refused r) few fault = inr (few, fault)

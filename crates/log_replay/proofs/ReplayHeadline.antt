@@ -6,7 +6,7 @@ use Rattle.station_graph.specs.Diagram.{Diagram, IsStation}
 use Rattle.central_rules.specs.Meaning.{Meaning, Laws}
 use Rattle.reservation_core.specs.declared.values.LogEvent.{LogEvent}
 use Rattle.reservation_core.specs.declared.values.WorldOutcome.{WorldOutcome}
-use Rattle.reservation_core.specs.Scene.{Scene, stops}
+use Rattle.reservation_core.specs.Scene.{Scene}
 use Rattle.reservation_core.specs.World.{World, WorldFacts, IsNewWorld}
 use Rattle.reservation_core.specs.Lines.{Shown}
 use Rattle.reservation_core.specs.LogLines.{HasStart, told_at, start_of, lines_of}

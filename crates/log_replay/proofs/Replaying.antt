@@ -13,7 +13,7 @@ use Rattle.reservation_core.specs.declared.values.WorldEvent.{WorldEvent}
 use Rattle.reservation_core.specs.declared.values.WorldOutcome.{WorldOutcome}
 use Rattle.reservation_core.specs.declared.values.WorldOutcome.TheVariants.{Premise, Drive, Node}
 use Rattle.reservation_core.specs.declared.values.Which.{Which}
-use Rattle.reservation_core.specs.Scene.{Scene, stops}
+use Rattle.reservation_core.specs.Scene.{Scene}
 use Rattle.reservation_core.specs.Start.{IsStart}
 use Rattle.reservation_core.specs.World.{World, WorldFacts}
 use Rattle.reservation_core.specs.Lines.{Line, Shown}

@@ -1,5 +1,5 @@
 -- An operation that was granted and has not ended is the open one.
-use Rattle.std.proofs.Common.{◌≡◌, ◌≢◌, ◌<◌, ℕ, Bool, true, List, [], ◌∷◌, length, Option, Some, None, refl, sym, ap, ◌∙◌}
+use Rattle.std.proofs.Common.{◌≡◌, ◌≢◌, ℕ, Bool, List, [], ◌∷◌, Option, Some, None, refl, sym, ap, ◌∙◌}
 use Rattle.std.proofs.Common.{inl, inr, subst}
 use Rattle.std.proofs.lemmas.Bool.Decides.{eqb_tells}
 use Rattle.ilk_base.specs.declared.words.Op.{Op}
@@ -10,11 +10,10 @@ use Rattle.bay_protocol.specs.declared.values.Outcome.{Outcome}
 use Rattle.bay_protocol.specs.declared.values.Outcome.TheVariants.{Granted, Finished, Withdrawn, Stopped}
 use Rattle.reservation_core.specs.Scene.{Scene}
 use Rattle.reservation_core.specs.Lines.{Line, of_bay}
-use Rattle.reservation_core.specs.History.{closes, open_after, open_of, drive_runs, Opened}
+use Rattle.reservation_core.specs.History.{closes, open_after, open_of, Opened}
 use Rattle.reservation_core.specs.Hearing.{IsVerdictOn}
 use Rattle.reservation_core.specs.Runs.{Run}
 use Rattle.reservation_core.specs.Headline.{AtEach, EndsIt, OpenSince, ObeysSince, DrivesAreGranted}
-use Rattle.reservation_core.specs.RoundFacts.{Driven}
 use Rattle.log_replay.proofs.Leading.{run_is}
 use Rattle.log_replay.proofs.LineDecisions.{decides_well}
 use Rattle.log_replay.proofs.Truth.{idle_at}

@@ -5,7 +5,7 @@ ghost use Rattle.reservation_core.specs.declared.values.Which.{Which as Broken};
 ghost use Rattle.reservation_core.specs.declared.values.TheConstants.{MESSAGES};
 ghost use Rattle.reservation_core.specs.Headline.{Headline};
 ghost use Rattle.reservation_core.specs.LogLines.{HasStart, start_of, lines_of};
-ghost use Rattle.reservation_core.specs.World.{WorldFacts};
+ghost use Rattle.reservation_core.specs.World.{IsNewWorld, WorldFacts};
 ghost use Rattle.log_replay.specs.Records.{MayBeTold};
 ghost use Rattle.log_replay.specs.Replay.{IsReplay, ReportFits};
 ghost use Rattle.log_replay.specs.Following.{LineHappens, FitsAt, IsBroken};
@@ -55,6 +55,40 @@ pub fn broken(outcome: &Option<WorldOutcome>) -> Option<Which>
     }
 }
 
+// The replay in a new world.
+fn replay_in<J: Judge>(
+    alloc: Global,
+    station: &Station,
+    start: &Vector,
+    world: &mut World,
+    log: &Log,
+    judge: &J,
+) -> Result<Report, Memory>
+    requires same { (J.meaning judge.now).diagram ≡ station.now }
+    requires log { All (MayBeTold station.now) log.now }
+    requires start { start.now ≡ start_of station.now log.now }
+    requires has { HasStart station.now log.now }
+    requires new { IsNewWorld station.now start.now world.old }
+    ensures replay { IfOk result (IsReplay (J.meaning judge.now) log.now) }
+    ensures count { IfOk result (λ r. r.count ≡ length log.now) }
+    ensures fits { IfOk result (ReportFits station.now) }
+    ensures showable { IfOk result (λ r. All (IsShowable station.now) r.out) }
+{
+    // Their clauses are used; they do nothing.
+    judge.diagram_is_station();
+    facts_hold_at_the_start(judge);
+    let mut outcomes = Vec::new(alloc);
+    for i in 0..log.count() {
+        let outcome = follow(world, alloc, station, log.event(i), judge)?;
+        is_numbered(&outcome);
+        if let Some(which) = broken(&outcome) {
+            return Ok(Report::new(outcomes, Some((i + 1, which)), log.count()));
+        }
+        outcomes.push(outcome)?;
+    }
+    Ok(Report::new(outcomes, None, log.count()))
+}
+
 // The replay from a start.
 fn replay_from<J: Judge>(
     alloc: Global,
@@ -72,20 +106,8 @@ fn replay_from<J: Judge>(
     ensures fits { IfOk result (ReportFits station.now) }
     ensures showable { IfOk result (λ r. All (IsShowable station.now) r.out) }
 {
-    // Their clauses are used; they do nothing.
-    judge.diagram_is_station();
-    facts_hold_at_the_start(judge);
     let mut world = World::new(alloc, station, start)?;
-    let mut outcomes = Vec::new(alloc);
-    for i in 0..log.count() {
-        let outcome = follow(&mut world, alloc, station, log.event(i), judge)?;
-        is_numbered(&outcome);
-        if let Some(which) = broken(&outcome) {
-            return Ok(Report::new(outcomes, Some((i + 1, which)), log.count()));
-        }
-        outcomes.push(outcome)?;
-    }
-    Ok(Report::new(outcomes, None, log.count()))
+    replay_in(alloc, station, start, &mut world, log, judge)
 }
 
 /// The replay of a log: all bays of the station take the steps that the log says, from where it says that

@@ -1,7 +1,8 @@
 //! A log.
-ghost use Rattle.std.specs.Prelude.{◌≡◌, ◌≤◌, ◌<◌, length, slice_get, Some, All, IfOk, IfErr};
+ghost use Rattle.std.specs.Prelude.{◌≡◌, ◌≤◌, ◌<◌, [], length, slice_get, Some, All, IfOk, IfErr, OnOk};
+ghost use Rattle.double_points.specs.Rows.{rows_of};
 ghost use Rattle.log_replay.specs.Records.{MayBeTold};
-ghost use Rattle.log_replay.specs.Log.{IsLog, IsLogFault};
+ghost use Rattle.log_replay.specs.Log.{Tell, IsLog, IsFirstRecordFault, IsLogFault};
 ghost use Rattle.ilk_base.specs.Inputs.{ForRefused};
 ghost use Rattle.log_replay.specs.declared.limits.TheConstants.{MOST_RECORDS};
 
@@ -64,6 +65,28 @@ impl Log {
     }
 }
 
+// Adds the events of all records to none.
+fn read_events(
+    alloc: Global,
+    station: &Station,
+    bytes: &[u8],
+    events: &mut Vec<LogEvent>,
+) -> Result<(), LogFault>
+    requires { events.old.items ≡ [] }
+    ensures tell { OnOk result (Tell station.now (rows_of bytes.now) events.new.items) }
+    ensures err { IfErr result (λ e. ForRefused e (IsFirstRecordFault station.now (rows_of bytes.now))) }
+{
+    let mut rows = Rows::new(alloc, bytes);
+    let mut row = ByteRecord::new(alloc);
+    'records: while rows.next(&mut row)? {
+        match read_record(station, events.as_slice(), &row) {
+            Ok(event) => events.push(event)?,
+            Err(number) => return Err(LogFault::refused(number, events.len() as u32 + 1)),
+        }
+    }
+    Ok(())
+}
+
 /// Reads a log: CSV records as docs/FORMATS.md says, without a header, blank lines skipped. Bytes are refused
 /// at their first record with a fault, with the fault's number and the record's, from 1. In one record the
 /// faults come in this order: 9 it comes after `MOST_RECORDS` records; 6 its first field is no kind; 1 it has
@@ -83,14 +106,9 @@ pub fn read_log(alloc: Global, station: &Station, bytes: &[u8]) -> Result<Log, L
     if bytes.len() > FILE_BYTES {
         return Err(LogFault::refused(5, 0));
     }
-    let mut rows = Rows::new(alloc, bytes);
-    let mut row = ByteRecord::new(alloc);
     let mut events = Vec::new(alloc);
-    while rows.next(&mut row)? {
-        match read_record(station, &events, &row) {
-            Ok(event) => events.push(event)?,
-            Err(number) => return Err(LogFault::refused(number, events.len() as u32 + 1)),
-        }
+    match read_events(alloc, station, bytes, &mut events) {
+        Ok(()) => Ok(Log { events }),
+        Err(fault) => Err(fault),
     }
-    Ok(Log { events })
 }

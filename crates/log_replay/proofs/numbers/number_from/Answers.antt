@@ -1,5 +1,4 @@
 use Rattle.std.proofs.Common.{◌≡◌, ◌∙◌, sym, arith}
-use Rattle.text_lines.specs.Decimals.{IsDecimal}
 use Rattle.log_replay.proofs.FieldLemmas.{decimal_tells}
 use Rattle.log_replay.proofs.numbers.number_from.Goals.{then-number-least-via-then-number-least}
 use Rattle.log_replay.proofs.numbers.number_from.Goals.{then-number-least-via-else-number-least+then-most-number}
