@@ -23,3 +23,4 @@ pub mod UnblockedLemmas
 pub mod VariableLemmas
 pub mod WholeLemmas
 pub mod CountLemmas
+pub mod AddedLemmas

@@ -66,6 +66,11 @@ some_read bs c b names old new within is are reads =
     some_added bs c.block b old new (call_reads c) within is
     (reads ∙ ap (λ (ns : List Name). old ++ map (λ (n : Name). outer c n) ns) are)
 
+-- what holds holds where a result is given
+pub on_ok : {A E X : Type 0} (r : Result A E) → X → OnOk r X
+on_ok (Ok value) is = is
+on_ok (Err error) is = tt
+
 -- what follows of a call that was done
 pub when_done : {T E : Type 0} (r : Result T E) (A B : Type 0) → (A → B) → OnOk r A → OnOk r B
 when_done (Ok x) A B f h = f h

@@ -79,6 +79,19 @@ fn no_masks(alloc: Global, may: usize, sure: usize) -> Result<Masks, Memory> {
     Ok(Masks { may, sure })
 }
 
+// The bays on whose switches a line depends, which is noted.
+fn note_below(
+    alloc: Global,
+    station: &Station,
+    masks: &mut Masks,
+    line: Line,
+) -> Result<u64, Memory> {
+    let names = names_of(alloc, line.formula)?;
+    let mask = mask_of_all(masks, station, &names);
+    add_mask(masks, line.name, mask);
+    Ok(mask)
+}
+
 // The bays on whose switches each line depends.
 fn bays_below(
     alloc: Global,
@@ -90,12 +103,22 @@ fn bays_below(
     let mut masks = no_masks(alloc, may, sure)?;
     let mut found = Vec::new(alloc);
     for line in lines {
-        let names = names_of(alloc, line.formula)?;
-        let mask = mask_of_all(&masks, station, &names);
-        add_mask(&mut masks, line.name, mask);
-        found.push(mask)?;
+        found.push(note_below(alloc, station, &mut masks, *line)?)?;
     }
     Ok(found)
+}
+
+// The bays for whose releases a line is, which is noted for what it reads.
+fn note_above(
+    alloc: Global,
+    station: &Station,
+    masks: &mut Masks,
+    line: Line,
+) -> Result<u64, Memory> {
+    let mask = mask_of(masks, station, line.name);
+    let names = names_of(alloc, line.formula)?;
+    add_to_all(masks, &names, mask);
+    Ok(mask)
 }
 
 // The bays for whose releases each line is, the last line first.
@@ -111,10 +134,7 @@ fn bays_above(
     let mut number = lines.len();
     while number > 0 {
         number -= 1;
-        let line = lines[number];
-        let mask = mask_of(&masks, station, line.name);
-        let names = names_of(alloc, line.formula)?;
-        add_to_all(&mut masks, &names, mask);
+        let mask = note_above(alloc, station, &mut masks, lines[number])?;
         add_to(&mut found, number, mask);
     }
     Ok(found)
@@ -163,6 +183,22 @@ fn section_of(name: Name, below: u64, above: u64) -> usize
     signal_section(below)
 }
 
+// The section in which each line is to stand, by the bays on which it depends and for whose releases it is.
+fn sections_between(
+    alloc: Global,
+    lines: &[Line],
+    below: &[u64],
+    above: &[u64],
+) -> Result<Vec<usize>, Memory> {
+    let mut sections = Vec::new(alloc);
+    for number in 0..lines.len() {
+        let under = below.get(number).copied().unwrap_or(0);
+        let over = above.get(number).copied().unwrap_or(0);
+        sections.push(section_of(lines[number].name, under, over))?;
+    }
+    Ok(sections)
+}
+
 /// The section in which each line is to stand.
 pub(crate) fn sections_of(
     alloc: Global,
@@ -173,11 +209,5 @@ pub(crate) fn sections_of(
 ) -> Result<Vec<usize>, Memory> {
     let below = bays_below(alloc, station, lines, may, sure)?;
     let above = bays_above(alloc, station, lines, may, sure)?;
-    let mut sections = Vec::new(alloc);
-    for number in 0..lines.len() {
-        let under = below.get(number).copied().unwrap_or(0);
-        let over = above.get(number).copied().unwrap_or(0);
-        sections.push(section_of(lines[number].name, under, over))?;
-    }
-    Ok(sections)
+    sections_between(alloc, lines, &below, &above)
 }

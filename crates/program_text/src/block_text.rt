@@ -1,9 +1,9 @@
 //! The text of function blocks.
-ghost use Rattle.std.specs.Prelude.{◌≡◌, ◌++◌, length, decimal, OnOk, IfOk};
+ghost use Rattle.std.specs.Prelude.{◌≡◌, ◌++◌, decimal, OnOk, IfOk};
 ghost use Rattle.std.specs.List.{flat_map};
 ghost use Rattle.structured_text.specs.declared.name.Name.{Name as OfName};
 ghost use Rattle.program_blocks.specs.Standing.{BlockWithin, BlocksWithin};
-ghost use Rattle.program_text.specs.ProgramText.{if_formula, exchange_text, block_head, block_names, block_text, blocks_text};
+ghost use Rattle.program_text.specs.ProgramText.{if_formula, formula_count, exchange_text, block_head, block_names, block_text, blocks_text};
 
 use crate::declarations::{write_block_inputs, write_names_section};
 use ilk_base::{Memory, Text};
@@ -43,11 +43,12 @@ fn formulas_of(alloc: Global, names: &[Name]) -> Result<Vec<Name>, Memory>
     Ok(found)
 }
 
-// Appends how many variables these are.
-fn write_count(text: &mut Text, names: &[Name]) -> Result<(), Memory>
-    ensures { OnOk result (text.new ≡ text.old ++ decimal (length names.now)) }
+// Appends how many of the variables are of formulas.
+fn write_count(alloc: Global, text: &mut Text, names: &[Name]) -> Result<(), Memory>
+    ensures { OnOk result (text.new ≡ text.old ++ decimal (formula_count names.now)) }
 {
-    text.push_decimal(names.len())?;
+    let found = formulas_of(alloc, names)?;
+    text.push_decimal(found.len())?;
     Ok(())
 }
 
@@ -55,12 +56,10 @@ fn write_count(text: &mut Text, names: &[Name]) -> Result<(), Memory>
 fn write_exchange(alloc: Global, text: &mut Text, block: &Block) -> Result<(), Memory>
     ensures { OnOk result (text.new ≡ text.old ++ exchange_text block.now) }
 {
-    let read = formulas_of(alloc, &block.inputs)?;
-    let given = formulas_of(alloc, &block.outputs)?;
     text.push(b"  (* from outside of the block ")?;
-    write_count(text, &read)?;
+    write_count(alloc, text, &block.inputs)?;
     text.push(b" BOOLs, to the outside ")?;
-    write_count(text, &given)?;
+    write_count(alloc, text, &block.outputs)?;
     text.push(b" *)\n")?;
     Ok(())
 }

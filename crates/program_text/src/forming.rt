@@ -127,6 +127,25 @@ fn add_section(
     }
 }
 
+// Adds each section of the lines.
+fn add_sections(
+    alloc: Global,
+    station: &Station,
+    formed: &mut BlockProgram,
+    counts: Counts,
+    lines: &[Line],
+) -> Result<(), Memory> {
+    let mut section = Vec::new(alloc);
+    for line in lines {
+        if line.heading.is_some() {
+            add_section(alloc, station, formed, counts, &section)?;
+            section.clear();
+        }
+        section.push(*line)?;
+    }
+    add_section(alloc, station, formed, counts, &section)
+}
+
 // The sections as blocks without outputs, and calls.
 fn form_sections(
     alloc: Global,
@@ -140,16 +159,24 @@ fn form_sections(
         steps: Vec::new(alloc),
         variables: Vec::new(alloc),
     };
-    let mut section = Vec::new(alloc);
-    for line in lines {
-        if line.heading.is_some() {
-            add_section(alloc, station, &mut formed, counts, &section)?;
-            section.clear();
-        }
-        section.push(*line)?;
-    }
-    add_section(alloc, station, &mut formed, counts, &section)?;
+    add_sections(alloc, station, &mut formed, counts, lines)?;
     Ok(formed)
+}
+
+// What blocks hand on, and the variables of the program.
+fn give_variables(
+    alloc: Global,
+    formed: &mut BlockProgram,
+    lines: &[Line],
+    counts: Counts,
+) -> Result<(), Memory> {
+    let reads = reads_between(alloc, lines, counts)?;
+    for step in &formed.steps {
+        give_outputs(&mut formed.blocks, step, &reads)?;
+    }
+    give_all_locals(&mut formed.blocks)?;
+    formed.variables = variables_of(alloc, &formed.blocks, &formed.steps)?;
+    Ok(())
 }
 
 /// The lines as a program of blocks: sections of bays that are the same but for their numbers share one. There are so
@@ -160,13 +187,7 @@ pub(crate) fn form(
     lines: &[Line],
     counts: Counts,
 ) -> Result<BlockProgram, Memory> {
-    let reads = reads_between(alloc, lines, counts)?;
     let mut formed = form_sections(alloc, station, lines, counts)?;
-    for step in &formed.steps {
-        give_outputs(&mut formed.blocks, step, &reads)?;
-    }
-    give_all_locals(&mut formed.blocks)?;
-    let variables = variables_of(alloc, &formed.blocks, &formed.steps)?;
-    formed.variables = variables;
+    give_variables(alloc, &mut formed, lines, counts)?;
     Ok(formed)
 }

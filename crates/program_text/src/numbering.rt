@@ -107,12 +107,18 @@ fn no_numbers(alloc: Global, counts: Counts) -> Result<Numbering, Memory> {
     })
 }
 
+// The formulas that the lines set.
+fn number_set(numbering: &mut Numbering, lines: &[Line]) -> Result<(), Memory> {
+    for line in lines {
+        new_name(numbering, line.name)?;
+    }
+    Ok(())
+}
+
 // The numbers of the formulas of a section.
 fn numbering_of(alloc: Global, lines: &[Line], counts: Counts) -> Result<Numbering, Memory> {
     let mut numbering = no_numbers(alloc, counts)?;
-    for line in lines {
-        let _set = new_name(&mut numbering, line.name)?;
-    }
+    number_set(&mut numbering, lines)?;
     for line in lines {
         number_line(alloc, &mut numbering, *line)?;
     }

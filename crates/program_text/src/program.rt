@@ -150,6 +150,25 @@ fn program_by(
     Ok(program)
 }
 
+// The interlocking by these formulas of what may be.
+fn program_with(alloc: Global, station: &Station, may: &MayFormulas) -> Result<Program, Memory>
+    requires gap_len { length may.now.gap.items ≡ length station.now.switches }
+    requires load_len { length may.now.load.items ≡ length station.now.switches }
+    requires gap { AreExactPairs Gap station.now may.now.terms may.now.gap.items }
+    requires load { AreExactPairs Load station.now may.now.terms may.now.load.items }
+    ensures interlocks { IfOk result (λ p. IsInterlocking station.now
+        (after (p.may.items ++ (p.sure.items ++ p.releases.items)))) }
+    ensures order { IfOk result (λ p. AreInOrder IsInput (p.may.items ++ (p.sure.items ++ p.releases.items))) }
+    ensures sets { IfOk result (λ p. SetsReleases station.now
+        (p.may.items ++ (p.sure.items ++ p.releases.items))) }
+    ensures may { IfOk result (λ p. LinesWithin station.now p.may.items) }
+    ensures sure { IfOk result (λ p. LinesWithin station.now p.sure.items) }
+    ensures releases { IfOk result (λ p. LinesWithin station.now p.releases.items) }
+{
+    let sure = sure_formulas(alloc, station)?;
+    program_by(alloc, station, may, &sure)
+}
+
 /// The interlocking of a station.
 pub fn interlocking(alloc: Global, station: &Station) -> Result<Program, Memory>
     ensures interlocks { IfOk result (λ p. IsInterlocking station.now
@@ -165,9 +184,7 @@ pub fn interlocking(alloc: Global, station: &Station) -> Result<Program, Memory>
     // called for its clause alone: how many switches a station has
     station.switch_count();
     let may = may_formulas(alloc, station)?;
-    let sure = sure_formulas(alloc, station)?;
-    let program = program_by(alloc, station, &may, &sure)?;
-    Ok(program)
+    program_with(alloc, station, &may)
 }
 
 // The lines, one list behind the other.
