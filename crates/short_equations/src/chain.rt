@@ -1,10 +1,10 @@
 //! The parts along the chain: each with all others, composed from the left and from the right.
-ghost use Rattle.std.specs.Prelude.{◌≡◌, ◌≤◌, ◌<◌, ◌+◌, length, slice_get, Some, IfOk, OnOk, IsTrue, ◌↔◌};
+ghost use Rattle.std.specs.Prelude.{◌≡◌, ◌≤◌, ◌<◌, ◌+◌, ◌^◌, length, slice_get, Some, IfOk, OnOk, IsTrue, ◌↔◌};
 ghost use Rattle.ilk_base.specs.declared.words.BayId.{BayId};
 ghost use Rattle.station_graph.specs.declared.items.Switch.{Switch};
 ghost use Rattle.station_graph.specs.Diagram.{part_count};
 ghost use Rattle.interlock_terms.specs.Terms.{Grew};
-ghost use Rattle.short_equations.specs.declared.part_set.PartSet.TheVariants.{Below, From, But};
+ghost use Rattle.short_equations.specs.declared.part_set.PartSet.TheVariants.{Only, Below, From, But};
 ghost use Rattle.short_equations.specs.Edges.{AreEdges};
 ghost use Rattle.short_equations.specs.Fragments.{InParts, StandsForItems};
 ghost use Rattle.short_equations.specs.Pairs.{IsExactPair, AreExactFrom, SetsBay, AreExactPairs};
@@ -80,6 +80,42 @@ fn add_pairs(
     Ok(())
 }
 
+// The terms of each switch of a part, from the edges that stand for the parts before it, for itself and for the parts
+// after it; the edges that stand for the parts from it on are returned.
+fn take_part(
+    alloc: Global,
+    terms: &mut Terms,
+    station: &Station,
+    view: View,
+    part: u16,
+    before: &[Edge],
+    own: &[Edge],
+    after: &[Edge],
+    pairs: &mut Vec<TermPair>,
+) -> Result<Vec<Edge>, Memory>
+    requires part { part < 2 ^ 8 }
+    requires before_edges { AreEdges before.now }
+    requires own_edges { AreEdges own.now }
+    requires after_edges { AreEdges after.now }
+    requires before { StandsForItems view station.now terms.old (InParts station.now (Below part)) before.now }
+    requires own { StandsForItems view station.now terms.old (InParts station.now (Only (record { 0 = part }))) own.now }
+    requires after { StandsForItems view station.now terms.old (InParts station.now (From (part + 1))) after.now }
+    requires room { length pairs.old.items ≡ length station.now.switches }
+    requires exact { AreExactFrom view station.now terms.old (part + 1) pairs.old.items }
+    ensures grew { OnOk result (Grew terms.old terms.new) }
+    ensures edges { IfOk result (λ r. AreEdges r.items) }
+    ensures stands { IfOk result
+        (λ r. StandsForItems view station.now terms.new (InParts station.now (From part)) r.items) }
+    ensures len { OnOk result (length pairs.new.items ≡ length station.now.switches) }
+    ensures exact { OnOk result (AreExactFrom view station.now terms.new part pairs.new.items) }
+{
+    let here = BayId(part as u8);
+    let others = compose(alloc, terms, station, before, after, PartSet::But(here))?;
+    add_pairs(alloc, terms, station, view, &others, here, pairs)?;
+    let from_here = compose(alloc, terms, station, own, after, PartSet::From(part))?;
+    Ok(from_here)
+}
+
 // The terms of each switch of the parts from this number on; the edges that stand for those parts are returned.
 fn walk(
     alloc: Global,
@@ -115,10 +151,9 @@ fn walk(
         PartSet::Below(part + 1),
     )?;
     let after = walk(alloc, terms, station, view, part + 1, &so_far, pairs)?;
-    let others = compose(alloc, terms, station, before, &after, PartSet::But(here))?;
-    add_pairs(alloc, terms, station, view, &others, here, pairs)?;
-    let from_here = compose(alloc, terms, station, &own, &after, PartSet::From(part))?;
-    Ok(from_here)
+    take_part(
+        alloc, terms, station, view, part, before, &own, &after, pairs,
+    )
 }
 
 /// The two terms of each switch in a view, by the number of the switch.

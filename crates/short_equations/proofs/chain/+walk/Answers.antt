@@ -1,14 +1,14 @@
 use Rattle.std.proofs.Common.{◌∙◌, ◌≡◌, ◌+◌, subst, sym, arith}
+use Rattle.std.proofs.lemmas.Result.{on_ok_weaker}
 use Rattle.ilk_base.specs.declared.words.BayId.{BayId}
 use Rattle.station_graph.specs.Diagram.{part_count}
 use Rattle.interlock_terms.proofs.TermLemmas.{grew_on}
-use Rattle.short_equations.specs.declared.part_set.PartSet.TheVariants.{Only, Below, From, But}
+use Rattle.short_equations.specs.declared.part_set.PartSet.TheVariants.{Only, Below, From}
 use Rattle.short_equations.specs.Edges.{AreEdges}
 use Rattle.short_equations.specs.Fragments.{InParts, StandsForItems, ComposedOf}
 use Rattle.short_equations.proofs.FragmentLemmas.{stands_grew}
 use Rattle.short_equations.proofs.ChainLemmas.{stands_nobody, none_from, no_switch_from}
-use Rattle.short_equations.proofs.ChainSets.{one_more, all_others, from_here}
-use Rattle.short_equations.proofs.ChainSteps.{exact_from, from_grew}
+use Rattle.short_equations.proofs.ChainSets.{one_more}
 use Rattle.short_equations.proofs.chain.+walk.Goals as goal
 
 pub walk-requires : goal.walk-requires
@@ -43,61 +43,52 @@ walk-requires t c =
       ),
     )
 
-pub add_pairs-requires-clause-stands : goal.add_pairs-requires-clause-stands
-add_pairs-requires-clause-stands t c =
+pub take_part-requires-clause-own_edges : goal.take_part-requires-clause-own_edges
+take_part-requires-clause-own_edges t c = subst AreEdges (sym c.deref-3.ensures.value) c.in_ok-own.ensures.edges
+
+pub take_part-requires-clause-after_edges : goal.take_part-requires-clause-after_edges
+take_part-requires-clause-after_edges t c = subst AreEdges (sym c.deref-4.ensures.value) c.in_ok-after.ensures.edges
+
+pub take_part-requires-clause-before : goal.take_part-requires-clause-before
+take_part-requires-clause-before t c =
+    let grew = grew_on _ _ _ c.in_ok-own.ensures.grew
+    (grew_on _ _ _ c.in_ok-so_far.ensures.grew c.in_ok-after.ensures.grew) in
+    stands_grew c.args.view c.args.station.now c.args.terms.now c.walk.new.terms (InParts c.args.station.now
+    (Below c.args.part)) c.args.before.now grew c.requires.stands
+
+pub take_part-requires-clause-own : goal.take_part-requires-clause-own
+take_part-requires-clause-own t c =
     let d = c.args.station.now in
     let view = c.args.view in
     let here : BayId = record { 0 = c.args.part } in
-    let zero_terms = c.args.terms.now in
-    let three = c.walk.new.terms in
-    let four = c.compose-2.new.terms in
-    let before = c.args.before.now in
-    let rest = c.in_ok-after.after.items in
-    let new = c.in_ok-others.others.items in
-    let to_three = grew_on _ _ _ c.in_ok-own.ensures.grew
+    let grew = grew_on _ _ _ c.in_ok-so_far.ensures.grew c.in_ok-after.ensures.grew in
+    subst (λ es. StandsForItems view d c.walk.new.terms (InParts d (Only here)) es) (sym c.deref-3.ensures.value)
+    (stands_grew view d c.own_edges.new.terms c.walk.new.terms (InParts d (Only here)) c.in_ok-own.own.items grew
+    c.in_ok-own.ensures.stands)
+
+pub take_part-requires-clause-after : goal.take_part-requires-clause-after
+take_part-requires-clause-after t c =
+    let d = c.args.station.now in
+    subst (λ es. StandsForItems c.args.view d c.walk.new.terms (InParts d (From (c.args.part + 1))) es)
+    (sym c.deref-4.ensures.value) c.in_ok-after.ensures.stands
+
+pub returns-clause-grew : goal.returns-clause-grew
+returns-clause-grew t c =
+    let grew = grew_on _ _ _ c.in_ok-own.ensures.grew
     (grew_on _ _ _ c.in_ok-so_far.ensures.grew c.in_ok-after.ensures.grew) in
-    let composed : ComposedOf d (But here) four before rest new =
-    subst (λ es. ComposedOf d (But here) four before es new) c.deref-3.ensures.value c.in_ok-others.ensures.composed in
-    subst (λ es. StandsForItems view d four (InParts d (But here)) es) (sym c.deref-4.ensures.value)
-    (all_others view d c.in_ok-others.ensures.station four here before rest new
-    (stands_grew view d zero_terms four (InParts d (Below here.0)) before
-    (grew_on _ _ _ to_three c.in_ok-others.ensures.grew) c.requires.stands)
-    (stands_grew view d three four (InParts d (From (here.0 + 1))) rest c.in_ok-others.ensures.grew
-    c.in_ok-after.ensures.stands) composed)
+    on_ok_weaker c.take_part.result (grew_on _ _ _ grew) c.take_part.ensures.grew
+
+pub returns-clause-edges : goal.returns-clause-edges
+returns-clause-edges t c = c.take_part.ensures.edges
 
 pub returns-clause-stands : goal.returns-clause-stands
-returns-clause-stands t c =
-    let d = c.args.station.now in
-    let view = c.args.view in
-    let here : BayId = record { 0 = c.args.part } in
-    let one = c.own_edges.new.terms in
-    let three = c.walk.new.terms in
-    let six = c.compose-3.new.terms in
-    let own = c.in_ok-own.own.items in
-    let rest = c.in_ok-after.after.items in
-    let new = c.in_ok-from_here.from_here.items in
-    let to_six = grew_on _ _ _ c.in_ok-others.ensures.grew
-    (grew_on _ _ _ c.in_ok-add_pairs.ensures.grew c.in_ok-from_here.ensures.grew) in
-    let composed : ComposedOf d (From here.0) six own rest new =
-    subst (λ es. ComposedOf d (From here.0) six own es new) c.deref-6.ensures.value
-    (subst (λ es. ComposedOf d (From here.0) six es c.deref-6.result.now new) c.deref-5.ensures.value
-    c.in_ok-from_here.ensures.composed) in
-    from_here view d c.in_ok-from_here.ensures.station six here own rest new
-    (stands_grew view d one six (InParts d (Only here)) own
-    (grew_on _ _ _ (grew_on _ _ _ c.in_ok-so_far.ensures.grew c.in_ok-after.ensures.grew) to_six)
-    c.in_ok-own.ensures.stands)
-    (stands_grew view d three six (InParts d (From (here.0 + 1))) rest to_six c.in_ok-after.ensures.stands) composed
+returns-clause-stands t c = c.take_part.ensures.stands
+
+pub returns-clause-len : goal.returns-clause-len
+returns-clause-len t c = c.take_part.ensures.len
 
 pub returns-clause-exact : goal.returns-clause-exact
-returns-clause-exact t c =
-    let d = c.args.station.now in
-    let view = c.args.view in
-    let part = c.args.part in
-    from_grew view d c.add_pairs.new.terms c.compose-3.new.terms part c.add_pairs.new.pairs.items
-    c.in_ok-from_here.ensures.grew
-    (exact_from view d c.walk.new.terms c.add_pairs.new.terms part c.walk.new.pairs.items c.add_pairs.new.pairs.items
-    (grew_on _ _ _ c.in_ok-others.ensures.grew c.in_ok-add_pairs.ensures.grew) c.in_ok-after.ensures.exact
-    c.in_ok-add_pairs.ensures.sets)
+returns-clause-exact t c = c.take_part.ensures.exact
 
 pub returns-then-part-part_count-clause-stands : goal.returns-then-part-part_count-clause-stands
 returns-then-part-part_count-clause-stands t c =

@@ -35,3 +35,18 @@ returns-clause-adds c =
     let e : c.loop-i.i ≡ length more = omega arith in
     subst (λ k. AddsAll c.loop-i.terms c.args.edges.now.items more k c.loop-i.edges.items) e
     c.loop-i.invariant.2
+
+pub add_edge-requires-clause-edges : goal.add_edge-requires-clause-edges
+add_edge-requires-clause-edges c = c.loop-i.invariant.1
+
+pub add_edge-requires-clause-edge : goal.add_edge-requires-clause-edge
+add_edge-requires-clause-edge c =
+    let more = c.args.more.now in
+    let i = c.loop-i.i in
+    c.requires.more i (get_or more i none) (slice_get-get_or more i none c.loop-i-test.true)
+
+pub returns-clause-grew : goal.returns-clause-grew
+returns-clause-grew c = c.loop-i.invariant.0
+
+pub returns-clause-edges : goal.returns-clause-edges
+returns-clause-edges c = c.loop-i.invariant.1

@@ -40,3 +40,18 @@ returns-clause-stands c =
     let e : c.loop-i.i ≡ length nodes = omega arith in
     subst (λ k. StandsFor c.loop-i.terms nodes k c.args.edges.now c.loop-i.left.items) e
     c.loop-i.invariant.2
+
+pub eliminate-requires-clause-edges : goal.eliminate-requires-clause-edges
+eliminate-requires-clause-edges c = subst AreEdges (sym c.deref.ensures.value) c.loop-i.invariant.1
+
+pub eliminate-requires-clause-node : goal.eliminate-requires-clause-node
+eliminate-requires-clause-node c =
+    let nodes = c.args.nodes.now in
+    let i = c.loop-i.i in
+    c.requires.nodes i (get_or nodes i none) (slice_get-get_or nodes i none c.loop-i-test.true)
+
+pub returns-clause-grew : goal.returns-clause-grew
+returns-clause-grew c = c.loop-i.invariant.0
+
+pub returns-clause-edges : goal.returns-clause-edges
+returns-clause-edges c = c.loop-i.invariant.1
