@@ -1,8 +1,9 @@
 -- The edges from entries to the entries of their labels, one by one.
-use Rattle.std.proofs.Common.{◌≡◌, ℕ, ◌+◌, ◌<◌, ◌⊎◌, List, slice_index, subst, inl, inr, arith}
-use Rattle.std.proofs.lemmas.Bool.{cases_lt}
+use Rattle.std.proofs.Common.{◌≡◌, ℕ, ◌+◌, ◌<◌, ◌⊎◌, eqb, List, [], ◌∷◌, map, max, min, slice_index, subst, inl, inr, arith}
+use Rattle.std.proofs.Common.{refl}
+use Rattle.std.proofs.lemmas.Bool.{cases_lt, cases_eq, eq-eqb, ne_eqb, cond-true, cond-false}
 use Rattle.station_graph.specs.Connection.{AreEnds}
-use Rattle.station_graph.specs.Classes.{merged}
+use Rattle.station_graph.specs.Classes.{merged, relabelled}
 use Rattle.station_graph.proofs.LinkedLemmas.{ends_back}
 use Rattle.station_graph.proofs.ClassesLemmas.{KeepsLabels, KeepsLabels-merged}
 use Rattle.contraction.specs.Merging.{EdgeBelow, EdgeOf}
@@ -32,6 +33,24 @@ edge_back p l i a b e = record {
 
 no_edge : (p l : List ℕ) (a b : ℕ) → EdgeBelow p l 0 a b → ⊥
 no_edge p l a b e = omega (arith, e.below)
+
+-- ---- a number is in one class with itself
+relabelled_self : (x label : ℕ) → relabelled x x label ≡ label
+relabelled_self x label = elim (cases_eq label (max x x)) [
+  | inl e ↦
+      let now : relabelled x x label ≡ min x x =
+      cond-true (eqb label (max x x)) (min x x) label (eq-eqb label (max x x) e) in
+      omega (arith, now)
+  | inr e ↦ cond-false (eqb label (max x x)) (min x x) label (ne_eqb label (max x x) e)
+]
+
+map_none : (f : ℕ → ℕ) → ((x : ℕ) → f x ≡ x) → (xs : List ℕ) → xs ≡ map f xs
+map_none f same [] = refl
+map_none f same (x ∷ xs) = cc (same x, map_none f same xs)
+
+pub merged_self : (labels : List ℕ) (a : ℕ) → labels ≡ merged labels a a
+merged_self labels a =
+    map_none (relabelled (slice_index labels a) (slice_index labels a)) (relabelled_self (slice_index labels a)) labels
 
 module _ (p l q m : List ℕ) where
   pub edges_back : (i j a b : ℕ) → EdgeOf p l i q m j a b → EdgeOf p l i q m j b a

@@ -70,6 +70,23 @@ fn unite(labels: &mut [u16], a: u16, b: u16)
     }
 }
 
+// Makes the classes of an entry and of the first entry with its label one. Nearly all entries are that first entry
+// themselves, and nothing is to be done for them.
+fn follow(labels: &mut [u16], places: &[u16], row: &[u16], i: usize)
+    requires entry { i < length row.now }
+    requires len { length row.now ≡ length places.now }
+    requires below { slice_index row.now i ≤ i }
+    requires first { slice_index places.now i < length labels.old }
+    requires second { slice_index places.now (slice_index row.now i) < length labels.old }
+    ensures { labels.new
+        ≡ merged labels.old (slice_index places.now i) (slice_index places.now (slice_index row.now i)) }
+{
+    let label = row[i] as usize;
+    if label != i {
+        unite(labels, places[i], places[label]);
+    }
+}
+
 // The labels of the places of a merged list, from the labels of both lists: the classes of both are
 // closed up over one another.
 pub(crate) fn label_both(
@@ -86,12 +103,10 @@ pub(crate) fn label_both(
 {
     part(labels);
     'firsts: for i in 0..first.len() {
-        let label = first_labels[i] as usize;
-        unite(labels, first[i], first[label]);
+        follow(labels, first, first_labels, i);
     }
     'seconds: for j in 0..second.len() {
-        let label = second_labels[j] as usize;
-        unite(labels, second[j], second[label]);
+        follow(labels, second, second_labels, j);
     }
 }
 

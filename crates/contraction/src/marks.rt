@@ -126,14 +126,8 @@ pub(crate) fn marks_of_both(
     spread(alloc, &classes, labels)
 }
 
-// Puts out all of these.
-fn clear(classes: &mut [bool])
-    ensures { classes.new ≡ replicate (length classes.old) false }
-{
-    classes.fill(false);
-}
-
-// The marks of these of the places of a merged list. There is room for them, and for a mark of each class.
+// The marks of these of the places of a merged list. There is room for them, and for a mark of each class, of which
+// none is set.
 pub(crate) fn mark_at(
     row: &mut [bool],
     classes: &mut [bool],
@@ -145,7 +139,7 @@ pub(crate) fn mark_at(
     second_marks: &[bool],
 )
     requires room { length row.old ≡ length places.now }
-    requires classes { length classes.old ≡ length labels.now }
+    requires none { classes.old ≡ replicate (length labels.now) false }
     requires places { (k : ℕ) → k < length places.now → slice_index places.now k < length labels.now }
     requires first_len { length first_marks.now ≡ length first.now }
     requires second_len { length second_marks.now ≡ length second.now }
@@ -154,7 +148,6 @@ pub(crate) fn mark_at(
     requires below { (k : ℕ) → k < length labels.now → slice_index labels.now k ≤ k }
     ensures { MarksAt labels.now places.now first.now first_marks.now second.now second_marks.now row.new }
 {
-    clear(classes);
     note_both(classes, labels, first, first_marks, second, second_marks);
     spread_at(row, classes, labels, places);
 }

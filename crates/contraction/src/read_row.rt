@@ -1,5 +1,5 @@
 //! The value that a row tells.
-ghost use Rattle.std.specs.Prelude.{◌≡◌, ◌+◌, ◌*◌, ◌<◌, ℕ, Bool, List, [], length, slice_index, IfOk};
+ghost use Rattle.std.specs.Prelude.{◌≡◌, ◌+◌, ◌*◌, ◌/◌, ◌<◌, ℕ, Bool, List, [], length, slice_index, IfOk};
 ghost use Rattle.station_graph.specs.Diagram.{Diagram};
 ghost use Rattle.contraction.specs.Answers.{Answers, IsContraction};
 ghost use Rattle.contraction.specs.Composing.{IsGapOfBoth, IsLoadOfBoth, IsGapRowOfBoth, IsLoadRowOfBoth};
@@ -22,15 +22,22 @@ fn number_at(bytes: &[u8], i: usize) -> u16
     u16::from(bytes[2 * i]) * 256 + u16::from(bytes[2 * i + 1])
 }
 
+// Reads the numbers of which these are the bytes into a list that has room for them.
+fn read_numbers(numbers: &mut [u16], bytes: &[u8])
+    requires { length numbers.old ≡ length bytes.now / 2 }
+    ensures { (list : List ℕ) → bytes.now ≡ words list → numbers.new ≡ list }
+{
+    for i in 0..numbers.len() {
+        numbers[i] = number_at(bytes, i);
+    }
+}
+
 // The numbers of which these are the bytes.
 fn numbers_of(alloc: Global, bytes: &[u8]) -> Result<Vec<u16>, Memory>
     ensures { IfOk result (λ v. (numbers : List ℕ) → bytes.now ≡ words numbers → v.items ≡ numbers) }
 {
-    let count = bytes.len() / 2;
-    let mut numbers = Vec::with_capacity(alloc, count)?;
-    for i in 0..count {
-        numbers.push(number_at(bytes, i))?;
-    }
+    let mut numbers = vec![in alloc; 0; bytes.len() / 2]?;
+    read_numbers(&mut numbers, bytes);
     Ok(numbers)
 }
 
@@ -46,14 +53,22 @@ fn labels_of(alloc: Global, bytes: &[u8]) -> Result<NodeList, Memory>
     Ok(labels)
 }
 
+// Reads the bits of which these are the bytes into a list that has room for them.
+fn read_bits(bits: &mut [bool], bytes: &[u8])
+    requires { length bits.old ≡ length bytes.now }
+    ensures { (list : List Bool) → bytes.now ≡ flags list → bits.new ≡ list }
+{
+    for i in 0..bits.len() {
+        bits[i] = bytes[i] == 1;
+    }
+}
+
 // The bits of which these are the bytes.
 fn bits_of(alloc: Global, bytes: &[u8]) -> Result<Vec<bool>, Memory>
     ensures { IfOk result (λ v. (bits : List Bool) → bytes.now ≡ flags bits → v.items ≡ bits) }
 {
-    let mut bits = Vec::with_capacity(alloc, bytes.len())?;
-    for byte in bytes {
-        bits.push(*byte == 1)?;
-    }
+    let mut bits = vec![in alloc; false; bytes.len()]?;
+    read_bits(&mut bits, bytes);
     Ok(bits)
 }
 

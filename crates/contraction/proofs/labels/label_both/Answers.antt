@@ -21,7 +21,7 @@ firsts-preserved c =
     let fits = c.requires.first in
     let i_in : i < length p = omega arith in
     let below = fits.below i i_in in
-    rw c.unite.ensures
+    rw c.follow.ensures
     (after_first p l c.args.second.now c.args.second_labels.now i 0 (length c.args.labels.now) c.firsts.labels
     (fits.inside i i_in) (fits.inside (slice_index l i) (omega arith)) c.firsts.invariant)
 
@@ -33,7 +33,7 @@ seconds-preserved c =
     let fits = c.requires.second in
     let j_in : j < length q = omega arith in
     let below = fits.below j j_in in
-    rw c.unite-in-seconds.ensures
+    rw c.follow-in-seconds.ensures
     (after_second c.args.first.now c.args.first_labels.now q m (length c.args.first.now) j (length c.args.labels.now)
     c.seconds.labels
     (fits.inside j j_in) (fits.inside (slice_index m j) (omega arith)) c.seconds.invariant)

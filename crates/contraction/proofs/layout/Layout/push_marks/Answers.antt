@@ -1,8 +1,13 @@
-use Rattle.std.proofs.Common.{subst}
+use Rattle.std.proofs.Common.{false, length, subst, arith}
+use Rattle.std.proofs.lemmas.List.{take-replicate}
 use Rattle.contraction.specs.Restricting.{MarksAt}
 use Rattle.contraction.specs.Selecting.{AddsMarks}
 use Rattle.contraction.proofs.MarkLemmas.{if_ok}
 use Rattle.contraction.proofs.layout.Layout.push_marks.Goals as goal
+
+pub mark_at-requires-clause-none : goal.mark_at-requires-clause-none
+mark_at-requires-clause-none c =
+    take-replicate (length c.args.wide.now) 32 false (omega (arith, c.requires.len, c.requires.small.all))
 
 pub returns : goal.returns
 returns c =

@@ -1,8 +1,0 @@
-use Rattle.std.proofs.Common.{◌≡◌, ℕ, ◌<◌, List, length, slice_index}
-use Rattle.contraction.specs.Rows.{words}
-use Rattle.contraction.proofs.read_row.numbers_of.Given as goal
-
-abbrev pub invariant-loop-i : goal.invariant-loop-i
-invariant-loop-i l =
-    (length l.numbers.items ≡ l.i)
-    × ((xs : List ℕ) → l.bytes ≡ words xs → (k : ℕ) → k < l.i → slice_index l.numbers.items k ≡ slice_index xs k)
