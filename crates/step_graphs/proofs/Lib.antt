@@ -7,3 +7,4 @@ pub mod StepFits
 pub mod StepEdges
 pub mod StepSays
 pub mod EndLemmas
+pub mod TouchLemmas

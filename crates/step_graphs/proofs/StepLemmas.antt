@@ -1,7 +1,7 @@
 -- The rows of the steps and the spans of the nodes, one by one.
 use Rattle.std.proofs.Common.{◌≡◌, ℕ, ◌+◌, ◌<◌, ◌≤◌, ◌⊎◌, ◌↔◌, zero, suc, Bool, true, false, List, [], ◌∷◌, ◌++◌, length}
 use Rattle.std.proofs.Common.{get_or, slice_get, Some, refl, sym, ap, ◌∙◌, subst, inl, inr, arith}
-use Rattle.std.specs.Prelude.{Contains, IsTrue}
+use Rattle.std.specs.Prelude.{IsTrue}
 use Rattle.std.proofs.lemmas.Bool.{cases_lt, cases_eq}
 use Rattle.std.proofs.lemmas.List.{length_push}
 use Rattle.std.proofs.lemmas.Option.{slice_get_within, same_Some, slice_get-get_or, get_or_from_slice_get}
@@ -21,11 +21,12 @@ use Rattle.judge_intake.proofs.NodesLemmas.{touched_node}
 use Rattle.step_graphs.specs.declared.step.Step.{Step}
 use Rattle.step_graphs.specs.declared.spans.Span.{Span}
 use Rattle.step_graphs.specs.Letters.{HasLetter, IsStepRow, AreStepRows}
-use Rattle.step_graphs.specs.Needing.{TouchedAt, TouchedBefore, TouchedFrom, IsNeeded, IsSpan, AreSpans, Spans, SpannedAt}
+use Rattle.step_graphs.specs.Needing.{TouchedAt, TouchedBefore, TouchedFrom, IsNeeded, AreSpans, Spans, SpannedAt}
+use Rattle.step_graphs.specs.Touching.{IsAfter}
 
 -- ---- rows
 
-no_place : {X : Type 0} (i : ℕ) (x : X) → slice_get {X = X} [] i ≡ Some x → ⊥
+pub no_place : {X : Type 0} (i : ℕ) (x : X) → slice_get {X = X} [] i ≡ Some x → ⊥
 no_place zero x at = cc
 no_place (suc i) x at = cc
 
@@ -103,11 +104,6 @@ step_rows_none p d steps = record {
 
 -- ---- spans
 
--- The number after is one more than the last of the first n other steps that touches the node, and 0 where none does.
-pub record IsAfter (d : Diagram) (steps : List Step) (b node n after : ℕ) : Type 0 where
-  pub small : after ≤ n
-  pub each : (j : ℕ) → ((k : ℕ) × (j ≤ k) × (k < n) × TouchedAt d steps (other_of 0 b k) node) ↔ (j < after)
-
 module _ (d : Diagram) (steps : List Step) (b node : ℕ) where
   pub after_none : IsAfter d steps b node 0 0
   after_none = record {
@@ -135,7 +131,7 @@ module _ (d : Diagram) (steps : List Step) (b node : ℕ) where
     );
   }
 
-  other_small : (others k : ℕ) → suc others ≡ length steps → b < length steps →
+  pub other_small : (others k : ℕ) → suc others ≡ length steps → b < length steps →
       TouchedAt d steps (other_of 0 b k) node → k < others
   other_small others k count b_in t =
       let lt = slice_get_within steps (other_of 0 b k) t.0 t.1 in
@@ -165,23 +161,6 @@ module _ (d : Diagram) (steps : List Step) (b node : ℕ) where
       | inr t ↦ (first, lt, t)
     ],
   )
-
-pub spans_none : (d : Diagram) (steps : List Step) (b others : ℕ) → AreSpans d steps b others [] 0
-spans_none d steps b others = record { len = refl; each = λ k s at. absurd (no_place k s at) }
-
-pub spans_more : (d : Diagram) (steps : List Step) (b others : ℕ) (spans : List Span) (n : ℕ) (s : Span) →
-    AreSpans d steps b others spans n → IsSpan d steps b others n s →
-    AreSpans d steps b others (spans ++ s ∷ []) (n + 1)
-spans_more d steps b others spans n s h new = record {
-  len = omega (arith, length_push spans s, h.len);
-  each = λ k t at. elim (slice_get-push spans s t k at) [
-    | inl before ↦ h.each k t before
-    | inr here ↦
-        let e : n ≡ k = sym (here.0 ∙ h.len) in
-        subst (λ (z : Span). IsSpan d steps b others k z) here.1
-        (subst (λ i. IsSpan d steps b others i s) e new)
-  ];
-}
 
 -- ---- nodes that are needed
 

@@ -5,3 +5,4 @@ pub mod Moved
 pub mod Edges
 pub mod Ready
 pub mod Ending
+pub mod Touching

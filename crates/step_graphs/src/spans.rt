@@ -7,8 +7,8 @@ ghost use Rattle.station_graph.specs.declared.limits.TheConstants.{NODES};
 ghost use Rattle.judge_pool.specs.Pooling.{IsPool, GrewTo};
 ghost use Rattle.judge_intake.specs.Inputs.{AreKeeps};
 ghost use Rattle.step_graphs.specs.Steps.{StepFits, StepTouches, AllFit};
-ghost use Rattle.step_graphs.specs.Needing.{TouchedAt, TouchedBefore, TouchedFrom, IsNeeded, IsSpan, AreSpans, Spans};
-ghost use Rattle.step_graphs.specs.Needing.{SpannedAt};
+ghost use Rattle.step_graphs.specs.Needing.{TouchedAt, IsNeeded, AreSpans, Spans, SpannedAt};
+ghost use Rattle.step_graphs.specs.Touching.{IsSpanUpto, AreSpansUpto, IsTouched, AreTouched};
 
 use crate::step::Step;
 use ilk_base::{Memory, NodeId};
@@ -78,50 +78,112 @@ fn touched_at(station: &Station, steps: &[Step], place: u16, node: u16) -> bool
     step_touches(station, step, node)
 }
 
-// The first of the other steps that touches the node, and how many there are where none does.
-fn first_touch(station: &Station, steps: &[Step], moved: u16, others: u16, node: u16) -> u16
-    requires fit { AllFit station.now steps.now }
-    requires count { suc others ≡ length steps.now }
-    requires few { others + 1 < 2 ^ 16 }
-    ensures { (j : ℕ) → j ≤ others → TouchedBefore station.now steps.now moved j node ↔ (result < j) }
-{
-    for i in 0..others {
-        if touched_at(station, steps, other_number(0, moved, i), node) {
-            return i;
-        }
-    }
-    others
-}
-
-// One more than the last of the other steps that touches the node, and 0 where none does.
-fn after_touch(station: &Station, steps: &[Step], moved: u16, others: u16, node: u16) -> u16
+// The span of a node that none of the other steps so far touches.
+fn bare_span(station: &Station, steps: &[Step], moved: u16, others: u16, node: u16) -> Span
     requires fit { AllFit station.now steps.now }
     requires moved { moved < length steps.now }
-    requires count { suc others ≡ length steps.now }
-    requires few { others + 1 < 2 ^ 16 }
-    ensures { (j : ℕ) → TouchedFrom station.now steps.now moved j node ↔ (j < result) }
+    ensures { IsSpanUpto station.now steps.now moved others 0 node result }
 {
-    let mut after = 0;
-    for i in 0..others {
-        if touched_at(station, steps, other_number(0, moved, i), node) {
-            after = i + 1;
-        }
-    }
-    after
-}
-
-// The span of the node.
-fn span_of(station: &Station, steps: &[Step], moved: u16, others: u16, node: u16) -> Span
-    requires fit { AllFit station.now steps.now }
-    requires count { suc others ≡ length steps.now }
-    requires few { others + 1 < 2 ^ 16 }
-    requires moved { moved < length steps.now }
-    ensures { IsSpan station.now steps.now moved others node result }
-{
-    let first = first_touch(station, steps, moved, others, node);
-    let after = after_touch(station, steps, moved, others, node);
     let own = touched_at(station, steps, moved, node);
-    Span { first, after, own }
+    Span {
+        first: others,
+        after: 0,
+        own,
+    }
+}
+
+// The spans of all nodes where none of the other steps is taken in yet.
+fn bare_spans(
+    alloc: Global,
+    station: &Station,
+    steps: &[Step],
+    moved: u16,
+    others: u16,
+) -> Result<Vec<Span>, Memory>
+    requires fit { AllFit station.now steps.now }
+    requires moved { moved < length steps.now }
+    ensures { IfOk result (λ v. AreSpansUpto station.now steps.now moved others 0 v.items (node_count station.now)) }
+{
+    let mut list = Vec::new(alloc);
+    for node in 0..station.node_count() {
+        let reach = bare_span(station, steps, moved, others, node);
+        list.push(reach)?;
+    }
+    Ok(list)
+}
+
+// The span where the i-th other step is the last that touches the node.
+fn touched(span: Span, i: u16) -> Span
+    requires { i + 1 < 2 ^ 16 }
+    ensures { IsTouched i span result }
+{
+    let first = if i < span.first { i } else { span.first };
+    Span {
+        first,
+        after: i + 1,
+        own: span.own,
+    }
+}
+
+// Takes in that the i-th other step touches the node.
+fn touch(spans: &mut Vec<Span>, node: u16, i: u16)
+    requires { i + 1 < 2 ^ 16 }
+    ensures { AreTouched (λ n. node ≡ n) i spans.old.items spans.new.items }
+{
+    let place = usize::from(node);
+    if place >= spans.len() {
+        return;
+    }
+    spans[place] = touched(spans[place], i);
+}
+
+// Takes in that the i-th other step is that of the switch.
+fn touch_switch(spans: &mut Vec<Span>, switch: Switch, i: u16)
+    requires { i + 1 < 2 ^ 16 }
+    ensures { AreTouched (AtSwitch switch) i spans.old.items spans.new.items }
+{
+    touch(spans, switch.first.0, i);
+    match switch.second {
+        Some(second) => touch(spans, second.0, i),
+        None => {}
+    }
+}
+
+// Takes in that it is that of the link.
+fn touch_link(spans: &mut Vec<Span>, link: Link, i: u16)
+    requires { i + 1 < 2 ^ 16 }
+    ensures { AreTouched (AtLink link) i spans.old.items spans.new.items }
+{
+    touch(spans, link.first.0, i);
+    touch(spans, link.second.0, i);
+}
+
+// Takes in the i-th other step.
+fn touch_step(spans: &mut Vec<Span>, station: &Station, step: Step, i: u16)
+    requires fits { StepFits station.now step }
+    requires small { i + 1 < 2 ^ 16 }
+    ensures { AreTouched (StepTouches station.now step) i spans.old.items spans.new.items }
+{
+    match step {
+        Step::OfSwitch(id) => touch_switch(spans, station.switch(id), i),
+        Step::OfLink(k) => touch_link(spans, station.link(k), i),
+        Step::OfTap(k) => touch(spans, station.tap(k).node.0, i),
+        Step::OfNothing => {}
+    }
+}
+
+// Takes in the other steps, one after another.
+fn touch_steps(spans: &mut Vec<Span>, station: &Station, steps: &[Step], moved: u16, others: u16)
+    requires fit { AllFit station.now steps.now }
+    requires count { suc others ≡ length steps.now }
+    requires few { others + 1 < 2 ^ 16 }
+    requires bare { AreSpansUpto station.now steps.now moved others 0 spans.old.items (node_count station.now) }
+    ensures { AreSpansUpto station.now steps.now moved others others spans.new.items (node_count station.now) }
+{
+    for i in 0..others {
+        let step = steps[usize::from(other_number(0, moved, i))];
+        touch_step(spans, station, step, i);
+    }
 }
 
 // The spans of all nodes.
@@ -138,11 +200,8 @@ fn spans(
     requires moved { moved < length steps.now }
     ensures { IfOk result (λ v. AreSpans station.now steps.now moved others v.items (node_count station.now)) }
 {
-    let mut list = Vec::new(alloc);
-    for node in 0..station.node_count() {
-        let reach = span_of(station, steps, moved, others, node);
-        list.push(reach)?;
-    }
+    let mut list = bare_spans(alloc, station, steps, moved, others)?;
+    touch_steps(&mut list, station, steps, moved, others);
     Ok(list)
 }
 

@@ -1,26 +1,8 @@
-use Rattle.std.proofs.Common.{◌≡◌, ◌+◌, List, sym, subst, arith}
 use Rattle.station_graph.specs.Diagram.{node_count}
-use Rattle.step_graphs.specs.declared.spans.Span.{Span}
-use Rattle.step_graphs.specs.Needing.{AreSpans}
-use Rattle.step_graphs.proofs.StepLemmas.{spans_none, spans_more}
+use Rattle.step_graphs.proofs.TouchLemmas.{spans_done}
 use Rattle.step_graphs.proofs.spans.spans.Goals as goal
-
-pub loop-node-init : goal.loop-node-init
-loop-node-init c =
-    subst (λ (l : List Span). AreSpans c.args.station.now c.args.steps.now c.args.moved c.args.others l 0)
-    (sym c.new-list.ensures.items)
-    (spans_none c.args.station.now c.args.steps.now c.args.moved c.args.others)
-
-pub loop-node-preserved : goal.loop-node-preserved
-loop-node-preserved c =
-    subst (λ (l : List Span). AreSpans c.args.station.now c.args.steps.now c.args.moved c.args.others l
-    (c.loop-node.node + 1)) (sym c.in_ok-push.ensures.items)
-    (spans_more c.args.station.now c.args.steps.now c.args.moved c.args.others c.loop-node.list.items c.loop-node.node
-    c.span_of-reach.result c.loop-node.invariant c.span_of-reach.ensures)
 
 pub returns : goal.returns
 returns c =
-    let done : c.loop-node.node ≡ node_count c.args.station.now =
-    omega (arith, c.node_count-node-end.ensures.count, c.loop-node-test.false, c.loop-node.auto.node-end) in
-    subst (λ n. AreSpans c.args.station.now c.args.steps.now c.args.moved c.args.others c.loop-node.list.items n) done
-    c.loop-node.invariant
+    spans_done c.args.station.now c.args.steps.now c.args.moved c.args.others (node_count c.args.station.now)
+    c.touch_steps.new.spans.items c.requires.count c.requires.moved c.touch_steps.ensures
