@@ -10,7 +10,7 @@ use Rattle.std.proofs.Math.Nat.{suc-mul}
 use Rattle.decision_graphs.specs.Label.{Layer}
 use Rattle.graph_products.specs.declared.row.Row.{Row}
 use Rattle.graph_products.specs.Products.{LeadsJointly, row_at}
-use Rattle.graph_products.specs.Layering.{IsPlaced, AreAdded, AreEdges}
+use Rattle.graph_products.specs.Layering.{IsPlaced, AreAdded, AreLed, AreEdges}
 use Rattle.graph_products.proofs.ListLemmas.{get_front, get_last, slice_get-push}
 
 -- ---- edges that are added one by one
@@ -65,6 +65,32 @@ module _ (old edges ids next edges' next' : List ℕ) (id place : ℕ) (added : 
     only = only_one;
     none_twice = λ twice. pl.none_twice (added.none_twice twice);
     grown = omega (arith, length_push ids id, added.grown, pl.grown);
+  }
+
+-- ---- edges of a pair
+
+module _ (l m : Layer) (x : ℕ) (rows : List Row) where
+  pub led_none : (old edges : List ℕ) → AreLed l m x rows 0 old edges old edges
+  led_none old edges = record {
+    ids = [];
+    len = refl;
+    each = λ c y at. absurd (let h : slice_get {X = ℕ} [] c ≡ Some y = at in cc);
+    added = added_none old edges [] refl;
+  }
+
+  pub led_one : (n : ℕ) (old edges next edges' next' : List ℕ) (id place : ℕ) → AreLed l m x rows n old edges next edges' →
+      IsPlaced next next' id place → LeadsJointly l m x (row_at rows n) id →
+      AreLed l m x rows (n + 1) old edges next' (edges' ++ place ∷ [])
+  led_one n old edges next edges' next' id place led pl leads = record {
+    ids = led.ids ++ id ∷ [];
+    len = omega (arith, length_push led.ids id, led.len);
+    each = λ c y at. elim (slice_get-push led.ids id y c at) [
+      | inl before ↦ led.each c y before
+      | inr here ↦
+          subst (λ z. LeadsJointly l m x (row_at rows c) z) here.1
+          (subst (λ k. LeadsJointly l m x (row_at rows k) id) (sym (here.0 ∙ led.len)) leads)
+    ];
+    added = added_one old edges led.ids next edges' next' id place led.added pl;
   }
 
 -- ---- edges of a layer

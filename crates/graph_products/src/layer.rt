@@ -2,7 +2,7 @@
 ghost use Rattle.std.specs.Prelude.{◌≡◌, ℕ, suc, ◌+◌, ◌*◌, ◌<◌, ◌≤◌, length, slice_get, slice_index, IfOk, OnOk, Some};
 ghost use Rattle.decision_graphs.specs.Label.{layer_at, step};
 ghost use Rattle.graph_products.specs.Products.{first_of, second_of, IsPair, RowsFit, row_at, LeadsJointly};
-ghost use Rattle.graph_products.specs.Layering.{IsPlaced, AreAdded, AreEdges, AreStates};
+ghost use Rattle.graph_products.specs.Layering.{IsPlaced, AreLed, AreEdges, AreStates, AreOffsets};
 
 use crate::row::Row;
 use decision_graphs::Graph;
@@ -17,21 +17,38 @@ pub(crate) struct NextLayer {
     pub(crate) edges: Vec<u32>,
 }
 
+// The first node of a layer, and that of the next one; 0 behind the last layer, whose edges lead to labels.
+#[derive(Clone, Copy)]
+pub(crate) struct Offsets {
+    pub(crate) here: u32,
+    pub(crate) next: u32,
+}
+
+// Those of a layer.
+fn offsets_of(graph: &Graph, layer: u16) -> Offsets
+    requires { layer < length graph.now.layers }
+    ensures { AreOffsets graph.now layer result }
+{
+    let layers = graph.layers();
+    let (here, _) = graph.nodes(layer);
+    if layer + 1 == layers {
+        return Offsets { here, next: 0 };
+    }
+    let (next, _) = graph.nodes(layer + 1);
+    Offsets { here, next }
+}
+
 // Where a choice at node k of a layer leads: a place of what comes next.
-fn moved(graph: &Graph, layer: u16, node: u32, choice: u32) -> u32
+fn moved(graph: &Graph, layer: u16, offsets: Offsets, node: u32, choice: u32) -> u32
     requires layer { layer < length graph.now.layers }
+    requires offsets { AreOffsets graph.now layer offsets }
     requires node { node < length (layer_at graph.now.layers layer).rows }
     requires choice { choice < (layer_at graph.now.layers layer).choices }
     ensures { result ≡ step (layer_at graph.now.layers layer) node choice }
 {
-    let layers = graph.layers();
-    let (first, _) = graph.nodes(layer);
-    let to = graph.edge(first + node, choice);
-    if layer + 1 == layers {
-        return to;
-    }
-    let (next, _) = graph.nodes(layer + 1);
-    to - next
+    let _ = layer;
+    let _layers = graph.layers();
+    graph.edge(offsets.here + node, choice) - offsets.next
 }
 
 // The number of a pair.
@@ -55,33 +72,29 @@ fn second_part(state: usize) -> u32
     (state % 4294967296) as u32
 }
 
-// The pairs to which the rows lead from a pair of nodes.
-fn targets(
-    alloc: Global,
+// The pair to which a row leads from a pair of nodes.
+fn target(
     first: &Graph,
     second: &Graph,
     layer: u16,
-    rows: &[Row],
+    ours: Offsets,
+    theirs: Offsets,
+    row: Row,
     state: usize,
-) -> Result<Vec<usize>, Memory>
+) -> usize
     requires first_layer { layer < length first.now.layers }
     requires second_layer { layer < length second.now.layers }
-    requires rows { RowsFit (layer_at first.now.layers layer) (layer_at second.now.layers layer) rows.now }
+    requires ours { AreOffsets first.now layer ours }
+    requires theirs { AreOffsets second.now layer theirs }
     requires first_node { first_of state < length (layer_at first.now.layers layer).rows }
     requires second_node { second_of state < length (layer_at second.now.layers layer).rows }
-    ensures len { IfOk result (λ v. length v.items ≡ length rows.now) }
-    ensures each { IfOk result (λ v. (c y : ℕ) → slice_get v.items c ≡ Some y → LeadsJointly
-        (layer_at first.now.layers layer) (layer_at second.now.layers layer) state (row_at rows.now c) y) }
+    requires first_choice { row.first < (layer_at first.now.layers layer).choices }
+    requires second_choice { row.second < (layer_at second.now.layers layer).choices }
+    ensures { LeadsJointly (layer_at first.now.layers layer) (layer_at second.now.layers layer) state row result }
 {
-    let mut list = Vec::new(alloc);
-    'rows: for c in 0..rows.len() {
-        let row = rows[c];
-        let to_first = moved(first, layer, first_part(state), row.first);
-        let to_second = moved(second, layer, second_part(state), row.second);
-        let to = pair(to_first, to_second);
-        list.push(to)?;
-    }
-    Ok(list)
+    let to_first = moved(first, layer, ours, first_part(state), row.first);
+    let to_second = moved(second, layer, theirs, second_part(state), row.second);
+    pair(to_first, to_second)
 }
 
 // The numbers in order.
@@ -100,13 +113,34 @@ fn place(ids: &mut IndexSet<usize>, id: usize) -> Result<usize, Memory>
     Ok(place)
 }
 
-// Adds an edge to each of these pairs, which are put at the end of the next layer where it has not got them.
-fn add_edges(next: &mut IndexSet<usize>, edges: &mut Vec<u32>, ids: &[usize]) -> Result<(), Memory>
-    requires few { length next.old.keys + length ids.now ≤ 4294967295 }
-    ensures { OnOk result (AreAdded next.old.keys edges.old.items ids.now next.new.keys edges.new.items) }
+// Adds the edges of a pair of nodes, one for each row; the pairs to which the rows lead are put at the end of the next
+// layer where it has not got them.
+fn add_edges(
+    next: &mut IndexSet<usize>,
+    edges: &mut Vec<u32>,
+    first: &Graph,
+    second: &Graph,
+    layer: u16,
+    ours: Offsets,
+    theirs: Offsets,
+    rows: &[Row],
+    state: usize,
+) -> Result<(), Memory>
+    requires first_layer { layer < length first.now.layers }
+    requires second_layer { layer < length second.now.layers }
+    requires ours { AreOffsets first.now layer ours }
+    requires theirs { AreOffsets second.now layer theirs }
+    requires rows { RowsFit (layer_at first.now.layers layer) (layer_at second.now.layers layer) rows.now }
+    requires first_node { first_of state < length (layer_at first.now.layers layer).rows }
+    requires second_node { second_of state < length (layer_at second.now.layers layer).rows }
+    requires few { length next.old.keys + length rows.now ≤ 4294967295 }
+    ensures { OnOk result (AreLed (layer_at first.now.layers layer) (layer_at second.now.layers layer) state rows.now
+        (length rows.now) next.old.keys edges.old.items next.new.keys edges.new.items) }
 {
-    for c in 0..ids.len() {
-        let to = place(next, ids[c])?;
+    for c in 0..rows.len() {
+        let row = rows[c];
+        let id = target(first, second, layer, ours, theirs, row, state);
+        let to = place(next, id)?;
         edges.push(to as u32)?;
     }
     Ok(())
@@ -131,11 +165,15 @@ pub(crate) fn next_layer(
     ensures edges { IfOk result (λ s. AreEdges (layer_at first.now.layers layer) (layer_at second.now.layers layer)
         states.now rows.now s.next.items s.edges.items (length states.now * length rows.now)) }
 {
-    let mut next = IndexSet::new(alloc);
-    let mut edges = Vec::new(alloc);
+    let ours = offsets_of(first, layer);
+    let theirs = offsets_of(second, layer);
+    let mut next = IndexSet::with_capacity(alloc, states.len())?;
+    let mut edges = Vec::with_capacity(alloc, states.len() * rows.len())?;
     'states: for k in 0..states.len() {
-        let ids = targets(alloc, first, second, layer, rows, states[k])?;
-        add_edges(&mut next, &mut edges, &ids)?;
+        let state = states[k];
+        add_edges(
+            &mut next, &mut edges, first, second, layer, ours, theirs, rows, state,
+        )?;
     }
     let next = listed(alloc, &next)?;
     Ok(NextLayer { next, edges })

@@ -1,33 +1,41 @@
-use Rattle.std.proofs.Common.{◌≡◌, ◌+◌, [], ◌∷◌, ◌++◌, take, get_or, refl, sym, subst, arith}
-use Rattle.std.proofs.lemmas.List.{take_more, take_all, length-take-le}
+use Rattle.std.proofs.Common.{◌≡◌, ℕ, ◌+◌, List, length, sym, subst, arith}
 use Rattle.std.proofs.lemmas.Option.{slice_get_within}
-use Rattle.graph_products.specs.Layering.{AreAdded}
-use Rattle.graph_products.proofs.EdgeLemmas.{added_none, added_one}
+use Rattle.decision_graphs.specs.Label.{layer_at}
+use Rattle.graph_products.specs.Layering.{AreLed}
+use Rattle.graph_products.proofs.EdgeLemmas.{led_none, led_one}
 use Rattle.graph_products.proofs.layer.add_edges.Goals as goal
 
 pub loop-c-init : goal.loop-c-init
-loop-c-init c = added_none c.args.next.now.keys c.args.edges.now.items (take 0 c.args.ids.now) refl
+loop-c-init c =
+    led_none (layer_at c.args.first.now.layers c.args.layer) (layer_at c.args.second.now.layers c.args.layer)
+    c.args.state c.args.rows.now c.args.next.now.keys c.args.edges.now.items
 
 pub overflow_cast-to : goal.overflow_cast-to
 overflow_cast-to c =
     let within = slice_get_within c.place.new.ids.keys c.in_ok-to.to _ c.in_ok-to.ensures.at in
-    let few = length-take-le c.loop-c.c c.args.ids.now (omega arith) in
-    omega (arith, within, c.in_ok-to.ensures.grown, c.loop-c.invariant.grown, few, c.requires)
+    omega (
+      arith,
+      within,
+      c.in_ok-to.ensures.grown,
+      c.loop-c.invariant.added.grown,
+      c.loop-c.invariant.len,
+      c.loop-c-test.true,
+      c.requires.few,
+    )
 
 pub loop-c-preserved : goal.loop-c-preserved
 loop-c-preserved c =
-    let ids = c.args.ids.now in
-    let k = c.loop-c.c in
-    let id = get_or ids k 0 in
-    let more : take (k + 1) ids ≡ take k ids ++ id ∷ [] = take_more ids k 0 c.loop-c-test.true in
-    subst (λ l. AreAdded c.args.next.now.keys c.args.edges.now.items l c.place.new.ids.keys c.push.new.self.items)
-    (sym more)
-    (subst (λ l. AreAdded c.args.next.now.keys c.args.edges.now.items (take k ids ++ id ∷ []) c.place.new.ids.keys l)
-    (sym c.in_ok-push.ensures.items)
-    (added_one c.args.next.now.keys c.args.edges.now.items (take k ids) c.loop-c.next.keys c.loop-c.edges.items
-    c.place.new.ids.keys id c.in_ok-to.to c.loop-c.invariant c.in_ok-to.ensures))
+    let l = layer_at c.args.first.now.layers c.args.layer in
+    let m = layer_at c.args.second.now.layers c.args.layer in
+    subst (λ (es : List ℕ). AreLed l m c.args.state c.args.rows.now (c.loop-c.c + 1) c.args.next.now.keys
+    c.args.edges.now.items c.place.new.ids.keys es) (sym c.in_ok-push.ensures.items)
+    (led_one l m c.args.state c.args.rows.now c.loop-c.c c.args.next.now.keys c.args.edges.now.items c.loop-c.next.keys
+    c.loop-c.edges.items c.place.new.ids.keys c.target-id.result c.in_ok-to.to c.loop-c.invariant c.in_ok-to.ensures
+    c.target-id.ensures)
 
 pub returns : goal.returns
 returns c =
-    subst (λ l. AreAdded c.args.next.now.keys c.args.edges.now.items l c.loop-c.next.keys c.loop-c.edges.items)
-    (take_all c.loop-c.c c.args.ids.now (omega (arith, c.loop-c-test.false))) c.loop-c.invariant
+    let done : c.loop-c.c ≡ length c.args.rows.now = omega (arith, c.loop-c-test.false, c.loop-c.auto.c-end) in
+    subst (λ n. AreLed (layer_at c.args.first.now.layers c.args.layer) (layer_at c.args.second.now.layers c.args.layer)
+    c.args.state c.args.rows.now n c.args.next.now.keys c.args.edges.now.items c.loop-c.next.keys c.loop-c.edges.items)
+    done c.loop-c.invariant

@@ -3,7 +3,7 @@ use Rattle.std.proofs.Common.{arith, ap, ◌∙◌, subst, sym}
 use Rattle.std.proofs.lemmas.Option.{slice_get-get_or}
 use Rattle.std.proofs.Math.Nat.{suc-mul, zero-mul, mul-le-mul_right}
 use Rattle.decision_graphs.specs.Label.{Layer, layer_at}
-use Rattle.graph_products.specs.Layering.{AreEdges, AreAdded}
+use Rattle.graph_products.specs.Layering.{AreEdges}
 use Rattle.graph_products.proofs.ListLemmas.{nil_of_len}
 use Rattle.graph_products.proofs.EdgeLemmas.{edges_none, edges_more}
 use Rattle.graph_products.proofs.layer.next_layer.Goals as goal
@@ -13,41 +13,31 @@ states-init c =
     let l : Layer = layer_at c.args.first.now.layers c.args.layer in
     let m : Layer = layer_at c.args.second.now.layers c.args.layer in
     record {
-      few = omega (arith, c.new-next.ensures.len, zero-mul (length c.args.rows.now));
+      few = omega (arith, c.in_ok-next.ensures.len, zero-mul (length c.args.rows.now));
       edges =
-          subst (λ n. AreEdges l m c.args.states.now c.args.rows.now c.new-next.result.keys c.new-edges.result.items n)
+          subst (λ n. AreEdges l m c.args.states.now c.args.rows.now c.in_ok-next.next.keys c.in_ok-edges.edges.items n)
           (sym (zero-mul (length c.args.rows.now)))
-          (edges_none l m c.args.states.now c.args.rows.now c.new-next.result.keys c.new-edges.result.items
-          (nil_of_len c.new-next.result.keys c.new-next.ensures.len) c.new-edges.ensures.items);
+          (edges_none l m c.args.states.now c.args.rows.now c.in_ok-next.next.keys c.in_ok-edges.edges.items
+          (nil_of_len c.in_ok-next.next.keys c.in_ok-next.ensures.len) c.in_ok-edges.ensures.items);
     }
 
-pub targets-requires-clause-first_node : goal.targets-requires-clause-first_node
-targets-requires-clause-first_node c =
+pub add_edges-requires-clause-first_node : goal.add_edges-requires-clause-first_node
+add_edges-requires-clause-first_node c =
     (c.requires.states c.states.k (get_or c.args.states.now c.states.k 0)
     (slice_get-get_or c.args.states.now c.states.k 0 c.states-test.true)).0
 
-pub targets-requires-clause-second_node : goal.targets-requires-clause-second_node
-targets-requires-clause-second_node c =
+pub add_edges-requires-clause-second_node : goal.add_edges-requires-clause-second_node
+add_edges-requires-clause-second_node c =
     (c.requires.states c.states.k (get_or c.args.states.now c.states.k 0)
     (slice_get-get_or c.args.states.now c.states.k 0 c.states-test.true)).1
 
-pub add_edges-requires : goal.add_edges-requires
-add_edges-requires c =
+pub add_edges-requires-clause-few : goal.add_edges-requires-clause-few
+add_edges-requires-clause-few c =
     let w = length c.args.rows.now in
     let k = c.states.k in
     let most : suc k * w ≤ length c.args.states.now * w =
     mul-le-mul_right w (let h : suc k ≤ length c.args.states.now = omega (arith, c.states-test.true) in h) in
-    record {
-      few = omega (
-        arith,
-        ap length c.deref.ensures.value,
-        c.in_ok-ids.ensures.len,
-        c.states.invariant.few,
-        most,
-        suc-mul k w,
-        c.requires.few,
-      );
-    }
+    omega (arith, c.states.invariant.few, most, suc-mul k w, c.requires.few)
 
 pub states-preserved : goal.states-preserved
 states-preserved c =
@@ -56,21 +46,16 @@ states-preserved c =
     let rows = c.args.rows.now in
     let w = length rows in
     let k = c.states.k in
-    let ids = c.in_ok-ids.ids.items in
     let i = get_or c.args.states.now k 0 in
     let at_i : slice_get c.args.states.now k ≡ Some i = slice_get-get_or c.args.states.now k 0 c.states-test.true in
-    let added : AreAdded c.states.next.keys c.states.edges.items ids c.add_edges.new.next.keys
-    c.add_edges.new.edges.items =
-    subst (λ xs. AreAdded c.states.next.keys c.states.edges.items xs c.add_edges.new.next.keys
-    c.add_edges.new.edges.items) c.deref.ensures.value c.in_ok-add_edges.ensures in
+    let led = c.in_ok-add_edges.ensures in
     let next : (k + 1) * w ≡ k * w + w =
     ap (λ n. n * w) (let e : k + 1 ≡ suc k = omega arith in e) ∙ suc-mul k w in
     record {
-      few = omega (arith, added.grown, c.in_ok-ids.ensures.len, c.states.invariant.few, next);
+      few = omega (arith, led.added.grown, led.len, c.states.invariant.few, next);
       edges =
           edges_more l m c.args.states.now rows c.states.next.keys c.add_edges.new.next.keys c.states.edges.items
-          c.add_edges.new.edges.items ids k i c.states.invariant.edges added at_i c.in_ok-ids.ensures.len
-          c.in_ok-ids.ensures.each;
+          c.add_edges.new.edges.items led.ids k i c.states.invariant.edges led.added at_i led.len led.each;
     }
 
 pub returns-clause-few : goal.returns-clause-few
@@ -78,7 +63,7 @@ returns-clause-few c =
     let done : c.states.k ≡ length c.args.states.now = omega (arith, c.states.auto.k-end, c.states-test.false) in
     omega (
       arith,
-      ap length c.in_ok-next.ensures,
+      ap length c.in_ok-next-2.ensures,
       c.states.invariant.few,
       ap (λ n. n * length c.args.rows.now) done,
     )
@@ -89,6 +74,6 @@ returns-clause-edges c =
     let m : Layer = layer_at c.args.second.now.layers c.args.layer in
     let done : c.states.k ≡ length c.args.states.now = omega (arith, c.states.auto.k-end, c.states-test.false) in
     subst (λ xs. AreEdges l m c.args.states.now c.args.rows.now xs c.states.edges.items
-    (length c.args.states.now * length c.args.rows.now)) (sym c.in_ok-next.ensures)
+    (length c.args.states.now * length c.args.rows.now)) (sym c.in_ok-next-2.ensures)
     (subst (λ n. AreEdges l m c.args.states.now c.args.rows.now c.states.next.keys c.states.edges.items
     (n * length c.args.rows.now)) done c.states.invariant.edges)
