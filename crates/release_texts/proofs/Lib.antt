@@ -1,1 +1,3 @@
 pub mod AllLines
+mod NamePlaces
+mod AddLemmas

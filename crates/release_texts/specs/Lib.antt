@@ -1,2 +1,4 @@
 pub mod CheckText
 pub mod ExplainText
+pub mod ItemNames
+pub mod DenialsText
