@@ -47,11 +47,14 @@ ROWS = [
             "each remark means"),
     Command("`check STATION POSITIONS`", "both releases of each switch",
             "for each switch both releases, and a reading for each denial", {3, 5, 6}, (1, 2)),
-    Command("`explain STATION POSITIONS open SWITCH`, or `close`", "why one operation is released or denied",
-            "that one operation is released, or by which ways it is not", {3, 5, 6}, (1, 2),
+    Command("`explain STATION POSITIONS open SWITCH`, or `close`; or `explain STATION POSITIONS`",
+            "why one operation is released or denied",
+            "that one operation is released, or by which ways it is not; without an operation, of each that is denied by "
+            "which ways it is", {3, 5, 6}, (1, 2),
             "that one operation is released, or why not: the way by which a node is energised (`live`), the way "
             "by which it is earthed (`earthed`), or the load on both sides (`tap`) and all that is bonded to the "
-            "first side (`bonded`), among which the second is not"),
+            "first side (`bonded`), among which the second is not. Without an operation, this of each that is denied, in "
+            "document order, opening before closing; released ones are left out"),
     Command("`why STATION POSITIONS open SWITCH`, or `close`", "the same for people, by the devices",
             "the same for people: what joins each two nodes of a way, and which unknown positions do not matter alone",
             {3, 5, 6}, (1, 2),

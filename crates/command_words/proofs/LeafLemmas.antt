@@ -12,7 +12,8 @@ use Rattle.command_words.proofs.WordCounts.{leaf_fault, leaf_given, IsNoFlag, Ar
 use Rattle.command_words.proofs.WordCounts.{one_given, two_0, two_1, two_2, two_more, two_given, three_0, three_1}
 use Rattle.command_words.proofs.WordCounts.{three_2, three_3, three_more, three_given, four_0, four_1, four_2, four_3}
 use Rattle.command_words.proofs.WordCounts.{four_4, four_more, four_given, either_0, either_1, either_2}
-use Rattle.command_words.proofs.WordCounts.{either_more, either_given_1, either_given_2}
+use Rattle.command_words.proofs.WordCounts.{either_more, either_given_1, either_given_2, span_0, span_1, span_2}
+use Rattle.command_words.proofs.WordCounts.{span_3, span_4, span_more, span_given_2, span_given_3, span_given_4}
 
 -- without a fault exactly where the test holds
 abbrev pub Exactly : Kinds → Bool → Type 0
@@ -78,6 +79,17 @@ exactly_either n (a ∷ b ∷ []) p = taken _ _ (either_2 n a b p.0 p.1.0) refl
 exactly_either n (a ∷ b ∷ c ∷ rest) p =
     refused _ _ _ _ (either_more n a b c rest p.0 p.1.0 p.1.1.0) (past (length (a ∷ b ∷ c ∷ rest)) 1 2 (omega arith))
 
+exactly_span : (n : Text) (rest : List Text) → AreNoFlags rest →
+    Exactly (leaf_fault (n, 2, 4) rest) (is_between 2 4 (length rest))
+exactly_span n [] p = refused _ _ _ _ (span_0 n) refl
+exactly_span n (a ∷ []) p = refused _ _ _ _ (span_1 n a p.0) refl
+exactly_span n (a ∷ b ∷ []) p = taken _ _ (span_2 n a b p.0 p.1.0) refl
+exactly_span n (a ∷ b ∷ c ∷ []) p = taken _ _ (span_3 n a b c p.0 p.1.0 p.1.1.0) refl
+exactly_span n (a ∷ b ∷ c ∷ d ∷ []) p = taken _ _ (span_4 n a b c d p.0 p.1.0 p.1.1.0 p.1.1.1.0) refl
+exactly_span n (a ∷ b ∷ c ∷ d ∷ e ∷ rest) p =
+    refused _ _ _ _ (span_more n a b c d e rest p.0 p.1.0 p.1.1.0 p.1.1.1.0 p.1.1.1.1.0)
+    (past (length (a ∷ b ∷ c ∷ d ∷ e ∷ rest)) 2 4 (omega arith))
+
 -- what holds at each count of words that a row may have
 by_same : (P : ℕ → ℕ → Type 0) → P 1 1 → P 2 2 → P 3 3 → P 4 4 → (n : ℕ) → 0 < n → n < 5 → P n n
 by_same P one two three four zero some few = absurd (omega arith)
@@ -87,10 +99,19 @@ by_same P one two three four (suc (suc (suc zero))) some few = three
 by_same P one two three four (suc (suc (suc (suc zero)))) some few = four
 by_same P one two three four (suc (suc (suc (suc (suc n))))) some few = absurd (omega arith)
 
-by_count : (P : ℕ → ℕ → Type 0) → P 1 1 → P 2 2 → P 3 3 → P 4 4 → P 1 2 → (least most : ℕ) →
+-- what holds at these counts, where the counts are these
+at_counts : (P : ℕ → ℕ → Type 0) (low high least most : ℕ) → (least == low && most == high) ≡ true → P low high →
+    P least most
+at_counts P low high least most e holds =
+    let are = both (least == low) (most == high) e in
+    subst (λ k. P k most) (sym (eqb-true least low are.0)) (subst (λ k. P low k) (sym (eqb-true most high are.1)) holds)
+
+by_count : (P : ℕ → ℕ → Type 0) → P 1 1 → P 2 2 → P 3 3 → P 4 4 → P 1 2 → P 2 4 → (least most : ℕ) →
     are_few least most ≡ true → P least most
-by_count P one two three four either least most e =
-    let few = both (nat_lt 0 least && nat_lt most 5) (least == most || (least == 1 && most == 2)) e in
+by_count P one two three four either span least most e =
+    let pair = least == 1 && most == 2 in
+    let last = least == 2 && most == 4 in
+    let few = both (nat_lt 0 least && nat_lt most 5) (least == most || pair || last) e in
     let some = both (nat_lt 0 least) (nat_lt most 5) few.0 in
     elim (cases_Bool (least == most)) [
       | inl same ↦
@@ -98,10 +119,13 @@ by_count P one two three four either least most e =
           subst (λ k. P k most) (sym is)
           (by_same P one two three four most (omega (arith, ltb-true 0 least some.0, is)) (ltb-true most 5 some.1))
       | inr other ↦
-          let last : (least == 1 && most == 2) ≡ true = rw other at few.1 in
-          let are = both (least == 1) (most == 2) last in
-          subst (λ k. P k most) (sym (eqb-true least 1 are.0))
-          (subst (λ k. P 1 k) (sym (eqb-true most 2 are.1)) either)
+          let rest : (pair || last) ≡ true = rw other at few.1 in
+          elim (cases_Bool pair) [
+            | inl is ↦ at_counts P 1 2 least most is either
+            | inr not ↦
+                let is : last ≡ true = rw not at rest in
+                at_counts P 2 4 least most is span
+          ]
     ]
 
 -- a command has no fault exactly where there are as many words as its row says
@@ -109,7 +133,7 @@ pub leaf_exactly : (n : Text) (least most : ℕ) → are_few least most ≡ true
     Exactly (leaf_fault (n, least, most) rest) (is_between least most (length rest))
 leaf_exactly n least most few rest p =
     by_count (λ l m. Exactly (leaf_fault (n, l, m) rest) (is_between l m (length rest))) (exactly_one n rest p)
-    (exactly_two n rest p) (exactly_three n rest p) (exactly_four n rest p) (exactly_either n rest p) least most few
+    (exactly_two n rest p) (exactly_three n rest p) (exactly_four n rest p) (exactly_either n rest p) (exactly_span n rest p) least most few
 
 given_one : (n : Text) (rest : List Text) → AreNoFlags rest → is_between 1 1 (length rest) ≡ true →
     leaf_given (n, 1, 1) rest ≡ rest
@@ -148,12 +172,22 @@ given_either n (a ∷ []) p count = either_given_1 n a p.0
 given_either n (a ∷ b ∷ []) p count = either_given_2 n a b p.0 p.1.0
 given_either n (a ∷ b ∷ c ∷ rest) p count = many (length (a ∷ b ∷ c ∷ rest)) 1 2 (omega arith) count
 
+given_span : (n : Text) (rest : List Text) → AreNoFlags rest → is_between 2 4 (length rest) ≡ true →
+    leaf_given (n, 2, 4) rest ≡ rest
+given_span n [] p count = absurd (cc)
+given_span n (a ∷ []) p count = absurd (cc)
+given_span n (a ∷ b ∷ []) p count = span_given_2 n a b p.0 p.1.0
+given_span n (a ∷ b ∷ c ∷ []) p count = span_given_3 n a b c p.0 p.1.0 p.1.1.0
+given_span n (a ∷ b ∷ c ∷ d ∷ []) p count = span_given_4 n a b c d p.0 p.1.0 p.1.1.0 p.1.1.1.0
+given_span n (a ∷ b ∷ c ∷ d ∷ e ∷ rest) p count = many (length (a ∷ b ∷ c ∷ d ∷ e ∷ rest)) 2 4 (omega arith) count
+
 -- and then reads these words
 pub leaf_reads : (n : Text) (least most : ℕ) → are_few least most ≡ true → (rest : List Text) → AreNoFlags rest →
     is_between least most (length rest) ≡ true → leaf_given (n, least, most) rest ≡ rest
 leaf_reads n least most few rest p count =
     by_count (λ l m. is_between l m (length rest) ≡ true → leaf_given (n, l, m) rest ≡ rest) (given_one n rest p)
-    (given_two n rest p) (given_three n rest p) (given_four n rest p) (given_either n rest p) least most few count
+    (given_two n rest p) (given_three n rest p) (given_four n rest p) (given_either n rest p) (given_span n rest p) least
+    most few count
 
 -- a word that is not empty and does not begin with `-` is no flag
 no_flag : (w : Text) → is_plain w ≡ true → IsNoFlag w

@@ -146,28 +146,29 @@ turn : (s : Shape) (h : Held) (p : ℕ) (word : Text) → IsNoFlag word
     ≡ option_map_or (λ a. positional_fault s.rules s.args_override_self a h) (arg_by_index s.rules p) (stray_fault s)
 turn s h p word (a, b) = simp (a, b)
 
+-- where the walk over these rules stands after one word, two, three and four
+abbrev after_1 : List Rule → Text → Walk
+after_1 rules a = onward rules 1 a (walk_from nothing_held)
+
+abbrev after_2 : List Rule → Text → Text → Walk
+after_2 rules a b = onward rules 2 b (after_1 rules a)
+
+abbrev after_3 : List Rule → Text → Text → Text → Walk
+after_3 rules a b c = onward rules 3 c (after_2 rules a b)
+
+abbrev after_4 : List Rule → Text → Text → Text → Text → Walk
+after_4 rules a b c d = onward rules 4 d (after_3 rules a b c)
+
 abbrev four_rules : List Rule
 four_rules = (leaf ([], 4, 4)).rules
 
-abbrev after_1 : Text → Walk
-after_1 a = onward four_rules 1 a (walk_from nothing_held)
-
-abbrev after_2 : Text → Text → Walk
-after_2 a b = onward four_rules 2 b (after_1 a)
-
-abbrev after_3 : Text → Text → Text → Walk
-after_3 a b c = onward four_rules 3 c (after_2 a b)
-
-abbrev after_4 : Text → Text → Text → Text → Walk
-after_4 a b c d = onward four_rules 4 d (after_3 a b c)
-
 four_walk : (a b c d : Text) → IsNoFlag a → IsNoFlag b → IsNoFlag c → IsNoFlag d →
-    walk four_rules [] nothing_held (a ∷ b ∷ c ∷ d ∷ []) ≡ after_4 a b c d
+    walk four_rules [] nothing_held (a ∷ b ∷ c ∷ d ∷ []) ≡ after_4 four_rules a b c d
 four_walk a b c d ha hb hc hd =
     ap (λ x. fold (walked four_rules []) x (b ∷ c ∷ d ∷ [])) (step four_rules nothing_held 1 a ha)
-    ∙ ap (λ x. fold (walked four_rules []) x (c ∷ d ∷ [])) (step four_rules (after_1 a).held 2 b hb)
-    ∙ ap (λ x. fold (walked four_rules []) x (d ∷ [])) (step four_rules (after_2 a b).held 3 c hc)
-    ∙ step four_rules (after_3 a b c).held 4 d hd
+    ∙ ap (λ x. fold (walked four_rules []) x (c ∷ d ∷ [])) (step four_rules (after_1 four_rules a).held 2 b hb)
+    ∙ ap (λ x. fold (walked four_rules []) x (d ∷ [])) (step four_rules (after_2 four_rules a b).held 3 c hc)
+    ∙ step four_rules (after_3 four_rules a b c).held 4 d hd
 
 -- the faults of the words, one after another
 one_word : (s : Shape) (h : Held) (p : ℕ) (word : Text) (rest : List Text) → IsNoFlag word
@@ -183,9 +184,9 @@ four_fault : (n a b c d : Text) → IsNoFlag a → IsNoFlag b → IsNoFlag c →
 unfolding walk_fault
 four_fault n a b c d ha hb hc hd =
     one_word (leaf (n, 4, 4)) nothing_held 1 a (b ∷ c ∷ d ∷ []) ha
-    ∙ one_word (leaf (n, 4, 4)) (after_1 a).held 2 b (c ∷ d ∷ []) hb
-    ∙ one_word (leaf (n, 4, 4)) (after_2 a b).held 3 c (d ∷ []) hc
-    ∙ one_word (leaf (n, 4, 4)) (after_3 a b c).held 4 d [] hd
+    ∙ one_word (leaf (n, 4, 4)) (after_1 four_rules a).held 2 b (c ∷ d ∷ []) hb
+    ∙ one_word (leaf (n, 4, 4)) (after_2 four_rules a b).held 3 c (d ∷ []) hc
+    ∙ one_word (leaf (n, 4, 4)) (after_3 four_rules a b c).held 4 d [] hd
 
 -- what a level adds to the faults of its walk
 abbrev level_by : Shape → Walk → Kinds → Kinds
@@ -235,3 +236,68 @@ pub either_given_2 : (n : Text) (a b : Text) (ha : IsNoFlag a) (hb : IsNoFlag b)
     leaf_given (n, 1, 2) (a ∷ b ∷ []) ≡ a ∷ b ∷ []
 unfolding clap_on_literals
 either_given_2 n a b ha hb = simp (ha.0, ha.1, hb.0, hb.1)
+
+-- ---- the last two of four words may be left out
+
+pub span_0 : (n : Text) → leaf_fault (n, 2, 4) ([]) ≡ missing
+unfolding clap_on_literals
+span_0 n = refl
+
+pub span_1 : (n : Text) (a : Text) (ha : IsNoFlag a) → leaf_fault (n, 2, 4) (a ∷ []) ≡ missing
+unfolding clap_on_literals
+span_1 n a ha = simp (ha.0, ha.1)
+
+pub span_2 : (n : Text) (a b : Text) (ha : IsNoFlag a) (hb : IsNoFlag b) → leaf_fault (n, 2, 4) (a ∷ b ∷ []) ≡ []
+unfolding clap_on_literals
+span_2 n a b ha hb = simp (ha.0, ha.1, hb.0, hb.1)
+
+pub span_3 : (n : Text) (a b c : Text) (ha : IsNoFlag a) (hb : IsNoFlag b) (hc : IsNoFlag c) →
+    leaf_fault (n, 2, 4) (a ∷ b ∷ c ∷ []) ≡ []
+unfolding clap_on_literals
+span_3 n a b c ha hb hc = simp (ha.0, ha.1, hb.0, hb.1, hc.0, hc.1)
+
+abbrev span_rules : List Rule
+span_rules = (leaf ([], 2, 4)).rules
+
+span_walk : (a b c d : Text) → IsNoFlag a → IsNoFlag b → IsNoFlag c → IsNoFlag d →
+    walk span_rules [] nothing_held (a ∷ b ∷ c ∷ d ∷ []) ≡ after_4 span_rules a b c d
+span_walk a b c d ha hb hc hd =
+    ap (λ x. fold (walked span_rules []) x (b ∷ c ∷ d ∷ [])) (step span_rules nothing_held 1 a ha)
+    ∙ ap (λ x. fold (walked span_rules []) x (c ∷ d ∷ [])) (step span_rules (after_1 span_rules a).held 2 b hb)
+    ∙ ap (λ x. fold (walked span_rules []) x (d ∷ [])) (step span_rules (after_2 span_rules a b).held 3 c hc)
+    ∙ step span_rules (after_3 span_rules a b c).held 4 d hd
+
+span_fault : (n a b c d : Text) → IsNoFlag a → IsNoFlag b → IsNoFlag c → IsNoFlag d →
+    walk_fault (leaf (n, 2, 4)) [] (walk_from nothing_held) (a ∷ b ∷ c ∷ d ∷ []) ≡ []
+unfolding walk_fault
+span_fault n a b c d ha hb hc hd =
+    one_word (leaf (n, 2, 4)) nothing_held 1 a (b ∷ c ∷ d ∷ []) ha
+    ∙ one_word (leaf (n, 2, 4)) (after_1 span_rules a).held 2 b (c ∷ d ∷ []) hb
+    ∙ one_word (leaf (n, 2, 4)) (after_2 span_rules a b).held 3 c (d ∷ []) hc
+    ∙ one_word (leaf (n, 2, 4)) (after_3 span_rules a b c).held 4 d [] hd
+
+pub span_4 : (n a b c d : Text) (ha : IsNoFlag a) (hb : IsNoFlag b) (hc : IsNoFlag c) (hd : IsNoFlag d) →
+    leaf_fault (n, 2, 4) (a ∷ b ∷ c ∷ d ∷ []) ≡ []
+unfolding defaults_fault
+span_4 n a b c d ha hb hc hd =
+    ap₂ (level_by (leaf (n, 2, 4))) (span_walk a b c d ha hb hc hd) (span_fault n a b c d ha hb hc hd)
+
+pub span_more : (n : Text) (a b c d e : Text) (rest : List Text) (ha : IsNoFlag a) (hb : IsNoFlag b) (hc : IsNoFlag c)
+    (hd : IsNoFlag d) (he : IsNoFlag e) → leaf_fault (n, 2, 4) (a ∷ b ∷ c ∷ d ∷ e ∷ rest) ≡ unknown
+unfolding clap_on_literals
+span_more n a b c d e rest ha hb hc hd he = simp (ha.0, ha.1, hb.0, hb.1, hc.0, hc.1, hd.0, hd.1, he.0, he.1)
+
+pub span_given_2 : (n : Text) (a b : Text) (ha : IsNoFlag a) (hb : IsNoFlag b) →
+    leaf_given (n, 2, 4) (a ∷ b ∷ []) ≡ a ∷ b ∷ []
+unfolding clap_on_literals
+span_given_2 n a b ha hb = simp (ha.0, ha.1, hb.0, hb.1)
+
+pub span_given_3 : (n : Text) (a b c : Text) (ha : IsNoFlag a) (hb : IsNoFlag b) (hc : IsNoFlag c) →
+    leaf_given (n, 2, 4) (a ∷ b ∷ c ∷ []) ≡ a ∷ b ∷ c ∷ []
+unfolding clap_on_literals
+span_given_3 n a b c ha hb hc = simp (ha.0, ha.1, hb.0, hb.1, hc.0, hc.1)
+
+pub span_given_4 : (n a b c d : Text) (ha : IsNoFlag a) (hb : IsNoFlag b) (hc : IsNoFlag c) (hd : IsNoFlag d) →
+    leaf_given (n, 2, 4) (a ∷ b ∷ c ∷ d ∷ []) ≡ a ∷ b ∷ c ∷ d ∷ []
+span_given_4 n a b c d ha hb hc hd =
+    ap (λ (e : Walk). filter_map (λ id. first_of id (finished span_rules e.held)) ids) (span_walk a b c d ha hb hc hd)

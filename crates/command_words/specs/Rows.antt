@@ -16,9 +16,10 @@ rows_from rows = map (λ r. (r.0.now, r.1, r.2)) rows
 abbrev pub rows : List (List ℕ × ℕ × ℕ)
 rows = map (λ r. (r.0.now, r.1, r.2)) ROWS
 
--- One to four words, none of which may be left out, or the second of two.
+-- One to four words, none of which may be left out, or the second of two, or the last two of four.
 abbrev pub are_few : ℕ → ℕ → Bool
-are_few least most = nat_lt 0 least && nat_lt most 5 && (least == most || (least == 1 && most == 2))
+are_few least most =
+    nat_lt 0 least && nat_lt most 5 && (least == most || (least == 1 && most == 2) || (least == 2 && most == 4))
 
 -- So many follow the name.
 abbrev pub has_few_words : Bor (List ℕ) × ℕ × ℕ → Bool

@@ -1,4 +1,4 @@
-//! The `clap` command: one level of commands, each with positional words, of which the second may be left out.
+//! The `clap` command: one level of commands, each with positional words, of which the last may be left out.
 ghost use Rattle.std.specs.Prelude.{◌≡◌, ◌≤◌, [], false, true, fold, map, IfOk};
 ghost use Rattle.std.specs.List.{list_all};
 ghost use Rattle.clap.specs.Words.{app_of, rule_of, with_subcommand};
@@ -53,6 +53,16 @@ fn two<'a>(alloc: Global, name: &'a str) -> Result<Command<'a>, AllocError>
     one(alloc, name)?.arg(word(alloc, IDS[1]))
 }
 
+// The command of this name that two words follow, or three, or four.
+fn two_to_four<'a>(alloc: Global, name: &'a str) -> Result<Command<'a>, AllocError>
+    ensures app { IfOk result (λ c. app_of c ≡ record { top = row_shape (name.entry.now, 2, 4); subs = [] }) }
+    ensures local { IfOk result (λ c. (fields_of c).has_globals ≡ false) }
+{
+    two(alloc, name)?
+        .arg(optional_word(alloc, IDS[2]))?
+        .arg(optional_word(alloc, IDS[3]))
+}
+
 // The command of this name that three words follow.
 fn three<'a>(alloc: Global, name: &'a str) -> Result<Command<'a>, AllocError>
     ensures app { IfOk result (λ c. app_of c ≡ record { top = row_shape (name.entry.now, 3, 3); subs = [] }) }
@@ -97,6 +107,7 @@ fn row_command<'a>(
         2 if least == 1 => one_or_two(alloc, name),
         2 => two(alloc, name),
         3 => three(alloc, name),
+        _ if least == 2 => two_to_four(alloc, name),
         _ => four(alloc, name),
     }
 }

@@ -12,8 +12,8 @@ pub(crate) const ROWS: [(&str, usize, usize); 18] = [
     ("program", 1, 2),
     // STATION LOG
     ("replay", 2, 2),
-    // STATION POSITIONS open SWITCH, or close
-    ("explain", 4, 4),
+    // STATION POSITIONS, or STATION POSITIONS open SWITCH, or close
+    ("explain", 2, 4),
     // STATION POSITIONS open SWITCH, or close
     ("why", 4, 4),
     // STATION POSITIONS

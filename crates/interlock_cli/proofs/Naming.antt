@@ -8,7 +8,7 @@ use Rattle.std.proofs.lemmas.Bool.{cases_Bool}
 use Rattle.std.proofs.lemmas.Slice.Eq.{bytes_eq-Decides}
 use Rattle.command_words.specs.Rows.{is_between, is_plain, is_row, row_of, written}
 use Rattle.interlock_cli.specs.Commands.{Command, one_word, two_words, one_or_two_words, three_words}
-use Rattle.interlock_cli.specs.Commands.{four_words, named_command, command_of}
+use Rattle.interlock_cli.specs.Commands.{four_words, two_or_four_words, named_command, command_of}
 use Rattle.interlock_cli.specs.Commands.{check_of, explain_of, state_of, order_of, replay_of, audit_of, node_of}
 use Rattle.interlock_cli.specs.Commands.{make_of, trips_of, plan_of, program_of, compile_of, work_of, station_of}
 use Rattle.interlock_cli.specs.Commands.{compare_of, tests_of, why_of}
@@ -52,6 +52,15 @@ four names (a ∷ b ∷ c ∷ []) other = refl
 four names (a ∷ b ∷ c ∷ d ∷ []) other = cc other
 four names (a ∷ b ∷ c ∷ d ∷ e ∷ rest) other = refl
 
+two_or_four : (two : Text → Text → Option Command) (four : Text → Text → Text → Text → Option Command)
+    → Counts 2 4 (two_or_four_words two four)
+two_or_four two four [] other = refl
+two_or_four two four (a ∷ []) other = refl
+two_or_four two four (a ∷ b ∷ []) other = cc other
+two_or_four two four (a ∷ b ∷ c ∷ []) other = refl
+two_or_four two four (a ∷ b ∷ c ∷ d ∷ []) other = cc other
+two_or_four two four (a ∷ b ∷ c ∷ d ∷ e ∷ rest) other = refl
+
 module _ (name : Text) (rest : List Text) (none : is_row (name ∷ rest) ≡ false) where
   -- they are not those of this row, nor of the others
   row : (key : Text) (least most : ℕ) (names : List Text → Option Command) (others : Option Command)
@@ -70,7 +79,7 @@ module _ (name : Text) (rest : List Text) (none : is_row (name ∷ rest) ≡ fal
   rows : named_command (name ∷ rest) ≡ None
   rows =
       row (codes "check") 2 2 check_of _ refl (two _)
-      (row (codes "explain") 4 4 explain_of _ refl (four _)
+      (row (codes "explain") 2 4 explain_of _ refl (two_or_four _ _)
       (row (codes "state") 2 2 state_of _ refl (two _)
       (row (codes "order") 3 3 order_of _ refl (three _)
       (row (codes "replay") 2 2 replay_of _ refl (two _)

@@ -13,7 +13,7 @@ use Rattle.station_make.specs.PositionsText.{positions_text}
 use Rattle.station_make.specs.Words.{feeders_of, made_text, text_named}
 use Rattle.interlock_cli.specs.Formats.{Drawing, Elements}
 use Rattle.interlock_cli.specs.Form.{Form, Write, Take, File, Word}
-use Rattle.interlock_cli.specs.Rests.{IsDoneWith, check_rest, explain_rest, why_rest, state_rest, order_rest}
+use Rattle.interlock_cli.specs.Rests.{IsDoneWith, check_rest, explain_rest, denials_rest, why_rest, state_rest, order_rest}
 use Rattle.interlock_cli.specs.Rests.{replay_rest, audit_rest, node_rest, compile_rest, trips_rest, plan_rest}
 use Rattle.interlock_cli.specs.Rests.{program_rest, bay_program_rest, work_rest, compare_rest, tests_rest, station_tests_rest}
 use Rattle.interlock_cli.specs.StationWrites.{StationWrites}
@@ -24,6 +24,8 @@ pub data Command : Type 0 where
   Check : List ℕ → List ℕ → Command
   -- `explain STATION POSITIONS open SWITCH`, or `close`
   Explain : List ℕ → List ℕ → Direction → List ℕ → Command
+  -- `explain STATION POSITIONS`
+  Denials : List ℕ → List ℕ → Command
   -- `state STATION POSITIONS`
   State : List ℕ → List ℕ → Command
   -- `order STATION POSITIONS ORDER`
@@ -76,6 +78,13 @@ one_or_two_words one two (a ∷ []) = one a
 one_or_two_words one two (a ∷ b ∷ []) = two a b
 one_or_two_words one two _ = None
 
+-- Two words or four, and what they name.
+abbrev pub two_or_four_words : (List ℕ → List ℕ → Option Command) →
+    (List ℕ → List ℕ → List ℕ → List ℕ → Option Command) → List (List ℕ) → Option Command
+two_or_four_words two four (a ∷ b ∷ []) = two a b
+two_or_four_words two four (a ∷ b ∷ c ∷ d ∷ []) = four a b c d
+two_or_four_words two four _ = None
+
 -- Two words, and what they name.
 abbrev pub two_words : (List ℕ → List ℕ → Option Command) → List (List ℕ) → Option Command
 two_words names (a ∷ b ∷ []) = names a b
@@ -98,7 +107,8 @@ check_of = two_words (λ station positions. Some (Check station positions))
 -- The words behind `explain`.
 abbrev pub explain_of : List (List ℕ) → Option Command
 explain_of =
-    four_words (λ station positions direction switch. option_map (λ d. Explain station positions d switch)
+    two_or_four_words (λ station positions. Some (Denials station positions))
+    (λ station positions direction switch. option_map (λ d. Explain station positions d switch)
     (direction_of direction))
 
 -- The words behind `state`.
@@ -195,6 +205,7 @@ command_of words = if list_all is_plain words then named_command words else None
 abbrev pub files_of : Command → List (List ℕ)
 files_of (Check station positions) = station ∷ positions ∷ []
 files_of (Explain station positions direction switch) = station ∷ positions ∷ []
+files_of (Denials station positions) = station ∷ positions ∷ []
 files_of (State station positions) = station ∷ positions ∷ []
 files_of (Order station positions order) = station ∷ positions ∷ order ∷ []
 files_of (Replay station log) = station ∷ log ∷ []
@@ -224,6 +235,7 @@ abbrev pub form_of : Command → Form
 form_of (Check station positions) = Take (File station) Drawing (check_rest positions)
 form_of (Explain station positions direction switch) =
     Take (File station) Drawing (explain_rest positions direction switch)
+form_of (Denials station positions) = Take (File station) Drawing (denials_rest positions)
 form_of (State station positions) = Take (File station) Drawing (state_rest positions)
 form_of (Order station positions order) = Take (File station) Drawing (order_rest positions order)
 form_of (Replay station log) = Take (File station) Drawing (replay_rest log)

@@ -12,6 +12,7 @@ use Rattle.commissioning_tests.specs.Refusing.{IsWideBay, IsThatWideBay}
 use Rattle.tests_text.specs.TestsText.{IsStationTestsText, IsTestsText}
 use Rattle.release_texts.specs.CheckText.{IsCheckText}
 use Rattle.release_texts.specs.ExplainText.{IsExplainText}
+use Rattle.release_texts.specs.DenialsText.{IsDenialsText}
 use Rattle.why_text.specs.WhyText.{IsWhyText}
 use Rattle.interlock_cli.specs.Formats.{Drawing, Positions, CertainPositions, OrderOf, LogOf, TripLogOf, BlocksOf}
 use Rattle.interlock_cli.specs.Formats.{SwitchOf, BayOf}
@@ -39,6 +40,10 @@ abbrev pub explain_rest : List ℕ → Direction → List ℕ → Diagram → Fo
 explain_rest positions direction switch d =
     Take (File positions) (Positions d) (λ words.
     Take (Word switch) (SwitchOf d) (λ path. Write (IsDoneWith (IsExplainText d words direction path))))
+
+-- `explain` of all that is denied: the positions.
+abbrev pub denials_rest : List ℕ → Diagram → Form
+denials_rest positions d = Take (File positions) (Positions d) (λ words. Write (IsDoneWith (IsDenialsText d words)))
 
 -- `why`: as `explain`, with the text for people.
 abbrev pub why_rest : List ℕ → Direction → List ℕ → Diagram → Form

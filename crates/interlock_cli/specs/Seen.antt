@@ -3,13 +3,14 @@ use Rattle.interlock_cli.specs.Commands as c
 use Rattle.interlock_cli.specs.declared.command.Command.{Command}
 use Rattle.interlock_cli.specs.declared.command.Command.TheVariants.{Check, Explain, State, Order, Replay, Audit, Node}
 use Rattle.interlock_cli.specs.declared.command.Command.TheVariants.{Compile, Trips, Plan, Program, Make, Work, Station}
-use Rattle.interlock_cli.specs.declared.command.Command.TheVariants.{BayProgram, Compare, Tests, StationTests, Why}
+use Rattle.interlock_cli.specs.declared.command.Command.TheVariants.{BayProgram, Compare, Tests, StationTests, Why, Denials}
 
 -- A command, as the definitions name it.
 abbrev pub seen_command : Command → c.Command
 seen_command (Check station positions) = c.Check station.now positions.now
 seen_command (Explain station asked) =
     c.Explain station.now asked.positions.now asked.direction asked.switch.now
+seen_command (Denials station positions) = c.Denials station.now positions.now
 seen_command (State station positions) = c.State station.now positions.now
 seen_command (Order station positions order) = c.Order station.now positions.now order.now
 seen_command (Replay station log) = c.Replay station.now log.now

@@ -23,6 +23,10 @@ pub enum Command<'a> {
         station: &'a str,
         asked: AskedOperation<'a>,
     },
+    Denials {
+        station: &'a str,
+        positions: &'a str,
+    },
     State {
         station: &'a str,
         positions: &'a str,

@@ -8,7 +8,7 @@ use crate::out_text::OutText;
 use double_points::Readings;
 use ilk_base::{Op, Shelf};
 use release_compile::GraphJudge;
-use release_texts::explain_text;
+use release_texts::{denial_lines, explain_text};
 use station_graph::Station;
 use std::alloc::Global;
 
@@ -42,6 +42,37 @@ impl<'a> Answer for Explain<'a> {
         Ok(Output {
             outcome: Outcome::Done,
             text: OutText::whole(text),
+        })
+    }
+}
+
+// `explain STATION POSITIONS`
+#[derive(Clone, Copy)]
+pub(crate) struct Denials<'a> {
+    pub positions: &'a str,
+}
+
+impl<'a> Answer for Denials<'a> {
+    ghost use Rattle.std.specs.Prelude.{[], ◌∷◌};
+    ghost use Rattle.interlock_cli.specs.Rests.{denials_rest};
+
+    ghost rest = { λ command. denials_rest command.positions.now };
+
+    ghost names = { λ command. command.positions.now ∷ [] };
+
+    fn answer<F: Shelf>(
+        &self,
+        alloc: Global,
+        station: &Station,
+        judge: &GraphJudge<'_>,
+        shelf: &mut F,
+    ) -> Result<Output, End> {
+        let readings: Readings = load(alloc, station, self.positions, shelf)?;
+        let lines = denial_lines(alloc, station, judge, &readings)?;
+        let text = OutText::named(alloc, lines)?;
+        Ok(Output {
+            outcome: Outcome::Done,
+            text,
         })
     }
 }

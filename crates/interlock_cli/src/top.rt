@@ -15,7 +15,7 @@ use crate::command::Command;
 use crate::compare_command::Compare;
 use crate::compile_command::Compile;
 use crate::end::{End, Output, make_status};
-use crate::explain_command::Explain;
+use crate::explain_command::{Denials, Explain};
 use crate::make_command::make;
 use crate::node_command::node;
 use crate::order_command::Order;
@@ -50,6 +50,9 @@ fn output_of<F: Shelf>(alloc: Global, command: &Command, shelf: &mut F) -> Resul
         }
         Command::Explain { station, asked } => {
             answer_drawing(alloc, station, &Explain { asked }, shelf)
+        }
+        Command::Denials { station, positions } => {
+            answer_drawing(alloc, station, &Denials { positions }, shelf)
         }
         Command::State { station, positions } => {
             answer_drawing(alloc, station, &State { positions }, shelf)
@@ -130,7 +133,8 @@ fn call<F: Shelf, I: Source, O: Sink>(
 /// Does what the words say, and answers with what status the program ends.
 ///
 /// The words are those of the command line, without the program's name. Where no word is empty or begins
-/// with `-`, and they are `check STATION POSITIONS`, `explain STATION POSITIONS open SWITCH` (or `close`),
+/// with `-`, and they are `check STATION POSITIONS`, `explain STATION POSITIONS open SWITCH` (or `close`, or
+/// `explain STATION POSITIONS`),
 /// `why STATION POSITIONS open SWITCH` (or `close`),
 /// `state STATION POSITIONS`, `order STATION POSITIONS ORDER`, `replay STATION LOG`, `trips STATION LOG`,
 /// `audit STATION EQUATIONS`, `plan STATION`, `program STATION` (or `program STATION BAY`), `compile STATION`,

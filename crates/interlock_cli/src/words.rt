@@ -1,5 +1,6 @@
 //! What the words name.
 ghost use Rattle.std.specs.Prelude.{◌≡◌, ◌∷◌, map, option_map, string_bytes, Some, IfOk, IfErr};
+ghost use Rattle.interlock_cli.specs.Commands.{Explain};
 ghost use Rattle.interlock_cli.specs.Commands.{replay_of, audit_of, check_of, command_of, direction_of, explain_of};
 ghost use Rattle.interlock_cli.specs.Commands.{compare_of, make_of, named_command, node_of, program_of, tests_of, why_of};
 ghost use Rattle.interlock_cli.specs.Commands.{plan_of, trips_of, compile_of, order_of, state_of, station_of, work_of};
@@ -34,13 +35,16 @@ fn check_words<'a>(rest: &[&'a str]) -> Option<Command<'a>>
     Some(Command::Check { station, positions })
 }
 
-// `explain STATION POSITIONS open SWITCH`, or `close`.
-fn explain_words<'a>(rest: &[&'a str]) -> Option<Command<'a>>
-    ensures { explain_of (map (λ w. w.now) rest.now) ≡ option_map seen_command result }
+// `explain` of the operation that the last two words name.
+fn explained<'a>(
+    station: &'a str,
+    positions: &'a str,
+    direction: &str,
+    switch: &'a str,
+) -> Option<Command<'a>>
+    ensures { option_map (λ d. Explain station.now positions.now d switch.now) (direction_of direction.now)
+        ≡ option_map seen_command result }
 {
-    let &[station, positions, direction, switch] = rest else {
-        return None;
-    };
     match direction_of(direction) {
         Some(direction) => {
             let asked = AskedOperation {
@@ -51,6 +55,19 @@ fn explain_words<'a>(rest: &[&'a str]) -> Option<Command<'a>>
             Some(Command::Explain { station, asked })
         }
         None => None,
+    }
+}
+
+// `explain STATION POSITIONS open SWITCH`, or `close`; or `explain STATION POSITIONS`.
+fn explain_words<'a>(rest: &[&'a str]) -> Option<Command<'a>>
+    ensures { explain_of (map (λ w. w.now) rest.now) ≡ option_map seen_command result }
+{
+    match rest {
+        &[station, positions] => Some(Command::Denials { station, positions }),
+        &[station, positions, direction, switch] => {
+            explained(station, positions, direction, switch)
+        }
+        _ => None,
     }
 }
 

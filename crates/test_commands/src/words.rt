@@ -53,6 +53,9 @@ fn words_of_a_command(rt: HostRuntime) {
     let words = ["explain", "a.ssd", "p.csv", "open", "S/V1/Q1/QA1"];
     let behind = &["a.ssd", "p.csv", "open", "S/V1/Q1/QA1"];
     assert!(rt; is_read(rt.alloc(), &words, Some(("explain", behind))));
+    // without those that may be left out
+    let behind = &["a.ssd", "p.csv"];
+    assert!(rt; is_read(rt.alloc(), &words[..3], Some(("explain", behind))));
 }
 
 // Nothing, no command, the word help; a word too few, a word too many; an empty word, a flag, the end of flags.

@@ -6,9 +6,11 @@
 use crate::drawings::{DOUBLE_BUSBAR, TWO_FEEDERS};
 use crate::rows::{coupled, expect, positions_of};
 use interlock_cli::Status;
+use std::alloc::Global;
+use std::process::Abort;
 use std::test::Fail;
 
-// A row on the two feeders: which switches are on, the words, and what is written.
+// A row on the two feeders: which switches are on (`1`) and which lost (`?`), the words, and what is written.
 struct Row {
     on: &'static [u8; 10],
     words: &'static str,
@@ -122,16 +124,95 @@ by S/V1/Q1/QC9
     },
 ];
 
-#[test]
-fn known_positions(rt: HostRuntime) -> Result<(), Fail> {
-    let alloc = rt.alloc();
-    for row in ROWS {
+// What is written of all operations that are denied: none with all off; a disconnector that is open behind a feeder
+// that is through, both directions, and the earthing switch of the energised line behind it; the earthing switch of a
+// line that may be energised.
+const ALL_DENIED: &[Row] = &[
+    Row {
+        on: b"0000000000",
+        words: "explain a.ssd a.csv",
+        text: "",
+    },
+    Row {
+        on: b"1110011001",
+        words: "explain a.ssd a.csv",
+        text: "denied R3 open S/V1/Q2/QB9
+live
+node S/V1/Q2/n3
+by S/V1/Q2/E1
+tap
+node S/V1/Q2/n2
+node S/V1/Q2/n1
+node S/V1/W1/B
+node S/V1/Q1/n1
+node S/V1/Q1/n2
+node S/V1/Q1/n3
+tap
+node S/V1/Q2/n3
+bonded
+node S/V1/W1/B
+node S/V1/Q1/n1
+node S/V1/Q1/n2
+node S/V1/Q1/n3
+node S/V1/Q2/n1
+node S/V1/Q2/n2
+denied R3 close S/V1/Q2/QB9
+live
+node S/V1/Q2/n3
+by S/V1/Q2/E1
+tap
+node S/V1/Q2/n2
+node S/V1/Q2/n1
+node S/V1/W1/B
+node S/V1/Q1/n1
+node S/V1/Q1/n2
+node S/V1/Q1/n3
+tap
+node S/V1/Q2/n3
+bonded
+node S/V1/W1/B
+node S/V1/Q1/n1
+node S/V1/Q1/n2
+node S/V1/Q1/n3
+node S/V1/Q2/n1
+node S/V1/Q2/n2
+denied R1 close S/V1/Q2/QC9
+live
+node S/V1/Q2/n3
+by S/V1/Q2/E1
+",
+    },
+    Row {
+        on: b"0000?00000",
+        words: "explain a.ssd a.csv",
+        text: "denied R1 close S/V1/Q1/QC9
+with on S/V1/Q1/E1
+live
+node S/V1/Q1/n3
+by S/V1/Q1/E1
+",
+    },
+];
+
+// Compares what is written on the two feeders.
+fn expect_all(rt: &impl Abort, alloc: Global, rows: &[Row]) -> Result<(), Fail> {
+    for row in rows {
         let positions = positions_of(alloc, row.on)?;
         let want = (Status::Done, row.text.as_bytes(), "");
         let station = TWO_FEEDERS.as_bytes();
-        expect(&rt, alloc, row.words, station, positions.bytes(), want)?;
+        expect(rt, alloc, row.words, station, positions.bytes(), want)?;
     }
     Ok(())
+}
+
+#[test]
+fn known_positions(rt: HostRuntime) -> Result<(), Fail> {
+    expect_all(&rt, rt.alloc(), ROWS)
+}
+
+#[test]
+fn all_denied(rt: HostRuntime) -> Result<(), Fail> {
+    expect_all(&rt, rt.alloc(), ALL_DENIED)
 }
 
 // With the coupler's breaker in between, feeder 1 on the first busbar and feeder 2 on the second: closing

@@ -208,6 +208,7 @@ const USAGE: &[&str] = &[
     "help",
     "work 1",
     "work 02",
+    "explain a.ssd",
     "explain a.ssd a.csv open",
     "explain a.ssd a.csv up S/V1/Q1/QB1",
     "explain a.ssd a.csv open -x",

@@ -107,13 +107,21 @@ fn rule_of(sign: u8) -> &'static str {
     }
 }
 
+// The word of a sign: on, lost or off.
+fn word_of(sign: u8) -> &'static str {
+    match sign {
+        b'1' => ",on\n",
+        b'?' => ",lost\n",
+        _ => ",off\n",
+    }
+}
+
 pub(crate) fn positions_of(alloc: Global, on: &[u8; 10]) -> Result<Text, Memory> {
     let mut positions = Text::new(alloc);
     for i in 0..10 {
-        let word = if on[i] == b'1' { ",on\n" } else { ",off\n" };
         positions.push(b"S/V1/")?;
         positions.push(TEN[i].as_bytes())?;
-        positions.push(word.as_bytes())?;
+        positions.push(word_of(on[i]).as_bytes())?;
     }
     Ok(positions)
 }

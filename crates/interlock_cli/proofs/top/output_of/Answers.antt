@@ -11,6 +11,9 @@ returns-in-Check-clause-err g c = rw c.in-Check.is c.answer_drawing.ensures.err
 pub returns-in-Explain-clause-err : goal.returns-in-Explain-clause-err
 returns-in-Explain-clause-err g c = rw c.in-Explain.is c.answer_drawing-in-Explain.ensures.err
 
+pub returns-in-Denials-clause-err : goal.returns-in-Denials-clause-err
+returns-in-Denials-clause-err g c = rw c.in-Denials.is c.answer_drawing-in-Denials.ensures.err
+
 pub returns-in-State-clause-err : goal.returns-in-State-clause-err
 returns-in-State-clause-err g c = rw c.in-State.is c.answer_drawing-in-State.ensures.err
 
