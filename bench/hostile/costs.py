@@ -5,7 +5,7 @@
 
 Build the program first: ./interlock --prove. Each case is run once, with at most 8 GiB and 20 minutes, and must end with
 the status that is written beside it. No run may take more than 10 s of a processor or 1,024 MiB, but for
-`compile`, which writes the counted edges of the graphs: 30 s and 2,048 MiB. Where a figure by the
+what grows with the counted edges of the graphs, and not with the drawing: 30 s and 2,048 MiB. Where a figure by the
 size of the input stands beside a case, each MB of it may cost no more than that either, beyond 0.2 s and 64 MiB. The
 status is 1 where one is over.
 
@@ -15,6 +15,7 @@ status is 1 where one is over.
   repeats it, so that `check` writes 2 GB and `audit` 1 GB, in pieces, of which they hold one at a time; and so do `tests`
   of them and `compare`, here with an earthing switch on their busbar, and 0.3 GB of a row of 192 disconnectors, of which
   each position names all
+- at the limits: grids of up to 3 by 9 nodes, whose graphs have nearly as many counted edges as a station may have
 - floods: a million frames, ticks, commands, readings or changes of the record to one node; 3,000 lines to a stored one,
   whose changes go to the disk; a log of 20,000 records in which 64 bays send one another messages
 """
@@ -177,6 +178,31 @@ def long_names():
         yield Case(f"compile: two sections of {60 // part} feeders in turn", ["compile", "a"], files, b"", 0, by_edges=True)
 
 
+# ---- at the limits
+
+def grid(width, height):
+    """A grid of nodes, each with a bay of a disconnector to the right and one downwards, and with an infeed or an earthing
+    switch in turn, as on a chessboard."""
+    bays = []
+    for y in range(height):
+        for x in range(width):
+            key = f"{x}/{y}"
+            items = [equipment("R", "DIS", [end(key), end(f"{x + 1}/{y}")])] if x + 1 < width else []
+            items += [equipment("D", "DIS", [end(key), end(f"{x}/{y + 1}")])] if y + 1 < height else []
+            items.append(equipment("I", "IFL", [end(key)]) if (x + y) % 2 else earthing(key))
+            node = f'<ConnectivityNode name="N" pathName="{key}"/>'
+            bays.append(f'<Bay name="{x}-{y}">{node}{"".join(items)}</Bay>')
+    return f'<SCL><Substation name="S"><VoltageLevel name="V">{"".join(bays)}</VoltageLevel></Substation></SCL>'
+
+
+def at_limits():
+    for part in PARTS:
+        height = 9 // part
+        files = {"a": grid(3, height).encode(), "b": b""}
+        for words in (["check", "a", "b"], ["state", "a", "b"], ["plan", "a"], ["compile", "a"], ["program", "a"]):
+            yield Case(f"{words[0]}: a grid of 3 by {height} nodes", words, files, b"", 0, by_edges=True)
+
+
 # ---- floods
 
 # A command is granted and taken back.
@@ -235,7 +261,7 @@ def main():
     if "-h" in sys.argv or "--help" in sys.argv:
         sys.exit(__doc__.strip())
     wrong = False
-    for case in (case for cases in (chosen_names, long_names, floods) for case in cases()):
+    for case in (case for cases in (chosen_names, long_names, at_limits, floods) for case in cases()):
         with common.folder() as place:
             seconds, memory, status = run(case, pathlib.Path(place))
         faults = list(judged(case, seconds, memory, status))
