@@ -161,3 +161,7 @@ operations_in first (suc n) (suc zero) op at =
     let is : first ≡ op.switch.0 = ap (λ (x : Op). x.switch.0) (same_Some (closing first) op at) in
     omega (arith, is)
 operations_in first (suc n) (suc (suc k)) op at = omega (arith, operations_in (suc first) n k op at)
+
+-- a switch of the station has its place in the table of places
+pub place_within : (n s count places room : ℕ) → n ≡ s → s < count → places ≡ count → room ≡ places → n < room
+place_within n s count places room is low len held = omega arith

@@ -128,6 +128,47 @@ fn cover_switch(
     Ok(())
 }
 
+// Positions that show all of the operations of so many switches, from this one on, with these stocks.
+fn cover_with(
+    alloc: Global,
+    stocks: &mut RuleStocks,
+    station: &Station,
+    steps: &JointSteps,
+    operations: &[Op],
+    stands: &[u16],
+    first: SwitchId,
+    count: u16,
+) -> Result<Vec<TestPosition>, Trouble>
+    requires steps { HaveJointSteps station.now station.now steps.now }
+    requires some { 1 < length steps.now.old_steps.items }
+    requires stocks { AreRuleStocks station.now steps.now.old_steps.items stocks.old }
+    requires operations { operations.now ≡ operations_from first.0 count }
+    requires within { first.0 + count ≤ length station.now.switches }
+    requires few { first.0 + count < 2 ^ 16 }
+    ensures positions { IfOk result (λ ps. ArePositions station.now operations.now ps.items) }
+    ensures covered { IfOk result (λ ps. AreCovered station.now operations.now stands.now ps.items (2 * count)) }
+    ensures narrow { IfOk result (λ _. AllAreNarrow station.now steps.now.old_steps.items first.0 count) }
+    ensures wide { IfErr result (λ e. e ≡ Wide → SomeIsTooWide station.now steps.now.old_steps.items first.0 count) }
+{
+    let mut positions = Vec::new(alloc);
+    for i in 0..count {
+        let switch = SwitchId(first.0 + i);
+        let number = 2 * usize::from(i);
+        cover_switch(
+            alloc,
+            stocks,
+            station,
+            steps,
+            operations,
+            stands,
+            switch,
+            number,
+            &mut positions,
+        )?;
+    }
+    Ok(positions)
+}
+
 // Positions that show all of the operations of so many switches, from this one on.
 pub(crate) fn cover_switches(
     alloc: Global,
@@ -149,21 +190,14 @@ pub(crate) fn cover_switches(
     ensures wide { IfErr result (λ e. e ≡ Wide → SomeIsTooWide station.now steps.now.old_steps.items first.0 count) }
 {
     let mut stocks = rule_stocks(alloc, station, &steps.old_steps)?;
-    let mut positions = Vec::new(alloc);
-    for i in 0..count {
-        let switch = SwitchId(first.0 + i);
-        let number = 2 * usize::from(i);
-        cover_switch(
-            alloc,
-            &mut stocks,
-            station,
-            steps,
-            operations,
-            stands,
-            switch,
-            number,
-            &mut positions,
-        )?;
-    }
-    Ok(positions)
+    cover_with(
+        alloc,
+        &mut stocks,
+        station,
+        steps,
+        operations,
+        stands,
+        first,
+        count,
+    )
 }

@@ -1,10 +1,35 @@
-use Rattle.std.proofs.Common.{List, Bool, Some, subst}
-use Rattle.std.proofs.lemmas.Option.{get_or_from_slice_get}
+use Rattle.std.proofs.Common.{List, Bool, Some, subst, sym}
+use Rattle.std.proofs.lemmas.Option.{get_or_from_slice_get, slice_get_within}
 use Rattle.ilk_base.specs.declared.words.Op.{Op}
 use Rattle.station_graph.specs.Alike.{IsVector}
+use Rattle.station_graph.specs.Connection.{a_switch}
+use Rattle.step_graphs.specs.Steps.{TakesIn}
+use Rattle.dependence_search.specs.RuleWalks.{IsRuleWalk}
 use Rattle.station_graph.specs.CentralRules.{Breaks}
 use Rattle.commissioning_tests.proofs.CoverLemmas.{added_more, added_rule}
 use Rattle.commissioning_tests.proofs.cover.cover_rule.Goals as goal
+
+pub bounds-walked-walked : goal.bounds-walked-walked
+bounds-walked-walked c =
+    let w = c.requires.walked in
+    slice_get_within c.args.walked.now.operations.now c.args.walked.now.number w.op w.at
+
+pub find_breach-requires-clause-steps : goal.find_breach-requires-clause-steps
+find_breach-requires-clause-steps c = c.requires.walked.steps
+
+pub find_breach-requires-clause-moved : goal.find_breach-requires-clause-moved
+find_breach-requires-clause-moved c =
+    let w = c.requires.walked in
+    subst (λ (x : Op). TakesIn c.args.walked.now.steps.now.old_steps.items c.args.walked.now.place
+    (a_switch x.switch.0))
+    (sym (get_or_from_slice_get c.args.walked.now.operations.now c.args.walked.now.number w.op _ w.at)) w.moved
+
+pub find_breach-requires-clause-walk : goal.find_breach-requires-clause-walk
+find_breach-requires-clause-walk c =
+    let w = c.requires.walked in
+    subst (λ (x : Op). IsRuleWalk c.args.walked.now.station.now c.args.walked.now.steps.now.old_steps.items
+    c.args.walked.now.place x.switch.0 c.args.walked.now.walk.now.graph c.args.walked.now.walk.now.codes.items)
+    (sym (get_or_from_slice_get c.args.walked.now.operations.now c.args.walked.now.number w.op _ w.at)) w.walk
 
 pub returns-in_ok-add_position-in-Some-clause-more : goal.returns-in_ok-add_position-in-Some-clause-more
 returns-in_ok-add_position-in-Some-clause-more c =

@@ -1,8 +1,9 @@
 use Rattle.std.proofs.Common.{◌≡◌, ℕ, true, false, length, sym, ap, ◌∙◌, subst}
-use Rattle.std.proofs.lemmas.Option.{get_or_from_slice_get}
+use Rattle.std.proofs.lemmas.Option.{get_or_from_slice_get, slice_get_within}
 use Rattle.ilk_base.specs.declared.words.Op.{Op}
 use Rattle.decision_graphs.specs.Reaching.{IsSet}
 use Rattle.dependence_search.proofs.DependLemmas.{listed, places_apart}
+use Rattle.commissioning_tests.proofs.ListLemmas.{place_within}
 use Rattle.commissioning_tests.proofs.WalkLemmas.{own_never, unmarked_never}
 use Rattle.commissioning_tests.proofs.depends.may_turn.Goals as goal
 
@@ -40,3 +41,13 @@ returns c unset op at =
     sym unset
     ∙ c.is_marked.ensures.1 (subst (λ (n : ℕ). IsSet c.args.layers.now n) (sym c.layer_at-layer.ensures) set) in
     cc e)
+
+pub bounds-walked-walked : goal.bounds-walked-walked
+bounds-walked-walked c =
+    let w = c.requires.walked in
+    slice_get_within c.args.walked.now.operations.now c.args.walked.now.number w.op w.at
+
+pub index-requires : goal.index-requires
+index-requires c =
+    place_within _ _ _ _ _ c.from.ensures c.requires.switch c.requires.walked.steps.old_at.len
+    c.args.walked.now.steps.now.old_places.ok.0
