@@ -28,7 +28,7 @@ use crate::outer::outer_graph;
 use crate::partners::told_like;
 use crate::stock::Stock;
 use bay_contract::Parts;
-use decision_graphs::Graph;
+use decision_graphs::{Folds, Graph};
 use ilk_base::BayId;
 use judge_intake::{BayIntake, OwnBay, Sharing, bay_intake, own_bay};
 use judge_pool::{Pool, Trouble, View};
@@ -62,6 +62,7 @@ pub struct Bay {
 fn own_graphs(
     alloc: Global,
     pool: &mut Pool,
+    folds: &mut Folds,
     notes: &mut InnerNotes,
     station: &Station,
     own: &OwnBay,
@@ -94,7 +95,7 @@ fn own_graphs(
         let others = own.count - 1;
         let moved = own.first + i;
         let made = inner_graph(
-            alloc, pool, notes, station, own, common, moved, others, rest,
+            alloc, pool, folds, notes, station, own, common, moved, others, rest,
         )?;
         rest = made.left;
         graphs.push(made.graph)?;
@@ -106,6 +107,7 @@ fn own_graphs(
 fn inner_graphs(
     alloc: Global,
     pool: &mut Pool,
+    folds: &mut Folds,
     notes: &mut InnerNotes,
     station: &Station,
     own: &OwnBay,
@@ -131,7 +133,7 @@ fn inner_graphs(
 {
     let _count = station.switch_count();
     let common = bay_intake(alloc, pool, station, own, names)?;
-    let inners = own_graphs(alloc, pool, notes, station, own, &common, left)?;
+    let inners = own_graphs(alloc, pool, folds, notes, station, own, &common, left)?;
     Ok(inners)
 }
 
@@ -166,6 +168,7 @@ fn view_graphs(
         alloc,
         &mut stock.pool,
         &stock.letters,
+        &mut stock.folds,
         &mut stock.outer,
         station,
         parts,
@@ -177,6 +180,7 @@ fn view_graphs(
     let inners = inner_graphs(
         alloc,
         &mut stock.pool,
+        &mut stock.folds,
         &mut stock.inner,
         station,
         own,
@@ -242,7 +246,14 @@ pub fn bay_graphs(
         &own,
         gap.left,
     )?;
-    let told = told_like(alloc, bays, &gap.graphs, &load.graphs)?;
+    let told = told_like(
+        alloc,
+        &mut gap_stock.folds,
+        &mut load_stock.folds,
+        bays,
+        &gap.graphs,
+        &load.graphs,
+    )?;
     Ok(Bay {
         graphs: BayGraphs {
             first: own.first,

@@ -20,7 +20,7 @@ ghost use Rattle.judge_pool.specs.declared.limits.TheConstants.{BAY_EDGES};
 
 use crate::labelled::{InnerNotes, labelled_graph};
 use crate::noted::{Intake, taken_again};
-use decision_graphs::Graph;
+use decision_graphs::{Folds, Graph};
 use ilk_base::{Memory, SwitchId};
 use judge_intake::codes::{codes, label_count};
 use judge_intake::{BayIntake, OwnBay, inner_keeps, inner_letters};
@@ -69,6 +69,7 @@ fn inner_intake(
 pub(crate) fn inner_graph(
     alloc: Global,
     pool: &mut Pool,
+    folds: &mut Folds,
     notes: &mut InnerNotes,
     station: &Station,
     own: &OwnBay,
@@ -102,12 +103,20 @@ pub(crate) fn inner_graph(
     let _count = station.switch_count();
     let intake = inner_intake(alloc, pool, station, own, common, moved, others)?;
     let budget = left + common.names.len();
-    let taken = taken_again(alloc, pool, &mut notes.graphs, intake, budget)?;
+    let taken = taken_again(alloc, pool, folds, &mut notes.graphs, intake, budget)?;
     let held = notes.graphs.as_slice();
     let names = held[taken.place].names.as_slice();
     let labels = codes(alloc, pool, station, SwitchId(moved), &own.nodes, names)?;
     let count = label_count(pool.view);
-    let graph = labelled_graph(alloc, held, &mut notes.labelled, taken.place, count, labels)?;
+    let graph = labelled_graph(
+        alloc,
+        folds,
+        held,
+        &mut notes.labelled,
+        taken.place,
+        count,
+        labels,
+    )?;
     Ok(Inner {
         graph,
         left: taken.left,

@@ -5,7 +5,7 @@ ghost use Rattle.judge_graphs.specs.declared.noted.Noted.{Noted as Note};
 ghost use Rattle.judge_graphs.specs.declared.labelled.Labelled.{Labelled as Known};
 
 use crate::noted::Noted;
-use decision_graphs::Graph;
+use decision_graphs::{Folds, Graph};
 use ilk_base::Memory;
 use std::alloc::Global;
 
@@ -25,14 +25,20 @@ pub(crate) struct InnerNotes {
 }
 
 // The graph with so many labels, these in place of its own, reduced.
-fn relabelled(alloc: Global, graph: &Graph, count: u32, labels: &[u32]) -> Result<Graph, Memory>
+fn relabelled(
+    alloc: Global,
+    folds: &mut Folds,
+    graph: &Graph,
+    count: u32,
+    labels: &[u32],
+) -> Result<Graph, Memory>
     requires some { 0 < count }
     requires len { length labels.now ≡ graph.now.labels }
     requires within { (x : ℕ) → x < length labels.now → slice_index labels.now x < count }
     ensures { IfOk result (IsLabelled count labels.now graph.now) }
 {
     let named = graph.rename(alloc, count, labels)?;
-    let reduced = named.reduce(alloc)?;
+    let reduced = named.reduce_by(alloc, folds)?;
     let _labels = reduced.labels();
     Ok(reduced)
 }
@@ -67,6 +73,7 @@ fn find_labelled(known: &[Labelled], place: usize, labels: &[u32]) -> Option<usi
 // The graph of the note at this place with so many labels, these in place of its own, reduced. It is made only once.
 pub(crate) fn labelled_graph(
     alloc: Global,
+    folds: &mut Folds,
     notes: &[Noted],
     known: &mut Vec<Labelled>,
     place: usize,
@@ -87,7 +94,7 @@ pub(crate) fn labelled_graph(
         let copy = held[k].graph.copy(alloc)?;
         return Ok(copy);
     }
-    let graph = relabelled(alloc, notes[place].graph.as_ref(), count, &labels)?;
+    let graph = relabelled(alloc, folds, notes[place].graph.as_ref(), count, &labels)?;
     let copy = graph.copy(alloc)?;
     known.push(Labelled {
         place,

@@ -3,7 +3,7 @@ ghost use Rattle.std.specs.Prelude.{◌≡◌, ℕ, ◌<◌, ◌↔◌, length, 
 ghost use Rattle.judge_graphs.specs.PartnerLabels.{AreInnersOf, IsRenamed, TellsOf};
 
 use crate::label_names::names_of;
-use decision_graphs::Graph;
+use decision_graphs::{Folds, Graph};
 use ilk_base::Memory;
 use std::alloc::Global;
 
@@ -20,7 +20,12 @@ fn merged(alloc: Global, outer: &Graph, names: &[u32]) -> Result<Graph, Memory>
 
 // For each layer of the outer graph whether some inner graph tells of it: whether two lists of choices that differ in
 // this layer alone, and one list of other choices, lead through both graphs to different labels.
-pub(crate) fn tells_of(alloc: Global, outer: &Graph, inners: &[Graph]) -> Result<Vec<bool>, Memory>
+pub(crate) fn tells_of(
+    alloc: Global,
+    folds: &mut Folds,
+    outer: &Graph,
+    inners: &[Graph],
+) -> Result<Vec<bool>, Memory>
     requires inners { AreInnersOf outer.now.labels inners.now }
     ensures count { IfOk result (λ v. length v.items ≡ length outer.now.layers) }
     ensures exact { IfOk result (λ v. (j : ℕ) → j < length outer.now.layers
@@ -28,6 +33,6 @@ pub(crate) fn tells_of(alloc: Global, outer: &Graph, inners: &[Graph]) -> Result
 {
     let names = names_of(alloc, inners, outer.labels())?;
     let copy = merged(alloc, outer, &names)?;
-    let told = copy.dependencies(alloc)?;
+    let told = copy.dependencies_by(alloc, folds)?;
     Ok(told)
 }

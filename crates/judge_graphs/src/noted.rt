@@ -11,7 +11,7 @@ ghost use Rattle.judge_pool.specs.declared.layer.Trouble.TheVariants.{Wide};
 ghost use Rattle.judge_pool.specs.declared.limits.TheConstants.{BAY_EDGES};
 ghost use Rattle.decision_graphs.specs.declared.limits.TheConstants.{LAYERS};
 
-use decision_graphs::Graph;
+use decision_graphs::{Folds, Graph};
 use ilk_base::Memory;
 use judge_pool::{Pool, Trouble, fold_layers};
 use std::alloc::Global;
@@ -91,7 +91,13 @@ fn shared(alloc: Global, graph: Graph) -> Result<Rc<Graph>, Memory>
 }
 
 // The graph of layers that take this in. It is too wide where they have more than so many edges.
-fn note(alloc: Global, pool: &mut Pool, intake: Intake, budget: usize) -> Result<Noted, Trouble>
+fn note(
+    alloc: Global,
+    pool: &mut Pool,
+    folds: &mut Folds,
+    intake: Intake,
+    budget: usize,
+) -> Result<Noted, Trouble>
     requires pool { IsPool pool.old }
     requires linked { AreLinked pool.old intake.start (letter_rows intake) intake.keeps.items }
     requires few { length (letter_rows intake) ≤ LAYERS }
@@ -115,7 +121,7 @@ fn note(alloc: Global, pool: &mut Pool, intake: Intake, budget: usize) -> Result
     )?;
     let states = drafts.states.as_slice();
     let whole = Graph::from_layers(alloc, states.len() as u32, &drafts.layers)?;
-    let reduced = whole.reduce(alloc)?;
+    let reduced = whole.reduce_by(alloc, folds)?;
     let graph = shared(alloc, reduced)?;
     let edges = budget - drafts.left;
     Ok(Noted {
@@ -168,6 +174,7 @@ fn find_noted(notes: &[Noted], intake: &Intake) -> Option<usize>
 fn noted_at(
     alloc: Global,
     pool: &mut Pool,
+    folds: &mut Folds,
     notes: &mut Vec<Noted>,
     intake: Intake,
     budget: usize,
@@ -193,7 +200,7 @@ fn noted_at(
         return Ok(place);
     }
     let place = held.len();
-    let noted = note(alloc, pool, intake, budget)?;
+    let noted = note(alloc, pool, folds, intake, budget)?;
     notes.push(noted)?;
     Ok(place)
 }
@@ -203,6 +210,7 @@ fn noted_at(
 pub(crate) fn taken_again(
     alloc: Global,
     pool: &mut Pool,
+    folds: &mut Folds,
     notes: &mut Vec<Noted>,
     intake: Intake,
     budget: usize,
@@ -221,7 +229,7 @@ pub(crate) fn taken_again(
         PlanFits plan (pool_on f pool.old) intake.start (letter_rows intake) intake.keeps.items
         → PlanPasses pool.old.view plan (letter_rows intake) budget) }
 {
-    let place = noted_at(alloc, pool, notes, intake, budget)?;
+    let place = noted_at(alloc, pool, folds, notes, intake, budget)?;
     let held = notes.as_slice();
     let left = edges_left(&held[place], budget)?;
     Ok(NotePlace { place, left })
@@ -232,6 +240,7 @@ pub(crate) fn taken_again(
 pub(crate) fn taken(
     alloc: Global,
     pool: &mut Pool,
+    folds: &mut Folds,
     notes: &mut Vec<Noted>,
     intake: Intake,
     budget: usize,
@@ -249,7 +258,7 @@ pub(crate) fn taken(
         PlanFits plan (pool_on f pool.old) intake.start (letter_rows intake) intake.keeps.items
         → PlanPasses pool.old.view plan (letter_rows intake) budget) }
 {
-    let place = noted_at(alloc, pool, notes, intake, budget)?;
+    let place = noted_at(alloc, pool, folds, notes, intake, budget)?;
     let held = notes.as_slice();
     let outer = take_noted(alloc, &held[place], budget)?;
     Ok(outer)

@@ -17,6 +17,7 @@ ghost use Rattle.judge_pool.specs.declared.limits.TheConstants.{BAY_EDGES};
 
 use crate::noted::{Intake, Noted, TakenGraph, taken};
 use bay_contract::Parts;
+use decision_graphs::Folds;
 use ilk_base::{BayId, Memory};
 use judge_intake::{Sharing, nothing, other_rows, outer_keeps};
 use judge_pool::{Pool, Trouble};
@@ -64,6 +65,7 @@ pub(crate) fn outer_graph(
     alloc: Global,
     pool: &mut Pool,
     letters: &[Vec<usize>],
+    folds: &mut Folds,
     notes: &mut Vec<Noted>,
     station: &Station,
     parts: &Parts,
@@ -97,7 +99,7 @@ pub(crate) fn outer_graph(
 {
     let _count = station.part_count();
     let intake = outer_intake(alloc, pool, letters, station, parts, sharing, bay, others)?;
-    let outer = taken(alloc, pool, notes, intake, left)?;
+    let outer = taken(alloc, pool, folds, notes, intake, left)?;
     let _labels = outer.graph.as_ref().labels();
     Ok(outer)
 }

@@ -9,7 +9,7 @@ ghost use Rattle.judge_graphs.specs.Telling.{IsToldBy, HaveTold, AreThese};
 
 use crate::graphs::{BayGraphs, ViewGraphs};
 use crate::layers_told::tells_of;
-use decision_graphs::Graph;
+use decision_graphs::{Folds, Graph};
 use ilk_base::Memory;
 use std::alloc::Global;
 
@@ -28,18 +28,24 @@ fn either(alloc: Global, first: &[bool], second: &[bool]) -> Result<Vec<bool>, M
 }
 
 // For each other part, in document order, whether the graphs of this view tell of its layer.
-fn view_tells(alloc: Global, graphs: &ViewGraphs) -> Result<Vec<bool>, Memory>
+fn view_tells(alloc: Global, folds: &mut Folds, graphs: &ViewGraphs) -> Result<Vec<bool>, Memory>
     requires { AreInnersOf graphs.now.outer.value.labels graphs.now.inner.items }
     ensures count { IfOk result (λ v. length v.items ≡ length graphs.now.outer.value.layers) }
     ensures told { IfOk result (λ v. (j : ℕ) → j < length graphs.now.outer.value.layers
         → (slice_index_or v.items j false ≡ true) ↔ TellsOf graphs.now.outer.value graphs.now.inner.items j) }
 {
-    let told = tells_of(alloc, graphs.outer.as_ref(), &graphs.inner)?;
+    let told = tells_of(alloc, folds, graphs.outer.as_ref(), &graphs.inner)?;
     Ok(told)
 }
 
 // For each other part, in document order, whether the graphs of one of the two views tell of its layer.
-fn told_layers(alloc: Global, gap: &ViewGraphs, load: &ViewGraphs) -> Result<Vec<bool>, Memory>
+fn told_layers(
+    alloc: Global,
+    gap_folds: &mut Folds,
+    load_folds: &mut Folds,
+    gap: &ViewGraphs,
+    load: &ViewGraphs,
+) -> Result<Vec<bool>, Memory>
     requires same { length gap.now.outer.value.layers ≡ length load.now.outer.value.layers }
     requires gap_inners { AreInnersOf gap.now.outer.value.labels gap.now.inner.items }
     requires load_inners { AreInnersOf load.now.outer.value.labels load.now.inner.items }
@@ -47,8 +53,8 @@ fn told_layers(alloc: Global, gap: &ViewGraphs, load: &ViewGraphs) -> Result<Vec
     ensures told { IfOk result (λ v. (j : ℕ) → j < length gap.now.outer.value.layers → (slice_index_or v.items j false ≡ true)
         ↔ (TellsOf gap.now.outer.value gap.now.inner.items j ⊎ TellsOf load.now.outer.value load.now.inner.items j)) }
 {
-    let by_gap = view_tells(alloc, gap)?;
-    let by_load = view_tells(alloc, load)?;
+    let by_gap = view_tells(alloc, gap_folds, gap)?;
+    let by_load = view_tells(alloc, load_folds, load)?;
     let told = either(alloc, &by_gap, &by_load)?;
     Ok(told)
 }
@@ -114,6 +120,8 @@ fn before_like<'b>(
 // a part before whose graphs are these.
 pub(crate) fn told_like(
     alloc: Global,
+    gap_folds: &mut Folds,
+    load_folds: &mut Folds,
     bays: &[Option<BayGraphs>],
     gap: &ViewGraphs,
     load: &ViewGraphs,
@@ -130,7 +138,7 @@ pub(crate) fn told_like(
             Ok(told)
         }
         None => {
-            let told = told_layers(alloc, gap, load)?;
+            let told = told_layers(alloc, gap_folds, load_folds, gap, load)?;
             Ok(told)
         }
     }

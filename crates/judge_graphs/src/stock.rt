@@ -8,6 +8,7 @@ ghost use Rattle.judge_graphs.specs.Stocking.{IsStock};
 use crate::labelled::InnerNotes;
 use crate::noted::Noted;
 use bay_contract::Parts;
+use decision_graphs::Folds;
 use ilk_base::Memory;
 use judge_intake::letter_rows;
 use judge_pool::{Pool, View};
@@ -17,12 +18,13 @@ use std::alloc::Global;
 // A stock of so many values is large.
 const MANY_VALUES: usize = 400_000;
 
-/// Values of one view, the numbers of each part's letters among them, and the outer graphs of bays and the inner ones
-/// of switches that were unlike all before them.
+/// Values of one view, the numbers of each part's letters among them, layers that were folded, and the outer graphs of
+/// bays and the inner ones of switches that were unlike all before them.
 #[derive(Drop)]
 pub struct Stock {
     pub(crate) pool: Pool,
     pub(crate) letters: Vec<Vec<usize>>,
+    pub(crate) folds: Folds,
     pub(crate) outer: Vec<Noted>,
     pub(crate) inner: InnerNotes,
 }
@@ -44,6 +46,7 @@ pub fn stock_of(
     Ok(Stock {
         pool,
         letters,
+        folds: Folds::new(alloc),
         outer: Vec::new(alloc),
         inner: InnerNotes {
             graphs: Vec::new(alloc),

@@ -74,3 +74,13 @@ returns-clause-graphs c =
           (record { station = c.is_station.ensures; alphabets = c.requires.lettered }) switches gap load
           c.in_ok-told.ensures.count c.in_ok-told.ensures.tells;
     }
+
+pub returns-clause-gap : goal.returns-clause-gap
+returns-clause-gap c =
+    let s = c.in_ok-gap.ensures.stock in
+    record { pool = s.pool; of_view = s.of_view; letters = s.letters; outer = s.outer; inner = s.inner }
+
+pub returns-clause-load : goal.returns-clause-load
+returns-clause-load c =
+    let s = c.in_ok-load.ensures.stock in
+    record { pool = s.pool; of_view = s.of_view; letters = s.letters; outer = s.outer; inner = s.inner }
