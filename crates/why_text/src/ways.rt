@@ -1,16 +1,19 @@
 //! The ways of an explanation.
-ghost use Rattle.std.specs.Prelude.{◌≡◌, ◌<◌, ◌++◌, length, IfOk, OnOk};
+ghost use Rattle.std.specs.Prelude.{◌≡◌, ◌<◌, ◌++◌, ℕ, List, false, length, codes, IfOk, OnOk};
 ghost use Rattle.station_graph.specs.Alike.{IsVector};
+ghost use Rattle.station_graph.specs.Connection.{Touching};
 ghost use Rattle.station_graph.specs.Diagram.{node_count};
 ghost use Rattle.denial_explain.specs.Ways.{AllBelow};
-ghost use Rattle.denial_explain.specs.ExplanationText.{node_lines, ExplanationFits};
+ghost use Rattle.denial_explain.specs.ExplanationText.{node_lines, ChainFits, ExplanationFits};
+ghost use Rattle.why_text.specs.Devices.{IsWalk};
+ghost use Rattle.why_text.specs.WhyLines.{IsChainText};
 ghost use Rattle.why_text.specs.WhyText.{counted_in, shown_in, AreWaysOf, IsEarthedText, IsLoadText, TellsWays};
 ghost use Rattle.why_text.specs.WhyText.{WalksIn};
 
 use crate::lines::push_node;
 use crate::steps::chain_text;
 use crate::vectors::{counted_vector, shown_vector};
-use denial_explain::Explanation;
+use denial_explain::{Chain, Explanation};
 use ilk_base::{Memory, NodeId, Text};
 use station_graph::{NodeList, Station, Vector};
 use std::alloc::Global;
@@ -46,6 +49,26 @@ fn push_nodes(text: &mut Text, station: &Station, nodes: &NodeList) -> Result<()
     Ok(())
 }
 
+// Appends the lines of a chain to a tap.
+fn push_tap(
+    text: &mut Text,
+    alloc: Global,
+    station: &Station,
+    vector: &Vector,
+    counted: &Vector,
+    chain: &Chain,
+) -> Result<(), Memory>
+    requires vector { IsVector station.now vector.now }
+    requires counted { IsVector station.now counted.now }
+    requires walk { IsWalk (Touching false station.now counted.now) chain.now.nodes }
+    requires fits { ChainFits station.now chain.now }
+    ensures { OnOk result ((lines : List ℕ) × IsChainText station.now vector.now counted.now (codes "tap\n") chain.now lines
+        × (text.new ≡ text.old ++ lines)) }
+{
+    text.push(chain_text(alloc, station, vector, counted, b"tap\n", chain)?.bytes())?;
+    Ok(())
+}
+
 // The load on both sides and what is bonded, where that is told.
 fn load_text(
     alloc: Global,
@@ -64,11 +87,51 @@ fn load_text(
     let Some((first, second)) = &e.taps else {
         return Ok(text);
     };
-    text.push(chain_text(alloc, station, vector, counted, b"tap\n", first)?.bytes())?;
-    text.push(chain_text(alloc, station, vector, counted, b"tap\n", second)?.bytes())?;
+    push_tap(&mut text, alloc, station, vector, counted, first)?;
+    push_tap(&mut text, alloc, station, vector, counted, second)?;
     text.push(b"bonded\n")?;
     push_nodes(&mut text, station, &e.bonded)?;
     Ok(text)
+}
+
+// Appends how the first node is earthed, where that is told.
+fn push_earthed(
+    text: &mut Text,
+    alloc: Global,
+    station: &Station,
+    vector: &Vector,
+    counted: &Vector,
+    e: &Explanation,
+) -> Result<(), Memory>
+    requires vector { IsVector station.now vector.now }
+    requires counted { IsVector station.now counted.now }
+    requires walks { WalksIn station.now counted.now e.now }
+    requires fits { ExplanationFits station.now e.now }
+    ensures { OnOk result ((lines : List ℕ) × IsEarthedText station.now vector.now counted.now e.now.earthed lines
+        × (text.new ≡ text.old ++ lines)) }
+{
+    text.push(earthed_text(alloc, station, vector, counted, e)?.bytes())?;
+    Ok(())
+}
+
+// Appends the load on both sides and what is bonded, where that is told.
+fn push_load(
+    text: &mut Text,
+    alloc: Global,
+    station: &Station,
+    vector: &Vector,
+    counted: &Vector,
+    e: &Explanation,
+) -> Result<(), Memory>
+    requires vector { IsVector station.now vector.now }
+    requires counted { IsVector station.now counted.now }
+    requires walks { WalksIn station.now counted.now e.now }
+    requires fits { ExplanationFits station.now e.now }
+    ensures { OnOk result ((lines : List ℕ) × IsLoadText station.now vector.now counted.now e.now.taps e.now.bonded lines
+        × (text.new ≡ text.old ++ lines)) }
+{
+    text.push(load_text(alloc, station, vector, counted, e)?.bytes())?;
+    Ok(())
 }
 
 // All ways, in these positions, of which these count.
@@ -86,8 +149,8 @@ fn told_ways(
     ensures { IfOk result (TellsWays station.now vector.now counted.now e.now) }
 {
     let mut text = chain_text(alloc, station, vector, counted, b"live\n", &e.live)?;
-    text.push(earthed_text(alloc, station, vector, counted, e)?.bytes())?;
-    text.push(load_text(alloc, station, vector, counted, e)?.bytes())?;
+    push_earthed(&mut text, alloc, station, vector, counted, e)?;
+    push_load(&mut text, alloc, station, vector, counted, e)?;
     Ok(text)
 }
 

@@ -1,5 +1,5 @@
 //! The text of `why`.
-ghost use Rattle.std.specs.Prelude.{◌≡◌, ◌++◌, codes, Some, IfOk};
+ghost use Rattle.std.specs.Prelude.{◌≡◌, ◌++◌, [], codes, Some, IfOk, OnOk};
 ghost use Rattle.ilk_base.specs.declared.words.Rule.{Rule as AnyRule};
 ghost use Rattle.station_graph.specs.Alike.{IsVector};
 ghost use Rattle.station_graph.specs.CentralRules.{Breaks, IsOperation};
@@ -18,6 +18,15 @@ use station_graph::{Station, Vector};
 use std::alloc::Global;
 use whatever_text::whatever_text;
 
+// Appends the operation.
+fn push_operation(text: &mut Text, alloc: Global, station: &Station, op: Op) -> Result<(), Memory>
+    requires { IsOperation station.now op }
+    ensures { OnOk result (text.new ≡ text.old ++ operation station.now op) }
+{
+    text.push(operation_text(alloc, station, op)?.bytes())?;
+    Ok(())
+}
+
 // The line of a release, or the first line of a denial: the head, and the operation.
 fn headed(alloc: Global, head: &[u8], station: &Station, op: Op) -> Result<Text, Memory>
     requires { IsOperation station.now op }
@@ -25,32 +34,32 @@ fn headed(alloc: Global, head: &[u8], station: &Station, op: Op) -> Result<Text,
 {
     let mut text = Text::new(alloc);
     text.push(head)?;
-    text.push(operation_text(alloc, station, op)?.bytes())?;
+    push_operation(&mut text, alloc, station, op)?;
     Ok(text)
 }
 
-// The line with the rule, and those of the reading.
-fn denied_text(
+// Appends the line with the rule, and those of the reading.
+fn push_denied(
+    text: &mut Text,
     alloc: Global,
     station: &Station,
     readings: &Readings,
     op: Op,
     rule: Rule,
     reading: &Vector,
-) -> Result<Text, Memory>
+) -> Result<(), Memory>
     requires words { AreWords station.now readings.now }
     requires op { IsOperation station.now op }
     requires reading { IsVector station.now reading.now }
-    ensures { IfOk result (λ t. t ≡ denied_line station.now rule op
+    ensures { OnOk result (text.new ≡ text.old ++ denied_line station.now rule op
         ++ position_lines (codes "with ") op.switch.0 readings.now reading.now station.now) }
 {
-    let mut text = Text::new(alloc);
     text.push(b"denied ")?;
     text.push(rule_name(rule))?;
     text.push(b" ")?;
-    text.push(operation_text(alloc, station, op)?.bytes())?;
+    push_operation(text, alloc, station, op)?;
     text.push(positions_text(alloc, b"with ", station, readings, reading, op.switch)?.bytes())?;
-    Ok(text)
+    Ok(())
 }
 
 // Why the operation breaks a rule in this reading: a law on the ways of the explanation.
@@ -71,7 +80,74 @@ fn explained(
     explain(alloc, station, op, reading)
 }
 
-// Why the operation is denied: the text of a denial with this reading.
+// Puts the text of a denial with this explanation in an empty text.
+fn tell_denial<J: Judge>(
+    text: &mut Text,
+    alloc: Global,
+    station: &Station,
+    judge: &J,
+    readings: &Readings,
+    op: Op,
+    reading: &Vector,
+    explanation: &Explanation,
+) -> Result<(), Memory>
+    requires empty { text.old ≡ [] }
+    requires same { (J.meaning judge.now).diagram ≡ station.now }
+    requires words { AreWords station.now readings.now }
+    requires op { IsOperation station.now op }
+    requires reading { IsVector station.now reading.now }
+    requires explains { Explains station.now reading.now op explanation.now }
+    requires fits { ExplanationFits station.now explanation.now }
+    requires walks { WalksIn station.now (counted_in explanation.now.rule station.now
+        (shown_in explanation.now.rule reading.now explanation.now.op)) explanation.now }
+    ensures { OnOk result (TellsDenial station.now readings.now reading.now op text.new) }
+{
+    push_denied(
+        text,
+        alloc,
+        station,
+        readings,
+        op,
+        explanation.rule,
+        reading,
+    )?;
+    text.push(whatever_text(alloc, station, judge, readings, op)?.bytes())?;
+    text.push(ways_text(alloc, station, reading, explanation)?.bytes())?;
+    Ok(())
+}
+
+// Why the operation is denied: puts the text of a denial with this reading in an empty text.
+fn explain_denial<J: Judge>(
+    text: &mut Text,
+    alloc: Global,
+    station: &Station,
+    judge: &J,
+    readings: &Readings,
+    op: Op,
+    reading: &Vector,
+) -> Result<(), Memory>
+    requires empty { text.old ≡ [] }
+    requires same { (J.meaning judge.now).diagram ≡ station.now }
+    requires words { AreWords station.now readings.now }
+    requires op { IsOperation station.now op }
+    requires reading { IsVector station.now reading.now }
+    requires broken { (rule : AnyRule) × Breaks station.now reading.now op (Some rule) }
+    ensures { OnOk result (TellsDenial station.now readings.now reading.now op text.new) }
+{
+    let explanation = explained(alloc, station, op, reading)?;
+    tell_denial(
+        text,
+        alloc,
+        station,
+        judge,
+        readings,
+        op,
+        reading,
+        &explanation,
+    )
+}
+
+// The text of a denial with this reading.
 fn denial_text<J: Judge>(
     alloc: Global,
     station: &Station,
@@ -87,10 +163,8 @@ fn denial_text<J: Judge>(
     requires broken { (rule : AnyRule) × Breaks station.now reading.now op (Some rule) }
     ensures { IfOk result (TellsDenial station.now readings.now reading.now op) }
 {
-    let explanation = explained(alloc, station, op, reading)?;
-    let mut text = denied_text(alloc, station, readings, op, explanation.rule, reading)?;
-    text.push(whatever_text(alloc, station, judge, readings, op)?.bytes())?;
-    text.push(ways_text(alloc, station, reading, &explanation)?.bytes())?;
+    let mut text = Text::new(alloc);
+    explain_denial(&mut text, alloc, station, judge, readings, op, reading)?;
     Ok(text)
 }
 
