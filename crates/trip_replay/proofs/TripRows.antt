@@ -1,12 +1,17 @@
 -- The records of a log with trips, and the events that they say.
-use Rattle.std.proofs.Common.{◌≡◌, ◌+◌, ◌<◌, ℕ, zero, suc, true, List, [], ◌∷◌, ◌++◌, length, take, drop}
-use Rattle.std.proofs.Common.{map, refl, sym, ap, subst, ◌∙◌, arith}
+use Rattle.std.proofs.Common.{◌≡◌, ◌+◌, ◌<◌, ◌≤◌, ℕ, zero, suc, true, List, [], ◌∷◌, ◌++◌, length, take, drop}
+use Rattle.std.proofs.Common.{map, refl, sym, ap, subst, ◌∙◌, inr, arith}
 use Rattle.std.specs.Prelude.{All, codes}
 use Rattle.std.specs.List.{AllZip}
 use Rattle.std.specs.Str.{is_utf8}
 use Rattle.std.proofs.lemmas.List.{length-append, map-append}
 use Rattle.std.proofs.lemmas.Str.{is_utf8-from_IsUtf8}
+use Rattle.ilk_base.specs.declared.input_fault.InputFault.{InputFault}
+use Rattle.ilk_base.specs.declared.input_fault.InputFault.TheVariants.{Memory, Refused}
+use Rattle.ilk_base.specs.declared.limits.TheConstants.{FILE_BYTES}
+use Rattle.ilk_base.specs.Inputs.{ForRefused}
 use Rattle.station_graph.specs.Diagram.{Diagram}
+use Rattle.double_points.specs.Rows.{rows_of}
 use Rattle.reservation_core.specs.declared.values.LogEvent.{LogEvent}
 use Rattle.log_replay.specs.declared.limits.TheConstants.{MOST_RECORDS}
 use Rattle.log_replay.specs.RecordFaults.{field}
@@ -16,7 +21,7 @@ use Rattle.log_replay.proofs.LogLemmas.{next, AllZip-push, order_more}
 use Rattle.log_replay.proofs.ReportLemmas.{all_more}
 use Rattle.trip_replay.specs.declared.event.TripLogEvent.{TripLogEvent}
 use Rattle.trip_replay.specs.TripRecords.{as_log, TripMayBeTold, TripSays, IsTripRow, TripForm}
-use Rattle.trip_replay.specs.TripLogs.{TripTell}
+use Rattle.trip_replay.specs.TripLogs.{TripTell, IsFirstTripFault, IsTripLogFault}
 
 -- ---- one record
 
@@ -75,3 +80,11 @@ each_told d [] (e ∷ events) each k x lt = absurd each
 each_told d (row ∷ rows) [] each k x lt = absurd each
 each_told d (row ∷ rows) (e ∷ events) each zero x lt = each.0.told
 each_told d (row ∷ rows) (e ∷ events) each (suc k) x lt = each_told d rows events each.1 k x (omega (arith, lt))
+
+-- ---- no log
+
+-- a record with a fault, where the bytes are not too many
+pub no_log : (d : Diagram) (bytes : List ℕ) (e : InputFault) → length bytes ≤ FILE_BYTES
+    → ForRefused e (IsFirstTripFault d (rows_of bytes)) → ForRefused e (IsTripLogFault d bytes)
+no_log d bytes Memory few fault = tt
+no_log d bytes (Refused r) few fault = inr (few, fault)

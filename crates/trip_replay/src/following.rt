@@ -7,6 +7,7 @@ ghost use Rattle.log_replay.specs.Replay.{ReportFits};
 ghost use Rattle.log_replay.specs.Telling.{IsShowable, IsWholeReport};
 ghost use Rattle.trip_core.specs.declared.values.TheConstants.{EVENTS};
 ghost use Rattle.trip_core.specs.Facts.{TripFacts};
+ghost use Rattle.trip_core.specs.Start.{IsTripStart};
 ghost use Rattle.trip_core.specs.TripRuns.{TripHeadline};
 ghost use Rattle.trip_replay.specs.TripRecords.{TripMayBeTold};
 ghost use Rattle.trip_replay.specs.TripLogLines.{trip_start_of, TripHasStart, trip_lines_of};
@@ -50,6 +51,40 @@ fn follow<J: Judge>(
     }
 }
 
+// The replay in a new world.
+fn replay_in<J: Judge>(
+    alloc: Global,
+    station: &Station,
+    start: &Vector,
+    world: &mut TripWorld,
+    log: &TripLog,
+    judge: &J,
+) -> Result<TripReport, Memory>
+    requires same { (J.meaning judge.now).diagram ≡ station.now }
+    requires log { All (TripMayBeTold station.now) log.now }
+    requires start { start.now ≡ trip_start_of station.now log.now }
+    requires has { TripHasStart station.now log.now }
+    requires new { IsTripStart station.now start.now world.old }
+    ensures replay { IfOk result (IsTripReplay (J.meaning judge.now) log.now) }
+    ensures count { IfOk result (λ r. r.count ≡ length log.now) }
+    ensures fits { IfOk result (ReportFits station.now) }
+    ensures showable { IfOk result (λ r. All (IsShowable station.now) r.out) }
+{
+    // Their clauses are used; they do nothing.
+    judge.diagram_is_station();
+    trip_facts_hold_at_the_start(judge);
+    let mut outcomes = Vec::new(alloc);
+    for i in 0..log.count() {
+        let outcome = follow(world, alloc, station, log.event(i), judge)?;
+        is_numbered(&outcome);
+        if let Some(which) = broken(&outcome) {
+            return Ok(TripReport::new(outcomes, Some((i + 1, which)), log.count()));
+        }
+        outcomes.push(outcome)?;
+    }
+    Ok(TripReport::new(outcomes, None, log.count()))
+}
+
 // The replay from a start.
 fn replay_from<J: Judge>(
     alloc: Global,
@@ -67,20 +102,8 @@ fn replay_from<J: Judge>(
     ensures fits { IfOk result (ReportFits station.now) }
     ensures showable { IfOk result (λ r. All (IsShowable station.now) r.out) }
 {
-    // Their clauses are used; they do nothing.
-    judge.diagram_is_station();
-    trip_facts_hold_at_the_start(judge);
     let mut world = TripWorld::new(alloc, station, start)?;
-    let mut outcomes = Vec::new(alloc);
-    for i in 0..log.count() {
-        let outcome = follow(&mut world, alloc, station, log.event(i), judge)?;
-        is_numbered(&outcome);
-        if let Some(which) = broken(&outcome) {
-            return Ok(TripReport::new(outcomes, Some((i + 1, which)), log.count()));
-        }
-        outcomes.push(outcome)?;
-    }
-    Ok(TripReport::new(outcomes, None, log.count()))
+    replay_in(alloc, station, start, &mut world, log, judge)
 }
 
 /// The replay of a log with trips: all bays of the station take the steps that the log says, and breakers open

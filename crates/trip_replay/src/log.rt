@@ -1,9 +1,10 @@
 //! A log with trips.
-ghost use Rattle.std.specs.Prelude.{◌≡◌, ◌≤◌, ◌<◌, length, map, slice_get, Some, All, IfOk, IfErr};
+ghost use Rattle.std.specs.Prelude.{◌≡◌, ◌≤◌, ◌<◌, [], length, map, slice_get, Some, All, IfOk, IfErr, OnOk};
 ghost use Rattle.ilk_base.specs.Inputs.{ForRefused};
+ghost use Rattle.double_points.specs.Rows.{rows_of};
 ghost use Rattle.log_replay.specs.declared.limits.TheConstants.{MOST_RECORDS};
 ghost use Rattle.trip_replay.specs.TripRecords.{as_log, TripMayBeTold};
-ghost use Rattle.trip_replay.specs.TripLogs.{IsTripLog, IsTripLogFault};
+ghost use Rattle.trip_replay.specs.TripLogs.{TripTell, IsTripLog, IsFirstTripFault, IsTripLogFault};
 
 use crate::event::TripLogEvent;
 use crate::record::read_trip_record;
@@ -79,6 +80,34 @@ fn as_log(event: TripLogEvent) -> LogEvent
     }
 }
 
+// Adds to none the events of all records, and the same as those of a log without trips.
+fn read_events(
+    alloc: Global,
+    station: &Station,
+    bytes: &[u8],
+    events: &mut Vec<TripLogEvent>,
+    plain: &mut Vec<LogEvent>,
+) -> Result<(), TripLogFault>
+    requires events { events.old.items ≡ [] }
+    requires plain { plain.old.items ≡ [] }
+    ensures tell { OnOk result (TripTell station.now (rows_of bytes.now) events.new.items) }
+    ensures plain { OnOk result (plain.new.items ≡ map as_log events.new.items) }
+    ensures err { IfErr result (λ e. ForRefused e (IsFirstTripFault station.now (rows_of bytes.now))) }
+{
+    let mut rows = Rows::new(alloc, bytes);
+    let mut row = ByteRecord::new(alloc);
+    'records: while rows.next(&mut row)? {
+        match read_trip_record(station, plain.as_slice(), &row) {
+            Ok(event) => {
+                events.push(event)?;
+                plain.push(as_log(event))?;
+            }
+            Err(number) => return Err(TripLogFault::refused(number, events.len() as u32 + 1)),
+        }
+    }
+    Ok(())
+}
+
 /// Reads a log with trips: that of `log_replay::read_log`, with one further record, `trip` and the path of a
 /// breaker. Bytes are refused at their first record with a fault, as there; 2 also where the path of a `trip` is no
 /// breaker's. Time and memory are those of `read_log`.
@@ -95,19 +124,13 @@ pub fn read_trip_log(
     if bytes.len() > FILE_BYTES {
         return Err(TripLogFault::refused(5, 0));
     }
-    let mut rows = Rows::new(alloc, bytes);
-    let mut row = ByteRecord::new(alloc);
     let mut events = Vec::new(alloc);
     let mut plain = Vec::new(alloc);
-    while rows.next(&mut row)? {
-        match read_trip_record(station, &plain, &row) {
-            Ok(event) => {
-                events.push(event)?;
-                plain.push(as_log(event))?;
-            }
-            Err(number) => return Err(TripLogFault::refused(number, events.len() as u32 + 1)),
+    match read_events(alloc, station, bytes, &mut events, &mut plain) {
+        Ok(()) => {
+            let plain = Log::of(plain);
+            Ok(TripLog { events, plain })
         }
+        Err(fault) => Err(fault),
     }
-    let plain = Log::of(plain);
-    Ok(TripLog { events, plain })
 }

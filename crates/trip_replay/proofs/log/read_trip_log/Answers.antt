@@ -1,72 +1,17 @@
-use Rattle.std.proofs.Common.{◌≡◌, ◌<◌, ◌+◌, ◌∙◌, ℕ, sym, ap, inr, subst, length, take, map, List}
-use Rattle.std.proofs.lemmas.List.{length-map}
-use Rattle.csv.specs.Records.{fields_of}
+use Rattle.std.proofs.Common.{◌≤◌, length, arith}
 use Rattle.double_points.specs.Rows.{rows_of}
-use Rattle.reservation_core.specs.declared.values.LogEvent.{LogEvent}
-use Rattle.log_replay.specs.declared.limits.TheConstants.{MOST_RECORDS}
-use Rattle.log_replay.specs.Log.{MayFollow}
-use Rattle.log_replay.proofs.LogLemmas.{next, nothing_left}
-use Rattle.trip_replay.specs.TripRecords.{as_log, TripRecordFault}
-use Rattle.trip_replay.specs.TripLogs.{TripTell}
-use Rattle.trip_replay.proofs.TripRows.{trip_tell_more, plain_more, each_told}
+use Rattle.ilk_base.specs.declared.limits.TheConstants.{FILE_BYTES}
+use Rattle.trip_replay.proofs.TripRows.{each_told, no_log}
 use Rattle.trip_replay.proofs.log.read_trip_log.Goals as goal
 
-pub loop-plain-preserved : goal.loop-plain-preserved
-loop-plain-preserved c =
-    let all = rows_of c.args.bytes.now in
-    let inv = c.loop-plain.invariant in
-    let events = c.loop-plain.events.items in
-    let took = sym inv.left ∙ rw c.if-branch.true at c.in_ok-next.ensures.next in
-    let read = c.in-Ok.ensures in
-    let before = c.deref.ensures.value ∙ inv.plain in
-    let follows : MayFollow (map as_log events) (as_log c.in-Ok.event) = subst (λ (x : List LogEvent). MayFollow x
-    (as_log c.in-Ok.event)) before read.follows in
-    let count : length c.loop-plain.plain.items ≡ length events = ap length inv.plain ∙ length-map events as_log in
-    let few : length events < MOST_RECORDS = subst (λ (n : ℕ). n < MOST_RECORDS) count (subst (λ
-    (x : List LogEvent). length x < MOST_RECORDS) c.deref.ensures.value read.few) in
-    let more = trip_tell_more c.args.station.now all events _
-    (fields_of c.next.new.row) c.in-Ok.event _ c.in_ok-push-in-Ok.ensures.items took inv.tell read.ok read.text
-    follows few in
-    record {
-      short = inv.short;
-      left = more.1;
-      tell = more.0;
-      plain =
-          plain_more events _ c.loop-plain.plain.items _ c.in-Ok.event c.as_log.result inv.plain
-          c.in_ok-push-in-Ok.ensures.items c.as_log.ensures c.in_ok-push-in-Ok-2.ensures.items;
-    }
+pub returns-in-Ok-clause-ok : goal.returns-in-Ok-clause-ok
+returns-in-Ok-clause-ok c = record { few_bytes = omega arith; tell = c.in-Ok.ensures.tell }
+
+pub returns-in-Ok-clause-told : goal.returns-in-Ok-clause-told
+returns-in-Ok-clause-told c =
+    each_told c.args.station.now (rows_of c.args.bytes.now) c.read_events.new.events.items c.in-Ok.ensures.tell.each
 
 pub returns-in-Err-clause-err : goal.returns-in-Err-clause-err
 returns-in-Err-clause-err c =
-    let all = rows_of c.args.bytes.now in
-    let inv = c.loop-plain.invariant in
-    let events = c.loop-plain.events.items in
-    let row = fields_of c.next.new.row in
-    let n = next all (length events) row _ (sym inv.left ∙ rw c.if-branch.true at c.in_ok-next.ensures.next) in
-    rw c.refused-in-Err.ensures (inr (
-      inv.short,
-      record {
-        before = events;
-        row = row;
-        tell = inv.tell;
-        stands = n.at;
-        line = ap (λ k. k + 1) (c.len.ensures ∙ c.loop-plain.events.ok.0);
-        fault = subst (λ (before : List LogEvent). TripRecordFault c.args.station.now before row c.in-Err.number)
-            (c.deref.ensures.value ∙ inv.plain) c.in-Err.ensures.err;
-      },
-    ))
-
-pub returns-clause-ok : goal.returns-clause-ok
-returns-clause-ok c =
-    let all = rows_of c.args.bytes.now in
-    let inv = c.loop-plain.invariant in
-    let ended = sym inv.left ∙ rw c.if-branch.false at c.in_ok-next.ensures.next in
-    record {
-      few_bytes = inv.short;
-      tell = subst (λ rows. TripTell c.args.station.now rows c.loop-plain.events.items)
-          (nothing_left all (length c.loop-plain.events.items) ended) inv.tell;
-    }
-
-pub returns-clause-told : goal.returns-clause-told
-returns-clause-told c = each_told c.args.station.now (take (length c.loop-plain.events.items)
-    (rows_of c.args.bytes.now)) c.loop-plain.events.items c.loop-plain.invariant.tell.each
+    let few : length c.args.bytes.now ≤ FILE_BYTES = omega arith in
+    no_log c.args.station.now c.args.bytes.now c.in-Err.fault few c.in-Err.ensures.err
