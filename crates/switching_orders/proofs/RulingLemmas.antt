@@ -1,8 +1,8 @@
 -- When an order is accepted, and what its ruling is.
-use Rattle.std.proofs.Common.{◌≡◌, ◌≢◌, ◌∙◌, sym, ap, subst, refl, ℕ, zero, suc, ◌+◌, ◌≤◌, Bool, List, [], ◌∷◌, length}
+use Rattle.std.proofs.Common.{◌≡◌, ◌≢◌, ◌∙◌, sym, ap, subst, refl, ℕ, zero, suc, ◌+◌, ◌≤◌, ◌<◌, Bool, List, [], ◌∷◌, length}
 use Rattle.std.proofs.Common.{take, take_all, arith, Option, Some, None}
 use Rattle.std.specs.Prelude.{slice_get, ◌↔◌}
-use Rattle.std.proofs.lemmas.Option.{none-some, slice_get_past}
+use Rattle.std.proofs.lemmas.Option.{none-some, slice_get_past, slice_get_within, get_or_from_slice_get}
 use Rattle.ilk_base.specs.declared.words.Rule.{Rule}
 use Rattle.ilk_base.specs.declared.words.Rule.TheVariants.{R1, R2, R3}
 use Rattle.ilk_base.specs.declared.words.Op.{Op}
@@ -11,8 +11,14 @@ use Rattle.station_graph.specs.CentralRules.{carried_out, Breaks}
 use Rattle.switching_orders.specs.declared.ruling.Step.{Step}
 use Rattle.switching_orders.specs.declared.ruling.Step.TheVariants as step
 use Rattle.switching_orders.specs.declared.ruling.Ruling.{Ruling}
-use Rattle.switching_orders.specs.OrderRuling.{after_all, Rules, IsAcceptedFrom, StopsAt, IsRuling}
+use Rattle.switching_orders.specs.OrderRuling.{after_all, Rules, IsAcceptedFrom, StopsAt, IsRuling, AreOperations}
 use Rattle.switching_orders.proofs.Steps.{EachAfter, EachAfter-push, index-from_EachAfter, after_all-append, take-next}
+
+-- each step is an operation of the station
+pub is_operation : (d : Diagram) (ops : List Op) (k : ℕ) (op : Op) → AreOperations d ops → slice_get ops k ≡ Some op
+    → op.switch.0 < length d.switches
+is_operation d ops k op all at = subst (λ (o : Op). o.switch.0 < length d.switches)
+    (get_or_from_slice_get ops k op op at) (all k op (slice_get_within ops k op at))
 
 abbrev pub IsOk : Diagram → List Bool → Op → Type 0
 IsOk d v op = Rules d v op step.Ok

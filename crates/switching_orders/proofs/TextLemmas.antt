@@ -1,16 +1,17 @@
 -- The lines of the steps, one after another.
 use Rattle.std.proofs.Common.{◌≡◌, ◌∙◌, sym, ap, append_assoc, ℕ, ◌+◌, ◌<◌, ◌≤◌, List, [], ◌∷◌, ◌++◌, length, take}
-use Rattle.std.proofs.Common.{arith, append-nil, Some}
-use Rattle.std.specs.Prelude.{slice_get, codes, decimal}
+use Rattle.std.proofs.Common.{arith, append-nil, refl, Bool, true, false, Option, Some, None, Result, Ok, Err}
+use Rattle.std.specs.Prelude.{slice_get, codes, decimal, is_some, OnOk}
 use Rattle.std.specs.List.{enumerate_from, flat_map}
 use Rattle.std.proofs.lemmas.Grind.{flat_map-append, common_steps}
 use Rattle.std.proofs.lemmas.Option.{slice_get_within}
 use Rattle.ilk_base.specs.declared.words.Op.{Op}
 use Rattle.station_graph.specs.Diagram.{Diagram}
+use Rattle.switching_orders.specs.declared.ruling.Step.{Step}
 use Rattle.switching_orders.specs.declared.ruling.Step.TheVariants as step
 use Rattle.switching_orders.specs.declared.ruling.Ruling.{Ruling}
 use Rattle.switching_orders.specs.Undoing.{undone}
-use Rattle.switching_orders.specs.OrderText.{step_line, ok_lines, back_line}
+use Rattle.switching_orders.specs.OrderText.{step_line, ok_lines, stop_of, back_line, TellsEnd}
 use Rattle.switching_orders.proofs.Steps.{take-next}
 
 enumerate_from-push : {X : Type 0} (n m : ℕ) (xs : List X) (x : X) → m ≡ n + length xs →
@@ -49,3 +50,19 @@ accepted_text d ops reverse_ops count back passed with_count whole lines counted
     told
     ∙ (λ i. counted i ++ back_line d (reversed i) back back.stopped)
     ∙ (λ i. lines i ++ codes "accepted " ++ decimal (all i) ++ codes "\n" ++ back_line d (undone ops) back back.stopped)
+
+-- what is told where a step is not ok
+pub tells_stop : (d : Diagram) (start : List Bool) (ops : List Op) (r : Ruling) (o : Option Step) (text : List ℕ)
+    → is_some o ≡ true → text ≡ ok_lines d (take r.passed ops) ++ stop_of d ops r
+    → TellsEnd d start ops r o (record { text = text; differs = true })
+tells_stop d start ops r None text some is = absurd (cc some)
+tells_stop d start ops r (Some s) text some is = (refl, is)
+
+pub is_none : (o : Option Step) → is_some o ≡ false → o ≡ None
+is_none None none = refl
+is_none (Some s) none = absurd (cc none)
+
+-- what holds of a call that is ok, and what follows from it
+pub on_ok : {T E P Q : Type 0} (r : Result T E) → (P → Q) → OnOk r P → OnOk r Q
+on_ok (Ok x) follows is = follows is
+on_ok (Err e) follows is = tt

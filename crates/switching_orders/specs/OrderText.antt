@@ -42,6 +42,11 @@ abbrev pub back_line : Diagram → List Op → Ruling → Option Step → List �
 back_line d ops back None = codes "back accepted\n"
 back_line d ops back (Some s) = codes "back " ++ stop_of d ops back
 
+-- To the text before, the ruling on the order undone from the vector at its end is appended.
+abbrev pub TellsUndone : Diagram → List Bool → List Op → List ℕ → List ℕ → Type 0
+TellsUndone d start ops before after = (back : Ruling) × IsRuling d (after_all start ops) (undone ops) back
+    × (after ≡ before ++ back_line d (undone ops) back back.stopped)
+
 -- Where a step is denied or idle, the lines end with it, and the order differs. Else the count of the
 -- steps follows, and the ruling on the order undone from the vector at its end.
 abbrev pub TellsEnd : Diagram → List Bool → List Op → Ruling → Option Step → OrderReport → Type 0

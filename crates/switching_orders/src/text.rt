@@ -1,10 +1,11 @@
 //! The text of `order`.
-ghost use Rattle.std.specs.Prelude.{◌≡◌, ◌<◌, ◌≤◌, ◌++◌, ◌+◌, length, take, slice_get, codes, decimal, Some, None};
+ghost use Rattle.std.specs.Prelude.{◌≡◌, ◌<◌, ◌≤◌, ◌++◌, ◌+◌, [], length, take, slice_get, codes, decimal, Some, None};
 ghost use Rattle.std.specs.Prelude.{IfOk, OnOk};
 ghost use Rattle.station_graph.specs.CentralRules.{IsOperation};
 ghost use Rattle.switching_orders.specs.OrderRuling.{after_all, IsRuling, AreOperations};
 ghost use Rattle.switching_orders.specs.Undoing.{undone};
-ghost use Rattle.switching_orders.specs.OrderText.{ruling_words, step_line, ok_lines, stop_of, back_line, IsOrderText};
+ghost use Rattle.switching_orders.specs.OrderText.{ruling_words, step_line, ok_lines, stop_of, back_line, TellsUndone};
+ghost use Rattle.switching_orders.specs.OrderText.{IsOrderText};
 
 use crate::judging::judge_order;
 use crate::order::Order;
@@ -146,6 +147,48 @@ fn judge_back(
     judge_order(alloc, station, &end, back)
 }
 
+// Appends the ruling on the order undone, from the vector at the end of the order.
+fn push_undone(
+    alloc: Global,
+    text: &mut Text,
+    station: &Station,
+    start: &Vector,
+    order: &Order,
+) -> Result<(), Memory>
+    requires start { length start.now ≡ length station.now.switches }
+    requires order { AreOperations station.now order.now }
+    ensures { OnOk result (TellsUndone station.now start.now order.now text.old text.new) }
+{
+    let back = order.reversed(alloc)?;
+    let ruling = judge_back(alloc, station, start, order, &back)?;
+    push_back(alloc, text, station, &back, ruling)
+}
+
+// Writes the lines of an order, and says whether a step of it is denied or idle.
+fn push_order(
+    alloc: Global,
+    text: &mut Text,
+    station: &Station,
+    start: &Vector,
+    order: &Order,
+) -> Result<bool, Memory>
+    requires empty { text.old ≡ [] }
+    requires start { length start.now ≡ length station.now.switches }
+    requires order { AreOperations station.now order.now }
+    ensures { IfOk result (λ differs. IsOrderText station.now start.now order.now
+        (record { text = text.new; differs = differs })) }
+{
+    let ruling = judge_order(alloc, station, start, order)?;
+    push_passed(alloc, text, station, order, ruling.passed)?;
+    if ruling.stopped.is_some() {
+        push_stop(alloc, text, station, order, ruling)?;
+        return Ok(true);
+    }
+    push_accepted(text, order.len())?;
+    push_undone(alloc, text, station, start, order)?;
+    Ok(false)
+}
+
 /// The text of `order` for an order from a start: a line for each step that is ok; then the line of the
 /// first that is not, or the count of the steps and the ruling on the order undone. The order and the start
 /// are of the station. Time: that of `judge_order`, twice, and the text. Memory: the text, and that of
@@ -160,22 +203,7 @@ pub fn order_text(
     requires order { AreOperations station.now order.now }
     ensures { IfOk result (IsOrderText station.now start.now order.now) }
 {
-    let ruling = judge_order(alloc, station, start, order)?;
     let mut text = Text::new(alloc);
-    push_passed(alloc, &mut text, station, order, ruling.passed)?;
-    if ruling.stopped.is_some() {
-        push_stop(alloc, &mut text, station, order, ruling)?;
-        return Ok(OrderReport {
-            text,
-            differs: true,
-        });
-    }
-    push_accepted(&mut text, order.len())?;
-    let back = order.reversed(alloc)?;
-    let ruling = judge_back(alloc, station, start, order, &back)?;
-    push_back(alloc, &mut text, station, &back, ruling)?;
-    Ok(OrderReport {
-        text,
-        differs: false,
-    })
+    let differs = push_order(alloc, &mut text, station, start, order)?;
+    Ok(OrderReport { text, differs })
 }
