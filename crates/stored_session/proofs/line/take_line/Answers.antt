@@ -1,9 +1,81 @@
-use Rattle.std.proofs.Common.{◌⊎◌, List, ℕ, inl}
+use Rattle.std.proofs.Common.{◌⊎◌, List, ℕ, inl, refl}
 use Rattle.bay_protocol.specs.State.{kept_of}
 use Rattle.node_store.specs.Image.{IsImageOf}
+use Rattle.node_session.proofs.Going.{appends_nothing}
 use Rattle.node_store.proofs.Runs.{begins}
 use Rattle.stored_session.proofs.Changing.{left_alone, leaves_now}
 use Rattle.stored_session.proofs.line.take_line.Goals as goal
+
+pub returns-in-Err-Memory-clause-crash : goal.returns-in-Err-Memory-clause-crash
+returns-in-Err-Memory-clause-crash g c image told =
+    let kept = c.requires.kept image told in
+    begins g.D.Device.moment g.D.Device.left_between g.D.Device.left_since g.met.D.Device.time c.args.device.now image
+    (λ (d : List ℕ). IsImageOf d (kept_of c.args.node.now) ⊎ IsImageOf d (kept_of c.act.new.node)) kept.settled
+    (inl kept.stands)
+
+pub returns-in-Err-Refused-clause-crash : goal.returns-in-Err-Refused-clause-crash
+returns-in-Err-Refused-clause-crash g c image told =
+    let kept = c.requires.kept image told in
+    begins g.D.Device.moment g.D.Device.left_between g.D.Device.left_since g.met.D.Device.time c.args.device.now image
+    (λ (d : List ℕ). IsImageOf d (kept_of c.args.node.now) ⊎ IsImageOf d (kept_of c.act.new.node)) kept.settled
+    (inl kept.stands)
+
+pub returns-in-Err-Memory-clause-taken : goal.returns-in-Err-Memory-clause-taken
+returns-in-Err-Memory-clause-taken g c image told some = absurd (some refl)
+
+pub returns-in-Err-Refused-clause-taken : goal.returns-in-Err-Refused-clause-taken
+returns-in-Err-Refused-clause-taken g c image told some = absurd (some refl)
+
+pub returns-in_default-clause-taken : goal.returns-in_default-clause-taken
+returns-in_default-clause-taken g c image told some = absurd (some refl)
+
+pub returns-in_default-put_changed-clause-taken : goal.returns-in_default-put_changed-clause-taken
+returns-in_default-put_changed-clause-taken g c image told some = absurd (some refl)
+
+pub returns-in-Err-Memory-clause-fails : goal.returns-in-Err-Memory-clause-fails
+returns-in-Err-Memory-clause-fails g c = appends_nothing (g.O.Sink.took c.args.out.now)
+
+pub returns-in_default-clause-fails : goal.returns-in_default-clause-fails
+returns-in_default-clause-fails g c = appends_nothing (g.O.Sink.took c.args.out.now)
+
+pub returns-in_default-put_changed-clause-fails : goal.returns-in_default-put_changed-clause-fails
+returns-in_default-put_changed-clause-fails g c = (
+  c.in_default-put_changed.ensures.failed,
+  (
+    c.in-Ok-shown_text.text,
+    record {
+      output = c.in-Ok.output;
+      asked = c.in-Ok.ensures.turn;
+      text_is = c.in-Ok-shown_text.ensures;
+    },
+  ),
+  appends_nothing (g.O.Sink.took c.args.out.now),
+)
+
+pub returns-in_default-write_all-clause-fails : goal.returns-in_default-write_all-clause-fails
+returns-in_default-write_all-clause-fails g c = (
+  c.in_default-write_all.ensures.failed,
+  record {
+    text = c.in-Ok-shown_text.text;
+    answers = record {
+      output = c.in-Ok.output;
+      asked = c.in-Ok.ensures.turn;
+      text_is = c.in-Ok-shown_text.ensures;
+    };
+    wrote = rw c.bytes.ensures at c.in_default-write_all.ensures.err;
+  },
+)
+
+pub returns-clause-answers : goal.returns-clause-answers
+returns-clause-answers g c = record {
+  text = c.in-Ok-shown_text.text;
+  answers = record {
+    output = c.in-Ok.output;
+    asked = c.in-Ok.ensures.turn;
+    text_is = c.in-Ok-shown_text.ensures;
+  };
+  wrote = rw c.bytes.ensures at c.in-Ok-write_all.ensures.ok;
+}
 
 pub returns-in_default-clause-crash : goal.returns-in_default-clause-crash
 returns-in_default-clause-crash g c image told =
