@@ -144,7 +144,52 @@ impl TripWorld {
         self.known[usize::from(task.bay.0)].learn(station, task.bay, own, said, learning, collects);
     }
 
-    // An event that concerns a node. Memory is taken first.
+    // An event that concerns a node, of which these notes are taken. Memory is taken first.
+    fn turn_noted<J: Judge>(
+        &mut self,
+        alloc: Global,
+        station: &Station,
+        event: WorldEvent,
+        judge: &J,
+        task: &Task,
+        own: &NoteList,
+        said: &NoteList,
+        spare: &mut Vec<NoteList>,
+    ) -> Result<WorldOutcome, Memory>
+        requires same { (J.meaning judge.now).diagram ≡ station.now }
+        requires facts { WorldRounds (J.meaning judge.now) self.old.world }
+        requires clocked { IsClocked station.now self.old }
+        requires range { InRange station.now event }
+        requires room { length self.old.world.scene.sent ≤ MESSAGES }
+        requires count { self.old.events ≤ EVENTS }
+        requires task { concern station.now self.old.world.scene event ≡ Some (concern_of task.now) }
+        requires own { (i : ℕ) → i < length station.now.switches → slice_index_or own.now i lost
+            ≡ own_note station.now self.old i }
+        requires said { said.now ≡ slice_index_or self.old.beside task.now.message [] }
+        requires enough { length spare.old.items ≡ 64 }
+        requires first { slice_index_or spare.old.items 0 [] ≡ own.now }
+        ensures step { IfOk result (λ out. StepHappens (J.meaning judge.now) self.old event self.new out) }
+        ensures err { OnErr result (self.new ≡ self.old) }
+    {
+        // Its clause says that the station is one; it does nothing.
+        judge.diagram_is_station();
+        let learning = learning(station, &self.world, judge, *task);
+        self.beside.reserve(MOST)?;
+        let before = self.beside.len();
+        let outcome = self.world.act(alloc, station, event, judge)?;
+        if is_premise(&outcome) {
+            return Ok(outcome);
+        }
+        spare.truncate(self.world.sent() as usize - before);
+        match self.beside.append(spare) {
+            Ok(()) => {}
+            Err(_) => unreachable!(),
+        }
+        self.note(station, own, said, learning, *task);
+        Ok(outcome)
+    }
+
+    // An event that concerns a node.
     fn turn<J: Judge>(
         &mut self,
         alloc: Global,
@@ -167,21 +212,8 @@ impl TripWorld {
         judge.diagram_is_station();
         let own = self.own_notes(alloc, station)?;
         let said = self.said(alloc, task.message)?;
-        let learning = learning(station, &self.world, judge, task);
         let mut spare = spare(alloc, own.copied(alloc)?)?;
-        self.beside.reserve(MOST)?;
-        let before = self.beside.len();
-        let outcome = self.world.act(alloc, station, event, judge)?;
-        if is_premise(&outcome) {
-            return Ok(outcome);
-        }
-        spare.truncate(self.world.sent() as usize - before);
-        match self.beside.append(&mut spare) {
-            Ok(()) => {}
-            Err(_) => unreachable!(),
-        }
-        self.note(station, &own, &said, learning, task);
-        Ok(outcome)
+        self.turn_noted(alloc, station, event, judge, &task, &own, &said, &mut spare)
     }
 
     // What happens next, but for trips.
