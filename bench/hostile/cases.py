@@ -58,8 +58,9 @@ TOKENS += [b"part,1,64\n", b"deliver,1\n", b"restart,S/V1/Q1\n", b"cut,S/V1/Q1/Q
 
 
 class Form(NamedTuple):
-    """A command: how often it is run; its words, of which those that are a part stand for it; what is damaged, as often
-    as it is named here; and the statuses with which it may end."""
+    """A command, named by its first word and by what tells it from another with that word: how often it is run; its
+    words, of which those that are a part stand for it; what is damaged, as often as it is named here; and the statuses
+    with which it may end."""
     share: int
     words: str
     damage: str
@@ -69,6 +70,7 @@ class Form(NamedTuple):
 FORMS = {
     "check": Form(3, "station positions", "station station station positions positions", {0, 5, 6}),
     "explain": Form(2, "station positions direction switch", "station station positions switch", {0, 2, 5, 6}),
+    "explain all": Form(2, "station positions", "station station positions positions", {0, 5, 6}),
     "why": Form(2, "station positions direction switch", "station station positions switch", {0, 2, 5, 6}),
     "state": Form(2, "station positions", "station station station positions positions", {0, 5, 6}),
     "order": Form(2, "station known order", "station station known order order order", {0, 1, 5, 6}),

@@ -141,7 +141,7 @@ def work(part):
         for number in numbers:
             one = case(seed, number, examples)
             lay(one.files)
-            done = runs.run([one.command, *one.words], one.given)
+            done = runs.run([one.command.split()[0], *one.words], one.given)
             wrong = fault(one, done) or (one.command == "stored" and fault_of_stored(runs, one, done))
             if wrong:
                 return seen, spent, longest, keep(one, number, wrong)
@@ -158,7 +158,7 @@ def told(seen, spent):
         if ends:
             each = 1000 * spent[command] / sum(ends.values())
             counts = ", ".join(f"{count} with status {status}" for status, count in ends.items())
-            yield f"{command:8} {counts}; {each:.1f} ms each"
+            yield f"{command:11} {counts}; {each:.1f} ms each"
 
 
 def main(words):
