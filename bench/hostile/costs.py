@@ -199,7 +199,8 @@ def at_limits():
     for part in PARTS:
         height = 9 // part
         files = {"a": grid(3, height).encode(), "b": b""}
-        for words in (["check", "a", "b"], ["state", "a", "b"], ["plan", "a"], ["compile", "a"], ["program", "a"]):
+        commands = ["check", "a", "b"], ["state", "a", "b"], ["plan", "a"], ["compile", "a"], ["program", "a"], ["tests", "a"], ["compare", "a", "a"]
+        for words in commands:
             yield Case(f"{words[0]}: a grid of 3 by {height} nodes", words, files, b"", 0, by_edges=True)
 
 
