@@ -199,8 +199,9 @@ def at_limits():
     for part in PARTS:
         height = 9 // part
         files = {"a": grid(3, height).encode(), "b": b""}
-        commands = ["check", "a", "b"], ["state", "a", "b"], ["plan", "a"], ["compile", "a"], ["program", "a"], ["tests", "a"], ["compare", "a", "a"]
-        for words in commands:
+        commands = [[word, "a", "b"] for word in ("check", "state")]
+        commands += [[word, "a"] for word in ("plan", "compile", "program", "tests")]
+        for words in [*commands, ["compare", "a", "a"]]:
             yield Case(f"{words[0]}: a grid of 3 by {height} nodes", words, files, b"", 0, by_edges=True)
 
 

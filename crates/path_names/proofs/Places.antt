@@ -1,8 +1,8 @@
 -- Where a path stands among the names.
 use Rattle.std.proofs.Common.{◌≡◌, ◌+◌, ◌<◌, ℕ, [], length, get_or, sym, ap, ◌∙◌, arith, length-append}
 use Rattle.std.proofs.lemmas.List.{get_or_append_left, get_or-append-add}
-use Rattle.station_graph.specs.Diagram.{Diagram, IsStation, part_count, switch_path}
-use Rattle.path_names.specs.Tables.{paths_of, paths_of_both}
+use Rattle.station_graph.specs.Diagram.{Diagram, IsStation, node_path, part_count, switch_path}
+use Rattle.path_names.specs.Tables.{paths_of, paths_of_both, paths_of_items}
 
 -- how many names a station has
 names_of : (d : Diagram) → IsStation d → length (paths_of d) ≡ length d.switches + part_count d
@@ -47,3 +47,16 @@ pub old_part : (o n : Diagram) → IsStation o → IsStation n → (k p : ℕ) �
     k ≡ (length n.switches + part_count n) + (length o.switches + p) →
     get_or (paths_of_both o n) k [] ≡ get_or o.part_paths p []
 old_part o n old new k p at = behind o n new k (length o.switches + p) at ∙ part_place o old p
+
+-- ---- those of a station's switches and nodes
+
+pub item_switch_place : (d : Diagram) → IsStation d → (i : ℕ) → i < length d.switches →
+    get_or (paths_of_items d) i [] ≡ switch_path d i
+item_switch_place d is i within =
+    get_or_append_left d.switch_paths d.node_paths [] i (omega (arith, is.items.paths, within))
+
+pub item_node_place : (d : Diagram) → IsStation d → (k n : ℕ) → k ≡ length d.switches + n →
+    get_or (paths_of_items d) k [] ≡ node_path d n
+item_node_place d is k n at =
+    ap (λ m. get_or (paths_of_items d) m []) (at ∙ ap (λ m. m + n) (sym is.items.paths))
+    ∙ get_or-append-add d.switch_paths d.node_paths n []

@@ -9,3 +9,7 @@ paths_of d = d.switch_paths ++ d.part_paths
 -- Those of the new station, and then those of the old one.
 abbrev pub paths_of_both : Diagram → Diagram → List (List ℕ)
 paths_of_both o n = paths_of n ++ paths_of o
+
+-- The paths of the switches of a station, and then those of its nodes.
+abbrev pub paths_of_items : Diagram → List (List ℕ)
+paths_of_items d = d.switch_paths ++ d.node_paths

@@ -2,6 +2,7 @@
 #![tactic(auto)]
 
 mod all_words;
+mod bays;
 mod build;
 mod by_words;
 mod chain;

@@ -1,3 +1,2 @@
 pub mod AllLines
-mod NamePlaces
 mod AddLemmas

@@ -13,15 +13,15 @@ use Rattle.central_rules.specs.Readings.{Decides, IsReading}
 use Rattle.release_texts.specs.ExplainText.{TellsVerdict}
 
 -- What is told of a verdict where releases are left out: nothing of a release, and of a denial what `explain` tells.
-abbrev pub TellsDenial : Diagram → List Dbpos → Op → List ℕ → Verdict → Type 0
-TellsDenial d words op text Release = text ≡ []
-TellsDenial d words op text (Denied rule v) = TellsVerdict d words op text (Denied rule v)
+abbrev pub TellsUnlessReleased : Diagram → List Dbpos → Op → List ℕ → Verdict → Type 0
+TellsUnlessReleased d words op text Release = text ≡ []
+TellsUnlessReleased d words op text (Denied rule v) = TellsVerdict d words op text (Denied rule v)
 
 -- The text tells so of the verdict on the operation over every reading of the words.
 pub record TellsIfDenied (d : Diagram) (words : List Dbpos) (op : Op) (text : List ℕ) : Type 0 where
   pub verdict : Verdict
   pub decides : Decides d (IsReading words) op verdict
-  pub tells : TellsDenial d words op text verdict
+  pub tells : TellsUnlessReleased d words op text verdict
 
 -- The operation that moves switch i so.
 abbrev pub operation_on : ℕ → Direction → Op

@@ -1,4 +1,3 @@
 pub mod CheckText
 pub mod ExplainText
-pub mod ItemNames
 pub mod DenialsText

@@ -9,15 +9,15 @@ ghost use Rattle.release_compile.specs.Reaches.{AreVerdictsOf};
 ghost use Rattle.release_texts.specs.CheckText.{ShowsVector};
 ghost use Rattle.release_texts.specs.DenialsText.{Adds, TellsIfDenied, SwitchDenials, IsDenialsText};
 ghost use Rattle.release_texts.specs.ExplainText.{TellsReading};
-ghost use Rattle.release_texts.specs.ItemNames.{switch_and_node_paths};
+ghost use Rattle.path_names.specs.Tables.{paths_of_items};
 
 use crate::check::told;
 use crate::lines::push_explanation;
-use crate::names::item_names;
 use central_rules::Verdict;
 use denial_explain::explain;
 use double_points::Readings;
 use ilk_base::{Direction, Memory, Op, SwitchId};
+use path_names::item_paths;
 use piece_writer::NamedText;
 use release_compile::{GraphJudge, SwitchVerdicts};
 use station_graph::{Station, Vector};
@@ -32,7 +32,7 @@ fn push_reading(
     op: Op,
     reading: &Vector,
 ) -> Result<(), Memory>
-    requires names { text.old.names ≡ switch_and_node_paths station.now }
+    requires names { text.old.names ≡ paths_of_items station.now }
     requires words { AreWords station.now readings.now }
     requires op { IsOperation station.now op }
     requires reading { IsVector station.now reading.now }
@@ -53,7 +53,7 @@ fn push_verdict(
     op: Op,
     verdict: &Verdict,
 ) -> Result<(), Memory>
-    requires names { text.old.names ≡ switch_and_node_paths station.now }
+    requires names { text.old.names ≡ paths_of_items station.now }
     requires words { AreWords station.now readings.now }
     requires op { IsOperation station.now op }
     requires decides { Decides station.now (IsReading readings.now) op verdict.now }
@@ -78,7 +78,7 @@ fn push_switch(
     switch: SwitchId,
     verdicts: &SwitchVerdicts,
 ) -> Result<(), Memory>
-    requires names { text.old.names ≡ switch_and_node_paths station.now }
+    requires names { text.old.names ≡ paths_of_items station.now }
     requires words { AreWords station.now readings.now }
     requires switch { switch.0 < length station.now.switches }
     requires verdicts { AreVerdictsOf station.now readings.now switch.0 verdicts.now }
@@ -114,7 +114,7 @@ pub fn denial_lines(
     ensures { IfOk result (λ t. IsDenialsText station.now readings.now t.text) }
 {
     let verdicts = judge.judge_station(alloc, readings)?;
-    let names = item_names(alloc, station)?;
+    let names = item_paths(alloc, station)?;
     let mut text = NamedText::new(alloc, names);
     for i in 0..station.switch_count() {
         let place = usize::from(i);

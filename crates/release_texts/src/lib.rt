@@ -6,7 +6,6 @@ mod check;
 mod denials;
 mod explain;
 mod lines;
-mod names;
 
 pub use check::{check_lines, check_text};
 pub use denials::denial_lines;

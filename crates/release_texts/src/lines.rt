@@ -9,13 +9,13 @@ ghost use Rattle.denial_explain.specs.Ways.{AllBelow};
 ghost use Rattle.denial_explain.specs.ExplanationText.{denied_line, position_at, position_lines, node_lines, by_line};
 ghost use Rattle.denial_explain.specs.ExplanationText.{chain_lines, earthed_lines, load_lines, explanation_text};
 ghost use Rattle.denial_explain.specs.ExplanationText.{ChainFits, ExplanationFits};
-ghost use Rattle.release_texts.specs.ItemNames.{switch_and_node_paths};
+ghost use Rattle.path_names.specs.Tables.{paths_of_items};
 
-use crate::names::{node_name, switch_name};
 use central_rules::{direction_name, is_uncertain, rule_name};
 use denial_explain::{Chain, Explanation};
 use double_points::Readings;
 use ilk_base::{Memory, NodeId, Op, Rule, SwitchId};
+use path_names::{item_node_name, item_switch_name};
 use piece_writer::NamedText;
 use station_graph::{NodeList, Station, Vector};
 
@@ -26,33 +26,33 @@ fn push_switch(
     station: &Station,
     id: SwitchId,
 ) -> Result<(), Memory>
-    requires names { text.old.names ≡ switch_and_node_paths station.now }
+    requires names { text.old.names ≡ paths_of_items station.now }
     requires within { id.0 < length station.now.switches }
     ensures ok { OnOk result (text.new.text
         ≡ text.old.text ++ (word.now ++ switch_path station.now id.0 ++ codes "\n")) }
     ensures names { text.new.names ≡ text.old.names }
 {
     text.word(word)?;
-    text.name(switch_name(station, id))?;
+    text.name(item_switch_name(station, id))?;
     text.word(b"\n")
 }
 
 // Appends the line of a node.
 fn push_node(text: &mut NamedText, station: &Station, node: NodeId) -> Result<(), Memory>
-    requires names { text.old.names ≡ switch_and_node_paths station.now }
+    requires names { text.old.names ≡ paths_of_items station.now }
     requires within { node.0 < node_count station.now }
     ensures ok { OnOk result (text.new.text
         ≡ text.old.text ++ (codes "node " ++ node_path station.now node.0 ++ codes "\n")) }
     ensures names { text.new.names ≡ text.old.names }
 {
     text.word(b"node ")?;
-    text.name(node_name(station, node))?;
+    text.name(item_node_name(station, node))?;
     text.word(b"\n")
 }
 
 // Appends the line with the rule and the operation.
 fn push_denied(text: &mut NamedText, station: &Station, rule: Rule, op: Op) -> Result<(), Memory>
-    requires names { text.old.names ≡ switch_and_node_paths station.now }
+    requires names { text.old.names ≡ paths_of_items station.now }
     requires op { IsOperation station.now op }
     ensures ok { OnOk result (text.new.text ≡ text.old.text ++ denied_line station.now rule op) }
     ensures names { text.new.names ≡ text.old.names }
@@ -83,7 +83,7 @@ fn push_position(
     moved: SwitchId,
     id: SwitchId,
 ) -> Result<(), Memory>
-    requires names { text.old.names ≡ switch_and_node_paths station.now }
+    requires names { text.old.names ≡ paths_of_items station.now }
     requires words { AreWords station.now readings.now }
     requires reading { IsVector station.now reading.now }
     requires id { id.0 < length station.now.switches }
@@ -110,7 +110,7 @@ fn push_positions(
     reading: &Vector,
     moved: SwitchId,
 ) -> Result<(), Memory>
-    requires names { text.old.names ≡ switch_and_node_paths station.now }
+    requires names { text.old.names ≡ paths_of_items station.now }
     requires words { AreWords station.now readings.now }
     requires reading { IsVector station.now reading.now }
     ensures ok { OnOk result (text.new.text ≡ text.old.text ++ position_lines (codes "with ") moved.0 readings.now
@@ -125,7 +125,7 @@ fn push_positions(
 
 // Appends a line for each node.
 fn push_nodes(text: &mut NamedText, station: &Station, nodes: &NodeList) -> Result<(), Memory>
-    requires names { text.old.names ≡ switch_and_node_paths station.now }
+    requires names { text.old.names ≡ paths_of_items station.now }
     requires nodes { AllBelow (node_count station.now) nodes.now }
     ensures ok { OnOk result (text.new.text ≡ text.old.text ++ node_lines station.now nodes.now) }
     ensures names { text.new.names ≡ text.old.names }
@@ -138,7 +138,7 @@ fn push_nodes(text: &mut NamedText, station: &Station, nodes: &NodeList) -> Resu
 
 // Appends the line of a chain's switch, where it has one.
 fn push_by(text: &mut NamedText, station: &Station, by: Option<SwitchId>) -> Result<(), Memory>
-    requires names { text.old.names ≡ switch_and_node_paths station.now }
+    requires names { text.old.names ≡ paths_of_items station.now }
     requires by { (id : SwitchId) → by ≡ Some id → id.0 < length station.now.switches }
     ensures ok { OnOk result (text.new.text ≡ text.old.text ++ by_line station.now by) }
     ensures names { text.new.names ≡ text.old.names }
@@ -156,7 +156,7 @@ fn push_chain(
     head: &'static [u8],
     chain: &Chain,
 ) -> Result<(), Memory>
-    requires names { text.old.names ≡ switch_and_node_paths station.now }
+    requires names { text.old.names ≡ paths_of_items station.now }
     requires fits { ChainFits station.now chain.now }
     ensures ok { OnOk result (text.new.text ≡ text.old.text ++ chain_lines station.now head.now chain.now) }
     ensures names { text.new.names ≡ text.old.names }
@@ -172,7 +172,7 @@ fn push_earthed(
     station: &Station,
     explanation: &Explanation,
 ) -> Result<(), Memory>
-    requires names { text.old.names ≡ switch_and_node_paths station.now }
+    requires names { text.old.names ≡ paths_of_items station.now }
     requires fits { ExplanationFits station.now explanation.now }
     ensures ok { OnOk result (text.new.text ≡ text.old.text ++ earthed_lines station.now explanation.now.earthed) }
     ensures names { text.new.names ≡ text.old.names }
@@ -189,7 +189,7 @@ fn push_load(
     station: &Station,
     explanation: &Explanation,
 ) -> Result<(), Memory>
-    requires names { text.old.names ≡ switch_and_node_paths station.now }
+    requires names { text.old.names ≡ paths_of_items station.now }
     requires fits { ExplanationFits station.now explanation.now }
     ensures ok { OnOk result (text.new.text ≡ text.old.text
         ++ load_lines station.now explanation.now.taps explanation.now.bonded) }
@@ -212,7 +212,7 @@ pub(crate) fn push_explanation(
     reading: &Vector,
     explanation: &Explanation,
 ) -> Result<(), Memory>
-    requires names { text.old.names ≡ switch_and_node_paths station.now }
+    requires names { text.old.names ≡ paths_of_items station.now }
     requires words { AreWords station.now readings.now }
     requires reading { IsVector station.now reading.now }
     requires fits { ExplanationFits station.now explanation.now }

@@ -10,7 +10,7 @@ use Rattle.release_compile.proofs.WideLemmas.{keep_more, first_wide}
 use Rattle.judge_pool.proofs.ErrorLemmas.{passed_on}
 use Rattle.station_graph.specs.Diagram.{part_count}
 use Rattle.release_compile.specs.Judging.{IsTooWide, KeepEdges}
-use Rattle.release_compile.proofs.build.bays_of.Goals as goal
+use Rattle.release_compile.proofs.bays.bays_of.Goals as goal
 
 pub loop-part-init : goal.loop-part-init
 loop-part-init c =

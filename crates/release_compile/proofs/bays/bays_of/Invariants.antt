@@ -6,7 +6,7 @@ use Rattle.judge_graphs.specs.BuiltView.{seen_part}
 use Rattle.judge_graphs.specs.Stocking.{IsStock}
 use Rattle.judge_graphs.specs.Telling.{HaveTold}
 use Rattle.judge_pool.specs.declared.view.View.TheVariants.{Gap, Load}
-use Rattle.release_compile.proofs.build.bays_of.Given as goal
+use Rattle.release_compile.proofs.bays.bays_of.Given as goal
 use Rattle.judge_pool.specs.declared.limits.TheConstants.{ALL_EDGES}
 
 abbrev pub invariant-loop-part : goal.invariant-loop-part
