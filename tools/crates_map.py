@@ -31,7 +31,7 @@ LAYERS = [
     Layer("base and texts",
           "Begin with `ilk_base/src/words.rt` and `ilk_base/src/outside.rt`: the words that all share, and the system as "
           "traits.",
-          "ilk_base text_lines piece_writer ssd_text"),
+          "ilk_base text_lines piece_writer ssd_text number_hash"),
     Layer("station and drawing",
           "Begin with `station_graph/specs`, where a station and the three rules are defined, and then "
           "`ssd_read/src/read.rt`.",

@@ -9,11 +9,19 @@ use ilk_base::Memory;
 use station_graph::NodeList;
 use std::alloc::Global;
 
-// Whether the numbers are the same.
+// Whether the numbers are the same. There are few of them, and then this takes less time than `==`.
 pub(crate) fn same_numbers(a: &[u16], b: &[u16]) -> bool
     ensures { IsTrue result ↔ (a.now ≡ b.now) }
 {
-    a == b
+    if a.len() != b.len() {
+        return false;
+    }
+    for i in 0..a.len() {
+        if a[i] != b[i] {
+            return false;
+        }
+    }
+    true
 }
 
 // Whether the marks are the same.

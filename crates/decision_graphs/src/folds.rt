@@ -12,8 +12,8 @@ use ilk_base::Memory;
 use std::alloc::Global;
 use std::marker::Model;
 
-/// Layers of graphs that were reduced, by which graphs with the same layers are reduced without hashing. It is emptied
-/// where it holds many edges.
+/// Layers of graphs that were reduced, by which graphs with the same layers are reduced without hashing of rows. It is
+/// emptied where it holds many edges.
 #[derive(Drop)]
 pub struct Folds {
     list: KnownList,
@@ -35,7 +35,14 @@ impl Folds {
     /// No layers.
     pub fn new(alloc: Global) -> Folds {
         Folds {
-            list: KnownList::new(alloc),
+            list: KnownList::new(alloc, true),
+        }
+    }
+
+    // No layers, for one graph alone: none is noted.
+    pub(crate) fn none(alloc: Global) -> Folds {
+        Folds {
+            list: KnownList::new(alloc, false),
         }
     }
 

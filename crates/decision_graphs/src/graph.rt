@@ -15,6 +15,7 @@ ghost use Rattle.decision_graphs.specs.declared.limits.TheConstants.{LAYERS, GRA
 
 use crate::arrival::Arrival;
 use crate::depend::{label_depends_on, layers_depended};
+use crate::find::row_at;
 use crate::finished::{FinishedLayer, joined};
 use crate::folds::Folds;
 use crate::layout::{GraphParts, Layout};
@@ -94,6 +95,19 @@ impl Graph {
     {
         let site = self.parts.edge_site(from, choice);
         site.next + self.parts.edges[site.place]
+    }
+
+    /// The edges of node k of a layer, by choice: each is the number of a node within the next layer, or from the last layer
+    /// a label. Constant time.
+    pub fn row(&self, layer: u16, node: u32) -> &[u32]
+        requires layer { layer < length self.now.layers }
+        requires node { node < length (layer_at self.now.layers layer).rows }
+        ensures len { length result.now ≡ (layer_at self.now.layers layer).choices }
+        ensures each { (c : ℕ) → c < (layer_at self.now.layers layer).choices
+            → slice_index result.now c ≡ step (layer_at self.now.layers layer) node c }
+    {
+        let shape = self.parts.shapes[layer as usize];
+        row_at(shape, &self.parts.edges, node as usize)
     }
 
     /// The graph of finished layers, for a caller that knows how many labels there are only once the last
@@ -194,7 +208,7 @@ impl Graph {
         ensures sizes { IfOk result (λ g. (j : ℕ) → length (layer_at g.layers j).rows ≤ length
             (layer_at self.now.layers j).rows) }
     {
-        let mut folds = Folds::new(alloc);
+        let mut folds = Folds::none(alloc);
         self.reduce_by(alloc, &mut folds)
     }
 
@@ -251,7 +265,7 @@ impl Graph {
         ensures exact { IfOk result (λ v. (j : ℕ) → j < length self.now.layers
             → (slice_index_or v.items j false ≡ true) ↔ DependsOn self.now j) }
     {
-        let mut folds = Folds::new(alloc);
+        let mut folds = Folds::none(alloc);
         self.dependencies_by(alloc, &mut folds)
     }
 

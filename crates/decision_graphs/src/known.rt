@@ -8,6 +8,7 @@ use crate::fold::{Folded, fold_layer};
 use crate::same::same_edges;
 use crate::shape::Shape;
 use ilk_base::Memory;
+use number_hash::{NumberHash, NumberMap};
 use std::alloc::Global;
 use std::collections::HashMap;
 
@@ -29,12 +30,14 @@ pub(crate) struct Known {
     pub(crate) folded: Folded,
 }
 
-// Layers that were folded, where each stands by its hash, and how many edges they have.
+// Layers that were folded, where each stands by its hash, and how many edges they have; and whether layers are noted at
+// all, or each is folded anew.
 #[derive(Drop)]
 pub(crate) struct KnownList {
     pub(crate) layers: Vec<Known>,
-    pub(crate) places: HashMap<u64, usize>,
+    pub(crate) places: NumberMap<u64, usize>,
     pub(crate) held: usize,
+    pub(crate) notes: bool,
 }
 
 // A layer to be folded, by itself: how many choices and nodes it has, its edges, the classes of what comes after it and
@@ -102,7 +105,7 @@ fn layer_at(layers: &[Known], place: usize, layer: &Lone<'_>) -> Option<usize>
 
 // The place of a layer that is the same, which is looked for by its hash.
 fn find_known(
-    places: &HashMap<u64, usize>,
+    places: &NumberMap<u64, usize>,
     layers: &[Known],
     hash: u64,
     layer: &Lone<'_>,
@@ -131,7 +134,7 @@ impl Folded {
 // The folding of a known layer that is the same, if there is one.
 fn known_fold(
     alloc: Global,
-    places: &HashMap<u64, usize>,
+    places: &NumberMap<u64, usize>,
     layers: &[Known],
     hash: u64,
     layer: &Lone<'_>,
@@ -167,14 +170,15 @@ fn known_of(alloc: Global, layer: &Lone<'_>, folded: &Folded) -> Result<Known, M
 }
 
 impl KnownList {
-    // No layers.
-    pub(crate) fn new(alloc: Global) -> KnownList
+    // No layers, and whether those that are folded are to be noted.
+    pub(crate) fn new(alloc: Global, notes: bool) -> KnownList
         ensures { AreKnown result.layers.items }
     {
         KnownList {
             layers: Vec::new(alloc),
-            places: HashMap::new(alloc),
+            places: HashMap::with_hasher(alloc, NumberHash::new()),
             held: 0,
+            notes,
         }
     }
 }
@@ -222,6 +226,36 @@ fn note(
     put_last(list, hash, known)
 }
 
+// The folding of a layer, made now.
+fn fold_alone(alloc: Global, layer: &Lone<'_>) -> Result<Folded, Memory>
+    requires { CanFold layer.now }
+    ensures { IfOk result (λ f. IsFoldedAlone layer.now (folding_of f)) }
+{
+    let shape = Shape {
+        choices: layer.choices,
+        nodes: layer.nodes,
+        first: 0,
+        base: 0,
+    };
+    fold_layer(alloc, shape, layer.edges, layer.next, layer.bound)
+}
+
+// The folding of a layer, which is noted and made only where none that is the same is known.
+fn fold_noted(alloc: Global, list: &mut KnownList, layer: &Lone<'_>) -> Result<Folded, Memory>
+    requires list { AreKnown list.old.layers.items }
+    requires layer { CanFold layer.now }
+    ensures list { AreKnown list.new.layers.items }
+    ensures folded { IfOk result (λ f. IsFoldedAlone layer.now (folding_of f)) }
+{
+    let hash = hash_of(layer);
+    if let Some(folded) = known_fold(alloc, &list.places, &list.layers, hash, layer)? {
+        return Ok(folded);
+    }
+    let folded = fold_alone(alloc, layer)?;
+    note(alloc, list, hash, layer, &folded)?;
+    Ok(folded)
+}
+
 // The folding of a layer, which is made only where none that is the same is known.
 pub(crate) fn fold_once(
     alloc: Global,
@@ -233,17 +267,9 @@ pub(crate) fn fold_once(
     ensures list { AreKnown list.new.layers.items }
     ensures folded { IfOk result (λ f. IsFoldedAlone layer.now (folding_of f)) }
 {
-    let hash = hash_of(layer);
-    if let Some(folded) = known_fold(alloc, &list.places, &list.layers, hash, layer)? {
-        return Ok(folded);
+    if list.notes {
+        fold_noted(alloc, list, layer)
+    } else {
+        fold_alone(alloc, layer)
     }
-    let shape = Shape {
-        choices: layer.choices,
-        nodes: layer.nodes,
-        first: 0,
-        base: 0,
-    };
-    let folded = fold_layer(alloc, shape, layer.edges, layer.next, layer.bound)?;
-    note(alloc, list, hash, layer, &folded)?;
-    Ok(folded)
 }

@@ -15,14 +15,8 @@ pub(crate) fn next_place(graph: &Graph, layer: u16, node: u32, choice: u32) -> u
     requires choice { choice < (layer_at graph.now.layers layer).choices }
     ensures { result ≡ step (layer_at graph.now.layers layer) node choice }
 {
-    let layers = graph.layers();
-    let (first, _) = graph.nodes(layer);
-    let to = graph.edge(first + node, choice);
-    if layer + 1 == layers {
-        return to;
-    }
-    let (next, _) = graph.nodes(layer + 1);
-    to - next
+    let row = graph.row(layer, node);
+    row[choice as usize]
 }
 
 // Whether the two choices at a node lead to different places.

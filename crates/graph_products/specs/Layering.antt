@@ -1,7 +1,6 @@
 -- A layer of a product.
 use Rattle.std.specs.Prelude.{◌≡◌, ℕ, suc, ◌⊎◌, ◌+◌, ◌/◌, ◌%◌, ◌<◌, ◌≤◌, List, ◌++◌, length, slice_get, slice_index, Some}
-use Rattle.decision_graphs.specs.Label.{Layer, Layered, first_at, place_after}
-use Rattle.graph_products.specs.declared.layer.Offsets.{Offsets}
+use Rattle.decision_graphs.specs.Label.{Layer}
 use Rattle.graph_products.specs.declared.row.Row.{Row}
 use Rattle.graph_products.specs.Products.{LeadsJointly, row_at, first_of, second_of}
 
@@ -40,11 +39,6 @@ pub record AreLed (l m : Layer) (x : ℕ) (rows : List Row) (n : ℕ) (old edges
   pub len : length ids ≡ n
   pub each : (c y : ℕ) → slice_get ids c ≡ Some y → LeadsJointly l m x (row_at rows c) y
   pub added : AreAdded old edges ids next edges'
-
--- Here begins the layer of the graph, and what comes after it at the second number: a node, or with 0 a label.
-pub record AreOffsets (g : Layered) (j : ℕ) (o : Offsets) : Type 0 where
-  pub here : o.here ≡ first_at g.layers j
-  pub next : (t : ℕ) → place_after g j t ≡ o.next + t
 
 -- Each number is a pair of a node of the first n and one of the first m.
 abbrev pub AreStates : ℕ → ℕ → List ℕ → Type 0

@@ -13,9 +13,9 @@ use crate::pool::{Pool, find_row};
 use crate::view::View;
 use contraction::{Contraction, Selection};
 use ilk_base::{Memory, Text};
+use number_hash::NumberMap;
 use station_graph::NodeList;
 use std::alloc::Global;
-use std::collections::HashMap;
 
 // So many compositions are held in batches, and not many more.
 const MANY: usize = 2_000_000;
@@ -69,7 +69,7 @@ fn value_of(alloc: Global, view: View, row: &Text) -> Result<Contraction, Memory
 }
 
 // Where the batch begins, if it is noted.
-fn find_batch(notes: &HashMap<Batch, usize>, batch: Batch) -> Option<usize>
+fn find_batch(notes: &NumberMap<Batch, usize>, batch: Batch) -> Option<usize>
     ensures { (p : AnyPool) → NotesAreRight p notes.now → IfSome result (HasBatch p batch) }
 {
     match notes.get(&batch) {
@@ -79,7 +79,7 @@ fn find_batch(notes: &HashMap<Batch, usize>, batch: Batch) -> Option<usize>
 }
 
 // Notes where the batch begins.
-fn note_batch(notes: &mut HashMap<Batch, usize>, batch: Batch, start: usize) -> Result<(), Memory>
+fn note_batch(notes: &mut NumberMap<Batch, usize>, batch: Batch, start: usize) -> Result<(), Memory>
     ensures { OnOk result ((p : AnyPool) → NotesAreRight p notes.old → HasBatch p batch start
         → NotesAreRight p notes.new) }
 {

@@ -17,6 +17,7 @@ ghost use Rattle.judge_pool.specs.declared.limits.TheConstants.{ALL_EDGES};
 use crate::pool::Pool;
 use ilk_base::Memory;
 use indexmap::IndexSet;
+use number_hash::{NumberHash, NumberSet};
 use std::alloc::{AllocError, AllocFailed, Global};
 
 /// Why layers were not built.
@@ -69,7 +70,7 @@ pub(crate) struct Step {
 }
 
 // The numbers in order.
-fn listed(alloc: Global, ids: &IndexSet<usize>) -> Result<Vec<usize>, Memory>
+fn listed(alloc: Global, ids: &NumberSet<usize>) -> Result<Vec<usize>, Memory>
     ensures { IfOk result (λ v. v.items ≡ ids.now.keys) }
 {
     let list = ids.iter().copied().collect(alloc)?;
@@ -77,7 +78,7 @@ fn listed(alloc: Global, ids: &IndexSet<usize>) -> Result<Vec<usize>, Memory>
 }
 
 // The place of the number in the list, at the end where it is new.
-fn place(ids: &mut IndexSet<usize>, id: usize) -> Result<usize, Memory>
+fn place(ids: &mut NumberSet<usize>, id: usize) -> Result<usize, Memory>
     ensures { IfOk result (IsPlaced ids.old.keys ids.new.keys id) }
 {
     let (place, _) = ids.insert_full(id)?;
@@ -86,7 +87,7 @@ fn place(ids: &mut IndexSet<usize>, id: usize) -> Result<usize, Memory>
 
 // Adds the place of each of these numbers, which are put at the end of the list where it has not got them.
 fn add_places(
-    list: &mut IndexSet<usize>,
+    list: &mut NumberSet<usize>,
     places: &mut Vec<usize>,
     ids: &[usize],
 ) -> Result<(), Memory>
@@ -110,7 +111,7 @@ struct Distinct {
 fn each_once(alloc: Global, letters: &[usize]) -> Result<Distinct, Memory>
     ensures { IfOk result (λ d. AreAdded [] [] letters.now d.letters.items d.places.items) }
 {
-    let mut once = IndexSet::new(alloc);
+    let mut once = IndexSet::with_hasher(alloc, NumberHash::new());
     let mut places = Vec::new(alloc);
     add_places(&mut once, &mut places, letters)?;
     let keys = listed(alloc, &once)?;
@@ -137,7 +138,7 @@ fn add_edges(edges: &mut Vec<u32>, ends: &[usize], places: &[usize]) -> Result<(
 // where it has not got them.
 fn add_state(
     alloc: Global,
-    next: &mut IndexSet<usize>,
+    next: &mut NumberSet<usize>,
     edges: &mut Vec<u32>,
     ids: &[usize],
     places: &[usize],
@@ -181,7 +182,7 @@ pub(crate) fn next_layer(
         → ReachesMore pool.old.view nodes (values_at pool.old.values.items states.now)
         (values_at pool.old.values.items letters.now) most) }
 {
-    let mut next = IndexSet::new(alloc);
+    let mut next = IndexSet::with_hasher(alloc, NumberHash::new());
     let mut edges = Vec::new(alloc);
     let by = each_once(alloc, letters)?;
     let once = by.letters.as_slice();

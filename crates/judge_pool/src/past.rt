@@ -13,8 +13,8 @@ use crate::layer::{Step, Trouble, next_layer};
 use crate::lists::{list_at, widened};
 use crate::pool::Pool;
 use ilk_base::Memory;
+use number_hash::NumberMap;
 use std::alloc::Global;
-use std::collections::HashMap;
 
 // Whether the layer was made of this.
 fn is_made_of(layer: &KnownLayer, key: LayerKey) -> bool
@@ -45,7 +45,7 @@ fn layer_at(layers: &[KnownLayer], place: usize, key: LayerKey) -> Option<usize>
 
 // The place of a layer that was made of this, which is looked for where it was noted.
 fn find_layer(
-    places: &HashMap<LayerKey, usize>,
+    places: &NumberMap<LayerKey, usize>,
     layers: &[KnownLayer],
     key: LayerKey,
 ) -> Option<usize>

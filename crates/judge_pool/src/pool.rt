@@ -12,6 +12,7 @@ use crate::view::{View, row_in};
 use contraction::{Contraction, Selection};
 use ilk_base::{Memory, Text};
 use indexmap::IndexSet;
+use number_hash::{NumberHash, NumberMap, NumberSet};
 use station_graph::NodeList;
 use std::alloc::Global;
 use std::collections::HashMap;
@@ -29,11 +30,11 @@ pub struct Pool {
     pub(crate) index: HashMap<Text, usize>,
     /// the lists of nodes, by number
     pub keeps: Vec<NodeList>,
-    pub(crate) letters: IndexSet<Vec<u32>>,
+    pub(crate) letters: NumberSet<Vec<u32>>,
     pub(crate) layers: Vec<KnownLayer>,
-    pub(crate) layer_places: HashMap<LayerKey, usize>,
+    pub(crate) layer_places: NumberMap<LayerKey, usize>,
     pub(crate) made: Vec<usize>,
-    pub(crate) notes: HashMap<Batch, usize>,
+    pub(crate) notes: NumberMap<Batch, usize>,
     pub(crate) selection: Option<Selection>,
 }
 
@@ -83,11 +84,11 @@ impl Pool {
             values: Vec::new(alloc),
             index: HashMap::new(alloc),
             keeps,
-            letters: IndexSet::new(alloc),
+            letters: IndexSet::with_hasher(alloc, NumberHash::new()),
             layers: Vec::new(alloc),
-            layer_places: HashMap::new(alloc),
+            layer_places: HashMap::with_hasher(alloc, NumberHash::new()),
             made: Vec::new(alloc),
-            notes: HashMap::new(alloc),
+            notes: HashMap::with_hasher(alloc, NumberHash::new()),
             selection: None,
         }
     }

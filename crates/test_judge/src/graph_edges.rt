@@ -27,6 +27,32 @@ pub(crate) fn label_along(graph: &Graph, path: &ChoiceList) -> Option<u32>
     Some(node)
 }
 
+// Whether the row of a node leads there, behind the first node of the next layer if there is one.
+fn has_row(graph: &Graph, layer: u16, node: u32, leads: &[u32]) -> bool {
+    if layer >= graph.layers() {
+        return false;
+    }
+    let (first, count) = graph.nodes(layer);
+    if node < first || node - first >= count {
+        return false;
+    }
+    let next = if layer + 1 < graph.layers() {
+        graph.nodes(layer + 1).0
+    } else {
+        0
+    };
+    let row = graph.row(layer, node - first);
+    if row.len() != leads.len() {
+        return false;
+    }
+    for choice in 0..row.len() {
+        if u64::from(next) + u64::from(row[choice]) != u64::from(leads[choice]) {
+            return false;
+        }
+    }
+    true
+}
+
 // A node, its layer, and where its choices lead.
 pub(crate) type EdgeRow = (u16, u32, &'static [u32]);
 
@@ -47,6 +73,9 @@ fn has_choices(graph: &Graph, layer: u16, node: u32, leads: &[u32]) -> bool {
 pub(crate) fn has_edges(graph: &Graph, rows: &[EdgeRow]) -> bool {
     for (layer, node, leads) in rows {
         if !has_choices(graph, *layer, *node, leads) {
+            return false;
+        }
+        if !has_row(graph, *layer, *node, leads) {
             return false;
         }
     }

@@ -1,8 +1,10 @@
-//! Tests of words, files and streams, and of the lines of a text.
+//! Tests of words, files and streams, of the lines of a text, and of what numbers are hashed to.
 #![tactic(auto)]
 
 #[cfg(test)]
 mod lines;
+#[cfg(test)]
+mod numbers;
 #[cfg(test)]
 mod outside;
 #[cfg(test)]

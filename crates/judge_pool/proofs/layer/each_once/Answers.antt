@@ -9,6 +9,6 @@ returns c =
     let places = c.add_places.new.places.items in
     subst (λ l. AreAdded [] [] letters l places) (sym c.in_ok-keys.ensures)
     (subst (λ l. AreAdded l [] letters c.add_places.new.list.keys places)
-    (nil_of_len c.new-once.result.keys c.new-once.ensures.len)
-    (subst (λ l. AreAdded c.new-once.result.keys l letters c.add_places.new.list.keys places) c.new-places.ensures.items
+    (nil_of_len c.with_hasher-once.result.keys c.with_hasher-once.ensures.len)
+    (subst (λ l. AreAdded c.with_hasher-once.result.keys l letters c.add_places.new.list.keys places) c.new-places.ensures.items
     c.in_ok-add_places.ensures))

@@ -20,12 +20,12 @@ states-init c =
     record {
       grew = c.in_ok-number.ensures.grew;
       noted = c.in_ok-number.ensures.noted;
-      few = omega (arith, c.new-next.ensures.len, zero-mul (length c.args.letters.now));
+      few = omega (arith, c.with_hasher-next.ensures.len, zero-mul (length c.args.letters.now));
       edges = λ nodes at.
-          subst (λ n. AreEdges q.view q.values.items nodes c.args.states.now c.args.letters.now c.new-next.result.keys
+          subst (λ n. AreEdges q.view q.values.items nodes c.args.states.now c.args.letters.now c.with_hasher-next.result.keys
           c.new-edges.result.items n) (sym (zero-mul (length c.args.letters.now)))
-          (edges_none q.view q.values.items nodes c.args.states.now c.args.letters.now c.new-next.result.keys
-          c.new-edges.result.items (nil_of_len c.new-next.result.keys c.new-next.ensures.len)
+          (edges_none q.view q.values.items nodes c.args.states.now c.args.letters.now c.with_hasher-next.result.keys
+          c.new-edges.result.items (nil_of_len c.with_hasher-next.result.keys c.with_hasher-next.ensures.len)
           c.new-edges.ensures.items);
     }
 

@@ -1,6 +1,5 @@
 use Rattle.std.proofs.Common.{refl}
 use Rattle.judge_pool.specs.declared.pool.Pool.{Pool}
-use Rattle.judge_pool.specs.Pooling.{composition}
 use Rattle.judge_pool.proofs.LayeringLemmas.{Grows, grew_of, grew_more}
 use Rattle.judge_pool.proofs.BatchLemmas.{notes_stay, batch_stays, batch_ends, can_more}
 use Rattle.judge_pool.proofs.PastLemmas.{layers_stay}

@@ -1,6 +1,6 @@
 use Rattle.std.proofs.Common.{refl}
 use Rattle.judge_pool.specs.declared.pool.Pool.{Pool}
-use Rattle.judge_pool.proofs.LayeringLemmas.{Grows, grew_of, grew_same}
+use Rattle.judge_pool.proofs.LayeringLemmas.{Grows, grew_of}
 use Rattle.judge_pool.proofs.BatchLemmas.{notes_none}
 use Rattle.judge_pool.proofs.PastLemmas.{layers_stay}
 use Rattle.judge_pool.proofs.pool.Pool.forget_batches.Goals as goal

@@ -8,6 +8,6 @@ returns-clause-pool c = record {
   index = index_none c.args.view c.new.result.items c.new-2.result c.new.ensures.items c.new-2.ensures.empty;
   apart = apart_none c.args.view c.new.result.items c.new.ensures.items;
   well = well_none c.new.result.items c.new.ensures.items;
-  notes = notes_none _ c.new-7.result c.new-7.ensures.empty;
+  notes = notes_none _ c.with_hasher-3.result c.with_hasher-3.ensures.empty;
   layers = layers_none _ c.new-4.result.items c.new-4.ensures.items;
 }
