@@ -7,6 +7,7 @@ ghost use Rattle.station_joints.specs.Chosen.{layer_of};
 ghost use Rattle.commissioning_tests.specs.Growing.{IsOperationWalk, AreTurnedLayers};
 
 use crate::walked::OperationWalk;
+use decision_graphs::Folds;
 use ilk_base::{Memory, SwitchId};
 use std::alloc::Global;
 
@@ -16,7 +17,8 @@ pub(crate) fn layers_of(alloc: Global, walked: &OperationWalk<'_>) -> Result<Vec
     ensures { IfOk result (λ v. (op : Operation) → slice_get walked.now.operations.now walked.now.number ≡ Some op
         → AreTurnedLayers walked.now.walk.now.graph walked.now.walk.now.codes.items op.direction v.items) }
 {
-    let layers = walked.released.dependencies(alloc)?;
+    let mut folds = Folds::new(alloc);
+    let layers = walked.released.dependencies_by(alloc, &mut folds)?;
     Ok(layers)
 }
 

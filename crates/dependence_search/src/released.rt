@@ -3,7 +3,7 @@ ghost use Rattle.std.specs.Prelude.{◌≡◌, map, IfOk};
 ghost use Rattle.dependence_search.specs.Released.{HasTwoChoices, IsReleasedOf, released_name};
 
 use change_search::answer;
-use decision_graphs::Graph;
+use decision_graphs::{Folds, Graph};
 use graph_walks::{Codes, Walk};
 use ilk_base::{Direction, Memory};
 use std::alloc::Global;
@@ -38,6 +38,8 @@ pub fn released_graph(alloc: Global, walk: &Walk, direction: Direction) -> Resul
 {
     let names = names_of(alloc, direction, &walk.codes)?;
     let named = walk.graph.rename(alloc, 2, &names)?;
-    let reduced = named.reduce(alloc)?;
+    // (like bays make layers that are folded alike)
+    let mut folds = Folds::new(alloc);
+    let reduced = named.reduce_by(alloc, &mut folds)?;
     Ok(reduced)
 }

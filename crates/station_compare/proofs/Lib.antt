@@ -11,3 +11,4 @@ mod IdleLemmas
 mod WalkLemmas
 mod OrderLemmas
 mod NarrowLemmas
+mod StockLemmas

@@ -4,9 +4,9 @@ use Rattle.station_graph.specs.Diagram.{Diagram}
 use Rattle.decision_graphs.specs.Label.{Layer, Layered, label_of, AreChoices, AreLayers, AreReduced}
 use Rattle.judge_pool.specs.declared.view.View.{View}
 use Rattle.judge_pool.specs.declared.view.View.TheVariants.{Gap, Load}
-use Rattle.step_graphs.specs.declared.graph.StepStock.{StepStock}
-use Rattle.step_graphs.specs.Ready.{IsStepStock}
-use Rattle.std.specs.Prelude.{List, Bool, map}
+use Rattle.judge_pool.specs.Pooling.{IsPool}
+use Rattle.step_graphs.specs.Letters.{AreStepRows}
+use Rattle.std.specs.Prelude.{List, Bool, length, map}
 use Rattle.ilk_base.specs.declared.words.Op.{Op}
 use Rattle.station_graph.specs.CentralRules.{LoadBreaks}
 use Rattle.step_graphs.specs.declared.step.Step.{Step}
@@ -14,6 +14,7 @@ use Rattle.station_joints.specs.declared.joint.JointSteps.{JointSteps}
 use Rattle.change_search.specs.Telling.{IsSwitchWalk}
 use Rattle.change_search.specs.Searching.{HaveReached}
 use Rattle.change_search.specs.Showing.{AllowIsolating, AllowAll}
+use Rattle.station_compare.specs.declared.stocks.PairStock.{PairStock}
 use Rattle.station_compare.specs.declared.stocks.Stocks.{Stocks}
 use Rattle.station_compare.specs.declared.walked.Walked.{Walked}
 
@@ -29,17 +30,17 @@ pub record IsIdleOf (gap g : Layered) : Type 0 where
   pub reduced : AreReduced g.layers
   pub first : (cs : List ℕ) → AreChoices gap.layers cs → label_of g cs ≡ 0
 
--- The stock is that of these steps in this view.
-pub record IsStockIn (view : View) (d : Diagram) (steps : List Step) (s : StepStock) : Type 0 where
-  pub stock : IsStepStock d steps s
+-- The pool, of this view, has the values of the steps of both stations, and the rows are their numbers.
+pub record IsPairStock (view : View) (o n : Diagram) (olds news : List Step) (s : PairStock) : Type 0 where
+  pub pool : IsPool s.pool
   pub seen : s.pool.view ≡ view
+  pub old_rows : AreStepRows s.pool o olds (map (λ v. v.items) s.old_rows.items) (length olds)
+  pub new_rows : AreStepRows s.pool n news (map (λ v. v.items) s.new_rows.items) (length news)
 
 -- The stocks are those of both stations in both views.
 pub record AreStocks (o n : Diagram) (j : JointSteps) (s : Stocks) : Type 0 where
-  pub old_gap : IsStockIn Gap o j.old_steps.items s.old_gap
-  pub new_gap : IsStockIn Gap n j.new_steps.items s.new_gap
-  pub old_load : IsStockIn Load o j.old_steps.items s.old_load
-  pub new_load : IsStockIn Load n j.new_steps.items s.new_load
+  pub gap : IsPairStock Gap o n j.old_steps.items j.new_steps.items s.gap
+  pub load : IsPairStock Load o n j.old_steps.items j.new_steps.items s.load
 
 -- The walk of switch i of the old station and switch k of the new one, whose steps stand at place b, and what isolating
 -- choices and all choices reach in it.

@@ -11,6 +11,7 @@ mod laws;
 mod likeness;
 mod limits;
 mod loads;
+mod moved;
 mod next;
 mod operation;
 mod refusal;

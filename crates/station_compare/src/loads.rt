@@ -6,18 +6,18 @@ ghost use Rattle.judge_pool.specs.declared.view.View.TheVariants.{Gap, Load};
 ghost use Rattle.step_graphs.specs.Edges.{StepsPass, StepsKeep};
 ghost use Rattle.step_graphs.specs.Moved.{IsMovedGraph};
 ghost use Rattle.step_graphs.specs.Steps.{AreSteps, TakesIn};
-ghost use Rattle.step_graphs.specs.Ready.{IsStepStock};
-ghost use Rattle.station_compare.specs.Walking.{HasNoLoad, IsIdleOf};
+ghost use Rattle.station_compare.specs.Walking.{HasNoLoad, IsIdleOf, IsPairStock};
 ghost use Rattle.station_compare.specs.Width.{IsDisconnector};
 ghost use Rattle.station_compare.specs.declared.limits.TheConstants.{WALK_EDGES};
 
-use crate::limits::WALK_EDGES;
+use crate::moved::{new_graph, old_graph};
+use crate::stocks::PairStock;
 use decision_graphs::Graph;
 use ilk_base::{Kind, Memory, SwitchId};
-use judge_pool::Trouble;
+use judge_pool::{Trouble, View};
 use station_graph::Station;
 use std::alloc::Global;
-use step_graphs::{Step, StepStock, moved_graph};
+use step_graphs::Step;
 
 // Whether the third rule may apply to a move of the switch: to those of a disconnector alone.
 fn has_load(station: &Station, id: SwitchId) -> bool
@@ -49,36 +49,70 @@ fn idle_graph(alloc: Global, gap: &Graph) -> Result<Graph, Memory>
     Ok(reduced)
 }
 
-// The load graph of the switch at a place of the steps, whose gap graph this is: made for a disconnector alone.
-pub(crate) fn load_graph(
+// The load graph of a switch of the old station, whose gap graph this is: made for a disconnector alone.
+pub(crate) fn old_load_graph(
     alloc: Global,
-    stock: &mut StepStock,
-    station: &Station,
-    steps: &[Step],
+    stock: &mut PairStock,
+    old: &Station,
+    new: &Station,
+    olds: &[Step],
+    news: &[Step],
     place: u16,
     id: SwitchId,
     gap: &Graph,
 ) -> Result<Graph, Trouble>
-    requires stock { IsStepStock station.now steps.now stock.old }
-    requires seen { stock.old.pool.view ≡ Load }
-    requires steps { AreSteps station.now steps.now }
-    requires moved { TakesIn steps.now place (a_switch id.0) }
-    requires gap { IsMovedGraph Gap station.now steps.now place id.0 gap.now }
-    requires within { id.0 < length station.now.switches }
-    requires some { 1 < length steps.now }
-    requires few { length steps.now < 2 ^ 16 }
-    ensures stock { OnOk result (IsStepStock station.now steps.now stock.new) }
-    ensures view { OnOk result (stock.new.pool.view ≡ stock.old.pool.view) }
-    ensures graph { IfOk result (IsMovedGraph stock.old.pool.view station.now steps.now place id.0) }
-    ensures keeps { IfOk result (λ _. IsDisconnector station.now id.0 →
-        StepsKeep stock.old.pool.view station.now steps.now place WALK_EDGES) }
-    ensures wide { IfErr result (λ e. e ≡ Wide → IsDisconnector station.now id.0
-        × StepsPass stock.old.pool.view station.now steps.now place WALK_EDGES) }
+    requires stock { IsPairStock Load old.now new.now olds.now news.now stock.old }
+    requires steps { AreSteps old.now olds.now }
+    requires moved { TakesIn olds.now place (a_switch id.0) }
+    requires gap { IsMovedGraph Gap old.now olds.now place id.0 gap.now }
+    requires within { id.0 < length old.now.switches }
+    requires some { 1 < length olds.now }
+    requires few { length olds.now < 2 ^ 16 }
+    ensures stock { OnOk result (IsPairStock Load old.now new.now olds.now news.now stock.new) }
+    ensures graph { IfOk result (IsMovedGraph Load old.now olds.now place id.0) }
+    ensures keeps { IfOk result (λ _. IsDisconnector old.now id.0 →
+        StepsKeep Load old.now olds.now place WALK_EDGES) }
+    ensures wide { IfErr result (λ e. e ≡ Wide → IsDisconnector old.now id.0
+        × StepsPass Load old.now olds.now place WALK_EDGES) }
 {
-    if !has_load(station, id) {
+    if !has_load(old, id) {
         let idle = idle_graph(alloc, gap)?;
         return Ok(idle);
     }
-    let graph = moved_graph(alloc, stock, station, steps, place, id, WALK_EDGES)?;
+    let graph = old_graph(alloc, View::Load, stock, old, new, olds, news, place, id)?;
+    Ok(graph)
+}
+
+// The load graph of a switch of the new station, whose gap graph this is: made for a disconnector alone.
+pub(crate) fn new_load_graph(
+    alloc: Global,
+    stock: &mut PairStock,
+    old: &Station,
+    new: &Station,
+    olds: &[Step],
+    news: &[Step],
+    place: u16,
+    id: SwitchId,
+    gap: &Graph,
+) -> Result<Graph, Trouble>
+    requires stock { IsPairStock Load old.now new.now olds.now news.now stock.old }
+    requires steps { AreSteps new.now news.now }
+    requires moved { TakesIn news.now place (a_switch id.0) }
+    requires gap { IsMovedGraph Gap new.now news.now place id.0 gap.now }
+    requires within { id.0 < length new.now.switches }
+    requires some { 1 < length news.now }
+    requires few { length news.now < 2 ^ 16 }
+    ensures stock { OnOk result (IsPairStock Load old.now new.now olds.now news.now stock.new) }
+    ensures graph { IfOk result (IsMovedGraph Load new.now news.now place id.0) }
+    ensures keeps { IfOk result (λ _. IsDisconnector new.now id.0 →
+        StepsKeep Load new.now news.now place WALK_EDGES) }
+    ensures wide { IfErr result (λ e. e ≡ Wide → IsDisconnector new.now id.0
+        × StepsPass Load new.now news.now place WALK_EDGES) }
+{
+    if !has_load(new, id) {
+        let idle = idle_graph(alloc, gap)?;
+        return Ok(idle);
+    }
+    let graph = new_graph(alloc, View::Load, stock, old, new, olds, news, place, id)?;
     Ok(graph)
 }

@@ -2,36 +2,52 @@
 ghost use Rattle.std.specs.Prelude.{IfOk};
 ghost use Rattle.step_graphs.specs.Steps.{AllFit};
 ghost use Rattle.station_joints.specs.Joined.{HaveJointSteps};
-ghost use Rattle.station_compare.specs.Walking.{AreStocks, IsStockIn};
+ghost use Rattle.station_compare.specs.Walking.{AreStocks, IsPairStock};
 
 use ilk_base::Memory;
-use judge_pool::View;
+use judge_pool::{Pool, View};
 use station_graph::Station;
 use station_joints::JointSteps;
 use std::alloc::Global;
-use step_graphs::{Step, StepStock, step_stock};
+use step_graphs::{Step, step_rows};
 
-// The stocks of both stations in both views.
+// The values of the steps of both stations in one view, each once, and for each station their numbers. So what both have
+// alike is composed once.
+#[derive(Drop)]
+pub(crate) struct PairStock {
+    pub(crate) pool: Pool,
+    pub(crate) old_rows: Vec<Vec<usize>>,
+    pub(crate) new_rows: Vec<Vec<usize>>,
+}
+
+// The stocks of both views.
 #[derive(Drop)]
 pub(crate) struct Stocks {
-    pub(crate) old_gap: StepStock,
-    pub(crate) new_gap: StepStock,
-    pub(crate) old_load: StepStock,
-    pub(crate) new_load: StepStock,
+    pub(crate) gap: PairStock,
+    pub(crate) load: PairStock,
 }
 
 // The stock of these steps in one view.
-fn stock_in(
+fn pair_stock(
     alloc: Global,
     view: View,
-    station: &Station,
-    steps: &[Step],
-) -> Result<StepStock, Memory>
-    requires { AllFit station.now steps.now }
-    ensures { IfOk result (IsStockIn view station.now steps.now) }
+    old: &Station,
+    new: &Station,
+    olds: &[Step],
+    news: &[Step],
+) -> Result<PairStock, Memory>
+    requires olds { AllFit old.now olds.now }
+    requires news { AllFit new.now news.now }
+    ensures { IfOk result (IsPairStock view old.now new.now olds.now news.now) }
 {
-    let stock = step_stock(alloc, view, station, steps)?;
-    Ok(stock)
+    let mut pool = Pool::new(alloc, view, Vec::new(alloc));
+    let old_rows = step_rows(alloc, &mut pool, old, olds)?;
+    let new_rows = step_rows(alloc, &mut pool, new, news)?;
+    Ok(PairStock {
+        pool,
+        old_rows,
+        new_rows,
+    })
 }
 
 // The stocks of these steps.
@@ -46,14 +62,7 @@ pub(crate) fn stocks_of(
 {
     let olds = steps.old_steps.as_slice();
     let news = steps.new_steps.as_slice();
-    let old_gap = stock_in(alloc, View::Gap, old, olds)?;
-    let new_gap = stock_in(alloc, View::Gap, new, news)?;
-    let old_load = stock_in(alloc, View::Load, old, olds)?;
-    let new_load = stock_in(alloc, View::Load, new, news)?;
-    Ok(Stocks {
-        old_gap,
-        new_gap,
-        old_load,
-        new_load,
-    })
+    let gap = pair_stock(alloc, View::Gap, old, new, olds, news)?;
+    let load = pair_stock(alloc, View::Load, old, new, olds, news)?;
+    Ok(Stocks { gap, load })
 }

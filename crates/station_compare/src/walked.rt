@@ -14,18 +14,18 @@ ghost use Rattle.station_compare.specs.declared.limits.TheConstants.{WALK_EDGES}
 ghost use Rattle.station_compare.specs.Width.{KeepsWalk, PassesWalk};
 
 use crate::limits::WALK_EDGES;
-use crate::loads::load_graph;
+use crate::loads::{new_load_graph, old_load_graph};
+use crate::moved::{new_graph, old_graph};
 use crate::stocks::Stocks;
 use change_search::{Reached, free_steps, free_steps_allow};
 use decision_graphs::{Graph, Marks};
 use graph_products::ProductTrouble;
 use graph_walks::{Walk, allowed_sets, walk_of};
 use ilk_base::{Memory, SwitchId};
-use judge_pool::Trouble;
+use judge_pool::{Trouble, View};
 use station_graph::Station;
 use station_joints::JointSteps;
 use std::alloc::Global;
-use step_graphs::moved_graph;
 
 // The walk of a switch, and what isolating choices and all choices reach in it.
 #[derive(Drop)]
@@ -90,21 +90,36 @@ fn switch_walk(
     let olds = steps.old_steps.as_slice();
     let news = steps.new_steps.as_slice();
     let others = (olds.len() - 1) as u16;
-    let old_gap = moved_graph(alloc, &mut stocks.old_gap, old, olds, place, id, WALK_EDGES)?;
-    let new_gap = moved_graph(
+    let gap = View::Gap;
+    let old_gap = old_graph(alloc, gap, &mut stocks.gap, old, new, olds, news, place, id)?;
+    let new_gap = new_graph(
         alloc,
-        &mut stocks.new_gap,
+        gap,
+        &mut stocks.gap,
+        old,
         new,
+        olds,
         news,
         place,
         new_id,
-        WALK_EDGES,
     )?;
-    let old_load = load_graph(alloc, &mut stocks.old_load, old, olds, place, id, &old_gap)?;
-    let new_load = load_graph(
+    let old_load = old_load_graph(
         alloc,
-        &mut stocks.new_load,
+        &mut stocks.load,
+        old,
         new,
+        olds,
+        news,
+        place,
+        id,
+        &old_gap,
+    )?;
+    let new_load = new_load_graph(
+        alloc,
+        &mut stocks.load,
+        old,
+        new,
+        olds,
         news,
         place,
         new_id,

@@ -118,8 +118,8 @@ fn step_row(
     Ok(ids)
 }
 
-// The numbers of the values of each step, open and closed.
-pub(crate) fn step_rows(
+/// The numbers in a pool of the values of each step, open and closed. Time and memory: the steps.
+pub fn step_rows(
     alloc: Global,
     pool: &mut Pool,
     station: &Station,

@@ -8,5 +8,6 @@ mod letters;
 mod spans;
 mod step;
 
-pub use graph::{StepStock, moved_graph, step_stock};
+pub use graph::{StepStock, moved_graph, moved_graph_in, step_stock};
+pub use letters::step_rows;
 pub use step::Step;
