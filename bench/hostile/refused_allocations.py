@@ -41,8 +41,10 @@ FEEDERS = [bay(q, ["n"], [equipment("QB1", "DIS", ["W/B", f"{q}/n"]), equipment(
 LOG = [f"{kind},{path},{word}" for kind in ("at", "sense") for path, word in SWITCHES.items()]
 LOG += ["command,S/V1/Q1/QB1,open", "deliver,1", "deliver,2", "deliver,3", "command,S/V1/Q1/E1,open", "deliver,4", "restart,S/V1/Q2", "deliver,5"]
 LOG += ["begin,S/V1/Q1/E1", "end,S/V1/Q1/E1", "sense,S/V1/Q1/E1,off", "command,S/V1/Q1/QB1,open", "tick,S/V1/Q1"]
+THIRD = bay("Q3", ["n"], [equipment("QB1", "DIS", ["W/B", "Q3/n"]), equipment("E1", "IFL", ["Q3/n"])])
 FILES = {
     "station": drawing([bay("W", ["B"], []), *FEEDERS]),
+    "extended": drawing([bay("W", ["B"], []), *FEEDERS, THIRD]),
     "positions": "".join(f"{path},{word}\n" for path, word in SWITCHES.items()),
     "log": "".join(record + "\n" for record in LOG),
     "order": "open S/V1/Q1/E1\nopen S/V1/Q1/QB1\nclose S/V1/Q1/QB1\n",
@@ -60,6 +62,12 @@ CHECKED = "".join(f"{releases} S/V1/{name}/{switch}\n" for name in ("Q1", "Q2") 
 COMMANDS = {
     "check": (["check", "station", "positions"], b"", CHECKED.encode()),
     "explain": (["explain", "station", "positions", "open", "S/V1/Q1/QB1"], b"", None),
+    "explain-all": (["explain", "station", "positions"], b"", None),
+    "why": (["why", "station", "positions", "open", "S/V1/Q1/QB1"], b"", None),
+    "station": (["station", "station"], b"", None),
+    "program": (["program", "station"], b"", None),
+    "compare": (["compare", "station", "extended"], b"", None),
+    "tests": (["tests", "station"], b"", None),
     "state": (["state", "station", "positions"], b"", None),
     "order": (["order", "station", "positions", "order"], b"", None),
     "replay": (["replay", "station", "log"], b"", None),
