@@ -284,6 +284,50 @@ module _ (f : ℕ → ℕ) (order : KeepsOrder f) where
     loaded = marks_map x.kept x.joined y.kept y.joined x.loaded y.loaded c.kept c.loaded h.loaded;
   }
 
+  -- ---- and back
+
+  module _ (k1 l1 k2 l2 : List ℕ) where
+    labels_back : (kept labels : List ℕ) → LabelsCompose (map f k1) l1 (map f k2) l2 (map f kept) labels →
+        LabelsCompose k1 l1 k2 l2 kept labels
+    labels_back kept labels h a b a_in b_in =
+        let c = h (f a) (f b) (keeps_map f kept a a_in) (keeps_map f kept b b_in) in (
+          λ s. linked_back k1 l1 k2 l2 a b (c.0 (same_map f kept labels a b s)),
+          λ l. same_back kept labels a b (c.1 (linked_map k1 l1 k2 l2 a b l)),
+        )
+
+    marks_back : (m1 m2 : List Bool) (kept : List ℕ) (marks : List Bool) →
+        MarksCompose (map f k1) l1 m1 (map f k2) l2 m2 (map f kept) marks → MarksCompose k1 l1 m1 k2 l2 m2 kept marks
+    marks_back m1 m2 kept marks h a a_in =
+        let c = h (f a) (keeps_map f kept a a_in) in (
+          λ m. reaches_back k1 l1 k2 l2 m1 m2 a (c.0 (marked_map f kept marks a m)),
+          λ r. marked_back kept marks a (c.1 (reaches_map k1 l1 k2 l2 m1 m2 a r)),
+        )
+
+  kept_back : (k1 k2 kept : List ℕ) →
+      ((n : ℕ) → Keeps (map f kept) n → Keeps (map f k1) n ⊎ Keeps (map f k2) n) → (n : ℕ) → Keeps kept n →
+      Keeps k1 n ⊎ Keeps k2 n
+  kept_back k1 k2 kept h n k =
+      elim (h (f n) (keeps_map f kept n k)) [ inl one ↦ inl (keeps_back k1 n one) | inr two ↦ inr (keeps_back k2 n two) ]
+
+  -- AND WHAT THEY SAY WHERE THEIR NODES ARE MAPPED, THEY SAY TOO
+  pub gap_back : (x y c : Answers) → ComposesGap (mapped f x) (mapped f y) (mapped f c) → ComposesGap x y c
+  gap_back x y c h = record {
+    kept = kept_back x.kept y.kept c.kept h.kept;
+    coupled = labels_back x.kept x.coupled y.kept y.coupled c.kept c.coupled h.coupled;
+    energisable =
+        marks_back x.kept x.coupled y.kept y.coupled x.energisable y.energisable c.kept c.energisable h.energisable;
+    earthable = marks_back x.kept x.coupled y.kept y.coupled x.earthable y.earthable c.kept c.earthable h.earthable;
+  }
+
+  pub load_back : (x y c : Answers) → ComposesLoad (mapped f x) (mapped f y) (mapped f c) → ComposesLoad x y c
+  load_back x y c h = record {
+    kept = kept_back x.kept y.kept c.kept h.kept;
+    joined = labels_back x.kept x.joined y.kept y.joined c.kept c.joined h.joined;
+    bonded = labels_back x.kept x.bonded y.kept y.bonded c.kept c.bonded h.bonded;
+    fed = marks_back x.kept x.joined y.kept y.joined x.fed y.fed c.kept c.fed h.fed;
+    loaded = marks_back x.kept x.joined y.kept y.joined x.loaded y.loaded c.kept c.loaded h.loaded;
+  }
+
   -- ---- and values are the same exactly where they are so with their nodes mapped
 
   map_apart : (xs ys : List ℕ) → map f xs ≡ map f ys → xs ≡ ys

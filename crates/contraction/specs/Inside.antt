@@ -17,9 +17,18 @@ answers_of c = record {
   loaded = c.load.second.items;
 }
 
--- The lists that a selection was made of.
+-- The lists that a selection was made of, and what they are together.
 abbrev pub selected_of : Chosen → Selected
-selected_of s = record { first = s.first.items; second = s.second.items; nodes = s.nodes.items }
+selected_of s = record {
+  first = s.first.items;
+  second = s.second.items;
+  nodes = s.nodes.items;
+  all = s.layout.union.kept.items;
+  first_places = s.layout.union.first.items;
+  second_places = s.layout.union.second.items;
+  places = s.layout.places.items;
+  kept = s.layout.kept.items;
+}
 
 -- The layout is that of these lists.
 abbrev pub IsLaid : Chosen → Type 0

@@ -8,11 +8,23 @@ use Rattle.contraction.specs.Merging.{IsMerged, LabelsOfBoth}
 use Rattle.contraction.specs.Restricting.{PlacesOf, Picks, LabelsRestrict, MarksAt, RowOfBothAt}
 use Rattle.contraction.specs.Rows.{words, flags}
 
--- The kept nodes of two contractions, and the nodes that are asked for.
+-- The kept nodes of two contractions, and the nodes that are asked for; both lists merged, with the places in that of
+-- the nodes of each, and of those that are asked for, and these nodes, rising.
 pub record Selected : Type 0 where
   pub first : List ℕ
   pub second : List ℕ
   pub nodes : List ℕ
+  pub all : List ℕ
+  pub first_places : List ℕ
+  pub second_places : List ℕ
+  pub places : List ℕ
+  pub kept : List ℕ
+
+-- The merged list and the places are those of the other lists.
+pub record ArePlaced (s : Selected) : Type 0 where
+  pub merged : IsMerged s.first s.second s.all s.first_places s.second_places
+  pub asked : PlacesOf s.nodes s.all s.places
+  pub picked : Picks s.all s.places s.kept
 
 -- Two lists of nodes are merged, and of the merged list these nodes are selected.
 pub record IsLayout (first second nodes : List ℕ) (s : Layout) : Type 0 where

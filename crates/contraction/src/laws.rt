@@ -10,6 +10,7 @@ ghost use Rattle.station_graph.specs.Views.{SameGapView, SameLoadView};
 ghost use Rattle.contraction.specs.Answers.{Answers, Keeps, IsContraction, SameGap, SameLoad};
 ghost use Rattle.contraction.specs.Stands.{Among, IsItem, GapStandsFor, LoadStandsFor};
 ghost use Rattle.contraction.specs.Composing.{Composes, Restricts, ComposesGap, ComposesLoad};
+ghost use Rattle.contraction.specs.Renaming.{KeepsOrder, mapped};
 
 /// `compose` respects each view: values with the same gap views have compositions with the same gap
 /// view, and so for load views.
@@ -37,6 +38,16 @@ pub fn one_view_is_that_of_both()
         → Composes x y c → Restricts c r → ComposesGap x y g → r.kept ≡ g.kept → SameGap r g }
     ensures load { (x y c r l : Answers) → IsContraction x → IsContraction y
         → Composes x y c → Restricts c r → ComposesLoad x y l → r.kept ≡ l.kept → SameLoad r l }
+{}
+
+/// What two values are together in one view is a matter of their answers place by place and of the order of their
+/// nodes, not of which nodes they are: other nodes in the same order may stand in place of them. So a composition that
+/// was worked out once need not be worked out again on other nodes.
+pub fn nodes_in_one_order_compose_alike()
+    ensures gap { (f : ℕ → ℕ) (x y c : Answers) → KeepsOrder f
+        → ComposesGap x y c ↔ ComposesGap (mapped f x) (mapped f y) (mapped f c) }
+    ensures load { (f : ℕ → ℕ) (x y c : Answers) → KeepsOrder f
+        → ComposesLoad x y c ↔ ComposesLoad (mapped f x) (mapped f y) (mapped f c) }
 {}
 
 /// `keep_only` respects each view.

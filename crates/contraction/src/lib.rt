@@ -27,9 +27,9 @@ mod value;
 
 pub use laws::{
     composition_respects_views, fewer_nodes_tell_less, gap_views_are_equal, load_views_are_equal,
-    one_view_is_that_of_both, one_view_respects_it, own_positions_stand,
-    restriction_respects_views, same_items_stand, same_nodes_are_one_list, same_views_stand,
-    values_tell_views,
+    nodes_in_one_order_compose_alike, one_view_is_that_of_both, one_view_respects_it,
+    own_positions_stand, restriction_respects_views, same_items_stand, same_nodes_are_one_list,
+    same_views_stand, values_tell_views,
 };
 pub use selection::Selection;
 pub use supply::Supply;

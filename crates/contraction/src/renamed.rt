@@ -68,18 +68,28 @@ impl Contraction {
     /// The same answers on other nodes, which rise and are as many as the kept ones: the first of them in the
     /// place of the first kept node, and so on. So values of like items on other nodes need not be composed
     /// anew. Time and memory: the nodes.
-    pub fn renamed(&self, alloc: Global, nodes: &NodeList) -> Result<Contraction, Memory>
+    pub fn on_nodes(&self, alloc: Global, nodes: &[u16]) -> Result<Contraction, Memory>
         requires nodes { AreNodes nodes.now }
         requires count { length nodes.now ≡ length self.now.kept }
         ensures renamed { IfOk result (λ c. c ≡ renamed nodes.now self.now) }
         ensures contraction { IfOk result IsContraction }
     {
         Ok(Contraction {
-            kept: Vec::from_slice(alloc, nodes.numbers())?,
+            kept: Vec::from_slice(alloc, nodes)?,
             gap: self.gap.copy(alloc)?,
             load: self.load.copy(alloc)?,
             bonded: self.bonded.clone()?,
         })
+    }
+
+    /// What `on_nodes` gives on the nodes of a list.
+    pub fn renamed(&self, alloc: Global, nodes: &NodeList) -> Result<Contraction, Memory>
+        requires nodes { AreNodes nodes.now }
+        requires count { length nodes.now ≡ length self.now.kept }
+        ensures renamed { IfOk result (λ c. c ≡ renamed nodes.now self.now) }
+        ensures contraction { IfOk result IsContraction }
+    {
+        self.on_nodes(alloc, nodes.numbers())
     }
 
     /// Whether both answer the same, place by place, whatever nodes they keep. Time: the kept nodes. Takes no

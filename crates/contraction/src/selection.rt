@@ -1,6 +1,7 @@
 //! Some of the nodes of two contractions together, for each pair of contractions that keep these.
 ghost use Rattle.std.specs.Prelude.{◌≡◌, ◌↔◌, IfOk, IsTrue};
 ghost use Rattle.contraction.specs.Answers.{AreNodes};
+ghost use Rattle.contraction.specs.Selecting.{ArePlaced};
 
 use crate::layout::Layout;
 use crate::renamed::same_numbers;
@@ -63,5 +64,39 @@ impl Selection {
         let firsts = same_numbers(&self.first, first);
         let seconds = same_numbers(&self.second, second);
         firsts && seconds && same_numbers(&self.nodes, nodes.numbers())
+    }
+
+    /// The places of the nodes of the first list among those of both lists, which rise. What two values are together
+    /// is a matter of these places and of their answers place by place, not of which nodes they keep. At once, and
+    /// with no memory, as the other lists of places.
+    pub fn first_places(&self) -> &[u16]
+        ensures places { result.now ≡ self.now.first_places }
+        ensures placed { ArePlaced self.now }
+    {
+        self.layout.union.first.as_slice()
+    }
+
+    /// Those of the nodes of the second list.
+    pub fn second_places(&self) -> &[u16]
+        ensures places { result.now ≡ self.now.second_places }
+        ensures placed { ArePlaced self.now }
+    {
+        self.layout.union.second.as_slice()
+    }
+
+    /// Those of the nodes that are asked for.
+    pub fn places(&self) -> &[u16]
+        ensures places { result.now ≡ self.now.places }
+        ensures placed { ArePlaced self.now }
+    {
+        self.layout.places.as_slice()
+    }
+
+    /// The nodes that are asked for and that either list has, rising.
+    pub fn kept(&self) -> &[u16]
+        ensures kept { result.now ≡ self.now.kept }
+        ensures placed { ArePlaced self.now }
+    {
+        self.layout.kept.as_slice()
     }
 }

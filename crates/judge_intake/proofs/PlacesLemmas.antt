@@ -1,14 +1,13 @@
 -- Values by places of a list of nodes.
-use Rattle.std.proofs.Common.{◌≡◌, ℕ, ◌+◌, ◌-◌, ◌<◌, ◌≤◌, ◌↔◌, suc, Bool, List, [], ◌∷◌, ◌++◌, map, take, length}
+use Rattle.std.proofs.Common.{◌≡◌, ℕ, ◌+◌, ◌-◌, ◌<◌, ◌↔◌, suc, Bool, List, [], ◌∷◌, ◌++◌, map, take, length}
 use Rattle.std.proofs.Common.{get_or, slice_get, slice_index, Some, sym, ap, ◌∙◌, subst, inl, inr, arith}
 use Rattle.std.specs.Prelude.{Contains}
-use Rattle.std.proofs.lemmas.List.{length-map, map-append, take_more, get_or_past}
+use Rattle.std.proofs.lemmas.List.{length-map, map-append, take_more}
 use Rattle.std.proofs.lemmas.Option.{slice_get_within, slice_get-get_or, get_or_from_slice_get, same_Some}
 use Rattle.std.proofs.lemmas.Bool.{cases_lt, cases_eq}
 use Rattle.station_graph.specs.Diagram.{Diagram, IsStation, part_count}
 use Rattle.station_graph.specs.Sharing.{OfPart, TouchedBy, IsShared}
 use Rattle.station_graph.specs.Nodes.{Rises}
-use Rattle.station_graph.specs.declared.limits.TheConstants.{NODES}
 use Rattle.contraction.specs.Answers.{Answers, Keeps, AreNodes, IsContraction}
 use Rattle.contraction.specs.Renaming.{KeepsOrder, mapped}
 use Rattle.contraction.specs.Stands.{Among}
@@ -28,6 +27,8 @@ use Rattle.judge_pool.specs.Listing.{parts_before}
 use Rattle.judge_pool.specs.Needing.{IsNeededOuter, IsNeededInner}
 use Rattle.judge_intake.specs.Inputs.{AreCopies, HasCopyAt, AreNames}
 use Rattle.judge_pool.proofs.BridgeLemmas.{at_number, number_at}
+use Rattle.judge_pool.proofs.NodeLemmas.{node_at, node_small, node_past, places_rise}
+pub use Rattle.judge_pool.proofs.NodeLemmas.{node_at, places_rise}
 use Rattle.judge_pool.proofs.MappedPools.{at_mapped}
 use Rattle.judge_pool.proofs.MappedViews.{same_map, kept_of_same}
 use Rattle.judge_intake.proofs.OuterFits.{seen_over, others_all, part_in}
@@ -36,49 +37,18 @@ use Rattle.judge_intake.proofs.OtherLemmas.{other_cases}
 
 -- ---- places and nodes
 
-pub node_at : (list : List ℕ) (place n : ℕ) → slice_get list place ≡ Some n → node_listed list place ≡ n
-node_at list place n at = get_or_from_slice_get list place n (NODES + place) at
-
 module _ (list : List ℕ) (nodes : AreNodes list) where
-  node_small : (place n : ℕ) → slice_get list place ≡ Some n → n < NODES
-  node_small place n at =
-      omega (arith, nodes.small place (slice_get_within list place n at), get_or_from_slice_get list place n 0 at)
-
-  node_past : (place : ℕ) → length list ≤ place → node_listed list place ≡ NODES + place
-  node_past place out = get_or_past list place (NODES + place) out
-
-  -- a later place has a later node
-  pub places_rise : KeepsOrder (node_listed list)
-  places_rise a b less = elim (cases_lt b (length list)) [
-    | inl b_in ↦
-        let at_a = slice_get-get_or list a 0 (omega (arith, less, b_in)) in
-        let at_b = slice_get-get_or list b 0 b_in in
-        omega (
-          arith,
-          node_at list a (slice_index list a) at_a,
-          node_at list b (slice_index list b) at_b,
-          nodes.rises a b less b_in,
-        )
-    | inr b_out ↦ elim (cases_lt a (length list)) [
-      | inl a_in ↦
-          let at_a = slice_get-get_or list a 0 a_in in
-          omega (
-            arith,
-            node_at list a (slice_index list a) at_a,
-            node_small a (slice_index list a) at_a,
-            node_past b (omega (arith, b_out)),
-          )
-      | inr a_out ↦ omega (arith, node_past a (omega (arith, a_out)), node_past b (omega (arith, b_out)), less)
-    ]
-  ]
-
   -- a place whose node is in the list is one of its places
   pub place_inside : (place : ℕ) → Contains list (node_listed list place) → place < length list
   place_inside place has = elim (cases_lt place (length list)) [
     | inl inside ↦ inside
     | inr out ↦
         let k = keeps_from_has list (node_listed list place) has in
-        absurd (omega (arith, node_small k.place (node_listed list place) k.at, node_past place (omega (arith, out))))
+        absurd (omega (
+          arith,
+          node_small list nodes k.place (node_listed list place) k.at,
+          node_past list nodes place (omega (arith, out)),
+        ))
   ]
 
   -- places of nodes are nodes, and so are nodes at places
@@ -105,7 +75,7 @@ module _ (list : List ℕ) (nodes : AreNodes list) where
                   later,
                   one,
                   two,
-                  places_rise (slice_index places k) (slice_index places j) (omega (arith, ge, ne)),
+                  places_rise list nodes (slice_index places k) (slice_index places j) (omega (arith, ge, ne)),
                 ))
           ]
         ];
@@ -125,7 +95,7 @@ module _ (list : List ℕ) (nodes : AreNodes list) where
   pub nodes_are_nodes : (places : List ℕ) → AreNodes places → ((p : ℕ) → Keeps places p → p < length list) →
       AreNodes (map (node_listed list) places)
   nodes_are_nodes places are inside = record {
-    rises = rises_map (node_listed list) places_rise places are.rises;
+    rises = rises_map (node_listed list) (places_rise list nodes) places are.rises;
     small = λ k k_in.
         let count = length-map places (node_listed list) in
         let at = slice_get-get_or places k 0 (omega (arith, k_in, count)) in
@@ -137,7 +107,7 @@ module _ (list : List ℕ) (nodes : AreNodes list) where
           arith,
           here,
           node_at list (slice_index places k) (slice_index list (slice_index places k)) at_p,
-          node_small (slice_index places k) (slice_index list (slice_index places k)) at_p,
+          node_small list nodes (slice_index places k) (slice_index list (slice_index places k)) at_p,
         );
   }
 

@@ -44,7 +44,7 @@ pub fn outer_keeps(
     let count = others + 1;
     for place in 0..count {
         let nodes = outer_nodes(alloc, station, sharing, bay, place, others)?;
-        let id = pool.keep(nodes)?;
+        let id = pool.keep(alloc, nodes)?;
         keeps.push(id)?;
     }
     Ok(keeps)
@@ -156,7 +156,7 @@ pub fn inner_keeps(
     keeps.push(keep)?;
     for from in 0..own.count {
         let places = inner_places(alloc, station, &own.nodes, own.first, moved, from, others)?;
-        let id = pool.keep(places)?;
+        let id = pool.keep(alloc, places)?;
         keeps.push(id)?;
     }
     Ok(keeps)

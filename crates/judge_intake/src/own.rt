@@ -134,7 +134,7 @@ fn all_places(alloc: Global, pool: &mut Pool, list: &NodeList) -> Result<usize, 
 {
     let all = list.numbers();
     let places = places_of(alloc, list, all)?;
-    let id = pool.keep(places)?;
+    let id = pool.keep(alloc, places)?;
     Ok(id)
 }
 

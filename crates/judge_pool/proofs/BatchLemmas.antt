@@ -16,8 +16,12 @@ use Rattle.judge_pool.specs.declared.pool.Pool.{Pool}
 use Rattle.judge_pool.specs.Pooling.{WasMade, MakesEach, HasBatch, NotesAreRight, composition, same_batch}
 use Rattle.judge_pool.specs.Pooling.{letter_lists, Extends, IsPool, GrewTo, CanCompose}
 use Rattle.judge_pool.specs.Layering.{no_answers}
+use Rattle.judge_pool.specs.Standing.{StandsAreRight}
+use Rattle.judge_pool.specs.Keeping.{NumbersAreRight}
 use Rattle.judge_pool.proofs.LayeringLemmas.{Grows, grew_of, grew_in, keep_in, either_more}
 use Rattle.judge_pool.proofs.PastLemmas.{layers_stay}
+use Rattle.judge_pool.proofs.StandLemmas.{stands_stay}
+use Rattle.judge_pool.proofs.KeepLemmas.{numbers_stay}
 
 -- ---- a pool that grew
 
@@ -84,6 +88,49 @@ selects_other p s h =
       well = h.well;
       notes = notes_stay p q g (λ i t at. at) p.notes h.notes;
       layers = layers_stay p q g p.layers.items h.layers;
+      stands = stands_stay p q g p.stands h.stands;
+      numbers = numbers_stay p q g p.keep_numbers h.numbers;
+    }) g
+
+-- and with other notes of what stands where
+pub stands_other : (p r : Pool) → IsPool p → StandsAreRight p r.stands → GrewTo p (record p { stands = r.stands })
+stands_other p r h right =
+    let q : Pool = record p { stands = r.stands } in
+    let g : Grows p q = record {
+      view = refl;
+      keeps = λ k ns at. at;
+      values = λ i x at. at;
+      letters = λ l ids at. at;
+    } in
+    grew_of p q (record {
+      index = h.index;
+      apart = h.apart;
+      well = h.well;
+      notes = notes_stay p q g (λ i t at. at) p.notes h.notes;
+      layers = layers_stay p q g p.layers.items h.layers;
+      stands = stands_stay p q g r.stands right;
+      numbers = numbers_stay p q g p.keep_numbers h.numbers;
+    }) g
+
+-- and with other notes of the numbers of lists
+pub numbers_other : (p r : Pool) → IsPool p → NumbersAreRight p r.keep_numbers →
+    GrewTo p (record p { keep_numbers = r.keep_numbers })
+numbers_other p r h right =
+    let q : Pool = record p { keep_numbers = r.keep_numbers } in
+    let g : Grows p q = record {
+      view = refl;
+      keeps = λ k ns at. at;
+      values = λ i x at. at;
+      letters = λ l ids at. at;
+    } in
+    grew_of p q (record {
+      index = h.index;
+      apart = h.apart;
+      well = h.well;
+      notes = notes_stay p q g (λ i t at. at) p.notes h.notes;
+      layers = layers_stay p q g p.layers.items h.layers;
+      stands = stands_stay p q g p.stands h.stands;
+      numbers = numbers_stay p q g r.keep_numbers right;
     }) g
 
 -- ---- a note more

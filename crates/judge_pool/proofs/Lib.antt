@@ -17,3 +17,13 @@ pub mod PlanLemmas
 pub mod PassLemmas
 pub mod ChoiceLemmas
 pub mod MadeLemmas
+pub mod NodeLemmas
+pub mod ShapeLemmas
+pub mod StandLemmas
+pub mod KeepLemmas
+pub mod AsLemmas
+pub mod StepAsLemmas
+pub mod LyingLemmas
+pub mod LaidLemmas
+pub mod ExactLemmas
+pub mod BackLemmas

@@ -12,12 +12,11 @@ use Rattle.contraction.proofs.MappedLemmas.{map_self}
 use Rattle.contraction.proofs.PlaceLemmas.{keeps_from_has, has_from_keeps}
 use Rattle.judge_pool.specs.declared.view.View.{View}
 use Rattle.judge_pool.specs.declared.pool.Pool.{Pool}
-use Rattle.judge_pool.specs.Pooling.{Extends, IsMadeOf}
+use Rattle.judge_pool.specs.Pooling.{Extends}
 use Rattle.judge_pool.specs.Seen.{SameSeen}
 use Rattle.judge_pool.specs.Places.{pool_on}
-use Rattle.judge_pool.specs.Folding.{IsCarriedOn, AreReached, ReachesMore}
+use Rattle.judge_pool.specs.Folding.{AllKeep, AreRising, AreApartIn, IsCarriedOn, AreReached, ReachesMore}
 use Rattle.judge_pool.specs.Layering.{values_at, no_answers}
-use Rattle.judge_pool.specs.Pooling.{LeadsToMade, AreEdges}
 use Rattle.judge_pool.specs.Plans.{AreLinked}
 use Rattle.judge_pool.proofs.BridgeLemmas.{from_map}
 use Rattle.judge_pool.proofs.LayeringLemmas.{AreSound, Grows}
@@ -165,37 +164,6 @@ module _ (f : ℕ → ℕ) (order : KeepsOrder f) where
 
   -- ---- edges
 
-  made_on : (view : View) (x y : Answers) (keep : List ℕ) (values : List Answers) (t : ℕ) →
-      IsMadeOf view x y keep values t → IsMadeOf view (mapped f x) (mapped f y) (map f keep) (map (mapped f) values) t
-  made_on view x y keep values t m = record {
-    value = mapped f m.value;
-    listed = at_mapped (mapped f) values t m.value m.listed;
-    composes = composes_map f order view x y m.value m.composes;
-    kept = same_nodes_map f m.value.kept keep m.kept;
-  }
-
-  leads_on : (view : View) (values : List Answers) (keep next : List ℕ) (i j place : ℕ) →
-      LeadsToMade view values keep next i j place → LeadsToMade view (map (mapped f) values) (map f keep) next i j place
-  leads_on view values keep next i j place l = record {
-    id = l.id;
-    at = l.at;
-    x = mapped f l.x;
-    y = mapped f l.y;
-    first = at_mapped (mapped f) values i l.x l.first;
-    second = at_mapped (mapped f) values j l.y l.second;
-    made = made_on view l.x l.y keep values l.id l.made;
-  }
-
-  pub edges_on : (view : View) (values : List Answers) (keep states letters next edges : List ℕ) (n : ℕ) →
-      AreEdges view values keep states letters next edges n →
-      AreEdges view (map (mapped f) values) (map f keep) states letters next edges n
-  edges_on view values keep states letters next edges n e = record {
-    len = e.len;
-    made = λ p i j lt at_i at_j. leads_on view values keep next i j (get_or edges p 0) (e.made p i j lt at_i at_j);
-    none_twice = e.none_twice;
-    hit = e.hit;
-  }
-
   -- ---- what is reached
 
   carried_on : (view : View) (states letters : List Answers) (x : Answers) → IsCarriedOn view states letters x →
@@ -210,47 +178,49 @@ module _ (f : ℕ → ℕ) (order : KeepsOrder f) where
     composes = composes_map f order view c.x c.y x c.composes;
   }
 
+  pub kept_on : (keep : List ℕ) (next : List Answers) → AllKeep next keep → AllKeep (map (mapped f) next) (map f keep)
+  kept_on keep next h t r at =
+      let (x, here, is) = of_mapped (mapped f) next t r at in
+      subst (λ (z : Answers). (n : ℕ) → Keeps z.kept n ↔ Contains (map f keep) n) is
+      (same_nodes_map f x.kept keep (h t x here))
+
+  pub rising_on : (next : List Answers) → AreRising next → AreRising (map (mapped f) next)
+  rising_on next h t r at =
+      let (x, here, is) = of_mapped (mapped f) next t r at in
+      subst (λ (z : Answers). Rises z.kept) is (rises_map f order x.kept (h t x here))
+
+  pub apart_on : (view : View) (next : List Answers) → AreApartIn view next → AreApartIn view (map (mapped f) next)
+  apart_on view next h t u x y at_t at_u same =
+      let (a, at_a, is_a) = of_mapped (mapped f) next t x at_t in
+      let (b, at_b, is_b) = of_mapped (mapped f) next u y at_u in
+      h t u a b at_a at_b (same_unmap f order view a b
+      (subst (λ z. SameSeen view z (mapped f b)) (sym is_a) (subst (λ z. SameSeen view x z) (sym is_b) same)))
+
   reached_on : (view : View) (keep : List ℕ) (states letters next : List Answers) →
       AreReached view keep states letters next →
       AreReached view (map f keep) (map (mapped f) states) (map (mapped f) letters) (map (mapped f) next)
   reached_on view keep states letters next h = record {
-    kept = λ t r at.
-        let (x, here, is) = of_mapped (mapped f) next t r at in
-        subst (λ (z : Answers). (n : ℕ) → Keeps z.kept n ↔ Contains (map f keep) n) is
-        (same_nodes_map f x.kept keep (h.kept t x here));
-    rising = λ t r at.
-        let (x, here, is) = of_mapped (mapped f) next t r at in
-        subst (λ (z : Answers). Rises z.kept) is (rises_map f order x.kept (h.rising t x here));
-    apart = λ t u x y at_t at_u same.
-        let (a, at_a, is_a) = of_mapped (mapped f) next t x at_t in
-        let (b, at_b, is_b) = of_mapped (mapped f) next u y at_u in
-        h.apart t u a b at_a at_b (same_unmap f order view a b
-        (subst (λ z. SameSeen view z (mapped f b)) (sym is_a) (subst (λ z. SameSeen view x z) (sym is_b) same)));
+    kept = kept_on keep next h.kept;
+    rising = rising_on next h.rising;
+    apart = apart_on view next h.apart;
     carried = λ t r at.
         let (x, here, is) = of_mapped (mapped f) next t r at in
         subst (IsCarriedOn view (map (mapped f) states) (map (mapped f) letters)) is
         (carried_on view states letters x (h.carried t x here));
   }
 
-  pub reaches_on : (view : View) (keep : List ℕ) (values : List Answers) (states letters : List ℕ) (limit : ℕ) →
-      ReachesMore view keep (values_at values states) (values_at values letters) limit →
-      ReachesMore view (map f keep) (values_at (map (mapped f) values) states)
-      (values_at (map (mapped f) values) letters) limit
-  reaches_on view keep values states letters limit h =
-      let xs : List Answers = values_at values states in
-      let ys : List Answers = values_at values letters in
-      let all : ReachesMore view (map f keep) (map (mapped f) xs) (map (mapped f) ys) limit = record {
-        next = map (mapped f) h.next;
-        reached = reached_on view keep xs ys h.next h.reached;
-        past = omega (arith, h.past, length-map h.next (mapped f));
-        few = omega (
-          arith,
-          h.few,
-          length-map h.next (mapped f),
-          ap (λ n. n * length (map (mapped f) ys)) (length-map xs (mapped f)),
-          ap (λ n. length xs * n) (length-map ys (mapped f)),
-        );
-      } in
-      subst (λ zs. ReachesMore view (map f keep) zs (values_at (map (mapped f) values) letters) limit)
-      (sym (values_on f values states))
-      (subst (λ zs. ReachesMore view (map f keep) (map (mapped f) xs) zs limit) (sym (values_on f values letters)) all)
+  pub reaches_more_on : (view : View) (keep : List ℕ) (states letters : List Answers) (limit : ℕ) →
+      ReachesMore view keep states letters limit →
+      ReachesMore view (map f keep) (map (mapped f) states) (map (mapped f) letters) limit
+  reaches_more_on view keep states letters limit h = record {
+    next = map (mapped f) h.next;
+    reached = reached_on view keep states letters h.next h.reached;
+    past = omega (arith, h.past, length-map h.next (mapped f));
+    few = omega (
+      arith,
+      h.few,
+      length-map h.next (mapped f),
+      ap (λ n. n * length (map (mapped f) letters)) (length-map states (mapped f)),
+      ap (λ n. length states * n) (length-map letters (mapped f)),
+    );
+  }

@@ -1,12 +1,11 @@
 -- The edges of a plan's layers, one layer after another, and when they pass a limit.
-use Rattle.std.proofs.Common.{◌≡◌, ℕ, ◌+◌, ◌-◌, ◌*◌, ◌<◌, ◌≤◌, suc, Bool, List, [], ◌∷◌, ◌++◌, length, slice_get, Some}
+use Rattle.std.proofs.Common.{◌≡◌, ℕ, ◌+◌, ◌-◌, ◌*◌, ◌<◌, ◌≤◌, Bool, List, [], ◌∷◌, ◌++◌, length, slice_get, Some}
 use Rattle.std.proofs.Common.{refl, sym, ap, ◌∙◌, subst, inl, inr, arith}
-use Rattle.std.specs.Prelude.{◌↔◌}
 use Rattle.std.proofs.lemmas.List.{length-map, length_push}
 use Rattle.std.proofs.lemmas.List.Sums.{sum_by_push}
 use Rattle.std.proofs.lemmas.Option.{slice_get_within, slice_get_cases, same_Some}
 use Rattle.station_graph.proofs.PathLemmas.{slice_get-push}
-use Rattle.contraction.specs.Answers.{Answers, Keeps}
+use Rattle.contraction.specs.Answers.{Answers}
 use Rattle.contraction.specs.Stands.{Among}
 use Rattle.bay_contract.specs.Counting.{AreSoMany}
 use Rattle.decision_graphs.specs.Label.{Layer}
@@ -17,12 +16,11 @@ use Rattle.judge_pool.specs.Pooling.{GrewTo}
 use Rattle.judge_pool.specs.Folding.{IsExact, ReachesMore}
 use Rattle.judge_pool.specs.Layering.{values_at}
 use Rattle.judge_pool.specs.Pooling.{AreEdges}
-use Rattle.judge_pool.specs.Plans.{Plan, PlanFits, AreLinked, PlanHas, PlanPasses, SameBefore, plan_diagram}
-use Rattle.judge_pool.specs.Plans.{ChosenBy, items_of, new_of, NeededBy}
+use Rattle.judge_pool.specs.Plans.{Plan, PlanHas, PlanPasses, SameBefore, plan_diagram}
+use Rattle.judge_pool.specs.Plans.{ChosenBy, items_of, NeededBy}
 use Rattle.judge_pool.proofs.BridgeLemmas.{reached_by_edges}
-use Rattle.judge_pool.proofs.CountLemmas.{at_least_of, views_so_many, views_at_least}
-use Rattle.judge_pool.proofs.LayeringLemmas.{Grows, sound}
-use Rattle.judge_pool.proofs.MadeLemmas.{made_more}
+use Rattle.judge_pool.proofs.CountLemmas.{at_least_of, views_so_many}
+use Rattle.judge_pool.proofs.LayeringLemmas.{sound}
 use Rattle.judge_pool.proofs.PlanLemmas.{values_more}
 
 module _ (Many : (List Bool → List Bool → Type 0) → ℕ → Type 0) (view : View) (plan : Plan)
@@ -146,44 +144,3 @@ more_reached p q g nodes states letters next edges n most states_in letters_in e
   where
     len : (r : Pool) (ids : List ℕ) → length (values_at r.values.items ids) ≡ length ids
     len r ids = length-map ids _
-
--- more values are reached than may have the next layer's choices
-module _ (p q : Pool) (start : ℕ) (letters : List (List ℕ)) (keeps : List ℕ) (linked : AreLinked p start letters keeps)
-    (g : Grows p q) (j k : ℕ) (ids nodes states : List ℕ) (at_j : slice_get letters j ≡ Some ids)
-    (at_k : slice_get keeps (suc j) ≡ Some k) (at_nodes : slice_get p.keeps.items k ≡ Some nodes) (plan : Plan)
-    (fits : PlanFits plan p start letters keeps) (ls : List Layer) (exact : IsExact p.view (plan_diagram plan)
-    (ChosenBy plan) (items_of plan) (NeededBy plan) j ls (values_at q.values.items states)) where
-  pub reached_at_least : (most : ℕ) →
-      ReachesMore q.view nodes (values_at q.values.items states) (values_at q.values.items ids) most →
-      (count : ℕ) × (most < count) × (count ≤ length states * length ids)
-      × AreAtLeast (plan_diagram plan) (SameBefore p.view plan (suc j)) count
-  reached_at_least most more =
-      let letters_same = values_more p.values.items q.values.items ids g.values
-      (λ c i at. linked.letters_in j c i ids at_j at) in
-      let here = subst (λ w. ReachesMore w nodes (values_at q.values.items states) (values_at p.values.items ids) most)
-      g.view (subst (λ xs. ReachesMore q.view nodes (values_at q.values.items states) xs most) letters_same more) in
-      let made = made_more p.view (plan_diagram plan) (items_of plan j) (new_of plan j) nodes
-      (values_at q.values.items states) (values_at p.values.items ids) here.next
-      (λ t c x y at_x at_y. fits.meets j c ids x y at_j (exact.kept t x at_x) at_y)
-      here.reached
-      (λ c x y v at_y whole seen. fits.given j c ids x y v at_j at_y whole seen)
-      exact.views.made in
-      let kept : (t : ℕ) (r : Answers) → slice_get here.next t ≡ Some r → (n : ℕ) → Keeps r.kept n ↔
-      NeededBy plan (suc j) n =
-      λ t r at n. (let a = here.reached.kept t r at n in
-      let b = fits.needed (suc j) k nodes at_k at_nodes n in
-      (λ h. b.0 (a.0 h), λ h. a.1 (b.1 h))) in (
-        length here.next,
-        here.past,
-        omega (
-          arith,
-          here.few,
-          ap (λ n. n * length (values_at p.values.items ids)) (len q states),
-          ap (λ n. length states * n) (len p ids),
-        ),
-        views_at_least p.view (Among (items_of plan (suc j))) (plan_diagram plan) (NeededBy plan (suc j)) here.next kept
-            here.reached.rising here.reached.apart made,
-      )
-    where
-      len : (r : Pool) (xs : List ℕ) → length (values_at r.values.items xs) ≡ length xs
-      len r xs = length-map xs _

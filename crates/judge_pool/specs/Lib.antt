@@ -9,3 +9,7 @@ pub mod Plans
 pub mod Pooling
 pub mod Places
 pub mod Layering
+pub mod Shapes
+pub mod Standing
+pub mod Keeping
+pub mod Lying

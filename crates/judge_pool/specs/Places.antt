@@ -29,10 +29,12 @@ pool_on f p = record {
   values = with_mapped (mapped f) p.values;
   index = p.index;
   keeps = with_mapped (map f) p.keeps;
+  keep_numbers = p.keep_numbers;
   letters = p.letters;
   layers = p.layers;
   layer_places = p.layer_places;
   made = p.made;
   notes = p.notes;
   selection = p.selection;
+  stands = p.stands;
 }

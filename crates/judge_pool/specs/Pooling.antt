@@ -16,6 +16,8 @@ use Rattle.judge_pool.specs.declared.known.KnownLayer.{KnownLayer}
 use Rattle.judge_pool.specs.declared.pool.Pool.{Pool}
 use Rattle.judge_pool.specs.Seen.{SeenFor, SameSeen, ComposesIn, seen_row}
 use Rattle.judge_pool.specs.Folding.{AreApartIn, AreWell}
+use Rattle.judge_pool.specs.Standing.{StandsAreRight}
+use Rattle.judge_pool.specs.Keeping.{NumbersAreRight}
 
 -- The number that the index has for a row.
 abbrev pub number_in : {S : Type 0} → HashMap (List ℕ) ℕ S → List ℕ → Option ℕ
@@ -144,6 +146,8 @@ pub record IsPool (p : Pool) : Type 0 where
   pub well : AreWell p.values.items
   pub notes : NotesAreRight p p.notes
   pub layers : AreKnown p p.layers.items
+  pub stands : StandsAreRight p p.stands
+  pub numbers : NumbersAreRight p p.keep_numbers
 
 -- The pool has what it had, and maybe more values, lists of nodes and lists of numbers. Batches may be forgotten.
 pub record GrewTo (old new : Pool) : Type 0 where

@@ -15,3 +15,10 @@ pub(crate) struct Batch {
     pub(crate) letters: usize,
     pub(crate) keep: usize,
 }
+
+// A value and the nodes on which it is to stand in place of its own.
+#[derive(Clone, Copy, PartialEq, Eq, Hash)]
+pub(crate) struct Stand {
+    pub(crate) id: usize,
+    pub(crate) keep: usize,
+}

@@ -102,6 +102,7 @@ pub fn fold_layers(
 {
     let mut layers = Vec::new(alloc);
     let mut states = list_of(alloc, start)?;
+    let mut kept = Vec::from_slice(alloc, pool.values[start].nodes())?;
     let mut left = budget;
     'layers: for j in 0..letters.len() {
         let row = letters[j].as_slice();
@@ -113,7 +114,8 @@ pub fn fold_layers(
         }
         left -= nodes * choices;
         let most = most_nodes(letters, j + 1, left);
-        let step = step_from(alloc, pool, held, row, keeps[j + 1], most)?;
+        let lying = pool.lie(alloc, held, &kept, row, keeps[j + 1])?;
+        let step = step_from(alloc, pool, &lying.states, &lying.letters, lying.keep, most)?;
         let layer = FinishedLayer {
             choices: choices as u32,
             nodes: nodes as u32,
@@ -121,7 +123,9 @@ pub fn fold_layers(
         };
         layers.push(layer)?;
         states = step.next;
+        kept = lying.kept;
     }
+    let states = pool.all_back(alloc, &states, &kept)?;
     Ok(Drafts {
         layers,
         states,

@@ -148,7 +148,7 @@ fn add_state(
     ensures { OnOk result
         (AreAdded next.old.keys edges.old.items (at_places ids.now places.now) next.new.keys edges.new.items) }
 {
-    let mut to = Vec::new(alloc);
+    let mut to = Vec::with_capacity(alloc, ids.len())?;
     add_places(next, &mut to, ids)?;
     let ends = to.as_slice();
     add_edges(edges, ends, places)?;

@@ -5,12 +5,15 @@
 mod batch;
 mod batches;
 mod fold;
+mod keeps;
 mod known;
 mod layer;
 mod limits;
 mod lists;
+mod lying;
 mod past;
 mod pool;
+mod stands;
 mod view;
 
 pub use fold::{Drafts, fold_layers};

@@ -1,12 +1,12 @@
 //! Values of one view, each kept once.
-ghost use Rattle.std.specs.Prelude.{◌≡◌, ℕ, ◌↔◌, ◌++◌, List, [], ◌∷◌, length, slice_get, Some, IfOk, IfSome};
+ghost use Rattle.std.specs.Prelude.{◌≡◌, ℕ, ◌↔◌, ◌++◌, List, [], ◌∷◌, length, slice_get, Some, IfOk};
 ghost use Rattle.std.specs.Prelude.{OnOk, MatchOption, Contains};
 ghost use Rattle.contraction.specs.Answers.{Answers, Keeps, IsContraction};
 ghost use Rattle.judge_pool.specs.declared.view.View.{View as Seen};
 ghost use Rattle.judge_pool.specs.Seen.{seen_row};
 ghost use Rattle.judge_pool.specs.Pooling.{IsRowIndex, IsPool, GrewTo, HasSame, HasCopy};
 
-use crate::batch::Batch;
+use crate::batch::{Batch, Stand};
 use crate::known::{KnownLayer, LayerKey};
 use crate::view::{View, row_in};
 use contraction::{Contraction, Selection};
@@ -30,12 +30,14 @@ pub struct Pool {
     pub(crate) index: HashMap<Text, usize>,
     /// the lists of nodes, by number
     pub keeps: Vec<NodeList>,
+    pub(crate) keep_numbers: NumberMap<Vec<u16>, usize>,
     pub(crate) letters: NumberSet<Vec<u32>>,
     pub(crate) layers: Vec<KnownLayer>,
     pub(crate) layer_places: NumberMap<LayerKey, usize>,
     pub(crate) made: Vec<usize>,
     pub(crate) notes: NumberMap<Batch, usize>,
     pub(crate) selection: Option<Selection>,
+    pub(crate) stands: NumberMap<Stand, usize>,
 }
 
 // The number that the index has for a row.
@@ -59,18 +61,6 @@ fn note_row(index: &mut HashMap<Text, usize>, row: Text, place: usize) -> Result
     Ok(())
 }
 
-// The place of the list of nodes among these.
-fn find_keep(keeps: &[NodeList], nodes: &NodeList) -> Option<usize>
-    ensures { IfSome result (λ k. slice_get keeps.now k ≡ Some nodes.now) }
-{
-    for place in 0..keeps.len() {
-        if keeps[place] == *nodes {
-            return Some(place);
-        }
-    }
-    None
-}
-
 impl Pool {
     /// A pool without values, for these lists of nodes.
     pub fn new(alloc: Global, view: View, keeps: Vec<NodeList>) -> Pool
@@ -84,12 +74,14 @@ impl Pool {
             values: Vec::new(alloc),
             index: HashMap::new(alloc),
             keeps,
+            keep_numbers: HashMap::with_hasher(alloc, NumberHash::new()),
             letters: IndexSet::with_hasher(alloc, NumberHash::new()),
             layers: Vec::new(alloc),
             layer_places: HashMap::with_hasher(alloc, NumberHash::new()),
             made: Vec::new(alloc),
             notes: HashMap::with_hasher(alloc, NumberHash::new()),
             selection: None,
+            stands: HashMap::with_hasher(alloc, NumberHash::new()),
         }
     }
 
@@ -123,21 +115,6 @@ impl Pool {
         let place = held.len();
         note_row(&mut self.index, row, place)?;
         self.values.push(value)?;
-        Ok(place)
-    }
-
-    /// The number of the list of nodes, which the pool has once.
-    pub fn keep(&mut self, nodes: NodeList) -> Result<usize, Memory>
-        requires { IsPool self.old }
-        ensures grew { OnOk result (GrewTo self.old self.new) }
-        ensures kept { IfOk result (λ k. slice_get self.new.keeps.items k ≡ Some nodes) }
-    {
-        if let Some(place) = find_keep(&self.keeps, &nodes) {
-            return Ok(place);
-        }
-        let held = self.keeps.as_slice();
-        let place = held.len();
-        self.keeps.push(nodes)?;
         Ok(place)
     }
 

@@ -251,7 +251,7 @@ fn keeps_over(
     let count = others + 1;
     for j in 0..count {
         let nodes = nodes_over(alloc, spans, j)?;
-        let id = pool.keep(nodes)?;
+        let id = pool.keep(alloc, nodes)?;
         keeps.push(id)?;
     }
     Ok(keeps)

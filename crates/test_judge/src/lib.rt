@@ -22,6 +22,8 @@ mod graph_edges;
 #[cfg(test)]
 mod graphs;
 #[cfg(test)]
+mod lies;
+#[cfg(test)]
 mod reached;
 #[cfg(test)]
 mod renamed;

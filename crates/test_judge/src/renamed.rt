@@ -62,7 +62,13 @@ fn on_nodes(alloc: Global, value: &Contraction, nodes: &NodeList) -> Option<Cont
     if nodes.len() != value.nodes().len() {
         return None;
     }
-    value.renamed(alloc, nodes).ok()
+    let Ok(moved) = value.on_nodes(alloc, nodes.numbers()) else {
+        return None;
+    };
+    match value.renamed(alloc, nodes) {
+        Ok(again) if again.answers_as(&moved) && again.nodes() == moved.nodes() => Some(moved),
+        _ => None,
+    }
 }
 
 // The value on the nodes 0 and 1 in place of its own two.

@@ -3,6 +3,7 @@ ghost use Rattle.std.specs.Prelude.{◌≡◌, ◌⊎◌, ℕ, IsTrue, Contains,
 ghost use Rattle.contraction.specs.Answers.{Keeps};
 
 use crate::composed::{Items, is_whole, kept_of, nodes_of};
+use crate::lies::{Lies, lies_so};
 use contraction::{Contraction, Selection};
 use ilk_base::{Memory, Text};
 use station_graph::{NodeList, Station};
@@ -12,7 +13,7 @@ use test_stations::{Example, StationRow, rows_hold};
 // Which part of the station, and the nodes on which it is told.
 type Told = (u8, &'static [u16]);
 
-// Two parts in these positions, the nodes on which both are told together, and the bytes of both rows there. The gap
+// Two parts in these positions, the nodes on which both are told together, how they lie, and the bytes of both rows there. The gap
 // row has the nodes, the labels of what is coupled, and a mark for each node that is energisable, then one for each
 // that is earthable. The load row has the nodes, the labels of what is joined, those of what is bonded, and a mark
 // for each node that is fed, then one for each that is fed or tapped. A number has two bytes; a label is the first
@@ -23,6 +24,7 @@ struct Row {
     first: Told,
     second: Told,
     nodes: &'static [u16],
+    lies: Lies,
     gap: &'static [u8],
     load: &'static [u8],
 }
@@ -38,6 +40,11 @@ const ROWS: &[Row] = &[
         first: (1, &[0, 3]),
         second: (2, &[0, 6]),
         nodes: &[3, 6],
+        lies: Lies {
+            first: &[0, 1],
+            second: &[0, 2],
+            asked: &[1, 2],
+        },
         gap: &[0, 3, 0, 6, 0, 0, 0, 0, 1, 1, 0, 0],
         load: &[0, 3, 0, 6, 0, 0, 0, 1, 0, 0, 0, 1, 1, 1, 1, 1],
     },
@@ -47,6 +54,11 @@ const ROWS: &[Row] = &[
         first: (1, &[0, 3]),
         second: (2, &[0, 6]),
         nodes: &[0, 6],
+        lies: Lies {
+            first: &[0, 1],
+            second: &[0, 2],
+            asked: &[0, 2],
+        },
         gap: &[0, 0, 0, 6, 0, 0, 0, 0, 0, 0, 0, 0],
         load: &[0, 0, 0, 6, 0, 0, 0, 0, 0, 0, 0, 0, 0, 0, 1, 1],
     },
@@ -56,6 +68,11 @@ const ROWS: &[Row] = &[
         first: (1, &[0, 3]),
         second: (2, &[0, 6]),
         nodes: &[0],
+        lies: Lies {
+            first: &[0, 1],
+            second: &[0, 2],
+            asked: &[0],
+        },
         gap: &[0, 0, 0, 0, 1, 1],
         load: &[0, 0, 0, 0, 0, 0, 1, 1],
     },
@@ -65,6 +82,11 @@ const ROWS: &[Row] = &[
         first: (1, &[0, 3]),
         second: (2, &[0, 6]),
         nodes: &[0, 3, 6],
+        lies: Lies {
+            first: &[0, 1],
+            second: &[0, 2],
+            asked: &[0, 1, 2],
+        },
         gap: &[0, 0, 0, 3, 0, 6, 0, 0, 0, 1, 0, 0, 1, 1, 1, 0, 1, 0],
         load: &[
             0, 0, 0, 3, 0, 6, 0, 0, 0, 1, 0, 0, 0, 0, 0, 1, 0, 0, 1, 1, 1, 1, 1, 1,
@@ -76,6 +98,11 @@ const ROWS: &[Row] = &[
         first: (0, &[0, 2]),
         second: (4, &[0, 1]),
         nodes: &[0, 1, 2],
+        lies: Lies {
+            first: &[0, 2],
+            second: &[0, 1],
+            asked: &[0, 1, 2],
+        },
         gap: &[0, 0, 0, 1, 0, 2, 0, 0, 0, 1, 0, 0, 1, 0, 1, 0, 0, 0],
         load: &[
             0, 0, 0, 1, 0, 2, 0, 0, 0, 1, 0, 0, 0, 0, 0, 1, 0, 2, 1, 0, 1, 1, 0, 1,
@@ -215,9 +242,11 @@ fn is_its_own(
     x: &Contraction,
     y: &Contraction,
     nodes: &NodeList,
+    lies: &Lies,
 ) -> Result<bool, Memory> {
     let selection = Selection::of(alloc, x.nodes(), y.nodes(), nodes)?;
-    Ok(is_only_of(&selection, x, y, nodes, &NodeList::new(alloc)))
+    let none = NodeList::new(alloc);
+    Ok(lies_so(&selection, lies, nodes.numbers()) && is_only_of(&selection, x, y, nodes, &none))
 }
 
 // Whether the two together on these nodes are as the table says.
@@ -229,7 +258,7 @@ fn is_on_nodes(
     row: &Row,
 ) -> bool {
     either_keeps(x, y, nodes)
-        && matches!(is_its_own(alloc, x, y, nodes), Ok(true))
+        && matches!(is_its_own(alloc, x, y, nodes, &row.lies), Ok(true))
         && has_rows(alloc, x, y, nodes, row)
         && matches!(has_rows_selected(alloc, x, y, nodes, row), Ok(true))
 }

@@ -3,11 +3,11 @@ use Rattle.std.specs.List.{sum_by}
 use Rattle.decision_graphs.specs.declared.finished.FinishedLayer.{FinishedLayer}
 use Rattle.decision_graphs.specs.Finished.{AreFinished}
 use Rattle.std.specs.Prelude.{Contains}
-use Rattle.contraction.specs.Answers.{Answers, Keeps}
+use Rattle.contraction.specs.Answers.{Answers, Keeps, AreNodes}
 use Rattle.contraction.specs.Renaming.{KeepsOrder, mapped}
 use Rattle.judge_pool.specs.Pooling.{GrewTo}
 use Rattle.judge_pool.specs.Places.{pool_on}
-use Rattle.judge_pool.specs.Layering.{values_at}
+use Rattle.judge_pool.proofs.LaidLemmas.{seen_on}
 use Rattle.judge_pool.specs.Counted.{Spends}
 use Rattle.judge_pool.specs.Folding.{IsExact}
 use Rattle.judge_pool.specs.Plans.{Plan, PlanFits, PlanHas, plan_diagram, ChosenBy, items_of, NeededBy, layers_of}
@@ -27,11 +27,14 @@ invariant-layers l = record {
       ≡ map length (take l.j (map (λ v. v.items) l.letters));
   finished : AreFinished (length l.states.items) l.layers.items;
   made : length l.layers.items ≡ l.j;
-  kept : (t i m : ℕ) (x : Answers) (nodes : List ℕ) → slice_get l.states.items t ≡ Some i →
-      slice_get l.pool.values.items i ≡ Some x → slice_get l.keeps l.j ≡ Some m →
-      slice_get l.fn.pool.keeps.items m ≡ Some nodes → (n : ℕ) → Keeps x.kept n ↔ Contains nodes n;
+  are : AreNodes l.kept.items;
+  counts : (t i : ℕ) (x : Answers) → slice_get l.states.items t ≡ Some i → slice_get l.pool.values.items i ≡ Some x →
+      length l.kept.items ≡ length x.kept;
+  kept : (m : ℕ) (nodes : List ℕ) → slice_get l.keeps l.j ≡ Some m → slice_get l.fn.pool.keeps.items m ≡ Some nodes →
+      (n : ℕ) → Keeps l.kept.items n ↔ Contains nodes n;
   exact : (f : ℕ → ℕ) (plan : Plan) → KeepsOrder f →
       PlanFits plan (pool_on f l.fn.pool) l.start (map (λ v. v.items) l.letters) l.keeps →
       IsExact l.fn.pool.view (plan_diagram plan) (ChosenBy plan) (items_of plan) (NeededBy plan) l.j
-      (layers_of l.layers.items) (values_at (map (mapped f) l.pool.values.items) l.states.items);
+      (layers_of l.layers.items)
+      (map (mapped f) (seen_on l.kept.items l.pool.values.items l.states.items));
 }

@@ -7,7 +7,7 @@ pub add_edges-requires-clause-within : goal.add_edges-requires-clause-within
 add_edges-requires-clause-within c m k at =
     let ids = c.args.ids.now in
     let added = subst (λ l. AreAdded c.args.next.now.keys l ids c.add_places.new.list.keys c.add_places.new.places.items)
-    c.new-to.ensures.items c.in_ok-add_places.ensures in
+    c.in_ok-to.ensures.items c.in_ok-add_places.ensures in
     let lt : k < length ids = c.requires.places.within m k at in
     omega (arith, lt, added.len, ap length added.behind, ap length c.as_slice-ends.ensures.value)
 
@@ -16,7 +16,7 @@ add_edges-requires-clause-short c k t at =
     let ids = c.args.ids.now in
     let next = c.add_places.new.list.keys in
     let added = subst (λ l. AreAdded c.args.next.now.keys l ids next c.add_places.new.places.items)
-    c.new-to.ensures.items c.in_ok-add_places.ensures in
+    c.in_ok-to.ensures.items c.in_ok-add_places.ensures in
     let here : slice_get c.add_places.new.places.items k ≡ Some t =
     ap (λ l. slice_get l k) (sym c.as_slice-ends.ensures.value) ∙ at in
     let lt : t < length next = ends_within c.args.next.now.keys ids next c.add_places.new.places.items added k t here in
@@ -27,7 +27,7 @@ returns c =
     let ids = c.args.ids.now in
     let next = c.add_places.new.list.keys in
     let ends = c.add_places.new.places.items in
-    let added = subst (λ l. AreAdded c.args.next.now.keys l ids next ends) c.new-to.ensures.items
+    let added = subst (λ l. AreAdded c.args.next.now.keys l ids next ends) c.in_ok-to.ensures.items
     c.in_ok-add_places.ensures in
     added_spread c.args.next.now.keys c.args.edges.now.items ids c.args.places.now next ends
     c.add_edges.new.edges.items c.requires.places added

@@ -3,6 +3,8 @@ use Rattle.judge_pool.specs.declared.pool.Pool.{Pool}
 use Rattle.judge_pool.proofs.LayeringLemmas.{Grows, grew_of, grew_more}
 use Rattle.judge_pool.proofs.BatchLemmas.{notes_stay, batch_stays, batch_ends, can_more}
 use Rattle.judge_pool.proofs.PastLemmas.{layers_stay}
+use Rattle.judge_pool.proofs.StandLemmas.{stands_stay}
+use Rattle.judge_pool.proofs.KeepLemmas.{numbers_stay}
 use Rattle.judge_pool.proofs.pool.Pool.batch.Goals as goal
 
 pub make_batch-requires-clause-pool : goal.make_batch-requires-clause-pool
@@ -37,6 +39,8 @@ returns-clause-grew c =
           notes_stay q r g (λ i t at. at) c.note_batch.new.notes
           (c.in_ok-note_batch.ensures q h.is_pool.notes c.in_ok-start.ensures.batch);
       layers = layers_stay q r g q.layers.items h.is_pool.layers;
+      stands = stands_stay q r g q.stands h.is_pool.stands;
+      numbers = numbers_stay q r g q.keep_numbers h.is_pool.numbers;
     }) g)
 
 pub returns-clause-batch : goal.returns-clause-batch

@@ -3,6 +3,8 @@ use Rattle.judge_pool.specs.declared.pool.Pool.{Pool}
 use Rattle.judge_pool.proofs.LayeringLemmas.{Grows, grew_of}
 use Rattle.judge_pool.proofs.BatchLemmas.{notes_none}
 use Rattle.judge_pool.proofs.PastLemmas.{layers_stay}
+use Rattle.judge_pool.proofs.StandLemmas.{stands_stay}
+use Rattle.judge_pool.proofs.KeepLemmas.{numbers_stay}
 use Rattle.judge_pool.proofs.pool.Pool.forget_batches.Goals as goal
 
 pub returns : goal.returns
@@ -21,4 +23,6 @@ returns c =
       well = c.requires.well;
       notes = notes_none q c.clear.new.self c.clear.ensures.empty;
       layers = layers_stay p q g p.layers.items c.requires.layers;
+      stands = stands_stay p q g p.stands c.requires.stands;
+      numbers = numbers_stay p q g p.keep_numbers c.requires.numbers;
     }) g

@@ -5,6 +5,8 @@ use Rattle.judge_pool.proofs.LayerLemmas.{get_front}
 use Rattle.judge_pool.proofs.LayeringLemmas.{Grows, grew_of, grew_more}
 use Rattle.judge_pool.proofs.BatchLemmas.{notes_stay, are_made_more, get_behind}
 use Rattle.judge_pool.proofs.PastLemmas.{layers_stay}
+use Rattle.judge_pool.proofs.StandLemmas.{stands_stay}
+use Rattle.judge_pool.proofs.KeepLemmas.{numbers_stay}
 use Rattle.judge_pool.proofs.pool.Pool.make_batch.Goals as goal
 
 pub returns-clause-grew : goal.returns-clause-grew
@@ -31,6 +33,8 @@ returns-clause-grew c =
           (subst (λ xs. Extends q.made.items xs) (sym items) (λ i t at. get_front q.made.items ids i t at)) q.notes
           h.is_pool.notes;
       layers = layers_stay q r g q.layers.items h.is_pool.layers;
+      stands = stands_stay q r g q.stands h.is_pool.stands;
+      numbers = numbers_stay q r g q.keep_numbers h.is_pool.numbers;
     }) g)
 
 pub returns-clause-batch : goal.returns-clause-batch

@@ -4,6 +4,8 @@ use Rattle.judge_pool.specs.declared.pool.Pool.{Pool}
 use Rattle.judge_pool.specs.Pooling.{LeadsOn, IsKnown, AreKnown, letter_lists}
 use Rattle.judge_pool.proofs.LayeringLemmas.{Grows, grows, grew_of, grew_more}
 use Rattle.judge_pool.proofs.BatchLemmas.{notes_stay}
+use Rattle.judge_pool.proofs.StandLemmas.{stands_stay}
+use Rattle.judge_pool.proofs.KeepLemmas.{numbers_stay}
 use Rattle.judge_pool.proofs.PastLemmas.{leads_grown, key_stays, known_stays, layers_stay, layers_more}
 use Rattle.judge_pool.proofs.pool.Pool.note_layer.Goals as goal
 
@@ -51,5 +53,7 @@ returns c =
                 subst (AreKnown r) (sym c.in_ok-push.ensures.items)
                 (layers_more r q.layers.items new (layers_stay q r g q.layers.items h.is_pool.layers)
                 (known_stays q r g new known));
+            stands = stands_stay q r g q.stands h.is_pool.stands;
+            numbers = numbers_stay q r g q.keep_numbers h.is_pool.numbers;
           }) g);
     }

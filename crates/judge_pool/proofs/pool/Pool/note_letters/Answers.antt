@@ -3,6 +3,8 @@ use Rattle.judge_pool.specs.declared.pool.Pool.{Pool}
 use Rattle.judge_pool.proofs.LayeringLemmas.{Grows, grew_of}
 use Rattle.judge_pool.proofs.BatchLemmas.{notes_stay}
 use Rattle.judge_pool.proofs.PastLemmas.{layers_stay}
+use Rattle.judge_pool.proofs.StandLemmas.{stands_stay}
+use Rattle.judge_pool.proofs.KeepLemmas.{numbers_stay}
 use Rattle.judge_pool.proofs.pool.Pool.note_letters.Goals as goal
 
 pub returns-clause-grew : goal.returns-clause-grew
@@ -21,6 +23,8 @@ returns-clause-grew c =
       well = c.requires.well;
       notes = notes_stay p q g (λ i t at. at) p.notes c.requires.notes;
       layers = layers_stay p q g p.layers.items c.requires.layers;
+      stands = stands_stay p q g p.stands c.requires.stands;
+      numbers = numbers_stay p q g p.keep_numbers c.requires.numbers;
     }) g
 
 pub returns-clause-noted : goal.returns-clause-noted

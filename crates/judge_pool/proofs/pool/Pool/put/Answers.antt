@@ -8,6 +8,8 @@ use Rattle.judge_pool.proofs.PoolLemmas.{well_more, apart_more, rows_tell, rows_
 use Rattle.judge_pool.proofs.LayeringLemmas.{Grows, grew_of}
 use Rattle.judge_pool.proofs.BatchLemmas.{notes_stay}
 use Rattle.judge_pool.proofs.PastLemmas.{layers_stay}
+use Rattle.judge_pool.proofs.StandLemmas.{stands_stay}
+use Rattle.judge_pool.proofs.KeepLemmas.{numbers_stay}
 use Rattle.judge_pool.proofs.pool.Pool.put.Goals as goal
 
 pub returns-clause-grew : goal.returns-clause-grew
@@ -36,6 +38,8 @@ returns-clause-grew c =
       well = subst (λ vs. AreWell vs) (sym items) (well_more p.view p.values.items x h.well well_x);
       notes = notes_stay p q g (λ i t at. at) p.notes h.notes;
       layers = layers_stay p q g p.layers.items h.layers;
+      stands = stands_stay p q g p.stands h.stands;
+      numbers = numbers_stay p q g p.keep_numbers h.numbers;
     }) g
 
 pub returns-clause-same : goal.returns-clause-same

@@ -1,0 +1,157 @@
+//! How the nodes of a layer lie. Layers whose nodes lie alike among one another are one, whatever nodes these are: so
+//! the states and letters of each are put on places of the nodes of both, and what comes behind is put back.
+ghost use Rattle.std.specs.Prelude.{◌≡◌, ◌⊎◌, ◌<◌, ℕ, List, length, slice_get, Some, IfOk, OnOk, IsTrue, Contains};
+ghost use Rattle.contraction.specs.Answers.{Keeps, AreNodes};
+ghost use Rattle.contraction.specs.Selecting.{ArePlaced};
+ghost use Rattle.judge_pool.specs.Pooling.{IsPool, GrewTo};
+ghost use Rattle.judge_pool.specs.Standing.{AreOn};
+ghost use Rattle.judge_pool.specs.Lying.{IsLying, AllKeepAs, LettersReach, StatesFit};
+
+use crate::pool::Pool;
+use contraction::{Contraction, Selection};
+use ilk_base::Memory;
+use std::alloc::Global;
+
+// The states and letters of a layer, and the list of nodes that is kept behind it, as they stand; and the nodes that
+// are kept behind it.
+#[derive(Drop)]
+pub(crate) struct Lying {
+    pub(crate) states: Vec<usize>,
+    pub(crate) letters: Vec<usize>,
+    pub(crate) keep: usize,
+    pub(crate) kept: Vec<u16>,
+}
+
+// Whether each of the values keeps exactly these nodes.
+fn all_keep(values: &[Contraction], ids: &[usize], nodes: &[u16]) -> bool
+    requires { (k i : ℕ) → slice_get ids.now k ≡ Some i → i < length values.now }
+    ensures { IsTrue result → AllKeepAs values.now ids.now nodes.now }
+{
+    for k in 0..ids.len() {
+        if values[ids[k]].nodes() != nodes {
+            return false;
+        }
+    }
+    true
+}
+
+impl Pool {
+    // The layer on the places of the nodes of both, where all letters keep the same nodes.
+    fn lie_in_places(
+        &mut self,
+        alloc: Global,
+        states: &[usize],
+        row: &[usize],
+        selection: &Selection,
+    ) -> Result<Lying, Memory>
+        requires pool { IsPool self.old }
+        requires placed { ArePlaced selection.now }
+        requires first { AreNodes selection.now.first }
+        requires second { AreNodes selection.now.second }
+        requires states { StatesFit self.old states.now selection.now.first }
+        requires letters { AllKeepAs self.old.values.items row.now selection.now.second }
+        requires row_in { (c i : ℕ) → slice_get row.now c ≡ Some i → i < length self.old.values.items }
+        requires inside { (n : ℕ) → Contains selection.now.nodes n
+            → Keeps selection.now.first n ⊎ Keeps selection.now.second n }
+        ensures grew { OnOk result (GrewTo self.old self.new) }
+        ensures lies { IfOk result
+            (IsLying self.new states.now selection.now.first row.now selection.now.nodes) }
+    {
+        let first = self.keep_list(alloc, selection.first_places())?;
+        let second = self.keep_list(alloc, selection.second_places())?;
+        let keep = self.keep_list(alloc, selection.places())?;
+        let placed = self.all_on(alloc, states, first)?;
+        let letters = self.all_on(alloc, row, second)?;
+        Ok(Lying {
+            states: placed,
+            letters,
+            keep,
+            kept: Vec::from_slice(alloc, selection.kept())?,
+        })
+    }
+
+    // The layer on its own nodes.
+    fn lie_on_nodes(
+        &mut self,
+        alloc: Global,
+        states: &[usize],
+        kept: &[u16],
+        row: &[usize],
+        keep: usize,
+        selection: &Selection,
+    ) -> Result<Lying, Memory>
+        requires pool { IsPool self.old }
+        requires placed { ArePlaced selection.now }
+        requires kept { kept.now ≡ selection.now.first }
+        requires first { AreNodes selection.now.first }
+        requires second { AreNodes selection.now.second }
+        requires states { StatesFit self.old states.now selection.now.first }
+        requires row_in { (c i : ℕ) → slice_get row.now c ≡ Some i → i < length self.old.values.items }
+        requires keep { slice_get self.old.keeps.items keep ≡ Some selection.now.nodes }
+        requires inside { (n : ℕ) → Contains selection.now.nodes n
+            → Keeps selection.now.first n ⊎ Keeps selection.now.second n }
+        requires reach { LettersReach self.old row.now selection.now.first selection.now.nodes }
+        ensures grew { OnOk result (GrewTo self.old self.new) }
+        ensures lies { IfOk result
+            (IsLying self.new states.now selection.now.first row.now selection.now.nodes) }
+    {
+        let first = self.keep_list(alloc, kept)?;
+        let placed = self.all_on(alloc, states, first)?;
+        Ok(Lying {
+            states: placed,
+            letters: Vec::from_slice(alloc, row)?,
+            keep,
+            kept: Vec::from_slice(alloc, selection.kept())?,
+        })
+    }
+
+    // How the layer with these states, which stand on the kept nodes, and these letters lies before the nodes of the
+    // list.
+    pub(crate) fn lie(
+        &mut self,
+        alloc: Global,
+        states: &[usize],
+        kept: &[u16],
+        row: &[usize],
+        keep: usize,
+    ) -> Result<Lying, Memory>
+        requires pool { IsPool self.old }
+        requires kept { AreNodes kept.now }
+        requires states { StatesFit self.old states.now kept.now }
+        requires row_in { (c i : ℕ) → slice_get row.now c ≡ Some i → i < length self.old.values.items }
+        requires some { 0 < length row.now }
+        requires keep { keep < length self.old.keeps.items }
+        requires reach { (nodes : List ℕ) → slice_get self.old.keeps.items keep ≡ Some nodes
+            → LettersReach self.old row.now kept.now nodes }
+        ensures grew { OnOk result (GrewTo self.old self.new) }
+        ensures lies { IfOk result (λ l. (nodes : List ℕ) → slice_get self.old.keeps.items keep ≡ Some nodes
+            → IsLying self.new states.now kept.now row.now nodes l) }
+    {
+        let second = self.values[row[0]].nodes();
+        let selection = Selection::of(alloc, kept, second, &self.keeps[keep])?;
+        let _places = selection.places();
+        if all_keep(&self.values, row, second) {
+            return self.lie_in_places(alloc, states, row, &selection);
+        }
+        self.lie_on_nodes(alloc, states, kept, row, keep, &selection)
+    }
+
+    // The states on the kept nodes.
+    pub(crate) fn all_back(
+        &mut self,
+        alloc: Global,
+        states: &[usize],
+        kept: &[u16],
+    ) -> Result<Vec<usize>, Memory>
+        requires pool { IsPool self.old }
+        requires kept { AreNodes kept.now }
+        requires states { StatesFit self.old states.now kept.now }
+        ensures grew { OnOk result (GrewTo self.old self.new) }
+        ensures back { IfOk result (λ v. (k : ℕ) × (slice_get self.new.keeps.items k ≡ Some kept.now)
+            × AreOn self.new k states.now v.items) }
+    {
+        let list = self.keep_list(alloc, kept)?;
+        let placed = self.all_on(alloc, states, list)?;
+        Ok(placed)
+    }
+}

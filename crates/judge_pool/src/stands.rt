@@ -1,0 +1,83 @@
+//! Values on other nodes than their own.
+ghost use Rattle.std.specs.Prelude.{◌≡◌, ℕ, slice_get, Some, IfOk, IfSome, OnOk};
+ghost use Rattle.judge_pool.specs.declared.pool.Pool.{Pool as AnyPool};
+ghost use Rattle.judge_pool.specs.Pooling.{IsPool, GrewTo};
+ghost use Rattle.judge_pool.specs.Standing.{IsOn, AreOn, CanStand, StandsAreRight};
+
+use crate::batch::Stand;
+use crate::pool::Pool;
+use ilk_base::Memory;
+use number_hash::NumberMap;
+use std::alloc::Global;
+
+// The value on these nodes, if it is noted.
+fn find_stand(notes: &NumberMap<Stand, usize>, stand: Stand) -> Option<usize>
+    ensures { (p : AnyPool) → StandsAreRight p notes.now → IfSome result (IsOn p stand.keep stand.id) }
+{
+    match notes.get(&stand) {
+        Some(id) => Some(*id),
+        None => None,
+    }
+}
+
+// Notes the value on these nodes.
+fn note_stand(notes: &mut NumberMap<Stand, usize>, stand: Stand, id: usize) -> Result<(), Memory>
+    ensures { OnOk result ((p : AnyPool) → StandsAreRight p notes.old → IsOn p stand.keep stand.id id
+        → StandsAreRight p notes.new) }
+{
+    notes.insert(stand, id)?;
+    Ok(())
+}
+
+impl Pool {
+    // The value on these nodes, made and noted.
+    fn new_stand(&mut self, alloc: Global, stand: Stand) -> Result<usize, Memory>
+        requires pool { IsPool self.old }
+        requires can { CanStand self.old stand.keep stand.id }
+        ensures grew { OnOk result (GrewTo self.old self.new) }
+        ensures on { IfOk result (IsOn self.new stand.keep stand.id) }
+    {
+        let nodes = self.keeps[stand.keep].numbers();
+        let value = self.values[stand.id].on_nodes(alloc, nodes)?;
+        let id = self.intern(alloc, value)?;
+        note_stand(&mut self.stands, stand, id)?;
+        Ok(id)
+    }
+
+    // The value on these nodes in place of its own.
+    fn stand(&mut self, alloc: Global, stand: Stand) -> Result<usize, Memory>
+        requires pool { IsPool self.old }
+        requires can { CanStand self.old stand.keep stand.id }
+        ensures grew { OnOk result (GrewTo self.old self.new) }
+        ensures on { IfOk result (IsOn self.new stand.keep stand.id) }
+    {
+        match find_stand(&self.stands, stand) {
+            Some(id) => Ok(id),
+            None => {
+                let id = self.new_stand(alloc, stand)?;
+                Ok(id)
+            }
+        }
+    }
+
+    // The values of these numbers on the nodes of the list, one by one.
+    pub(crate) fn all_on(
+        &mut self,
+        alloc: Global,
+        ids: &[usize],
+        keep: usize,
+    ) -> Result<Vec<usize>, Memory>
+        requires pool { IsPool self.old }
+        requires can { (k i : ℕ) → slice_get ids.now k ≡ Some i → CanStand self.old keep i }
+        ensures grew { OnOk result (GrewTo self.old self.new) }
+        ensures on { IfOk result (λ v. AreOn self.new keep ids.now v.items) }
+    {
+        let mut placed = Vec::with_capacity(alloc, ids.len())?;
+        'values: for c in 0..ids.len() {
+            let stand = Stand { id: ids[c], keep };
+            let id = self.stand(alloc, stand)?;
+            placed.push(id)?;
+        }
+        Ok(placed)
+    }
+}
