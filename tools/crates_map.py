@@ -64,7 +64,7 @@ LAYERS = [
           "interlock_cli page_commands program_edge interlock page_judge"),
     Layer("tests and benches",
           "Begin with `test_stations`, the stations that the tests are worked on.",
-          "test_stations test_texts test_graphs test_drawing test_station test_judge test_compare test_bay test_world test_commands test_program test_edge test_run_calls bench_parts"),
+          "test_stations test_texts test_graphs test_drawing test_station test_judge test_compare test_bay test_world test_commands test_program test_sessions test_edge test_run_calls bench_parts"),
 ]
 FIRST = ("# NAME: what it stands on. Layer by layer from the bottom, by tools/crates_map.py; crates/README.md says what each "
          "crate is.")

@@ -1,8 +1,8 @@
 //! What `station` writes, and how it ends.
-use crate::drawings::AS_A_TOOL_WRITES;
 use crate::rows::expect;
 use interlock_cli::Status;
 use std::test::Fail;
+use test_stations::AS_A_TOOL_WRITES;
 
 // The line with an earthing switch and an infeed at one node, drawn before the node. No breaker and no disconnector
 // is there to which the infeed leads.

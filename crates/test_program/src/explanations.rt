@@ -3,12 +3,13 @@
 // busbar, the breaker QA1 to n2, the line disconnector QB9 to n3, and at n3 the earthing switch QC9 and the
 // infeed E1. On the double busbar QB1 leads to the first busbar and QB2 to the second, and the coupler K0
 // leads over QB1, k1, QA1, k2 and QB2 from one to the other.
-use crate::drawings::{DOUBLE_BUSBAR, TWO_FEEDERS};
+use crate::drawings::DOUBLE_BUSBAR;
 use crate::rows::{coupled, expect, positions_of};
 use interlock_cli::Status;
 use std::alloc::Global;
 use std::process::Abort;
 use std::test::Fail;
+use test_stations::TWO_FEEDERS;
 
 // A row on the two feeders: which switches are on (`1`) and which lost (`?`), the words, and what is written.
 struct Row {

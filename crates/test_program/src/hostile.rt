@@ -1,11 +1,11 @@
 //! Hostile cases: files that are cut, too deep or too large, and calls of the outside that fail.
-use crate::drawings::{AS_A_TOOL_WRITES, TWO_FEEDERS};
-use crate::rows::{BOTH_THROUGH, expect, lines_of, positions_of, words_of};
+use crate::rows::{BOTH_THROUGH, expect, lines_of, positions_of};
 use ilk_base::{MemShelf, MemSink, MemSource, Memory, Text};
 use interlock_cli::{Status, run};
 use std::alloc::Global;
 use std::process::Abort;
 use std::test::Fail;
+use test_stations::{AS_A_TOOL_WRITES, TWO_FEEDERS, words_of};
 
 // Runs `check` over a drawing that is cut, which is refused as no whole document or as one whose innermost
 // element does not end.

@@ -1,11 +1,11 @@
 //! What `state` and `order` write, and how they end.
-use crate::drawings::{AS_A_TOOL_WRITES, TWO_FEEDERS};
-use crate::rows::{expect, positions_of, words_of};
+use crate::rows::{expect, positions_of};
 use ilk_base::{MemShelf, MemSink, MemSource};
 use interlock_cli::{Status, run};
 use std::alloc::Global;
 use std::process::Abort;
 use std::test::Fail;
+use test_stations::{AS_A_TOOL_WRITES, TWO_FEEDERS, words_of};
 
 // On the one bay with an earthing switch and an infeed at its node: positions, and what is told of the
 // node.

@@ -1,11 +1,11 @@
 //! What is refused: texts of a drawing, positions and words, each with the line that it gives on `err`.
-use crate::drawings::TWO_FEEDERS;
 use crate::rows::expect;
 use ilk_base::{Memory, Text};
 use interlock_cli::Status;
 use std::alloc::Global;
 use std::process::Abort;
 use std::test::Fail;
+use test_stations::TWO_FEEDERS;
 
 // A drawing up to what stands in its one bay (63 bytes), a node a in it (28 bytes), the start of an
 // equipment (41 bytes), a terminal on a, on a node b and grounded, and the ends of all.

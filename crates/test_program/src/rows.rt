@@ -1,19 +1,11 @@
 //! What `check` writes on the drawings, and how it ends.
-use crate::drawings::{AS_A_TOOL_WRITES, BARE_STUB, DOUBLE_BUSBAR, TWO_FEEDERS, TWO_TRANSFORMERS};
+use crate::drawings::{BARE_STUB, DOUBLE_BUSBAR, TWO_TRANSFORMERS};
 use ilk_base::{MemShelf, MemSink, MemSource, Memory, Text};
 use interlock_cli::{Status, run};
 use std::alloc::Global;
 use std::process::Abort;
 use std::test::Fail;
-
-// The words of a line.
-pub(crate) fn words_of(alloc: Global, line: &str) -> Result<Vec<String>, Memory> {
-    let mut words = Vec::new(alloc);
-    for word in line.split_whitespace() {
-        words.push(String::from_str(alloc, word)?)?;
-    }
-    Ok(words)
-}
+use test_stations::{AS_A_TOOL_WRITES, TWO_FEEDERS, words_of};
 
 // Runs a line of words over the files a.ssd and a.csv, and compares the status, what went to `out` and
 // what went to `err`.

@@ -1,8 +1,9 @@
 //! What `compile`, `plan`, `program`, `tests` and `compare` write of a station, and of two.
-use crate::drawings::{AS_A_TOOL_WRITES, FEEDERS_APART, THREE_LINES, TWO_FEEDERS};
+use crate::drawings::THREE_LINES;
 use crate::rows::expect;
 use interlock_cli::Status;
 use std::test::Fail;
+use test_stations::{AS_A_TOOL_WRITES, FEEDERS_APART, TWO_FEEDERS};
 
 // The equations of the line with an earthing switch and an infeed at one node: closing the earthing switch is
 // denied where the infeed is on, and closing the infeed where the earthing switch is on.

@@ -1,13 +1,12 @@
 //! What `node` answers to the lines of its input, and how it ends.
 ghost use Rattle.std.specs.Prelude.{◌≤◌};
 
-use crate::drawings::{FEEDERS_APART, TWO_FEEDERS};
-use crate::rows::words_of;
 use ilk_base::{MemShelf, MemSink, MemSource, Memory, Text};
 use interlock_cli::{Status, run};
 use std::alloc::Global;
 use std::process::Abort;
 use std::test::Fail;
+use test_stations::{FEEDERS_APART, TWO_FEEDERS, words_of};
 
 // A row: the lines of the input, what they give, and how the call ends, with its line on `err`.
 struct Row {

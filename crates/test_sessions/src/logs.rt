@@ -1,11 +1,10 @@
 //! What `replay` writes of logs of the two feeders, and how it ends.
-use crate::drawings::TWO_FEEDERS;
-use crate::rows::words_of;
 use ilk_base::{MemShelf, MemSink, MemSource, Memory, Text};
 use interlock_cli::{Status, run};
 use std::alloc::Global;
 use std::process::Abort;
 use std::test::Fail;
+use test_stations::{TWO_FEEDERS, words_of};
 
 // The log of one whole operation: where the switches stand, the words that are read of them, and the closing of the
 // first feeder's busbar disconnector.

@@ -1,11 +1,10 @@
 //! What `replay` writes, and how it ends.
-use crate::drawings::AS_A_TOOL_WRITES;
-use crate::rows::words_of;
 use ilk_base::{MemShelf, MemSink, MemSource};
 use interlock_cli::{Status, run};
 use std::alloc::Global;
 use std::process::Abort;
 use std::test::Fail;
+use test_stations::{AS_A_TOOL_WRITES, words_of};
 
 // Runs `replay` on the one bay with an earthing switch and an infeed at its node.
 fn expect_replay(

@@ -1,11 +1,10 @@
-//! What `make` writes.
-// What `make` and `work` write.
-use crate::rows::words_of;
+//! What `make` and `work` write.
 use ilk_base::{MemShelf, MemSink, MemSource};
 use interlock_cli::{Status, run};
 use std::alloc::Global;
 use std::process::Abort;
 use std::test::Fail;
+use test_stations::words_of;
 
 // Runs words that name no file.
 fn expect_made(

@@ -1,14 +1,13 @@
 //! What `stored` answers to the lines of its input, what its device has then, and how it ends.
 ghost use Rattle.std.specs.Prelude.{◌≤◌};
 
-use crate::drawings::TWO_FEEDERS;
-use crate::rows::words_of;
 use ilk_base::{MemShelf, MemSink, MemSource};
 use interlock_cli::{Status, run_stored};
 use node_store::{Device, MemDevice, Store};
 use std::alloc::Global;
 use std::process::Abort;
 use std::test::Fail;
+use test_stations::{TWO_FEEDERS, words_of};
 
 const Q1: &str = "stored a.ssd S/V1/Q1 q1.bin";
 
