@@ -41,7 +41,7 @@ pub fn stock_of(
     requires shared { AreShared station.now shared.now }
     ensures { IfOk result (IsStock (lettered station.now parts.now) view) }
 {
-    let mut pool = Pool::new(alloc, view, Vec::new(alloc));
+    let mut pool = Pool::new(alloc, view);
     let letters = letter_rows(alloc, &mut pool, station, parts, shared)?;
     Ok(Stock {
         pool,

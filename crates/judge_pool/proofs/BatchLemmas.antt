@@ -14,13 +14,14 @@ use Rattle.judge_pool.specs.declared.batch.Made.{Made}
 use Rattle.judge_pool.specs.declared.batch.Batch.{Batch}
 use Rattle.judge_pool.specs.declared.pool.Pool.{Pool}
 use Rattle.judge_pool.specs.Pooling.{WasMade, MakesEach, HasBatch, NotesAreRight, composition, same_batch}
-use Rattle.judge_pool.specs.Pooling.{letter_lists, Extends, IsPool, GrewTo, CanCompose}
+use Rattle.judge_pool.specs.Numbered.{letter_lists}
+use Rattle.judge_pool.specs.Pooling.{Extends, IsPool, GrewTo, CanCompose}
 use Rattle.judge_pool.specs.Layering.{no_answers}
-use Rattle.judge_pool.specs.Standing.{StandsAreRight}
+use Rattle.judge_pool.specs.Standing.{StandsAreRight, ListStandsAreRight}
 use Rattle.judge_pool.specs.Keeping.{NumbersAreRight}
 use Rattle.judge_pool.proofs.LayeringLemmas.{Grows, grew_of, grew_in, keep_in, either_more}
 use Rattle.judge_pool.proofs.PastLemmas.{layers_stay}
-use Rattle.judge_pool.proofs.StandLemmas.{stands_stay}
+use Rattle.judge_pool.proofs.StandLemmas.{stands_stay, list_stands_stay}
 use Rattle.judge_pool.proofs.KeepLemmas.{numbers_stay}
 
 -- ---- a pool that grew
@@ -89,6 +90,7 @@ selects_other p s h =
       notes = notes_stay p q g (λ i t at. at) p.notes h.notes;
       layers = layers_stay p q g p.layers.items h.layers;
       stands = stands_stay p q g p.stands h.stands;
+      list_stands = list_stands_stay p q g p.list_stands h.list_stands;
       numbers = numbers_stay p q g p.keep_numbers h.numbers;
     }) g
 
@@ -109,6 +111,29 @@ stands_other p r h right =
       notes = notes_stay p q g (λ i t at. at) p.notes h.notes;
       layers = layers_stay p q g p.layers.items h.layers;
       stands = stands_stay p q g r.stands right;
+      list_stands = list_stands_stay p q g p.list_stands h.list_stands;
+      numbers = numbers_stay p q g p.keep_numbers h.numbers;
+    }) g
+
+-- and with other notes of what lists stand where
+pub list_stands_other : (p r : Pool) → IsPool p → ListStandsAreRight p r.list_stands →
+    GrewTo p (record p { list_stands = r.list_stands })
+list_stands_other p r h right =
+    let q : Pool = record p { list_stands = r.list_stands } in
+    let g : Grows p q = record {
+      view = refl;
+      keeps = λ k ns at. at;
+      values = λ i x at. at;
+      letters = λ l ids at. at;
+    } in
+    grew_of p q (record {
+      index = h.index;
+      apart = h.apart;
+      well = h.well;
+      notes = notes_stay p q g (λ i t at. at) p.notes h.notes;
+      layers = layers_stay p q g p.layers.items h.layers;
+      stands = stands_stay p q g p.stands h.stands;
+      list_stands = list_stands_stay p q g r.list_stands right;
       numbers = numbers_stay p q g p.keep_numbers h.numbers;
     }) g
 
@@ -130,6 +155,7 @@ numbers_other p r h right =
       notes = notes_stay p q g (λ i t at. at) p.notes h.notes;
       layers = layers_stay p q g p.layers.items h.layers;
       stands = stands_stay p q g p.stands h.stands;
+      list_stands = list_stands_stay p q g p.list_stands h.list_stands;
       numbers = numbers_stay p q g r.keep_numbers right;
     }) g
 

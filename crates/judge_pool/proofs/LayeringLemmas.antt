@@ -13,7 +13,8 @@ use Rattle.indexmap.specs.IndexSet.{insert_key}
 use Rattle.station_graph.proofs.PathLemmas.{slice_get-push}
 use Rattle.contraction.specs.Answers.{Answers}
 use Rattle.judge_pool.specs.declared.pool.Pool.{Pool}
-use Rattle.judge_pool.specs.Pooling.{Extends, IsPool, GrewTo, EitherKeeps, letter_lists}
+use Rattle.judge_pool.specs.Numbered.{letter_lists}
+use Rattle.judge_pool.specs.Pooling.{Extends, IsPool, GrewTo, EitherKeeps}
 use Rattle.judge_pool.specs.Folding.{AreApartIn, AreRising}
 use Rattle.judge_pool.specs.Layering.{IsPlaced, no_answers}
 use Rattle.judge_pool.specs.Pooling.{NoneTwice}

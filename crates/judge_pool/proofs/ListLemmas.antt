@@ -1,7 +1,6 @@
 -- Lists of numbers that are kept once.
 use Rattle.std.proofs.Common.{◌≡◌, ℕ, Bool, true, false, cond, List, [], ◌∷◌, ◌++◌, slice_get, map, Some, refl, sym, ap}
-use Rattle.std.proofs.Common.{◌∙◌, subst, Vec, Global, nat_eq}
-use Rattle.std.specs.Cmp.Lexicographic.{pointwise}
+use Rattle.std.proofs.Common.{◌∙◌, subst, Vec, Global}
 use Rattle.std.specs.List.{list_any}
 use Rattle.std.specs.Prelude.{option_map}
 use Rattle.std.proofs.lemmas.Bool.Decides.{Decides-eqb}
@@ -9,12 +8,9 @@ use Rattle.std.proofs.lemmas.List.{map_push}
 use Rattle.std.proofs.lemmas.Option.{slice_get-map}
 use Rattle.std.proofs.lemmas.Slice.Eq.{slice_eq-Decides}
 use Rattle.indexmap.specs.IndexSet.{insert_key}
+use Rattle.judge_pool.specs.Keeping.{same_list}
 use Rattle.judge_pool.specs.Pooling.{Extends}
 use Rattle.judge_pool.proofs.LayerLemmas.{get_front}
-
--- whether two lists have the same numbers
-abbrev same_list : Vec ℕ Global → Vec ℕ Global → Bool
-same_list x y = pointwise nat_eq x.items y.items
 
 abbrev items_in : List (Vec ℕ Global) → List (List ℕ)
 items_in vs = map (λ (v : Vec ℕ Global). v.items) vs

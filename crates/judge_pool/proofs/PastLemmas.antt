@@ -8,7 +8,8 @@ use Rattle.judge_pool.specs.declared.known.LayerKey.{LayerKey}
 use Rattle.judge_pool.specs.declared.known.KnownLayer.{KnownLayer}
 use Rattle.judge_pool.specs.declared.pool.Pool.{Pool}
 use Rattle.judge_pool.specs.declared.view.View.{View}
-use Rattle.judge_pool.specs.Pooling.{Extends, AreEdges, LeadsOn, IsKeyOf, SameKey, IsKnown, AreKnown, letter_lists}
+use Rattle.judge_pool.specs.Numbered.{letter_lists}
+use Rattle.judge_pool.specs.Pooling.{Extends, AreEdges, LeadsOn, IsKeyOf, SameKey, IsKnown, AreKnown}
 use Rattle.judge_pool.proofs.LayeringLemmas.{Grows}
 
 -- edges between values stay while there are more values

@@ -9,11 +9,13 @@ use Rattle.std.proofs.lemmas.Option.{slice_get_within, same_Some}
 use Rattle.station_graph.proofs.PathLemmas.{slice_get-push}
 use Rattle.contraction.specs.Answers.{Answers}
 use Rattle.contraction.specs.Renaming.{renamed}
+use Rattle.judge_pool.specs.declared.batch.ListStand.{ListStand}
 use Rattle.judge_pool.specs.declared.batch.Stand.{Stand}
 use Rattle.judge_pool.specs.declared.pool.Pool.{Pool}
 use Rattle.judge_pool.specs.Pooling.{HasSame}
 use Rattle.judge_pool.specs.Shapes.{SameAs}
 use Rattle.judge_pool.specs.Standing.{IsOn, AreOn, CanStand, same_stand, StandsAreRight}
+use Rattle.judge_pool.specs.Standing.{ListIsOn, same_list_stand, ListStandsAreRight}
 use Rattle.judge_pool.proofs.LayeringLemmas.{Grows}
 use Rattle.judge_pool.proofs.MappedViews.{kept_of_same}
 use Rattle.judge_pool.proofs.ShapeLemmas.{seen_tells_shape}
@@ -40,6 +42,19 @@ all_on_stay p q g keep ids ts h = record {
   len = h.len;
   each = λ k i t at_i at_t. on_stays p q g keep i t (h.each k i t at_i at_t);
 }
+
+pub list_on_stays : (p q : Pool) → Grows p q → (keep list n : ℕ) → ListIsOn p keep list n → ListIsOn q keep list n
+list_on_stays p q g keep list n h = record {
+  ids = h.ids;
+  ts = h.ts;
+  before = g.letters list h.ids h.before;
+  behind = g.letters n h.ts h.behind;
+  on = all_on_stay p q g keep h.ids h.ts h.on;
+}
+
+pub list_stands_stay : {S : Type 0} (p q : Pool) → Grows p q → (m : HashMap ListStand ℕ S) → ListStandsAreRight p m →
+    ListStandsAreRight q m
+list_stands_stay p q g m right k n e = list_on_stays p q g k.keep k.list n (right k n e)
 
 pub can_stay : (p q : Pool) → Grows p q → (keep id : ℕ) → CanStand p keep id → CanStand q keep id
 can_stay p q g keep id h = record {
@@ -69,18 +84,42 @@ stand_is a b same =
     let e2 : a.keep ≡ b.keep = (Decides-eqb a.keep b.keep).0 one.1 in
     ap (λ n. stand_at n a.keep) e1 ∙ ap (λ n. stand_at b.id n) e2
 
+-- what holds of all that is noted, and of a note more, holds of all that is noted then
+noted_more : {K S : Type 0} (same : K → K → Bool) (P : K → ℕ → Type 0) → ((a b : K) → same a b ≡ true → a ≡ b) →
+    (old new : HashMap K ℕ S) (key : K) (n : ℕ) → ((k : K) (t : ℕ) → get same old k ≡ Some t → P k t) → P key n →
+    Updates same old new key (Some n) → (k : K) (t : ℕ) → get same new k ≡ Some t → P k t
+noted_more {K} same P is_same old new key n right is updates k t e = by_key (same key k) refl (sym (updates.0 k) ∙ e)
+  where
+    by_key : (b : Bool) → same key k ≡ b → cond b (Some n) (get same old k) ≡ Some t → P k t
+    by_key true alike at =
+        subst (λ (s : K). P s t) (is_same key k alike) (subst (λ m. P key m) (same_Some n t at) is)
+    by_key false alike at = right k t at
+
 pub stands_more : {S : Type 0} (p : Pool) (old new : HashMap Stand ℕ S) (stand : Stand) (id : ℕ) →
     StandsAreRight p old → IsOn p stand.keep stand.id id → Updates same_stand old new stand (Some id) →
     StandsAreRight p new
-stands_more p old new stand id right is updates k t e =
-    by_key (same_stand stand k) refl (sym (updates.0 k) ∙ e)
-  where
-    by_key : (same : Bool) → same_stand stand k ≡ same → cond same (Some id) (get same_stand old k) ≡ Some t →
-        IsOn p k.keep k.id t
-    by_key true same at =
-        subst (λ (s : Stand). IsOn p s.keep s.id t) (stand_is stand k same)
-        (subst (λ n. IsOn p stand.keep stand.id n) (same_Some id t at) is)
-    by_key false same at = right k t at
+stands_more p old new stand id right is updates =
+    noted_more same_stand (λ (k : Stand) t. IsOn p k.keep k.id t) stand_is old new stand id right is updates
+
+abbrev list_stand_at : ℕ → ℕ → ListStand
+list_stand_at list keep = record { list = list; keep = keep }
+
+list_stand_is : (a b : ListStand) → same_list_stand a b ≡ true → a ≡ b
+list_stand_is a b same =
+    let one = and_two (nat_eq a.list b.list) (nat_eq a.keep b.keep) same in
+    let e1 : a.list ≡ b.list = (Decides-eqb a.list b.list).0 one.0 in
+    let e2 : a.keep ≡ b.keep = (Decides-eqb a.keep b.keep).0 one.1 in
+    ap (λ n. list_stand_at n a.keep) e1 ∙ ap (λ n. list_stand_at b.list n) e2
+
+pub list_stands_more : {S : Type 0} (p : Pool) (old new : HashMap ListStand ℕ S) (stand : ListStand) (n : ℕ) →
+    ListStandsAreRight p old → ListIsOn p stand.keep stand.list n →
+    Updates same_list_stand old new stand (Some n) → ListStandsAreRight p new
+list_stands_more p old new stand n right is updates =
+    noted_more same_list_stand (λ (k : ListStand) t. ListIsOn p k.keep k.list t) list_stand_is old new stand n right is
+    updates
+
+pub list_stands_none : {S : Type 0} (p : Pool) (m : HashMap ListStand ℕ S) → m.entries ≡ [] → ListStandsAreRight p m
+list_stands_none p m em k t e = absurd (let h = rw em at e in cc)
 
 pub stands_none : {S : Type 0} (p : Pool) (m : HashMap Stand ℕ S) → m.entries ≡ [] → StandsAreRight p m
 stands_none p m em k t e = absurd (let h = rw em at e in cc)

@@ -5,7 +5,7 @@ use Rattle.std.specs.Cmp.Lexicographic.{pointwise}
 use Rattle.std.specs.HashMap.{HashMap, get}
 use Rattle.judge_pool.specs.declared.pool.Pool.{Pool}
 
--- Both lists name the same nodes in the same order.
+-- Both lists have the same numbers in the same order.
 abbrev pub same_list : Vec ℕ Global → Vec ℕ Global → Bool
 same_list x y = pointwise nat_eq x.items y.items
 

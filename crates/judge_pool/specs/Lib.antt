@@ -6,6 +6,7 @@ pub mod Listing
 pub mod Needing
 pub mod Counted
 pub mod Plans
+pub mod Numbered
 pub mod Pooling
 pub mod Places
 pub mod Layering

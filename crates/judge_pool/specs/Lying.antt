@@ -5,6 +5,7 @@ use Rattle.contraction.specs.Answers.{Answers, Keeps, AreNodes}
 use Rattle.contraction.specs.Renaming.{KeepsOrder, renamed, mapped}
 use Rattle.judge_pool.specs.declared.lying.Lying.{Lying}
 use Rattle.judge_pool.specs.declared.pool.Pool.{Pool}
+use Rattle.judge_pool.specs.Numbered.{letter_lists}
 use Rattle.judge_pool.specs.Pooling.{EitherKeeps}
 use Rattle.judge_pool.specs.Shapes.{SameAs}
 
@@ -46,3 +47,8 @@ pub record IsLying (p : Pool) (states kept row nodes : List ℕ) (l : Lying) : T
   pub behind : (ns : List ℕ) → Rises ns → ((n : ℕ) → Keeps ns n ↔ Contains after n) → map to ns ≡ l.kept.items
   pub are : AreNodes l.kept.items
   pub kept_is : (n : ℕ) → Keeps l.kept.items n ↔ Contains nodes n
+
+-- The lists of its states and letters have the numbers that stand beside them.
+pub record HasNumbers (p : Pool) (l : Lying) : Type 0 where
+  pub states : slice_get (letter_lists p) l.before ≡ Some l.states.items
+  pub letters : slice_get (letter_lists p) l.by ≡ Some l.letters.items

@@ -37,4 +37,5 @@ pool_on f p = record {
   notes = p.notes;
   selection = p.selection;
   stands = p.stands;
+  list_stands = p.list_stands;
 }

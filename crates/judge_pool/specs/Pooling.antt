@@ -1,5 +1,5 @@
 -- Values of one view, found again by their rows, and the batches that were composed of them.
-use Rattle.std.specs.Prelude.{◌≡◌, ℕ, ◌↔◌, ◌⊎◌, ◌+◌, ◌*◌, ◌/◌, ◌%◌, ◌<◌, ◌≤◌, List, length, map, slice_get, Option}
+use Rattle.std.specs.Prelude.{◌≡◌, ℕ, ◌↔◌, ◌⊎◌, ◌+◌, ◌*◌, ◌/◌, ◌%◌, ◌<◌, ◌≤◌, List, length, slice_get, Option}
 use Rattle.std.specs.Prelude.{Some, None, Contains, nat_eq, ◌&&◌, Bool, slice_index}
 use Rattle.std.specs.Str.{bytes_eq}
 use Rattle.std.specs.HashMap.{HashMap, get}
@@ -16,7 +16,8 @@ use Rattle.judge_pool.specs.declared.known.KnownLayer.{KnownLayer}
 use Rattle.judge_pool.specs.declared.pool.Pool.{Pool}
 use Rattle.judge_pool.specs.Seen.{SeenFor, SameSeen, ComposesIn, seen_row}
 use Rattle.judge_pool.specs.Folding.{AreApartIn, AreWell}
-use Rattle.judge_pool.specs.Standing.{StandsAreRight}
+use Rattle.judge_pool.specs.Numbered.{letter_lists}
+use Rattle.judge_pool.specs.Standing.{StandsAreRight, ListStandsAreRight}
 use Rattle.judge_pool.specs.Keeping.{NumbersAreRight}
 
 -- The number that the index has for a row.
@@ -54,10 +55,6 @@ pub record WasMade (view : View) (values : List Answers) (keeps : List (List ℕ
 -- The composition of the batch at one of its letters.
 abbrev pub composition : Batch → ℕ → Made
 composition b letter = record { first = b.first; second = letter; keep = b.keep }
-
--- The lists of numbers of the pool: of letters, and of the states of layers.
-abbrev pub letter_lists : Pool → List (List ℕ)
-letter_lists p = map (λ v. v.items) p.letters.keys
 
 -- Letter by letter, these are the numbers of what the value of the batch and the letter make together.
 pub record MakesEach (p : Pool) (b : Batch) (letters ids : List ℕ) : Type 0 where
@@ -147,6 +144,7 @@ pub record IsPool (p : Pool) : Type 0 where
   pub notes : NotesAreRight p p.notes
   pub layers : AreKnown p p.layers.items
   pub stands : StandsAreRight p p.stands
+  pub list_stands : ListStandsAreRight p p.list_stands
   pub numbers : NumbersAreRight p p.keep_numbers
 
 -- The pool has what it had, and maybe more values, lists of nodes and lists of numbers. Batches may be forgotten.

@@ -22,3 +22,10 @@ pub(crate) struct Stand {
     pub(crate) id: usize,
     pub(crate) keep: usize,
 }
+
+// A list of values, by its number, and the nodes on which they are to stand in place of their own.
+#[derive(Clone, Copy, PartialEq, Eq, Hash)]
+pub(crate) struct ListStand {
+    pub(crate) list: usize,
+    pub(crate) keep: usize,
+}

@@ -4,7 +4,8 @@ ghost use Rattle.std.specs.Prelude.{IfOk, IfSome, OnOk, Contains, IsTrue};
 ghost use Rattle.contraction.specs.Answers.{Keeps};
 ghost use Rattle.judge_pool.specs.declared.pool.Pool.{Pool as AnyPool};
 ghost use Rattle.judge_pool.specs.Pooling.{IsPool, GrewTo, Selects, SelectsFor, IsRowOfBoth, CanCompose, LettersFit};
-ghost use Rattle.judge_pool.specs.Pooling.{WasMade, MakesEach, HasBatch, NotesAreRight, letter_lists};
+ghost use Rattle.judge_pool.specs.Pooling.{WasMade, MakesEach, HasBatch, NotesAreRight};
+ghost use Rattle.judge_pool.specs.Numbered.{letter_lists};
 ghost use Rattle.judge_pool.specs.Pooling.{IsRowIn, IsToldBy};
 
 use crate::batch::{Batch, Made};

@@ -14,6 +14,7 @@ ghost use Rattle.judge_pool.specs.Plans.{Plan, PlanFits, PlanHas, PlanPasses, Ar
 ghost use Rattle.judge_pool.specs.Plans.{items_of, NeededBy, layers_of};
 ghost use Rattle.judge_pool.specs.declared.limits.TheConstants.{ALL_EDGES};
 
+use crate::known::LayerKey;
 use crate::layer::Trouble;
 use crate::past::step_from;
 use crate::pool::Pool;
@@ -103,6 +104,7 @@ pub fn fold_layers(
     let mut layers = Vec::new(alloc);
     let mut states = list_of(alloc, start)?;
     let mut kept = Vec::from_slice(alloc, pool.values[start].nodes())?;
+    let mut number = pool.note_letters(alloc, &states)?;
     let mut left = budget;
     'layers: for j in 0..letters.len() {
         let row = letters[j].as_slice();
@@ -114,8 +116,13 @@ pub fn fold_layers(
         }
         left -= nodes * choices;
         let most = most_nodes(letters, j + 1, left);
-        let lying = pool.lie(alloc, held, &kept, row, keeps[j + 1])?;
-        let step = step_from(alloc, pool, &lying.states, &lying.letters, lying.keep, most)?;
+        let lying = pool.lie(alloc, held, number, &kept, row, keeps[j + 1])?;
+        let key = LayerKey {
+            states: lying.before,
+            letters: lying.by,
+            keep: lying.keep,
+        };
+        let step = step_from(alloc, pool, &lying.states, &lying.letters, key, most)?;
         let layer = FinishedLayer {
             choices: choices as u32,
             nodes: nodes as u32,
@@ -123,6 +130,7 @@ pub fn fold_layers(
         };
         layers.push(layer)?;
         states = step.next;
+        number = step.number;
         kept = lying.kept;
     }
     let states = pool.all_back(alloc, &states, &kept)?;

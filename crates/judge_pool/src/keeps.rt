@@ -86,7 +86,8 @@ impl Pool {
         }
     }
 
-    /// The number of the list of nodes, which is put last where no call before put it there. Time and memory: the nodes.
+    /// The number of the list of nodes, which is put last where no call before put it there. Time and memory: those of
+    /// the nodes.
     pub fn keep(&mut self, alloc: Global, nodes: NodeList) -> Result<usize, Memory>
         requires { IsPool self.old }
         ensures grew { OnOk result (GrewTo self.old self.new) }

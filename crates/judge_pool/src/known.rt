@@ -16,3 +16,11 @@ pub(crate) struct KnownLayer {
     pub(crate) next: usize,
     pub(crate) edges: Vec<u32>,
 }
+
+// From a layer on: the states to which it leads, the number of their list, and its edges.
+#[derive(Drop)]
+pub(crate) struct KnownStep {
+    pub(crate) next: Vec<usize>,
+    pub(crate) number: usize,
+    pub(crate) edges: Vec<u32>,
+}

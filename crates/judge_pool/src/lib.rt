@@ -9,6 +9,7 @@ mod keeps;
 mod known;
 mod layer;
 mod limits;
+mod list_stands;
 mod lists;
 mod lying;
 mod past;

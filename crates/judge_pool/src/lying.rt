@@ -3,21 +3,25 @@
 ghost use Rattle.std.specs.Prelude.{◌≡◌, ◌⊎◌, ◌<◌, ℕ, List, length, slice_get, Some, IfOk, OnOk, IsTrue, Contains};
 ghost use Rattle.contraction.specs.Answers.{Keeps, AreNodes};
 ghost use Rattle.contraction.specs.Selecting.{ArePlaced};
+ghost use Rattle.judge_pool.specs.Numbered.{letter_lists};
 ghost use Rattle.judge_pool.specs.Pooling.{IsPool, GrewTo};
 ghost use Rattle.judge_pool.specs.Standing.{AreOn};
-ghost use Rattle.judge_pool.specs.Lying.{IsLying, AllKeepAs, LettersReach, StatesFit};
+ghost use Rattle.judge_pool.specs.Lying.{IsLying, AllKeepAs, HasNumbers, LettersReach, StatesFit};
 
+use crate::batch::ListStand;
 use crate::pool::Pool;
 use contraction::{Contraction, Selection};
 use ilk_base::Memory;
 use std::alloc::Global;
 
-// The states and letters of a layer, and the list of nodes that is kept behind it, as they stand; and the nodes that
-// are kept behind it.
+// The states and letters of a layer with the numbers of their lists, and the list of nodes that is kept behind it, as
+// they stand; and the nodes that are kept behind it.
 #[derive(Drop)]
 pub(crate) struct Lying {
     pub(crate) states: Vec<usize>,
+    pub(crate) before: usize,
     pub(crate) letters: Vec<usize>,
+    pub(crate) by: usize,
     pub(crate) keep: usize,
     pub(crate) kept: Vec<u16>,
 }
@@ -41,10 +45,12 @@ impl Pool {
         &mut self,
         alloc: Global,
         states: &[usize],
+        number: usize,
         row: &[usize],
         selection: &Selection,
     ) -> Result<Lying, Memory>
         requires pool { IsPool self.old }
+        requires listed { slice_get (letter_lists self.old) number ≡ Some states.now }
         requires placed { ArePlaced selection.now }
         requires first { AreNodes selection.now.first }
         requires second { AreNodes selection.now.second }
@@ -56,15 +62,24 @@ impl Pool {
         ensures grew { OnOk result (GrewTo self.old self.new) }
         ensures lies { IfOk result
             (IsLying self.new states.now selection.now.first row.now selection.now.nodes) }
+        ensures numbers { IfOk result (HasNumbers self.new) }
     {
+        let list = self.note_letters(alloc, row)?;
         let first = self.keep_list(alloc, selection.first_places())?;
         let second = self.keep_list(alloc, selection.second_places())?;
         let keep = self.keep_list(alloc, selection.places())?;
-        let placed = self.all_on(alloc, states, first)?;
-        let letters = self.all_on(alloc, row, second)?;
+        let here = ListStand {
+            list: number,
+            keep: first,
+        };
+        let placed = self.list_on(alloc, states, here)?;
+        let there = ListStand { list, keep: second };
+        let letters = self.list_on(alloc, row, there)?;
         Ok(Lying {
-            states: placed,
-            letters,
+            states: placed.ids,
+            before: placed.number,
+            letters: letters.ids,
+            by: letters.number,
             keep,
             kept: Vec::from_slice(alloc, selection.kept())?,
         })
@@ -75,12 +90,14 @@ impl Pool {
         &mut self,
         alloc: Global,
         states: &[usize],
+        number: usize,
         kept: &[u16],
         row: &[usize],
         keep: usize,
         selection: &Selection,
     ) -> Result<Lying, Memory>
         requires pool { IsPool self.old }
+        requires listed { slice_get (letter_lists self.old) number ≡ Some states.now }
         requires placed { ArePlaced selection.now }
         requires kept { kept.now ≡ selection.now.first }
         requires first { AreNodes selection.now.first }
@@ -94,28 +111,38 @@ impl Pool {
         ensures grew { OnOk result (GrewTo self.old self.new) }
         ensures lies { IfOk result
             (IsLying self.new states.now selection.now.first row.now selection.now.nodes) }
+        ensures numbers { IfOk result (HasNumbers self.new) }
     {
+        let by = self.note_letters(alloc, row)?;
         let first = self.keep_list(alloc, kept)?;
-        let placed = self.all_on(alloc, states, first)?;
+        let here = ListStand {
+            list: number,
+            keep: first,
+        };
+        let placed = self.list_on(alloc, states, here)?;
         Ok(Lying {
-            states: placed,
+            states: placed.ids,
+            before: placed.number,
             letters: Vec::from_slice(alloc, row)?,
+            by,
             keep,
             kept: Vec::from_slice(alloc, selection.kept())?,
         })
     }
 
     // How the layer with these states, which stand on the kept nodes, and these letters lies before the nodes of the
-    // list.
+    // list. The number is that of the list of the states.
     pub(crate) fn lie(
         &mut self,
         alloc: Global,
         states: &[usize],
+        number: usize,
         kept: &[u16],
         row: &[usize],
         keep: usize,
     ) -> Result<Lying, Memory>
         requires pool { IsPool self.old }
+        requires listed { slice_get (letter_lists self.old) number ≡ Some states.now }
         requires kept { AreNodes kept.now }
         requires states { StatesFit self.old states.now kept.now }
         requires row_in { (c i : ℕ) → slice_get row.now c ≡ Some i → i < length self.old.values.items }
@@ -126,14 +153,15 @@ impl Pool {
         ensures grew { OnOk result (GrewTo self.old self.new) }
         ensures lies { IfOk result (λ l. (nodes : List ℕ) → slice_get self.old.keeps.items keep ≡ Some nodes
             → IsLying self.new states.now kept.now row.now nodes l) }
+        ensures numbers { IfOk result (HasNumbers self.new) }
     {
         let second = self.values[row[0]].nodes();
         let selection = Selection::of(alloc, kept, second, &self.keeps[keep])?;
         let _places = selection.places();
         if all_keep(&self.values, row, second) {
-            return self.lie_in_places(alloc, states, row, &selection);
+            return self.lie_in_places(alloc, states, number, row, &selection);
         }
-        self.lie_on_nodes(alloc, states, kept, row, keep, &selection)
+        self.lie_on_nodes(alloc, states, number, kept, row, keep, &selection)
     }
 
     // The states on the kept nodes.

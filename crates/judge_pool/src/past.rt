@@ -1,14 +1,15 @@
 //! Layers that are made as one before them was, in whichever graph that stands.
 ghost use Rattle.std.specs.Prelude.{◌≡◌, ℕ, ◌*◌, ◌<◌, ◌≤◌, length, slice_get, List};
 ghost use Rattle.std.specs.Prelude.{Some, IfOk, IfErr, IfSome, OnOk, IsTrue};
-ghost use Rattle.judge_pool.specs.Pooling.{IsPool, GrewTo, EitherKeeps, AreEdges, LeadsOn, IsKeyOf, SameKey, letter_lists};
+ghost use Rattle.judge_pool.specs.Pooling.{IsPool, GrewTo, EitherKeeps, AreEdges, LeadsOn, IsKeyOf, SameKey};
+ghost use Rattle.judge_pool.specs.Numbered.{letter_lists};
 ghost use Rattle.judge_pool.specs.Layering.{values_at};
 ghost use Rattle.judge_pool.specs.Folding.{ReachesMore};
 ghost use Rattle.judge_pool.specs.declared.known.KnownLayer.{KnownLayer as Known};
 ghost use Rattle.judge_pool.specs.declared.layer.Trouble.TheVariants.{Wide};
 ghost use Rattle.judge_pool.specs.declared.limits.TheConstants.{ALL_EDGES};
 
-use crate::known::{KnownLayer, LayerKey};
+use crate::known::{KnownLayer, KnownStep, LayerKey};
 use crate::layer::{Step, Trouble, next_layer};
 use crate::lists::{list_at, widened};
 use crate::pool::Pool;
@@ -58,67 +59,55 @@ fn find_layer(
 }
 
 // The same states and edges again.
-fn step_again(alloc: Global, next: &[u32], edges: &[u32]) -> Result<Step, Memory>
+fn step_again(
+    alloc: Global,
+    next: &[u32],
+    number: usize,
+    edges: &[u32],
+) -> Result<KnownStep, Memory>
     ensures next { IfOk result (λ s. s.next.items ≡ next.now) }
+    ensures number { IfOk result (λ s. s.number ≡ number) }
     ensures edges { IfOk result (λ s. s.edges.items ≡ edges.now) }
 {
-    Ok(Step {
+    Ok(KnownStep {
         next: widened(alloc, next)?,
+        number,
         edges: Vec::from_slice(alloc, edges)?,
     })
 }
 
 impl Pool {
-    // What a layer with these states, letters and nodes is made of, by the numbers of its lists.
-    fn layer_key(
-        &mut self,
-        alloc: Global,
-        states: &[usize],
-        letters: &[usize],
-        keep: usize,
-    ) -> Result<LayerKey, Memory>
-        requires { IsPool self.old }
-        ensures grew { OnOk result (GrewTo self.old self.new) }
-        ensures key { IfOk result (IsKeyOf self.new states.now letters.now keep) }
-    {
-        let before = self.note_letters(alloc, states)?;
-        let by = self.note_letters(alloc, letters)?;
-        Ok(LayerKey {
-            states: before,
-            letters: by,
-            keep,
-        })
-    }
-
     // The edges and states of the layer at a place, again.
-    fn layer_again(&self, alloc: Global, place: usize) -> Result<Step, Memory>
+    fn layer_again(&self, alloc: Global, place: usize) -> Result<KnownStep, Memory>
         requires pool { IsPool self.now }
         requires place { place < length self.now.layers.items }
         ensures next { IfOk result (λ s. (l : Known) → slice_get self.now.layers.items place ≡ Some l →
             slice_get (letter_lists self.now) l.next ≡ Some s.next.items) }
+        ensures noted { IfOk result (λ s. slice_get (letter_lists self.now) s.number ≡ Some s.next.items) }
         ensures edges { IfOk result (λ s. (l : Known) → slice_get self.now.layers.items place ≡ Some l →
             s.edges.items ≡ l.edges.items) }
     {
         let layer = &self.layers[place];
         let lists = self.letters.as_slice();
         let next = list_at(lists, layer.next);
-        let step = step_again(alloc, next, &layer.edges)?;
+        let step = step_again(alloc, next, layer.next, &layer.edges)?;
         Ok(step)
     }
 
-    // Remembers a layer, so that it is not made again.
-    fn note_layer(&mut self, alloc: Global, key: LayerKey, step: &Step) -> Result<(), Memory>
+    // Remembers a layer, so that it is not made again. It is the number of the list of the states to which it leads.
+    fn note_layer(&mut self, alloc: Global, key: LayerKey, step: &Step) -> Result<usize, Memory>
         requires pool { IsPool self.old }
         requires leads { (states : List ℕ) × ((row : List ℕ) × IsKeyOf self.old states row key.keep key
             × LeadsOn self.old key.keep states row step.now.next.items step.now.edges.items) }
         ensures grew { OnOk result (GrewTo self.old self.new) }
+        ensures noted { IfOk result (λ n. slice_get (letter_lists self.new) n ≡ Some step.now.next.items) }
     {
         let next = self.note_letters(alloc, &step.next)?;
         let edges = Vec::from_slice(alloc, &step.edges)?;
         let place = self.layers.len();
         self.layer_places.insert(key, place)?;
         self.layers.push(KnownLayer { key, next, edges })?;
-        Ok(())
+        Ok(next)
     }
 
     // A layer that is made now, and remembered.
@@ -129,7 +118,7 @@ impl Pool {
         row: &[usize],
         key: LayerKey,
         most: usize,
-    ) -> Result<Step, Trouble>
+    ) -> Result<KnownStep, Trouble>
         requires pool { IsPool self.old }
         requires key { IsKeyOf self.old states.now row.now key.keep key }
         requires states { (k i : ℕ) → slice_get states.now k ≡ Some i → i < length self.old.values.items }
@@ -141,6 +130,7 @@ impl Pool {
             EitherKeeps self.old i j key.keep }
         ensures grew { OnOk result (GrewTo self.old self.new) }
         ensures few { IfOk result (λ s. length s.next.items ≤ length states.now * length row.now) }
+        ensures noted { IfOk result (λ s. slice_get (letter_lists self.new) s.number ≡ Some s.next.items) }
         ensures edges { IfOk result (λ s. (nodes : List ℕ) → slice_get self.old.keeps.items key.keep ≡ Some nodes
             → AreEdges self.new.view self.new.values.items nodes states.now row.now s.next.items s.edges.items
             (length states.now * length row.now)) }
@@ -150,8 +140,12 @@ impl Pool {
             (values_at self.old.values.items row.now) most) }
     {
         let step = next_layer(alloc, self, states, row, key.keep, most)?;
-        self.note_layer(alloc, key, &step)?;
-        Ok(step)
+        let number = self.note_layer(alloc, key, &step)?;
+        Ok(KnownStep {
+            next: step.next,
+            number,
+            edges: step.edges,
+        })
     }
 }
 
@@ -162,27 +156,28 @@ pub(crate) fn step_from(
     pool: &mut Pool,
     states: &[usize],
     row: &[usize],
-    keep: usize,
+    key: LayerKey,
     most: usize,
-) -> Result<Step, Trouble>
+) -> Result<KnownStep, Trouble>
     requires pool { IsPool pool.old }
+    requires key { IsKeyOf pool.old states.now row.now key.keep key }
     requires states { (k i : ℕ) → slice_get states.now k ≡ Some i → i < length pool.old.values.items }
     requires letters { (c j : ℕ) → slice_get row.now c ≡ Some j → j < length pool.old.values.items }
     requires some { 0 < length row.now }
     requires few { length states.now * length row.now ≤ ALL_EDGES }
-    requires keep { keep < length pool.old.keeps.items }
+    requires keep { key.keep < length pool.old.keeps.items }
     requires nodes { (k c i j : ℕ) → slice_get states.now k ≡ Some i → slice_get row.now c ≡ Some j →
-        EitherKeeps pool.old i j keep }
+        EitherKeeps pool.old i j key.keep }
     ensures grew { OnOk result (GrewTo pool.old pool.new) }
     ensures few { IfOk result (λ s. length s.next.items ≤ length states.now * length row.now) }
-    ensures edges { IfOk result (λ s. (nodes : List ℕ) → slice_get pool.old.keeps.items keep ≡ Some nodes
+    ensures noted { IfOk result (λ s. slice_get (letter_lists pool.new) s.number ≡ Some s.next.items) }
+    ensures edges { IfOk result (λ s. (nodes : List ℕ) → slice_get pool.old.keeps.items key.keep ≡ Some nodes
         → AreEdges pool.new.view pool.new.values.items nodes states.now row.now s.next.items s.edges.items
         (length states.now * length row.now)) }
-    ensures wide { IfErr result (λ e. e ≡ Wide → (nodes : List ℕ) → slice_get pool.old.keeps.items keep ≡ Some nodes
+    ensures wide { IfErr result (λ e. e ≡ Wide → (nodes : List ℕ) → slice_get pool.old.keeps.items key.keep ≡ Some nodes
         → ReachesMore pool.old.view nodes (values_at pool.old.values.items states.now)
         (values_at pool.old.values.items row.now) most) }
 {
-    let key = pool.layer_key(alloc, states, row, keep)?;
     match find_layer(&pool.layer_places, &pool.layers, key) {
         Some(place) => {
             let step = pool.layer_again(alloc, place)?;

@@ -6,7 +6,7 @@ ghost use Rattle.judge_pool.specs.declared.view.View.{View as Seen};
 ghost use Rattle.judge_pool.specs.Seen.{seen_row};
 ghost use Rattle.judge_pool.specs.Pooling.{IsRowIndex, IsPool, GrewTo, HasSame, HasCopy};
 
-use crate::batch::{Batch, Stand};
+use crate::batch::{Batch, ListStand, Stand};
 use crate::known::{KnownLayer, LayerKey};
 use crate::view::{View, row_in};
 use contraction::{Contraction, Selection};
@@ -19,8 +19,9 @@ use std::collections::HashMap;
 
 /// Values of one view, each once, with lists of nodes that values are to keep. Batches of compositions stand one behind
 /// the other, and where each begins is noted, so that none is made twice, but for those that were forgotten when they
-/// were many; so are the layers of graphs, by the lists of their states and letters. The selection of the last
-/// composition is at hand for the next, which is mostly of values on the same nodes.
+/// were many; so are the layers of graphs, by the numbers of the lists of their states and letters, and what a value is
+/// on other nodes, and a list of values, by its number. The selection of the last composition is at hand for the next,
+/// which is mostly of values on the same nodes.
 #[derive(Drop)]
 pub struct Pool {
     /// the view
@@ -38,6 +39,7 @@ pub struct Pool {
     pub(crate) notes: NumberMap<Batch, usize>,
     pub(crate) selection: Option<Selection>,
     pub(crate) stands: NumberMap<Stand, usize>,
+    pub(crate) list_stands: NumberMap<ListStand, usize>,
 }
 
 // The number that the index has for a row.
@@ -62,18 +64,17 @@ fn note_row(index: &mut HashMap<Text, usize>, row: Text, place: usize) -> Result
 }
 
 impl Pool {
-    /// A pool without values, for these lists of nodes.
-    pub fn new(alloc: Global, view: View, keeps: Vec<NodeList>) -> Pool
+    /// A pool without values and lists of nodes.
+    pub fn new(alloc: Global, view: View) -> Pool
         ensures pool { IsPool result }
         ensures view { result.view ≡ view }
-        ensures keeps { result.keeps.items ≡ keeps.items }
         ensures empty { result.values.items ≡ [] }
     {
         Pool {
             view,
             values: Vec::new(alloc),
             index: HashMap::new(alloc),
-            keeps,
+            keeps: Vec::new(alloc),
             keep_numbers: HashMap::with_hasher(alloc, NumberHash::new()),
             letters: IndexSet::with_hasher(alloc, NumberHash::new()),
             layers: Vec::new(alloc),
@@ -82,6 +83,7 @@ impl Pool {
             notes: HashMap::with_hasher(alloc, NumberHash::new()),
             selection: None,
             stands: HashMap::with_hasher(alloc, NumberHash::new()),
+            list_stands: HashMap::with_hasher(alloc, NumberHash::new()),
         }
     }
 

@@ -40,7 +40,7 @@ fn pair_stock(
     requires news { AllFit new.now news.now }
     ensures { IfOk result (IsPairStock view old.now new.now olds.now news.now) }
 {
-    let mut pool = Pool::new(alloc, view, Vec::new(alloc));
+    let mut pool = Pool::new(alloc, view);
     let old_rows = step_rows(alloc, &mut pool, old, olds)?;
     let new_rows = step_rows(alloc, &mut pool, new, news)?;
     Ok(PairStock {

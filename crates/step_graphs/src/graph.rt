@@ -54,7 +54,7 @@ pub fn step_stock(
     ensures stock { IfOk result (IsStepStock station.now steps.now) }
     ensures view { IfOk result (λ s. s.pool.view ≡ view) }
 {
-    let mut pool = Pool::new(alloc, view, Vec::new(alloc));
+    let mut pool = Pool::new(alloc, view);
     let rows = step_rows(alloc, &mut pool, station, steps)?;
     Ok(StepStock { pool, rows })
 }

@@ -13,11 +13,11 @@ use test_stations::{Example, StationRow, rows_hold};
 // Which part of the station, and the nodes on which it is told.
 type Told = (u8, &'static [u16]);
 
-// Two parts in these positions, the nodes on which both are told together, how they lie, and the bytes of both rows there. The gap
-// row has the nodes, the labels of what is coupled, and a mark for each node that is energisable, then one for each
-// that is earthable. The load row has the nodes, the labels of what is joined, those of what is bonded, and a mark
-// for each node that is fed, then one for each that is fed or tapped. A number has two bytes; a label is the first
-// place of its class.
+// Two parts in these positions, the nodes on which both are told together, how they lie, and the bytes of both rows
+// there. The gap row has the nodes, the labels of what is coupled, and a mark for each node that is energisable, then
+// one for each that is earthable. The load row has the nodes, the labels of what is joined, those of what is bonded,
+// and a mark for each node that is fed, then one for each that is fed or tapped. A number has two bytes; a label is the
+// first place of its class.
 struct Row {
     drawing: Example,
     closed: &'static [u8],

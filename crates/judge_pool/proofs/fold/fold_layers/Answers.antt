@@ -22,7 +22,7 @@ use Rattle.judge_pool.specs.Counted.{Spends, AreAtLeast}
 use Rattle.judge_pool.specs.Folding.{IsExact, IsStep, ReachesMore}
 use Rattle.decision_graphs.specs.Finished.{layer_with}
 use Rattle.judge_pool.specs.Plans.{PlanHas, SameBefore, plan_diagram, ChosenBy, items_of, NeededBy, layers_of}
-use Rattle.judge_pool.proofs.LayeringLemmas.{grows_same, grew_same, grew_more, grew_in, keep_in, keep_was, value_was, at_least, grows, sound}
+use Rattle.judge_pool.proofs.LayeringLemmas.{grows_same, grew_more, grew_in, keep_in, keep_was, value_was, at_least, grows, sound}
 use Rattle.judge_pool.proofs.MappedPools.{at_mapped, linked_on, sound_on, values_on, reaches_more_on}
 use Rattle.judge_pool.proofs.PlanLemmas.{start_exact, values_more, one_in}
 use Rattle.judge_pool.proofs.AsLemmas.{all_mapped}
@@ -40,25 +40,32 @@ use Rattle.judge_pool.proofs.fold.fold_layers.Goals as goal
 pub layers-init : goal.layers-init
 layers-init c =
     let p = c.args.pool.now in
+    let q = c.note_letters.new.self in
+    let h = c.in_ok-number.ensures.grew in
+    let pq = grows p q h in
     let letters : List (List ℕ) = map (λ (v : Vec ℕ Global). v.items) c.args.letters.now in
-    let is : c.in_ok-states.states.items ≡ c.args.start ∷ [] = c.in_ok-states.ensures in
+    let states : List ℕ = c.in_ok-states.states.items in
+    let is : states ≡ c.args.start ∷ [] = c.in_ok-states.ensures in
     let x : Answers = c.index.result.now in
     let at_x : slice_get p.values.items c.args.start ≡ Some x =
     slice_get_read p.values.items _ c.args.start x refl c.requires.linked.start_in c.index.ensures in
     let kept : List ℕ = c.in_ok-kept.kept.items in
     let is_kept : kept ≡ x.kept = c.in_ok-kept.ensures.items ∙ c.nodes.ensures.nodes in
-    let own : (t i : ℕ) (y : Answers) → slice_get c.in_ok-states.states.items t ≡ Some i →
-    slice_get p.values.items i ≡ Some y → y.kept ≡ kept =
+    let own : (t i : ℕ) (y : Answers) → slice_get states t ≡ Some i → slice_get p.values.items i ≡ Some y →
+    y.kept ≡ kept =
     λ t i y at at_y.
     (let one : c.args.start ≡ i = start_is c.args.start t i (ap (λ xs. slice_get xs t) (sym is) ∙ at) in
     let same : x ≡ y = same_Some x y (sym at_x ∙ (ap (slice_get p.values.items) one ∙ at_y)) in
     sym (ap (λ (a : Answers). a.kept) same) ∙ sym is_kept) in
-    let within : (t i : ℕ) → slice_get c.in_ok-states.states.items t ≡ Some i → i < length p.values.items =
+    let within : (t i : ℕ) → slice_get states t ≡ Some i → i < length p.values.items =
     λ t i at. one_in p.values.items c.args.start c.requires.linked.start_in t i
     (ap (λ xs. slice_get xs t) (sym is) ∙ at) in
+    let same_values : values_at q.values.items states ≡ values_at p.values.items states =
+    values_more p.values.items q.values.items states h.values within in
     record {
-      grew = grew_same p c.requires.pool;
-      states_in = within;
+      grew = h;
+      listed = c.in_ok-number.ensures.noted ∙ ap Some c.deref.ensures.value;
+      states_in = λ t i at. grew_in p q i no_answers h (within t i at);
       some = omega (arith, ap length is);
       few = omega (arith, ap length is);
       nodes = omega (arith, ap (sum_by (λ (l : FinishedLayer). l.nodes)) c.new-layers.ensures.items);
@@ -69,43 +76,55 @@ layers-init c =
       };
       choices = ap (map (λ (l : FinishedLayer). l.choices)) c.new-layers.ensures.items;
       finished =
-          subst (λ ls. AreFinished (length c.in_ok-states.states.items) ls) (sym c.new-layers.ensures.items)
-          (omega (arith, ap length is));
+          subst (λ ls. AreFinished (length states) ls) (sym c.new-layers.ensures.items) (omega (arith, ap length is));
       made = omega (arith, ap length c.new-layers.ensures.items);
       are = subst (λ l. AreNodes l) (sym is_kept) (c.requires.pool.well c.args.start x at_x).nodes;
-      counts = λ t i y at at_y. sym (ap length (own t i y at at_y));
+      counts = λ t i y at at_y. sym (ap length (own t i y at (value_was p q i y pq (within t i at) at_y)));
       kept =
           λ m nodes at_m at_nodes n. subst (λ l. Keeps l n ↔ Contains nodes n) (sym is_kept)
           (c.requires.linked.start_kept x m nodes at_x at_m at_nodes n);
       exact = λ f plan order fits.
           subst (λ ds. IsExact p.view (plan_diagram plan) (ChosenBy plan) (items_of plan) (NeededBy plan) 0
           (layers_of ds)
-          (map (mapped f) (seen_on kept p.values.items c.in_ok-states.states.items))) (sym c.new-layers.ensures.items)
+          (map (mapped f) (seen_on kept q.values.items states))) (sym c.new-layers.ensures.items)
+          (subst (λ xs. IsExact p.view (plan_diagram plan) (ChosenBy plan) (items_of plan) (NeededBy plan) 0 []
+          (map (mapped f) (map (renamed kept) xs))) (sym same_values)
           (exact_as p.view (plan_diagram plan) (ChosenBy plan) (items_of plan) (NeededBy plan) 0 []
-          (map (mapped f) (values_at p.values.items c.in_ok-states.states.items))
-          (map (mapped f) (seen_on kept p.values.items c.in_ok-states.states.items))
-          (all_mapped f p.view (values_at p.values.items c.in_ok-states.states.items)
-          (seen_on kept p.values.items c.in_ok-states.states.items)
-          (seen_self p.view kept p.values.items c.in_ok-states.states.items within own))
+          (map (mapped f) (values_at p.values.items states))
+          (map (mapped f) (seen_on kept p.values.items states))
+          (all_mapped f p.view (values_at p.values.items states) (seen_on kept p.values.items states)
+          (seen_self p.view kept p.values.items states within own))
           (subst (λ xs. IsExact p.view (plan_diagram plan) (ChosenBy plan) (items_of plan) (NeededBy plan) 0 [] xs)
-          (values_on f p.values.items c.in_ok-states.states.items)
+          (values_on f p.values.items states)
           (subst (λ xs. IsExact p.view (plan_diagram plan) (ChosenBy plan) (items_of plan) (NeededBy plan) 0 []
           (values_at (map (mapped f) p.values.items) xs)) (sym is)
           (start_exact plan (pool_on f p) c.args.start letters c.args.keeps.now
           (sound_on f order p (sound p c.requires.pool))
-          (linked_on f p c.args.start letters c.args.keeps.now c.requires.linked) fits))));
+          (linked_on f p c.args.start letters c.args.keeps.now c.requires.linked) fits)))));
+    }
+
+pub lie-requires-clause-listed : goal.lie-requires-clause-listed
+lie-requires-clause-listed c = c.layers.invariant.listed ∙ ap Some (sym c.as_slice-held.ensures.value)
+
+pub step_from-requires-clause-key : goal.step_from-requires-clause-key
+step_from-requires-clause-key c =
+    let numbers = c.in_ok-lying.ensures.numbers in
+    record {
+      before = numbers.states ∙ ap Some (sym c.deref-in-layers-2.ensures.value);
+      by = numbers.letters ∙ ap Some (sym c.deref-in-layers-3.ensures.value);
+      behind = refl;
     }
 
 pub lie-requires-clause-pool : goal.lie-requires-clause-pool
 lie-requires-clause-pool c = c.layers.invariant.grew.is_pool
 
 pub lie-requires-clause-kept : goal.lie-requires-clause-kept
-lie-requires-clause-kept c = subst (λ l. AreNodes l) (sym c.deref.ensures.value) c.layers.invariant.are
+lie-requires-clause-kept c = subst (λ l. AreNodes l) (sym c.deref-in-layers.ensures.value) c.layers.invariant.are
 
 pub lie-requires-clause-states : goal.lie-requires-clause-states
 lie-requires-clause-states c =
-    subst (λ (xs : List ℕ). StatesFit c.layers.pool xs c.deref.result.now) (sym c.as_slice-held.ensures.value)
-    (subst (λ (xs : List ℕ). StatesFit c.layers.pool c.layers.states.items xs) (sym c.deref.ensures.value)
+    subst (λ (xs : List ℕ). StatesFit c.layers.pool xs c.deref-in-layers.result.now) (sym c.as_slice-held.ensures.value)
+    (subst (λ (xs : List ℕ). StatesFit c.layers.pool c.layers.states.items xs) (sym c.deref-in-layers.ensures.value)
     (states_fit c.layers.pool c.layers.states.items c.layers.kept.items c.layers.invariant.states_in
     c.layers.invariant.counts))
 
@@ -194,7 +213,7 @@ lie-requires-clause-reach c after at_after t i y at_i at_y n has =
     elim (c.requires.linked.chain c.layers.j m k t i row before after y at_j at_m at_k at_before after_was at_i y_was n
     has) [
       | inl here ↦
-          inl (subst (λ xs. Keeps xs n) (sym c.deref.ensures.value)
+          inl (subst (λ xs. Keeps xs n) (sym c.deref-in-layers.ensures.value)
           ((c.layers.invariant.kept m before at_m at_before n).1 here))
       | inr by_letter ↦ inr by_letter
     ]
@@ -231,9 +250,9 @@ step_from-requires-clause-states c t i at =
     let kept : List ℕ = c.layers.kept.items in
     let lies : IsLying q c.layers.states.items kept row nodes l =
     subst (λ (xs : List ℕ). IsLying q xs kept row nodes l) c.as_slice-held.ensures.value
-    (subst (λ (xs : List ℕ). IsLying q c.as_slice-held.result.now xs row nodes l) c.deref.ensures.value
+    (subst (λ (xs : List ℕ). IsLying q c.as_slice-held.result.now xs row nodes l) c.deref-in-layers.ensures.value
     (c.in_ok-lying.ensures.lies nodes (g.keeps k nodes at_nodes))) in
-    lies.states_lie.listed t i (ap (λ xs. slice_get xs t) (sym c.deref-in-layers.ensures.value) ∙ at)
+    lies.states_lie.listed t i (ap (λ xs. slice_get xs t) (sym c.deref-in-layers-2.ensures.value) ∙ at)
 
 pub step_from-requires-clause-letters : goal.step_from-requires-clause-letters
 step_from-requires-clause-letters c t i at =
@@ -267,9 +286,9 @@ step_from-requires-clause-letters c t i at =
     let kept : List ℕ = c.layers.kept.items in
     let lies : IsLying q c.layers.states.items kept row nodes l =
     subst (λ (xs : List ℕ). IsLying q xs kept row nodes l) c.as_slice-held.ensures.value
-    (subst (λ (xs : List ℕ). IsLying q c.as_slice-held.result.now xs row nodes l) c.deref.ensures.value
+    (subst (λ (xs : List ℕ). IsLying q c.as_slice-held.result.now xs row nodes l) c.deref-in-layers.ensures.value
     (c.in_ok-lying.ensures.lies nodes (g.keeps k nodes at_nodes))) in
-    lies.letters_lie.listed t i (ap (λ xs. slice_get xs t) (sym c.deref-in-layers-2.ensures.value) ∙ at)
+    lies.letters_lie.listed t i (ap (λ xs. slice_get xs t) (sym c.deref-in-layers-3.ensures.value) ∙ at)
 
 pub step_from-requires-clause-some : goal.step_from-requires-clause-some
 step_from-requires-clause-some c =
@@ -303,11 +322,11 @@ step_from-requires-clause-some c =
     let kept : List ℕ = c.layers.kept.items in
     let lies : IsLying q c.layers.states.items kept row nodes l =
     subst (λ (xs : List ℕ). IsLying q xs kept row nodes l) c.as_slice-held.ensures.value
-    (subst (λ (xs : List ℕ). IsLying q c.as_slice-held.result.now xs row nodes l) c.deref.ensures.value
+    (subst (λ (xs : List ℕ). IsLying q c.as_slice-held.result.now xs row nodes l) c.deref-in-layers.ensures.value
     (c.in_ok-lying.ensures.lies nodes (g.keeps k nodes at_nodes))) in
     omega (
       arith,
-      ap length c.deref-in-layers-2.ensures.value,
+      ap length c.deref-in-layers-3.ensures.value,
       lies.letters_lie.len,
       c.requires.linked.some c.layers.j row at_j,
     )
@@ -344,15 +363,15 @@ step_from-requires-clause-few c =
     let kept : List ℕ = c.layers.kept.items in
     let lies : IsLying q c.layers.states.items kept row nodes l =
     subst (λ (xs : List ℕ). IsLying q xs kept row nodes l) c.as_slice-held.ensures.value
-    (subst (λ (xs : List ℕ). IsLying q c.as_slice-held.result.now xs row nodes l) c.deref.ensures.value
+    (subst (λ (xs : List ℕ). IsLying q c.as_slice-held.result.now xs row nodes l) c.deref-in-layers.ensures.value
     (c.in_ok-lying.ensures.lies nodes (g.keeps k nodes at_nodes))) in
-    let tall : length c.deref-in-layers.result.now ≡ length c.as_slice-held.result.now =
-    ap length c.deref-in-layers.ensures.value ∙ (lies.states_lie.len ∙ sym (ap length c.as_slice-held.ensures.value)) in
-    let wide : length c.deref-in-layers-2.result.now ≡ length row =
-    ap length c.deref-in-layers-2.ensures.value ∙ lies.letters_lie.len in
-    let all : length c.deref-in-layers.result.now * length c.deref-in-layers-2.result.now
+    let tall : length c.deref-in-layers-2.result.now ≡ length c.as_slice-held.result.now =
+    ap length c.deref-in-layers-2.ensures.value ∙ (lies.states_lie.len ∙ sym (ap length c.as_slice-held.ensures.value)) in
+    let wide : length c.deref-in-layers-3.result.now ≡ length row =
+    ap length c.deref-in-layers-3.ensures.value ∙ lies.letters_lie.len in
+    let all : length c.deref-in-layers-2.result.now * length c.deref-in-layers-3.result.now
     ≡ length c.as_slice-held.result.now * length row =
-    ap (λ n. n * length c.deref-in-layers-2.result.now) tall
+    ap (λ n. n * length c.deref-in-layers-3.result.now) tall
     ∙ ap (λ n. length c.as_slice-held.result.now * n) wide in
     omega (
       arith,
@@ -394,7 +413,7 @@ step_from-requires-clause-keep c =
     let kept : List ℕ = c.layers.kept.items in
     let lies : IsLying q c.layers.states.items kept row nodes l =
     subst (λ (xs : List ℕ). IsLying q xs kept row nodes l) c.as_slice-held.ensures.value
-    (subst (λ (xs : List ℕ). IsLying q c.as_slice-held.result.now xs row nodes l) c.deref.ensures.value
+    (subst (λ (xs : List ℕ). IsLying q c.as_slice-held.result.now xs row nodes l) c.deref-in-layers.ensures.value
     (c.in_ok-lying.ensures.lies nodes (g.keeps k nodes at_nodes))) in
     slice_get_within q.keeps.items l.keep lies.after lies.at_after
 
@@ -430,10 +449,10 @@ step_from-requires-clause-nodes c a b t m at_t at_m =
     let kept : List ℕ = c.layers.kept.items in
     let lies : IsLying q c.layers.states.items kept row nodes l =
     subst (λ (xs : List ℕ). IsLying q xs kept row nodes l) c.as_slice-held.ensures.value
-    (subst (λ (xs : List ℕ). IsLying q c.as_slice-held.result.now xs row nodes l) c.deref.ensures.value
+    (subst (λ (xs : List ℕ). IsLying q c.as_slice-held.result.now xs row nodes l) c.deref-in-layers.ensures.value
     (c.in_ok-lying.ensures.lies nodes (g.keeps k nodes at_nodes))) in
-    let here = ap (λ xs. slice_get xs a) (sym c.deref-in-layers.ensures.value) ∙ at_t in
-    let there = ap (λ xs. slice_get xs b) (sym c.deref-in-layers-2.ensures.value) ∙ at_m in
+    let here = ap (λ xs. slice_get xs a) (sym c.deref-in-layers-2.ensures.value) ∙ at_t in
+    let there = ap (λ xs. slice_get xs b) (sym c.deref-in-layers-3.ensures.value) ∙ at_m in
     lies.either t m (lies.states_lie.listed a t here) (lies.letters_lie.listed b m there) a b here there
 
 pub layers-preserved : goal.layers-preserved
@@ -468,7 +487,7 @@ layers-preserved c =
     let kept : List ℕ = c.layers.kept.items in
     let lies : IsLying q c.layers.states.items kept row nodes l =
     subst (λ (xs : List ℕ). IsLying q xs kept row nodes l) c.as_slice-held.ensures.value
-    (subst (λ (xs : List ℕ). IsLying q c.as_slice-held.result.now xs row nodes l) c.deref.ensures.value
+    (subst (λ (xs : List ℕ). IsLying q c.as_slice-held.result.now xs row nodes l) c.deref-in-layers.ensures.value
     (c.in_ok-lying.ensures.lies nodes (g.keeps k nodes at_nodes))) in
     let r = c.step_from.new.pool in
     let j = c.layers.j in
@@ -486,9 +505,9 @@ layers-preserved c =
     let e : AreEdges r.view r.values.items lies.after l.states.items l.letters.items next edges
     (length l.states.items * length l.letters.items) =
     subst (λ (ys : List ℕ). AreEdges r.view r.values.items lies.after l.states.items ys next edges
-    (length l.states.items * length ys)) c.deref-in-layers-2.ensures.value
-    (subst (λ (xs : List ℕ). AreEdges r.view r.values.items lies.after xs c.deref-in-layers-2.result.now next edges
-    (length xs * length c.deref-in-layers-2.result.now)) c.deref-in-layers.ensures.value
+    (length l.states.items * length ys)) c.deref-in-layers-3.ensures.value
+    (subst (λ (xs : List ℕ). AreEdges r.view r.values.items lies.after xs c.deref-in-layers-3.result.now next edges
+    (length xs * length c.deref-in-layers-3.result.now)) c.deref-in-layers-2.ensures.value
     (c.in_ok-step.ensures.edges lies.after lies.at_after)) in
     let tall : length l.states.items ≡ length states = lies.states_lie.len in
     let wide : length l.letters.items ≡ length row = lies.letters_lie.len in
@@ -516,9 +535,9 @@ layers-preserved c =
     let room : (length c.as_slice-held.result.now) * (length row) ≤ c.layers.left =
     c.too_many.ensures.few c.if-too_many.false in
     let few_next : length next ≤ length l.states.items * length l.letters.items =
-    subst (λ (ys : List ℕ). length next ≤ length l.states.items * length ys) c.deref-in-layers-2.ensures.value
-    (subst (λ (xs : List ℕ). length next ≤ length xs * length c.deref-in-layers-2.result.now)
-    c.deref-in-layers.ensures.value c.in_ok-step.ensures.few) in
+    subst (λ (ys : List ℕ). length next ≤ length l.states.items * length ys) c.deref-in-layers-3.ensures.value
+    (subst (λ (xs : List ℕ). length next ≤ length xs * length c.deref-in-layers-3.result.now)
+    c.deref-in-layers-2.ensures.value c.in_ok-step.ensures.few) in
     let nodes_few : length states ≤ length states * length row = at_least (length states) (length row) some_row in
     let next_some = laid.next_some q r qr states kept row nodes l lies states_in row_in holds next edges some_state
     some_letter e in
@@ -532,6 +551,7 @@ layers-preserved c =
     } in
     record {
       grew = grew_more p q r (grew_more p o q g h) m;
+      listed = c.in_ok-step.ensures.noted;
       states_in =
           laid.next_within q r qr states kept row nodes l lies states_in row_in holds next edges some_state some_letter e;
       some = next_some;
@@ -736,7 +756,7 @@ returns-in_err-step-clause-wide c =
     let kept : List ℕ = c.layers.kept.items in
     let lies : IsLying q c.layers.states.items kept row nodes l =
     subst (λ (xs : List ℕ). IsLying q xs kept row nodes l) c.as_slice-held.ensures.value
-    (subst (λ (xs : List ℕ). IsLying q c.as_slice-held.result.now xs row nodes l) c.deref.ensures.value
+    (subst (λ (xs : List ℕ). IsLying q c.as_slice-held.result.now xs row nodes l) c.deref-in-layers.ensures.value
     (c.in_ok-lying.ensures.lies nodes (g.keeps k nodes at_nodes))) in
     let j = c.layers.j in
     let states : List ℕ = c.layers.states.items in
@@ -766,9 +786,9 @@ returns-in_err-step-clause-wide c =
     let more : ReachesMore q.view lies.after (values_at q.values.items l.states.items)
     (values_at q.values.items l.letters.items) most =
     subst (λ (xs : List ℕ). ReachesMore q.view lies.after (values_at q.values.items l.states.items)
-    (values_at q.values.items xs) most) c.deref-in-layers-2.ensures.value
+    (values_at q.values.items xs) most) c.deref-in-layers-3.ensures.value
     (subst (λ (xs : List ℕ). ReachesMore q.view lies.after (values_at q.values.items xs)
-    (values_at q.values.items c.deref-in-layers-2.result.now) most) c.deref-in-layers.ensures.value
+    (values_at q.values.items c.deref-in-layers-3.result.now) most) c.deref-in-layers-2.ensures.value
     (c.in_err-step.ensures.wide (sym same ∙ is) lies.after lies.at_after)) in
     let back = laid.laid_reaches q q (grows_same q) states kept row nodes l lies states_in row_in most more in
     let on = reaches_more_on f order q.view nodes (seen_on kept q.values.items states) (values_at q.values.items row)

@@ -5,6 +5,7 @@ use Rattle.decision_graphs.specs.Finished.{AreFinished}
 use Rattle.std.specs.Prelude.{Contains}
 use Rattle.contraction.specs.Answers.{Answers, Keeps, AreNodes}
 use Rattle.contraction.specs.Renaming.{KeepsOrder, mapped}
+use Rattle.judge_pool.specs.Numbered.{letter_lists}
 use Rattle.judge_pool.specs.Pooling.{GrewTo}
 use Rattle.judge_pool.specs.Places.{pool_on}
 use Rattle.judge_pool.proofs.LaidLemmas.{seen_on}
@@ -16,6 +17,7 @@ use Rattle.judge_pool.proofs.fold.fold_layers.Given as goal
 abbrev pub invariant-layers : goal.invariant-layers
 invariant-layers l = record {
   grew : GrewTo l.fn.pool l.pool;
+  listed : slice_get (letter_lists l.pool) l.number ≡ Some l.states.items;
   states_in : (t i : ℕ) → slice_get l.states.items t ≡ Some i → i < length l.pool.values.items;
   some : 0 < length l.states.items;
   few : length l.states.items ≤ suc l.budget;

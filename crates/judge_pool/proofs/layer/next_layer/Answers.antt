@@ -4,7 +4,8 @@ use Rattle.std.proofs.lemmas.Option.{slice_get-get_or}
 use Rattle.std.proofs.Math.Nat.{suc-mul, zero-mul, mul-le-mul_right}
 use Rattle.judge_pool.specs.declared.batch.Batch.{Batch}
 use Rattle.judge_pool.specs.declared.pool.Pool.{Pool}
-use Rattle.judge_pool.specs.Pooling.{MakesEach, HasBatch, letter_lists}
+use Rattle.judge_pool.specs.Numbered.{letter_lists}
+use Rattle.judge_pool.specs.Pooling.{MakesEach, HasBatch}
 use Rattle.judge_pool.specs.Pooling.{AreEdges}
 use Rattle.judge_pool.proofs.LayeringLemmas.{grew_more, nil_of_len}
 use Rattle.judge_pool.specs.Layering.{AreAdded, NameAll}

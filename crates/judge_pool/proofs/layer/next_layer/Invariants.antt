@@ -1,5 +1,6 @@
 use Rattle.std.proofs.Common.{◌≡◌, ℕ, ◌*◌, ◌≤◌, List, Some, slice_get, length}
-use Rattle.judge_pool.specs.Pooling.{GrewTo, letter_lists}
+use Rattle.judge_pool.specs.Numbered.{letter_lists}
+use Rattle.judge_pool.specs.Pooling.{GrewTo}
 use Rattle.judge_pool.specs.Pooling.{AreEdges}
 use Rattle.judge_pool.proofs.layer.next_layer.Given as goal
 

@@ -3,7 +3,7 @@ use Rattle.judge_pool.specs.declared.pool.Pool.{Pool}
 use Rattle.judge_pool.proofs.LayeringLemmas.{Grows, grew_of, grew_more}
 use Rattle.judge_pool.proofs.BatchLemmas.{notes_stay, batch_stays, batch_ends, can_more}
 use Rattle.judge_pool.proofs.PastLemmas.{layers_stay}
-use Rattle.judge_pool.proofs.StandLemmas.{stands_stay}
+use Rattle.judge_pool.proofs.StandLemmas.{stands_stay, list_stands_stay}
 use Rattle.judge_pool.proofs.KeepLemmas.{numbers_stay}
 use Rattle.judge_pool.proofs.pool.Pool.batch.Goals as goal
 
@@ -40,6 +40,7 @@ returns-clause-grew c =
           (c.in_ok-note_batch.ensures q h.is_pool.notes c.in_ok-start.ensures.batch);
       layers = layers_stay q r g q.layers.items h.is_pool.layers;
       stands = stands_stay q r g q.stands h.is_pool.stands;
+      list_stands = list_stands_stay q r g q.list_stands h.is_pool.list_stands;
       numbers = numbers_stay q r g q.keep_numbers h.is_pool.numbers;
     }) g)
 

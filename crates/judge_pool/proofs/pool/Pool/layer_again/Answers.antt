@@ -2,7 +2,7 @@ use Rattle.std.proofs.Common.{◌≡◌, ℕ, List, Vec, Global, Some, length, m
 use Rattle.std.proofs.lemmas.List.{length-map}
 use Rattle.std.proofs.lemmas.Option.{slice_get_read, slice_get_within, same_Some}
 use Rattle.judge_pool.specs.declared.known.KnownLayer.{KnownLayer}
-use Rattle.judge_pool.specs.Pooling.{letter_lists}
+use Rattle.judge_pool.specs.Numbered.{letter_lists}
 use Rattle.judge_pool.proofs.pool.Pool.layer_again.Goals as goal
 
 pub list_at-next-requires : goal.list_at-next-requires
@@ -38,3 +38,12 @@ returns-clause-edges c l at_l =
     slice_get_read p.layers.items _ c.args.place layer refl c.requires.place c.index-layer.ensures in
     c.in_ok-step.ensures.edges ∙ (c.deref.ensures.value
     ∙ ap (λ (k : KnownLayer). k.edges.items) (same_Some layer l (sym at ∙ at_l)))
+
+pub returns-clause-noted : goal.returns-clause-noted
+returns-clause-noted c =
+    let p = c.args.self.now in
+    let layer : KnownLayer = c.index-layer.result.now in
+    ap (slice_get (letter_lists p)) c.in_ok-step.ensures.number
+    ∙ (ap (λ (vs : List (Vec ℕ Global)). slice_get (map (λ (v : Vec ℕ Global). v.items) vs) layer.next)
+    (sym c.as_slice-lists.ensures.keys)
+    ∙ (c.list_at-next.ensures ∙ ap Some (sym c.in_ok-step.ensures.next)))

@@ -5,7 +5,7 @@ use Rattle.judge_pool.proofs.LayerLemmas.{get_front}
 use Rattle.judge_pool.proofs.LayeringLemmas.{Grows, grew_of, grew_more}
 use Rattle.judge_pool.proofs.BatchLemmas.{notes_stay, are_made_more, get_behind}
 use Rattle.judge_pool.proofs.PastLemmas.{layers_stay}
-use Rattle.judge_pool.proofs.StandLemmas.{stands_stay}
+use Rattle.judge_pool.proofs.StandLemmas.{stands_stay, list_stands_stay}
 use Rattle.judge_pool.proofs.KeepLemmas.{numbers_stay}
 use Rattle.judge_pool.proofs.pool.Pool.make_batch.Goals as goal
 
@@ -34,6 +34,7 @@ returns-clause-grew c =
           h.is_pool.notes;
       layers = layers_stay q r g q.layers.items h.is_pool.layers;
       stands = stands_stay q r g q.stands h.is_pool.stands;
+      list_stands = list_stands_stay q r g q.list_stands h.is_pool.list_stands;
       numbers = numbers_stay q r g q.keep_numbers h.is_pool.numbers;
     }) g)
 

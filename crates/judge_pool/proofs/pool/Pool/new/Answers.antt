@@ -1,7 +1,7 @@
 use Rattle.judge_pool.proofs.PoolLemmas.{index_none, apart_none, well_none}
 use Rattle.judge_pool.proofs.BatchLemmas.{notes_none}
 use Rattle.judge_pool.proofs.PastLemmas.{layers_none}
-use Rattle.judge_pool.proofs.StandLemmas.{stands_none}
+use Rattle.judge_pool.proofs.StandLemmas.{stands_none, list_stands_none}
 use Rattle.judge_pool.proofs.KeepLemmas.{none_noted}
 use Rattle.judge_pool.proofs.pool.Pool.new.Goals as goal
 
@@ -11,7 +11,8 @@ returns-clause-pool c = record {
   apart = apart_none c.args.view c.new.result.items c.new.ensures.items;
   well = well_none c.new.result.items c.new.ensures.items;
   notes = notes_none _ c.with_hasher-4.result c.with_hasher-4.ensures.empty;
-  layers = layers_none _ c.new-5.result.items c.new-5.ensures.items;
+  layers = layers_none _ c.new-6.result.items c.new-6.ensures.items;
   stands = stands_none _ c.with_hasher-5.result c.with_hasher-5.ensures.empty;
+  list_stands = list_stands_none _ c.with_hasher-6.result c.with_hasher-6.ensures.empty;
   numbers = λ nodes k e. absurd (none_noted c.with_hasher.result c.with_hasher.ensures.empty nodes k e);
 }

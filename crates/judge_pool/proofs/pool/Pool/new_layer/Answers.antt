@@ -29,13 +29,13 @@ note_layer-requires-clause-leads c =
 pub returns-clause-grew : goal.returns-clause-grew
 returns-clause-grew c =
     grew_more c.args.self.now c.next_layer.new.pool c.note_layer.new.self c.in_ok-step.ensures.grew
-    c.in_ok-note_layer.ensures.grew
+    c.in_ok-number.ensures.grew
 
 pub returns-clause-edges : goal.returns-clause-edges
 returns-clause-edges c nodes at =
     let q = c.next_layer.new.pool in
     let r = c.note_layer.new.self in
-    let g = c.in_ok-note_layer.ensures.grew in
+    let g = c.in_ok-number.ensures.grew in
     let states = c.args.states.now in
     let row = c.args.row.now in
     let step = c.in_ok-step.step in

@@ -1,16 +1,17 @@
 use Rattle.std.proofs.Common.{◌≡◌, List, ℕ, Some, slice_get, refl, sym, ap, ◌∙◌, subst}
 use Rattle.judge_pool.specs.declared.known.KnownLayer.{KnownLayer}
 use Rattle.judge_pool.specs.declared.pool.Pool.{Pool}
-use Rattle.judge_pool.specs.Pooling.{LeadsOn, IsKnown, AreKnown, letter_lists}
+use Rattle.judge_pool.specs.Numbered.{letter_lists}
+use Rattle.judge_pool.specs.Pooling.{LeadsOn, IsKnown, AreKnown}
 use Rattle.judge_pool.proofs.LayeringLemmas.{Grows, grows, grew_of, grew_more}
 use Rattle.judge_pool.proofs.BatchLemmas.{notes_stay}
-use Rattle.judge_pool.proofs.StandLemmas.{stands_stay}
+use Rattle.judge_pool.proofs.StandLemmas.{stands_stay, list_stands_stay}
 use Rattle.judge_pool.proofs.KeepLemmas.{numbers_stay}
 use Rattle.judge_pool.proofs.PastLemmas.{leads_grown, key_stays, known_stays, layers_stay, layers_more}
 use Rattle.judge_pool.proofs.pool.Pool.note_layer.Goals as goal
 
-pub returns : goal.returns
-returns c =
+pub returns-clause-grew : goal.returns-clause-grew
+returns-clause-grew c =
     let p = c.args.self.now in
     let q = c.note_letters.new.self in
     let h = c.in_ok-next.ensures.grew in
@@ -42,18 +43,19 @@ returns c =
       values = λ i x at. at;
       letters = λ l ls at. at;
     } in
-    record {
-      grew =
-          grew_more p q r h (grew_of q r (record {
-            index = h.is_pool.index;
-            apart = h.is_pool.apart;
-            well = h.is_pool.well;
-            notes = notes_stay q r g (λ i t at. at) q.notes h.is_pool.notes;
-            layers =
-                subst (AreKnown r) (sym c.in_ok-push.ensures.items)
-                (layers_more r q.layers.items new (layers_stay q r g q.layers.items h.is_pool.layers)
-                (known_stays q r g new known));
-            stands = stands_stay q r g q.stands h.is_pool.stands;
-            numbers = numbers_stay q r g q.keep_numbers h.is_pool.numbers;
-          }) g);
-    }
+    grew_more p q r h (grew_of q r (record {
+      index = h.is_pool.index;
+      apart = h.is_pool.apart;
+      well = h.is_pool.well;
+      notes = notes_stay q r g (λ i t at. at) q.notes h.is_pool.notes;
+      layers =
+          subst (AreKnown r) (sym c.in_ok-push.ensures.items)
+          (layers_more r q.layers.items new (layers_stay q r g q.layers.items h.is_pool.layers)
+          (known_stays q r g new known));
+      stands = stands_stay q r g q.stands h.is_pool.stands;
+      list_stands = list_stands_stay q r g q.list_stands h.is_pool.list_stands;
+      numbers = numbers_stay q r g q.keep_numbers h.is_pool.numbers;
+    }) g)
+
+pub returns-clause-noted : goal.returns-clause-noted
+returns-clause-noted c = c.in_ok-next.ensures.noted ∙ ap Some c.deref.ensures.value

@@ -3,7 +3,7 @@ use Rattle.judge_pool.specs.declared.pool.Pool.{Pool}
 use Rattle.judge_pool.proofs.LayeringLemmas.{Grows, grew_of}
 use Rattle.judge_pool.proofs.BatchLemmas.{notes_stay}
 use Rattle.judge_pool.proofs.PastLemmas.{layers_stay}
-use Rattle.judge_pool.proofs.StandLemmas.{stands_stay}
+use Rattle.judge_pool.proofs.StandLemmas.{stands_stay, list_stands_stay}
 use Rattle.judge_pool.proofs.KeepLemmas.{numbers_stay}
 use Rattle.judge_pool.proofs.pool.Pool.note_letters.Goals as goal
 
@@ -24,6 +24,7 @@ returns-clause-grew c =
       notes = notes_stay p q g (λ i t at. at) p.notes c.requires.notes;
       layers = layers_stay p q g p.layers.items c.requires.layers;
       stands = stands_stay p q g p.stands c.requires.stands;
+      list_stands = list_stands_stay p q g p.list_stands c.requires.list_stands;
       numbers = numbers_stay p q g p.keep_numbers c.requires.numbers;
     }) g
 

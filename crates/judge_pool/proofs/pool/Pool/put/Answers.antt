@@ -8,7 +8,7 @@ use Rattle.judge_pool.proofs.PoolLemmas.{well_more, apart_more, rows_tell, rows_
 use Rattle.judge_pool.proofs.LayeringLemmas.{Grows, grew_of}
 use Rattle.judge_pool.proofs.BatchLemmas.{notes_stay}
 use Rattle.judge_pool.proofs.PastLemmas.{layers_stay}
-use Rattle.judge_pool.proofs.StandLemmas.{stands_stay}
+use Rattle.judge_pool.proofs.StandLemmas.{stands_stay, list_stands_stay}
 use Rattle.judge_pool.proofs.KeepLemmas.{numbers_stay}
 use Rattle.judge_pool.proofs.pool.Pool.put.Goals as goal
 
@@ -39,6 +39,7 @@ returns-clause-grew c =
       notes = notes_stay p q g (λ i t at. at) p.notes h.notes;
       layers = layers_stay p q g p.layers.items h.layers;
       stands = stands_stay p q g p.stands h.stands;
+      list_stands = list_stands_stay p q g p.list_stands h.list_stands;
       numbers = numbers_stay p q g p.keep_numbers h.numbers;
     }) g
 
