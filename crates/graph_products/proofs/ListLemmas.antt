@@ -33,10 +33,6 @@ leads_more [] l k c (d ∷ cs) e = absurd (omega arith)
 leads_more (m ∷ ls) l k c [] e = absurd (omega arith)
 leads_more (m ∷ ls) l k c (d ∷ cs) e = leads_more ls l (step m k d) c cs (omega arith)
 
-pub nil_of_len : {X : Type 0} (xs : List X) → length xs ≡ 0 → xs ≡ []
-nil_of_len [] e = refl
-nil_of_len (x ∷ xs) e = absurd (omega (arith, e))
-
 -- ---- rows
 
 pub rows_len : (rss : List (List Row)) (cs : List ℕ) → AreRows rss cs → length cs ≡ length rss
@@ -119,3 +115,8 @@ size_in labels (l ∷ ls) (suc j) lt = size_in labels ls j (omega (arith, lt))
 pub some_start : (labels : ℕ) (ls : List Layer) → AreLayers labels ls → 0 < size_at labels ls 0
 some_start labels [] fit = fit
 some_start labels (l ∷ ls) fit = fit.0.nodes
+
+pub size_end : (labels : ℕ) (ls : List Layer) (j : ℕ) → j ≡ length ls → size_at labels ls j ≡ labels
+size_end labels [] j e = refl
+size_end labels (l ∷ ls) zero e = absurd (omega (arith, e))
+size_end labels (l ∷ ls) (suc j) e = size_end labels ls j (omega (arith, e))

@@ -18,7 +18,7 @@ none_there ids id none k t at e =
     false≢true (sym none ∙ list_any_at (nat_eq id) ids k t (slice_get_within ids k t at) passes)
 
 module _ (old : List ℕ) (id place : ℕ) where
-  placed_old : (new : List ℕ) → new ≡ old → slice_get new place ≡ Some id → IsPlaced old new id place
+  pub placed_old : (new : List ℕ) → new ≡ old → slice_get new place ≡ Some id → IsPlaced old new id place
   placed_old new e at = record {
     at = at;
     stays = λ i x h. ap (λ l. slice_get l i) e ∙ h;
@@ -28,10 +28,10 @@ module _ (old : List ℕ) (id place : ℕ) where
   }
 
   module _ (new : List ℕ) (e : new ≡ old ++ id ∷ []) (at : slice_get new place ≡ Some id)
-      (none : list_any (nat_eq id) old ≡ false) where
+      (none : (k t : ℕ) → slice_get old k ≡ Some t → id ≢ t) where
     at_end : place ≡ length old
     at_end = elim (slice_get-push old id id place (ap (λ l. slice_get l place) (sym e) ∙ at)) [
-      | inl before ↦ absurd (none_there old id none place id before refl)
+      | inl before ↦ absurd (none place id before refl)
       | inr here ↦ here.0
     ]
 
@@ -41,7 +41,7 @@ module _ (old : List ℕ) (id place : ℕ) where
       | inr here ↦ inr (here.0 ∙ sym at_end, sym here.1)
     ]
 
-    placed_new : IsPlaced old new id place
+    pub placed_new : IsPlaced old new id place
     placed_new = record {
       at = at;
       stays = λ i x h. ap (λ l. slice_get l i) e ∙ get_front old (id ∷ []) i x h;
@@ -49,10 +49,10 @@ module _ (old : List ℕ) (id place : ℕ) where
       none_twice = λ twice a b t at_a at_b. elim (new_cases a t at_a) [
         | inl a_old ↦ elim (new_cases b t at_b) [
           | inl b_old ↦ twice a b t a_old b_old
-          | inr b_new ↦ absurd (none_there old id none a t a_old (sym b_new.1))
+          | inr b_new ↦ absurd (none a t a_old (sym b_new.1))
         ]
         | inr a_new ↦ elim (new_cases b t at_b) [
-          | inl b_old ↦ absurd (none_there old id none b t b_old (sym a_new.1))
+          | inl b_old ↦ absurd (none b t b_old (sym a_new.1))
           | inr b_new ↦ a_new.0 ∙ sym b_new.0
         ]
       ];
@@ -68,4 +68,5 @@ placed old new id place keys (k, at, same) = by_case (list_any (nat_eq id) old) 
 
     by_case : (b : Bool) → list_any (nat_eq id) old ≡ b → IsPlaced old new id place
     by_case true any = placed_old old id place new (keys ∙ ap (λ b. cond b old (old ++ id ∷ [])) any) at_id
-    by_case false none = placed_new old id place new (keys ∙ ap (λ b. cond b old (old ++ id ∷ [])) none) at_id none
+    by_case false none =
+        placed_new old id place new (keys ∙ ap (λ b. cond b old (old ++ id ∷ [])) none) at_id (none_there old id none)

@@ -1,14 +1,13 @@
 //! One layer of a product: from the pairs of its nodes to those of the next.
 ghost use Rattle.std.specs.Prelude.{◌≡◌, ◌+◌, ◌*◌, ◌<◌, ◌≤◌, length, slice_index, IfOk, OnOk};
-ghost use Rattle.decision_graphs.specs.Label.{layer_at};
+ghost use Rattle.decision_graphs.specs.Label.{LayerFits, layer_at};
 ghost use Rattle.graph_products.specs.Products.{first_of, second_of, IsPair, RowsFit};
-ghost use Rattle.graph_products.specs.Layering.{IsPlaced, AreLed, AreEdges, AreStates};
+ghost use Rattle.graph_products.specs.Layering.{AreLed, AreEdges, AreStates};
 
+use crate::pairs::{PairSet, first_part, pair, second_part};
 use crate::row::Row;
 use decision_graphs::Graph;
 use ilk_base::Memory;
-use indexmap::IndexSet;
-use number_hash::{NumberHash, NumberSet};
 use std::alloc::Global;
 
 // The edges of a layer, state by state, and the pairs to which they lead.
@@ -16,27 +15,6 @@ use std::alloc::Global;
 pub(crate) struct NextLayer {
     pub(crate) next: Vec<usize>,
     pub(crate) edges: Vec<u32>,
-}
-
-// The number of a pair.
-fn pair(first: u32, second: u32) -> usize
-    ensures { IsPair first second result }
-{
-    first as usize * 4294967296 + second as usize
-}
-
-// The first of a pair.
-fn first_part(state: usize) -> u32
-    ensures { result ≡ first_of state }
-{
-    (state / 4294967296) as u32
-}
-
-// The second of a pair.
-fn second_part(state: usize) -> u32
-    ensures { result ≡ second_of state }
-{
-    (state % 4294967296) as u32
 }
 
 // The pair to which a row leads from a pair of nodes that have these edges.
@@ -48,26 +26,24 @@ fn target(ours: &[u32], theirs: &[u32], row: Row) -> usize
     pair(ours[row.first as usize], theirs[row.second as usize])
 }
 
-// The numbers in order.
-fn listed(alloc: Global, ids: &NumberSet<usize>) -> Result<Vec<usize>, Memory>
-    ensures { IfOk result (λ v. v.items ≡ ids.now.keys) }
+// How many nodes the next layer has, or behind the last one how many labels there are.
+fn nodes_behind(graph: &Graph, layer: u16) -> u32
+    requires { layer < length graph.now.layers }
+    ensures { LayerFits result (layer_at graph.now.layers layer) }
 {
-    let list = ids.iter().copied().collect(alloc)?;
-    Ok(list)
-}
-
-// The place of the number in the list, at the end where it is new.
-fn place(ids: &mut NumberSet<usize>, id: usize) -> Result<usize, Memory>
-    ensures { IfOk result (IsPlaced ids.old.keys ids.new.keys id) }
-{
-    let (place, _) = ids.insert_full(id)?;
-    Ok(place)
+    let labels = graph.labels();
+    let layers = graph.layers();
+    if layer + 1 == layers {
+        return labels;
+    }
+    let (_, nodes) = graph.nodes(layer + 1);
+    nodes
 }
 
 // Adds the edges of a pair of nodes, one for each row; the pairs to which the rows lead are put at the end of the next
 // layer where it has not got them.
 fn add_edges(
-    next: &mut NumberSet<usize>,
+    next: &mut PairSet,
     edges: &mut Vec<u32>,
     first: &Graph,
     second: &Graph,
@@ -80,16 +56,20 @@ fn add_edges(
     requires rows { RowsFit (layer_at first.now.layers layer) (layer_at second.now.layers layer) rows.now }
     requires first_node { first_of state < length (layer_at first.now.layers layer).rows }
     requires second_node { second_of state < length (layer_at second.now.layers layer).rows }
+    requires first_edges { LayerFits next.old.height (layer_at first.now.layers layer) }
+    requires second_edges { LayerFits next.old.width (layer_at second.now.layers layer) }
     requires few { length next.old.keys + length rows.now ≤ 4294967295 }
-    ensures { OnOk result (AreLed (layer_at first.now.layers layer) (layer_at second.now.layers layer) state rows.now
-        (length rows.now) next.old.keys edges.old.items next.new.keys edges.new.items) }
+    ensures height { next.new.height ≡ next.old.height }
+    ensures width { next.new.width ≡ next.old.width }
+    ensures led { OnOk result (AreLed (layer_at first.now.layers layer) (layer_at second.now.layers layer) state
+        rows.now (length rows.now) next.old.keys edges.old.items next.new.keys edges.new.items) }
 {
     let ours = first.row(layer, first_part(state));
     let theirs = second.row(layer, second_part(state));
     for c in 0..rows.len() {
         let row = rows[c];
         let id = target(ours, theirs, row);
-        let to = place(next, id)?;
+        let to = next.place(id)?;
         edges.push(to as u32)?;
     }
     Ok(())
@@ -114,12 +94,14 @@ pub(crate) fn next_layer(
     ensures edges { IfOk result (λ s. AreEdges (layer_at first.now.layers layer) (layer_at second.now.layers layer)
         states.now rows.now s.next.items s.edges.items (length states.now * length rows.now)) }
 {
-    let mut next = IndexSet::with_capacity_and_hasher(alloc, states.len(), NumberHash::new())?;
+    let height = nodes_behind(first, layer);
+    let width = nodes_behind(second, layer);
+    let mut next = PairSet::new(alloc, height, width, states.len(), rows.len())?;
     let mut edges = Vec::with_capacity(alloc, states.len() * rows.len())?;
     'states: for k in 0..states.len() {
         let state = states[k];
         add_edges(&mut next, &mut edges, first, second, layer, rows, state)?;
     }
-    let next = listed(alloc, &next)?;
+    let next = next.into_list(alloc)?;
     Ok(NextLayer { next, edges })
 }

@@ -4,6 +4,7 @@
 
 mod law;
 mod layer;
+mod pairs;
 mod product;
 mod row;
 

@@ -2,9 +2,9 @@ use Rattle.std.proofs.Common.{◌≡◌, ◌≤◌, ◌+◌, ◌*◌, suc, lengt
 use Rattle.std.proofs.Common.{arith, ap, ◌∙◌, subst, sym}
 use Rattle.std.proofs.lemmas.Option.{slice_get-get_or}
 use Rattle.std.proofs.Math.Nat.{suc-mul, zero-mul, mul-le-mul_right}
-use Rattle.decision_graphs.specs.Label.{Layer, layer_at}
+use Rattle.decision_graphs.specs.Label.{Layer, LayerFits, layer_at}
 use Rattle.graph_products.specs.Layering.{AreEdges}
-use Rattle.graph_products.proofs.ListLemmas.{nil_of_len}
+use Rattle.graph_products.specs.Seating.{Pairs}
 use Rattle.graph_products.proofs.EdgeLemmas.{edges_none, edges_more}
 use Rattle.graph_products.proofs.layer.next_layer.Goals as goal
 
@@ -12,13 +12,20 @@ pub states-init : goal.states-init
 states-init c =
     let l : Layer = layer_at c.args.first.now.layers c.args.layer in
     let m : Layer = layer_at c.args.second.now.layers c.args.layer in
+    let none = ap (λ (s : Pairs). s.keys) c.in_ok-next.ensures in
     record {
-      few = omega (arith, c.in_ok-next.ensures.len, zero-mul (length c.args.rows.now));
+      first_edges =
+          subst (λ n. LayerFits n l) (sym (ap (λ (s : Pairs). s.height) c.in_ok-next.ensures))
+          c.nodes_behind-height.ensures;
+      second_edges =
+          subst (λ n. LayerFits n m) (sym (ap (λ (s : Pairs). s.width) c.in_ok-next.ensures))
+          c.nodes_behind-width.ensures;
+      few = omega (arith, ap length none, zero-mul (length c.args.rows.now));
       edges =
           subst (λ n. AreEdges l m c.args.states.now c.args.rows.now c.in_ok-next.next.keys c.in_ok-edges.edges.items n)
           (sym (zero-mul (length c.args.rows.now)))
           (edges_none l m c.args.states.now c.args.rows.now c.in_ok-next.next.keys c.in_ok-edges.edges.items
-          (nil_of_len c.in_ok-next.next.keys c.in_ok-next.ensures.len) c.in_ok-edges.ensures.items);
+          none c.in_ok-edges.ensures.items);
     }
 
 pub add_edges-requires-clause-first_node : goal.add_edges-requires-clause-first_node
@@ -48,10 +55,12 @@ states-preserved c =
     let k = c.states.k in
     let i = get_or c.args.states.now k 0 in
     let at_i : slice_get c.args.states.now k ≡ Some i = slice_get-get_or c.args.states.now k 0 c.states-test.true in
-    let led = c.in_ok-add_edges.ensures in
+    let led = c.in_ok-add_edges.ensures.led in
     let next : (k + 1) * w ≡ k * w + w =
     ap (λ n. n * w) (let e : k + 1 ≡ suc k = omega arith in e) ∙ suc-mul k w in
     record {
+      first_edges = subst (λ n. LayerFits n l) (sym c.in_ok-add_edges.ensures.height) c.states.invariant.first_edges;
+      second_edges = subst (λ n. LayerFits n m) (sym c.in_ok-add_edges.ensures.width) c.states.invariant.second_edges;
       few = omega (arith, led.added.grown, led.len, c.states.invariant.few, next);
       edges =
           edges_more l m c.args.states.now rows c.states.next.keys c.add_edges.new.next.keys c.states.edges.items

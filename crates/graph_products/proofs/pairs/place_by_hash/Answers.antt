@@ -1,5 +1,5 @@
 use Rattle.graph_products.proofs.PlaceLemmas.{placed}
-use Rattle.graph_products.proofs.layer.place.Goals as goal
+use Rattle.graph_products.proofs.pairs.place_by_hash.Goals as goal
 
 pub returns : goal.returns
 returns c =
