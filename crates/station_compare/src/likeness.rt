@@ -18,6 +18,13 @@ pub(crate) struct LikeBays {
     pub(crate) new: Vec<u16>,
 }
 
+// Whether two numbers lead to themselves.
+fn both_stay(one: u16, there: u16, other: u16, wanted: u16) -> bool
+    ensures { IsTrue result → (there ≡ one) × (wanted ≡ other) }
+{
+    there == one && wanted == other
+}
+
 impl LikeBays {
     // Whether the switch that stands for this one of the new station is the same as that which stands for its twin.
     fn twin_stands(&self, old: &Station, new: &Station, id: SwitchId, twin: SwitchId) -> bool
@@ -28,10 +35,13 @@ impl LikeBays {
     {
         old.is_station();
         let there = led_to(&self.new, id.0);
+        let wanted = led_to(&self.old, twin.0);
+        if both_stay(id.0, there, twin.0, wanted) {
+            return true;
+        }
         if there >= new.switch_count() {
             return false;
         }
-        let wanted = led_to(&self.old, twin.0);
         match same_switch(new, old, SwitchId(there)) {
             Some(other) => other.0 == wanted,
             None => false,

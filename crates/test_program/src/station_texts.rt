@@ -68,9 +68,9 @@ fn plans(rt: HostRuntime) -> Result<(), Fail> {
     Ok(())
 }
 
-// The line with an earthing switch and an infeed at one node. With the infeed on, closing the earthing switch breaks R1;
-// with the earthing switch closed, closing the infeed breaks R2. From the position in which both are open the move of
-// either turns the closing of the other, so that two more positions, without moves, show the rules.
+// The line with an earthing switch and an infeed at one node. With the infeed on, closing the earthing switch breaks
+// R1; with the earthing switch closed, closing the infeed breaks R2. From the position in which both are open the move
+// of either turns the closing of the other, so that two more positions, without moves, show the rules.
 const TESTS: &str = "bay S/V1/Q1
 always open S/V1/Q1/QC9
 always open S/V1/Q1/E1
@@ -99,8 +99,8 @@ fn tests_of_a_bay(rt: HostRuntime) -> Result<(), Fail> {
     )
 }
 
-// Of three such lines the first two are like each other: exchanged, each switch of the one stands where that of the other
-// stood. The third has its infeed first, so that it is not seen to be like them, and has tests of its own.
+// Of three such lines the first two are like each other: exchanged, each switch of the one stands where that of the
+// other stood. The third has its infeed first, so that it is not seen to be like them, and has tests of its own.
 const ALL_TESTS: &str = "bay S/V1/Q1
 like S/V1/Q2
 always open S/V1/Q1/QC9
@@ -160,9 +160,9 @@ fn tests_of_no_bay(rt: HostRuntime) -> Result<(), Fail> {
     )
 }
 
-// The blocks of the same line. The earthing switch may be closed where the infeed is known to be off, and the infeed set on
-// where the earthing switch is known to be off; opening is always released. All lines are for the releases of this bay, and
-// no other bay is told anything.
+// The blocks of the same line. The earthing switch may be closed where the infeed is known to be off, and the infeed
+// set on where the earthing switch is known to be off; opening is always released. All lines are for the releases of
+// this bay, and no other bay is told anything.
 const BLOCKS: &str = "(* from other bays 0 BOOLs, to other bays 0 *)
 
   (* S/V1/Q1: the releases *)

@@ -4,8 +4,8 @@ use crate::rows::{coupled, expect};
 use interlock_cli::Status;
 use std::test::Fail;
 
-// With the coupler's breaker on, feeder 1 on the first busbar and feeder 2 on the second: opening the disconnector to the
-// first busbar breaks load, and that to the second may be closed.
+// With the coupler's breaker on, feeder 1 on the first busbar and feeder 2 on the second: opening the disconnector to
+// the first busbar breaks load, and that to the second may be closed.
 const COUPLED: &[(&str, &str)] = &[
     (
         "why a.ssd a.csv open S/V1/Q1/QB1",
