@@ -2,6 +2,7 @@
 ghost use Rattle.std.specs.Prelude.{◌≡◌, ◌≤◌, ◌↔◌, ◌++◌, ℕ, length, List, IfOk};
 ghost use Rattle.contraction.specs.Answers.{Answers, IsContraction, SameGap, SameLoad};
 ghost use Rattle.contraction.specs.Rows.{words, flag, flags, row_bytes, bonded_bytes, gap_bytes, load_bytes, gap_row};
+ghost use Rattle.contraction.specs.Renaming.{renamed};
 ghost use Rattle.contraction.specs.Rows.{load_row, whole_row};
 
 use crate::row::Row;
@@ -183,6 +184,25 @@ impl Contraction {
         ensures answers { IsContraction self.now }
     {
         let mut text = self.row_start(alloc, LOAD_BYTES)?;
+        self.push_load(&mut text)?;
+        Ok(text)
+    }
+
+    /// The gap row of what `on_nodes` gives, in less time than that takes. So who has made such a value before finds it
+    /// by its row, and makes it not again. Time and memory: the nodes.
+    pub fn gap_row_on(&self, alloc: Global, nodes: &[u16]) -> Result<Text, Memory>
+        ensures { IfOk result (λ t. t ≡ gap_row (renamed nodes.now self.now)) }
+    {
+        let mut text = bytes_from(alloc, nodes, GAP_BYTES)?;
+        self.push_gap(&mut text)?;
+        Ok(text)
+    }
+
+    /// The load row of what `on_nodes` gives, in less time than that takes.
+    pub fn load_row_on(&self, alloc: Global, nodes: &[u16]) -> Result<Text, Memory>
+        ensures { IfOk result (λ t. t ≡ load_row (renamed nodes.now self.now)) }
+    {
+        let mut text = bytes_from(alloc, nodes, LOAD_BYTES)?;
         self.push_load(&mut text)?;
         Ok(text)
     }

@@ -135,10 +135,10 @@ fn add_edges(edges: &mut Vec<u32>, ends: &[usize], places: &[usize]) -> Result<(
 }
 
 // Adds the edges of a state, which each letter leads to one of these values. They are put at the end of the next layer
-// where it has not got them.
+// where it has not got them. Their places there are held in a list that serves each state.
 fn add_state(
-    alloc: Global,
     next: &mut NumberSet<usize>,
+    ends: &mut Vec<usize>,
     edges: &mut Vec<u32>,
     ids: &[usize],
     places: &[usize],
@@ -148,9 +148,8 @@ fn add_state(
     ensures { OnOk result
         (AreAdded next.old.keys edges.old.items (at_places ids.now places.now) next.new.keys edges.new.items) }
 {
-    let mut to = Vec::with_capacity(alloc, ids.len())?;
-    add_places(next, &mut to, ids)?;
-    let ends = to.as_slice();
+    ends.clear();
+    add_places(next, ends, ids)?;
     add_edges(edges, ends, places)?;
     Ok(())
 }
@@ -184,6 +183,7 @@ pub(crate) fn next_layer(
 {
     let mut next = IndexSet::with_hasher(alloc, NumberHash::new());
     let mut edges = Vec::new(alloc);
+    let mut ends = Vec::new(alloc);
     let by = each_once(alloc, letters)?;
     let once = by.letters.as_slice();
     let places = by.places.as_slice();
@@ -194,7 +194,13 @@ pub(crate) fn next_layer(
         }
         let start = pool.batch(alloc, states[k], once, number, keep)?;
         let end = start + once.len();
-        add_state(alloc, &mut next, &mut edges, &pool.made[start..end], places)?;
+        add_state(
+            &mut next,
+            &mut ends,
+            &mut edges,
+            &pool.made[start..end],
+            places,
+        )?;
     }
     let next = listed(alloc, &next)?;
     Ok(Step { next, edges })

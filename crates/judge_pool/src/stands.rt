@@ -5,7 +5,8 @@ ghost use Rattle.judge_pool.specs.Pooling.{IsPool, GrewTo};
 ghost use Rattle.judge_pool.specs.Standing.{IsOn, AreOn, CanStand, StandsAreRight};
 
 use crate::batch::Stand;
-use crate::pool::Pool;
+use crate::pool::{Pool, find_row};
+use crate::view::row_on;
 use ilk_base::Memory;
 use number_hash::NumberMap;
 use std::alloc::Global;
@@ -30,16 +31,34 @@ fn note_stand(notes: &mut NumberMap<Stand, usize>, stand: Stand, id: usize) -> R
 }
 
 impl Pool {
-    // The value on these nodes, made and noted.
-    fn new_stand(&mut self, alloc: Global, stand: Stand) -> Result<usize, Memory>
+    // The value on these nodes. Where the pool has it, its row tells it, and it is not made.
+    fn find_or_place(&mut self, alloc: Global, stand: Stand) -> Result<usize, Memory>
         requires pool { IsPool self.old }
         requires can { CanStand self.old stand.keep stand.id }
         ensures grew { OnOk result (GrewTo self.old self.new) }
         ensures on { IfOk result (IsOn self.new stand.keep stand.id) }
     {
         let nodes = self.keeps[stand.keep].numbers();
-        let value = self.values[stand.id].on_nodes(alloc, nodes)?;
-        let id = self.intern(alloc, value)?;
+        let value = &self.values[stand.id];
+        let row = row_on(alloc, self.view, value, nodes)?;
+        match find_row(&self.index, &row) {
+            Some(place) => Ok(place),
+            None => {
+                let placed = value.on_nodes(alloc, nodes)?;
+                let place = self.put(row, placed)?;
+                Ok(place)
+            }
+        }
+    }
+
+    // The value on these nodes, found or made, and noted.
+    fn new_stand(&mut self, alloc: Global, stand: Stand) -> Result<usize, Memory>
+        requires pool { IsPool self.old }
+        requires can { CanStand self.old stand.keep stand.id }
+        ensures grew { OnOk result (GrewTo self.old self.new) }
+        ensures on { IfOk result (IsOn self.new stand.keep stand.id) }
+    {
+        let id = self.find_or_place(alloc, stand)?;
         note_stand(&mut self.stands, stand, id)?;
         Ok(id)
     }

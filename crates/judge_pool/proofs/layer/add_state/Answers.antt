@@ -6,19 +6,20 @@ use Rattle.judge_pool.proofs.layer.add_state.Goals as goal
 pub add_edges-requires-clause-within : goal.add_edges-requires-clause-within
 add_edges-requires-clause-within c m k at =
     let ids = c.args.ids.now in
-    let added = subst (λ l. AreAdded c.args.next.now.keys l ids c.add_places.new.list.keys c.add_places.new.places.items)
-    c.in_ok-to.ensures.items c.in_ok-add_places.ensures in
+    let added = subst
+    (λ l. AreAdded c.args.next.now.keys l ids c.add_places.new.list.keys c.add_places.new.places.items)
+    c.clear.ensures.items c.in_ok-add_places.ensures in
     let lt : k < length ids = c.requires.places.within m k at in
-    omega (arith, lt, added.len, ap length added.behind, ap length c.as_slice-ends.ensures.value)
+    omega (arith, lt, added.len, ap length added.behind, ap length c.deref.ensures.value)
 
 pub add_edges-requires-clause-short : goal.add_edges-requires-clause-short
 add_edges-requires-clause-short c k t at =
     let ids = c.args.ids.now in
     let next = c.add_places.new.list.keys in
     let added = subst (λ l. AreAdded c.args.next.now.keys l ids next c.add_places.new.places.items)
-    c.in_ok-to.ensures.items c.in_ok-add_places.ensures in
+    c.clear.ensures.items c.in_ok-add_places.ensures in
     let here : slice_get c.add_places.new.places.items k ≡ Some t =
-    ap (λ l. slice_get l k) (sym c.as_slice-ends.ensures.value) ∙ at in
+    ap (λ l. slice_get l k) (sym c.deref.ensures.value) ∙ at in
     let lt : t < length next = ends_within c.args.next.now.keys ids next c.add_places.new.places.items added k t here in
     omega (arith, lt, added.grown, c.requires.few)
 
@@ -27,9 +28,9 @@ returns c =
     let ids = c.args.ids.now in
     let next = c.add_places.new.list.keys in
     let ends = c.add_places.new.places.items in
-    let added = subst (λ l. AreAdded c.args.next.now.keys l ids next ends) c.in_ok-to.ensures.items
+    let added = subst (λ l. AreAdded c.args.next.now.keys l ids next ends) c.clear.ensures.items
     c.in_ok-add_places.ensures in
     added_spread c.args.next.now.keys c.args.edges.now.items ids c.args.places.now next ends
     c.add_edges.new.edges.items c.requires.places added
     (subst (λ l. c.add_edges.new.edges.items ≡ c.args.edges.now.items ++ at_places l c.args.places.now)
-    c.as_slice-ends.ensures.value c.in_ok-add_edges.ensures)
+    c.deref.ensures.value c.in_ok-add_edges.ensures)
