@@ -8,13 +8,15 @@ use Rattle.std.proofs.lemmas.Option.{slice_get_within, slice_get-get_or, same_So
 use Rattle.decision_graphs.specs.Label.{Layer, Layered, no_layer, layer_at, leads, step, label_of, AreLayers, size_at}
 use Rattle.decision_graphs.specs.Finished.{layer_with}
 use Rattle.decision_graphs.proofs.RowLemmas.{element-rows_of, row_end}
+use Rattle.graph_products.specs.declared.pair.Pair.{Pair}
 use Rattle.graph_products.specs.declared.row.Row.{Row}
-use Rattle.graph_products.specs.Products.{row_at, rows_at, AreRows, firsts, seconds, StepsFit, first_of, second_of, IsPair}
+use Rattle.graph_products.specs.Products.{row_at, rows_at, AreRows, firsts, seconds, StepsFit, pair_of, no_pair}
 use Rattle.graph_products.specs.Products.{LeadsJointly, StandsThere, IsHit, IsProductOf, front_of, AreSoManyPairs, IsFront, MeetAt}
 use Rattle.std.proofs.Math.Nat.{mul-le-mul_left}
 use Rattle.graph_products.specs.Layering.{NoneTwice, AreEdges, AreStates}
 use Rattle.graph_products.proofs.ListLemmas.{leads_more, rows_len, olds_len, news_len, firsts_more, seconds_more, rows_more}
 use Rattle.graph_products.proofs.ListLemmas.{rows_split, layer_fits, size_in, some_start}
+use Rattle.graph_products.proofs.PlaceLemmas.{pair_same}
 
 -- the list of rows leads to place t
 pub record IsWay (rss : List (List Row)) (ps : List Layer) (t : ℕ) : Type 0 where
@@ -26,7 +28,7 @@ pub record IsWay (rss : List (List Row)) (ps : List Layer) (t : ℕ) : Type 0 wh
 abbrev graph_of : List Layer → Layered
 graph_of ps = record { labels = 0; layers = ps }
 
-pub record IsPrefix (g h : Layered) (rss : List (List Row)) (j : ℕ) (ps : List Layer) (states : List ℕ) : Type 0 where
+pub record IsPrefix (g h : Layered) (rss : List (List Row)) (j : ℕ) (ps : List Layer) (states : List Pair) : Type 0 where
   pub count : length ps ≡ j
   pub choices : map (λ (l : Layer). l.choices) ps ≡ map length (take j rss)
   pub pair : (cs : List ℕ) → AreRows (take j rss) cs →
@@ -37,36 +39,27 @@ pub record IsPrefix (g h : Layered) (rss : List (List Row)) (j : ℕ) (ps : List
   pub some : 0 < length states
   pub meet : (i : ℕ) → i ≤ j → MeetAt g h rss (graph_of ps) i
 
--- numbers of one pair are one
-pub same_number : (a b x y : ℕ) → IsPair a b x → IsPair a b y → x ≡ y
-same_number a b x y p q =
-    let first : first_of x ≡ first_of y = p.first ∙ sym q.first in
-    let second : second_of x ≡ second_of y = p.second ∙ sym q.second in
-    sym (div-add-mod' x 4294967296)
-    ∙ (ap (λ n. n * 4294967296 + second_of x) first ∙ (ap (λ n. first_of y * 4294967296 + n) second
-    ∙ div-add-mod' y 4294967296))
-
 -- ---- the start
 
-only_zero : (t x : ℕ) → slice_get (0 ∷ []) t ≡ Some x → (t ≡ 0) × (x ≡ 0)
-only_zero zero x e = (refl, same_Some x 0 (sym e))
-only_zero (suc t) x e = cc
+only_first : (t : ℕ) (x : Pair) → slice_get (no_pair ∷ []) t ≡ Some x → (t ≡ 0) × (x ≡ no_pair)
+only_first zero x e = (refl, same_Some x no_pair (sym e))
+only_first (suc t) x e = cc
 
-only_start : (t : ℕ) → t < length {A = ℕ} (0 ∷ []) → 0 ≡ t
+only_start : (t : ℕ) → t < length (no_pair ∷ []) → 0 ≡ t
 only_start t lt = omega (arith, lt)
 
 pub prefix_start : (g h : Layered) (rss : List (List Row)) → AreLayers g.labels g.layers →
-    AreLayers h.labels h.layers → IsPrefix g h rss 0 [] (0 ∷ [])
+    AreLayers h.labels h.layers → IsPrefix g h rss 0 [] (no_pair ∷ [])
 prefix_start g h rss fit_g fit_h = record {
   count = refl;
   choices = refl;
   pair = start_pair;
-  apart = λ a b id at_a at_b. (only_zero a id at_a).0 ∙ sym (only_zero b id at_b).0;
+  apart = λ a b x at_a at_b. (only_first a x at_a).0 ∙ sym (only_first b x at_b).0;
   hit = λ t lt. record { rows = []; are = tt; led = only_start t lt };
   within = λ t x at. (
-    subst (λ n. first_of n < size_at g.labels g.layers 0) (sym (only_zero t x at).1)
+    subst (λ (y : Pair). y.first < size_at g.labels g.layers 0) (sym (only_first t x at).1)
         (some_start g.labels g.layers fit_g),
-    subst (λ n. second_of n < size_at h.labels h.layers 0) (sym (only_zero t x at).1)
+    subst (λ (y : Pair). y.second < size_at h.labels h.layers 0) (sym (only_first t x at).1)
         (some_start h.labels h.layers fit_h),
   );
   some = omega arith;
@@ -78,15 +71,15 @@ prefix_start g h rss fit_g fit_h = record {
     start_meet (suc i) le cs ds a b one other = absurd (omega (arith, le))
 
     start_pair : (cs : List ℕ) → AreRows (take 0 rss) cs →
-        StandsThere (0 ∷ []) (leads [] 0 cs) (front_of g 0 (firsts (take 0 rss) cs)) (front_of h 0
+        StandsThere (no_pair ∷ []) (leads [] 0 cs) (front_of g 0 (firsts (take 0 rss) cs)) (front_of h 0
         (seconds (take 0 rss) cs))
-    start_pair [] a = record { number = 0; at = refl; is = record { first = refl; second = refl } }
+    start_pair [] a = refl
     start_pair (c ∷ cs) a = absurd a
 
 -- ---- one layer more
 
-module _ (g h : Layered) (rss : List (List Row)) (j : ℕ) (ps : List Layer) (states next edges : List ℕ)
-    (fit_g : AreLayers g.labels g.layers) (fit_h : AreLayers h.labels h.layers) (steps : StepsFit g h rss)
+module _ (g h : Layered) (rss : List (List Row)) (j : ℕ) (ps : List Layer) (states next : List Pair)
+    (edges : List ℕ) (fit_g : AreLayers g.labels g.layers) (fit_h : AreLayers h.labels h.layers) (steps : StepsFit g h rss)
     (lt : j < length rss) (pre : IsPrefix g h rss j ps states)
     (made : AreEdges (layer_at g.layers j) (layer_at h.layers j) states (rows_at rss j) next edges
     (length states * length (rows_at rss j))) where
@@ -130,8 +123,8 @@ module _ (g h : Layered) (rss : List (List Row)) (j : ℕ) (ps : List Layer) (st
   step_is : (t c : ℕ) → t < length states → c < w → step p t c ≡ get_or edges (t * w + c) 0
   step_is t c t_in c_in = element-rows_of w (length states) edges t c 0 t_in c_in
 
-  next_pair : (t x c : ℕ) → slice_get states t ≡ Some x → c < w →
-      (y : ℕ) × (slice_get next (step p t c) ≡ Some y)
+  next_pair : (t : ℕ) (x : Pair) (c : ℕ) → slice_get states t ≡ Some x → c < w →
+      (y : Pair) × (slice_get next (step p t c) ≡ Some y)
       × LeadsJointly (layer_at g.layers j) (layer_at h.layers j) x (row_at rs c) y
   next_pair t x c at c_in =
       let t_in = slice_get_within states t x at in
@@ -170,18 +163,10 @@ module _ (g h : Layered) (rss : List (List Row)) (j : ℕ) (ps : List Layer) (st
       StandsThere next (leads (ps ++ p ∷ []) 0 (cs ++ c ∷ [])) (front_of g (suc j)
       (firsts (take (suc j) rss) (cs ++ c ∷ []))) (front_of h (suc j) (seconds (take (suc j) rss) (cs ++ c ∷ [])))
   pair_one cs c a c_in =
-      let s = pre.pair cs a in
-      let n = next_pair (leads ps 0 cs) s.number c s.at c_in in
-      record {
-        number = n.0;
-        at = ap (slice_get next) (led_more cs c a) ∙ n.1;
-        is = record {
-          first = n.2.first ∙ (ap (λ k. step (layer_at g.layers j) k (row_at rs c).first) s.is.first
-              ∙ sym (old_more cs c a));
-          second = n.2.second ∙ (ap (λ k. step (layer_at h.layers j) k (row_at rs c).second) s.is.second
-              ∙ sym (new_more cs c a));
-        };
-      }
+      let x = pair_of (front_of g j (firsts (take j rss) cs)) (front_of h j (seconds (take j rss) cs)) in
+      let n = next_pair (leads ps 0 cs) x c (pre.pair cs a) c_in in
+      ap (slice_get next) (led_more cs c a)
+      ∙ (n.1 ∙ ap Some (n.2 ∙ pair_same _ _ _ _ (sym (old_more cs c a)) (sym (new_more cs c a))))
 
   pair_more : (cs : List ℕ) → AreRows (take (suc j) rss) cs →
       StandsThere next (leads (ps ++ p ∷ []) 0 cs) (front_of g (suc j) (firsts (take (suc j) rss) cs))
@@ -206,8 +191,8 @@ module _ (g h : Layered) (rss : List (List Row)) (j : ℕ) (ps : List Layer) (st
 
   hit_more : (t : ℕ) → t < length next → IsWay (take (suc j) rss) (ps ++ p ∷ []) t
   hit_more t t_in =
-      let y = get_or next t 0 in
-      let m = made.hit t y (slice_get-get_or next t 0 t_in) in
+      let y = get_or next t no_pair in
+      let m = made.hit t y (slice_get-get_or next t no_pair t_in) in
       let k = m.0 / w in
       let c = m.0 % w in
       let c_in : c < w = row_in m.0 in
@@ -225,40 +210,35 @@ module _ (g h : Layered) (rss : List (List Row)) (j : ℕ) (ps : List Layer) (st
   states_more t y at =
       let m = made.hit t y at in
       let k = m.0 / w in
-      let x = get_or states k 0 in
+      let x = get_or states k no_pair in
       let c = m.0 % w in
       let k_in : k < length states = state_in m.0 m.1 in
-      let at_x : slice_get states k ≡ Some x = slice_get-get_or states k 0 k_in in
+      let at_x : slice_get states k ≡ Some x = slice_get-get_or states k no_pair k_in in
       let n = made.made m.0 x m.1 at_x in
-      let same : n.0 ≡ y = same_Some n.0 y (sym n.1 ∙ (ap (slice_get next) m.2 ∙ at)) in
+      let is = sym n.2 ∙ same_Some n.0 y (sym n.1 ∙ (ap (slice_get next) m.2 ∙ at)) in
       let c_in : c < w = row_in m.0 in
       let from = pre.within k x at_x in
       let fits = steps.rows j lt in
-      let old_in : first_of x < length (layer_at g.layers j).rows = omega (arith, from.0, size_in g.labels g.layers j in_g) in
-      let new_in : second_of x < length (layer_at h.layers j).rows = omega (arith, from.1, size_in h.labels h.layers j in_h) in (
-        subst (λ n. n < size_at g.labels g.layers (suc j)) (sym n.2.first ∙ ap (λ v. first_of v) same)
-            ((layer_fits g.labels g.layers j fit_g in_g).edges (first_of x) (row_at rs c).first old_in (fits.first c c_in)),
-        subst (λ n. n < size_at h.labels h.layers (suc j)) (sym n.2.second ∙ ap (λ v. second_of v) same)
-            ((layer_fits h.labels h.layers j fit_h in_h).edges (second_of x) (row_at rs c).second new_in (fits.second c c_in)),
+      let old_in : x.first < length (layer_at g.layers j).rows = omega (arith, from.0, size_in g.labels g.layers j in_g) in
+      let new_in : x.second < length (layer_at h.layers j).rows = omega (arith, from.1, size_in h.labels h.layers j in_h) in (
+        subst (λ n. n < size_at g.labels g.layers (suc j)) (ap (λ (v : Pair). v.first) is)
+            ((layer_fits g.labels g.layers j fit_g in_g).edges x.first (row_at rs c).first old_in (fits.first c c_in)),
+        subst (λ n. n < size_at h.labels h.layers (suc j)) (ap (λ (v : Pair). v.second) is)
+            ((layer_fits h.labels h.layers j fit_h in_h).edges x.second (row_at rs c).second new_in (fits.second c c_in)),
       )
 
   some_next : 0 < length next
   some_next =
-      let x = get_or states 0 0 in
-      let n = next_pair 0 x 0 (slice_get-get_or states 0 0 pre.some) some_row in
+      let x = get_or states 0 no_pair in
+      let n = next_pair 0 x 0 (slice_get-get_or states 0 no_pair pre.some) some_row in
       omega (arith, slice_get_within next (step p 0 0) n.0 n.1)
 
   -- lists that come to one pair come to one place of the next layer
   meet_next : MeetAt g h rss (graph_of (ps ++ p ∷ [])) (suc j)
   meet_next cs ds a b one other =
-      let s = pair_more cs a in
-      let t = pair_more ds b in
-      let same : s.number ≡ t.number =
-      same_number (front_of g (suc j) (firsts (take (suc j) rss) ds)) (front_of h (suc j)
-      (seconds (take (suc j) rss) ds)) s.number t.number
-      (record { first = s.is.first ∙ one; second = s.is.second ∙ other }) t.is in
       let led : leads (ps ++ p ∷ []) 0 cs ≡ leads (ps ++ p ∷ []) 0 ds =
-      made.none_twice (leads (ps ++ p ∷ []) 0 cs) (leads (ps ++ p ∷ []) 0 ds) t.number (s.at ∙ ap Some same) t.at in
+      made.none_twice (leads (ps ++ p ∷ []) 0 cs) (leads (ps ++ p ∷ []) 0 ds) _
+      (pair_more cs a ∙ ap Some (pair_same _ _ _ _ one other)) (pair_more ds b) in
       let all : take (suc j) (ps ++ p ∷ []) ≡ ps ++ p ∷ [] =
       take_all (suc j) (ps ++ p ∷ []) (omega (arith, length_push ps p, pre.count)) in
       ap (λ ls. leads ls 0 cs) all ∙ (led ∙ ap (λ ls. leads ls 0 ds) (sym all))
@@ -297,18 +277,18 @@ pub at_least : (n w : ℕ) → 0 < w → n ≤ n * w
 at_least n w some = omega (arith, mul-le-mul_left n (let h : 1 ≤ w = omega (arith, some) in h))
 
 -- each edge leads to a place of the next layer
-pub edges_lead : (l m : Layer) (states : List ℕ) (rows : List Row) (next edges : List ℕ) →
+pub edges_lead : (l m : Layer) (states : List Pair) (rows : List Row) (next : List Pair) (edges : List ℕ) →
     AreEdges l m states rows next edges (length states * length rows) → 0 < length rows → (t : ℕ) →
     t < length states * length rows → get_or edges t 0 < length next
 edges_lead l m states rows next edges e some t lt =
     let k = t / length rows in
     let k_in : k < length states = div_below t (length rows) (length states) some lt in
-    let n = e.made t (get_or states k 0) lt (slice_get-get_or states k 0 k_in) in
+    let n = e.made t (get_or states k no_pair) lt (slice_get-get_or states k no_pair k_in) in
     slice_get_within next (get_or edges t 0) n.0 n.1
 
 -- ---- the end
 
-module _ (g h : Layered) (rss : List (List Row)) (ps : List Layer) (states : List ℕ) (steps : StepsFit g h rss)
+module _ (g h : Layered) (rss : List (List Row)) (ps : List Layer) (states : List Pair) (steps : StepsFit g h rss)
     (pre : IsPrefix g h rss (length rss) ps states) where
   all_rows : take (length rss) rss ≡ rss
   all_rows = take_all (length rss) rss (omega arith)
@@ -334,12 +314,7 @@ module _ (g h : Layered) (rss : List (List Row)) (ps : List Layer) (states : Lis
   pair_all : (cs : List ℕ) → AreRows rss cs →
       StandsThere states (label_of whole cs) (label_of g (firsts rss cs)) (label_of h (seconds rss cs))
   pair_all cs a =
-      let s = pre.pair cs (subst (λ xs. AreRows xs cs) (sym all_rows) a) in
-      record {
-        number = s.number;
-        at = s.at;
-        is = record { first = s.is.first ∙ front_g cs; second = s.is.second ∙ front_h cs };
-      }
+      pre.pair cs (subst (λ xs. AreRows xs cs) (sym all_rows) a) ∙ ap Some (pair_same _ _ _ _ (front_g cs) (front_h cs))
 
   hit_all : (t : ℕ) → t < length states → IsHit whole rss t
   hit_all t lt =
@@ -351,27 +326,22 @@ module _ (g h : Layered) (rss : List (List Row)) (ps : List Layer) (states : Lis
     choices = pre.choices ∙ ap (map length) all_rows;
     count = refl;
     pair = pair_all;
-    apart = λ s t a b x y.
-        pre.apart s t x.number x.at (y.at ∙ ap Some (same_number a b y.number x.number y.is x.is));
+    apart = λ s t a b. pre.apart s t (pair_of a b);
     hit = hit_all;
     meet = pre.meet;
   }
 
 -- ---- how many pairs are reached
 
-module _ (g h : Layered) (rss : List (List Row)) (j : ℕ) (ps : List Layer) (states : List ℕ)
+module _ (g h : Layered) (rss : List (List Row)) (j : ℕ) (ps : List Layer) (states : List Pair)
     (pre : IsPrefix g h rss j ps states) where
-  front_at : (t x : ℕ) → slice_get states t ≡ Some x → IsFront g h rss j x
+  front_at : (t : ℕ) (x : Pair) → slice_get states t ≡ Some x → IsFront g h rss j x
   front_at t x at =
       let w = pre.hit t (slice_get_within states t x at) in
-      let s = pre.pair w.rows w.are in
-      let same : s.number ≡ x =
-      same_Some s.number x (sym s.at ∙ (ap (slice_get states) w.led ∙ at)) in
       record {
         rows = w.rows;
         are_rows = w.are;
-        is = subst (λ n. IsPair (front_of g j (firsts (take j rss) w.rows)) (front_of h j (seconds (take j rss) w.rows)) n)
-            same s.is;
+        is = same_Some x _ (sym at ∙ (ap (slice_get states) (sym w.led) ∙ pre.pair w.rows w.are));
       }
 
   pub so_many : AreSoManyPairs g h rss j (length states)

@@ -1,13 +1,15 @@
 -- Pairs that are reached, and labels of the product.
 use Rattle.std.proofs.Common.{◌≡◌, ℕ, ◌<◌, zero, suc, Bool, List, [], ◌∷◌, length, map, refl, sym, ap, ◌∙◌, subst}
-use Rattle.std.proofs.Common.{arith}
+use Rattle.std.proofs.Common.{Some, arith}
 use Rattle.std.proofs.lemmas.Bool.{false≢true}
 use Rattle.std.proofs.lemmas.Option.{same_Some}
 use Rattle.decision_graphs.specs.Label.{Layered, label_of, AreAllowed}
 use Rattle.decision_graphs.specs.Reaching.{AreSetsOf, IsSet}
+use Rattle.graph_products.specs.declared.pair.Pair.{Pair}
 use Rattle.graph_products.specs.declared.row.Row.{Row}
-use Rattle.graph_products.specs.Products.{AreRows, firsts, seconds, first_of, second_of, StandsThere, IsProductOf, PairReaches}
+use Rattle.graph_products.specs.Products.{AreRows, firsts, seconds, StandsThere, IsProductOf, PairReaches}
 use Rattle.graph_products.specs.Products.{PairIsReached}
+use Rattle.graph_products.proofs.PlaceLemmas.{pair_same}
 
 -- what is set is within the list
 set_within : (s : List Bool) (c : ℕ) → IsSet s c → c < length s
@@ -36,7 +38,7 @@ allowed_rows (s ∷ ss) (rs ∷ rss) (c ∷ cs) e a = (
   allowed_rows ss rss cs (sets_tail s ss rs rss e) a.1,
 )
 
-module _ (g h p : Layered) (rss : List (List Row)) (pairs : List ℕ) (sets : List (List Bool))
+module _ (g h p : Layered) (rss : List (List Row)) (pairs : List Pair) (sets : List (List Bool))
     (product : IsProductOf g h rss p pairs) (fits : AreSetsOf p.layers sets) where
   rows_of_allowed : (cs : List ℕ) → AreAllowed sets cs → AreRows rss cs
   rows_of_allowed cs a = allowed_rows sets rss cs (fits ∙ product.choices) a
@@ -46,11 +48,7 @@ module _ (g h p : Layered) (rss : List (List Row)) (pairs : List ℕ) (sets : Li
       let s = product.pair r.rows (rows_of_allowed r.rows r.allows) in
       record {
         label = label_of p r.rows;
-        stands = record {
-          number = s.number;
-          at = s.at;
-          is = record { first = s.is.first ∙ r.first; second = s.is.second ∙ r.second };
-        };
+        stands = s ∙ ap Some (pair_same _ _ _ _ r.first r.second);
         reached = (r.rows, (r.allows, refl));
       }
 
@@ -60,11 +58,10 @@ module _ (g h p : Layered) (rss : List (List Row)) (pairs : List ℕ) (sets : Li
       let s = product.pair cs (rows_of_allowed cs r.reached.1.0) in
       let there : StandsThere pairs r.label (label_of g (firsts rss cs)) (label_of h (seconds rss cs)) =
       subst (λ t. StandsThere pairs t (label_of g (firsts rss cs)) (label_of h (seconds rss cs))) r.reached.1.1 s in
-      let same : there.number ≡ r.stands.number =
-      same_Some there.number r.stands.number (sym there.at ∙ r.stands.at) in
+      let same = same_Some _ _ (sym there ∙ r.stands) in
       record {
         rows = cs;
         allows = r.reached.1.0;
-        first = sym there.is.first ∙ (ap (λ x. first_of x) same ∙ r.stands.is.first);
-        second = sym there.is.second ∙ (ap (λ x. second_of x) same ∙ r.stands.is.second);
+        first = ap (λ (x : Pair). x.first) same;
+        second = ap (λ (x : Pair). x.second) same;
       }

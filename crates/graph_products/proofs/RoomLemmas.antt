@@ -6,15 +6,16 @@ use Rattle.std.proofs.lemmas.Bool.{cases_lt}
 use Rattle.std.proofs.lemmas.Option.{slice_get_within, same_Some}
 use Rattle.indexmap.proofs.IndexTableLemmas.Probe.{pigeonhole}
 use Rattle.decision_graphs.specs.Label.{Layered}
+use Rattle.graph_products.specs.declared.pair.Pair.{Pair}
 use Rattle.graph_products.specs.declared.row.Row.{Row}
 use Rattle.graph_products.specs.Products.{AreRows, firsts, seconds, front_of, StandsThere, IsFront, AreSoManyPairs}
-use Rattle.graph_products.specs.Products.{AreCounts, edges_of, IsWide, HasRoom, first_of, second_of}
-use Rattle.graph_products.proofs.PrefixLemmas.{same_number}
+use Rattle.graph_products.specs.Products.{AreCounts, edges_of, IsWide, HasRoom}
+use Rattle.graph_products.proofs.PlaceLemmas.{pair_same}
 
-some_number : (xs : List ℕ) (i : ℕ) → i < length xs → (x : ℕ) × (slice_get xs i ≡ Some x)
-some_number [] i lt = absurd (omega (arith, lt))
-some_number (x ∷ xs) zero lt = (x, refl)
-some_number (x ∷ xs) (suc i) lt = some_number xs i (omega (arith, lt))
+some_pair : (xs : List Pair) (i : ℕ) → i < length xs → (x : Pair) × (slice_get xs i ≡ Some x)
+some_pair [] i lt = absurd (omega (arith, lt))
+some_pair (x ∷ xs) zero lt = (x, refl)
+some_pair (x ∷ xs) (suc i) lt = some_pair xs i (omega (arith, lt))
 
 -- rows that come to one node of the third graph come to one of the first, and so of the fourth and the second
 pub record Follow (g h p q : Layered) (rss : List (List Row)) (j : ℕ) : Type 0 where
@@ -26,10 +27,10 @@ pub record Follow (g h p q : Layered) (rss : List (List Row)) (j : ℕ) : Type 0
       front_of h j (seconds (take j rss) cs) ≡ front_of h j (seconds (take j rss) ds)
 
 -- the pair at place i of one list, and the place in another of the pair to which its rows come in two other graphs
-record Goes (g h p q : Layered) (rss : List (List Row)) (j : ℕ) (these those : List ℕ) (i place : ℕ) : Type 0 where
-  pub number : ℕ
-  pub listed : slice_get these i ≡ Some number
-  pub front : IsFront g h rss j number
+record Goes (g h p q : Layered) (rss : List (List Row)) (j : ℕ) (these those : List Pair) (i place : ℕ) : Type 0 where
+  pub pair : Pair
+  pub listed : slice_get these i ≡ Some pair
+  pub front : IsFront g h rss j pair
   pub there : StandsThere those place (front_of p j (firsts (take j rss) front.rows)) (front_of q j
       (seconds (take j rss) front.rows))
 
@@ -40,10 +41,10 @@ module _ (g h p q : Layered) (rss : List (List Row)) (j : ℕ) (follow : Follow 
 
   goes : (i : ℕ) → i < n → (place : ℕ) × GoesTo i place
   goes i lt =
-      let x = some_number these.pairs i (omega (arith, lt, these.count)) in
+      let x = some_pair these.pairs i (omega (arith, lt, these.count)) in
       let f = these.each i x.0 x.1 in
       let t = those.all f.rows f.are_rows in
-      (t.0, record { number = x.0; listed = x.1; front = f; there = t.1 })
+      (t.0, record { pair = x.0; listed = x.1; front = f; there = t.1 })
 
   place_of : (i : ℕ) → (i < n) ⊎ (n ≤ i) → ℕ
   place_of i (inl lt) = (goes i lt).0
@@ -65,21 +66,17 @@ module _ (g h p q : Layered) (rss : List (List Row)) (j : ℕ) (follow : Follow 
   apart i k lt_i lt_k e =
       let a = at i lt_i in
       let b = at k lt_k in
-      let one : a.there.number ≡ b.there.number =
-      same_Some a.there.number b.there.number (sym a.there.at ∙ (ap (slice_get those.pairs) e ∙ b.there.at)) in
-      let first_there = sym a.there.is.first ∙ (ap (λ z. first_of z) one ∙ b.there.is.first) in
-      let second_there = sym a.there.is.second ∙ (ap (λ z. second_of z) one ∙ b.there.is.second) in
-      let first = follow.first a.front.rows b.front.rows a.front.are_rows b.front.are_rows first_there in
-      let second = follow.second a.front.rows b.front.rows a.front.are_rows b.front.are_rows second_there in
-      let same : a.number ≡ b.number =
-      same_number (front_of g j (firsts (take j rss) b.front.rows)) (front_of h j (seconds (take j rss) b.front.rows))
-      a.number b.number (record { first = a.front.is.first ∙ first; second = a.front.is.second ∙ second })
-      b.front.is in
-      these.none_twice i k b.number (a.listed ∙ ap Some same) b.listed
+      let one = same_Some _ _ (sym a.there ∙ (ap (slice_get those.pairs) e ∙ b.there)) in
+      let first = follow.first a.front.rows b.front.rows a.front.are_rows b.front.are_rows
+      (ap (λ (z : Pair). z.first) one) in
+      let second = follow.second a.front.rows b.front.rows a.front.are_rows b.front.are_rows
+      (ap (λ (z : Pair). z.second) one) in
+      let same : a.pair ≡ b.pair = a.front.is ∙ (pair_same _ _ _ _ first second ∙ sym b.front.is) in
+      these.none_twice i k b.pair (a.listed ∙ ap Some same) b.listed
 
   pub no_more : n ≤ m
   no_more = pigeonhole n m place
-      (λ i lt. let a = at i lt in omega (arith, slice_get_within those.pairs (place i) a.there.number a.there.at, those.count))
+      (λ i lt. let a = at i lt in omega (arith, slice_get_within those.pairs (place i) _ a.there, those.count))
       apart
 
 module _ (g h p q : Layered) (steps : List (List Row)) (follow : (j : ℕ) → j ≤ length steps → Follow g h p q steps j) where

@@ -1,7 +1,8 @@
 -- Two graphs walked together.
-use Rattle.std.specs.Prelude.{◌≡◌, ℕ, suc, ◌+◌, ◌*◌, ◌/◌, ◌%◌, ◌<◌, ◌≤◌, List, [], ◌∷◌, length, map, slice_get, slice_index_or, Some}
+use Rattle.std.specs.Prelude.{◌≡◌, ℕ, suc, ◌+◌, ◌*◌, ◌<◌, ◌≤◌, List, [], ◌∷◌, length, map, slice_get, slice_index_or, Some}
 use Rattle.std.specs.Prelude.{Bool, take}
 use Rattle.decision_graphs.specs.Label.{Layer, Layered, layer_at, step, leads, label_of, AreAllowed, Reaches}
+use Rattle.graph_products.specs.declared.pair.Pair.{Pair}
 use Rattle.graph_products.specs.declared.row.Row.{Row}
 
 -- The row that is none.
@@ -47,21 +48,17 @@ pub record StepsFit (g h : Layered) (rss : List (List Row)) : Type 0 where
   pub second : length h.layers ≡ length rss
   pub rows : (j : ℕ) → j < length rss → RowsFit (layer_at g.layers j) (layer_at h.layers j) (rows_at rss j)
 
--- The two parts of a pair's number.
-abbrev pub first_of : ℕ → ℕ
-first_of x = x / 4294967296
+-- The pair of these two.
+abbrev pub pair_of : ℕ → ℕ → Pair
+pair_of a b = record { first = a; second = b }
 
-abbrev pub second_of : ℕ → ℕ
-second_of x = x % 4294967296
-
--- The number is that of this pair.
-pub record IsPair (a b x : ℕ) : Type 0 where
-  pub first : first_of x ≡ a
-  pub second : second_of x ≡ b
+-- The pair that is none.
+abbrev pub no_pair : Pair
+no_pair = pair_of 0 0
 
 -- The row leads from the pair of nodes x of two layers to the pair y.
-abbrev pub LeadsJointly : Layer → Layer → ℕ → Row → ℕ → Type 0
-LeadsJointly l m x r y = IsPair (step l (first_of x) r.first) (step m (second_of x) r.second) y
+abbrev pub LeadsJointly : Layer → Layer → Pair → Row → Pair → Type 0
+LeadsJointly l m x r y = y ≡ pair_of (step l x.first r.first) (step m x.second r.second)
 
 -- Some list of rows leads in the graph to this label.
 pub record IsHit (p : Layered) (rss : List (List Row)) (t : ℕ) : Type 0 where
@@ -69,11 +66,9 @@ pub record IsHit (p : Layered) (rss : List (List Row)) (t : ℕ) : Type 0 where
   pub are_rows : AreRows rss rows
   pub led : label_of p rows ≡ t
 
--- At this place of the list stands the number of this pair.
-pub record StandsThere (pairs : List ℕ) (t a b : ℕ) : Type 0 where
-  pub number : ℕ
-  pub at : slice_get pairs t ≡ Some number
-  pub is : IsPair a b number
+-- At this place of the list stands the pair of these two.
+abbrev pub StandsThere : List Pair → ℕ → ℕ → ℕ → Type 0
+StandsThere pairs t a b = slice_get pairs t ≡ Some (pair_of a b)
 
 -- Where the first j choices of a list lead in a graph.
 abbrev pub front_of : Layered → ℕ → List ℕ → ℕ
@@ -89,7 +84,7 @@ MeetAt g h rss p j =
 -- The third graph is the product of two by these steps: its choices are the rows; every list of rows leads to the label
 -- that stands for the pair of labels to which the choices of both lead; no two labels stand for one pair, and to each
 -- leads a list of rows; and before each step there is one node for each pair of nodes.
-pub record IsProductOf (g h : Layered) (rss : List (List Row)) (p : Layered) (pairs : List ℕ) : Type 0 where
+pub record IsProductOf (g h : Layered) (rss : List (List Row)) (p : Layered) (pairs : List Pair) : Type 0 where
   pub choices : map (λ (l : Layer). l.choices) p.layers ≡ map length rss
   pub count : p.labels ≡ length pairs
   pub pair : (cs : List ℕ) → AreRows rss cs →
@@ -98,19 +93,19 @@ pub record IsProductOf (g h : Layered) (rss : List (List Row)) (p : Layered) (pa
   pub hit : (t : ℕ) → t < length pairs → IsHit p rss t
   pub meet : (j : ℕ) → j ≤ length rss → MeetAt g h rss p j
 
--- The number is that of the pair to which a list of rows of the first j steps leads.
-pub record IsFront (g h : Layered) (rss : List (List Row)) (j x : ℕ) : Type 0 where
+-- A list of rows of the first j steps leads to this pair.
+pub record IsFront (g h : Layered) (rss : List (List Row)) (j : ℕ) (x : Pair) : Type 0 where
   pub rows : List ℕ
   pub are_rows : AreRows (take j rss) rows
-  pub is : IsPair (front_of g j (firsts (take j rss) rows)) (front_of h j (seconds (take j rss) rows)) x
+  pub is : x ≡ pair_of (front_of g j (firsts (take j rss) rows)) (front_of h j (seconds (take j rss) rows))
 
--- By rows of the first j steps n different pairs of nodes are reached: a list has n numbers, none of them twice, each
--- that of a pair that is reached, and it has every such pair.
+-- By rows of the first j steps n different pairs of nodes are reached: a list has n pairs, none of them twice, each of
+-- them reached, and it has every pair that is.
 pub record AreSoManyPairs (g h : Layered) (rss : List (List Row)) (j n : ℕ) : Type 0 where
-  pub pairs : List ℕ
+  pub pairs : List Pair
   pub count : length pairs ≡ n
-  pub none_twice : (a b x : ℕ) → slice_get pairs a ≡ Some x → slice_get pairs b ≡ Some x → a ≡ b
-  pub each : (t x : ℕ) → slice_get pairs t ≡ Some x → IsFront g h rss j x
+  pub none_twice : (a b : ℕ) (x : Pair) → slice_get pairs a ≡ Some x → slice_get pairs b ≡ Some x → a ≡ b
+  pub each : (t : ℕ) (x : Pair) → slice_get pairs t ≡ Some x → IsFront g h rss j x
   pub all : (cs : List ℕ) → AreRows (take j rss) cs → (t : ℕ)
       × StandsThere pairs t (front_of g j (firsts (take j rss) cs)) (front_of h j (seconds (take j rss) cs))
 
@@ -147,7 +142,7 @@ pub record PairReaches (g h : Layered) (rss : List (List Row)) (sets : List (Lis
   pub second : label_of h (seconds rss rows) ≡ b
 
 -- A label of the product that stands for the pair is reached by allowed rows.
-pub record PairIsReached (p : Layered) (pairs : List ℕ) (sets : List (List Bool)) (a b : ℕ) : Type 0 where
+pub record PairIsReached (p : Layered) (pairs : List Pair) (sets : List (List Bool)) (a b : ℕ) : Type 0 where
   pub label : ℕ
   pub stands : StandsThere pairs label a b
   pub reached : Reaches p sets label

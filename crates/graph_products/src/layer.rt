@@ -1,10 +1,11 @@
 //! One layer of a product: from the pairs of its nodes to those of the next.
 ghost use Rattle.std.specs.Prelude.{◌≡◌, ◌+◌, ◌*◌, ◌<◌, ◌≤◌, length, slice_index, IfOk, OnOk};
 ghost use Rattle.decision_graphs.specs.Label.{LayerFits, layer_at};
-ghost use Rattle.graph_products.specs.Products.{first_of, second_of, IsPair, RowsFit};
+ghost use Rattle.graph_products.specs.Products.{pair_of, RowsFit};
 ghost use Rattle.graph_products.specs.Layering.{AreLed, AreEdges, AreStates};
 
-use crate::pairs::{PairSet, first_part, pair, second_part};
+use crate::pair::Pair;
+use crate::pairs::PairSet;
 use crate::row::Row;
 use decision_graphs::Graph;
 use ilk_base::Memory;
@@ -13,17 +14,20 @@ use std::alloc::Global;
 // The edges of a layer, state by state, and the pairs to which they lead.
 #[derive(Drop)]
 pub(crate) struct NextLayer {
-    pub(crate) next: Vec<usize>,
+    pub(crate) next: Vec<Pair>,
     pub(crate) edges: Vec<u32>,
 }
 
 // The pair to which a row leads from a pair of nodes that have these edges.
-fn target(ours: &[u32], theirs: &[u32], row: Row) -> usize
+fn target(ours: &[u32], theirs: &[u32], row: Row) -> Pair
     requires first { row.first < length ours.now }
     requires second { row.second < length theirs.now }
-    ensures { IsPair (slice_index ours.now row.first) (slice_index theirs.now row.second) result }
+    ensures { result ≡ pair_of (slice_index ours.now row.first) (slice_index theirs.now row.second) }
 {
-    pair(ours[row.first as usize], theirs[row.second as usize])
+    Pair {
+        first: ours[row.first as usize],
+        second: theirs[row.second as usize],
+    }
 }
 
 // How many nodes the next layer has, or behind the last one how many labels there are.
@@ -49,13 +53,13 @@ fn add_edges(
     second: &Graph,
     layer: u16,
     rows: &[Row],
-    state: usize,
+    state: Pair,
 ) -> Result<(), Memory>
     requires first_layer { layer < length first.now.layers }
     requires second_layer { layer < length second.now.layers }
     requires rows { RowsFit (layer_at first.now.layers layer) (layer_at second.now.layers layer) rows.now }
-    requires first_node { first_of state < length (layer_at first.now.layers layer).rows }
-    requires second_node { second_of state < length (layer_at second.now.layers layer).rows }
+    requires first_node { state.first < length (layer_at first.now.layers layer).rows }
+    requires second_node { state.second < length (layer_at second.now.layers layer).rows }
     requires first_edges { LayerFits next.old.height (layer_at first.now.layers layer) }
     requires second_edges { LayerFits next.old.width (layer_at second.now.layers layer) }
     requires few { length next.old.keys + length rows.now ≤ 4294967295 }
@@ -64,12 +68,12 @@ fn add_edges(
     ensures led { OnOk result (AreLed (layer_at first.now.layers layer) (layer_at second.now.layers layer) state
         rows.now (length rows.now) next.old.keys edges.old.items next.new.keys edges.new.items) }
 {
-    let ours = first.row(layer, first_part(state));
-    let theirs = second.row(layer, second_part(state));
+    let ours = first.row(layer, state.first);
+    let theirs = second.row(layer, state.second);
     for c in 0..rows.len() {
         let row = rows[c];
-        let id = target(ours, theirs, row);
-        let to = next.place(id)?;
+        let pair = target(ours, theirs, row);
+        let to = next.place(pair)?;
         edges.push(to as u32)?;
     }
     Ok(())
@@ -82,7 +86,7 @@ pub(crate) fn next_layer(
     second: &Graph,
     layer: u16,
     rows: &[Row],
-    states: &[usize],
+    states: &[Pair],
 ) -> Result<NextLayer, Memory>
     requires first_layer { layer < length first.now.layers }
     requires second_layer { layer < length second.now.layers }

@@ -4,10 +4,12 @@
 
 mod law;
 mod layer;
+mod pair;
 mod pairs;
 mod product;
 mod row;
 
 pub use law::pairs_are_reached;
+pub use pair::Pair;
 pub use product::{Product, ProductTrouble, product_of};
 pub use row::Row;

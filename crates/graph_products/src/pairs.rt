@@ -1,9 +1,9 @@
-//! Pairs of nodes by number, and the list of those of a layer.
+//! The pairs of nodes of a layer, each once.
 ghost use Rattle.std.specs.Prelude.{◌≡◌, [], ◌*◌, ◌^◌, ◌<◌, ◌≤◌, length, IfOk};
-ghost use Rattle.graph_products.specs.Products.{first_of, second_of, IsPair};
 ghost use Rattle.graph_products.specs.Layering.{IsPlaced};
 ghost use Rattle.graph_products.specs.Seating.{AreSeats, IsSeating, listed_in, seat_of};
 
+use crate::pair::Pair;
 use ilk_base::Memory;
 use indexmap::IndexSet;
 use number_hash::{NumberHash, NumberSet};
@@ -16,39 +16,18 @@ const SEATS_PER_EDGE: usize = 4;
 // So many seats a table may have besides.
 const SEATS_BESIDES: usize = 1024;
 
-// The number of a pair.
-pub(crate) fn pair(first: u32, second: u32) -> usize
-    ensures { IsPair first second result }
-{
-    first as usize * 4294967296 + second as usize
-}
-
-// The first of a pair.
-pub(crate) fn first_part(state: usize) -> u32
-    ensures { result ≡ first_of state }
-{
-    (state / 4294967296) as u32
-}
-
-// The second of a pair.
-pub(crate) fn second_part(state: usize) -> u32
-    ensures { result ≡ second_of state }
-{
-    (state % 4294967296) as u32
-}
-
-// The numbers of the pairs in order, and a seat for each pair that may come: 0, or its place in the list plus 1.
+// The pairs in order, and a seat for each pair that may come: 0, or its place in the list plus 1.
 #[derive(Drop)]
 pub(crate) struct SeatTable {
-    pub(crate) list: Vec<usize>,
+    pub(crate) list: Vec<Pair>,
     pub(crate) seats: Vec<u32>,
 }
 
-// The numbers of the pairs in order, with seats or hashed.
+// The pairs in order, with seats or hashed.
 #[derive(Drop)]
 pub(crate) enum Seating {
     Table(SeatTable),
-    Hashed(NumberSet<usize>),
+    Hashed(NumberSet<Pair>),
 }
 
 // The pairs of a layer in the order in which they came, each once. Their first nodes are below the height, and their
@@ -87,8 +66,8 @@ fn hash_for(alloc: Global, height: usize, width: usize, states: usize) -> Result
     ensures seating { IfOk result (IsSeating height width) }
     ensures none { IfOk result (λ s. listed_in s ≡ []) }
 {
-    let ids = IndexSet::with_capacity_and_hasher(alloc, states, NumberHash::new())?;
-    Ok(Seating::Hashed(ids))
+    let pairs = IndexSet::with_capacity_and_hasher(alloc, states, NumberHash::new())?;
+    Ok(Seating::Hashed(pairs))
 }
 
 // A list without pairs; it has seats where there are not many more of them than edges of so many states and rows.
@@ -112,47 +91,47 @@ fn seating_for(
 }
 
 // The seat of a pair in rows of so many seats.
-fn seat_in(width: usize, id: usize) -> usize
-    requires few { seat_of width id < 2 ^ 64 }
-    ensures { result ≡ seat_of width id }
+fn seat_in(width: usize, pair: Pair) -> usize
+    requires few { seat_of width pair < 2 ^ 64 }
+    ensures { result ≡ seat_of width pair }
 {
-    first_part(id) as usize * width + second_part(id) as usize
+    pair.first as usize * width + pair.second as usize
 }
 
 // The place of the pair in a list with seats, at the end where it is new.
-fn place_by_seat(table: &mut SeatTable, width: usize, id: usize) -> Result<usize, Memory>
+fn place_by_seat(table: &mut SeatTable, width: usize, pair: Pair) -> Result<usize, Memory>
     requires seats { AreSeats width table.old.seats.items table.old.list.items }
-    requires second { second_of id < width }
-    requires seat { seat_of width id < length table.old.seats.items }
+    requires second { pair.second < width }
+    requires seat { seat_of width pair < length table.old.seats.items }
     requires few { length table.old.list.items < 4294967295 }
     ensures count { length table.new.seats.items ≡ length table.old.seats.items }
     ensures seats { AreSeats width table.new.seats.items table.new.list.items }
-    ensures placed { IfOk result (IsPlaced table.old.list.items table.new.list.items id) }
+    ensures placed { IfOk result (IsPlaced table.old.list.items table.new.list.items pair) }
 {
-    let seat = seat_in(width, id);
+    let seat = seat_in(width, pair);
     let told = table.seats[seat];
     if told != 0 {
         return Ok(told as usize - 1);
     }
     let place = table.list.len();
-    table.list.push(id)?;
+    table.list.push(pair)?;
     table.seats[seat] = place as u32 + 1;
     Ok(place)
 }
 
 // The place of the pair in a hashed list, at the end where it is new.
-fn place_by_hash(ids: &mut NumberSet<usize>, id: usize) -> Result<usize, Memory>
-    ensures { IfOk result (IsPlaced ids.old.keys ids.new.keys id) }
+fn place_by_hash(pairs: &mut NumberSet<Pair>, pair: Pair) -> Result<usize, Memory>
+    ensures { IfOk result (IsPlaced pairs.old.keys pairs.new.keys pair) }
 {
-    let (place, _) = ids.insert_full(id)?;
+    let (place, _) = pairs.insert_full(pair)?;
     Ok(place)
 }
 
-// The numbers in order.
-fn listed(alloc: Global, ids: &NumberSet<usize>) -> Result<Vec<usize>, Memory>
-    ensures { IfOk result (λ v. v.items ≡ ids.now.keys) }
+// The pairs in order.
+fn listed(alloc: Global, pairs: &NumberSet<Pair>) -> Result<Vec<Pair>, Memory>
+    ensures { IfOk result (λ v. v.items ≡ pairs.now.keys) }
 {
-    let list = ids.iter().copied().collect(alloc)?;
+    let list = pairs.iter().copied().collect(alloc)?;
     Ok(list)
 }
 
@@ -177,28 +156,28 @@ impl PairSet {
     }
 
     // The place of the pair in the list, at the end where it is new.
-    pub(crate) fn place(&mut self, id: usize) -> Result<usize, Memory>
-        requires first { first_of id < self.old.height }
-        requires second { second_of id < self.old.width }
+    pub(crate) fn place(&mut self, pair: Pair) -> Result<usize, Memory>
+        requires first { pair.first < self.old.height }
+        requires second { pair.second < self.old.width }
         requires few { length self.old.keys < 4294967295 }
         ensures height { self.new.height ≡ self.old.height }
         ensures width { self.new.width ≡ self.old.width }
-        ensures placed { IfOk result (IsPlaced self.old.keys self.new.keys id) }
+        ensures placed { IfOk result (IsPlaced self.old.keys self.new.keys pair) }
     {
         let width = self.width;
         match &mut self.seating {
-            Seating::Table(table) => place_by_seat(table, width, id),
-            Seating::Hashed(ids) => place_by_hash(ids, id),
+            Seating::Table(table) => place_by_seat(table, width, pair),
+            Seating::Hashed(pairs) => place_by_hash(pairs, pair),
         }
     }
 
-    // The numbers of the pairs in order.
-    pub(crate) fn into_list(self, alloc: Global) -> Result<Vec<usize>, Memory>
+    // The pairs in order.
+    pub(crate) fn into_list(self, alloc: Global) -> Result<Vec<Pair>, Memory>
         ensures { IfOk result (λ v. v.items ≡ self.keys) }
     {
         match self.seating {
             Seating::Table(table) => Ok(table.list),
-            Seating::Hashed(ids) => listed(alloc, &ids),
+            Seating::Hashed(pairs) => listed(alloc, &pairs),
         }
     }
 }

@@ -1,10 +1,11 @@
 //! The product of two graphs.
 ghost use Rattle.std.specs.Prelude.{◌≡◌, [], ◌∷◌, ℕ, ◌*◌, ◌<◌, ◌≤◌, List, length, map, IfOk, IfErr, IsTrue, IsFalse};
 ghost use Rattle.decision_graphs.specs.Label.{layer_at};
-ghost use Rattle.graph_products.specs.Products.{StepsFit, IsProductOf, IsWide, HasRoom};
+ghost use Rattle.graph_products.specs.Products.{pair_of, StepsFit, IsProductOf, IsWide, HasRoom};
 ghost use Rattle.graph_products.specs.declared.product.ProductTrouble.TheVariants.{Wide};
 
 use crate::layer::next_layer;
+use crate::pair::Pair;
 use crate::row::Row;
 use decision_graphs::{FinishedLayer, Graph};
 use ilk_base::Memory;
@@ -58,16 +59,19 @@ impl<T: Drop> From<AllocFailed<T>> for ProductTrouble {
 pub struct Product {
     /// the graph of pairs
     pub graph: Graph,
-    /// for each label the first graph's label times 2 to the 32nd, plus the second graph's
-    pub pairs: Vec<usize>,
+    /// for each label the pair of labels for which it stands
+    pub pairs: Vec<Pair>,
 }
 
-// The list of one number.
-fn list_of(alloc: Global, id: usize) -> Result<Vec<usize>, Memory>
-    ensures { IfOk result (λ v. v.items ≡ id ∷ []) }
+// The pair of the first nodes alone.
+fn first_nodes(alloc: Global) -> Result<Vec<Pair>, Memory>
+    ensures { IfOk result (λ v. v.items ≡ pair_of 0 0 ∷ []) }
 {
     let mut list = Vec::new(alloc);
-    list.push(id)?;
+    list.push(Pair {
+        first: 0,
+        second: 0,
+    })?;
     Ok(list)
 }
 
@@ -101,7 +105,7 @@ pub fn product_of(
     let _first_labels = first.labels();
     let _second_labels = second.labels();
     let mut layers = Vec::new(alloc);
-    let mut states = list_of(alloc, 0)?;
+    let mut states = first_nodes(alloc)?;
     let mut left = budget;
     'steps: for j in 0..steps.len() {
         let rows = steps[j].as_slice();

@@ -9,8 +9,8 @@ use Rattle.decision_graphs.specs.Label.{Layer, Layered, no_layer, layer_at, lead
 use Rattle.decision_graphs.specs.Label.{AreReduced, size_at}
 use Rattle.decision_graphs.proofs.LawLemmas.{places_are_told}
 use Rattle.decision_graphs.proofs.ReducedLemmas.{leads-append}
-use Rattle.graph_products.specs.Products.{AreRows, firsts, seconds, front_of, IsProductOf, IsWide, HasRoom, first_of}
-use Rattle.graph_products.specs.Products.{second_of}
+use Rattle.graph_products.specs.declared.pair.Pair.{Pair}
+use Rattle.graph_products.specs.Products.{AreRows, firsts, seconds, front_of, IsProductOf, IsWide, HasRoom}
 use Rattle.graph_products.proofs.RoomLemmas.{Follow, wide_has_no_room}
 use Rattle.graph_walks.specs.Walks.{same_rows, same_steps, AreTwos, HasTwos, IsWideWalk, HasWalkRoom}
 use Rattle.graph_walks.specs.Telling.{IsReduced, TellAlike}
@@ -195,19 +195,16 @@ no_room n budget g h p q first second room wide =
     (omega (arith, le, length-replicate n same_rows)) g h p q first second) budget room wide
 
 -- labels of a product are one exactly where those of both graphs are
-pair_of_labels : (n : ℕ) (g h p : Layered) (pairs : List ℕ) → IsProductOf g h (same_steps n) p pairs →
+pair_of_labels : (n : ℕ) (g h p : Layered) (pairs : List Pair) → IsProductOf g h (same_steps n) p pairs →
     (cs ds : List ℕ) → AreTwos n cs → AreTwos n ds → label_of p cs ≡ label_of p ds →
     (label_of g cs ≡ label_of g ds) × (label_of h cs ≡ label_of h ds)
 pair_of_labels n g h p pairs is cs ds a b e =
-    let x = pair_at n g h p pairs is cs a in
-    let y = pair_at n g h p pairs is ds b in
-    let same : x.0 ≡ y.0 = same_Some x.0 y.0 (sym x.1 ∙ (ap (slice_get pairs) e ∙ y.1)) in (
-      sym x.2 ∙ (ap (λ z. first_of z) same ∙ y.2),
-      sym x.3 ∙ (ap (λ z. second_of z) same ∙ y.3),
-    )
+    let same = same_Some _ _ (sym (pair_at n g h p pairs is cs a)
+    ∙ (ap (slice_get pairs) e ∙ pair_at n g h p pairs is ds b)) in
+    (ap (λ (x : Pair). x.first) same, ap (λ (x : Pair). x.second) same)
 
 -- the product of two graphs follows that of two which tell the same apart
-product_follows : (n : ℕ) (p q g h both all : Layered) (these those : List ℕ) → TellAlike n p g → TellAlike n q h →
+product_follows : (n : ℕ) (p q g h both all : Layered) (these those : List Pair) → TellAlike n p g → TellAlike n q h →
     IsProductOf p q (same_steps n) both these → IsProductOf g h (same_steps n) all those → Follows n both all
 product_follows n p q g h both all these those first second made here j cs ds le a b e =
     let two = has_twos n p q both these made in

@@ -1,15 +1,17 @@
 -- The product of two products by the same choices.
-use Rattle.std.proofs.Common.{◌≡◌, ℕ, ◌<◌, ◌⊎◌, zero, suc, List, [], ◌∷◌, length, map, replicate, take, ◌++◌, get_or, slice_get, Some}
-use Rattle.std.proofs.Common.{refl, sym, ap, ◌∙◌, subst, inl, inr, arith}
+use Rattle.std.proofs.Common.{◌≡◌, ℕ, ◌<◌, zero, suc, List, [], ◌∷◌, length, map, replicate, take, ◌++◌, get_or, slice_get, Some}
+use Rattle.std.proofs.Common.{refl, sym, ap, ◌∙◌, subst, arith}
 use Rattle.std.specs.Prelude.{option_map}
 use Rattle.std.proofs.lemmas.List.{length-map, length-replicate}
 use Rattle.std.proofs.lemmas.Option.{slice_get_within, get_or_from_slice_get, same_Some, slice_get-map}
 use Rattle.decision_graphs.specs.Label.{Layer, Layered, layer_at, label_of}
+use Rattle.graph_products.specs.declared.pair.Pair.{Pair}
 use Rattle.graph_products.specs.declared.row.Row.{Row}
 use Rattle.graph_products.specs.Products.{AreRows, firsts, seconds, row_at, rows_at, RowsFit, StepsFit, IsProductOf}
-use Rattle.graph_products.specs.Products.{first_of, second_of}
+use Rattle.graph_products.specs.Products.{pair_of, no_pair, StandsThere}
+use Rattle.graph_products.proofs.PlaceLemmas.{pair_same}
 use Rattle.graph_walks.specs.declared.codes.Codes.{Codes}
-use Rattle.graph_walks.specs.Walks.{same_rows, same_steps, AreTwos, HasTwos, codes_of, codes_at, IsInPlace, IsWalkOf}
+use Rattle.graph_walks.specs.Walks.{same_rows, same_steps, AreTwos, HasTwos, codes_in, codes_at, IsInPlace, IsWalkOf}
 
 -- ---- lists of two choices
 
@@ -106,7 +108,7 @@ steps_fit n g h steps is a b = subst (λ ss. StepsFit g h ss) (sym is) (record {
       (at_replicate n same_rows [] j j_in) (a.choices j j_in) (b.choices j j_in);
 })
 
-module _ (n : ℕ) (g h p : Layered) (pairs : List ℕ) (is : IsProductOf g h (same_steps n) p pairs) where
+module _ (n : ℕ) (g h p : Layered) (pairs : List Pair) (is : IsProductOf g h (same_steps n) p pairs) where
   pub all_two : map (λ (l : Layer). l.choices) p.layers ≡ replicate n 2
   all_two = is.choices ∙ lengths_same n
 
@@ -122,43 +124,25 @@ module _ (n : ℕ) (g h p : Layered) (pairs : List ℕ) (is : IsProductOf g h (s
   }
 
   -- where the choices lead
-  pub pair_at : (cs : List ℕ) → AreTwos n cs →
-      (x : ℕ) × (slice_get pairs (label_of p cs) ≡ Some x) × (first_of x ≡ label_of g cs) × (second_of x ≡ label_of h cs)
+  pub pair_at : (cs : List ℕ) → AreTwos n cs → StandsThere pairs (label_of p cs) (label_of g cs) (label_of h cs)
   pair_at cs two =
-      let s = is.pair cs (rows_of_twos n cs two) in (
-        s.number,
-        s.at,
-        s.is.first ∙ ap (λ ds. label_of g ds) (firsts_same n cs two),
-        s.is.second ∙ ap (λ ds. label_of h ds) (seconds_same n cs two),
-      )
+      is.pair cs (rows_of_twos n cs two)
+      ∙ ap Some (pair_same _ _ _ _ (ap (λ ds. label_of g ds) (firsts_same n cs two))
+      (ap (λ ds. label_of h ds) (seconds_same n cs two)))
 
-codes_same : (a b c d e f g h : ℕ) → a ≡ e → b ≡ f → c ≡ g → d ≡ h →
-    ◌≡◌ {A = Codes} (record { first = a; second = b; third = c; fourth = d })
-    (record { first = e; second = f; third = g; fourth = h })
-codes_same a b c d e f g h one two three four = rw (one, two, three, four) refl
-
-module _ (n : ℕ) (g h k l one other all : Layered) (one_pairs other_pairs pairs : List ℕ)
+module _ (n : ℕ) (g h k l one other all : Layered) (one_pairs other_pairs pairs : List Pair)
     (first : IsProductOf g h (same_steps n) one one_pairs) (second : IsProductOf k l (same_steps n) other other_pairs)
     (both : IsProductOf one other (same_steps n) all pairs) where
-  pub in_place : (t x : ℕ) → slice_get pairs t ≡ Some x → IsInPlace one_pairs other_pairs x
+  pub in_place : (t : ℕ) (x : Pair) → slice_get pairs t ≡ Some x → IsInPlace one_pairs other_pairs x
   in_place t x at =
       let w = both.hit t (slice_get_within pairs t x at) in
       let two = twos_of_rows n w.rows w.are_rows in
-      let (y, at_y, one_y, other_y) = pair_at n one other all pairs both w.rows two in
-      let same : y ≡ x = same_Some y x (sym at_y ∙ (ap (slice_get pairs) w.led ∙ at)) in
-      let a = pair_at n g h one one_pairs first w.rows two in
-      let b = pair_at n k l other other_pairs second w.rows two in
-      record {
-        first =
-            omega (arith, slice_get_within one_pairs (label_of one w.rows) a.0 a.1, one_y, ap (λ z. first_of z) same);
-        second =
-            omega (
-              arith,
-              slice_get_within other_pairs (label_of other w.rows) b.0 b.1,
-              other_y,
-              ap (λ z. second_of z) same,
-            );
-      }
+      let a = slice_get_within one_pairs (label_of one w.rows) _ (pair_at n g h one one_pairs first w.rows two) in
+      let b = slice_get_within other_pairs (label_of other w.rows) _ (pair_at n k l other other_pairs second w.rows two) in
+      subst (λ z. IsInPlace one_pairs other_pairs z)
+      (same_Some (pair_of (label_of one w.rows) (label_of other w.rows)) x
+      (sym (pair_at n one other all pairs both w.rows two) ∙ (ap (slice_get pairs) w.led ∙ at)))
+      (record { first = a; second = b })
 
   pub walk_is : (codes : List Codes) → codes ≡ map (codes_at one_pairs other_pairs) pairs → IsWalkOf g h k l n all codes
   walk_is codes is = record {
@@ -167,19 +151,15 @@ module _ (n : ℕ) (g h k l one other all : Layered) (one_pairs other_pairs pair
     labels =
         both.count ∙ sym (ap length is ∙ length-map pairs (codes_at one_pairs other_pairs));
     leads = λ cs two.
-        let (x, at, in_one, in_other) = pair_at n one other all pairs both cs two in
-        let (y, at_y, y_g, y_h) = pair_at n g h one one_pairs first cs two in
-        let (z, at_z, z_k, z_l) = pair_at n k l other other_pairs second cs two in
-        let here : get_or one_pairs (first_of x) 0 ≡ y =
-        ap (λ i. get_or one_pairs i 0) in_one ∙ get_or_from_slice_get one_pairs (label_of one cs) y 0 at_y in
-        let there : get_or other_pairs (second_of x) 0 ≡ z =
-        ap (λ i. get_or other_pairs i 0) in_other ∙ get_or_from_slice_get other_pairs (label_of other cs) z 0 at_z in
+        let here = get_or_from_slice_get one_pairs (label_of one cs) (pair_of (label_of g cs) (label_of h cs)) no_pair
+        (pair_at n g h one one_pairs first cs two) in
+        let there = get_or_from_slice_get other_pairs (label_of other cs) (pair_of (label_of k cs) (label_of l cs)) no_pair
+        (pair_at n k l other other_pairs second cs two) in
         ap (λ (cs' : List Codes). slice_get cs' (label_of all cs)) is
         ∙ (slice_get-map (codes_at one_pairs other_pairs) pairs (label_of all cs)
-        ∙ (ap (option_map (codes_at one_pairs other_pairs)) at
-        ∙ ap Some (codes_same _ _ _ _ (label_of g cs) (label_of h cs) (label_of k cs) (label_of l cs)
-        (ap (λ i. first_of i) here ∙ y_g) (ap (λ i. second_of i) here ∙ y_h) (ap (λ i. first_of i) there ∙ z_k)
-        (ap (λ i. second_of i) there ∙ z_l))));
+        ∙ (ap (option_map (codes_at one_pairs other_pairs)) (pair_at n one other all pairs both cs two)
+        ∙ ap Some (ap (λ x. codes_in x (get_or other_pairs (label_of other cs) no_pair)) here
+        ∙ ap (λ y. codes_in (pair_of (label_of g cs) (label_of h cs)) y) there)));
   }
 
 -- ---- lists made one by one

@@ -1,9 +1,10 @@
 -- Four graphs walked by the same choices.
-use Rattle.std.specs.Prelude.{◌≡◌, ℕ, ◌<◌, ◌⊎◌, ◌↔◌, ◌/◌, ◌%◌, Bool, true, List, [], ◌∷◌, length, map, replicate, slice_get}
-use Rattle.std.specs.Prelude.{slice_index, slice_index_or, Some}
-use Rattle.decision_graphs.specs.Label.{Layer, Layered, layer_at, label_of, AreLayers}
+use Rattle.std.specs.Prelude.{◌≡◌, ℕ, ◌<◌, ◌⊎◌, Bool, true, List, [], ◌∷◌, length, map, replicate, slice_get}
+use Rattle.std.specs.Prelude.{slice_index_or, Some}
+use Rattle.decision_graphs.specs.Label.{Layer, Layered, layer_at, label_of}
+use Rattle.graph_products.specs.declared.pair.Pair.{Pair}
 use Rattle.graph_products.specs.declared.row.Row.{Row}
-use Rattle.graph_products.specs.Products.{IsProductOf, IsWide, HasRoom, first_of, second_of}
+use Rattle.graph_products.specs.Products.{no_pair, IsProductOf, IsWide, HasRoom}
 use Rattle.graph_walks.specs.declared.codes.Codes.{Codes}
 
 -- Both graphs take the same of two choices.
@@ -37,19 +38,18 @@ codes_of g h k l cs = record {
   fourth = label_of l cs;
 }
 
+-- The labels of two pairs.
+abbrev pub codes_in : Pair → Pair → Codes
+codes_in x y = record { first = x.first; second = x.second; third = y.first; fourth = y.second }
+
 -- The labels for which a label of the product of two products stands.
-abbrev pub codes_at : List ℕ → List ℕ → ℕ → Codes
-codes_at one other x = record {
-  first = first_of (slice_index one (first_of x));
-  second = second_of (slice_index one (first_of x));
-  third = first_of (slice_index other (second_of x));
-  fourth = second_of (slice_index other (second_of x));
-}
+abbrev pub codes_at : List Pair → List Pair → Pair → Codes
+codes_at one other x = codes_in (slice_index_or one x.first no_pair) (slice_index_or other x.second no_pair)
 
 -- Both parts of the pair are places of the lists.
-pub record IsInPlace (one other : List ℕ) (x : ℕ) : Type 0 where
-  pub first : first_of x < length one
-  pub second : second_of x < length other
+pub record IsInPlace (one other : List Pair) (x : Pair) : Type 0 where
+  pub first : x.first < length one
+  pub second : x.second < length other
 
 -- The graph has n layers of two choices, and for each of its labels the labels to which the four graphs lead by the same
 -- choices.
@@ -63,8 +63,8 @@ pub record IsWalkOf (g h k l : Layered) (n : ℕ) (walk : Layered) (codes : List
 pub record AreTogetherWide (g h k l : Layered) (n budget : ℕ) : Type 0 where
   pub one : Layered
   pub other : Layered
-  pub one_pairs : List ℕ
-  pub other_pairs : List ℕ
+  pub one_pairs : List Pair
+  pub other_pairs : List Pair
   pub first : IsProductOf g h (same_steps n) one one_pairs
   pub second : IsProductOf k l (same_steps n) other other_pairs
   pub wide : IsWide one other (same_steps n) budget
@@ -78,8 +78,8 @@ IsWideWalk g h k l n budget =
 pub record HasWalkRoom (g h k l : Layered) (n budget : ℕ) : Type 0 where
   pub one : Layered
   pub other : Layered
-  pub one_pairs : List ℕ
-  pub other_pairs : List ℕ
+  pub one_pairs : List Pair
+  pub other_pairs : List Pair
   pub first : IsProductOf g h (same_steps n) one one_pairs
   pub second : IsProductOf k l (same_steps n) other other_pairs
   pub first_room : HasRoom g h (same_steps n) budget

@@ -1,13 +1,13 @@
 //! The walk of four graphs.
 ghost use Rattle.std.specs.Prelude.{◌≡◌, ℕ, ◌≤◌, ◌<◌, ◌^◌, length, map, slice_get, Some, IfOk, IfErr};
-ghost use Rattle.graph_products.specs.Products.{first_of, second_of};
+ghost use Rattle.graph_products.specs.declared.pair.Pair.{Pair as AnyPair};
 ghost use Rattle.graph_products.specs.declared.product.ProductTrouble.TheVariants.{Wide};
 ghost use Rattle.graph_walks.specs.Walks.{same_rows, same_steps, HasTwos, IsWalkOf, IsWideWalk, HasWalkRoom};
 ghost use Rattle.graph_walks.specs.Walks.{codes_at, IsInPlace};
 
 use crate::codes::Codes;
 use decision_graphs::Graph;
-use graph_products::{ProductTrouble, Row, product_of};
+use graph_products::{Pair, ProductTrouble, Row, product_of};
 use ilk_base::Memory;
 use std::alloc::Global;
 
@@ -49,43 +49,24 @@ pub fn same_steps(alloc: Global, n: u16) -> Result<Vec<Vec<Row>>, Memory>
     Ok(steps)
 }
 
-// The first of a pair.
-fn first_part(pair: usize) -> u32
-    ensures { result ≡ first_of pair }
-{
-    (pair / 4294967296) as u32
-}
-
-// The second of a pair.
-fn second_part(pair: usize) -> u32
-    ensures { result ≡ second_of pair }
-{
-    (pair % 4294967296) as u32
-}
-
 // The labels for which a label of the product of two products stands.
-fn code(one: &[usize], other: &[usize], pair: usize) -> Codes
+fn code(one: &[Pair], other: &[Pair], pair: Pair) -> Codes
     requires { IsInPlace one.now other.now pair }
     ensures { result ≡ codes_at one.now other.now pair }
 {
-    let first = one[first_part(pair) as usize];
-    let second = other[second_part(pair) as usize];
+    let first = one[pair.first as usize];
+    let second = other[pair.second as usize];
     Codes {
-        first: first_part(first),
-        second: second_part(first),
-        third: first_part(second),
-        fourth: second_part(second),
+        first: first.first,
+        second: first.second,
+        third: second.first,
+        fourth: second.second,
     }
 }
 
 // Those of each label.
-fn codes(
-    alloc: Global,
-    one: &[usize],
-    other: &[usize],
-    pairs: &[usize],
-) -> Result<Vec<Codes>, Memory>
-    requires { (t x : ℕ) → slice_get pairs.now t ≡ Some x → IsInPlace one.now other.now x }
+fn codes(alloc: Global, one: &[Pair], other: &[Pair], pairs: &[Pair]) -> Result<Vec<Codes>, Memory>
+    requires { (t : ℕ) (x : AnyPair) → slice_get pairs.now t ≡ Some x → IsInPlace one.now other.now x }
     ensures { IfOk result (λ v. v.items ≡ map (codes_at one.now other.now) pairs.now) }
 {
     let mut list = Vec::new(alloc);

@@ -1,9 +1,10 @@
-use Rattle.std.proofs.Common.{◌≡◌, ◌∙◌, ℕ, ◌+◌, List, length, ap, sym, subst, refl, arith}
+use Rattle.std.proofs.Common.{◌≡◌, ◌∙◌, ℕ, ◌+◌, List, length, sym, subst, refl, arith}
 use Rattle.std.proofs.lemmas.Option.{slice_get_within}
-use Rattle.decision_graphs.specs.Label.{layer_at, step}
+use Rattle.decision_graphs.specs.Label.{layer_at}
 use Rattle.graph_products.specs.Layering.{AreLed}
 use Rattle.graph_products.specs.Products.{LeadsJointly, row_at}
 use Rattle.graph_products.proofs.EdgeLemmas.{led_none, led_one}
+use Rattle.graph_products.proofs.PlaceLemmas.{pair_same}
 use Rattle.graph_products.proofs.layer.add_edges.Goals as goal
 
 pub loop-c-init : goal.loop-c-init
@@ -33,12 +34,10 @@ loop-c-preserved c =
     let l = layer_at c.args.first.now.layers c.args.layer in
     let m = layer_at c.args.second.now.layers c.args.layer in
     let row = row_at c.args.rows.now c.loop-c.c in
-    let leads : LeadsJointly l m c.args.state row c.target-id.result = record {
-      first = c.target-id.ensures.first ∙ c.row-ours.ensures.each row.first (c.requires.rows.first c.loop-c.c
-          c.loop-c-test.true) ∙ ap (λ n. step l n row.first) c.first_part.ensures;
-      second = c.target-id.ensures.second ∙ c.row-theirs.ensures.each row.second (c.requires.rows.second c.loop-c.c
-          c.loop-c-test.true) ∙ ap (λ n. step m n row.second) c.second_part.ensures;
-    } in
+    let leads : LeadsJointly l m c.args.state row c.target-pair.result =
+    c.target-pair.ensures ∙ pair_same _ _ _ _
+    (c.row-ours.ensures.each row.first (c.requires.rows.first c.loop-c.c c.loop-c-test.true))
+    (c.row-theirs.ensures.each row.second (c.requires.rows.second c.loop-c.c c.loop-c-test.true)) in
     record {
       height = c.in_ok-to.ensures.height ∙ c.loop-c.invariant.height;
       width = c.in_ok-to.ensures.width ∙ c.loop-c.invariant.width;
@@ -46,7 +45,7 @@ loop-c-preserved c =
           subst (λ (es : List ℕ). AreLed l m c.args.state c.args.rows.now (c.loop-c.c + 1) c.args.next.now.keys
           c.args.edges.now.items c.place.new.self.keys es) (sym c.in_ok-push.ensures.items)
           (led_one l m c.args.state c.args.rows.now c.loop-c.c c.args.next.now.keys c.args.edges.now.items
-          c.loop-c.next.keys c.loop-c.edges.items c.place.new.self.keys c.target-id.result c.in_ok-to.to
+          c.loop-c.next.keys c.loop-c.edges.items c.place.new.self.keys c.target-pair.result c.in_ok-to.to
           c.loop-c.invariant.led c.in_ok-to.ensures.placed leads);
     }
 

@@ -7,6 +7,6 @@ abbrev pub invariant-loop-c : goal.invariant-loop-c
 invariant-loop-c l = record {
   height : l.next.height ≡ l.fn.next.height;
   width : l.next.width ≡ l.fn.next.width;
-  led : AreLed (layer_at l.first.layers l.layer) (layer_at l.second.layers l.layer) l.state l.rows l.c l.fn.next.keys
+  led : AreLed (layer_at l.first.layers l.layer) (layer_at l.second.layers l.layer) l.fn.state l.rows l.c l.fn.next.keys
       l.fn.edges.items l.next.keys l.edges.items;
 }

@@ -4,6 +4,7 @@ use Rattle.std.proofs.lemmas.Option.{slice_get-get_or}
 use Rattle.std.proofs.Math.Nat.{suc-mul, zero-mul, mul-le-mul_right}
 use Rattle.decision_graphs.specs.Label.{Layer, LayerFits, layer_at}
 use Rattle.graph_products.specs.Layering.{AreEdges}
+use Rattle.graph_products.specs.Products.{no_pair}
 use Rattle.graph_products.specs.Seating.{Pairs}
 use Rattle.graph_products.proofs.EdgeLemmas.{edges_none, edges_more}
 use Rattle.graph_products.proofs.layer.next_layer.Goals as goal
@@ -30,13 +31,13 @@ states-init c =
 
 pub add_edges-requires-clause-first_node : goal.add_edges-requires-clause-first_node
 add_edges-requires-clause-first_node c =
-    (c.requires.states c.states.k (get_or c.args.states.now c.states.k 0)
-    (slice_get-get_or c.args.states.now c.states.k 0 c.states-test.true)).0
+    (c.requires.states c.states.k (get_or c.args.states.now c.states.k no_pair)
+    (slice_get-get_or c.args.states.now c.states.k no_pair c.states-test.true)).0
 
 pub add_edges-requires-clause-second_node : goal.add_edges-requires-clause-second_node
 add_edges-requires-clause-second_node c =
-    (c.requires.states c.states.k (get_or c.args.states.now c.states.k 0)
-    (slice_get-get_or c.args.states.now c.states.k 0 c.states-test.true)).1
+    (c.requires.states c.states.k (get_or c.args.states.now c.states.k no_pair)
+    (slice_get-get_or c.args.states.now c.states.k no_pair c.states-test.true)).1
 
 pub add_edges-requires-clause-few : goal.add_edges-requires-clause-few
 add_edges-requires-clause-few c =
@@ -53,8 +54,8 @@ states-preserved c =
     let rows = c.args.rows.now in
     let w = length rows in
     let k = c.states.k in
-    let i = get_or c.args.states.now k 0 in
-    let at_i : slice_get c.args.states.now k ≡ Some i = slice_get-get_or c.args.states.now k 0 c.states-test.true in
+    let i = get_or c.args.states.now k no_pair in
+    let at_i : slice_get c.args.states.now k ≡ Some i = slice_get-get_or c.args.states.now k no_pair c.states-test.true in
     let led = c.in_ok-add_edges.ensures.led in
     let next : (k + 1) * w ≡ k * w + w =
     ap (λ n. n * w) (let e : k + 1 ≡ suc k = omega arith in e) ∙ suc-mul k w in
@@ -64,7 +65,7 @@ states-preserved c =
       few = omega (arith, led.added.grown, led.len, c.states.invariant.few, next);
       edges =
           edges_more l m c.args.states.now rows c.states.next.keys c.add_edges.new.next.keys c.states.edges.items
-          c.add_edges.new.edges.items led.ids k i c.states.invariant.edges led.added at_i led.len led.each;
+          c.add_edges.new.edges.items led.pairs k i c.states.invariant.edges led.added at_i led.len led.each;
     }
 
 pub returns-clause-few : goal.returns-clause-few

@@ -3,5 +3,5 @@ use Rattle.graph_products.proofs.pairs.place_by_hash.Goals as goal
 
 pub returns : goal.returns
 returns c =
-    placed c.args.ids.now.keys c.insert_full.new.self.keys c.args.id c.in_ok-place.place c.in_ok-place.ensures.keys
+    placed c.args.pairs.now.keys c.insert_full.new.self.keys c.args.pair c.in_ok-place.place c.in_ok-place.ensures.keys
     c.in_ok-place.ensures.stored

@@ -9,8 +9,9 @@ use Rattle.decision_graphs.specs.Label.{Layer, Layered, layer_at}
 use Rattle.decision_graphs.specs.declared.finished.FinishedLayer.{FinishedLayer}
 use Rattle.decision_graphs.specs.Finished.{finished, layer_with, AreFinished, IsFinished}
 use Rattle.decision_graphs.proofs.FinishedLemmas.{AreFinished-push}
+use Rattle.graph_products.specs.declared.pair.Pair.{Pair}
 use Rattle.graph_products.specs.declared.row.Row.{Row}
-use Rattle.graph_products.specs.Products.{rows_at, RowsFit, IsProductOf}
+use Rattle.graph_products.specs.Products.{no_pair, rows_at, RowsFit, IsProductOf}
 use Rattle.graph_products.proofs.ListLemmas.{size_in}
 use Rattle.graph_products.specs.Layering.{AreEdges}
 use Rattle.graph_products.proofs.PrefixLemmas.{IsPrefix, prefix_start, prefix_more, product_of, at_least, edges_lead}
@@ -63,7 +64,7 @@ steps-init c =
     let g = c.args.first.now in
     let h = c.args.second.now in
     let rss : List (List Row) = map (λ (v : Vec Row Global). v.items) c.args.steps.now in
-    let is : c.in_ok-states.states.items ≡ 0 ∷ [] = c.in_ok-states.ensures in
+    let is : c.in_ok-states.states.items ≡ no_pair ∷ [] = c.in_ok-states.ensures in
     record {
       prefix =
           subst (λ xs. IsPrefix g h rss 0 xs c.in_ok-states.states.items)
@@ -85,8 +86,8 @@ steps-preserved c =
     let j = c.steps.j in
     let rss : List (List Row) = map (λ (v : Vec Row Global). v.items) c.args.steps.now in
     let rows : List Row = c.as_slice-rows.result.now in
-    let states : List ℕ = c.steps.states.items in
-    let next : List ℕ = c.in_ok-made.made.next.items in
+    let states : List Pair = c.steps.states.items in
+    let next : List Pair = c.in_ok-made.made.next.items in
     let edges : List ℕ = c.in_ok-made.made.edges.items in
     let lt : j < length rss = omega (arith, length-rows c.args.steps.now, c.steps-test.true) in
     let at0 : slice_get c.args.steps.now j ≡ Some c.index-steps-j.result =
@@ -118,7 +119,7 @@ steps-preserved c =
     let room : length c.as_slice-held.result.now * length rows ≤ c.steps.left =
     c.too_many.ensures.few c.if-too_many.false in
     let few_next : length next ≤ length states * length rows =
-    subst (λ (xs : List ℕ). length next ≤ length xs * length rows) c.as_slice-held.ensures.value
+    subst (λ (xs : List Pair). length next ≤ length xs * length rows) c.as_slice-held.ensures.value
     c.in_ok-made.ensures.few in
     let nodes_few : length states ≤ length states * length rows = at_least (length states) (length rows) some_row in
     let fits_layer : IsFinished (length next) layer = record {
@@ -199,7 +200,7 @@ returns-then-too_many-clause-wide c e =
     let j = c.steps.j in
     let rss : List (List Row) = map (λ (v : Vec Row Global). v.items) c.args.steps.now in
     let rows : List Row = c.as_slice-rows.result.now in
-    let states : List ℕ = c.steps.states.items in
+    let states : List Pair = c.steps.states.items in
     let lt : j < length rss = omega (arith, length-rows c.args.steps.now, c.steps-test.true) in
     let at0 : slice_get c.args.steps.now j ≡ Some c.index-steps-j.result =
     slice_get_read c.args.steps.now _ j c.index-steps-j.result refl c.steps-test.true c.index-steps-j.is in
@@ -209,7 +210,7 @@ returns-then-too_many-clause-wide c e =
     let rows_is : rows_at rss j ≡ rows = get_or_from_slice_get rss j rows [] at_j in
     let ps : List Layer = map finished c.steps.layers.items in
     let product : length c.as_slice-held.result.now * length rows ≡ length states * length rows =
-    ap (λ (xs : List ℕ). length xs * length rows) c.as_slice-held.ensures.value in
+    ap (λ (xs : List Pair). length xs * length rows) c.as_slice-held.ensures.value in
     is_wide g h rss j c.steps.left c.args.budget (length states) c.steps.invariant.spent lt
     (so_many g h rss j ps states c.steps.invariant.prefix)
     (length c.as_slice-held.result.now * length rows)

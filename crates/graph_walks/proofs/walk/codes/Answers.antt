@@ -1,7 +1,9 @@
-use Rattle.std.proofs.Common.{◌≡◌, ℕ, ◌+◌, List, [], ◌∷◌, ◌++◌, map, take, length, get_or, slice_get, Some, sym, ap, ◌∙◌}
+use Rattle.std.proofs.Common.{◌≡◌, ◌+◌, List, [], ◌∷◌, ◌++◌, map, take, get_or, slice_get, Some, sym, ap, ◌∙◌}
 use Rattle.std.proofs.Common.{add-one, arith}
 use Rattle.std.proofs.lemmas.List.{take_all}
 use Rattle.std.proofs.lemmas.Option.{slice_get-get_or}
+use Rattle.graph_products.specs.declared.pair.Pair.{Pair}
+use Rattle.graph_products.specs.Products.{no_pair}
 use Rattle.graph_walks.specs.declared.codes.Codes.{Codes}
 use Rattle.graph_walks.specs.Walks.{codes_at}
 use Rattle.graph_walks.proofs.WalkLemmas.{map_take_more}
@@ -13,8 +15,8 @@ loop-t-preserved c =
     let other = c.args.other.now in
     let pairs = c.args.pairs.now in
     let t = c.loop-t.t in
-    let x : ℕ = get_or pairs t 0 in
-    let at : slice_get pairs t ≡ Some x = slice_get-get_or pairs t 0 c.loop-t-test.true in
+    let x : Pair = get_or pairs t no_pair in
+    let at : slice_get pairs t ≡ Some x = slice_get-get_or pairs t no_pair c.loop-t-test.true in
     let more : map (codes_at one other) (take (t + 1) pairs)
     ≡ map (codes_at one other) (take t pairs) ++ codes_at one other x ∷ [] =
     ap (λ n. map (codes_at one other) (take n pairs)) (add-one t) ∙ map_take_more (codes_at one other) pairs t x at in
