@@ -30,3 +30,5 @@ pub mod ByteLemmas
 pub mod FirstLemmas
 pub mod ReadLemmas
 pub mod TextLemmas
+pub mod UnchangedLemmas
+pub mod StayLemmas

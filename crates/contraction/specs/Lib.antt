@@ -9,3 +9,4 @@ pub mod Rows
 pub mod Inside
 pub mod Selecting
 pub mod Renaming
+pub mod Unchanged

@@ -23,6 +23,7 @@ mod renamed;
 mod row;
 mod selection;
 mod supply;
+mod unchanged;
 mod value;
 
 pub use laws::{
