@@ -3,6 +3,7 @@ ghost use Rattle.std.specs.Prelude.{◌≡◌, ℕ, ◌+◌, ◌<◌, ◌≤◌,
 ghost use Rattle.std.specs.Prelude.{IfOk, IfSome, OnOk, Contains, IsTrue};
 ghost use Rattle.contraction.specs.Answers.{Keeps};
 ghost use Rattle.judge_pool.specs.declared.pool.Pool.{Pool as AnyPool};
+ghost use Rattle.judge_pool.specs.Seen.{ComposesIn};
 ghost use Rattle.judge_pool.specs.Pooling.{IsPool, GrewTo, Selects, SelectsFor, IsRowOfBoth, CanCompose, LettersFit};
 ghost use Rattle.judge_pool.specs.Pooling.{WasMade, MakesEach, HasBatch, NotesAreRight};
 ghost use Rattle.judge_pool.specs.Numbered.{letter_lists};
@@ -55,6 +56,20 @@ fn composed_row(
     match view {
         View::Gap => x.composed_gap_row(alloc, y, selection),
         View::Load => x.composed_load_row(alloc, y, selection),
+    }
+}
+
+// Whether the second value adds nothing to the first in this view, on a selection of just the nodes of the first.
+fn adds_nothing(view: View, x: &Contraction, y: &Contraction, selection: &Selection) -> bool
+    requires first { selection.now.first ≡ x.now.kept }
+    requires second { selection.now.second ≡ y.now.kept }
+    requires nodes { (n : ℕ) → Contains selection.now.nodes n → Keeps x.now.kept n ⊎ Keeps y.now.kept n }
+    ensures composes { IsTrue result → ComposesIn view x.now y.now x.now }
+    ensures kept { IsTrue result → (n : ℕ) → Keeps x.now.kept n ↔ Contains selection.now.nodes n }
+{
+    match view {
+        View::Gap => x.gap_stays_with(y, selection),
+        View::Load => x.load_stays_with(y, selection),
     }
 }
 
@@ -204,8 +219,9 @@ impl Pool {
         Ok(place)
     }
 
-    // The number of the value that two values on this selection of their nodes make together. Where the pool has it,
-    // its row tells it, and it is not made; else it is read from the row.
+    // The number of the value that two values on this selection of their nodes make together. Where the second adds
+    // nothing it is the first; where the pool has it, its row tells it, and it is not made; else it is read from the
+    // row.
     fn find_or_make(
         &mut self,
         alloc: Global,
@@ -220,6 +236,9 @@ impl Pool {
     {
         let x = &self.values[key.first];
         let y = &self.values[key.second];
+        if adds_nothing(self.view, x, y, selection) {
+            return Ok(key.first);
+        }
         let row = composed_row(alloc, self.view, x, y, selection)?;
         match find_row(&self.index, &row) {
             Some(place) => Ok(place),

@@ -7,6 +7,90 @@ use Rattle.judge_pool.specs.Pooling.{HasSame, Selects}
 use Rattle.judge_pool.proofs.PoolLemmas.{made_same, rows_tell}
 use Rattle.judge_pool.proofs.pool.Pool.find_or_make.Goals as goal
 
+pub adds_nothing-requires-clause-first : goal.adds_nothing-requires-clause-first
+adds_nothing-requires-clause-first c =
+    let p = c.args.self.now in
+    let k = c.args.key in
+    let s = c.args.selection.now in
+    let x : Answers = c.index-x.result.now in
+    let y : Answers = c.index-y.result.now in
+    let nodes : List ℕ = get_or p.keeps.items k.keep [] in
+    let first : slice_get p.values.items k.first ≡ Some x =
+    slice_get_read p.values.items _ k.first x refl c.requires.fits.first c.index-x.ensures in
+    let second : slice_get p.values.items k.second ≡ Some y =
+    slice_get_read p.values.items _ k.second y refl c.requires.fits.second c.index-y.ensures in
+    let asked : slice_get p.keeps.items k.keep ≡ Some nodes =
+    slice_get-get_or p.keeps.items k.keep [] c.requires.fits.keep in
+    let sel : Selects x y nodes s = c.requires.selection x y nodes first second asked in
+    sel.first
+
+pub adds_nothing-requires-clause-second : goal.adds_nothing-requires-clause-second
+adds_nothing-requires-clause-second c =
+    let p = c.args.self.now in
+    let k = c.args.key in
+    let s = c.args.selection.now in
+    let x : Answers = c.index-x.result.now in
+    let y : Answers = c.index-y.result.now in
+    let nodes : List ℕ = get_or p.keeps.items k.keep [] in
+    let first : slice_get p.values.items k.first ≡ Some x =
+    slice_get_read p.values.items _ k.first x refl c.requires.fits.first c.index-x.ensures in
+    let second : slice_get p.values.items k.second ≡ Some y =
+    slice_get_read p.values.items _ k.second y refl c.requires.fits.second c.index-y.ensures in
+    let asked : slice_get p.keeps.items k.keep ≡ Some nodes =
+    slice_get-get_or p.keeps.items k.keep [] c.requires.fits.keep in
+    let sel : Selects x y nodes s = c.requires.selection x y nodes first second asked in
+    sel.second
+
+pub adds_nothing-requires-clause-nodes : goal.adds_nothing-requires-clause-nodes
+adds_nothing-requires-clause-nodes c =
+    let p = c.args.self.now in
+    let k = c.args.key in
+    let s = c.args.selection.now in
+    let x : Answers = c.index-x.result.now in
+    let y : Answers = c.index-y.result.now in
+    let nodes : List ℕ = get_or p.keeps.items k.keep [] in
+    let first : slice_get p.values.items k.first ≡ Some x =
+    slice_get_read p.values.items _ k.first x refl c.requires.fits.first c.index-x.ensures in
+    let second : slice_get p.values.items k.second ≡ Some y =
+    slice_get_read p.values.items _ k.second y refl c.requires.fits.second c.index-y.ensures in
+    let asked : slice_get p.keeps.items k.keep ≡ Some nodes =
+    slice_get-get_or p.keeps.items k.keep [] c.requires.fits.keep in
+    let sel : Selects x y nodes s = c.requires.selection x y nodes first second asked in
+    subst (λ l. (n : ℕ) → Contains l n → Keeps x.kept n ⊎ Keeps y.kept n) (sym sel.asked)
+    (c.requires.fits.either x y nodes first second asked)
+
+pub returns-then-adds_nothing-clause-made : goal.returns-then-adds_nothing-clause-made
+returns-then-adds_nothing-clause-made c =
+    let p = c.args.self.now in
+    let k = c.args.key in
+    let s = c.args.selection.now in
+    let x : Answers = c.index-x.result.now in
+    let y : Answers = c.index-y.result.now in
+    let nodes : List ℕ = get_or p.keeps.items k.keep [] in
+    let first : slice_get p.values.items k.first ≡ Some x =
+    slice_get_read p.values.items _ k.first x refl c.requires.fits.first c.index-x.ensures in
+    let second : slice_get p.values.items k.second ≡ Some y =
+    slice_get_read p.values.items _ k.second y refl c.requires.fits.second c.index-y.ensures in
+    let asked : slice_get p.keeps.items k.keep ≡ Some nodes =
+    slice_get-get_or p.keeps.items k.keep [] c.requires.fits.keep in
+    let sel : Selects x y nodes s = c.requires.selection x y nodes first second asked in
+    record {
+      x = x;
+      y = y;
+      keep = nodes;
+      first = first;
+      second = second;
+      nodes = asked;
+      made = record {
+        value = x;
+        listed = first;
+        composes = c.adds_nothing.ensures.composes c.if-adds_nothing.true;
+        kept =
+            subst (λ l. (n : ℕ) → Keeps x.kept n ↔ Contains l n) sel.asked
+            (c.adds_nothing.ensures.kept c.if-adds_nothing.true);
+      };
+    }
+
 pub composed_row-requires-clause-first : goal.composed_row-requires-clause-first
 composed_row-requires-clause-first c =
     let p = c.args.self.now in
