@@ -122,7 +122,7 @@ const STUB: &[u8] = b"\n\
 // An earthing switch whose path has 92 characters: the first row of the comment has 80 of them, and the identifier the last
 // 13. Nothing denies that it moves, so no formula is read: the block has neither inputs nor variables of its own, and no
 // section of either.
-const LONG: Drawing = Drawing {
+static LONG: Drawing = Drawing {
     parts: &["S"],
     nodes: &["S/n"],
     switches: &[(
@@ -167,7 +167,7 @@ const LONG_LINES: &[u8] = b"\n\
 
 // An earthing switch in each of two bays, and two in a third one. Nothing denies that they move. The first two bays share a
 // block, which is in the names of the first of them; the third one has another.
-const THREE_BAYS: Drawing = Drawing {
+static THREE_BAYS: Drawing = Drawing {
     parts: &["S/A", "S/B", "S/C"],
     nodes: &["S/A/n", "S/B/n", "S/C/n"],
     switches: &[
@@ -208,7 +208,7 @@ const ITS_OWN: &[u8] = b"(* from other bays 0 BOOLs, to other bays 0 *)\n\
 
 // An earthing switch in one bay, and an infeed in another, at one node. Each is told by the other whether that may be closed,
 // and denies its closing then. Both have one position and one denial, so their blocks are the same but for the numbers.
-const ONE_NODE: Drawing = Drawing {
+static ONE_NODE: Drawing = Drawing {
     parts: &["S/A", "S/B"],
     nodes: &["S/A/n"],
     switches: &[
@@ -291,14 +291,14 @@ fn two_ways(rt: HostRuntime) -> Result<(), Fail> {
 
 #[test]
 fn long_path(rt: HostRuntime) -> Result<(), Fail> {
-    let station = station_of(rt.alloc(), LONG)?;
+    let station = station_of(rt.alloc(), &LONG)?;
     assert!(rt; ends_with(rt.alloc(), &station, LONG_LINES));
     Ok(())
 }
 
 #[test]
 fn bays(rt: HostRuntime) -> Result<(), Fail> {
-    let station = station_of(rt.alloc(), THREE_BAYS)?;
+    let station = station_of(rt.alloc(), &THREE_BAYS)?;
     assert!(rt; is_of_bay(rt.alloc(), &station, 0, SHARED));
     assert!(rt; is_of_bay(rt.alloc(), &station, 1, SHARED));
     assert!(rt; is_of_bay(rt.alloc(), &station, 2, ITS_OWN));
@@ -307,7 +307,7 @@ fn bays(rt: HostRuntime) -> Result<(), Fail> {
 
 #[test]
 fn told_by_another_bay(rt: HostRuntime) -> Result<(), Fail> {
-    let station = station_of(rt.alloc(), ONE_NODE)?;
+    let station = station_of(rt.alloc(), &ONE_NODE)?;
     assert!(rt; is_of_bay(rt.alloc(), &station, 0, TOLD));
     assert!(rt; is_of_bay(rt.alloc(), &station, 1, TOLD));
     Ok(())

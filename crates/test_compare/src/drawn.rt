@@ -3,7 +3,7 @@ use ilk_base::Kind;
 use test_stations::Drawing;
 
 // A bay with an earthing switch and an infeed at one node.
-pub(crate) const JOINED: Drawing = Drawing {
+pub(crate) static JOINED: Drawing = Drawing {
     parts: &["S/V1/Q1"],
     nodes: &["S/V1/Q1/a"],
     switches: &[
@@ -15,7 +15,7 @@ pub(crate) const JOINED: Drawing = Drawing {
 };
 
 // The same with a disconnector between them.
-pub(crate) const PARTED: Drawing = Drawing {
+pub(crate) static PARTED: Drawing = Drawing {
     parts: &["S/V1/Q1"],
     nodes: &["S/V1/Q1/a", "S/V1/Q1/b"],
     switches: &[
@@ -28,7 +28,7 @@ pub(crate) const PARTED: Drawing = Drawing {
 };
 
 // An earthing switch alone in its bay, and a second bay that feeds its node over a disconnector.
-pub(crate) const FED: Drawing = Drawing {
+pub(crate) static FED: Drawing = Drawing {
     parts: &["S/V1/Q1", "S/V1/Q2"],
     nodes: &["S/V1/Q1/n1", "S/V1/Q2/b"],
     switches: &[
@@ -41,7 +41,7 @@ pub(crate) const FED: Drawing = Drawing {
 };
 
 // The two feeders, a second busbar behind a disconnector, and a third feeder on it.
-pub(crate) const LENGTHENED: Drawing = Drawing {
+pub(crate) static LENGTHENED: Drawing = Drawing {
     parts: &[
         "S/V1/W1", "S/V1/W2", "S/V1/KS", "S/V1/Q1", "S/V1/Q2", "S/V1/Q3",
     ],
@@ -81,7 +81,7 @@ pub(crate) const LENGTHENED: Drawing = Drawing {
 };
 
 // A busbar with three feeders of four switches each.
-pub(crate) const WHOLE: Drawing = Drawing {
+pub(crate) static WHOLE: Drawing = Drawing {
     parts: &["S/V1/W1", "S/V1/Q1", "S/V1/Q2", "S/V1/Q3"],
     nodes: &[
         "S/V1/W1/B",
@@ -111,7 +111,7 @@ pub(crate) const WHOLE: Drawing = Drawing {
 };
 
 // The same with the busbar cut by a disconnector behind the first feeder.
-pub(crate) const CUT: Drawing = Drawing {
+pub(crate) static CUT: Drawing = Drawing {
     parts: &[
         "S/V1/W1", "S/V1/W2", "S/V1/KS", "S/V1/Q1", "S/V1/Q2", "S/V1/Q3",
     ],

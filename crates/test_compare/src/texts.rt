@@ -26,8 +26,8 @@ fn reports(alloc: Global, old: &Station, new: &Station, text: &str, extends: boo
 // Whether that of these drawings is.
 fn drawn_so(
     alloc: Global,
-    old: Drawing,
-    new: Drawing,
+    old: &Drawing,
+    new: &Drawing,
     text: &str,
     extends: bool,
 ) -> Result<bool, Fail> {
@@ -54,7 +54,7 @@ bay changed S/V1/Q1
 
 #[test]
 fn what_is_looser_is_shown(rt: HostRuntime) -> Result<(), Fail> {
-    assert!(rt; drawn_so(rt.alloc(), JOINED, PARTED, APART, false)?);
+    assert!(rt; drawn_so(rt.alloc(), &JOINED, &PARTED, APART, false)?);
     Ok(())
 }
 
@@ -74,7 +74,7 @@ bay changed S/V1/Q1
 
 #[test]
 fn turned_round_it_is_stricter(rt: HostRuntime) -> Result<(), Fail> {
-    assert!(rt; drawn_so(rt.alloc(), PARTED, JOINED, TOGETHER, false)?);
+    assert!(rt; drawn_so(rt.alloc(), &PARTED, &JOINED, TOGETHER, false)?);
     Ok(())
 }
 
@@ -98,7 +98,7 @@ fn what_is_new_is_shown_closed(rt: HostRuntime) -> Result<(), Fail> {
         drawn_so(
             rt.alloc(),
             drawing_of(Example::OneEarthed),
-            FED,
+            &FED,
             WITH_A_FEEDER,
             true
         )?
@@ -123,7 +123,7 @@ bay gone S/V1/Q2
 #[test]
 fn what_is_gone_is_no_extension(rt: HostRuntime) -> Result<(), Fail> {
     let less = drawing_of(Example::OneEarthed);
-    assert!(rt; drawn_so(rt.alloc(), FED, less, WITHOUT_THE_FEEDER, false)?);
+    assert!(rt; drawn_so(rt.alloc(), &FED, less, WITHOUT_THE_FEEDER, false)?);
     Ok(())
 }
 

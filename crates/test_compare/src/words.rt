@@ -73,7 +73,7 @@ fn says(alloc: Global, old: &Station, new: &Station, said: &Said) -> bool {
 }
 
 // Whether that of these drawings does.
-fn drawn_so(alloc: Global, old: Drawing, new: Drawing, said: &Said) -> Result<bool, Fail> {
+fn drawn_so(alloc: Global, old: &Drawing, new: &Drawing, said: &Said) -> Result<bool, Fail> {
     let old = station_of(alloc, old)?;
     let new = station_of(alloc, new)?;
     Ok(says(alloc, &old, &new, said))
@@ -95,7 +95,7 @@ const OF_PARTED: Said = Said {
 
 #[test]
 fn a_disconnector_between_changes_both(rt: HostRuntime) -> Result<(), Fail> {
-    assert!(rt; drawn_so(rt.alloc(), JOINED, PARTED, &OF_PARTED)?);
+    assert!(rt; drawn_so(rt.alloc(), &JOINED, &PARTED, &OF_PARTED)?);
     Ok(())
 }
 
@@ -109,7 +109,7 @@ const OF_FED: Said = Said {
 
 #[test]
 fn a_feeder_that_is_open_keeps_it(rt: HostRuntime) -> Result<(), Fail> {
-    assert!(rt; drawn_so(rt.alloc(), drawing_of(Example::OneEarthed), FED, &OF_FED)?);
+    assert!(rt; drawn_so(rt.alloc(), drawing_of(Example::OneEarthed), &FED, &OF_FED)?);
     Ok(())
 }
 
@@ -165,7 +165,7 @@ const OF_LENGTHENED: Said = Said {
 #[test]
 fn a_longer_busbar_keeps_the_feeders(rt: HostRuntime) -> Result<(), Fail> {
     let old = drawing_of(Example::TwoFeeders);
-    assert!(rt; drawn_so(rt.alloc(), old, LENGTHENED, &OF_LENGTHENED)?);
+    assert!(rt; drawn_so(rt.alloc(), old, &LENGTHENED, &OF_LENGTHENED)?);
     Ok(())
 }
 
@@ -203,6 +203,6 @@ const OF_CUT: Said = Said {
 
 #[test]
 fn a_cut_busbar_changes_the_feeders(rt: HostRuntime) -> Result<(), Fail> {
-    assert!(rt; drawn_so(rt.alloc(), WHOLE, CUT, &OF_CUT)?);
+    assert!(rt; drawn_so(rt.alloc(), &WHOLE, &CUT, &OF_CUT)?);
     Ok(())
 }

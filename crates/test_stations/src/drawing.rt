@@ -116,19 +116,24 @@ fn add_taps(builder: &mut Builder, taps: &[(u8, u16)]) -> Result<(), DrawingFaul
     Ok(())
 }
 
+// Adds to the builder all that the table shows.
+fn draw(alloc: Global, builder: &mut Builder, drawing: &Drawing) -> Result<(), DrawingFault> {
+    add_parts(builder, drawing.parts)?;
+    add_nodes(builder, drawing.nodes)?;
+    add_switches(alloc, builder, drawing.switches)?;
+    add_links(builder, drawing.links)?;
+    add_taps(builder, drawing.taps)
+}
+
 // The builder with all that the table shows.
-fn drawn(alloc: Global, drawing: Drawing) -> Result<Builder, DrawingFault> {
+fn drawn(alloc: Global, drawing: &Drawing) -> Result<Builder, DrawingFault> {
     let mut builder = Builder::new(alloc);
-    add_parts(&mut builder, drawing.parts)?;
-    add_nodes(&mut builder, drawing.nodes)?;
-    add_switches(alloc, &mut builder, drawing.switches)?;
-    add_links(&mut builder, drawing.links)?;
-    add_taps(&mut builder, drawing.taps)?;
+    draw(alloc, &mut builder, drawing)?;
     Ok(builder)
 }
 
 /// The station of a table, built by the calls of `station_graph` in the order of its lines.
-pub fn station_of(alloc: Global, drawing: Drawing) -> Result<Station, DrawingFault> {
+pub fn station_of(alloc: Global, drawing: &Drawing) -> Result<Station, DrawingFault> {
     let builder = drawn(alloc, drawing)?;
     if builder.is_complete() {
         Ok(builder.finish())

@@ -35,19 +35,19 @@ pub enum Example {
 }
 
 /// What is drawn of the station.
-pub fn drawing_of(example: Example) -> Drawing {
+pub fn drawing_of(example: Example) -> &'static Drawing {
     match example {
-        Example::Nothing => NOTHING,
-        Example::OneEarthed => ONE_EARTHED,
-        Example::EarthedLine => EARTHED_LINE,
-        Example::ThirteenLines => THIRTEEN_LINES,
-        Example::TwoFeeders => TWO_FEEDERS,
-        Example::ThreeBays => THREE_BAYS,
-        Example::FeedersApart => FEEDERS_APART,
-        Example::BareStub => BARE_STUB,
-        Example::TwoTransformers => TWO_TRANSFORMERS,
-        Example::TwoBusbars => TWO_BUSBARS,
-        Example::EightEarthed => EIGHT_EARTHED,
+        Example::Nothing => &NOTHING,
+        Example::OneEarthed => &ONE_EARTHED,
+        Example::EarthedLine => &EARTHED_LINE,
+        Example::ThirteenLines => &THIRTEEN_LINES,
+        Example::TwoFeeders => &TWO_FEEDERS,
+        Example::ThreeBays => &THREE_BAYS,
+        Example::FeedersApart => &FEEDERS_APART,
+        Example::BareStub => &BARE_STUB,
+        Example::TwoTransformers => &TWO_TRANSFORMERS,
+        Example::TwoBusbars => &TWO_BUSBARS,
+        Example::EightEarthed => &EIGHT_EARTHED,
     }
 }
 

@@ -2,7 +2,7 @@
 use crate::drawing::Drawing;
 use ilk_base::Kind;
 
-pub(crate) const NOTHING: Drawing = Drawing {
+pub(crate) static NOTHING: Drawing = Drawing {
     parts: &[],
     nodes: &[],
     switches: &[],
@@ -11,7 +11,7 @@ pub(crate) const NOTHING: Drawing = Drawing {
 };
 
 // A bay with one earthing switch.
-pub(crate) const ONE_EARTHED: Drawing = Drawing {
+pub(crate) static ONE_EARTHED: Drawing = Drawing {
     parts: &["S/V1/Q1"],
     nodes: &["S/V1/Q1/n1"],
     switches: &[("QC9", Kind::Earthing, 0, 0, None)],
@@ -20,7 +20,7 @@ pub(crate) const ONE_EARTHED: Drawing = Drawing {
 };
 
 // A bay with an earthing switch and an infeed at one node.
-pub(crate) const EARTHED_LINE: Drawing = Drawing {
+pub(crate) static EARTHED_LINE: Drawing = Drawing {
     parts: &["S/V1/Q1"],
     nodes: &["S/V1/Q1/a"],
     switches: &[
@@ -32,7 +32,7 @@ pub(crate) const EARTHED_LINE: Drawing = Drawing {
 };
 
 // A bay with thirteen infeeds at one node.
-pub(crate) const THIRTEEN_LINES: Drawing = Drawing {
+pub(crate) static THIRTEEN_LINES: Drawing = Drawing {
     parts: &["S/V1/Q1"],
     nodes: &["S/V1/Q1/a"],
     switches: &[
@@ -56,7 +56,7 @@ pub(crate) const THIRTEEN_LINES: Drawing = Drawing {
 
 // A busbar and two feeders: of each the busbar disconnector, the breaker, the line disconnector, the
 // earthing switch and the infeed, at three nodes in a row.
-pub(crate) const TWO_FEEDERS: Drawing = Drawing {
+pub(crate) static TWO_FEEDERS: Drawing = Drawing {
     parts: &["S/V1/W1", "S/V1/Q1", "S/V1/Q2"],
     nodes: &[
         "S/V1/W1/B",
@@ -84,7 +84,7 @@ pub(crate) const TWO_FEEDERS: Drawing = Drawing {
 };
 
 // The two feeders, and a third bay of one disconnector at the busbar.
-pub(crate) const THREE_BAYS: Drawing = Drawing {
+pub(crate) static THREE_BAYS: Drawing = Drawing {
     parts: &["S/V1/W1", "S/V1/Q1", "S/V1/Q2", "S/V1/Q3"],
     nodes: &[
         "S/V1/W1/B",
@@ -114,7 +114,7 @@ pub(crate) const THREE_BAYS: Drawing = Drawing {
 };
 
 // Two feeders, each on a busbar of its own.
-pub(crate) const FEEDERS_APART: Drawing = Drawing {
+pub(crate) static FEEDERS_APART: Drawing = Drawing {
     parts: &["S/V1/W1", "S/V1/W2", "S/V1/Q1", "S/V1/Q2"],
     nodes: &[
         "S/V1/W1/B",
@@ -143,7 +143,7 @@ pub(crate) const FEEDERS_APART: Drawing = Drawing {
 };
 
 // A fed busbar and a stub on it by two disconnectors in parallel.
-pub(crate) const BARE_STUB: Drawing = Drawing {
+pub(crate) static BARE_STUB: Drawing = Drawing {
     parts: &["S/V1/W1", "S/V1/Q1"],
     nodes: &["S/V1/W1/B", "S/V1/Q1/s"],
     switches: &[
@@ -157,7 +157,7 @@ pub(crate) const BARE_STUB: Drawing = Drawing {
 
 // Two busbars of one voltage with a disconnector between them, each with a transformer to the same
 // busbar of another voltage.
-pub(crate) const TWO_TRANSFORMERS: Drawing = Drawing {
+pub(crate) static TWO_TRANSFORMERS: Drawing = Drawing {
     parts: &["S/T1", "S/T2", "S/V1/W1", "S/V1/W2", "S/V1/Q1", "S/V2/W1"],
     nodes: &["S/V1/W1/H", "S/V1/W2/H", "S/V2/W1/L"],
     switches: &[
@@ -169,7 +169,7 @@ pub(crate) const TWO_TRANSFORMERS: Drawing = Drawing {
 };
 
 // Two busbars, a coupler between them, and two feeders with a disconnector to each busbar.
-pub(crate) const TWO_BUSBARS: Drawing = Drawing {
+pub(crate) static TWO_BUSBARS: Drawing = Drawing {
     parts: &["S/V1/W1", "S/V1/W2", "S/V1/K0", "S/V1/Q1", "S/V1/Q2"],
     nodes: &[
         "S/V1/W1/B",
@@ -205,7 +205,7 @@ pub(crate) const TWO_BUSBARS: Drawing = Drawing {
 };
 
 // Two bays, each with an earthing switch at each of the same eight nodes.
-pub(crate) const EIGHT_EARTHED: Drawing = Drawing {
+pub(crate) static EIGHT_EARTHED: Drawing = Drawing {
     parts: &["S/V1/Q1", "S/V1/Q2"],
     nodes: &[
         "S/V1/Q1/a1",
