@@ -18,7 +18,7 @@ pub(crate) struct Drawn {
 }
 
 // A busbar with two feeders.
-pub(crate) const ONE_BUSBAR: Drawn = Drawn {
+pub(crate) static ONE_BUSBAR: Drawn = Drawn {
     text: r#"<SCL>
 <Substation name="S">
 <VoltageLevel name="V1">
@@ -90,7 +90,7 @@ pub(crate) const ONE_BUSBAR: Drawn = Drawn {
 };
 
 // Two busbars with a feeder each.
-pub(crate) const TWO_BUSBARS: Drawn = Drawn {
+pub(crate) static TWO_BUSBARS: Drawn = Drawn {
     text: r#"<SCL>
 <Substation name="S">
 <VoltageLevel name="V1">
@@ -165,7 +165,7 @@ pub(crate) const TWO_BUSBARS: Drawn = Drawn {
 };
 
 // Two disconnectors in parallel onto a stub.
-pub(crate) const STUB: Drawn = Drawn {
+pub(crate) static STUB: Drawn = Drawn {
     text: r#"<SCL>
 <Substation name="S">
 <VoltageLevel name="V1">
@@ -198,7 +198,7 @@ pub(crate) const STUB: Drawn = Drawn {
 };
 
 // Two transformers in parallel beside a disconnector.
-pub(crate) const TRANSFORMERS: Drawn = Drawn {
+pub(crate) static TRANSFORMERS: Drawn = Drawn {
     text: r#"<SCL>
 <Substation name="S">
 <PowerTransformer name="T1" type="PTR">
@@ -241,7 +241,7 @@ pub(crate) const TRANSFORMERS: Drawn = Drawn {
 };
 
 // A bay with an earthing switch and an infeed, as a tool writes it.
-pub(crate) const LINE_BAY: Drawn = Drawn {
+pub(crate) static LINE_BAY: Drawn = Drawn {
     text: r#"<?xml version="1.0" encoding="utf-8"?>
 <!-- one line bay -->
 <SCL xmlns="http://www.iec.ch/61850/2003/SCL" xmlns:sxy="urn:draw" version="2007">

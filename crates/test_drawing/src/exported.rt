@@ -3,7 +3,7 @@ use crate::drawings::Drawn;
 use ilk_base::Kind;
 
 // A drawing as an engineering tool exports it; it is that of examples/vendor.ssd.
-pub(crate) const EXPORTED: Drawn = Drawn {
+pub(crate) static EXPORTED: Drawn = Drawn {
     text: r#"<?xml version="1.0" encoding="UTF-8"?>
 <!-- exported by an engineering tool -->
 <SCL xmlns="http://www.iec.ch/61850/2003/SCL" xmlns:sxy="http://www.iec.ch/61850/2003/SCLcoordinates"

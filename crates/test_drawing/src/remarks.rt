@@ -7,7 +7,10 @@ use std::alloc::Global;
 use text_lines::Lines;
 
 // A drawing in pieces, and what is remarked of it.
-const ROWS: &[(&[&str], &str)] = &[
+type Row = (&'static [&'static str], &'static str);
+
+// Of lines.
+const OF_LINES: &[Row] = &[
     (RIGHT, ""),
     // the line as a line, in lower case, as a battery
     (
@@ -52,6 +55,10 @@ const ROWS: &[(&[&str], &str)] = &[
         ],
         "remark\tno-infeed\t-\n",
     ),
+];
+
+// Of earthing switches, and of what else stands at earth.
+const OF_EARTHING: &[Row] = &[
     // an earthing switch with a type of the tool's own, and one in lower case
     (
         &[
@@ -133,6 +140,10 @@ const ROWS: &[(&[&str], &str)] = &[
         ],
         "remark\tapart\tS/V/Q/n3\nremark\ttwo-nodes\tS/V/Q/QB9\nremark\tlone-infeed\tS/V/Q/E1\n",
     ),
+];
+
+// Of where equipment is drawn.
+const OF_PLACES: &[Row] = &[
     // all of it in a process; the breaker in a function; no substation; children without the root's prefix
     (
         &[
@@ -173,6 +184,10 @@ remark\tpassed-over\tS/V/Q/QA1\n",
         &["<scl:SCL><Substation name=\"S\"/></scl:SCL>"],
         "remark\tno-switch\t-\nremark\tno-infeed\t-\nremark\tpassed-over\tS\n",
     ),
+];
+
+// Of what stands in a way, and of a transformer.
+const OF_WAYS: &[Row] = &[
     // a breaker with a type of the tool's own; a bushing in the way
     (
         &[
@@ -280,7 +295,7 @@ fn is_row(alloc: Global, pieces: &[&str], want: &str) -> bool {
 }
 
 // Whether of each drawing is remarked what its row says.
-fn are_rows(alloc: Global, rows: &[(&[&str], &str)]) -> bool {
+fn are_rows(alloc: Global, rows: &[Row]) -> bool {
     for (pieces, want) in rows {
         if !is_row(alloc, pieces, want) {
             return false;
@@ -290,6 +305,21 @@ fn are_rows(alloc: Global, rows: &[(&[&str], &str)]) -> bool {
 }
 
 #[test]
-fn remarks(rt: HostRuntime) {
-    assert!(rt; are_rows(rt.alloc(), ROWS));
+fn remarks_of_lines(rt: HostRuntime) {
+    assert!(rt; are_rows(rt.alloc(), OF_LINES));
+}
+
+#[test]
+fn remarks_of_earthing(rt: HostRuntime) {
+    assert!(rt; are_rows(rt.alloc(), OF_EARTHING));
+}
+
+#[test]
+fn remarks_of_places(rt: HostRuntime) {
+    assert!(rt; are_rows(rt.alloc(), OF_PLACES));
+}
+
+#[test]
+fn remarks_of_ways(rt: HostRuntime) {
+    assert!(rt; are_rows(rt.alloc(), OF_WAYS));
 }

@@ -76,18 +76,43 @@ fn is_drawn(alloc: Global, text: &str, drawn: &Drawn) -> bool {
     }
 }
 
-const DRAWINGS: &[Drawn] = &[
-    ONE_BUSBAR,
-    TWO_BUSBARS,
-    STUB,
-    TRANSFORMERS,
-    LINE_BAY,
-    EXPORTED,
+// Which of the drawings. Tests name them so, and do not hold them whole.
+#[derive(Clone, Copy)]
+enum Example {
+    OneBusbar,
+    TwoBusbars,
+    Stub,
+    Transformers,
+    LineBay,
+    Exported,
+}
+
+// What is drawn.
+fn drawn_of(example: Example) -> &'static Drawn {
+    match example {
+        Example::OneBusbar => &ONE_BUSBAR,
+        Example::TwoBusbars => &TWO_BUSBARS,
+        Example::Stub => &STUB,
+        Example::Transformers => &TRANSFORMERS,
+        Example::LineBay => &LINE_BAY,
+        Example::Exported => &EXPORTED,
+    }
+}
+
+// All of them.
+const EXAMPLES: &[Example] = &[
+    Example::OneBusbar,
+    Example::TwoBusbars,
+    Example::Stub,
+    Example::Transformers,
+    Example::LineBay,
+    Example::Exported,
 ];
 
 // Whether each text stands for its station.
-fn are_drawn(alloc: Global, rows: &[Drawn]) -> bool {
-    for drawn in rows {
+fn are_drawn(alloc: Global, examples: &[Example]) -> bool {
+    for example in examples {
+        let drawn = drawn_of(*example);
         if !is_drawn(alloc, drawn.text, drawn) {
             return false;
         }
@@ -97,7 +122,7 @@ fn are_drawn(alloc: Global, rows: &[Drawn]) -> bool {
 
 #[test]
 fn stations(rt: HostRuntime) {
-    assert!(rt; are_drawn(rt.alloc(), DRAWINGS));
+    assert!(rt; are_drawn(rt.alloc(), EXAMPLES));
 }
 
 // The same file with the line ends of another system.
