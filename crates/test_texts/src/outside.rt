@@ -55,35 +55,69 @@ fn next<S: Source>(source: &mut S) -> Option<usize> {
 }
 
 // Call by call, how many bytes come; none where the call fails.
+const COMING: &[Option<usize>] = &[None, Some(4), None, Some(4), Some(2), Some(0)];
+
+// Whether so many bytes come.
+fn come<S: Source>(source: &mut S, wants: &[Option<usize>]) -> bool {
+    for want in wants {
+        if next(source) != *want {
+            return false;
+        }
+    }
+    true
+}
+
+// Whether they come where the first call and the third are to fail.
+fn come_failing(source: &mut MemSource, wants: &[Option<usize>]) -> Result<bool, Fail> {
+    source.fail(1)?;
+    source.fail(3)?;
+    Ok(come(source, wants))
+}
+
 #[test]
 fn plays_sources(rt: HostRuntime) -> Result<(), Fail> {
     let mut source = MemSource::new(rt.alloc(), b"abcdefghij", 4)?;
-    source.fail(1)?;
-    source.fail(3)?;
-    for want in [None, Some(4), None, Some(4), Some(2), Some(0)] {
-        assert!(rt; next(&mut source) == want);
-    }
+    assert!(rt; come_failing(&mut source, COMING)?);
     Ok(())
 }
 
 // Call by call, how many of five bytes are taken.
+const TAKEN: &[Result<usize, Failed>] = &[Ok(3), Err(Failed), Ok(3), Ok(1), Err(Failed)];
+
+// Whether so many are taken.
+fn are_taken(sink: &mut MemSink, wants: &[Result<usize, Failed>]) -> bool {
+    for want in wants {
+        if sink.write(b"abcde") != *want {
+            return false;
+        }
+    }
+    true
+}
+
+// Whether they are where the second call is to fail, and what is then there.
+fn are_taken_failing(sink: &mut MemSink, wants: &[Result<usize, Failed>]) -> Result<bool, Fail> {
+    sink.fail(2)?;
+    Ok(are_taken(sink, wants) && sink.bytes() == b"abcabca".as_slice())
+}
+
 #[test]
 fn plays_sinks(rt: HostRuntime) -> Result<(), Fail> {
     let mut sink = MemSink::new(rt.alloc(), 7, 3)?;
-    sink.fail(2)?;
-    for want in [Ok(3), Err(Failed), Ok(3), Ok(1), Err(Failed)] {
-        assert!(rt; sink.write(b"abcde") == want);
-    }
-    assert!(rt; sink.bytes() == b"abcabca".as_slice());
+    assert!(rt; are_taken_failing(&mut sink, TAKEN)?);
     Ok(())
+}
+
+// Whether five bytes are written, of seven more five, as there is room for ten, and no more.
+fn takes_ten(sink: &mut MemSink) -> bool {
+    write_all(sink, b"abcde") == Ok(())
+        && write_pieces(sink, &[b"fg".as_slice(), b"hijkl".as_slice()]) == Err(Failed)
+        && sink.bytes() == b"abcdefghij".as_slice()
 }
 
 #[test]
 fn writes_all_or_fails(rt: HostRuntime) -> Result<(), Fail> {
     let mut sink = MemSink::new(rt.alloc(), 10, 3)?;
-    assert!(rt; write_all(&mut sink, b"abcde") == Ok(()));
-    assert!(rt; write_pieces(&mut sink, &[b"fg".as_slice(), b"hijkl".as_slice()]) == Err(Failed));
-    assert!(rt; sink.bytes() == b"abcdefghij".as_slice());
+    assert!(rt; takes_ten(&mut sink));
     Ok(())
 }
 
@@ -95,22 +129,42 @@ fn read_text<F: Shelf>(shelf: &mut F, name: &str, most: u32) -> Result<usize, Re
     }
 }
 
-#[test]
-fn plays_shelves(rt: HostRuntime) -> Result<(), Fail> {
-    let mut shelf = MemShelf::new(rt.alloc());
+// A name, how many bytes are asked for at most, and how many come, or the trouble.
+type Asked = (&'static str, u32, Result<usize, ReadTrouble>);
+
+// Call by call; the third is to fail.
+const ASKED: &[Asked] = &[
+    ("a.ssd", 100, Ok(6)),
+    ("a.ssd", 2, Ok(2)),
+    ("a.ssd", 100, Err(ReadTrouble::Failed)),
+    ("b.csv", 100, Ok(0)),
+    ("c.csv", 100, Err(ReadTrouble::Failed)),
+];
+
+// Puts two texts under one name and none under another, and makes the third call fail.
+fn fill_shelf(shelf: &mut MemShelf) -> Result<(), Fail> {
     shelf.put("a.ssd", b"first")?;
     shelf.put("b.csv", b"")?;
     shelf.put("a.ssd", b"second")?;
     shelf.fail(3)?;
-    for (name, most, want) in [
-        ("a.ssd", 100, Ok(6)),
-        ("a.ssd", 2, Ok(2)),
-        ("a.ssd", 100, Err(ReadTrouble::Failed)),
-        ("b.csv", 100, Ok(0)),
-        ("c.csv", 100, Err(ReadTrouble::Failed)),
-    ] {
-        assert!(rt; read_text(&mut shelf, name, most) == want);
+    Ok(())
+}
+
+// Whether each call is answered so.
+fn are_answered<F: Shelf>(shelf: &mut F, rows: &[Asked]) -> bool {
+    for (name, most, want) in rows {
+        if read_text(shelf, name, *most) != *want {
+            return false;
+        }
     }
+    true
+}
+
+#[test]
+fn plays_shelves(rt: HostRuntime) -> Result<(), Fail> {
+    let mut shelf = MemShelf::new(rt.alloc());
+    fill_shelf(&mut shelf)?;
+    assert!(rt; are_answered(&mut shelf, ASKED));
     Ok(())
 }
 
