@@ -9,18 +9,28 @@ use std::test::Fail;
 // each node.
 const LONG: usize = 1_048_576;
 
-// A drawing with so many nodes of one name below the long one.
-fn drawing(alloc: Global, nodes: u32) -> Result<Text, Memory> {
-    let name = vec![in alloc; b'n'; LONG]?;
-    let mut text = Text::new(alloc);
+// Adds a drawing with so many nodes of one name below another.
+fn push_drawing(text: &mut Text, name: &[u8], nodes: u32) -> Result<(), Memory> {
     text.push(b"<SCL><Substation name=\"")?;
-    text.push(&name)?;
+    text.push(name)?;
     text.push(b"\"><VoltageLevel name=\"V\"><Bay name=\"Q\">")?;
     for _ in 0..nodes {
         text.push(b"<ConnectivityNode name=\"a\"/>")?;
     }
-    text.push(END.as_bytes())?;
+    text.push(END.as_bytes())
+}
+
+// The drawing with the name.
+fn drawing_below(alloc: Global, name: &[u8], nodes: u32) -> Result<Text, Memory> {
+    let mut text = Text::new(alloc);
+    push_drawing(&mut text, name, nodes)?;
     Ok(text)
+}
+
+// A drawing with so many nodes of one name below the long one.
+fn drawing(alloc: Global, nodes: u32) -> Result<Text, Memory> {
+    let name = vec![in alloc; b'n'; LONG]?;
+    drawing_below(alloc, &name, nodes)
 }
 
 // What the drawing with so many nodes is refused with.

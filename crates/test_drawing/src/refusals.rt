@@ -1,6 +1,6 @@
 //! What is refused, and where.
 use crate::pieces::joined;
-use crate::refused_rows::{A, E, N, P, REFUSED, Row, Z};
+use crate::refused_rows::{A, E, N, P, REFUSED, REFUSED_KEYS, Row, Z};
 use ilk_base::{Memory, Text};
 use ssd_read::{SsdRefusal, read_ssd};
 use station_graph::What;
@@ -73,6 +73,11 @@ fn are_refused(alloc: Global, rows: &[Row]) -> bool {
 fn refused(rt: HostRuntime) {
     assert!(rt; are_refused(rt.alloc(), REFUSED));
     assert!(rt; outcome(rt.alloc(), b"\xFF\xFE<\x00") == (1, 0, 0));
+}
+
+#[test]
+fn refused_keys(rt: HostRuntime) {
+    assert!(rt; are_refused(rt.alloc(), REFUSED_KEYS));
 }
 
 // Adds an infeed of this name.

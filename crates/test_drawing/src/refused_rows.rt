@@ -24,6 +24,7 @@ pub(crate) const Z: &str = "</Bay></VoltageLevel></Substation></SCL>";
 // A text in pieces, and the number, the place and the count with which it is refused, or 0.
 pub(crate) type Row = (&'static [&'static str], (u8, u32, u32));
 
+// Each refusal of a text, and those of names.
 pub(crate) const REFUSED: &[Row] = &[
     (&[], (2, 0, 0)),
     (&["<SCL><Substation name=\"S\""], (2, 5, 0)),
@@ -66,6 +67,10 @@ pub(crate) const REFUSED: &[Row] = &[
         &[P, N, "<ConductingEquipment name=\"E\" type=\"\">", A, E, Z],
         (0, 0, 0),
     ),
+];
+
+// Those of keys, and of which of two is told.
+pub(crate) const REFUSED_KEYS: &[Row] = &[
     // two of one path or one key; a bay and a transformer are of one kind
     (
         &[
