@@ -141,7 +141,7 @@ const ASKED: &[Asked] = &[
     ("c.csv", 100, Err(ReadTrouble::Failed)),
 ];
 
-// Puts two texts under one name and none under another, and makes the third call fail.
+// Puts two texts under one name and an empty one under another, and makes the third call fail.
 fn fill_shelf(shelf: &mut MemShelf) -> Result<(), Fail> {
     shelf.put("a.ssd", b"first")?;
     shelf.put("b.csv", b"")?;
