@@ -2,7 +2,8 @@
 ghost use Rattle.std.specs.Prelude.{◌≡◌, ◌⊎◌, ◌↔◌, ℕ, length, IsTrue, Contains};
 ghost use Rattle.contraction.specs.Answers.{Keeps, AreLabels};
 ghost use Rattle.contraction.specs.Composing.{ComposesGap, ComposesLoad};
-ghost use Rattle.contraction.specs.Unchanged.{IsAllOf, StandIn, JoinsNone, MarksNone, AreOfClasses, RowFitsAt, AddsNone};
+ghost use Rattle.contraction.specs.Unchanged.{IsAllOf, StandIn, JoinsNone, MarksNone, AreOfClasses};
+ghost use Rattle.contraction.specs.Unchanged.{RowFitsAt, AddsNone};
 
 use crate::renamed::same_numbers;
 use crate::row::Row;

@@ -24,10 +24,14 @@ mod graphs;
 #[cfg(test)]
 mod lies;
 #[cfg(test)]
+mod placed;
+#[cfg(test)]
 mod reached;
 #[cfg(test)]
 mod renamed;
 #[cfg(test)]
 mod selected;
+#[cfg(test)]
+mod unchanged;
 #[cfg(test)]
 mod words;

@@ -111,7 +111,7 @@ const ROWS: &[Row] = &[
 ];
 
 // Whether these are the bytes of the row that was made.
-fn is_row(made: Result<Text, Memory>, bytes: &[u8]) -> bool {
+pub(crate) fn is_row(made: Result<Text, Memory>, bytes: &[u8]) -> bool {
     match made {
         Ok(text) => text.bytes() == bytes,
         Err(_) => false,
@@ -119,7 +119,7 @@ fn is_row(made: Result<Text, Memory>, bytes: &[u8]) -> bool {
 }
 
 // Whether each of the nodes is kept by one of the two.
-fn either_keeps(x: &Contraction, y: &Contraction, nodes: &NodeList) -> bool
+pub(crate) fn either_keeps(x: &Contraction, y: &Contraction, nodes: &NodeList) -> bool
     ensures { IsTrue result → (n : ℕ) → Contains nodes.now n → Keeps x.now.kept n ⊎ Keeps y.now.kept n }
 {
     for i in 0..nodes.len() {
