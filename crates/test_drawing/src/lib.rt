@@ -16,6 +16,8 @@ mod refusals;
 #[cfg(test)]
 mod refused_rows;
 #[cfg(test)]
+mod remark_rows;
+#[cfg(test)]
 mod remarks;
 #[cfg(test)]
 mod station_texts;
