@@ -1,5 +1,5 @@
 -- Some of the nodes of a merged list, and what two rows together say of them.
-use Rattle.std.specs.Prelude.{◌≡◌, ℕ, ◌<◌, ◌≤◌, Bool, List, ◌++◌, length, slice_index}
+use Rattle.std.specs.Prelude.{◌≡◌, ◌↔◌, ℕ, ◌<◌, ◌≤◌, Bool, true, List, ◌++◌, length, slice_index}
 use Rattle.station_graph.specs.declared.limits.TheConstants.{NODES}
 use Rattle.contraction.specs.declared.row.Row.{Row}
 use Rattle.contraction.specs.declared.layout.Layout.{Layout}
@@ -26,12 +26,14 @@ pub record ArePlaced (s : Selected) : Type 0 where
   pub asked : PlacesOf s.nodes s.all s.places
   pub picked : Picks s.all s.places s.kept
 
--- Two lists of nodes are merged, and of the merged list these nodes are selected.
+-- Two lists of nodes are merged, and of the merged list these nodes are selected. It is noted whether the merged list and
+-- the selected nodes are both the first list again.
 pub record IsLayout (first second nodes : List ℕ) (s : Layout) : Type 0 where
   pub merged : IsMerged first second s.union.kept.items s.union.first.items s.union.second.items
   pub places : PlacesOf nodes s.union.kept.items s.places.items
   pub kept : Picks s.union.kept.items s.places.items s.kept.items
   pub bytes : s.bytes ≡ words s.kept.items
+  pub is_first : (s.is_first ≡ true) ↔ ((s.union.kept.items ≡ first) × (s.kept.items ≡ first))
 
 -- There are at most as many nodes as a station has, and the selected places are among them.
 pub record LayoutFits (s : Layout) : Type 0 where

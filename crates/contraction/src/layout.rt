@@ -8,18 +8,21 @@ use crate::bytes::{KEPT_BYTES, bytes_from};
 use crate::labels::{labels_at, labels_of_both};
 use crate::merge::{Union, merge};
 use crate::places::{picked, places_of};
+use crate::renamed::same_numbers;
 use crate::row::Row;
 use ilk_base::{Memory, Text};
 use station_graph::NodeList;
 use std::alloc::Global;
 
-// Two rising lists of nodes as one, and some of its nodes with their places in it and their bytes.
+// Two rising lists of nodes as one, and some of its nodes with their places in it and their bytes; and whether both the
+// one list and those of its nodes are the first list again.
 #[derive(Drop)]
 pub(crate) struct Layout {
     pub(crate) union: Union,
     pub(crate) places: Vec<u16>,
     pub(crate) kept: Vec<u16>,
     pub(crate) bytes: Text,
+    pub(crate) is_first: bool,
 }
 
 impl Layout {
@@ -39,11 +42,13 @@ impl Layout {
         let places = places_of(alloc, all, nodes.numbers())?;
         let kept = picked(alloc, all, places.as_slice())?;
         let bytes = bytes_from(alloc, kept.as_slice(), KEPT_BYTES)?;
+        let is_first = same_numbers(all, first) && same_numbers(kept.as_slice(), first);
         Ok(Layout {
             union,
             places,
             kept,
             bytes,
+            is_first,
         })
     }
 

@@ -5,7 +5,6 @@ ghost use Rattle.contraction.specs.Composing.{ComposesGap, ComposesLoad};
 ghost use Rattle.contraction.specs.Unchanged.{IsAllOf, StandIn, JoinsNone, MarksNone, AreOfClasses};
 ghost use Rattle.contraction.specs.Unchanged.{RowFitsAt, AddsNone};
 
-use crate::renamed::same_numbers;
 use crate::row::Row;
 use crate::selection::Selection;
 use crate::value::Contraction;
@@ -71,11 +70,11 @@ impl Row {
 }
 
 impl Selection {
-    // Whether the nodes of both lists are these, and all of them are selected.
-    fn is_all_of(&self, nodes: &[u16]) -> bool
-        ensures { IsTrue result ↔ IsAllOf self.now nodes.now }
+    // Whether the nodes of both lists are those of the first, and all of them are selected.
+    fn is_all_of_first(&self) -> bool
+        ensures { IsTrue result ↔ IsAllOf self.now self.now.first }
     {
-        same_numbers(self.layout.union.kept.as_slice(), nodes) && same_numbers(self.kept(), nodes)
+        self.layout.is_first
     }
 }
 
@@ -93,7 +92,7 @@ impl Contraction {
             (IsAllOf selection.now self.now.kept × ComposesGap self.now other.now self.now) }
         ensures kept { IsTrue result → (n : ℕ) → Keeps self.now.kept n ↔ Contains selection.now.nodes n }
     {
-        if !selection.is_all_of(&self.kept) {
+        if !selection.is_all_of_first() {
             return false;
         }
         self.gap
@@ -112,7 +111,7 @@ impl Contraction {
             (IsAllOf selection.now self.now.kept × ComposesLoad self.now other.now self.now) }
         ensures kept { IsTrue result → (n : ℕ) → Keeps self.now.kept n ↔ Contains selection.now.nodes n }
     {
-        if !selection.is_all_of(&self.kept) {
+        if !selection.is_all_of_first() {
             return false;
         }
         let places = selection.layout.union.second.as_slice();

@@ -13,8 +13,7 @@ returns-clause-stays c =
     let sx : Answers = c.args.self.now in
     let sy : Answers = c.args.other.now in
     let all : IsAllOf s sx.kept =
-    subst (λ l. IsAllOf s l) (c.deref.ensures.value ∙ ap (λ (a : Answers). a.kept) c.self.view_is)
-    (c.is_all_of.ensures.0 c.if-not-is_all_of.false) in
+    subst (λ l. IsAllOf s l) c.requires.first (c.is_all_of_first.ensures.0 c.if-not-is_all_of_first.false) in
     let both = gap_seen x y t sx sy s c.self.invariant c.other.invariant c.selection.invariant c.self.view_is
     c.other.view_is c.selection.view_is c.requires.first c.requires.second all in
     let told = subst (λ q. AddsNone x.gap y.gap q) c.as_slice.ensures.value in
@@ -30,7 +29,6 @@ returns-clause-kept c e =
     let sx : Answers = c.args.self.now in
     let sy : Answers = c.args.other.now in
     let all : IsAllOf s sx.kept =
-    subst (λ l. IsAllOf s l) (c.deref.ensures.value ∙ ap (λ (a : Answers). a.kept) c.self.view_is)
-    (c.is_all_of.ensures.0 c.if-not-is_all_of.false) in
+    subst (λ l. IsAllOf s l) c.requires.first (c.is_all_of_first.ensures.0 c.if-not-is_all_of_first.false) in
     kept_seen x y t sx sy s c.self.invariant c.other.invariant c.selection.invariant c.self.view_is c.other.view_is
     c.selection.view_is c.requires.first c.requires.second all c.requires.nodes
