@@ -1,8 +1,9 @@
 -- Batches of a pool, noted by where they begin.
 use Rattle.std.proofs.Common.{◌≡◌, ℕ, ◌+◌, Bool, true, false, cond, List, [], ◌∷◌, ◌++◌, length, get_or, slice_get}
-use Rattle.std.proofs.Common.{take, drop}
+use Rattle.std.proofs.Common.{take, drop, Box}
 use Rattle.std.proofs.Common.{◌-◌, ◌<◌, ◌≤◌, Option, Some, refl, sym, ap, ◌∙◌, subst, inl, inr, arith}
 use Rattle.std.specs.Prelude.{nat_eq, ◌&&◌}
+use Rattle.std.specs.declared.alloc.Global.{Global}
 use Rattle.std.specs.HashMap.{HashMap, get, Updates}
 use Rattle.std.proofs.lemmas.Bool.Decides.{Decides-eqb}
 use Rattle.std.proofs.lemmas.List.{length-append, get_or-append-add, length_push, length-drop, length-take-le}
@@ -74,7 +75,7 @@ can_more p q k g h = record {
 }
 
 -- and with another selection at hand
-pub selects_other : (p : Pool) (s : Option Selected) → IsPool p → GrewTo p (record p { selection = s })
+pub selects_other : (p : Pool) (s : Option (Box Selected Global)) → IsPool p → GrewTo p (record p { selection = s })
 selects_other p s h =
     let q : Pool = record p { selection = s } in
     let g : Grows p q = record {

@@ -18,7 +18,9 @@ use Rattle.judge_pool.specs.Standing.{IsOn, AreOn, CanStand, same_stand, StandsA
 use Rattle.judge_pool.specs.Standing.{ListIsOn, same_list_stand, ListStandsAreRight}
 use Rattle.judge_pool.proofs.LayeringLemmas.{Grows}
 use Rattle.judge_pool.proofs.MappedViews.{kept_of_same}
-use Rattle.judge_pool.proofs.ShapeLemmas.{seen_tells_shape}
+use Rattle.judge_pool.specs.declared.view.View.{View}
+use Rattle.judge_pool.specs.Lying.{AllKeepAs}
+use Rattle.judge_pool.proofs.ShapeLemmas.{seen_tells_shape, shape_own, shape_back, renamed_as}
 
 -- ---- a pool that grew
 
@@ -165,4 +167,31 @@ on_one p keep ids ts i t old is = record {
           subst (λ n. IsOn p keep j n) here.1 (subst (λ n. IsOn p keep n t) last.1 is)
     ]
   ];
+}
+
+-- ---- values that keep the nodes already
+
+-- a value that keeps just these nodes is itself on them
+on_own : (view : View) (x : Answers) (nodes : List ℕ) → x.kept ≡ nodes → SameAs view (renamed nodes x) x
+on_own view x nodes is = record {
+  kept = sym is;
+  shape = shape_back view x (renamed nodes x) (renamed_as view x x nodes (shape_own view x));
+}
+
+pub all_own : (p : Pool) (keep : ℕ) (ids nodes : List ℕ) → slice_get p.keeps.items keep ≡ Some nodes →
+    ((k i : ℕ) → slice_get ids k ≡ Some i → CanStand p keep i) → AllKeepAs p.values.items ids nodes →
+    AreOn p keep ids ids
+all_own p keep ids nodes at can all = record {
+  len = refl;
+  each = λ k i t at_i at_t.
+      let h = can k i at_i in
+      record {
+        x = h.x;
+        y = h.x;
+        nodes = nodes;
+        first = h.listed;
+        second = subst (λ j. slice_get p.values.items j ≡ Some h.x) (same_Some i t (sym at_i ∙ at_t)) h.listed;
+        at = at;
+        same = on_own p.view h.x nodes (all k i h.x at_i h.listed);
+      };
 }

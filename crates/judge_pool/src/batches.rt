@@ -25,19 +25,20 @@ const MANY: usize = 2_000_000;
 // The selection of these of the nodes that two values keep: the one at hand where it is that, else a new one.
 fn selection_for(
     alloc: Global,
-    held: Option<Selection>,
+    held: Option<Box<Selection>>,
     x: &Contraction,
     y: &Contraction,
     keep: &NodeList,
-) -> Result<Selection, Memory>
-    ensures { IfOk result (Selects x.now y.now keep.now) }
+) -> Result<Box<Selection>, Memory>
+    ensures { IfOk result (λ s. Selects x.now y.now keep.now s.value) }
 {
     if let Some(selection) = held {
         if selection.is_of(x.nodes(), y.nodes(), keep) {
             return Ok(selection);
         }
     }
-    Selection::of(alloc, x.nodes(), y.nodes(), keep)
+    let selection = Selection::of(alloc, x.nodes(), y.nodes(), keep)?;
+    Ok(Box::new(alloc, selection)?)
 }
 
 // The row of the composition of two values in this view, on a selection of their nodes.

@@ -182,7 +182,7 @@ pub(crate) fn next_layer(
         (values_at pool.old.values.items letters.now) most) }
 {
     let mut next = IndexSet::with_hasher(alloc, NumberHash::new());
-    let mut edges = Vec::new(alloc);
+    let mut edges = Vec::with_capacity(alloc, states.len() * letters.len())?;
     let mut ends = Vec::new(alloc);
     let by = each_once(alloc, letters)?;
     let once = by.letters.as_slice();

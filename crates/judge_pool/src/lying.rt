@@ -27,7 +27,7 @@ pub(crate) struct Lying {
 }
 
 // Whether each of the values keeps exactly these nodes.
-fn all_keep(values: &[Contraction], ids: &[usize], nodes: &[u16]) -> bool
+pub(crate) fn all_keep(values: &[Contraction], ids: &[usize], nodes: &[u16]) -> bool
     requires { (k i : ℕ) → slice_get ids.now k ≡ Some i → i < length values.now }
     ensures { IsTrue result → AllKeepAs values.now ids.now nodes.now }
 {

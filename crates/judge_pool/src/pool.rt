@@ -37,7 +37,7 @@ pub struct Pool {
     pub(crate) layer_places: NumberMap<LayerKey, usize>,
     pub(crate) made: Vec<usize>,
     pub(crate) notes: NumberMap<Batch, usize>,
-    pub(crate) selection: Option<Selection>,
+    pub(crate) selection: Option<Box<Selection>>,
     pub(crate) stands: NumberMap<Stand, usize>,
     pub(crate) list_stands: NumberMap<ListStand, usize>,
 }

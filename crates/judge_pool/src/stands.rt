@@ -1,10 +1,11 @@
 //! Values on other nodes than their own.
-ghost use Rattle.std.specs.Prelude.{◌≡◌, ℕ, slice_get, Some, IfOk, IfSome, OnOk};
+ghost use Rattle.std.specs.Prelude.{◌≡◌, ℕ, slice_get, Some, IfOk, IfSome, OnOk, IsTrue};
 ghost use Rattle.judge_pool.specs.declared.pool.Pool.{Pool as AnyPool};
 ghost use Rattle.judge_pool.specs.Pooling.{IsPool, GrewTo};
 ghost use Rattle.judge_pool.specs.Standing.{IsOn, AreOn, CanStand, StandsAreRight};
 
 use crate::batch::Stand;
+use crate::lying::all_keep;
 use crate::pool::{Pool, find_row};
 use crate::view::row_on;
 use ilk_base::Memory;
@@ -80,12 +81,7 @@ impl Pool {
     }
 
     // The values of these numbers on the nodes of the list, one by one.
-    pub(crate) fn all_on(
-        &mut self,
-        alloc: Global,
-        ids: &[usize],
-        keep: usize,
-    ) -> Result<Vec<usize>, Memory>
+    fn each_on(&mut self, alloc: Global, ids: &[usize], keep: usize) -> Result<Vec<usize>, Memory>
         requires pool { IsPool self.old }
         requires can { (k i : ℕ) → slice_get ids.now k ≡ Some i → CanStand self.old keep i }
         ensures grew { OnOk result (GrewTo self.old self.new) }
@@ -97,6 +93,37 @@ impl Pool {
             let id = self.stand(alloc, stand)?;
             placed.push(id)?;
         }
+        Ok(placed)
+    }
+
+    // Whether the values of these numbers keep the nodes of the list already.
+    fn are_on(&self, ids: &[usize], keep: usize) -> bool
+        requires can { (k i : ℕ) → slice_get ids.now k ≡ Some i → CanStand self.now keep i }
+        ensures { IsTrue result → AreOn self.now keep ids.now ids.now }
+    {
+        match self.keeps.get(keep) {
+            Some(nodes) => all_keep(&self.values, ids, nodes.numbers()),
+            None => false,
+        }
+    }
+
+    // The values of these numbers on the nodes of the list: these themselves where they keep just these nodes.
+    pub(crate) fn all_on(
+        &mut self,
+        alloc: Global,
+        ids: &[usize],
+        keep: usize,
+    ) -> Result<Vec<usize>, Memory>
+        requires pool { IsPool self.old }
+        requires can { (k i : ℕ) → slice_get ids.now k ≡ Some i → CanStand self.old keep i }
+        ensures grew { OnOk result (GrewTo self.old self.new) }
+        ensures on { IfOk result (λ v. AreOn self.new keep ids.now v.items) }
+    {
+        if self.are_on(ids, keep) {
+            let same = Vec::from_slice(alloc, ids)?;
+            return Ok(same);
+        }
+        let placed = self.each_on(alloc, ids, keep)?;
         Ok(placed)
     }
 }

@@ -24,10 +24,10 @@ states-init c =
       few = omega (arith, c.with_hasher-next.ensures.len, zero-mul (length c.args.letters.now));
       edges = λ nodes at.
           subst (λ n. AreEdges q.view q.values.items nodes c.args.states.now c.args.letters.now c.with_hasher-next.result.keys
-          c.new-edges.result.items n) (sym (zero-mul (length c.args.letters.now)))
+          c.in_ok-edges.edges.items n) (sym (zero-mul (length c.args.letters.now)))
           (edges_none q.view q.values.items nodes c.args.states.now c.args.letters.now c.with_hasher-next.result.keys
-          c.new-edges.result.items (nil_of_len c.with_hasher-next.result.keys c.with_hasher-next.ensures.len)
-          c.new-edges.ensures.items);
+          c.in_ok-edges.edges.items (nil_of_len c.with_hasher-next.result.keys c.with_hasher-next.ensures.len)
+          c.in_ok-edges.ensures.items);
     }
 
 pub batch-requires-clause-some : goal.batch-requires-clause-some

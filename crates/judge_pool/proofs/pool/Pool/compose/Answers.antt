@@ -14,7 +14,7 @@ pub find_or_make-requires-clause-selection : goal.find_or_make-requires-clause-s
 find_or_make-requires-clause-selection c x y nodes at_x at_y at_nodes =
     let p = c.args.self.now in
     let k = c.args.key in
-    let s = c.in_ok-selection.selection in
+    let s = c.deref.result.now in
     let a : Answers = c.index-x.result.now in
     let b : Answers = c.index-y.result.now in
     let list : List ℕ = c.index.result.now in
@@ -28,7 +28,8 @@ find_or_make-requires-clause-selection c x y nodes at_x at_y at_nodes =
     same_Some list nodes
     (sym (slice_get_read p.keeps.items _ k.keep list refl c.requires.fits.keep c.index.ensures) ∙ at_nodes) in
     subst (λ z. Selects z y nodes s) is_x
-    (subst (λ z. Selects a z nodes s) is_y (subst (λ l. Selects a b l s) is_list c.in_ok-selection.ensures))
+    (subst (λ z. Selects a z nodes s) is_y (subst (λ l. Selects a b l s) is_list
+    (subst (λ t. Selects a b list t) (sym c.deref.ensures) c.in_ok-selection.ensures)))
 
 pub returns-clause-grew : goal.returns-clause-grew
 returns-clause-grew c =
