@@ -1,24 +1,24 @@
 """Proves the crates below a program, several at once, and builds the program.
 
-`rt` lets one command at a time work on a crate and on all below it, and `rt all check` is the one that proves several
-crates side by side. So the crates go into a folder of their own, with what is kept of their proofs and with one crate
-more that stands on all of them, so that a library is built of each; `rt all check` proves them there, and what it kept
-comes back. At the end `rt run` proves the last crate, which stands on all others, and the program, by as many processes
-as there are lanes. A lane takes up to 2.2 GB.
+Each crate is proved by the kit's prover, over what the crates below it state: the one with the longest way to the
+program first, and by two processes, since the others wait for it. What was proved is kept beside the program, with a
+sum of the crate, of those below it and of the kit, so that the next run proves only what was changed and what stands
+on it. A process takes up to 2.2 GB.
 """
+import concurrent.futures
+import functools
+import hashlib
 import os
 import pathlib
 import re
 import shutil
 import subprocess
-import tempfile
 import time
 
 import repository
 
 LANE, BESIDE = 2200, 2000
-# The crate that stands on all others, and its text.
-ALL, ALL_TEXT = "all_below", "//! Stands on every crate that is proved with it, so that a library is built of each.\n#![tactic(auto)]\n"
+TARGET = "x86_64-unknown-linux-gnu"
 
 
 def free_megabytes():
@@ -40,67 +40,137 @@ def lane_count():
     return max(1, min(len(os.sched_getaffinity(0)), (free_megabytes() - BESIDE) // LANE))
 
 
-def lay_out(crates, room):
-    """Puts the crates into the folder, and one that stands on them all."""
-    for name in crates:
-        for part in repository.FOLDERS:
-            folder = repository.TOP / "crates" / name / part
-            if folder.is_dir():
-                shutil.copytree(folder, room / "crates" / name / part)
-    (room / "crates" / ALL / "src").mkdir(parents=True)
-    (room / "crates" / ALL / "src/lib.rt").write_text(ALL_TEXT)
-    lines = [crate.line for crate in crates.values()] + [f"{ALL}: {' '.join(crates)}"]
-    (room / "crates.txt").write_text("\n".join(lines) + "\n")
-    shutil.copy(repository.TOP / "HANDLES", room)
+class Prover:
+    """The kit's prover, with a folder for what it made of the crates."""
+
+    def __init__(self, crates, kept):
+        self.crates, self.kept = crates, kept
+        guide = subprocess.run(["rt", "doc"], capture_output=True, text=True, check=True).stdout.strip()
+        self.kit = pathlib.Path(guide).parent
+        self.version = subprocess.run(["rt", "version"], capture_output=True, text=True, check=True).stdout
+
+    def folder(self, name):
+        return repository.TOP / "crates" / name
+
+    def is_program(self, name):
+        return (self.folder(name) / "src/main.rt").exists()
+
+    @functools.lru_cache(None)
+    def sum_of(self, name):
+        """A sum of the crate, of those below it and of the kit."""
+        crate = self.crates[name]
+        parts = [self.version, crate.line, *(self.sum_of(below) for below in crate.below)]
+        parts += [word for source in repository.sources(name) for word in (source, repository.digest(source))]
+        return hashlib.sha256("\n".join(parts).encode()).hexdigest()
+
+    @functools.lru_cache(None)
+    def is_kept(self, name):
+        """Whether the crate and those below it stand as they were proved."""
+        file = self.kept / f"{name}.sum"
+        is_noted = file.exists() and file.read_text() == self.sum_of(name) and (self.kept / f"{name}.rlib").is_dir()
+        return is_noted and all(map(self.is_kept, self.crates[name].below))
+
+    def words(self, name, jobs):
+        """What the prover is to read of this crate: its root, the libraries that it names, and the folders of others."""
+        named = self.crates[name].line.partition(":")[2].split()
+        of_kit = ["std", *(it for it in named if it not in self.crates)]
+        words = ["--crate-name", name, "src/main.rt" if self.is_program(name) else "src/lib.rt"]
+        words += [word for it in of_kit for word in ("--extern", f"{it}={self.kit}/rlibs/{it}.rlib")]
+        words += [word for it in self.crates[name].below for word in ("--extern", f"{it}={self.kept}/{it}.rlib")]
+        words += ["-L", f"dependency={self.kit}/rlibs", "-L", f"dependency={self.kept}"]
+        words += ["--antt-project", f"{self.kit}/rattle/logic/antt-project.json"]
+        return [*words, "--logic-built", f"{self.kit}/logic_built", "--jobs", str(jobs), "--links", f"{name}="]
+
+    def call(self, name, *words):
+        """Runs a tool of the kit in the crate's folder: its status, and what it said."""
+        whole = [f"{self.kit}/bin/{words[0]}", *map(str, words[1:])]
+        done = subprocess.run(whole, cwd=self.folder(name), stdin=subprocess.DEVNULL, stdout=subprocess.PIPE,
+                              stderr=subprocess.STDOUT, text=True, errors="replace")
+        return done.returncode, done.stdout
+
+    def prove(self, name, jobs):
+        """Proves a library and keeps what it states, or proves and builds a program: the status, and what was said."""
+        if self.is_program(name):
+            return self.build(name, jobs)
+        made, noted = self.kept / f"{name}.rlib", self.kept / f"{name}.sum"
+        noted.unlink(missing_ok=True)
+        shutil.rmtree(made, ignore_errors=True)
+        status, said = self.call(name, "rattle", "build", *self.words(name, jobs), "--statements", "-o", made)
+        if status == 0:
+            noted.write_text(self.sum_of(name))
+        return status, said
+
+    def build(self, name, jobs):
+        toolchain = ("--toolchain", self.kit / "toolchain")
+        made, program = self.kept / f"{name}.o", self.folder(name) / "out" / name
+        status, said = self.call(name, "rattle", "build", *self.words(name, jobs), *toolchain, "--backend", "llvm",
+                                 "-o", made)
+        if status == 0:
+            libraries = [self.kit / "c" / it for it in ("libos_c.a", "liblibc_c.a")]
+            status, more = self.call(name, "rattle-link", "--target", TARGET, *toolchain, "-o", program, made, *libraries)
+            said += more
+        made.unlink(missing_ok=True)
+        return status, said
 
 
-def move_kept(crates, source, target):
-    """Moves what is kept of the crates' proofs from one folder to the other."""
-    for name in crates:
-        kept, to = source / "crates" / name / "out", target / "crates" / name / "out"
-        if kept.is_dir():
-            shutil.rmtree(to, ignore_errors=True)
-            shutil.move(kept, to)
+def ways(crates, names):
+    """For each crate the lines on the longest way from it up to the program."""
+    lines = {name: sum((repository.TOP / it).read_bytes().count(b"\n") for it in repository.sources(name))
+             for name in names}
+    found = {}
+    for name in reversed(names):
+        found[name] = lines[name] + max((found[it] for it in names if name in crates[it].below), default=0)
+    return found
 
 
-def tell_progress(run, say, start):
-    """Says each crate when its check has ended; the lines of the others, where one is not proved."""
-    for line in run.stdout:
-        if line.startswith("== ") and line[3:].strip() not in ("summary", ALL):
-            say(f"{line[3:].strip()} is checked, after {(time.monotonic() - start) / 60:.1f} minutes")
-        elif re.search(r": error|not proved|not run|^rt: (?!.*begins with what)", line):
-            say(line.rstrip())
+def jobs_of(name, ready, left, way, free, lanes):
+    """How many processes prove a crate: two or more for the one that most others wait for, else one."""
+    if way[name] < max(way[it] for it in left):
+        return 1
+    return min(free, max(2, lanes - len(ready) + 1))
 
 
-def prove_libraries(crates, say):
-    """Proves these crates; whether all are proved."""
-    lanes, start = lane_count(), time.monotonic()
-    say(f"proving {len(crates)} crates, {lanes} processors")
-    with tempfile.TemporaryDirectory(prefix=".prove-", dir=repository.TOP) as folder:
-        room = pathlib.Path(folder)
-        lay_out(crates, room)
-        move_kept(crates, repository.TOP, room)
-        try:
-            # some of those that are begun wait for the crates below them
-            command = ["rt", "all", "check", "--jobs", str(2 * lanes)]
-            run = subprocess.Popen(command, cwd=room, stdin=subprocess.DEVNULL, stdout=subprocess.PIPE,
-                                   stderr=subprocess.STDOUT, text=True, errors="replace")
-            tell_progress(run, say, start)
-            return run.wait() == 0
-        finally:
-            move_kept(crates, room, repository.TOP)
+def tell(name, status, said, say, start):
+    """Says that the crate is proved, or the lines that tell why it is not; the crate's name where it is not."""
+    if status == 0:
+        say(f"{name} is proved, after {(time.monotonic() - start) / 60:.1f} minutes")
+        return []
+    lines = [line for line in said.splitlines() if re.search(r"error|not proved|no proof", line)]
+    say("\n".join([f"{name} is not proved (status {status})", *(lines or said.splitlines()[-20:])]))
+    return [name]
+
+
+def in_lanes(prover, names, say):
+    """Proves the crates, lowest first and side by side; whether all are proved."""
+    way, lanes, start = ways(prover.crates, names), lane_count(), time.monotonic()
+    left = [name for name in sorted(names, key=way.get, reverse=True) if not prover.is_kept(name)]
+    say(f"proving {len(left)} of {len(names)} crates, {lanes} processors")
+    running, failed = {}, []
+    with concurrent.futures.ThreadPoolExecutor(lanes) as pool:
+        while running or (left and not failed):
+            unproved = {*left, *(name for name, _ in running.values())}
+            ready = [] if failed else [it for it in left if not unproved.intersection(prover.crates[it].below)]
+            for name in ready:
+                free = lanes - sum(jobs for _, jobs in running.values())
+                if free <= 0:
+                    break
+                left.remove(name)
+                jobs = jobs_of(name, ready, unproved, way, free, lanes)
+                running[pool.submit(prover.prove, name, jobs)] = name, jobs
+            done, _ = concurrent.futures.wait(running, return_when=concurrent.futures.FIRST_COMPLETED)
+            for one in done:
+                name, _ = running.pop(one)
+                failed += tell(name, *one.result(), say, start)
+    return not failed
 
 
 def prove(program, words, say):
-    """Proves a program and the crates below it, and builds and runs it with the words: its status."""
-    below = repository.standing_below(repository.crates(), program)
-    last = [name for name in below if name != program][-1]
-    start = time.monotonic()
-    if not prove_libraries({name: crate for name, crate in below.items() if name not in (program, last)}, say):
+    """Proves a program and the crates below it, builds it, and runs it with the words: its status."""
+    crates = repository.crates()
+    names = list(repository.standing_below(crates, program))
+    kept = repository.TOP / "crates" / program / "out" / "proved"
+    kept.mkdir(parents=True, exist_ok=True)
+    if not in_lanes(Prover(crates, kept), names, say):
         return 1
-    command = ["rt", "run", "--jobs", str(lane_count()), "--", *words]
-    done = subprocess.run(command, cwd=repository.TOP / "crates" / program, stdin=subprocess.DEVNULL,
-                          stdout=subprocess.DEVNULL)
-    if done.returncode == 0:
-        say(f"{program} is proved and built, after {(time.monotonic() - start) / 60:.1f} minutes")
-    return done.returncode
+    return subprocess.run([repository.TOP / "crates" / program / "out" / program, *words],
+                          stdin=subprocess.DEVNULL, stdout=subprocess.DEVNULL).returncode

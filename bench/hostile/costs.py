@@ -15,7 +15,8 @@ status is 1 where one is over.
   repeats it, so that `check` writes 2 GB and `audit` 1 GB, in pieces, of which they hold one at a time; and so do `tests`
   of them and `compare`, here with an earthing switch on their busbar, and 0.3 GB of a row of 192 disconnectors, of which
   each position names all
-- at the limits: grids of up to 3 by 9 nodes, whose graphs have nearly as many counted edges as a station may have
+- at the limits: grids of up to 3 by 9 nodes, whose graphs have nearly as many counted edges as a station may have, also
+  with many devices at each node
 - floods: a million frames, ticks, commands, readings or changes of the record to one node; 3,000 lines to a stored one,
   whose changes go to the disk; a log of 20,000 records in which 64 bays send one another messages
 """
@@ -131,9 +132,9 @@ def end(key):
     return f'<Terminal connectivityNode="{key}"/>'
 
 
-def earthing(key):
+def earthing(key, name="E"):
     """An earthing switch at this node."""
-    return equipment("E", "DIS", [end(key), EARTHED])
+    return equipment(name, "DIS", [end(key), EARTHED])
 
 
 def row_below(name, bays, last=""):
@@ -180,16 +181,17 @@ def long_names():
 
 # ---- at the limits
 
-def grid(width, height):
-    """A grid of nodes, each with a bay of a disconnector to the right and one downwards, and with an infeed or an earthing
-    switch in turn, as on a chessboard."""
+def grid(width, height, devices=1):
+    """A grid of nodes, each with a bay of a disconnector to the right and one downwards, and with so many infeeds or
+    earthing switches in turn, as on a chessboard."""
     bays = []
     for y in range(height):
         for x in range(width):
             key = f"{x}/{y}"
             items = [equipment("R", "DIS", [end(key), end(f"{x + 1}/{y}")])] if x + 1 < width else []
             items += [equipment("D", "DIS", [end(key), end(f"{x}/{y + 1}")])] if y + 1 < height else []
-            items.append(equipment("I", "IFL", [end(key)]) if (x + y) % 2 else earthing(key))
+            for name in ("", *range(1, devices)):
+                items.append(equipment(f"I{name}", "IFL", [end(key)]) if (x + y) % 2 else earthing(key, f"E{name}"))
             node = f'<ConnectivityNode name="N" pathName="{key}"/>'
             bays.append(f'<Bay name="{x}-{y}">{node}{"".join(items)}</Bay>')
     return f'<SCL><Substation name="S"><VoltageLevel name="V">{"".join(bays)}</VoltageLevel></Substation></SCL>'
@@ -203,6 +205,11 @@ def at_limits():
         commands += [[word, "a"] for word in ("plan", "compile", "program", "tests")]
         for words in [*commands, ["compare", "a", "a"]]:
             yield Case(f"{words[0]}: a grid of 3 by {height} nodes", words, files, b"", 0, by_edges=True)
+    for part in PARTS:
+        # up to 501 switches, most of them beside others at one node: the graphs of a bay stay as they are, but `tests`
+        # walks those of each switch, until one is too wide
+        files = {"a": grid(3, 9, 17 // part).encode()}
+        yield Case(f"tests: such a grid with {17 // part} devices at each node", ["tests", "a"], files, b"", 5, by_edges=True)
 
 
 # ---- floods
