@@ -57,7 +57,11 @@ class Prover:
 
     @functools.lru_cache(None)
     def sum_of(self, name):
-        """A sum of the crate, of those below it and of the kit."""
+        """A sum of the crate as it stood when it was first asked for, of those below it and of the kit."""
+        return self.sum_now(name)
+
+    def sum_now(self, name):
+        """The same of the crate as it stands now."""
         crate = self.crates[name]
         parts = [self.version, crate.line, *(self.sum_of(below) for below in crate.below)]
         parts += [word for source in repository.sources(name) for word in (source, repository.digest(source))]
@@ -96,6 +100,8 @@ class Prover:
         noted.unlink(missing_ok=True)
         shutil.rmtree(made, ignore_errors=True)
         status, said = self.call(name, "rattle", "build", *self.words(name, jobs), "--statements", "-o", made)
+        if status == 0 and self.sum_now(name) != self.sum_of(name):
+            return 1, "a source was changed while it was read: prove again"
         if status == 0:
             noted.write_text(self.sum_of(name))
         return status, said
