@@ -43,7 +43,7 @@ LAYERS = [
     Layer("contractions, alphabets, graphs, judge",
           "Begin with `contraction/specs/Stands.antt`, what some items are to the rest, and end with "
           "`release_compile/src/judge.rt`.",
-          "contraction bay_contract decision_graphs judge_pool judge_intake judge_graphs release_compile"),
+          "contraction part_alphabets bay_contract decision_graphs judge_pool judge_intake judge_graphs release_compile"),
     Layer("two stations",
           "Begin with `station_changes/specs/Compare.antt`, what an extension changes, and then "
           "`station_compare/src/compare.rt`; and `commissioning_tests`, what is tested of a bay.",

@@ -13,18 +13,18 @@ use Rattle.station_graph.proofs.LinkedLemmas.{linked_self}
 use Rattle.contraction.specs.Answers.{Answers, IsContraction, Keeps}
 use Rattle.contraction.specs.Stands.{StandsFor}
 use Rattle.contraction.proofs.ItemSets.{stands_over}
-use Rattle.bay_contract.specs.declared.limits.TheConstants.{CONTRACTIONS, LETTERS}
-use Rattle.bay_contract.specs.declared.fork.Fork.{Fork}
-use Rattle.bay_contract.specs.Layers.{OfLayer, IsBase, IsKept, digit, rank, bits}
-use Rattle.bay_contract.specs.Diagrams.{ForkGoes, ForksLeadTo}
+use Rattle.part_alphabets.specs.declared.limits.TheConstants.{CONTRACTIONS, LETTERS}
+use Rattle.part_alphabets.specs.declared.fork.Fork.{Fork}
+use Rattle.part_alphabets.specs.Layers.{OfLayer, IsBase, IsKept, digit, rank, bits}
+use Rattle.part_alphabets.specs.Diagrams.{ForkGoes, ForksLeadTo}
 use Rattle.bay_contract.specs.Sorting.{KeepsAt}
 use Rattle.bay_contract.specs.Building.{IsBuilt}
 use Rattle.bay_contract.proofs.Layers.{IsLayer, AreExamples}
 use Rattle.std.proofs.lemmas.Bool.{cases_lt, cases_eq}
 use Rattle.station_graph.specs.Diagram.{IsStation}
 use Rattle.station_graph.specs.Connection.{a_switch}
-use Rattle.bay_contract.specs.Layers.{SameLayer}
-use Rattle.bay_contract.specs.Counting.{AreSoMany, ArePast, StepFits, PartFits, PartIsPast, AreStepSizes}
+use Rattle.part_alphabets.specs.Layers.{SameLayer}
+use Rattle.part_alphabets.specs.Counting.{AreSoMany, ArePast, StepFits, PartFits, PartIsPast, AreStepSizes}
 use Rattle.bay_contract.specs.Building.{AreReversed}
 use Rattle.bay_contract.proofs.RankLemmas.{digit_small}
 use Rattle.bay_contract.proofs.NextLemmas.{some_at}

@@ -15,7 +15,7 @@ use Rattle.contraction.specs.Renaming.{renamed}
 use Rattle.contraction.proofs.PlaceLemmas.{keeps_from_has, has_from_keeps}
 use Rattle.bay_contract.specs.declared.course.Turn.{Turn}
 use Rattle.bay_contract.specs.declared.course.Course.{Course}
-use Rattle.bay_contract.specs.Layers.{OfLayer, IsLater, IsKept}
+use Rattle.part_alphabets.specs.Layers.{OfLayer, IsLater, IsKept}
 use Rattle.bay_contract.specs.Sorting.{KeepsAt, Continues, IsSorted}
 use Rattle.bay_contract.specs.Turns.{KeepsThese, AreTogether, positioned, AreTurned}
 use Rattle.bay_contract.specs.Courses.{IsTurn, AreTurns, IsCourse, turned, nodes_after, AtOnePlace, AreRelated}
@@ -24,7 +24,8 @@ use Rattle.bay_contract.proofs.NextLemmas.{some_at}
 use Rattle.bay_contract.proofs.TableLemmas.{from_map}
 use Rattle.bay_contract.proofs.LayerLemmas.{next_stands, switch_matters}
 use Rattle.bay_contract.proofs.RenamedLemmas.{Back, ToOne, together_moved, gap_renamed, load_renamed, renamed_own}
-use Rattle.bay_contract.proofs.RenamedLemmas.{renamed_well, places_to_one, places_back, places_related}
+use Rattle.contraction.proofs.RenamedLemmas.{renamed_well}
+use Rattle.bay_contract.proofs.RenamedLemmas.{places_to_one, places_back, places_related}
 
 -- the nodes after a turn
 pub nodes_turned : (y : Course) (j : ℕ) (t : Turn) → slice_get y.turns.items j ≡ Some t → nodes_after y (j + 1) ≡ t.kept

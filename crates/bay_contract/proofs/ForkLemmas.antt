@@ -4,7 +4,7 @@ use Rattle.std.proofs.Common.{slice_index, Some, refl, sym, ◌∙◌, ap, subst
 use Rattle.std.proofs.lemmas.Bool.{cases_lt}
 use Rattle.std.proofs.lemmas.List.{length_push}
 use Rattle.station_graph.proofs.PathLemmas.{slice_get-push}
-use Rattle.bay_contract.specs.declared.fork.Fork.{Fork}
+use Rattle.part_alphabets.specs.declared.fork.Fork.{Fork}
 use Rattle.bay_contract.specs.Building.{Forked}
 
 abbrev pub fork_at : ℕ → ℕ → List ℕ → ℕ → Fork

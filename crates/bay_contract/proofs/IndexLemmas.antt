@@ -8,12 +8,12 @@ use Rattle.station_graph.specs.Alike.{IsVector, Alike, DifferInPart}
 use Rattle.contraction.specs.Answers.{Answers, Keeps, SameGap, SameLoad}
 use Rattle.contraction.specs.Stands.{StandsFor}
 use Rattle.contraction.proofs.ViewLemmas.{gap_told, load_told}
-use Rattle.bay_contract.specs.Diagrams.{ForksLeadTo}
-use Rattle.bay_contract.specs.Counting.{AreStepSizes}
+use Rattle.part_alphabets.specs.Diagrams.{ForksLeadTo}
+use Rattle.part_alphabets.specs.Counting.{AreStepSizes}
 use Rattle.bay_contract.specs.Building.{IsBuiltFor}
-use Rattle.bay_contract.specs.PartAlphabets.{Alphabets, part_at, letters_of, size_of, forks_of, first_switch_of}
-use Rattle.bay_contract.specs.PartAlphabets.{count_of}
-use Rattle.bay_contract.specs.Alphabets.{IsLetter, HasIndex, IsAlphabet, AreAlphabets}
+use Rattle.part_alphabets.specs.PartAlphabets.{Alphabets, part_at, letters_of, size_of, forks_of, first_switch_of}
+use Rattle.part_alphabets.specs.PartAlphabets.{count_of}
+use Rattle.part_alphabets.specs.Alphabets.{IsLetter, HasIndex, IsAlphabet, AreAlphabets}
 use Rattle.contraction.proofs.RisingLemmas.{rising_equal}
 use Rattle.contraction.proofs.SameLemmas.{gap_self, load_self, gap_fewer, load_fewer}
 use Rattle.bay_contract.proofs.NextLemmas.{some_at}

@@ -6,9 +6,9 @@ use Rattle.station_graph.specs.Nodes.{Rises}
 use Rattle.station_graph.specs.Alike.{IsVector}
 use Rattle.contraction.specs.Answers.{Answers}
 use Rattle.contraction.specs.Stands.{StandsFor}
-use Rattle.bay_contract.specs.declared.fork.Fork.{Fork}
-use Rattle.bay_contract.specs.Layers.{OfLayer, rank, bits}
-use Rattle.bay_contract.specs.Diagrams.{ForksLeadTo, ForksFit, AreStaged}
+use Rattle.part_alphabets.specs.declared.fork.Fork.{Fork}
+use Rattle.part_alphabets.specs.Layers.{OfLayer, rank, bits}
+use Rattle.part_alphabets.specs.Diagrams.{ForksLeadTo, ForksFit, AreStaged}
 use Rattle.bay_contract.specs.Sorting.{AreApart}
 use Rattle.bay_contract.specs.Sorting.{KeepsAt}
 

@@ -18,9 +18,9 @@ use Rattle.station_graph.proofs.LinkedLemmas.{linked_one, linked_trans}
 use Rattle.contraction.specs.Answers.{Answers}
 use Rattle.contraction.specs.Stands.{StandsFor}
 use Rattle.contraction.proofs.MarkLemmas.{slice_get-set_same}
-use Rattle.bay_contract.specs.declared.fork.Fork.{Fork}
-use Rattle.bay_contract.specs.Layers.{OfLayer, digit, rank}
-use Rattle.bay_contract.specs.Diagrams.{branch, ForkGoes, ForksLeadTo, ForkFits, ForksFit, AreStaged}
+use Rattle.part_alphabets.specs.declared.fork.Fork.{Fork}
+use Rattle.part_alphabets.specs.Layers.{OfLayer, digit, rank}
+use Rattle.part_alphabets.specs.Diagrams.{branch, ForkGoes, ForksLeadTo, ForkFits, ForksFit, AreStaged}
 use Rattle.bay_contract.specs.Sorting.{IsSorted}
 use Rattle.bay_contract.proofs.Layers.{AllKeepAt}
 use Rattle.bay_contract.specs.Building.{Forked, Ranked}

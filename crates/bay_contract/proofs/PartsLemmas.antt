@@ -8,11 +8,11 @@ use Rattle.station_graph.proofs.PathLemmas.{slice_get-push}
 use Rattle.station_graph.specs.Diagram.{Diagram, part_count}
 use Rattle.bay_contract.specs.declared.refusal.PartsRefusal.{PartsRefusal}
 use Rattle.bay_contract.specs.declared.refusal.PartsRefusal.TheVariants.{Memory, Many}
-use Rattle.bay_contract.specs.Counting.{PartFits, PartIsPast, AreStepSizes}
+use Rattle.part_alphabets.specs.Counting.{PartFits, PartIsPast, AreStepSizes}
 use Rattle.bay_contract.specs.Building.{IsBuiltFor}
-use Rattle.bay_contract.specs.PartAlphabets.{PartAlphabet, Alphabets, or_nothing, part_at}
+use Rattle.part_alphabets.specs.PartAlphabets.{PartAlphabet, Alphabets, or_nothing, part_at}
 use Rattle.bay_contract.specs.Shapes.{AreUniform}
-use Rattle.bay_contract.specs.Alphabets.{AreAlphabets}
+use Rattle.part_alphabets.specs.Alphabets.{AreAlphabets}
 use Rattle.bay_contract.specs.Refusing.{IsRefusalOf, IsRefusal}
 use Rattle.bay_contract.proofs.NextLemmas.{some_at}
 use Rattle.bay_contract.proofs.IndexLemmas.{built_alphabet}

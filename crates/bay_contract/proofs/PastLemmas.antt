@@ -11,14 +11,15 @@ use Rattle.station_graph.specs.Alike.{IsVector}
 use Rattle.contraction.specs.Answers.{Answers}
 use Rattle.contraction.specs.Stands.{StandsFor}
 use Rattle.contraction.proofs.MarkLemmas.{slice_get-set_same}
-use Rattle.bay_contract.specs.declared.fork.Fork.{Fork}
-use Rattle.bay_contract.specs.Layers.{OfLayer, SameLayer}
-use Rattle.bay_contract.specs.Counting.{ArePast}
+use Rattle.part_alphabets.specs.declared.fork.Fork.{Fork}
+use Rattle.part_alphabets.specs.Layers.{OfLayer, SameLayer}
+use Rattle.part_alphabets.specs.Counting.{ArePast}
 use Rattle.bay_contract.specs.Sorting.{IsSorted}
 use Rattle.bay_contract.proofs.Layers.{IsLayer}
 use Rattle.bay_contract.proofs.RankLemmas.{rank_set}
 use Rattle.bay_contract.proofs.DiagramLemmas.{leads_one}
-use Rattle.bay_contract.proofs.ViewIndexLemmas.{list_of, views_told}
+use Rattle.contraction.proofs.ListedLemmas.{list_of}
+use Rattle.bay_contract.proofs.ViewIndexLemmas.{views_told}
 
 some_value : (xs : List Answers) (i : ℕ) → i < length xs → (x : Answers) × (slice_get xs i ≡ Some x)
 some_value [] i lt = absurd (omega arith)

@@ -12,10 +12,10 @@ use Rattle.station_graph.proofs.LinkedLemmas.{linked_self, linked_one, linked_tr
 use Rattle.station_graph.proofs.PositionLemmas.{slice_get-set_other}
 use Rattle.contraction.proofs.MarkLemmas.{slice_get-set_same}
 use Rattle.double_points.specs.Words.{Agrees}
-use Rattle.bay_contract.specs.declared.fork.Fork.{Fork}
-use Rattle.bay_contract.specs.Layers.{digit, bits}
-use Rattle.bay_contract.specs.Diagrams.{branch, ForkGoes, ForkFits}
-use Rattle.bay_contract.specs.PartAlphabets.{PartAlphabet}
+use Rattle.part_alphabets.specs.declared.fork.Fork.{Fork}
+use Rattle.part_alphabets.specs.Layers.{digit, bits}
+use Rattle.part_alphabets.specs.Diagrams.{branch, ForkGoes, ForkFits}
+use Rattle.part_alphabets.specs.PartAlphabets.{PartAlphabet}
 use Rattle.bay_contract.specs.Shapes.{IsShaped}
 use Rattle.bay_contract.specs.Paths.{BeginsSo, LeadsHere, MayGo, LeadsBack, HasPath, NotesOne, NotesBoth, PathsTo}
 use Rattle.bay_contract.proofs.RankLemmas.{digit_small}

@@ -10,15 +10,15 @@ use Rattle.station_graph.specs.Nodes.{Rises}
 use Rattle.station_graph.proofs.PathLemmas.{slice_get-push}
 use Rattle.contraction.specs.Answers.{Answers, Keeps}
 use Rattle.contraction.specs.Renaming.{renamed}
-use Rattle.bay_contract.specs.declared.limits.TheConstants.{CONTRACTIONS, LETTERS}
+use Rattle.part_alphabets.specs.declared.limits.TheConstants.{CONTRACTIONS, LETTERS}
 use Rattle.bay_contract.specs.declared.course.Turn.{Turn}
 use Rattle.bay_contract.specs.declared.course.Course.{Course}
-use Rattle.bay_contract.specs.declared.fork.Fork.{Fork}
+use Rattle.part_alphabets.specs.declared.fork.Fork.{Fork}
 use Rattle.bay_contract.specs.declared.pattern.Pattern.{Pattern}
 use Rattle.bay_contract.specs.Sorting.{IsSorted}
 use Rattle.bay_contract.specs.Shapes.{IsShaped}
-use Rattle.bay_contract.specs.Counting.{PartIsPast, AreStepSizes}
-use Rattle.bay_contract.specs.Diagrams.{ForksFit, AreStaged}
+use Rattle.part_alphabets.specs.Counting.{PartIsPast, AreStepSizes}
+use Rattle.part_alphabets.specs.Diagrams.{ForksFit, AreStaged}
 use Rattle.bay_contract.specs.Building.{Forked, AreReversed, IsBuilt}
 use Rattle.bay_contract.proofs.Layers.{IsLayer}
 use Rattle.bay_contract.specs.Turns.{KeepsThese, Turns, TurnsPast}

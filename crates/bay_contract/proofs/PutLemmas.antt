@@ -6,7 +6,7 @@ use Rattle.std.proofs.Math.ListN.{replicate}
 use Rattle.std.proofs.lemmas.List.{length-set, length-replicate}
 use Rattle.station_graph.proofs.PositionLemmas.{slice_get-set_other}
 use Rattle.contraction.proofs.MarkLemmas.{slice_get-set_same}
-use Rattle.bay_contract.specs.Layers.{digit, bits}
+use Rattle.part_alphabets.specs.Layers.{digit, bits}
 use Rattle.bay_contract.proofs.RankLemmas.{digit_of}
 use Rattle.bay_contract.proofs.AlphabetLemmas.{pow_more}
 

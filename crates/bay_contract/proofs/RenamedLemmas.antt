@@ -6,7 +6,7 @@ use Rattle.station_graph.specs.Connection.{LeadsTo, Linked}
 use Rattle.station_graph.specs.Nodes.{Rises}
 use Rattle.station_graph.specs.Views.{Supply}
 use Rattle.station_graph.proofs.LinkedLemmas.{linked_self, linked_one, linked_trans}
-use Rattle.contraction.specs.Answers.{Answers, AreNodes, IsContraction, AreLabels, Keeps, SameAt, MarkedAt}
+use Rattle.contraction.specs.Answers.{Answers, Keeps, SameAt, MarkedAt}
 use Rattle.contraction.specs.Answers.{SaysSupply, SameGap, SameLoad}
 use Rattle.contraction.specs.Composing.{SameInEither, LabelsCompose, MarksCompose}
 use Rattle.contraction.specs.Renaming.{renamed}
@@ -229,20 +229,6 @@ module _ (R : ℕ → ℕ → Type 0) (one : ToOne R) (back : ToOne (Back R)) wh
 -- a value on its own nodes is itself
 pub renamed_own : (k : List ℕ) (x : Answers) → x.kept ≡ k → renamed k x ≡ x
 renamed_own k x e = ap (λ l. renamed l x) (sym e)
-
-pub renamed_well : (n : List ℕ) (x : Answers) → AreNodes n → length n ≡ length x.kept → IsContraction x
-    → IsContraction (renamed n x)
-renamed_well n x nodes e w = record {
-  nodes = nodes;
-  coupled = subst (λ m. AreLabels m x.coupled) (sym e) w.coupled;
-  joined = subst (λ m. AreLabels m x.joined) (sym e) w.joined;
-  bonded = subst (λ m. AreLabels m x.bonded) (sym e) w.bonded;
-  energisable = w.energisable ∙ sym e;
-  earthable = w.earthable ∙ sym e;
-  fed = w.fed ∙ sym e;
-  loaded = w.loaded ∙ sym e;
-  fed_loaded = w.fed_loaded;
-}
 
 -- the places of two rising lists
 pub places_to_one : (from to : List ℕ) → Rises from → ToOne (AtOnePlace from to)

@@ -2,8 +2,8 @@
 use Rattle.std.proofs.Common.{ℕ, Option, None, Some, List, MatchOption, IfSome}
 use Rattle.ilk_base.specs.declared.words.Dbpos.{Dbpos}
 use Rattle.station_graph.specs.Diagram.{Diagram}
-use Rattle.bay_contract.specs.PartAlphabets.{Alphabets}
-use Rattle.bay_contract.specs.Alphabets.{CanHave, IsAgreeing, KeepsPosition, InSet, IsPossible}
+use Rattle.part_alphabets.specs.PartAlphabets.{Alphabets}
+use Rattle.part_alphabets.specs.Alphabets.{CanHave, IsAgreeing, KeepsPosition, InSet, IsPossible}
 
 -- it is a position, where all that are kept are
 pub kept_position : (Position : ℕ → Type 0) (set : List (Option ℕ)) (i : ℕ) (o : Option ℕ)

@@ -4,7 +4,7 @@ use Rattle.std.proofs.Common.{◌∙◌, ap, inl, inr, arith}
 use Rattle.std.specs.Prelude.{option_map}
 use Rattle.std.proofs.lemmas.Option.{slice_get-map}
 use Rattle.std.proofs.lemmas.List.{length-map}
-use Rattle.bay_contract.specs.declared.fork.Fork.{Fork}
+use Rattle.part_alphabets.specs.declared.fork.Fork.{Fork}
 use Rattle.bay_contract.specs.Building.{Forked}
 use Rattle.bay_contract.specs.Courses.{shifted}
 use Rattle.bay_contract.proofs.ForkLemmas.{fork_at}

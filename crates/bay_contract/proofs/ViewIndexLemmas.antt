@@ -1,20 +1,17 @@
 -- In a layer the views of two vectors are the same exactly where their indices are.
-use Rattle.std.proofs.Common.{◌≡◌, ℕ, ◌+◌, ◌<◌, zero, suc, Bool, List, [], ◌∷◌, ◌++◌, length, slice_get, Some, refl}
-use Rattle.std.proofs.Common.{sym, ◌∙◌, ap, subst, inl, inr, arith}
+use Rattle.std.proofs.Common.{◌≡◌, ℕ, ◌+◌, Bool, List, length, slice_get, refl, sym, ◌∙◌, ap, subst}
 use Rattle.std.proofs.lemmas.Option.{slice_get_within}
-use Rattle.std.proofs.lemmas.List.{length_push}
-use Rattle.std.proofs.lemmas.Bool.{cases_lt}
-use Rattle.station_graph.proofs.PathLemmas.{slice_get-push}
 use Rattle.station_graph.specs.Diagram.{Diagram}
 use Rattle.station_graph.specs.Alike.{IsVector}
 use Rattle.contraction.specs.Answers.{Answers, Keeps, SameGap, SameLoad}
 use Rattle.contraction.specs.Stands.{StandsFor}
 use Rattle.contraction.proofs.ViewLemmas.{gap_told, load_told}
-use Rattle.bay_contract.specs.declared.fork.Fork.{Fork}
-use Rattle.bay_contract.specs.Layers.{OfLayer, IsKept, SameLayer}
-use Rattle.bay_contract.specs.Diagrams.{ForksLeadTo}
+use Rattle.contraction.proofs.ListedLemmas.{list_of}
+use Rattle.part_alphabets.specs.declared.fork.Fork.{Fork}
+use Rattle.part_alphabets.specs.Layers.{OfLayer, IsKept, SameLayer}
+use Rattle.part_alphabets.specs.Diagrams.{ForksLeadTo}
 use Rattle.bay_contract.specs.Sorting.{KeepsAt}
-use Rattle.bay_contract.specs.Counting.{AreSoMany}
+use Rattle.part_alphabets.specs.Counting.{AreSoMany}
 use Rattle.bay_contract.proofs.Layers.{IsLayer}
 use Rattle.bay_contract.proofs.DiagramLemmas.{leads_one}
 use Rattle.contraction.proofs.RisingLemmas.{rising_equal}
@@ -78,37 +75,6 @@ module _ (d : Diagram) (part first j : ℕ) (values : List Answers) (ranks : Lis
       leads_one forks v i sv.index lv sv.leads
       ∙ (h.apart sv.index sw.index sv.value sw.value sv.listed sw.listed told.0 told.1
       ∙ leads_one forks w sw.index k sw.leads lw)
-
--- a list of so many, each with a property of its place
-abbrev pub Listed : {X : Type 0} → (ℕ → X → Type 0) → ℕ → Type 0
-Listed {X = X} P n = (list : List X) × (length list ≡ n) × ((i : ℕ) (v : X) → slice_get list i ≡ Some v
-    → P i v) × ((i : ℕ) → i < n → (v : X) × (slice_get list i ≡ Some v))
-
-get_old : {X : Type 0} (xs : List X) (y x : X) (i : ℕ) → slice_get xs i ≡ Some x → slice_get (xs ++ y ∷ []) i ≡ Some x
-get_old [] y x i h = cc
-get_old (z ∷ xs) y x zero h = h
-get_old (z ∷ xs) y x (suc i) h = get_old xs y x i h
-
-get_new : {X : Type 0} (xs : List X) (y : X) → slice_get (xs ++ y ∷ []) (length xs) ≡ Some y
-get_new [] y = refl
-get_new (z ∷ xs) y = get_new xs y
-
-pub list_of : {X : Type 0} (P : ℕ → X → Type 0) (n : ℕ) → ((i : ℕ) → i < n → (v : X) × P i v) → Listed P n
-list_of P zero each = ([], refl, (λ i v h. cc), (λ i lt. absurd (omega arith)))
-list_of {X = X} P (suc n) each =
-    let (list, len, holds, some) = list_of P n (λ i lt. each i (omega arith)) in
-    let (v, p) = each n (omega arith) in (
-      list ++ v ∷ [],
-      omega (arith, length_push list v),
-      (λ i w h. elim (slice_get-push list v w i h) [
-        | inl old ↦ holds i w old
-        | inr new ↦ subst (λ (u : X). P i u) new.1 (subst (λ k. P k v) (sym (new.0 ∙ len)) p)
-      ]),
-      (λ i lt. elim (cases_lt i n) [
-        | inl less ↦ (let (w, at) = some i less in (w, get_old list v w i at))
-        | inr more ↦ (v, subst (λ k. slice_get (list ++ v ∷ []) k ≡ Some v) (len ∙ omega arith) (get_new list v))
-      ]),
-    )
 
 -- THE VALUES OF A LAYER COUNT ITS CONTRACTIONS
 pub layer_counts : (d : Diagram) (part first j : ℕ) (values : List Answers) (ranks : List ℕ) (forks : List Fork)

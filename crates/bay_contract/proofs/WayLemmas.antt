@@ -8,11 +8,11 @@ use Rattle.station_graph.specs.Sharing.{OfPart}
 use Rattle.station_graph.specs.Alike.{IsVector}
 use Rattle.station_graph.specs.Diagram.{Diagram}
 use Rattle.double_points.specs.Words.{BayAgrees}
-use Rattle.bay_contract.specs.Diagrams.{ForkGoes}
-use Rattle.bay_contract.specs.PartAlphabets.{PartAlphabet, Alphabets, part_at, first_switch_of, count_of, StandsAt}
+use Rattle.part_alphabets.specs.Diagrams.{ForkGoes}
+use Rattle.part_alphabets.specs.PartAlphabets.{PartAlphabet, Alphabets, part_at, first_switch_of, count_of, StandsAt}
 use Rattle.bay_contract.specs.Shapes.{IsShaped}
 use Rattle.bay_contract.specs.Paths.{BeginsSo, TestedAgree, MayGo, LeadsBack, HasPath, PathsTo, MayLead, IsWay}
-use Rattle.bay_contract.specs.Alphabets.{CanHave, IsAgreeing, IsAlphabet, KeepsPosition, InSet}
+use Rattle.part_alphabets.specs.Alphabets.{CanHave, IsAgreeing, IsAlphabet, KeepsPosition, InSet}
 use Rattle.bay_contract.proofs.NextLemmas.{some_at}
 use Rattle.bay_contract.proofs.PutLemmas.{bits_some}
 

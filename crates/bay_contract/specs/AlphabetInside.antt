@@ -1,5 +1,5 @@
 -- How the fields of an alphabet are seen.
-use Rattle.bay_contract.specs.PartAlphabets.{PartAlphabet}
+use Rattle.part_alphabets.specs.PartAlphabets.{PartAlphabet}
 use Rattle.bay_contract.specs.declared.alphabet.Alphabet.TheInside.{Inside}
 
 -- The alphabet that the struct holds.

@@ -6,11 +6,11 @@ use Rattle.station_graph.specs.Sharing.{OfPart, IsShared}
 use Rattle.station_graph.specs.Alike.{IsVector}
 use Rattle.contraction.specs.Answers.{Answers, IsContraction, Keeps}
 use Rattle.contraction.specs.Stands.{StandsFor}
-use Rattle.bay_contract.specs.declared.limits.TheConstants.{LETTERS}
-use Rattle.bay_contract.specs.declared.fork.Fork.{Fork}
-use Rattle.bay_contract.specs.Layers.{rank, bits}
-use Rattle.bay_contract.specs.Diagrams.{ForksLeadTo, ForksFit}
-use Rattle.bay_contract.specs.PartAlphabets.{PartAlphabet}
+use Rattle.part_alphabets.specs.declared.limits.TheConstants.{LETTERS}
+use Rattle.part_alphabets.specs.declared.fork.Fork.{Fork}
+use Rattle.part_alphabets.specs.Layers.{rank, bits}
+use Rattle.part_alphabets.specs.Diagrams.{ForksLeadTo, ForksFit}
+use Rattle.part_alphabets.specs.PartAlphabets.{PartAlphabet}
 use Rattle.bay_contract.specs.Sorting.{AreApart}
 
 -- A step was added for each value of the last layer: places 2i and 2i + 1 say where value i leads.

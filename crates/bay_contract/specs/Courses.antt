@@ -6,15 +6,15 @@ use Rattle.station_graph.specs.Diagram.{Diagram, AreSwitchesOf}
 use Rattle.contraction.specs.Answers.{Answers, AreNodes}
 use Rattle.contraction.specs.Stands.{StandsFor}
 use Rattle.contraction.specs.Renaming.{renamed}
-use Rattle.bay_contract.specs.declared.limits.TheConstants.{CONTRACTIONS}
+use Rattle.part_alphabets.specs.declared.limits.TheConstants.{CONTRACTIONS}
 use Rattle.bay_contract.specs.declared.course.Turn.{Turn}
 use Rattle.bay_contract.specs.declared.course.Course.{Course}
-use Rattle.bay_contract.specs.declared.fork.Fork.{Fork}
+use Rattle.part_alphabets.specs.declared.fork.Fork.{Fork}
 use Rattle.bay_contract.specs.declared.pattern.Pattern.{Pattern}
-use Rattle.bay_contract.specs.Layers.{IsBase, IsKept}
+use Rattle.part_alphabets.specs.Layers.{IsBase, IsKept}
 use Rattle.bay_contract.specs.Sorting.{IsSwitchPair, KeepsAt}
-use Rattle.bay_contract.specs.Counting.{PartFits, AreStepSizes}
-use Rattle.bay_contract.specs.Diagrams.{AreStaged}
+use Rattle.part_alphabets.specs.Counting.{PartFits, AreStepSizes}
+use Rattle.part_alphabets.specs.Diagrams.{AreStaged}
 use Rattle.bay_contract.specs.Building.{IsBuilt}
 
 -- The values of this switch of the part, and the nodes that matter after it.

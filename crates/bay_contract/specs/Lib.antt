@@ -1,17 +1,11 @@
-pub mod Layers
 pub mod Bases
-pub mod Counting
-pub mod Diagrams
 pub mod Sorting
 pub mod Building
 pub mod Turns
 pub mod Tables
-pub mod PartAlphabets
 pub mod Shapes
-pub mod Alphabets
 pub mod AlphabetInside
 pub mod PartsInside
 pub mod Refusing
-pub mod Targets
 pub mod Paths
 pub mod Courses

@@ -1,5 +1,5 @@
 -- How the alphabets of the parts are seen.
-use Rattle.bay_contract.specs.PartAlphabets.{Alphabets}
+use Rattle.part_alphabets.specs.PartAlphabets.{Alphabets}
 use Rattle.bay_contract.specs.declared.parts.Parts.TheInside.{Inside}
 
 -- The alphabets that the struct holds.

@@ -4,10 +4,10 @@ use Rattle.std.specs.Prelude.{◌≡◌, ℕ, ◌+◌, ◌*◌, ◌^◌, ◌<◌
 use Rattle.ilk_base.specs.declared.words.Dbpos.{Dbpos}
 use Rattle.station_graph.specs.Connection.{Linked}
 use Rattle.double_points.specs.Words.{Agrees}
-use Rattle.bay_contract.specs.declared.fork.Fork.{Fork}
-use Rattle.bay_contract.specs.Layers.{digit, bits}
-use Rattle.bay_contract.specs.Diagrams.{branch, ForkGoes, ForksLeadTo}
-use Rattle.bay_contract.specs.PartAlphabets.{PartAlphabet}
+use Rattle.part_alphabets.specs.declared.fork.Fork.{Fork}
+use Rattle.part_alphabets.specs.Layers.{digit, bits}
+use Rattle.part_alphabets.specs.Diagrams.{branch, ForkGoes, ForksLeadTo}
+use Rattle.part_alphabets.specs.PartAlphabets.{PartAlphabet}
 
 -- At this number so many switches of the part are tested: at a step those before its own, at an index
 -- all.

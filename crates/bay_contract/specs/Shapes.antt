@@ -1,9 +1,9 @@
 -- What holds of every alphabet, whatever station it was made for.
 use Rattle.std.specs.Prelude.{◌≡◌, ℕ, ◌+◌, ◌*◌, ◌^◌, ◌<◌, ◌≤◌, length, slice_get, slice_index, Some}
 use Rattle.station_graph.specs.declared.limits.TheConstants.{BAY_SWITCHES}
-use Rattle.bay_contract.specs.declared.limits.TheConstants.{CONTRACTIONS, LETTERS}
-use Rattle.bay_contract.specs.Diagrams.{ForksFit, AreStaged}
-use Rattle.bay_contract.specs.PartAlphabets.{PartAlphabet, Alphabets}
+use Rattle.part_alphabets.specs.declared.limits.TheConstants.{CONTRACTIONS, LETTERS}
+use Rattle.part_alphabets.specs.Diagrams.{ForksFit, AreStaged}
+use Rattle.part_alphabets.specs.PartAlphabets.{PartAlphabet, Alphabets}
 
 -- The alphabet has 1 to `LETTERS` letters, each with an example, and its steps lead on, from the part's first
 -- switch to its last.

@@ -3,7 +3,7 @@ use Rattle.std.specs.Prelude.{◌≡◌, ℕ, ◌*◌, ◌/◌, ◌%◌, ◌<◌
 use Rattle.contraction.specs.Answers.{Answers, IsContraction}
 use Rattle.contraction.specs.Composing.{ComposesGap, ComposesLoad}
 use Rattle.bay_contract.specs.declared.course.Turn.{Turn}
-use Rattle.bay_contract.specs.declared.fork.Fork.{Fork}
+use Rattle.part_alphabets.specs.declared.fork.Fork.{Fork}
 use Rattle.bay_contract.specs.Sorting.{AreSorted}
 use Rattle.bay_contract.specs.Building.{Forked, Ranked}
 

@@ -2,18 +2,18 @@
 ghost use Rattle.std.specs.Prelude.{◌≡◌, ℕ, ◌+◌, ◌^◌, ◌<◌, ◌≤◌, List, Some, length, map, slice_get, IfOk, IfErr};
 ghost use Rattle.contraction.specs.Answers.{Answers, AreNodes};
 ghost use Rattle.contraction.specs.Renaming.{renamed};
-ghost use Rattle.bay_contract.specs.declared.fork.Fork.{Fork};
-ghost use Rattle.bay_contract.specs.Counting.{PartFits, AreStepSizes};
+ghost use Rattle.part_alphabets.specs.declared.fork.Fork.{Fork};
+ghost use Rattle.part_alphabets.specs.Counting.{PartFits, AreStepSizes};
 ghost use Rattle.bay_contract.specs.Building.{IsBuiltFor};
 ghost use Rattle.bay_contract.specs.Refusing.{IsRefusalOf};
 ghost use Rattle.bay_contract.specs.Courses.{IsCourse, IsLikeCourse, IsPattern, ArePatterns, shifted};
 
 use crate::course::{Course, course_of};
-use crate::fork::Fork;
 use crate::pattern::{Pattern, like_pattern, pattern_of, remember};
 use crate::refusal::PartsRefusal;
 use contraction::Contraction;
 use ilk_base::{BayId, Memory, SwitchId};
+use part_alphabets::Fork;
 use station_graph::{NodeList, Station};
 use std::alloc::Global;
 use std::marker::Model;
@@ -30,7 +30,7 @@ pub(crate) struct Alphabet {
 }
 
 impl Model for Alphabet {
-    ghost use Rattle.bay_contract.specs.PartAlphabets.{PartAlphabet};
+    ghost use Rattle.part_alphabets.specs.PartAlphabets.{PartAlphabet};
     ghost use Rattle.bay_contract.specs.Shapes.{IsShaped};
 
     ghost Value = { PartAlphabet };

@@ -4,7 +4,7 @@ ghost use Rattle.station_graph.specs.Connection.{a_switch};
 ghost use Rattle.station_graph.specs.Diagram.{AreSwitchesOf};
 ghost use Rattle.station_graph.specs.Sharing.{IsShared, OfPart};
 ghost use Rattle.contraction.specs.Answers.{AreNodes};
-ghost use Rattle.bay_contract.specs.Layers.{IsKept};
+ghost use Rattle.part_alphabets.specs.Layers.{IsKept};
 ghost use Rattle.bay_contract.specs.Courses.{IsTurn, AreTurns, IsCourse, nodes_after};
 
 use crate::bases::base;

@@ -4,15 +4,15 @@ ghost use Rattle.std.specs.Prelude.{IfSome, IfNone, Contains};
 ghost use Rattle.station_graph.specs.declared.limits.TheConstants.{BAY_SWITCHES};
 ghost use Rattle.station_graph.specs.Nodes.{Rises};
 ghost use Rattle.contraction.specs.Answers.{Answers, Keeps};
-ghost use Rattle.bay_contract.specs.declared.limits.TheConstants.{CONTRACTIONS};
+ghost use Rattle.part_alphabets.specs.declared.limits.TheConstants.{CONTRACTIONS};
 ghost use Rattle.bay_contract.specs.Building.{Forked, Ranked};
 ghost use Rattle.bay_contract.specs.Turns.{Turns, TurnsPast};
 
 use crate::course::Turn;
-use crate::fork::Fork;
 use crate::sorted::sorted;
 use contraction::Contraction;
 use ilk_base::{Memory, SwitchId};
+use part_alphabets::Fork;
 use std::alloc::Global;
 
 // One step for each value of the last layer: places 2i and 2i + 1 say where value i leads.

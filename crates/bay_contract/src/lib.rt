@@ -7,12 +7,10 @@
 mod alphabet;
 mod bases;
 mod course;
-mod fork;
 mod kept;
 mod laws;
 mod layer;
 mod like;
-mod limits;
 mod parts;
 mod pattern;
 mod possible;
@@ -23,9 +21,7 @@ mod table;
 mod walk;
 
 pub use bases::base;
-pub use fork::{PartStep, Target};
 pub use laws::contractions_are_so_many;
-pub use limits::{CONTRACTIONS, LETTERS};
 pub use parts::Parts;
 pub use possible::IndexSet;
 pub use refusal::PartsRefusal;

@@ -1,9 +1,9 @@
 //! The alphabets of all parts.
 ghost use Rattle.std.specs.Prelude.{◌≡◌, ℕ, ◌+◌, ◌<◌, ◌≤◌, ◌++◌, ◌∷◌, [], Some, length, slice_get, IfOk, IfErr};
 ghost use Rattle.station_graph.specs.Diagram.{part_count};
-ghost use Rattle.bay_contract.specs.Counting.{PartFits};
-ghost use Rattle.bay_contract.specs.PartAlphabets.{part_at};
-ghost use Rattle.bay_contract.specs.Alphabets.{AreAlphabets};
+ghost use Rattle.part_alphabets.specs.Counting.{PartFits};
+ghost use Rattle.part_alphabets.specs.PartAlphabets.{part_at};
+ghost use Rattle.part_alphabets.specs.Alphabets.{AreAlphabets};
 ghost use Rattle.bay_contract.specs.Refusing.{IsRefusal};
 
 use crate::alphabet::{Alphabet, alphabet_of};
@@ -25,7 +25,7 @@ pub struct Parts {
 }
 
 impl Model for Parts {
-    ghost use Rattle.bay_contract.specs.PartAlphabets.{Alphabets};
+    ghost use Rattle.part_alphabets.specs.PartAlphabets.{Alphabets};
     ghost use Rattle.bay_contract.specs.Shapes.{AreUniform};
 
     ghost Value = { Alphabets };

@@ -3,21 +3,20 @@ ghost use Rattle.std.specs.Prelude.{◌≡◌, ◌≢◌, ℕ, ◌+◌, ◌<◌,
 ghost use Rattle.std.specs.Prelude.{IfOk, IfErr, IfSome};
 ghost use Rattle.station_graph.specs.declared.limits.TheConstants.{BAY_SWITCHES};
 ghost use Rattle.contraction.specs.Answers.{AreNodes};
-ghost use Rattle.bay_contract.specs.declared.limits.TheConstants.{CONTRACTIONS, LETTERS};
+ghost use Rattle.part_alphabets.specs.declared.limits.TheConstants.{CONTRACTIONS, LETTERS};
 ghost use Rattle.bay_contract.specs.declared.pattern.Pattern.{Pattern};
-ghost use Rattle.bay_contract.specs.Layers.{rank, bits};
+ghost use Rattle.part_alphabets.specs.Layers.{rank, bits};
 ghost use Rattle.bay_contract.specs.Building.{AreReversed};
 ghost use Rattle.bay_contract.specs.Refusing.{IsRefusalOf};
 ghost use Rattle.bay_contract.specs.Courses.{IsCourse, IsLikeCourse, IsPattern};
 
 use crate::course::Course;
-use crate::fork::Fork;
 use crate::layer::{Layer, next_layer};
 use crate::like::is_like_course;
-use crate::limits::{CONTRACTIONS, LETTERS};
 use crate::refusal::PartsRefusal;
 use contraction::Contraction;
 use ilk_base::{BayId, Memory};
+use part_alphabets::{CONTRACTIONS, Fork, LETTERS};
 use station_graph::Station;
 use std::alloc::Global;
 

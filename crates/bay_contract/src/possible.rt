@@ -2,12 +2,12 @@
 ghost use Rattle.std.specs.Prelude.{◌≡◌, ℕ, ◌+◌, ◌^◌, ◌<◌, ◌≤◌, ◌↔◌, drop, length};
 ghost use Rattle.std.specs.Prelude.{slice_get, IfOk, IsTrue, MatchOption};
 ghost use Rattle.bay_contract.specs.Paths.{NotesOne, NotesBoth, PathsTo, LeadsBack, MayLead, IsWay};
-ghost use Rattle.bay_contract.specs.Alphabets.{KeepsPosition, InSet};
+ghost use Rattle.part_alphabets.specs.Alphabets.{KeepsPosition, InSet};
 
 use crate::alphabet::Alphabet;
-use crate::fork::Fork;
 use double_points::{Readings, agrees};
 use ilk_base::Memory;
+use part_alphabets::Fork;
 use std::alloc::Global;
 use std::marker::Model;
 

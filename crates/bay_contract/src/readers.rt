@@ -6,19 +6,19 @@ ghost use Rattle.station_graph.specs.Connection.{a_switch};
 ghost use Rattle.station_graph.specs.Sharing.{OfPart};
 ghost use Rattle.station_graph.specs.Alike.{IsVector, Alike, DifferInPart};
 ghost use Rattle.contraction.specs.Stands.{StandsFor};
-ghost use Rattle.bay_contract.specs.Counting.{AreStepSizes};
-ghost use Rattle.bay_contract.specs.Diagrams.{ForksLeadTo};
-ghost use Rattle.bay_contract.specs.Targets.{number_of, IsTargetOf, IsStepAt};
-ghost use Rattle.bay_contract.specs.PartAlphabets.{letters_of, size_of, example_of, forks_of, IsPosition, StandsAt};
-ghost use Rattle.bay_contract.specs.Alphabets.{AreAlphabets, IsLetter, HasIndex, IsExample, CanHave, IsAgreeing};
-ghost use Rattle.bay_contract.specs.Alphabets.{KeepsPosition, IsPossible};
+ghost use Rattle.part_alphabets.specs.Counting.{AreStepSizes};
+ghost use Rattle.part_alphabets.specs.Diagrams.{ForksLeadTo};
+ghost use Rattle.part_alphabets.specs.Targets.{number_of, IsTargetOf, IsStepAt};
+ghost use Rattle.part_alphabets.specs.PartAlphabets.{letters_of, size_of, example_of, forks_of, IsPosition, StandsAt};
+ghost use Rattle.part_alphabets.specs.Alphabets.{AreAlphabets, IsLetter, HasIndex, IsExample, CanHave, IsAgreeing};
+ghost use Rattle.part_alphabets.specs.Alphabets.{KeepsPosition, IsPossible};
 
-use crate::fork::{PartStep, Target};
 use crate::parts::Parts;
 use crate::possible::IndexSet;
 use contraction::Contraction;
 use double_points::Readings;
 use ilk_base::{BayId, Memory, SwitchId};
+use part_alphabets::{PartStep, Target};
 use station_graph::Vector;
 use std::alloc::Global;
 

@@ -1,15 +1,15 @@
 //! From the positions of a part's switches to its index.
 ghost use Rattle.std.specs.Prelude.{◌≡◌, ℕ, ◌+◌, ◌^◌, ◌<◌, ◌≤◌, ◌⊎◌, Some, length, slice_get, slice_index};
 ghost use Rattle.station_graph.specs.Connection.{Linked};
-ghost use Rattle.bay_contract.specs.declared.limits.TheConstants.{LETTERS};
-ghost use Rattle.bay_contract.specs.Layers.{bits};
-ghost use Rattle.bay_contract.specs.Diagrams.{ForkGoes, ForksFit, ForksLeadTo};
-ghost use Rattle.bay_contract.specs.Targets.{number_of, IsTargetOf, IsStepAt};
+ghost use Rattle.part_alphabets.specs.declared.limits.TheConstants.{LETTERS};
+ghost use Rattle.part_alphabets.specs.Layers.{bits};
+ghost use Rattle.part_alphabets.specs.Diagrams.{ForkGoes, ForksFit, ForksLeadTo};
+ghost use Rattle.part_alphabets.specs.Targets.{number_of, IsTargetOf, IsStepAt};
 
 use crate::alphabet::Alphabet;
-use crate::fork::{Fork, PartStep, Target};
 use contraction::Contraction;
 use ilk_base::SwitchId;
+use part_alphabets::{Fork, PartStep, Target};
 use station_graph::Vector;
 
 // Where the steps lead in the vector: the number of steps and an index.

@@ -1,5 +1,5 @@
 //! The alphabets of all parts of a station.
-ghost use Rattle.bay_contract.specs.Alphabets.{AreAlphabets};
+ghost use Rattle.part_alphabets.specs.Alphabets.{AreAlphabets};
 
 use anyhow::{Result, bail};
 use bay_contract::Parts;

@@ -8,7 +8,7 @@ use Rattle.std.proofs.lemmas.Option.{get_or_from_slice_get}
 use Rattle.station_graph.specs.Diagram.{Diagram}
 use Rattle.station_graph.specs.Connection.{a_switch}
 use Rattle.station_graph.specs.Alike.{IsVector}
-use Rattle.bay_contract.proofs.ViewIndexLemmas.{list_of}
+use Rattle.contraction.proofs.ListedLemmas.{list_of}
 use Rattle.judge_pool.specs.Graphs.{other_of}
 use Rattle.judge_intake.proofs.OtherLemmas.{other_cases, element}
 use Rattle.step_graphs.specs.declared.step.Step.{Step}

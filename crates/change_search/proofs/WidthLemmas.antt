@@ -10,7 +10,7 @@ use Rattle.station_graph.specs.Diagram.{Diagram}
 use Rattle.station_graph.specs.Connection.{Item}
 use Rattle.station_graph.specs.CentralRules.{Applies, GapBreaks}
 use Rattle.station_graph.proofs.PositionLemmas.{SameGapView-sym, SameLoadView-sym, SameGapView-trans, SameLoadView-trans}
-use Rattle.bay_contract.specs.Counting.{AreSoMany}
+use Rattle.part_alphabets.specs.Counting.{AreSoMany}
 use Rattle.bay_contract.proofs.CountingLemmas.{not_longer}
 use Rattle.decision_graphs.specs.Label.{Layered, label_of}
 use Rattle.judge_pool.specs.Counted.{AreAtLeast}

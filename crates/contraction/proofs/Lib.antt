@@ -32,3 +32,5 @@ pub mod ReadLemmas
 pub mod TextLemmas
 pub mod UnchangedLemmas
 pub mod StayLemmas
+pub mod ListedLemmas
+pub mod RenamedLemmas

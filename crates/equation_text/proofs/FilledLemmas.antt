@@ -4,8 +4,8 @@ use Rattle.std.proofs.Common.{refl, sym, ap, subst, arith, inl, inr, Some, None,
 use Rattle.std.specs.Prelude.{codes, slice_get}
 use Rattle.std.proofs.lemmas.List.{length-map, length-append}
 use Rattle.station_graph.specs.Diagram.{Diagram, part_count}
-use Rattle.bay_contract.specs.declared.fork.Target.{Target}
-use Rattle.bay_contract.specs.declared.fork.Target.TheVariants.{Index}
+use Rattle.part_alphabets.specs.declared.fork.Target.{Target}
+use Rattle.part_alphabets.specs.declared.fork.Target.TheVariants.{Index}
 use Rattle.station_equations.specs.declared.goal.Goal.TheVariants.{Answer}
 use Rattle.station_equations.specs.declared.goal.SwitchGoals.{SwitchGoals}
 use Rattle.station_equations.specs.declared.goal.TheConstants.{NUMBERS}

@@ -6,8 +6,8 @@ use Rattle.std.proofs.lemmas.Bool.{cases_lt}
 use Rattle.std.proofs.lemmas.List.{append_cancel_left, length-map}
 use Rattle.std.proofs.lemmas.Option.{slice_get_within}
 use Rattle.station_graph.specs.Diagram.{Diagram, IsStation, part_count}
-use Rattle.bay_contract.specs.declared.fork.PartStep.{PartStep}
-use Rattle.bay_contract.specs.declared.fork.Target.{Target}
+use Rattle.part_alphabets.specs.declared.fork.PartStep.{PartStep}
+use Rattle.part_alphabets.specs.declared.fork.Target.{Target}
 use Rattle.station_equations.specs.declared.goal.SwitchGoals.{SwitchGoals}
 use Rattle.station_equations.specs.declared.goal.TheConstants.{NUMBERS}
 use Rattle.station_equations.specs.EquationLines.{PartLines, NodeLine, EquationLines, goal_count}

@@ -6,8 +6,8 @@ use Rattle.std.specs.Prelude.{codes, decimal, slice_get}
 use Rattle.ilk_base.specs.declared.words.Direction.{Direction}
 use Rattle.ilk_base.specs.declared.words.Direction.TheVariants.{ToOff, ToOn}
 use Rattle.central_rules.specs.Names.{direction_name}
-use Rattle.bay_contract.specs.declared.fork.PartStep.{PartStep}
-use Rattle.bay_contract.specs.declared.fork.Target.TheVariants.{Step}
+use Rattle.part_alphabets.specs.declared.fork.PartStep.{PartStep}
+use Rattle.part_alphabets.specs.declared.fork.Target.TheVariants.{Step}
 use Rattle.station_equations.specs.declared.goal.Goal.{Goal}
 use Rattle.station_equations.specs.declared.goal.Goal.TheVariants.{Node}
 use Rattle.station_equations.specs.declared.goal.SwitchGoals.{SwitchGoals}

@@ -4,7 +4,7 @@ use Rattle.std.proofs.Common.{arith, append-nil, append_assoc, Some}
 use Rattle.std.specs.Prelude.{slice_get}
 use Rattle.std.specs.List.{flat_map}
 use Rattle.std.proofs.lemmas.Grind.{flat_map-append}
-use Rattle.bay_contract.specs.declared.fork.PartStep.{PartStep}
+use Rattle.part_alphabets.specs.declared.fork.PartStep.{PartStep}
 use Rattle.station_equations.specs.EquationLines.{index_in, past_greatest}
 use Rattle.station_equations.proofs.TextLemmas.{take-next}
 

@@ -9,8 +9,8 @@ use Rattle.std.proofs.lemmas.List.{length_push, map-append}
 use Rattle.std.proofs.lemmas.Option.{slice_get_within}
 use Rattle.ilk_base.specs.declared.words.Direction.TheVariants.{ToOff, ToOn}
 use Rattle.station_graph.specs.Diagram.{Diagram}
-use Rattle.bay_contract.specs.declared.fork.PartStep.{PartStep}
-use Rattle.bay_contract.specs.declared.fork.Target.{Target}
+use Rattle.part_alphabets.specs.declared.fork.PartStep.{PartStep}
+use Rattle.part_alphabets.specs.declared.fork.Target.{Target}
 use Rattle.station_equations.specs.declared.goal.SwitchGoals.{SwitchGoals}
 use Rattle.station_equations.specs.declared.goal.TheConstants.{NUMBERS}
 use Rattle.station_equations.specs.EquationLines.{PartLines, NodeLine, part_node, switch_node}

@@ -4,7 +4,7 @@ use Rattle.std.proofs.Common.{append_assoc}
 use Rattle.std.specs.Prelude.{codes, decimal}
 use Rattle.ilk_base.specs.declared.words.Direction.{Direction}
 use Rattle.central_rules.specs.Names.{direction_name}
-use Rattle.bay_contract.specs.declared.fork.PartStep.{PartStep}
+use Rattle.part_alphabets.specs.declared.fork.PartStep.{PartStep}
 use Rattle.station_equations.specs.declared.goal.Goal.{Goal}
 use Rattle.station_equations.specs.declared.goal.SwitchGoals.{SwitchGoals}
 use Rattle.station_equations.specs.EquationLines.{PartLines, part_node, switch_node, goal_towards}

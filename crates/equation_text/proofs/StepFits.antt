@@ -1,7 +1,7 @@
 -- What a step may be, and what its words can say.
 use Rattle.std.proofs.Common.{ℕ, ◌<◌, ◌≤◌, arith}
 use Rattle.station_graph.specs.Diagram.{Diagram, IsStation}
-use Rattle.bay_contract.specs.declared.fork.PartStep.{PartStep}
+use Rattle.part_alphabets.specs.declared.fork.PartStep.{PartStep}
 use Rattle.equation_text.specs.Beginnings.{MayBeStep, IsTest}
 use Rattle.station_equations.specs.declared.goal.TheConstants.{NUMBERS}
 use Rattle.station_equations.specs.EquationText.{step_line}

@@ -3,7 +3,7 @@ use Rattle.std.proofs.Common.{◌≡◌, ◌∙◌, ◌⊎◌, ℕ, ◌+◌, ◌
 use Rattle.std.proofs.Common.{sym, ap, subst, inl, inr, arith, Some, append_assoc}
 use Rattle.std.specs.Prelude.{slice_get}
 use Rattle.station_graph.specs.Diagram.{Diagram}
-use Rattle.bay_contract.specs.declared.fork.PartStep.{PartStep}
+use Rattle.part_alphabets.specs.declared.fork.PartStep.{PartStep}
 use Rattle.station_equations.specs.declared.goal.TheConstants.{NUMBERS}
 use Rattle.station_equations.specs.EquationLines.{PartLines}
 use Rattle.station_equations.specs.EquationText.{step_line, text_of}

@@ -3,8 +3,8 @@ use Rattle.std.proofs.Common.{◌≡◌, ℕ, zero, suc, List, [], ◌∷◌, le
 use Rattle.std.proofs.Common.{arith, Some}
 use Rattle.std.specs.Prelude.{slice_get}
 use Rattle.station_graph.specs.Diagram.{Diagram}
-use Rattle.bay_contract.specs.declared.fork.Target.{Target}
-use Rattle.bay_contract.specs.declared.fork.Target.TheVariants.{Step, Index}
+use Rattle.part_alphabets.specs.declared.fork.Target.{Target}
+use Rattle.part_alphabets.specs.declared.fork.Target.TheVariants.{Step, Index}
 use Rattle.station_equations.specs.declared.goal.Goal.{Goal}
 use Rattle.station_equations.specs.declared.goal.Goal.TheVariants.{Node, Answer}
 use Rattle.station_equations.specs.declared.goal.SwitchGoals.{SwitchGoals}

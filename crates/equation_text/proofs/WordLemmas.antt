@@ -10,8 +10,8 @@ use Rattle.std.proofs.lemmas.List.Quantifiers.{position-Some}
 use Rattle.std.proofs.lemmas.Bool.Decides.{nat_tests}
 use Rattle.ilk_base.specs.declared.words.Rule.{Rule}
 use Rattle.ilk_base.specs.declared.words.Rule.TheVariants.{R1, R2, R3}
-use Rattle.bay_contract.specs.declared.fork.Target.{Target}
-use Rattle.bay_contract.specs.declared.fork.Target.TheVariants.{Step, Index}
+use Rattle.part_alphabets.specs.declared.fork.Target.{Target}
+use Rattle.part_alphabets.specs.declared.fork.Target.TheVariants.{Step, Index}
 use Rattle.station_equations.specs.declared.goal.Goal.{Goal}
 use Rattle.station_equations.specs.declared.goal.Goal.TheVariants.{Node, Answer}
 use Rattle.station_equations.specs.declared.goal.TheConstants.{NUMBERS, GREATEST_INDEX}

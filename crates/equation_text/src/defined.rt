@@ -5,8 +5,8 @@ ghost use Rattle.station_equations.specs.EquationLines.{index_in, past_greatest,
 ghost use Rattle.station_equations.specs.EquationForm.{IsTarget, IsGoal, OpsFit, goals_of};
 ghost use Rattle.equation_text.specs.Defined.{StepsThere, PartsThere, GoalsThere, NodesThere, StepsMay, PartsMay};
 
-use bay_contract::{PartStep, Target};
 use ilk_base::Memory;
+use part_alphabets::{PartStep, Target};
 use station_equations::{Goal, Lead, Node, PartSteps, SwitchGoals};
 use std::alloc::Global;
 

@@ -2,7 +2,7 @@
 ghost use Rattle.std.specs.Prelude.{◌≡◌, ◌≢◌, ◌↔◌, IfSome, IfNone, IsTrue};
 ghost use Rattle.station_graph.specs.Connection.{a_switch};
 ghost use Rattle.station_graph.specs.Sharing.{OfPart};
-ghost use Rattle.bay_contract.specs.declared.fork.PartStep.{PartStep as StepOf};
+ghost use Rattle.part_alphabets.specs.declared.fork.PartStep.{PartStep as StepOf};
 ghost use Rattle.station_equations.specs.declared.goal.SwitchGoals.{SwitchGoals as GoalsOf};
 ghost use Rattle.station_equations.specs.declared.goal.TheConstants.{NUMBERS};
 ghost use Rattle.station_equations.specs.EquationLines.{PartLines, goal_towards};
@@ -11,9 +11,9 @@ ghost use Rattle.station_equations.specs.EquationText.{part_line, step_line, op_
 ghost use Rattle.equation_text.specs.Beginnings.{MayBeStep, IsTest, test_text};
 
 use crate::words::{behind, behind_number, cut_word, goal, target};
-use bay_contract::{PartStep, Target};
 use central_rules::direction_name;
 use ilk_base::{BayId, Direction, SwitchId};
+use part_alphabets::{PartStep, Target};
 use station_equations::Goal;
 use station_graph::Station;
 use text_lines::decimal_number;

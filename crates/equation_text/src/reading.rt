@@ -3,7 +3,7 @@ ghost use Rattle.std.specs.Prelude.{◌≡◌, ◌≢◌, ◌<◌, ◌≤◌, �
 ghost use Rattle.std.specs.Prelude.{IfSome, IfNone, OnOk, MatchOption};
 ghost use Rattle.ilk_base.specs.declared.words.Direction.TheVariants.{ToOff, ToOn};
 ghost use Rattle.station_graph.specs.Diagram.{part_count};
-ghost use Rattle.bay_contract.specs.declared.fork.Target.{Target as TargetOf};
+ghost use Rattle.part_alphabets.specs.declared.fork.Target.{Target as TargetOf};
 ghost use Rattle.station_equations.specs.declared.goal.SwitchGoals.{SwitchGoals as GoalsOf};
 ghost use Rattle.station_equations.specs.declared.goal.TheConstants.{NUMBERS};
 ghost use Rattle.station_equations.specs.EquationLines.{NodeLine, goal_towards};
@@ -17,8 +17,8 @@ ghost use Rattle.equation_text.specs.Reading.{NoStep, AreAllSteps, MayBeOps, May
 use crate::lines::{read_op, read_part, read_step};
 use crate::node_lines::read_node;
 use crate::words::{behind, cut_line};
-use bay_contract::{PartStep, Target};
 use ilk_base::{BayId, Direction, Memory};
+use part_alphabets::{PartStep, Target};
 use station_equations::{Goal, Node, PartSteps, SwitchGoals, next_number};
 use station_graph::Station;
 use std::alloc::Global;

@@ -1,16 +1,16 @@
 //! The words of a line.
 ghost use Rattle.std.specs.Prelude.{◌≡◌, ◌≢◌, ◌++◌, ◌==◌, List, ℕ, Option, codes, IfSome, IfNone, position};
 ghost use Rattle.ilk_base.specs.declared.words.Rule.{Rule as RuleOf};
-ghost use Rattle.bay_contract.specs.declared.fork.Target.{Target as TargetOf};
+ghost use Rattle.part_alphabets.specs.declared.fork.Target.{Target as TargetOf};
 ghost use Rattle.station_equations.specs.declared.goal.Goal.{Goal as GoalOf};
 ghost use Rattle.station_equations.specs.declared.goal.TheConstants.{NUMBERS};
 ghost use Rattle.station_equations.specs.EquationForm.{IsTarget, IsGoal};
 ghost use Rattle.station_equations.specs.EquationText.{target_text, goal_text};
 ghost use Rattle.equation_text.specs.Words.{Lacks, IsCut, IsFirstWord, numbered_head};
 
-use bay_contract::Target;
 use ilk_base::Rule;
 use itoa::Buffer;
+use part_alphabets::Target;
 use station_equations::{GREATEST_INDEX, Goal};
 use text_lines::decimal_number;
 

@@ -5,8 +5,8 @@ use Rattle.std.proofs.lemmas.List.{map-append}
 use Rattle.station_graph.specs.Diagram.{Diagram, part_count}
 use Rattle.station_graph.proofs.PathLemmas.{slice_get-push}
 use Rattle.central_rules.specs.Meaning.{IsBay}
-use Rattle.bay_contract.specs.PartAlphabets.{Alphabets, size_of}
-use Rattle.bay_contract.specs.Alphabets.{AreAlphabets}
+use Rattle.part_alphabets.specs.PartAlphabets.{Alphabets, size_of}
+use Rattle.part_alphabets.specs.Alphabets.{AreAlphabets}
 use Rattle.judge_graphs.proofs.EdgesLemmas.{alphabet_counts}
 use Rattle.exchange_plan.specs.declared.planned.PartnerBits.{PartnerBits}
 use Rattle.exchange_plan.specs.declared.planned.BayPlan.{BayPlan}

@@ -3,7 +3,7 @@ use Rattle.std.specs.Prelude.{◌≡◌, ◌≢◌, ◌↔◌, ℕ, List, map, s
 use Rattle.station_graph.specs.Diagram.{Diagram}
 use Rattle.station_graph.specs.Nodes.{Rises}
 use Rattle.station_graph.specs.Alike.{Alike, Partner}
-use Rattle.bay_contract.specs.Counting.{AreSoMany}
+use Rattle.part_alphabets.specs.Counting.{AreSoMany}
 use Rattle.central_rules.specs.Meaning.{IsBay}
 use Rattle.exchange_plan.specs.declared.planned.PartnerBits.{PartnerBits}
 use Rattle.exchange_plan.specs.declared.planned.BayPlan.{BayPlan}

@@ -1,7 +1,7 @@
 -- What `replay` writes, and how it ends.
 use Rattle.std.specs.Prelude.{◌≡◌, ℕ, List, [], length, Option, Some, None}
 use Rattle.station_graph.specs.Diagram.{Diagram}
-use Rattle.bay_contract.specs.Alphabets.{AreAlphabets}
+use Rattle.part_alphabets.specs.Alphabets.{AreAlphabets}
 use Rattle.release_compile.specs.Judging.{Judging}
 use Rattle.release_compile.specs.Summaries.{judges}
 use Rattle.reservation_core.specs.Premises.{number}

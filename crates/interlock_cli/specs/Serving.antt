@@ -1,7 +1,7 @@
 -- How a call ends that serves the input line by line.
 use Rattle.std.specs.Prelude.{◌≡◌, ℕ}
 use Rattle.station_graph.specs.Diagram.{Diagram}
-use Rattle.bay_contract.specs.Alphabets.{AreAlphabets}
+use Rattle.part_alphabets.specs.Alphabets.{AreAlphabets}
 use Rattle.release_compile.specs.Judging.{Judging}
 use Rattle.release_compile.specs.Summaries.{judges}
 use Rattle.node_session.specs.SessionEnds.{Streams, SessionEnds}

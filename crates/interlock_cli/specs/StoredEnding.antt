@@ -4,7 +4,7 @@ use Rattle.std.specs.Prelude.{◌≡◌, ◌⊎◌, ℕ, List, [], Option, Some,
 use Rattle.std.specs.Io.KnownBytes.{Appends}
 use Rattle.ilk_base.specs.Outside.{Rose}
 use Rattle.station_graph.specs.Diagram.{Diagram}
-use Rattle.bay_contract.specs.Alphabets.{AreAlphabets}
+use Rattle.part_alphabets.specs.Alphabets.{AreAlphabets}
 use Rattle.release_compile.specs.Judging.{Judging}
 use Rattle.release_compile.specs.Summaries.{judges}
 use Rattle.node_session.specs.SessionEnds.{Streams}

@@ -1,7 +1,7 @@
 //! What a command does once it has the station of its drawing; and the reading of that drawing, once for all.
 ghost use Rattle.std.specs.Prelude.{◌≡◌, ◌⊎◌, ◌∷◌, ℕ, List, IfOk, IfErr};
 ghost use Rattle.station_graph.specs.Diagram.{Diagram};
-ghost use Rattle.bay_contract.specs.Alphabets.{AreAlphabets};
+ghost use Rattle.part_alphabets.specs.Alphabets.{AreAlphabets};
 ghost use Rattle.release_compile.specs.Judging.{KeepsLimits};
 ghost use Rattle.log_replay.specs.Telling.{PathsAreLines};
 ghost use Rattle.interlock_cli.specs.Formats.{Drawing};

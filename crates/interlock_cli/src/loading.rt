@@ -4,7 +4,7 @@ ghost use Rattle.std.specs.Prelude.{OnOk, IfOk, IfErr, IfSome};
 ghost use Rattle.ilk_base.specs.Outside.{Rose};
 ghost use Rattle.ilk_base.specs.declared.limits.TheConstants.{FILE_BYTES};
 ghost use Rattle.ssd_read.specs.StandsFor.{Stands};
-ghost use Rattle.bay_contract.specs.Alphabets.{AreAlphabets};
+ghost use Rattle.part_alphabets.specs.Alphabets.{AreAlphabets};
 ghost use Rattle.release_compile.specs.Judging.{KeepsLimits};
 ghost use Rattle.central_rules.specs.Meaning.{IsBay};
 ghost use Rattle.interlock_cli.specs.Formats.{AcceptsAs, Drawing, SwitchOf, BayOf};

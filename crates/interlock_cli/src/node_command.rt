@@ -1,6 +1,6 @@
 //! The command `node`.
 ghost use Rattle.std.specs.Prelude.{[], ◌∷◌, ◌≡◌, ℕ, IfOk, IfErr, OnErr};
-ghost use Rattle.bay_contract.specs.Alphabets.{AreAlphabets};
+ghost use Rattle.part_alphabets.specs.Alphabets.{AreAlphabets};
 ghost use Rattle.interlock_cli.specs.Formats.{AcceptsAs, BayOf};
 ghost use Rattle.interlock_cli.specs.Judging.{JudgeFails};
 ghost use Rattle.interlock_cli.specs.Commands.{Node, form_of};

@@ -1,6 +1,6 @@
 //! The command `trips`.
 ghost use Rattle.std.specs.Prelude.{◌≡◌, All, IfOk};
-ghost use Rattle.bay_contract.specs.Alphabets.{AreAlphabets};
+ghost use Rattle.part_alphabets.specs.Alphabets.{AreAlphabets};
 ghost use Rattle.log_replay.specs.Telling.{PathsAreLines};
 ghost use Rattle.trip_replay.specs.TripRecords.{TripMayBeTold};
 ghost use Rattle.interlock_cli.specs.TripsWrites.{TripsWrites};

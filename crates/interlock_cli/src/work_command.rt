@@ -1,6 +1,6 @@
 //! The command `work`.
 ghost use Rattle.std.specs.Prelude.{◌≡◌, [], All, IfOk, IfErr};
-ghost use Rattle.bay_contract.specs.Alphabets.{AreAlphabets};
+ghost use Rattle.part_alphabets.specs.Alphabets.{AreAlphabets};
 ghost use Rattle.double_points.specs.Words.{AreWords};
 ghost use Rattle.log_replay.specs.Records.{MayBeTold};
 ghost use Rattle.interlock_cli.specs.Commands.{Work, form_of};

@@ -2,9 +2,9 @@
 use Rattle.std.proofs.Common.{◌≡◌, ℕ, ◌+◌, ◌-◌, ◌<◌, suc, refl, subst}
 use Rattle.std.proofs.Common.{arith}
 use Rattle.station_graph.specs.Diagram.{Diagram, part_count, AreSwitchesOf}
-use Rattle.bay_contract.specs.Counting.{AreSoMany}
-use Rattle.bay_contract.specs.PartAlphabets.{Alphabets}
-use Rattle.bay_contract.specs.Alphabets.{AreAlphabets}
+use Rattle.part_alphabets.specs.Counting.{AreSoMany}
+use Rattle.part_alphabets.specs.PartAlphabets.{Alphabets}
+use Rattle.part_alphabets.specs.Alphabets.{AreAlphabets}
 use Rattle.judge_pool.specs.declared.view.View.{View}
 use Rattle.judge_pool.specs.declared.view.View.TheVariants.{Gap, Load}
 use Rattle.judge_pool.specs.Graphs.{other_of}

@@ -7,11 +7,11 @@ use Rattle.std.proofs.lemmas.Option.{slice_get_within}
 use Rattle.station_graph.specs.Diagram.{Diagram}
 use Rattle.station_graph.specs.Alike.{IsVector, Alike}
 use Rattle.station_graph.proofs.PathLemmas.{slice_get-push}
-use Rattle.bay_contract.specs.Counting.{AreSoMany}
-use Rattle.bay_contract.specs.PartAlphabets.{Alphabets, size_of}
-use Rattle.bay_contract.specs.Alphabets.{HasIndex, IsAlphabet}
+use Rattle.part_alphabets.specs.Counting.{AreSoMany}
+use Rattle.part_alphabets.specs.PartAlphabets.{Alphabets, size_of}
+use Rattle.part_alphabets.specs.Alphabets.{HasIndex, IsAlphabet}
 use Rattle.bay_contract.proofs.IndexLemmas.{letters_in, index_alike}
-use Rattle.bay_contract.proofs.ViewIndexLemmas.{list_of}
+use Rattle.contraction.proofs.ListedLemmas.{list_of}
 use Rattle.judge_pool.specs.declared.view.View.{View}
 use Rattle.judge_pool.specs.Graphs.{other_of}
 use Rattle.judge_pool.specs.Counted.{Size, edges_in, AreAtLeast, SameOuter, SameInner, OuterHas, InnerHas}

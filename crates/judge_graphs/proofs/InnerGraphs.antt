@@ -13,12 +13,12 @@ use Rattle.station_graph.specs.Alike.{IsVector}
 use Rattle.contraction.specs.Answers.{Answers, Keeps}
 use Rattle.contraction.specs.Stands.{Among, AllBut, IsItem}
 use Rattle.contraction.proofs.ItemSets.{among_first, among_second, among_both}
-use Rattle.bay_contract.specs.Layers.{IsBase}
+use Rattle.part_alphabets.specs.Layers.{IsBase}
 use Rattle.decision_graphs.specs.Label.{Layer, Layered, layer_at, no_layer, label_of, AreChoices, AreLayers}
 use Rattle.judge_pool.specs.declared.view.View.{View}
 use Rattle.judge_pool.specs.declared.pool.Pool.{Pool}
 use Rattle.judge_pool.specs.Lettered.{Lettered}
-use Rattle.bay_contract.specs.Counting.{AreSoMany}
+use Rattle.part_alphabets.specs.Counting.{AreSoMany}
 use Rattle.judge_pool.specs.Seen.{SameView}
 use Rattle.judge_pool.specs.Counted.{InnerIsSmall}
 use Rattle.judge_pool.specs.Folding.{StandsIn, AreChosen, IsExact}

@@ -3,7 +3,7 @@ use Rattle.std.proofs.Common.{◌≡◌, ℕ, ◌+◌, ◌<◌, ◌∙◌, suc, 
 use Rattle.std.proofs.Common.{subst, arith}
 use Rattle.std.proofs.lemmas.Option.{slice_get-get_or}
 use Rattle.contraction.specs.Renaming.{KeepsOrder, mapped}
-use Rattle.bay_contract.specs.Counting.{AreSoMany}
+use Rattle.part_alphabets.specs.Counting.{AreSoMany}
 use Rattle.decision_graphs.specs.Label.{Layer, Layered, layer_at}
 use Rattle.judge_pool.specs.declared.pool.Pool.{Pool}
 use Rattle.judge_graphs.specs.declared.noted.Intake.{Intake}

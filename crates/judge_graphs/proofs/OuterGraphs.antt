@@ -13,7 +13,7 @@ use Rattle.judge_pool.specs.Pooling.{GrewTo}
 use Rattle.judge_pool.specs.Layering.{values_at, no_answers}
 use Rattle.station_graph.specs.Diagram.{IsStation}
 use Rattle.contraction.specs.Stands.{Among}
-use Rattle.bay_contract.specs.Counting.{AreSoMany}
+use Rattle.part_alphabets.specs.Counting.{AreSoMany}
 use Rattle.judge_pool.specs.Seen.{SeenFor, SameView}
 use Rattle.judge_pool.specs.Listing.{parts_before}
 use Rattle.judge_pool.specs.Counted.{OuterIsSmall}

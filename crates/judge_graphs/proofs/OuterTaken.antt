@@ -5,7 +5,7 @@ use Rattle.std.proofs.lemmas.Option.{slice_get-get_or}
 use Rattle.std.proofs.lemmas.List.{length-map}
 use Rattle.station_graph.specs.Diagram.{part_count, IsStation}
 use Rattle.contraction.specs.Answers.{Answers}
-use Rattle.bay_contract.specs.Counting.{AreSoMany}
+use Rattle.part_alphabets.specs.Counting.{AreSoMany}
 use Rattle.decision_graphs.specs.Label.{Layer, Layered, layer_at, label_of, AreLayers, AreReduced}
 use Rattle.judge_pool.specs.declared.pool.Pool.{Pool}
 use Rattle.judge_graphs.specs.declared.noted.Intake.{Intake}

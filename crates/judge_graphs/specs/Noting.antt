@@ -1,7 +1,7 @@
 -- Graphs that were made before, and what they are for every plan that takes in the same.
 use Rattle.std.specs.Prelude.{◌≡◌, ℕ, ◌+◌, ◌<◌, ◌≤◌, List, length, map, slice_get, Some}
 use Rattle.contraction.specs.Renaming.{KeepsOrder, mapped}
-use Rattle.bay_contract.specs.Counting.{AreSoMany}
+use Rattle.part_alphabets.specs.Counting.{AreSoMany}
 use Rattle.decision_graphs.specs.Label.{Layer, layer_at, leads, label_of, AreChoices, AreReduced}
 use Rattle.judge_graphs.specs.declared.noted.Intake.{Intake}
 use Rattle.judge_graphs.specs.declared.noted.Noted.{Noted}

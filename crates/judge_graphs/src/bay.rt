@@ -2,8 +2,8 @@
 ghost use Rattle.std.specs.Prelude.{◌≡◌, ◌+◌, ◌<◌, ◌≤◌, ◌↔◌, ℕ, suc, length, map, IfOk, IfErr, OnOk};
 ghost use Rattle.station_graph.specs.Diagram.{part_count};
 ghost use Rattle.contraction.specs.Renaming.{mapped};
-ghost use Rattle.bay_contract.specs.PartAlphabets.{Alphabets};
-ghost use Rattle.bay_contract.specs.Alphabets.{AreAlphabets};
+ghost use Rattle.part_alphabets.specs.PartAlphabets.{Alphabets};
+ghost use Rattle.part_alphabets.specs.Alphabets.{AreAlphabets};
 ghost use Rattle.judge_pool.specs.Lettered.{lettered};
 ghost use Rattle.judge_pool.specs.Pooling.{IsPool, GrewTo};
 ghost use Rattle.judge_pool.specs.Layering.{values_at};

@@ -1,7 +1,7 @@
 //! The inner graphs of the switches of a bay.
 ghost use Rattle.std.specs.Prelude.{◌≡◌, ◌+◌, ◌≤◌, length, map, IfOk, IfErr, OnOk};
 ghost use Rattle.contraction.specs.Renaming.{mapped};
-ghost use Rattle.bay_contract.specs.PartAlphabets.{Alphabets};
+ghost use Rattle.part_alphabets.specs.PartAlphabets.{Alphabets};
 ghost use Rattle.decision_graphs.specs.Label.{AreReduced};
 ghost use Rattle.judge_pool.specs.Lettered.{lettered};
 ghost use Rattle.judge_pool.specs.Pooling.{IsPool, GrewTo};

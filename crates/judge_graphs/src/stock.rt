@@ -1,6 +1,6 @@
 //! What the graphs of one view are made of, over the whole station.
 ghost use Rattle.std.specs.Prelude.{IfOk, OnOk};
-ghost use Rattle.bay_contract.specs.Alphabets.{AreAlphabets};
+ghost use Rattle.part_alphabets.specs.Alphabets.{AreAlphabets};
 ghost use Rattle.judge_pool.specs.Lettered.{lettered};
 ghost use Rattle.judge_intake.specs.SharedNodes.{AreShared};
 ghost use Rattle.judge_graphs.specs.Stocking.{IsStock};

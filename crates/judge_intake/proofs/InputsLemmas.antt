@@ -15,7 +15,7 @@ use Rattle.station_graph.proofs.PathLemmas.{slice_get-push}
 use Rattle.contraction.specs.Answers.{Answers, Keeps}
 use Rattle.contraction.specs.Stands.{Among, StandsFor}
 use Rattle.contraction.proofs.ItemSets.{among_first, among_second, among_both}
-use Rattle.bay_contract.specs.Layers.{IsBase}
+use Rattle.part_alphabets.specs.Layers.{IsBase}
 use Rattle.judge_pool.specs.declared.pool.Pool.{Pool}
 use Rattle.judge_pool.specs.Lettered.{Lettered, letters_in}
 use Rattle.judge_pool.specs.Seen.{SeenFor}

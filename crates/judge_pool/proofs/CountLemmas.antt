@@ -9,8 +9,8 @@ use Rattle.contraction.specs.Answers.{Answers, Keeps}
 use Rattle.contraction.proofs.RisingLemmas.{rising_equal}
 use Rattle.contraction.proofs.SameLemmas.{gap_self, load_self, gap_fewer, load_fewer}
 use Rattle.contraction.proofs.ViewLemmas.{gap_told, load_told}
-use Rattle.bay_contract.specs.Counting.{AreDistinct, AreSoMany}
-use Rattle.bay_contract.proofs.ViewIndexLemmas.{list_of}
+use Rattle.part_alphabets.specs.Counting.{AreDistinct, AreSoMany}
+use Rattle.contraction.proofs.ListedLemmas.{list_of}
 use Rattle.judge_pool.specs.declared.view.View.{View}
 use Rattle.judge_pool.specs.declared.view.View.TheVariants.{Gap, Load}
 use Rattle.judge_pool.specs.Seen.{SeenFor, SameSeen, SameView}

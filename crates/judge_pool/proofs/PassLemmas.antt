@@ -7,7 +7,7 @@ use Rattle.std.proofs.lemmas.Option.{slice_get_within, slice_get_cases, same_Som
 use Rattle.station_graph.proofs.PathLemmas.{slice_get-push}
 use Rattle.contraction.specs.Answers.{Answers}
 use Rattle.contraction.specs.Stands.{Among}
-use Rattle.bay_contract.specs.Counting.{AreSoMany}
+use Rattle.part_alphabets.specs.Counting.{AreSoMany}
 use Rattle.decision_graphs.specs.Label.{Layer}
 use Rattle.judge_pool.specs.declared.view.View.{View}
 use Rattle.judge_pool.specs.declared.pool.Pool.{Pool}

@@ -5,7 +5,7 @@ use Rattle.station_graph.specs.Diagram.{Diagram, part_count, AreSwitchesOf}
 use Rattle.station_graph.specs.Connection.{Item, a_switch}
 use Rattle.station_graph.specs.Alike.{Alike}
 use Rattle.contraction.specs.Stands.{Among}
-use Rattle.bay_contract.specs.Counting.{AreDistinct, AreSoMany}
+use Rattle.part_alphabets.specs.Counting.{AreDistinct, AreSoMany}
 use Rattle.decision_graphs.specs.Label.{Layer, Layered, layer_at}
 use Rattle.judge_pool.specs.declared.view.View.{View}
 use Rattle.judge_pool.specs.declared.view.View.TheVariants.{Gap, Load}

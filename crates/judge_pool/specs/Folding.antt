@@ -7,7 +7,7 @@ use Rattle.station_graph.specs.Alike.{IsVector}
 use Rattle.station_graph.specs.Nodes.{Rises}
 use Rattle.contraction.specs.Answers.{Answers, Keeps, IsContraction}
 use Rattle.contraction.specs.Stands.{Among}
-use Rattle.bay_contract.specs.Counting.{AreSoMany}
+use Rattle.part_alphabets.specs.Counting.{AreSoMany}
 use Rattle.decision_graphs.specs.Label.{Layer, leads, AreLayers}
 use Rattle.judge_pool.specs.declared.view.View.{View}
 use Rattle.judge_pool.specs.Seen.{SeenFor, SameSeen, SameView, ComposesIn}

@@ -2,8 +2,8 @@
 use Rattle.std.specs.Prelude.{ℕ, Bool, List}
 use Rattle.station_graph.specs.Diagram.{Diagram, IsStation}
 use Rattle.contraction.specs.Answers.{Answers}
-use Rattle.bay_contract.specs.PartAlphabets.{Alphabets, letters_of, size_of}
-use Rattle.bay_contract.specs.Alphabets.{AreAlphabets, HasIndex}
+use Rattle.part_alphabets.specs.PartAlphabets.{Alphabets, letters_of, size_of}
+use Rattle.part_alphabets.specs.Alphabets.{AreAlphabets, HasIndex}
 
 -- A station and the alphabets of its parts.
 pub record Lettered : Type 0 where

@@ -12,7 +12,7 @@ use Rattle.station_graph.specs.Alike.{Alike}
 use Rattle.station_graph.specs.Sharing.{OfPart, IsShared}
 use Rattle.station_graph.proofs.PositionLemmas.{SameGapView-sym, SameLoadView-sym, SameGapView-trans}
 use Rattle.station_graph.proofs.PositionLemmas.{SameLoadView-trans}
-use Rattle.bay_contract.specs.Counting.{AreSoMany, StepFits, PartIsPast}
+use Rattle.part_alphabets.specs.Counting.{AreSoMany, StepFits, PartIsPast}
 use Rattle.bay_contract.proofs.CountingLemmas.{not_longer, so_many_once, layer_past}
 use Rattle.central_rules.specs.Meaning.{IsBay}
 use Rattle.judge_pool.specs.declared.view.View.{View}
@@ -28,7 +28,7 @@ use Rattle.judge_pool.specs.Counted.{Size, edges_in, AreAtLeast, before_switch, 
 use Rattle.judge_pool.specs.Counted.{ViewHas, BayHas, Passes}
 use Rattle.release_compile.specs.Judging.{PartHasEdges, KeepEdges, KeepsLimits, IsBuildRefusal}
 use Rattle.judge_graphs.proofs.EdgesLemmas.{view_at_least}
-use Rattle.bay_contract.specs.declared.limits.TheConstants.{CONTRACTIONS, LETTERS}
+use Rattle.part_alphabets.specs.declared.limits.TheConstants.{CONTRACTIONS, LETTERS}
 use Rattle.judge_pool.specs.declared.limits.TheConstants.{BAY_EDGES, ALL_EDGES}
 
 -- ---- views and contractions are the same to and fro

@@ -11,7 +11,7 @@ use Rattle.station_graph.specs.Sharing.{OfPart}
 use Rattle.station_graph.specs.Alike.{IsVector, DifferInPart}
 use Rattle.station_graph.proofs.PositionLemmas.{slice_get-set_other}
 use Rattle.contraction.proofs.MarkLemmas.{slice_get-set_same}
-use Rattle.bay_contract.specs.PartAlphabets.{Alphabets, StandsAt}
+use Rattle.part_alphabets.specs.PartAlphabets.{Alphabets, StandsAt}
 use Rattle.double_points.specs.Words.{BayAgrees}
 use Rattle.judge_pool.specs.Lettered.{Lettered, PartHas}
 use Rattle.judge_pool.specs.Graphs.{other_of, PartChosen, SwitchChosen}

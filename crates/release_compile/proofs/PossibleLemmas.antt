@@ -6,7 +6,7 @@ use Rattle.std.proofs.lemmas.Option.{slice_get_cases}
 use Rattle.ilk_base.specs.declared.words.Dbpos.{Dbpos}
 use Rattle.station_graph.specs.Diagram.{part_count}
 use Rattle.station_graph.proofs.PathLemmas.{slice_get-push}
-use Rattle.bay_contract.specs.Alphabets.{CanHave, IsPossible}
+use Rattle.part_alphabets.specs.Alphabets.{CanHave, IsPossible}
 use Rattle.release_compile.specs.declared.all_words.AllWords.{AllWords}
 use Rattle.judge_pool.specs.Lettered.{Lettered}
 use Rattle.release_compile.specs.Possible.{ArePossible, AreAllWords, SetHolds}

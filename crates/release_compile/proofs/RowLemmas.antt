@@ -3,7 +3,7 @@ use Rattle.std.proofs.Common.{◌≡◌, ℕ, ◌+◌, ◌-◌, ◌*◌, ◌/◌
 use Rattle.std.proofs.Common.{length, take, set, slice_index, refl, sym, ◌∙◌, subst, inl, inr, arith}
 use Rattle.std.proofs.lemmas.Bool.{cases_lt, eqb-true, eq-eqb}
 use Rattle.std.proofs.lemmas.List.{get_or-take, get_or-set_same, get_or-set_other}
-use Rattle.bay_contract.specs.Alphabets.{InSet}
+use Rattle.part_alphabets.specs.Alphabets.{InSet}
 use Rattle.release_compile.specs.Summaries.{has_bit}
 use Rattle.release_compile.specs.Rows.{IsBitOf, IsByteOf}
 

@@ -15,7 +15,7 @@ use Rattle.contraction.proofs.ViewLemmas.{gap_told, load_told}
 use Rattle.contraction.proofs.SameLemmas.{gap_self, load_self, gap_fewer, load_fewer}
 use Rattle.central_rules.specs.Knowledge.{StandsAlike}
 use Rattle.central_rules.specs.Meaning.{Summarises}
-use Rattle.bay_contract.specs.Alphabets.{CanHave, InSet}
+use Rattle.part_alphabets.specs.Alphabets.{CanHave, InSet}
 use Rattle.judge_pool.specs.Lettered.{Lettered, AreLettered, index_count, PartHas}
 use Rattle.release_compile.specs.Summaries.{byte_count, IsIndexSet, SetAllows, by_indices}
 use Rattle.release_compile.specs.Rows.{IsSetRow}

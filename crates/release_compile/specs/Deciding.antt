@@ -4,8 +4,8 @@ use Rattle.std.specs.Borrow.{Bor}
 use Rattle.ilk_base.specs.declared.words.Dbpos.{Dbpos}
 use Rattle.station_graph.specs.Diagram.{Diagram}
 use Rattle.station_graph.specs.Alike.{IsVector}
-use Rattle.bay_contract.specs.PartAlphabets.{Alphabets, StandsAt, IsPosition}
-use Rattle.bay_contract.specs.Alphabets.{HasIndex}
+use Rattle.part_alphabets.specs.PartAlphabets.{Alphabets, StandsAt, IsPosition}
+use Rattle.part_alphabets.specs.Alphabets.{HasIndex}
 use Rattle.double_points.specs.Words.{BayAgrees}
 use Rattle.release_compile.specs.declared.all_words.AllWords.{AllWords}
 use Rattle.judge_pool.specs.Lettered.{Lettered}

@@ -3,8 +3,8 @@ use Rattle.std.specs.Prelude.{◌≡◌, ℕ, ◌<◌, ◌≤◌, ◌-◌, ◌�
 use Rattle.std.specs.Prelude.{Some, None, ⊤}
 use Rattle.station_graph.specs.Diagram.{Diagram, part_count}
 use Rattle.decision_graphs.specs.Label.{Layered}
-use Rattle.bay_contract.specs.PartAlphabets.{Alphabets}
-use Rattle.bay_contract.specs.Counting.{AreSoMany, PartFits, PartIsPast}
+use Rattle.part_alphabets.specs.PartAlphabets.{Alphabets}
+use Rattle.part_alphabets.specs.Counting.{AreSoMany, PartFits, PartIsPast}
 use Rattle.central_rules.specs.Meaning.{IsBay}
 use Rattle.judge_pool.specs.Counted.{BayHas, Passes}
 use Rattle.judge_pool.specs.declared.limits.TheConstants.{BAY_EDGES, ALL_EDGES}

@@ -3,7 +3,7 @@ use Rattle.std.specs.Prelude.{◌≡◌, ℕ, List, length, slice_get, Option, S
 use Rattle.ilk_base.specs.declared.words.Dbpos.{Dbpos}
 use Rattle.double_points.specs.Words.{AreWords}
 use Rattle.station_graph.specs.Diagram.{part_count}
-use Rattle.bay_contract.specs.Alphabets.{InSet, IsPossible}
+use Rattle.part_alphabets.specs.Alphabets.{InSet, IsPossible}
 use Rattle.release_compile.specs.declared.all_words.AllWords.{AllWords}
 use Rattle.judge_pool.specs.Lettered.{Lettered}
 

@@ -1,6 +1,6 @@
 -- The row of an index set.
 use Rattle.std.specs.Prelude.{◌≡◌, ℕ, ◌+◌, ◌-◌, ◌*◌, ◌/◌, ◌%◌, ◌^◌, ◌<◌, ◌⊎◌, ◌↔◌, true, List, Option, length}
-use Rattle.bay_contract.specs.Alphabets.{InSet}
+use Rattle.part_alphabets.specs.Alphabets.{InSet}
 use Rattle.release_compile.specs.Summaries.{has_bit, byte_count}
 
 -- The number is the weight where the index is in the set, else 0.

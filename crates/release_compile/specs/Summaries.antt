@@ -4,7 +4,7 @@ use Rattle.std.specs.Prelude.{length, slice_get, slice_index, Option, Some, None
 use Rattle.ilk_base.specs.declared.words.Dbpos.{Dbpos}
 use Rattle.station_graph.specs.Diagram.{part_count}
 use Rattle.station_graph.specs.Alike.{Irrelevant, Partner}
-use Rattle.bay_contract.specs.Alphabets.{CanHave}
+use Rattle.part_alphabets.specs.Alphabets.{CanHave}
 use Rattle.decision_graphs.specs.Reaching.{IsSet, set_at}
 use Rattle.judge_pool.specs.Graphs.{other_of}
 use Rattle.judge_pool.specs.Lettered.{Lettered, index_count, PartHas}

@@ -1,7 +1,7 @@
 //! The words of all switches, and what each part can have by them.
 ghost use Rattle.std.specs.Prelude.{◌≡◌, IfOk};
 ghost use Rattle.double_points.specs.Words.{AreWords};
-ghost use Rattle.bay_contract.specs.Alphabets.{AreAlphabets};
+ghost use Rattle.part_alphabets.specs.Alphabets.{AreAlphabets};
 ghost use Rattle.judge_pool.specs.Lettered.{lettered};
 ghost use Rattle.release_compile.specs.Possible.{AreAllWords};
 

@@ -1,7 +1,7 @@
 //! The graphs of all bays of a station, each within its counted edges.
 ghost use Rattle.std.specs.Prelude.{◌≡◌, ◌+◌, ◌-◌, ◌<◌, ◌≤◌, ◌⊎◌, ◌++◌, ◌∷◌, [], ℕ, map, IfOk, IfErr, OnOk};
 ghost use Rattle.station_graph.specs.Diagram.{part_count};
-ghost use Rattle.bay_contract.specs.Alphabets.{AreAlphabets};
+ghost use Rattle.part_alphabets.specs.Alphabets.{AreAlphabets};
 ghost use Rattle.central_rules.specs.Meaning.{IsBay};
 ghost use Rattle.judge_pool.specs.declared.limits.TheConstants.{BAY_EDGES as BAY, ALL_EDGES as ALL};
 ghost use Rattle.judge_pool.specs.declared.layer.Trouble.TheVariants.{Wide as IsWide};

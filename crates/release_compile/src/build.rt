@@ -2,7 +2,7 @@
 ghost use Rattle.std.specs.Prelude.{◌≡◌, ◌<◌, length, slice_get, Some, IfOk, IfErr};
 ghost use Rattle.station_graph.specs.Connection.{a_switch};
 ghost use Rattle.station_graph.specs.Sharing.{OfPart};
-ghost use Rattle.bay_contract.specs.Alphabets.{AreAlphabets};
+ghost use Rattle.part_alphabets.specs.Alphabets.{AreAlphabets};
 ghost use Rattle.central_rules.specs.Meaning.{IsBay, bay_of};
 ghost use Rattle.judge_graphs.specs.declared.graphs.BayGraphs.{BayGraphs as Graphs};
 ghost use Rattle.judge_graphs.specs.Built.{AreBayGraphs};

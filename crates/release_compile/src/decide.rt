@@ -2,8 +2,8 @@
 ghost use Rattle.std.specs.Prelude.{◌≡◌, ℕ, suc, ◌<◌, drop, length, slice_get, Some, IfOk, IfSome};
 ghost use Rattle.station_graph.specs.Diagram.{part_count};
 ghost use Rattle.central_rules.specs.Readings.{Decides};
-ghost use Rattle.bay_contract.specs.PartAlphabets.{size_of};
-ghost use Rattle.bay_contract.specs.Alphabets.{AreAlphabets};
+ghost use Rattle.part_alphabets.specs.PartAlphabets.{size_of};
+ghost use Rattle.part_alphabets.specs.Alphabets.{AreAlphabets};
 ghost use Rattle.decision_graphs.specs.Reaching.{IsSet, set_at};
 ghost use Rattle.judge_pool.specs.Lettered.{lettered};
 ghost use Rattle.judge_pool.specs.Graphs.{other_of, IsOwn};

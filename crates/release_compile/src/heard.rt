@@ -6,7 +6,7 @@ ghost use Rattle.station_graph.specs.Sharing.{OfPart};
 ghost use Rattle.double_points.specs.Words.{AreWords};
 ghost use Rattle.central_rules.specs.Readings.{Decides};
 ghost use Rattle.central_rules.specs.Meaning.{CannotExclude, HeardFit};
-ghost use Rattle.bay_contract.specs.Alphabets.{AreAlphabets};
+ghost use Rattle.part_alphabets.specs.Alphabets.{AreAlphabets};
 ghost use Rattle.judge_pool.specs.Lettered.{lettered};
 ghost use Rattle.judge_graphs.specs.Built.{AreBayGraphs};
 ghost use Rattle.judge_graphs.specs.BuiltView.{seen_bay};

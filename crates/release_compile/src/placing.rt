@@ -1,8 +1,8 @@
 //! A vector that gives the choices that were found.
 ghost use Rattle.std.specs.Prelude.{◌≡◌, ℕ, ◌+◌, ◌<◌, ◌⊎◌, suc, drop, length, slice_get, Some, IfSome, ◌^◌};
 ghost use Rattle.station_graph.specs.Diagram.{Diagram, part_count};
-ghost use Rattle.bay_contract.specs.PartAlphabets.{size_of};
-ghost use Rattle.bay_contract.specs.Alphabets.{AreAlphabets};
+ghost use Rattle.part_alphabets.specs.PartAlphabets.{size_of};
+ghost use Rattle.part_alphabets.specs.Alphabets.{AreAlphabets};
 ghost use Rattle.judge_pool.specs.Lettered.{lettered};
 ghost use Rattle.judge_pool.specs.Folding.{AreChosen};
 ghost use Rattle.judge_pool.specs.Graphs.{other_of, PartChosen, SwitchChosen};

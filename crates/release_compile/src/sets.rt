@@ -3,8 +3,8 @@ ghost use Rattle.std.specs.Prelude.{◌≡◌, ◌≢◌, ◌+◌, ◌*◌, ◌<
 ghost use Rattle.std.specs.Prelude.{slice_get, Some, IfOk, IsTrue, ◌^◌};
 ghost use Rattle.station_graph.specs.Diagram.{part_count};
 ghost use Rattle.double_points.specs.Words.{Agrees};
-ghost use Rattle.bay_contract.specs.PartAlphabets.{size_of};
-ghost use Rattle.bay_contract.specs.Alphabets.{AreAlphabets, InSet};
+ghost use Rattle.part_alphabets.specs.PartAlphabets.{size_of};
+ghost use Rattle.part_alphabets.specs.Alphabets.{AreAlphabets, InSet};
 ghost use Rattle.decision_graphs.specs.Label.{Layer, layer_at};
 ghost use Rattle.decision_graphs.specs.Reaching.{AreSetsOf, MarksReached, IsSet, set_at};
 ghost use Rattle.decision_graphs.specs.Marked.{AreMarksOf, PathsLead};

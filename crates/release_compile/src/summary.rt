@@ -3,7 +3,7 @@ ghost use Rattle.std.specs.Prelude.{◌≡◌, ℕ, ◌+◌, ◌*◌, ◌<◌, �
 ghost use Rattle.station_graph.specs.Diagram.{Diagram, IsStation};
 ghost use Rattle.station_graph.specs.Alike.{Partner};
 ghost use Rattle.central_rules.specs.Meaning.{Summarises};
-ghost use Rattle.bay_contract.specs.Alphabets.{AreAlphabets, InSet};
+ghost use Rattle.part_alphabets.specs.Alphabets.{AreAlphabets, InSet};
 ghost use Rattle.judge_pool.specs.Lettered.{Lettered, lettered, index_count};
 ghost use Rattle.release_compile.specs.Summaries.{has_bit, byte_count, IsIndexSet, by_indices};
 ghost use Rattle.release_compile.specs.Rows.{IsBitOf, IsByteOf, IsSetRow};

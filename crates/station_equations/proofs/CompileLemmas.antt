@@ -10,10 +10,10 @@ use Rattle.station_graph.specs.Alike.{IsVector}
 use Rattle.station_graph.specs.CentralRules.{Breaks}
 use Rattle.station_graph.proofs.AnswerLemmas.{same_answer}
 use Rattle.station_graph.proofs.Decided.{element}
-use Rattle.bay_contract.specs.PartAlphabets.{Alphabets}
-use Rattle.bay_contract.specs.declared.fork.PartStep.{PartStep}
-use Rattle.bay_contract.specs.Counting.{AreStepSizes}
-use Rattle.bay_contract.specs.Alphabets.{AreAlphabets}
+use Rattle.part_alphabets.specs.PartAlphabets.{Alphabets}
+use Rattle.part_alphabets.specs.declared.fork.PartStep.{PartStep}
+use Rattle.part_alphabets.specs.Counting.{AreStepSizes}
+use Rattle.part_alphabets.specs.Alphabets.{AreAlphabets}
 use Rattle.station_equations.specs.declared.goal.Goal.{Goal}
 use Rattle.station_equations.specs.declared.goal.Goal.TheVariants.{Answer}
 use Rattle.station_equations.specs.declared.goal.SwitchGoals.{SwitchGoals}

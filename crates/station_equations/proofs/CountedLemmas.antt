@@ -15,7 +15,7 @@ use Rattle.station_graph.proofs.Decided.{element}
 use Rattle.station_graph.proofs.PositionLemmas.{SameGapView-sym, SameLoadView-sym, SameGapView-trans}
 use Rattle.station_graph.proofs.PositionLemmas.{SameLoadView-trans}
 use Rattle.contraction.specs.Stands.{Among}
-use Rattle.bay_contract.specs.Counting.{AreSoMany}
+use Rattle.part_alphabets.specs.Counting.{AreSoMany}
 use Rattle.bay_contract.proofs.CountingLemmas.{not_longer}
 use Rattle.decision_graphs.specs.Label.{Layer, Layered, layer_at, first_at}
 use Rattle.decision_graphs.specs.Reaching.{node_total}

@@ -9,9 +9,9 @@ use Rattle.ilk_base.specs.declared.words.Direction.{Direction}
 use Rattle.ilk_base.specs.declared.words.Direction.TheVariants.{ToOff, ToOn}
 use Rattle.ilk_base.specs.declared.words.Op.{Op}
 use Rattle.ilk_base.specs.declared.words.Rule.{Rule}
-use Rattle.bay_contract.specs.declared.fork.Target.{Target}
-use Rattle.bay_contract.specs.declared.fork.Target.TheVariants.{Step, Index}
-use Rattle.bay_contract.specs.declared.fork.PartStep.{PartStep}
+use Rattle.part_alphabets.specs.declared.fork.Target.{Target}
+use Rattle.part_alphabets.specs.declared.fork.Target.TheVariants.{Step, Index}
+use Rattle.part_alphabets.specs.declared.fork.PartStep.{PartStep}
 use Rattle.station_equations.specs.declared.goal.Goal.{Goal}
 use Rattle.station_equations.specs.declared.goal.Goal.TheVariants.{Node, Answer}
 use Rattle.station_equations.specs.declared.goal.SwitchGoals.{SwitchGoals}

@@ -8,14 +8,14 @@ use Rattle.station_graph.specs.Diagram.{Diagram}
 use Rattle.station_graph.specs.Connection.{LeadsTo as Walks}
 use Rattle.station_graph.specs.Alike.{IsVector}
 use Rattle.station_graph.proofs.Decided.{element}
-use Rattle.bay_contract.specs.declared.fork.Fork.{Fork}
-use Rattle.bay_contract.specs.declared.fork.Target.{Target}
-use Rattle.bay_contract.specs.declared.fork.Target.TheVariants.{Step, Index}
-use Rattle.bay_contract.specs.declared.fork.PartStep.{PartStep}
-use Rattle.bay_contract.specs.Diagrams.{ForkGoes, branch}
-use Rattle.bay_contract.specs.PartAlphabets.{Alphabets, forks_of, size_of}
-use Rattle.bay_contract.specs.Alphabets.{IsAlphabet, HasIndex}
-use Rattle.bay_contract.specs.Targets.{number_of, IsTargetOf}
+use Rattle.part_alphabets.specs.declared.fork.Fork.{Fork}
+use Rattle.part_alphabets.specs.declared.fork.Target.{Target}
+use Rattle.part_alphabets.specs.declared.fork.Target.TheVariants.{Step, Index}
+use Rattle.part_alphabets.specs.declared.fork.PartStep.{PartStep}
+use Rattle.part_alphabets.specs.Diagrams.{ForkGoes, branch}
+use Rattle.part_alphabets.specs.PartAlphabets.{Alphabets, forks_of, size_of}
+use Rattle.part_alphabets.specs.Alphabets.{IsAlphabet, HasIndex}
+use Rattle.part_alphabets.specs.Targets.{number_of, IsTargetOf}
 use Rattle.station_equations.specs.EquationLines.{PartLines, index_in, past_greatest, goal_count}
 use Rattle.station_equations.specs.EquationMeaning.{Leads, step_target, StepLeads, NextTarget, LeadsToIndex}
 use Rattle.station_equations.specs.EquationForm.{IsTarget, IsLaterTarget, PartLinesFit}

@@ -9,7 +9,7 @@ use Rattle.indexmap.proofs.IndexTableLemmas.Probe.{pigeonhole}
 use Rattle.ilk_base.specs.declared.words.Direction.{Direction}
 use Rattle.ilk_base.specs.declared.words.Direction.TheVariants.{ToOff, ToOn}
 use Rattle.station_graph.proofs.Decided.{element}
-use Rattle.bay_contract.specs.Counting.{AreSoMany}
+use Rattle.part_alphabets.specs.Counting.{AreSoMany}
 use Rattle.central_rules.specs.Meaning.{bay_of}
 use Rattle.judge_pool.specs.declared.view.View.TheVariants.{Gap, Load}
 use Rattle.judge_pool.specs.Counted.{BayHas}

@@ -6,11 +6,11 @@ use Rattle.station_graph.specs.declared.items.Switch.{Switch}
 use Rattle.station_graph.specs.Diagram.{Diagram, IsStation, part_count, AreSwitchesOf}
 use Rattle.station_graph.specs.Alike.{IsVector}
 use Rattle.station_graph.specs.CentralRules.{IsOperation, Breaks}
-use Rattle.bay_contract.specs.declared.fork.PartStep.{PartStep}
-use Rattle.bay_contract.specs.PartAlphabets.{Alphabets, forks_of, size_of}
-use Rattle.bay_contract.specs.Alphabets.{AreAlphabets, HasIndex}
-use Rattle.bay_contract.specs.Counting.{AreStepSizes}
-use Rattle.bay_contract.specs.Targets.{number_of, IsTargetOf, IsStepAt}
+use Rattle.part_alphabets.specs.declared.fork.PartStep.{PartStep}
+use Rattle.part_alphabets.specs.PartAlphabets.{Alphabets, forks_of, size_of}
+use Rattle.part_alphabets.specs.Alphabets.{AreAlphabets, HasIndex}
+use Rattle.part_alphabets.specs.Counting.{AreStepSizes}
+use Rattle.part_alphabets.specs.Targets.{number_of, IsTargetOf, IsStepAt}
 use Rattle.station_graph.specs.Connection.{a_switch}
 use Rattle.station_graph.specs.Sharing.{OfPart}
 use Rattle.judge_pool.specs.declared.view.View.{View}

@@ -3,7 +3,7 @@ use Rattle.std.specs.Prelude.{◌≡◌, ◌<◌, ◌≤◌, ◌+◌, ◌*◌, �
 use Rattle.ilk_base.specs.declared.words.Direction.{Direction}
 use Rattle.station_graph.specs.declared.items.Switch.{Switch}
 use Rattle.station_graph.specs.Diagram.{Diagram}
-use Rattle.bay_contract.specs.Counting.{AreSoMany}
+use Rattle.part_alphabets.specs.Counting.{AreSoMany}
 use Rattle.judge_pool.specs.Counted.{BayHas}
 use Rattle.judge_pool.specs.Layering.{NoneTwice}
 use Rattle.station_equations.specs.declared.goal.Goal.{Goal}

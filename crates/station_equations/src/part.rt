@@ -2,9 +2,9 @@
 ghost use Rattle.std.specs.Prelude.{◌≡◌, ◌<◌, length, slice_get};
 ghost use Rattle.station_equations.specs.EquationMeaning.{step_target, StepLeads, NextTarget, Leads, LeadsToIndex};
 ghost use Rattle.station_equations.specs.EquationForm.{IsTarget, IsLaterTarget, StepsFit, PartLinesFit};
-ghost use Rattle.bay_contract.specs.declared.fork.Target.TheVariants.{Index as IndexOf};
+ghost use Rattle.part_alphabets.specs.declared.fork.Target.TheVariants.{Index as IndexOf};
 
-use bay_contract::{PartStep, Target};
+use part_alphabets::{PartStep, Target};
 use station_graph::Vector;
 use std::marker::Model;
 

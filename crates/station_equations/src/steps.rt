@@ -1,7 +1,7 @@
 //! The lines of the parts of a station.
 ghost use Rattle.std.specs.Prelude.{◌≡◌, ◌<◌, ◌++◌, ◌∷◌, [], length, IfOk};
 ghost use Rattle.station_graph.specs.Diagram.{part_count};
-ghost use Rattle.bay_contract.specs.Alphabets.{AreAlphabets};
+ghost use Rattle.part_alphabets.specs.Alphabets.{AreAlphabets};
 ghost use Rattle.station_equations.specs.Compiling.{AreStepsOf, ArePartsOf};
 
 use crate::part::PartSteps;

@@ -11,9 +11,9 @@ ghost use Rattle.station_equations.specs.EquationText.{lines_of, text_of};
 use crate::goal::{Goal, SwitchGoals, goal_towards};
 use crate::node::{Lead, Node};
 use crate::part::PartSteps;
-use bay_contract::{PartStep, Target};
 use central_rules::{direction_name, rule_name};
 use ilk_base::{Direction, Memory, SwitchId, Text};
+use part_alphabets::{PartStep, Target};
 use station_graph::Station;
 
 // Appends a blank and a number.

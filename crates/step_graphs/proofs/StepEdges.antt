@@ -7,7 +7,7 @@ use Rattle.std.proofs.lemmas.List.Sums.{sum_by-cons, sum-map}
 use Rattle.std.proofs.lemmas.Option.{slice_get_within, same_Some}
 use Rattle.station_graph.specs.Diagram.{Diagram}
 use Rattle.contraction.specs.Stands.{Among}
-use Rattle.bay_contract.specs.Counting.{AreDistinct, AreSoMany}
+use Rattle.part_alphabets.specs.Counting.{AreDistinct, AreSoMany}
 use Rattle.judge_pool.specs.declared.pool.Pool.{Pool}
 use Rattle.judge_pool.specs.declared.view.View.{View}
 use Rattle.judge_pool.specs.Seen.{SameView}

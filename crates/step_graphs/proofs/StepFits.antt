@@ -11,7 +11,7 @@ use Rattle.station_graph.proofs.PositionLemmas.{slice_get-set_other}
 use Rattle.contraction.specs.Answers.{Answers, Keeps}
 use Rattle.contraction.specs.Stands.{Among, MeetsKept, StandsFor}
 use Rattle.contraction.proofs.ItemSets.{stands_over}
-use Rattle.bay_contract.specs.PartAlphabets.{Alphabets, PartAlphabet, or_nothing}
+use Rattle.part_alphabets.specs.PartAlphabets.{Alphabets, PartAlphabet, or_nothing}
 use Rattle.judge_pool.specs.declared.pool.Pool.{Pool}
 use Rattle.judge_pool.specs.Lettered.{Lettered, lettered, letters_in}
 use Rattle.judge_pool.specs.Seen.{SeenFor}

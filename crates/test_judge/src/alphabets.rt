@@ -1,11 +1,12 @@
 //! The alphabets of parts: least positions, where the positions of a bay lead, what its words leave open,
 //! and a part with too many contractions.
 ghost use Rattle.std.specs.Prelude.{◌≡◌, ◌<◌, length};
-ghost use Rattle.bay_contract.specs.Alphabets.{AreAlphabets};
+ghost use Rattle.part_alphabets.specs.Alphabets.{AreAlphabets};
 
 use crate::words::{WORDS, WordsRow, are_words};
-use bay_contract::{Parts, PartsRefusal, Target};
+use bay_contract::{Parts, PartsRefusal};
 use ilk_base::{BayId, SwitchId};
+use part_alphabets::Target;
 use station_graph::{Station, Vector};
 use std::alloc::Global;
 use test_stations::{Example, StationRow, row_holds};

@@ -1,6 +1,6 @@
 //! What the words of a bay leave open of its alphabet.
 ghost use Rattle.std.specs.Prelude.{◌≡◌, ◌<◌, length, IfOk};
-ghost use Rattle.bay_contract.specs.PartAlphabets.{size_of};
+ghost use Rattle.part_alphabets.specs.PartAlphabets.{size_of};
 
 use bay_contract::{IndexSet, Parts};
 use double_points::Readings;

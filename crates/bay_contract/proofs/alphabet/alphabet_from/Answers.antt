@@ -1,7 +1,7 @@
 use Rattle.std.proofs.Common.{◌≡◌, List, length, map, sym, ◌∙◌, ap, subst, arith}
 use Rattle.contraction.specs.Answers.{Answers, AreNodes}
 use Rattle.contraction.specs.Renaming.{renamed}
-use Rattle.bay_contract.specs.declared.fork.Fork.{Fork}
+use Rattle.part_alphabets.specs.declared.fork.Fork.{Fork}
 use Rattle.bay_contract.specs.Courses.{nodes_after, shifted}
 use Rattle.bay_contract.proofs.CourseLemmas.{nodes_are}
 use Rattle.bay_contract.proofs.PatternLemmas.{sized_like, switch_room, built_like, steps_like, shaped_like}

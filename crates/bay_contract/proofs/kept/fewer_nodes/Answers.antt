@@ -1,5 +1,5 @@
 use Rattle.std.proofs.Common.{◌≡◌, ◌+◌, ◌<◌, ℕ, List, length, slice_index, sym, subst, arith}
-use Rattle.bay_contract.specs.Layers.{IsKept}
+use Rattle.part_alphabets.specs.Layers.{IsKept}
 use Rattle.bay_contract.proofs.KeptLemmas.{FewerBelow, fewer_skip, fewer_push, fewer_exact, fewer_nodes_are}
 use Rattle.bay_contract.proofs.kept.fewer_nodes.Goals as goal
 use Rattle.bay_contract.proofs.kept.fewer_nodes.Goals.{then-matters+in_ok-push, else-matters}

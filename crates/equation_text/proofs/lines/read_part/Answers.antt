@@ -1,7 +1,7 @@
 use Rattle.std.proofs.Common.{◌∙◌, ◌++◌, List, ℕ, sym, ap}
 use Rattle.std.specs.Prelude.{codes}
 use Rattle.std.proofs.lemmas.List.{append_cancel_left}
-use Rattle.bay_contract.specs.declared.fork.Target.{Target}
+use Rattle.part_alphabets.specs.declared.fork.Target.{Target}
 use Rattle.station_equations.specs.EquationText.{target_text}
 use Rattle.equation_text.specs.Words.{numbered_head}
 use Rattle.equation_text.proofs.SaidLemmas.{part_said}

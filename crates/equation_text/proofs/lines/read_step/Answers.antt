@@ -2,7 +2,7 @@ use Rattle.std.proofs.Common.{◌∙◌, ◌++◌, List, ℕ, [], sym, ap, subst
 use Rattle.std.specs.Prelude.{codes}
 use Rattle.std.proofs.lemmas.List.{append_cancel_left}
 use Rattle.equation_text.specs.Words.{numbered_head}
-use Rattle.bay_contract.specs.declared.fork.PartStep.{PartStep}
+use Rattle.part_alphabets.specs.declared.fork.PartStep.{PartStep}
 use Rattle.equation_text.specs.Beginnings.{MayBeStep, test_text}
 use Rattle.equation_text.proofs.WordLemmas.{true_false}
 use Rattle.equation_text.proofs.OnceLemmas.{test_once}

@@ -1,5 +1,5 @@
 use Rattle.std.proofs.Common.{◌≡◌, ◌∙◌, List, ℕ, map, length, ap, subst}
-use Rattle.bay_contract.specs.declared.fork.Target.{Target}
+use Rattle.part_alphabets.specs.declared.fork.Target.{Target}
 use Rattle.station_equations.specs.EquationLines.{PartLines, goal_count}
 use Rattle.equation_text.specs.Reading.{MayBeStarts, MayBeOps, MayBeNodes, AreAllSteps}
 use Rattle.equation_text.specs.Stops.{StopsAtStart, StopsAtOps, StopsAtNode}

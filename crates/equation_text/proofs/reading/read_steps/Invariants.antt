@@ -1,7 +1,7 @@
 use Rattle.std.proofs.Common.{◌≡◌, ◌++◌, ℕ, length, Some}
 use Rattle.std.specs.Prelude.{slice_get}
 use Rattle.station_equations.specs.EquationText.{text_of}
-use Rattle.bay_contract.specs.declared.fork.PartStep.{PartStep}
+use Rattle.part_alphabets.specs.declared.fork.PartStep.{PartStep}
 use Rattle.equation_text.specs.Beginnings.{MayBeStep}
 use Rattle.equation_text.specs.Reading.{step_lines}
 use Rattle.equation_text.proofs.reading.read_steps.Given as goal

@@ -8,7 +8,7 @@ use Rattle.judge_pool.specs.Places.{node_listed, pool_on}
 use Rattle.judge_pool.specs.Graphs.{IsInner}
 use Rattle.judge_intake.specs.Coding.{labels_of}
 use Rattle.judge_graphs.specs.Built.{IsInnerAt, AreInner}
-use Rattle.bay_contract.specs.Counting.{AreSoMany}
+use Rattle.part_alphabets.specs.Counting.{AreSoMany}
 use Rattle.judge_pool.specs.Counted.{InnerHas, SwitchesHave, Spends, Passes, InnerIsSmall}
 use Rattle.judge_graphs.proofs.EdgesLemmas.{switches_none}
 use Rattle.judge_graphs.proofs.BayEdges.{switches_spend, switches_pass}

@@ -1,6 +1,6 @@
 use Rattle.std.proofs.Common.{◌≤◌, map}
 use Rattle.contraction.specs.Renaming.{mapped}
-use Rattle.bay_contract.specs.PartAlphabets.{Alphabets}
+use Rattle.part_alphabets.specs.PartAlphabets.{Alphabets}
 use Rattle.judge_pool.specs.Lettered.{lettered}
 use Rattle.judge_pool.specs.Pooling.{GrewTo}
 use Rattle.judge_graphs.specs.Labelling.{AreInnerNotes}

@@ -4,7 +4,7 @@ use Rattle.std.proofs.lemmas.List.{length-map}
 use Rattle.std.proofs.lemmas.Option.{slice_get_read, slice_get_within, same_Some}
 use Rattle.contraction.specs.Answers.{Answers}
 use Rattle.contraction.specs.Renaming.{mapped}
-use Rattle.bay_contract.specs.PartAlphabets.{Alphabets}
+use Rattle.part_alphabets.specs.PartAlphabets.{Alphabets}
 use Rattle.judge_pool.specs.declared.pool.Pool.{Pool}
 use Rattle.judge_graphs.specs.declared.noted.Noted.{Noted}
 use Rattle.judge_pool.specs.Lettered.{lettered}

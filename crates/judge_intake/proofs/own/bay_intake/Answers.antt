@@ -1,7 +1,7 @@
 use Rattle.std.proofs.Common.{ℕ, List, [], Vec, Global, map, refl, inl, inr}
 use Rattle.std.specs.Prelude.{Contains}
 use Rattle.contraction.specs.Answers.{Answers}
-use Rattle.bay_contract.specs.PartAlphabets.{Alphabets}
+use Rattle.part_alphabets.specs.PartAlphabets.{Alphabets}
 use Rattle.judge_pool.specs.declared.pool.Pool.{Pool}
 use Rattle.judge_pool.specs.Lettered.{Lettered, lettered}
 use Rattle.judge_pool.specs.Places.{node_listed, pool_on}

@@ -2,7 +2,7 @@ use Rattle.std.proofs.Common.{◌≡◌, ℕ, ◌+◌, ◌-◌, ◌*◌, ◌<◌
 use Rattle.std.proofs.Common.{slice_get, Some, Vec, Global, refl, sym, ap, ◌∙◌, subst, arith, add-one, inl, inr}
 use Rattle.std.specs.Prelude.{option_map, Contains, ◌↔◌}
 use Rattle.contraction.specs.Answers.{Answers, Keeps, AreNodes}
-use Rattle.bay_contract.specs.Counting.{AreSoMany}
+use Rattle.part_alphabets.specs.Counting.{AreSoMany}
 use Rattle.std.proofs.lemmas.List.{map-append, length-map, length_push, take_more}
 use Rattle.std.proofs.lemmas.Option.{slice_get-get_or, slice_get_read, slice_get-map, same_Some, get_or_from_slice_get}
 use Rattle.std.proofs.lemmas.Option.{slice_get_within}

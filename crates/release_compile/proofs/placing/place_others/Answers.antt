@@ -2,7 +2,7 @@ use Rattle.std.proofs.Common.{◌≡◌, ℕ, ◌<◌, length, get_or, slice_get
 use Rattle.std.proofs.lemmas.Option.{slice_get-get_or, IfSome_then}
 use Rattle.station_graph.specs.Diagram.{part_count}
 use Rattle.station_graph.specs.Alike.{DifferInPart}
-use Rattle.bay_contract.specs.PartAlphabets.{Alphabets, size_of, StandsAt}
+use Rattle.part_alphabets.specs.PartAlphabets.{Alphabets, size_of, StandsAt}
 use Rattle.judge_pool.specs.Lettered.{lettered}
 use Rattle.judge_pool.specs.Graphs.{other_of, PartChosen}
 use Rattle.release_compile.specs.Possible.{SetHolds}

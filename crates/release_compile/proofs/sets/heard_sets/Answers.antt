@@ -1,5 +1,5 @@
 use Rattle.std.proofs.Common.{◌≡◌, ◌<◌, inl, inr, List, Bool, slice_get, length, sym, ap, ◌∙◌, subst, arith}
-use Rattle.bay_contract.specs.PartAlphabets.{size_of}
+use Rattle.part_alphabets.specs.PartAlphabets.{size_of}
 use Rattle.judge_pool.specs.Lettered.{lettered, index_count}
 use Rattle.judge_pool.specs.Graphs.{other_of}
 use Rattle.release_compile.specs.Summaries.{HeardAllows}

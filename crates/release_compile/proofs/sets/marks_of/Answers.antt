@@ -3,7 +3,7 @@ use Rattle.std.specs.Prelude.{◌↔◌}
 use Rattle.std.proofs.lemmas.List.{length_push}
 use Rattle.std.proofs.lemmas.Option.{slice_get_within}
 use Rattle.decision_graphs.specs.Reaching.{IsSet}
-use Rattle.bay_contract.specs.Alphabets.{InSet}
+use Rattle.part_alphabets.specs.Alphabets.{InSet}
 use Rattle.release_compile.proofs.SetsLemmas.{mark_pushed, no_marks}
 use Rattle.release_compile.proofs.sets.marks_of.Goals as goal
 

@@ -1,7 +1,7 @@
 use Rattle.std.proofs.Common.{◌≡◌, ◌<◌, ℕ, length}
 use Rattle.std.specs.Prelude.{◌↔◌}
 use Rattle.decision_graphs.specs.Reaching.{IsSet}
-use Rattle.bay_contract.specs.Alphabets.{InSet}
+use Rattle.part_alphabets.specs.Alphabets.{InSet}
 use Rattle.release_compile.proofs.sets.marks_of.Given as goal
 
 abbrev pub invariant-loop-index : goal.invariant-loop-index

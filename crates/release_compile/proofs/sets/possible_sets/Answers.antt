@@ -1,7 +1,7 @@
 use Rattle.std.proofs.Common.{◌≡◌, ◌<◌, ℕ, List, Bool, Option, Some, slice_get, length, sym, ap, ◌∙◌, arith}
 use Rattle.std.proofs.lemmas.Option.{slice_get-get_or}
-use Rattle.bay_contract.specs.PartAlphabets.{size_of}
-use Rattle.bay_contract.specs.Alphabets.{CanHave}
+use Rattle.part_alphabets.specs.PartAlphabets.{size_of}
+use Rattle.part_alphabets.specs.Alphabets.{CanHave}
 use Rattle.judge_pool.specs.Graphs.{other_of}
 use Rattle.judge_intake.proofs.OtherLemmas.{other_in}
 use Rattle.release_compile.proofs.VerdictLemmas.{sets_at}

@@ -1,5 +1,5 @@
 use Rattle.decision_graphs.specs.Reaching.{AreSetsOf}
-use Rattle.bay_contract.specs.Alphabets.{CanHave}
+use Rattle.part_alphabets.specs.Alphabets.{CanHave}
 use Rattle.judge_pool.specs.Graphs.{other_of}
 use Rattle.release_compile.proofs.SetsLemmas.{FilledBelow}
 use Rattle.release_compile.proofs.sets.possible_sets.Given as goal

@@ -1,7 +1,7 @@
 use Rattle.std.proofs.Common.{◌≡◌, ◌<◌, ◌∙◌, List, Option, Some, None, length, slice_get, refl, sym, ap, subst, arith}
 use Rattle.std.proofs.lemmas.Option.{slice_get_read}
 use Rattle.station_graph.specs.Diagram.{Diagram, part_count}
-use Rattle.bay_contract.specs.PartAlphabets.{Alphabets}
+use Rattle.part_alphabets.specs.PartAlphabets.{Alphabets}
 use Rattle.central_rules.specs.Meaning.{IsBay}
 use Rattle.release_compile.specs.declared.reached.Reached.{Reached}
 use Rattle.judge_pool.specs.Lettered.{lettered}

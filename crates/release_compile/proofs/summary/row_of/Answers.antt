@@ -1,6 +1,6 @@
 use Rattle.std.proofs.Common.{◌≡◌, ◌↔◌, true, length, take, IfSome, sym, ap, ◌∙◌, subst, arith}
 use Rattle.std.proofs.lemmas.List.{length-take-le, length-set}
-use Rattle.bay_contract.specs.Alphabets.{InSet}
+use Rattle.part_alphabets.specs.Alphabets.{InSet}
 use Rattle.release_compile.specs.Summaries.{has_bit, byte_count}
 use Rattle.release_compile.proofs.RowLemmas.{row_bits, bytes_more}
 use Rattle.release_compile.proofs.summary.row_of.Goals as goal

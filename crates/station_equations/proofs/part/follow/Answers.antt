@@ -1,6 +1,6 @@
 use Rattle.std.proofs.Common.{◌<◌, length, sym, subst}
-use Rattle.bay_contract.specs.declared.fork.Target.{Target}
-use Rattle.bay_contract.specs.declared.fork.Target.TheVariants.{Step, Index}
+use Rattle.part_alphabets.specs.declared.fork.Target.{Target}
+use Rattle.part_alphabets.specs.declared.fork.Target.TheVariants.{Step, Index}
 use Rattle.station_equations.specs.EquationMeaning.{NextTarget, Leads}
 use Rattle.station_equations.specs.EquationForm.{IsTarget}
 use Rattle.station_equations.proofs.LeadsLemmas.{leads_here, leads_on}

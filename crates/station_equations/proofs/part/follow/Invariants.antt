@@ -1,5 +1,5 @@
 use Rattle.std.proofs.Common.{ℕ, length}
-use Rattle.bay_contract.specs.declared.fork.Target.TheVariants.{Index}
+use Rattle.part_alphabets.specs.declared.fork.Target.TheVariants.{Index}
 use Rattle.station_equations.specs.EquationMeaning.{NextTarget, Leads}
 use Rattle.station_equations.specs.EquationForm.{IsTarget}
 use Rattle.station_equations.proofs.FollowLemmas.{steps_left}

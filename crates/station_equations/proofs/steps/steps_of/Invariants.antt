@@ -1,6 +1,6 @@
 use Rattle.std.proofs.Common.{◌≡◌, ℕ, length, Some}
 use Rattle.std.specs.Prelude.{slice_get}
-use Rattle.bay_contract.specs.declared.fork.PartStep.{PartStep}
+use Rattle.part_alphabets.specs.declared.fork.PartStep.{PartStep}
 use Rattle.station_equations.specs.Compiling.{IsPartStep}
 use Rattle.station_equations.proofs.steps.steps_of.Given as goal
 

@@ -1,6 +1,6 @@
 use Rattle.std.proofs.Common.{◌∙◌, ◌++◌, ◌∷◌, [], List, ℕ, length, refl, ap}
 use Rattle.std.proofs.lemmas.Option.{slice_get_read}
-use Rattle.bay_contract.specs.declared.fork.PartStep.{PartStep}
+use Rattle.part_alphabets.specs.declared.fork.PartStep.{PartStep}
 use Rattle.station_equations.specs.EquationLines.{PartLines}
 use Rattle.station_equations.specs.EquationText.{step_line, numbered, text_of}
 use Rattle.station_equations.proofs.TextLemmas.{written_more}

@@ -1,6 +1,6 @@
 use Rattle.std.proofs.lemmas.Option.{slice_get-get_or}
-use Rattle.bay_contract.specs.declared.fork.Target.TheVariants.{Step}
-use Rattle.bay_contract.specs.declared.fork.PartStep.{PartStep}
+use Rattle.part_alphabets.specs.declared.fork.Target.TheVariants.{Step}
+use Rattle.part_alphabets.specs.declared.fork.PartStep.{PartStep}
 use Rattle.station_equations.specs.EquationText.{step_line}
 use Rattle.station_equations.proofs.TextLemmas.{line_more}
 use Rattle.station_equations.proofs.writing.push_steps.Goals as goal

@@ -1,5 +1,5 @@
 use Rattle.std.proofs.Common.{◌≡◌, ◌+◌, ℕ, List, Option, length, sym, ap, subst, arith}
-use Rattle.bay_contract.specs.PartAlphabets.{PartAlphabet}
+use Rattle.part_alphabets.specs.PartAlphabets.{PartAlphabet}
 use Rattle.bay_contract.specs.Shapes.{IsShaped}
 use Rattle.bay_contract.specs.Paths.{PathsTo}
 use Rattle.bay_contract.proofs.PathLemmas.{paths_start, written_back}

@@ -1,5 +1,5 @@
 use Rattle.std.proofs.Common.{◌≡◌, ℕ, List, Option, length, drop, ◌∙◌, ap, subst, arith}
-use Rattle.bay_contract.specs.PartAlphabets.{PartAlphabet}
+use Rattle.part_alphabets.specs.PartAlphabets.{PartAlphabet}
 use Rattle.bay_contract.specs.Shapes.{IsShaped}
 use Rattle.bay_contract.proofs.WayLemmas.{placed_way, held_exactly}
 use Rattle.bay_contract.proofs.alphabet.Alphabet.possible.Goals as goal

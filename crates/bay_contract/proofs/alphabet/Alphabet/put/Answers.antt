@@ -1,5 +1,5 @@
 use Rattle.std.proofs.Common.{ap, arith}
-use Rattle.bay_contract.specs.PartAlphabets.{PartAlphabet}
+use Rattle.part_alphabets.specs.PartAlphabets.{PartAlphabet}
 use Rattle.bay_contract.proofs.alphabet.Alphabet.put.Goals as goal
 
 pub put_bits-requires-clause-room : goal.put_bits-requires-clause-room

@@ -1,4 +1,4 @@
-use Rattle.bay_contract.specs.PartAlphabets.{IsPosition}
+use Rattle.part_alphabets.specs.PartAlphabets.{IsPosition}
 use Rattle.bay_contract.proofs.SetLemmas.{kept_position, kept_agreeing}
 use Rattle.bay_contract.proofs.parts.Parts.agreeing.Goals as goal
 

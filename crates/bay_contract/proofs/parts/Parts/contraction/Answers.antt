@@ -2,7 +2,7 @@ use Rattle.std.proofs.Common.{◌≡◌, Some, slice_get, subst}
 use Rattle.station_graph.specs.Sharing.{OfPart}
 use Rattle.contraction.specs.Answers.{Answers}
 use Rattle.contraction.specs.Stands.{StandsFor}
-use Rattle.bay_contract.specs.PartAlphabets.{PartAlphabet, letters_of}
+use Rattle.part_alphabets.specs.PartAlphabets.{PartAlphabet, letters_of}
 use Rattle.bay_contract.proofs.IndexLemmas.{alphabet_at}
 use Rattle.bay_contract.proofs.parts.Parts.contraction.Goals as goal
 

@@ -1,6 +1,6 @@
 use Rattle.std.proofs.Common.{◌∙◌, subst}
-use Rattle.bay_contract.specs.Diagrams.{ForksLeadTo}
-use Rattle.bay_contract.specs.PartAlphabets.{PartAlphabet, forks_of}
+use Rattle.part_alphabets.specs.Diagrams.{ForksLeadTo}
+use Rattle.part_alphabets.specs.PartAlphabets.{PartAlphabet, forks_of}
 use Rattle.bay_contract.proofs.IndexLemmas.{alphabet_at, letters_in, index_alike}
 use Rattle.bay_contract.proofs.parts.Parts.index_of.Goals as goal
 

@@ -1,7 +1,7 @@
 use Rattle.std.proofs.Common.{◌≡◌, ◌^◌, ◌<◌, ◌↔◌, length, sym, ◌∙◌, ap, subst}
-use Rattle.bay_contract.specs.PartAlphabets.{PartAlphabet, part_at}
+use Rattle.part_alphabets.specs.PartAlphabets.{PartAlphabet, part_at}
 use Rattle.bay_contract.specs.Paths.{MayLead, IsWay}
-use Rattle.bay_contract.specs.Alphabets.{InSet}
+use Rattle.part_alphabets.specs.Alphabets.{InSet}
 use Rattle.bay_contract.proofs.IndexLemmas.{alphabet_at}
 use Rattle.bay_contract.proofs.WayLemmas.{can_have, agreeing_way}
 use Rattle.bay_contract.proofs.parts.Parts.possible.Goals as goal

@@ -1,5 +1,5 @@
 use Rattle.std.proofs.Common.{◌≡◌, ◌+◌, ◌<◌, ◌≤◌, ◌⊎◌, ℕ, slice_get, subst}
-use Rattle.bay_contract.specs.PartAlphabets.{PartAlphabet, first_switch_of, count_of}
+use Rattle.part_alphabets.specs.PartAlphabets.{PartAlphabet, first_switch_of, count_of}
 use Rattle.bay_contract.proofs.IndexLemmas.{alphabet_at, put_others}
 use Rattle.bay_contract.proofs.parts.Parts.put.Goals as goal
 

@@ -1,5 +1,5 @@
 use Rattle.std.proofs.Common.{◌+◌, ◌<◌, ◌≤◌, subst}
-use Rattle.bay_contract.specs.PartAlphabets.{PartAlphabet, first_switch_of, count_of}
+use Rattle.part_alphabets.specs.PartAlphabets.{PartAlphabet, first_switch_of, count_of}
 use Rattle.bay_contract.proofs.IndexLemmas.{alphabet_at}
 use Rattle.bay_contract.proofs.OwnLemmas.{own_switch}
 use Rattle.bay_contract.proofs.parts.Parts.step.Goals as goal

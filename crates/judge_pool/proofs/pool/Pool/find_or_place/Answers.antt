@@ -1,6 +1,6 @@
 use Rattle.std.proofs.Common.{◌≡◌, List, ℕ, length, slice_get, Some, refl, ap, ◌∙◌, sym, subst}
 use Rattle.std.proofs.lemmas.Option.{slice_get_read, slice_get_within, same_Some}
-use Rattle.bay_contract.proofs.RenamedLemmas.{renamed_well}
+use Rattle.contraction.proofs.RenamedLemmas.{renamed_well}
 use Rattle.contraction.specs.Answers.{Answers, AreNodes, IsContraction}
 use Rattle.contraction.specs.Renaming.{renamed}
 use Rattle.judge_pool.specs.declared.pool.Pool.{Pool}

@@ -1,6 +1,6 @@
 use Rattle.std.proofs.Common.{◌∙◌, sym, ap, inl, inr}
 use Rattle.station_graph.specs.Alike.{Partner}
-use Rattle.bay_contract.specs.PartAlphabets.{Alphabets, size_of}
+use Rattle.part_alphabets.specs.PartAlphabets.{Alphabets, size_of}
 use Rattle.release_compile.specs.Judging.{ground}
 use Rattle.release_compile.proofs.judge.GraphJudgeJudge.fits.Goals as goal
 

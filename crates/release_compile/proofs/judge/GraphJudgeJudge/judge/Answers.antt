@@ -1,7 +1,7 @@
 use Rattle.std.proofs.Common.{sym, ap, ◌∙◌, subst, ◌≡◌}
 use Rattle.station_graph.specs.Diagram.{Diagram}
 use Rattle.central_rules.specs.Meaning.{bay_of}
-use Rattle.bay_contract.specs.PartAlphabets.{Alphabets}
+use Rattle.part_alphabets.specs.PartAlphabets.{Alphabets}
 use Rattle.judge_pool.specs.Lettered.{lettered}
 use Rattle.release_compile.specs.Judging.{ground}
 use Rattle.release_compile.specs.Summaries.{BayTells}

@@ -1,8 +1,8 @@
 use Rattle.std.proofs.Common.{sym, subst}
 use Rattle.station_graph.specs.Alike.{Partner}
 use Rattle.central_rules.specs.Meaning.{Summarises}
-use Rattle.bay_contract.specs.PartAlphabets.{Alphabets}
-use Rattle.bay_contract.specs.Alphabets.{AreAlphabets}
+use Rattle.part_alphabets.specs.PartAlphabets.{Alphabets}
+use Rattle.part_alphabets.specs.Alphabets.{AreAlphabets}
 use Rattle.judge_pool.specs.Lettered.{lettered}
 use Rattle.release_compile.specs.Summaries.{by_indices}
 use Rattle.release_compile.proofs.judge.GraphJudgeJudge.summarise.Goals as goal

@@ -1,6 +1,6 @@
 use Rattle.std.proofs.Common.{List, subst}
-use Rattle.bay_contract.specs.declared.fork.PartStep.{PartStep}
-use Rattle.bay_contract.specs.declared.fork.Target.TheVariants.{Index}
+use Rattle.part_alphabets.specs.declared.fork.PartStep.{PartStep}
+use Rattle.part_alphabets.specs.declared.fork.Target.TheVariants.{Index}
 use Rattle.station_equations.specs.EquationLines.{PartLines}
 use Rattle.station_equations.specs.EquationMeaning.{NextTarget, Leads, LeadsToIndex}
 use Rattle.station_equations.proofs.part.PartSteps.index_of.Goals as goal

@@ -8,11 +8,11 @@ use Rattle.station_graph.specs.Sharing.{OfPart, IsShared}
 use Rattle.station_graph.specs.Alike.{IsVector}
 use Rattle.contraction.specs.Answers.{Answers, IsContraction, Keeps, SameGap, SameLoad}
 use Rattle.contraction.specs.Stands.{StandsFor}
-use Rattle.bay_contract.specs.declared.limits.TheConstants.{LETTERS}
-use Rattle.bay_contract.specs.Diagrams.{ForksLeadTo}
-use Rattle.bay_contract.specs.Counting.{AreStepSizes}
-use Rattle.bay_contract.specs.PartAlphabets.{Alphabets, letters_of, size_of, example_of, forks_of, first_switch_of}
-use Rattle.bay_contract.specs.PartAlphabets.{count_of, IsPosition, StandsAt, rank_of}
+use Rattle.part_alphabets.specs.declared.limits.TheConstants.{LETTERS}
+use Rattle.part_alphabets.specs.Diagrams.{ForksLeadTo}
+use Rattle.part_alphabets.specs.Counting.{AreStepSizes}
+use Rattle.part_alphabets.specs.PartAlphabets.{Alphabets, letters_of, size_of, example_of, forks_of, first_switch_of}
+use Rattle.part_alphabets.specs.PartAlphabets.{count_of, IsPosition, StandsAt, rank_of}
 
 -- A contraction on the nodes that the part shares.
 pub record IsLetter (d : Diagram) (part : ℕ) (c : Answers) : Type 0 where

@@ -1,10 +1,10 @@
 -- The numbers of targets: that of a step, or the number of steps and an index.
 use Rattle.std.specs.Prelude.{◌≡◌, ℕ, ◌+◌, ◌<◌, List, length, slice_get, Some}
-use Rattle.bay_contract.specs.declared.fork.Fork.{Fork}
-use Rattle.bay_contract.specs.declared.fork.PartStep.{PartStep}
-use Rattle.bay_contract.specs.declared.fork.Target.{Target}
-use Rattle.bay_contract.specs.declared.fork.Target.TheVariants.{Step, Index}
-use Rattle.bay_contract.specs.Diagrams.{ForkFits}
+use Rattle.part_alphabets.specs.declared.fork.Fork.{Fork}
+use Rattle.part_alphabets.specs.declared.fork.PartStep.{PartStep}
+use Rattle.part_alphabets.specs.declared.fork.Target.{Target}
+use Rattle.part_alphabets.specs.declared.fork.Target.TheVariants.{Step, Index}
+use Rattle.part_alphabets.specs.Diagrams.{ForkFits}
 
 -- The target as a plain number: steps first, then letters.
 abbrev pub number_of : ℕ → Target → ℕ

@@ -3,8 +3,8 @@
 use Rattle.std.specs.Prelude.{◌≡◌, ℕ, ◌+◌, ◌<◌, ◌≤◌, ◌⊎◌, Bool, List, length, slice_get, slice_index, sum, Some}
 use Rattle.station_graph.specs.Diagram.{Diagram, AreSwitchesOf}
 use Rattle.station_graph.specs.Alike.{IsVector}
-use Rattle.bay_contract.specs.declared.limits.TheConstants.{CONTRACTIONS, LETTERS}
-use Rattle.bay_contract.specs.Layers.{SameLayer}
+use Rattle.part_alphabets.specs.declared.limits.TheConstants.{CONTRACTIONS, LETTERS}
+use Rattle.part_alphabets.specs.Layers.{SameLayer}
 
 -- Vectors of the station, no two of which are the same.
 pub record AreDistinct (d : Diagram) (Same : List Bool → List Bool → Type 0) (list : List (List Bool)) : Type 0 where

@@ -2,7 +2,7 @@
 -- that of an index.
 use Rattle.std.specs.Prelude.{◌≡◌, ℕ, ◌+◌, ◌<◌, ◌≤◌, Bool, true, false, List, length, slice_get, Some}
 use Rattle.station_graph.specs.Connection.{Linked}
-use Rattle.bay_contract.specs.declared.fork.Fork.{Fork}
+use Rattle.part_alphabets.specs.declared.fork.Fork.{Fork}
 
 -- Where a step leads by the position of its switch.
 abbrev pub branch : Fork → Bool → ℕ

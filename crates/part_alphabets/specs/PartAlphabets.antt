@@ -1,8 +1,8 @@
 -- The alphabets of the parts of a station, as callers see them.
 use Rattle.std.specs.Prelude.{◌≡◌, ℕ, ◌^◌, ◌<◌, Bool, List, [], Option, Some, None, length, slice_get, slice_index}
 use Rattle.contraction.specs.Answers.{Answers}
-use Rattle.bay_contract.specs.declared.fork.Fork.{Fork}
-use Rattle.bay_contract.specs.Layers.{rank, bits}
+use Rattle.part_alphabets.specs.declared.fork.Fork.{Fork}
+use Rattle.part_alphabets.specs.Layers.{rank, bits}
 
 -- The alphabet of one part: how many switches the station has, the part's first switch and how many it
 -- has, its letters, for each of them an example, and the forks of its decision diagram.
