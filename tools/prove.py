@@ -1,9 +1,11 @@
 """Proves the crates below a program, several at once, and builds the program.
 
 Each crate is proved by the kit's prover, over what the crates below it state: the one with the longest way to the
-program first, and by two processes, since the others wait for it. What was proved is kept beside the program, with a
-sum of the crate, of those below it and of the kit, so that the next run proves only what was changed and what stands
-on it. A process takes up to 2.2 GB.
+program first, in seconds that its last proof took, or that its lines let expect. A crate has one process, since more of
+them take up to twice the seconds of a processor; only where fewer crates can be begun than lanes are free, the first of
+them has the lanes that are left over. What was proved is kept beside the program, with a sum of the crate, of those
+below it and of the kit, so that the next run proves only what was changed and what stands on it. A process takes up to
+2.2 GB.
 """
 import concurrent.futures
 import functools
@@ -19,6 +21,9 @@ import repository
 
 LANE, BESIDE = 2200, 2000
 TARGET = "x86_64-unknown-linux-gnu"
+# seconds of a processor for a crate, and for a line in each of its folders, as they were measured at 2.5 GHz
+CRATE_SECONDS = 8
+LINE_SECONDS = {"src": 0.1, "specs": 0.005, "proofs": 0.02}
 
 
 def free_megabytes():
@@ -85,12 +90,24 @@ class Prover:
         words += ["--antt-project", f"{self.kit}/rattle/logic/antt-project.json"]
         return [*words, "--logic-built", f"{self.kit}/logic_built", "--jobs", str(jobs), "--links", f"{name}="]
 
+    def seconds(self, names):
+        """For each crate the seconds of a processor that its last proof took, or that its lines let expect."""
+        kept = {name: self.kept / f"{name}.seconds" for name in names}
+        noted = {name: file.read_text() for name, file in kept.items() if file.exists()}
+        took = {name: float(text) for name, text in noted.items() if re.fullmatch(r"\d+\.\d", text)}
+        likely = {name: likely_seconds(name) for name in names}
+        pace = sum(took.values()) / sum(likely[name] for name in took) if took else 1
+        return {name: took.get(name, pace * likely[name]) for name in names}
+
     def call(self, name, *words):
-        """Runs a tool of the kit in the crate's folder: its status, and what it said."""
+        """Runs a tool of the kit in the crate's folder: its status, what it said, and the seconds of a processor."""
         whole = [f"{self.kit}/bin/{words[0]}", *map(str, words[1:])]
-        done = subprocess.run(whole, cwd=self.folder(name), stdin=subprocess.DEVNULL, stdout=subprocess.PIPE,
-                              stderr=subprocess.STDOUT, text=True, errors="replace")
-        return done.returncode, done.stdout
+        with subprocess.Popen(whole, cwd=self.folder(name), stdin=subprocess.DEVNULL, stdout=subprocess.PIPE,
+                              stderr=subprocess.STDOUT, text=True, errors="replace") as running:
+            said = running.stdout.read()
+            _, status, used = os.wait4(running.pid, 0)
+            running.returncode = os.waitstatus_to_exitcode(status)
+        return running.returncode, said, used.ru_utime + used.ru_stime
 
     def prove(self, name, jobs):
         """Proves a library and keeps what it states, or proves and builds a program: the status, and what was said."""
@@ -99,41 +116,41 @@ class Prover:
         made, noted = self.kept / f"{name}.rlib", self.kept / f"{name}.sum"
         noted.unlink(missing_ok=True)
         shutil.rmtree(made, ignore_errors=True)
-        status, said = self.call(name, "rattle", "build", *self.words(name, jobs), "--statements", "-o", made)
+        status, said, seconds = self.call(name, "rattle", "build", *self.words(name, jobs), "--statements", "-o", made)
         if status == 0 and self.sum_now(name) != self.sum_of(name):
             return 1, "a source was changed while it was read: prove again"
         if status == 0:
             noted.write_text(self.sum_of(name))
+            (self.kept / f"{name}.seconds").write_text(f"{seconds:.1f}")
         return status, said
 
     def build(self, name, jobs):
         toolchain = ("--toolchain", self.kit / "toolchain")
         made, program = self.kept / f"{name}.o", self.folder(name) / "out" / name
-        status, said = self.call(name, "rattle", "build", *self.words(name, jobs), *toolchain, "--backend", "llvm",
-                                 "-o", made)
+        status, said, _ = self.call(name, "rattle", "build", *self.words(name, jobs), *toolchain, "--backend", "llvm",
+                                    "-o", made)
         if status == 0:
             libraries = [self.kit / "c" / it for it in ("libos_c.a", "liblibc_c.a")]
-            status, more = self.call(name, "rattle-link", "--target", TARGET, *toolchain, "-o", program, made, *libraries)
+            status, more, _ = self.call(name, "rattle-link", "--target", TARGET, *toolchain, "-o", program, made,
+                                        *libraries)
             said += more
         made.unlink(missing_ok=True)
         return status, said
 
 
-def ways(crates, names):
-    """For each crate the lines on the longest way from it up to the program."""
-    lines = {name: sum((repository.TOP / it).read_bytes().count(b"\n") for it in repository.sources(name))
-             for name in names}
+def likely_seconds(name):
+    """The seconds of a processor that the proof of a crate is likely to take, by its lines."""
+    lines = {folder: sum((repository.TOP / it).read_bytes().count(b"\n")
+                         for it in repository.walked(f"crates/{name}/{folder}")) for folder in LINE_SECONDS}
+    return CRATE_SECONDS + sum(LINE_SECONDS[folder] * count for folder, count in lines.items())
+
+
+def ways(crates, seconds):
+    """For each crate the seconds on the longest way from it up to the program; each stands after those below it."""
     found = {}
-    for name in reversed(names):
-        found[name] = lines[name] + max((found[it] for it in names if name in crates[it].below), default=0)
+    for name in reversed(seconds):
+        found[name] = seconds[name] + max((found[it] for it in found if name in crates[it].below), default=0)
     return found
-
-
-def jobs_of(name, ready, left, way, free, lanes):
-    """How many processes prove a crate: two or more for the one that most others wait for, else one."""
-    if way[name] < max(way[it] for it in left):
-        return 1
-    return min(free, max(2, lanes - len(ready) + 1))
 
 
 def tell(name, status, said, say, start):
@@ -148,7 +165,7 @@ def tell(name, status, said, say, start):
 
 def in_lanes(prover, names, say):
     """Proves the crates, lowest first and side by side; whether all are proved."""
-    way, lanes, start = ways(prover.crates, names), lane_count(), time.monotonic()
+    way, lanes, start = ways(prover.crates, prover.seconds(names)), lane_count(), time.monotonic()
     left = [name for name in sorted(names, key=way.get, reverse=True) if not prover.is_kept(name)]
     say(f"proving {len(left)} of {len(names)} crates, {lanes} processors")
     running, failed = {}, []
@@ -156,13 +173,12 @@ def in_lanes(prover, names, say):
         while running or (left and not failed):
             unproved = {*left, *(name for name, _ in running.values())}
             ready = [] if failed else [it for it in left if not unproved.intersection(prover.crates[it].below)]
-            for name in ready:
-                free = lanes - sum(jobs for _, jobs in running.values())
-                if free <= 0:
-                    break
+            free = lanes - sum(jobs for _, jobs in running.values())
+            spare = max(0, free - len(ready))
+            for name in ready[:free]:
                 left.remove(name)
-                jobs = jobs_of(name, ready, unproved, way, free, lanes)
-                running[pool.submit(prover.prove, name, jobs)] = name, jobs
+                running[pool.submit(prover.prove, name, 1 + spare)] = name, 1 + spare
+                spare = 0
             done, _ = concurrent.futures.wait(running, return_when=concurrent.futures.FIRST_COMPLETED)
             for one in done:
                 name, _ = running.pop(one)
