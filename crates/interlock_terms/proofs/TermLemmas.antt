@@ -1,11 +1,8 @@
 -- Terms that grow keep their values.
 use Rattle.std.proofs.Common.{◌≡◌, ℕ, zero, suc, List, [], ◌∷◌, ◌++◌, slice_get, Some, sym, ◌∙◌, ap, subst, append_assoc, refl}
 use Rattle.interlock_terms.specs.declared.term.Term.{Term}
-use Rattle.std.proofs.Common.{◌⊎◌, length, Option, None, inl, inr, Bool, true, false, if◌then◌else◌}
-use Rattle.std.specs.List.{list_any}
-use Rattle.indexmap.specs.IndexSet.{insert_key}
+use Rattle.std.proofs.Common.{◌⊎◌, length, Option, None, inl, inr}
 use Rattle.interlock_terms.specs.declared.term.Term.TheVariants.{Always, Closed, Both, Either}
-use Rattle.interlock_terms.specs.contracts.term.TermPartialEq.TheImpl.{eq-value}
 use Rattle.interlock_terms.specs.Terms.{Values, Solves, Grew, IsTrueAt, Implies, MeansBoth, MeansEither, IsWeaker}
 use Rattle.interlock_terms.specs.Terms.{IsStronger, Says, AreOrdered, RefersBelow}
 
@@ -95,32 +92,14 @@ either_made terms n a b at v solves = solves n (Either a b) at
 pub both_grew : (old new : List Term) (n a b : ℕ) → Grew old new → MeansBoth old n a b → MeansBoth new n a b
 both_grew old new n a b g m v solves = m v (grew_solves old new v g solves)
 
--- the set of terms grows by a term that is new
-pub set_grew : (keys new : List Term) (t : Term) → new ≡ insert_key eq-value.it keys t → Grew keys new
-set_grew keys new t e = by (list_any (eq-value.it t) keys) refl
-  where
-    by : (b : Bool) → list_any (eq-value.it t) keys ≡ b → Grew keys new
-    by true h =
-        let same : insert_key eq-value.it keys t ≡ keys = ap (λ b. if b then keys else (keys ++ t ∷ [])) h in
-        record { more = []; is = e ∙ (same ∙ right_nil keys) }
-    by false h =
-        let more : insert_key eq-value.it keys t ≡ keys ++ t ∷ [] =
-        ap (λ b. if b then keys else (keys ++ t ∷ [])) h in
-        record { more = t ∷ []; is = e ∙ more }
+-- the terms grow by one at the end
+pub pushed_grew : (terms : List Term) (t : Term) → Grew terms (terms ++ t ∷ [])
+pushed_grew terms t = record { more = t ∷ []; is = refl }
 
--- terms stay in order where one that names earlier ones is put at the end, if it is new
-pub set_ordered : (keys new : List Term) (t : Term) → new ≡ insert_key eq-value.it keys t → AreOrdered keys →
-    RefersBelow (length keys) t → AreOrdered new
-set_ordered keys new t e ordered below = by (list_any (eq-value.it t) keys) refl
-  where
-    by : (b : Bool) → list_any (eq-value.it t) keys ≡ b → AreOrdered new
-    by true h =
-        let same : insert_key eq-value.it keys t ≡ keys = ap (λ b. if b then keys else (keys ++ t ∷ [])) h in
-        subst AreOrdered (sym (e ∙ same)) ordered
-    by false h =
-        let more : insert_key eq-value.it keys t ≡ keys ++ t ∷ [] =
-        ap (λ b. if b then keys else (keys ++ t ∷ [])) h in
-        subst AreOrdered (sym (e ∙ more)) (λ n u at. elim (push_cases keys t u n at) [
-          | inl old ↦ ordered n u old
-          | inr new ↦ subst (λ k. RefersBelow k u) (sym new.0) (subst (RefersBelow (length keys)) new.1 below)
-        ])
+-- terms stay in order where one that names earlier ones is put at the end
+pub pushed_ordered : (terms : List Term) (t : Term) → AreOrdered terms → RefersBelow (length terms) t →
+    AreOrdered (terms ++ t ∷ [])
+pushed_ordered terms t ordered below n u at = elim (push_cases terms t u n at) [
+  | inl old ↦ ordered n u old
+  | inr new ↦ subst (λ k. RefersBelow k u) (sym new.0) (subst (RefersBelow (length terms)) new.1 below)
+]

@@ -1,17 +1,19 @@
 //! Formulas over the positions of switches, each once.
-ghost use Rattle.std.specs.Prelude.{◌≡◌, ◌↔◌, ◌<◌, length, slice_get, Some, IfOk, OnOk, IsTrue, true, List};
+ghost use Rattle.std.specs.Prelude.{◌≡◌, ◌↔◌, ◌<◌, length, slice_get, Some, IfOk, IfSome, OnOk, IsTrue, true, List};
 ghost use Rattle.interlock_terms.specs.Terms.{Values, Solves, IsTrueAt, Grew, MeansBoth, MeansEither, Implies, AreOrdered};
 
 use crate::term::{Term, is_stronger, is_weaker, refers_below};
 use ilk_base::{Memory, SwitchId};
-use indexmap::IndexSet;
 use std::alloc::Global;
+use std::collections::HashMap;
 use std::marker::Model;
 
 /// Formulas that differ, in the order in which they were made, seen as the list of them. Each is made of earlier ones.
 #[derive(Drop)]
 pub struct Terms {
-    terms: IndexSet<Term>,
+    list: Vec<Term>,
+    // the number of each term of the list
+    numbers: HashMap<Term, usize>,
 }
 
 impl Model for Terms {
@@ -21,16 +23,17 @@ impl Model for Terms {
 
     ghost Value = { List Term };
 
-    ghost view = { λ s. s.terms.keys };
+    ghost view = { λ s. s.list.items };
 
-    ghost invariant = { λ s. AreOrdered s.terms.keys };
+    ghost invariant = { λ s. AreOrdered s.list.items };
 }
 
 impl Terms {
     /// No formula. Takes no memory.
     pub fn new(alloc: Global) -> Terms {
         Terms {
-            terms: IndexSet::new(alloc),
+            list: Vec::new(alloc),
+            numbers: HashMap::new(alloc),
         }
     }
 
@@ -39,7 +42,7 @@ impl Terms {
         ensures count { result ≡ length self.now }
         ensures ordered { AreOrdered self.now }
     {
-        self.terms.len()
+        self.list.len()
     }
 
     /// The formula of this number, at once.
@@ -47,7 +50,7 @@ impl Terms {
         ensures value { result ≡ slice_get self.now number }
         ensures ordered { AreOrdered self.now }
     {
-        self.terms.get_index(number).copied()
+        self.list.get(number).copied()
     }
 
     /// The formula of a number that one has, at once.
@@ -59,16 +62,33 @@ impl Terms {
         self.term(number).unwrap_or(Term::Always)
     }
 
+    // The number of a term that is there.
+    fn number_of(&self, term: Term) -> Option<usize>
+        ensures { IfSome result (λ n. slice_get self.now n ≡ Some term) }
+    {
+        let number = *self.numbers.get(&term)?;
+        if self.term(number)? == term {
+            Some(number)
+        } else {
+            None
+        }
+    }
+
     // The number of a term, which is put at the end where it is new. One that names a term that is not there is refused
     // as want of memory is.
     fn add(&mut self, term: Term) -> Result<usize, Memory>
         ensures grew { OnOk result (Grew self.old self.new) }
         ensures is { IfOk result (λ n. slice_get self.new n ≡ Some term) }
     {
-        if !refers_below(term, self.terms.len()) {
+        if let Some(number) = self.number_of(term) {
+            return Ok(number);
+        }
+        let number = self.list.len();
+        if !refers_below(term, number) {
             return Err(Memory);
         }
-        let (number, _) = self.terms.insert_full(term)?;
+        self.numbers.insert(term, number)?;
+        self.list.push(term)?;
         Ok(number)
     }
 
