@@ -21,6 +21,7 @@ pub mod StackLemmas
 pub mod AloneLemmas
 pub mod AssembleLemmas
 pub mod ReduceLemmas
+mod CutLemmas
 pub mod DependLemmas
 pub mod DependsOnLemmas
 pub mod LayersLemmas

@@ -27,13 +27,13 @@ pub record CanFold (l : Lone) : Type 0 where
 pub record IsMadeOf (k : Known) (l : Lone) : Type 0 where
   pub choices : k.choices ≡ l.choices
   pub nodes : k.nodes ≡ l.nodes
-  pub edges : k.edges.items ≡ l.edges.now
-  pub next : k.next.items ≡ l.next.now
+  pub edges : k.edges ≡ l.edges.now
+  pub next : k.next ≡ l.next.now
   pub bound : k.bound ≡ l.bound
 
 -- The known layer has been folded.
 abbrev pub IsKnown : Known → Type 0
-IsKnown k = IsFolded (alone k.choices k.nodes) k.edges.items k.next.items k.bound k.nodes (folding_of k.folded)
+IsKnown k = IsFolded (alone k.choices k.nodes) k.edges k.next k.bound k.nodes (folding_of k.folded)
 
 -- Each of these layers has been folded.
 abbrev pub AreKnown : List Known → Type 0

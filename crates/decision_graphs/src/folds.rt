@@ -1,13 +1,13 @@
 //! Layers that are folded once for many graphs.
 ghost use Rattle.std.specs.Prelude.{IfOk};
-ghost use Rattle.decision_graphs.specs.Inside.{IsGraph};
-ghost use Rattle.decision_graphs.specs.LaidOut.{lists_in, lists_of};
+ghost use Rattle.decision_graphs.specs.Inside.{IsSharedGraph};
+ghost use Rattle.decision_graphs.specs.LaidOut.{lists_in, lists_shared, IsCut};
 ghost use Rattle.decision_graphs.specs.Made.{IsReductionOf};
 ghost use Rattle.decision_graphs.specs.Whole.{layered_of, IsWhole};
 
 use crate::assemble::reduced;
 use crate::known::KnownList;
-use crate::layout::{GraphParts, Layout};
+use crate::layout::{Layout, SharedParts};
 use ilk_base::Memory;
 use std::alloc::Global;
 use std::marker::Model;
@@ -51,11 +51,12 @@ impl Folds {
         &mut self,
         alloc: Global,
         graph: &Layout<'_>,
-    ) -> Result<GraphParts, Memory>
-        requires { IsWhole (lists_in graph.now) }
-        ensures graph { IfOk result IsGraph }
+    ) -> Result<SharedParts, Memory>
+        requires whole { IsWhole (lists_in graph.now) }
+        requires cut { IsCut graph.now }
+        ensures graph { IfOk result IsSharedGraph }
         ensures reduction { IfOk result
-            (λ g. IsReductionOf (layered_of (lists_in graph.now)) (layered_of (lists_of g))) }
+            (λ g. IsReductionOf (layered_of (lists_in graph.now)) (layered_of (lists_shared g))) }
     {
         reduced(alloc, &mut self.list, graph)
     }

@@ -7,21 +7,21 @@ ghost use Rattle.decision_graphs.specs.Reaching.{AreSetsOf, MarksReached, IsPath
 ghost use Rattle.decision_graphs.specs.Marked.{AreMarksOf, PathsLead};
 ghost use Rattle.decision_graphs.specs.Arriving.{AreWithin, traced};
 ghost use Rattle.decision_graphs.specs.Finished.{AreFinished, finished};
-ghost use Rattle.decision_graphs.specs.Inside.{IsGraph};
-ghost use Rattle.decision_graphs.specs.LaidOut.{lists_in, lists_of};
+ghost use Rattle.decision_graphs.specs.Inside.{IsGraph, IsSharedGraph};
+ghost use Rattle.decision_graphs.specs.LaidOut.{lists_in, lists_of, lists_shared, IsCut};
 ghost use Rattle.decision_graphs.specs.Shapes.{AreHomes};
 ghost use Rattle.decision_graphs.specs.Whole.{layered_of, IsWhole};
 ghost use Rattle.decision_graphs.specs.declared.limits.TheConstants.{LAYERS, GRAPH_NODES};
 
 use crate::arrival::Arrival;
 use crate::depend::{label_depends_on, layers_depended};
-use crate::find::row_at;
+use crate::find::edge_at;
 use crate::finished::{FinishedLayer, joined};
 use crate::folds::Folds;
-use crate::layout::{GraphParts, Layout};
+use crate::layout::{GraphParts, Layout, SharedParts, copied, row_of};
 use crate::reach::mark_labels;
 use crate::rename::renamed;
-use crate::same::{same_edges, same_shapes};
+use crate::same::same_lists;
 use ilk_base::Memory;
 use std::alloc::Global;
 use std::marker::Model;
@@ -33,7 +33,14 @@ use std::marker::Model;
 /// Contracts see it as its layers, where an edge is a number within the next layer.
 #[derive(Drop)]
 pub struct Graph {
-    parts: GraphParts,
+    held: Held,
+}
+
+// The lists of a graph: of one that was made edge by edge, or of one that has its layers in common with others.
+#[derive(Drop)]
+pub(crate) enum Held {
+    Joined(GraphParts),
+    Shared(SharedParts),
 }
 
 impl Model for Graph {
@@ -41,13 +48,13 @@ impl Model for Graph {
 
     ghost Value = { Layered };
 
-    ghost use Rattle.decision_graphs.specs.LaidOut.{lists_of};
+    ghost use Rattle.decision_graphs.specs.LaidOut.{lists_held};
     ghost use Rattle.decision_graphs.specs.Whole.{layered_of};
-    ghost use Rattle.decision_graphs.specs.Inside.{IsGraph};
+    ghost use Rattle.decision_graphs.specs.Inside.{IsHeld};
 
-    ghost view = { λ g. layered_of (lists_of g.parts) };
+    ghost view = { λ g. layered_of (lists_held g.held) };
 
-    ghost invariant = { λ g. IsGraph g.parts };
+    ghost invariant = { λ g. IsHeld g.held };
 }
 
 impl Graph {
@@ -57,7 +64,7 @@ impl Graph {
         ensures count { result ≡ self.now.labels }
         ensures layered { AreLayers self.now.labels self.now.layers }
     {
-        self.parts.labels
+        self.layout().labels
     }
 
     /// How many layers there are, and that they have at most `GRAPH_NODES` nodes. Constant time.
@@ -65,7 +72,7 @@ impl Graph {
         ensures count { result ≡ length self.now.layers }
         ensures few_nodes { node_total self.now ≤ GRAPH_NODES }
     {
-        self.parts.shapes.len() as u16
+        self.layout().shapes.len() as u16
     }
 
     /// How many choices each node of a layer has. Constant time.
@@ -73,7 +80,7 @@ impl Graph {
         requires { layer < length self.now.layers }
         ensures { result ≡ (layer_at self.now.layers layer).choices }
     {
-        self.parts.shapes[layer as usize].choices
+        self.layout().shapes[layer as usize].choices
     }
 
     /// The number of a layer's first node, and how many nodes it has. Constant time.
@@ -82,7 +89,7 @@ impl Graph {
         ensures first { result.0 ≡ first_at self.now.layers layer }
         ensures count { result.1 ≡ length (layer_at self.now.layers layer).rows }
     {
-        let shape = self.parts.shapes[layer as usize];
+        let shape = self.layout().shapes[layer as usize];
         (shape.first, shape.nodes)
     }
 
@@ -93,8 +100,7 @@ impl Graph {
         ensures { (j k : ℕ) → IsNode self.now j k from
             → result ≡ place_after self.now j (step (layer_at self.now.layers j) k choice) }
     {
-        let site = self.parts.edge_site(from, choice);
-        site.next + self.parts.edges[site.place]
+        edge_at(&self.layout(), from, choice)
     }
 
     /// The edges of node k of a layer, by choice: each is the number of a node within the next layer, or from the last layer
@@ -106,13 +112,12 @@ impl Graph {
         ensures each { (c : ℕ) → c < (layer_at self.now.layers layer).choices
             → slice_index result.now c ≡ step (layer_at self.now.layers layer) node c }
     {
-        let shape = self.parts.shapes[layer as usize];
-        row_at(shape, &self.parts.edges, node as usize)
+        row_of(&self.layout(), layer as usize, node as usize)
     }
 
     /// The graph of finished layers, for a caller that knows how many labels there are only once the last
-    /// layer is done. Without layers it leads to label 0. Linear in edges; takes 4 bytes for each edge,
-    /// 2 for each node and 24 for each layer.
+    /// layer is done. Without layers it leads to label 0. It has their edges in common with them. Linear in
+    /// nodes and layers; takes 2 bytes for each node and 40 for each layer.
     pub fn from_layers(
         alloc: Global,
         labels: u32,
@@ -124,7 +129,7 @@ impl Graph {
         ensures { IfOk result (λ g. g ≡ record { labels = labels; layers = map finished layers.now }) }
     {
         let parts = joined(alloc, labels, layers)?;
-        Ok(Graph::from_parts(parts))
+        Ok(Graph::from_shared(parts))
     }
 
     // The graph of these parts.
@@ -132,41 +137,43 @@ impl Graph {
         requires { IsGraph parts }
         ensures { result ≡ layered_of (lists_of parts) }
     {
-        Graph { parts }
+        Graph {
+            held: Held::Joined(parts),
+        }
     }
 
-    /// A copy of the graph. Linear in edges and nodes, as is the memory that it takes.
+    // The graph of these shared parts.
+    fn from_shared(parts: SharedParts) -> Graph
+        requires { IsSharedGraph parts }
+        ensures { result ≡ layered_of (lists_shared parts) }
+    {
+        Graph {
+            held: Held::Shared(parts),
+        }
+    }
+
+    /// A copy of the graph, which has its edges in common with it. Linear in nodes and layers, as is the memory that it
+    /// takes; linear in edges for a graph that a `GraphBuilder` made.
     pub fn copy(&self, alloc: Global) -> Result<Graph, Memory>
         ensures { IfOk result (λ g. g ≡ self.now) }
     {
-        Ok(Graph {
-            parts: GraphParts {
-                labels: self.parts.labels,
-                shapes: Vec::from_slice(alloc, &self.parts.shapes)?,
-                homes: Vec::from_slice(alloc, &self.parts.homes)?,
-                edges: Vec::from_slice(alloc, &self.parts.edges)?,
-            },
-        })
+        let parts = copied(alloc, &self.layout())?;
+        Ok(Graph::from_shared(parts))
     }
 
     /// Whether both graphs are the same, layer by layer and edge by edge. Linear in edges; takes no memory.
     pub fn same(&self, other: &Graph) -> bool
         ensures { result ≡ true → self.now ≡ other.now }
     {
-        if self.parts.labels != other.parts.labels {
-            return false;
-        }
-        if !same_shapes(&self.parts.shapes, &other.parts.shapes) {
-            return false;
-        }
-        same_edges(&self.parts.edges, &other.parts.edges)
+        let theirs = other.layout();
+        same_lists(&self.layout(), &theirs)
     }
 
     // How many nodes the graph has.
     pub(crate) fn node_total(&self) -> u32
         ensures { result ≡ node_total self.now }
     {
-        self.parts.homes.len() as u32
+        self.layout().homes.len() as u32
     }
 
     // The lists in which the graph lies.
@@ -174,8 +181,12 @@ impl Graph {
         ensures layered { layered_of (lists_in result) ≡ self.now }
         ensures whole { IsWhole (lists_in result) }
         ensures homes { AreHomes (lists_in result) result.homes.now }
+        ensures cut { IsCut result }
     {
-        self.parts.layout()
+        match &self.held {
+            Held::Joined(parts) => parts.layout(),
+            Held::Shared(parts) => parts.layout(),
+        }
     }
 
     // Marks the nodes that are reached, and behind them the labels, and notes by which edges.
@@ -225,12 +236,13 @@ impl Graph {
             (layer_at self.now.layers j).rows) }
     {
         let parts = folds.reduced(alloc, &self.layout())?;
-        Ok(Graph::from_parts(parts))
+        Ok(Graph::from_shared(parts))
     }
 
     /// The graph with so many labels in which each label is replaced by its name, `names[label]`. A graph
-    /// without layers has nothing to replace. Linear in edges; takes 4 bytes for each edge, 2 for each node
-    /// and 24 for each layer.
+    /// without layers has nothing to replace. The layers before the last have their edges in common with this
+    /// graph. Linear in nodes, layers and the edges of the last layer; takes 4 bytes for each of these edges, 2 for
+    /// each node and 40 for each layer.
     pub fn rename(&self, alloc: Global, labels: u32, names: &[u32]) -> Result<Graph, Memory>
         requires some { 0 < labels }
         requires count { length names.now ≡ self.now.labels }
@@ -244,7 +256,7 @@ impl Graph {
             (layer_at self.now.layers j).rows) }
     {
         let parts = renamed(alloc, &self.layout(), labels, names)?;
-        Ok(Graph::from_parts(parts))
+        Ok(Graph::from_shared(parts))
     }
 
     /// Whether the choice in a layer makes a difference: exactly where two lists of choices that differ in

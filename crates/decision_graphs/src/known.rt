@@ -7,6 +7,7 @@ ghost use Rattle.decision_graphs.specs.declared.known.Known.{Known as Layer};
 use crate::fold::{Folded, fold_layer};
 use crate::same::same_edges;
 use crate::shape::Shape;
+use crate::shared_numbers::{SharedNumbers, mixed};
 use ilk_base::Memory;
 use number_hash::{NumberHash, NumberMap};
 use std::alloc::Global;
@@ -15,17 +16,14 @@ use std::collections::HashMap;
 // So many edges of folded layers are held, and not many more.
 const MANY: usize = 4_000_000;
 
-// Of a list so many numbers are mixed into a hash, and less than twice as many.
-const MIXED: usize = 256;
-
 // A layer that was folded: how many choices and nodes it has, its edges, the classes of what came after it and how many
 // these are, and what it became.
 #[derive(Drop)]
 pub(crate) struct Known {
     pub(crate) choices: u32,
     pub(crate) nodes: u32,
-    pub(crate) edges: Vec<u32>,
-    pub(crate) next: Vec<u32>,
+    pub(crate) edges: SharedNumbers,
+    pub(crate) next: SharedNumbers,
     pub(crate) bound: u32,
     pub(crate) folded: Folded,
 }
@@ -46,31 +44,15 @@ pub(crate) struct KnownList {
 pub(crate) struct Lone<'a> {
     pub(crate) choices: u32,
     pub(crate) nodes: u32,
-    pub(crate) edges: &'a [u32],
-    pub(crate) next: &'a [u32],
+    pub(crate) edges: &'a SharedNumbers,
+    pub(crate) next: &'a SharedNumbers,
     pub(crate) bound: u32,
-}
-
-// Mixes a number into a hash.
-fn mixed(hash: u64, number: u64) -> u64 {
-    let sum = hash.rotate_left(5) ^ number;
-    sum.wrapping_mul(0x9e37_79b9_7f4a_7c15)
-}
-
-// Mixes the length of a list and some of its numbers, evenly spread, into a hash.
-fn mixed_list(hash: u64, list: &[u32]) -> u64 {
-    let step = list.len() / MIXED + 1;
-    let mut sum = mixed(hash, list.len() as u64);
-    for number in list.iter().step_by(step) {
-        sum = mixed(sum, u64::from(*number));
-    }
-    sum
 }
 
 // A hash of the layer: layers that are the same have the same one, and others mostly have others.
 fn hash_of(layer: &Lone<'_>) -> u64 {
     let counts = mixed(u64::from(layer.choices), u64::from(layer.bound));
-    mixed_list(mixed_list(counts, layer.edges), layer.next)
+    mixed(mixed(counts, layer.edges.hash()), layer.next.hash())
 }
 
 // Whether a known layer is the same, and what came after it was folded the same.
@@ -86,7 +68,8 @@ fn is_made_of(known: &Known, layer: &Lone<'_>) -> bool
     if known.bound != layer.bound {
         return false;
     }
-    same_edges(&known.edges, layer.edges) && same_edges(&known.next, layer.next)
+    same_edges(known.edges.as_slice(), layer.edges.as_slice())
+        && same_edges(known.next.as_slice(), layer.next.as_slice())
 }
 
 // The place, if a layer that is the same stands there.
@@ -119,21 +102,20 @@ fn find_known(
 }
 
 impl Folded {
-    // The same again.
-    fn copy(&self, alloc: Global) -> Result<Folded, Memory>
+    // The same, held by one owner more.
+    fn share(&self) -> Result<Folded, Memory>
         ensures { IfOk result (λ f. folding_of f ≡ folding_of self.now) }
     {
         Ok(Folded {
             count: self.count,
-            rows: Vec::from_slice(alloc, &self.rows)?,
-            classes: Vec::from_slice(alloc, &self.classes)?,
+            rows: self.rows.share()?,
+            classes: self.classes.share()?,
         })
     }
 }
 
 // The folding of a known layer that is the same, if there is one.
 fn known_fold(
-    alloc: Global,
     places: &NumberMap<u64, usize>,
     layers: &[Known],
     hash: u64,
@@ -144,7 +126,7 @@ fn known_fold(
 {
     match find_known(places, layers, hash, layer) {
         Some(place) => {
-            let copy = layers[place].folded.copy(alloc)?;
+            let copy = layers[place].folded.share()?;
             Ok(Some(copy))
         }
         None => Ok(None),
@@ -152,13 +134,13 @@ fn known_fold(
 }
 
 // A layer with its folding, to be known.
-fn known_of(alloc: Global, layer: &Lone<'_>, folded: &Folded) -> Result<Known, Memory>
+fn known_of(layer: &Lone<'_>, folded: &Folded) -> Result<Known, Memory>
     requires { IsFoldedAlone layer.now (folding_of folded.now) }
     ensures { IfOk result IsKnown }
 {
-    let edges = Vec::from_slice(alloc, layer.edges)?;
-    let next = Vec::from_slice(alloc, layer.next)?;
-    let copy = folded.copy(alloc)?;
+    let edges = layer.edges.share()?;
+    let next = layer.next.share()?;
+    let copy = folded.share()?;
     Ok(Known {
         choices: layer.choices,
         nodes: layer.nodes,
@@ -203,25 +185,19 @@ fn put_last(list: &mut KnownList, hash: u64, known: Known) -> Result<(), Memory>
     ensures { AreKnown list.new.layers.items }
 {
     let place = list.layers.len();
-    list.held = list.held.saturating_add(known.edges.len());
+    list.held = list.held.saturating_add(known.edges.as_slice().len());
     list.places.insert(hash, place)?;
     list.layers.push(known)?;
     Ok(())
 }
 
 // Makes the list know a layer that was folded.
-fn note(
-    alloc: Global,
-    list: &mut KnownList,
-    hash: u64,
-    layer: &Lone<'_>,
-    folded: &Folded,
-) -> Result<(), Memory>
+fn note(list: &mut KnownList, hash: u64, layer: &Lone<'_>, folded: &Folded) -> Result<(), Memory>
     requires list { AreKnown list.old.layers.items }
     requires folded { IsFoldedAlone layer.now (folding_of folded.now) }
     ensures { AreKnown list.new.layers.items }
 {
-    let known = known_of(alloc, layer, folded)?;
+    let known = known_of(layer, folded)?;
     forget_many(list);
     put_last(list, hash, known)
 }
@@ -237,7 +213,13 @@ fn fold_alone(alloc: Global, layer: &Lone<'_>) -> Result<Folded, Memory>
         first: 0,
         base: 0,
     };
-    fold_layer(alloc, shape, layer.edges, layer.next, layer.bound)
+    fold_layer(
+        alloc,
+        shape,
+        layer.edges.as_slice(),
+        layer.next.as_slice(),
+        layer.bound,
+    )
 }
 
 // The folding of a layer, which is noted and made only where none that is the same is known.
@@ -248,11 +230,11 @@ fn fold_noted(alloc: Global, list: &mut KnownList, layer: &Lone<'_>) -> Result<F
     ensures folded { IfOk result (λ f. IsFoldedAlone layer.now (folding_of f)) }
 {
     let hash = hash_of(layer);
-    if let Some(folded) = known_fold(alloc, &list.places, &list.layers, hash, layer)? {
+    if let Some(folded) = known_fold(&list.places, &list.layers, hash, layer)? {
         return Ok(folded);
     }
     let folded = fold_alone(alloc, layer)?;
-    note(alloc, list, hash, layer, &folded)?;
+    note(list, hash, layer, &folded)?;
     Ok(folded)
 }
 

@@ -4,7 +4,8 @@
 //! small graph answers a question over very many lists: which labels some list of allowed choices
 //! reaches, by which choices, and whether a layer makes a difference.
 //!
-//! Edges stand in one list of 4 bytes each, beside 2 bytes a node for its layer.
+//! An edge takes 4 bytes, and a node 2 for its layer. The edges of a layer lie in memory once for all graphs that
+//! have it.
 #![tactic(auto)]
 
 mod arrival;
@@ -29,6 +30,7 @@ mod rename;
 mod same;
 mod sets;
 mod shape;
+mod shared_numbers;
 
 pub use builder::{GraphBuilder, Unfinished};
 pub use choices::ChoiceList;
@@ -39,3 +41,4 @@ pub use laws::{reduced_nodes_are_apart, renamed_labels_lead_alike};
 pub use limits::{GRAPH_NODES, LABELS, LAYERS};
 pub use marks::Marks;
 pub use sets::ChoiceSets;
+pub use shared_numbers::SharedNumbers;

@@ -7,7 +7,7 @@ ghost use Rattle.graph_products.specs.declared.product.ProductTrouble.TheVariant
 use crate::layer::next_layer;
 use crate::pair::Pair;
 use crate::row::Row;
-use decision_graphs::{FinishedLayer, Graph};
+use decision_graphs::{FinishedLayer, Graph, SharedNumbers};
 use ilk_base::Memory;
 use std::alloc::{AllocError, AllocFailed, Global};
 
@@ -117,10 +117,11 @@ pub fn product_of(
         }
         left -= nodes * choices;
         let made = next_layer(alloc, first, second, j as u16, rows, held)?;
+        let edges = SharedNumbers::new(alloc, made.edges)?;
         let layer = FinishedLayer {
             choices: choices as u32,
             nodes: nodes as u32,
-            edges: made.edges,
+            edges,
         };
         layers.push(layer)?;
         states = made.next;

@@ -65,7 +65,7 @@ known_stays p q g l h = record {
   next = h.next;
   key = key_stays p q g h.states h.row l.key.keep l.key h.key;
   listed = g.letters l.next h.next h.listed;
-  leads = leads_grown p q l.key.keep h.states h.row h.next l.edges.items g h.leads;
+  leads = leads_grown p q l.key.keep h.states h.row h.next l.edges g h.leads;
 }
 
 pub layers_stay : (p q : Pool) → Grows p q → (layers : List KnownLayer) → AreKnown p layers → AreKnown q layers
@@ -85,7 +85,7 @@ layers_none p layers e i l at =
 -- a layer that is made of the same lists leads as that one did
 pub leads_again : (p : Pool) (l : KnownLayer) (k : LayerKey) (states row next edges : List ℕ) (keep : ℕ) →
     IsKnown p l → SameKey l.key k → IsKeyOf p states row keep k → slice_get (letter_lists p) l.next ≡ Some next →
-    edges ≡ l.edges.items → LeadsOn p keep states row next edges
+    edges ≡ l.edges → LeadsOn p keep states row next edges
 leads_again p l k states row next edges keep known same key at_next is_edges =
     let lists = letter_lists p in
     let is_states : known.states ≡ states =

@@ -130,7 +130,7 @@ pub record IsKnown (p : Pool) (l : KnownLayer) : Type 0 where
   pub next : List ℕ
   pub key : IsKeyOf p states row l.key.keep l.key
   pub listed : slice_get (letter_lists p) l.next ≡ Some next
-  pub leads : LeadsOn p l.key.keep states row next l.edges.items
+  pub leads : LeadsOn p l.key.keep states row next l.edges
 
 -- Each layer that is known is so.
 abbrev pub AreKnown : Pool → List KnownLayer → Type 0

@@ -1,4 +1,5 @@
 //! Layers that were made, each known by what it was made of.
+use decision_graphs::SharedNumbers;
 
 // What a layer was made of: the number of the list of the states before it, that of the list of its letters, and that
 // of the nodes that are kept behind it.
@@ -14,7 +15,7 @@ pub(crate) struct LayerKey {
 pub(crate) struct KnownLayer {
     pub(crate) key: LayerKey,
     pub(crate) next: usize,
-    pub(crate) edges: Vec<u32>,
+    pub(crate) edges: SharedNumbers,
 }
 
 // From a layer on: the states to which it leads, the number of their list, and its edges.
@@ -22,5 +23,5 @@ pub(crate) struct KnownLayer {
 pub(crate) struct KnownStep {
     pub(crate) next: Vec<usize>,
     pub(crate) number: usize,
-    pub(crate) edges: Vec<u32>,
+    pub(crate) edges: SharedNumbers,
 }

@@ -10,9 +10,10 @@ ghost use Rattle.judge_pool.specs.declared.layer.Trouble.TheVariants.{Wide};
 ghost use Rattle.judge_pool.specs.declared.limits.TheConstants.{ALL_EDGES};
 
 use crate::known::{KnownLayer, KnownStep, LayerKey};
-use crate::layer::{Step, Trouble, next_layer};
+use crate::layer::{Trouble, next_layer};
 use crate::lists::{list_at, widened};
 use crate::pool::Pool;
+use decision_graphs::SharedNumbers;
 use ilk_base::Memory;
 use number_hash::NumberMap;
 use std::alloc::Global;
@@ -63,16 +64,16 @@ fn step_again(
     alloc: Global,
     next: &[u32],
     number: usize,
-    edges: &[u32],
+    edges: &SharedNumbers,
 ) -> Result<KnownStep, Memory>
     ensures next { IfOk result (λ s. s.next.items ≡ next.now) }
     ensures number { IfOk result (λ s. s.number ≡ number) }
-    ensures edges { IfOk result (λ s. s.edges.items ≡ edges.now) }
+    ensures edges { IfOk result (λ s. s.edges ≡ edges.now) }
 {
     Ok(KnownStep {
         next: widened(alloc, next)?,
         number,
-        edges: Vec::from_slice(alloc, edges)?,
+        edges: edges.share()?,
     })
 }
 
@@ -85,7 +86,7 @@ impl Pool {
             slice_get (letter_lists self.now) l.next ≡ Some s.next.items) }
         ensures noted { IfOk result (λ s. slice_get (letter_lists self.now) s.number ≡ Some s.next.items) }
         ensures edges { IfOk result (λ s. (l : Known) → slice_get self.now.layers.items place ≡ Some l →
-            s.edges.items ≡ l.edges.items) }
+            s.edges ≡ l.edges) }
     {
         let layer = &self.layers[place];
         let lists = self.letters.as_slice();
@@ -95,15 +96,21 @@ impl Pool {
     }
 
     // Remembers a layer, so that it is not made again. It is the number of the list of the states to which it leads.
-    fn note_layer(&mut self, alloc: Global, key: LayerKey, step: &Step) -> Result<usize, Memory>
+    fn note_layer(
+        &mut self,
+        alloc: Global,
+        key: LayerKey,
+        next: &[usize],
+        edges: &SharedNumbers,
+    ) -> Result<usize, Memory>
         requires pool { IsPool self.old }
         requires leads { (states : List ℕ) × ((row : List ℕ) × IsKeyOf self.old states row key.keep key
-            × LeadsOn self.old key.keep states row step.now.next.items step.now.edges.items) }
+            × LeadsOn self.old key.keep states row next.now edges.now) }
         ensures grew { OnOk result (GrewTo self.old self.new) }
-        ensures noted { IfOk result (λ n. slice_get (letter_lists self.new) n ≡ Some step.now.next.items) }
+        ensures noted { IfOk result (λ n. slice_get (letter_lists self.new) n ≡ Some next.now) }
     {
-        let next = self.note_letters(alloc, &step.next)?;
-        let edges = Vec::from_slice(alloc, &step.edges)?;
+        let next = self.note_letters(alloc, next)?;
+        let edges = edges.share()?;
         let place = self.layers.len();
         self.layer_places.insert(key, place)?;
         self.layers.push(KnownLayer { key, next, edges })?;
@@ -132,7 +139,7 @@ impl Pool {
         ensures few { IfOk result (λ s. length s.next.items ≤ length states.now * length row.now) }
         ensures noted { IfOk result (λ s. slice_get (letter_lists self.new) s.number ≡ Some s.next.items) }
         ensures edges { IfOk result (λ s. (nodes : List ℕ) → slice_get self.old.keeps.items key.keep ≡ Some nodes
-            → AreEdges self.new.view self.new.values.items nodes states.now row.now s.next.items s.edges.items
+            → AreEdges self.new.view self.new.values.items nodes states.now row.now s.next.items s.edges
             (length states.now * length row.now)) }
         ensures wide { IfErr result (λ e. e ≡ Wide → (nodes : List ℕ) →
             slice_get self.old.keeps.items key.keep ≡ Some nodes
@@ -140,11 +147,12 @@ impl Pool {
             (values_at self.old.values.items row.now) most) }
     {
         let step = next_layer(alloc, self, states, row, key.keep, most)?;
-        let number = self.note_layer(alloc, key, &step)?;
+        let edges = SharedNumbers::new(alloc, step.edges)?;
+        let number = self.note_layer(alloc, key, &step.next, &edges)?;
         Ok(KnownStep {
             next: step.next,
             number,
-            edges: step.edges,
+            edges,
         })
     }
 }
@@ -172,7 +180,7 @@ pub(crate) fn step_from(
     ensures few { IfOk result (λ s. length s.next.items ≤ length states.now * length row.now) }
     ensures noted { IfOk result (λ s. slice_get (letter_lists pool.new) s.number ≡ Some s.next.items) }
     ensures edges { IfOk result (λ s. (nodes : List ℕ) → slice_get pool.old.keeps.items key.keep ≡ Some nodes
-        → AreEdges pool.new.view pool.new.values.items nodes states.now row.now s.next.items s.edges.items
+        → AreEdges pool.new.view pool.new.values.items nodes states.now row.now s.next.items s.edges
         (length states.now * length row.now)) }
     ensures wide { IfErr result (λ e. e ≡ Wide → (nodes : List ℕ) → slice_get pool.old.keeps.items key.keep ≡ Some nodes
         → ReachesMore pool.old.view nodes (values_at pool.old.values.items states.now)

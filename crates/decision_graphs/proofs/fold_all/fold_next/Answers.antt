@@ -1,4 +1,4 @@
-use Rattle.std.proofs.Common.{◌≡◌, ℕ, ◌<◌, ◌-◌, suc, length, slice_index, List, map, ap, sym, subst, arith}
+use Rattle.std.proofs.Common.{◌≡◌, ℕ, ◌<◌, ◌-◌, suc, length, slice_index, map, ap, sym, subst, arith}
 use Rattle.std.proofs.lemmas.List.{length-map}
 use Rattle.decision_graphs.specs.Shapes.{size_of, shape_at}
 use Rattle.decision_graphs.specs.Folding.{Folding, IsFoldedAt}
@@ -23,18 +23,17 @@ fold_once-requires-clause-layer c =
     let in_top = λ (i : ℕ). stack_in g fs (length stack - 1) i c.requires.stack (omega (arith, lt, len)) in
     let in_below = subst (λ (f : Folding). (i : ℕ) → i < length f.classes → slice_index f.classes i < f.count) read in_top in
     record {
-      fits = omega (arith, c.edges_of.ensures.len);
+      fits = omega (arith, c.in_ok-edges.ensures.len);
       choice = (c.requires.whole.laid.stands c.args.layer within).choices;
       leads = λ k b node choice. omega (
         arith,
-        edge_alone (shape_at g c.args.layer) c.edges_of.result.now g.edges c.edges_of.ensures.each k b node choice,
+        edge_alone (shape_at g c.args.layer) c.in_ok-edges.edges g.edges c.in_ok-edges.ensures.each k b node choice,
         c.requires.whole.edges c.args.layer k b within node choice,
         top,
         ap (λ n. size_of g n) here,
         ap (λ (f : Folding). length f.classes) read,
-        ap (λ (xs : List ℕ). length xs) c.deref.ensures.value,
       );
-      next = λ t in_next. rw c.deref.ensures.value (in_below t (rw c.deref.ensures.value at in_next));
+      next = in_below;
     }
 
 pub returns-clause-folded : goal.returns-clause-folded
@@ -44,10 +43,7 @@ returns-clause-folded c =
     let len = length-map stack folding_of in
     let lt : length stack - 1 < length stack = omega (arith, len, c.requires.stack.some) in
     let read = folding_read stack (length stack - 1) c.index-stack-stack.result lt c.index-stack-stack.is in
-    let alone = subst (λ (xs : List ℕ). IsFoldedAt g c.args.layer
-    (record { count = c.index-stack-stack.result.count; rows = c.index-stack-stack.result.rows.items; classes = xs })
-    (folding_of c.in_ok-folded.folded)) c.deref.ensures.value
-    (folded_among (shape_at g c.args.layer) c.edges_of.result.now g.edges c.deref.result.now
-    c.index-stack-stack.result.count (folding_of c.in_ok-folded.folded) c.edges_of.ensures.each
-    c.in_ok-folded.ensures.folded) in
+    let alone = folded_among (shape_at g c.args.layer) c.in_ok-edges.edges g.edges c.index-stack-stack.result.classes
+    c.index-stack-stack.result.count (folding_of c.in_ok-folded.folded) c.in_ok-edges.ensures.each
+    c.in_ok-folded.ensures.folded in
     subst (λ (f : Folding). IsFoldedAt g c.args.layer f (folding_of c.in_ok-folded.folded)) (sym read) alone

@@ -88,7 +88,7 @@ steps-preserved c =
     let rows : List Row = c.as_slice-rows.result.now in
     let states : List Pair = c.steps.states.items in
     let next : List Pair = c.in_ok-made.made.next.items in
-    let edges : List ℕ = c.in_ok-made.made.edges.items in
+    let edges : List ℕ = c.in_ok-edges.edges in
     let lt : j < length rss = omega (arith, length-rows c.args.steps.now, c.steps-test.true) in
     let at0 : slice_get c.args.steps.now j ≡ Some c.index-steps-j.result =
     slice_get_read c.args.steps.now _ j c.index-steps-j.result refl c.steps-test.true c.index-steps-j.is in
@@ -100,7 +100,8 @@ steps-preserved c =
     let m : Layer = layer_at h.layers j in
     let e0 : AreEdges l m states rows next edges (length states * length rows) =
     subst (λ xs. AreEdges l m xs rows next edges (length xs * length rows)) c.as_slice-held.ensures.value
-    c.in_ok-made.ensures.edges in
+    (subst (λ es. AreEdges l m c.as_slice-held.result.now rows next es (length c.as_slice-held.result.now * length rows))
+    (sym c.in_ok-edges.ensures) c.in_ok-made.ensures.edges) in
     let e : AreEdges l m states (rows_at rss j) next edges (length states * length (rows_at rss j)) =
     subst (λ rs. AreEdges l m states rs next edges (length states * length rs)) (sym rows_is) e0 in
     let count : length c.as_slice-held.result.now ≡ length states = ap length c.as_slice-held.ensures.value in
@@ -110,7 +111,7 @@ steps-preserved c =
     let layer : FinishedLayer = record {
       choices = (length rows);
       nodes = (length c.as_slice-held.result.now);
-      edges = c.in_ok-made.made.edges;
+      edges = c.in_ok-edges.edges;
     } in
     let some_row : 0 < length rows =
     subst (λ (rs : List Row). 0 < length rs) rows_is (c.requires.steps.rows j lt).some in

@@ -494,7 +494,7 @@ layers-preserved c =
     let inv = c.layers.invariant in
     let states : List ℕ = c.layers.states.items in
     let next : List ℕ = c.in_ok-step.step.next.items in
-    let edges : List ℕ = c.in_ok-step.step.edges.items in
+    let edges : List ℕ = c.in_ok-step.step.edges in
     let len : length letters ≡ length c.args.letters.now =
     length-map c.args.letters.now (λ (v : Vec ℕ Global). v.items) in
     let h = c.in_ok-lying.ensures.grew in

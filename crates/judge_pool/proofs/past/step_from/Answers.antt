@@ -27,7 +27,7 @@ returns-in_ok-step-in-Some-clause-few c =
     let at : slice_get p.layers.items c.in-Some.place ≡ Some l =
     ap (λ (ls : List KnownLayer). slice_get ls c.in-Some.place) (sym c.deref.ensures.value) ∙ found.1 in
     let step = c.in_ok-step-in-Some.step in
-    let leads = leads_again p l c.args.key c.args.states.now c.args.row.now step.next.items step.edges.items
+    let leads = leads_again p l c.args.key c.args.states.now c.args.row.now step.next.items step.edges
     c.args.key.keep (c.requires.pool.layers c.in-Some.place l at) found.2 c.requires.key
     (c.in_ok-step-in-Some.ensures.next l at) (c.in_ok-step-in-Some.ensures.edges l at) in
     leads.few
@@ -40,9 +40,9 @@ returns-in_ok-step-in-Some-clause-edges c nodes at_nodes =
     let at : slice_get p.layers.items c.in-Some.place ≡ Some l =
     ap (λ (ls : List KnownLayer). slice_get ls c.in-Some.place) (sym c.deref.ensures.value) ∙ found.1 in
     let step = c.in_ok-step-in-Some.step in
-    let leads = leads_again p l c.args.key c.args.states.now c.args.row.now step.next.items step.edges.items
+    let leads = leads_again p l c.args.key c.args.states.now c.args.row.now step.next.items step.edges
     c.args.key.keep (c.requires.pool.layers c.in-Some.place l at) found.2 c.requires.key
     (c.in_ok-step-in-Some.ensures.next l at) (c.in_ok-step-in-Some.ensures.edges l at) in
-    subst (λ ns. AreEdges p.view p.values.items ns c.args.states.now c.args.row.now step.next.items step.edges.items
+    subst (λ ns. AreEdges p.view p.values.items ns c.args.states.now c.args.row.now step.next.items step.edges
     (length c.args.states.now * length c.args.row.now)) (same_Some leads.nodes nodes (sym leads.kept ∙ at_nodes))
     leads.edges_lead

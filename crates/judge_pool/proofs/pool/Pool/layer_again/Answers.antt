@@ -36,8 +36,7 @@ returns-clause-edges c l at_l =
     let layer : KnownLayer = c.index-layer.result.now in
     let at : slice_get p.layers.items c.args.place ≡ Some layer =
     slice_get_read p.layers.items _ c.args.place layer refl c.requires.place c.index-layer.ensures in
-    c.in_ok-step.ensures.edges ∙ (c.deref.ensures.value
-    ∙ ap (λ (k : KnownLayer). k.edges.items) (same_Some layer l (sym at ∙ at_l)))
+    c.in_ok-step.ensures.edges ∙ ap (λ (k : KnownLayer). k.edges) (same_Some layer l (sym at ∙ at_l))
 
 pub returns-clause-noted : goal.returns-clause-noted
 returns-clause-noted c =

@@ -1,6 +1,6 @@
 use Rattle.std.proofs.Common.{◌≡◌, ◌*◌, List, ℕ, [], Some, length, slice_get, get_or, sym, subst}
 use Rattle.std.proofs.lemmas.Option.{slice_get-get_or}
-use Rattle.judge_pool.specs.Pooling.{AreEdges}
+use Rattle.judge_pool.specs.Pooling.{AreEdges, LeadsOn}
 use Rattle.judge_pool.proofs.LayeringLemmas.{grows, grew_more}
 use Rattle.judge_pool.proofs.PastLemmas.{key_stays, edges_grown}
 use Rattle.judge_pool.proofs.pool.Pool.new_layer.Goals as goal
@@ -10,6 +10,7 @@ note_layer-requires-clause-leads c =
     let p = c.args.self.now in
     let q = c.next_layer.new.pool in
     let g = c.in_ok-step.ensures.grew in
+    let step = c.in_ok-step.step in
     let k = c.args.key in
     let nodes : List ℕ = get_or p.keeps.items k.keep [] in
     let at : slice_get p.keeps.items k.keep ≡ Some nodes = slice_get-get_or p.keeps.items k.keep [] c.requires.keep in (
@@ -17,12 +18,15 @@ note_layer-requires-clause-leads c =
       (
         c.args.row.now,
         key_stays p q (grows p q g) c.args.states.now c.args.row.now k.keep k c.requires.key,
-        record {
-          nodes = nodes;
-          kept = g.keeps k.keep nodes at;
-          few = c.in_ok-step.ensures.few;
-          edges_lead = c.in_ok-step.ensures.edges nodes at;
-        },
+        subst (λ ns. LeadsOn q k.keep c.args.states.now c.args.row.now ns c.in_ok-edges.edges)
+            (sym c.deref.ensures.value)
+            (subst (λ es. LeadsOn q k.keep c.args.states.now c.args.row.now step.next.items es) (sym c.in_ok-edges.ensures)
+            (record {
+              nodes = nodes;
+              kept = g.keeps k.keep nodes at;
+              few = c.in_ok-step.ensures.few;
+              edges_lead = c.in_ok-step.ensures.edges nodes at;
+            })),
       ),
     )
 
@@ -39,7 +43,9 @@ returns-clause-edges c nodes at =
     let states = c.args.states.now in
     let row = c.args.row.now in
     let step = c.in_ok-step.step in
-    subst (λ v. AreEdges v r.values.items nodes states row step.next.items step.edges.items
+    subst (λ es. AreEdges r.view r.values.items nodes states row step.next.items es (length states * length row))
+    (sym c.in_ok-edges.ensures)
+    (subst (λ v. AreEdges v r.values.items nodes states row step.next.items step.edges.items
     (length states * length row)) (sym g.view)
     (edges_grown q.view q.values.items r.values.items nodes states row step.next.items step.edges.items
-    (length states * length row) g.values (c.in_ok-step.ensures.edges nodes at))
+    (length states * length row) g.values (c.in_ok-step.ensures.edges nodes at)))

@@ -1,4 +1,4 @@
-use Rattle.std.proofs.Common.{◌≡◌, List, ℕ, Some, slice_get, refl, sym, ap, ◌∙◌, subst}
+use Rattle.std.proofs.Common.{◌≡◌, List, ℕ, Some, slice_get, refl, sym, subst}
 use Rattle.judge_pool.specs.declared.known.KnownLayer.{KnownLayer}
 use Rattle.judge_pool.specs.declared.pool.Pool.{Pool}
 use Rattle.judge_pool.specs.Numbered.{letter_lists}
@@ -19,13 +19,12 @@ returns-clause-grew c =
     let w = c.requires.leads in
     let states : List ℕ = w.0 in
     let row : List ℕ = w.1.0 in
-    let next : List ℕ = c.args.step.now.next.items in
-    let edges : List ℕ = c.args.step.now.edges.items in
+    let next : List ℕ = c.args.next.now in
+    let edges : List ℕ = c.args.edges.now in
     let new : KnownLayer = record { key = k; next = c.in_ok-next.next; edges = c.in_ok-edges.edges } in
-    let same : c.in_ok-edges.edges.items ≡ edges = c.in_ok-edges.ensures.items ∙ c.deref-2.ensures.value in
-    let listed : slice_get (letter_lists q) c.in_ok-next.next ≡ Some next =
-    c.in_ok-next.ensures.noted ∙ ap Some c.deref.ensures.value in
-    let leads : LeadsOn q k.keep states row next c.in_ok-edges.edges.items =
+    let same : c.in_ok-edges.edges ≡ edges = c.in_ok-edges.ensures in
+    let listed : slice_get (letter_lists q) c.in_ok-next.next ≡ Some next = c.in_ok-next.ensures.noted in
+    let leads : LeadsOn q k.keep states row next c.in_ok-edges.edges =
     subst (λ es. LeadsOn q k.keep states row next es) (sym same)
     (leads_grown p q k.keep states row next edges (grows p q h) w.1.2) in
     let known : IsKnown q new = record {
@@ -58,4 +57,4 @@ returns-clause-grew c =
     }) g)
 
 pub returns-clause-noted : goal.returns-clause-noted
-returns-clause-noted c = c.in_ok-next.ensures.noted ∙ ap Some c.deref.ensures.value
+returns-clause-noted c = c.in_ok-next.ensures.noted
