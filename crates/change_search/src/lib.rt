@@ -5,6 +5,7 @@
 mod allow;
 mod free;
 mod law;
+mod limits;
 mod part;
 mod search;
 mod telling;
@@ -13,6 +14,7 @@ mod width;
 pub use allow::free_steps_allow;
 pub use free::free_steps;
 pub use law::labels_tell_changes;
+pub use limits::{ALL_WALK_EDGES, WALK_EDGES, walk_limit};
 pub use part::{Reached, Shown, find_part};
 pub use search::find_change;
 pub use telling::{answer, tells};

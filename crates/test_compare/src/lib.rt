@@ -8,6 +8,8 @@ mod labels;
 #[cfg(test)]
 mod like;
 #[cfg(test)]
+mod limits;
+#[cfg(test)]
 mod steps;
 #[cfg(test)]
 mod texts;
