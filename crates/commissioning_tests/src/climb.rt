@@ -1,17 +1,10 @@
 //! The search for a position in which many switches turn the operations of one: from one position switches are flipped
 //! while more turn. What is found is a guess, for which any position would do.
 
-use crate::paths::{Paths, Released, number_at};
+use crate::flips::{NOTHING, Sweep, Worth};
+use crate::paths::{Paths, number_at};
 use ilk_base::Memory;
 use std::alloc::Global;
-
-// What it counts that the switch of a layer turns opening, and closing; 0 where that is shown already.
-#[derive(Clone, Copy)]
-pub(crate) struct Worth {
-    pub(crate) layer: u16,
-    pub(crate) open: u32,
-    pub(crate) close: u32,
-}
 
 // Whether the switch of a layer is closed.
 fn is_closed(closed: &[bool], layer: u16) -> bool {
@@ -49,42 +42,32 @@ fn label_of(paths: &Paths, way: &[u32]) -> u32 {
     number_at(way, usize::from(paths.layers()))
 }
 
-// The label to which they lead with that of one layer flipped: it is the same once both ways meet.
-fn flipped_label(paths: &Paths, closed: &[bool], way: &[u32], flipped: u16) -> u32 {
-    let mut node = number_at(way, usize::from(flipped));
-    for layer in flipped..paths.layers() {
-        if layer != flipped && node == number_at(way, usize::from(layer)) {
-            return label_of(paths, way);
-        }
-        node = paths.next(node, is_closed(closed, layer) != (layer == flipped));
+// What it is worth that the switch of a layer turns the operations.
+fn worth_at(worths: &[Worth], layer: u16) -> Worth {
+    if usize::from(layer) < worths.len() {
+        worths[usize::from(layer)]
+    } else {
+        NOTHING
     }
-    node
 }
 
-// What it is worth that these turn.
-fn turned_worth(base: Released, other: Released, worth: Worth) -> u32 {
-    let open = if base.open == other.open {
-        0
-    } else {
-        worth.open
-    };
-    let close = if base.close == other.close {
-        0
-    } else {
-        worth.close
-    };
-    open.saturating_add(close)
-}
-
-// What the choices are worth whose way this is.
-fn total_worth(paths: &Paths, worths: &[Worth], closed: &[bool], way: &[u32]) -> u32 {
-    let base = paths.told(label_of(paths, way));
-    let mut sum = 0u32;
-    for k in 0..worths.len() {
-        let other = paths.told(flipped_label(paths, closed, way, worths[k].layer));
-        sum = sum.saturating_add(turned_worth(base, other, worths[k]));
+// What the choices are worth whose way this is: the flips of all layers are followed at once.
+fn total_worth(
+    paths: &Paths,
+    worths: &[Worth],
+    closed: &[bool],
+    way: &[u32],
+    sweep: &mut Sweep,
+) -> u32 {
+    sweep.clear();
+    for layer in 0..paths.layers() {
+        let here = number_at(way, usize::from(layer));
+        let next = number_at(way, usize::from(layer) + 1);
+        let choice = is_closed(closed, layer);
+        sweep.pass(paths, choice, next);
+        sweep.add(paths.next(here, !choice), next, worth_at(worths, layer));
     }
-    sum
+    sweep.turned(paths, label_of(paths, way))
 }
 
 // Flips the switch of a layer, and mends the way.
@@ -102,11 +85,12 @@ fn try_flip(
     worths: &[Worth],
     closed: &mut Vec<bool>,
     way: &mut Vec<u32>,
+    sweep: &mut Sweep,
     layer: u16,
     worth: u32,
 ) -> u32 {
     flip(paths, closed, way, layer);
-    let flipped = total_worth(paths, worths, closed, way);
+    let flipped = total_worth(paths, worths, closed, way, sweep);
     if worth < flipped {
         return flipped;
     }
@@ -122,9 +106,10 @@ pub(crate) fn climb(
     closed: &mut Vec<bool>,
 ) -> Result<(), Memory> {
     let mut way = way_of(alloc, paths, closed)?;
-    let mut worth = total_worth(paths, worths, closed, &way);
+    let mut sweep = Sweep::new(alloc, paths)?;
+    let mut worth = total_worth(paths, worths, closed, &way, &mut sweep);
     for layer in 0..paths.layers() {
-        worth = try_flip(paths, worths, closed, &mut way, layer, worth);
+        worth = try_flip(paths, worths, closed, &mut way, &mut sweep, layer, worth);
     }
     Ok(())
 }

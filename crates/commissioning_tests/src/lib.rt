@@ -10,6 +10,7 @@ mod climb;
 mod cover;
 mod cover_bay;
 mod depends;
+mod flips;
 mod laws;
 mod leads;
 mod lists;

@@ -104,6 +104,11 @@ impl Paths {
         self.layers
     }
 
+    // How many nodes there are.
+    pub(crate) fn nodes(&self) -> usize {
+        self.opened.len()
+    }
+
     // Where a node leads: to a node, or from the last layer to a label.
     pub(crate) fn next(&self, node: u32, closed: bool) -> u32 {
         let targets = if closed { &self.closed } else { &self.opened };

@@ -2,7 +2,8 @@
 ghost use Rattle.std.specs.Prelude.{IfOk};
 ghost use Rattle.station_graph.specs.Alike.{IsVector};
 
-use crate::climb::{Worth, climb};
+use crate::climb::climb;
+use crate::flips::{NOTHING, Worth};
 use crate::shown::is_turn_shown;
 use crate::stands::is_moved;
 use crate::values::TestPosition;
@@ -46,27 +47,27 @@ fn worth_of(positions: &[TestPosition], k: usize, switch: SwitchId, kept: bool) 
     }
 }
 
-// What a moved switch is worth.
-fn push_worth(
+// Writes what a moved switch is worth.
+fn put_worth(
     walked: &OperationWalk<'_>,
     positions: &[TestPosition],
     switch: SwitchId,
     kept: SwitchId,
     worths: &mut Vec<Worth>,
-) -> Result<(), Memory> {
+) {
     if let Some(layer) = layer_of(walked.steps, walked.place, switch.0) {
         let is_kept = switch.0 == kept.0;
-        let worth = Worth {
-            layer,
-            open: worth_of(positions, walked.opening, switch, is_kept),
-            close: worth_of(positions, walked.opening.saturating_add(1), switch, is_kept),
-        };
-        worths.push(worth)?;
+        let place = usize::from(layer);
+        if place < worths.len() {
+            worths[place] = Worth {
+                open: worth_of(positions, walked.opening, switch, is_kept),
+                close: worth_of(positions, walked.opening.saturating_add(1), switch, is_kept),
+            };
+        }
     }
-    Ok(())
 }
 
-// What each moved switch is worth.
+// For each layer what its switch is worth, if it is a moved one.
 fn worths(
     alloc: Global,
     walked: &OperationWalk<'_>,
@@ -74,9 +75,10 @@ fn worths(
     kept: SwitchId,
 ) -> Result<Vec<Worth>, Memory> {
     let mut worths = Vec::new(alloc);
+    worths.resize(usize::from(walked.paths.layers()), NOTHING)?;
     for s in 0..walked.station.switch_count() {
         if is_moved(walked.stands, s) {
-            push_worth(walked, positions, SwitchId(s), kept, &mut worths)?;
+            put_worth(walked, positions, SwitchId(s), kept, &mut worths);
         }
     }
     Ok(worths)
