@@ -1,5 +1,5 @@
 -- The tests of a station: of bays that are like each other the first is tested.
-use Rattle.std.specs.Prelude.{◌≡◌, ◌⊎◌, ℕ, ◌<◌, List, Some, length, slice_get, map}
+use Rattle.std.specs.Prelude.{◌≡◌, ◌⊎◌, ◌==◌, ℕ, ◌<◌, List, Some, length, slice_get, slice_index, map, count_by}
 use Rattle.std.specs.List.{range_with_len}
 use Rattle.station_graph.specs.Diagram.{Diagram, part_count}
 use Rattle.central_rules.specs.Meaning.{IsBay}
@@ -27,6 +27,10 @@ pub record AreLeads (d : Diagram) (leads : List ℕ) : Type 0 where
 -- The part is a bay that has tests of its own.
 abbrev pub IsTested : Diagram → List ℕ → ℕ → Type 0
 IsTested d leads p = IsBay d p × LeadsItself leads p
+
+-- How many switches such bays have.
+abbrev pub tested_switches : Diagram → List ℕ → ℕ
+tested_switches d leads = count_by (λ x. slice_index leads x.bay.0 == x.bay.0) d.switches
 
 -- The part is a later bay whose tests are those of this one.
 abbrev pub IsLater : Diagram → List ℕ → ℕ → ℕ → Type 0

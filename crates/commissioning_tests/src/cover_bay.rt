@@ -5,13 +5,13 @@ ghost use Rattle.step_graphs.specs.Steps.{TakesIn};
 ghost use Rattle.station_joints.specs.Joined.{HaveJointSteps};
 ghost use Rattle.dependence_search.specs.RuleWalks.{AreRuleStocks, IsRuleWalk};
 ghost use Rattle.dependence_search.specs.Width.{IsNarrow, IsTooWide};
-ghost use Rattle.judge_pool.specs.declared.limits.TheConstants.{BAY_EDGES};
 ghost use Rattle.judge_pool.specs.declared.layer.Trouble.TheVariants.{Wide};
 ghost use Rattle.commissioning_tests.specs.Answering.{ArePositions};
 ghost use Rattle.commissioning_tests.specs.Growing.{AreOperations, AreMore, AreCovered, IsCovered};
 ghost use Rattle.release_dependence.specs.Operations.{opening, closing};
 ghost use Rattle.commissioning_tests.specs.Listed.{operations_from};
 ghost use Rattle.commissioning_tests.specs.Refusing.{AllAreNarrow, SomeIsTooWide};
+ghost use Rattle.judge_pool.specs.declared.limits.TheConstants.{BAY_EDGES};
 
 use crate::cover::cover_operation;
 use crate::paths::paths_of;
@@ -20,7 +20,7 @@ use crate::walked::OperationWalk;
 use dependence_search::{RuleStocks, released_graph, rule_stocks, rule_walk};
 use graph_walks::Walk;
 use ilk_base::{Direction, Memory, Op, SwitchId};
-use judge_pool::{BAY_EDGES, Trouble};
+use judge_pool::Trouble;
 use station_graph::Station;
 use station_joints::JointSteps;
 use std::alloc::Global;
@@ -82,8 +82,8 @@ fn cover_both(
     Ok(())
 }
 
-// Adds positions that show all of the two operations of a switch, the first of which has this number, where its walk is
-// narrow.
+// Adds positions that show all of the two operations of a switch, the first of which has this number, where its walk has
+// no more edges than the limit.
 fn cover_switch(
     alloc: Global,
     stocks: &mut RuleStocks,
@@ -93,8 +93,10 @@ fn cover_switch(
     stands: &[u16],
     switch: SwitchId,
     number: usize,
+    limit: usize,
     positions: &mut Vec<TestPosition>,
 ) -> Result<(), Trouble>
+    requires limit { limit ≤ BAY_EDGES }
     requires steps { HaveJointSteps station.now station.now steps.now }
     requires some { 1 < length steps.now.old_steps.items }
     requires stocks { AreRuleStocks station.now steps.now.old_steps.items stocks.old }
@@ -108,9 +110,9 @@ fn cover_switch(
     ensures more { OnOk result (AreMore station.now operations.now positions.old.items positions.new.items) }
     ensures opening { OnOk result (IsCovered station.now operations.now stands.now positions.new.items number) }
     ensures closing { OnOk result (IsCovered station.now operations.now stands.now positions.new.items (number + 1)) }
-    ensures narrow { IfOk result (λ _. IsNarrow station.now steps.now.old_steps.items switch.0 BAY_EDGES) }
+    ensures narrow { IfOk result (λ _. IsNarrow station.now steps.now.old_steps.items switch.0 limit) }
     ensures wide { IfErr result (λ e. e ≡ Wide
-        → IsTooWide station.now steps.now.old_steps.items switch.0 BAY_EDGES) }
+        → IsTooWide station.now steps.now.old_steps.items switch.0 limit) }
 {
     let place = steps.old_places[usize::from(switch.0)];
     let walk = rule_walk(
@@ -120,7 +122,7 @@ fn cover_switch(
         &steps.old_steps,
         place,
         switch,
-        BAY_EDGES,
+        limit,
     )?;
     cover_both(
         alloc, station, steps, operations, stands, &walk, place, switch, number, positions,
@@ -138,6 +140,7 @@ fn cover_with(
     stands: &[u16],
     first: SwitchId,
     count: u16,
+    limit: usize,
 ) -> Result<Vec<TestPosition>, Trouble>
     requires steps { HaveJointSteps station.now station.now steps.now }
     requires some { 1 < length steps.now.old_steps.items }
@@ -145,10 +148,11 @@ fn cover_with(
     requires operations { operations.now ≡ operations_from first.0 count }
     requires within { first.0 + count ≤ length station.now.switches }
     requires few { first.0 + count < 2 ^ 16 }
+    requires limit { limit ≤ BAY_EDGES }
     ensures positions { IfOk result (λ ps. ArePositions station.now operations.now ps.items) }
     ensures covered { IfOk result (λ ps. AreCovered station.now operations.now stands.now ps.items (2 * count)) }
-    ensures narrow { IfOk result (λ _. AllAreNarrow station.now steps.now.old_steps.items first.0 count) }
-    ensures wide { IfErr result (λ e. e ≡ Wide → SomeIsTooWide station.now steps.now.old_steps.items first.0 count) }
+    ensures narrow { IfOk result (λ _. AllAreNarrow station.now steps.now.old_steps.items first.0 count limit) }
+    ensures wide { IfErr result (λ e. e ≡ Wide → SomeIsTooWide station.now steps.now.old_steps.items first.0 count limit) }
 {
     let mut positions = Vec::new(alloc);
     for i in 0..count {
@@ -163,6 +167,7 @@ fn cover_with(
             stands,
             switch,
             number,
+            limit,
             &mut positions,
         )?;
     }
@@ -178,16 +183,18 @@ pub(crate) fn cover_switches(
     stands: &[u16],
     first: SwitchId,
     count: u16,
+    limit: usize,
 ) -> Result<Vec<TestPosition>, Trouble>
     requires steps { HaveJointSteps station.now station.now steps.now }
     requires some { 1 < length steps.now.old_steps.items }
     requires operations { operations.now ≡ operations_from first.0 count }
     requires within { first.0 + count ≤ length station.now.switches }
     requires few { first.0 + count < 2 ^ 16 }
+    requires limit { limit ≤ BAY_EDGES }
     ensures positions { IfOk result (λ ps. ArePositions station.now operations.now ps.items) }
     ensures covered { IfOk result (λ ps. AreCovered station.now operations.now stands.now ps.items (2 * count)) }
-    ensures narrow { IfOk result (λ _. AllAreNarrow station.now steps.now.old_steps.items first.0 count) }
-    ensures wide { IfErr result (λ e. e ≡ Wide → SomeIsTooWide station.now steps.now.old_steps.items first.0 count) }
+    ensures narrow { IfOk result (λ _. AllAreNarrow station.now steps.now.old_steps.items first.0 count limit) }
+    ensures wide { IfErr result (λ e. e ≡ Wide → SomeIsTooWide station.now steps.now.old_steps.items first.0 count limit) }
 {
     let mut stocks = rule_stocks(alloc, station, &steps.old_steps)?;
     cover_with(
@@ -199,5 +206,6 @@ pub(crate) fn cover_switches(
         stands,
         first,
         count,
+        limit,
     )
 }

@@ -49,7 +49,8 @@ pub fn left_out_rules_are_found()
 
 /// Along given steps no bay is both narrow and too wide. This is a law: the call does nothing.
 pub fn narrow_bays_are_not_wide()
-    ensures { (d : Diagram) (steps : List Step) (bay : ℕ) → IsNarrowBy d steps bay → ¬ IsWideBy d steps bay }
+    ensures { (d : Diagram) (steps : List Step) (bay limit : ℕ) → IsNarrowBy d steps bay limit
+        → ¬ IsWideBy d steps bay limit }
 {
     narrow_excludes_wide();
 }

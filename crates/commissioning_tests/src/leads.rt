@@ -5,8 +5,9 @@ ghost use Rattle.station_graph.specs.Diagram.{part_count};
 ghost use Rattle.central_rules.specs.Meaning.{IsBay};
 ghost use Rattle.commissioning_tests.specs.Listed.{AreThose};
 ghost use Rattle.commissioning_tests.specs.Shared.{LeadsItself, StandsBefore, AreLeads, IsTested, IsLater};
+ghost use Rattle.commissioning_tests.specs.Shared.{tested_switches as switches_of_tested};
 
-use ilk_base::{BayId, Memory};
+use ilk_base::{BayId, Memory, SwitchId};
 use like_bays::are_like;
 use station_graph::Station;
 use std::alloc::Global;
@@ -85,6 +86,21 @@ pub(crate) fn leads_of(alloc: Global, station: &Station) -> Result<Vec<u8>, Memo
         leads.push(lead)?;
     }
     Ok(leads)
+}
+
+// How many switches the bays have that have tests of their own.
+pub(crate) fn tested_switches(station: &Station, leads: &[u8]) -> u16
+    requires { AreLeads station.now leads.now }
+    ensures { result ≡ switches_of_tested station.now leads.now }
+{
+    let mut count = 0;
+    for s in 0..station.switch_count() {
+        let bay = station.switch(SwitchId(s)).bay;
+        if leads_itself(leads, bay) {
+            count += 1;
+        }
+    }
+    count
 }
 
 // Whether the tests of a part are those of this earlier one, and it is a bay.

@@ -7,7 +7,7 @@ use std::alloc::{AllocError, AllocFailed};
 pub enum TestsRefusal {
     /// there was no memory
     Memory,
-    /// a switch of this bay has a graph or a walk of more than `judge_pool::BAY_EDGES` edges
+    /// a switch of this bay has a graph or a walk of more edges than it may have, by `change_search::walk_limit`
     Wide {
         /// the bay
         bay: BayId,

@@ -1,8 +1,8 @@
-use Rattle.std.proofs.Common.{◌≡◌, false, true, refl, ap, sym, subst}
+use Rattle.std.proofs.Common.{◌≡◌, ℕ, false, true, refl, ap, sym, subst}
 use Rattle.ilk_base.specs.declared.words.BayId.{BayId}
 use Rattle.judge_pool.proofs.ErrorLemmas.{passed_on}
 use Rattle.commissioning_tests.specs.declared.refusal.TestsRefusal.{TestsRefusal}
-use Rattle.commissioning_tests.specs.Refusing.{IsRefusal, IsWideBay}
+use Rattle.commissioning_tests.specs.Refusing.{IsNarrowBy, IsRefusal, IsWideBay}
 use Rattle.commissioning_tests.proofs.LeadLemmas.{tests_less, tests_more}
 use Rattle.commissioning_tests.proofs.RefusalLemmas.{upto_less, upto_more, refusal_of}
 use Rattle.commissioning_tests.proofs.all_bays.add_tests.Goals as goal
@@ -26,11 +26,12 @@ returns-then-not-is_tested-clause-narrow c =
 pub returns-clause-narrow : goal.returns-clause-narrow
 returns-clause-narrow c =
     let (steps, narrow) = c.in_ok-tests.ensures.narrow in
-    upto_more c.args.station.now c.args.leads.now c.args.part.0 c.requires.narrow steps narrow
+    upto_more c.args.station.now c.args.leads.now c.args.part.0 c.requires.narrow steps
+    (subst (λ (l : ℕ). IsNarrowBy c.args.station.now steps c.args.part.0 l) c.requires.limit narrow)
 
 pub returns-in_err-tests-clause-refusal : goal.returns-in_err-tests-clause-refusal
 returns-in_err-tests-clause-refusal c =
     passed_on _ _ c.from_residual.result c.from_residual.ensures.1 (λ e same.
     subst (λ (r : TestsRefusal). IsRefusal (IsWideBay c.args.station.now) r) (sym same)
-    (refusal_of c.args.station.now c.args.leads.now c.args.part.0 c.requires.leads c.requires.narrow
-    (c.if-not-is_tested.ensures.0 refl) _ c.in_err-tests.ensures.refusal))
+    (refusal_of c.args.station.now c.args.leads.now c.args.part.0 c.args.limit c.requires.leads c.requires.narrow
+    (c.if-not-is_tested.ensures.0 refl) c.requires.limit _ c.in_err-tests.ensures.refusal))

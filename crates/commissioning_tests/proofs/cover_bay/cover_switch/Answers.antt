@@ -1,5 +1,4 @@
 use Rattle.std.proofs.Common.{length, List, sym, subst, ◌∙◌}
-use Rattle.judge_pool.specs.declared.limits.TheConstants.{BAY_EDGES}
 use Rattle.judge_pool.proofs.ErrorLemmas.{passed_on}
 use Rattle.station_graph.specs.Connection.{a_switch}
 use Rattle.step_graphs.specs.declared.step.Step.{Step}
@@ -43,7 +42,7 @@ returns-in_err-walk-clause-wide c =
           (listed c.args.steps.now.old_places.items m c.from.result place (length d.switches) c.from.ensures
           c.index-place.ensures c.requires.switch c.requires.steps.old_at.len);
       wide =
-          subst (λ (xs : List Step). IsWideSwitchWalk d d xs xs place m m BAY_EDGES) c.deref.ensures.value
+          subst (λ (xs : List Step). IsWideSwitchWalk d d xs xs place m m c.args.limit) c.deref.ensures.value
           (c.in_err-walk.ensures.wide (sym same ∙ is));
     })
 
@@ -59,6 +58,6 @@ returns-clause-narrow c =
           (listed c.args.steps.now.old_places.items m c.from.result place (length d.switches) c.from.ensures
           c.index-place.ensures c.requires.switch c.requires.steps.old_at.len);
       keeps =
-          subst (λ (xs : List Step). KeepsSwitchWalk d d xs xs place m m BAY_EDGES) c.deref.ensures.value
+          subst (λ (xs : List Step). KeepsSwitchWalk d d xs xs place m m c.args.limit) c.deref.ensures.value
           c.in_ok-walk.ensures.keeps;
     }

@@ -61,8 +61,8 @@ loop-i-preserved c = (
           (ap (λ (x : ℕ). 2 * x + 1) c.from-number.ensures ∙ sym odd) c.in_ok-cover_switch.ensures.closing
     ]
   ],
-  narrow_more c.args.station.now c.args.steps.now.old_steps.items c.args.first.0 c.loop-i.i c.loop-i.invariant.3
-      c.in_ok-cover_switch.ensures.narrow,
+  narrow_more c.args.station.now c.args.steps.now.old_steps.items c.args.first.0 c.loop-i.i c.args.limit
+      c.loop-i.invariant.3 c.in_ok-cover_switch.ensures.narrow,
 )
 
 pub returns-in_err-cover_switch-clause-wide : goal.returns-in_err-cover_switch-clause-wide

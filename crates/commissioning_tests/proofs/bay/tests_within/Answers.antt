@@ -1,6 +1,6 @@
 use Rattle.std.proofs.Common.{refl, arith}
 use Rattle.judge_intake.proofs.OtherLemmas.{element}
-use Rattle.commissioning_tests.proofs.bay.bay_tests.Goals as goal
+use Rattle.commissioning_tests.proofs.bay.tests_within.Goals as goal
 
 pub returns-in-Ok-clause-narrow : goal.returns-in-Ok-clause-narrow
 returns-in-Ok-clause-narrow c =
