@@ -205,11 +205,11 @@ def at_limits():
         commands += [[word, "a"] for word in ("plan", "compile", "program", "tests")]
         for words in [*commands, ["compare", "a", "a"]]:
             yield Case(f"{words[0]}: a grid of 3 by {height} nodes", words, files, b"", 0, by_edges=True)
-    for part in PARTS:
+    for devices in (17, 8, 4, 2):
         # up to 501 switches, most of them beside others at one node: the graphs of a bay stay as they are, but `tests`
-        # walks those of each switch, until one is too wide
-        files = {"a": grid(3, 9, 17 // part).encode()}
-        yield Case(f"tests: such a grid with {17 // part} devices at each node", ["tests", "a"], files, b"", 5, by_edges=True)
+        # walks those of each switch, until one has more edges than its share of what all walks may have
+        files = {"a": grid(3, 9, devices).encode()}
+        yield Case(f"tests: such a grid with {devices} devices at each node", ["tests", "a"], files, b"", 5, by_edges=True)
 
 
 # ---- floods

@@ -11,4 +11,5 @@ mod IdleLemmas
 mod WalkLemmas
 mod OrderLemmas
 mod NarrowLemmas
+mod SharingLemmas
 mod StockLemmas

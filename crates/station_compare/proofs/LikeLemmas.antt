@@ -1,9 +1,8 @@
 -- What changes for an operation changes for the exchanged one.
-use Rattle.std.proofs.Common.{◌≡◌, ℕ, ◌<◌, Bool, true, false, List, length, map, slice_get, Some, None, Option, get_or}
+use Rattle.std.proofs.Common.{◌≡◌, ℕ, Bool, true, List, length, slice_get, Some, None, Option}
 use Rattle.std.proofs.Common.{sym, ap, ◌∙◌, subst, refl, arith}
 use Rattle.std.specs.Prelude.{◌==◌}
 use Rattle.std.proofs.lemmas.Bool.Decides.{nat_tests}
-use Rattle.std.proofs.lemmas.List.{length-map}
 use Rattle.ilk_base.specs.declared.words.Op.{Op}
 use Rattle.ilk_base.specs.declared.words.Rule.{Rule}
 use Rattle.station_graph.specs.Diagram.{Diagram, IsStation}

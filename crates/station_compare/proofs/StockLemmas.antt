@@ -15,11 +15,12 @@ use Rattle.station_compare.specs.Walking.{IsPairStock}
 abbrev pub ids_of : List (Vec ℕ Global) → List (List ℕ)
 ids_of rows = map (λ (v : Vec ℕ Global). v.items) rows
 
--- rows whose list is borrowed
-pub rows_held : (p : Pool) (d : Diagram) (steps : List Step) (rows held : List (Vec ℕ Global)) → held ≡ rows →
-    AreStepRows p d steps (ids_of rows) (length steps) → AreStepRows p d steps (ids_of held) (length steps)
-rows_held p d steps rows held e h =
-    subst (λ (rs : List (Vec ℕ Global)). AreStepRows p d steps (ids_of rs) (length steps)) (sym e) h
+-- rows of steps, where both lists are borrowed
+pub rows_held : (p : Pool) (d : Diagram) (steps lent : List Step) (rows held : List (Vec ℕ Global)) → lent ≡ steps →
+    held ≡ rows → AreStepRows p d steps (ids_of rows) (length steps) → AreStepRows p d lent (ids_of held) (length lent)
+rows_held p d steps lent rows held e f h =
+    subst (λ (ss : List Step). AreStepRows p d ss (ids_of held) (length ss)) (sym e)
+    (subst (λ (rs : List (Vec ℕ Global)). AreStepRows p d steps (ids_of rs) (length steps)) (sym f) h)
 
 -- the pool has grown
 pub stock_grew : (view : View) (o n : Diagram) (olds news : List Step) (s : PairStock) (q : Pool) →

@@ -7,7 +7,6 @@ use Rattle.judge_pool.specs.declared.view.View.TheVariants.{Gap, Load}
 use Rattle.step_graphs.specs.declared.step.Step.{Step}
 use Rattle.step_graphs.specs.Moved.{IsMovedGraph}
 use Rattle.step_graphs.specs.Edges.{StepsPass, StepsKeep}
-use Rattle.station_compare.specs.declared.limits.TheConstants.{WALK_EDGES}
 use Rattle.station_compare.specs.Width.{IsDisconnector, GraphsKeep}
 
 pub moved_here : (view seen : View) (d : Diagram) (steps held : List Step) (b m : ℕ) (g : Layered) → seen ≡ view →
@@ -25,7 +24,7 @@ pub keeps_here : (view seen : View) (d : Diagram) (steps held : List Step) (b li
 keeps_here view seen d steps held b limit e f h =
     subst (λ (w : View). StepsKeep w d steps b limit) e (subst (λ (xs : List Step). StepsKeep seen d xs b limit) f h)
 
-pub graphs_keep : (d : Diagram) (steps : List Step) (b m : ℕ) → StepsKeep Gap d steps b WALK_EDGES →
-    (IsDisconnector d m → StepsKeep Load d steps b WALK_EDGES) → GraphsKeep d steps b m
-graphs_keep d steps b m gap load Gap has = gap
-graphs_keep d steps b m gap load Load has = load has
+pub graphs_keep : (d : Diagram) (steps : List Step) (b m limit : ℕ) → StepsKeep Gap d steps b limit →
+    (IsDisconnector d m → StepsKeep Load d steps b limit) → GraphsKeep d steps b m limit
+graphs_keep d steps b m limit gap load Gap has = gap
+graphs_keep d steps b m limit gap load Load has = load has

@@ -1,5 +1,5 @@
 -- What is found of the operations of two stations.
-use Rattle.std.specs.Prelude.{ℕ, ◌≡◌, Bool, true, false, List, length, option_map, None, ⊤}
+use Rattle.std.specs.Prelude.{ℕ, Bool, true, false, List, length, option_map, None, ⊤}
 use Rattle.ilk_base.specs.declared.words.Op.{Op}
 use Rattle.ilk_base.specs.declared.words.Rule.TheVariants.{R1, R2, R3}
 use Rattle.station_graph.specs.Diagram.{Diagram}

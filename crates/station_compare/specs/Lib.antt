@@ -4,6 +4,8 @@ pub mod Words
 pub mod Comparing
 pub mod Bays
 pub mod Walking
+pub mod Moving
 pub mod Likeness
+pub mod Sharing
 pub mod Orders
 pub mod Turning

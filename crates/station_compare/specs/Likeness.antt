@@ -1,14 +1,11 @@
 -- Bays that are like each other in both stations.
-use Rattle.std.specs.Prelude.{◌≡◌, ◌↔◌, ℕ, ⊤, MatchOption}
+use Rattle.std.specs.Prelude.{ℕ}
 use Rattle.ilk_base.specs.declared.words.Op.{Op}
 use Rattle.station_graph.specs.Diagram.{Diagram}
 use Rattle.station_changes.specs.Compare.{SameSwitch}
 use Rattle.release_dependence.specs.Exchange.{IsExchangedOp}
 use Rattle.like_bays.specs.Like.{led_by, IsExchangeBy}
-use Rattle.station_joints.specs.Joined.{HaveJointSteps}
 use Rattle.station_compare.specs.declared.likeness.LikeBays.{LikeBays}
-use Rattle.station_compare.specs.declared.walks.BayWalks.{BayWalks}
-use Rattle.station_compare.specs.Walking.{AreStocks}
 
 -- The tables of an exchange of two bays in both stations, under which the same switches stay the same.
 pub record AreExchanged (o n : Diagram) (x : LikeBays) : Type 0 where
@@ -21,9 +18,3 @@ pub record AreExchanged (o n : Diagram) (x : LikeBays) : Type 0 where
 pub record AreExchangedOps (x : LikeBays) (a b c d : Op) : Type 0 where
   pub old : IsExchangedOp (led_by x.old.items) a c
   pub new : IsExchangedOp (led_by x.new.items) b d
-
--- The stocks are those of joint steps of both stations, and if a bay is like the one at work, both are exchanged.
-pub record AreBayWalks (o n : Diagram) (w : BayWalks) : Type 0 where
-  pub steps : HaveJointSteps o n w.steps
-  pub stocks : AreStocks o n w.steps w.stocks
-  pub like : MatchOption w.like ⊤ (AreExchanged o n)

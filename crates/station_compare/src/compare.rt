@@ -1,12 +1,13 @@
 //! Two stations compared.
 ghost use Rattle.std.specs.Prelude.{◌≡◌, ◌<◌, length, IfOk, IfErr, OnOk};
 ghost use Rattle.station_compare.specs.Comparing.{IsComparison, AreHere, AreGone, IsGone, IsRefusal};
-ghost use Rattle.station_compare.specs.Likeness.{AreBayWalks};
+ghost use Rattle.station_compare.specs.Turning.{AreBayWalks};
 ghost use Rattle.station_compare.specs.Orders.{AreNarrow};
 
 use crate::found::{Comparison, Found};
 use crate::next::next_found;
 use crate::refusal::CompareRefusal;
+use crate::sharing::sharing_of;
 use crate::walks::{BayWalks, turn_to, walks_of};
 use ilk_base::{BayId, Memory, SwitchId};
 use station_graph::Station;
@@ -63,14 +64,16 @@ fn here(alloc: Global, old: &Station, new: &Station) -> Result<Vec<Found>, Compa
     ensures narrow { IfOk result (λ _. AreNarrow old.now new.now) }
     ensures refusal { IfErr result (IsRefusal old.now new.now) }
 {
-    let mut walks = walks_of(alloc, old, new, BayId(0))?;
+    let sharing = sharing_of(alloc, old, new)?;
+    let mut walks = walks_of(alloc, old, new, sharing, BayId(0))?;
     found_by(alloc, &mut walks, old, new)
 }
 
 /// The new station compared with the old one: for each operation that both have and for each rule, whether some position
 /// of all switches shows a change, and such a position, an isolated one where there is one. Of bays that are like each
 /// other in both stations one is walked, and its positions are exchanged for the others. Time: for each switch of those
-/// bays that both have the edges of its four graphs and of their walk. Memory: those of one bay.
+/// bays that both have the edges of its four graphs and of their walk, of which each has at most
+/// `change_search::walk_limit` of the switches of those bays. Memory: those of one bay, and 1 kB for each like bay.
 pub fn compare_stations(
     alloc: Global,
     old: &Station,

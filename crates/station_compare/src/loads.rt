@@ -1,23 +1,20 @@
 //! The load graph of a switch.
-ghost use Rattle.std.specs.Prelude.{◌≡◌, ◌↔◌, ◌<◌, ◌≤◌, ◌^◌, length, replicate, IsTrue, IsFalse, IfOk, IfErr, OnOk};
-ghost use Rattle.station_graph.specs.Connection.{a_switch};
+ghost use Rattle.std.specs.Prelude.{◌≡◌, ◌↔◌, ◌<◌, length, replicate, IsTrue, IsFalse, IfOk, IfErr, OnOk};
 ghost use Rattle.judge_pool.specs.declared.layer.Trouble.TheVariants.{Wide};
 ghost use Rattle.judge_pool.specs.declared.view.View.TheVariants.{Gap, Load};
 ghost use Rattle.step_graphs.specs.Edges.{StepsPass, StepsKeep};
 ghost use Rattle.step_graphs.specs.Moved.{IsMovedGraph};
-ghost use Rattle.step_graphs.specs.Steps.{AreSteps, TakesIn};
-ghost use Rattle.station_compare.specs.Walking.{HasNoLoad, IsIdleOf, IsPairStock};
+ghost use Rattle.station_compare.specs.Walking.{HasNoLoad, IsIdleOf};
+ghost use Rattle.station_compare.specs.Moving.{IsMovedSwitch, IsStockFor};
 ghost use Rattle.station_compare.specs.Width.{IsDisconnector};
-ghost use Rattle.station_compare.specs.declared.limits.TheConstants.{WALK_EDGES};
 
-use crate::moved::{new_graph, old_graph};
+use crate::moved::{MovedSwitch, new_graph, old_graph};
 use crate::stocks::PairStock;
 use decision_graphs::Graph;
 use ilk_base::{Kind, Memory, SwitchId};
 use judge_pool::{Trouble, View};
 use station_graph::Station;
 use std::alloc::Global;
-use step_graphs::Step;
 
 // Whether the third rule may apply to a move of the switch: to those of a disconnector alone.
 fn has_load(station: &Station, id: SwitchId) -> bool
@@ -49,70 +46,56 @@ fn idle_graph(alloc: Global, gap: &Graph) -> Result<Graph, Memory>
     Ok(reduced)
 }
 
-// The load graph of a switch of the old station, whose gap graph this is: made for a disconnector alone.
+// The load graph of a switch in the old station, where this is its gap graph: made for a disconnector alone.
 pub(crate) fn old_load_graph(
     alloc: Global,
     stock: &mut PairStock,
-    old: &Station,
-    new: &Station,
-    olds: &[Step],
-    news: &[Step],
-    place: u16,
-    id: SwitchId,
+    moved: &MovedSwitch<'_>,
     gap: &Graph,
 ) -> Result<Graph, Trouble>
-    requires stock { IsPairStock Load old.now new.now olds.now news.now stock.old }
-    requires steps { AreSteps old.now olds.now }
-    requires moved { TakesIn olds.now place (a_switch id.0) }
-    requires gap { IsMovedGraph Gap old.now olds.now place id.0 gap.now }
-    requires within { id.0 < length old.now.switches }
-    requires some { 1 < length olds.now }
-    requires few { length olds.now < 2 ^ 16 }
-    ensures stock { OnOk result (IsPairStock Load old.now new.now olds.now news.now stock.new) }
-    ensures graph { IfOk result (IsMovedGraph Load old.now olds.now place id.0) }
-    ensures keeps { IfOk result (λ _. IsDisconnector old.now id.0 →
-        StepsKeep Load old.now olds.now place WALK_EDGES) }
-    ensures wide { IfErr result (λ e. e ≡ Wide → IsDisconnector old.now id.0
-        × StepsPass Load old.now olds.now place WALK_EDGES) }
+    requires stock { IsStockFor Load moved.now stock.old }
+    requires moved { IsMovedSwitch moved.now }
+    requires gap { IsMovedGraph Gap moved.now.old.now moved.now.steps.now.old_steps.items moved.now.place
+        moved.now.id.0 gap.now }
+    ensures stock { OnOk result (IsStockFor Load moved.now stock.new) }
+    ensures graph { IfOk result (IsMovedGraph Load moved.now.old.now moved.now.steps.now.old_steps.items
+        moved.now.place moved.now.id.0) }
+    ensures keeps { IfOk result (λ _. IsDisconnector moved.now.old.now moved.now.id.0 →
+        StepsKeep Load moved.now.old.now moved.now.steps.now.old_steps.items moved.now.place moved.now.limit) }
+    ensures wide { IfErr result (λ e. e ≡ Wide → IsDisconnector moved.now.old.now moved.now.id.0
+        × StepsPass Load moved.now.old.now moved.now.steps.now.old_steps.items moved.now.place moved.now.limit) }
 {
-    if !has_load(old, id) {
+    if !has_load(moved.old, moved.id) {
         let idle = idle_graph(alloc, gap)?;
         return Ok(idle);
     }
-    let graph = old_graph(alloc, View::Load, stock, old, new, olds, news, place, id)?;
+    let graph = old_graph(alloc, View::Load, stock, moved)?;
     Ok(graph)
 }
 
-// The load graph of a switch of the new station, whose gap graph this is: made for a disconnector alone.
+// The load graph of a switch in the new station, where this is its gap graph: made for a disconnector alone.
 pub(crate) fn new_load_graph(
     alloc: Global,
     stock: &mut PairStock,
-    old: &Station,
-    new: &Station,
-    olds: &[Step],
-    news: &[Step],
-    place: u16,
-    id: SwitchId,
+    moved: &MovedSwitch<'_>,
     gap: &Graph,
 ) -> Result<Graph, Trouble>
-    requires stock { IsPairStock Load old.now new.now olds.now news.now stock.old }
-    requires steps { AreSteps new.now news.now }
-    requires moved { TakesIn news.now place (a_switch id.0) }
-    requires gap { IsMovedGraph Gap new.now news.now place id.0 gap.now }
-    requires within { id.0 < length new.now.switches }
-    requires some { 1 < length news.now }
-    requires few { length news.now < 2 ^ 16 }
-    ensures stock { OnOk result (IsPairStock Load old.now new.now olds.now news.now stock.new) }
-    ensures graph { IfOk result (IsMovedGraph Load new.now news.now place id.0) }
-    ensures keeps { IfOk result (λ _. IsDisconnector new.now id.0 →
-        StepsKeep Load new.now news.now place WALK_EDGES) }
-    ensures wide { IfErr result (λ e. e ≡ Wide → IsDisconnector new.now id.0
-        × StepsPass Load new.now news.now place WALK_EDGES) }
+    requires stock { IsStockFor Load moved.now stock.old }
+    requires moved { IsMovedSwitch moved.now }
+    requires gap { IsMovedGraph Gap moved.now.new.now moved.now.steps.now.new_steps.items moved.now.place
+        moved.now.new_id.0 gap.now }
+    ensures stock { OnOk result (IsStockFor Load moved.now stock.new) }
+    ensures graph { IfOk result (IsMovedGraph Load moved.now.new.now moved.now.steps.now.new_steps.items
+        moved.now.place moved.now.new_id.0) }
+    ensures keeps { IfOk result (λ _. IsDisconnector moved.now.new.now moved.now.new_id.0 →
+        StepsKeep Load moved.now.new.now moved.now.steps.now.new_steps.items moved.now.place moved.now.limit) }
+    ensures wide { IfErr result (λ e. e ≡ Wide → IsDisconnector moved.now.new.now moved.now.new_id.0
+        × StepsPass Load moved.now.new.now moved.now.steps.now.new_steps.items moved.now.place moved.now.limit) }
 {
-    if !has_load(new, id) {
+    if !has_load(moved.new, moved.new_id) {
         let idle = idle_graph(alloc, gap)?;
         return Ok(idle);
     }
-    let graph = new_graph(alloc, View::Load, stock, old, new, olds, news, place, id)?;
+    let graph = new_graph(alloc, View::Load, stock, moved)?;
     Ok(graph)
 }

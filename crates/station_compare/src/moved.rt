@@ -1,94 +1,92 @@
-//! The graphs of a switch in one view, of the stock of two stations.
-ghost use Rattle.std.specs.Prelude.{◌≡◌, ◌<◌, ◌^◌, length, IfOk, IfErr, OnOk};
-ghost use Rattle.station_graph.specs.Connection.{a_switch};
+//! A switch that is moved, and its graphs in one view, of the stock of two stations.
+ghost use Rattle.std.specs.Prelude.{◌≡◌, IfOk, IfErr, OnOk};
 ghost use Rattle.judge_pool.specs.declared.layer.Trouble.TheVariants.{Wide};
 ghost use Rattle.step_graphs.specs.Edges.{StepsPass, StepsKeep};
 ghost use Rattle.step_graphs.specs.Moved.{IsMovedGraph};
-ghost use Rattle.step_graphs.specs.Steps.{AreSteps, TakesIn};
-ghost use Rattle.station_compare.specs.declared.limits.TheConstants.{WALK_EDGES};
-ghost use Rattle.station_compare.specs.Walking.{IsPairStock};
+ghost use Rattle.station_compare.specs.Moving.{IsMovedSwitch, IsStockFor};
 
-use crate::limits::WALK_EDGES;
 use crate::stocks::PairStock;
 use decision_graphs::Graph;
 use ilk_base::SwitchId;
 use judge_pool::{Trouble, View};
 use station_graph::Station;
+use station_joints::JointSteps;
 use std::alloc::Global;
-use step_graphs::{Step, moved_graph_in};
+use step_graphs::moved_graph_in;
 
-// The graph of a switch of the old station, whose step stands at this place.
+// A switch that both stations have, moved in both, with what stands around it.
+#[derive(Clone, Copy)]
+pub(crate) struct MovedSwitch<'a> {
+    pub(crate) old: &'a Station,
+    pub(crate) new: &'a Station,
+    // the joint steps of both, and the place of those of the switch
+    pub(crate) steps: &'a JointSteps,
+    pub(crate) place: u16,
+    // its number in the old station, and in the new one
+    pub(crate) id: SwitchId,
+    pub(crate) new_id: SwitchId,
+    // how many edges its walk may have, and each of its graphs before it is reduced
+    pub(crate) limit: usize,
+}
+
+// Its graph in the old station.
 pub(crate) fn old_graph(
     alloc: Global,
     view: View,
     stock: &mut PairStock,
-    old: &Station,
-    new: &Station,
-    olds: &[Step],
-    news: &[Step],
-    place: u16,
-    id: SwitchId,
+    moved: &MovedSwitch<'_>,
 ) -> Result<Graph, Trouble>
-    requires stock { IsPairStock view old.now new.now olds.now news.now stock.old }
-    requires steps { AreSteps old.now olds.now }
-    requires moved { TakesIn olds.now place (a_switch id.0) }
-    requires some { 1 < length olds.now }
-    requires few { length olds.now < 2 ^ 16 }
-    ensures stock { OnOk result (IsPairStock view old.now new.now olds.now news.now stock.new) }
-    ensures graph { IfOk result (IsMovedGraph view old.now olds.now place id.0) }
-    ensures room { IfOk result (λ _. StepsKeep view old.now olds.now place WALK_EDGES) }
-    ensures wide { IfErr result (λ e. e ≡ Wide → StepsPass view old.now olds.now place WALK_EDGES) }
+    requires stock { IsStockFor view moved.now stock.old }
+    requires moved { IsMovedSwitch moved.now }
+    ensures stock { OnOk result (IsStockFor view moved.now stock.new) }
+    ensures graph { IfOk result (IsMovedGraph view moved.now.old.now moved.now.steps.now.old_steps.items moved.now.place
+        moved.now.id.0) }
+    ensures room { IfOk result (λ _. StepsKeep view moved.now.old.now moved.now.steps.now.old_steps.items
+        moved.now.place moved.now.limit) }
+    ensures wide { IfErr result (λ e. e ≡ Wide → StepsPass view moved.now.old.now moved.now.steps.now.old_steps.items
+        moved.now.place moved.now.limit) }
 {
     let _ = view;
-    let _ = new;
-    let _ = news;
     let graph = moved_graph_in(
         alloc,
         &mut stock.pool,
         &stock.old_rows,
-        old,
-        olds,
-        place,
-        id,
-        WALK_EDGES,
+        moved.old,
+        &moved.steps.old_steps,
+        moved.place,
+        moved.id,
+        moved.limit,
     )?;
     Ok(graph)
 }
 
-// The graph of a switch of the new station, whose step stands at this place.
+// Its graph in the new station.
 pub(crate) fn new_graph(
     alloc: Global,
     view: View,
     stock: &mut PairStock,
-    old: &Station,
-    new: &Station,
-    olds: &[Step],
-    news: &[Step],
-    place: u16,
-    id: SwitchId,
+    moved: &MovedSwitch<'_>,
 ) -> Result<Graph, Trouble>
-    requires stock { IsPairStock view old.now new.now olds.now news.now stock.old }
-    requires steps { AreSteps new.now news.now }
-    requires moved { TakesIn news.now place (a_switch id.0) }
-    requires some { 1 < length news.now }
-    requires few { length news.now < 2 ^ 16 }
-    ensures stock { OnOk result (IsPairStock view old.now new.now olds.now news.now stock.new) }
-    ensures graph { IfOk result (IsMovedGraph view new.now news.now place id.0) }
-    ensures room { IfOk result (λ _. StepsKeep view new.now news.now place WALK_EDGES) }
-    ensures wide { IfErr result (λ e. e ≡ Wide → StepsPass view new.now news.now place WALK_EDGES) }
+    requires stock { IsStockFor view moved.now stock.old }
+    requires moved { IsMovedSwitch moved.now }
+    ensures stock { OnOk result (IsStockFor view moved.now stock.new) }
+    ensures graph { IfOk result (IsMovedGraph view moved.now.new.now moved.now.steps.now.new_steps.items moved.now.place
+        moved.now.new_id.0) }
+    ensures room { IfOk result (λ _. StepsKeep view moved.now.new.now moved.now.steps.now.new_steps.items
+        moved.now.place moved.now.limit) }
+    ensures wide { IfErr result (λ e. e ≡ Wide → StepsPass view moved.now.new.now moved.now.steps.now.new_steps.items
+        moved.now.place moved.now.limit) }
 {
     let _ = view;
-    let _ = old;
-    let _ = olds;
     let graph = moved_graph_in(
         alloc,
         &mut stock.pool,
         &stock.new_rows,
-        new,
-        news,
-        place,
-        id,
-        WALK_EDGES,
+        moved.new,
+        &moved.steps.new_steps,
+        moved.place,
+        moved.new_id,
+        moved.limit,
     )?;
     Ok(graph)
 }

@@ -3,12 +3,12 @@ ghost use Rattle.std.specs.Prelude.{◌≡◌, ◌+◌, ◌<◌, ⊤, length, If
 ghost use Rattle.station_compare.specs.Each.{AreEach};
 ghost use Rattle.station_compare.specs.Comparing.{IsFound, IsRefusal};
 ghost use Rattle.station_compare.specs.Orders.{IsCarried};
-ghost use Rattle.station_compare.specs.Turning.{IsOfBay, AreNarrowBefore};
-ghost use Rattle.station_compare.specs.Likeness.{AreBayWalks};
+ghost use Rattle.station_compare.specs.Turning.{AreBayWalks, IsOfBay, AreNarrowBefore, likes_of};
 
 use crate::exchanged::exchanged_found;
 use crate::found::Found;
 use crate::refusal::CompareRefusal;
+use crate::sharing::like_at;
 use crate::switch::found_of;
 use crate::walks::BayWalks;
 use ilk_base::{Memory, SwitchId};
@@ -29,10 +29,10 @@ fn known(
     requires walks { AreBayWalks old.now new.now walks.now }
     requires list { AreEach (IsFound old.now new.now) id.0 list.now }
     ensures found { IfOk result (λ found. MatchOption found ⊤ (IsFound old.now new.now id.0)) }
-    ensures carried { IfOk result (λ found. MatchOption found (¬ IsCarried walks.now.like id.0)
-        (λ _. IsCarried walks.now.like id.0)) }
+    ensures carried { IfOk result (λ found. MatchOption found (¬ IsCarried (likes_of walks.now walks.now.bay.0) id.0)
+        (λ _. IsCarried (likes_of walks.now walks.now.bay.0) id.0)) }
 {
-    let Some(like) = &walks.like else {
+    let Some(like) = like_at(&walks.sharing.likes, walks.bay) else {
         return Ok(None);
     };
     let there = usize::from(led_to(&like.new, id.0));
@@ -54,7 +54,7 @@ fn walked_found(
     requires walks { AreBayWalks old.now new.now walks.old }
     requires within { id.0 < length new.now.switches }
     requires bay { IsOfBay new.now walks.old.bay.0 id.0 }
-    requires not_carried { ¬ IsCarried walks.old.like id.0 }
+    requires not_carried { ¬ IsCarried (likes_of walks.old walks.old.bay.0) id.0 }
     requires before { AreNarrowBefore old.now new.now walks.old id.0 }
     ensures walks { OnOk result (AreBayWalks old.now new.now walks.new) }
     ensures bay { OnOk result (walks.new.bay ≡ walks.old.bay) }
@@ -62,7 +62,8 @@ fn walked_found(
     ensures found { IfOk result (IsFound old.now new.now id.0) }
     ensures refusal { IfErr result (IsRefusal old.now new.now) }
 {
-    match found_of(alloc, &mut walks.stocks, old, new, &walks.steps, id) {
+    let limit = walks.sharing.limit;
+    match found_of(alloc, &mut walks.stocks, old, new, &walks.steps, limit, id) {
         Ok(found) => Ok(found),
         Err(Trouble::Memory) => Err(CompareRefusal::Memory),
         Err(Trouble::Wide) => Err(CompareRefusal::Wide {

@@ -7,7 +7,8 @@ use std::alloc::{AllocError, AllocFailed};
 pub enum CompareRefusal {
     /// there was no memory
     Memory,
-    /// a switch of this bay of the new station has a walk of more than `WALK_EDGES` edges
+    /// a switch of this bay of the new station has a graph or a walk of more edges than `change_search::walk_limit` of the
+    /// new station's switches
     Wide {
         /// the bay
         bay: BayId,

@@ -1,15 +1,17 @@
 //! What changes for a switch that two stations have.
-ghost use Rattle.std.specs.Prelude.{◌≡◌, ◌<◌, length, IfOk, IfErr, OnOk};
+ghost use Rattle.std.specs.Prelude.{◌≡◌, ◌<◌, ◌≤◌, length, IfOk, IfErr, OnOk};
 ghost use Rattle.judge_pool.specs.declared.layer.Trouble.TheVariants.{Wide};
 ghost use Rattle.station_graph.specs.Connection.{a_switch};
 ghost use Rattle.station_changes.specs.Compare.{SameSwitch};
 ghost use Rattle.step_graphs.specs.Steps.{TakesIn};
 ghost use Rattle.station_joints.specs.Joined.{HaveJointSteps};
+ghost use Rattle.change_search.specs.declared.limits.TheConstants.{WALK_EDGES};
 ghost use Rattle.station_compare.specs.Comparing.{AreSwitchChanges, IsFound, no_changes};
 ghost use Rattle.station_compare.specs.Walking.{AreStocks};
 ghost use Rattle.station_compare.specs.Width.{IsNarrowAlong, IsWideAlong};
 
 use crate::found::{Found, OperationChanges, RuleChanges, SwitchChanges};
+use crate::moved::MovedSwitch;
 use crate::operation::operation_changes;
 use crate::stocks::Stocks;
 use crate::walked::walk_switch;
@@ -58,24 +60,35 @@ fn moved_switch(
     new: &Station,
     steps: &JointSteps,
     place: u16,
+    limit: usize,
     id: SwitchId,
     new_id: SwitchId,
 ) -> Result<SwitchChanges, Trouble>
     requires stocks { AreStocks old.now new.now steps.now stocks.old }
     requires steps { HaveJointSteps old.now new.now steps.now }
+    requires few { limit ≤ WALK_EDGES }
     requires same { SameSwitch old.now new.now id.0 new_id.0 }
     requires place { TakesIn steps.now.old_steps.items place (a_switch id.0) }
     requires some { 1 < length steps.now.old_steps.items }
     ensures stocks { OnOk result (AreStocks old.now new.now steps.now stocks.new) }
     ensures changes { IfOk result (AreSwitchChanges old.now new.now new_id.0) }
     ensures narrow { IfOk result (λ _. IsNarrowAlong old.now new.now steps.now.old_steps.items steps.now.new_steps.items
-        new_id.0) }
+        new_id.0 limit) }
     ensures wide { IfErr result (λ e. e ≡ Wide → IsWideAlong old.now new.now steps.now.old_steps.items
-        steps.now.new_steps.items new_id.0) }
+        steps.now.new_steps.items new_id.0 limit) }
 {
     old.is_station();
     new.is_station();
-    let walked = walk_switch(alloc, stocks, old, new, steps, place, id, new_id)?;
+    let moved = MovedSwitch {
+        old,
+        new,
+        steps,
+        place,
+        id,
+        new_id,
+        limit,
+    };
+    let walked = walk_switch(alloc, stocks, &moved)?;
     let open = Op {
         switch: id,
         direction: Direction::ToOff,
@@ -108,25 +121,27 @@ fn switch_changes(
     old: &Station,
     new: &Station,
     steps: &JointSteps,
+    limit: usize,
     id: SwitchId,
     new_id: SwitchId,
 ) -> Result<SwitchChanges, Trouble>
     requires stocks { AreStocks old.now new.now steps.now stocks.old }
     requires steps { HaveJointSteps old.now new.now steps.now }
+    requires few { limit ≤ WALK_EDGES }
     requires same { SameSwitch old.now new.now id.0 new_id.0 }
     ensures stocks { OnOk result (AreStocks old.now new.now steps.now stocks.new) }
     ensures changes { IfOk result (AreSwitchChanges old.now new.now new_id.0) }
     ensures narrow { IfOk result (λ _. IsNarrowAlong old.now new.now steps.now.old_steps.items steps.now.new_steps.items
-        new_id.0) }
+        new_id.0 limit) }
     ensures wide { IfErr result (λ e. e ≡ Wide → IsWideAlong old.now new.now steps.now.old_steps.items
-        steps.now.new_steps.items new_id.0) }
+        steps.now.new_steps.items new_id.0 limit) }
 {
     // where both stations have one item alone, which is the same switch, nothing changes for it
     if steps.old_steps.len() == 1 {
         return Ok(unchanged_switch(id));
     }
     let place = steps.old_places[id.0 as usize];
-    moved_switch(alloc, stocks, old, new, steps, place, id, new_id)
+    moved_switch(alloc, stocks, old, new, steps, place, limit, id, new_id)
 }
 
 // What is found of a switch of the new station.
@@ -136,22 +151,24 @@ pub(crate) fn found_of(
     old: &Station,
     new: &Station,
     steps: &JointSteps,
+    limit: usize,
     new_id: SwitchId,
 ) -> Result<Found, Trouble>
     requires stocks { AreStocks old.now new.now steps.now stocks.old }
     requires steps { HaveJointSteps old.now new.now steps.now }
+    requires few { limit ≤ WALK_EDGES }
     requires within { new_id.0 < length new.now.switches }
     ensures stocks { OnOk result (AreStocks old.now new.now steps.now stocks.new) }
     ensures found { IfOk result (IsFound old.now new.now new_id.0) }
     ensures narrow { IfOk result (λ _. IsNarrowAlong old.now new.now steps.now.old_steps.items steps.now.new_steps.items
-        new_id.0) }
+        new_id.0 limit) }
     ensures wide { IfErr result (λ e. e ≡ Wide → IsWideAlong old.now new.now steps.now.old_steps.items
-        steps.now.new_steps.items new_id.0) }
+        steps.now.new_steps.items new_id.0 limit) }
 {
     match same_switch(new, old, new_id) {
         None => Ok(Found::OnlyNew),
         Some(id) => {
-            let changes = switch_changes(alloc, stocks, old, new, steps, id, new_id)?;
+            let changes = switch_changes(alloc, stocks, old, new, steps, limit, id, new_id)?;
             Ok(Found::InBoth(changes))
         }
     }

@@ -1,30 +1,23 @@
 //! The walk of a switch that two stations have, and what is reached in it.
-ghost use Rattle.std.specs.Prelude.{◌≡◌, ◌+◌, ◌<◌, ◌^◌, suc, true, length, map, replicate, IfOk, IfErr, OnOk};
-ghost use Rattle.station_graph.specs.Connection.{a_switch};
-ghost use Rattle.station_changes.specs.Compare.{SameSwitch};
+ghost use Rattle.std.specs.Prelude.{◌≡◌, ◌+◌, ◌<◌, ◌≤◌, ◌^◌, suc, true, length, map, replicate, IfOk, IfErr, OnOk};
 ghost use Rattle.decision_graphs.specs.Label.{Layer};
 ghost use Rattle.graph_walks.specs.Walks.{HasTwos, HasWalkRoom, IsWalkOf, IsWideWalk, set_for};
-ghost use Rattle.step_graphs.specs.Steps.{TakesIn};
-ghost use Rattle.station_joints.specs.Joined.{HaveJointSteps};
+ghost use Rattle.change_search.specs.declared.limits.TheConstants.{WALK_EDGES};
 ghost use Rattle.change_search.specs.Telling.{IsSwitchWalk};
 ghost use Rattle.change_search.specs.Searching.{HaveReached};
 ghost use Rattle.station_compare.specs.Walking.{AreStocks, IsWalked};
 ghost use Rattle.judge_pool.specs.declared.layer.Trouble.TheVariants.{Wide};
-ghost use Rattle.station_compare.specs.declared.limits.TheConstants.{WALK_EDGES};
-ghost use Rattle.station_compare.specs.Width.{KeepsWalk, PassesWalk};
+ghost use Rattle.station_compare.specs.Moving.{IsMovedSwitch, KeepsMoved, PassesMoved};
 
-use crate::limits::WALK_EDGES;
 use crate::loads::{new_load_graph, old_load_graph};
-use crate::moved::{new_graph, old_graph};
+use crate::moved::{MovedSwitch, new_graph, old_graph};
 use crate::stocks::Stocks;
 use change_search::{Reached, free_steps, free_steps_allow};
 use decision_graphs::{Graph, Marks};
 use graph_products::ProductTrouble;
 use graph_walks::{Walk, allowed_sets, walk_of};
-use ilk_base::{Memory, SwitchId};
+use ilk_base::Memory;
 use judge_pool::{Trouble, View};
-use station_graph::Station;
-use station_joints::JointSteps;
 use std::alloc::Global;
 
 // The walk of a switch, and what isolating choices and all choices reach in it.
@@ -43,89 +36,46 @@ fn walk_together(
     old_load: &Graph,
     new_load: &Graph,
     others: u16,
+    limit: usize,
 ) -> Result<Walk, Trouble>
     requires old_gap { HasTwos others old_gap.now }
     requires new_gap { HasTwos others new_gap.now }
     requires old_load { HasTwos others old_load.now }
     requires new_load { HasTwos others new_load.now }
+    requires limit { limit ≤ WALK_EDGES }
     ensures walk { IfOk result (λ w. IsWalkOf old_gap.now new_gap.now old_load.now new_load.now others w.graph
         w.codes.items) }
-    ensures room { IfOk result (λ _. HasWalkRoom old_gap.now new_gap.now old_load.now new_load.now others WALK_EDGES) }
+    ensures room { IfOk result (λ _. HasWalkRoom old_gap.now new_gap.now old_load.now new_load.now others limit) }
     ensures wide { IfErr result (λ e. e ≡ Wide →
-        IsWideWalk old_gap.now new_gap.now old_load.now new_load.now others WALK_EDGES) }
+        IsWideWalk old_gap.now new_gap.now old_load.now new_load.now others limit) }
 {
-    match walk_of(
-        alloc, old_gap, new_gap, old_load, new_load, others, WALK_EDGES,
-    ) {
+    match walk_of(alloc, old_gap, new_gap, old_load, new_load, others, limit) {
         Ok(walk) => Ok(walk),
         Err(ProductTrouble::Memory) => Err(Trouble::Memory),
         Err(ProductTrouble::Wide) => Err(Trouble::Wide),
     }
 }
 
-// The walk of a switch that both stations have, whose steps stand at this place.
-fn switch_walk(
-    alloc: Global,
-    stocks: &mut Stocks,
-    old: &Station,
-    new: &Station,
-    steps: &JointSteps,
-    place: u16,
-    id: SwitchId,
-    new_id: SwitchId,
-) -> Result<Walk, Trouble>
-    requires stocks { AreStocks old.now new.now steps.now stocks.old }
-    requires steps { HaveJointSteps old.now new.now steps.now }
-    requires old_at { TakesIn steps.now.old_steps.items place (a_switch id.0) }
-    requires new_at { TakesIn steps.now.new_steps.items place (a_switch new_id.0) }
-    requires some { 1 < length steps.now.old_steps.items }
-    ensures stocks { OnOk result (AreStocks old.now new.now steps.now stocks.new) }
-    ensures walk { IfOk result (λ w. IsSwitchWalk old.now new.now steps.now.old_steps.items steps.now.new_steps.items
-        place id.0 new_id.0 w.graph w.codes.items) }
-    ensures keeps { IfOk result (λ _. KeepsWalk old.now new.now steps.now.old_steps.items steps.now.new_steps.items
-        place id.0 new_id.0) }
-    ensures wide { IfErr result (λ e. e ≡ Wide → PassesWalk old.now new.now steps.now.old_steps.items
-        steps.now.new_steps.items place id.0 new_id.0) }
+// The walk of a switch that both stations have.
+fn switch_walk(alloc: Global, stocks: &mut Stocks, moved: &MovedSwitch<'_>) -> Result<Walk, Trouble>
+    requires stocks { AreStocks moved.now.old.now moved.now.new.now moved.now.steps.now stocks.old }
+    requires moved { IsMovedSwitch moved.now }
+    ensures stocks { OnOk result (AreStocks moved.now.old.now moved.now.new.now moved.now.steps.now stocks.new) }
+    ensures walk { IfOk result (λ w. IsSwitchWalk moved.now.old.now moved.now.new.now moved.now.steps.now.old_steps.items
+        moved.now.steps.now.new_steps.items moved.now.place moved.now.id.0 moved.now.new_id.0 w.graph w.codes.items) }
+    ensures keeps { IfOk result (λ _. KeepsMoved moved.now) }
+    ensures wide { IfErr result (λ e. e ≡ Wide → PassesMoved moved.now) }
 {
-    let olds = steps.old_steps.as_slice();
-    let news = steps.new_steps.as_slice();
-    let others = (olds.len() - 1) as u16;
+    let others = (moved.steps.old_steps.len() - 1) as u16;
     let gap = View::Gap;
-    let old_gap = old_graph(alloc, gap, &mut stocks.gap, old, new, olds, news, place, id)?;
-    let new_gap = new_graph(
-        alloc,
-        gap,
-        &mut stocks.gap,
-        old,
-        new,
-        olds,
-        news,
-        place,
-        new_id,
+    let old_gap = old_graph(alloc, gap, &mut stocks.gap, moved)?;
+    let new_gap = new_graph(alloc, gap, &mut stocks.gap, moved)?;
+    let old_load = old_load_graph(alloc, &mut stocks.load, moved, &old_gap)?;
+    let new_load = new_load_graph(alloc, &mut stocks.load, moved, &new_gap)?;
+    let limit = moved.limit;
+    let walk = walk_together(
+        alloc, &old_gap, &new_gap, &old_load, &new_load, others, limit,
     )?;
-    let old_load = old_load_graph(
-        alloc,
-        &mut stocks.load,
-        old,
-        new,
-        olds,
-        news,
-        place,
-        id,
-        &old_gap,
-    )?;
-    let new_load = new_load_graph(
-        alloc,
-        &mut stocks.load,
-        old,
-        new,
-        olds,
-        news,
-        place,
-        new_id,
-        &new_gap,
-    )?;
-    let walk = walk_together(alloc, &old_gap, &new_gap, &old_load, &new_load, others)?;
     Ok(walk)
 }
 
@@ -154,32 +104,22 @@ fn all_free(alloc: Global, others: u16) -> Result<Vec<bool>, Memory>
 pub(crate) fn walk_switch(
     alloc: Global,
     stocks: &mut Stocks,
-    old: &Station,
-    new: &Station,
-    steps: &JointSteps,
-    place: u16,
-    id: SwitchId,
-    new_id: SwitchId,
+    moved: &MovedSwitch<'_>,
 ) -> Result<Walked, Trouble>
-    requires stocks { AreStocks old.now new.now steps.now stocks.old }
-    requires steps { HaveJointSteps old.now new.now steps.now }
-    requires same { SameSwitch old.now new.now id.0 new_id.0 }
-    requires old_at { TakesIn steps.now.old_steps.items place (a_switch id.0) }
-    requires some { 1 < length steps.now.old_steps.items }
-    ensures stocks { OnOk result (AreStocks old.now new.now steps.now stocks.new) }
-    ensures walked { IfOk result (IsWalked old.now new.now steps.now place id.0 new_id.0) }
-    ensures keeps { IfOk result (λ _. KeepsWalk old.now new.now steps.now.old_steps.items steps.now.new_steps.items
-        place id.0 new_id.0) }
-    ensures wide { IfErr result (λ e. e ≡ Wide → PassesWalk old.now new.now steps.now.old_steps.items
-        steps.now.new_steps.items place id.0 new_id.0) }
+    requires stocks { AreStocks moved.now.old.now moved.now.new.now moved.now.steps.now stocks.old }
+    requires moved { IsMovedSwitch moved.now }
+    ensures stocks { OnOk result (AreStocks moved.now.old.now moved.now.new.now moved.now.steps.now stocks.new) }
+    ensures walked { IfOk result (IsWalked moved.now.old.now moved.now.new.now moved.now.steps.now moved.now.place
+        moved.now.id.0 moved.now.new_id.0) }
+    ensures keeps { IfOk result (λ _. KeepsMoved moved.now) }
+    ensures wide { IfErr result (λ e. e ≡ Wide → PassesMoved moved.now) }
 {
-    new.is_station();
     // what the free layers allow
     free_steps_allow();
-    let olds = steps.old_steps.as_slice();
-    let news = steps.new_steps.as_slice();
-    let walk = switch_walk(alloc, stocks, old, new, steps, place, id, new_id)?;
-    let free = free_steps(alloc, olds, news, place)?;
+    let olds = moved.steps.old_steps.as_slice();
+    let news = moved.steps.new_steps.as_slice();
+    let walk = switch_walk(alloc, stocks, moved)?;
+    let free = free_steps(alloc, olds, news, moved.place)?;
     let isolated = reached(alloc, &walk, &free)?;
     let open = all_free(alloc, (olds.len() - 1) as u16)?;
     let all = reached(alloc, &walk, &open)?;

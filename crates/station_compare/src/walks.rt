@@ -1,24 +1,23 @@
 //! What the walks of a bay's switches are made of.
 ghost use Rattle.std.specs.Prelude.{◌≡◌, ◌↔◌, ◌<◌, length, IsTrue, IfOk, OnOk};
-ghost use Rattle.station_graph.specs.Diagram.{part_count};
-ghost use Rattle.station_compare.specs.Likeness.{AreBayWalks};
-ghost use Rattle.station_compare.specs.Turning.{IsOfBay, IsBayBefore, AreNarrowBefore};
+ghost use Rattle.station_compare.specs.Sharing.{IsSharing};
+ghost use Rattle.station_compare.specs.Turning.{AreBayWalks, IsOfBay, IsBayBefore, AreNarrowBefore};
 
-use crate::likeness::{LikeBays, like_earlier};
+use crate::sharing::{Sharing, like_at};
 use crate::stocks::{Stocks, stocks_of};
 use ilk_base::{BayId, Memory, SwitchId};
 use station_graph::Station;
 use station_joints::{JointSteps, joint_steps_of_bay};
 use std::alloc::Global;
 
-// The bay at work, and what its walks are made of; or if an earlier bay is like it, the exchange of both. Then the rest is
-// that of another bay.
+// The bay at work, what its walks are made of, and what the bays share. Where the bay takes over what is found of another,
+// the walks are those of an earlier one.
 #[derive(Drop)]
 pub(crate) struct BayWalks {
     pub(crate) bay: BayId,
-    pub(crate) like: Option<LikeBays>,
     pub(crate) steps: JointSteps,
     pub(crate) stocks: Stocks,
+    pub(crate) sharing: Sharing,
 }
 
 // What the walks of this bay are made of.
@@ -26,8 +25,10 @@ pub(crate) fn walks_of(
     alloc: Global,
     old: &Station,
     new: &Station,
+    sharing: Sharing,
     bay: BayId,
 ) -> Result<BayWalks, Memory>
+    requires { IsSharing old.now new.now sharing }
     ensures walks { IfOk result (AreBayWalks old.now new.now) }
     ensures bay { IfOk result (λ w. w.bay ≡ bay) }
 {
@@ -35,9 +36,9 @@ pub(crate) fn walks_of(
     let stocks = stocks_of(alloc, old, new, &steps)?;
     Ok(BayWalks {
         bay,
-        like: None,
         steps,
         stocks,
+        sharing,
     })
 }
 
@@ -56,22 +57,19 @@ fn turn(
     new: &Station,
     bay: BayId,
 ) -> Result<(), Memory>
-    requires bay { bay.0 < part_count new.now }
-    requires walks { AreBayWalks old.now new.now walks.old }
+    requires { AreBayWalks old.now new.now walks.old }
     ensures walks { OnOk result (AreBayWalks old.now new.now walks.new) }
     ensures bay { OnOk result (walks.new.bay ≡ bay) }
+    ensures sharing { OnOk result (walks.new.sharing ≡ walks.old.sharing) }
 {
-    match like_earlier(alloc, old, new, bay)? {
-        Some(like) => {
-            walks.bay = bay;
-            walks.like = Some(like);
-            Ok(())
-        }
-        None => {
-            *walks = walks_of(alloc, old, new, bay)?;
-            Ok(())
-        }
+    walks.bay = bay;
+    if like_at(&walks.sharing.likes, bay).is_some() {
+        return Ok(());
     }
+    let steps = joint_steps_of_bay(alloc, old, new, bay)?;
+    walks.stocks = stocks_of(alloc, old, new, &steps)?;
+    walks.steps = steps;
+    Ok(())
 }
 
 // The work on the bay of this switch, before which each switch is narrow.

@@ -1,5 +1,4 @@
-use Rattle.std.proofs.Common.{List, sym, subst, arith, ◌∙◌, ap}
-use Rattle.ilk_base.specs.declared.words.BayId.{BayId}
+use Rattle.std.proofs.Common.{List, sym, subst, arith}
 use Rattle.station_compare.specs.declared.found.Found.{Found}
 use Rattle.station_compare.specs.Each.{AreEach}
 use Rattle.station_compare.specs.Comparing.{IsFound}

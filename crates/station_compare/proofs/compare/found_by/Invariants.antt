@@ -1,7 +1,6 @@
 use Rattle.station_compare.specs.Each.{AreEach}
 use Rattle.station_compare.specs.Comparing.{IsFound}
-use Rattle.station_compare.specs.Likeness.{AreBayWalks}
-use Rattle.station_compare.specs.Turning.{IsBayBefore, AreNarrowBefore}
+use Rattle.station_compare.specs.Turning.{AreBayWalks, IsBayBefore, AreNarrowBefore}
 use Rattle.station_compare.proofs.compare.found_by.Given as goal
 
 abbrev pub invariant-loop-k : goal.invariant-loop-k

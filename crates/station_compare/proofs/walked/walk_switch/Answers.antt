@@ -5,21 +5,15 @@ use Rattle.std.proofs.lemmas.Option.{slice_get_within}
 use Rattle.judge_pool.proofs.ErrorLemmas.{passed_on}
 use Rattle.graph_walks.specs.Walks.{set_for}
 use Rattle.step_graphs.specs.declared.step.Step.{Step}
-use Rattle.station_joints.proofs.ChoiceLemmas.{one_place}
 use Rattle.change_search.specs.Showing.{AreFree, AllowIsolating, AllowAll}
 use Rattle.station_compare.proofs.walked.walk_switch.Goals as goal
-
-pub switch_walk-requires-clause-new_at : goal.switch_walk-requires-clause-new_at
-switch_walk-requires-clause-new_at c =
-    one_place c.args.old.now c.args.new.now c.args.steps.now.old_steps.items c.args.steps.now.new_steps.items
-    c.args.place c.args.id.0 c.args.new_id.0 c.is_station.ensures c.requires.steps.steps c.requires.same
-    c.requires.old_at
 
 pub free_steps-requires-clause-place : goal.free_steps-requires-clause-place
 free_steps-requires-clause-place c =
     omega (
       arith,
-      slice_get_within c.args.steps.now.old_steps.items c.args.place c.requires.old_at.step c.requires.old_at.at,
+      slice_get_within c.args.moved.now.steps.now.old_steps.items c.args.moved.now.place c.requires.moved.walk.old_at.step
+          c.requires.moved.walk.old_at.at,
       ap length c.as_slice-olds.ensures.value,
     )
 
@@ -38,9 +32,9 @@ reached-requires-2 c =
 
 pub returns-clause-walked : goal.returns-clause-walked
 returns-clause-walked c =
-    let ss : List Step = c.args.steps.now.old_steps.items in
-    let ts : List Step = c.args.steps.now.new_steps.items in
-    let b = c.args.place in
+    let ss : List Step = c.args.moved.now.steps.now.old_steps.items in
+    let ts : List Step = c.args.moved.now.steps.now.new_steps.items in
+    let b = c.args.moved.now.place in
     let w = c.in_ok-walk.ensures.walk in
     let free : List Bool = c.in_ok-free.free.items in
     let are : AreFree ss ts b free =
@@ -55,7 +49,7 @@ returns-clause-walked c =
       isolating =
           subst (λ (sets : List (List Bool)). AllowIsolating ss ts b sets)
           (sym (c.in_ok-isolated.ensures.sets ∙ ap (λ (xs : List Bool). map set_for xs) c.deref.ensures.value))
-          (c.free_steps_allow.ensures.isolating ss ts b free c.requires.steps.steps.len are);
+          (c.free_steps_allow.ensures.isolating ss ts b free c.requires.moved.steps.steps.len are);
       all = c.in_ok-all.ensures.reached;
       allowed =
           subst (λ (sets : List (List Bool)). AllowAll ss sets)

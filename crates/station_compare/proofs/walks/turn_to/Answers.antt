@@ -18,3 +18,4 @@ returns-clause-before c =
     narrow_turned c.args.old.now c.args.new.now c.args.walks.now _ c.args.id.0 c.is_station.ensures c.requires.before
     c.requires.last c.switch.result c.switch.ensures.value (ap (λ (b : BayId). b.0) c.in_ok-turn.ensures.bay)
     (λ e. let t = c.is_at_work.ensures.1 e in cc (t, c.if-is_at_work.false)) c.in_ok-turn.ensures.walks
+    c.in_ok-turn.ensures.sharing
