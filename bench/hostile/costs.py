@@ -207,9 +207,11 @@ def at_limits():
             yield Case(f"{words[0]}: a grid of 3 by {height} nodes", words, files, b"", 0, by_edges=True)
     for devices in (17, 8, 4, 2):
         # up to 501 switches, most of them beside others at one node: the graphs of a bay stay as they are, but `tests`
-        # walks those of each switch, until one has more edges than its share of what all walks may have
+        # and `compare` walk those of each switch, until one has more edges than its share of what all walks may have
         files = {"a": grid(3, 9, devices).encode()}
-        yield Case(f"tests: such a grid with {devices} devices at each node", ["tests", "a"], files, b"", 5, by_edges=True)
+        for words in (["tests", "a"], ["compare", "a", "a"]):
+            what = f"{words[0]}: such a grid with {devices} devices at each node"
+            yield Case(what, words, files, b"", 5, by_edges=True)
 
 
 # ---- floods
