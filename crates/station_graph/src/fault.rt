@@ -7,7 +7,7 @@ use std::error::Error;
 use std::fmt;
 
 /// What a limit counts. Each has the number of its limit, from 1 to 9, as `What::Bytes as u8`.
-#[derive(Clone, Copy, Debug, PartialEq, Eq, Hash)]
+#[derive(Clone, Copy, Debug, PartialEq, Eq)]
 pub enum What {
     /// the bytes of a file
     Bytes = 1,

@@ -2,7 +2,7 @@
 use ilk_base::{BayId, Kind, NodeId};
 
 /// A switch: a breaker, a disconnector, an earthing switch or an infeed.
-#[derive(Clone, Copy, PartialEq, Eq, Hash)]
+#[derive(Clone, Copy, PartialEq, Eq)]
 pub struct Switch {
     /// what it is
     pub kind: Kind,
@@ -15,7 +15,7 @@ pub struct Switch {
 }
 
 /// A link: equipment that always joins its two ends.
-#[derive(Clone, Copy, PartialEq, Eq, Hash)]
+#[derive(Clone, Copy, PartialEq, Eq)]
 pub struct Link {
     /// one end
     pub first: NodeId,
@@ -29,7 +29,7 @@ pub struct Link {
 }
 
 /// A tap: a node from which load may come or go.
-#[derive(Clone, Copy, PartialEq, Eq, Hash)]
+#[derive(Clone, Copy, PartialEq, Eq)]
 pub struct Tap {
     /// the node
     pub node: NodeId,
