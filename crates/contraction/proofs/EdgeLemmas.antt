@@ -5,7 +5,7 @@ use Rattle.std.proofs.lemmas.Bool.{cases_lt, cases_eq, eq-eqb, ne_eqb, cond-true
 use Rattle.station_graph.specs.Connection.{AreEnds}
 use Rattle.station_graph.specs.Classes.{merged, relabelled}
 use Rattle.station_graph.proofs.LinkedLemmas.{ends_back}
-use Rattle.station_graph.proofs.ClassesLemmas.{KeepsLabels, KeepsLabels-merged}
+use Rattle.station_graph.proofs.ClassesLemmas.{KeepsLabels, KeepsLabels-merged, KeepsLabels-same}
 use Rattle.contraction.specs.Merging.{EdgeBelow, EdgeOf}
 
 edge_less : (p l : List ℕ) (i a b : ℕ) → EdgeBelow p l i a b → EdgeBelow p l (i + 1) a b
@@ -52,6 +52,10 @@ pub merged_self : (labels : List ℕ) (a : ℕ) → labels ≡ merged labels a a
 merged_self labels a =
     map_none (relabelled (slice_index labels a) (slice_index labels a)) (relabelled_self (slice_index labels a)) labels
 
+swapped : (X Y : Type 0) → X ⊎ Y → Y ⊎ X
+swapped X Y (inl x) = inr x
+swapped X Y (inr y) = inl y
+
 module _ (p l q m : List ℕ) where
   pub edges_back : (i j a b : ℕ) → EdgeOf p l i q m j a b → EdgeOf p l i q m j b a
   edges_back i j a b (inl e) = inl (edge_back p l i a b e)
@@ -97,3 +101,12 @@ module _ (p l q m : List ℕ) where
       (slice_index q (slice_index m j))
       (record { kept = second_kept i j; added = λ a b e. inr (edge_here q m j a b e); only = second_only i j })
       (edges_back i (j + 1)) a_in b_in h
+
+  -- either list may come first
+  pub edges_swapped : (i j n : ℕ) (labels : List ℕ) → KeepsLabels (EdgeOf p l i q m j) n labels →
+      KeepsLabels (EdgeOf q m j p l i) n labels
+  edges_swapped i j n labels h =
+      KeepsLabels-same (EdgeOf p l i q m j) (EdgeOf q m j p l i) n labels (record {
+        kept = λ a b e. swapped (EdgeBelow p l i a b) (EdgeBelow q m j a b) e;
+        only = λ a b e. swapped (EdgeBelow q m j a b) (EdgeBelow p l i a b) e;
+      }) h

@@ -2,6 +2,7 @@ pub mod ItemSets
 pub mod ComposeLemmas
 pub mod StandsLemmas
 pub mod EdgeLemmas
+pub mod AloneLemmas
 pub mod MarkLemmas
 pub mod MergeLemmas
 pub mod PlaceLemmas

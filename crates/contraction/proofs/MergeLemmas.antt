@@ -5,9 +5,9 @@ use Rattle.std.proofs.lemmas.Bool.{cases_eq, cases_lt}
 use Rattle.std.proofs.lemmas.List.{length_push}
 use Rattle.std.proofs.lemmas.Option.{slice_get_within, slice_get-get_or, get_or_from_slice_get}
 use Rattle.station_graph.specs.declared.limits.TheConstants.{NODES}
-use Rattle.contraction.specs.Answers.{AreNodes}
+use Rattle.contraction.specs.Answers.{AreNodes, AreLabels}
 use Rattle.station_graph.specs.Nodes.{Rises}
-use Rattle.contraction.specs.Merging.{IsLeastNext, Advances, Follows, ComesFrom, Merging, IsMerged}
+use Rattle.contraction.specs.Merging.{IsLeastNext, Advances, Follows, ComesFrom, Merging, IsMerged, LabelsFit}
 
 pub push_old : (xs : List ℕ) (x k : ℕ) → k < length xs → slice_index (xs ++ x ∷ []) k ≡ slice_index xs k
 push_old [] x k h = absurd (omega (arith, h))
@@ -91,6 +91,7 @@ module _ (nodes kept : List ℕ) (x : ℕ) (rises : Rises nodes) (least : (place
               | inl old ↦ omega (arith, push_old kept x k old, f.ahead k old inside, up1)
               | inr last ↦ let at : k ≡ length kept = omega arith in omega (arith, push_new kept x k at, is_x, up1)
             ];
+        rises = rises_push places (length kept) f.rises f.inside;
       }
 
   follows_other : (places : List ℕ) → Follows nodes kept places →
@@ -112,6 +113,7 @@ module _ (nodes kept : List ℕ) (x : ℕ) (rises : Rises nodes) (least : (place
               let other : x ≢ slice_index nodes (length places) = λ e. ne (head ∙ ap Some (sym e)) in
               omega (arith, push_new kept x k at)
         ];
+        rises = f.rises;
       }
 
 pub follows_step : (nodes kept places new : List ℕ) (x : ℕ) → Rises nodes → Follows nodes kept places →
@@ -250,3 +252,27 @@ module _ (a b kept p q p1 q1 : List ℕ) (x : ℕ) (rises_a : Rises a) (rises_b 
       advances_long a x (length kept) p p1 in_a,
     )
   ]
+
+-- labels of the first list fit its places, under what is seen of them
+pub first_fits : (a a1 b kept p q l p1 l1 : List ℕ) (n : ℕ) → IsMerged a b kept p q → a ≡ a1 → AreLabels (length a1) l →
+    p1 ≡ p → l1 ≡ l → n ≡ length kept → LabelsFit p1 n l1
+first_fits a a1 b kept p q l p1 l1 n m ea w ep el en =
+    subst (λ z. LabelsFit z n l1) (sym ep) (subst (λ z. LabelsFit p z l1) (sym en)
+    (subst (λ z. LabelsFit p (length kept) z) (sym el) (record {
+      len = omega (arith, w.len, m.first_len, ap length ea);
+      rises = m.first_rises;
+      inside = λ k h. m.first_inside k (omega (arith, m.first_len));
+      below = λ k h. w.below k (omega (arith, m.first_len, ap length ea));
+    })))
+
+-- so for the second list
+pub second_fits : (a b b1 kept p q l q1 l1 : List ℕ) (n : ℕ) → IsMerged a b kept p q → b ≡ b1 → AreLabels (length b1) l →
+    q1 ≡ q → l1 ≡ l → n ≡ length kept → LabelsFit q1 n l1
+second_fits a b b1 kept p q l q1 l1 n m eb w eq el en =
+    subst (λ z. LabelsFit z n l1) (sym eq) (subst (λ z. LabelsFit q z l1) (sym en)
+    (subst (λ z. LabelsFit q (length kept) z) (sym el) (record {
+      len = omega (arith, w.len, m.second_len, ap length eb);
+      rises = m.second_rises;
+      inside = λ k h. m.second_inside k (omega (arith, m.second_len));
+      below = λ k h. w.below k (omega (arith, m.second_len, ap length eb));
+    })))

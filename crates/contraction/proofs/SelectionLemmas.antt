@@ -53,6 +53,7 @@ module _ (x y : Inside) (wx : IsContraction (answers_of x)) (wy : IsContraction 
       LabelsFit s.union.first.items (length s.union.kept.items) l
   first_labels_fit l w = record {
     len = w.len ∙ sym is.merged.first_len;
+    rises = is.merged.first_rises;
     inside = λ k h. is.merged.first_inside k (omega (arith, is.merged.first_len));
     below = λ k h. w.below k (omega (arith, is.merged.first_len));
   }
@@ -61,6 +62,7 @@ module _ (x y : Inside) (wx : IsContraction (answers_of x)) (wy : IsContraction 
       LabelsFit s.union.second.items (length s.union.kept.items) l
   second_labels_fit l w = record {
     len = w.len ∙ sym is.merged.second_len;
+    rises = is.merged.second_rises;
     inside = λ k h. is.merged.second_inside k (omega (arith, is.merged.second_len));
     below = λ k h. w.below k (omega (arith, is.merged.second_len));
   }

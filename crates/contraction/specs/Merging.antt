@@ -30,6 +30,7 @@ pub record Follows (nodes kept places : List ℕ) : Type 0 where
   pub stands : (k : ℕ) → k < length places → slice_index kept (slice_index places k) ≡ slice_index nodes k
   pub ahead : (k : ℕ) → k < length kept → length places < length nodes →
       slice_index kept k < slice_index nodes (length places)
+  pub rises : Rises places
 
 -- Each entry comes from one of the lists.
 abbrev pub ComesFrom : List ℕ → List ℕ → ℕ → Type 0
@@ -53,6 +54,8 @@ pub record IsMerged (a b kept first second : List ℕ) : Type 0 where
   pub second_inside : (k : ℕ) → k < length b → slice_index second k < length kept
   pub first_stands : (k : ℕ) → k < length a → slice_index kept (slice_index first k) ≡ slice_index a k
   pub second_stands : (k : ℕ) → k < length b → slice_index kept (slice_index second k) ≡ slice_index b k
+  pub first_rises : Rises first
+  pub second_rises : Rises second
   pub comes : (k : ℕ) → k < length kept → ComesFrom first second k
 
 -- One of the first i entries stands at one of these places, and its label at the other.
@@ -85,6 +88,11 @@ pub record Noted (labels places : List ℕ) (marks : List Bool) (i : ℕ) (old n
   pub noted : (c : ℕ) → c < length old → (slice_get new c ≡ Some true) ↔
       ((slice_get old c ≡ Some true) ⊎ MarksClass places labels marks i c)
 
+-- The place is in a class of its own.
+pub record IsAlone (labels : List ℕ) (place : ℕ) : Type 0 where
+  pub own : slice_index labels place ≡ place
+  pub only : (k : ℕ) → k < length labels → slice_index labels k ≡ place → k ≡ place
+
 -- The labels of both rows together, over so many places.
 abbrev pub LabelsOfBoth : List ℕ → List ℕ → List ℕ → List ℕ → ℕ → List ℕ → Type 0
 LabelsOfBoth first first_labels second second_labels count labels =
@@ -104,10 +112,10 @@ pub record MarksOfBoth (labels first : List ℕ) (first_marks : List Bool) (seco
   pub told : (k : ℕ) → k < length labels → (slice_get marks k ≡ Some true) ↔
       MarkedInEither labels first first_marks (length first) second second_marks (length second) (slice_index labels k)
 
--- The entries of a row of labels stand at these places, which are so many, and each label is at most
--- its place.
+-- The entries of a row of labels stand at these rising places among so many, and each label is at most its entry.
 pub record LabelsFit (places : List ℕ) (count : ℕ) (labels : List ℕ) : Type 0 where
   pub len : length labels ≡ length places
+  pub rises : Rises places
   pub inside : (k : ℕ) → k < length places → slice_index places k < count
   pub below : (k : ℕ) → k < length places → slice_index labels k ≤ k
 

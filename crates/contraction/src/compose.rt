@@ -24,7 +24,7 @@ impl Contraction {
     /// may lead through a common node that neither keeps, and this value says nothing of it. Each view
     /// follows from that view of the two alone.
     ///
-    /// Time: the kept nodes, times the classes of more than one of them. Memory: the kept nodes.
+    /// Time: the kept nodes, times those that the value with fewer of them joins to others. Memory: the kept nodes.
     pub fn compose(&self, alloc: Global, other: &Contraction) -> Result<Contraction, Memory>
         ensures contraction { IfOk result IsContraction }
         ensures composes { IfOk result (Composes self.now other.now) }

@@ -90,7 +90,7 @@ impl Contraction {
     /// The row of the gap view of what `compose_gap_on` gives, in less time than that takes. So who has made such
     /// a value before finds it by its row, and makes it not again.
     ///
-    /// Time: the kept nodes, times the classes of more than one of them. Memory: the kept nodes.
+    /// Time: the kept nodes, times those that the value with fewer of them joins to others. Memory: the kept nodes.
     pub fn composed_gap_row(
         &self,
         alloc: Global,
@@ -108,7 +108,7 @@ impl Contraction {
 
     /// The row of the load view of what `compose_load_on` gives, in less time than that takes.
     ///
-    /// Time: the kept nodes, times the classes of more than one of them. Memory: the kept nodes.
+    /// Time: the kept nodes, times those that the value with fewer of them joins to others. Memory: the kept nodes.
     pub fn composed_load_row(
         &self,
         alloc: Global,

@@ -3,7 +3,7 @@ ghost use Rattle.std.specs.Prelude.{◌≡◌, ℕ, ◌<◌, ◌≤◌, ◌^◌,
 ghost use Rattle.std.specs.Prelude.{slice_index, IfOk};
 ghost use Rattle.station_graph.specs.declared.limits.TheConstants.{NODES};
 ghost use Rattle.station_graph.specs.Classes.{merged};
-ghost use Rattle.contraction.specs.Merging.{LabelsFit, LabelsOfBoth};
+ghost use Rattle.contraction.specs.Merging.{LabelsFit, IsAlone, LabelsOfBoth};
 ghost use Rattle.contraction.specs.Restricting.{LabelsRestrict, FirstAt};
 ghost use Rattle.contraction.specs.Single.{AreAlone};
 
@@ -87,9 +87,28 @@ fn follow(labels: &mut [u16], places: &[u16], row: &[u16], i: usize)
     }
 }
 
-// The labels of the places of a merged list, from the labels of both lists: the classes of both are
-// closed up over one another.
-pub(crate) fn label_both(
+// The same for an entry whose place is in a class of its own: one label is written, and no other is looked at.
+fn follow_alone(labels: &mut [u16], places: &[u16], row: &[u16], i: usize)
+    requires entry { i < length row.now }
+    requires len { length row.now ≡ length places.now }
+    requires below { slice_index row.now i ≤ i }
+    requires first { slice_index places.now i < length labels.old }
+    requires second { slice_index places.now (slice_index row.now i) < length labels.old }
+    requires alone { IsAlone labels.old (slice_index places.now i) }
+    requires lower { slice_index labels.old (slice_index places.now (slice_index row.now i)) ≤ slice_index places.now i }
+    ensures { labels.new
+        ≡ merged labels.old (slice_index places.now i) (slice_index places.now (slice_index row.now i)) }
+{
+    let label = row[i] as usize;
+    if label != i {
+        labels[places[i] as usize] = labels[places[label] as usize];
+    }
+}
+
+// The labels of the places of a merged list, from the labels of both lists: the classes of both are closed up over one
+// another. The places of a list rise. So in the first pass the place of each entry is in a class of its own when it is
+// reached, and only in the second do classes become one.
+fn label_in_turn(
     labels: &mut [u16],
     first: &[u16],
     first_labels: &[u16],
@@ -103,10 +122,30 @@ pub(crate) fn label_both(
 {
     part(labels);
     'firsts: for i in 0..first.len() {
-        follow(labels, first, first_labels, i);
+        follow_alone(labels, first, first_labels, i);
     }
     'seconds: for j in 0..second.len() {
         follow(labels, second, second_labels, j);
+    }
+}
+
+// The same, with the longer list first, since the first pass is the quicker one.
+pub(crate) fn label_both(
+    labels: &mut [u16],
+    first: &[u16],
+    first_labels: &[u16],
+    second: &[u16],
+    second_labels: &[u16],
+)
+    requires few { length labels.old ≤ 2 ^ 16 }
+    requires first { LabelsFit first.now (length labels.old) first_labels.now }
+    requires second { LabelsFit second.now (length labels.old) second_labels.now }
+    ensures { LabelsOfBoth first.now first_labels.now second.now second_labels.now (length labels.old) labels.new }
+{
+    if first.len() < second.len() {
+        label_in_turn(labels, second, second_labels, first, first_labels);
+    } else {
+        label_in_turn(labels, first, first_labels, second, second_labels);
     }
 }
 

@@ -16,7 +16,7 @@ impl Contraction {
     /// What `compose` and then `keep_only` give in the gap view alone, with less work: the items of both
     /// together, on these of the nodes that either keeps. The load view of the value is that of no item.
     ///
-    /// Time: the kept nodes, times the classes of more than one of them. Memory: the kept nodes.
+    /// Time: the kept nodes, times those that the value with fewer of them joins to others. Memory: the kept nodes.
     pub fn compose_gap(
         &self,
         alloc: Global,
@@ -38,7 +38,7 @@ impl Contraction {
     /// What `compose_gap` gives, on a selection of the nodes that both values keep. So one selection serves all pairs
     /// of values that keep the same nodes.
     ///
-    /// Time: the kept nodes, times the classes of more than one of them. Memory: the kept nodes.
+    /// Time: the kept nodes, times those that the value with fewer of them joins to others. Memory: the kept nodes.
     pub fn compose_gap_on(
         &self,
         alloc: Global,
@@ -64,7 +64,7 @@ impl Contraction {
     /// both together, on these of the nodes that either keeps. The gap view of the value is that of no
     /// item.
     ///
-    /// Time: the kept nodes, times the classes of more than one of them. Memory: the kept nodes.
+    /// Time: the kept nodes, times those that the value with fewer of them joins to others. Memory: the kept nodes.
     pub fn compose_load(
         &self,
         alloc: Global,
@@ -86,7 +86,7 @@ impl Contraction {
     /// What `compose_load` gives, on a selection of the nodes that both values keep. So one selection serves all
     /// pairs of values that keep the same nodes.
     ///
-    /// Time: the kept nodes, times the classes of more than one of them. Memory: the kept nodes.
+    /// Time: the kept nodes, times those that the value with fewer of them joins to others. Memory: the kept nodes.
     pub fn compose_load_on(
         &self,
         alloc: Global,

@@ -4,7 +4,7 @@ use Rattle.contraction.specs.Answers.{Answers}
 use Rattle.contraction.specs.Stands.{Among}
 use Rattle.contraction.specs.Composing.{Composes}
 use Rattle.contraction.specs.Inside.{answers_of}
-use Rattle.contraction.proofs.MergeLemmas.{merged_few}
+use Rattle.contraction.proofs.MergeLemmas.{merged_few, first_fits, second_fits}
 use Rattle.contraction.proofs.ItemSets.{Either, gap_over, load_over, among_both}
 use Rattle.contraction.proofs.StandsLemmas.{composes_gap, composes_load}
 use Rattle.contraction.proofs.ComposedLemmas.{Made, steps_made, composed, composed_well}
@@ -32,6 +32,22 @@ overflow_cast-len c =
     u.first.items u.second.items c.deref.ensures.value c.deref-2.ensures.value c.self.invariant.nodes
     c.other.invariant.nodes c.in_ok-union.ensures in
     omega (arith, c.len.ensures)
+
+pub labels_of_both-requires-clause-first : goal.labels_of_both-requires-clause-first
+labels_of_both-requires-clause-first c =
+    let x = c.self.inside in
+    let u = c.in_ok-union.union in
+    first_fits c.deref.result.now x.kept.items c.deref-2.result.now u.kept.items u.first.items u.second.items x.bonded
+    c.deref-3.result.now c.numbers.result.now c.len.result c.in_ok-union.ensures c.deref.ensures.value
+    c.self.invariant.bonded c.deref-3.ensures.value c.numbers.ensures (omega arith)
+
+pub labels_of_both-requires-clause-second : goal.labels_of_both-requires-clause-second
+labels_of_both-requires-clause-second c =
+    let y = c.other.inside in
+    let u = c.in_ok-union.union in
+    second_fits c.deref.result.now c.deref-2.result.now y.kept.items u.kept.items u.first.items u.second.items y.bonded
+    c.deref-4.result.now c.numbers-2.result.now c.len.result c.in_ok-union.ensures c.deref-2.ensures.value
+    c.other.invariant.bonded c.deref-4.ensures.value c.numbers-2.ensures (omega arith)
 
 pub invariant_of-result : goal.invariant_of-result
 invariant_of-result c =
