@@ -12,6 +12,7 @@ pub mod FinishLemmas
 pub mod ReachLemmas
 pub mod FrontierLemmas
 pub mod NoteLemmas
+pub mod WayLemmas
 pub mod PathLemmas
 pub mod ArrivalLemmas
 pub mod ReducedLemmas

@@ -2,6 +2,8 @@ pub mod Label
 pub mod Rows
 pub mod Drafting
 pub mod Shapes
+pub mod Placed
+pub mod Ways
 pub mod Whole
 pub mod LaidOut
 pub mod Inside

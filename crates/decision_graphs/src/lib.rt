@@ -31,6 +31,7 @@ mod same;
 mod sets;
 mod shape;
 mod shared_numbers;
+mod ways;
 
 pub use builder::{GraphBuilder, Unfinished};
 pub use choices::ChoiceList;

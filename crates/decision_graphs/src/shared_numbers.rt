@@ -1,6 +1,7 @@
 //! Numbers that more than one owner holds.
 ghost use Rattle.std.specs.Prelude.{◌≡◌, ◌++◌, ◌∷◌, [], length, map, IfOk, OnOk};
 ghost use Rattle.std.specs.List.{concat};
+ghost use Rattle.decision_graphs.specs.Placed.{ArePlaces};
 
 use ilk_base::Memory;
 use std::alloc::Global;
@@ -10,12 +11,22 @@ use std::rc::Rc;
 // Of a list so many numbers are mixed into its hash, and less than twice as many.
 const MIXED: usize = 256;
 
+// Places behind so many numbers are not noted.
+const PLACES: usize = 4_294_967_296;
+
+// Numbers, and for each number from 0 up, in order, a place at which it stands, as far as such places are noted.
+#[derive(Drop)]
+pub(crate) struct Placed {
+    pub(crate) numbers: Vec<u32>,
+    pub(crate) places: Vec<u32>,
+}
+
 /// A list of numbers that lies in memory once for all who hold it, as the edges of a layer do for the graphs that have
 /// the layer. It has a hash of itself, so that like lists are found without a look at all numbers. Contracts see it as
 /// the list.
 #[derive(Drop)]
 pub struct SharedNumbers {
-    numbers: Rc<Vec<u32>>,
+    held: Rc<Placed>,
     hash: u64,
 }
 
@@ -24,7 +35,11 @@ impl Model for SharedNumbers {
 
     ghost Value = { List ℕ };
 
-    ghost view = { λ s. s.numbers.value.items };
+    ghost use Rattle.decision_graphs.specs.Placed.{ArePlaces};
+
+    ghost view = { λ s. s.held.value.numbers.items };
+
+    ghost invariant = { λ s. ArePlaces s.held.value.numbers.items s.held.value.places.items };
 }
 
 // Mixes a number into a hash.
@@ -43,26 +58,53 @@ fn hash_of(list: &[u32]) -> u64 {
     sum
 }
 
+// For each number from 0 up, in order, the first place at which it stands, as far as these places rise.
+fn places_of(alloc: Global, numbers: &[u32]) -> Result<Vec<u32>, Memory>
+    ensures { IfOk result (λ v. ArePlaces numbers.now v.items) }
+{
+    let mut places = Vec::new(alloc);
+    for (place, number) in numbers.iter().enumerate() {
+        if *number as usize == places.len() && place < PLACES {
+            places.push(place as u32)?;
+        }
+    }
+    Ok(places)
+}
+
+// These numbers with these places, held by one owner.
+fn shared(alloc: Global, numbers: Vec<u32>, places: Vec<u32>) -> Result<SharedNumbers, Memory>
+    requires { ArePlaces numbers.items places.items }
+    ensures { IfOk result (λ s. s ≡ numbers.items) }
+{
+    let hash = hash_of(&numbers);
+    let held = Rc::new(alloc, Placed { numbers, places })?;
+    Ok(SharedNumbers { held, hash })
+}
+
 impl SharedNumbers {
-    /// These numbers, held by one owner. Constant time; takes 40 bytes beside the numbers.
+    /// These numbers, held by one owner. Constant time; takes 60 bytes beside the numbers.
     pub fn new(alloc: Global, numbers: Vec<u32>) -> Result<SharedNumbers, Memory>
         ensures { IfOk result (λ s. s ≡ numbers.items) }
     {
-        let hash = hash_of(&numbers);
-        let held = Rc::new(alloc, numbers)?;
-        Ok(SharedNumbers {
-            numbers: held,
-            hash,
-        })
+        shared(alloc, numbers, Vec::new(alloc))
+    }
+
+    // The same, with their places noted, where they are edges that many graphs are to have. Linear in numbers; takes 4
+    // bytes more for each place.
+    pub(crate) fn placed(alloc: Global, numbers: Vec<u32>) -> Result<SharedNumbers, Memory>
+        ensures { IfOk result (λ s. s ≡ numbers.items) }
+    {
+        let places = places_of(alloc, &numbers)?;
+        shared(alloc, numbers, places)
     }
 
     /// The same numbers, held by one owner more. Constant time; takes no memory.
     pub fn share(&self) -> Result<SharedNumbers, Memory>
         ensures { IfOk result (λ s. s ≡ self.now) }
     {
-        let held = self.numbers.clone()?;
+        let held = self.held.clone()?;
         Ok(SharedNumbers {
-            numbers: held,
+            held,
             hash: self.hash,
         })
     }
@@ -71,7 +113,14 @@ impl SharedNumbers {
     pub fn as_slice(&self) -> &[u32]
         ensures { result.now ≡ self.now }
     {
-        self.numbers.as_ref()
+        &self.held.as_ref().numbers
+    }
+
+    // For each number from 0 up, in order, a place at which it stands, as far as such places are noted.
+    pub(crate) fn places(&self) -> &[u32]
+        ensures { ArePlaces self.now result.now }
+    {
+        &self.held.as_ref().places
     }
 
     // A hash of the numbers: lists that are the same have the same one, and others mostly have others.

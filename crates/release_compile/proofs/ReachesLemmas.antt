@@ -1,28 +1,11 @@
--- What is reached, part by part, and the verdicts, switch by switch.
-use Rattle.std.proofs.Common.{◌≡◌, ℕ, ◌+◌, List, [], ◌∷◌, ◌++◌, Option, refl, sym, ◌∙◌, subst, inl, inr, arith}
+-- The verdicts, switch by switch.
+use Rattle.std.proofs.Common.{◌≡◌, ℕ, ◌+◌, List, [], ◌∷◌, ◌++◌, refl, sym, ◌∙◌, subst, inl, inr, arith}
 use Rattle.std.proofs.lemmas.List.{length_push}
 use Rattle.ilk_base.specs.declared.words.Dbpos.{Dbpos}
 use Rattle.station_graph.specs.Diagram.{Diagram}
 use Rattle.station_graph.proofs.PathLemmas.{slice_get-push}
-use Rattle.release_compile.specs.declared.reached.Reached.{Reached}
 use Rattle.release_compile.specs.declared.station.SwitchVerdicts.{SwitchVerdicts}
-use Rattle.release_compile.specs.Judging.{Judging}
-use Rattle.release_compile.specs.Reaches.{IsReachOf, AreReaches, AreVerdictsOf, AreVerdicts}
-
-pub reaches_none : (j : Judging) (words : List Dbpos) → AreReaches j words [] 0
-reaches_none j words = record { len = refl; each = λ b r at. cc }
-
-pub reaches_more : (j : Judging) (words : List Dbpos) (list : List (Option Reached)) (n : ℕ) (r : Option Reached) →
-    AreReaches j words list n → IsReachOf j words n r → AreReaches j words (list ++ r ∷ []) (n + 1)
-reaches_more j words list n r are new = record {
-  len = omega (arith, length_push list r, are.len);
-  each = λ b s at. elim (slice_get-push list r s b at) [
-    | inl before ↦ are.each b s before
-    | inr here ↦
-        (let e : n ≡ b = sym (here.0 ∙ are.len) in
-        subst (λ x. IsReachOf j words b x) here.1 (subst (λ k. IsReachOf j words k r) e new))
-  ];
-}
+use Rattle.release_compile.specs.Reaches.{AreVerdictsOf, AreVerdicts}
 
 pub verdicts_none : (d : Diagram) (words : List Dbpos) → AreVerdicts d words [] 0
 verdicts_none d words = record { len = refl; each = λ i s at. cc }

@@ -1,9 +1,10 @@
 //! The verdicts of all operations of a station, by one list of words.
-ghost use Rattle.std.specs.Prelude.{◌≡◌, ◌<◌, length, slice_get, Some, IfOk};
+ghost use Rattle.std.specs.Prelude.{◌≡◌, ◌<◌, length, IfOk, IfSome};
 ghost use Rattle.station_graph.specs.Diagram.{part_count};
 ghost use Rattle.station_graph.specs.Connection.{a_switch};
 ghost use Rattle.station_graph.specs.Sharing.{OfPart};
 ghost use Rattle.double_points.specs.Words.{AreWords};
+ghost use Rattle.central_rules.specs.Meaning.{IsBay, bay_of};
 ghost use Rattle.part_alphabets.specs.Alphabets.{AreAlphabets};
 ghost use Rattle.judge_pool.specs.Lettered.{lettered};
 ghost use Rattle.judge_graphs.specs.Built.{AreBayGraphs};
@@ -13,7 +14,7 @@ ghost use Rattle.release_compile.specs.Judging.{ground};
 ghost use Rattle.release_compile.specs.Summaries.{ArePossibleSets};
 ghost use Rattle.release_compile.specs.Possible.{AreAllWords};
 ghost use Rattle.release_compile.specs.Sides.{AreSides};
-ghost use Rattle.release_compile.specs.Reaches.{IsReachOf, AreReaches, AreVerdictsOf, AreVerdicts};
+ghost use Rattle.release_compile.specs.Reaches.{IsReachOf, AreVerdictsOf, AreVerdicts};
 
 use crate::all_words::{AllWords, possible_by};
 use crate::build::{GraphJudge, switch_bay};
@@ -38,42 +39,51 @@ pub struct SwitchVerdicts {
     pub closing: Verdict,
 }
 
-// What the outer graphs of a part reach by the words, if it has switches.
-fn reach_part(
+// What the outer graphs of a bay reach by the words.
+#[derive(Drop)]
+pub(crate) struct BayReach {
+    pub(crate) bay: BayId,
+    pub(crate) reached: Reached,
+}
+
+// What the outer graphs of a bay reach by the words.
+fn reach_bay(
     alloc: Global,
     judge: &GraphJudge,
     bay: BayId,
     all: &AllWords,
-) -> Result<Option<Reached>, Memory>
-    requires bay { bay.0 < part_count judge.now.diagram }
+) -> Result<BayReach, Memory>
+    requires bay { IsBay judge.now.diagram bay.0 }
     requires all { AreAllWords (ground judge.now) all.now }
-    ensures { IfOk result (IsReachOf judge.now all.now.words.now bay.0) }
+    ensures bay { IfOk result (λ r. r.bay ≡ bay) }
+    ensures reach { IfOk result (IsReachOf judge.now all.now.words.now) }
 {
     let station = judge.station();
-    let (_, count) = station.switches_of(bay);
-    if count == 0 {
-        return Ok(None);
-    }
     let graphs = judge.bay(bay);
     let reached = reach_words(alloc, station, judge.parts(), graphs, bay, all)?;
-    Ok(Some(reached))
+    Ok(BayReach { bay, reached })
 }
 
-// What the outer graphs of each part reach by the words.
-fn reach_parts(
+// The same, which is at hand where it was asked of this bay last.
+fn reach_of(
     alloc: Global,
     judge: &GraphJudge,
+    last: Option<BayReach>,
+    bay: BayId,
     all: &AllWords,
-) -> Result<Vec<Option<Reached>>, Memory>
-    requires { AreAllWords (ground judge.now) all.now }
-    ensures { IfOk result (λ v. AreReaches judge.now all.now.words.now v.items (part_count judge.now.diagram)) }
+) -> Result<BayReach, Memory>
+    requires last { IfSome last (IsReachOf judge.now all.now.words.now) }
+    requires bay { IsBay judge.now.diagram bay.0 }
+    requires all { AreAllWords (ground judge.now) all.now }
+    ensures bay { IfOk result (λ r. r.bay ≡ bay) }
+    ensures reach { IfOk result (IsReachOf judge.now all.now.words.now) }
 {
-    let mut reaches = Vec::new(alloc);
-    for part in 0..judge.station().part_count() {
-        let reached = reach_part(alloc, judge, BayId(part as u8), all)?;
-        reaches.push(reached)?;
+    if let Some(reach) = last {
+        if reach.bay == bay {
+            return Ok(reach);
+        }
     }
-    Ok(reaches)
+    reach_bay(alloc, judge, bay, all)
 }
 
 // The verdicts of both operations of a switch, in graphs that are ready for the words.
@@ -133,34 +143,41 @@ fn judge_both(
     Ok(verdicts)
 }
 
-// The verdicts of both operations of a switch, by what the outer graphs of all bays reach.
+// The same, by what was reached for its bay.
 fn judge_switch(
     alloc: Global,
     judge: &GraphJudge,
-    reaches: &[Option<Reached>],
+    reach: &BayReach,
     switch: SwitchId,
     all: &AllWords,
 ) -> Result<SwitchVerdicts, Memory>
     requires switch { switch.0 < length judge.now.diagram.switches }
     requires all { AreAllWords (ground judge.now) all.now }
-    requires reaches { AreReaches judge.now all.now.words.now reaches.now (part_count judge.now.diagram) }
+    requires reach { IsReachOf judge.now all.now.words.now reach.now }
+    requires bay { reach.now.bay.0 ≡ bay_of judge.now.diagram switch.0 }
     ensures { IfOk result (AreVerdictsOf judge.now.diagram all.now.words.now switch.0) }
 {
     let station = judge.station();
     let bay = switch_bay(station, switch);
     let graphs = judge.bay(bay);
     let parts = judge.parts();
-    match &reaches[usize::from(bay.0)] {
-        Some(reached) => judge_both(alloc, station, parts, graphs, bay, switch, all, reached),
-        None => unreachable!(),
-    }
+    judge_both(
+        alloc,
+        station,
+        parts,
+        graphs,
+        bay,
+        switch,
+        all,
+        &reach.reached,
+    )
 }
 
 impl<'a> GraphJudge<'a> {
     /// The verdicts of both operations of each switch in order, where the word of every switch is known: each as
     /// `judge_all` gives it. Time: the steps of the parts and the edges of all outer graphs, each once, and for each
-    /// operation the edges of its inner graphs; for each denial the edges of one outer graph more. Memory: for each bay
-    /// the indices of all parts and the nodes of its outer graphs.
+    /// operation the edges of its inner graphs; for each denial the layers of one outer graph more. Memory: for one bay
+    /// at a time the indices of all parts and the nodes of its outer graphs.
     pub fn judge_station(
         &self,
         alloc: Global,
@@ -171,11 +188,14 @@ impl<'a> GraphJudge<'a> {
             (length self.now.diagram.switches)) }
     {
         let all = possible_by(alloc, self.station(), self.parts(), readings)?;
-        let reaches = reach_parts(alloc, self, &all)?;
         let mut verdicts = Vec::new(alloc);
+        let mut last = None;
         for switch in 0..self.station().switch_count() {
-            let both = judge_switch(alloc, self, &reaches, SwitchId(switch), &all)?;
+            let bay = switch_bay(self.station(), SwitchId(switch));
+            let reach = reach_of(alloc, self, last, bay, &all)?;
+            let both = judge_switch(alloc, self, &reach, SwitchId(switch), &all)?;
             verdicts.push(both)?;
+            last = Some(reach);
         }
         Ok(verdicts)
     }

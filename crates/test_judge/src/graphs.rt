@@ -21,7 +21,7 @@ enum Asked {
 }
 
 // Whether each name is one of so many labels.
-fn are_names(names: &[u32], labels: u32) -> bool
+pub(crate) fn are_names(names: &[u32], labels: u32) -> bool
     ensures { IsTrue result → (x : ℕ) → x < length names.now → slice_index names.now x < labels }
 {
     names.iter().all(|name| *name < labels)

@@ -32,6 +32,8 @@ mod renamed;
 #[cfg(test)]
 mod selected;
 #[cfg(test)]
+mod shared;
+#[cfg(test)]
 mod unchanged;
 #[cfg(test)]
 mod words;

@@ -1,64 +1,38 @@
-use Rattle.std.proofs.Common.{◌≡◌, ◌<◌, ◌∙◌, List, Option, Some, None, length, slice_get, refl, sym, ap, subst, arith}
-use Rattle.std.proofs.lemmas.Option.{slice_get_read}
-use Rattle.station_graph.specs.Diagram.{Diagram, part_count}
+use Rattle.std.proofs.Common.{sym, subst, ap, ◌∙◌, ◌≡◌, ℕ}
+use Rattle.station_graph.specs.Diagram.{Diagram}
+use Rattle.central_rules.specs.Meaning.{bay_of}
 use Rattle.part_alphabets.specs.PartAlphabets.{Alphabets}
-use Rattle.central_rules.specs.Meaning.{IsBay}
-use Rattle.release_compile.specs.declared.reached.Reached.{Reached}
 use Rattle.judge_pool.specs.Lettered.{lettered}
 use Rattle.judge_graphs.specs.Built.{BayOf}
 use Rattle.release_compile.specs.Chaining.{HasReached}
+use Rattle.release_compile.specs.Judging.{ground, bay_at}
 use Rattle.release_compile.specs.Summaries.{ArePossibleSets}
-use Rattle.release_compile.specs.Reaches.{IsReachOf}
 use Rattle.release_compile.proofs.station.judge_switch.Goals as goal
+
+-- the bay of the switch, in the station and in the diagram of the judge
+same_bay : (d e : Diagram) (a b switch : ℕ) → e ≡ d → a ≡ bay_of d switch → b ≡ bay_of e switch → a ≡ b
+same_bay d e a b switch station first second =
+    first ∙ (ap (λ (x : Diagram). bay_of x switch) (sym station) ∙ sym second)
 
 pub judge_both-requires-clause-sets : goal.judge_both-requires-clause-sets
 judge_both-requires-clause-sets c =
     let j = c.args.judge.now in
-    let b = c.switch_bay-bay.result.0 in
-    let reaches : List (Option Reached) = c.args.reaches.now in
-    let station = c.station-station.ensures.value in
-    let lt : c.from.result < length reaches =
-    omega (arith, c.from.ensures, c.switch_bay-bay.ensures.bay.0, ap part_count station, c.requires.reaches.len) in
-    let at : slice_get reaches b ≡ Some c.index-reaches-from.result =
-    ap (slice_get reaches) (sym c.from.ensures)
-    ∙ slice_get_read reaches _ c.from.result c.index-reaches-from.result refl lt c.index-reaches-from.is in
-    let has : IsReachOf j c.args.all.now.words.now b (Some c.in-Some.reached) =
-    c.requires.reaches.each b (Some c.in-Some.reached) (at ∙ ap Some c.in-Some.is) in
-    subst (λ (d : Diagram). ArePossibleSets (lettered d c.parts-parts.result.now) b c.args.all.now.words.now
-    c.in-Some.reached.sets) (sym station)
-    (subst (λ (a : Alphabets). ArePossibleSets (lettered j.diagram a) b c.args.all.now.words.now c.in-Some.reached.sets)
-    (sym c.parts-parts.ensures.value) has.0)
+    let words = c.args.all.now.words.now in
+    let reach = c.args.reach.now in
+    let e = same_bay j.diagram _ reach.bay.0 _ c.args.switch.0 c.station-station.ensures.value
+    c.requires.bay c.switch_bay-bay.ensures.value in
+    subst (λ (d : Diagram). ArePossibleSets (lettered d c.parts-parts.result.now) c.switch_bay-bay.result.0 words
+    reach.reached.sets) (sym c.station-station.ensures.value)
+    (subst (λ (a : Alphabets). ArePossibleSets (lettered j.diagram a) c.switch_bay-bay.result.0 words
+    reach.reached.sets) (sym c.parts-parts.ensures.value)
+    (subst (λ (b : ℕ). ArePossibleSets (ground j) b words reach.reached.sets) e c.requires.reach.sets))
 
 pub judge_both-requires-clause-reached : goal.judge_both-requires-clause-reached
 judge_both-requires-clause-reached c =
     let j = c.args.judge.now in
-    let b = c.switch_bay-bay.result.0 in
-    let reaches : List (Option Reached) = c.args.reaches.now in
-    let lt : c.from.result < length reaches = omega (
-      arith,
-      c.from.ensures,
-      c.switch_bay-bay.ensures.bay.0,
-      ap part_count c.station-station.ensures.value,
-      c.requires.reaches.len,
-    ) in
-    let at : slice_get reaches b ≡ Some c.index-reaches-from.result =
-    ap (slice_get reaches) (sym c.from.ensures)
-    ∙ slice_get_read reaches _ c.from.result c.index-reaches-from.result refl lt c.index-reaches-from.is in
-    let has : IsReachOf j c.args.all.now.words.now b (Some c.in-Some.reached) =
-    c.requires.reaches.each b (Some c.in-Some.reached) (at ∙ ap Some c.in-Some.is) in
-    subst (λ (g : BayOf). HasReached g.gap.outer g.load.outer c.in-Some.reached) (sym c.bay-graphs.ensures.value) has.1
-
-pub unreachable-requires : goal.unreachable-requires
-unreachable-requires c =
-    let j = c.args.judge.now in
-    let b = c.switch_bay-bay.result.0 in
-    let reaches : List (Option Reached) = c.args.reaches.now in
-    let station = c.station-station.ensures.value in
-    let lt : c.from.result < length reaches =
-    omega (arith, c.from.ensures, c.switch_bay-bay.ensures.bay.0, ap part_count station, c.requires.reaches.len) in
-    let at : slice_get reaches b ≡ Some c.index-reaches-from.result =
-    ap (slice_get reaches) (sym c.from.ensures)
-    ∙ slice_get_read reaches _ c.from.result c.index-reaches-from.result refl lt c.index-reaches-from.is in
-    let none : IsReachOf j c.args.all.now.words.now b None =
-    c.requires.reaches.each b None (at ∙ ap Some c.in-None.is) in
-    none (subst (λ (d : Diagram). IsBay d b) station c.switch_bay-bay.ensures.bay)
+    let reach = c.args.reach.now in
+    let e = same_bay j.diagram _ reach.bay.0 _ c.args.switch.0 c.station-station.ensures.value
+    c.requires.bay c.switch_bay-bay.ensures.value in
+    subst (λ (g : BayOf). HasReached g.gap.outer g.load.outer reach.reached) (sym c.bay-graphs.ensures.value)
+    (subst (λ (b : ℕ). HasReached (bay_at j b).gap.outer (bay_at j b).load.outer reach.reached) e
+    c.requires.reach.reached)

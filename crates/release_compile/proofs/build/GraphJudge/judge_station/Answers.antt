@@ -11,6 +11,7 @@ loop-switch-init c =
       all =
           subst (λ (xs : List SwitchVerdicts). AreVerdicts c.args.self.now.diagram words xs 0)
           (sym c.new-verdicts.ensures.items) (verdicts_none c.args.self.now.diagram words);
+      last = tt;
     }
 
 pub loop-switch-preserved : goal.loop-switch-preserved
@@ -22,4 +23,5 @@ loop-switch-preserved c =
           (sym c.in_ok-push.ensures.items)
           (verdicts_more c.args.self.now.diagram words c.loop-switch.verdicts.items c.loop-switch.switch
           c.in_ok-both.both c.loop-switch.invariant.all c.in_ok-both.ensures);
+      last = c.in_ok-reach.ensures.reach;
     }

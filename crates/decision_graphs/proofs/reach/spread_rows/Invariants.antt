@@ -2,7 +2,7 @@ use Rattle.std.proofs.Common.{ℕ, ◌⊎◌, ◌↔◌, replicate, true}
 use Rattle.decision_graphs.specs.LaidOut.{lists_in}
 use Rattle.decision_graphs.specs.Reaching.{IsSet, NodesLead}
 use Rattle.decision_graphs.specs.Shapes.{shape_at}
-use Rattle.decision_graphs.proofs.reach.spread_layer.Given as goal
+use Rattle.decision_graphs.proofs.reach.spread_rows.Given as goal
 
 abbrev pub invariant-loop-node : goal.invariant-loop-node
 invariant-loop-node l = (i : ℕ) → IsSet l.seen i ↔ (IsSet l.fn.seen i
