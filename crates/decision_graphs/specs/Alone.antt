@@ -1,8 +1,7 @@
 -- A layer by itself, and layers that are known with their foldings.
-use Rattle.std.specs.Prelude.{◌≡◌, ℕ, ◌*◌, ◌<◌, ◌≤◌, List, length, slice_index, slice_get, Some}
-use Rattle.decision_graphs.specs.Folding.{Folding, IsFolded}
+use Rattle.std.specs.Prelude.{◌≡◌, ℕ, List, slice_get, Some}
+use Rattle.decision_graphs.specs.Folding.{Folding, IsFolded, CanFold}
 use Rattle.decision_graphs.specs.FoldedView.{folding_of}
-use Rattle.decision_graphs.specs.Shapes.{place}
 use Rattle.decision_graphs.specs.declared.known.Known.{Known}
 use Rattle.decision_graphs.specs.declared.known.Lone.{Lone}
 use Rattle.decision_graphs.specs.declared.shape.Shape.{Shape}
@@ -15,13 +14,9 @@ alone choices nodes = record { choices = choices; nodes = nodes; first = 0; base
 abbrev pub IsFoldedAlone : Lone → Folding → Type 0
 IsFoldedAlone l f = IsFolded (alone l.choices l.nodes) l.edges.now l.next.now l.bound l.nodes f
 
--- The layer can be folded: it has a choice and all its edges, and these lead to what comes after it.
-pub record CanFold (l : Lone) : Type 0 where
-  pub fits : l.nodes * l.choices ≤ length l.edges.now
-  pub choice : 0 < l.choices
-  pub leads : (k c : ℕ) → k < l.nodes → c < l.choices →
-      slice_index l.edges.now (place (alone l.choices l.nodes) k c) < length l.next.now
-  pub next : (t : ℕ) → t < length l.next.now → slice_index l.next.now t < l.bound
+-- The layer can be folded.
+abbrev pub CanFoldAlone : Lone → Type 0
+CanFoldAlone l = CanFold (alone l.choices l.nodes) l.edges.now l.next.now l.bound
 
 -- The known layer is the same, and what came after it was folded the same.
 pub record IsMadeOf (k : Known) (l : Lone) : Type 0 where

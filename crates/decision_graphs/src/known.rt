@@ -1,7 +1,7 @@
 //! Layers that were folded before, in whichever graph.
 ghost use Rattle.std.specs.Prelude.{◌≡◌, Some, slice_get, IfOk, IfSome, IsTrue};
 ghost use Rattle.decision_graphs.specs.FoldedView.{folding_of};
-ghost use Rattle.decision_graphs.specs.Alone.{IsFoldedAlone, CanFold, IsMadeOf, IsKnown, AreKnown};
+ghost use Rattle.decision_graphs.specs.Alone.{IsFoldedAlone, CanFoldAlone, IsMadeOf, IsKnown, AreKnown};
 ghost use Rattle.decision_graphs.specs.declared.known.Known.{Known as Layer};
 
 use crate::fold::{Folded, fold_layer};
@@ -204,7 +204,7 @@ fn note(list: &mut KnownList, hash: u64, layer: &Lone<'_>, folded: &Folded) -> R
 
 // The folding of a layer, made now.
 fn fold_alone(alloc: Global, layer: &Lone<'_>) -> Result<Folded, Memory>
-    requires { CanFold layer.now }
+    requires { CanFoldAlone layer.now }
     ensures { IfOk result (λ f. IsFoldedAlone layer.now (folding_of f)) }
 {
     let shape = Shape {
@@ -225,7 +225,7 @@ fn fold_alone(alloc: Global, layer: &Lone<'_>) -> Result<Folded, Memory>
 // The folding of a layer, which is noted and made only where none that is the same is known.
 fn fold_noted(alloc: Global, list: &mut KnownList, layer: &Lone<'_>) -> Result<Folded, Memory>
     requires list { AreKnown list.old.layers.items }
-    requires layer { CanFold layer.now }
+    requires layer { CanFoldAlone layer.now }
     ensures list { AreKnown list.new.layers.items }
     ensures folded { IfOk result (λ f. IsFoldedAlone layer.now (folding_of f)) }
 {
@@ -245,7 +245,7 @@ pub(crate) fn fold_once(
     layer: &Lone<'_>,
 ) -> Result<Folded, Memory>
     requires list { AreKnown list.old.layers.items }
-    requires layer { CanFold layer.now }
+    requires layer { CanFoldAlone layer.now }
     ensures list { AreKnown list.new.layers.items }
     ensures folded { IfOk result (λ f. IsFoldedAlone layer.now (folding_of f)) }
 {

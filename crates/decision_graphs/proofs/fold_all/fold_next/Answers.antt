@@ -24,7 +24,7 @@ fold_once-requires-clause-layer c =
     let in_below = subst (λ (f : Folding). (i : ℕ) → i < length f.classes → slice_index f.classes i < f.count) read in_top in
     record {
       fits = omega (arith, c.in_ok-edges.ensures.len);
-      choice = (c.requires.whole.laid.stands c.args.layer within).choices;
+      choices = (c.requires.whole.laid.stands c.args.layer within).choices;
       leads = λ k b node choice. omega (
         arith,
         edge_alone (shape_at g c.args.layer) c.in_ok-edges.edges g.edges c.in_ok-edges.ensures.each k b node choice,
