@@ -1,5 +1,5 @@
 //! A text in which names come again and again.
-ghost use Rattle.std.specs.Prelude.{◌≡◌, ◌++◌, ◌≤◌, [], ℕ, List, Option, IfOk, OnOk, OnErr, slice_index_or};
+ghost use Rattle.std.specs.Prelude.{◌≡◌, ◌++◌, ◌≤◌, [], ℕ, List, Option, IfOk, OnOk, OnErr, slice_index_or, codes};
 ghost use Rattle.std.specs.List.{flat_map};
 ghost use Rattle.std.specs.Io.KnownBytes.{Appends};
 ghost use Rattle.ilk_base.specs.Outside.{Rose, AppendsFront};
@@ -18,6 +18,8 @@ enum Phrase {
     Word(&'static [u8]),
     // the name of this number
     Name(u16),
+    // these bytes, the name of this number, and the end of the line
+    Line(&'static [u8], u16),
 }
 
 /// A text in which names come again and again, and words of the program between them: each name is held once, whatever
@@ -38,16 +40,6 @@ impl Model for NamedText {
     ghost view = { named_of };
 }
 
-// The bytes of a phrase.
-fn phrase_bytes(names: &[Text], phrase: Phrase) -> &[u8]
-    ensures { result.now ≡ phrase_text names.now phrase }
-{
-    match phrase {
-        Phrase::Word(bytes) => bytes,
-        Phrase::Name(number) => name_bytes(names, usize::from(number)),
-    }
-}
-
 // The bytes of a name, none where there is none of this number.
 fn name_bytes(names: &[Text], number: usize) -> &[u8]
     ensures { result.now ≡ slice_index_or names.now number [] }
@@ -59,14 +51,58 @@ fn name_bytes(names: &[Text], number: usize) -> &[u8]
     }
 }
 
+// Appends a phrase to a text.
+fn append_phrase(text: &mut Text, names: &[Text], phrase: Phrase) -> Result<(), Memory>
+    ensures { OnOk result (text.new ≡ text.old ++ phrase_text names.now phrase) }
+{
+    match phrase {
+        Phrase::Word(bytes) => text.push(bytes),
+        Phrase::Name(number) => text.push(name_bytes(names, usize::from(number))),
+        Phrase::Line(head, number) => {
+            text.push(head)?;
+            text.push(name_bytes(names, usize::from(number)))?;
+            text.push(b"\n")
+        }
+    }
+}
+
 // Appends the phrases to a text.
 fn append_phrases(text: &mut Text, names: &[Text], phrases: &[Phrase]) -> Result<(), Memory>
     ensures { OnOk result (text.new ≡ text.old ++ flat_map (phrase_text names.now) phrases.now) }
 {
     for phrase in phrases {
-        text.push(phrase_bytes(names, *phrase))?;
+        append_phrase(text, names, *phrase)?;
     }
     Ok(())
+}
+
+// Puts a line: these bytes, the name of this number, and its end.
+fn put_line<S: Sink>(
+    writer: &mut PieceWriter,
+    sink: &mut S,
+    names: &[Text],
+    head: &[u8],
+    number: u16,
+)
+    ensures { Puts (stand (S.took sink.old) (S.faults sink.old) writer.old)
+        (stand (S.took sink.new) (S.faults sink.new) writer.new)
+        (head.now ++ slice_index_or names.now number [] ++ codes "\n") }
+{
+    writer.push(sink, head);
+    writer.push(sink, name_bytes(names, usize::from(number)));
+    writer.push(sink, b"\n");
+}
+
+// Puts a phrase.
+fn put_phrase<S: Sink>(writer: &mut PieceWriter, sink: &mut S, names: &[Text], phrase: Phrase)
+    ensures { Puts (stand (S.took sink.old) (S.faults sink.old) writer.old)
+        (stand (S.took sink.new) (S.faults sink.new) writer.new) (phrase_text names.now phrase) }
+{
+    match phrase {
+        Phrase::Word(bytes) => writer.push(sink, bytes),
+        Phrase::Name(number) => writer.push(sink, name_bytes(names, usize::from(number))),
+        Phrase::Line(head, number) => put_line(writer, sink, names, head, number),
+    }
 }
 
 // Puts the phrases, one after another.
@@ -76,7 +112,7 @@ fn put_phrases<S: Sink>(writer: &mut PieceWriter, sink: &mut S, names: &[Text], 
         (flat_map (phrase_text names.now) phrases.now) }
 {
     for phrase in phrases {
-        writer.push(sink, phrase_bytes(names, *phrase));
+        put_phrase(writer, sink, names, *phrase);
     }
 }
 
@@ -129,6 +165,16 @@ impl NamedText {
         ensures names { self.new.names ≡ self.old.names }
     {
         self.push(Phrase::Name(number))
+    }
+
+    /// Appends a line: the bytes, the name of this number, nothing where there is none, and the end of the line. Takes
+    /// the memory of one word.
+    pub fn line(&mut self, head: &'static [u8], number: u16) -> Result<(), Memory>
+        ensures ok { OnOk result (self.new.text
+            ≡ self.old.text ++ head.now ++ slice_index_or self.old.names number [] ++ codes "\n") }
+        ensures names { self.new.names ≡ self.old.names }
+    {
+        self.push(Phrase::Line(head, number))
     }
 
     /// The text at once, in time and memory of its length.
