@@ -6,7 +6,7 @@ ghost use Rattle.graph_products.specs.Seating.{AreSeats, IsSeating, listed_in, s
 use crate::pair::Pair;
 use ilk_base::Memory;
 use indexmap::IndexSet;
-use number_hash::{NumberHash, NumberSet};
+use number_hash::NumberHash;
 use std::alloc::Global;
 use std::marker::Model;
 
@@ -27,7 +27,7 @@ pub(crate) struct SeatTable {
 #[derive(Drop)]
 pub(crate) enum Seating {
     Table(SeatTable),
-    Hashed(NumberSet<Pair>),
+    Hashed(IndexSet<Pair, NumberHash>),
 }
 
 // The pairs of a layer in the order in which they came, each once. Their first nodes are below the height, and their
@@ -120,7 +120,7 @@ fn place_by_seat(table: &mut SeatTable, width: usize, pair: Pair) -> Result<usiz
 }
 
 // The place of the pair in a hashed list, at the end where it is new.
-fn place_by_hash(pairs: &mut NumberSet<Pair>, pair: Pair) -> Result<usize, Memory>
+fn place_by_hash(pairs: &mut IndexSet<Pair, NumberHash>, pair: Pair) -> Result<usize, Memory>
     ensures { IfOk result (IsPlaced pairs.old.keys pairs.new.keys pair) }
 {
     let (place, _) = pairs.insert_full(pair)?;
@@ -128,7 +128,7 @@ fn place_by_hash(pairs: &mut NumberSet<Pair>, pair: Pair) -> Result<usize, Memor
 }
 
 // The pairs in order.
-fn listed(alloc: Global, pairs: &NumberSet<Pair>) -> Result<Vec<Pair>, Memory>
+fn listed(alloc: Global, pairs: &IndexSet<Pair, NumberHash>) -> Result<Vec<Pair>, Memory>
     ensures { IfOk result (λ v. v.items ≡ pairs.now.keys) }
 {
     let list = pairs.iter().copied().collect(alloc)?;

@@ -95,6 +95,27 @@ selects_other p s h =
       numbers = numbers_stay p q g p.keep_numbers h.numbers;
     }) g
 
+-- and with other notes of where lists of numbers stand
+pub places_other : (p r : Pool) → IsPool p → GrewTo p (record p { letter_places = r.letter_places })
+places_other p r h =
+    let q : Pool = record p { letter_places = r.letter_places } in
+    let g : Grows p q = record {
+      view = refl;
+      keeps = λ k ns at. at;
+      values = λ i x at. at;
+      letters = λ l ids at. at;
+    } in
+    grew_of p q (record {
+      index = h.index;
+      apart = h.apart;
+      well = h.well;
+      notes = notes_stay p q g (λ i t at. at) p.notes h.notes;
+      layers = layers_stay p q g p.layers.items h.layers;
+      stands = stands_stay p q g p.stands h.stands;
+      list_stands = list_stands_stay p q g p.list_stands h.list_stands;
+      numbers = numbers_stay p q g p.keep_numbers h.numbers;
+    }) g
+
 -- and with other notes of what stands where
 pub stands_other : (p r : Pool) → IsPool p → StandsAreRight p r.stands → GrewTo p (record p { stands = r.stands })
 stands_other p r h right =

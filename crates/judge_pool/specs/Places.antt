@@ -31,6 +31,7 @@ pool_on f p = record {
   keeps = with_mapped (map f) p.keeps;
   keep_numbers = p.keep_numbers;
   letters = p.letters;
+  letter_places = p.letter_places;
   layers = p.layers;
   layer_places = p.layer_places;
   made = p.made;

@@ -10,7 +10,6 @@ ghost use Rattle.judge_pool.specs.Numbered.{letter_lists};
 ghost use Rattle.judge_pool.specs.Pooling.{IsRowIn, IsToldBy};
 
 use crate::batch::{Batch, Made};
-use crate::lists::{narrowed, note_list};
 use crate::pool::{Pool, find_row};
 use crate::view::View;
 use contraction::{Contraction, Selection};
@@ -105,21 +104,12 @@ fn note_batch(notes: &mut NumberMap<Batch, usize>, batch: Batch, start: usize) -
 }
 
 impl Pool {
-    // The number of the list of letters or states, which the pool has once.
-    pub(crate) fn note_letters(&mut self, alloc: Global, letters: &[usize]) -> Result<usize, Memory>
-        requires { IsPool self.old }
-        ensures grew { OnOk result (GrewTo self.old self.new) }
-        ensures noted { IfOk result (λ l. slice_get (letter_lists self.new) l ≡ Some letters.now) }
-    {
-        let list = narrowed(alloc, letters)?;
-        let place = note_list(&mut self.letters, list)?;
-        Ok(place)
-    }
-
-    // Where the batch of the value with these letters, which have the number, begins. It is made where it is not noted.
+    // Where the batch of the value with these letters, which have the number, begins. It is made where it is not noted,
+    // in a list that serves each batch.
     pub(crate) fn batch(
         &mut self,
         alloc: Global,
+        ids: &mut Vec<usize>,
         first: usize,
         letters: &[usize],
         number: usize,
@@ -142,7 +132,7 @@ impl Pool {
             return Ok(start);
         }
         self.forget_batches();
-        let start = self.make_batch(alloc, batch, letters)?;
+        let start = self.make_batch(alloc, ids, batch, letters)?;
         note_batch(&mut self.notes, batch, start)?;
         Ok(start)
     }
@@ -163,6 +153,7 @@ impl Pool {
     fn make_batch(
         &mut self,
         alloc: Global,
+        ids: &mut Vec<usize>,
         batch: Batch,
         letters: &[usize],
     ) -> Result<usize, Memory>
@@ -172,26 +163,27 @@ impl Pool {
         ensures grew { OnOk result (GrewTo self.old self.new) }
         ensures batch { IfOk result (HasBatch self.new batch) }
     {
-        let ids = self.compose_all(alloc, batch, letters)?;
+        self.compose_all(alloc, ids, batch, letters)?;
         let held = self.made.as_slice();
         let start = held.len();
-        self.made.extend_from_slice(&ids)?;
+        self.made.extend_from_slice(ids)?;
         Ok(start)
     }
 
-    // The numbers of what the value and each letter of the batch make together, in order.
+    // Makes the list that of the numbers of what the value and each letter of the batch make together, in order.
     fn compose_all(
         &mut self,
         alloc: Global,
+        ids: &mut Vec<usize>,
         batch: Batch,
         letters: &[usize],
-    ) -> Result<Vec<usize>, Memory>
+    ) -> Result<(), Memory>
         requires pool { IsPool self.old }
         requires fit { LettersFit self.old batch letters.now }
         ensures grew { OnOk result (GrewTo self.old self.new) }
-        ensures made { IfOk result (λ v. MakesEach self.new batch letters.now v.items) }
+        ensures made { OnOk result (MakesEach self.new batch letters.now ids.new.items) }
     {
-        let mut ids = Vec::with_capacity(alloc, letters.len())?;
+        ids.clear();
         'letters: for c in 0..letters.len() {
             let key = Made {
                 first: batch.first,
@@ -201,7 +193,7 @@ impl Pool {
             let id = self.compose(alloc, key)?;
             ids.push(id)?;
         }
-        Ok(ids)
+        Ok(())
     }
 
     // The number of the value that stands for both together, on these of their nodes.

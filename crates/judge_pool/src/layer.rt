@@ -17,7 +17,7 @@ ghost use Rattle.judge_pool.specs.declared.limits.TheConstants.{ALL_EDGES};
 use crate::pool::Pool;
 use ilk_base::Memory;
 use indexmap::IndexSet;
-use number_hash::{NumberHash, NumberSet};
+use number_hash::NumberHash;
 use std::alloc::{AllocError, AllocFailed, Global};
 
 /// Why layers were not built.
@@ -70,7 +70,7 @@ pub(crate) struct Step {
 }
 
 // The numbers in order.
-fn listed(alloc: Global, ids: &NumberSet<usize>) -> Result<Vec<usize>, Memory>
+fn listed(alloc: Global, ids: &IndexSet<usize, NumberHash>) -> Result<Vec<usize>, Memory>
     ensures { IfOk result (λ v. v.items ≡ ids.now.keys) }
 {
     let list = ids.iter().copied().collect(alloc)?;
@@ -78,7 +78,7 @@ fn listed(alloc: Global, ids: &NumberSet<usize>) -> Result<Vec<usize>, Memory>
 }
 
 // The place of the number in the list, at the end where it is new.
-fn place(ids: &mut NumberSet<usize>, id: usize) -> Result<usize, Memory>
+fn place(ids: &mut IndexSet<usize, NumberHash>, id: usize) -> Result<usize, Memory>
     ensures { IfOk result (IsPlaced ids.old.keys ids.new.keys id) }
 {
     let (place, _) = ids.insert_full(id)?;
@@ -87,7 +87,7 @@ fn place(ids: &mut NumberSet<usize>, id: usize) -> Result<usize, Memory>
 
 // Adds the place of each of these numbers, which are put at the end of the list where it has not got them.
 fn add_places(
-    list: &mut NumberSet<usize>,
+    list: &mut IndexSet<usize, NumberHash>,
     places: &mut Vec<usize>,
     ids: &[usize],
 ) -> Result<(), Memory>
@@ -137,7 +137,7 @@ fn add_edges(edges: &mut Vec<u32>, ends: &[usize], places: &[usize]) -> Result<(
 // Adds the edges of a state, which each letter leads to one of these values. They are put at the end of the next layer
 // where it has not got them. Their places there are held in a list that serves each state.
 fn add_state(
-    next: &mut NumberSet<usize>,
+    next: &mut IndexSet<usize, NumberHash>,
     ends: &mut Vec<usize>,
     edges: &mut Vec<u32>,
     ids: &[usize],
@@ -183,6 +183,7 @@ pub(crate) fn next_layer(
 {
     let mut next = IndexSet::with_hasher(alloc, NumberHash::new());
     let mut edges = Vec::with_capacity(alloc, states.len() * letters.len())?;
+    let mut ids = Vec::new(alloc);
     let mut ends = Vec::new(alloc);
     let by = each_once(alloc, letters)?;
     let once = by.letters.as_slice();
@@ -192,7 +193,7 @@ pub(crate) fn next_layer(
         if next.len() > most {
             return Err(Trouble::Wide);
         }
-        let start = pool.batch(alloc, states[k], once, number, keep)?;
+        let start = pool.batch(alloc, &mut ids, states[k], once, number, keep)?;
         let end = start + once.len();
         add_state(
             &mut next,

@@ -11,8 +11,7 @@ use crate::known::{KnownLayer, LayerKey};
 use crate::view::{View, row_in};
 use contraction::{Contraction, Selection};
 use ilk_base::{Memory, Text};
-use indexmap::IndexSet;
-use number_hash::{NumberHash, NumberMap, NumberSet};
+use number_hash::{NumberHash, NumberMap};
 use station_graph::NodeList;
 use std::alloc::Global;
 use std::collections::HashMap;
@@ -32,7 +31,8 @@ pub struct Pool {
     /// the lists of nodes, by number
     pub keeps: Vec<NodeList>,
     pub(crate) keep_numbers: NumberMap<Vec<u16>, usize>,
-    pub(crate) letters: NumberSet<Vec<u32>>,
+    pub(crate) letters: Vec<Vec<u32>>,
+    pub(crate) letter_places: NumberMap<u64, usize>,
     pub(crate) layers: Vec<KnownLayer>,
     pub(crate) layer_places: NumberMap<LayerKey, usize>,
     pub(crate) made: Vec<usize>,
@@ -76,7 +76,8 @@ impl Pool {
             index: HashMap::new(alloc),
             keeps: Vec::new(alloc),
             keep_numbers: HashMap::with_hasher(alloc, NumberHash::new()),
-            letters: IndexSet::with_hasher(alloc, NumberHash::new()),
+            letters: Vec::new(alloc),
+            letter_places: HashMap::with_hasher(alloc, NumberHash::new()),
             layers: Vec::new(alloc),
             layer_places: HashMap::with_hasher(alloc, NumberHash::new()),
             made: Vec::new(alloc),

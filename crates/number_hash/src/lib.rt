@@ -1,4 +1,4 @@
-//! A hasher for numbers and lists of numbers, and maps and sets that hash by it. The hasher of std takes a number by its
+//! A hasher for numbers and lists of numbers, and maps that hash by it. The hasher of std takes a number by its
 //! bytes; this one takes it at once, in a tenth of the time.
 #![tactic(auto)]
 
@@ -6,4 +6,4 @@ mod hasher;
 mod maps;
 
 pub use hasher::NumberHasher;
-pub use maps::{NumberHash, NumberMap, NumberSet};
+pub use maps::{NumberHash, NumberMap};

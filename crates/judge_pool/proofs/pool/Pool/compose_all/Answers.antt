@@ -9,7 +9,7 @@ use Rattle.judge_pool.proofs.pool.Pool.compose_all.Goals as goal
 pub letters-init : goal.letters-init
 letters-init c = record {
   grew = grew_same c.args.self.now c.requires.pool;
-  made = made_none c.args.self.now c.args.batch c.in_ok-ids.ids.items c.in_ok-ids.ensures.items;
+  made = made_none c.args.self.now c.args.batch c.clear.new.self.items c.clear.ensures.items;
 }
 
 pub compose-requires-clause-pool : goal.compose-requires-clause-pool

@@ -15,8 +15,8 @@ list_at-next-requires c =
     omega (
       arith,
       slice_get_within (letter_lists p) layer.next known.next known.listed,
-      length-map p.letters.keys (λ (v : Vec ℕ Global). v.items),
-      ap (λ (vs : List (Vec ℕ Global)). length vs) c.as_slice-lists.ensures.keys,
+      length-map p.letters.items (λ (v : Vec ℕ Global). v.items),
+      ap (λ (vs : List (Vec ℕ Global)). length vs) c.as_slice-lists.ensures.value,
     )
 
 pub returns-clause-next : goal.returns-clause-next
@@ -27,7 +27,7 @@ returns-clause-next c l at_l =
     slice_get_read p.layers.items _ c.args.place layer refl c.requires.place c.index-layer.ensures in
     ap (λ (k : KnownLayer). slice_get (letter_lists p) k.next) (same_Some l layer (sym at_l ∙ at))
     ∙ (ap (λ (vs : List (Vec ℕ Global)). slice_get (map (λ (v : Vec ℕ Global). v.items) vs) layer.next)
-    (sym c.as_slice-lists.ensures.keys)
+    (sym c.as_slice-lists.ensures.value)
     ∙ (c.list_at-next.ensures ∙ ap Some (sym c.in_ok-step.ensures.next)))
 
 pub returns-clause-edges : goal.returns-clause-edges
@@ -44,5 +44,5 @@ returns-clause-noted c =
     let layer : KnownLayer = c.index-layer.result.now in
     ap (slice_get (letter_lists p)) c.in_ok-step.ensures.number
     ∙ (ap (λ (vs : List (Vec ℕ Global)). slice_get (map (λ (v : Vec ℕ Global). v.items) vs) layer.next)
-    (sym c.as_slice-lists.ensures.keys)
+    (sym c.as_slice-lists.ensures.value)
     ∙ (c.list_at-next.ensures ∙ ap Some (sym c.in_ok-step.ensures.next)))

@@ -8,12 +8,12 @@ list_at-requires c =
     omega (
       arith,
       c.requires,
-      length-map p.letters.keys (λ (v : Vec ℕ Global). v.items),
-      ap (λ (vs : List (Vec ℕ Global)). length vs) c.as_slice-lists.ensures.keys,
+      length-map p.letters.items (λ (v : Vec ℕ Global). v.items),
+      ap (λ (vs : List (Vec ℕ Global)). length vs) c.as_slice-lists.ensures.value,
     )
 
 pub returns : goal.returns
 returns c =
     ap (λ (vs : List (Vec ℕ Global)). slice_get (map (λ (v : Vec ℕ Global). v.items) vs) c.args.number)
-    (sym c.as_slice-lists.ensures.keys)
+    (sym c.as_slice-lists.ensures.value)
     ∙ (c.list_at.ensures ∙ ap Some (sym c.in_ok-list.ensures))

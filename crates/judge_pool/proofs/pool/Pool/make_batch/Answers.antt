@@ -13,8 +13,8 @@ pub returns-clause-grew : goal.returns-clause-grew
 returns-clause-grew c =
     let p = c.args.self.now in
     let q = c.compose_all.new.self in
-    let h = c.in_ok-ids.ensures.grew in
-    let ids = c.in_ok-ids.ids.items in
+    let h = c.in_ok-compose_all.ensures.grew in
+    let ids = c.compose_all.new.ids.items in
     let r : Pool = record q { made = c.extend_from_slice.new.self } in
     let items : c.extend_from_slice.new.self.items ≡ q.made.items ++ ids =
     c.in_ok-extend_from_slice.ensures.items ∙ ap (λ xs. q.made.items ++ xs) c.deref.ensures.value in
@@ -41,10 +41,10 @@ returns-clause-grew c =
 pub returns-clause-batch : goal.returns-clause-batch
 returns-clause-batch c =
     let q = c.compose_all.new.self in
-    let h = c.in_ok-ids.ensures.grew in
+    let h = c.in_ok-compose_all.ensures.grew in
     let letters = c.args.letters.now in
     let b = c.args.batch in
-    let ids = c.in_ok-ids.ids.items in
+    let ids = c.compose_all.new.ids.items in
     let start = length c.as_slice-held.result.now in
     let r : Pool = record q { made = c.extend_from_slice.new.self } in
     let items : c.extend_from_slice.new.self.items ≡ q.made.items ++ ids =
@@ -59,7 +59,7 @@ returns-clause-batch c =
       letters = letters;
       ids = ids;
       listed = h.letters b.letters letters c.requires.letters;
-      made = are_made_more q r g b letters ids c.in_ok-ids.ensures.made;
+      made = are_made_more q r g b letters ids c.in_ok-compose_all.ensures.made;
       at = λ k t at.
           ap (λ xs. slice_get xs (start + k)) items
           ∙ (ap (λ n. slice_get (q.made.items ++ ids) (n + k)) (ap length c.as_slice-held.ensures.value)
