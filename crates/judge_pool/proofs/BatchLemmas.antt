@@ -1,6 +1,6 @@
 -- Batches of a pool, noted by where they begin.
 use Rattle.std.proofs.Common.{◌≡◌, ℕ, ◌+◌, Bool, true, false, cond, List, [], ◌∷◌, ◌++◌, length, get_or, slice_get}
-use Rattle.std.proofs.Common.{take, drop, Box}
+use Rattle.std.proofs.Common.{take, drop, Box, Vec}
 use Rattle.std.proofs.Common.{◌-◌, ◌<◌, ◌≤◌, Option, Some, refl, sym, ap, ◌∙◌, subst, inl, inr, arith}
 use Rattle.std.specs.Prelude.{nat_eq, ◌&&◌}
 use Rattle.std.specs.declared.alloc.Global.{Global}
@@ -78,6 +78,27 @@ can_more p q k g h = record {
 pub selects_other : (p : Pool) (s : Option (Box Selected Global)) → IsPool p → GrewTo p (record p { selection = s })
 selects_other p s h =
     let q : Pool = record p { selection = s } in
+    let g : Grows p q = record {
+      view = refl;
+      keeps = λ k ns at. at;
+      values = λ i x at. at;
+      letters = λ l ids at. at;
+    } in
+    grew_of p q (record {
+      index = h.index;
+      apart = h.apart;
+      well = h.well;
+      notes = notes_stay p q g (λ i t at. at) p.notes h.notes;
+      layers = layers_stay p q g p.layers.items h.layers;
+      stands = stands_stay p q g p.stands h.stands;
+      list_stands = list_stands_stay p q g p.list_stands h.list_stands;
+      numbers = numbers_stay p q g p.keep_numbers h.numbers;
+    }) g
+
+-- and with other seats at hand
+pub seats_other : (p : Pool) (s : Option (Vec ℕ Global)) → IsPool p → GrewTo p (record p { seats = s })
+seats_other p s h =
+    let q : Pool = record p { seats = s } in
     let g : Grows p q = record {
       view = refl;
       keeps = λ k ns at. at;

@@ -8,6 +8,7 @@ pub mod MappedViews
 pub mod MappedPools
 pub mod PoolLemmas
 pub mod LayeringLemmas
+pub mod SeatLemmas
 pub mod ListLemmas
 pub mod BatchLemmas
 pub mod AddedEdges

@@ -5,6 +5,10 @@ use Rattle.contraction.specs.Answers.{Answers}
 pub use Rattle.judge_pool.specs.Pooling.{NoneTwice}
 use Rattle.judge_pool.specs.Pooling.{Extends}
 
+-- In the seat of each number of the list stands its place. What stands in the seats of others does not matter.
+abbrev pub AreSeats : List ℕ → List ℕ → Type 0
+AreSeats list seats = (b t : ℕ) → slice_get list b ≡ Some t → slice_get seats t ≡ Some b
+
 -- The number has its place in the list, which has no other new number.
 pub record IsPlaced (old new : List ℕ) (id place : ℕ) : Type 0 where
   pub at : slice_get new place ≡ Some id

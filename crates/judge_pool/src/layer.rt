@@ -5,7 +5,7 @@ ghost use Rattle.decision_graphs.specs.Finished.{AreFinished};
 ghost use Rattle.contraction.specs.Renaming.{KeepsOrder, mapped};
 ghost use Rattle.judge_pool.specs.Pooling.{IsPool, GrewTo, EitherKeeps};
 ghost use Rattle.judge_pool.specs.Places.{pool_on};
-ghost use Rattle.judge_pool.specs.Layering.{IsPlaced, AreAdded, NameAll, at_places, values_at};
+ghost use Rattle.judge_pool.specs.Layering.{AreSeats, AreAdded, NameAll, at_places, values_at};
 ghost use Rattle.judge_pool.specs.Pooling.{AreEdges};
 ghost use Rattle.judge_pool.specs.Counted.{Spends};
 ghost use Rattle.judge_pool.specs.Folding.{IsExact, ReachesMore};
@@ -15,9 +15,8 @@ ghost use Rattle.judge_pool.specs.Plans.{items_of, NeededBy, layers_of};
 ghost use Rattle.judge_pool.specs.declared.limits.TheConstants.{ALL_EDGES};
 
 use crate::pool::Pool;
+use crate::seats::add_places;
 use ilk_base::Memory;
-use indexmap::IndexSet;
-use number_hash::NumberHash;
 use std::alloc::{AllocError, AllocFailed, Global};
 
 /// Why layers were not built.
@@ -69,37 +68,6 @@ pub(crate) struct Step {
     pub(crate) edges: Vec<u32>,
 }
 
-// The numbers in order.
-fn listed(alloc: Global, ids: &IndexSet<usize, NumberHash>) -> Result<Vec<usize>, Memory>
-    ensures { IfOk result (λ v. v.items ≡ ids.now.keys) }
-{
-    let list = ids.iter().copied().collect(alloc)?;
-    Ok(list)
-}
-
-// The place of the number in the list, at the end where it is new.
-fn place(ids: &mut IndexSet<usize, NumberHash>, id: usize) -> Result<usize, Memory>
-    ensures { IfOk result (IsPlaced ids.old.keys ids.new.keys id) }
-{
-    let (place, _) = ids.insert_full(id)?;
-    Ok(place)
-}
-
-// Adds the place of each of these numbers, which are put at the end of the list where it has not got them.
-fn add_places(
-    list: &mut IndexSet<usize, NumberHash>,
-    places: &mut Vec<usize>,
-    ids: &[usize],
-) -> Result<(), Memory>
-    ensures { OnOk result (AreAdded list.old.keys places.old.items ids.now list.new.keys places.new.items) }
-{
-    for c in 0..ids.len() {
-        let to = place(list, ids[c])?;
-        places.push(to)?;
-    }
-    Ok(())
-}
-
 // The letters of a layer, each once, and for each choice the place of its letter among them.
 #[derive(Drop)]
 struct Distinct {
@@ -108,15 +76,14 @@ struct Distinct {
 }
 
 // The letters, each once. Letters that differ in the other view alone are one value here.
-fn each_once(alloc: Global, letters: &[usize]) -> Result<Distinct, Memory>
+fn each_once(alloc: Global, seats: &mut Vec<usize>, letters: &[usize]) -> Result<Distinct, Memory>
     ensures { IfOk result (λ d. AreAdded [] [] letters.now d.letters.items d.places.items) }
 {
-    let mut once = IndexSet::with_hasher(alloc, NumberHash::new());
+    let mut once = Vec::new(alloc);
     let mut places = Vec::new(alloc);
-    add_places(&mut once, &mut places, letters)?;
-    let keys = listed(alloc, &once)?;
+    add_places(&mut once, seats, &mut places, letters)?;
     Ok(Distinct {
-        letters: keys,
+        letters: once,
         places,
     })
 }
@@ -137,28 +104,32 @@ fn add_edges(edges: &mut Vec<u32>, ends: &[usize], places: &[usize]) -> Result<(
 // Adds the edges of a state, which each letter leads to one of these values. They are put at the end of the next layer
 // where it has not got them. Their places there are held in a list that serves each state.
 fn add_state(
-    next: &mut IndexSet<usize, NumberHash>,
+    next: &mut Vec<usize>,
+    seats: &mut Vec<usize>,
     ends: &mut Vec<usize>,
     edges: &mut Vec<u32>,
     ids: &[usize],
     places: &[usize],
 ) -> Result<(), Memory>
-    requires few { length next.old.keys + length ids.now ≤ ALL_EDGES }
+    requires seats { AreSeats next.old.items seats.old.items }
+    requires few { length next.old.items + length ids.now ≤ ALL_EDGES }
     requires places { NameAll (length ids.now) places.now }
-    ensures { OnOk result
-        (AreAdded next.old.keys edges.old.items (at_places ids.now places.now) next.new.keys edges.new.items) }
+    ensures seats { OnOk result (AreSeats next.new.items seats.new.items) }
+    ensures added { OnOk result
+        (AreAdded next.old.items edges.old.items (at_places ids.now places.now) next.new.items edges.new.items) }
 {
     ends.clear();
-    add_places(next, ends, ids)?;
+    add_places(next, seats, ends, ids)?;
     add_edges(edges, ends, places)?;
     Ok(())
 }
 
 // From the values of a layer, by the letters of its choices, to those of the next layer. It is too wide, and no more of
-// it is made, as soon as the next layer has more than so many values.
+// it is made, as soon as the next layer has more than so many values. Any seats do.
 pub(crate) fn next_layer(
     alloc: Global,
     pool: &mut Pool,
+    seats: &mut Vec<usize>,
     states: &[usize],
     letters: &[usize],
     keep: usize,
@@ -181,11 +152,11 @@ pub(crate) fn next_layer(
         → ReachesMore pool.old.view nodes (values_at pool.old.values.items states.now)
         (values_at pool.old.values.items letters.now) most) }
 {
-    let mut next = IndexSet::with_hasher(alloc, NumberHash::new());
+    let mut next = Vec::new(alloc);
     let mut edges = Vec::with_capacity(alloc, states.len() * letters.len())?;
     let mut ids = Vec::new(alloc);
     let mut ends = Vec::new(alloc);
-    let by = each_once(alloc, letters)?;
+    let by = each_once(alloc, seats, letters)?;
     let once = by.letters.as_slice();
     let places = by.places.as_slice();
     let number = pool.note_letters(alloc, once)?;
@@ -197,12 +168,12 @@ pub(crate) fn next_layer(
         let end = start + once.len();
         add_state(
             &mut next,
+            seats,
             &mut ends,
             &mut edges,
             &pool.made[start..end],
             places,
         )?;
     }
-    let next = listed(alloc, &next)?;
     Ok(Step { next, edges })
 }

@@ -14,6 +14,7 @@ mod lists;
 mod lying;
 mod past;
 mod pool;
+mod seats;
 mod stands;
 mod view;
 

@@ -146,7 +146,10 @@ impl Pool {
             → ReachesMore self.old.view nodes (values_at self.old.values.items states.now)
             (values_at self.old.values.items row.now) most) }
     {
-        let step = next_layer(alloc, self, states, row, key.keep, most)?;
+        let held = self.seats.take();
+        let mut seats = held.unwrap_or(Vec::new(alloc));
+        let step = next_layer(alloc, self, &mut seats, states, row, key.keep, most)?;
+        self.seats = Some(seats);
         let edges = SharedNumbers::new(alloc, step.edges)?;
         let number = self.note_layer(alloc, key, &step.next, &edges)?;
         Ok(KnownStep {

@@ -38,6 +38,7 @@ pub struct Pool {
     pub(crate) made: Vec<usize>,
     pub(crate) notes: NumberMap<Batch, usize>,
     pub(crate) selection: Option<Box<Selection>>,
+    pub(crate) seats: Option<Vec<usize>>,
     pub(crate) stands: NumberMap<Stand, usize>,
     pub(crate) list_stands: NumberMap<ListStand, usize>,
 }
@@ -83,6 +84,7 @@ impl Pool {
             made: Vec::new(alloc),
             notes: HashMap::with_hasher(alloc, NumberHash::new()),
             selection: None,
+            seats: None,
             stands: HashMap::with_hasher(alloc, NumberHash::new()),
             list_stands: HashMap::with_hasher(alloc, NumberHash::new()),
         }

@@ -7,7 +7,8 @@ use Rattle.judge_pool.specs.declared.pool.Pool.{Pool}
 use Rattle.judge_pool.specs.Numbered.{letter_lists}
 use Rattle.judge_pool.specs.Pooling.{MakesEach, HasBatch}
 use Rattle.judge_pool.specs.Pooling.{AreEdges}
-use Rattle.judge_pool.proofs.LayeringLemmas.{grew_more, nil_of_len}
+use Rattle.judge_pool.proofs.LayeringLemmas.{grew_more}
+use Rattle.judge_pool.proofs.SeatLemmas.{seats_none}
 use Rattle.judge_pool.specs.Layering.{AreAdded, NameAll}
 use Rattle.judge_pool.proofs.AddedEdges.{edges_none, edges_more}
 use Rattle.judge_pool.proofs.OnceLemmas.{letter_of, some_once, names_all, spread_made}
@@ -21,12 +22,13 @@ states-init c =
     record {
       grew = c.in_ok-number.ensures.grew;
       noted = c.in_ok-number.ensures.noted;
-      few = omega (arith, c.with_hasher-next.ensures.len, zero-mul (length c.args.letters.now));
+      seats = seats_none c.new-next.result.items c.each_once.new.seats.items c.new-next.ensures.items;
+      few = omega (arith, ap length c.new-next.ensures.items, zero-mul (length c.args.letters.now));
       edges = λ nodes at.
-          subst (λ n. AreEdges q.view q.values.items nodes c.args.states.now c.args.letters.now c.with_hasher-next.result.keys
+          subst (λ n. AreEdges q.view q.values.items nodes c.args.states.now c.args.letters.now c.new-next.result.items
           c.in_ok-edges.edges.items n) (sym (zero-mul (length c.args.letters.now)))
-          (edges_none q.view q.values.items nodes c.args.states.now c.args.letters.now c.with_hasher-next.result.keys
-          c.in_ok-edges.edges.items (nil_of_len c.with_hasher-next.result.keys c.with_hasher-next.ensures.len)
+          (edges_none q.view q.values.items nodes c.args.states.now c.args.letters.now c.new-next.result.items
+          c.in_ok-edges.edges.items c.new-next.ensures.items
           c.in_ok-edges.ensures.items);
     }
 
@@ -125,21 +127,22 @@ states-preserved c =
     let part = part_made q _ c.in_ok-start.start once c.in_ok-start.ensures.batch noted
     (some_once letters once places by c.requires.some) c.deref.result.now c.deref.ensures.value in
     let made = spread_made q _ letters once places _ by part in
-    let added = c.in_ok-add_state.ensures in
+    let added = c.in_ok-add_state.ensures.added in
     let next : (k + 1) * w ≡ k * w + w =
     ap (λ n. n * w) (let e : k + 1 ≡ suc k = omega arith in e) ∙ suc-mul k w in
     record {
       grew = grew_more p old q inv.grew g;
       noted = noted;
+      seats = c.in_ok-add_state.ensures.seats;
       few = omega (arith, added.grown, made.len, inv.few, next);
       edges = λ nodes at.
           let at_q : slice_get q.keeps.items c.args.keep ≡ Some nodes =
           g.keeps c.args.keep nodes (inv.grew.keeps c.args.keep nodes at) in
           let before = subst
-          (λ v. AreEdges v old.values.items nodes states letters c.states.next.keys c.states.edges.items (k * w))
+          (λ v. AreEdges v old.values.items nodes states letters c.states.next.items c.states.edges.items (k * w))
           (sym g.view) (inv.edges nodes at) in
-          edges_more q.view old.values.items q.values.items q.keeps.items nodes states letters c.states.next.keys
-          c.add_state.new.next.keys c.states.edges.items c.add_state.new.edges.items _ k i c.args.keep g.values before
+          edges_more q.view old.values.items q.values.items q.keeps.items nodes states letters c.states.next.items
+          c.add_state.new.next.items c.states.edges.items c.add_state.new.edges.items _ k i c.args.keep g.values before
           added at_i at_q made.len made.made;
     }
 
@@ -148,7 +151,6 @@ returns-clause-few c =
     let done : c.states.k ≡ length c.args.states.now = omega (arith, c.states.auto.k-end, c.states-test.false) in
     omega (
       arith,
-      ap length c.in_ok-next.ensures,
       c.states.invariant.few,
       ap (λ n. n * length c.args.letters.now) done,
     )
@@ -156,16 +158,14 @@ returns-clause-few c =
 pub returns-clause-edges : goal.returns-clause-edges
 returns-clause-edges c nodes at =
     let done : c.states.k ≡ length c.args.states.now = omega (arith, c.states.auto.k-end, c.states-test.false) in
-    subst (λ l. AreEdges c.states.pool.view c.states.pool.values.items nodes c.args.states.now c.args.letters.now l
-    c.states.edges.items (length c.args.states.now * length c.args.letters.now)) (sym c.in_ok-next.ensures)
-    (subst (λ n. AreEdges c.states.pool.view c.states.pool.values.items nodes c.args.states.now c.args.letters.now
-    c.states.next.keys c.states.edges.items (n * length c.args.letters.now)) done (c.states.invariant.edges nodes at))
+    subst (λ n. AreEdges c.states.pool.view c.states.pool.values.items nodes c.args.states.now c.args.letters.now
+    c.states.next.items c.states.edges.items (n * length c.args.letters.now)) done (c.states.invariant.edges nodes at)
 
 pub returns-then-len-most-clause-wide : goal.returns-then-len-most-clause-wide
 returns-then-len-most-clause-wide c e nodes at =
     more_reached c.args.pool.now c.states.pool c.states.invariant.grew nodes c.args.states.now c.args.letters.now
-    c.states.next.keys c.states.edges.items (c.states.k * length c.args.letters.now) c.args.most c.requires.states
+    c.states.next.items c.states.edges.items (c.states.k * length c.args.letters.now) c.args.most c.requires.states
     c.requires.letters (c.states.invariant.edges nodes at) c.states.invariant.few
     (mul-le-mul_right (length c.args.letters.now)
     (let h : c.states.k ≤ length c.args.states.now = omega (arith, c.states-test.true) in h))
-    (omega (arith, c.len.ensures.len, c.if-len-most.true))
+    (omega (arith, c.len.ensures, c.states.next.ok.0, c.if-len-most.true))

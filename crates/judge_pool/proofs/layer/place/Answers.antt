@@ -1,7 +1,0 @@
-use Rattle.judge_pool.proofs.LayeringLemmas.{placed}
-use Rattle.judge_pool.proofs.layer.place.Goals as goal
-
-pub returns : goal.returns
-returns c =
-    placed c.args.ids.now.keys c.insert_full.new.self.keys c.args.id c.in_ok-place.place c.in_ok-place.ensures.keys
-    c.in_ok-place.ensures.stored
