@@ -25,6 +25,7 @@ pub mod KeepLemmas
 pub mod AsLemmas
 pub mod StepAsLemmas
 pub mod LyingLemmas
+pub mod OwnLemmas
 pub mod LaidLemmas
 pub mod ExactLemmas
 pub mod BackLemmas

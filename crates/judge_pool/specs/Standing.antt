@@ -1,7 +1,7 @@
 -- Values that stand on other nodes in place of their own.
-use Rattle.std.specs.Prelude.{◌≡◌, ℕ, ◌&&◌, Bool, List, length, slice_get, Some, nat_eq}
+use Rattle.std.specs.Prelude.{◌≡◌, ◌↔◌, ℕ, ◌&&◌, Bool, List, length, slice_get, Some, Contains, nat_eq}
 use Rattle.std.specs.HashMap.{HashMap, get}
-use Rattle.contraction.specs.Answers.{Answers, AreNodes}
+use Rattle.contraction.specs.Answers.{Answers, Keeps, AreNodes}
 use Rattle.contraction.specs.Renaming.{renamed}
 use Rattle.judge_pool.specs.declared.batch.ListStand.{ListStand}
 use Rattle.judge_pool.specs.declared.batch.Stand.{Stand}
@@ -27,6 +27,14 @@ pub record CanStand (p : Pool) (keep id : ℕ) : Type 0 where
   pub at : slice_get p.keeps.items keep ≡ Some nodes
   pub are : AreNodes nodes
   pub count : length nodes ≡ length x.kept
+
+-- The value keeps just the nodes of this number, in whichever order they are listed.
+pub record KeepsNodes (p : Pool) (keep id : ℕ) : Type 0 where
+  pub x : Answers
+  pub nodes : List ℕ
+  pub listed : slice_get p.values.items id ≡ Some x
+  pub at : slice_get p.keeps.items keep ≡ Some nodes
+  pub same : (n : ℕ) → Keeps x.kept n ↔ Contains nodes n
 
 -- One by one, these are the values of the others on these nodes.
 pub record AreOn (p : Pool) (keep : ℕ) (ids ts : List ℕ) : Type 0 where

@@ -3,10 +3,11 @@ ghost use Rattle.std.specs.Prelude.{◌≡◌, ◌<◌, ℕ, length, slice_get, 
 ghost use Rattle.judge_pool.specs.declared.pool.Pool.{Pool as AnyPool};
 ghost use Rattle.judge_pool.specs.Numbered.{letter_lists};
 ghost use Rattle.judge_pool.specs.Pooling.{IsPool, GrewTo};
-ghost use Rattle.judge_pool.specs.Standing.{AreOn, CanStand, ListIsOn, ListStandsAreRight};
+ghost use Rattle.judge_pool.specs.Standing.{AreOn, CanStand, KeepsNodes, ListIsOn, ListStandsAreRight};
 
 use crate::batch::ListStand;
 use crate::lists::{list_at, widened};
+use crate::lying::all_keep;
 use crate::pool::Pool;
 use ilk_base::Memory;
 use number_hash::NumberMap;
@@ -43,6 +44,26 @@ fn note_list_stand(
 }
 
 impl Pool {
+    // Notes that the values of the list stand on these nodes already, where the first of them does. They all keep the
+    // same nodes, so the others do too.
+    pub(crate) fn note_own_list(&mut self, ids: &[usize], own: ListStand) -> Result<(), Memory>
+        requires pool { IsPool self.old }
+        requires listed { slice_get (letter_lists self.old) own.list ≡ Some ids.now }
+        requires keep { own.keep < length self.old.keeps.items }
+        requires kept { (k i : ℕ) → slice_get ids.now k ≡ Some i → KeepsNodes self.old own.keep i }
+        ensures { OnOk result (GrewTo self.old self.new) }
+    {
+        if ids.is_empty() {
+            return Ok(());
+        }
+        let nodes = self.keeps[own.keep].numbers();
+        if all_keep(&self.values, &ids[..1], nodes) {
+            note_list_stand(&mut self.list_stands, own, own.list)?;
+            return Ok(());
+        }
+        Ok(())
+    }
+
     // The list of this number.
     fn list_again(&self, alloc: Global, number: usize) -> Result<Vec<usize>, Memory>
         requires { number < length (letter_lists self.now) }

@@ -9,6 +9,7 @@ ghost use Rattle.judge_pool.specs.declared.known.KnownLayer.{KnownLayer as Known
 ghost use Rattle.judge_pool.specs.declared.layer.Trouble.TheVariants.{Wide};
 ghost use Rattle.judge_pool.specs.declared.limits.TheConstants.{ALL_EDGES};
 
+use crate::batch::ListStand;
 use crate::known::{KnownLayer, KnownStep, LayerKey};
 use crate::layer::{Trouble, next_layer};
 use crate::lists::{list_at, widened};
@@ -109,12 +110,21 @@ impl Pool {
         ensures grew { OnOk result (GrewTo self.old self.new) }
         ensures noted { IfOk result (λ n. slice_get (letter_lists self.new) n ≡ Some next.now) }
     {
-        let next = self.note_letters(alloc, next)?;
+        let number = self.note_letters(alloc, next)?;
+        let own = ListStand {
+            list: number,
+            keep: key.keep,
+        };
+        self.note_own_list(next, own)?;
         let edges = edges.share()?;
         let place = self.layers.len();
         self.layer_places.insert(key, place)?;
-        self.layers.push(KnownLayer { key, next, edges })?;
-        Ok(next)
+        self.layers.push(KnownLayer {
+            key,
+            next: number,
+            edges,
+        })?;
+        Ok(number)
     }
 
     // A layer that is made now, and remembered.
