@@ -82,7 +82,7 @@ fn shared(alloc: Global, numbers: Vec<u32>, places: Vec<u32>) -> Result<SharedNu
 }
 
 impl SharedNumbers {
-    /// These numbers, held by one owner. Constant time; takes 60 bytes beside the numbers.
+    /// These numbers, held by one owner. Constant time; takes 64 bytes beside the numbers.
     pub fn new(alloc: Global, numbers: Vec<u32>) -> Result<SharedNumbers, Memory>
         ensures { IfOk result (λ s. s ≡ numbers.items) }
     {

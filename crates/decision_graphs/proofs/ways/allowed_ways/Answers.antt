@@ -1,4 +1,4 @@
-use Rattle.std.proofs.Common.{ℕ, ◌<◌, Option, Some, None, IfSome, length, subst, zero-add}
+use Rattle.std.proofs.Common.{Option, Some, None, IfSome, subst, zero-add}
 use Rattle.decision_graphs.specs.Reaching.{IsSet}
 use Rattle.decision_graphs.proofs.ways.allowed_ways.Goals as goal
 

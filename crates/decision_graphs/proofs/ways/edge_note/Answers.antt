@@ -1,6 +1,6 @@
 use Rattle.std.proofs.lemmas.Nat.{div_below, mod_below}
 use Rattle.std.proofs.lemmas.Nat.{div-add-mod'}
-use Rattle.std.proofs.Common.{refl, ◌/◌, ◌%◌}
+use Rattle.std.proofs.Common.{refl, ◌/◌}
 use Rattle.decision_graphs.proofs.ways.edge_note.Goals as goal
 
 pub returns : goal.returns

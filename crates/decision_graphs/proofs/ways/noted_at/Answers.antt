@@ -1,5 +1,5 @@
-use Rattle.std.proofs.Common.{ap, subst, sym, ◌∙◌, ◌+◌, ◌≡◌, length, get_or, List, ℕ, ◌<◌}
-use Rattle.decision_graphs.specs.LaidOut.{lists_in, edges_in, AreCutEdges, AreCutAs}
+use Rattle.std.proofs.Common.{ap, subst, sym, ◌∙◌, get_or, List, ℕ, ◌<◌}
+use Rattle.decision_graphs.specs.LaidOut.{lists_in, edges_in, AreCutEdges}
 use Rattle.decision_graphs.specs.Placed.{ArePlaces}
 use Rattle.decision_graphs.specs.Shapes.{shape_at, edge_count}
 use Rattle.decision_graphs.specs.declared.layout.Edges.{Edges}
