@@ -16,7 +16,7 @@ use Rattle.dependence_search.proofs.LoneLemmas.{IsLone, lone_of, lone_released, 
 use Rattle.dependence_search.specs.Turning.{IsTurning}
 use Rattle.commissioning_tests.specs.declared.values.TestPosition.{TestPosition}
 use Rattle.commissioning_tests.specs.Answering.{IsPosition, ArePositions}
-use Rattle.commissioning_tests.specs.Standing.{IsMoved}
+use Rattle.decision_graphs.specs.Reaching.{IsSet}
 use Rattle.commissioning_tests.specs.Covering.{TurnIsShown, RuleIsShown}
 use Rattle.commissioning_tests.specs.Growing.{IsAdded, Grows, AreMore, IsCovered}
 use Rattle.commissioning_tests.proofs.MoveLemmas.{still, new_last}
@@ -57,8 +57,8 @@ covered_grows d ops stands ps qs k grows c = record {
 
 -- ---- one more position
 
-module _ (d : Diagram) (ops : List Op) (stands : List ℕ) (ps qs : List TestPosition) (v : List Bool)
-    (a : IsAdded d ops stands ps qs v) where
+module _ (d : Diagram) (ops : List Op) (asked : List Bool) (ps qs : List TestPosition) (v : List Bool)
+    (a : IsAdded d ops asked ps qs v) where
   grown : Grows ps qs
   grown i p at = subst (λ (l : List TestPosition). slice_get l i ≡ Some p) (sym a.added) (still ps (a.position ∷ []) i p at)
 
@@ -77,7 +77,7 @@ module _ (d : Diagram) (ops : List Op) (stands : List ℕ) (ps qs : List TestPos
       (new_last ps a.position)
 
   pub added_turn : (k s : ℕ) (op : Op) → slice_get ops k ≡ Some op → s < length d.switches →
-      IsMoved stands s → IsTurning d op s v → TurnIsShown qs k s
+      IsSet asked s → IsTurning d op s v → TurnIsShown qs k s
   added_turn k s op at lt here t = elim (a.shows k s op at lt here t) [
     | inl shown ↦ turn_grows ps qs k s grown shown
     | inr among ↦ record { place = length ps; position = a.position; at = here_at; turn = among }
@@ -94,6 +94,13 @@ module _ (d : Diagram) (ops : List Op) (stands : List ℕ) (ps qs : List TestPos
       (subst (λ (w : List Bool). Breaks d w op (get_or answers k None)) a.closed
       (a.is.answers.each k op (get_or answers k None) at read)) breaks in
       record { place = length ps; position = a.position; at = here_at; answer = read ∙ ap Some same }
+
+-- the same where the positions before are the ones at hand
+pub more_from : (d : Diagram) (ops : List Op) (asked : List Bool) (ps os qs : List TestPosition) (v : List Bool) →
+    os ≡ ps → IsAdded d ops asked os qs v → ArePositions d ops ps → AreMore d ops ps qs
+more_from d ops asked ps os qs v same a are =
+    subst (λ (l : List TestPosition). AreMore d ops l qs) same
+    (added_more d ops asked os qs v a (subst (λ (l : List TestPosition). ArePositions d ops l) (sym same) are))
 
 pub depends_within : (d : Diagram) (op : Op) (s : ℕ) → DependsOn d op s → s < length d.switches
 depends_within d op s dep =

@@ -6,6 +6,7 @@ use Rattle.std.specs.List.{range_with_len}
 use Rattle.std.proofs.lemmas.Option.{same_Some}
 use Rattle.ilk_base.specs.declared.words.Op.{Op}
 use Rattle.release_dependence.specs.Operations.{opening, closing}
+use Rattle.decision_graphs.specs.Reaching.{IsSet}
 use Rattle.commissioning_tests.specs.Listed.{operations_from, AreThose}
 
 -- lists with the same entries are one
@@ -165,3 +166,16 @@ operations_in first (suc n) (suc (suc k)) op at = omega (arith, operations_in (s
 -- a switch of the station has its place in the table of places
 pub place_within : (n s count places room : ℕ) → n ≡ s → s < count → places ≡ count → room ≡ places → n < room
 place_within n s count places room is low len held = omega arith
+
+-- ---- what is set in a list that is made word by word
+
+pub set_still : (xs : List Bool) (b : Bool) (k : ℕ) → IsSet xs k → IsSet (xs ++ b ∷ []) k
+set_still [] b k set = let never : false ≡ true = set in cc never
+set_still (x ∷ xs) b zero set = set
+set_still (x ∷ xs) b (suc k) set = set_still xs b k set
+
+pub set_last : (xs : List Bool) (b : Bool) (k : ℕ) → k ≡ length xs → b ≡ true → IsSet (xs ++ b ∷ []) k
+set_last [] b zero at is = is
+set_last [] b (suc k) at is = absurd (omega (arith, at))
+set_last (x ∷ xs) b zero at is = absurd (omega (arith, at))
+set_last (x ∷ xs) b (suc k) at is = set_last xs b k (omega (arith, at)) is

@@ -11,7 +11,7 @@ use Rattle.dependence_search.proofs.DependLemmas.{answers_turned}
 use Rattle.commissioning_tests.specs.declared.values.TestMove.{TestMove}
 use Rattle.commissioning_tests.specs.declared.values.TestPosition.{TestPosition}
 use Rattle.commissioning_tests.specs.Answering.{AreAnswers, TurnsAt, IsMove, AreRising}
-use Rattle.commissioning_tests.specs.Standing.{IsMoved}
+use Rattle.decision_graphs.specs.Reaching.{IsSet}
 use Rattle.commissioning_tests.specs.Covering.{TurnIsAmong, TurnIsShown}
 use Rattle.commissioning_tests.specs.Growing.{AllIsShown, IsMoveOf, list_of, AreMovesOf}
 
@@ -50,12 +50,12 @@ append_none [] = refl
 append_none (x ∷ xs) = ap (λ l. x ∷ l) (append_none xs)
 
 -- the moves of the first n switches
-pub record MovesUpto (d : Diagram) (ops : List Op) (stands : List ℕ) (ps : List TestPosition) (v : List Bool)
+pub record MovesUpto (d : Diagram) (ops : List Op) (asked : List Bool) (ps : List TestPosition) (v : List Bool)
     (answers : List (Option Rule)) (moves : List TestMove) (n : ℕ) : Type 0 where
   pub each : (j : ℕ) (m : TestMove) → slice_get moves j ≡ Some m → IsMove d ops v answers m
   pub rising : AreRising moves
   pub below : (j : ℕ) (m : TestMove) → slice_get moves j ≡ Some m → m.switch.0 < n
-  pub shows : (k s : ℕ) (op : Op) → slice_get ops k ≡ Some op → s < n → IsMoved stands s →
+  pub shows : (k s : ℕ) (op : Op) → slice_get ops k ≡ Some op → s < n → IsSet asked s →
       IsTurning d op s v → TurnIsShown ps k s ⊎ TurnIsAmong answers moves k s
 
 cases : (a b : ℕ) → a < b + 1 → (a < b) ⊎ (a ≡ b)
@@ -71,24 +71,24 @@ among_still answers moves more k s t = record {
   turns = t.turns;
 }
 
-module _ (d : Diagram) (ops : List Op) (stands : List ℕ) (ps : List TestPosition) (v : List Bool)
+module _ (d : Diagram) (ops : List Op) (asked : List Bool) (ps : List TestPosition) (v : List Bool)
     (answers : List (Option Rule)) (are : AreAnswers d ops v answers) where
-  none_then : (moves : List TestMove) (n : ℕ) → MovesUpto d ops stands ps v answers moves n →
-      (IsMoved stands n → AllIsShown d ops ps v n) → MovesUpto d ops stands ps v answers moves (n + 1)
+  none_then : (moves : List TestMove) (n : ℕ) → MovesUpto d ops asked ps v answers moves n →
+      (IsSet asked n → AllIsShown d ops ps v n) → MovesUpto d ops asked ps v answers moves (n + 1)
   none_then moves n so all = record {
     each = so.each;
     rising = so.rising;
     below = λ j m at. omega (arith, so.below j m at);
-    shows = λ k s op at lt moved_here t. elim (cases s n lt) [
-      | inl less ↦ so.shows k s op at less moved_here t
+    shows = λ k s op at lt set_here t. elim (cases s n lt) [
+      | inl less ↦ so.shows k s op at less set_here t
       | inr equal ↦
-          inl (subst (λ x. TurnIsShown ps k x) (sym equal) (all (subst (λ x. IsMoved stands x) equal moved_here) k op at
+          inl (subst (λ x. TurnIsShown ps k x) (sym equal) (all (subst (λ x. IsSet asked x) equal set_here) k op at
           (subst (λ x. IsTurning d op x v) equal t)))
     ];
   }
 
-  one_then : (moves : List TestMove) (n : ℕ) (m : TestMove) → MovesUpto d ops stands ps v answers moves n → m.switch.0 ≡ n →
-      IsMove d ops v answers m → MovesUpto d ops stands ps v answers (moves ++ m ∷ []) (n + 1)
+  one_then : (moves : List TestMove) (n : ℕ) (m : TestMove) → MovesUpto d ops asked ps v answers moves n → m.switch.0 ≡ n →
+      IsMove d ops v answers m → MovesUpto d ops asked ps v answers (moves ++ m ∷ []) (n + 1)
   one_then moves n m so number is = record {
     each = λ j x at. elim (slice_get-push moves m x j at) [
       | inl before ↦ so.each j x before
@@ -109,8 +109,8 @@ module _ (d : Diagram) (ops : List Op) (stands : List ℕ) (ps : List TestPositi
       | inl before ↦ omega (arith, so.below j x before)
       | inr here ↦ omega (arith, number, ap (λ (z : TestMove). z.switch.0) here.1)
     ];
-    shows = λ k s op at lt moved_here t. elim (cases s n lt) [
-      | inl less ↦ elim (so.shows k s op at less moved_here t) [
+    shows = λ k s op at lt set_here t. elim (cases s n lt) [
+      | inl less ↦ elim (so.shows k s op at less set_here t) [
         | inl shown ↦ inl shown
         | inr among ↦ inr (among_still answers moves (m ∷ []) k s among)
       ]
@@ -126,17 +126,17 @@ module _ (d : Diagram) (ops : List Op) (stands : List ℕ) (ps : List TestPositi
     ];
   }
 
-  pub moves_more : (moves : List TestMove) (n : ℕ) (found : Option TestMove) → MovesUpto d ops stands ps v answers moves n →
-      IsMoveOf d ops stands ps v answers n found → MovesUpto d ops stands ps v answers (moves ++ list_of found) (n + 1)
+  pub moves_more : (moves : List TestMove) (n : ℕ) (found : Option TestMove) → MovesUpto d ops asked ps v answers moves n →
+      IsMoveOf d ops asked ps v answers n found → MovesUpto d ops asked ps v answers (moves ++ list_of found) (n + 1)
   moves_more moves n None so all =
-      subst (λ (l : List TestMove). MovesUpto d ops stands ps v answers l (n + 1)) (sym (append_none moves))
+      subst (λ (l : List TestMove). MovesUpto d ops asked ps v answers l (n + 1)) (sym (append_none moves))
       (none_then moves n so all)
   moves_more moves n (Some m) so is = one_then moves n m so is.0 is.1
 
-  pub moves_all : (moves : List TestMove) (n : ℕ) → MovesUpto d ops stands ps v answers moves n → length d.switches ≤ n →
-      AreMovesOf d ops stands ps v answers moves
+  pub moves_all : (moves : List TestMove) (n : ℕ) → MovesUpto d ops asked ps v answers moves n → length d.switches ≤ n →
+      AreMovesOf d ops asked ps v answers moves
   moves_all moves n so all = record {
     each = so.each;
     rising = so.rising;
-    shows = λ k s op at lt moved_here t. so.shows k s op at (omega (arith, lt, all)) moved_here t;
+    shows = λ k s op at lt set_here t. so.shows k s op at (omega (arith, lt, all)) set_here t;
   }

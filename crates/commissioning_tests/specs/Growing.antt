@@ -45,33 +45,34 @@ AreOperations d ops = (k : ℕ) (op : Op) → slice_get ops k ≡ Some op → Is
 abbrev pub AllIsShown : Diagram → List Op → List TestPosition → List Bool → ℕ → Type 0
 AllIsShown d ops ps v s = (k : ℕ) (op : Op) → slice_get ops k ≡ Some op → IsTurning d op s v → TurnIsShown ps k s
 
--- What is found of a switch: its move, where the switch may be moved and that shows what the positions do not.
-abbrev pub IsMoveOf : Diagram → List Op → List ℕ → List TestPosition → List Bool → List (Option Rule) → ℕ →
+-- What is found of a switch: its move, where the switch is asked and that shows what the positions do not.
+abbrev pub IsMoveOf : Diagram → List Op → List Bool → List TestPosition → List Bool → List (Option Rule) → ℕ →
     Option TestMove → Type 0
-IsMoveOf d ops stands ps v answers s found =
-    MatchOption found (IsMoved stands s → AllIsShown d ops ps v s) (λ m. (m.switch.0 ≡ s) × IsMove d ops v answers m)
+IsMoveOf d ops asked ps v answers s found =
+    MatchOption found (IsSet asked s → AllIsShown d ops ps v s) (λ m. (m.switch.0 ≡ s) × IsMove d ops v answers m)
 
 -- The list of one, or of none.
 abbrev pub list_of : Option TestMove → List TestMove
 list_of None = []
 list_of (Some m) = m ∷ []
 
--- The moves from a vector, which show whatever the positions do not.
-pub record AreMovesOf (d : Diagram) (ops : List Op) (stands : List ℕ) (ps : List TestPosition) (v : List Bool)
+-- The moves from a vector, which show whatever moving an asked switch turns and the positions do not show.
+pub record AreMovesOf (d : Diagram) (ops : List Op) (asked : List Bool) (ps : List TestPosition) (v : List Bool)
     (answers : List (Option Rule)) (moves : List TestMove) : Type 0 where
   pub each : (j : ℕ) (m : TestMove) → slice_get moves j ≡ Some m → IsMove d ops v answers m
   pub rising : AreRising moves
-  pub shows : (k s : ℕ) (op : Op) → slice_get ops k ≡ Some op → s < length d.switches → IsMoved stands s →
+  pub shows : (k s : ℕ) (op : Op) → slice_get ops k ≡ Some op → s < length d.switches → IsSet asked s →
       IsTurning d op s v → TurnIsShown ps k s ⊎ TurnIsAmong answers moves k s
 
--- One more position is added, that of this vector, which shows whatever the others do not.
-pub record IsAdded (d : Diagram) (ops : List Op) (stands : List ℕ) (ps qs : List TestPosition) (v : List Bool) :
+-- One more position is added, that of this vector, which shows whatever moving an asked switch turns and the others do
+-- not show.
+pub record IsAdded (d : Diagram) (ops : List Op) (asked : List Bool) (ps qs : List TestPosition) (v : List Bool) :
     Type 0 where
   pub position : TestPosition
   pub added : qs ≡ ps ++ position ∷ []
   pub is : IsPosition d ops position
   pub closed : position.closed.items ≡ v
-  pub shows : (k s : ℕ) (op : Op) → slice_get ops k ≡ Some op → s < length d.switches → IsMoved stands s →
+  pub shows : (k s : ℕ) (op : Op) → slice_get ops k ≡ Some op → s < length d.switches → IsSet asked s →
       IsTurning d op s v → TurnIsShown ps k s ⊎ TurnIsAmong position.answers.items position.moves.items k s
 
 -- The positions stay, and more may be added.

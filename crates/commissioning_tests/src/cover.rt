@@ -11,13 +11,15 @@ ghost use Rattle.commissioning_tests.specs.Standing.{IsMoved};
 ghost use Rattle.commissioning_tests.specs.Covering.{TurnIsShown, RuleIsShown};
 ghost use Rattle.commissioning_tests.specs.Growing.{AreMore, AreTurnedLayers, IsOperationWalk, IsCovered};
 
+use crate::asked::asked_of;
 use crate::depends::{layers_of, may_turn};
+use crate::found::Found;
 use crate::moves::add_position;
 use crate::operations::operation_of;
 use crate::rich::richer;
-use crate::shown::{is_rule_shown, is_turn_shown};
+use crate::shown::is_rule_shown;
 use crate::stands::is_moved;
-use crate::values::TestPosition;
+use crate::turn_index::is_turn_noted;
 use crate::walked::OperationWalk;
 use dependence_search::{find_breach, find_turn, walks_answer};
 use ilk_base::{Memory, Op, Rule, SwitchId};
@@ -51,28 +53,28 @@ fn add_unless_shown(
     alloc: Global,
     walked: &OperationWalk<'_>,
     switch: SwitchId,
-    positions: &mut Vec<TestPosition>,
+    found: &mut Found,
     closed: Vec<bool>,
 ) -> Result<(), Memory>
     requires walked { IsOperationWalk walked.now }
     requires switch { switch.0 < length walked.now.station.now.switches }
-    requires positions { ArePositions walked.now.station.now walked.now.operations.now positions.old.items }
+    requires positions { ArePositions walked.now.station.now walked.now.operations.now found.old.positions.items }
     requires vector { IsVector walked.now.station.now closed.items }
-    ensures more { OnOk result (AreMore walked.now.station.now walked.now.operations.now positions.old.items
-        positions.new.items) }
+    ensures more { OnOk result (AreMore walked.now.station.now walked.now.operations.now found.old.positions.items
+        found.new.positions.items) }
     ensures shown { OnOk result ((op : Operation) → slice_get walked.now.operations.now walked.now.number ≡ Some op
-        → IsMoved walked.now.stands.now switch.0 → IsTurning walked.now.station.now op switch.0 closed.items
-        → TurnIsShown positions.new.items walked.now.number switch.0) }
+        → IsTurning walked.now.station.now op switch.0 closed.items → TurnIsShown found.new.positions.items walked.now.number switch.0) }
 {
-    if is_turn_shown(positions, walked.number, switch) {
+    if is_turn_noted(&found.positions, &found.index, walked.number, switch) {
         return Ok(());
     }
+    let asked = asked_of(alloc, walked, found, &closed, Some(switch))?;
     add_position(
         alloc,
         walked.station,
         walked.operations,
-        walked.stands,
-        positions,
+        &asked,
+        found,
         closed,
     )?;
     Ok(())
@@ -83,22 +85,23 @@ fn add_richer(
     alloc: Global,
     walked: &OperationWalk<'_>,
     switch: SwitchId,
-    positions: &mut Vec<TestPosition>,
+    found: &mut Found,
     closed: &[bool],
 ) -> Result<(), Memory>
     requires walked { IsOperationWalk walked.now }
-    requires positions { ArePositions walked.now.station.now walked.now.operations.now positions.old.items }
+    requires positions { ArePositions walked.now.station.now walked.now.operations.now found.old.positions.items }
     requires vector { IsVector walked.now.station.now closed.now }
-    ensures { OnOk result (AreMore walked.now.station.now walked.now.operations.now positions.old.items
-        positions.new.items) }
+    ensures { OnOk result (AreMore walked.now.station.now walked.now.operations.now found.old.positions.items
+        found.new.positions.items) }
 {
-    let rich = richer(alloc, walked, positions, switch, closed)?;
+    let rich = richer(alloc, walked, found, switch, closed)?;
+    let asked = asked_of(alloc, walked, found, &rich, None)?;
     add_position(
         alloc,
         walked.station,
         walked.operations,
-        walked.stands,
-        positions,
+        &asked,
+        found,
         rich,
     )?;
     Ok(())
@@ -109,21 +112,20 @@ fn add_both(
     alloc: Global,
     walked: &OperationWalk<'_>,
     switch: SwitchId,
-    positions: &mut Vec<TestPosition>,
+    found: &mut Found,
     closed: Vec<bool>,
 ) -> Result<(), Memory>
     requires walked { IsOperationWalk walked.now }
     requires switch { switch.0 < length walked.now.station.now.switches }
-    requires positions { ArePositions walked.now.station.now walked.now.operations.now positions.old.items }
+    requires positions { ArePositions walked.now.station.now walked.now.operations.now found.old.positions.items }
     requires vector { IsVector walked.now.station.now closed.items }
-    ensures more { OnOk result (AreMore walked.now.station.now walked.now.operations.now positions.old.items
-        positions.new.items) }
+    ensures more { OnOk result (AreMore walked.now.station.now walked.now.operations.now found.old.positions.items
+        found.new.positions.items) }
     ensures shown { OnOk result ((op : Operation) → slice_get walked.now.operations.now walked.now.number ≡ Some op
-        → IsMoved walked.now.stands.now switch.0 → IsTurning walked.now.station.now op switch.0 closed.items
-        → TurnIsShown positions.new.items walked.now.number switch.0) }
+        → IsTurning walked.now.station.now op switch.0 closed.items → TurnIsShown found.new.positions.items walked.now.number switch.0) }
 {
-    add_richer(alloc, walked, switch, positions, &closed)?;
-    add_unless_shown(alloc, walked, switch, positions, closed)?;
+    add_richer(alloc, walked, switch, found, &closed)?;
+    add_unless_shown(alloc, walked, switch, found, closed)?;
     Ok(())
 }
 
@@ -134,19 +136,21 @@ fn cover_turn(
     walked: &OperationWalk<'_>,
     layers: &[bool],
     switch: SwitchId,
-    positions: &mut Vec<TestPosition>,
+    found: &mut Found,
 ) -> Result<(), Memory>
     requires walked { IsOperationWalk walked.now }
     requires layers { (op : Operation) → slice_get walked.now.operations.now walked.now.number ≡ Some op
         → AreTurnedLayers walked.now.walk.now.graph walked.now.walk.now.codes.items op.direction layers.now }
     requires switch { switch.0 < length walked.now.station.now.switches }
-    requires positions { ArePositions walked.now.station.now walked.now.operations.now positions.old.items }
-    ensures more { OnOk result (AreMore walked.now.station.now walked.now.operations.now positions.old.items
-        positions.new.items) }
+    requires positions { ArePositions walked.now.station.now walked.now.operations.now found.old.positions.items }
+    ensures more { OnOk result (AreMore walked.now.station.now walked.now.operations.now found.old.positions.items
+        found.new.positions.items) }
     ensures shown { OnOk result ((op : Operation) → slice_get walked.now.operations.now walked.now.number ≡ Some op
-        → IsMoved walked.now.stands.now switch.0 → DependsOn walked.now.station.now op switch.0 → TurnIsShown positions.new.items walked.now.number switch.0) }
+        → IsMoved walked.now.stands.now switch.0 → DependsOn walked.now.station.now op switch.0 → TurnIsShown found.new.positions.items walked.now.number switch.0) }
 {
-    if !is_moved(walked.stands, switch.0) || is_turn_shown(positions, walked.number, switch) {
+    if !is_moved(walked.stands, switch.0)
+        || is_turn_noted(&found.positions, &found.index, walked.number, switch)
+    {
         return Ok(());
     }
     if !may_turn(walked, layers, switch) {
@@ -154,9 +158,38 @@ fn cover_turn(
     }
     let op = operation_of(walked);
     match turn_of(alloc, walked, op, switch)? {
-        Some(closed) => Ok(add_both(alloc, walked, switch, positions, closed)?),
+        Some(closed) => Ok(add_both(alloc, walked, switch, found, closed)?),
         None => Ok(()),
     }
+}
+
+// Adds a position as it was found.
+fn add_breach(
+    alloc: Global,
+    walked: &OperationWalk<'_>,
+    found: &mut Found,
+    closed: Vec<bool>,
+) -> Result<(), Memory>
+    requires walked { IsOperationWalk walked.now }
+    requires positions { ArePositions walked.now.station.now walked.now.operations.now found.old.positions.items }
+    requires vector { IsVector walked.now.station.now closed.items }
+    ensures more { OnOk result (AreMore walked.now.station.now walked.now.operations.now found.old.positions.items
+        found.new.positions.items) }
+    ensures shown { OnOk result ((rule : Broken) (op : Operation)
+        → slice_get walked.now.operations.now walked.now.number ≡ Some op
+        → Breaks walked.now.station.now closed.items op (Some rule)
+        → RuleIsShown found.new.positions.items walked.now.number rule) }
+{
+    let asked = asked_of(alloc, walked, found, &closed, None)?;
+    add_position(
+        alloc,
+        walked.station,
+        walked.operations,
+        &asked,
+        found,
+        closed,
+    )?;
+    Ok(())
 }
 
 // Adds a position in which the operation breaks the rule, if there is one and none shows it.
@@ -164,22 +197,22 @@ fn cover_rule(
     alloc: Global,
     walked: &OperationWalk<'_>,
     rule: Rule,
-    positions: &mut Vec<TestPosition>,
+    found: &mut Found,
 ) -> Result<(), Memory>
     requires walked { IsOperationWalk walked.now }
-    requires positions { ArePositions walked.now.station.now walked.now.operations.now positions.old.items }
-    ensures more { OnOk result (AreMore walked.now.station.now walked.now.operations.now positions.old.items
-        positions.new.items) }
+    requires positions { ArePositions walked.now.station.now walked.now.operations.now found.old.positions.items }
+    ensures more { OnOk result (AreMore walked.now.station.now walked.now.operations.now found.old.positions.items
+        found.new.positions.items) }
     ensures shown { OnOk result ((v : List Bool) (op : Operation)
         → slice_get walked.now.operations.now walked.now.number ≡ Some op → IsVector walked.now.station.now v
         → Breaks walked.now.station.now v op (Some rule)
-        → RuleIsShown positions.new.items walked.now.number rule) }
+        → RuleIsShown found.new.positions.items walked.now.number rule) }
 {
-    if is_rule_shown(positions, walked.number, rule) {
+    if is_rule_shown(&found.positions, walked.number, rule) {
         return Ok(());
     }
     let op = walked.operations[walked.number];
-    let found = find_breach(
+    let breach = find_breach(
         alloc,
         walked.station,
         walked.steps,
@@ -188,57 +221,42 @@ fn cover_rule(
         op,
         rule,
     )?;
-    match found {
-        Some(closed) => Ok(add_position(
-            alloc,
-            walked.station,
-            walked.operations,
-            walked.stands,
-            positions,
-            closed,
-        )?),
+    match breach {
+        Some(closed) => Ok(add_breach(alloc, walked, found, closed)?),
         None => Ok(()),
     }
 }
 
 // Adds positions in which the operation breaks each of the rules that it can break.
-fn cover_rules(
-    alloc: Global,
-    walked: &OperationWalk<'_>,
-    positions: &mut Vec<TestPosition>,
-) -> Result<(), Memory>
+fn cover_rules(alloc: Global, walked: &OperationWalk<'_>, found: &mut Found) -> Result<(), Memory>
     requires walked { IsOperationWalk walked.now }
-    requires positions { ArePositions walked.now.station.now walked.now.operations.now positions.old.items }
-    ensures more { OnOk result (AreMore walked.now.station.now walked.now.operations.now positions.old.items
-        positions.new.items) }
+    requires positions { ArePositions walked.now.station.now walked.now.operations.now found.old.positions.items }
+    ensures more { OnOk result (AreMore walked.now.station.now walked.now.operations.now found.old.positions.items
+        found.new.positions.items) }
     ensures shown { OnOk result ((rule : Broken) (v : List Bool) (op : Operation)
         → slice_get walked.now.operations.now walked.now.number ≡ Some op → IsVector walked.now.station.now v
         → Breaks walked.now.station.now v op (Some rule)
-        → RuleIsShown positions.new.items walked.now.number rule) }
+        → RuleIsShown found.new.positions.items walked.now.number rule) }
 {
-    cover_rule(alloc, walked, Rule::R1, positions)?;
-    cover_rule(alloc, walked, Rule::R2, positions)?;
-    cover_rule(alloc, walked, Rule::R3, positions)?;
+    cover_rule(alloc, walked, Rule::R1, found)?;
+    cover_rule(alloc, walked, Rule::R2, found)?;
+    cover_rule(alloc, walked, Rule::R3, found)?;
     Ok(())
 }
 
 // Adds positions that show for each switch on which the operation depends that it does.
-fn cover_turns(
-    alloc: Global,
-    walked: &OperationWalk<'_>,
-    positions: &mut Vec<TestPosition>,
-) -> Result<(), Memory>
+fn cover_turns(alloc: Global, walked: &OperationWalk<'_>, found: &mut Found) -> Result<(), Memory>
     requires walked { IsOperationWalk walked.now }
-    requires positions { ArePositions walked.now.station.now walked.now.operations.now positions.old.items }
-    ensures more { OnOk result (AreMore walked.now.station.now walked.now.operations.now positions.old.items
-        positions.new.items) }
+    requires positions { ArePositions walked.now.station.now walked.now.operations.now found.old.positions.items }
+    ensures more { OnOk result (AreMore walked.now.station.now walked.now.operations.now found.old.positions.items
+        found.new.positions.items) }
     ensures shown { OnOk result ((s : ℕ) (op : Operation)
         → slice_get walked.now.operations.now walked.now.number ≡ Some op → IsMoved walked.now.stands.now s
-        → DependsOn walked.now.station.now op s → TurnIsShown positions.new.items walked.now.number s) }
+        → DependsOn walked.now.station.now op s → TurnIsShown found.new.positions.items walked.now.number s) }
 {
     let layers = layers_of(alloc, walked)?;
     for s in 0..walked.station.switch_count() {
-        cover_turn(alloc, walked, &layers, SwitchId(s), positions)?;
+        cover_turn(alloc, walked, &layers, SwitchId(s), found)?;
     }
     Ok(())
 }
@@ -247,18 +265,18 @@ fn cover_turns(
 pub(crate) fn cover_operation(
     alloc: Global,
     walked: &OperationWalk<'_>,
-    positions: &mut Vec<TestPosition>,
+    found: &mut Found,
 ) -> Result<(), Memory>
     requires walked { IsOperationWalk walked.now }
-    requires positions { ArePositions walked.now.station.now walked.now.operations.now positions.old.items }
-    ensures more { OnOk result (AreMore walked.now.station.now walked.now.operations.now positions.old.items
-        positions.new.items) }
-    ensures covered { OnOk result (IsCovered walked.now.station.now walked.now.operations.now walked.now.stands.now positions.new.items
+    requires positions { ArePositions walked.now.station.now walked.now.operations.now found.old.positions.items }
+    ensures more { OnOk result (AreMore walked.now.station.now walked.now.operations.now found.old.positions.items
+        found.new.positions.items) }
+    ensures covered { OnOk result (IsCovered walked.now.station.now walked.now.operations.now walked.now.stands.now found.new.positions.items
         walked.now.number) }
 {
     walked.station.is_station();
     walks_answer();
-    cover_turns(alloc, walked, positions)?;
-    cover_rules(alloc, walked, positions)?;
+    cover_turns(alloc, walked, found)?;
+    cover_rules(alloc, walked, found)?;
     Ok(())
 }

@@ -13,8 +13,12 @@ ghost use Rattle.commissioning_tests.specs.Listed.{operations_from};
 ghost use Rattle.commissioning_tests.specs.Refusing.{AllAreNarrow, SomeIsTooWide};
 ghost use Rattle.judge_pool.specs.declared.limits.TheConstants.{BAY_EDGES};
 
+use crate::bay_paths::{SwitchPaths, bay_paths};
 use crate::cover::cover_operation;
-use crate::paths::paths_of;
+use crate::found::Found;
+use crate::open_turns::{open_turns, push_turns};
+use crate::told::Told;
+use crate::turn_index::TurnIndex;
 use crate::values::TestPosition;
 use crate::walked::OperationWalk;
 use dependence_search::{RuleStocks, released_graph, rule_stocks, rule_walk};
@@ -25,6 +29,24 @@ use station_graph::Station;
 use station_joints::JointSteps;
 use std::alloc::Global;
 
+// Where the walks of all of the bay's switches are not at hand, makes the open turns those of this walk.
+fn open_own(
+    station: &Station,
+    steps: &JointSteps,
+    stands: &[u16],
+    bay: &[SwitchPaths],
+    own: &SwitchPaths,
+    found: &mut Found,
+) -> Result<(), Memory>
+    ensures { found.new.positions.items ≡ found.old.positions.items }
+{
+    if bay.len() > 0 {
+        return Ok(());
+    }
+    found.open.clear();
+    push_turns(&mut found.open, station, steps, stands, own, 0)
+}
+
 // Adds positions that show all of the two operations of a switch, by its walk.
 fn cover_both(
     alloc: Global,
@@ -32,11 +54,12 @@ fn cover_both(
     steps: &JointSteps,
     operations: &[Op],
     stands: &[u16],
+    bay: &[SwitchPaths],
     walk: &Walk,
     place: u16,
     switch: SwitchId,
     number: usize,
-    positions: &mut Vec<TestPosition>,
+    found: &mut Found,
 ) -> Result<(), Memory>
     requires steps { HaveJointSteps station.now station.now steps.now }
     requires all { AreOperations station.now operations.now }
@@ -45,12 +68,13 @@ fn cover_both(
     requires closing { slice_get operations.now (number + 1) ≡ Some (closing switch.0) }
     requires moved { TakesIn steps.now.old_steps.items place (a_switch switch.0) }
     requires walk { IsRuleWalk station.now steps.now.old_steps.items place switch.0 walk.now.graph walk.now.codes.items }
-    requires positions { ArePositions station.now operations.now positions.old.items }
-    ensures more { OnOk result (AreMore station.now operations.now positions.old.items positions.new.items) }
-    ensures opening { OnOk result (IsCovered station.now operations.now stands.now positions.new.items number) }
-    ensures closing { OnOk result (IsCovered station.now operations.now stands.now positions.new.items (number + 1)) }
+    requires positions { ArePositions station.now operations.now found.old.positions.items }
+    ensures more { OnOk result (AreMore station.now operations.now found.old.positions.items found.new.positions.items) }
+    ensures opening { OnOk result (IsCovered station.now operations.now stands.now found.new.positions.items number) }
+    ensures closing { OnOk result (IsCovered station.now operations.now stands.now found.new.positions.items (number + 1)) }
 {
-    let paths = paths_of(alloc, walk)?;
+    let own = SwitchPaths::of_walk(alloc, walk, place, number)?;
+    open_own(station, steps, stands, bay, &own, found)?;
     let opened = released_graph(alloc, walk, Direction::ToOff)?;
     let open = OperationWalk {
         station,
@@ -59,12 +83,13 @@ fn cover_both(
         stands,
         walk,
         place,
-        paths: &paths,
+        own: &own,
+        bay,
         released: &opened,
         number,
         opening: number,
     };
-    cover_operation(alloc, &open, positions)?;
+    cover_operation(alloc, &open, found)?;
     let closed = released_graph(alloc, walk, Direction::ToOn)?;
     let close = OperationWalk {
         station,
@@ -73,12 +98,13 @@ fn cover_both(
         stands,
         walk,
         place,
-        paths: &paths,
+        own: &own,
+        bay,
         released: &closed,
         number: number + 1,
         opening: number,
     };
-    cover_operation(alloc, &close, positions)?;
+    cover_operation(alloc, &close, found)?;
     Ok(())
 }
 
@@ -91,10 +117,11 @@ fn cover_switch(
     steps: &JointSteps,
     operations: &[Op],
     stands: &[u16],
+    bay: &[SwitchPaths],
     switch: SwitchId,
     number: usize,
     limit: usize,
-    positions: &mut Vec<TestPosition>,
+    found: &mut Found,
 ) -> Result<(), Trouble>
     requires limit { limit ≤ BAY_EDGES }
     requires steps { HaveJointSteps station.now station.now steps.now }
@@ -105,11 +132,11 @@ fn cover_switch(
     requires opening { slice_get operations.now number ≡ Some (opening switch.0) }
     requires closing { slice_get operations.now (number + 1) ≡ Some (closing switch.0) }
     requires switch { switch.0 < length station.now.switches }
-    requires positions { ArePositions station.now operations.now positions.old.items }
+    requires positions { ArePositions station.now operations.now found.old.positions.items }
     ensures stocks { OnOk result (AreRuleStocks station.now steps.now.old_steps.items stocks.new) }
-    ensures more { OnOk result (AreMore station.now operations.now positions.old.items positions.new.items) }
-    ensures opening { OnOk result (IsCovered station.now operations.now stands.now positions.new.items number) }
-    ensures closing { OnOk result (IsCovered station.now operations.now stands.now positions.new.items (number + 1)) }
+    ensures more { OnOk result (AreMore station.now operations.now found.old.positions.items found.new.positions.items) }
+    ensures opening { OnOk result (IsCovered station.now operations.now stands.now found.new.positions.items number) }
+    ensures closing { OnOk result (IsCovered station.now operations.now stands.now found.new.positions.items (number + 1)) }
     ensures narrow { IfOk result (λ _. IsNarrow station.now steps.now.old_steps.items switch.0 limit) }
     ensures wide { IfErr result (λ e. e ≡ Wide
         → IsTooWide station.now steps.now.old_steps.items switch.0 limit) }
@@ -125,7 +152,7 @@ fn cover_switch(
         limit,
     )?;
     cover_both(
-        alloc, station, steps, operations, stands, &walk, place, switch, number, positions,
+        alloc, station, steps, operations, stands, bay, &walk, place, switch, number, found,
     )?;
     Ok(())
 }
@@ -154,24 +181,22 @@ fn cover_with(
     ensures narrow { IfOk result (λ _. AllAreNarrow station.now steps.now.old_steps.items first.0 count limit) }
     ensures wide { IfErr result (λ e. e ≡ Wide → SomeIsTooWide station.now steps.now.old_steps.items first.0 count limit) }
 {
-    let mut positions = Vec::new(alloc);
+    let bay = bay_paths(alloc, station, steps, first, count)?;
+    let mut found = Found {
+        positions: Vec::new(alloc),
+        index: TurnIndex::new(alloc, operations.len(), station.switch_count())?,
+        open: open_turns(alloc, station, steps, stands, &bay)?,
+        told: Told::new(alloc),
+    };
     for i in 0..count {
         let switch = SwitchId(first.0 + i);
         let number = 2 * usize::from(i);
         cover_switch(
-            alloc,
-            stocks,
-            station,
-            steps,
-            operations,
-            stands,
-            switch,
-            number,
-            limit,
-            &mut positions,
+            alloc, stocks, station, steps, operations, stands, &bay, switch, number, limit,
+            &mut found,
         )?;
     }
-    Ok(positions)
+    Ok(found.positions)
 }
 
 // Positions that show all of the operations of so many switches, from this one on.

@@ -1,6 +1,7 @@
 //! Flips of single switches, followed along the edges of a walk all at once: those that lead to one node go on as one.
 
 use crate::paths::{Paths, Released, number_at};
+use crate::told::{Choices, Told};
 use ilk_base::Memory;
 use std::alloc::Global;
 
@@ -39,8 +40,17 @@ pub(crate) struct Sweep {
     seats: Vec<u32>,
 }
 
+// What it is worth that the switch of a layer turns the operations.
+pub(crate) fn worth_at(worths: &[Worth], layer: u16) -> Worth {
+    if usize::from(layer) < worths.len() {
+        worths[usize::from(layer)]
+    } else {
+        NOTHING
+    }
+}
+
 // What it is worth that a label stands where the other stood.
-fn turned_worth(base: Released, other: Released, worth: Worth) -> u32 {
+pub(crate) fn turned_worth(base: Released, other: Released, worth: Worth) -> u32 {
     let open = if base.open == other.open {
         0
     } else {
@@ -70,11 +80,6 @@ impl Sweep {
             flips,
             seats,
         })
-    }
-
-    // Takes all out.
-    pub(crate) fn clear(&mut self) {
-        self.count = 0;
     }
 
     // Puts in flips that lead to a node, to which none leads yet.
@@ -115,14 +120,23 @@ impl Sweep {
         }
     }
 
-    // What it is worth that the labels behind the last layer turn what this one says.
-    pub(crate) fn turned(&self, paths: &Paths, label: u32) -> u32 {
-        let base = paths.told(label);
+    // What it is worth that flips turn what this label says, where all take this choice in a layer.
+    pub(crate) fn turned(
+        &self,
+        told: &mut Told,
+        choices: Choices<'_>,
+        layer: u16,
+        closed: bool,
+        label: u32,
+    ) -> u32 {
+        let behind = layer.saturating_add(1);
+        let base = choices.paths.told(label);
         let mut sum = 0u32;
         for k in 0..self.count {
             if (k as usize) < self.flips.len() {
                 let flips = self.flips[k as usize];
-                let other = paths.told(flips.node);
+                let next = choices.paths.next(flips.node, closed);
+                let other = choices.paths.told(told.label(choices, behind, next));
                 sum = sum.saturating_add(turned_worth(base, other, flips.worth));
             }
         }

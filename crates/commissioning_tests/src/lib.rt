@@ -5,16 +5,21 @@
 
 mod all_bays;
 mod answers;
+mod asked;
 mod bay;
+mod bay_paths;
 mod climb;
 mod cover;
 mod cover_bay;
 mod depends;
 mod flips;
+mod found;
 mod laws;
+mod layers;
 mod leads;
 mod lists;
 mod moves;
+mod open_turns;
 mod operations;
 mod paths;
 mod refusal;
@@ -22,6 +27,8 @@ mod rich;
 mod shown;
 mod sound;
 mod stands;
+mod told;
+mod turn_index;
 mod values;
 mod walked;
 

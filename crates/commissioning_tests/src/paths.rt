@@ -98,6 +98,11 @@ pub(crate) fn number_at(numbers: &[u32], place: usize) -> u32 {
     }
 }
 
+// Whether the switch of a layer is closed.
+pub(crate) fn is_closed(closed: &[bool], layer: u16) -> bool {
+    usize::from(layer) < closed.len() && closed[usize::from(layer)]
+}
+
 impl Paths {
     // How many layers there are.
     pub(crate) fn layers(&self) -> u16 {

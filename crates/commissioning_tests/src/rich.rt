@@ -1,44 +1,23 @@
 //! A position that shows much of what is not shown yet.
-ghost use Rattle.std.specs.Prelude.{IfOk};
+ghost use Rattle.std.specs.Prelude.{◌≡◌, IfOk};
 ghost use Rattle.station_graph.specs.Alike.{IsVector};
 
 use crate::climb::climb;
 use crate::flips::{NOTHING, Worth};
-use crate::shown::is_turn_shown;
+use crate::found::Found;
+use crate::layers::{choices_of, layer_of};
 use crate::stands::is_moved;
-use crate::values::TestPosition;
+use crate::turn_index::is_turn_noted;
 use crate::walked::OperationWalk;
 use ilk_base::{Memory, SwitchId};
-use station_joints::JointSteps;
 use std::alloc::Global;
 
 // What is counted for the switch for which the position was found: it stays.
 const KEPT: u32 = 65536;
 
-// The place at this number, 0 where there is none.
-fn place_at(places: &[u16], number: usize) -> u16 {
-    if number < places.len() {
-        places[number]
-    } else {
-        0
-    }
-}
-
-// The layer of a switch; none of the moved one.
-fn layer_of(steps: &JointSteps, moved: u16, switch: u16) -> Option<u16> {
-    let place = place_at(&steps.old_places, usize::from(switch));
-    if place < moved {
-        Some(place)
-    } else if moved < place {
-        Some(place - 1)
-    } else {
-        None
-    }
-}
-
 // What it is worth to show that the switch turns operation k.
-fn worth_of(positions: &[TestPosition], k: usize, switch: SwitchId, kept: bool) -> u32 {
-    if is_turn_shown(positions, k, switch) {
+fn worth_of(found: &Found, k: usize, switch: SwitchId, kept: bool) -> u32 {
+    if is_turn_noted(&found.positions, &found.index, k, switch) {
         0
     } else if kept {
         KEPT
@@ -50,7 +29,7 @@ fn worth_of(positions: &[TestPosition], k: usize, switch: SwitchId, kept: bool) 
 // Writes what a moved switch is worth.
 fn put_worth(
     walked: &OperationWalk<'_>,
-    positions: &[TestPosition],
+    found: &Found,
     switch: SwitchId,
     kept: SwitchId,
     worths: &mut Vec<Worth>,
@@ -60,8 +39,8 @@ fn put_worth(
         let place = usize::from(layer);
         if place < worths.len() {
             worths[place] = Worth {
-                open: worth_of(positions, walked.opening, switch, is_kept),
-                close: worth_of(positions, walked.opening.saturating_add(1), switch, is_kept),
+                open: worth_of(found, walked.opening, switch, is_kept),
+                close: worth_of(found, walked.opening.saturating_add(1), switch, is_kept),
             };
         }
     }
@@ -71,44 +50,17 @@ fn put_worth(
 fn worths(
     alloc: Global,
     walked: &OperationWalk<'_>,
-    positions: &[TestPosition],
+    found: &Found,
     kept: SwitchId,
 ) -> Result<Vec<Worth>, Memory> {
     let mut worths = Vec::new(alloc);
-    worths.resize(usize::from(walked.paths.layers()), NOTHING)?;
+    worths.resize(usize::from(walked.own.paths.layers()), NOTHING)?;
     for s in 0..walked.station.switch_count() {
         if is_moved(walked.stands, s) {
-            put_worth(walked, positions, SwitchId(s), kept, &mut worths);
+            put_worth(walked, found, SwitchId(s), kept, &mut worths);
         }
     }
     Ok(worths)
-}
-
-// Writes whether the switch of a layer is closed.
-fn put_closed(choices: &mut Vec<bool>, layer: Option<u16>, closed: bool) {
-    if let Some(layer) = layer {
-        let place = usize::from(layer);
-        if place < choices.len() {
-            choices[place] = closed;
-        }
-    }
-}
-
-// For each layer whether its switch is closed.
-fn choices_of(
-    alloc: Global,
-    walked: &OperationWalk<'_>,
-    closed: &[bool],
-) -> Result<Vec<bool>, Memory>
-    requires { IsVector walked.now.station.now closed.now }
-{
-    let mut choices = Vec::new(alloc);
-    choices.resize(usize::from(walked.paths.layers()), false)?;
-    for s in 0..walked.station.switch_count() {
-        let layer = layer_of(walked.steps, walked.place, s);
-        put_closed(&mut choices, layer, closed[usize::from(s)]);
-    }
-    Ok(choices)
 }
 
 // Whether the switch of a layer is closed; the moved one stays.
@@ -141,16 +93,37 @@ fn closed_by(
 pub(crate) fn richer(
     alloc: Global,
     walked: &OperationWalk<'_>,
-    positions: &[TestPosition],
+    found: &mut Found,
     kept: SwitchId,
     closed: &[bool],
 ) -> Result<Vec<bool>, Memory>
     requires { IsVector walked.now.station.now closed.now }
-    ensures { IfOk result (λ v. IsVector walked.now.station.now v.items) }
+    ensures same { found.new.positions.items ≡ found.old.positions.items }
+    ensures vector { IfOk result (λ v. IsVector walked.now.station.now v.items) }
 {
-    let worths = worths(alloc, walked, positions, kept)?;
-    let mut choices = choices_of(alloc, walked, closed)?;
-    climb(alloc, walked.paths, &worths, &mut choices)?;
-    climb(alloc, walked.paths, &worths, &mut choices)?;
+    let worths = worths(alloc, walked, found, kept)?;
+    let layers = walked.own.paths.layers();
+    let mut choices = choices_of(
+        alloc,
+        walked.station,
+        walked.steps,
+        walked.place,
+        layers,
+        closed,
+    )?;
+    climb(
+        alloc,
+        &walked.own.paths,
+        &worths,
+        &mut found.told,
+        &mut choices,
+    )?;
+    climb(
+        alloc,
+        &walked.own.paths,
+        &worths,
+        &mut found.told,
+        &mut choices,
+    )?;
     closed_by(alloc, walked, &choices, closed)
 }

@@ -8,7 +8,12 @@ use crate::values::{TestMove, TestPosition};
 use ilk_base::{Rule, SwitchId};
 
 // Whether the move is of this switch and turns operation k.
-fn is_turn(answers: &[Option<Rule>], test_move: &TestMove, k: usize, switch: SwitchId) -> bool
+pub(crate) fn is_turn(
+    answers: &[Option<Rule>],
+    test_move: &TestMove,
+    k: usize,
+    switch: SwitchId,
+) -> bool
     ensures { IsTrue result ↔ ((test_move.now.switch.0 ≡ switch.0) × TurnsAt k answers.now test_move.now.answers.items) }
 {
     test_move.switch.0 == switch.0 && turns_at(answers, &test_move.answers, k)

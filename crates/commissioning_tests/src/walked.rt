@@ -1,5 +1,5 @@
 //! The walk of an operation.
-use crate::paths::Paths;
+use crate::bay_paths::SwitchPaths;
 use decision_graphs::Graph;
 use graph_walks::Walk;
 use ilk_base::Op;
@@ -19,8 +19,9 @@ pub(crate) struct OperationWalk<'a> {
     // the walk of the moved switch, and the place of its step
     pub(crate) walk: &'a Walk,
     pub(crate) place: u16,
-    // its edges
-    pub(crate) paths: &'a Paths,
+    // its edges, and those of the walks of all of the bay's switches, if these are few
+    pub(crate) own: &'a SwitchPaths,
+    pub(crate) bay: &'a [SwitchPaths],
     // the graph of the operation
     pub(crate) released: &'a Graph,
     // which of the operations it is, and which opens the switch; the next to that closes it

@@ -19,7 +19,7 @@ returns-clause-covered c =
           c.args.walked.now.walk.now.graph c.args.walked.now.walk.now.codes.items)
           (same_op c.args.walked.now.operations.now c.args.walked.now.number w.op op w.at at) w.walk) vector;
       turns = λ s op at here dep.
-          turn_grows c.cover_turns.new.positions.items c.cover_rules.new.positions.items c.args.walked.now.number s
+          turn_grows c.cover_turns.new.found.positions.items c.cover_rules.new.found.positions.items c.args.walked.now.number s
           c.in_ok-cover_rules.ensures.more.grows (c.in_ok-cover_turns.ensures.shown s op at here dep);
       rules = c.in_ok-cover_rules.ensures.shown;
     }

@@ -6,7 +6,6 @@ use Rattle.station_graph.specs.Connection.{a_switch}
 use Rattle.step_graphs.specs.Steps.{TakesIn}
 use Rattle.dependence_search.specs.RuleWalks.{IsRuleWalk}
 use Rattle.station_graph.specs.CentralRules.{Breaks}
-use Rattle.commissioning_tests.proofs.CoverLemmas.{added_more, added_rule}
 use Rattle.commissioning_tests.proofs.cover.cover_rule.Goals as goal
 
 pub bounds-walked-walked : goal.bounds-walked-walked
@@ -31,24 +30,16 @@ find_breach-requires-clause-walk c =
     c.args.walked.now.place x.switch.0 c.args.walked.now.walk.now.graph c.args.walked.now.walk.now.codes.items)
     (sym (get_or_from_slice_get c.args.walked.now.operations.now c.args.walked.now.number w.op _ w.at)) w.walk
 
-pub returns-in_ok-add_position-in-Some-clause-more : goal.returns-in_ok-add_position-in-Some-clause-more
-returns-in_ok-add_position-in-Some-clause-more c =
-    added_more c.args.walked.now.station.now c.args.walked.now.operations.now c.args.walked.now.stands.now c.args.positions.now.items
-    c.add_position.new.positions.items c.in-Some.closed.items c.in_ok-add_position-in-Some.ensures
-    c.requires.positions
-
-pub returns-in_ok-add_position-in-Some-clause-shown : goal.returns-in_ok-add_position-in-Some-clause-shown
-returns-in_ok-add_position-in-Some-clause-shown c v op at vector breaks =
-    let found = rw c.in-Some.is at c.in_ok-found.ensures in
-    added_rule c.args.walked.now.station.now c.args.walked.now.operations.now c.args.walked.now.stands.now c.args.positions.now.items
-    c.add_position.new.positions.items c.in-Some.closed.items c.in_ok-add_position-in-Some.ensures
-    c.args.walked.now.number c.args.rule op at
+pub returns-in_ok-add_breach-in-Some-clause-shown : goal.returns-in_ok-add_breach-in-Some-clause-shown
+returns-in_ok-add_breach-in-Some-clause-shown c v op at vector breaks =
+    let found = rw c.in-Some.is at c.in_ok-breach.ensures in
+    c.in_ok-add_breach-in-Some.ensures.shown c.args.rule op at
     (subst (λ (x : Op). Breaks c.args.walked.now.station.now c.in-Some.closed.items x (Some c.args.rule))
     (get_or_from_slice_get c.args.walked.now.operations.now c.args.walked.now.number op _ at) found.1)
 
 pub returns-in-None-clause-shown : goal.returns-in-None-clause-shown
 returns-in-None-clause-shown c v op at vector breaks =
-    let none = rw c.in-None.is at c.in_ok-found.ensures in
+    let none = rw c.in-None.is at c.in_ok-breach.ensures in
     absurd (subst (λ (x : Op). (v : List Bool) → IsVector c.args.walked.now.station.now v →
     ¬ Breaks c.args.walked.now.station.now v x (Some c.args.rule))
     (get_or_from_slice_get c.args.walked.now.operations.now c.args.walked.now.number op _ at) none v vector breaks)

@@ -11,7 +11,7 @@ returns-then-not-may_turn-clause-shown c op at here dep = absurd (c.may_turn.ens
 pub returns-in_ok-add_both-in-Some-clause-shown : goal.returns-in_ok-add_both-in-Some-clause-shown
 returns-in_ok-add_both-in-Some-clause-shown c op at here dep =
     let turning = rw c.in-Some.is at c.in_ok-closed.ensures in
-    c.in_ok-add_both-in-Some.ensures.shown op at here
+    c.in_ok-add_both-in-Some.ensures.shown op at
     (subst (λ (x : Op). IsTurning c.args.walked.now.station.now x c.args.switch.0 c.in-Some.closed.items)
     (same_op c.args.walked.now.operations.now c.args.walked.now.number c.operation_of-op.result op
     c.operation_of-op.ensures at) turning.turn)

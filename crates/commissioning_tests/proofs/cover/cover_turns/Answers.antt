@@ -16,14 +16,14 @@ cover_turn-requires-clause-layers c op at =
 
 pub loop-s-preserved : goal.loop-s-preserved
 loop-s-preserved c = (
-  more_then c.args.walked.now.station.now c.args.walked.now.operations.now c.args.positions.now.items
-      c.loop-s.positions.items c.cover_turn.new.positions.items c.loop-s.invariant.0 c.in_ok-cover_turn.ensures.more,
+  more_then c.args.walked.now.station.now c.args.walked.now.operations.now c.args.found.now.positions.items
+      c.loop-s.found.positions.items c.cover_turn.new.found.positions.items c.loop-s.invariant.0 c.in_ok-cover_turn.ensures.more,
   λ s op lt at here dep. elim (cases s c.loop-s.s lt) [
     | inl less ↦
-        turn_grows c.loop-s.positions.items c.cover_turn.new.positions.items c.args.walked.now.number s
+        turn_grows c.loop-s.found.positions.items c.cover_turn.new.found.positions.items c.args.walked.now.number s
         c.in_ok-cover_turn.ensures.more.grows (c.loop-s.invariant.1 s op less at here dep)
     | inr equal ↦
-        subst (λ (k : ℕ). TurnIsShown c.cover_turn.new.positions.items c.args.walked.now.number k) (sym equal)
+        subst (λ (k : ℕ). TurnIsShown c.cover_turn.new.found.positions.items c.args.walked.now.number k) (sym equal)
         (c.in_ok-cover_turn.ensures.shown op at
         (subst (λ (k : ℕ). IsMoved c.args.walked.now.stands.now k) equal here)
         (subst (λ (k : ℕ). DependsOn c.args.walked.now.station.now op k) equal dep))

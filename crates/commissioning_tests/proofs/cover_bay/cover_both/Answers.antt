@@ -1,3 +1,7 @@
+use Rattle.std.proofs.Common.{List, subst, sym}
+use Rattle.commissioning_tests.specs.declared.values.TestPosition.{TestPosition}
+use Rattle.commissioning_tests.specs.Answering.{ArePositions}
+use Rattle.commissioning_tests.specs.Growing.{AreMore}
 use Rattle.dependence_search.proofs.ReleasedLemmas.{walk_has}
 use Rattle.release_dependence.specs.Operations.{opening, closing}
 use Rattle.commissioning_tests.proofs.CoverLemmas.{covered_grows, more_then}
@@ -37,12 +41,19 @@ cover_operation-requires-2-clause-walked c = record {
 
 pub returns-clause-opening : goal.returns-clause-opening
 returns-clause-opening c =
-    covered_grows c.args.station.now c.args.operations.now c.args.stands.now c.cover_operation.new.positions.items
-    c.cover_operation-2.new.positions.items c.args.number c.in_ok-cover_operation-2.ensures.more.grows
+    covered_grows c.args.station.now c.args.operations.now c.args.stands.now c.cover_operation.new.found.positions.items
+    c.cover_operation-2.new.found.positions.items c.args.number c.in_ok-cover_operation-2.ensures.more.grows
     c.in_ok-cover_operation.ensures.covered
+
+pub cover_operation-requires-clause-positions : goal.cover_operation-requires-clause-positions
+cover_operation-requires-clause-positions c =
+    subst (λ (l : List TestPosition). ArePositions c.args.station.now c.args.operations.now l)
+    (sym c.in_ok-open_own.ensures) c.requires.positions
 
 pub returns-clause-more : goal.returns-clause-more
 returns-clause-more c =
-    more_then c.args.station.now c.args.operations.now c.args.positions.now.items
-    c.cover_operation.new.positions.items c.cover_operation-2.new.positions.items
-    c.in_ok-cover_operation.ensures.more c.in_ok-cover_operation-2.ensures.more
+    subst (λ (l : List TestPosition). AreMore c.args.station.now c.args.operations.now l
+    c.cover_operation-2.new.found.positions.items) c.in_ok-open_own.ensures
+    (more_then c.args.station.now c.args.operations.now c.open_own.new.found.positions.items
+    c.cover_operation.new.found.positions.items c.cover_operation-2.new.found.positions.items
+    c.in_ok-cover_operation.ensures.more c.in_ok-cover_operation-2.ensures.more)

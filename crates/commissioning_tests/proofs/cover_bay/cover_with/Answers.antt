@@ -50,14 +50,14 @@ loop-i-preserved c = (
   c.in_ok-cover_switch.ensures.more.are,
   λ k lt. elim (cases k c.loop-i.i lt) [
     | inl less ↦
-        covered_grows c.args.station.now c.args.operations.now c.args.stands.now c.loop-i.positions.items
-        c.cover_switch.new.positions.items k c.in_ok-cover_switch.ensures.more.grows (c.loop-i.invariant.2 k less)
+        covered_grows c.args.station.now c.args.operations.now c.args.stands.now c.loop-i.found.positions.items
+        c.cover_switch.new.found.positions.items k c.in_ok-cover_switch.ensures.more.grows (c.loop-i.invariant.2 k less)
     | inr next ↦ elim next [
       | inl even ↦
-          subst (λ (x : ℕ). IsCovered c.args.station.now c.args.operations.now c.args.stands.now c.cover_switch.new.positions.items x)
+          subst (λ (x : ℕ). IsCovered c.args.station.now c.args.operations.now c.args.stands.now c.cover_switch.new.found.positions.items x)
           (ap (λ (x : ℕ). 2 * x) c.from-number.ensures ∙ sym even) c.in_ok-cover_switch.ensures.opening
       | inr odd ↦
-          subst (λ (x : ℕ). IsCovered c.args.station.now c.args.operations.now c.args.stands.now c.cover_switch.new.positions.items x)
+          subst (λ (x : ℕ). IsCovered c.args.station.now c.args.operations.now c.args.stands.now c.cover_switch.new.found.positions.items x)
           (ap (λ (x : ℕ). 2 * x + 1) c.from-number.ensures ∙ sym odd) c.in_ok-cover_switch.ensures.closing
     ]
   ],
@@ -67,7 +67,7 @@ loop-i-preserved c = (
 
 pub returns-in_err-cover_switch-clause-wide : goal.returns-in_err-cover_switch-clause-wide
 returns-in_err-cover_switch-clause-wide c =
-    passed_on _ _ c.from_residual.result c.from_residual.ensures.1
+    passed_on _ _ c.from_residual-in_err-cover_switch.result c.from_residual-in_err-cover_switch.ensures.1
     (λ trouble same is. record {
       number = c.args.first.0 + c.loop-i.i;
       after = omega arith;

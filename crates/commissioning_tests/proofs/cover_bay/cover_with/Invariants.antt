@@ -7,6 +7,6 @@ use Rattle.commissioning_tests.proofs.cover_bay.cover_with.Given as goal
 
 abbrev pub invariant-loop-i : goal.invariant-loop-i
 invariant-loop-i l =
-    AreRuleStocks l.station l.steps.old_steps.items l.stocks × ArePositions l.station l.operations l.positions.items
-    × AreCovered l.station l.operations l.stands l.positions.items (2 * l.i)
+    AreRuleStocks l.station l.steps.old_steps.items l.stocks × ArePositions l.station l.operations l.found.positions.items
+    × AreCovered l.station l.operations l.stands l.found.positions.items (2 * l.i)
     × AllAreNarrow l.station l.steps.old_steps.items l.first.0 l.i l.limit

@@ -1,7 +1,5 @@
-use Rattle.std.proofs.Common.{◌⊎◌, Bool, List, subst, sym}
+use Rattle.std.proofs.Common.{Bool, List, subst, sym}
 use Rattle.dependence_search.specs.Turning.{IsTurning}
-use Rattle.commissioning_tests.specs.declared.values.TestPosition.{TestPosition}
-use Rattle.commissioning_tests.specs.Covering.{TurnIsAmong, TurnIsShown}
 use Rattle.commissioning_tests.proofs.moves.add_position.Goals as goal
 
 pub returns : goal.returns
@@ -10,9 +8,7 @@ returns c = record {
   added = c.in_ok-push.ensures.items;
   is = c.in_ok-position.ensures.position;
   closed = c.in_ok-position.ensures.closed;
-  shows = λ k s op at lt here t.
-      subst (λ (ps : List TestPosition). TurnIsShown ps k s ⊎ TurnIsAmong c.in_ok-position.position.answers.items
-      c.in_ok-position.position.moves.items k s) c.deref.ensures.value
-      (c.in_ok-position.ensures.moves.shows k s op at lt here
-      (subst (λ (v : List Bool). IsTurning c.args.station.now op s v) (sym c.in_ok-position.ensures.closed) t));
+  shows = λ k s op at lt asked t.
+      c.in_ok-position.ensures.moves.shows k s op at lt asked
+      (subst (λ (v : List Bool). IsTurning c.args.station.now op s v) (sym c.in_ok-position.ensures.closed) t);
 }

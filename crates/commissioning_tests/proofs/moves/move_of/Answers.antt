@@ -1,6 +1,6 @@
 use Rattle.std.proofs.Common.{◌≡◌, ℕ, Bool, List, Option, not, slice_get, slice_set, Some, refl, sym, ap, ◌∙◌, subst, arith}
 use Rattle.std.specs.Prelude.{◌↔◌, IsTrue}
-use Rattle.std.proofs.lemmas.Option.{slice_get_within, get_or_from_slice_get}
+use Rattle.std.proofs.lemmas.Option.{get_or_from_slice_get}
 use Rattle.dependence_search.specs.Turning.{moved}
 use Rattle.ilk_base.specs.declared.words.Rule.{Rule}
 use Rattle.station_graph.specs.Supply.{Apart}
@@ -11,10 +11,6 @@ use Rattle.commissioning_tests.proofs.moves.move_of.Goals as goal
 -- the vector with the switch in the other position
 is_moved : (v w : List Bool) (s : ℕ) (x : Bool) → slice_get v s ≡ Some x → w ≡ slice_set v s (not x) → w ≡ moved s v
 is_moved v w s x at is = is ∙ ap (λ y. slice_set v s (not y)) (sym (get_or_from_slice_get v s x _ at))
-
-pub returns-then-all_shown : goal.returns-then-all_shown
-returns-then-all_shown c _ k op at t =
-    c.if-all_shown.ensures refl k (omega (arith, slice_get_within c.args.operations.now k op at))
 
 pub returns-then-not-shows_more : goal.returns-then-not-shows_more
 returns-then-not-shows_more c _ k op at t =

@@ -9,9 +9,9 @@ use Rattle.commissioning_tests.proofs.moves.position_of.Goals as goal
 pub returns-clause-moves : goal.returns-clause-moves
 returns-clause-moves c =
     let vector : c.in_ok-vector.vector ≡ c.args.closed.items = c.in_ok-vector.ensures ∙ c.deref.ensures.value in
-    subst (λ (v : List Bool). AreMovesOf c.args.station.now c.args.operations.now c.args.stands.now c.args.positions.now v
+    subst (λ (v : List Bool). AreMovesOf c.args.station.now c.args.operations.now c.args.asked.now c.args.found.now.positions.items v
     c.in_ok-answers.answers.items c.in_ok-moves.moves.items) vector
-    (subst (λ (l : List (Option Rule)). AreMovesOf c.args.station.now c.args.operations.now c.args.stands.now c.args.positions.now
+    (subst (λ (l : List (Option Rule)). AreMovesOf c.args.station.now c.args.operations.now c.args.asked.now c.args.found.now.positions.items
     c.in_ok-vector.vector l c.in_ok-moves.moves.items) c.deref-2.ensures.value c.in_ok-moves.ensures)
 
 pub returns-clause-position : goal.returns-clause-position

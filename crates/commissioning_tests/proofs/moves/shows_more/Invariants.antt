@@ -4,4 +4,4 @@ use Rattle.commissioning_tests.specs.Covering.{TurnIsShown}
 use Rattle.commissioning_tests.proofs.moves.shows_more.Given as goal
 
 abbrev pub invariant-loop-k : goal.invariant-loop-k
-invariant-loop-k l = (k : ℕ) → k < l.k → TurnsAt k l.answers l.others → TurnIsShown l.positions k l.switch.0
+invariant-loop-k l = (k : ℕ) → k < l.k → TurnsAt k l.answers l.others → TurnIsShown l.found.positions.items k l.switch.0
