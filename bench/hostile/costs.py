@@ -15,8 +15,11 @@ status is 1 where one is over.
   repeats it, so that `check` writes 2 GB and `audit` 1 GB, in pieces, of which they hold one at a time; and so do `tests`
   of them and `compare`, here with an earthing switch on their busbar, and 0.3 GB of a row of 192 disconnectors, of which
   each position names all
-- at the limits: grids of up to 3 by 9 nodes, whose graphs have nearly as many counted edges as a station may have, also
-  with many devices at each node
+- at the limits: six bays whose switches stand on the same nodes in pairs, beside up to 800 nodes that transformers join;
+  and grids of up to 3 by 9 nodes, whose graphs have nearly as many counted edges as a station may have, also with many
+  devices at each node
+- many positions: rings of up to 64 bays and 512 switches, whose walks are narrow, so that each bay is tested in hundreds
+  of positions, in each of which hundreds of switches may be moved
 - floods: a million frames, ticks, commands, readings or changes of the record to one node; 3,000 lines to a stored one,
   whose changes go to the disk; a log of 20,000 records in which 64 bays send one another messages
 """
@@ -197,7 +200,33 @@ def grid(width, height, devices=1):
     return f'<SCL><Substation name="S"><VoltageLevel name="V">{"".join(bays)}</VoltageLevel></Substation></SCL>'
 
 
+def beside_nodes(count):
+    """Three bays of four earthing switches each, three more with theirs on the same nodes, and so many nodes beside them
+    that each of two transformers joins, of which one comes before all bays and one behind them."""
+    def node(name, path):
+        return f'<ConnectivityNode name="{name}" pathName="{path}"/>'
+
+    def earth(number, path):
+        ends = f'<Terminal connectivityNode="{path}"/><Terminal connectivityNode="g" cNodeName="grounded"/>'
+        return f'<ConductingEquipment name="E{number}" type="DIS">{ends}</ConductingEquipment>'
+
+    bays = ["".join(node(f"n{i}", f"w{i}") for i in range(count))]
+    bays += ["".join([*(node(f"a{k}", f"{j}.a{k}") for k in range(4)), *(earth(k, f"{j}.a{k}") for k in range(4))])
+             for j in range(3)]
+    bays += ["".join(earth(k, f"{j}.a{k}") for k in range(4)) for j in range(3)]
+    level = "".join(f'<Bay name="B{i}">{bay}</Bay>' for i, bay in enumerate(bays))
+    ends = "".join(f'<Terminal connectivityNode="w{i}" cNodeName="a"/>' for i in range(count))
+    winding = f'<TransformerWinding name="1" type="PTW">{ends}</TransformerWinding>'
+    one, other = (f'<PowerTransformer name="T{i}" type="PTR">{winding}</PowerTransformer>' for i in (1, 2))
+    return f'<SCL><Substation name="S">{one}<VoltageLevel name="V">{level}</VoltageLevel>{other}</Substation></SCL>'
+
+
 def at_limits():
+    for part in PARTS:
+        count = 800 // part
+        files = {"a": beside_nodes(count).encode(), "b": b""}
+        for words in (["check", "a", "b"], ["tests", "a"], ["compare", "a", "a"]):
+            yield Case(f"{words[0]}: six bays beside {count} nodes that transformers join", words, files, b"", 0)
     for part in PARTS:
         height = 9 // part
         files = {"a": grid(3, height).encode(), "b": b""}
@@ -212,6 +241,36 @@ def at_limits():
         for words in (["tests", "a"], ["compare", "a", "a"]):
             what = f"{words[0]}: such a grid with {devices} devices at each node"
             yield Case(what, words, files, b"", 5, by_edges=True)
+
+
+# ---- many positions
+
+def full_ring(lines, second):
+    """A ring of lines with 8 switches in each bay. The bays between two lines have a second breaker, or a reactor."""
+    station = schemes.Station()
+    other = ["QB3 {} k3 on", "QA2 k3 k4 on", "QB4 k4 {} on"] if second else ["QB3 {} k3 on", "QC3 k3 off", "QC4 k3 off"]
+    for i in range(1, lines + 1):
+        here, there = f"L{i}/r", f"L{i % lines + 1}/r"
+        ends = iter((here, there))
+        branch = [row.format(next(ends)) if "{}" in row else row for row in other]
+        line = ["QB9 r l on", "QC9 l off", "E1 l on", "QB8 r m on", "QC8 m off", "E2 m on", "QC7 r off", "QC6 l off"]
+        station.bay(f"L{i}", line)
+        breaker = [f"QB1 {here} k1 on", "QA1 k1 k2 on", f"QB2 k2 {there} on", "QC1 k1 off", "QC2 k2 off"]
+        station.bay(f"K{i}", [*breaker, *branch])
+    return station
+
+
+def many_positions():
+    for part in PARTS:
+        lines = 32 // part
+        rings = {"a ring": schemes.ring(lines), "a full ring": full_ring(lines, False)}
+        rings["a full ring with two breakers"] = full_ring(lines, True)
+        for what, station in rings.items():
+            files = {"a": station.drawing().encode()}
+            # the walks of all switches of a full ring of 32 lines have some 100,000,000 edges, and its tests 20 MB of text
+            walked = what != "a ring"
+            yield Case(f"tests: {what} of {lines} lines", ["tests", "a"], files, b"", 0, by_edges=walked)
+            yield Case(f"compare: {what} of {lines} lines with itself", ["compare", "a", "a"], files, b"", 0)
 
 
 # ---- floods
@@ -268,11 +327,14 @@ def judged(case, seconds, memory, status):
         yield f"over {case.memory} MiB a MB"
 
 
+CASES = (chosen_names, long_names, at_limits, many_positions, floods)
+
+
 def main():
     if "-h" in sys.argv or "--help" in sys.argv:
         sys.exit(__doc__.strip())
     wrong = False
-    for case in (case for cases in (chosen_names, long_names, at_limits, floods) for case in cases()):
+    for case in (case for cases in CASES for case in cases()):
         with common.folder() as place:
             seconds, memory, status = run(case, pathlib.Path(place))
         faults = list(judged(case, seconds, memory, status))
@@ -281,4 +343,5 @@ def main():
     sys.exit(1 if wrong else 0)
 
 
-main()
+if __name__ == "__main__":
+    main()
