@@ -1,6 +1,6 @@
 -- What is read from a row is the value whose row it is, bare in the other view.
-use Rattle.std.proofs.Common.{◌≡◌, ℕ, ◌+◌, ◌*◌, ◌/◌, ◌≤◌, ◌⊎◌, ◌↔◌, ◌++◌, Bool, false, List, [], length}
-use Rattle.std.proofs.Common.{slice_get, replicate, take, drop}
+use Rattle.std.proofs.Common.{◌≡◌, ℕ, ◌+◌, ◌*◌, ◌/◌, ◌≤◌, ◌⊎◌, ◌↔◌, ◌++◌, Bool, List, [], length}
+use Rattle.std.proofs.Common.{slice_get, take, drop}
 use Rattle.std.proofs.Common.{refl, sym, ◌∙◌, ap, subst, arith, append_assoc}
 use Rattle.std.specs.Prelude.{Contains}
 use Rattle.std.specs.List.{between}
@@ -11,7 +11,7 @@ use Rattle.station_graph.specs.Views.{EnergisableBy, EarthableBy, FedBy, TappedB
 use Rattle.station_graph.specs.declared.limits.TheConstants.{NODES}
 use Rattle.contraction.specs.declared.row.Row.{Row}
 use Rattle.contraction.specs.Answers.{Answers, Keeps, MarkedAt, IsContraction}
-use Rattle.contraction.specs.Single.{AreAlone}
+use Rattle.contraction.specs.Single.{AreAlone, IsBare, AreBare}
 use Rattle.contraction.specs.Stands.{Among, GapStandsFor, LoadStandsFor}
 use Rattle.contraction.specs.Composing.{ComposesGap, ComposesLoad, IsGapOfBoth, IsLoadOfBoth}
 use Rattle.contraction.specs.Composing.{IsGapRowOfBoth, IsLoadRowOfBoth}
@@ -192,12 +192,6 @@ module _ (c : Answers) (w : IsContraction c) where
         subst (λ k. LoadParts bytes k c) (sym (e ∙ ap (λ k. k / 8) long_load ∙ omega arith)) load_parts_n
 
 -- ---- the value that is read
-
--- A row of no item.
-pub record IsBare (count : ℕ) (row : Row) : Type 0 where
-  pub labels : AreAlone count row.labels
-  pub first : row.first.items ≡ replicate count false
-  pub second : row.second.items ≡ replicate count false
 
 -- What the value is that a gap row tells.
 pub record GapIsRead (bytes : List ℕ) (c : Answers) : Type 0 where
@@ -404,19 +398,22 @@ module _ (bytes seen : List ℕ) (r : IsGapRow bytes) (same : seen ≡ bytes) wh
   pub gap_few : length seen / 6 ≤ NODES
   gap_few = omega (arith, gap_parts_seen.count_is, few_nodes r.value.kept r.contraction.nodes)
 
-  pub gap_told : (kept coupled : List ℕ) (energisable earthable : List Bool) (other : Row) (bonded : List ℕ) →
-      IsBare (length seen / 6) other → AreAlone (length seen / 6) bonded →
+  -- the row that is read, with the views of no item on as many nodes
+  pub gap_told : (kept labels : List ℕ) (first second : List Bool) (gap other : Row) (bonded : List ℕ) (count : ℕ) →
+      AreBare count other bonded → count ≡ length seen / 6 →
       ((xs : List ℕ) → take (2 * (length seen / 6)) seen ≡ words xs → kept ≡ xs) →
-      ((xs : List ℕ) → between (2 * (length seen / 6)) (4 * (length seen / 6)) seen ≡ words xs → coupled ≡ xs) →
-      ((bs : List Bool) → between (4 * (length seen / 6)) (5 * (length seen / 6)) seen ≡ flags bs →
-      energisable ≡ bs) →
-      ((bs : List Bool) → between (5 * (length seen / 6)) (6 * (length seen / 6)) seen ≡ flags bs → earthable ≡ bs) →
-      GapIsRead bytes (gap_beside kept coupled energisable earthable other bonded)
-  gap_told kept coupled energisable earthable other bonded bare apart ek ec ee ea =
+      ((xs : List ℕ) → between (2 * (length seen / 6)) (4 * (length seen / 6)) seen ≡ words xs → labels ≡ xs) →
+      ((bs : List Bool) → between (4 * (length seen / 6)) (5 * (length seen / 6)) seen ≡ flags bs → first ≡ bs) →
+      ((bs : List Bool) → between (5 * (length seen / 6)) (6 * (length seen / 6)) seen ≡ flags bs → second ≡ bs) →
+      gap.labels ≡ labels → gap.first.items ≡ first → gap.second.items ≡ second →
+      GapIsRead bytes (gap_beside kept gap.labels gap.first.items gap.second.items other bonded)
+  gap_told kept labels first second gap other bonded count bare as_many ek ec ee ea gl gf gs =
       let p = gap_parts_seen in
-      gap_is_read r.value r.contraction bytes other (subst (λ k. IsBare k other) p.count_is bare) r.row bonded
-      (subst (λ k. AreAlone k bonded) p.count_is apart) kept coupled energisable earthable (ek r.value.kept p.kept)
-      (ec r.value.coupled p.coupled) (ee r.value.energisable p.energisable) (ea r.value.earthable p.earthable)
+      let n = as_many ∙ p.count_is in
+      gap_is_read r.value r.contraction bytes other (subst (λ k. IsBare k other) n bare.bare) r.row bonded
+      (subst (λ k. AreAlone k bonded) n bare.alone) kept gap.labels gap.first.items gap.second.items
+      (ek r.value.kept p.kept) (gl ∙ ec r.value.coupled p.coupled) (gf ∙ ee r.value.energisable p.energisable)
+      (gs ∙ ea r.value.earthable p.earthable)
 
 module _ (bytes seen : List ℕ) (r : IsLoadRow bytes) (same : seen ≡ bytes) where
   load_parts_seen : LoadParts seen (length seen / 8) r.value
@@ -425,16 +422,19 @@ module _ (bytes seen : List ℕ) (r : IsLoadRow bytes) (same : seen ≡ bytes) w
   pub load_few : length seen / 8 ≤ NODES
   load_few = omega (arith, load_parts_seen.count_is, few_nodes r.value.kept r.contraction.nodes)
 
-  pub load_told : (kept joined bonded : List ℕ) (fed loaded : List Bool) (other : Row) →
-      IsBare (length seen / 8) other →
+  -- the row that is read, with the views of no item on as many nodes
+  pub load_told : (kept labels bonds bonded : List ℕ) (first second : List Bool) (load other : Row) (alone : List ℕ)
+      (count : ℕ) → AreBare count other alone → count ≡ length seen / 8 →
       ((xs : List ℕ) → take (2 * (length seen / 8)) seen ≡ words xs → kept ≡ xs) →
-      ((xs : List ℕ) → between (2 * (length seen / 8)) (4 * (length seen / 8)) seen ≡ words xs → joined ≡ xs) →
-      ((xs : List ℕ) → between (4 * (length seen / 8)) (6 * (length seen / 8)) seen ≡ words xs → bonded ≡ xs) →
-      ((bs : List Bool) → between (6 * (length seen / 8)) (7 * (length seen / 8)) seen ≡ flags bs → fed ≡ bs) →
-      ((bs : List Bool) → between (7 * (length seen / 8)) (8 * (length seen / 8)) seen ≡ flags bs → loaded ≡ bs) →
-      LoadIsRead bytes (load_beside kept joined bonded fed loaded other)
-  load_told kept joined bonded fed loaded other bare ek ej eb ef el =
+      ((xs : List ℕ) → between (2 * (length seen / 8)) (4 * (length seen / 8)) seen ≡ words xs → labels ≡ xs) →
+      ((xs : List ℕ) → between (4 * (length seen / 8)) (6 * (length seen / 8)) seen ≡ words xs → bonds ≡ xs) →
+      ((bs : List Bool) → between (6 * (length seen / 8)) (7 * (length seen / 8)) seen ≡ flags bs → first ≡ bs) →
+      ((bs : List Bool) → between (7 * (length seen / 8)) (8 * (length seen / 8)) seen ≡ flags bs → second ≡ bs) →
+      bonded ≡ bonds → load.labels ≡ labels → load.first.items ≡ first → load.second.items ≡ second →
+      LoadIsRead bytes (load_beside kept load.labels bonded load.first.items load.second.items other)
+  load_told kept labels bonds bonded first second load other alone count bare as_many ek ej eb ef el gb gl gf gs =
       let p = load_parts_seen in
-      load_is_read r.value r.contraction bytes other (subst (λ k. IsBare k other) p.count_is bare) r.row kept joined
-      bonded fed loaded (ek r.value.kept p.kept) (ej r.value.joined p.joined) (eb r.value.bonded p.bonded)
-      (ef r.value.fed p.fed) (el r.value.loaded p.loaded)
+      load_is_read r.value r.contraction bytes other
+      (subst (λ k. IsBare k other) (as_many ∙ p.count_is) bare.bare) r.row kept load.labels bonded load.first.items
+      load.second.items (ek r.value.kept p.kept) (gl ∙ ej r.value.joined p.joined)
+      (gb ∙ eb r.value.bonded p.bonded) (gf ∙ ef r.value.fed p.fed) (gs ∙ el r.value.loaded p.loaded)

@@ -1,6 +1,7 @@
 -- Values of no item, or of one.
-use Rattle.std.specs.Prelude.{◌≡◌, ℕ, ◌<◌, ◌⊎◌, ◌↔◌, Bool, true, List, [], ◌∷◌, length, slice_index}
+use Rattle.std.specs.Prelude.{◌≡◌, ℕ, ◌<◌, ◌⊎◌, ◌↔◌, Bool, true, false, List, [], ◌∷◌, length, slice_index, replicate}
 use Rattle.station_graph.specs.Connection.{Item}
+use Rattle.contraction.specs.declared.row.Row.{Row}
 use Rattle.contraction.specs.Answers.{Answers, Keeps, SameAt, MarkedAt}
 
 -- This item alone.
@@ -42,3 +43,14 @@ pub record IsSingle (a : ℕ) (energisable earthable fed loaded : Bool) (c : Ans
 pub record AreAlone (count : ℕ) (labels : List ℕ) : Type 0 where
   pub len : length labels ≡ count
   pub alone : (k : ℕ) → k < count → slice_index labels k ≡ k
+
+-- A row of so many places, each in a class of its own and without a mark.
+pub record IsBare (count : ℕ) (row : Row) : Type 0 where
+  pub labels : AreAlone count row.labels
+  pub first : row.first.items ≡ replicate count false
+  pub second : row.second.items ≡ replicate count false
+
+-- Such a row, and as many labels, each of a class of its own.
+pub record AreBare (count : ℕ) (row : Row) (labels : List ℕ) : Type 0 where
+  pub bare : IsBare count row
+  pub alone : AreAlone count labels

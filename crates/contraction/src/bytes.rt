@@ -137,14 +137,14 @@ impl Contraction {
     fn push_gap(&self, text: &mut Text) -> Result<(), Memory>
         ensures { IfOk result (λ _. text.new ≡ text.old ++ gap_bytes self.now) }
     {
-        self.gap.push_to(text)
+        self.gap.row().push_to(text)
     }
 
     // Appends the load view.
     fn push_load(&self, text: &mut Text) -> Result<(), Memory>
         ensures { IfOk result (λ _. text.new ≡ text.old ++ load_bytes self.now) }
     {
-        self.load.push_with(text, &self.bonded)
+        self.load.row().push_with(text, self.bonded.labels())
     }
 
     /// The kept nodes and both views as bytes. Two such rows are equal exactly where the contractions

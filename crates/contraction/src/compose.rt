@@ -7,10 +7,9 @@ ghost use Rattle.contraction.specs.Answers.{Keeps, IsContraction};
 ghost use Rattle.contraction.specs.Stands.{Among, MeetsKept, GapStandsFor, LoadStandsFor};
 ghost use Rattle.contraction.specs.Composing.{Composes, Restricts};
 
-use crate::labels::{labels_at, labels_of_both};
 use crate::merge::merge;
 use crate::places::{picked, places_of};
-use crate::row::Row;
+use crate::shared_row::{SharedRow, bonds_at, bonds_of_both};
 use crate::value::Contraction;
 use ilk_base::Memory;
 use station_graph::NodeList;
@@ -40,9 +39,9 @@ impl Contraction {
             → LoadStandsFor (Among (items ++ others)) d v c) }
     {
         let union = merge(alloc, &self.kept, &other.kept)?;
-        let gap = Row::of_both(alloc, &union, &self.gap, &other.gap)?;
-        let load = Row::of_both(alloc, &union, &self.load, &other.load)?;
-        let bonded = labels_of_both(
+        let gap = SharedRow::of_both(alloc, &union, &self.gap, &other.gap)?;
+        let load = SharedRow::of_both(alloc, &union, &self.load, &other.load)?;
+        let bonded = bonds_of_both(
             alloc,
             union.kept.len() as u16,
             &union.first,
@@ -77,7 +76,7 @@ impl Contraction {
             kept: picked(alloc, &self.kept, &places)?,
             gap: self.gap.at(alloc, &places)?,
             load: self.load.at(alloc, &places)?,
-            bonded: labels_at(alloc, self.bonded.numbers(), &places)?,
+            bonded: bonds_at(alloc, self.bonded.numbers(), &places)?,
         })
     }
 }

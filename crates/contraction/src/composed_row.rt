@@ -9,6 +9,7 @@ use crate::bytes::{GAP_BYTES, LOAD_BYTES};
 use crate::layout::Layout;
 use crate::row::Row;
 use crate::selection::Selection;
+use crate::shared_row::SharedRow;
 use crate::value::Contraction;
 use ilk_base::{Memory, Text};
 use std::alloc::Global;
@@ -28,16 +29,16 @@ impl Layout {
     }
 
     // The selected nodes and the rows of both lists on them.
-    fn gap_text(&self, alloc: Global, x: &Row, y: &Row) -> Result<Text, Memory>
+    fn gap_text(&self, alloc: Global, x: &SharedRow, y: &SharedRow) -> Result<Text, Memory>
         requires fits { LayoutFits self.now }
         requires first { RowFits self.now.union.first.items (length self.now.union.kept.items) x.now }
         requires second { RowFits self.now.union.second.items (length self.now.union.kept.items) y.now }
         ensures { IfOk result (IsGapText self.now x.now y.now) }
     {
         if self.is_small() {
-            return self.small_gap_text(alloc, x, y);
+            return self.small_gap_text(alloc, x.row(), y.row());
         }
-        self.wide_gap_text(alloc, x, y)
+        self.wide_gap_text(alloc, x.row(), y.row())
     }
 
     // The selected nodes, and the rows of both lists on them with the labels of the bonds, however many they are.
@@ -67,8 +68,8 @@ impl Layout {
     fn load_text(
         &self,
         alloc: Global,
-        x: &Row,
-        y: &Row,
+        x: &SharedRow,
+        y: &SharedRow,
         x_bonds: &[u16],
         y_bonds: &[u16],
     ) -> Result<Text, Memory>
@@ -80,9 +81,9 @@ impl Layout {
         ensures { IfOk result (IsLoadText self.now x.now y.now x_bonds.now y_bonds.now) }
     {
         if self.is_small() {
-            return self.small_load_text(alloc, x, y, x_bonds, y_bonds);
+            return self.small_load_text(alloc, x.row(), y.row(), x_bonds, y_bonds);
         }
-        self.wide_load_text(alloc, x, y, x_bonds, y_bonds)
+        self.wide_load_text(alloc, x.row(), y.row(), x_bonds, y_bonds)
     }
 }
 

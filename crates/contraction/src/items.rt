@@ -9,8 +9,8 @@ ghost use Rattle.contraction.specs.Answers.{Keeps, AreNodes, IsContraction};
 ghost use Rattle.contraction.specs.Stands.{Among, StandsFor};
 ghost use Rattle.contraction.specs.Single.{IsPair, IsSingle};
 
-use crate::labels::{apart, one_label, two_labels};
-use crate::row::Row;
+use crate::empty_views::EmptyViews;
+use crate::shared_row::{SharedRow, bonds_of_one, bonds_of_two};
 use crate::value::Contraction;
 use ilk_base::{Kind, Memory, SwitchId};
 use station_graph::{NodeList, Station};
@@ -61,9 +61,9 @@ impl Contraction {
     {
         Ok(Contraction {
             kept: rising(alloc, a, b)?,
-            gap: Row::of_two(alloc, coupled)?,
-            load: Row::of_two(alloc, joined)?,
-            bonded: two_labels(alloc, bonded)?,
+            gap: SharedRow::of_two(alloc, coupled)?,
+            load: SharedRow::of_two(alloc, joined)?,
+            bonded: bonds_of_two(alloc, bonded)?,
         })
     }
 
@@ -83,9 +83,9 @@ impl Contraction {
     {
         Ok(Contraction {
             kept: vec![in alloc; node; 1]?,
-            gap: Row::of_one(alloc, energisable, earthable)?,
-            load: Row::of_one(alloc, fed, loaded)?,
-            bonded: one_label(alloc)?,
+            gap: SharedRow::of_one(alloc, energisable, earthable)?,
+            load: SharedRow::of_one(alloc, fed, loaded)?,
+            bonded: bonds_of_one(alloc)?,
         })
     }
 
@@ -97,12 +97,12 @@ impl Contraction {
         ensures stands { IfOk result
             (λ c. (d : Diagram) (v : List Bool) → StandsFor (Among []) d v c) }
     {
-        let count = kept.len() as u16;
+        let views = EmptyViews::of(alloc, kept.len() as u16)?;
         Ok(Contraction {
             kept: Vec::from_slice(alloc, kept.numbers())?,
-            gap: Row::bare(alloc, count)?,
-            load: Row::bare(alloc, count)?,
-            bonded: apart(alloc, count)?,
+            gap: views.row.share()?,
+            load: views.row,
+            bonded: views.bonded,
         })
     }
 

@@ -8,6 +8,7 @@
 mod bytes;
 mod compose;
 mod composed_row;
+mod empty_views;
 mod ends;
 mod few_rows;
 mod items;
@@ -22,10 +23,12 @@ mod read_row;
 mod renamed;
 mod row;
 mod selection;
+mod shared_row;
 mod supply;
 mod unchanged;
 mod value;
 
+pub use empty_views::EmptyViews;
 pub use laws::{
     composition_respects_views, fewer_nodes_tell_less, gap_views_are_equal, load_views_are_equal,
     nodes_in_one_order_compose_alike, one_view_is_that_of_both, one_view_respects_it,

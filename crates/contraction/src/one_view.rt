@@ -57,7 +57,7 @@ impl Contraction {
             → GapStandsFor (Among (items ++ others)) d v c) }
     {
         let row = self.composed_gap_row(alloc, other, selection)?;
-        Contraction::of_gap_row(alloc, &row)
+        Contraction::of_gap_row(alloc, &row, &mut None)
     }
 
     /// What `compose` and then `keep_only` give in the load view alone, with less work: the items of
@@ -105,6 +105,6 @@ impl Contraction {
             → LoadStandsFor (Among (items ++ others)) d v c) }
     {
         let row = self.composed_load_row(alloc, other, selection)?;
-        Contraction::of_load_row(alloc, &row)
+        Contraction::of_load_row(alloc, &row, &mut None)
     }
 }

@@ -7,8 +7,9 @@ ghost use Rattle.contraction.specs.Rows.{words, flags, gap_row, load_row, IsGapR
 ghost use Rattle.contraction.specs.Stands.{Among, GapStandsFor, LoadStandsFor};
 
 use crate::bytes::{GAP_BYTES, LOAD_BYTES};
-use crate::labels::apart;
+use crate::empty_views::{EmptyViews, empty_views_on};
 use crate::row::Row;
+use crate::shared_row::{SharedLabels, SharedRow};
 use crate::value::Contraction;
 use ilk_base::{Memory, NodeId, Text};
 use station_graph::NodeList;
@@ -74,10 +75,15 @@ fn bits_of(alloc: Global, bytes: &[u8]) -> Result<Vec<bool>, Memory>
 
 impl Contraction {
     /// The value that this gap row tells: it has that row, and in the load view it is that of no item. So who has
-    /// worked out a row makes its value without composing again.
+    /// worked out a row makes its value without composing again. The load view is that of the empty views at hand where
+    /// they are on as many nodes; else new ones are at hand afterwards.
     ///
     /// Time and memory: the row.
-    pub fn of_gap_row(alloc: Global, row: &Text) -> Result<Contraction, Memory>
+    pub fn of_gap_row(
+        alloc: Global,
+        row: &Text,
+        held: &mut Option<EmptyViews>,
+    ) -> Result<Contraction, Memory>
         requires row { IsGapRow row.now }
         ensures contraction { IfOk result IsContraction }
         ensures row { IfOk result (λ c. row.now ≡ gap_row c) }
@@ -91,25 +97,30 @@ impl Contraction {
         let labels = labels_of(alloc, &bytes[2 * count..4 * count])?;
         let first = bits_of(alloc, &bytes[4 * count..5 * count])?;
         let second = bits_of(alloc, &bytes[5 * count..6 * count])?;
-        let load = Row::bare(alloc, count as u16)?;
-        let bonded = apart(alloc, count as u16)?;
-        let gap = Row {
+        let row = Row {
             labels,
             first,
             second,
         };
+        let gap = SharedRow::new(alloc, row)?;
+        let empty = empty_views_on(alloc, held, count as u16)?;
         Ok(Contraction {
             kept,
             gap,
-            load,
-            bonded,
+            load: empty.row,
+            bonded: empty.bonded,
         })
     }
 
-    /// The value that this load row tells: it has that row, and in the gap view it is that of no item.
+    /// The value that this load row tells: it has that row, and in the gap view it is that of no item, of the
+    /// empty views at hand as for `of_gap_row`.
     ///
     /// Time and memory: the row.
-    pub fn of_load_row(alloc: Global, row: &Text) -> Result<Contraction, Memory>
+    pub fn of_load_row(
+        alloc: Global,
+        row: &Text,
+        held: &mut Option<EmptyViews>,
+    ) -> Result<Contraction, Memory>
         requires row { IsLoadRow row.now }
         ensures contraction { IfOk result IsContraction }
         ensures row { IfOk result (λ c. row.now ≡ load_row c) }
@@ -121,18 +132,20 @@ impl Contraction {
         let count = bytes.len() / LOAD_BYTES;
         let kept = numbers_of(alloc, &bytes[..2 * count])?;
         let labels = labels_of(alloc, &bytes[2 * count..4 * count])?;
-        let bonded = labels_of(alloc, &bytes[4 * count..6 * count])?;
+        let bonds = labels_of(alloc, &bytes[4 * count..6 * count])?;
         let first = bits_of(alloc, &bytes[6 * count..7 * count])?;
         let second = bits_of(alloc, &bytes[7 * count..8 * count])?;
-        let gap = Row::bare(alloc, count as u16)?;
-        let load = Row {
+        let row = Row {
             labels,
             first,
             second,
         };
+        let load = SharedRow::new(alloc, row)?;
+        let bonded = SharedLabels::new(alloc, bonds)?;
+        let empty = empty_views_on(alloc, held, count as u16)?;
         Ok(Contraction {
             kept,
-            gap,
+            gap: empty.row,
             load,
             bonded,
         })

@@ -32,19 +32,6 @@ fn same_marks(a: &[bool], b: &[bool]) -> bool
 }
 
 impl Row {
-    // The same row again.
-    fn copy(&self, alloc: Global) -> Result<Row, Memory>
-        ensures labels { IfOk result (λ row. row.labels ≡ self.now.labels) }
-        ensures first { IfOk result (λ row. row.first.items ≡ self.now.first.items) }
-        ensures second { IfOk result (λ row. row.second.items ≡ self.now.second.items) }
-    {
-        Ok(Row {
-            labels: self.labels.clone()?,
-            first: Vec::from_slice(alloc, &self.first)?,
-            second: Vec::from_slice(alloc, &self.second)?,
-        })
-    }
-
     // Whether both rows are the same.
     fn is_as(&self, other: &Row) -> bool
         ensures { IsTrue result ↔ SameRow self.now other.now }
@@ -76,9 +63,9 @@ impl Contraction {
     {
         Ok(Contraction {
             kept: Vec::from_slice(alloc, nodes)?,
-            gap: self.gap.copy(alloc)?,
-            load: self.load.copy(alloc)?,
-            bonded: self.bonded.clone()?,
+            gap: self.gap.share()?,
+            load: self.load.share()?,
+            bonded: self.bonded.share()?,
         })
     }
 
@@ -97,8 +84,8 @@ impl Contraction {
     pub fn answers_as(&self, other: &Contraction) -> bool
         ensures { IsTrue result ↔ (self.now ≡ renamed self.now.kept other.now) }
     {
-        let gap = self.gap.is_as(&other.gap);
-        let load = self.load.is_as(&other.load);
+        let gap = self.gap.row().is_as(other.gap.row());
+        let load = self.load.row().is_as(other.load.row());
         let bonded = same_numbers(self.bonded.numbers(), other.bonded.numbers());
         gap && load && bonded
     }

@@ -7,6 +7,7 @@ ghost use Rattle.contraction.specs.Unchanged.{RowFitsAt, AddsNone};
 
 use crate::row::Row;
 use crate::selection::Selection;
+use crate::shared_row::SharedRow;
 use crate::value::Contraction;
 
 // Whether entries with one label in the second row, which stand at these places of the first, have one label there.
@@ -66,6 +67,18 @@ impl Row {
             && joins_none(labels, other.labels.numbers(), places)
             && marks_none(&self.first, &other.first, places)
             && marks_none(&self.second, &other.second, places)
+    }
+}
+
+impl SharedRow {
+    // The same of the rows that are held.
+    fn stays_with(&self, other: &SharedRow, places: &[u16]) -> bool
+        requires first { RowFitsAt self.now (length self.now.labels) }
+        requires second { RowFitsAt other.now (length places.now) }
+        requires inside { StandIn self.now.labels places.now }
+        ensures { IsTrue result ↔ AddsNone self.now other.now places.now }
+    {
+        self.row().stays_with(other.row(), places)
     }
 }
 

@@ -8,7 +8,7 @@ ghost use Rattle.contraction.specs.Answers.{SaysEarthable, SaysFed, SaysLoaded, 
 ghost use Rattle.contraction.specs.Stands.{Among, LoadStandsFor};
 
 use crate::places::{is_marked, same_label};
-use crate::row::Row;
+use crate::shared_row::{SharedLabels, SharedRow};
 use crate::supply::Supply;
 use ilk_base::NodeId;
 use station_graph::NodeList;
@@ -21,9 +21,9 @@ use std::marker::Model;
 #[derive(Drop)]
 pub struct Contraction {
     pub(crate) kept: Vec<u16>,
-    pub(crate) gap: Row,
-    pub(crate) load: Row,
-    pub(crate) bonded: NodeList,
+    pub(crate) gap: SharedRow,
+    pub(crate) load: SharedRow,
+    pub(crate) bonded: SharedLabels,
 }
 
 impl Model for Contraction {
@@ -65,7 +65,7 @@ impl Contraction {
         requires second { Keeps self.now.kept b.0 }
         ensures { IsTrue result ↔ SaysJoined self.now a.0 b.0 }
     {
-        same_label(&self.kept, self.load.labels.numbers(), a.0, b.0)
+        same_label(&self.kept, self.load.row().labels.numbers(), a.0, b.0)
     }
 
     /// Whether the items join two kept nodes without those links that are no bonds.
@@ -83,7 +83,7 @@ impl Contraction {
         requires second { Keeps self.now.kept b.0 }
         ensures { IsTrue result ↔ SaysCoupled self.now a.0 b.0 }
     {
-        same_label(&self.kept, self.gap.labels.numbers(), a.0, b.0)
+        same_label(&self.kept, self.gap.row().labels.numbers(), a.0, b.0)
     }
 
     /// Whether the items couple a kept node to a closed infeed among them.
@@ -91,7 +91,7 @@ impl Contraction {
         requires { Keeps self.now.kept a.0 }
         ensures { IsTrue result ↔ SaysEnergisable self.now a.0 }
     {
-        is_marked(&self.kept, &self.gap.first, a.0)
+        is_marked(&self.kept, &self.gap.row().first, a.0)
     }
 
     /// Whether the items couple a kept node to a closed earthing switch among them.
@@ -99,7 +99,7 @@ impl Contraction {
         requires { Keeps self.now.kept a.0 }
         ensures { IsTrue result ↔ SaysEarthable self.now a.0 }
     {
-        is_marked(&self.kept, &self.gap.second, a.0)
+        is_marked(&self.kept, &self.gap.row().second, a.0)
     }
 
     /// How the items supply a kept node.
@@ -125,7 +125,7 @@ impl Contraction {
         requires { Keeps self.now.kept a.0 }
         ensures { IsTrue result ↔ SaysFed self.now a.0 }
     {
-        is_marked(&self.kept, &self.load.first, a.0)
+        is_marked(&self.kept, &self.load.row().first, a.0)
     }
 
     // Whether the items join a kept node to a closed infeed or to a tap.
@@ -133,6 +133,6 @@ impl Contraction {
         requires { Keeps self.now.kept a.0 }
         ensures { IsTrue result ↔ SaysLoaded self.now a.0 }
     {
-        is_marked(&self.kept, &self.load.second, a.0)
+        is_marked(&self.kept, &self.load.row().second, a.0)
     }
 }

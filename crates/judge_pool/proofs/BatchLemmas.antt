@@ -95,6 +95,27 @@ selects_other p s h =
       numbers = numbers_stay p q g p.keep_numbers h.numbers;
     }) g
 
+-- and with other empty views at hand
+pub empty_other : (p : Pool) (b : Option ℕ) → IsPool p → GrewTo p (record p { empty_views = b })
+empty_other p b h =
+    let q : Pool = record p { empty_views = b } in
+    let g : Grows p q = record {
+      view = refl;
+      keeps = λ k ns at. at;
+      values = λ i x at. at;
+      letters = λ l ids at. at;
+    } in
+    grew_of p q (record {
+      index = h.index;
+      apart = h.apart;
+      well = h.well;
+      notes = notes_stay p q g (λ i t at. at) p.notes h.notes;
+      layers = layers_stay p q g p.layers.items h.layers;
+      stands = stands_stay p q g p.stands h.stands;
+      list_stands = list_stands_stay p q g p.list_stands h.list_stands;
+      numbers = numbers_stay p q g p.keep_numbers h.numbers;
+    }) g
+
 -- and with other seats at hand
 pub seats_other : (p : Pool) (s : Option (Vec ℕ Global)) → IsPool p → GrewTo p (record p { seats = s })
 seats_other p s h =

@@ -37,6 +37,7 @@ pool_on f p = record {
   made = p.made;
   notes = p.notes;
   selection = p.selection;
+  empty_views = p.empty_views;
   seats = p.seats;
   stands = p.stands;
   list_stands = p.list_stands;

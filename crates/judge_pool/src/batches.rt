@@ -12,7 +12,7 @@ ghost use Rattle.judge_pool.specs.Pooling.{IsRowIn, IsToldBy};
 use crate::batch::{Batch, Made};
 use crate::pool::{Pool, find_row};
 use crate::view::View;
-use contraction::{Contraction, Selection};
+use contraction::{Contraction, EmptyViews, Selection};
 use ilk_base::{Memory, Text};
 use number_hash::NumberMap;
 use station_graph::NodeList;
@@ -73,14 +73,19 @@ fn adds_nothing(view: View, x: &Contraction, y: &Contraction, selection: &Select
     }
 }
 
-// The value that the row tells in this view.
-fn value_of(alloc: Global, view: View, row: &Text) -> Result<Contraction, Memory>
+// The value that the row tells in this view. Its other view is that at hand, if it is on as many nodes.
+fn value_of(
+    alloc: Global,
+    view: View,
+    row: &Text,
+    held: &mut Option<EmptyViews>,
+) -> Result<Contraction, Memory>
     requires { IsRowIn view row.now }
     ensures { IfOk result (IsToldBy view row.now) }
 {
     match view {
-        View::Gap => Contraction::of_gap_row(alloc, row),
-        View::Load => Contraction::of_load_row(alloc, row),
+        View::Gap => Contraction::of_gap_row(alloc, row, held),
+        View::Load => Contraction::of_load_row(alloc, row, held),
     }
 }
 
@@ -236,7 +241,7 @@ impl Pool {
         match find_row(&self.index, &row) {
             Some(place) => Ok(place),
             None => {
-                let value = value_of(alloc, self.view, &row)?;
+                let value = value_of(alloc, self.view, &row, &mut self.empty_views)?;
                 let place = self.put(row, value)?;
                 Ok(place)
             }

@@ -9,7 +9,7 @@ ghost use Rattle.judge_pool.specs.Pooling.{IsRowIndex, IsPool, GrewTo, HasSame, 
 use crate::batch::{Batch, ListStand, Stand};
 use crate::known::{KnownLayer, LayerKey};
 use crate::view::{View, row_in};
-use contraction::{Contraction, Selection};
+use contraction::{Contraction, EmptyViews, Selection};
 use ilk_base::{Memory, Text};
 use number_hash::{NumberHash, NumberMap};
 use station_graph::NodeList;
@@ -20,7 +20,7 @@ use std::collections::HashMap;
 /// the other, and where each begins is noted, so that none is made twice, but for those that were forgotten when they
 /// were many; so are the layers of graphs, by the numbers of the lists of their states and letters, and what a value is
 /// on other nodes, and a list of values, by its number. The selection of the last composition is at hand for the next,
-/// which is mostly of values on the same nodes.
+/// which is mostly of values on the same nodes; so are the empty views that were the other view of the last value made.
 #[derive(Drop)]
 pub struct Pool {
     /// the view
@@ -38,6 +38,7 @@ pub struct Pool {
     pub(crate) made: Vec<usize>,
     pub(crate) notes: NumberMap<Batch, usize>,
     pub(crate) selection: Option<Box<Selection>>,
+    pub(crate) empty_views: Option<EmptyViews>,
     pub(crate) seats: Option<Vec<usize>>,
     pub(crate) stands: NumberMap<Stand, usize>,
     pub(crate) list_stands: NumberMap<ListStand, usize>,
@@ -84,6 +85,7 @@ impl Pool {
             made: Vec::new(alloc),
             notes: HashMap::with_hasher(alloc, NumberHash::new()),
             selection: None,
+            empty_views: None,
             seats: None,
             stands: HashMap::with_hasher(alloc, NumberHash::new()),
             list_stands: HashMap::with_hasher(alloc, NumberHash::new()),

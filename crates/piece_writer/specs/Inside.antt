@@ -10,7 +10,7 @@ use Rattle.piece_writer.specs.declared.named_text.NamedText.TheInside.{Inside}
 abbrev pub phrase_text : List (List ℕ) → Phrase → List ℕ
 phrase_text names (Word bytes) = bytes.now
 phrase_text names (Name n) = slice_index_or names n []
-phrase_text names (Line head n) = head.now ++ slice_index_or names n [] ++ codes "\n"
+phrase_text names (Line n head) = head.now ++ slice_index_or names n [] ++ codes "\n"
 
 -- The phrases, one after another.
 abbrev pub named_of : Inside → Named

@@ -18,8 +18,8 @@ enum Phrase {
     Word(&'static [u8]),
     // the name of this number
     Name(u16),
-    // these bytes, the name of this number, and the end of the line
-    Line(&'static [u8], u16),
+    // before and after the name of this number these bytes and the end of the line; in this order it takes less memory
+    Line(u16, &'static [u8]),
 }
 
 /// A text in which names come again and again, and words of the program between them: each name is held once, whatever
@@ -58,7 +58,7 @@ fn append_phrase(text: &mut Text, names: &[Text], phrase: Phrase) -> Result<(), 
     match phrase {
         Phrase::Word(bytes) => text.push(bytes),
         Phrase::Name(number) => text.push(name_bytes(names, usize::from(number))),
-        Phrase::Line(head, number) => {
+        Phrase::Line(number, head) => {
             text.push(head)?;
             text.push(name_bytes(names, usize::from(number)))?;
             text.push(b"\n")
@@ -101,7 +101,7 @@ fn put_phrase<S: Sink>(writer: &mut PieceWriter, sink: &mut S, names: &[Text], p
     match phrase {
         Phrase::Word(bytes) => writer.push(sink, bytes),
         Phrase::Name(number) => writer.push(sink, name_bytes(names, usize::from(number))),
-        Phrase::Line(head, number) => put_line(writer, sink, names, head, number),
+        Phrase::Line(number, head) => put_line(writer, sink, names, head, number),
     }
 }
 
@@ -174,7 +174,7 @@ impl NamedText {
             ≡ self.old.text ++ head.now ++ slice_index_or self.old.names number [] ++ codes "\n") }
         ensures names { self.new.names ≡ self.old.names }
     {
-        self.push(Phrase::Line(head, number))
+        self.push(Phrase::Line(number, head))
     }
 
     /// The text at once, in time and memory of its length.

@@ -33,16 +33,16 @@ overflow_cast-len c =
     c.other.invariant.nodes c.in_ok-union.ensures in
     omega (arith, c.len.ensures)
 
-pub labels_of_both-requires-clause-first : goal.labels_of_both-requires-clause-first
-labels_of_both-requires-clause-first c =
+pub bonds_of_both-requires-clause-first : goal.bonds_of_both-requires-clause-first
+bonds_of_both-requires-clause-first c =
     let x = c.self.inside in
     let u = c.in_ok-union.union in
     first_fits c.deref.result.now x.kept.items c.deref-2.result.now u.kept.items u.first.items u.second.items x.bonded
     c.deref-3.result.now c.numbers.result.now c.len.result c.in_ok-union.ensures c.deref.ensures.value
     c.self.invariant.bonded c.deref-3.ensures.value c.numbers.ensures (omega arith)
 
-pub labels_of_both-requires-clause-second : goal.labels_of_both-requires-clause-second
-labels_of_both-requires-clause-second c =
+pub bonds_of_both-requires-clause-second : goal.bonds_of_both-requires-clause-second
+bonds_of_both-requires-clause-second c =
     let y = c.other.inside in
     let u = c.in_ok-union.union in
     second_fits c.deref.result.now c.deref-2.result.now y.kept.items u.kept.items u.first.items u.second.items y.bonded

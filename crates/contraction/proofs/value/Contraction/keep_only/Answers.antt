@@ -27,8 +27,8 @@ at-requires-2-clause-few c =
     c.in_ok-places.places.items c.deref-5.result.now c.deref-5.ensures.value c.deref.ensures.value
     c.self.invariant.nodes c.in_ok-places.ensures
 
-pub labels_at-requires-clause-few : goal.labels_at-requires-clause-few
-labels_at-requires-clause-few c =
+pub bonds_at-requires-clause-few : goal.bonds_at-requires-clause-few
+bonds_at-requires-clause-few c =
     few_places c.args.nodes.now c.numbers.result.now c.self.inside.kept.items c.deref.result.now
     c.in_ok-places.places.items c.deref-6.result.now c.deref-6.ensures.value c.deref.ensures.value
     c.self.invariant.nodes c.in_ok-places.ensures
@@ -40,7 +40,7 @@ invariant_of-result c =
     let kept : List ℕ = c.in_ok-picked.field-0.items in
     let gap = c.in_ok-at.field-0 in
     let load = c.in_ok-at-2.field-0 in
-    let bonded : List ℕ = c.in_ok-labels_at.field-0 in
+    let bonded : List ℕ = c.in_ok-bonds_at.field-0 in
     let z : Answers = record {
       kept = kept;
       coupled = gap.labels;
@@ -66,7 +66,7 @@ invariant_of-result c =
       load_row = c.in_ok-at-2.ensures;
       bonded_seen = c.numbers-2.ensures;
       places4 = c.deref-6.ensures.value;
-      bonded_row = c.in_ok-labels_at.ensures;
+      bonded_row = c.in_ok-bonds_at.ensures;
     } in
     let steps : RestrictSteps c.args.nodes.now (answers_of x) z places =
     steps_kept c.args.nodes.now x places kept gap load bonded c.numbers.result.now c.deref.result.now
@@ -81,7 +81,7 @@ returns-clause-contraction c =
     let kept : List ℕ = c.in_ok-picked.field-0.items in
     let gap = c.in_ok-at.field-0 in
     let load = c.in_ok-at-2.field-0 in
-    let bonded : List ℕ = c.in_ok-labels_at.field-0 in
+    let bonded : List ℕ = c.in_ok-bonds_at.field-0 in
     let z : Answers = record {
       kept = kept;
       coupled = gap.labels;
@@ -107,7 +107,7 @@ returns-clause-contraction c =
       load_row = c.in_ok-at-2.ensures;
       bonded_seen = c.numbers-2.ensures;
       places4 = c.deref-6.ensures.value;
-      bonded_row = c.in_ok-labels_at.ensures;
+      bonded_row = c.in_ok-bonds_at.ensures;
     } in
     let steps : RestrictSteps c.args.nodes.now (answers_of x) z places =
     steps_kept c.args.nodes.now x places kept gap load bonded c.numbers.result.now c.deref.result.now
@@ -122,7 +122,7 @@ returns-clause-kept c =
     let kept : List ℕ = c.in_ok-picked.field-0.items in
     let gap = c.in_ok-at.field-0 in
     let load = c.in_ok-at-2.field-0 in
-    let bonded : List ℕ = c.in_ok-labels_at.field-0 in
+    let bonded : List ℕ = c.in_ok-bonds_at.field-0 in
     let z : Answers = record {
       kept = kept;
       coupled = gap.labels;
@@ -148,7 +148,7 @@ returns-clause-kept c =
       load_row = c.in_ok-at-2.ensures;
       bonded_seen = c.numbers-2.ensures;
       places4 = c.deref-6.ensures.value;
-      bonded_row = c.in_ok-labels_at.ensures;
+      bonded_row = c.in_ok-bonds_at.ensures;
     } in
     let steps : RestrictSteps c.args.nodes.now (answers_of x) z places =
     steps_kept c.args.nodes.now x places kept gap load bonded c.numbers.result.now c.deref.result.now
@@ -164,7 +164,7 @@ returns-clause-list c =
     let kept : List ℕ = c.in_ok-picked.field-0.items in
     let gap = c.in_ok-at.field-0 in
     let load = c.in_ok-at-2.field-0 in
-    let bonded : List ℕ = c.in_ok-labels_at.field-0 in
+    let bonded : List ℕ = c.in_ok-bonds_at.field-0 in
     let z : Answers = record {
       kept = kept;
       coupled = gap.labels;
@@ -190,7 +190,7 @@ returns-clause-list c =
       load_row = c.in_ok-at-2.ensures;
       bonded_seen = c.numbers-2.ensures;
       places4 = c.deref-6.ensures.value;
-      bonded_row = c.in_ok-labels_at.ensures;
+      bonded_row = c.in_ok-bonds_at.ensures;
     } in
     let steps : RestrictSteps c.args.nodes.now (answers_of x) z places =
     steps_kept c.args.nodes.now x places kept gap load bonded c.numbers.result.now c.deref.result.now
@@ -208,7 +208,7 @@ returns-clause-restricts c =
     let kept : List ℕ = c.in_ok-picked.field-0.items in
     let gap = c.in_ok-at.field-0 in
     let load = c.in_ok-at-2.field-0 in
-    let bonded : List ℕ = c.in_ok-labels_at.field-0 in
+    let bonded : List ℕ = c.in_ok-bonds_at.field-0 in
     let z : Answers = record {
       kept = kept;
       coupled = gap.labels;
@@ -234,7 +234,7 @@ returns-clause-restricts c =
       load_row = c.in_ok-at-2.ensures;
       bonded_seen = c.numbers-2.ensures;
       places4 = c.deref-6.ensures.value;
-      bonded_row = c.in_ok-labels_at.ensures;
+      bonded_row = c.in_ok-bonds_at.ensures;
     } in
     let steps : RestrictSteps c.args.nodes.now (answers_of x) z places =
     steps_kept c.args.nodes.now x places kept gap load bonded c.numbers.result.now c.deref.result.now
@@ -252,7 +252,7 @@ returns-clause-gap c =
     let kept : List ℕ = c.in_ok-picked.field-0.items in
     let gap = c.in_ok-at.field-0 in
     let load = c.in_ok-at-2.field-0 in
-    let bonded : List ℕ = c.in_ok-labels_at.field-0 in
+    let bonded : List ℕ = c.in_ok-bonds_at.field-0 in
     let z : Answers = record {
       kept = kept;
       coupled = gap.labels;
@@ -278,7 +278,7 @@ returns-clause-gap c =
       load_row = c.in_ok-at-2.ensures;
       bonded_seen = c.numbers-2.ensures;
       places4 = c.deref-6.ensures.value;
-      bonded_row = c.in_ok-labels_at.ensures;
+      bonded_row = c.in_ok-bonds_at.ensures;
     } in
     let steps : RestrictSteps c.args.nodes.now (answers_of x) z places =
     steps_kept c.args.nodes.now x places kept gap load bonded c.numbers.result.now c.deref.result.now
@@ -296,7 +296,7 @@ returns-clause-load c =
     let kept : List ℕ = c.in_ok-picked.field-0.items in
     let gap = c.in_ok-at.field-0 in
     let load = c.in_ok-at-2.field-0 in
-    let bonded : List ℕ = c.in_ok-labels_at.field-0 in
+    let bonded : List ℕ = c.in_ok-bonds_at.field-0 in
     let z : Answers = record {
       kept = kept;
       coupled = gap.labels;
@@ -322,7 +322,7 @@ returns-clause-load c =
       load_row = c.in_ok-at-2.ensures;
       bonded_seen = c.numbers-2.ensures;
       places4 = c.deref-6.ensures.value;
-      bonded_row = c.in_ok-labels_at.ensures;
+      bonded_row = c.in_ok-bonds_at.ensures;
     } in
     let steps : RestrictSteps c.args.nodes.now (answers_of x) z places =
     steps_kept c.args.nodes.now x places kept gap load bonded c.numbers.result.now c.deref.result.now

@@ -1,4 +1,4 @@
-use Rattle.std.proofs.Common.{ap, subst, sym, ◌∙◌}
+use Rattle.std.proofs.Common.{subst, sym, ◌∙◌}
 use Rattle.std.proofs.lemmas.Bool.{false≢true}
 use Rattle.contraction.specs.Answers.{Answers}
 use Rattle.contraction.specs.Unchanged.{IsAllOf, JoinsNone, AddsNone}

@@ -1,4 +1,5 @@
-use Rattle.std.proofs.Common.{arith}
+use Rattle.std.proofs.Common.{arith, length, ap, ◌∙◌}
+use Rattle.contraction.specs.declared.row.Row.{Row}
 use Rattle.contraction.proofs.ReadLemmas.{load_few, load_told}
 use Rattle.contraction.proofs.value.Contraction.of_load_row.Goals as goal
 
@@ -8,55 +9,60 @@ overflow_cast-count c =
 
 pub invariant_of-result : goal.invariant_of-result
 invariant_of-result c =
+    let v = c.empty.inside in
+    let l = c.in_ok-load.load in
     (load_told c.args.row.now c.bytes-bytes.result.now c.requires.row c.bytes-bytes.ensures c.in_ok-kept.kept.items
-    c.in_ok-labels.labels c.in_ok-bonded.bonded c.in_ok-first.first.items c.in_ok-second.second.items c.in_ok-gap.gap
-    (record {
-      labels = c.in_ok-gap.ensures.labels;
-      first = c.in_ok-gap.ensures.first;
-      second = c.in_ok-gap.ensures.second;
-    }) c.in_ok-kept.ensures c.in_ok-labels.ensures c.in_ok-bonded.ensures c.in_ok-first.ensures
-    c.in_ok-second.ensures).contraction
+    c.in_ok-labels.labels c.in_ok-bonds.bonds c.in_ok-bonded.bonded c.in_ok-first.first.items
+    c.in_ok-second.second.items l v.row v.bonded (length v.bonded) c.empty.invariant
+    (c.empty.view_is ∙ c.in_ok-empty.ensures) c.in_ok-kept.ensures c.in_ok-labels.ensures c.in_ok-bonds.ensures
+    c.in_ok-first.ensures c.in_ok-second.ensures c.in_ok-bonded.ensures
+    (ap (λ (r : Row). r.labels) c.in_ok-load.ensures) (ap (λ (r : Row). r.first.items) c.in_ok-load.ensures)
+    (ap (λ (r : Row). r.second.items) c.in_ok-load.ensures)).contraction
 
 pub returns-clause-contraction : goal.returns-clause-contraction
 returns-clause-contraction c =
+    let v = c.empty.inside in
+    let l = c.in_ok-load.load in
     (load_told c.args.row.now c.bytes-bytes.result.now c.requires.row c.bytes-bytes.ensures c.in_ok-kept.kept.items
-    c.in_ok-labels.labels c.in_ok-bonded.bonded c.in_ok-first.first.items c.in_ok-second.second.items c.in_ok-gap.gap
-    (record {
-      labels = c.in_ok-gap.ensures.labels;
-      first = c.in_ok-gap.ensures.first;
-      second = c.in_ok-gap.ensures.second;
-    }) c.in_ok-kept.ensures c.in_ok-labels.ensures c.in_ok-bonded.ensures c.in_ok-first.ensures
-    c.in_ok-second.ensures).contraction
+    c.in_ok-labels.labels c.in_ok-bonds.bonds c.in_ok-bonded.bonded c.in_ok-first.first.items
+    c.in_ok-second.second.items l v.row v.bonded (length v.bonded) c.empty.invariant
+    (c.empty.view_is ∙ c.in_ok-empty.ensures) c.in_ok-kept.ensures c.in_ok-labels.ensures c.in_ok-bonds.ensures
+    c.in_ok-first.ensures c.in_ok-second.ensures c.in_ok-bonded.ensures
+    (ap (λ (r : Row). r.labels) c.in_ok-load.ensures) (ap (λ (r : Row). r.first.items) c.in_ok-load.ensures)
+    (ap (λ (r : Row). r.second.items) c.in_ok-load.ensures)).contraction
 
 pub returns-clause-row : goal.returns-clause-row
 returns-clause-row c =
+    let v = c.empty.inside in
+    let l = c.in_ok-load.load in
     (load_told c.args.row.now c.bytes-bytes.result.now c.requires.row c.bytes-bytes.ensures c.in_ok-kept.kept.items
-    c.in_ok-labels.labels c.in_ok-bonded.bonded c.in_ok-first.first.items c.in_ok-second.second.items c.in_ok-gap.gap
-    (record {
-      labels = c.in_ok-gap.ensures.labels;
-      first = c.in_ok-gap.ensures.first;
-      second = c.in_ok-gap.ensures.second;
-    }) c.in_ok-kept.ensures c.in_ok-labels.ensures c.in_ok-bonded.ensures c.in_ok-first.ensures
-    c.in_ok-second.ensures).row
+    c.in_ok-labels.labels c.in_ok-bonds.bonds c.in_ok-bonded.bonded c.in_ok-first.first.items
+    c.in_ok-second.second.items l v.row v.bonded (length v.bonded) c.empty.invariant
+    (c.empty.view_is ∙ c.in_ok-empty.ensures) c.in_ok-kept.ensures c.in_ok-labels.ensures c.in_ok-bonds.ensures
+    c.in_ok-first.ensures c.in_ok-second.ensures c.in_ok-bonded.ensures
+    (ap (λ (r : Row). r.labels) c.in_ok-load.ensures) (ap (λ (r : Row). r.first.items) c.in_ok-load.ensures)
+    (ap (λ (r : Row). r.second.items) c.in_ok-load.ensures)).row
 
 pub returns-clause-bare : goal.returns-clause-bare
 returns-clause-bare c =
+    let v = c.empty.inside in
+    let l = c.in_ok-load.load in
     (load_told c.args.row.now c.bytes-bytes.result.now c.requires.row c.bytes-bytes.ensures c.in_ok-kept.kept.items
-    c.in_ok-labels.labels c.in_ok-bonded.bonded c.in_ok-first.first.items c.in_ok-second.second.items c.in_ok-gap.gap
-    (record {
-      labels = c.in_ok-gap.ensures.labels;
-      first = c.in_ok-gap.ensures.first;
-      second = c.in_ok-gap.ensures.second;
-    }) c.in_ok-kept.ensures c.in_ok-labels.ensures c.in_ok-bonded.ensures c.in_ok-first.ensures
-    c.in_ok-second.ensures).bare
+    c.in_ok-labels.labels c.in_ok-bonds.bonds c.in_ok-bonded.bonded c.in_ok-first.first.items
+    c.in_ok-second.second.items l v.row v.bonded (length v.bonded) c.empty.invariant
+    (c.empty.view_is ∙ c.in_ok-empty.ensures) c.in_ok-kept.ensures c.in_ok-labels.ensures c.in_ok-bonds.ensures
+    c.in_ok-first.ensures c.in_ok-second.ensures c.in_ok-bonded.ensures
+    (ap (λ (r : Row). r.labels) c.in_ok-load.ensures) (ap (λ (r : Row). r.first.items) c.in_ok-load.ensures)
+    (ap (λ (r : Row). r.second.items) c.in_ok-load.ensures)).bare
 
 pub returns-clause-both : goal.returns-clause-both
 returns-clause-both c =
+    let v = c.empty.inside in
+    let l = c.in_ok-load.load in
     (load_told c.args.row.now c.bytes-bytes.result.now c.requires.row c.bytes-bytes.ensures c.in_ok-kept.kept.items
-    c.in_ok-labels.labels c.in_ok-bonded.bonded c.in_ok-first.first.items c.in_ok-second.second.items c.in_ok-gap.gap
-    (record {
-      labels = c.in_ok-gap.ensures.labels;
-      first = c.in_ok-gap.ensures.first;
-      second = c.in_ok-gap.ensures.second;
-    }) c.in_ok-kept.ensures c.in_ok-labels.ensures c.in_ok-bonded.ensures c.in_ok-first.ensures
-    c.in_ok-second.ensures).both
+    c.in_ok-labels.labels c.in_ok-bonds.bonds c.in_ok-bonded.bonded c.in_ok-first.first.items
+    c.in_ok-second.second.items l v.row v.bonded (length v.bonded) c.empty.invariant
+    (c.empty.view_is ∙ c.in_ok-empty.ensures) c.in_ok-kept.ensures c.in_ok-labels.ensures c.in_ok-bonds.ensures
+    c.in_ok-first.ensures c.in_ok-second.ensures c.in_ok-bonded.ensures
+    (ap (λ (r : Row). r.labels) c.in_ok-load.ensures) (ap (λ (r : Row). r.first.items) c.in_ok-load.ensures)
+    (ap (λ (r : Row). r.second.items) c.in_ok-load.ensures)).both

@@ -12,7 +12,7 @@ invariant_of-result c =
       kept = c.in_ok-rising.field-0.items;
       coupled = g.labels;
       joined = l.labels;
-      bonded = c.in_ok-two_labels.field-0;
+      bonded = c.in_ok-bonds_of_two.field-0;
       energisable = g.first.items;
       earthable = g.second.items;
       fed = l.first.items;
@@ -28,7 +28,7 @@ invariant_of-result c =
       c.in_ok-of_two-2.ensures.labels,
       c.in_ok-of_two-2.ensures.first,
       c.in_ok-of_two-2.ensures.second,
-      c.in_ok-two_labels.ensures,
+      c.in_ok-bonds_of_two.ensures,
     ) in
     subst IsContraction same (pair_well (min c.args.a c.args.b) (max c.args.a c.args.b) c.args.coupled c.args.joined
     c.args.bonded (let ne = c.requires.apart in omega arith)
@@ -42,7 +42,7 @@ returns-clause-contraction c =
       kept = c.in_ok-rising.field-0.items;
       coupled = g.labels;
       joined = l.labels;
-      bonded = c.in_ok-two_labels.field-0;
+      bonded = c.in_ok-bonds_of_two.field-0;
       energisable = g.first.items;
       earthable = g.second.items;
       fed = l.first.items;
@@ -58,7 +58,7 @@ returns-clause-contraction c =
       c.in_ok-of_two-2.ensures.labels,
       c.in_ok-of_two-2.ensures.first,
       c.in_ok-of_two-2.ensures.second,
-      c.in_ok-two_labels.ensures,
+      c.in_ok-bonds_of_two.ensures,
     ) in
     subst IsContraction same (pair_well (min c.args.a c.args.b) (max c.args.a c.args.b) c.args.coupled c.args.joined
     c.args.bonded (let ne = c.requires.apart in omega arith)
@@ -72,7 +72,7 @@ returns-clause-pair c =
       kept = c.in_ok-rising.field-0.items;
       coupled = g.labels;
       joined = l.labels;
-      bonded = c.in_ok-two_labels.field-0;
+      bonded = c.in_ok-bonds_of_two.field-0;
       energisable = g.first.items;
       earthable = g.second.items;
       fed = l.first.items;
@@ -88,7 +88,7 @@ returns-clause-pair c =
       c.in_ok-of_two-2.ensures.labels,
       c.in_ok-of_two-2.ensures.first,
       c.in_ok-of_two-2.ensures.second,
-      c.in_ok-two_labels.ensures,
+      c.in_ok-bonds_of_two.ensures,
     ) in
     subst (IsPair c.args.a c.args.b c.args.coupled c.args.joined c.args.bonded) same
     (pair_is c.args.a c.args.b c.args.coupled c.args.joined c.args.bonded)

@@ -4,6 +4,7 @@ use Rattle.std.proofs.lemmas.Option.{slice_get_read, slice_get-get_or}
 use Rattle.contraction.specs.Answers.{Answers, Keeps}
 use Rattle.judge_pool.specs.Seen.{ComposesIn}
 use Rattle.judge_pool.specs.Pooling.{HasSame, Selects}
+use Rattle.judge_pool.proofs.BatchLemmas.{empty_other}
 use Rattle.judge_pool.proofs.PoolLemmas.{made_same, rows_tell}
 use Rattle.judge_pool.proofs.pool.Pool.find_or_make.Goals as goal
 
@@ -184,6 +185,9 @@ returns-in-Some-clause-made c =
           made_same p x y b.value nodes c.in-Some.place same b.composes
           (subst (λ l. (n : ℕ) → Keeps b.value.kept n ↔ Contains l n) sel.asked b.kept);
     }
+
+pub put-requires-clause-pool : goal.put-requires-clause-pool
+put-requires-clause-pool c = (empty_other c.args.self.now c.value_of.new.held c.requires.pool).is_pool
 
 pub put-requires-clause-row : goal.put-requires-clause-row
 put-requires-clause-row c = c.in_ok-value-in-None.ensures.row
