@@ -1,5 +1,5 @@
 -- What added positions show.
-use Rattle.std.proofs.Common.{◌≡◌, ℕ, ◌<◌, Bool, List, [], ◌∷◌, length, slice_get, get_or, Option, Some, None, sym, ap}
+use Rattle.std.proofs.Common.{◌≡◌, ◌⊎◌, ℕ, ◌+◌, ◌*◌, ◌<◌, Bool, List, [], ◌∷◌, length, slice_get, get_or, Option, Some, None, sym, ap}
 use Rattle.std.proofs.Common.{◌∙◌, subst, inl, inr, arith}
 use Rattle.std.proofs.lemmas.Option.{same_Some, slice_get_within, slice_get-get_or}
 use Rattle.ilk_base.specs.declared.words.Op.{Op}
@@ -18,7 +18,7 @@ use Rattle.commissioning_tests.specs.declared.values.TestPosition.{TestPosition}
 use Rattle.commissioning_tests.specs.Answering.{IsPosition, ArePositions}
 use Rattle.decision_graphs.specs.Reaching.{IsSet}
 use Rattle.commissioning_tests.specs.Covering.{TurnIsShown, RuleIsShown}
-use Rattle.commissioning_tests.specs.Growing.{IsAdded, Grows, AreMore, IsCovered}
+use Rattle.commissioning_tests.specs.Growing.{IsAdded, Grows, AreMore, IsCovered, AreCovered}
 use Rattle.commissioning_tests.proofs.MoveLemmas.{still, new_last}
 
 -- ---- what is shown stays shown
@@ -54,6 +54,21 @@ covered_grows d ops stands ps qs k grows c = record {
   turns = λ s op at here dep. turn_grows ps qs k s grows (c.turns s op at here dep);
   rules = λ rule v op at vector breaks. rule_grows ps qs k rule grows (c.rules rule v op at vector breaks);
 }
+
+cases_both : (a b : ℕ) → a < 2 * (b + 1) → (a < 2 * b) ⊎ ((a ≡ 2 * b) ⊎ (a ≡ 2 * b + 1))
+cases_both a b less = grind arith
+
+-- the two operations of one more switch
+pub covered_both : (d : Diagram) (ops : List Op) (stands : List ℕ) (ps qs : List TestPosition) (n k : ℕ) → k ≡ 2 * n →
+    AreCovered d ops stands ps (2 * n) → Grows ps qs → IsCovered d ops stands qs k → IsCovered d ops stands qs (k + 1) →
+    AreCovered d ops stands qs (2 * (n + 1))
+covered_both d ops stands ps qs n k same are grows opening closing m lt = elim (cases_both m n lt) [
+  | inl less ↦ covered_grows d ops stands ps qs m grows (are m less)
+  | inr next ↦ elim next [
+    | inl even ↦ subst (λ (x : ℕ). IsCovered d ops stands qs x) (same ∙ sym even) opening
+    | inr odd ↦ subst (λ (x : ℕ). IsCovered d ops stands qs x) (ap (λ (x : ℕ). x + 1) same ∙ sym odd) closing
+  ]
+]
 
 -- ---- one more position
 

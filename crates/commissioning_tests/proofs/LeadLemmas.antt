@@ -1,5 +1,5 @@
 -- Which bay is tested for each, and that each is.
-use Rattle.std.proofs.Common.{◌≡◌, ◌⊎◌, ℕ, zero, suc, ◌+◌, ◌<◌, List, [], ◌∷◌, ◌++◌, length, map, slice_get, Some, refl, sym, ap, ◌∙◌}
+use Rattle.std.proofs.Common.{◌≡◌, ◌⊎◌, ℕ, ◌+◌, List, [], ◌∷◌, ◌++◌, length, map, slice_get, Some, sym, ap, ◌∙◌}
 use Rattle.std.proofs.Common.{subst, inl, inr, arith, Bool, true, false}
 use Rattle.std.specs.Prelude.{◌↔◌, IsTrue, if◌then◌else◌}
 use Rattle.std.specs.List.{range_with_len}
@@ -12,8 +12,8 @@ use Rattle.commissioning_tests.specs.declared.values.SharedTests.{SharedTests}
 use Rattle.ilk_base.specs.declared.words.BayId.{BayId}
 use Rattle.like_bays.specs.Like.{AreLike}
 use Rattle.commissioning_tests.specs.Listed.{AreThose}
-use Rattle.commissioning_tests.specs.Shared.{LeadsItself, StandsBefore, AreLeads, IsTested, IsLater, AreSharedTests}
-use Rattle.commissioning_tests.specs.Shared.{AreTestsUpto, AreStationTests, IsListedAsLike, IsTestedBy}
+use Rattle.commissioning_tests.specs.Shared.{StandsBefore, AreLeads, IsTested, IsLater, AreSharedTests}
+use Rattle.commissioning_tests.specs.Shared.{AreTestsUpto, AreStationTests, IsTestedBy}
 use Rattle.commissioning_tests.proofs.MoveLemmas.{still}
 use Rattle.commissioning_tests.proofs.ListLemmas.{those_more, those_less, those_if, range_more, keys_more, chosen_has}
 use Rattle.commissioning_tests.proofs.ListLemmas.{number_at, of_key}

@@ -1,5 +1,5 @@
 -- A controller that leaves out a rule that matters differs from the tests.
-use Rattle.std.proofs.Common.{◌≡◌, ◌≢◌, ◌⊎◌, ℕ, zero, suc, ◌+◌, ◌<◌, ◌≤◌, Bool, true, false, List, [], ◌∷◌, length, get_or, slice_get}
+use Rattle.std.proofs.Common.{◌≡◌, ◌≢◌, ◌⊎◌, ℕ, zero, suc, ◌+◌, ◌<◌, Bool, true, false, List, [], ◌∷◌, length, get_or, slice_get}
 use Rattle.std.proofs.Common.{slice_set, length-set, Option, Some, None, refl, sym, ap, ◌∙◌, subst, inl, inr, arith}
 use Rattle.std.proofs.lemmas.Bool.{cases_Bool, cases_eq}
 use Rattle.std.proofs.lemmas.Option.{same_Some, slice_get_within, slice_get-get_or}
@@ -15,7 +15,7 @@ use Rattle.station_graph.specs.CentralRules.{Applies, Breaks, IsOperation, LoadB
 use Rattle.station_graph.proofs.PositionLemmas.{slice_get-set_other}
 use Rattle.station_graph.proofs.SomeAnswer.{some_answer}
 use Rattle.judge_intake.proofs.OtherLemmas.{element}
-use Rattle.station_changes.specs.Covers.{Covers, Moves, NoEarth}
+use Rattle.station_changes.specs.Covers.{Covers, Moves}
 use Rattle.station_changes.proofs.LoadLemmas.{load_between}
 use Rattle.release_dependence.specs.Depends.{DependsOn}
 use Rattle.release_dependence.proofs.DependLemmas.{not_first, not_second}
@@ -26,7 +26,7 @@ use Rattle.dependence_search.proofs.DependLemmas.{moved_vector}
 use Rattle.commissioning_tests.specs.declared.values.BayTests.{BayTests}
 use Rattle.commissioning_tests.specs.Standing.{StandsFor}
 use Rattle.commissioning_tests.specs.Covering.{RuleIsShown, TurnIsShown, AreTestsOf}
-use Rattle.commissioning_tests.specs.Controllers.{Controller, is_released, Differs, LeavesOut, Matters}
+use Rattle.commissioning_tests.specs.Controllers.{Controller, Differs, LeavesOut, Matters}
 
 -- ---- which rules apply to which switch
 

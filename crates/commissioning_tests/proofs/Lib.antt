@@ -13,3 +13,4 @@ mod StuckLemmas
 mod LeftOutLemmas
 mod SoundLemmas
 mod RefusalLemmas
+mod HeldLemmas

@@ -1,20 +1,17 @@
 -- No node is both energisable and earthable exactly where closing no closed infeed breaks a rule.
-use Rattle.std.proofs.Common.{◌≡◌, ◌≢◌, ℕ, ◌+◌, ◌<◌, Bool, false, true, List, length, slice_get, Some, refl, sym, ap, ◌∙◌, subst, inl, inr, arith}
+use Rattle.std.proofs.Common.{◌≡◌, ◌≢◌, ℕ, ◌<◌, Bool, false, List, length, slice_get, Some, refl, sym, ap, ◌∙◌, subst, inl, inr}
 use Rattle.std.proofs.Common.{slice_set}
 use Rattle.std.proofs.lemmas.Option.{same_Some, slice_get_within}
 use Rattle.ilk_base.specs.declared.words.Kind.{Kind}
 use Rattle.ilk_base.specs.declared.words.Kind.TheVariants.{Breaker, Disconnector, Earthing, Infeed}
-use Rattle.ilk_base.specs.declared.words.Rule.TheVariants.{R1, R2}
 use Rattle.station_graph.specs.declared.items.Switch.{Switch}
 use Rattle.station_graph.specs.Diagram.{Diagram, IsTwoEnded}
 use Rattle.station_graph.specs.Connection.{Item, a_switch, a_link, a_tap, ItemBetween, Touching, Coupled}
 use Rattle.station_graph.specs.Connection.{with_breakers_closed}
-use Rattle.station_graph.specs.Supply.{Apart, ClosedAt, Earthable, Energisable}
-use Rattle.station_graph.specs.CentralRules.{Applies, Breaks, before}
+use Rattle.station_graph.specs.Supply.{Apart, ClosedAt, Earthable}
 use Rattle.station_graph.proofs.LinkedLemmas.{linked_self, linked_sym, linked_trans, linked_weaker}
 use Rattle.station_graph.proofs.PartialEdges.{touching_back}
 use Rattle.station_graph.proofs.PositionLemmas.{close_breakers_at, slice_get-set_other}
-use Rattle.release_dependence.specs.Operations.{closing}
 use Rattle.commissioning_tests.specs.Growing.{FeedsEarth}
 
 not_infeed : (k : Kind) → IsTwoEnded k → k ≢ Infeed

@@ -101,7 +101,8 @@ AreTurnedLayers walk codes direction layers =
     (j : ℕ) (cs : List ℕ) → j < length walk.layers → AreTwos (length walk.layers) cs →
     IsTurningChoice walk codes j direction cs → IsSet layers j
 
--- The walk of an operation: that of its switch, whose step stands at the place, and the graph of the operation.
+-- The walk of an operation: that of its switch, whose step stands at the place, the graph of the operation, and the layers
+-- in which a choice turns it.
 pub record IsOperationWalk (w : OperationWalk) : Type 0 where
   pub steps : HaveJointSteps w.station.now w.station.now w.steps.now
   pub all : AreOperations w.station.now w.operations.now
@@ -111,6 +112,7 @@ pub record IsOperationWalk (w : OperationWalk) : Type 0 where
   pub walk : IsRuleWalk w.station.now w.steps.now.old_steps.items w.place op.switch.0 w.walk.now.graph
       w.walk.now.codes.items
   pub released : IsReleasedOf w.walk.now.graph w.walk.now.codes.items op.direction w.released.now
+  pub turned : AreTurnedLayers w.walk.now.graph w.walk.now.codes.items op.direction w.layers.now
 
 -- All of the first so many operations is shown.
 abbrev pub AreCovered : Diagram → List Op → List ℕ → List TestPosition → ℕ → Type 0

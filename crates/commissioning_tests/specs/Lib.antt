@@ -7,3 +7,4 @@ pub mod Shared
 pub mod Likewise
 pub mod Controllers
 pub mod Refusing
+pub mod Held

@@ -6,14 +6,14 @@ ghost use Rattle.ilk_base.specs.declared.words.SwitchId.{SwitchId as Kept};
 ghost use Rattle.station_graph.specs.Alike.{IsVector};
 ghost use Rattle.decision_graphs.specs.Reaching.{IsSet};
 
-use crate::bay_paths::SwitchPaths;
 use crate::found::Found;
-use crate::layers::choices_of;
-use crate::open_turns::{OpenTurn, drop_noted, is_turned, walk_at, walk_count, wanted_of};
+use crate::layers::{choices_of, closed_places};
+use crate::open_turns::{OpenTurn, drop_noted, is_turned, walk_at};
 use crate::paths::{Released, number_at};
 use crate::stands::is_moved;
+use crate::switch_paths::SwitchPaths;
 use crate::told::{Choices, Told};
-use crate::turn_index::all_noted;
+use crate::turn_index::{TurnIndex, all_noted};
 use crate::walked::OperationWalk;
 use ilk_base::{Memory, SwitchId};
 use std::alloc::Global;
@@ -32,28 +32,12 @@ fn way_of(alloc: Global, choices: Choices<'_>) -> Result<Vec<u32>, Memory> {
     Ok(way)
 }
 
-// What the labels say to which the choices lead, and these with the other one in a layer before which the node stands.
-fn both_told(told: &mut Told, choices: Choices<'_>, layer: u16, node: u32) -> (Released, Released) {
-    let behind = layer.saturating_add(1);
-    let here = told.label(choices, layer, node);
-    let there = told.label(choices, behind, choices.flipped(layer, node));
-    (choices.paths.told(here), choices.paths.told(there))
-}
-
-// Whether a turn that no position shows is made from the choices whose way this is.
-fn is_made(
-    found: &mut Found,
-    of: &SwitchPaths,
-    choices: Choices<'_>,
-    way: &[u32],
-    turn: OpenTurn,
-) -> bool
-    ensures { found.new.positions.items ≡ found.old.positions.items }
-{
-    let wanted = wanted_of(found, of, turn);
-    let node = number_at(way, usize::from(turn.layer));
-    let (base, other) = both_told(&mut found.told, choices, turn.layer, node);
-    is_turned(wanted, base, other)
+// What the label says to which the choices lead with the other one in a layer.
+fn flipped_told(told: &mut Told, choices: Choices<'_>, way: &[u32], layer: u16) -> Released {
+    let node = number_at(way, usize::from(layer));
+    let flipped = choices.flipped(layer, node);
+    let label = told.label(choices, layer.saturating_add(1), flipped);
+    choices.paths.told(label)
 }
 
 // Whether the switch is guessed.
@@ -69,81 +53,70 @@ fn put_guessed(guessed: &mut Vec<bool>, s: u16) {
     }
 }
 
-// Whether some turn of the walk of this number is open.
-fn has_open(open: &[OpenTurn], number: usize) -> bool {
-    for j in 0..open.len() {
-        if open[j].walk == number {
-            return true;
-        }
-    }
-    false
-}
-
-// The turn at a place, if it is of the walk of this number, and its switch is not guessed yet.
-fn turn_at(open: &[OpenTurn], place: usize, number: usize, guessed: &[bool]) -> Option<OpenTurn> {
-    if place >= open.len() {
-        return None;
-    }
-    let turn = open[place];
-    if turn.walk == number && !is_guessed(guessed, turn.switch.0) {
-        Some(turn)
-    } else {
-        None
-    }
-}
-
-// Guesses the switches whose open turns of a walk are made from these choices.
+// Guesses the switches whose open turns of a walk are made from the choices whose way this is.
 fn guess_from(
-    alloc: Global,
     of: &SwitchPaths,
-    number: usize,
-    found: &mut Found,
+    open: &[OpenTurn],
+    index: &TurnIndex,
+    told: &mut Told,
     choices: Choices<'_>,
+    way: &[u32],
     guessed: &mut Vec<bool>,
-) -> Result<(), Memory>
-    ensures { found.new.positions.items ≡ found.old.positions.items }
-{
-    let way = way_of(alloc, choices)?;
-    found.told.begin(choices.paths)?;
-    for j in 0..found.open.len() {
-        if let Some(turn) = turn_at(&found.open, j, number, guessed) {
-            if is_made(found, of, choices, &way, turn) {
+) {
+    let label = told.label(choices, 0, 0);
+    let base = choices.paths.told(label);
+    for j in 0..open.len() {
+        let turn = open[j];
+        if !is_guessed(guessed, turn.switch.0) {
+            let other = flipped_told(told, choices, way, turn.layer);
+            if is_turned(index, of, turn, base, other) {
                 put_guessed(guessed, turn.switch.0);
             }
         }
     }
+}
+
+// Guesses the switches whose open turns of a walk are made in this position, which says for each step whether its switch
+// is closed.
+fn guess_by(
+    alloc: Global,
+    of: &SwitchPaths,
+    open: &[OpenTurn],
+    index: &TurnIndex,
+    told: &mut Told,
+    places: &[bool],
+    guessed: &mut Vec<bool>,
+) -> Result<(), Memory> {
+    if open.len() == 0 {
+        return Ok(());
+    }
+    let closed = choices_of(alloc, places, of.place, of.paths.layers())?;
+    let choices = Choices {
+        paths: &of.paths,
+        closed: &closed,
+    };
+    let way = way_of(alloc, choices)?;
+    told.begin(choices.paths)?;
+    guess_from(of, open, index, told, choices, &way, guessed);
     Ok(())
 }
 
-// Guesses the switches whose open turns of the walk of this number are made in this position.
-fn guess_by(
+// Guesses the switches whose open turns are made in this position, by the walks at hand.
+fn guess_all(
     alloc: Global,
     walked: &OperationWalk<'_>,
-    number: usize,
-    found: &mut Found,
-    closed: &[bool],
-    guessed: &mut Vec<bool>,
-) -> Result<(), Memory>
-    requires { IsVector walked.now.station.now closed.now }
-    ensures { found.new.positions.items ≡ found.old.positions.items }
-{
-    if !has_open(&found.open, number) {
-        return Ok(());
+    open: &[Vec<OpenTurn>],
+    index: &TurnIndex,
+    told: &mut Told,
+    places: &[bool],
+) -> Result<Vec<bool>, Memory> {
+    let mut guessed = Vec::new(alloc);
+    guessed.resize(usize::from(walked.station.switch_count()), false)?;
+    for i in 0..open.len() {
+        let of = walk_at(walked, i);
+        guess_by(alloc, of, &open[i], index, told, places, &mut guessed)?;
     }
-    let of = walk_at(walked, number);
-    let taken = choices_of(
-        alloc,
-        walked.station,
-        walked.steps,
-        of.place,
-        of.paths.layers(),
-        closed,
-    )?;
-    let choices = Choices {
-        paths: &of.paths,
-        closed: &taken,
-    };
-    guess_from(alloc, of, number, found, choices, guessed)
+    Ok(guessed)
 }
 
 // The switches whose open turns are made in this position, by the walks at hand.
@@ -157,11 +130,15 @@ fn guessed_by_walks(
     ensures { found.new.positions.items ≡ found.old.positions.items }
 {
     drop_noted(walked, found);
-    let mut guessed = Vec::new(alloc);
-    guessed.resize(usize::from(walked.station.switch_count()), false)?;
-    for i in 0..walk_count(walked) {
-        guess_by(alloc, walked, i, found, closed, &mut guessed)?;
-    }
+    let places = closed_places(alloc, walked.station, walked.steps, closed)?;
+    let guessed = guess_all(
+        alloc,
+        walked,
+        &found.open,
+        &found.index,
+        &mut found.told,
+        &places,
+    )?;
     Ok(guessed)
 }
 

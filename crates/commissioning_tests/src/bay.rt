@@ -143,10 +143,10 @@ pub(crate) fn tests_within(
 /// alike only the first has its switches moved, as far as that is seen in document order. No line is idle. It is `Wide`
 /// where for a switch of the bay a graph or a walk of both has more edges than `change_search::walk_limit` says for the
 /// bay's switches, in the order in which the items are taken in; where it has tests, none has. Time: the items, for each
-/// two bays that are not seen to be like earlier ones; a walk for each switch of the bay, and once more where these walks
-/// are few; the graph of an operation for each turn that no position shows yet; for each position the layers of these
-/// walks; and the rules, for each position and each move. Memory: a walk, the edges of the bay's walks where they are few
-/// (60 kB for each switch of the station), and for each move the answers of the operations.
+/// two bays that are not seen to be like earlier ones; a walk for each switch of the bay, and once more where some of these
+/// walks are many; the graph of an operation for each turn that no position shows yet; for each position the layers of
+/// these walks; and the rules, for each position and each move. Memory: a walk, or all of the bay's walks where they have
+/// few edges (15,000 for each switch of the station), and for each move the answers of the operations.
 pub fn bay_tests(alloc: Global, station: &Station, bay: BayId) -> Result<BayTests, TestsRefusal>
     ensures tests { IfOk result (AreTestsOf station.now bay.0) }
     ensures narrow { IfOk result (λ _. IsNarrowBay station.now bay.0) }

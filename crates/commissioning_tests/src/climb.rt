@@ -5,7 +5,6 @@ use crate::flips::{Sweep, Worth, turned_worth, worth_at};
 use crate::paths::{Paths, is_closed};
 use crate::told::{Choices, Told};
 use ilk_base::Memory;
-use std::alloc::Global;
 
 // What the choices are worth with the other one in a layer: those before it lead to this node, and their flips to others.
 fn flipped_worth(
@@ -52,25 +51,48 @@ fn choices<'a>(paths: &'a Paths, closed: &'a [bool]) -> Choices<'a> {
     Choices { paths, closed }
 }
 
-// Changes the choices to some that are worth at least as much: tries each layer once, from the first on.
-pub(crate) fn climb(
-    alloc: Global,
+// Changes the choices to some that are worth at least as much: tries each layer once, from the first on, but ends before
+// this one where none was changed by then. Gives the layer behind the last that was changed, 0 where none was.
+fn climb_once(
     paths: &Paths,
     worths: &[Worth],
     told: &mut Told,
+    sweep: &mut Sweep,
+    end: u16,
     closed: &mut Vec<bool>,
-) -> Result<(), Memory> {
+) -> Result<u16, Memory> {
     told.begin(paths)?;
-    let mut sweep = Sweep::new(alloc, paths)?;
+    sweep.begin(paths)?;
+    let mut changed = 0;
     let mut node = 0;
     let mut worth = told.worth(choices(paths, closed), worths, 0, node);
     for layer in 0..paths.layers() {
-        let flipped = flipped_worth(told, choices(paths, closed), worths, &sweep, layer, node);
+        if changed == 0 && layer >= end {
+            return Ok(0);
+        }
+        let flipped = flipped_worth(told, choices(paths, closed), worths, sweep, layer, node);
         if worth < flipped {
             flip(closed, layer);
             worth = flipped;
+            changed = layer.saturating_add(1);
         }
-        node = step(choices(paths, closed), worths, &mut sweep, layer, node);
+        node = step(choices(paths, closed), worths, sweep, layer, node);
+    }
+    Ok(changed)
+}
+
+// Changes the choices to some that are worth at least as much: tries each layer twice. What was tried with the choices as
+// they stand is not tried again.
+pub(crate) fn climb(
+    paths: &Paths,
+    worths: &[Worth],
+    told: &mut Told,
+    sweep: &mut Sweep,
+    closed: &mut Vec<bool>,
+) -> Result<(), Memory> {
+    let changed = climb_once(paths, worths, told, sweep, paths.layers(), closed)?;
+    if changed > 0 {
+        climb_once(paths, worths, told, sweep, changed, closed)?;
     }
     Ok(())
 }

@@ -9,10 +9,10 @@ ghost use Rattle.dependence_search.specs.Turning.{IsTurn, IsTurning};
 ghost use Rattle.commissioning_tests.specs.Answering.{ArePositions};
 ghost use Rattle.commissioning_tests.specs.Standing.{IsMoved};
 ghost use Rattle.commissioning_tests.specs.Covering.{TurnIsShown, RuleIsShown};
-ghost use Rattle.commissioning_tests.specs.Growing.{AreMore, AreTurnedLayers, IsOperationWalk, IsCovered};
+ghost use Rattle.commissioning_tests.specs.Growing.{AreMore, IsOperationWalk, IsCovered};
 
 use crate::asked::asked_of;
-use crate::depends::{layers_of, may_turn};
+use crate::depends::may_turn;
 use crate::found::Found;
 use crate::moves::add_position;
 use crate::operations::operation_of;
@@ -129,18 +129,14 @@ fn add_both(
     Ok(())
 }
 
-// Adds positions that show that moving the switch turns the operation, if it does and none shows it. The layers are those
-// of the operation's walk that turn it.
+// Adds positions that show that moving the switch turns the operation, if it does and none shows it.
 fn cover_turn(
     alloc: Global,
     walked: &OperationWalk<'_>,
-    layers: &[bool],
     switch: SwitchId,
     found: &mut Found,
 ) -> Result<(), Memory>
     requires walked { IsOperationWalk walked.now }
-    requires layers { (op : Operation) → slice_get walked.now.operations.now walked.now.number ≡ Some op
-        → AreTurnedLayers walked.now.walk.now.graph walked.now.walk.now.codes.items op.direction layers.now }
     requires switch { switch.0 < length walked.now.station.now.switches }
     requires positions { ArePositions walked.now.station.now walked.now.operations.now found.old.positions.items }
     ensures more { OnOk result (AreMore walked.now.station.now walked.now.operations.now found.old.positions.items
@@ -153,7 +149,7 @@ fn cover_turn(
     {
         return Ok(());
     }
-    if !may_turn(walked, layers, switch) {
+    if !may_turn(walked, switch) {
         return Ok(());
     }
     let op = operation_of(walked);
@@ -254,9 +250,8 @@ fn cover_turns(alloc: Global, walked: &OperationWalk<'_>, found: &mut Found) -> 
         → slice_get walked.now.operations.now walked.now.number ≡ Some op → IsMoved walked.now.stands.now s
         → DependsOn walked.now.station.now op s → TurnIsShown found.new.positions.items walked.now.number s) }
 {
-    let layers = layers_of(alloc, walked)?;
     for s in 0..walked.station.switch_count() {
-        cover_turn(alloc, walked, &layers, SwitchId(s), found)?;
+        cover_turn(alloc, walked, SwitchId(s), found)?;
     }
     Ok(())
 }

@@ -1,26 +1,13 @@
 //! On which switches the release of an operation does not depend, found at once for all of them.
-ghost use Rattle.std.specs.Prelude.{◌≡◌, ◌≢◌, ◌↔◌, ◌<◌, IsTrue, IsFalse, Some, length, slice_get, IfOk};
+ghost use Rattle.std.specs.Prelude.{◌≡◌, ◌≢◌, ◌↔◌, ◌<◌, IsTrue, IsFalse, Some, length, slice_get};
 ghost use Rattle.ilk_base.specs.declared.words.Op.{Op as Operation};
 ghost use Rattle.decision_graphs.specs.Reaching.{IsSet};
 ghost use Rattle.release_dependence.specs.Depends.{DependsOn};
 ghost use Rattle.station_joints.specs.Chosen.{layer_of};
-ghost use Rattle.commissioning_tests.specs.Growing.{IsOperationWalk, AreTurnedLayers};
+ghost use Rattle.commissioning_tests.specs.Growing.{IsOperationWalk};
 
 use crate::walked::OperationWalk;
-use decision_graphs::Folds;
-use ilk_base::{Memory, SwitchId};
-use std::alloc::Global;
-
-// For each layer of the operation's walk whether the choice there turns its release.
-pub(crate) fn layers_of(alloc: Global, walked: &OperationWalk<'_>) -> Result<Vec<bool>, Memory>
-    requires walked { IsOperationWalk walked.now }
-    ensures { IfOk result (λ v. (op : Operation) → slice_get walked.now.operations.now walked.now.number ≡ Some op
-        → AreTurnedLayers walked.now.walk.now.graph walked.now.walk.now.codes.items op.direction v.items) }
-{
-    let mut folds = Folds::new(alloc);
-    let layers = walked.released.dependencies_by(alloc, &mut folds)?;
-    Ok(layers)
-}
+use ilk_base::SwitchId;
 
 // Whether the layer is marked.
 fn is_marked(layers: &[bool], layer: u16) -> bool
@@ -38,10 +25,8 @@ fn layer_at(moved: u16, place: u16) -> u16
 }
 
 // Whether moving the switch may turn the operation, by the layers of its walk.
-pub(crate) fn may_turn(walked: &OperationWalk<'_>, layers: &[bool], switch: SwitchId) -> bool
+pub(crate) fn may_turn(walked: &OperationWalk<'_>, switch: SwitchId) -> bool
     requires walked { IsOperationWalk walked.now }
-    requires layers { (op : Operation) → slice_get walked.now.operations.now walked.now.number ≡ Some op
-        → AreTurnedLayers walked.now.walk.now.graph walked.now.walk.now.codes.items op.direction layers.now }
     requires switch { switch.0 < length walked.now.station.now.switches }
     ensures { IsFalse result → (op : Operation) → slice_get walked.now.operations.now walked.now.number ≡ Some op
         → ¬ DependsOn walked.now.station.now op switch.0 }
@@ -52,5 +37,5 @@ pub(crate) fn may_turn(walked: &OperationWalk<'_>, layers: &[bool], switch: Swit
         return false;
     }
     let layer = layer_at(walked.place, walked.steps.old_places[usize::from(switch.0)]);
-    is_marked(layers, layer)
+    is_marked(walked.layers, layer)
 }

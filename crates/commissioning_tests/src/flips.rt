@@ -15,6 +15,13 @@ pub(crate) struct Worth {
 // Nothing is counted.
 pub(crate) const NOTHING: Worth = Worth { open: 0, close: 0 };
 
+impl Worth {
+    // Whether nothing is counted.
+    pub(crate) fn is_nothing(self) -> bool {
+        self.open == 0 && self.close == 0
+    }
+}
+
 // What both count together.
 fn both(one: Worth, other: Worth) -> Worth {
     Worth {
@@ -36,7 +43,7 @@ pub(crate) struct Sweep {
     // the first so many are there
     count: u32,
     flips: Vec<Flips>,
-    // for each node where its flips may stand
+    // for each node where its flips may stand, or may have stood
     seats: Vec<u32>,
 }
 
@@ -65,21 +72,30 @@ pub(crate) fn turned_worth(base: Released, other: Released, worth: Worth) -> u32
 }
 
 impl Sweep {
-    // None, with room for a flip of each layer.
-    pub(crate) fn new(alloc: Global, paths: &Paths) -> Result<Sweep, Memory> {
-        let mut flips = Vec::new(alloc);
-        let none = Flips {
-            node: 0,
-            worth: NOTHING,
-        };
-        flips.resize(usize::from(paths.layers()), none)?;
-        let mut seats = Vec::new(alloc);
-        seats.resize(paths.nodes(), 0)?;
-        Ok(Sweep {
+    // None, without room.
+    pub(crate) fn new(alloc: Global) -> Sweep {
+        Sweep {
             count: 0,
-            flips,
-            seats,
-        })
+            flips: Vec::new(alloc),
+            seats: Vec::new(alloc),
+        }
+    }
+
+    // Takes all out, and makes room for a flip of each layer of this walk.
+    pub(crate) fn begin(&mut self, paths: &Paths) -> Result<(), Memory> {
+        self.count = 0;
+        let layers = usize::from(paths.layers());
+        if self.flips.len() < layers {
+            let none = Flips {
+                node: 0,
+                worth: NOTHING,
+            };
+            self.flips.resize(layers, none)?;
+        }
+        if self.seats.len() < paths.nodes() {
+            self.seats.resize(paths.nodes(), 0)?;
+        }
+        Ok(())
     }
 
     // Puts in flips that lead to a node, to which none leads yet.
@@ -96,7 +112,7 @@ impl Sweep {
 
     // Adds flips that lead to a node, where another leads without a flip.
     pub(crate) fn add(&mut self, node: u32, unflipped: u32, worth: Worth) {
-        if node == unflipped || (worth.open == 0 && worth.close == 0) {
+        if node == unflipped || worth.is_nothing() {
             return;
         }
         let seat = number_at(&self.seats, node as usize);

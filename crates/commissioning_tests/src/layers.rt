@@ -27,32 +27,50 @@ pub(crate) fn layer_of(steps: &JointSteps, moved: u16, switch: u16) -> Option<u1
     }
 }
 
-// Writes whether the switch of a layer is closed.
-fn put_closed(choices: &mut Vec<bool>, layer: Option<u16>, closed: bool) {
-    if let Some(layer) = layer {
-        let place = usize::from(layer);
-        if place < choices.len() {
-            choices[place] = closed;
-        }
+// Writes whether the switch of the step at a place is closed.
+fn put_closed(places: &mut Vec<bool>, place: u16, closed: bool) {
+    let place = usize::from(place);
+    if place < places.len() {
+        places[place] = closed;
     }
 }
 
-// For each of so many layers of the walk of the switch whose step stands at this place whether its switch is closed.
-pub(crate) fn choices_of(
+// For each step whether its switch is closed; no for those of other items.
+pub(crate) fn closed_places(
     alloc: Global,
     station: &Station,
     steps: &JointSteps,
-    moved: u16,
-    layers: u16,
     closed: &[bool],
 ) -> Result<Vec<bool>, Memory>
     requires { IsVector station.now closed.now }
 {
-    let mut choices = Vec::new(alloc);
-    choices.resize(usize::from(layers), false)?;
+    let mut places = Vec::new(alloc);
+    places.resize(steps.old_steps.len(), false)?;
     for s in 0..station.switch_count() {
-        let layer = layer_of(steps, moved, s);
-        put_closed(&mut choices, layer, closed[usize::from(s)]);
+        let place = place_at(&steps.old_places, usize::from(s));
+        put_closed(&mut places, place, closed[usize::from(s)]);
+    }
+    Ok(places)
+}
+
+// Whether the switch of the step at a place is closed.
+fn closed_at(places: &[bool], place: usize) -> bool {
+    place < places.len() && places[place]
+}
+
+// For each of so many layers of the walk of the switch whose step stands at this place whether its switch is closed, by
+// the steps.
+pub(crate) fn choices_of(
+    alloc: Global,
+    places: &[bool],
+    moved: u16,
+    layers: u16,
+) -> Result<Vec<bool>, Memory> {
+    let mut choices = Vec::new(alloc);
+    choices.reserve(usize::from(layers))?;
+    for layer in 0..layers {
+        let place = usize::from(layer) + usize::from(layer >= moved);
+        choices.push(closed_at(places, place))?;
     }
     Ok(choices)
 }

@@ -27,6 +27,7 @@ mod rich;
 mod shown;
 mod sound;
 mod stands;
+mod switch_paths;
 mod told;
 mod turn_index;
 mod values;

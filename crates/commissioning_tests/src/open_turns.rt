@@ -1,12 +1,12 @@
 //! Which switches may turn the operations of the walks at hand, where no position is noted that shows it.
 ghost use Rattle.std.specs.Prelude.{◌≡◌};
 
-use crate::bay_paths::SwitchPaths;
 use crate::found::Found;
 use crate::layers::layer_of;
 use crate::paths::Released;
 use crate::stands::is_moved;
-use crate::turn_index::is_turn_noted;
+use crate::switch_paths::SwitchPaths;
+use crate::turn_index::TurnIndex;
 use crate::walked::OperationWalk;
 use ilk_base::{Memory, SwitchId};
 use station_graph::Station;
@@ -16,96 +16,86 @@ use std::alloc::Global;
 // A switch that may turn an operation of a walk's switch, by the choice of a layer.
 #[derive(Clone, Copy)]
 pub(crate) struct OpenTurn {
-    // which of the walks it is
-    pub(crate) walk: usize,
     pub(crate) switch: SwitchId,
     pub(crate) layer: u16,
 }
 
-// Whether the choice of a layer may turn the operation of which this is told, or of which nothing is.
-fn may_turn(turns: &[bool], layer: u16) -> bool {
-    let place = usize::from(layer);
-    place >= turns.len() || turns[place]
+// Whether the choice of a layer turns the operation of which this is told.
+fn turns_at(turns: &[bool], layer: u16) -> bool {
+    usize::from(layer) < turns.len() && turns[usize::from(layer)]
 }
 
-// Adds the turn of a switch by a layer, if it may be one.
+// Whether the turn is one of the operation that opens the walk's switch, which no position is noted to show.
+fn is_opening(index: &TurnIndex, of: &SwitchPaths, turn: OpenTurn) -> bool {
+    turns_at(&of.turns_opening, turn.layer) && !index.has(of.opening, turn.switch)
+}
+
+// So of the operation that closes it.
+fn is_closing(index: &TurnIndex, of: &SwitchPaths, turn: OpenTurn) -> bool {
+    turns_at(&of.turns_closing, turn.layer) && !index.has(of.opening.saturating_add(1), turn.switch)
+}
+
+// Whether a turn that no position is noted to show is made from choices that lead to one label, where the other choice in
+// its layer leads to the other.
+pub(crate) fn is_turned(
+    index: &TurnIndex,
+    of: &SwitchPaths,
+    turn: OpenTurn,
+    base: Released,
+    other: Released,
+) -> bool {
+    (base.open != other.open && is_opening(index, of, turn))
+        || (base.close != other.close && is_closing(index, of, turn))
+}
+
+// Adds the turn, if no position is noted to show it.
 fn push_turn(
     list: &mut Vec<OpenTurn>,
+    index: &TurnIndex,
     of: &SwitchPaths,
-    walk: usize,
-    switch: SwitchId,
-    layer: u16,
+    turn: OpenTurn,
 ) -> Result<(), Memory> {
-    if may_turn(&of.turns_opening, layer) || may_turn(&of.turns_closing, layer) {
-        list.push(OpenTurn {
-            walk,
-            switch,
-            layer,
-        })?;
+    if is_opening(index, of, turn) || is_closing(index, of, turn) {
+        list.push(turn)?;
     }
     Ok(())
 }
 
-// Adds the turns of the switches that are moved, by the walk of this number.
-pub(crate) fn push_turns(
-    list: &mut Vec<OpenTurn>,
+// The turns of the switches that are moved, by this walk, that no position is noted to show.
+pub(crate) fn turns_of(
+    alloc: Global,
     station: &Station,
     steps: &JointSteps,
     stands: &[u16],
+    index: &TurnIndex,
     of: &SwitchPaths,
-    walk: usize,
-) -> Result<(), Memory> {
+) -> Result<Vec<OpenTurn>, Memory> {
+    let mut list = Vec::new(alloc);
     for s in 0..station.switch_count() {
         if is_moved(stands, s) {
             if let Some(layer) = layer_of(steps, of.place, s) {
-                push_turn(list, of, walk, SwitchId(s), layer)?;
+                let switch = SwitchId(s);
+                push_turn(&mut list, index, of, OpenTurn { switch, layer })?;
             }
         }
     }
-    Ok(())
+    Ok(list)
 }
 
-// The turns of the switches that are moved, by each of these walks.
+// So by each of these walks.
 pub(crate) fn open_turns(
     alloc: Global,
     station: &Station,
     steps: &JointSteps,
     stands: &[u16],
+    index: &TurnIndex,
     walks: &[SwitchPaths],
-) -> Result<Vec<OpenTurn>, Memory> {
-    let mut list = Vec::new(alloc);
+) -> Result<Vec<Vec<OpenTurn>>, Memory> {
+    let mut all = Vec::new(alloc);
     for i in 0..walks.len() {
-        push_turns(&mut list, station, steps, stands, &walks[i], i)?;
+        all.push(turns_of(alloc, station, steps, stands, index, &walks[i])?)?;
     }
-    Ok(list)
-}
-
-// Of the operations of a switch, to open it and to close it.
-#[derive(Clone, Copy)]
-pub(crate) struct Both {
-    pub(crate) opening: bool,
-    pub(crate) closing: bool,
-}
-
-// Which operations of the walk's switch the turn may be of that no position is noted to show.
-pub(crate) fn wanted_of(found: &Found, of: &SwitchPaths, turn: OpenTurn) -> Both {
-    let closing = of.opening.saturating_add(1);
-    Both {
-        opening: may_turn(&of.turns_opening, turn.layer)
-            && !is_turn_noted(&found.positions, &found.index, of.opening, turn.switch),
-        closing: may_turn(&of.turns_closing, turn.layer)
-            && !is_turn_noted(&found.positions, &found.index, closing, turn.switch),
-    }
-}
-
-// Whether one of the wanted operations is released by one of the labels alone.
-pub(crate) fn is_turned(wanted: Both, base: Released, other: Released) -> bool {
-    (wanted.opening && base.open != other.open) || (wanted.closing && base.close != other.close)
-}
-
-// How many walks are at hand: those of the bay, or that of the operation's switch.
-pub(crate) fn walk_count(walked: &OperationWalk<'_>) -> usize {
-    walked.bay.len().max(1)
+    Ok(all)
 }
 
 // The walk of this number.
@@ -117,10 +107,9 @@ pub(crate) fn walk_at<'a>(walked: &OperationWalk<'a>, number: usize) -> &'a Swit
     }
 }
 
-// Whether the turn is still open.
-fn is_open(walked: &OperationWalk<'_>, found: &Found, turn: OpenTurn) -> bool {
-    let wanted = wanted_of(found, walk_at(walked, turn.walk), turn);
-    wanted.opening || wanted.closing
+// Whether the turn is still open. It is as long as no move of its switch is noted.
+fn is_open(index: &TurnIndex, of: &SwitchPaths, turn: OpenTurn) -> bool {
+    !index.is_fresh(turn.switch) || is_opening(index, of, turn) || is_closing(index, of, turn)
 }
 
 // Moves a turn to the place of an earlier one.
@@ -130,19 +119,34 @@ fn put_turn(open: &mut Vec<OpenTurn>, place: usize, turn: OpenTurn) {
     }
 }
 
-// Takes out the turns that are noted by now.
-pub(crate) fn drop_noted(walked: &OperationWalk<'_>, found: &mut Found)
-    ensures { found.new.positions.items ≡ found.old.positions.items }
-{
+// Takes out the turns of a walk that are noted by now.
+fn drop_of(index: &TurnIndex, of: &SwitchPaths, open: &mut Vec<OpenTurn>) {
     let mut kept = 0usize;
-    for j in 0..found.open.len() {
-        if j < found.open.len() {
-            let turn = found.open[j];
-            if is_open(walked, found, turn) {
-                put_turn(&mut found.open, kept, turn);
+    for j in 0..open.len() {
+        if j < open.len() {
+            let turn = open[j];
+            if is_open(index, of, turn) {
+                put_turn(open, kept, turn);
                 kept = kept.saturating_add(1);
             }
         }
     }
-    found.open.truncate(kept);
+    open.truncate(kept);
+}
+
+// Takes out the turns that are noted by now, of all walks at hand.
+fn drop_from(walked: &OperationWalk<'_>, index: &TurnIndex, open: &mut Vec<Vec<OpenTurn>>) {
+    for i in 0..open.len() {
+        if i < open.len() {
+            drop_of(index, walk_at(walked, i), &mut open[i]);
+        }
+    }
+}
+
+// Takes out the turns that are noted by now.
+pub(crate) fn drop_noted(walked: &OperationWalk<'_>, found: &mut Found)
+    ensures { found.new.positions.items ≡ found.old.positions.items }
+{
+    drop_from(walked, &found.index, &mut found.open);
+    found.index.put_fresh(false);
 }

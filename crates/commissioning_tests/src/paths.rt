@@ -21,42 +21,60 @@ pub(crate) struct Released {
 pub(crate) struct Paths {
     // how many layers there are
     layers: u16,
-    // where the choices lead from each node: to a node, or from the last layer to a label
-    opened: Vec<u32>,
-    closed: Vec<u32>,
+    // where the two choices lead from each node: to a node, or from the last layer to a label
+    targets: Vec<u32>,
     // what each label says
     labels: Vec<Released>,
 }
 
-// Where a choice at a node of a layer leads.
-fn target(graph: &Graph, layer: u16, node: u32, choice: u32) -> u32
-    requires layer { layer < length graph.now.layers }
-    requires node { node < length (layer_at graph.now.layers layer).rows }
-    requires choice { choice < (layer_at graph.now.layers layer).choices }
-{
-    let _layers = graph.layers();
-    let (first, _) = graph.nodes(layer);
-    graph.edge(first + node, choice)
+// The first node behind a layer; behind the last are the labels, which count from 0.
+fn first_behind(graph: &Graph, layer: u16) -> u32 {
+    let next = layer.saturating_add(1);
+    if next < graph.layers() {
+        let (first, _) = graph.nodes(next);
+        first
+    } else {
+        0
+    }
 }
 
-// Appends where a choice leads from each node of a layer.
-fn push_layer(graph: &Graph, layer: u16, choice: u32, targets: &mut Vec<u32>) -> Result<(), Memory>
+// Appends where the two choices lead from a node of a layer.
+fn push_node(
+    graph: &Graph,
+    layer: u16,
+    node: u32,
+    behind: u32,
+    targets: &mut Vec<u32>,
+) -> Result<(), Memory>
     requires layer { layer < length graph.now.layers }
-    requires choice { choice < (layer_at graph.now.layers layer).choices }
+    requires node { node < length (layer_at graph.now.layers layer).rows }
+    requires choices { 1 < (layer_at graph.now.layers layer).choices }
+{
+    let row = graph.row(layer, node);
+    targets.push(behind.saturating_add(row[0]))?;
+    targets.push(behind.saturating_add(row[1]))?;
+    Ok(())
+}
+
+// Appends where the two choices lead from each node of a layer.
+fn push_layer(graph: &Graph, layer: u16, targets: &mut Vec<u32>) -> Result<(), Memory>
+    requires layer { layer < length graph.now.layers }
+    requires choices { 1 < (layer_at graph.now.layers layer).choices }
 {
     let (_, count) = graph.nodes(layer);
+    let behind = first_behind(graph, layer);
     for node in 0..count {
-        targets.push(target(graph, layer, node, choice))?;
+        push_node(graph, layer, node, behind, targets)?;
     }
     Ok(())
 }
 
-// Where a choice leads from each node.
-fn targets(alloc: Global, graph: &Graph, choice: u32) -> Result<Vec<u32>, Memory> {
+// Where the two choices lead from each node.
+fn targets(alloc: Global, graph: &Graph) -> Result<Vec<u32>, Memory> {
     let mut targets = Vec::new(alloc);
     for layer in 0..graph.layers() {
-        if choice < graph.choices(layer) {
-            push_layer(graph, layer, choice, &mut targets)?;
+        if 1 < graph.choices(layer) {
+            push_layer(graph, layer, &mut targets)?;
         }
     }
     Ok(targets)
@@ -83,8 +101,7 @@ fn all_released(alloc: Global, codes: &[Codes]) -> Result<Vec<Released>, Memory>
 pub(crate) fn paths_of(alloc: Global, walk: &Walk) -> Result<Paths, Memory> {
     Ok(Paths {
         layers: walk.graph.layers(),
-        opened: targets(alloc, &walk.graph, 0)?,
-        closed: targets(alloc, &walk.graph, 1)?,
+        targets: targets(alloc, &walk.graph)?,
         labels: all_released(alloc, &walk.codes)?,
     })
 }
@@ -111,13 +128,12 @@ impl Paths {
 
     // How many nodes there are.
     pub(crate) fn nodes(&self) -> usize {
-        self.opened.len()
+        self.targets.len() / 2
     }
 
     // Where a node leads: to a node, or from the last layer to a label.
     pub(crate) fn next(&self, node: u32, closed: bool) -> u32 {
-        let targets = if closed { &self.closed } else { &self.opened };
-        number_at(targets, node as usize)
+        number_at(&self.targets, 2 * (node as usize) + usize::from(closed))
     }
 
     // What a label says.

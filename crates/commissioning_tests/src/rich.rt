@@ -5,9 +5,8 @@ ghost use Rattle.station_graph.specs.Alike.{IsVector};
 use crate::climb::climb;
 use crate::flips::{NOTHING, Worth};
 use crate::found::Found;
-use crate::layers::{choices_of, layer_of};
+use crate::layers::{choices_of, closed_places, layer_of};
 use crate::stands::is_moved;
-use crate::turn_index::is_turn_noted;
 use crate::walked::OperationWalk;
 use ilk_base::{Memory, SwitchId};
 use std::alloc::Global;
@@ -17,7 +16,7 @@ const KEPT: u32 = 65536;
 
 // What it is worth to show that the switch turns operation k.
 fn worth_of(found: &Found, k: usize, switch: SwitchId, kept: bool) -> u32 {
-    if is_turn_noted(&found.positions, &found.index, k, switch) {
+    if found.index.has(k, switch) {
         0
     } else if kept {
         KEPT
@@ -103,26 +102,13 @@ pub(crate) fn richer(
 {
     let worths = worths(alloc, walked, found, kept)?;
     let layers = walked.own.paths.layers();
-    let mut choices = choices_of(
-        alloc,
-        walked.station,
-        walked.steps,
-        walked.place,
-        layers,
-        closed,
-    )?;
+    let places = closed_places(alloc, walked.station, walked.steps, closed)?;
+    let mut choices = choices_of(alloc, &places, walked.place, layers)?;
     climb(
-        alloc,
         &walked.own.paths,
         &worths,
         &mut found.told,
-        &mut choices,
-    )?;
-    climb(
-        alloc,
-        &walked.own.paths,
-        &worths,
-        &mut found.told,
+        &mut found.sweep,
         &mut choices,
     )?;
     closed_by(alloc, walked, &choices, closed)

@@ -135,6 +135,9 @@ impl Told {
         node: u32,
         label: u32,
     ) -> u32 {
+        if worth.is_nothing() {
+            return 0;
+        }
         let flipped = choices.flipped(layer, node);
         let other = self.label(choices, layer.saturating_add(1), flipped);
         turned_worth(choices.paths.told(label), choices.paths.told(other), worth)

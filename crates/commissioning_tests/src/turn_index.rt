@@ -22,6 +22,8 @@ pub(crate) struct TurnIndex {
     switches: usize,
     // operation by operation, switch by switch
     places: Vec<Option<MovePlace>>,
+    // for each switch whether a move of it was noted since this was last cleared
+    fresh: Vec<bool>,
 }
 
 impl TurnIndex {
@@ -33,9 +35,12 @@ impl TurnIndex {
     ) -> Result<TurnIndex, Memory> {
         let mut places = Vec::new(alloc);
         places.resize(operations.saturating_mul(usize::from(switches)), None)?;
+        let mut fresh = Vec::new(alloc);
+        fresh.resize(usize::from(switches), false)?;
         Ok(TurnIndex {
             switches: usize::from(switches),
             places,
+            fresh,
         })
     }
 
@@ -55,6 +60,34 @@ impl TurnIndex {
         }
     }
 
+    // Whether a move of the switch that turns operation k is noted.
+    pub(crate) fn has(&self, k: usize, switch: SwitchId) -> bool {
+        self.find(k, switch).is_some()
+    }
+
+    // Whether a move of the switch was noted since this was last cleared.
+    pub(crate) fn is_fresh(&self, switch: SwitchId) -> bool {
+        let place = usize::from(switch.0);
+        place < self.fresh.len() && self.fresh[place]
+    }
+
+    // Notes of each switch whether a move of it may have been noted since this was last cleared.
+    pub(crate) fn put_fresh(&mut self, fresh: bool) {
+        for place in 0..self.fresh.len() {
+            if place < self.fresh.len() {
+                self.fresh[place] = fresh;
+            }
+        }
+    }
+
+    // Notes that a move of the switch was noted.
+    fn freshen(&mut self, switch: SwitchId) {
+        let place = usize::from(switch.0);
+        if place < self.fresh.len() {
+            self.fresh[place] = true;
+        }
+    }
+
     // Notes a move for an operation, unless one is noted.
     fn put(&mut self, k: usize, switch: SwitchId, found: MovePlace) {
         let place = self.place(k, switch);
@@ -65,6 +98,7 @@ impl TurnIndex {
 
     // Notes a move for each operation that it turns.
     fn note_move(&mut self, answers: &[Option<Rule>], test_move: &TestMove, found: MovePlace) {
+        self.freshen(test_move.switch);
         for k in 0..answers.len() {
             if turns_at(answers, &test_move.answers, k) {
                 self.put(k, test_move.switch, found);

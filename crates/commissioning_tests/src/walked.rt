@@ -1,5 +1,5 @@
 //! The walk of an operation.
-use crate::bay_paths::SwitchPaths;
+use crate::switch_paths::SwitchPaths;
 use decision_graphs::Graph;
 use graph_walks::Walk;
 use ilk_base::Op;
@@ -19,11 +19,12 @@ pub(crate) struct OperationWalk<'a> {
     // the walk of the moved switch, and the place of its step
     pub(crate) walk: &'a Walk,
     pub(crate) place: u16,
-    // its edges, and those of the walks of all of the bay's switches, if these are few
+    // what is made of it, and of the walks of all of the bay's switches, if these are few
     pub(crate) own: &'a SwitchPaths,
     pub(crate) bay: &'a [SwitchPaths],
-    // the graph of the operation
+    // the graph of the operation, and for each layer whether the choice there turns it
     pub(crate) released: &'a Graph,
+    pub(crate) layers: &'a [bool],
     // which of the operations it is, and which opens the switch; the next to that closes it
     pub(crate) number: usize,
     pub(crate) opening: usize,

@@ -1,18 +1,12 @@
-use Rattle.std.proofs.Common.{◌≡◌, ◌⊎◌, ◌+◌, ◌<◌, ℕ, Bool, List, subst, sym, inl, inr, arith}
+use Rattle.std.proofs.Common.{◌≡◌, ◌⊎◌, ◌+◌, ◌<◌, ℕ, subst, sym, inl, inr, arith}
 use Rattle.release_dependence.specs.Depends.{DependsOn}
 use Rattle.commissioning_tests.specs.Standing.{IsMoved}
 use Rattle.commissioning_tests.specs.Covering.{TurnIsShown}
-use Rattle.commissioning_tests.specs.Growing.{AreTurnedLayers}
 use Rattle.commissioning_tests.proofs.CoverLemmas.{more_then, turn_grows, depends_within}
 use Rattle.commissioning_tests.proofs.cover.cover_turns.Goals as goal
 
 cases : (a b : ℕ) → a < b + 1 → (a < b) ⊎ (a ≡ b)
 cases a b less = grind arith
-
-pub cover_turn-requires-clause-layers : goal.cover_turn-requires-clause-layers
-cover_turn-requires-clause-layers c op at =
-    subst (λ (l : List Bool). AreTurnedLayers c.args.walked.now.walk.now.graph c.args.walked.now.walk.now.codes.items
-    op.direction l) (sym c.deref.ensures.value) (c.in_ok-layers.ensures op at)
 
 pub loop-s-preserved : goal.loop-s-preserved
 loop-s-preserved c = (

@@ -3,7 +3,7 @@ use Rattle.dependence_search.specs.RuleWalks.{AreRuleStocks}
 use Rattle.commissioning_tests.specs.Answering.{ArePositions}
 use Rattle.commissioning_tests.specs.Growing.{AreCovered}
 use Rattle.commissioning_tests.specs.Refusing.{AllAreNarrow}
-use Rattle.commissioning_tests.proofs.cover_bay.cover_with.Given as goal
+use Rattle.commissioning_tests.proofs.cover_bay.cover_each.Given as goal
 
 abbrev pub invariant-loop-i : goal.invariant-loop-i
 invariant-loop-i l =

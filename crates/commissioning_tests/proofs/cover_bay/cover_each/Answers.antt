@@ -1,11 +1,10 @@
-use Rattle.std.proofs.Common.{◌≡◌, ◌⊎◌, ◌+◌, ◌*◌, ◌<◌, ℕ, List, length, slice_get, sym, ap, ◌∙◌, subst, inl, inr, arith}
+use Rattle.std.proofs.Common.{◌+◌, ◌*◌, ℕ, List, length, slice_get, sym, ap, ◌∙◌, arith}
 use Rattle.ilk_base.specs.declared.words.Op.{Op}
 use Rattle.judge_pool.proofs.ErrorLemmas.{passed_on}
-use Rattle.commissioning_tests.specs.Growing.{IsCovered}
 use Rattle.commissioning_tests.proofs.ListLemmas.{operations_long, opening_at, closing_at, operations_in}
-use Rattle.commissioning_tests.proofs.CoverLemmas.{covered_grows}
+use Rattle.commissioning_tests.proofs.CoverLemmas.{covered_both}
 use Rattle.commissioning_tests.proofs.RefusalLemmas.{narrow_more}
-use Rattle.commissioning_tests.proofs.cover_bay.cover_with.Goals as goal
+use Rattle.commissioning_tests.proofs.cover_bay.cover_each.Goals as goal
 
 pub overflow_add-switch : goal.overflow_add-switch
 overflow_add-switch c = omega (arith, c.requires.few, c.loop-i-test.true)
@@ -41,33 +40,21 @@ cover_switch-requires-clause-closing c =
     ∙ (ap (λ (l : List Op). slice_get l (2 * c.loop-i.i + 1)) c.requires.operations
     ∙ closing_at c.args.first.0 c.args.count c.loop-i.i c.loop-i-test.true)
 
-cases : (a b : ℕ) → a < 2 * (b + 1) → (a < 2 * b) ⊎ ((a ≡ 2 * b) ⊎ (a ≡ 2 * b + 1))
-cases a b less = grind arith
-
 pub loop-i-preserved : goal.loop-i-preserved
 loop-i-preserved c = (
   c.in_ok-cover_switch.ensures.stocks,
   c.in_ok-cover_switch.ensures.more.are,
-  λ k lt. elim (cases k c.loop-i.i lt) [
-    | inl less ↦
-        covered_grows c.args.station.now c.args.operations.now c.args.stands.now c.loop-i.found.positions.items
-        c.cover_switch.new.found.positions.items k c.in_ok-cover_switch.ensures.more.grows (c.loop-i.invariant.2 k less)
-    | inr next ↦ elim next [
-      | inl even ↦
-          subst (λ (x : ℕ). IsCovered c.args.station.now c.args.operations.now c.args.stands.now c.cover_switch.new.found.positions.items x)
-          (ap (λ (x : ℕ). 2 * x) c.from-number.ensures ∙ sym even) c.in_ok-cover_switch.ensures.opening
-      | inr odd ↦
-          subst (λ (x : ℕ). IsCovered c.args.station.now c.args.operations.now c.args.stands.now c.cover_switch.new.found.positions.items x)
-          (ap (λ (x : ℕ). 2 * x + 1) c.from-number.ensures ∙ sym odd) c.in_ok-cover_switch.ensures.closing
-    ]
-  ],
+  covered_both c.args.station.now c.args.operations.now c.args.stands.now c.loop-i.found.positions.items
+      c.cover_switch.new.found.positions.items c.loop-i.i _ (ap (λ (x : ℕ). 2 * x) c.from-number.ensures)
+      c.loop-i.invariant.2 c.in_ok-cover_switch.ensures.more.grows c.in_ok-cover_switch.ensures.opening
+      c.in_ok-cover_switch.ensures.closing,
   narrow_more c.args.station.now c.args.steps.now.old_steps.items c.args.first.0 c.loop-i.i c.args.limit
       c.loop-i.invariant.3 c.in_ok-cover_switch.ensures.narrow,
 )
 
 pub returns-in_err-cover_switch-clause-wide : goal.returns-in_err-cover_switch-clause-wide
 returns-in_err-cover_switch-clause-wide c =
-    passed_on _ _ c.from_residual-in_err-cover_switch.result c.from_residual-in_err-cover_switch.ensures.1
+    passed_on _ _ c.from_residual.result c.from_residual.ensures.1
     (λ trouble same is. record {
       number = c.args.first.0 + c.loop-i.i;
       after = omega arith;
