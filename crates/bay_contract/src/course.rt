@@ -6,6 +6,7 @@ ghost use Rattle.station_graph.specs.Sharing.{IsShared, OfPart};
 ghost use Rattle.contraction.specs.Answers.{AreNodes};
 ghost use Rattle.part_alphabets.specs.Layers.{IsKept};
 ghost use Rattle.bay_contract.specs.Courses.{IsTurn, AreTurns, IsCourse, nodes_after};
+ghost use Rattle.bay_contract.specs.Turns.{positioned};
 
 use crate::bases::base;
 use crate::kept::{fewer_nodes, kept_nodes};
@@ -21,6 +22,15 @@ pub(crate) struct Turn {
     pub(crate) off: Contraction,
     pub(crate) on: Contraction,
     pub(crate) kept: NodeList,
+}
+
+impl Turn {
+    // The value of the switch in this position.
+    pub(crate) fn value(&self, closed: bool) -> &Contraction
+        ensures { result.now ≡ positioned self.now.off self.now.on closed }
+    {
+        if closed { &self.on } else { &self.off }
+    }
 }
 
 // What the layers of a part are made of: its links and taps as a value on the nodes that matter first, and

@@ -27,6 +27,7 @@ pub mod MoveLemmas
 pub mod OneViewLemmas
 pub mod SelectionLemmas
 pub mod MappedLemmas
+pub mod BothLemmas
 pub mod ByteLemmas
 pub mod FirstLemmas
 pub mod ReadLemmas

@@ -4,7 +4,7 @@ use Rattle.station_graph.specs.Diagram.{Diagram}
 use Rattle.station_graph.specs.Connection.{Linked}
 use Rattle.contraction.specs.Answers.{Answers, Keeps, SameAt, MarkedAt, SaysCoupled, SaysJoined, SaysBonded}
 use Rattle.contraction.specs.Answers.{SaysEnergisable, SaysEarthable, SaysFed, SaysLoaded, IsContraction}
-use Rattle.contraction.specs.Rows.{gap_row, load_row}
+use Rattle.contraction.specs.Rows.{gap_row, load_row, AreRowsOf}
 use Rattle.contraction.specs.Stands.{Among, GapStandsFor, LoadStandsFor}
 
 -- One of two values gives two nodes one label.
@@ -92,3 +92,11 @@ pub record IsLoadRowOfBoth (nodes : List ℕ) (x y : Answers) (bytes : List ℕ)
   pub kept : (n : ℕ) → Keeps value.kept n ↔ Contains nodes n
   pub composes : ComposesLoad x y value
   pub row : bytes ≡ load_row value
+
+-- The texts are both rows of a value on exactly these nodes that has both views of two values together.
+pub record AreRowsOfBoth (nodes : List ℕ) (x y : Answers) (gap_text load_text : List ℕ) : Type 0 where
+  pub value : Answers
+  pub rows : AreRowsOf value gap_text load_text
+  pub kept : (n : ℕ) → Keeps value.kept n ↔ Contains nodes n
+  pub gap : ComposesGap x y value
+  pub load : ComposesLoad x y value

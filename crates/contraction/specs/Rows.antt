@@ -57,3 +57,14 @@ pub record IsLoadRow (bytes : List ℕ) : Type 0 where
   pub value : Answers
   pub contraction : IsContraction value
   pub row : bytes ≡ load_row value
+
+-- The bytes are both rows of the value.
+pub record AreRowsOf (c : Answers) (gap load : List ℕ) : Type 0 where
+  pub contraction : IsContraction c
+  pub gap_is : gap ≡ gap_row c
+  pub load_is : load ≡ load_row c
+
+-- The bytes are both rows of one contraction.
+pub record AreRows (gap load : List ℕ) : Type 0 where
+  pub value : Answers
+  pub rows : AreRowsOf value gap load

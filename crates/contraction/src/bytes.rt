@@ -91,7 +91,7 @@ pub(crate) const GAP_BYTES: usize = 6;
 
 pub(crate) const LOAD_BYTES: usize = 8;
 
-const WHOLE_BYTES: usize = 12;
+pub(crate) const WHOLE_BYTES: usize = 12;
 
 // The bytes of these nodes, with room for so many bytes in all for each of them.
 pub(crate) fn bytes_from(alloc: Global, nodes: &[u16], each: usize) -> Result<Text, Memory>

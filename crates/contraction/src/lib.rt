@@ -5,6 +5,7 @@
 //! them.
 #![tactic(auto)]
 
+mod both_rows;
 mod bytes;
 mod compose;
 mod composed_row;
@@ -28,6 +29,7 @@ mod supply;
 mod unchanged;
 mod value;
 
+pub use both_rows::BothRows;
 pub use empty_views::EmptyViews;
 pub use laws::{
     composition_respects_views, fewer_nodes_tell_less, gap_views_are_equal, load_views_are_equal,

@@ -56,6 +56,30 @@ impl Selection {
         })
     }
 
+    /// Those of the nodes that either list has: the selection at hand where it is that, else a new one. Time: the
+    /// nodes, and for a new one those of `of`.
+    pub fn held_or_new(
+        alloc: Global,
+        held: Option<Box<Selection>>,
+        first: &[u16],
+        second: &[u16],
+        nodes: &NodeList,
+    ) -> Result<Box<Selection>, Memory>
+        requires first { AreNodes first.now }
+        requires second { AreNodes second.now }
+        ensures first { IfOk result (λ s. s.value.first ≡ first.now) }
+        ensures second { IfOk result (λ s. s.value.second ≡ second.now) }
+        ensures nodes { IfOk result (λ s. s.value.nodes ≡ nodes.now) }
+    {
+        if let Some(selection) = held {
+            if selection.is_of(first, second, nodes) {
+                return Ok(selection);
+            }
+        }
+        let selection = Selection::of(alloc, first, second, nodes)?;
+        Ok(Box::new(alloc, selection)?)
+    }
+
     /// Whether it is that of these lists. Time: their nodes. Takes no memory.
     pub fn is_of(&self, first: &[u16], second: &[u16], nodes: &NodeList) -> bool
         ensures { IsTrue result ↔

@@ -12,6 +12,8 @@ mod answer_rows;
 #[cfg(test)]
 mod answers;
 #[cfg(test)]
+mod both;
+#[cfg(test)]
 mod composed;
 #[cfg(test)]
 mod ends;

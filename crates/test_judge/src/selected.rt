@@ -2,6 +2,7 @@
 ghost use Rattle.std.specs.Prelude.{◌≡◌, ◌⊎◌, ℕ, IsTrue, Contains, length};
 ghost use Rattle.contraction.specs.Answers.{Keeps};
 
+use crate::both::has_both_rows;
 use crate::composed::{Items, is_whole, kept_of, nodes_of};
 use crate::lies::{Lies, lies_so};
 use contraction::{Contraction, Selection};
@@ -218,8 +219,10 @@ fn has_rows_selected(
 ) -> Result<bool, Memory>
     requires { (n : ℕ) → Contains nodes.now n → Keeps x.now.kept n ⊎ Keeps y.now.kept n }
 {
-    let selection = Selection::of(alloc, x.nodes(), y.nodes(), nodes)?;
-    Ok(has_rows_on(alloc, x, y, &selection, row))
+    let made = Selection::held_or_new(alloc, None, x.nodes(), y.nodes(), nodes)?;
+    let selection = Selection::held_or_new(alloc, Some(made), x.nodes(), y.nodes(), nodes)?;
+    let both = has_both_rows(alloc, x, y, &selection, row.gap, row.load)?;
+    Ok(both && has_rows_on(alloc, x, y, &selection, row))
 }
 
 // Whether the selection is that of the two and these nodes, and of no other two and no other nodes.
