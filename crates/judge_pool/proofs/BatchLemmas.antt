@@ -1,7 +1,7 @@
 -- Batches of a pool, noted by where they begin.
 use Rattle.std.proofs.Common.{◌≡◌, ℕ, ◌+◌, Bool, true, false, cond, List, [], ◌∷◌, ◌++◌, length, get_or, slice_get}
 use Rattle.std.proofs.Common.{take, drop, Box, Vec}
-use Rattle.std.proofs.Common.{◌-◌, ◌<◌, ◌≤◌, Option, Some, refl, sym, ap, ◌∙◌, subst, inl, inr, arith}
+use Rattle.std.proofs.Common.{◌-◌, ◌<◌, ◌≤◌, Option, Some, None, refl, sym, ap, ◌∙◌, subst, inl, inr, arith}
 use Rattle.std.specs.Prelude.{nat_eq, ◌&&◌}
 use Rattle.std.specs.declared.alloc.Global.{Global}
 use Rattle.std.specs.HashMap.{HashMap, get, Updates}
@@ -20,6 +20,14 @@ use Rattle.judge_pool.specs.Pooling.{Extends, IsPool, GrewTo, CanCompose}
 use Rattle.judge_pool.specs.Layering.{no_answers}
 use Rattle.judge_pool.specs.Standing.{StandsAreRight, ListStandsAreRight}
 use Rattle.judge_pool.specs.Keeping.{NumbersAreRight}
+use Rattle.std.specs.Str.{bytes_eq}
+use Rattle.std.specs.Prelude.{Contains, ◌↔◌}
+use Rattle.contraction.specs.Answers.{Answers, IsContraction, Keeps}
+use Rattle.judge_pool.specs.Seen.{seen_row, ComposesIn}
+use Rattle.judge_pool.specs.Folding.{AreApartIn, AreWell}
+use Rattle.judge_pool.specs.Pooling.{number_in, IsRowIndex, HasSame}
+use Rattle.judge_pool.proofs.LayerLemmas.{get_front, get_last}
+use Rattle.judge_pool.proofs.PoolLemmas.{index_more, index_same, well_more, apart_more, rows_tell, rows_told, made_same}
 use Rattle.judge_pool.proofs.LayeringLemmas.{Grows, grew_of, grew_in, keep_in, either_more}
 use Rattle.judge_pool.proofs.PastLemmas.{layers_stay}
 use Rattle.judge_pool.proofs.StandLemmas.{stands_stay, list_stands_stay}
@@ -115,6 +123,28 @@ empty_other p b h =
       list_stands = list_stands_stay p q g p.list_stands h.list_stands;
       numbers = numbers_stay p q g p.keep_numbers h.numbers;
     }) g
+
+-- and with another index of the same rows
+pub index_other : (p q : Pool) → q ≡ record p { index = q.index } → IsPool p → q.index.entries ≡ p.index.entries →
+    GrewTo p q
+index_other p r is h same =
+    let q : Pool = record p { index = r.index } in
+    let g : Grows p q = record {
+      view = refl;
+      keeps = λ k ns at. at;
+      values = λ i x at. at;
+      letters = λ l ids at. at;
+    } in
+    subst (λ w. GrewTo p w) (sym is) (grew_of p q (record {
+      index = index_same p.view p.values.items p.index r.index h.index same;
+      apart = h.apart;
+      well = h.well;
+      notes = notes_stay p q g (λ i t at. at) p.notes h.notes;
+      layers = layers_stay p q g p.layers.items h.layers;
+      stands = stands_stay p q g p.stands h.stands;
+      list_stands = list_stands_stay p q g p.list_stands h.list_stands;
+      numbers = numbers_stay p q g p.keep_numbers h.numbers;
+    }) g)
 
 -- and with other seats at hand
 pub seats_other : (p : Pool) (s : Option (Vec ℕ Global)) → IsPool p → GrewTo p (record p { seats = s })
@@ -222,6 +252,66 @@ numbers_other p r h right =
       list_stands = list_stands_stay p q g p.list_stands h.list_stands;
       numbers = numbers_stay p q g r.keep_numbers right;
     }) g
+
+-- ---- a value more, by its row
+
+-- the pool with a value put last, another index, and maybe other empty views at hand
+module _ (p q : Pool) (x : Answers)
+    (is : q ≡ record p { index = q.index; values = q.values; empty_views = q.empty_views })
+    (items : q.values.items ≡ p.values.items ++ x ∷ []) (well_x : IsContraction x) where
+  pub value_grew : IsPool p → number_in p.index (seen_row p.view x) ≡ None →
+      Updates bytes_eq p.index q.index (seen_row p.view x) (Some (length p.values.items)) → GrewTo p q
+  value_grew h none updates =
+      let r : Pool = record p { index = q.index; values = q.values; empty_views = q.empty_views } in
+      let more : Extends p.values.items (p.values.items ++ x ∷ []) =
+      λ i y at. get_front p.values.items (x ∷ []) i y at in
+      let g : Grows p r = record {
+        view = refl;
+        keeps = λ k ns at. at;
+        values = subst (λ vs. Extends p.values.items vs) (sym items) more;
+        letters = λ l ids at. at;
+      } in
+      subst (λ w. GrewTo p w) (sym is) (grew_of p r (record {
+        index =
+            subst (λ vs. IsRowIndex p.view vs q.index) (sym items) (index_more p.view p.values.items x p.index q.index
+            (seen_row p.view x) h.index refl updates);
+        apart =
+            subst (λ vs. AreApartIn p.view vs) (sym items) (apart_more p.view p.values.items x h.well well_x h.apart
+            (λ i y at same. h.index.missing (seen_row p.view x) none i y at
+            (rows_told p.view x y well_x (h.well i y at) same)));
+        well = subst (λ vs. AreWell vs) (sym items) (well_more p.view p.values.items x h.well well_x);
+        notes = notes_stay p r g (λ i t at. at) p.notes h.notes;
+        layers = layers_stay p r g p.layers.items h.layers;
+        stands = stands_stay p r g p.stands h.stands;
+        list_stands = list_stands_stay p r g p.list_stands h.list_stands;
+        numbers = numbers_stay p r g p.keep_numbers h.numbers;
+      }) g)
+
+  pub value_same : (t : ℕ) → t ≡ length p.values.items → HasSame q x t
+  value_same t at = record {
+    same = x;
+    listed =
+        ap (λ vs. slice_get vs t) items
+        ∙ (ap (slice_get (p.values.items ++ x ∷ [])) at ∙ get_last p.values.items x);
+    is_same = rows_tell q.view x x well_x well_x refl;
+    well = well_x;
+    well_same = well_x;
+  }
+
+-- what two values make together was made, once the pool has it
+pub made_new : (p q : Pool) (k : Made) (t : ℕ) (x y value : Answers) (nodes : List ℕ) → GrewTo p q →
+    HasSame q value t → slice_get p.values.items k.first ≡ Some x → slice_get p.values.items k.second ≡ Some y →
+    slice_get p.keeps.items k.keep ≡ Some nodes → ComposesIn p.view x y value →
+    ((n : ℕ) → Keeps value.kept n ↔ Contains nodes n) → WasMade q.view q.values.items q.keeps.items k t
+made_new p q k t x y value nodes g has first second asked composes kept = record {
+  x = x;
+  y = y;
+  keep = nodes;
+  first = g.values k.first x first;
+  second = g.values k.second y second;
+  nodes = g.keeps k.keep nodes asked;
+  made = made_same q x y value nodes t has (subst (λ w. ComposesIn w x y value) (sym g.view) composes) kept;
+}
 
 -- ---- a note more
 

@@ -10,6 +10,7 @@ use Rattle.judge_pool.specs.declared.view.View.{View}
 use Rattle.judge_pool.specs.declared.view.View.TheVariants.{Gap, Load}
 use Rattle.std.specs.Str.{bytes_eq}
 use Rattle.std.specs.HashMap.{HashMap, get, Updates}
+use Rattle.std.specs.Map.{lookup}
 use Rattle.std.proofs.lemmas.Bool.{false≢true}
 use Rattle.std.proofs.lemmas.Slice.Eq.{bytes_eq-Decides}
 use Rattle.station_graph.proofs.PathLemmas.{slice_get-push}
@@ -20,7 +21,7 @@ use Rattle.contraction.proofs.ViewLemmas.{gap_rows, load_rows}
 use Rattle.std.specs.Prelude.{Contains}
 use Rattle.contraction.specs.Answers.{Keeps}
 use Rattle.judge_pool.specs.declared.pool.Pool.{Pool}
-use Rattle.judge_pool.specs.Pooling.{HasSame, IsRowIndex, IsMadeOf, HasCopy}
+use Rattle.judge_pool.specs.Pooling.{HasSame, IsRowIndex, IsMadeOf, HasCopy, IsPool, number_in}
 use Rattle.judge_pool.proofs.LayerLemmas.{get_front, get_last}
 use Rattle.judge_pool.proofs.MappedViews.{composes_same, kept_of_same, seen_same}
 
@@ -53,6 +54,17 @@ index_more view values x old new row index is updates = record {
       | inl before ↦ index.missing q e i y before is_y
       | inr here ↦ false≢true (sym same ∙ (bytes_eq-Decides row q).1 (is ∙ ap (seen_row view) here.1 ∙ sym is_y))
     ]
+
+-- an index with the same entries
+pub index_same : {S : Type 0} (view : View) (values : List Answers) (old new : HashMap (List ℕ) ℕ S) →
+    IsRowIndex view values old → new.entries ≡ old.entries → IsRowIndex view values new
+index_same {S} view values old new index same = record {
+  found = λ row i e. index.found row i (sym (at row) ∙ e);
+  missing = λ row e. index.missing row (sym (at row) ∙ e);
+}
+  where
+    at : (row : List ℕ) → get bytes_eq new row ≡ get bytes_eq old row
+    at row = ap (lookup (bytes_eq row)) same
 
 -- a view of a value that keep_only gives
 pub kept_view : (view : View) (x value : Answers) →
@@ -151,3 +163,18 @@ copy_of q x value id h kept stands = record {
       λ items d v s. seen_same q.view (Among items) d v value h.same h.well h.well_same h.is_same
       (stands q.view items d v s);
 }
+
+-- ---- a value whose row the index has
+
+pub has_found : (p q : Pool) (value : Answers) (t : ℕ) → q ≡ record p { index = q.index } → IsPool p →
+    IsContraction value → number_in p.index (seen_row p.view value) ≡ Some t → HasSame q value t
+has_found p q value t is h well e =
+    let f = h.index.found (seen_row p.view value) t e in
+    let well_same = h.well t f.0 f.1 in
+    subst (λ r. HasSame r value t) (sym is) (record {
+      same = f.0;
+      listed = f.1;
+      is_same = rows_tell p.view value f.0 well well_same f.2;
+      well = well;
+      well_same = well_same;
+    })

@@ -10,13 +10,14 @@ ghost use Rattle.judge_pool.specs.Numbered.{letter_lists};
 ghost use Rattle.judge_pool.specs.Pooling.{IsRowIn, IsToldBy};
 
 use crate::batch::{Batch, Made};
-use crate::pool::{Pool, find_row};
+use crate::pool::Pool;
 use crate::view::View;
 use contraction::{Contraction, EmptyViews, Selection};
 use ilk_base::{Memory, Text};
 use number_hash::NumberMap;
 use station_graph::NodeList;
 use std::alloc::Global;
+use std::collections::hash_map::Entry;
 
 // So many compositions are held in batches, and not many more.
 const MANY: usize = 2_000_000;
@@ -238,11 +239,13 @@ impl Pool {
             return Ok(key.first);
         }
         let row = composed_row(alloc, self.view, x, y, selection)?;
-        match find_row(&self.index, &row) {
-            Some(place) => Ok(place),
-            None => {
-                let value = value_of(alloc, self.view, &row, &mut self.empty_views)?;
-                let place = self.put(row, value)?;
+        match self.index.entry(row)? {
+            Entry::Occupied(entry) => Ok(*entry.get()),
+            Entry::Vacant(entry) => {
+                let value = value_of(alloc, self.view, entry.key(), &mut self.empty_views)?;
+                let place = self.values.len();
+                self.values.push(value)?;
+                entry.insert(place);
                 Ok(place)
             }
         }

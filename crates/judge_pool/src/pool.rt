@@ -1,10 +1,7 @@
 //! Values of one view, each kept once.
-ghost use Rattle.std.specs.Prelude.{◌≡◌, ℕ, ◌↔◌, ◌++◌, List, [], ◌∷◌, length, slice_get, Some, IfOk};
-ghost use Rattle.std.specs.Prelude.{OnOk, MatchOption, Contains};
-ghost use Rattle.contraction.specs.Answers.{Answers, Keeps, IsContraction};
-ghost use Rattle.judge_pool.specs.declared.view.View.{View as Seen};
-ghost use Rattle.judge_pool.specs.Seen.{seen_row};
-ghost use Rattle.judge_pool.specs.Pooling.{IsRowIndex, IsPool, GrewTo, HasSame, HasCopy};
+ghost use Rattle.std.specs.Prelude.{◌≡◌, ℕ, ◌↔◌, ◌++◌, [], ◌∷◌, length, IfOk, OnOk, Contains};
+ghost use Rattle.contraction.specs.Answers.{Keeps};
+ghost use Rattle.judge_pool.specs.Pooling.{IsPool, GrewTo, HasSame, HasCopy};
 
 use crate::batch::{Batch, ListStand, Stand};
 use crate::known::{KnownLayer, LayerKey};
@@ -15,6 +12,7 @@ use number_hash::{NumberHash, NumberMap};
 use station_graph::NodeList;
 use std::alloc::Global;
 use std::collections::HashMap;
+use std::collections::hash_map::Entry;
 
 /// Values of one view, each once, with lists of nodes that values are to keep. Batches of compositions stand one behind
 /// the other, and where each begins is noted, so that none is made twice, but for those that were forgotten when they
@@ -42,27 +40,6 @@ pub struct Pool {
     pub(crate) seats: Option<Vec<usize>>,
     pub(crate) stands: NumberMap<Stand, usize>,
     pub(crate) list_stands: NumberMap<ListStand, usize>,
-}
-
-// The number that the index has for a row.
-pub(crate) fn find_row(index: &HashMap<Text, usize>, row: &Text) -> Option<usize>
-    ensures { (view : Seen) (values : List Answers) → IsRowIndex view values index.now → MatchOption result
-        ((i : ℕ) (x : Answers) → slice_get values i ≡ Some x → row.now ≡ seen_row view x → ⊥)
-        (λ i. (x : Answers) × (slice_get values i ≡ Some x) × (row.now ≡ seen_row view x)) }
-{
-    match index.get(row) {
-        Some(place) => Some(*place),
-        None => None,
-    }
-}
-
-// Makes the index know the row of a new value.
-fn note_row(index: &mut HashMap<Text, usize>, row: Text, place: usize) -> Result<(), Memory>
-    ensures { OnOk result ((view : Seen) (values : List Answers) (x : Answers) → IsRowIndex view values index.old
-        → place ≡ length values → row ≡ seen_row view x → IsRowIndex view (values ++ x ∷ []) index.new) }
-{
-    index.insert(row, place)?;
-    Ok(())
 }
 
 impl Pool {
@@ -99,30 +76,15 @@ impl Pool {
         ensures same { IfOk result (HasSame self.new value) }
     {
         let row = row_in(alloc, self.view, &value)?;
-        match find_row(&self.index, &row) {
-            Some(place) => Ok(place),
-            None => {
-                let place = self.put(row, value)?;
+        match self.index.entry(row)? {
+            Entry::Occupied(entry) => Ok(*entry.get()),
+            Entry::Vacant(entry) => {
+                let place = self.values.len();
+                self.values.push(value)?;
+                entry.insert(place);
                 Ok(place)
             }
         }
-    }
-
-    // Puts a value last, by its row, which no other value has.
-    pub(crate) fn put(&mut self, row: Text, value: Contraction) -> Result<usize, Memory>
-        requires pool { IsPool self.old }
-        requires well { IsContraction value }
-        requires row { row ≡ seen_row self.old.view value }
-        requires new { (i : ℕ) (x : Answers) → slice_get self.old.values.items i ≡ Some x
-            → row ≡ seen_row self.old.view x → ⊥ }
-        ensures grew { OnOk result (GrewTo self.old self.new) }
-        ensures same { IfOk result (HasSame self.new value) }
-    {
-        let held = self.values.as_slice();
-        let place = held.len();
-        note_row(&mut self.index, row, place)?;
-        self.values.push(value)?;
-        Ok(place)
     }
 
     /// The number of a copy of the value, which keeps these nodes.

@@ -6,11 +6,12 @@ ghost use Rattle.judge_pool.specs.Standing.{IsOn, AreOn, CanStand, StandsAreRigh
 
 use crate::batch::Stand;
 use crate::lying::all_keep;
-use crate::pool::{Pool, find_row};
+use crate::pool::Pool;
 use crate::view::row_on;
 use ilk_base::Memory;
 use number_hash::NumberMap;
 use std::alloc::Global;
+use std::collections::hash_map::Entry;
 
 // The value on these nodes, if it is noted.
 fn find_stand(notes: &NumberMap<Stand, usize>, stand: Stand) -> Option<usize>
@@ -42,11 +43,13 @@ impl Pool {
         let nodes = self.keeps[stand.keep].numbers();
         let value = &self.values[stand.id];
         let row = row_on(alloc, self.view, value, nodes)?;
-        match find_row(&self.index, &row) {
-            Some(place) => Ok(place),
-            None => {
+        match self.index.entry(row)? {
+            Entry::Occupied(entry) => Ok(*entry.get()),
+            Entry::Vacant(entry) => {
                 let placed = value.on_nodes(alloc, nodes)?;
-                let place = self.put(row, placed)?;
+                let place = self.values.len();
+                self.values.push(placed)?;
+                entry.insert(place);
                 Ok(place)
             }
         }

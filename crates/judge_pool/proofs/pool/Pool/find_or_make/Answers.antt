@@ -1,11 +1,13 @@
-use Rattle.std.proofs.Common.{◌≡◌, ◌⊎◌, ◌∙◌, ℕ, ◌↔◌, List, [], Some, get_or, slice_get, refl, sym, subst}
+use Rattle.std.proofs.Common.{◌≡◌, ◌⊎◌, ◌∙◌, ℕ, ◌↔◌, List, [], Some, None, get_or, slice_get}
+use Rattle.std.proofs.Common.{refl, sym, ap, subst, rules}
 use Rattle.std.specs.Prelude.{Contains}
+use Rattle.std.specs.HashMap.Entry.{entry_value}
 use Rattle.std.proofs.lemmas.Option.{slice_get_read, slice_get-get_or}
 use Rattle.contraction.specs.Answers.{Answers, Keeps}
-use Rattle.judge_pool.specs.Seen.{ComposesIn}
-use Rattle.judge_pool.specs.Pooling.{HasSame, Selects}
-use Rattle.judge_pool.proofs.BatchLemmas.{empty_other}
-use Rattle.judge_pool.proofs.PoolLemmas.{made_same, rows_tell}
+use Rattle.judge_pool.specs.Seen.{seen_row}
+use Rattle.judge_pool.specs.Pooling.{HasSame, Selects, IsRowOfBoth, number_in}
+use Rattle.judge_pool.proofs.BatchLemmas.{index_other, value_grew, value_same, made_new}
+use Rattle.judge_pool.proofs.PoolLemmas.{made_same, has_found}
 use Rattle.judge_pool.proofs.pool.Pool.find_or_make.Goals as goal
 
 pub adds_nothing-requires-clause-first : goal.adds_nothing-requires-clause-first
@@ -147,10 +149,14 @@ composed_row-requires-clause-nodes c =
 pub value_of-requires : goal.value_of-requires
 value_of-requires c =
     let b = c.in_ok-row.ensures in
-    record { value = b.value; contraction = b.contraction; row = b.row }
+    let key : c.key.result.now ≡ c.in_ok-row.row = search rules in
+    record { value = b.value; contraction = b.contraction; row = key ∙ b.row }
 
-pub returns-in-Some-clause-made : goal.returns-in-Some-clause-made
-returns-in-Some-clause-made c =
+pub returns-in-Occupied-clause-grew : goal.returns-in-Occupied-clause-grew
+returns-in-Occupied-clause-grew c = index_other c.args.self.now _ refl c.requires.pool (search rules)
+
+pub returns-in-Occupied-clause-made : goal.returns-in-Occupied-clause-made
+returns-in-Occupied-clause-made c =
     let p = c.args.self.now in
     let k = c.args.key in
     let s = c.args.selection.now in
@@ -165,15 +171,11 @@ returns-in-Some-clause-made c =
     slice_get-get_or p.keeps.items k.keep [] c.requires.fits.keep in
     let sel : Selects x y nodes s = c.requires.selection x y nodes first second asked in
     let b = c.in_ok-row.ensures in
-    let h = c.in-Some.ensures p.view p.values.items c.requires.pool.index in
-    let well = c.requires.pool.well c.in-Some.place h.0 h.1 in
-    let same : HasSame p b.value c.in-Some.place = record {
-      same = h.0;
-      listed = h.1;
-      is_same = rows_tell p.view b.value h.0 b.contraction well (sym b.row ∙ h.2);
-      well = b.contraction;
-      well_same = well;
-    } in
+    let t = c.get.result.now in
+    let at : number_in p.index c.in_ok-row.row ≡ Some t =
+    sym c.in_ok-entry.ensures.value ∙ (ap entry_value c.in-Occupied.is ∙ c.get.ensures) in
+    let same : HasSame p b.value t =
+    has_found p p b.value t refl c.requires.pool b.contraction (subst (λ r. number_in p.index r ≡ Some t) b.row at) in
     record {
       x = x;
       y = y;
@@ -182,24 +184,23 @@ returns-in-Some-clause-made c =
       second = second;
       nodes = asked;
       made =
-          made_same p x y b.value nodes c.in-Some.place same b.composes
+          made_same p x y b.value nodes t same b.composes
           (subst (λ l. (n : ℕ) → Keeps b.value.kept n ↔ Contains l n) sel.asked b.kept);
     }
 
-pub put-requires-clause-pool : goal.put-requires-clause-pool
-put-requires-clause-pool c = (empty_other c.args.self.now c.value_of.new.held c.requires.pool).is_pool
+pub returns-in_ok-push-in-Vacant-clause-grew : goal.returns-in_ok-push-in-Vacant-clause-grew
+returns-in_ok-push-in-Vacant-clause-grew c =
+    let p = c.args.self.now in
+    let value : Answers = c.in_ok-value-in-Vacant.value in
+    let told = c.in_ok-value-in-Vacant.ensures in
+    let key : c.key.result.now ≡ c.in_ok-row.row = search rules in
+    let row : c.in_ok-row.row ≡ seen_row p.view value = sym key ∙ told.row in
+    let none : number_in p.index c.in_ok-row.row ≡ None = search rules in
+    value_grew p _ value refl c.in_ok-push-in-Vacant.ensures.items told.contraction c.requires.pool
+    (subst (λ r. number_in p.index r ≡ None) row none) (search (rules, row))
 
-pub put-requires-clause-row : goal.put-requires-clause-row
-put-requires-clause-row c = c.in_ok-value-in-None.ensures.row
-
-pub put-requires-clause-well : goal.put-requires-clause-well
-put-requires-clause-well c = c.in_ok-value-in-None.ensures.contraction
-
-pub put-requires-clause-new : goal.put-requires-clause-new
-put-requires-clause-new c = c.in-None.ensures c.args.self.now.view c.args.self.now.values.items c.requires.pool.index
-
-pub returns-in_ok-place-in-None-clause-made : goal.returns-in_ok-place-in-None-clause-made
-returns-in_ok-place-in-None-clause-made c =
+pub returns-in_ok-push-in-Vacant-clause-made : goal.returns-in_ok-push-in-Vacant-clause-made
+returns-in_ok-push-in-Vacant-clause-made c =
     let p = c.args.self.now in
     let k = c.args.key in
     let s = c.args.selection.now in
@@ -213,20 +214,14 @@ returns-in_ok-place-in-None-clause-made c =
     let asked : slice_get p.keeps.items k.keep ≡ Some nodes =
     slice_get-get_or p.keeps.items k.keep [] c.requires.fits.keep in
     let sel : Selects x y nodes s = c.requires.selection x y nodes first second asked in
-    let q = c.put.new.self in
-    let g = c.in_ok-place-in-None.ensures.grew in
-    let value : Answers = c.in_ok-value-in-None.value in
-    let told = c.in_ok-value-in-None.ensures in
     let b = c.in_ok-row.ensures in
-    record {
-      x = x;
-      y = y;
-      keep = nodes;
-      first = g.values k.first x first;
-      second = g.values k.second y second;
-      nodes = g.keeps k.keep nodes asked;
-      made =
-          made_same q x y value nodes c.in_ok-place-in-None.place c.in_ok-place-in-None.ensures.same
-          (subst (λ w. ComposesIn w x y value) (sym g.view) (told.composes s.nodes x y b))
-          (subst (λ l. (n : ℕ) → Keeps value.kept n ↔ Contains l n) sel.asked (told.kept s.nodes x y b));
-    }
+    let value : Answers = c.in_ok-value-in-Vacant.value in
+    let told = c.in_ok-value-in-Vacant.ensures in
+    let key : c.key.result.now ≡ c.in_ok-row.row = search rules in
+    let both : IsRowOfBoth p.view s.nodes x y c.key.result.now =
+    subst (λ r. IsRowOfBoth p.view s.nodes x y r) (sym key) b in
+    let t = c.len-place.result in
+    let g = returns-in_ok-push-in-Vacant-clause-grew c in
+    let has = value_same p _ value refl c.in_ok-push-in-Vacant.ensures.items told.contraction t (search rules) in
+    made_new p _ k t x y value nodes g has first second asked (told.composes s.nodes x y both)
+    (subst (λ l. (n : ℕ) → Keeps value.kept n ↔ Contains l n) sel.asked (told.kept s.nodes x y both))

@@ -1,16 +1,33 @@
+use Rattle.std.proofs.Common.{◌≡◌, Some, None, rules, refl, sym, ap, ◌∙◌, subst}
+use Rattle.std.specs.HashMap.Entry.{entry_value}
+use Rattle.contraction.specs.Answers.{Answers}
+use Rattle.judge_pool.specs.Pooling.{number_in}
+use Rattle.judge_pool.proofs.PoolLemmas.{has_found}
+use Rattle.judge_pool.proofs.BatchLemmas.{index_other, value_grew, value_same}
 use Rattle.judge_pool.proofs.pool.Pool.intern.Goals as goal
 
-pub returns-in-Some-clause-same : goal.returns-in-Some-clause-same
-returns-in-Some-clause-same c =
-    let p = c.args.self.now in
-    let h = c.in-Some.ensures p.view p.values.items c.requires.index in
-    record {
-      same = h.0;
-      listed = h.1;
-      is_same = (c.in_ok-row.ensures.tells h.0 (c.requires.well c.in-Some.place h.0 h.1)).0 h.2;
-      well = c.row_in.ensures.answers;
-      well_same = c.requires.well c.in-Some.place h.0 h.1;
-    }
+pub returns-in-Occupied-clause-grew : goal.returns-in-Occupied-clause-grew
+returns-in-Occupied-clause-grew c = index_other c.args.self.now _ refl c.requires (search rules)
 
-pub put-requires-clause-new : goal.put-requires-clause-new
-put-requires-clause-new c = c.in-None.ensures c.args.self.now.view c.args.self.now.values.items c.requires.index
+pub returns-in-Occupied-clause-same : goal.returns-in-Occupied-clause-same
+returns-in-Occupied-clause-same c =
+    let p = c.args.self.now in
+    let row = c.in_ok-row.row in
+    let at : number_in p.index row ≡ Some c.get.result.now =
+    sym c.in_ok-entry.ensures.value ∙ (ap entry_value c.in-Occupied.is ∙ c.get.ensures) in
+    has_found p _ c.args.value c.get.result.now refl c.requires c.row_in.ensures.answers
+    (subst (λ r. number_in p.index r ≡ Some c.get.result.now) c.in_ok-row.ensures.row at)
+
+pub returns-in_ok-push-in-Vacant-clause-grew : goal.returns-in_ok-push-in-Vacant-clause-grew
+returns-in_ok-push-in-Vacant-clause-grew c =
+    let p = c.args.self.now in
+    let x : Answers = c.args.value in
+    let row = c.in_ok-row.row in
+    let none : number_in p.index row ≡ None = search rules in
+    value_grew p _ x refl c.in_ok-push-in-Vacant.ensures.items c.row_in.ensures.answers c.requires
+    (search (rules, none)) (search rules)
+
+pub returns-in_ok-push-in-Vacant-clause-same : goal.returns-in_ok-push-in-Vacant-clause-same
+returns-in_ok-push-in-Vacant-clause-same c =
+    value_same c.args.self.now _ c.args.value refl c.in_ok-push-in-Vacant.ensures.items c.row_in.ensures.answers
+    c.len-place.result (search rules)
