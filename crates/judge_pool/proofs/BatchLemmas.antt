@@ -1,11 +1,9 @@
 -- Batches of a pool, noted by where they begin.
-use Rattle.std.proofs.Common.{◌≡◌, ℕ, ◌+◌, Bool, true, false, cond, List, [], ◌∷◌, ◌++◌, length, get_or, slice_get}
+use Rattle.std.proofs.Common.{◌≡◌, ℕ, ◌+◌, List, [], ◌∷◌, ◌++◌, length, get_or, slice_get}
 use Rattle.std.proofs.Common.{take, drop, Box, Vec}
 use Rattle.std.proofs.Common.{◌-◌, ◌<◌, ◌≤◌, Option, Some, None, refl, sym, ap, ◌∙◌, subst, inl, inr, arith}
-use Rattle.std.specs.Prelude.{nat_eq, ◌&&◌}
 use Rattle.std.specs.declared.alloc.Global.{Global}
-use Rattle.std.specs.HashMap.{HashMap, get, Updates}
-use Rattle.std.proofs.lemmas.Bool.Decides.{Decides-eqb}
+use Rattle.std.specs.HashMap.{Updates}
 use Rattle.std.proofs.lemmas.List.{length-append, get_or-append-add, length_push, length-drop, length-take-le}
 use Rattle.std.proofs.lemmas.List.{get_or-take, get_or-drop, same_lists}
 use Rattle.std.proofs.lemmas.Option.{slice_get_within, slice_get-get_or, get_or_from_slice_get, same_Some}
@@ -13,8 +11,9 @@ use Rattle.station_graph.proofs.PathLemmas.{slice_get-push}
 use Rattle.contraction.specs.Selecting.{Selected}
 use Rattle.judge_pool.specs.declared.batch.Made.{Made}
 use Rattle.judge_pool.specs.declared.batch.Batch.{Batch}
+use Rattle.judge_pool.specs.declared.notes.Note.{Note}
 use Rattle.judge_pool.specs.declared.pool.Pool.{Pool}
-use Rattle.judge_pool.specs.Pooling.{WasMade, MakesEach, HasBatch, NotesAreRight, composition, same_batch}
+use Rattle.judge_pool.specs.Pooling.{WasMade, MakesEach, HasBatch, NotesAreRight, composition, noted}
 use Rattle.judge_pool.specs.Numbered.{letter_lists}
 use Rattle.judge_pool.specs.Pooling.{Extends, IsPool, GrewTo, CanCompose}
 use Rattle.judge_pool.specs.Layering.{no_answers}
@@ -70,9 +69,9 @@ batch_stays p q g more b start h = record {
   at = λ c t at. more (start + c) t (h.at c t at);
 }
 
-pub notes_stay : {S : Type 0} (p q : Pool) → Grows p q → Extends p.made.items q.made.items → (m : HashMap Batch ℕ S) →
-    NotesAreRight p m → NotesAreRight q m
-notes_stay p q g more m right b start e = batch_stays p q g more b start (right b start e)
+pub notes_stay : (p q : Pool) → Grows p q → Extends p.made.items q.made.items → (notes : List Note) →
+    NotesAreRight p notes → NotesAreRight q notes
+notes_stay p q g more notes right i n at = batch_stays p q g more (noted n) n.start (right i n at)
 
 pub can_more : (p q : Pool) (k : Made) → GrewTo p q → CanCompose p k → CanCompose q k
 can_more p q k g h = record {
@@ -96,7 +95,7 @@ selects_other p s h =
       index = h.index;
       apart = h.apart;
       well = h.well;
-      notes = notes_stay p q g (λ i t at. at) p.notes h.notes;
+      notes = notes_stay p q g (λ i t at. at) p.notes.list.items h.notes;
       layers = layers_stay p q g p.layers.items h.layers;
       stands = stands_stay p q g p.stands h.stands;
       list_stands = list_stands_stay p q g p.list_stands h.list_stands;
@@ -117,7 +116,7 @@ empty_other p b h =
       index = h.index;
       apart = h.apart;
       well = h.well;
-      notes = notes_stay p q g (λ i t at. at) p.notes h.notes;
+      notes = notes_stay p q g (λ i t at. at) p.notes.list.items h.notes;
       layers = layers_stay p q g p.layers.items h.layers;
       stands = stands_stay p q g p.stands h.stands;
       list_stands = list_stands_stay p q g p.list_stands h.list_stands;
@@ -139,7 +138,7 @@ index_other p r is h same =
       index = index_same p.view p.values.items p.index r.index h.index same;
       apart = h.apart;
       well = h.well;
-      notes = notes_stay p q g (λ i t at. at) p.notes h.notes;
+      notes = notes_stay p q g (λ i t at. at) p.notes.list.items h.notes;
       layers = layers_stay p q g p.layers.items h.layers;
       stands = stands_stay p q g p.stands h.stands;
       list_stands = list_stands_stay p q g p.list_stands h.list_stands;
@@ -160,7 +159,7 @@ seats_other p s h =
       index = h.index;
       apart = h.apart;
       well = h.well;
-      notes = notes_stay p q g (λ i t at. at) p.notes h.notes;
+      notes = notes_stay p q g (λ i t at. at) p.notes.list.items h.notes;
       layers = layers_stay p q g p.layers.items h.layers;
       stands = stands_stay p q g p.stands h.stands;
       list_stands = list_stands_stay p q g p.list_stands h.list_stands;
@@ -181,7 +180,7 @@ places_other p r h =
       index = h.index;
       apart = h.apart;
       well = h.well;
-      notes = notes_stay p q g (λ i t at. at) p.notes h.notes;
+      notes = notes_stay p q g (λ i t at. at) p.notes.list.items h.notes;
       layers = layers_stay p q g p.layers.items h.layers;
       stands = stands_stay p q g p.stands h.stands;
       list_stands = list_stands_stay p q g p.list_stands h.list_stands;
@@ -202,7 +201,7 @@ stands_other p r h right =
       index = h.index;
       apart = h.apart;
       well = h.well;
-      notes = notes_stay p q g (λ i t at. at) p.notes h.notes;
+      notes = notes_stay p q g (λ i t at. at) p.notes.list.items h.notes;
       layers = layers_stay p q g p.layers.items h.layers;
       stands = stands_stay p q g r.stands right;
       list_stands = list_stands_stay p q g p.list_stands h.list_stands;
@@ -224,7 +223,7 @@ list_stands_other p r h right =
       index = h.index;
       apart = h.apart;
       well = h.well;
-      notes = notes_stay p q g (λ i t at. at) p.notes h.notes;
+      notes = notes_stay p q g (λ i t at. at) p.notes.list.items h.notes;
       layers = layers_stay p q g p.layers.items h.layers;
       stands = stands_stay p q g p.stands h.stands;
       list_stands = list_stands_stay p q g r.list_stands right;
@@ -246,7 +245,7 @@ numbers_other p r h right =
       index = h.index;
       apart = h.apart;
       well = h.well;
-      notes = notes_stay p q g (λ i t at. at) p.notes h.notes;
+      notes = notes_stay p q g (λ i t at. at) p.notes.list.items h.notes;
       layers = layers_stay p q g p.layers.items h.layers;
       stands = stands_stay p q g p.stands h.stands;
       list_stands = list_stands_stay p q g p.list_stands h.list_stands;
@@ -280,7 +279,7 @@ module _ (p q : Pool) (x : Answers)
             (λ i y at same. h.index.missing (seen_row p.view x) none i y at
             (rows_told p.view x y well_x (h.well i y at) same)));
         well = subst (λ vs. AreWell vs) (sym items) (well_more p.view p.values.items x h.well well_x);
-        notes = notes_stay p r g (λ i t at. at) p.notes h.notes;
+        notes = notes_stay p r g (λ i t at. at) p.notes.list.items h.notes;
         layers = layers_stay p r g p.layers.items h.layers;
         stands = stands_stay p r g p.stands h.stands;
         list_stands = list_stands_stay p r g p.list_stands h.list_stands;
@@ -315,42 +314,15 @@ made_new p q k t x y value nodes g has first second asked composes kept = record
 
 -- ---- a note more
 
-and_three : (p q r : Bool) → (p && (q && r)) ≡ true → (p ≡ true) × (q ≡ true) × (r ≡ true)
-and_three true true true e = (refl, refl, refl)
-and_three true true false e = cc
-and_three true false true e = cc
-and_three true false false e = cc
-and_three false true true e = cc
-and_three false true false e = cc
-and_three false false true e = cc
-and_three false false false e = cc
+pub notes_more : (p : Pool) (old : List Note) (note : Note) → NotesAreRight p old → HasBatch p (noted note) note.start →
+    NotesAreRight p (old ++ note ∷ [])
+notes_more p old note right has i n at = elim (slice_get-push old note n i at) [
+  | inl front ↦ right i n front
+  | inr last ↦ subst (λ (m : Note). HasBatch p (noted m) m.start) last.1 has
+]
 
-abbrev batch_of : ℕ → ℕ → ℕ → Batch
-batch_of first letters keep = record { first = first; letters = letters; keep = keep }
-
-same_is : (b d : Batch) → same_batch b d ≡ true → b ≡ d
-same_is b d same =
-    let e = and_three (nat_eq b.first d.first) (nat_eq b.letters d.letters) (nat_eq b.keep d.keep) same in
-    let e1 : b.first ≡ d.first = (Decides-eqb b.first d.first).0 e.0 in
-    let e2 : b.letters ≡ d.letters = (Decides-eqb b.letters d.letters).0 e.1 in
-    let e3 : b.keep ≡ d.keep = (Decides-eqb b.keep d.keep).0 e.2 in
-    ap (λ n. batch_of n b.letters b.keep) e1
-    ∙ (ap (λ n. batch_of d.first n b.keep) e2 ∙ ap (λ n. batch_of d.first d.letters n) e3)
-
-pub notes_more : {S : Type 0} (p : Pool) (old new : HashMap Batch ℕ S) (batch : Batch) (place : ℕ) →
-    NotesAreRight p old → HasBatch p batch place → Updates same_batch old new batch (Some place) → NotesAreRight p new
-notes_more p old new batch place right has updates b start e =
-    by_key (same_batch batch b) refl (sym (updates.0 b) ∙ e)
-  where
-    by_key : (same : Bool) → same_batch batch b ≡ same → cond same (Some place) (get same_batch old b) ≡ Some start →
-        HasBatch p b start
-    by_key true same is =
-        subst (λ d. HasBatch p d start) (same_is batch b same)
-        (subst (λ n. HasBatch p batch n) (same_Some place start is) has)
-    by_key false same is = right b start is
-
-pub notes_none : {S : Type 0} (p : Pool) (m : HashMap Batch ℕ S) → m.entries ≡ [] → NotesAreRight p m
-notes_none p m em b start e = absurd (let h = rw em at e in cc)
+pub notes_none : (p : Pool) (notes : List Note) → notes ≡ [] → NotesAreRight p notes
+notes_none p notes e i n at = absurd (let h = rw e at at in cc)
 
 -- ---- letter by letter
 

@@ -1,6 +1,6 @@
 -- Values of one view, found again by their rows, and the batches that were composed of them.
 use Rattle.std.specs.Prelude.{◌≡◌, ℕ, ◌↔◌, ◌⊎◌, ◌+◌, ◌*◌, ◌/◌, ◌%◌, ◌<◌, ◌≤◌, List, length, slice_get, Option}
-use Rattle.std.specs.Prelude.{Some, None, Contains, nat_eq, ◌&&◌, Bool, slice_index}
+use Rattle.std.specs.Prelude.{Some, None, Contains, Bool, slice_index}
 use Rattle.std.specs.Str.{bytes_eq}
 use Rattle.std.specs.HashMap.{HashMap, get}
 use Rattle.station_graph.specs.Diagram.{Diagram}
@@ -11,6 +11,7 @@ use Rattle.contraction.specs.Stands.{Among}
 use Rattle.judge_pool.specs.declared.view.View.{View}
 use Rattle.judge_pool.specs.declared.batch.Made.{Made}
 use Rattle.judge_pool.specs.declared.batch.Batch.{Batch}
+use Rattle.judge_pool.specs.declared.notes.Note.{Note}
 use Rattle.judge_pool.specs.declared.known.LayerKey.{LayerKey}
 use Rattle.judge_pool.specs.declared.known.KnownLayer.{KnownLayer}
 use Rattle.judge_pool.specs.declared.pool.Pool.{Pool}
@@ -70,13 +71,13 @@ pub record HasBatch (p : Pool) (b : Batch) (start : ℕ) : Type 0 where
   pub made : MakesEach p b letters ids
   pub at : (c t : ℕ) → slice_get ids c ≡ Some t → slice_get p.made.items (start + c) ≡ Some t
 
--- Both are of the same value, the same letters and the same nodes.
-abbrev pub same_batch : Batch → Batch → Bool
-same_batch a b = nat_eq a.first b.first && (nat_eq a.letters b.letters && nat_eq a.keep b.keep)
+-- The batch of a note.
+abbrev pub noted : Note → Batch
+noted n = record { first = n.first; letters = n.letters; keep = n.keep }
 
 -- Each batch that is noted begins where it is noted.
-abbrev pub NotesAreRight : {S : Type 0} → Pool → HashMap Batch ℕ S → Type 0
-NotesAreRight p m = (b : Batch) (start : ℕ) → get same_batch m b ≡ Some start → HasBatch p b start
+abbrev pub NotesAreRight : Pool → List Note → Type 0
+NotesAreRight p notes = (i : ℕ) (n : Note) → slice_get notes i ≡ Some n → HasBatch p (noted n) n.start
 
 -- No number stands twice.
 abbrev pub NoneTwice : List ℕ → Type 0
@@ -141,7 +142,7 @@ pub record IsPool (p : Pool) : Type 0 where
   pub index : IsRowIndex p.view p.values.items p.index
   pub apart : AreApartIn p.view p.values.items
   pub well : AreWell p.values.items
-  pub notes : NotesAreRight p p.notes
+  pub notes : NotesAreRight p p.notes.list.items
   pub layers : AreKnown p p.layers.items
   pub stands : StandsAreRight p p.stands
   pub list_stands : ListStandsAreRight p p.list_stands

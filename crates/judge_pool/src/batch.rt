@@ -9,7 +9,7 @@ pub(crate) struct Made {
 }
 
 // The compositions of one value with each letter of a list, on the same nodes.
-#[derive(Clone, Copy, PartialEq, Eq, Hash)]
+#[derive(Clone, Copy)]
 pub(crate) struct Batch {
     pub(crate) first: usize,
     pub(crate) letters: usize,

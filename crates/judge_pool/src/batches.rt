@@ -14,32 +14,12 @@ use crate::pool::Pool;
 use crate::view::View;
 use contraction::{Contraction, EmptyViews, Selection};
 use ilk_base::{Memory, Text};
-use number_hash::NumberMap;
 use station_graph::NodeList;
 use std::alloc::Global;
 use std::collections::hash_map::Entry;
 
 // So many compositions are held in batches, and not many more.
 const MANY: usize = 2_000_000;
-
-// The selection of these of the nodes that two values keep: the one at hand where it is that, else a new one.
-fn selection_for(
-    alloc: Global,
-    held: Option<Box<Selection>>,
-    x: &Contraction,
-    y: &Contraction,
-    keep: &NodeList,
-) -> Result<Box<Selection>, Memory>
-    ensures { IfOk result (λ s. Selects x.now y.now keep.now s.value) }
-{
-    if let Some(selection) = held {
-        if selection.is_of(x.nodes(), y.nodes(), keep) {
-            return Ok(selection);
-        }
-    }
-    let selection = Selection::of(alloc, x.nodes(), y.nodes(), keep)?;
-    Ok(Box::new(alloc, selection)?)
-}
 
 // The row of the composition of two values in this view, on a selection of their nodes.
 fn composed_row(
@@ -90,25 +70,6 @@ fn value_of(
     }
 }
 
-// Where the batch begins, if it is noted.
-fn find_batch(notes: &NumberMap<Batch, usize>, batch: Batch) -> Option<usize>
-    ensures { (p : AnyPool) → NotesAreRight p notes.now → IfSome result (HasBatch p batch) }
-{
-    match notes.get(&batch) {
-        Some(start) => Some(*start),
-        None => None,
-    }
-}
-
-// Notes where the batch begins.
-fn note_batch(notes: &mut NumberMap<Batch, usize>, batch: Batch, start: usize) -> Result<(), Memory>
-    ensures { OnOk result ((p : AnyPool) → NotesAreRight p notes.old → HasBatch p batch start
-        → NotesAreRight p notes.new) }
-{
-    notes.insert(batch, start)?;
-    Ok(())
-}
-
 impl Pool {
     // Where the batch of the value with these letters, which have the number, begins. It is made where it is not noted,
     // in a list that serves each batch.
@@ -134,12 +95,12 @@ impl Pool {
             letters: number,
             keep,
         };
-        if let Some(start) = find_batch(&self.notes, batch) {
+        if let Some(start) = self.notes.find(batch) {
             return Ok(start);
         }
         self.forget_batches();
         let start = self.make_batch(alloc, ids, batch, letters)?;
-        note_batch(&mut self.notes, batch, start)?;
+        self.notes.note(batch, start)?;
         Ok(start)
     }
 
@@ -212,7 +173,8 @@ impl Pool {
         let held = self.selection.take();
         let x = &self.values[key.first];
         let y = &self.values[key.second];
-        let selection = selection_for(alloc, held, x, y, &self.keeps[key.keep])?;
+        let nodes = &self.keeps[key.keep];
+        let selection = Selection::held_or_new(alloc, held, x.nodes(), y.nodes(), nodes)?;
         let place = self.find_or_make(alloc, key, &selection)?;
         self.selection = Some(selection);
         Ok(place)

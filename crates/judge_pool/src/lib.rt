@@ -12,6 +12,7 @@ mod limits;
 mod list_stands;
 mod lists;
 mod lying;
+mod notes;
 mod past;
 mod pool;
 mod seats;

@@ -3,8 +3,9 @@ ghost use Rattle.std.specs.Prelude.{◌≡◌, ℕ, ◌↔◌, ◌++◌, [], ◌
 ghost use Rattle.contraction.specs.Answers.{Keeps};
 ghost use Rattle.judge_pool.specs.Pooling.{IsPool, GrewTo, HasSame, HasCopy};
 
-use crate::batch::{Batch, ListStand, Stand};
+use crate::batch::{ListStand, Stand};
 use crate::known::{KnownLayer, LayerKey};
+use crate::notes::BatchNotes;
 use crate::view::{View, row_in};
 use contraction::{Contraction, EmptyViews, Selection};
 use ilk_base::{Memory, Text};
@@ -34,7 +35,7 @@ pub struct Pool {
     pub(crate) layers: Vec<KnownLayer>,
     pub(crate) layer_places: NumberMap<LayerKey, usize>,
     pub(crate) made: Vec<usize>,
-    pub(crate) notes: NumberMap<Batch, usize>,
+    pub(crate) notes: BatchNotes,
     pub(crate) selection: Option<Box<Selection>>,
     pub(crate) empty_views: Option<EmptyViews>,
     pub(crate) seats: Option<Vec<usize>>,
@@ -60,7 +61,7 @@ impl Pool {
             layers: Vec::new(alloc),
             layer_places: HashMap::with_hasher(alloc, NumberHash::new()),
             made: Vec::new(alloc),
-            notes: HashMap::with_hasher(alloc, NumberHash::new()),
+            notes: BatchNotes::new(alloc),
             selection: None,
             empty_views: None,
             seats: None,

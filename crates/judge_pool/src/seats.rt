@@ -14,7 +14,7 @@ fn stands_at(list: &[usize], place: usize, id: usize) -> bool
 }
 
 // Makes sure that the number has a seat. There is no room for the seat of the last number of all.
-fn make_seat(seats: &mut Vec<usize>, id: usize) -> Result<(), Memory>
+pub(crate) fn make_seat(seats: &mut Vec<usize>, id: usize) -> Result<(), Memory>
     ensures stays { OnOk result (Extends seats.old.items seats.new.items) }
     ensures seat { OnOk result (id < length seats.new.items) }
 {

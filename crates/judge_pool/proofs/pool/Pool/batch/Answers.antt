@@ -24,7 +24,7 @@ returns-clause-grew c =
     let held = c.forget_batches.new.self in
     let q = c.make_batch.new.self in
     let h = c.in_ok-start.ensures.grew in
-    let r : Pool = record q { notes = c.note_batch.new.notes } in
+    let r : Pool = record q { notes = c.note.new.self } in
     let g : Grows q r = record {
       view = refl;
       keeps = λ k ns at. at;
@@ -36,8 +36,8 @@ returns-clause-grew c =
       apart = h.is_pool.apart;
       well = h.is_pool.well;
       notes =
-          notes_stay q r g (λ i t at. at) c.note_batch.new.notes
-          (c.in_ok-note_batch.ensures q h.is_pool.notes c.in_ok-start.ensures.batch);
+          notes_stay q r g (λ i t at. at) c.note.new.self.list.items
+          (c.in_ok-note.ensures q h.is_pool.notes c.in_ok-start.ensures.batch);
       layers = layers_stay q r g q.layers.items h.is_pool.layers;
       stands = stands_stay q r g q.stands h.is_pool.stands;
       list_stands = list_stands_stay q r g q.list_stands h.is_pool.list_stands;
@@ -47,7 +47,7 @@ returns-clause-grew c =
 pub returns-clause-batch : goal.returns-clause-batch
 returns-clause-batch c =
     let q = c.make_batch.new.self in
-    let r : Pool = record q { notes = c.note_batch.new.notes } in
+    let r : Pool = record q { notes = c.note.new.self } in
     batch_stays q r (record {
       view = refl;
       keeps = λ k ns at. at;

@@ -17,7 +17,7 @@ find_or_make-requires-clause-selection c x y nodes at_x at_y at_nodes =
     let s = c.deref.result.now in
     let a : Answers = c.index-x.result.now in
     let b : Answers = c.index-y.result.now in
-    let list : List ℕ = c.index.result.now in
+    let list : List ℕ = c.index-nodes.result.now in
     let is_x : a ≡ x =
     same_Some a x (sym (slice_get_read p.values.items _ k.first a refl c.requires.fits.first c.index-x.ensures) ∙ at_x)
     in
@@ -26,10 +26,15 @@ find_or_make-requires-clause-selection c x y nodes at_x at_y at_nodes =
     (sym (slice_get_read p.values.items _ k.second b refl c.requires.fits.second c.index-y.ensures) ∙ at_y) in
     let is_list : list ≡ nodes =
     same_Some list nodes
-    (sym (slice_get_read p.keeps.items _ k.keep list refl c.requires.fits.keep c.index.ensures) ∙ at_nodes) in
+    (sym (slice_get_read p.keeps.items _ k.keep list refl c.requires.fits.keep c.index-nodes.ensures) ∙ at_nodes) in
+    let selects : Selects a b list c.in_ok-selection.selection.value = record {
+      first = c.in_ok-selection.ensures.first ∙ c.nodes.ensures.nodes;
+      second = c.in_ok-selection.ensures.second ∙ c.nodes-2.ensures.nodes;
+      asked = c.in_ok-selection.ensures.nodes;
+    } in
     subst (λ z. Selects z y nodes s) is_x
     (subst (λ z. Selects a z nodes s) is_y (subst (λ l. Selects a b l s) is_list
-    (subst (λ t. Selects a b list t) (sym c.deref.ensures) c.in_ok-selection.ensures)))
+    (subst (λ t. Selects a b list t) (sym c.deref.ensures) selects)))
 
 pub returns-clause-grew : goal.returns-clause-grew
 returns-clause-grew c =

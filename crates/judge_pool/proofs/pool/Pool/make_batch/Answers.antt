@@ -30,7 +30,7 @@ returns-clause-grew c =
       well = h.is_pool.well;
       notes =
           notes_stay q r g
-          (subst (λ xs. Extends q.made.items xs) (sym items) (λ i t at. get_front q.made.items ids i t at)) q.notes
+          (subst (λ xs. Extends q.made.items xs) (sym items) (λ i t at. get_front q.made.items ids i t at)) q.notes.list.items
           h.is_pool.notes;
       layers = layers_stay q r g q.layers.items h.is_pool.layers;
       stands = stands_stay q r g q.stands h.is_pool.stands;

@@ -52,7 +52,7 @@ returns-clause-grew c =
       index = h.is_pool.index;
       apart = h.is_pool.apart;
       well = h.is_pool.well;
-      notes = notes_stay q r g (λ i t at. at) q.notes h.is_pool.notes;
+      notes = notes_stay q r g (λ i t at. at) q.notes.list.items h.is_pool.notes;
       layers =
           subst (AreKnown r) (sym c.in_ok-push.ensures.items)
           (layers_more r q.layers.items new (layers_stay q r g q.layers.items h.is_pool.layers)
