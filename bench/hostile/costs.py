@@ -20,11 +20,14 @@ status is 1 where one is over.
   devices at each node
 - many positions: rings of up to 64 bays and 512 switches, whose walks are narrow, so that each bay is tested in hundreds
   of positions, in each of which hundreds of switches may be moved
+- equations: a block of twelve switches for each operation of up to 63 feeders, so that each has 4,096 positions, with
+  switches near its own, far from it, the same for all, or any; and of a grid
 - floods: a million frames, ticks, commands, readings or changes of the record to one node; 3,000 lines to a stored one,
   whose changes go to the disk; a log of 20,000 records in which 64 bays send one another messages
 """
 import pathlib
 import random
+import re
 import resource
 import subprocess
 import sys
@@ -273,6 +276,46 @@ def many_positions():
             yield Case(f"compare: {what} of {lines} lines with itself", ["compare", "a", "a"], files, b"", 0)
 
 
+# ---- equations
+
+def block(operation, path, names, between, position):
+    """A block that names twelve switches other than its own, each in one position, in one alternative or in twelve."""
+    others = [name for name in dict.fromkeys(names) if name != path][:12]
+    return f"{operation} {path}\n" + between.join(f"when {position} {name}\n" for name in others) + "end\n"
+
+
+def blocks_of(names, switches, between, position):
+    """A block for each operation of these switches."""
+    return "".join(block(operation, path, switches(place), between, position) for place, path in enumerate(names) for operation in ("open", "close"))
+
+
+def wide_blocks():
+    for part in PARTS:
+        text, words = common.double_busbar(63 // part)
+        names = list(words)
+        count = len(names)
+        chance = random.Random(1901)
+        named = {
+            "near": lambda place: [names[(place + step) % count] for step in range(-6, 8)],
+            "far": lambda place: [names[(7 * place + 19 * step) % count] for step in range(14)],
+            "the same": lambda place: names[3:17],
+            "any": lambda place: chance.sample(names, 14),
+        }
+        for what, switches in named.items():
+            for how, between in (("together", ""), ("one by one", "or\n")):
+                for position in ("off", "on"):
+                    files = {"a": text.encode(), "b": blocks_of(names, switches, between, position).encode()}
+                    yield Case(f"audit: {2 * count} blocks of twelve switches {what}, {position} {how}", ["audit", "a", "b"], files, b"", 1)
+    for part in PARTS:
+        text = grid(3, 8 // part + 1)
+        bays = re.findall(r'<Bay name="([^"]*)">(.*?)</Bay>', text)
+        names = [f"S/V/{bay}/{name}" for bay, body in bays for name in re.findall(r'<ConductingEquipment name="([^"]*)"', body)]
+        switches = lambda place: [names[(5 * place + 11 * step) % len(names)] for step in range(len(names))]
+        for how, between in (("together", ""), ("one by one", "or\n")):
+            files = {"a": text.encode(), "b": blocks_of(names, switches, between, "off").encode()}
+            yield Case(f"audit: {2 * len(names)} such blocks of a grid, {how}", ["audit", "a", "b"], files, b"", 1, by_edges=True)
+
+
 # ---- floods
 
 # A command is granted and taken back.
@@ -327,7 +370,7 @@ def judged(case, seconds, memory, status):
         yield f"over {case.memory} MiB a MB"
 
 
-CASES = (chosen_names, long_names, at_limits, many_positions, floods)
+CASES = (chosen_names, long_names, at_limits, many_positions, wide_blocks, floods)
 
 
 def main():

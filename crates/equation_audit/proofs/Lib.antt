@@ -4,7 +4,9 @@ pub mod BodyLemmas
 pub mod RestLemmas
 pub mod PositionLemmas
 pub mod ReadingLemmas
+pub mod BelowLemmas
 pub mod FindingLemmas
+pub mod TriedLemmas
 pub mod OneStatement
 pub mod OneReading
 pub mod Fewer

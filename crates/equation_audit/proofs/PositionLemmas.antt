@@ -22,12 +22,12 @@ or_true : (a b : Bool) → b ≡ true → (a || b) ≡ true
 or_true true b is = refl
 or_true false b is = is
 
-neither : (a b : Bool) → (a || b) ≡ false → (a ≡ false) × (b ≡ false)
+pub neither : (a b : Bool) → (a || b) ≡ false → (a ≡ false) × (b ≡ false)
 neither true b none = absurd (cc)
 neither false b none = (refl, none)
 
 -- a position leaves the other switches as they were
-placed-other : (v : List Bool) (own : List SwitchId) (k i : ℕ) → is_among own i ≡ false →
+pub placed-other : (v : List Bool) (own : List SwitchId) (k i : ℕ) → is_among own i ≡ false →
     slice_get (placed v own k) i ≡ slice_get v i
 placed-other v [] k i none = refl
 placed-other v (id ∷ own) k i none =

@@ -1,15 +1,19 @@
 -- What an audit finds of an equation: whether it is loose, strict, or the same as the rules.
-use Rattle.std.specs.Prelude.{◌≡◌, ◌⊎◌, Bool, true, false, List, [], ◌∷◌, ◌||◌, is_some, MatchOption, Option, Some}
+use Rattle.std.specs.Prelude.{◌≡◌, ◌⊎◌, ℕ, Bool, true, false, List, [], ◌∷◌, ◌||◌, is_some, IfSome, MatchOption, Option, Some}
 use Rattle.std.specs.Prelude.{None, All}
 use Rattle.std.specs.List.{AllZip, list_any}
 use Rattle.ilk_base.specs.declared.words.Rule.{Rule}
+use Rattle.ilk_base.specs.declared.words.Op.{Op}
+use Rattle.ilk_base.specs.declared.words.SwitchId.{SwitchId}
 use Rattle.station_graph.specs.Diagram.{Diagram}
 use Rattle.station_graph.specs.CentralRules.{Breaks, IsOperation}
 use Rattle.station_graph.specs.Alike.{IsVector}
 use Rattle.equation_audit.specs.Equations.{Equation, is_released, is_own, AreOwn}
-use Rattle.equation_audit.specs.Positions.{SharesPosition}
+use Rattle.equation_audit.specs.Positions.{placed, SharesPosition}
 use Rattle.equation_audit.specs.declared.finding.Loose.{Loose}
 use Rattle.equation_audit.specs.declared.finding.Finding.{Finding}
+use Rattle.equation_audit.specs.declared.tried.Tried.{Tried}
+use Rattle.equation_audit.specs.declared.tried.Tried.TheVariants.{Strict, Other}
 
 -- In this vector the equation releases what the rules forbid.
 pub record IsLooseIn (d : Diagram) (e : Equation) (rule : Rule) (v : List Bool) : Type 0 where
@@ -20,6 +24,10 @@ pub record IsLooseIn (d : Diagram) (e : Equation) (rule : Rule) (v : List Bool) 
 -- It does so in some vector.
 abbrev pub IsLoose : Diagram → Equation → Type 0
 IsLoose d e = (rule : Rule) × (v : List Bool) × IsLooseIn d e rule v
+
+-- No rule forbids the operation in any vector.
+abbrev pub NeverDenied : Diagram → Op → Type 0
+NeverDenied d op = (v : List Bool) → IsVector d v → Breaks d v op None
 
 -- It does so in no vector that gives the own switches the position that u gives them.
 abbrev pub NoneLooseBy : Diagram → Equation → List Bool → Type 0
@@ -37,9 +45,23 @@ pub record IsStrictAt (d : Diagram) (e : Equation) (u : List Bool) : Type 0 wher
   pub denied : is_released e.alternatives u ≡ false
   pub suffices : Suffices d e u
 
+-- A vector with these switches in the position of this number, in which a rule forbids the operation.
+pub record IsDeniedAt (d : Diagram) (op : Op) (own : List SwitchId) (number : ℕ) (v : List Bool) : Type 0 where
+  pub before : List Bool
+  pub whole : IsVector d before
+  pub placed_is : v ≡ placed before own number
+  pub rule : Rule
+  pub breaks : Breaks d v op (Some rule)
+
 -- It does so in some position.
 abbrev pub IsStrict : Diagram → Equation → Type 0
 IsStrict d e = (u : List Bool) × IsStrictAt d e u
+
+-- What is found of the position that u gives the own switches: that it is strict there, and is shown by u; or that it is
+-- not, with a vector of the station or none.
+abbrev pub TellsTried : Diagram → Equation → List Bool → Tried → Type 0
+TellsTried d e u (Strict v) = IsStrictAt d e v
+TellsTried d e u (Other o) = (¬ IsStrictAt d e u) × IfSome o (IsVector d)
 
 -- The equation is the same as the rules: neither loose nor strict.
 pub record IsSame (d : Diagram) (e : Equation) : Type 0 where

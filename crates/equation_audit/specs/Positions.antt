@@ -14,6 +14,11 @@ abbrev pub placed : List Bool → List SwitchId → ℕ → List Bool
 placed v [] number = v
 placed v (id ∷ ids) number = placed (slice_set v id.0 (number % 2 == 1)) ids (number / 2)
 
+-- The vector with these switches closed.
+abbrev pub all_closed : List Bool → List SwitchId → List Bool
+all_closed v [] = v
+all_closed v (id ∷ ids) = all_closed (slice_set v id.0 true) ids
+
 -- The word that says this position.
 abbrev pub word_at : Bool → Dbpos
 word_at false = Off

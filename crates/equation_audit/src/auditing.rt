@@ -9,6 +9,8 @@ use crate::block::{Block, Blocks};
 use crate::finding::{Finding, Loose};
 use crate::findings::Audit;
 use crate::question::{position, position_count};
+use crate::throughout::{is_denied_throughout, is_never_denied};
+use crate::tried::{Tried, try_position};
 use central_rules::{Judge, Verdict};
 use ilk_base::Memory;
 use station_graph::{Station, Vector};
@@ -42,31 +44,8 @@ fn loose_by<J: Judge>(
     }
 }
 
-// Whether the block is strict in the position that this vector gives its own switches. At most one question
-// to the judge, and none where the block releases in that position.
-fn is_strict_by<J: Judge>(
-    alloc: Global,
-    station: &Station,
-    block: &Block,
-    vector: &Vector,
-    judge: &J,
-) -> Result<bool, Memory>
-    requires same { (J.meaning judge.now).diagram ≡ station.now }
-    requires block { IsOfStation station.now block.now }
-    requires vector { IsVector station.now vector.now }
-    ensures { IfOk result (λ b. IsTrue b ↔ IsStrictAt station.now block.now vector.now) }
-{
-    if block.is_released(vector) {
-        return Ok(false);
-    }
-    let Verdict::Release = block.ask(alloc, station, vector, judge)? else {
-        return Ok(false);
-    };
-    Ok(true)
-}
-
 // A vector in which the block is loose; none where it is not loose. Each position in which it releases is
-// tried until one is found.
+// tried until one is found, unless no rule ever forbids the operation.
 fn find_loose<J: Judge>(
     alloc: Global,
     station: &Station,
@@ -77,6 +56,9 @@ fn find_loose<J: Judge>(
     requires block { IsOfStation station.now block.now }
     ensures { IfOk result (TellsLoose station.now block.now) }
 {
+    if is_never_denied(alloc, station, block.op, judge)? {
+        return Ok(None);
+    }
     for number in 0..position_count(&block.own) {
         let vector = position(alloc, station, &block.own, number)?;
         if let Some(loose) = loose_by(alloc, station, block, &vector, judge)? {
@@ -87,7 +69,7 @@ fn find_loose<J: Judge>(
 }
 
 // A vector with a position in which the block is strict; none where it is not strict. Each position in
-// which it does not release is tried until one is found.
+// which it does not release is tried until one is found, unless a rule is known to forbid the operation in all of them.
 fn find_strict<J: Judge>(
     alloc: Global,
     station: &Station,
@@ -98,10 +80,18 @@ fn find_strict<J: Judge>(
     requires block { IsOfStation station.now block.now }
     ensures { IfOk result (TellsStrict station.now block.now) }
 {
+    if is_denied_throughout(alloc, station, block, judge)? {
+        return Ok(None);
+    }
+    let mut denial = None;
     for number in 0..position_count(&block.own) {
-        let vector = position(alloc, station, &block.own, number)?;
-        if is_strict_by(alloc, station, block, &vector, judge)? {
-            return Ok(Some(vector));
+        match try_position(alloc, station, block, &block.own, number, denial, judge)? {
+            Tried::Strict(vector) => {
+                return Ok(Some(vector));
+            }
+            Tried::Other(next) => {
+                denial = next;
+            }
         }
     }
     Ok(None)
@@ -135,7 +125,8 @@ fn audit_block<J: Judge>(
 /// the judge are of the station.
 ///
 /// Time: for each block at most one question to the judge (`judge_all`) for each position of its own
-/// switches, which are at most `MOST_OWN`: 4,096 questions. Memory: the switches for each block, and that of
+/// switches, which are at most `MOST_OWN`: 4,096 questions; and two more, on none of them and on all of them open,
+/// after which most blocks need no other. Memory: the switches for each block, and that of
 /// the judge.
 pub fn audit<J: Judge>(
     alloc: Global,

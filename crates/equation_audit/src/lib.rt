@@ -11,6 +11,8 @@ mod laws;
 mod question;
 mod read;
 mod text;
+mod throughout;
+mod tried;
 
 pub use auditing::audit;
 pub use block::{Blocks, MOST_OWN};

@@ -25,8 +25,20 @@ pub(crate) fn position_count(own: &[SwitchId]) -> u32
     1 << own.len()
 }
 
-// The vector with the switches in the position of this number, and all others open: the first is closed
-// where the number is odd, the second where its half is, and so on.
+// Puts the switches into the position of this number: the first is closed where the number is odd, the second where
+// its half is, and so on.
+pub(crate) fn place(vector: &mut Vector, own: &[SwitchId], number: u32)
+    requires { AllAmong (length vector.old) own.now }
+    ensures { vector.new ≡ placed vector.old own.now number }
+{
+    let mut left = number;
+    for id in own {
+        vector.set(*id, left % 2 == 1);
+        left /= 2;
+    }
+}
+
+// The vector with the switches in the position of this number, and all others open.
 pub(crate) fn position(
     alloc: Global,
     station: &Station,
@@ -38,11 +50,7 @@ pub(crate) fn position(
     ensures whole { IfOk result (λ v. IsVector station.now v) }
 {
     let mut vector = Vector::all_open(alloc, station)?;
-    let mut left = number;
-    for id in own {
-        vector.set(*id, left % 2 == 1);
-        left /= 2;
-    }
+    place(&mut vector, own, number);
     Ok(vector)
 }
 
@@ -110,7 +118,7 @@ fn own_words(
 }
 
 // The verdict over every vector that gives these switches the position that this vector gives them.
-fn ask_of<J: Judge>(
+pub(crate) fn ask_of<J: Judge>(
     alloc: Global,
     station: &Station,
     op: Op,

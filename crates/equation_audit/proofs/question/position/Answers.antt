@@ -1,11 +1,9 @@
-use Rattle.std.proofs.Common.{arith}
-use Rattle.equation_audit.proofs.OwnLemmas.{among_at}
+use Rattle.std.proofs.Common.{length, false, ap, ◌∙◌}
+use Rattle.std.proofs.lemmas.List.{length-replicate}
+use Rattle.equation_audit.proofs.PositionLemmas.{length-placed}
 use Rattle.equation_audit.proofs.question.position.Goals as goal
 
-pub set-requires : goal.set-requires
-set-requires c = omega (
-  arith,
-  c.requires _ (among_at c.args.own.now c.loop-id.id-index (record { 0 = 0 })
-      c.loop-id-test.true),
-  c.loop-id.invariant.count,
-)
+pub returns-clause-whole : goal.returns-clause-whole
+returns-clause-whole c =
+    ap length c.place.ensures ∙ (length-placed c.in_ok-vector.vector c.args.own.now c.args.number
+    ∙ (ap length c.in_ok-vector.ensures ∙ length-replicate (length c.args.station.now.switches) false))
