@@ -337,6 +337,12 @@ def floods():
             given = line * (1_000_000 // line.count(b"\n") // part)
             yield Case(f"node: a million {what}", ["node", "a", "S/V1/Q1"], {"a": two}, given, 0, 0.5, 8)
     for part in PARTS:
+        height = 8 // part + 1
+        bay = f"S/V/1-{height // 2}"
+        line = f"command open {bay}/R\ntick\nwithdraw\n".encode()
+        given = line * (LONGEST // len(line) // part)
+        yield Case(f"node: 8 MiB of commands decided by a tick, on a grid of 3 by {height}", ["node", "a", bay], {"a": grid(3, height).encode()}, given, 0, by_edges=True)
+    for part in PARTS:
         yield Case("stored: 3,000 such lines, each change on the disk", ["stored", "a", "S/V1/Q1", "k"], {"a": two}, CHANGES * (1_000 // part), 0)
     start = "".join(f"at,{path},{word}\n" for path, word in words.items())
     for part in PARTS:
