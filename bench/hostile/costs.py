@@ -22,8 +22,9 @@ status is 1 where one is over.
   of positions, in each of which hundreds of switches may be moved
 - equations: a block of twelve switches for each operation of up to 63 feeders, so that each has 4,096 positions, with
   switches near its own, far from it, the same for all, or any; and of a grid
-- floods: a million frames, ticks, commands, readings or changes of the record to one node; 3,000 lines to a stored one,
-  whose changes go to the disk; a log of 20,000 records in which 64 bays send one another messages
+- floods: a million frames, ticks, commands, readings or changes of the record to one node; 8 MiB of commands that a
+  node of a grid decides, with nothing heard or after a grant; 3,000 lines to a stored one, whose changes go to the disk;
+  a log of 20,000 records in which 64 bays send one another messages
 """
 import pathlib
 import random
@@ -322,6 +323,21 @@ def wide_blocks():
 CHANGES = b"command open S/V1/Q1/QA1\ntick\nwithdraw\n"
 
 
+def decisions(height, direction, heard, most):
+    """Commands to a bay in the middle of a grid, each decided by a tick and withdrawn, in so many bytes. Before the tick
+    comes a grant of the first bay, if any: it says that all its switches are on, so that not all nodes of a graph are
+    reached."""
+    bay = height // 2
+    command, ends = f"command {direction} S/V/1-{bay}/R\n", "tick\nwithdraw\n"
+    lines, length = [], 0
+    for number in range(1, most):
+        grant = f"frame 0200{3 * bay + 1:02x}{number:08x}000108\n" if heard else ""
+        lines.append(command + grant + ends)
+        length += len(lines[-1])
+        if length > most:
+            return "".join(lines[:-1]).encode()
+
+
 def floods():
     two, many = (common.double_busbar(feeders)[0].encode() for feeders in (2, 63))
     words = common.double_busbar(63)[1]
@@ -336,12 +352,13 @@ def floods():
         for part in PARTS:
             given = line * (1_000_000 // line.count(b"\n") // part)
             yield Case(f"node: a million {what}", ["node", "a", "S/V1/Q1"], {"a": two}, given, 0, 0.5, 8)
-    for part in PARTS:
-        height = 8 // part + 1
-        bay = f"S/V/1-{height // 2}"
-        line = f"command open {bay}/R\ntick\nwithdraw\n".encode()
-        given = line * (LONGEST // len(line) // part)
-        yield Case(f"node: 8 MiB of commands decided by a tick, on a grid of 3 by {height}", ["node", "a", bay], {"a": grid(3, height).encode()}, given, 0, by_edges=True)
+    for direction in ("open", "close"):
+        for heard in (False, True):
+            for part in PARTS:
+                height = 8 // part + 1
+                bay, given = f"S/V/1-{height // 2}", decisions(height, direction, heard, LONGEST // part)
+                what = f"8 MiB of commands to {direction}, decided {'after a grant' if heard else 'by a tick'}"
+                yield Case(f"node: {what}, on a grid of 3 by {height}", ["node", "a", bay], {"a": grid(3, height).encode()}, given, 0, by_edges=True)
     for part in PARTS:
         yield Case("stored: 3,000 such lines, each change on the disk", ["stored", "a", "S/V1/Q1", "k"], {"a": two}, CHANGES * (1_000 // part), 0)
     start = "".join(f"at,{path},{word}\n" for path, word in words.items())

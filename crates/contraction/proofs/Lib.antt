@@ -4,6 +4,7 @@ pub mod StandsLemmas
 pub mod EdgeLemmas
 pub mod AloneLemmas
 pub mod MarkLemmas
+pub mod FlagLemmas
 pub mod MergeLemmas
 pub mod PlaceLemmas
 pub mod ValueLemmas

@@ -1,8 +1,10 @@
 -- An entry that is set, and what each place has of its class.
-use Rattle.std.proofs.Common.{◌≡◌, ℕ, ◌<◌, zero, suc, Bool, false, List, [], ◌∷◌, length, slice_get}
-use Rattle.std.proofs.Common.{slice_set, slice_index, get_or, Some, refl, ap, sym, arith}
+use Rattle.std.proofs.Common.{◌≡◌, ℕ, ◌<◌, ◌≤◌, ◌↔◌, zero, suc, Bool, true, false, List, [], ◌∷◌, length, slice_get}
+use Rattle.std.proofs.Common.{slice_set, slice_index, get_or, Some, refl, ap, sym, ◌∙◌, arith}
 use Rattle.std.proofs.Common.{Result, Ok, Err, IfOk}
 use Rattle.std.proofs.lemmas.Option.{slice_get-get_or}
+use Rattle.contraction.specs.Merging.{MarkedInEither}
+use Rattle.contraction.specs.Restricting.{MarksAt}
 
 pub slice_get-set_same : {X : Type 0} (xs : List X) (i : ℕ) (b : X) → i < length xs →
     slice_get (slice_set xs i b) i ≡ Some b
@@ -42,3 +44,34 @@ pub spread_list : (classes : List Bool) (labels : List ℕ) →
     × ((k : ℕ) → k < length labels → slice_index labels k < length classes →
     slice_get w k ≡ slice_get classes (slice_index labels k))
 spread_list classes labels = (spread classes labels, length-spread classes labels, spread_at classes labels)
+
+-- each of these places has the mark of its class, and the classes are those of the marks of both rows
+pub classes_marked : (labels places first : List ℕ) (x : List Bool) (second : List ℕ) (y classes : List Bool) →
+    length classes ≡ length labels → ((k : ℕ) → k < length places → slice_index places k < length labels) →
+    ((k : ℕ) → k < length labels → slice_index labels k ≤ k) →
+    ((c : ℕ) → c < length labels → (slice_get classes c ≡ Some true) ↔
+    MarkedInEither labels first x (length first) second y (length second) c) → (row : List Bool) →
+    length row ≡ length places → ((k : ℕ) → k < length places →
+    slice_get row k ≡ slice_get classes (slice_index labels (slice_index places k))) →
+    MarksAt labels places first x second y row
+classes_marked labels places first x second y classes room places_in below noted row len mark =
+    let wide = spread_list classes labels in
+    let label_in : (k : ℕ) → k < length labels → slice_index labels k < length classes =
+    λ k k_in. omega (arith, k_in, room, below k k_in) in
+    record {
+      wide = wide.0;
+      composes = record {
+        len = wide.1;
+        told = λ k k_in.
+            let is = wide.2 k k_in (label_in k k_in) in
+            let n = noted (slice_index labels k) (omega (arith, room, label_in k k_in)) in
+            (λ e. n.0 (sym is ∙ e), λ m. is ∙ n.1 m);
+      };
+      restricts = record {
+        len = len;
+        told = λ k k_in.
+            let p : ℕ = slice_index places k in
+            let p_in = places_in k k_in in
+            mark k k_in ∙ sym (wide.2 p p_in (label_in p p_in));
+      };
+    }

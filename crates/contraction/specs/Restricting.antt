@@ -6,6 +6,7 @@ use Rattle.contraction.specs.declared.merge.Union.{Union}
 use Rattle.contraction.specs.Merging.{LabelsOfBoth, MarksOfBoth}
 use Rattle.station_graph.specs.Nodes.{Rises}
 use Rattle.contraction.specs.Answers.{AreLabels}
+use Rattle.contraction.specs.Rows.{flags}
 
 -- Two entries of the row are equal exactly where those of the other row at their places are.
 pub record LabelsRestrict (labels places row : List ℕ) : Type 0 where
@@ -24,6 +25,13 @@ pub record MarksAt (labels places first : List ℕ) (first_marks : List Bool) (s
   pub wide : List Bool
   pub composes : MarksOfBoth labels first first_marks second second_marks wide
   pub restricts : Picks wide places row
+
+-- The bytes are those of the marks of two rows together at these places of their merged list.
+pub record FlagsAt (labels places first : List ℕ) (first_marks : List Bool) (second : List ℕ)
+    (second_marks : List Bool) (row : List ℕ) : Type 0 where
+  pub marks : List Bool
+  pub are : MarksAt labels places first first_marks second second_marks marks
+  pub bytes : row ≡ flags marks
 
 -- The third row is the first two together at these places of their merged list.
 pub record RowOfBothAt (u : Union) (places : List ℕ) (x y row : Row) : Type 0 where

@@ -46,14 +46,15 @@ fn push_words(text: &mut Text, row: &[u16]) -> Result<(), Memory>
 }
 
 // 1 for a bit that is set.
-fn byte_of(bit: bool) -> u8
+#[inline(always)]
+pub(crate) fn byte_of(bit: bool) -> u8
     ensures { result ≡ flag bit }
 {
     if bit { 1 } else { 0 }
 }
 
 // Appends one byte for each of a few bits, all in one piece.
-pub(crate) fn push_few_flags(text: &mut Text, row: &[bool]) -> Result<(), Memory>
+fn push_few_flags(text: &mut Text, row: &[bool]) -> Result<(), Memory>
     requires { length row.now ≤ 32 }
     ensures { IfOk result (λ _. text.new ≡ text.old ++ flags row.now) }
 {

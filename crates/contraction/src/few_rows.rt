@@ -4,10 +4,10 @@ ghost use Rattle.contraction.specs.Merging.{LabelsFit, MarksFit, RowFits};
 ghost use Rattle.contraction.specs.Selecting.{LayoutFits, IsSmall, AddsLabels, AddsMarks, AddsBonds};
 ghost use Rattle.contraction.specs.Selecting.{IsGapText, IsLoadText};
 
-use crate::bytes::{GAP_BYTES, LOAD_BYTES, push_few_flags, push_few_words};
+use crate::bytes::{GAP_BYTES, LOAD_BYTES, push_few_words};
 use crate::labels::{label_at, label_both};
 use crate::layout::Layout;
-use crate::marks::mark_at;
+use crate::marks::flag_at;
 use crate::row::Row;
 use ilk_base::{Memory, Text};
 use std::alloc::Global;
@@ -55,13 +55,13 @@ impl Layout {
         requires second { MarksFit self.now.union.second.items (length self.now.union.kept.items) y.now }
         ensures { IfOk result (λ _. AddsMarks self.now wide.now x.now y.now text.old text.new) }
     {
-        let mut marks = [false; FEW];
+        let mut bytes = [0; FEW];
         let mut classes = [false; FEW];
-        let row = &mut marks[..self.places.len()];
+        let row = &mut bytes[..self.places.len()];
         let notes = &mut classes[..wide.len()];
         let first = self.union.first.as_slice();
         let second = self.union.second.as_slice();
-        mark_at(
+        flag_at(
             row,
             notes,
             wide,
@@ -71,7 +71,7 @@ impl Layout {
             second,
             y,
         );
-        push_few_flags(text, row)
+        text.push(row)
     }
 
     // Appends the labels of both lists as those of the selected places.

@@ -1,13 +1,16 @@
 //! Rows of marks.
-ghost use Rattle.std.specs.Prelude.{◌≡◌, ℕ, ◌<◌, ◌≤◌, ◌↔◌, length, slice_get, slice_index, Some, true, false, IfOk};
-ghost use Rattle.std.specs.Prelude.{replicate};
+ghost use Rattle.std.specs.Prelude.{◌≡◌, ◌≢◌, ℕ, ◌<◌, ◌≤◌, ◌↔◌, length, slice_get, slice_index, get_or, Some, true, false};
+ghost use Rattle.std.specs.Prelude.{replicate, IfOk, IsTrue};
 ghost use Rattle.contraction.specs.Merging.{Noted, MarkedInEither, AreMarkedClasses, MarksOfBoth};
-ghost use Rattle.contraction.specs.Restricting.{MarksAt};
+ghost use Rattle.contraction.specs.Restricting.{MarksAt, FlagsAt};
+ghost use Rattle.contraction.specs.Rows.{flag};
 
+use crate::bytes::byte_of;
 use ilk_base::Memory;
 use std::alloc::Global;
 
 // Notes the classes of the marked entries.
+#[inline(always)]
 fn note(classes: &mut [bool], labels: &[u16], places: &[u16], marks: &[bool])
     requires len { length marks.now ≡ length places.now }
     requires inside { (k : ℕ) → k < length places.now
@@ -24,6 +27,7 @@ fn note(classes: &mut [bool], labels: &[u16], places: &[u16], marks: &[bool])
 }
 
 // Notes the classes of the marked entries of both rows.
+#[inline(always)]
 fn note_both(
     classes: &mut [bool],
     labels: &[u16],
@@ -73,6 +77,34 @@ fn spread_at(row: &mut [bool], classes: &[bool], labels: &[u16], places: &[u16])
     for k in 0..places.len() {
         row[k] = classes[labels[places[k] as usize] as usize];
     }
+}
+
+// For each of these places the byte of whether its class is noted, into a row that has room for them.
+fn spread_flags(row: &mut [u8], classes: &[bool], labels: &[u16], places: &[u16])
+    requires room { length row.old ≡ length places.now }
+    requires labels { (k : ℕ) → k < length places.now
+        → slice_index labels.now (slice_index places.now k) < length classes.now }
+    requires places { (k : ℕ) → k < length places.now → slice_index places.now k < length labels.now }
+    ensures len { length row.new ≡ length places.now }
+    ensures flags { (k : ℕ) → k < length places.now → slice_index row.new k
+        ≡ flag (get_or classes.now (slice_index labels.now (slice_index places.now k)) false) }
+{
+    for k in 0..places.len() {
+        row[k] = byte_of(classes[labels[places[k] as usize] as usize]);
+    }
+}
+
+// Whether no entry is marked.
+#[inline(always)]
+fn none_marked(marks: &[bool]) -> bool
+    ensures { IsTrue result → (k : ℕ) → slice_get marks.now k ≢ Some true }
+{
+    for mark in marks {
+        if *mark {
+            return false;
+        }
+    }
+    true
 }
 
 // For each class whether an entry of it is marked in one of both rows.
@@ -128,7 +160,7 @@ pub(crate) fn marks_of_both(
 
 // The marks of these of the places of a merged list. There is room for them, and for a mark of each class, of which
 // none is set.
-pub(crate) fn mark_at(
+fn mark_at(
     row: &mut [bool],
     classes: &mut [bool],
     labels: &[u16],
@@ -184,4 +216,33 @@ pub(crate) fn marks_at(
         second_marks,
     );
     Ok(row)
+}
+
+// The same as bytes. The row has room for them and is 0 throughout, so that nothing is to be done where neither list
+// has a mark.
+pub(crate) fn flag_at(
+    row: &mut [u8],
+    classes: &mut [bool],
+    labels: &[u16],
+    places: &[u16],
+    first: &[u16],
+    first_marks: &[bool],
+    second: &[u16],
+    second_marks: &[bool],
+)
+    requires room { row.old ≡ replicate (length places.now) 0 }
+    requires none { classes.old ≡ replicate (length labels.now) false }
+    requires places { (k : ℕ) → k < length places.now → slice_index places.now k < length labels.now }
+    requires first_len { length first_marks.now ≡ length first.now }
+    requires second_len { length second_marks.now ≡ length second.now }
+    requires first_in { (k : ℕ) → k < length first.now → slice_index first.now k < length labels.now }
+    requires second_in { (k : ℕ) → k < length second.now → slice_index second.now k < length labels.now }
+    requires below { (k : ℕ) → k < length labels.now → slice_index labels.now k ≤ k }
+    ensures { FlagsAt labels.now places.now first.now first_marks.now second.now second_marks.now row.new }
+{
+    if none_marked(first_marks) && none_marked(second_marks) {
+        return;
+    }
+    note_both(classes, labels, first, first_marks, second, second_marks);
+    spread_flags(row, classes, labels, places);
 }

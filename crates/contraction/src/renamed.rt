@@ -52,6 +52,13 @@ impl Contraction {
         &self.kept
     }
 
+    /// Whether these are the kept nodes, in their order. Time: the nodes. Takes no memory.
+    pub fn keeps_just(&self, nodes: &[u16]) -> bool
+        ensures { IsTrue result ↔ (self.now.kept ≡ nodes.now) }
+    {
+        same_numbers(&self.kept, nodes)
+    }
+
     /// The same answers on other nodes, which rise and are as many as the kept ones: the first of them in the
     /// place of the first kept node, and so on. So values of like items on other nodes need not be composed
     /// anew. Time and memory: the nodes.

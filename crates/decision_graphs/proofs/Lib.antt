@@ -17,6 +17,7 @@ pub mod PathLemmas
 pub mod ArrivalLemmas
 pub mod ReducedLemmas
 pub mod FoldLemmas
+pub mod PairLemmas
 pub mod RowIndexLemmas
 pub mod StackLemmas
 pub mod AloneLemmas

@@ -17,6 +17,7 @@ mod find;
 mod finished;
 mod fold;
 mod fold_all;
+mod fold_pairs;
 mod folds;
 mod graph;
 mod known;

@@ -10,6 +10,7 @@ pub mod PoolLemmas
 pub mod LayeringLemmas
 pub mod SeatLemmas
 pub mod ListLemmas
+pub mod AlikeLemmas
 pub mod BatchLemmas
 pub mod AddedEdges
 pub mod OnceLemmas

@@ -28,16 +28,6 @@ use Rattle.judge_pool.proofs.LayeringLemmas.{Grows, value_in, value_was}
 use Rattle.judge_pool.proofs.NodeLemmas.{places_rise}
 use Rattle.judge_pool.proofs.ShapeLemmas.{all_nodes, first_at, second_at, kept_at, kept_nodes, kept_are}
 
--- ---- equal lists
-
-not_no : (b : Bool) → not b ≡ false → b ≡ true
-not_no true e = refl
-not_no false e = cc
-
-pub not_other : (xs ys : List ℕ) → not (pointwise nat_eq xs ys) ≡ false → xs ≡ ys
-not_other xs ys e =
-    (slice_eq-Decides Decides-eqb xs ys (pointwise nat_eq xs ys) refl).0 (not_no (pointwise nat_eq xs ys) e)
-
 -- ---- what can stand
 
 -- places of nodes that rise are nodes themselves

@@ -190,6 +190,12 @@ pub record CanCompose (p : Pool) (k : Made) : Type 0 where
 abbrev pub LettersFit : Pool → Batch → List ℕ → Type 0
 LettersFit p b letters = (c j : ℕ) → slice_get letters c ≡ Some j → CanCompose p (composition b j)
 
+-- The values of these numbers keep the same nodes.
+abbrev pub KeepAlike : List Answers → List ℕ → Type 0
+KeepAlike values ids =
+    (a b i j : ℕ) (x y : Answers) → slice_get ids a ≡ Some i → slice_get ids b ≡ Some j → slice_get values i ≡ Some x →
+    slice_get values j ≡ Some y → x.kept ≡ y.kept
+
 -- The selection is that of these of the nodes that two values keep.
 pub record Selects (x y : Answers) (nodes : List ℕ) (s : Selected) : Type 0 where
   pub first : s.first ≡ x.kept
@@ -201,6 +207,22 @@ abbrev pub SelectsFor : Pool → Made → Selected → Type 0
 SelectsFor p k s =
     (x y : Answers) (nodes : List ℕ) → slice_get p.values.items k.first ≡ Some x →
     slice_get p.values.items k.second ≡ Some y → slice_get p.keeps.items k.keep ≡ Some nodes → Selects x y nodes s
+
+-- So for each letter of the batch.
+abbrev pub SelectsAll : Pool → Batch → List ℕ → Selected → Type 0
+SelectsAll p b letters s = (c j : ℕ) → slice_get letters c ≡ Some j → SelectsFor p (composition b j) s
+
+-- The pool has each of the states and letters and the list of nodes, each of which one of the two keeps.
+abbrev pub CanComposeEach : Pool → List ℕ → List ℕ → ℕ → Type 0
+CanComposeEach p states letters keep =
+    (k c i j : ℕ) → slice_get states k ≡ Some i → slice_get letters c ≡ Some j →
+    CanCompose p (record { first = i; second = j; keep = keep })
+
+-- The selection is that for each of the states with each of the letters.
+abbrev pub SelectsEach : Pool → List ℕ → List ℕ → ℕ → Selected → Type 0
+SelectsEach p states letters keep s =
+    (k c i j : ℕ) → slice_get states k ≡ Some i → slice_get letters c ≡ Some j →
+    SelectsFor p (record { first = i; second = j; keep = keep }) s
 
 -- The bytes are the row of a value on exactly these nodes that is two values together in this view.
 pub record IsRowOfBoth (view : View) (nodes : List ℕ) (x y : Answers) (bytes : List ℕ) : Type 0 where

@@ -7,7 +7,7 @@ ghost use Rattle.judge_pool.specs.Seen.{ComposesIn};
 ghost use Rattle.judge_pool.specs.Pooling.{IsPool, GrewTo, Selects, SelectsFor, IsRowOfBoth, CanCompose, LettersFit};
 ghost use Rattle.judge_pool.specs.Pooling.{WasMade, MakesEach, HasBatch, NotesAreRight};
 ghost use Rattle.judge_pool.specs.Numbered.{letter_lists};
-ghost use Rattle.judge_pool.specs.Pooling.{IsRowIn, IsToldBy};
+ghost use Rattle.judge_pool.specs.Pooling.{IsRowIn, IsToldBy, SelectsAll};
 
 use crate::batch::{Batch, Made};
 use crate::pool::Pool;
@@ -72,7 +72,7 @@ fn value_of(
 
 impl Pool {
     // Where the batch of the value with these letters, which have the number, begins. It is made where it is not noted,
-    // in a list that serves each batch.
+    // in a list that serves each batch; on one selection where there is one for all its compositions.
     pub(crate) fn batch(
         &mut self,
         alloc: Global,
@@ -81,11 +81,14 @@ impl Pool {
         letters: &[usize],
         number: usize,
         keep: usize,
+        shared: &Option<Box<Selection>>,
     ) -> Result<usize, Memory>
         requires pool { IsPool self.old }
         requires letters { slice_get (letter_lists self.old) number ≡ Some letters.now }
         requires some { 0 < length letters.now }
         requires fit { LettersFit self.old (record { first = first; letters = number; keep = keep }) letters.now }
+        requires shared { IfSome shared.now (λ s. SelectsAll self.old
+            (record { first = first; letters = number; keep = keep }) letters.now s.value) }
         ensures grew { OnOk result (GrewTo self.old self.new) }
         ensures batch { IfOk result (HasBatch self.new (record { first = first; letters = number; keep = keep })) }
         ensures ends { IfOk result (λ start. start + length letters.now ≤ length self.new.made.items) }
@@ -99,7 +102,7 @@ impl Pool {
             return Ok(start);
         }
         self.forget_batches();
-        let start = self.make_batch(alloc, ids, batch, letters)?;
+        let start = self.make_batch(alloc, ids, batch, letters, shared)?;
         self.notes.note(batch, start)?;
         Ok(start)
     }
@@ -123,14 +126,17 @@ impl Pool {
         ids: &mut Vec<usize>,
         batch: Batch,
         letters: &[usize],
+        shared: &Option<Box<Selection>>,
     ) -> Result<usize, Memory>
         requires pool { IsPool self.old }
         requires letters { slice_get (letter_lists self.old) batch.letters ≡ Some letters.now }
+        requires some { 0 < length letters.now }
         requires fit { LettersFit self.old batch letters.now }
+        requires shared { IfSome shared.now (λ s. SelectsAll self.old batch letters.now s.value) }
         ensures grew { OnOk result (GrewTo self.old self.new) }
         ensures batch { IfOk result (HasBatch self.new batch) }
     {
-        self.compose_all(alloc, ids, batch, letters)?;
+        self.compose_all(alloc, ids, batch, letters, shared)?;
         let held = self.made.as_slice();
         let start = held.len();
         self.made.extend_from_slice(ids)?;
@@ -139,6 +145,56 @@ impl Pool {
 
     // Makes the list that of the numbers of what the value and each letter of the batch make together, in order.
     fn compose_all(
+        &mut self,
+        alloc: Global,
+        ids: &mut Vec<usize>,
+        batch: Batch,
+        letters: &[usize],
+        shared: &Option<Box<Selection>>,
+    ) -> Result<(), Memory>
+        requires pool { IsPool self.old }
+        requires some { 0 < length letters.now }
+        requires fit { LettersFit self.old batch letters.now }
+        requires shared { IfSome shared.now (λ s. SelectsAll self.old batch letters.now s.value) }
+        ensures grew { OnOk result (GrewTo self.old self.new) }
+        ensures made { OnOk result (MakesEach self.new batch letters.now ids.new.items) }
+    {
+        match shared {
+            Some(selection) => self.compose_on(alloc, ids, batch, letters, selection),
+            None => self.compose_each(alloc, ids, batch, letters),
+        }
+    }
+
+    // The same on one selection for all of them.
+    fn compose_on(
+        &mut self,
+        alloc: Global,
+        ids: &mut Vec<usize>,
+        batch: Batch,
+        letters: &[usize],
+        selection: &Selection,
+    ) -> Result<(), Memory>
+        requires pool { IsPool self.old }
+        requires fit { LettersFit self.old batch letters.now }
+        requires selects { SelectsAll self.old batch letters.now selection.now }
+        ensures grew { OnOk result (GrewTo self.old self.new) }
+        ensures made { OnOk result (MakesEach self.new batch letters.now ids.new.items) }
+    {
+        ids.clear();
+        'letters: for c in 0..letters.len() {
+            let key = Made {
+                first: batch.first,
+                second: letters[c],
+                keep: batch.keep,
+            };
+            let id = self.find_or_make(alloc, key, selection)?;
+            ids.push(id)?;
+        }
+        Ok(())
+    }
+
+    // The same, letter by letter.
+    fn compose_each(
         &mut self,
         alloc: Global,
         ids: &mut Vec<usize>,
@@ -170,11 +226,7 @@ impl Pool {
         ensures grew { OnOk result (GrewTo self.old self.new) }
         ensures made { IfOk result (λ t. WasMade self.new.view self.new.values.items self.new.keeps.items key t) }
     {
-        let held = self.selection.take();
-        let x = &self.values[key.first];
-        let y = &self.values[key.second];
-        let nodes = &self.keeps[key.keep];
-        let selection = Selection::held_or_new(alloc, held, x.nodes(), y.nodes(), nodes)?;
+        let selection = self.select(alloc, key)?;
         let place = self.find_or_make(alloc, key, &selection)?;
         self.selection = Some(selection);
         Ok(place)

@@ -160,11 +160,12 @@ pub(crate) fn next_layer(
     let once = by.letters.as_slice();
     let places = by.places.as_slice();
     let number = pool.note_letters(alloc, once)?;
+    let shared = pool.select_all(alloc, states, once, keep)?;
     'states: for k in 0..states.len() {
         if next.len() > most {
             return Err(Trouble::Wide);
         }
-        let start = pool.batch(alloc, &mut ids, states[k], once, number, keep)?;
+        let start = pool.batch(alloc, &mut ids, states[k], once, number, keep, &shared)?;
         let end = start + once.len();
         add_state(
             &mut next,

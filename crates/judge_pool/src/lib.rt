@@ -16,6 +16,7 @@ mod notes;
 mod past;
 mod pool;
 mod seats;
+mod selecting;
 mod stands;
 mod view;
 

@@ -4,7 +4,7 @@ ghost use Rattle.std.specs.Prelude.{◌≡◌, ◌⊎◌, ◌<◌, ℕ, List, le
 ghost use Rattle.contraction.specs.Answers.{Keeps, AreNodes};
 ghost use Rattle.contraction.specs.Selecting.{ArePlaced};
 ghost use Rattle.judge_pool.specs.Numbered.{letter_lists};
-ghost use Rattle.judge_pool.specs.Pooling.{IsPool, GrewTo};
+ghost use Rattle.judge_pool.specs.Pooling.{IsPool, GrewTo, KeepAlike};
 ghost use Rattle.judge_pool.specs.Standing.{AreOn};
 ghost use Rattle.judge_pool.specs.Lying.{IsLying, AllKeepAs, HasNumbers, LettersReach, StatesFit};
 
@@ -32,7 +32,7 @@ pub(crate) fn all_keep(values: &[Contraction], ids: &[usize], nodes: &[u16]) -> 
     ensures { IsTrue result → AllKeepAs values.now ids.now nodes.now }
 {
     for k in 0..ids.len() {
-        if values[ids[k]].nodes() != nodes {
+        if !values[ids[k]].keeps_just(nodes) {
             return false;
         }
     }
@@ -40,6 +40,17 @@ pub(crate) fn all_keep(values: &[Contraction], ids: &[usize], nodes: &[u16]) -> 
 }
 
 impl Pool {
+    // Whether the values of these numbers keep the same nodes.
+    pub(crate) fn keep_alike(&self, ids: &[usize]) -> bool
+        requires { (k i : ℕ) → slice_get ids.now k ≡ Some i → i < length self.now.values.items }
+        ensures { IsTrue result → KeepAlike self.now.values.items ids.now }
+    {
+        match ids.first() {
+            Some(id) => all_keep(&self.values, ids, self.values[*id].nodes()),
+            None => true,
+        }
+    }
+
     // The layer on the places of the nodes of both, where all letters keep the same nodes.
     fn lie_in_places(
         &mut self,

@@ -26,7 +26,7 @@ pub struct Pool {
     pub view: View,
     /// the values, by number
     pub values: Vec<Contraction>,
-    pub(crate) index: HashMap<Text, usize>,
+    pub(crate) index: NumberMap<Text, usize>,
     /// the lists of nodes, by number
     pub keeps: Vec<NodeList>,
     pub(crate) keep_numbers: NumberMap<Vec<u16>, usize>,
@@ -53,7 +53,7 @@ impl Pool {
         Pool {
             view,
             values: Vec::new(alloc),
-            index: HashMap::new(alloc),
+            index: HashMap::with_hasher(alloc, NumberHash::new()),
             keeps: Vec::new(alloc),
             keep_numbers: HashMap::with_hasher(alloc, NumberHash::new()),
             letters: Vec::new(alloc),

@@ -1,6 +1,6 @@
 //! Lists of numbers, each once. Each number that may come has a seat, in which stands where to look for it in the list:
 //! so it is found by one look, and a new list begins with the seats of any list before it.
-ghost use Rattle.std.specs.Prelude.{◌≡◌, ◌↔◌, ◌<◌, ℕ, length, slice_get, Some, IfOk, OnOk, IsTrue};
+ghost use Rattle.std.specs.Prelude.{◌≡◌, ◌↔◌, ◌<◌, ◌≤◌, ℕ, length, slice_get, Some, IfOk, OnOk, IsTrue};
 ghost use Rattle.judge_pool.specs.Pooling.{Extends};
 ghost use Rattle.judge_pool.specs.Layering.{AreSeats, IsPlaced, AreAdded};
 
@@ -13,7 +13,8 @@ fn stands_at(list: &[usize], place: usize, id: usize) -> bool
     place < list.len() && list[place] == id
 }
 
-// Makes sure that the number has a seat. There is no room for the seat of the last number of all.
+// Makes sure that the number has a seat. Nearly always it has one.
+#[inline(always)]
 pub(crate) fn make_seat(seats: &mut Vec<usize>, id: usize) -> Result<(), Memory>
     ensures stays { OnOk result (Extends seats.old.items seats.new.items) }
     ensures seat { OnOk result (id < length seats.new.items) }
@@ -21,6 +22,16 @@ pub(crate) fn make_seat(seats: &mut Vec<usize>, id: usize) -> Result<(), Memory>
     if id < seats.len() {
         return Ok(());
     }
+    add_seats(seats, id)
+}
+
+// Makes seats for all numbers up to this one, which has none. There is no room for the seat of the last number of all.
+#[inline(never)]
+fn add_seats(seats: &mut Vec<usize>, id: usize) -> Result<(), Memory>
+    requires { length seats.old.items ≤ id }
+    ensures stays { OnOk result (Extends seats.old.items seats.new.items) }
+    ensures seat { OnOk result (id < length seats.new.items) }
+{
     if id == usize::MAX {
         return Err(Memory);
     }

@@ -1,15 +1,15 @@
 //! The hasher.
-ghost use Rattle.std.specs.Prelude.{◌≡◌, fold};
-ghost use Rattle.number_hash.specs.Mixing.{mixed, mixed_bytes, written};
+ghost use Rattle.std.specs.Prelude.{◌≡◌, ◌/◌, fold, length};
+ghost use Rattle.number_hash.specs.Mixing.{mixed, mixed_bytes, mixed_words, turned, written};
 
 use std::hash::Hasher;
 
 // The golden ratio in 64 bits, made odd.
 const FACTOR: u64 = 0x9e37_79b9_7f4a_7c15;
 
-/// A hasher that takes a number of 32 or 64 bits by one addition and one multiplication. Its seed is fixed, so whoever
-/// picks the numbers can make them collide: it is for numbers that the program made. Each byte of a text is taken as a
-/// number.
+/// A hasher that takes a number of 32 or 64 bits by one addition and one multiplication, and eight bytes of a text by
+/// these and a rotation. Its seed is fixed, so whoever picks the numbers can make them collide: it is for numbers that
+/// the program made.
 #[derive(Clone, Copy)]
 pub struct NumberHasher {
     state: u64,
@@ -41,6 +41,26 @@ fn after_each(state: u64, bytes: &[u8]) -> u64
     now
 }
 
+// The state after a word of a text. Of a product the lower bits depend on lower bits alone, so the halves change places.
+fn after_word(state: u64, word: u64) -> u64
+    ensures { result ≡ turned state word }
+{
+    after(state, word).rotate_left(32)
+}
+
+// The state after a text, eight bytes at once.
+fn after_words(state: u64, bytes: &[u8]) -> u64
+    ensures { result ≡ mixed_words (length bytes.now / 8) state bytes.now }
+{
+    let mut now = state;
+    let mut rest = bytes;
+    while let Some((word, behind)) = rest.split_first_chunk::<8>() {
+        now = after_word(now, u64::from_le_bytes(*word));
+        rest = behind;
+    }
+    after_each(now, rest)
+}
+
 // The state after bytes, of which four or eight are a number.
 fn after_bytes(state: u64, bytes: &[u8]) -> u64
     ensures { result ≡ mixed_bytes state bytes.now }
@@ -55,7 +75,7 @@ fn after_bytes(state: u64, bytes: &[u8]) -> u64
         ];
         return after(state, u64::from_le_bytes(eight));
     }
-    after_each(state, bytes)
+    after_words(state, bytes)
 }
 
 impl Hasher for NumberHasher {

@@ -28,7 +28,8 @@ use Rattle.judge_intake.proofs.OuterLemmas.{other_not}
 use Rattle.judge_intake.proofs.OtherLemmas.{switch_not, length_after}
 use Rattle.release_compile.proofs.VerdictLemmas.{allowed_length, allowed_at, length_sets, set_after, within_of}
 
-chain_fits : (s : Side) (sets : List (List Bool)) (others goal : ℕ) (cs all : List ℕ) → IsReady s sets →
+-- allowed choices that lead to a label are one for each layer
+pub chain_fits : (s : Side) (sets : List (List Bool)) (others goal : ℕ) (cs all : List ℕ) → IsReady s sets →
     length s.inner.now.layers ≡ suc others → IsChainOf s sets goal cs all →
     AreAllowed sets cs × (length all ≡ suc others)
 chain_fits s sets others goal cs all ready count c =
@@ -48,7 +49,7 @@ found_fits direction gap load sets others R2 cs all rg rl cg cl f = chain_fits g
 found_fits direction gap load sets others R3 cs all rg rl cg cl f = chain_fits load sets others 1 cs all rl cl f.1
 
 -- choices behind the first are those that the sets allow
-chain_small : (s : Side) (sets : List (List Bool)) (goal : ℕ) (cs all : List ℕ) → IsChainOf s sets goal cs all →
+pub chain_small : (s : Side) (sets : List (List Bool)) (goal : ℕ) (cs all : List ℕ) → IsChainOf s sets goal cs all →
     ((i c : ℕ) → IsSet (set_at s.inner_sets (suc i)) c → c < 2) → (i c : ℕ) → slice_get (drop 1 all) i ≡ Some c → c < 2
 chain_small s sets goal cs all chain small i c at =
     let rest : drop 1 all ≡ chain.rest = ap (drop 1) chain.split in

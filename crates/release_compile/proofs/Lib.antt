@@ -13,3 +13,4 @@ pub mod SetsLemmas
 pub mod HeardLemmas
 pub mod ReachesLemmas
 pub mod TellsLemmas
+pub mod DenyingLemmas

@@ -1,5 +1,5 @@
 -- THE VERDICT: what the four graphs say of a vector, and so of all vectors that are allowed.
-use Rattle.std.proofs.Common.{◌≡◌, ◌≢◌, ℕ, ◌-◌, ◌<◌, zero, suc, Bool, false, eqb, List, []}
+use Rattle.std.proofs.Common.{◌≡◌, ◌≢◌, ℕ, ◌<◌, zero, suc, Bool, false, eqb, List, []}
 use Rattle.std.proofs.Common.{◌∷◌, length, drop, get_or, slice_get, Some, None, refl, sym, ap, ◌∙◌, subst, inl, inr}
 use Rattle.std.proofs.Common.{arith}
 use Rattle.std.proofs.lemmas.Bool.{cases_eq, false≢true, ne_eqb}
@@ -136,11 +136,43 @@ gap_none : (label : ℕ) → label ≢ 1 → label ≢ 2 → gap_rule label ≡ 
 gap_none label one two = rw (ne_eqb label 1 one, ne_eqb label 2 two) refl
 
 -- only closing breaks one of the first two rules
-opening_free : (d : Diagram) (v : List Bool) (op : Op) → op.direction ≡ ToOff → GapBreaks d v op None
+pub opening_free : (d : Diagram) (v : List Bool) (op : Op) → op.direction ≡ ToOff → GapBreaks d v op None
 opening_free d v op opens = (
   λ h. absurd (let e = h.closes in cc),
   λ h. elim h [ inl k ↦ absurd (let e = k.closes in cc) | inr k ↦ absurd (let e = k.closes in cc) ],
 )
+
+-- CLOSING BREAKS NEITHER OF THE FIRST TWO RULES where no choices lead to a label that says one of them
+module _ (a : Lettered) (b m first others : ℕ) (words : List Dbpos) (sets : List (List Bool)) (gap : Side)
+    (is_own : IsOwn a.diagram b m first others) (gap_side : IsSide Gap a b m first others words sets gap) (op : Op)
+    (moves : op.switch.0 ≡ m) where
+  pub closing_free : op.direction ≡ ToOn → NoneLeadsTo gap sets 1 × NoneLeadsTo gap sets 2 → (v : List Bool) →
+      Within a b words sets v → GapBreaks a.diagram v op None
+  closing_free closes none v within =
+      let w = says_within Gap a b m first others words sets gap is_own gap_side v within in
+      let label = w.0 in
+      let leads = w.3 in
+      let not_one : label ≢ 1 =
+      λ is. none.0 w.1 w.2
+      (subst (λ l. LeadThrough gap.outer.now gap.inner.now sets gap.inner_sets l w.1 w.2) is leads) in
+      let not_two : label ≢ 2 =
+      λ is. none.1 w.1 w.2
+      (subst (λ l. LeadThrough gap.outer.now gap.inner.now sets gap.inner_sets l w.1 w.2) is leads) in
+      subst (λ r. GapBreaks a.diagram v op r) (gap_none label not_one not_two) (w.4 op moves closes)
+
+-- NO RULE IS BROKEN where neither of the first two is, and no choices lead to a label that says the third
+module _ (a : Lettered) (b m first others : ℕ) (words : List Dbpos) (sets : List (List Bool)) (load : Side)
+    (is_own : IsOwn a.diagram b m first others) (load_side : IsSide Load a b m first others words sets load) (op : Op)
+    (moves : op.switch.0 ≡ m) where
+  pub load_free : ((v : List Bool) → Within a b words sets v → GapBreaks a.diagram v op None) → NoneLeadsTo load sets 1 →
+      (v : List Bool) → Within a b words sets v → Breaks a.diagram v op None
+  load_free free none v within =
+      let g = free v within in
+      let w = says_within Load a b m first others words sets load is_own load_side v within in
+      let not_one : w.0 ≢ 1 =
+      λ is. none w.1 w.2
+      (subst (λ l. LeadThrough load.outer.now load.inner.now sets load.inner_sets l w.1 w.2) is w.3) in
+      (g.0, g.1, λ h. not_one ((w.4 op moves).1 h))
 
 module _ (a : Lettered) (b m first others : ℕ) (words : List Dbpos) (sets : List (List Bool)) (gap load : Side)
     (is_own : IsOwn a.diagram b m first others) (gap_side : IsSide Gap a b m first others words sets gap)
@@ -149,29 +181,13 @@ module _ (a : Lettered) (b m first others : ℕ) (words : List Dbpos) (sets : Li
   gap_free free v within = by op.direction refl where
     by : (direction : Direction) → op.direction ≡ direction → GapBreaks a.diagram v op None
     by ToOff e = opening_free a.diagram v op e
-    by ToOn e =
-        let none = free e in
-        let w = says_within Gap a b m first others words sets gap is_own gap_side v within in
-        let label = w.0 in
-        let leads = w.3 in
-        let not_one : label ≢ 1 =
-        λ is. none.0 w.1 w.2
-        (subst (λ l. LeadThrough gap.outer.now gap.inner.now sets gap.inner_sets l w.1 w.2) is leads) in
-        let not_two : label ≢ 2 =
-        λ is. none.1 w.1 w.2
-        (subst (λ l. LeadThrough gap.outer.now gap.inner.now sets gap.inner_sets l w.1 w.2) is leads) in
-        subst (λ r. GapBreaks a.diagram v op r) (gap_none label not_one not_two) (w.4 op moves e)
+    by ToOn e = closing_free a b m first others words sets gap is_own gap_side op moves e (free e) v within
 
   -- RELEASED: no rule is broken in any allowed vector
   pub released : GapFree op.direction gap sets → NoneLeadsTo load sets 1 → (v : List Bool) → Within a b words sets v →
       Breaks a.diagram v op None
   released free none v within =
-      let g = gap_free free v within in
-      let w = says_within Load a b m first others words sets load is_own load_side v within in
-      let not_one : w.0 ≢ 1 =
-      λ is. none w.1 w.2
-      (subst (λ l. LeadThrough load.outer.now load.inner.now sets load.inner_sets l w.1 w.2) is w.3) in
-      (g.0, g.1, λ h. not_one ((w.4 op moves).1 h))
+      load_free a b m first others words sets load is_own load_side op moves (gap_free free) none v within
 
   -- DENIED: the rule is what is broken in each allowed vector that gives the choices that were found
   pub denied : (rule : Rule) (cs all : List ℕ) → IsFound op.direction gap load sets rule cs all → (v : List Bool) →

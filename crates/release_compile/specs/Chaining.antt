@@ -69,6 +69,12 @@ IsChainOf s sets goal cs all = IsChain s.outer.now s.inner.now sets s.inner_sets
 abbrev pub GapFree : Direction → Side → List (List Bool) → Type 0
 GapFree direction gap sets = direction ≡ ToOn → NoneLeadsTo gap sets 1 × NoneLeadsTo gap sets 2
 
+-- Choices that lead to a label of the gap graphs that says this rule, which is one of the first two.
+abbrev pub IsGapFound : Side → List (List Bool) → Rule → List ℕ → List ℕ → Type 0
+IsGapFound gap sets R1 cs all = IsChainOf gap sets 1 cs all
+IsGapFound gap sets R2 cs all = IsChainOf gap sets 2 cs all
+IsGapFound gap sets R3 cs all = ⊥
+
 -- Choices that lead to a label that says this rule, the first of those that can be led to.
 abbrev pub IsFound : Direction → Side → Side → List (List Bool) → Rule → List ℕ → List ℕ → Type 0
 IsFound direction gap load sets R1 cs all = (direction ≡ ToOn) × IsChainOf gap sets 1 cs all

@@ -4,6 +4,7 @@ pub mod Summaries
 pub mod Rows
 pub mod Possible
 pub mod Deciding
+pub mod Denying
 pub mod Sides
 pub mod Judging
 pub mod JudgingInside

@@ -26,7 +26,7 @@ use station_graph::{Station, Vector};
 use std::alloc::Global;
 
 // A vector that gives the choices; where the words of all switches are known, each other part agrees with them in it.
-fn vector_of(
+pub(crate) fn vector_of(
     alloc: Global,
     station: &Station,
     parts: &Parts,

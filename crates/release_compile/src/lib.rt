@@ -7,6 +7,7 @@ mod build;
 mod by_words;
 mod chain;
 mod decide;
+mod denying;
 mod heard;
 mod judge;
 mod placing;

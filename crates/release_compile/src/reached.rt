@@ -18,7 +18,7 @@ pub(crate) struct Reached {
 }
 
 // The labels of a graph to which the sets lead.
-fn marked(alloc: Global, graph: &Graph, sets: &ChoiceSets) -> Result<Marks, Memory>
+pub(crate) fn marked(alloc: Global, graph: &Graph, sets: &ChoiceSets) -> Result<Marks, Memory>
     requires { AreSetsOf graph.now.layers sets.now }
     ensures marks { IfOk result (AreMarksOf graph.now) }
     ensures reached { IfOk result (λ m. MarksReached graph.now sets.now m.labels) }

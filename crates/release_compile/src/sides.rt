@@ -48,7 +48,7 @@ pub(crate) struct Sides<'a> {
 }
 
 // Whose switch it is.
-fn place_of(station: &Station, bay: BayId, graphs: &BayGraphs, switch: SwitchId) -> Place
+pub(crate) fn place_of(station: &Station, bay: BayId, graphs: &BayGraphs, switch: SwitchId) -> Place
     requires part { OfPart station.now bay.0 (a_switch switch.0) }
     requires switches { AreSwitchesOf station.now bay.0 graphs.now.first graphs.now.count }
     requires bay { bay.0 < part_count station.now }
@@ -69,7 +69,7 @@ fn place_of(station: &Station, bay: BayId, graphs: &BayGraphs, switch: SwitchId)
 }
 
 // The graphs of one view of the switch, ready for these sets and words.
-fn view_side<'a>(
+pub(crate) fn view_side<'a>(
     alloc: Global,
     view: View,
     station: &Station,

@@ -52,7 +52,7 @@ const ROWS: &[Row] = &[
 
 // Whether the value keeps exactly these nodes.
 fn keeps_exactly(value: &Contraction, nodes: &[u16]) -> bool {
-    value.nodes() == nodes
+    value.keeps_just(nodes) && value.nodes() == nodes
 }
 
 // The value on these nodes in place of its own, where they are as many.

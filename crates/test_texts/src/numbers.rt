@@ -1,4 +1,4 @@
-//! What numbers are hashed to. The expected states were worked out by a calculator.
+//! What numbers and bytes are hashed to. The expected states were worked out by a calculator.
 use number_hash::NumberHasher;
 use std::hash::Hasher;
 
@@ -44,4 +44,14 @@ fn bytes_of_a_number(rt: HostRuntime) {
     assert!(rt; after_bytes(b"\x02\0\0\0") == 0x3c6e_f372_fe94_f82a);
     assert!(rt; after_bytes(b"\x02\0\0\0\0\0\0\0") == 0x3c6e_f372_fe94_f82a);
     assert!(rt; after_bytes(b"\x02") == 0x3c6e_f372_fe94_f82a);
+}
+
+#[test]
+fn bytes_of_a_text(rt: HostRuntime) {
+    assert!(rt; after_bytes(b"\x01\x02\x03") == 0xf979_2455_c84f_1fde);
+    assert!(rt; after_bytes(b"\x01\0\0\0\0\0\0\0\x02") == 0x3cc1_42f8_ce91_9057);
+    assert!(rt;
+        after_bytes(b"\0\x01\x02\x03\x04\x05\x06\x07\x08\x09\x0a\x0b\x0c\x0d\x0e\x0f")
+            == 0x372e_efb4_b25e_0cdd
+    );
 }

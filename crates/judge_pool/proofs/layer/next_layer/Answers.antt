@@ -5,23 +5,26 @@ use Rattle.std.proofs.Math.Nat.{suc-mul, zero-mul, mul-le-mul_right}
 use Rattle.judge_pool.specs.declared.batch.Batch.{Batch}
 use Rattle.judge_pool.specs.declared.pool.Pool.{Pool}
 use Rattle.judge_pool.specs.Numbered.{letter_lists}
-use Rattle.judge_pool.specs.Pooling.{MakesEach, HasBatch}
+use Rattle.judge_pool.specs.Pooling.{MakesEach, HasBatch, GrewTo, EitherKeeps, CanComposeEach}
 use Rattle.judge_pool.specs.Pooling.{AreEdges}
-use Rattle.judge_pool.proofs.LayeringLemmas.{grew_more}
+use Rattle.judge_pool.proofs.LayeringLemmas.{grew_more, grew_in}
 use Rattle.judge_pool.proofs.SeatLemmas.{seats_none}
-use Rattle.judge_pool.specs.Layering.{AreAdded, NameAll}
+use Rattle.judge_pool.specs.Layering.{AreAdded, NameAll, no_answers}
 use Rattle.judge_pool.proofs.AddedEdges.{edges_none, edges_more}
 use Rattle.judge_pool.proofs.OnceLemmas.{letter_of, some_once, names_all, spread_made}
+use Rattle.judge_pool.proofs.AlikeLemmas.{if_each_more, if_each_all}
 use Rattle.judge_pool.proofs.BatchLemmas.{can_more, batch_made}
 use Rattle.judge_pool.proofs.PassLemmas.{more_reached}
 use Rattle.judge_pool.proofs.layer.next_layer.Goals as goal
 
 pub states-init : goal.states-init
 states-init c =
-    let q = c.note_letters.new.self in
+    let q = c.select_all.new.self in
+    let g = c.in_ok-shared.ensures.grew in
     record {
-      grew = c.in_ok-number.ensures.grew;
-      noted = c.in_ok-number.ensures.noted;
+      grew = grew_more c.args.pool.now c.note_letters.new.self q c.in_ok-number.ensures.grew g;
+      noted = g.letters c.in_ok-number.number c.as_slice-once.result.now c.in_ok-number.ensures.noted;
+      shared = c.in_ok-shared.ensures.selects;
       seats = seats_none c.new-next.result.items c.each_once.new.seats.items c.new-next.ensures.items;
       few = omega (arith, ap length c.new-next.ensures.items, zero-mul (length c.args.letters.now));
       edges = λ nodes at.
@@ -31,6 +34,57 @@ states-init c =
           c.in_ok-edges.edges.items c.new-next.ensures.items
           c.in_ok-edges.ensures.items);
     }
+
+-- the letters that stand once are values of the pool
+module _ (p : Pool) (letters once places : List ℕ) (by : AreAdded [] [] letters once places)
+    (within : (c j : ℕ) → slice_get letters c ≡ Some j → j < length p.values.items) where
+  once_in : (m j : ℕ) → slice_get once m ≡ Some j → j < length p.values.items
+  once_in m j at =
+      let choice = letter_of letters once places by m j at in
+      within choice.0 j choice.1
+
+-- and each state can be composed with each of them
+module _ (p q : Pool) (g : GrewTo p q) (states letters once places : List ℕ) (keep : ℕ)
+    (by : AreAdded [] [] letters once places)
+    (within : (k i : ℕ) → slice_get states k ≡ Some i → i < length p.values.items)
+    (within_letters : (c j : ℕ) → slice_get letters c ≡ Some j → j < length p.values.items)
+    (keep_in : keep < length p.keeps.items)
+    (either : (k c i j : ℕ) → slice_get states k ≡ Some i → slice_get letters c ≡ Some j → EitherKeeps p i j keep) where
+  can_each : CanComposeEach q states once keep
+  can_each k m i j at_i at_j =
+      let choice = letter_of letters once places by m j at_j in
+      can_more p q (record { first = i; second = j; keep = keep }) g (record {
+        first = within k i at_i;
+        second = within_letters choice.0 j choice.1;
+        keep = keep_in;
+        either = either k choice.0 i j at_i choice.1;
+      })
+
+pub select_all-requires-clause-states : goal.select_all-requires-clause-states
+select_all-requires-clause-states c k i at =
+    grew_in c.args.pool.now c.note_letters.new.self i no_answers c.in_ok-number.ensures.grew (c.requires.states k i at)
+
+pub select_all-requires-clause-letters : goal.select_all-requires-clause-letters
+select_all-requires-clause-letters c m j at =
+    grew_in c.args.pool.now c.note_letters.new.self j no_answers c.in_ok-number.ensures.grew
+    (once_in c.args.pool.now c.args.letters.now c.as_slice-once.result.now c.in_ok-by.by.places.items
+    (subst (λ l. AreAdded [] [] c.args.letters.now l c.in_ok-by.by.places.items) (sym c.as_slice-once.ensures.value)
+    c.in_ok-by.ensures) c.requires.letters m j at)
+
+pub select_all-requires-clause-fit : goal.select_all-requires-clause-fit
+select_all-requires-clause-fit c =
+    can_each c.args.pool.now c.note_letters.new.self c.in_ok-number.ensures.grew c.args.states.now c.args.letters.now
+    c.as_slice-once.result.now c.in_ok-by.by.places.items c.args.keep
+    (subst (λ l. AreAdded [] [] c.args.letters.now l c.in_ok-by.by.places.items) (sym c.as_slice-once.ensures.value)
+    c.in_ok-by.ensures) c.requires.states c.requires.letters c.requires.keep c.requires.nodes
+
+pub batch-requires-clause-shared : goal.batch-requires-clause-shared
+batch-requires-clause-shared c =
+    let k = c.states.k in
+    let i = get_or c.args.states.now k 0 in
+    let at_i : slice_get c.args.states.now k ≡ Some i = slice_get-get_or c.args.states.now k 0 c.states-test.true in
+    if_each_all c.states.pool c.args.states.now c.as_slice-once.result.now
+    (record { first = i; letters = c.in_ok-number.number; keep = c.args.keep }) k _ at_i c.states.invariant.shared
 
 pub batch-requires-clause-some : goal.batch-requires-clause-some
 batch-requires-clause-some c =
@@ -133,6 +187,11 @@ states-preserved c =
     record {
       grew = grew_more p old q inv.grew g;
       noted = noted;
+      shared =
+          if_each_more old q states once c.args.keep _ g.values g.keeps
+          (can_each p old inv.grew states letters once c.in_ok-by.by.places.items c.args.keep
+          (subst (λ l. AreAdded [] [] letters l c.in_ok-by.by.places.items) (sym c.as_slice-once.ensures.value)
+          c.in_ok-by.ensures) c.requires.states c.requires.letters c.requires.keep c.requires.nodes) inv.shared;
       seats = c.in_ok-add_state.ensures.seats;
       few = omega (arith, added.grown, made.len, inv.few, next);
       edges = λ nodes at.

@@ -2,7 +2,6 @@ use Rattle.std.proofs.Common.{◌≡◌, get_or, slice_get, sym, ap, ◌∙◌, 
 use Rattle.std.proofs.lemmas.Bool.{cases_lt}
 use Rattle.std.proofs.lemmas.Option.{slice_get_within, get_or_from_slice_get}
 use Rattle.contraction.specs.Answers.{Answers}
-use Rattle.judge_pool.proofs.LyingLemmas.{not_other}
 use Rattle.judge_pool.proofs.lying.all_keep.Goals as goal
 
 pub loop-k-preserved : goal.loop-k-preserved
@@ -15,8 +14,7 @@ loop-k-preserved c k i x k_in at_i at_x = elim (cases_lt k c.loop-k.k) [
       get_or_from_slice_get c.args.ids.now c.loop-k.k i 0 (ap (slice_get c.args.ids.now) (sym here) ∙ at_i) in
       let x_is : y ≡ x = c.index-values-ids.is ∙ (ap (λ j. get_or c.args.values.now j y) i_is
       ∙ get_or_from_slice_get c.args.values.now i x y at_x) in
-      let same = not_other c.nodes.result.now c.args.nodes.now (sym c.ne.ensures ∙ c.if-ne.false) in
-      ap (λ (a : Answers). a.kept) (sym x_is) ∙ (sym c.nodes.ensures.nodes ∙ same)
+      ap (λ (a : Answers). a.kept) (sym x_is) ∙ c.keeps_just.ensures.0 c.if-not-keeps_just.false
 ]
 
 pub returns : goal.returns

@@ -1,4 +1,4 @@
-use Rattle.std.proofs.Common.{◌≡◌, ◌∙◌, ap, sym}
+use Rattle.std.proofs.Common.{◌∙◌, ap, sym}
 use Rattle.number_hash.specs.Mixing.{mixed}
 use Rattle.number_hash.proofs.BytesLemmas.{four_bytes, eight_bytes, other_bytes}
 use Rattle.number_hash.proofs.hasher.after_bytes.Goals as goal
@@ -15,4 +15,4 @@ returns-then-bytes-eq8 c =
 
 pub returns : goal.returns
 returns c =
-    c.after_each.ensures ∙ sym (other_bytes c.args.state c.args.bytes.now c.if-bytes-eq4.false c.if-bytes-eq8.false)
+    c.after_words.ensures ∙ sym (other_bytes c.args.state c.args.bytes.now c.if-bytes-eq4.false c.if-bytes-eq8.false)

@@ -1,7 +1,9 @@
 use Rattle.std.proofs.Common.{refl}
+use Rattle.std.proofs.lemmas.Option.{IfSome_then}
 use Rattle.judge_pool.specs.declared.pool.Pool.{Pool}
 use Rattle.judge_pool.proofs.LayeringLemmas.{Grows, grew_of, grew_more}
 use Rattle.judge_pool.proofs.BatchLemmas.{notes_stay, batch_stays, batch_ends, can_more}
+use Rattle.judge_pool.proofs.AlikeLemmas.{selects_more}
 use Rattle.judge_pool.proofs.PastLemmas.{layers_stay}
 use Rattle.judge_pool.proofs.StandLemmas.{stands_stay, list_stands_stay}
 use Rattle.judge_pool.proofs.KeepLemmas.{numbers_stay}
@@ -17,6 +19,15 @@ pub make_batch-requires-clause-fit : goal.make_batch-requires-clause-fit
 make_batch-requires-clause-fit c k j at =
     can_more c.args.self.now c.forget_batches.new.self
     (record { first = c.args.first; second = j; keep = c.args.keep }) c.forget_batches.ensures (c.requires.fit k j at)
+
+pub make_batch-requires-clause-shared : goal.make_batch-requires-clause-shared
+make_batch-requires-clause-shared c =
+    let p = c.args.self.now in
+    let q = c.forget_batches.new.self in
+    let g = c.forget_batches.ensures in
+    IfSome_then c.args.shared.now c.requires.shared
+    (λ s selects k j at. selects_more p q (record { first = c.args.first; second = j; keep = c.args.keep }) s.value
+    g.values g.keeps (c.requires.fit k j at) (selects k j at))
 
 pub returns-clause-grew : goal.returns-clause-grew
 returns-clause-grew c =

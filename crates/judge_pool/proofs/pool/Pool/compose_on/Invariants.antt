@@ -1,6 +1,6 @@
 use Rattle.std.proofs.Common.{take}
 use Rattle.judge_pool.specs.Pooling.{GrewTo, MakesEach}
-use Rattle.judge_pool.proofs.pool.Pool.compose_all.Given as goal
+use Rattle.judge_pool.proofs.pool.Pool.compose_on.Given as goal
 
 abbrev pub invariant-letters : goal.invariant-letters
 invariant-letters l = record {

@@ -4,7 +4,7 @@ use Rattle.decision_graphs.specs.Label.{Layered}
 use Rattle.decision_graphs.specs.Reaching.{AreSetsOf}
 use Rattle.judge_pool.specs.Lettered.{lettered}
 use Rattle.release_compile.proofs.HeardLemmas.{other_sets}
-use Rattle.release_compile.proofs.heard.reach_heard.Goals as goal
+use Rattle.release_compile.proofs.heard.sets_heard.Goals as goal
 
 pub heard_sets-requires-clause-layers : goal.heard_sets-requires-clause-layers
 heard_sets-requires-clause-layers c =
@@ -21,8 +21,8 @@ heard_sets-requires-clause-fit c part s ne at = elim (c.requires.fits part s ne 
   | inr none ↦ inr none.1
 ]
 
-pub reach-requires-clause-load : goal.reach-requires-clause-load
-reach-requires-clause-load c =
+pub returns-clause-load : goal.returns-clause-load
+returns-clause-load c =
     let g = c.requires.graphs.gap in
     let l = c.requires.graphs.load in
     other_sets Gap Load (lettered c.args.station.now c.args.parts.now) c.args.bay.0 g.names l.names
