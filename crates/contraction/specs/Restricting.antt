@@ -6,13 +6,19 @@ use Rattle.contraction.specs.declared.merge.Union.{Union}
 use Rattle.contraction.specs.Merging.{LabelsOfBoth, MarksOfBoth}
 use Rattle.station_graph.specs.Nodes.{Rises}
 use Rattle.contraction.specs.Answers.{AreLabels}
-use Rattle.contraction.specs.Rows.{flags}
+use Rattle.contraction.specs.Rows.{words, flags}
 
 -- Two entries of the row are equal exactly where those of the other row at their places are.
 pub record LabelsRestrict (labels places row : List ℕ) : Type 0 where
   pub are_labels : AreLabels (length places) row
   pub same : (i j : ℕ) → i < length places → j < length places → (slice_index row i ≡ slice_index row j) ↔
       (slice_index labels (slice_index places i) ≡ slice_index labels (slice_index places j))
+
+-- The bytes are those of the labels of these places alone.
+pub record WordsAt (labels places row : List ℕ) : Type 0 where
+  pub few : List ℕ
+  pub are : LabelsRestrict labels places few
+  pub bytes : row ≡ words few
 
 -- Entry k of the row is that of the other row at the place k.
 pub record Picks {X : Type 0} (all : List X) (places : List ℕ) (row : List X) : Type 0 where

@@ -5,7 +5,8 @@ use Rattle.contraction.specs.declared.row.Row.{Row}
 use Rattle.contraction.specs.declared.layout.Layout.{Layout}
 use Rattle.contraction.specs.declared.few_rows.TheConstants.{FEW}
 use Rattle.contraction.specs.Merging.{IsMerged, LabelsOfBoth}
-use Rattle.contraction.specs.Restricting.{PlacesOf, Picks, LabelsRestrict, MarksAt, RowOfBothAt}
+use Rattle.contraction.specs.Restricting.{PlacesOf, Picks, LabelsRestrict, WordsAt, MarksAt, FlagsAt}
+use Rattle.contraction.specs.Restricting.{RowOfBothAt}
 use Rattle.contraction.specs.Rows.{words, flags}
 
 -- The kept nodes of two contractions, and the nodes that are asked for; both lists merged, with the places in that of
@@ -56,23 +57,39 @@ pub record IsSmall (s : Layout) : Type 0 where
   pub all : length s.union.kept.items ≤ FEW
   pub some : length s.places.items ≤ FEW
 
--- To the text are added the labels of these places, of which the first list has those of all.
-pub record AddsLabels (wide places old new : List ℕ) : Type 0 where
-  pub labels : List ℕ
-  pub restricts : LabelsRestrict wide places labels
-  pub bytes : new ≡ old ++ words labels
-
--- To the text are added the labels of two lists together, on the selected places.
-pub record AddsBonds (s : Layout) (x y old new : List ℕ) : Type 0 where
+-- The bytes are those of the labels of two lists together, on the selected places.
+pub record AreBonds (s : Layout) (x y row : List ℕ) : Type 0 where
   pub wide : List ℕ
   pub composes : LabelsOfBoth s.union.first.items x s.union.second.items y (length s.union.kept.items) wide
-  pub added : AddsLabels wide s.places.items old new
+  pub written : WordsAt wide s.places.items row
 
--- To the text are added the marks of two lists together, on the selected places, where all have these labels.
-pub record AddsMarks (s : Layout) (wide : List ℕ) (x y : List Bool) (old new : List ℕ) : Type 0 where
-  pub marks : List Bool
-  pub are : MarksAt wide s.places.items s.union.first.items x s.union.second.items y marks
-  pub bytes : new ≡ old ++ flags marks
+-- The bytes are those of the marks of two rows together, on the selected places, where all have these labels.
+pub record AreBothMarks (s : Layout) (wide : List ℕ) (x y : Row) (row : List ℕ) : Type 0 where
+  pub first : List ℕ
+  pub second : List ℕ
+  pub firsts : FlagsAt wide s.places.items s.union.first.items x.first.items s.union.second.items y.first.items first
+  pub seconds : FlagsAt wide s.places.items s.union.first.items x.second.items s.union.second.items y.second.items
+      second
+  pub bytes : row ≡ first ++ second
+
+-- The bytes are those of the labels and marks of two rows together, on the selected places, where all places have these
+-- labels.
+pub record IsGapPart (s : Layout) (wide : List ℕ) (x y : Row) (row : List ℕ) : Type 0 where
+  pub labels : List ℕ
+  pub marks : List ℕ
+  pub written : WordsAt wide s.places.items labels
+  pub marked : AreBothMarks s wide x y marks
+  pub bytes : row ≡ labels ++ marks
+
+-- The same with the labels of the bonds of both, which stand beside those of the rows.
+pub record IsLoadPart (s : Layout) (wide : List ℕ) (x y : Row) (x_bonds y_bonds row : List ℕ) : Type 0 where
+  pub labels : List ℕ
+  pub bonds : List ℕ
+  pub marks : List ℕ
+  pub written : WordsAt wide s.places.items labels
+  pub bonded : AreBonds s x_bonds y_bonds bonds
+  pub marked : AreBothMarks s wide x y marks
+  pub bytes : row ≡ labels ++ (bonds ++ marks)
 
 -- The text has the selected nodes, and the labels and marks of two rows together on them.
 pub record IsGapText (s : Layout) (x y : Row) (text : List ℕ) : Type 0 where

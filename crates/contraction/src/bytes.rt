@@ -12,7 +12,7 @@ use station_graph::NodeList;
 use std::alloc::Global;
 
 // Appends two bytes for each of a few numbers, the higher one first, all in one piece.
-pub(crate) fn push_few_words(text: &mut Text, row: &[u16]) -> Result<(), Memory>
+fn push_few_words(text: &mut Text, row: &[u16]) -> Result<(), Memory>
     requires { length row.now ≤ 32 }
     ensures { IfOk result (λ _. text.new ≡ text.old ++ words row.now) }
 {

@@ -1,10 +1,11 @@
 //! Classes of kept nodes, as rows of labels. A label is the first place of its class.
-ghost use Rattle.std.specs.Prelude.{◌≡◌, ℕ, ◌<◌, ◌≤◌, ◌^◌, ◌==◌, [], ◌∷◌, if◌then◌else◌, length, map};
+ghost use Rattle.std.specs.Prelude.{◌≡◌, ℕ, ◌<◌, ◌≤◌, ◌*◌, ◌^◌, ◌==◌, [], ◌∷◌, if◌then◌else◌, length, map};
 ghost use Rattle.std.specs.Prelude.{slice_index, IfOk};
 ghost use Rattle.station_graph.specs.declared.limits.TheConstants.{NODES};
 ghost use Rattle.station_graph.specs.Classes.{merged};
 ghost use Rattle.contraction.specs.Merging.{LabelsFit, IsAlone, LabelsOfBoth};
-ghost use Rattle.contraction.specs.Restricting.{LabelsRestrict, FirstAt};
+ghost use Rattle.contraction.specs.Restricting.{LabelsRestrict, WordsAt, FirstAt};
+ghost use Rattle.contraction.specs.Rows.{words};
 ghost use Rattle.contraction.specs.Single.{AreAlone};
 
 use ilk_base::{Memory, NodeId};
@@ -200,8 +201,24 @@ fn spread_firsts(row: &mut [u16], firsts: &[u16], labels: &[u16], places: &[u16]
     }
 }
 
+// The bytes of the labels of these places alone, by what is noted of their labels: two for each, the higher one first.
+fn spread_words(row: &mut [u8], firsts: &[u16], labels: &[u16], places: &[u16])
+    requires room { length row.old ≡ 2 * length places.now }
+    requires inside { (k : ℕ) → k < length places.now → slice_index places.now k < length labels.now }
+    requires labels { (k : ℕ) → k < length places.now
+        → slice_index labels.now (slice_index places.now k) < length firsts.now }
+    ensures { row.new ≡ words (map (λ p. slice_index firsts.now (slice_index labels.now p)) places.now) }
+{
+    for k in 0..places.len() {
+        let label = labels[places[k] as usize];
+        let first = firsts[label as usize];
+        row[2 * k] = (first / 256) as u8;
+        row[2 * k + 1] = (first % 256) as u8;
+    }
+}
+
 // The labels of these places alone. There is room for them, and for a note on each label.
-pub(crate) fn label_at(row: &mut [u16], firsts: &mut [u16], labels: &[u16], places: &[u16])
+fn label_at(row: &mut [u16], firsts: &mut [u16], labels: &[u16], places: &[u16])
     requires room { length row.old ≡ length places.now }
     requires notes { length firsts.old ≡ length labels.now }
     requires inside { (k : ℕ) → k < length places.now → slice_index places.now k < length labels.now }
@@ -211,6 +228,19 @@ pub(crate) fn label_at(row: &mut [u16], firsts: &mut [u16], labels: &[u16], plac
 {
     note_firsts(firsts, labels, places);
     spread_firsts(row, firsts, labels, places);
+}
+
+// The same as bytes.
+pub(crate) fn label_words(row: &mut [u8], firsts: &mut [u16], labels: &[u16], places: &[u16])
+    requires room { length row.old ≡ 2 * length places.now }
+    requires notes { length firsts.old ≡ length labels.now }
+    requires inside { (k : ℕ) → k < length places.now → slice_index places.now k < length labels.now }
+    requires below { (k : ℕ) → k < length labels.now → slice_index labels.now k ≤ k }
+    requires few { length places.now ≤ NODES }
+    ensures { WordsAt labels.now places.now row.new }
+{
+    note_firsts(firsts, labels, places);
+    spread_words(row, firsts, labels, places);
 }
 
 // A list of these numbers.
@@ -224,7 +254,7 @@ fn list_of(alloc: Global, numbers: &[u16]) -> Result<NodeList, Memory>
     Ok(list)
 }
 
-// The same in a list of its own.
+// The labels of these places in a list of their own.
 pub(crate) fn labels_at(alloc: Global, labels: &[u16], places: &[u16]) -> Result<NodeList, Memory>
     requires inside { (k : ℕ) → k < length places.now → slice_index places.now k < length labels.now }
     requires below { (k : ℕ) → k < length labels.now → slice_index labels.now k ≤ k }

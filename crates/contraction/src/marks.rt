@@ -96,7 +96,7 @@ fn spread_flags(row: &mut [u8], classes: &[bool], labels: &[u16], places: &[u16]
 
 // Whether no entry is marked.
 #[inline(always)]
-fn none_marked(marks: &[bool]) -> bool
+pub(crate) fn none_marked(marks: &[bool]) -> bool
     ensures { IsTrue result → (k : ℕ) → slice_get marks.now k ≢ Some true }
 {
     for mark in marks {
@@ -218,8 +218,7 @@ pub(crate) fn marks_at(
     Ok(row)
 }
 
-// The same as bytes. The row has room for them and is 0 throughout, so that nothing is to be done where neither list
-// has a mark.
+// The same as bytes, into a row that has room for them.
 pub(crate) fn flag_at(
     row: &mut [u8],
     classes: &mut [bool],
@@ -230,7 +229,7 @@ pub(crate) fn flag_at(
     second: &[u16],
     second_marks: &[bool],
 )
-    requires room { row.old ≡ replicate (length places.now) 0 }
+    requires room { length row.old ≡ length places.now }
     requires none { classes.old ≡ replicate (length labels.now) false }
     requires places { (k : ℕ) → k < length places.now → slice_index places.now k < length labels.now }
     requires first_len { length first_marks.now ≡ length first.now }
@@ -240,9 +239,6 @@ pub(crate) fn flag_at(
     requires below { (k : ℕ) → k < length labels.now → slice_index labels.now k ≤ k }
     ensures { FlagsAt labels.now places.now first.now first_marks.now second.now second_marks.now row.new }
 {
-    if none_marked(first_marks) && none_marked(second_marks) {
-        return;
-    }
     note_both(classes, labels, first, first_marks, second, second_marks);
     spread_flags(row, classes, labels, places);
 }

@@ -1,13 +1,7 @@
 use Rattle.std.proofs.Common.{◌≡◌, Bool, List, false, length, ap, ◌∙◌, arith}
 use Rattle.std.proofs.lemmas.List.{length-replicate}
-use Rattle.contraction.proofs.FlagLemmas.{none_flagged, classes_flagged}
+use Rattle.contraction.proofs.FlagLemmas.{classes_flagged}
 use Rattle.contraction.proofs.marks.flag_at.Goals as goal
-
-pub returns-then-none_marked-2 : goal.returns-then-none_marked-2
-returns-then-none_marked-2 c =
-    none_flagged c.args.labels.now c.args.places.now c.args.first.now c.args.first_marks.now c.args.second.now
-    c.args.second_marks.now c.requires.places c.args.row.now (c.none_marked.ensures c.if-none_marked.true)
-    (c.none_marked-then-none_marked.ensures c.if-none_marked-2.true) c.requires.room
 
 pub returns : goal.returns
 returns c =

@@ -1,7 +1,14 @@
-use Rattle.std.proofs.Common.{List, ℕ, length, rules}
+use Rattle.std.proofs.Common.{◌≡◌, ◌∙◌, ◌*◌, List, ℕ, length, ap, arith, replicate, rules}
+use Rattle.std.proofs.lemmas.List.{take-replicate}
 use Rattle.contraction.specs.Merging.{LabelsOfBoth}
-use Rattle.contraction.proofs.TextLemmas.{adds_seen, load_text_of}
+use Rattle.contraction.proofs.TextLemmas.{load_text_of}
 use Rattle.contraction.proofs.layout.Layout.small_load_text.Goals as goal
+
+pub write_load-requires-clause-room : goal.write_load-requires-clause-room
+write_load-requires-clause-room c =
+    let len : c.len-2.result ≡ length c.args.self.now.places.items = omega (arith, c.len-2.ensures) in
+    take-replicate (6 * c.len-2.result) 192 0 (omega (arith, len, c.requires.small.some))
+    ∙ ap (λ n. replicate (6 * n) 0) len
 
 pub returns : goal.returns
 returns c =
@@ -11,10 +18,5 @@ returns c =
     let wide : List ℕ = c.label_both.new.labels in
     let composes : LabelsOfBoth s.union.first.items x.labels s.union.second.items y.labels
     (length s.union.kept.items) wide = search rules in
-    load_text_of s x y wide composes c.in_ok-text.text c.push_labels.new.text c.in_ok-text.ensures
-    c.in_ok-push_labels.ensures c.args.x_bonds.now c.args.y_bonds.now c.push_bonds.new.text c.push_marks.new.text
-    c.push_marks-2.new.text c.in_ok-push_bonds.ensures
-    (adds_seen s wide _ x.first.items _ y.first.items c.push_bonds.new.text c.push_marks.new.text
-    c.deref.ensures.value c.deref-2.ensures.value c.in_ok-push_marks.ensures)
-    (adds_seen s wide _ x.second.items _ y.second.items c.push_marks.new.text c.push_marks-2.new.text
-    c.deref-3.ensures.value c.deref-4.ensures.value c.in_ok-push_marks-2.ensures)
+    load_text_of s x y wide composes c.args.x_bonds.now c.args.y_bonds.now c.in_ok-text.text c.write_load.new.row
+    c.push.new.self c.in_ok-text.ensures c.write_load.ensures c.in_ok-push.ensures.ok

@@ -1,0 +1,22 @@
+use Rattle.std.proofs.Common.{◌≡◌, ◌∙◌, ◌*◌, List, ℕ, length, ap, arith, replicate, rules}
+use Rattle.std.proofs.lemmas.List.{take-replicate}
+use Rattle.contraction.specs.Merging.{LabelsOfBoth}
+use Rattle.contraction.proofs.TextLemmas.{gap_text_of}
+use Rattle.contraction.proofs.layout.Layout.small_gap_text.Goals as goal
+
+pub write_gap-requires-clause-room : goal.write_gap-requires-clause-room
+write_gap-requires-clause-room c =
+    let len : c.len-2.result ≡ length c.args.self.now.places.items = omega (arith, c.len-2.ensures) in
+    take-replicate (4 * c.len-2.result) 128 0 (omega (arith, len, c.requires.small.some))
+    ∙ ap (λ n. replicate (4 * n) 0) len
+
+pub returns : goal.returns
+returns c =
+    let s = c.args.self.now in
+    let x = c.args.x.now in
+    let y = c.args.y.now in
+    let wide : List ℕ = c.label_both.new.labels in
+    let composes : LabelsOfBoth s.union.first.items x.labels s.union.second.items y.labels
+    (length s.union.kept.items) wide = search rules in
+    gap_text_of s x y wide composes c.in_ok-text.text c.write_gap.new.row c.push.new.self c.in_ok-text.ensures
+    c.write_gap.ensures c.in_ok-push.ensures.ok
